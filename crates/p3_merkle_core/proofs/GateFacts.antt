@@ -1,0 +1,63 @@
+-- There is no refusal exactly if the heights are lawful.
+use Rattle.std.proofs.Common.{◌≡◌, ℕ, zero, suc, ◌≤◌, Bool, false, not, eqb, nat_lt, List, [], ◌∷◌, refl, sym, ◌∙◌, arith, inl, inr, length, get_or, Some, None, All, position, find, eq-eqb}
+use Rattle.std.specs.List.{position_or_len}
+use Rattle.std.proofs.lemmas.Bool.{cases_lt, cases_Bool, ltb-false, le-ltb, lt-ltb, eqb-true, not-false, not_from_true, cond-true, cond-false}
+use Rattle.std.proofs.lemmas.List.Sums.{fails_before_first, position_or_len_is}
+use Rattle.p3_merkle_core.specs.Geometry.{tallest, max_height, expected_height, IsLawful}
+use Rattle.p3_merkle_core.specs.Gate.{first_too_large, first_off_ladder}
+
+position_none : {X : Type 0} (p : X → Bool) (xs : List X) → position p xs ≡ None → All (λ x. p x ≡ false) xs
+position_none p xs e k d h =
+    elim (cases_lt (position_or_len p xs) (length xs)) [
+      | inl l ↦ let s = cond-true (nat_lt (position_or_len p xs) (length xs)) (Some (position_or_len p xs)) None (lt-ltb (position_or_len p xs) (length xs) l) in cc
+      | inr g ↦ fails_before_first p xs k d (omega arith)
+    ]
+
+position_none_from : {X : Type 0} (p : X → Bool) (d : X) (xs : List X) → All (λ x. p x ≡ false) xs → position p xs ≡ None
+position_none_from p d xs a =
+    let e : position_or_len p xs ≡ length xs = position_or_len_is p xs (length xs) d (omega arith) (λ k h. a k d h) (λ h. absurd (omega arith)) in
+    cond-false (nat_lt (position_or_len p xs) (length xs)) (Some (position_or_len p xs)) None (le-ltb (position_or_len p xs) (length xs) (omega arith))
+
+find_none : {X : Type 0} (p : X → Bool) (xs : List X) → find p xs ≡ None → All (λ x. p x ≡ false) xs
+find_none p [] e k d h = absurd (omega arith)
+find_none p (x ∷ xs) e zero d h =
+    elim (cases_Bool (p x)) [ inl t ↦ let s = cond-true (p x) (Some x) (find p xs) t in cc | inr f ↦ f ]
+find_none p (x ∷ xs) e (suc k) d h =
+    elim (cases_Bool (p x)) [
+      | inl t ↦ let s = cond-true (p x) (Some x) (find p xs) t in cc
+      | inr f ↦ find_none p xs (sym (cond-false (p x) (Some x) (find p xs) f) ∙ e) k d (omega arith)
+    ]
+
+find_none_from : {X : Type 0} (p : X → Bool) (xs : List X) → All (λ x. p x ≡ false) xs → find p xs ≡ None
+find_none_from p [] a = refl
+find_none_from p (x ∷ xs) a =
+    cond-false (p x) (Some x) (find p xs) (a 0 x (omega arith)) ∙ find_none_from p xs (λ k d h. a (suc k) d (omega arith))
+
+-- the tallest is some height, or 0
+tallest_reached : (hs : List ℕ) (m : ℕ) → All (λ h. h ≤ m) hs → tallest hs ≤ m
+tallest_reached [] m a = omega arith
+tallest_reached (h ∷ hs) m a = omega (arith, a 0 0 (omega arith), tallest_reached hs m (λ k d l. a (suc k) d (omega arith)))
+
+none_too_large : (hs : List ℕ) → first_too_large hs ≡ None → All (λ h. h ≤ max_height) hs
+none_too_large hs e k d h = ltb-false max_height (get_or hs k d) (position_none (λ h. nat_lt max_height h) hs e k d h)
+
+pub tallest_fits : (hs : List ℕ) → first_too_large hs ≡ None → tallest hs ≤ max_height
+tallest_fits hs e = tallest_reached hs max_height (none_too_large hs e)
+
+on_ladder : (m : ℕ) (hs : List ℕ) → first_off_ladder m hs ≡ None → All (λ h. h ≡ expected_height m h) hs
+on_ladder m hs e k d h =
+    let x = get_or hs k d in
+    eqb-true x (expected_height m x) (not-false (eqb x (expected_height m x)) (find_none (λ h. not (eqb h (expected_height m h))) hs e k d h))
+
+pub lawful_from_none : (hs : List ℕ) → (tallest hs ≡ 0 → ⊥) → first_too_large hs ≡ None → first_off_ladder (tallest hs) hs ≡ None → IsLawful hs
+lawful_from_none hs some large off =
+    record { some_above_0 = omega arith; none_too_large = none_too_large hs large; on_ladder = on_ladder (tallest hs) hs off }
+
+pub none_large_from_lawful : (hs : List ℕ) → IsLawful hs → first_too_large hs ≡ None
+none_large_from_lawful hs w =
+    position_none_from (λ h. nat_lt max_height h) 0 hs (λ k d h. le-ltb max_height (get_or hs k d) (w.none_too_large k d h))
+
+pub none_off_from_lawful : (hs : List ℕ) → IsLawful hs → first_off_ladder (tallest hs) hs ≡ None
+none_off_from_lawful hs w =
+    find_none_from (λ h. not (eqb h (expected_height (tallest hs) h))) hs
+    (λ k d h. not_from_true (eqb (get_or hs k d) (expected_height (tallest hs) (get_or hs k d))) (eq-eqb (get_or hs k d) (expected_height (tallest hs) (get_or hs k d)) (w.on_ladder k d h)))

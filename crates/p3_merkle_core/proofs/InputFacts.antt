@@ -1,0 +1,43 @@
+-- The inputs of a check with all its siblings have N digests each.
+use Rattle.std.proofs.Common.{◌≡◌, ℕ, zero, suc, ◌-◌, ◌<◌, ◌≤◌, List, [], ◌∷◌, ◌∙◌, arith, inl, inr, length, All, replicate, length-append}
+use Rattle.std.proofs.lemmas.Bool.{cases_Bool, cond_both}
+use Rattle.std.proofs.lemmas.List.{length-replicate}
+use Rattle.std.proofs.lemmas.List.Edits.{length-insert}
+use Rattle.std.proofs.lemmas.List.Elements.{All-append, All-cons, All-nil}
+use Rattle.p3_merkle_core.specs.Geometry.{Shape, IsArity, is_bridge, layer_exponent, joined, step, position_in_group}
+use Rattle.p3_merkle_core.specs.Nodes.{Functions, padded_group}
+use Rattle.p3_merkle_core.specs.Openings.{Opening, Leaf, Group, Rows, Pair, HasDigests, inputs, inputs_at, group_at, path_digest, has_rows, siblings_at, siblings_below, rows_at}
+use Rattle.p3_merkle_core.proofs.StepFacts.{step_above_1}
+use Rattle.p3_merkle_core.proofs.Extraction.{siblings_full, in_group}
+
+filled_long : {T W : Type 0} (f : Functions T W) (n : ℕ) (ds : List (List W)) → length ds ≤ n → length (padded_group f n ds) ≡ n
+filled_long f n ds h = length-append ds (replicate (n - length ds) f.default_digest) ∙ (let r = length-replicate (n - length ds) f.default_digest in omega arith)
+
+step_le : (s : Shape) (l : ℕ) → IsArity s.arity → step s l ≤ s.arity
+step_le s l w = cond_both (is_bridge s (layer_exponent s l)) 2 s.arity (λ x. x ≤ s.arity) (λ e. w.above_1) (λ e. omega arith)
+
+level_full : {T W : Type 0} (f : Functions T W) (s : Shape) (t : ℕ) (o : Opening T W) (l : ℕ) → IsArity s.arity → length o.siblings ≡ siblings_below s t → l < t → All (HasDigests s.arity) (inputs_at f s o l)
+level_full f s t o l w e h =
+    let two = w.above_1 in
+    let a = step_above_1 s l w.above_1 in
+    let n = siblings_full s o t l e h in
+    let inside = in_group s l o.index w in
+    let long = length-insert (siblings_at s o l) (position_in_group s l o.index) (path_digest f s o l) (omega arith) in
+    let group = filled_long f s.arity (group_at f s o l (path_digest f s o l)) (omega (arith, step_le s l w)) in
+    let words = rows_at s o.rows (suc l) in
+    let first = padded_group f s.arity (group_at f s o l (path_digest f s o l)) in
+    let last = padded_group f s.arity (f.compression first ∷ f.hash words ∷ []) in
+    let pair = filled_long f s.arity (f.compression first ∷ f.hash words ∷ []) (omega arith) in
+    let P = HasDigests s.arity in
+    elim (cases_Bool (has_rows s (suc l))) [
+      | inl y ↦ rw y (All-cons P (Group l first) (Rows l words ∷ Pair l last ∷ []) group (All-cons P (Rows l words) (Pair l last ∷ []) tt (All-cons P (Pair l last) [] pair (All-nil P))))
+      | inr n ↦ rw n (All-cons P (Group l first) [] group (All-nil P))
+    ]
+
+pub inputs_full : {T W : Type 0} (f : Functions T W) (s : Shape) (t : ℕ) (o : Opening T W) → IsArity s.arity → length o.siblings ≡ siblings_below s t → All (HasDigests s.arity) (inputs f s t o)
+inputs_full f s t o w e = All-cons (HasDigests s.arity) (Leaf (rows_at s o.rows 0)) (joined (inputs_at f s o) t) tt (levels_full f s t o w e t (omega arith))
+  where
+    levels_full : {T W : Type 0} (f : Functions T W) (s : Shape) (t : ℕ) (o : Opening T W) → IsArity s.arity → length o.siblings ≡ siblings_below s t → (n : ℕ) → n ≤ t → All (HasDigests s.arity) (joined (inputs_at f s o) n)
+    levels_full f s t o w e zero h = All-nil (HasDigests s.arity)
+    levels_full f s t o w e (suc n) h =
+        All-append (HasDigests s.arity) (joined (inputs_at f s o) n) (inputs_at f s o n) (levels_full f s t o w e n (omega arith)) (level_full f s t o n w e (omega arith))

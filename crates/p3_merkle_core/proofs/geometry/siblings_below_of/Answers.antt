@@ -1,0 +1,40 @@
+-- Each turn is one level.
+use Rattle.std.proofs.Common.{◌≡◌, arith, ap, sym, ◌∙◌, add-one}
+use Rattle.p3_merkle_core.specs.Geometry.{shape_of, exponent}
+use Rattle.p3_merkle_core.specs.Openings.{siblings_below}
+use Rattle.p3_merkle_core.proofs.StepFacts.{layer_start, step_at, next_at}
+use Rattle.p3_merkle_core.proofs.SiblingFacts.{siblings_start, siblings_next, step_is}
+use Rattle.p3_merkle_core.proofs.geometry.siblings_below_of.Goals as goal
+
+pub loop-l-init : goal.loop-l-init
+loop-l-init c =
+    let s = shape_of c.args.arity c.args.dimensions.now in
+    (c.exponent_of-x.ensures ∙ ap exponent c.tallest_of.ensures ∙ sym (layer_start s), sym (siblings_start s))
+
+pub overflow_sub-count : goal.overflow_sub-count
+overflow_sub-count c =
+    let s = shape_of c.args.arity c.args.dimensions.now in
+    let k = step_is s c.loop-l._l c.requires.arity c.requires.low (omega arith) in
+    let e = step_at s c.loop-l._l c.loop-l.x c.select_arity_step-step.result.0 c.loop-l.invariant.0 c.select_arity_step-step.ensures.step in
+    omega arith
+
+pub overflow_add-count : goal.overflow_add-count
+overflow_add-count c =
+    let s = shape_of c.args.arity c.args.dimensions.now in
+    let fits = c.requires.arity.fits in
+    let k = step_is s c.loop-l._l c.requires.arity c.requires.low (omega arith) in
+    let e = step_at s c.loop-l._l c.loop-l.x c.select_arity_step-step.result.0 c.loop-l.invariant.0 c.select_arity_step-step.ensures.step in
+    omega (arith, c.loop-l.invariant.1)
+
+pub loop-l-preserved : goal.loop-l-preserved
+loop-l-preserved c =
+    let s = shape_of c.args.arity c.args.dimensions.now in
+    let e = step_at s c.loop-l._l c.loop-l.x c.select_arity_step-step.result.0 c.loop-l.invariant.0 c.select_arity_step-step.ensures.step in (
+      next_at s c.loop-l._l c.loop-l.x c.select_arity_step-step.result.1 c.loop-l.invariant.0 c.select_arity_step-step.ensures.next,
+      rw (add-one, e, c.loop-l.invariant.1) (sym (siblings_next s c.loop-l._l)),
+    )
+
+pub returns : goal.returns
+returns c =
+    let h : c.loop-l._l ≡ c.args.t = omega arith in
+    c.loop-l.invariant.1 ∙ ap (siblings_below (shape_of c.args.arity c.args.dimensions.now)) h

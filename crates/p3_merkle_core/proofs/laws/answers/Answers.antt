@@ -1,0 +1,16 @@
+use Rattle.p3_merkle_core.proofs.Answered.{restorable}
+use Rattle.p3_merkle_core.proofs.Unrefused.{unrefused}
+use Rattle.p3_merkle_core.proofs.Verdicts.{accepted_from, accepted_answer, pruned_accepted, pruned_capped}
+use Rattle.p3_merkle_core.proofs.laws.answers.Goals as goal
+
+pub returns-clause-single : goal.returns-clause-single
+returns-clause-single g c = λ same f s t cap o dec. (accepted_from same f s t cap o dec, accepted_answer same f s t cap o dec)
+
+pub returns-clause-pruned : goal.returns-clause-pruned
+returns-clause-pruned g c = λ eq s t q dec. (restorable eq s t q dec, unrefused eq s t q dec)
+
+pub returns-clause-under_cap : goal.returns-clause-under_cap
+returns-clause-under_cap g c = pruned_capped
+
+pub returns-clause-each_path : goal.returns-clause-each_path
+returns-clause-each_path g c = pruned_accepted

@@ -1,0 +1,25 @@
+-- Words of the worked examples.
+use Rattle.std.specs.Prelude.{ℕ, List, [], ◌∷◌, map, length, replicate, slice_index}
+use Rattle.p3_support.specs.Fold.{fold_hash, fold_compress}
+use Rattle.p3_merkle_core.specs.Geometry.{Shape, shape_of}
+use Rattle.p3_merkle_core.specs.Nodes.{Batch, Functions, Matrix, functions_of}
+use Rattle.p3_merkle_core.specs.Pruning.{PrunedOpening}
+
+-- the fold functions at digests of d words
+abbrev pub fold_functions : ℕ → Functions ℕ ℕ
+fold_functions d = functions_of (fold_hash d) (fold_compress d) (replicate d 0)
+
+-- a shape of rows of one word
+abbrev pub narrow : ℕ → List ℕ → Shape
+narrow arity heights = shape_of arity (map (λ h. record { width = 1; height = h }) heights)
+
+-- a matrix of one column
+abbrev pub column : List ℕ → Matrix ℕ
+column xs = record { height = length xs; width = 1; row = λ r. slice_index xs r ∷ [] }
+
+abbrev pub batch : ℕ → List (Matrix ℕ) → Batch ℕ
+batch arity matrices = record { arity = arity; matrices = matrices }
+
+-- a pruned opening of indices, row sets and digests
+abbrev pub pruned : List ℕ → List (List (List ℕ)) → List (List ℕ) → PrunedOpening ℕ ℕ
+pruned indices rows digests = record { indices = indices; rows = rows; digests = digests }

@@ -1,0 +1,162 @@
+-- The shape of a tree: exponents of heights, the ladder of lawful heights, steps, lengths, ancestors.
+use Rattle.std.specs.Prelude.{◌≡◌, ℕ, zero, suc, ◌+◌, ◌-◌, ◌*◌, ◌/◌, ◌%◌, ◌^◌, ◌<◌, ◌≤◌, max, Bool, true, false, ◌&&◌, ◌==◌, nat_lt, nat_le, if◌then◌else◌, List, [], ◌∷◌, ◌++◌, map, All}
+use Rattle.std.specs.List.{list_any, range_with_len}
+use Rattle.std.specs.Int.{next_multiple_of}
+use Rattle.p3_support.specs.declared.matrix.Dimensions.{Dimensions}
+
+-- the least k below the bound that passes, else the bound
+abbrev pub least : (ℕ → Bool) → ℕ → ℕ
+least p zero = 0
+least p (suc bound) = elim (p 0) [ true ↦ 0 | false ↦ suc (least (λ k. p (suc k)) bound) ]
+
+-- g 0, g 1 and so on up to g (n - 1), one after another
+abbrev pub joined : {A : Type 0} → (ℕ → List A) → ℕ → List A
+joined g zero = []
+joined g (suc n) = joined g n ++ g n
+
+-- ---- heights
+
+-- the exponent of a height: the least k with 2 ^ k ≥ h
+unfoldable pub exponent : ℕ → ℕ
+exponent h = least (λ k. nat_le h (2 ^ k)) h
+
+-- the greatest height, and 0 of none
+abbrev pub tallest : List ℕ → ℕ
+tallest [] = 0
+tallest (h ∷ hs) = max h (tallest hs)
+
+-- how many halvings lead from the greatest height m down to the height h
+abbrev pub bits_reduced : ℕ → ℕ → ℕ
+bits_reduced m h = exponent m - exponent h
+
+-- the one lawful height with the exponent of h, where m is the greatest
+abbrev pub expected_height : ℕ → ℕ → ℕ
+expected_height m h = (m - 1) / 2 ^ bits_reduced m h + 1
+
+-- the greatest height, and the greatest arity, that is taken
+abbrev pub max_height : ℕ
+max_height = 2 ^ 62
+
+-- some height is above 0, none is too large, and each is the expected one of its exponent
+pub record IsLawful (heights : List ℕ) : Type 0 where
+  pub some_above_0 : 0 < tallest heights
+  pub none_too_large : All (λ h. h ≤ max_height) heights
+  pub on_ladder : All (λ h. h ≡ expected_height (tallest heights) h) heights
+
+-- ---- shapes
+
+-- an arity: a power of two from 2 to 2 ^ 62
+pub record IsArity (n : ℕ) : Type 0 where
+  pub power : n ≡ 2 ^ exponent n
+  pub above_1 : 2 ≤ n
+  pub fits : n ≤ max_height
+
+-- whether a number is an arity: one of 2, 4, 8 and so on up to 2 ^ 62
+abbrev pub is_arity : ℕ → Bool
+is_arity n = list_any (λ k. n == 2 ^ suc k) (range_with_len 0 62)
+
+-- how many children a node may have, and the dimensions of the matrices in input order
+pub record Shape : Type 0 where
+  pub arity : ℕ
+  pub dimensions : List Dimensions
+
+-- the shape of an arity and dimensions
+abbrev pub shape_of : ℕ → List Dimensions → Shape
+shape_of arity dimensions = record { arity = arity; dimensions = dimensions }
+
+-- the heights of matrices, in rows
+abbrev pub heights_of : List Dimensions → List ℕ
+heights_of dimensions = map (λ d. d.height) dimensions
+
+-- the heights of a shape's matrices
+abbrev pub heights : Shape → List ℕ
+heights s = heights_of s.dimensions
+
+-- the widths of their rows, in words
+abbrev pub widths_of : List Dimensions → List ℕ
+widths_of dimensions = map (λ d. d.width) dimensions
+
+-- the widths of a shape's matrices
+abbrev pub widths : Shape → List ℕ
+widths s = widths_of s.dimensions
+
+-- ---- steps from layer to layer
+
+-- whether a matrix's exponent lies strictly between x and what a step of the whole arity leaves of x
+abbrev pub is_bridge : Shape → ℕ → Bool
+is_bridge s x = list_any (λ h. nat_lt (x - exponent s.arity) (exponent h) && nat_lt (exponent h) x) (heights s)
+
+-- the exponent of layer l: that of the greatest height at first; a bridge step takes 1, any other log2 of the arity, and none goes below 0
+unfoldable pub layer_exponent : Shape → ℕ → ℕ
+layer_exponent s zero = exponent (tallest (heights s))
+layer_exponent s (suc l) = let x = layer_exponent s l in if is_bridge s x then x - 1 else x - exponent s.arity
+
+-- how many children a node of layer l + 1 has in layer l
+abbrev pub step : Shape → ℕ → ℕ
+step s l = if is_bridge s (layer_exponent s l) then 2 else s.arity
+
+-- how many steps lead from the leaves to the root: the first layer whose exponent is 0
+abbrev pub levels : Shape → ℕ
+levels s = least (λ l. layer_exponent s l == 0) (exponent (tallest (heights s)))
+
+-- the steps of the levels below layer t
+abbrev pub schedule_below : Shape → ℕ → List ℕ
+schedule_below s t = map (step s) (range_with_len 0 t)
+
+-- the steps from the leaves to the root
+abbrev pub arity_schedule : Shape → List ℕ
+arity_schedule s = schedule_below s (levels s)
+
+-- the cap layer of a cap height: so many layers below the root, and no lower than the leaves
+abbrev pub cap_layer : Shape → ℕ → ℕ
+cap_layer s cap_height = levels s - cap_height
+
+-- the layer to which a matrix of height h belongs
+abbrev pub layer_of : Shape → ℕ → ℕ
+layer_of s h = least (λ l. layer_exponent s l == exponent h) (levels s)
+
+-- ---- lengths of layers
+
+-- r for r ≤ 1, n for 1 < r < n, else the least multiple of n not below r
+abbrev pub padded_len : ℕ → ℕ → ℕ
+padded_len r n = if nat_le r 1 then r else (if nat_lt r n then n else next_multiple_of r n)
+
+-- how many slots of layer l are grouped, where r of them are nodes
+abbrev pub grouped_of : Shape → ℕ → ℕ → ℕ
+grouped_of s l r = if is_bridge s (layer_exponent s l) && nat_lt r s.arity then 2 ^ layer_exponent s l else padded_len r s.arity
+
+-- how many slots of layer l are nodes, and no padding
+unfoldable pub raw_len : Shape → ℕ → ℕ
+raw_len s zero = tallest (heights s)
+raw_len s (suc l) = grouped_of s l (raw_len s l) / step s l
+
+-- how many slots of layer l are grouped into nodes of layer l + 1
+abbrev pub grouped : Shape → ℕ → ℕ
+grouped s l = grouped_of s l (raw_len s l)
+
+-- how many slots layer l has, padding included
+abbrev pub layer_len : Shape → ℕ → ℕ
+layer_len s l = padded_len (raw_len s l) s.arity
+
+-- ---- ancestors
+
+-- how many leaf slots a node of layer l has under it, padding included: the product of the steps below it
+unfoldable pub leaves_under : Shape → ℕ → ℕ
+leaves_under s zero = 1
+leaves_under s (suc l) = leaves_under s l * step s l
+
+-- the node of layer l above leaf i
+abbrev pub ancestor : Shape → ℕ → ℕ → ℕ
+ancestor s l i = i / leaves_under s l
+
+-- the place of leaf i's ancestor of layer l among the children of its parent
+abbrev pub position_in_group : Shape → ℕ → ℕ → ℕ
+position_in_group s l i = ancestor s l i % step s l
+
+-- these places, level by level below layer t
+abbrev pub positions_below : Shape → ℕ → ℕ → List ℕ
+positions_below s t i = map (λ l. position_in_group s l i) (range_with_len 0 t)
+
+-- the row of a matrix of height h that belongs to leaf i
+abbrev pub row_of : Shape → ℕ → ℕ → ℕ
+row_of s h i = i / 2 ^ bits_reduced (tallest (heights s)) h

@@ -1,0 +1,243 @@
+-- What holds of the definitions, whatever the hash, the compression, the batch, the openings and the cap.
+use Rattle.std.specs.Prelude.{◌≡◌, ◌≢◌, ◌↔◌, ◌⊎◌, ℕ, suc, ◌-◌, ◌<◌, ◌≤◌, true, Bool, IsTrue, List, [], ◌∷◌, ◌++◌, Option, None, Some, Ok, Err, length, take, slice_index, All}
+use Rattle.p3_merkle_core.specs.Geometry.{Shape, heights, tallest, levels, layer_exponent, exponent, layer_of, layer_len, row_of, step, ancestor, arity_schedule, schedule_below, cap_layer, IsArity, IsLawful}
+use Rattle.p3_merkle_core.specs.Nodes.{Functions, Batch, HasFullRows, shape, node, layer}
+use Rattle.p3_merkle_core.specs.Openings.{Opening, Input, AgreeWhereShared, HasDigests, IsAccepted, IsAtOnePlace, IsLastShared, honest, honest_siblings, inputs, is_authenticated, opened_row, path_digest, digest_of}
+use Rattle.p3_merkle_core.specs.Pruning.{PrunedOpening, AreQueries, IsHonestQuery, IsCapped, IsUncovered, EachAccepted, Suffices, boundary, honest_query, is_covered, is_in, is_under, opening_at, restored, restored_path, tally}
+use Rattle.p3_merkle_core.specs.Refusals.{IsEquality, IsRestorable, answer_under, pruned_answer, pruned_answer_under}
+use Rattle.p3_merkle_core.specs.Extracting.{difference_at, extraction_under, extraction_multi_under, first_pair}
+use Rattle.p3_merkle_core.specs.declared.error.MerkleTreeError.{MerkleTreeError}
+use Rattle.p3_merkle_core.specs.declared.error.MerkleTreeError.TheVariants.{CapMismatch}
+
+-- ---- shapes
+
+-- the walk from the leaves ends at the exponent 0, after at most as many steps as the tallest height has halvings, and the schedule has one step a level
+abbrev pub WalkEnds : Type 0
+WalkEnds =
+    (s : Shape) → IsArity s.arity →
+    (layer_exponent s (levels s) ≡ 0) × (length (arity_schedule s) ≡ levels s) × (levels s ≤ exponent (tallest (heights s)))
+
+-- the steps below the cap are the first of the schedule, and at most as many as the tallest height has halvings
+abbrev pub ScheduleStopsAtCap : Type 0
+ScheduleStopsAtCap =
+    (s : Shape) (cap_height : ℕ) →
+    (schedule_below s (cap_layer s cap_height) ≡ take (length (arity_schedule s) - cap_height) (arity_schedule s))
+    × (length (schedule_below s (cap_layer s cap_height)) ≤ exponent (tallest (heights s)))
+
+-- the last layer is one node, and the last step is of the whole arity
+abbrev pub RootIsAlone : Type 0
+RootIsAlone =
+    (s : Shape) → IsArity s.arity → 0 < tallest (heights s) →
+    (layer_len s (levels s) ≡ 1) × ((l : ℕ) → levels s ≡ suc l → step s l ≡ s.arity)
+
+-- each matrix has a layer of its exponent
+abbrev pub MatricesHaveLayers : Type 0
+MatricesHaveLayers =
+    (s : Shape) (k : ℕ) → IsArity s.arity → k < length (heights s) →
+    layer_exponent s (layer_of s (slice_index (heights s) k)) ≡ exponent (slice_index (heights s) k)
+
+-- the row of a matrix that belongs to an index is below its height, and is the index's ancestor at the matrix's layer
+abbrev pub RowsAreAncestors : Type 0
+RowsAreAncestors =
+    (s : Shape) (k i : ℕ) → IsArity s.arity → IsLawful (heights s) → k < length (heights s) → i < tallest (heights s) →
+    let h = slice_index (heights s) k in
+    (row_of s h i < h) × (row_of s h i ≡ ancestor s (layer_of s h) i)
+
+-- ---- pruned proofs
+
+-- the boundary suffices
+abbrev pub BoundarySuffices : Type 0
+BoundarySuffices = (s : Shape) (t : ℕ) (queries : List ℕ) → AreQueries s t queries → Suffices s queries t (boundary s queries t)
+
+-- a list of uncovered nodes that suffices is no shorter than the boundary
+abbrev pub BoundaryIsSmallest : Type 0
+BoundaryIsSmallest =
+    (s : Shape) (queries : List ℕ) (t : ℕ) (given : List (ℕ × ℕ)) → IsArity s.arity → IsUncovered s queries t given → Suffices s queries t given →
+    length (boundary s queries t) ≤ length given
+
+-- a list of uncovered nodes that suffices and is as short as the boundary has just its nodes
+abbrev pub BoundaryIsAlone : Type 0
+BoundaryIsAlone =
+    (s : Shape) (queries : List ℕ) (t : ℕ) (given : List (ℕ × ℕ)) → IsArity s.arity → IsUncovered s queries t given → Suffices s queries t given →
+    length given ≤ length (boundary s queries t) → (l j : ℕ) → is_in given l j ≡ is_in (boundary s queries t) l j
+
+-- no node is under two boundary nodes
+abbrev pub BoundaryNodesAreApart : Type 0
+BoundaryNodesAreApart =
+    (s : Shape) (queries : List ℕ) (t : ℕ) (x : ℕ × ℕ) → tally (λ (l, j). is_under s l j x) (boundary s queries t) ≤ 1
+
+-- a list of uncovered nodes that suffices has each boundary node, or two entries under it
+abbrev pub BoundaryNodesAreHeld : Type 0
+BoundaryNodesAreHeld =
+    (s : Shape) (queries : List ℕ) (t : ℕ) (given : List (ℕ × ℕ)) → IsArity s.arity → IsUncovered s queries t given → Suffices s queries t given →
+    (l j : ℕ) → is_in (boundary s queries t) l j ≡ true → (is_in given l j ≡ true) ⊎ (2 ≤ tally (is_under s l j) given)
+
+module _ (T W : Type 0) where
+  -- ---- honest openings
+
+  -- the honest opening of each index of a lawful batch is accepted under each cap layer
+  abbrev pub HonestIsAccepted : Type 0
+  HonestIsAccepted =
+      (f : Functions T W) (b : Batch T) (t i : ℕ) → IsArity b.arity → IsLawful (heights (shape b)) → i < tallest (heights (shape b)) → t ≤ levels (shape b) → HasFullRows b →
+      IsAccepted f (shape b) t (layer f b t) (honest f b t i)
+
+  -- the honest pruned opening of each list of indices is answered Ok
+  abbrev pub HonestQueryIsAccepted : Type 0
+  HonestQueryIsAccepted =
+      (eq : T → T → Bool) (same : W → W → Bool) (f : Functions T W) (b : Batch T) (t : ℕ) (indices : List ℕ) → IsEquality eq → IsEquality same → IsHonestQuery b t indices → HasFullRows b →
+      pruned_answer_under eq same f (shape b) t (layer f b t) (honest_query f b t indices) ≡ Ok tt
+
+  -- an honest pruned opening restores each covered node
+  abbrev pub HonestNodesAreRestored : Type 0
+  HonestNodesAreRestored =
+      (f : Functions T W) (b : Batch T) (t : ℕ) (indices : List ℕ) → IsHonestQuery b t indices → (l j : ℕ) → l ≤ t → is_covered (shape b) indices l j ≡ true →
+      restored f (shape b) t (honest_query f b t indices) l j ≡ node f b l j
+
+  -- an honest pruned opening restores the honest siblings of each query
+  abbrev pub HonestPathsAreRestored : Type 0
+  HonestPathsAreRestored =
+      (f : Functions T W) (b : Batch T) (t : ℕ) (indices : List ℕ) → IsHonestQuery b t indices → (k : ℕ) → k < length indices →
+      restored_path f (shape b) t (honest_query f b t indices) (slice_index indices k) ≡ honest_siblings f b t (slice_index indices k)
+
+  -- under an honest pruned opening the cap has each covered node of its layer
+  abbrev pub HonestQueryIsCapped : Type 0
+  HonestQueryIsCapped =
+      (f : Functions T W) (b : Batch T) (t : ℕ) (indices : List ℕ) → IsHonestQuery b t indices →
+      IsCapped f (shape b) t (layer f b t) (honest_query f b t indices)
+
+  -- ---- what is answered Ok
+
+  -- an opening is answered Ok exactly if it is accepted
+  abbrev pub OkIsAccepted : Type 0
+  OkIsAccepted =
+      (same : W → W → Bool) (f : Functions T W) (s : Shape) (t : ℕ) (cap : List (List W)) (o : Opening T W) → IsEquality same →
+      (answer_under same f s t cap o ≡ Ok tt) ↔ IsAccepted f s t cap o
+
+  -- a pruned opening is answered Ok, whatever the cap, exactly if it is restorable
+  abbrev pub OkIsRestorable : Type 0
+  OkIsRestorable =
+      (eq : T → T → Bool) (s : Shape) (t : ℕ) (q : PrunedOpening T W) → IsEquality eq →
+      (pruned_answer eq s t q ≡ Ok tt) ↔ IsRestorable s t q
+
+  -- a pruned opening is answered Ok under a cap exactly if it is restorable and each query is accepted with its restored path
+  abbrev pub OkIsEachAccepted : Type 0
+  OkIsEachAccepted =
+      (eq : T → T → Bool) (same : W → W → Bool) (f : Functions T W) (s : Shape) (t : ℕ) (cap : List (List W)) (q : PrunedOpening T W) → IsEquality eq → IsEquality same → IsArity s.arity →
+      (pruned_answer_under eq same f s t cap q ≡ Ok tt) ↔ (IsRestorable s t q × EachAccepted f s t cap q)
+
+  -- a pruned opening is answered Ok under a cap exactly if it is restorable and the cap has each covered node of its layer
+  abbrev pub OkIsCapped : Type 0
+  OkIsCapped =
+      (eq : T → T → Bool) (same : W → W → Bool) (f : Functions T W) (s : Shape) (t : ℕ) (cap : List (List W)) (q : PrunedOpening T W) → IsEquality eq → IsEquality same →
+      (pruned_answer_under eq same f s t cap q ≡ Ok tt) ↔ (IsRestorable s t q × IsCapped f s t cap q)
+
+  -- ---- pruned openings and their restored paths
+
+  -- a restorable opening fits the cap exactly if each query is accepted with its restored path
+  abbrev pub CappedIsEachAccepted : Type 0
+  CappedIsEachAccepted =
+      (f : Functions T W) (s : Shape) (t : ℕ) (cap : List (List W)) (q : PrunedOpening T W) → IsArity s.arity → IsRestorable s t q →
+      IsCapped f s t cap q ↔ EachAccepted f s t cap q
+
+  -- a pruned opening that is refused whatever the cap is refused alike under each cap
+  abbrev pub RefusedUnderEachCap : Type 0
+  RefusedUnderEachCap =
+      (eq : T → T → Bool) (same : W → W → Bool) (f : Functions T W) (s : Shape) (t : ℕ) (cap : List (List W)) (q : PrunedOpening T W) (e : MerkleTreeError) →
+      pruned_answer eq s t q ≡ Err e → pruned_answer_under eq same f s t cap q ≡ Err e
+
+  -- what is not refused whatever the cap is answered Ok under a cap exactly if each query with its restored path is
+  abbrev pub AnsweredAsEachPath : Type 0
+  AnsweredAsEachPath =
+      (eq : T → T → Bool) (same : W → W → Bool) (f : Functions T W) (s : Shape) (t : ℕ) (cap : List (List W)) (q : PrunedOpening T W) → IsEquality eq → IsEquality same → IsArity s.arity →
+      pruned_answer eq s t q ≡ Ok tt →
+      (pruned_answer_under eq same f s t cap q ≡ Ok tt) ↔ ((k : ℕ) → k < length q.indices → answer_under same f s t cap (opening_at f s t q k) ≡ Ok tt)
+
+  -- what is not refused whatever the cap is answered Ok under a cap, or CapMismatch
+  abbrev pub OkOrCapMismatch : Type 0
+  OkOrCapMismatch =
+      (eq : T → T → Bool) (same : W → W → Bool) (f : Functions T W) (s : Shape) (t : ℕ) (cap : List (List W)) (q : PrunedOpening T W) → pruned_answer eq s t q ≡ Ok tt →
+      (pruned_answer_under eq same f s t cap q ≡ Ok tt) ⊎ (pruned_answer_under eq same f s t cap q ≡ Err CapMismatch)
+
+  -- ---- two openings under one cap
+
+  -- the last inputs that two accepted openings share and that differ stand at one place and have one digest
+  abbrev pub LastDifferenceCollides : Type 0
+  LastDifferenceCollides =
+      (f : Functions T W) (s : Shape) (t : ℕ) (cap : List (List W)) (o u : Opening T W) → IsArity s.arity → IsAccepted f s t cap o → IsAccepted f s t cap u →
+      (x y : Input T W) → IsLastShared f s t o u x y → IsAtOnePlace x y × (x ≢ y) × (digest_of f x ≡ digest_of f y)
+
+  -- extraction answers None exactly where both openings are accepted and agree wherever they share a place
+  abbrev pub NoneIsAgreement : Type 0
+  NoneIsAgreement =
+      (eq : T → T → Bool) (same : W → W → Bool) (f : Functions T W) (s : Shape) (t : ℕ) (cap : List (List W)) (o u : Opening T W) → IsEquality eq → IsEquality same →
+      (extraction_under eq same f s t cap o u ≡ Ok None)
+      ↔ (IsAccepted f s t cap o × IsAccepted f s t cap u × AgreeWhereShared f s t o u)
+
+  -- extraction answers two inputs exactly where both openings are accepted and these are the last that they share and that differ
+  abbrev pub SomeIsCollision : Type 0
+  SomeIsCollision =
+      (eq : T → T → Bool) (same : W → W → Bool) (f : Functions T W) (s : Shape) (t : ℕ) (cap : List (List W)) (o u : Opening T W) (x y : Input T W) → IsEquality eq → IsEquality same →
+      (extraction_under eq same f s t cap o u ≡ Ok (Some (x, y)))
+      ↔ (IsAccepted f s t cap o × IsAccepted f s t cap u × IsLastShared f s t o u x y)
+
+  -- where two accepted openings agree wherever they share a place, they answer each row of an authenticated matrix alike
+  abbrev pub RowsAreBound : Type 0
+  RowsAreBound =
+      (f : Functions T W) (s : Shape) (t : ℕ) (cap : List (List W)) (o u : Opening T W) → IsArity s.arity → IsAccepted f s t cap o → IsAccepted f s t cap u →
+      AgreeWhereShared f s t o u →
+      (k : ℕ) → k < length (heights s) → IsTrue (is_authenticated s t k) →
+      let h = slice_index (heights s) k in
+      row_of s h o.index ≡ row_of s h u.index → opened_row o k ≡ opened_row u k
+
+  -- two accepted openings of one index agree wherever they share a place exactly if their siblings do, and their rows of each authenticated matrix
+  abbrev pub OneIndexIsBound : Type 0
+  OneIndexIsBound =
+      (f : Functions T W) (s : Shape) (t : ℕ) (cap : List (List W)) (o u : Opening T W) → IsArity s.arity → IsAccepted f s t cap o → IsAccepted f s t cap u → o.index ≡ u.index →
+      AgreeWhereShared f s t o u
+      ↔ ((o.siblings ≡ u.siblings) × ((k : ℕ) → k < length (heights s) → IsTrue (is_authenticated s t k) → opened_row o k ≡ opened_row u k))
+
+  -- each input of an accepted opening that is made of digests has as many of them as the arity
+  abbrev pub InputsAreFull : Type 0
+  InputsAreFull =
+      (f : Functions T W) (s : Shape) (t : ℕ) (cap : List (List W)) (o : Opening T W) → IsArity s.arity → IsAccepted f s t cap o →
+      All (HasDigests s.arity) (inputs f s t o)
+
+  -- the digest that a check reaches at layer t is that of its last input
+  abbrev pub LastInputIsReached : Type 0
+  LastInputIsReached =
+      (f : Functions T W) (s : Shape) (t : ℕ) (o : Opening T W) →
+      (before : List (Input T W)) × (x : Input T W) × (inputs f s t o ≡ before ++ x ∷ []) × (digest_of f x ≡ path_digest f s o t)
+
+  -- ---- two pruned openings under one cap
+
+  -- extraction from two pruned openings answers Ok exactly where both restore and each query is accepted, with the first pair of queries that differs
+  abbrev pub PairIsFirst : Type 0
+  PairIsFirst =
+      (eq : T → T → Bool) (same : W → W → Bool) (f : Functions T W) (s : Shape) (t : ℕ) (cap : List (List W)) (q r : PrunedOpening T W) → IsEquality eq → IsEquality same → IsArity s.arity →
+      (answer : Option (ℕ × ℕ × (Input T W × Input T W))) →
+      (extraction_multi_under eq same f s t cap q r ≡ Ok answer)
+      ↔ ((IsRestorable s t q × EachAccepted f s t cap q) × (IsRestorable s t r × EachAccepted f s t cap r)
+      × (first_pair (difference_at eq same f s t q r) (length q.indices) (length r.indices) ≡ answer))
+
+  -- it answers None exactly where both are accepted and each query of the one agrees with each of the other wherever they share a place
+  abbrev pub NoPairDiffers : Type 0
+  NoPairDiffers =
+      (eq : T → T → Bool) (same : W → W → Bool) (f : Functions T W) (s : Shape) (t : ℕ) (cap : List (List W)) (q r : PrunedOpening T W) → IsEquality eq → IsEquality same → IsArity s.arity →
+      (extraction_multi_under eq same f s t cap q r ≡ Ok None)
+      ↔ ((IsRestorable s t q × EachAccepted f s t cap q) × (IsRestorable s t r × EachAccepted f s t cap r)
+      × ((a b : ℕ) → a < length q.indices → b < length r.indices → AgreeWhereShared f s t (opening_at f s t q a) (opening_at f s t r b)))
+
+  -- else it answers two queries, each by its place, and the last inputs that they share and that differ, which have one digest
+  abbrev pub PairCollides : Type 0
+  PairCollides =
+      (eq : T → T → Bool) (same : W → W → Bool) (f : Functions T W) (s : Shape) (t : ℕ) (cap : List (List W)) (q r : PrunedOpening T W) (a b : ℕ) (x y : Input T W) → IsEquality eq → IsEquality same → IsArity s.arity →
+      extraction_multi_under eq same f s t cap q r ≡ Ok (Some (a, b, (x, y))) →
+      (a < length q.indices) × (b < length r.indices) × IsLastShared f s t (opening_at f s t q a) (opening_at f s t r b) x y
+      × IsAtOnePlace x y × (digest_of f x ≡ digest_of f y)
+
+  -- each pair of queries before it, by the first list, then by the second, agrees wherever it shares a place
+  abbrev pub PairsBeforeAgree : Type 0
+  PairsBeforeAgree =
+      (eq : T → T → Bool) (same : W → W → Bool) (f : Functions T W) (s : Shape) (t : ℕ) (cap : List (List W)) (q r : PrunedOpening T W) (a b : ℕ) (x y : Input T W) → IsEquality eq → IsEquality same → IsArity s.arity →
+      extraction_multi_under eq same f s t cap q r ≡ Ok (Some (a, b, (x, y))) → (c d : ℕ) → ((c < a) ⊎ ((c ≡ a) × (d < b))) → d < length r.indices →
+      AgreeWhereShared f s t (opening_at f s t q c) (opening_at f s t r d)

@@ -1,0 +1,13 @@
+pub mod Geometry
+pub mod Gate
+pub mod Nodes
+pub mod Openings
+pub mod Pruning
+pub mod Refusals
+pub mod Extracting
+pub mod Laws
+pub mod Examples
+pub mod ShapeExamples
+pub mod NodeExamples
+pub mod OpeningExamples
+pub mod PruningExamples

@@ -1,0 +1,184 @@
+-- Why an opening is refused: the first reason that holds.
+use Rattle.std.specs.Prelude.{◌≡◌, ℕ, suc, false, slice_get, ◌<◌, ◌==◌, ◌&&◌, nat_lt, Bool, if◌then◌else◌, List, [], ◌∷◌, map, length, filter, zip, find, unwrap_or, option_map, slice_index, slice_index_or, Option, Some, None, Result, Ok, Err, All, Decides}
+use Rattle.std.specs.List.{list_all, list_any, range_with_len, enumerate_from}
+use Rattle.std.specs.Option.{option_or}
+use Rattle.std.specs.Cmp.Lexicographic.{pointwise}
+use Rattle.p3_merkle_core.specs.Geometry.{Shape, IsLawful, exponent, tallest, layer_exponent, ancestor, least, heights, widths, widths_of}
+use Rattle.p3_support.specs.declared.matrix.Dimensions.{Dimensions}
+use Rattle.p3_merkle_core.specs.Gate.{gate_refusal}
+use Rattle.p3_merkle_core.specs.Nodes.{Functions}
+use Rattle.p3_merkle_core.specs.Openings.{Opening, siblings_below, path_digest}
+use Rattle.p3_merkle_core.specs.Pruning.{PrunedOpening, boundary, restored, IsAgreed}
+use Rattle.p3_merkle_core.specs.declared.error.PrunedProofError.TheVariants.{SiblingCountMismatch, InconsistentDuplicateOpenings, InconsistentGroupOpening}
+use Rattle.p3_merkle_core.specs.declared.error.MerkleTreeError.{MerkleTreeError}
+use Rattle.p3_merkle_core.specs.declared.error.MerkleTreeError.TheVariants.{WrongBatchSize, WrongWidth, WrongHeight, CapMismatch, IndexOutOfBounds, MalformedPrunedProof}
+
+-- the test decides equality
+abbrev pub IsEquality : {T : Type 0} → (T → T → Bool) → Type 0
+IsEquality {T} eq = (x y : T) → Decides (eq x y) (x ≡ y)
+
+-- the first of some answers
+abbrev pub first_some : {E : Type 0} → List (Option E) → Option E
+first_some [] = None
+first_some (x ∷ xs) = option_or x (first_some xs)
+
+-- the first that h answers of some items
+abbrev pub first_of : {X E : Type 0} → (X → Option E) → List X → Option E
+first_of h xs = first_some (map h xs)
+
+-- e, unless the test passes
+abbrev pub unless : {E : Type 0} → Bool → E → Option E
+unless b e = if b then None else Some e
+
+-- Ok where there is no refusal
+abbrev pub verdict : {E : Type 0} → Option E → Result (Unit {0}) E
+verdict None = Ok tt
+verdict (Some e) = Err e
+
+-- ---- slots
+
+-- whether an index is queried
+abbrev pub is_queried : List ℕ → ℕ → Bool
+is_queried indices i = list_any (λ q. q == i) indices
+
+-- the distinct indices below m, ascending
+abbrev pub slots_below : ℕ → List ℕ → List ℕ
+slots_below m indices = filter (is_queried indices) (range_with_len 0 m)
+
+-- the place of an index among them
+abbrev pub slot_of : List ℕ → ℕ → ℕ
+slot_of indices i = length (slots_below i indices)
+
+-- the row set of the first query of index i
+abbrev pub first_rows : {T W : Type 0} → PrunedOpening T W → ℕ → List (List T)
+first_rows q i = unwrap_or (option_map (λ (j, rows). rows) (find (λ (j, rows). j == i) (zip q.indices q.rows))) []
+
+-- the lowest queried index under node j of layer l
+abbrev pub lead : Shape → List ℕ → ℕ → ℕ → ℕ
+lead s indices l j = least (λ i. is_queried indices i && (ancestor s l i == j)) (tallest (heights s))
+
+-- the places in input order of the matrices of layer l
+abbrev pub matrices_at : Shape → ℕ → List ℕ
+matrices_at s l = filter (λ m. exponent (slice_index (heights s) m) == layer_exponent s l) (range_with_len 0 (length (heights s)))
+
+-- ---- the reasons
+
+-- rows or row sets that are not as many as they should be
+abbrev pub size_refusal : ℕ → ℕ → Option MerkleTreeError
+size_refusal expected got = unless (expected == got) (WrongBatchSize expected got)
+
+-- the refusal of a row that has not the width w of matrix m
+abbrev pub width_fault : {T : Type 0} → ℕ × (ℕ × List T) → Option MerkleTreeError
+width_fault (m, (w, row)) = unless (w == length row) (WrongWidth m w (length row))
+
+-- the first row that has not the width of its matrix
+abbrev pub row_width_refusal : {T : Type 0} → List ℕ → List (List T) → Option MerkleTreeError
+row_width_refusal widths rows = first_of width_fault (enumerate_from 0 (zip widths rows))
+
+-- a wrong number of rows, else the first row that has not the width of its matrix
+abbrev pub width_refusal : {T : Type 0} → List Dimensions → List (List T) → Option MerkleTreeError
+width_refusal dimensions rows = option_or (size_refusal (length dimensions) (length rows)) (row_width_refusal (widths_of dimensions) rows)
+
+-- digests of a pruned proof that are not as many as they should be
+abbrev pub digest_count_refusal : ℕ → ℕ → Option MerkleTreeError
+digest_count_refusal expected got = unless (expected == got) (MalformedPrunedProof (SiblingCountMismatch expected got))
+
+-- a digest where there is no query
+abbrev pub idle_refusal : ℕ → ℕ → Option MerkleTreeError
+idle_refusal queries digests = if queries == 0 then digest_count_refusal 0 digests else None
+
+-- queries of which the highest is not below the tallest height m
+abbrev pub index_refusal : ℕ → List ℕ → Option MerkleTreeError
+index_refusal m indices = unless (nat_lt (tallest indices) m) (IndexOutOfBounds m (tallest indices))
+
+-- a query whose row set is not that of the first query of its index
+abbrev pub repeat_refusal : {T W : Type 0} → (T → T → Bool) → PrunedOpening T W → Option MerkleTreeError
+repeat_refusal eq q =
+    first_of (λ (i, rows). unless (pointwise (pointwise eq) rows (first_rows q i)) (MalformedPrunedProof (InconsistentDuplicateOpenings (slot_of q.indices i)))) (zip q.indices q.rows)
+
+-- a row of matrix m, of layer l, that is not that of the lowest queried index under the same node
+abbrev pub row_refusal : {T W : Type 0} → (T → T → Bool) → Shape → PrunedOpening T W → ℕ → ℕ → ℕ → Option MerkleTreeError
+row_refusal eq s q l i m =
+    unless (pointwise eq (slice_index_or (first_rows q i) m []) (slice_index_or (first_rows q (lead s q.indices l (ancestor s l i))) m []))
+    (MalformedPrunedProof (InconsistentGroupOpening (slot_of q.indices i) m))
+
+-- layers up to t, slots ascending, matrices in input order: the first row that disagrees
+abbrev pub group_refusal : {T W : Type 0} → (T → T → Bool) → Shape → ℕ → PrunedOpening T W → Option MerkleTreeError
+group_refusal eq s t q =
+    first_of (λ l. first_of (λ i. first_of (row_refusal eq s q l i) (matrices_at s l)) (slots_below (tallest (heights s)) q.indices)) (range_with_len 0 (suc t))
+
+-- whether the digest is the cap's entry j
+abbrev pub is_entry : {W : Type 0} → (W → W → Bool) → List (List W) → ℕ → List W → Bool
+is_entry same cap j digest = unwrap_or (option_map (λ entry. pointwise same entry digest) (slice_get cap j)) false
+
+-- ---- single openings
+
+-- siblings that are not as many as they should be
+abbrev pub sibling_count_refusal : ℕ → ℕ → Option MerkleTreeError
+sibling_count_refusal expected got = unless (expected == got) (WrongHeight expected got)
+
+-- why an opening is refused under a cap, which is layer t: the first of these reasons
+abbrev pub refusal_under : {T W : Type 0} → (W → W → Bool) → Functions T W → Shape → ℕ → List (List W) → Opening T W → Option MerkleTreeError
+refusal_under same f s t cap o =
+    first_some (
+    size_refusal (length s.dimensions) (length o.rows)
+    ∷ gate_refusal (heights s)
+    ∷ sibling_count_refusal (siblings_below s t) (length o.siblings)
+    ∷ row_width_refusal (widths s) o.rows
+    ∷ unless (nat_lt o.index (tallest (heights s))) (IndexOutOfBounds (tallest (heights s)) o.index)
+    ∷ unless (is_entry same cap (ancestor s t o.index) (path_digest f s o t)) CapMismatch
+    ∷ [])
+
+-- the answer to an opening under a cap
+abbrev pub answer_under : {T W : Type 0} → (W → W → Bool) → Functions T W → Shape → ℕ → List (List W) → Opening T W → Result (Unit {0}) MerkleTreeError
+answer_under same f s t cap o = verdict (refusal_under same f s t cap o)
+
+-- why a replay of an index is refused, where a proof has so many siblings: the first of these reasons
+abbrev pub replay_refusal : Shape → ℕ → ℕ → ℕ → Option MerkleTreeError
+replay_refusal s t index siblings =
+    first_some (
+    gate_refusal (heights s)
+    ∷ unless (nat_lt index (tallest (heights s))) (IndexOutOfBounds (tallest (heights s)) index)
+    ∷ sibling_count_refusal (siblings_below s t) siblings
+    ∷ [])
+
+-- ---- pruned openings
+
+-- why a pruned opening is refused, whatever the cap, which is layer t: the first of these reasons
+abbrev pub pruned_refusal : {T W : Type 0} → (T → T → Bool) → Shape → ℕ → PrunedOpening T W → Option MerkleTreeError
+pruned_refusal eq s t q =
+    first_some (
+    gate_refusal (heights s)
+    ∷ size_refusal (length q.indices) (length q.rows)
+    ∷ idle_refusal (length q.indices) (length q.digests)
+    ∷ index_refusal (tallest (heights s)) q.indices
+    ∷ repeat_refusal eq q
+    ∷ digest_count_refusal (length (boundary s q.indices t)) (length q.digests)
+    ∷ first_of (λ i. width_refusal s.dimensions (first_rows q i)) (slots_below (tallest (heights s)) q.indices)
+    ∷ group_refusal eq s t q
+    ∷ [])
+
+-- the answer to a pruned opening, whatever the cap
+abbrev pub pruned_answer : {T W : Type 0} → (T → T → Bool) → Shape → ℕ → PrunedOpening T W → Result (Unit {0}) MerkleTreeError
+pruned_answer eq s t q = verdict (pruned_refusal eq s t q)
+
+-- a covered node of layer t whose value is not the cap's entry
+abbrev pub cap_refusal : {T W : Type 0} → (W → W → Bool) → Functions T W → Shape → ℕ → List (List W) → PrunedOpening T W → Option MerkleTreeError
+cap_refusal same f s t cap q =
+    unless (list_all (λ i. is_entry same cap (ancestor s t i) (restored f s t q t (ancestor s t i))) q.indices) CapMismatch
+
+-- why a pruned opening is refused under a cap
+abbrev pub pruned_refusal_under : {T W : Type 0} → (T → T → Bool) → (W → W → Bool) → Functions T W → Shape → ℕ → List (List W) → PrunedOpening T W → Option MerkleTreeError
+pruned_refusal_under eq same f s t cap q = option_or (pruned_refusal eq s t q) (cap_refusal same f s t cap q)
+
+-- the answer to a pruned opening under a cap
+abbrev pub pruned_answer_under : {T W : Type 0} → (T → T → Bool) → (W → W → Bool) → Functions T W → Shape → ℕ → List (List W) → PrunedOpening T W → Result (Unit {0}) MerkleTreeError
+pruned_answer_under eq same f s t cap q = verdict (pruned_refusal_under eq same f s t cap q)
+
+-- lawful heights, queries below the tallest height, a digest for each boundary node, and rows of their widths that agree
+pub record IsRestorable {T W : Type 0} (s : Shape) (t : ℕ) (q : PrunedOpening T W) : Type 0 where
+  pub lawful : IsLawful (heights s)
+  pub below : All (λ i. i < tallest (heights s)) q.indices
+  pub count : length q.digests ≡ length (boundary s q.indices t)
+  pub rows_fit : All (λ rows. map length rows ≡ widths s) q.rows
+  pub agreed : IsAgreed s t q

@@ -1,0 +1,115 @@
+//! Why a batch, an index or an opening is refused.
+
+ghost use Rattle.std.specs.Prelude.{◌≡◌};
+ghost use Rattle.p3_merkle_core.specs.declared.error.MerkleTreeError.TheVariants.{MalformedPrunedProof, OutOfMemory};
+
+use std::alloc::{AllocError, AllocFailed};
+use thiserror::Error;
+
+/// Why a pruned proof does not fit the queries and rows that it comes with.
+#[derive(Debug, PartialEq, Eq, Drop, Error)]
+pub enum PrunedProofError {
+    /// The proof has not as many digests as its queries leave unknown.
+    #[error("wrong pruned sibling count: expected {expected}, got {got}")]
+    SiblingCountMismatch {
+        /// How many digests the queries need.
+        expected: usize,
+        /// How many digests the proof has.
+        got: usize,
+    },
+    /// Two queries of one index come with different rows.
+    #[error("duplicate queries for path slot {slot} disagree on opened values")]
+    InconsistentDuplicateOpenings {
+        /// The place of the index among the distinct queried indices, ascending.
+        slot: usize,
+    },
+    /// Two queries under one node come with different rows of a matrix of that node's layer.
+    #[error("unique path slot {slot} disagrees with its group's lead on matrix {matrix}'s opened row")]
+    InconsistentGroupOpening {
+        /// The place of the later index among the distinct queried indices, ascending.
+        slot: usize,
+        /// The place of the matrix in input order.
+        matrix: usize,
+    },
+}
+
+/// Why a batch of matrices, an index or an opening is refused. Sizes count what their names say:
+/// entries, words of a row, digests, rows.
+#[derive(Debug, PartialEq, Eq, Drop, Error)]
+pub enum MerkleTreeError {
+    /// There are not as many rows, row sets or salts as there should be.
+    #[error("batch size mismatch: expected {expected} entries, got {got}")]
+    WrongBatchSize {
+        expected: usize,
+        got: usize,
+    },
+    /// An opened row has not the width of its matrix.
+    #[error("wrong width: matrix {matrix} expected {expected} values, got {got}")]
+    WrongWidth {
+        matrix: usize,
+        expected: usize,
+        got: usize,
+    },
+    /// A proof has not as many siblings as the levels below the cap need.
+    #[error("wrong height: expected {expected_proof_len} siblings, got {num_siblings}")]
+    WrongHeight {
+        expected_proof_len: usize,
+        num_siblings: usize,
+    },
+    /// A height is not the tallest one halved and rounded up some number of times.
+    #[error("matrix height {height} incompatible with tallest height {max_height}; expected ceil_div({max_height}, 2^{bits_reduced}) = {expected_height} so every global index maps to a row at depth {bits_reduced}")]
+    IncompatibleHeights {
+        height: usize,
+        max_height: usize,
+        expected_height: usize,
+        bits_reduced: usize,
+    },
+    /// An index is not below the tallest height.
+    #[error("index out of bounds: index {index} exceeds max height {max_height}")]
+    IndexOutOfBounds {
+        max_height: usize,
+        index: usize,
+    },
+    /// There are no matrices, or none of them has a row.
+    #[error("empty batch: attempted to open an empty batch with no committed matrices")]
+    EmptyBatch,
+    /// The cap's entry above an index is not the digest that its opening leads to.
+    #[error("cap mismatch: computed digest does not match any entry in the Merkle cap")]
+    CapMismatch,
+    /// A pruned proof does not fit its queries and rows.
+    #[error("malformed pruned proof: {0}")]
+    MalformedPrunedProof(PrunedProofError),
+    /// A matrix has more rows, or wider rows, than this crate takes.
+    #[error("matrix {matrix}: size {size} is too large")]
+    TooLarge {
+        matrix: usize,
+        size: usize,
+    },
+    /// There is no memory left.
+    #[error("out of memory")]
+    OutOfMemory,
+}
+
+impl From<PrunedProofError> for MerkleTreeError {
+    ghost from_gives = { λ inner e. e ≡ MalformedPrunedProof inner };
+
+    fn from(error: PrunedProofError) -> MerkleTreeError {
+        MerkleTreeError::MalformedPrunedProof(error)
+    }
+}
+
+impl From<AllocError> for MerkleTreeError {
+    ghost from_gives = { λ _ e. e ≡ OutOfMemory };
+
+    fn from(_error: AllocError) -> MerkleTreeError {
+        MerkleTreeError::OutOfMemory
+    }
+}
+
+impl<T: Drop> From<AllocFailed<T>> for MerkleTreeError {
+    ghost from_gives = { λ _ e. e ≡ OutOfMemory };
+
+    fn from(_error: AllocFailed<T>) -> MerkleTreeError {
+        MerkleTreeError::OutOfMemory
+    }
+}

@@ -1,0 +1,269 @@
+//! The shape of a tree, computed from the dimensions of its matrices: which heights are taken, how many children
+//! a node has on each level, how long the layers are, and where the ancestors of an index stand.
+//!
+//! No call here takes memory, but for the two that answer a list.
+
+ghost use Rattle.std.specs.Prelude.{◌≡◌, ℕ, ◌+◌, ◌-◌, ◌*◌, ◌^◌, ◌<◌, ◌≤◌, ◌==◌, ◌↔◌, Some, None, IfOk, IsOk, MatchResult, List, map, if◌then◌else◌};
+ghost use Rattle.std.specs.List.{list_any};
+ghost use Rattle.p3_merkle_core.specs.Geometry.{bits_reduced, expected_height, exponent, heights_of, is_bridge, max_height, padded_len, positions_below, schedule_below, shape_of, tallest, levels, IsArity, IsLawful, Shape};
+ghost use Rattle.p3_merkle_core.specs.Gate.{first_off_ladder, first_too_large, gate_refusal};
+ghost use Rattle.p3_merkle_core.specs.Openings.{siblings_below};
+ghost use Rattle.p3_merkle_core.specs.Refusals.{width_refusal};
+
+use crate::error::MerkleTreeError;
+use p3_support::matrix::Dimensions;
+use std::alloc::{AllocError, Global};
+
+/// The greatest height of a matrix, in rows: 2^62. It keeps the slots of all layers within `usize`.
+pub const MAX_HEIGHT: usize = 1 << 62;
+
+/// How the path of an index goes: for each level below the cap, from the leaves up, how many children a node has, and
+/// the place of the index's ancestor among them.
+#[derive(Debug, Clone, Drop)]
+pub struct ArityAndPositions {
+    /// The step of each level, in children a node.
+    pub arity_schedule: Vec<usize>,
+    /// The place of the ancestor on each level, from 0.
+    pub query_positions: Vec<usize>,
+}
+
+/// The exponent of a height: the least `k` with `2^k >= height` (`log2_ceil_usize` in the Rust crate).
+pub fn exponent_of(height: usize) -> usize
+    ensures { result ≡ exponent height }
+{
+    (usize::BITS - height.saturating_sub(1).leading_zeros()) as usize
+}
+
+/// The greatest height of the matrices, in rows, and 0 of none.
+pub fn tallest_of(dimensions: &[Dimensions]) -> usize
+    ensures { result ≡ tallest (heights_of dimensions.now) }
+{
+    let mut tallest = 0;
+    for matrix in dimensions {
+        tallest = tallest.max(matrix.height);
+    }
+    tallest
+}
+
+/// How many halvings lead from the tallest height down to this one.
+pub fn bits_reduced_of(tallest: usize, height: usize) -> usize
+    ensures { result ≡ bits_reduced tallest height }
+{
+    exponent_of(tallest).saturating_sub(exponent_of(height))
+}
+
+/// The one lawful height with the exponent of `height`: the tallest height halved and rounded up so many times.
+pub fn expected_height_of(tallest: usize, height: usize) -> usize
+    requires { tallest ≤ max_height }
+    ensures { result ≡ expected_height tallest height }
+{
+    (tallest.saturating_sub(1) >> bits_reduced_of(tallest, height)) + 1
+}
+
+/// The place of the first height above the limit.
+fn first_too_large_of(dimensions: &[Dimensions]) -> Option<usize>
+    ensures { result ≡ first_too_large (heights_of dimensions.now) }
+{
+    dimensions
+        .iter()
+        .map(|matrix| matrix.height)
+        .position(|height| height > MAX_HEIGHT)
+}
+
+/// The first height that is not the expected one.
+fn first_off_ladder_of(dimensions: &[Dimensions], tallest: usize) -> Option<usize>
+    requires { tallest ≤ max_height }
+    ensures { result ≡ first_off_ladder tallest (heights_of dimensions.now) }
+{
+    dimensions
+        .iter()
+        .map(|matrix| matrix.height)
+        .find(|height| *height != expected_height_of(tallest, *height))
+}
+
+/// Whether a tree can be built over matrices of these heights: the Rust crate's
+/// `validate_commit_reachable_heights`, which panics where this is an error.
+///
+/// # Errors
+///
+/// `EmptyBatch` where no matrix has a row; else `TooLarge` for the first height above [`MAX_HEIGHT`]; else
+/// `IncompatibleHeights` for the first height that is not the tallest one halved and rounded up.
+pub fn check_heights(dimensions: &[Dimensions]) -> Result<(), MerkleTreeError>
+    ensures answer { MatchResult result (λ ok. gate_refusal (heights_of dimensions.now) ≡ None) (λ e. gate_refusal (heights_of dimensions.now) ≡ Some e) }
+    ensures lawful { IsOk result ↔ IsLawful (heights_of dimensions.now) }
+{
+    let tallest = tallest_of(dimensions);
+    if tallest == 0 {
+        return Err(MerkleTreeError::EmptyBatch);
+    }
+    if let Some(matrix) = first_too_large_of(dimensions) {
+        return Err(MerkleTreeError::TooLarge {
+            matrix,
+            size: dimensions[matrix].height,
+        });
+    }
+    if let Some(height) = first_off_ladder_of(dimensions, tallest) {
+        return Err(MerkleTreeError::IncompatibleHeights {
+            height,
+            max_height: tallest,
+            expected_height: expected_height_of(tallest, height),
+            bits_reduced: bits_reduced_of(tallest, height),
+        });
+    }
+    Ok(())
+}
+
+/// Whether an opening has one row for each matrix, each as wide as its matrix (`check_widths` in the Rust crate).
+///
+/// # Errors
+///
+/// `WrongBatchSize` where there are not as many rows as matrices; else `WrongWidth` for the first row whose
+/// length is not its matrix's width.
+pub fn check_widths<T>(dimensions: &[Dimensions], rows: &[Vec<T>]) -> Result<(), MerkleTreeError>
+    ensures { MatchResult result (λ ok. width_refusal dimensions.now (map (λ r. r.items) rows.now) ≡ None) (λ e. width_refusal dimensions.now (map (λ r. r.items) rows.now) ≡ Some e) }
+{
+    if rows.len() != dimensions.len() {
+        return Err(MerkleTreeError::WrongBatchSize {
+            expected: dimensions.len(),
+            got: rows.len(),
+        });
+    }
+    for matrix in 0..dimensions.len() {
+        let row = &rows[matrix];
+        let expected = dimensions[matrix].width;
+        if row.len() != expected {
+            return Err(MerkleTreeError::WrongWidth {
+                matrix,
+                expected,
+                got: row.len(),
+            });
+        }
+    }
+    Ok(())
+}
+
+/// How many slots a layer of `len` nodes has: `len` up to 1, else the least multiple of `arity` that is not below it.
+pub fn padded_len_of(len: usize, arity: usize) -> usize
+    requires positive { 0 < arity }
+    requires fits { padded_len len arity < 2 ^ 64 }
+    ensures { result ≡ padded_len len arity }
+{
+    if len <= 1 {
+        len
+    } else if len < arity {
+        arity
+    } else {
+        len.next_multiple_of(arity)
+    }
+}
+
+/// Whether a matrix has this exponent, so that its rows belong to the layer of that exponent.
+pub fn has_exponent(dimensions: &[Dimensions], x: usize) -> bool
+    ensures { result ≡ list_any (λ h. exponent h == x) (heights_of dimensions.now) }
+{
+    dimensions
+        .iter()
+        .map(|matrix| matrix.height)
+        .any(|height| exponent_of(height) == x)
+}
+
+/// Whether the step from the exponent `x` is a bridge step of 2: a matrix's exponent lies strictly between `x` and
+/// what a step of the whole arity leaves of it.
+pub fn is_bridge_step(dimensions: &[Dimensions], arity: usize, x: usize) -> bool
+    ensures { result ≡ is_bridge (shape_of arity dimensions.now) x }
+{
+    let target = x.saturating_sub(exponent_of(arity));
+    dimensions.iter().map(|matrix| matrix.height).any(|height| {
+        let e = exponent_of(height);
+        target < e && e < x
+    })
+}
+
+/// The step from a layer of the exponent `x`, in children a node, and the exponent of the next layer
+/// (`select_arity_step` in the Rust crate).
+pub fn select_arity_step(dimensions: &[Dimensions], arity: usize, x: usize) -> (usize, usize)
+    ensures step { result.0 ≡ (if is_bridge (shape_of arity dimensions.now) x then 2 else arity) }
+    ensures next { result.1 ≡ (if is_bridge (shape_of arity dimensions.now) x then x - 1 else x - exponent arity) }
+{
+    if is_bridge_step(dimensions, arity, x) {
+        (2, x.saturating_sub(1))
+    } else {
+        (arity, x.saturating_sub(exponent_of(arity)))
+    }
+}
+
+/// How many steps lead from the leaves to the root. Each ladder and each arity ends.
+pub fn levels_of(dimensions: &[Dimensions], arity: usize) -> usize
+    requires { 2 ≤ arity }
+    ensures { result ≡ levels (shape_of arity dimensions.now) }
+{
+    let mut x = exponent_of(tallest_of(dimensions));
+    let mut count = 0;
+    while x > 0 {
+        let (_, next) = select_arity_step(dimensions, arity, x);
+        x = next;
+        count += 1;
+    }
+    count
+}
+
+/// How many siblings the levels below layer `t` have, in digests: one less than the step of each
+/// (`total_siblings_for_levels` in the Rust crate).
+pub fn siblings_below_of(dimensions: &[Dimensions], arity: usize, t: usize) -> usize
+    requires arity { IsArity arity }
+    requires low { tallest (heights_of dimensions.now) ≤ max_height }
+    requires layer { t ≤ levels (shape_of arity dimensions.now) }
+    ensures { result ≡ siblings_below (shape_of arity dimensions.now) t }
+{
+    let mut x = exponent_of(tallest_of(dimensions));
+    let mut count = 0;
+    for _l in 0..t {
+        let (step, next) = select_arity_step(dimensions, arity, x);
+        count += step - 1;
+        x = next;
+    }
+    count
+}
+
+/// The steps of the levels below layer `t`, from the leaves up, in children a node. Takes memory for `t` numbers.
+pub fn schedule_below_of(
+    alloc: Global,
+    dimensions: &[Dimensions],
+    arity: usize,
+    t: usize,
+) -> Result<Vec<usize>, AllocError>
+    ensures { IfOk result (λ v. v.items ≡ schedule_below (shape_of arity dimensions.now) t) }
+{
+    let mut schedule = Vec::with_capacity(alloc, t)?;
+    let mut x = exponent_of(tallest_of(dimensions));
+    for _l in 0..t {
+        let (step, next) = select_arity_step(dimensions, arity, x);
+        schedule.push(step)?;
+        x = next;
+    }
+    Ok(schedule)
+}
+
+/// The place of the index's ancestor among the children of its parent, for each level below layer `t`, from the
+/// leaves up. Takes memory for `t` numbers.
+pub fn positions_below_of(
+    alloc: Global,
+    dimensions: &[Dimensions],
+    arity: usize,
+    t: usize,
+    index: usize,
+) -> Result<Vec<usize>, AllocError>
+    requires { 2 ≤ arity }
+    ensures { IfOk result (λ v. v.items ≡ positions_below (shape_of arity dimensions.now) t index) }
+{
+    let mut positions = Vec::with_capacity(alloc, t)?;
+    let mut x = exponent_of(tallest_of(dimensions));
+    let mut ancestor = index;
+    for _l in 0..t {
+        let (step, next) = select_arity_step(dimensions, arity, x);
+        positions.push(ancestor % step)?;
+        ancestor /= step;
+        x = next;
+    }
+    Ok(positions)
+}

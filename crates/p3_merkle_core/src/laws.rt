@@ -1,0 +1,87 @@
+//! Laws of the definitions, each as the contract of a function that does nothing. They speak of every hash, every
+//! compression, every batch and every opening; the calls of the crates above answer what the definitions say.
+
+ghost use Rattle.p3_merkle_core.specs.Laws.{AnsweredAsEachPath, BoundaryIsAlone, BoundaryIsSmallest, BoundaryNodesAreApart, BoundaryNodesAreHeld, BoundarySuffices, CappedIsEachAccepted, HonestIsAccepted, HonestNodesAreRestored, HonestPathsAreRestored, HonestQueryIsAccepted, HonestQueryIsCapped, InputsAreFull, LastDifferenceCollides, LastInputIsReached, MatricesHaveLayers, NoPairDiffers, NoneIsAgreement, OkIsAccepted, OkIsCapped, OkIsEachAccepted, OkIsRestorable, OkOrCapMismatch, OneIndexIsBound, PairCollides, PairIsFirst, PairsBeforeAgree, RefusedUnderEachCap, RootIsAlone, RowsAreAncestors, RowsAreBound, ScheduleStopsAtCap, SomeIsCollision, WalkEnds};
+
+/// The walk over the steps ends for each arity and each list of heights, and each matrix has its layer.
+pub fn shape()
+    ensures ends { WalkEnds }
+    ensures root { RootIsAlone }
+    ensures schedule { ScheduleStopsAtCap }
+    ensures layers { MatricesHaveLayers }
+    ensures rows { RowsAreAncestors }
+{}
+
+/// The honest opening of each index is accepted.
+pub fn completeness<T, W>()
+    ensures { HonestIsAccepted T W }
+{}
+
+/// The honest pruned opening of each list of indices is accepted.
+pub fn pruned_completeness<T, W>()
+    ensures { HonestQueryIsAccepted T W }
+{}
+
+/// An honest pruned opening restores the tree's own nodes and siblings.
+pub fn restoration<T, W>()
+    ensures nodes { HonestNodesAreRestored T W }
+    ensures paths { HonestPathsAreRestored T W }
+    ensures capped { HonestQueryIsCapped T W }
+{}
+
+/// What an answer Ok says: of a single opening, of a pruned one, and of a pruned one under a cap.
+pub fn answers<T, W>()
+    ensures single { OkIsAccepted T W }
+    ensures pruned { OkIsRestorable T W }
+    ensures under_cap { OkIsCapped T W }
+    ensures each_path { OkIsEachAccepted T W }
+{}
+
+/// A pruned opening is answered as its queries with their restored paths are.
+pub fn equivalence<T, W>()
+    ensures restored { CappedIsEachAccepted T W }
+    ensures refused { RefusedUnderEachCap T W }
+    ensures answered { AnsweredAsEachPath T W }
+    ensures mismatch { OkOrCapMismatch T W }
+{}
+
+/// Two accepted openings of one cap that differ where they meet lead to two inputs of one digest.
+pub fn extraction<T, W>()
+    ensures collision { LastDifferenceCollides T W }
+    ensures none { NoneIsAgreement T W }
+    ensures some { SomeIsCollision T W }
+{}
+
+/// The same of two pruned openings.
+pub fn extraction_multi<T, W>()
+    ensures answered { PairIsFirst T W }
+    ensures none { NoPairDiffers T W }
+    ensures some { PairCollides T W }
+    ensures first { PairsBeforeAgree T W }
+{}
+
+/// What two accepted openings have in common where they agree at each shared place.
+pub fn binding<T, W>()
+    ensures rows { RowsAreBound T W }
+    ensures one_index { OneIndexIsBound T W }
+{}
+
+/// The inputs of a check: each that is made of digests has as many of them as the arity, and the last one's digest
+/// is the one that the check reaches.
+pub fn inputs<T, W>()
+    ensures full { InputsAreFull T W }
+    ensures last { LastInputIsReached T W }
+{}
+
+/// The boundary suffices.
+pub fn sufficiency()
+    ensures { BoundarySuffices }
+{}
+
+/// No other set of uncovered nodes that suffices is as small as the boundary.
+pub fn minimality()
+    ensures smallest { BoundaryIsSmallest }
+    ensures alone { BoundaryIsAlone }
+    ensures apart { BoundaryNodesAreApart }
+    ensures held { BoundaryNodesAreHeld }
+{}

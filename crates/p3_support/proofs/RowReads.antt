@@ -1,0 +1,50 @@
+-- What is left of a row, of columns and of the rows of several matrices, once one more element is read.
+use Rattle.std.proofs.Common.{◌≡◌, ℕ, ◌+◌, ◌*◌, ◌<◌, List, [], ◌∷◌, length, drop, map, get_or, refl, sym, ap, ◌∙◌, arith, true, add-one}
+use Rattle.std.specs.Prelude.{◌==◌, slice_get, slice_index_or, Some}
+use Rattle.std.specs.List.{range_with_len}
+use Rattle.std.proofs.Math.Seq.{drop-cons}
+use Rattle.std.proofs.lemmas.Option.{slice_get_within, slice_get_read, get_or_from_slice_get}
+use Rattle.std.proofs.lemmas.List.Edits.{get_or-between}
+use Rattle.std.proofs.lemmas.List.{drop_all}
+use Rattle.std.proofs.lemmas.List.FromFn.{fill_by_all, get_or-map-range_with_len, length-map-range_with_len}
+use Rattle.std.proofs.lemmas.Simd.{map-map}
+use Rattle.p3_support.specs.Lists.{message, rows_left, column_of_rows, columns, lane_of}
+use Rattle.p3_support.specs.RowLengths.{next_start, length-message}
+
+-- what is left from an element on
+pub drop_at : {A : Type 0} (xs : List A) (c : ℕ) (x : A) → slice_get xs c ≡ Some x → drop c xs ≡ x ∷ drop (c + 1) xs
+drop_at xs c x at = drop-cons xs c x (slice_get_within xs c x at) ∙ rw (add-one, get_or_from_slice_get xs c x x at) refl
+
+-- the same where the list is made from indices
+pub drop_column : {A : Type 0} (f : ℕ → A) (c w : ℕ) → c < w → drop c (map f (range_with_len 0 w)) ≡ f c ∷ drop (c + 1) (map f (range_with_len 0 w))
+drop_column f c w below =
+    let xs = map f (range_with_len 0 w) in
+    let inside : c < length xs = rw (length-map-range_with_len f 0 w) below in
+    drop-cons xs c (f c) inside ∙ rw (add-one, get_or-map-range_with_len f 0 w c c (f c) below (omega arith)) refl
+
+-- nothing is left after the last column
+pub drop_columns : {A : Type 0} (f : ℕ → A) (w : ℕ) → drop w (map f (range_with_len 0 w)) ≡ []
+drop_columns f w = drop_all w (map f (range_with_len 0 w)) (omega (arith, length-map-range_with_len f 0 w))
+
+-- the element of a row that is stored among others
+pub message_at : {A : Type 0} (xs : List A) (w h r c : ℕ) (x : A) → length xs ≡ h * w → r < h → c < w → x ≡ slice_index_or xs (r * w + c) x
+    → slice_get (message w xs r) c ≡ Some x
+message_at xs w h r c x full below inside read =
+    let more = next_start r w in
+    slice_get_read (message w xs r) w c x (sym (length-message xs w h r full below)) inside
+    (read ∙ sym (get_or-between xs (r * w) ((r + 1) * w) c x (omega (arith, more))))
+
+module _ {A M : Type 0} (height : M → ℕ) (row : M → ℕ → List A) (h r : ℕ) where
+  -- one more element of the first matrix
+  pub rows_more : (m : M) (ms xs : List M) (c : ℕ) (x : A) → xs ≡ m ∷ ms → (height m == h) ≡ true → slice_get (row m r) c ≡ Some x
+      → rows_left height row h r xs c ≡ x ∷ rows_left height row h r xs (c + 1)
+  rows_more m ms xs c x e same at = rw (e, same, drop_at (row m r) c x at) refl
+
+-- lane k of the packed columns of rows is row k of them
+pub lane_of_columns : {A P : Type 0} (lanes : P → List A) (row : ℕ → List A) (d : A) (r n k w : ℕ) (ps : List P) → map lanes ps ≡ columns row d r n w → k < n → length (row (r + k)) ≡ w
+    → lane_of lanes d k ps ≡ row (r + k)
+lane_of_columns {A} lanes row d r n k w ps packed below long =
+    let pick = λ (xs : List A). get_or xs k d in
+    let at : (c : ℕ) → pick (column_of_rows row d r n c) ≡ get_or (row (r + k)) c d = λ c. get_or-map-range_with_len (λ j. get_or (row (r + j)) c d) 0 n k k d below (omega arith) in
+    sym (map-map pick lanes ps) ∙ ap (map pick) packed ∙ map-map pick (column_of_rows row d r n) (range_with_len 0 w)
+    ∙ sym (fill_by_all (λ c. pick (column_of_rows row d r n c)) (row (r + k)) w d long (λ c h. sym (at c)))

@@ -1,0 +1,16 @@
+use Rattle.std.proofs.Common.{rules, arith, ◌<◌, ◌∙◌, inl, inr}
+use Rattle.std.proofs.lemmas.Bool.{cases_eq}
+use Rattle.p3_support.proofs.packed.pack_columns_fn.Goals as goal
+
+pub loop-k-preserved : goal.loop-k-preserved
+loop-k-preserved g c = λ j below.
+    elim (cases_eq j c.loop-k.k) [
+      | inl same ↦ rw same (c.f-column.result, c.f-column.ensures, c.put_lane.ensures.same ∙ c.as_slice.ensures)
+      | inr other ↦
+          let low : j < c.loop-k.k = omega (arith, below, other) in
+          let before = c.loop-k.invariant j low in
+          (before.0, before.1, c.put_lane.ensures.other j other ∙ before.2)
+    ]
+
+pub returns : goal.returns
+returns g c = λ k h. c.loop-k.invariant k (search rules)

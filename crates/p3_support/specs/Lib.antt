@@ -1,0 +1,5 @@
+pub mod Fold
+pub mod Lists
+pub mod RowLengths
+pub mod RowMajor
+pub mod Shown

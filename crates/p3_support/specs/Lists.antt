@@ -1,0 +1,35 @@
+-- Parts of lists: messages, lanes, rows and columns.
+use Rattle.std.specs.Prelude.{ℕ, ◌==◌, cond, ◌++◌, drop, ◌+◌, ◌*◌, List, [], ◌∷◌, map, slice_range, slice_index_or}
+use Rattle.std.specs.List.{range_with_len}
+
+-- message i, where messages of w words lie one after another in xs
+abbrev pub message : {A : Type 0} → ℕ → List A → ℕ → List A
+message w xs i = slice_range xs (i * w) ((i + 1) * w)
+
+-- the n messages of w words each that lie one after another in xs
+abbrev pub messages : {A : Type 0} → ℕ → ℕ → List A → List (List A)
+messages w n xs = map (message w xs) (range_with_len 0 n)
+
+-- lane k of each packed value; d stands where there is no such lane
+abbrev pub lane_of : {A P : Type 0} → (P → List A) → A → ℕ → List P → List A
+lane_of lanes d k ps = map (λ p. slice_index_or (lanes p) k d) ps
+
+module _ {A M : Type 0} (height : M → ℕ) (row : M → ℕ → List A) (h r : ℕ) where
+  -- row r of each matrix of height h, one after another
+  abbrev pub rows_at : List M → List A
+  rows_at [] = []
+  rows_at (m ∷ ms) = cond (height m == h) (row m r) [] ++ rows_at ms
+
+  -- the same, where the first matrix is read from column c on
+  abbrev pub rows_left : List M → ℕ → List A
+  rows_left [] c = []
+  rows_left (m ∷ ms) c = cond (height m == h) (drop c (row m r)) [] ++ rows_at ms
+
+module _ {A : Type 0} (row : ℕ → List A) (d : A) (r n : ℕ) where
+  -- column c of the n rows from r on
+  abbrev pub column_of_rows : ℕ → List A
+  column_of_rows c = map (λ k. slice_index_or (row (r + k)) c d) (range_with_len 0 n)
+
+  -- the w columns of these rows
+  abbrev pub columns : ℕ → List (List A)
+  columns w = map column_of_rows (range_with_len 0 w)

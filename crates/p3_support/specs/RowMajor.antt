@@ -1,0 +1,21 @@
+-- What a matrix shows that is stored row after row.
+use Rattle.std.specs.Prelude.{◌≡◌, ℕ, List}
+use Rattle.p3_support.specs.declared.matrix.RowMajorMatrix.{RowMajorMatrix}
+
+-- all elements, row after row
+abbrev pub values_of : {A : Type 0} → RowMajorMatrix A → List A
+values_of m = m.values.items
+
+-- the number of elements of a row
+abbrev pub row_width : {A : Type 0} → RowMajorMatrix A → ℕ
+row_width m = m.width
+
+-- the number of rows
+abbrev pub rows_in : {A : Type 0} → RowMajorMatrix A → ℕ
+rows_in m = m.height
+
+-- n has the elements of m, in as many rows of the same width
+pub record IsSameMatrix {A : Type 0} (m n : RowMajorMatrix A) : Type 0 where
+  pub same_values : values_of n ≡ values_of m
+  pub same_width : row_width n ≡ row_width m
+  pub same_height : rows_in n ≡ rows_in m

@@ -1,0 +1,133 @@
+//! Packed values of two lanes, and of eight.
+ghost use Rattle.std.specs.Prelude.{◌≡◌, ℕ, ◌<◌, ◌∷◌, [], length, slice_index_or, refl};
+ghost use Rattle.std.specs.Cmp.{unsigned_Decides};
+ghost use Rattle.p3_support.specs.Fold.{take_in};
+
+use crate::fold::FoldLane;
+use crate::packed::PackedValue;
+use std::cmp::Eq;
+use std::simd::prelude::*;
+
+/// Two lanes, each in a field of its own.
+#[derive(Clone, Copy, Debug)]
+pub struct Lanes<T> {
+    pub first: T,
+    pub second: T,
+}
+
+impl<T: PackedValue<Value = T> + Default + Eq> PackedValue for Lanes<T> {
+    type Value = T;
+
+    const WIDTH: usize = 2;
+
+    ghost WIDTH = { 2 };
+
+    ghost lanes = { λ p. p.first ∷ p.second ∷ [] };
+
+    ghost default_value = { T.default_value };
+
+    fn broadcast(value: T) -> Lanes<T> {
+        Lanes {
+            first: value,
+            second: value,
+        }
+    }
+
+    fn lane(&self, k: usize) -> T {
+        if k == 0 { self.first } else { self.second }
+    }
+
+    fn with_lane(self, k: usize, value: T) -> Lanes<T> {
+        if k == 0 {
+            Lanes {
+                first: value,
+                second: self.second,
+            }
+        } else {
+            Lanes {
+                first: self.first,
+                second: value,
+            }
+        }
+    }
+
+    ghost length_lanes = { λ p. refl };
+
+    ghost eq_is_equality = { T.eq_is_equality };
+
+    ghost default_is_unique = { T.default_is_unique };
+}
+
+impl FoldLane for Lanes<u32> {
+    fn step_together(self, word: Lanes<u32>) -> Lanes<u32> {
+        Lanes {
+            first: self.first.wrapping_mul(31).wrapping_add(word.first),
+            second: self.second.wrapping_mul(31).wrapping_add(word.second),
+        }
+    }
+
+    fn add_to_each(self, number: u32) -> Lanes<u32> {
+        Lanes {
+            first: self.first.wrapping_add(number),
+            second: self.second.wrapping_add(number),
+        }
+    }
+}
+
+/// Eight lanes of 32 bits, in vectors of the processor.
+#[derive(Clone, Copy, Debug)]
+pub struct U32x8 {
+    lanes: u32x8,
+    ghost long: { length lanes ≡ 8 },
+}
+
+impl PackedValue for U32x8 {
+    type Value = u32;
+
+    const WIDTH: usize = 8;
+
+    ghost WIDTH = { 8 };
+
+    ghost lanes = { λ p. p.lanes };
+
+    ghost default_value = { 0 };
+
+    fn broadcast(value: u32) -> U32x8 {
+        U32x8 {
+            lanes: u32x8::splat(value),
+        }
+    }
+
+    fn lane(&self, k: usize) -> u32 {
+        let lanes = self.lanes.to_array();
+        lanes[k]
+    }
+
+    fn with_lane(self, k: usize, value: u32) -> U32x8 {
+        let mut lanes = self.lanes.to_array();
+        lanes[k] = value;
+        U32x8 {
+            lanes: u32x8::from_array(lanes),
+        }
+    }
+
+    ghost length_lanes = { λ p. p.long };
+
+    ghost eq_is_equality = { unsigned_Decides };
+
+    ghost default_is_unique = { λ a h. h };
+}
+
+impl FoldLane for U32x8 {
+    fn step_together(self, word: U32x8) -> U32x8 {
+        U32x8 {
+            lanes: self.lanes * u32x8::splat(31) + word.lanes,
+        }
+    }
+
+    fn add_to_each(self, number: u32) -> U32x8 {
+        U32x8 {
+            lanes: self.lanes + u32x8::splat(number),
+        }
+    }
+}

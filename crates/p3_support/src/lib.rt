@@ -1,0 +1,15 @@
+//! What a Merkle tree over matrices is built from: values in lanes, hashers, compressions and
+//! matrices, each a trait with laws, and the functions, matrices and records that implement them.
+#![tactic(auto)]
+
+pub mod batched;
+pub mod compress;
+pub mod fold;
+pub mod hasher;
+pub mod lanes;
+pub mod matrix;
+pub mod opening;
+pub mod packed;
+pub mod rows;
+#[cfg(test)]
+mod tests;

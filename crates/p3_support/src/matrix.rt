@@ -1,0 +1,269 @@
+//! Matrices, seen as their height, their width and their rows.
+ghost use Rattle.std.specs.Prelude.{◌≡◌, ℕ, ◌+◌, ◌*◌, ◌<◌, ◌≤◌, ◌^◌, List, length, map, slice_get, slice_index_or, Some};
+ghost use Rattle.std.specs.List.{range_with_len};
+ghost use Rattle.std.specs.Iterator.{YieldsFirst, YieldsFirstBy, item_count};
+ghost use Rattle.p3_support.specs.Lists.{message, column_of_rows, columns};
+ghost use Rattle.p3_support.specs.RowLengths.{length-message};
+
+use crate::packed::PackedValue;
+use std::alloc::AllocError;
+use std::marker::{Model, PhantomData};
+
+/// How many elements a row has, and how many rows there are.
+#[derive(Clone, Copy, Debug, PartialEq, Eq)]
+pub struct Dimensions {
+    pub width: usize,
+    pub height: usize,
+}
+
+/// A matrix of elements `T`, with `height` rows of `width` elements each. Every answer depends on
+/// the matrix alone.
+pub trait Matrix<T> {
+    // The number of rows.
+    ghost height_of: { Self → ℕ };
+
+    // The number of elements of each row.
+    ghost width_of: { Self → ℕ };
+
+    // The elements of a row, from the first column on.
+    ghost row_of: { Self → ℕ → List T };
+
+    /// The number of rows.
+    fn height(&self) -> usize
+        ensures { result ≡ height_of self.now };
+
+    /// The number of elements of each row.
+    fn width(&self) -> usize
+        ensures { result ≡ width_of self.now };
+
+    /// The element of a row at a column, both from 0.
+    fn get(&self, row: usize, column: usize) -> T
+        requires row_in { row < height_of self.now }
+        requires column_in { column < width_of self.now }
+        ensures { slice_get (row_of self.now row) column ≡ Some result };
+
+    /// Width and height.
+    final fn dimensions(&self) -> Dimensions
+        ensures width { result.width ≡ width_of self.now }
+        ensures height { result.height ≡ height_of self.now }
+    {
+        Dimensions {
+            width: self.width(),
+            height: self.height(),
+        }
+    }
+
+    /// The elements of a row, by ascending columns.
+    final fn row(&self, row: usize) -> Row<'_, T, Self>
+    where
+        Self: Sized,
+        requires { row < height_of self.now }
+        ensures { result ≡ row_of self.now row }
+    {
+        Row {
+            matrix: self,
+            row,
+            next: 0,
+            item: PhantomData,
+        }
+    }
+
+    /// The rows from `row` on, as many as `P` has lanes, packed column by column: lane `k` of an
+    /// item is the element of row `row + k`.
+    final fn vertically_packed_row<P: PackedValue<Value = T>>(
+        &self,
+        row: usize,
+    ) -> PackedRow<'_, T, P, Self>
+    where
+        Self: Sized,
+        requires { row + P.WIDTH ≤ height_of self.now }
+        ensures { result ≡ columns (row_of self.now) P.default_value row P.WIDTH (width_of self.now) }
+    {
+        PackedRow {
+            matrix: self,
+            row,
+            next: 0,
+            item: PhantomData,
+        }
+    }
+
+    // Every row has as many elements as the matrix is wide.
+    ghost length_row_of: { (m : Self) (r : ℕ) → r < height_of m →
+        length (row_of m r) ≡ width_of m };
+}
+
+/// The elements of one row of a matrix. A contract sees those that are left.
+#[derive(Drop)]
+pub struct Row<'a, T, M: Matrix<T>> {
+    matrix: &'a M,
+    row: usize,
+    next: usize,
+    item: PhantomData<T>,
+}
+
+impl<'a, T, M: Matrix<T>> Model for Row<'a, T, M> {
+    ghost use Rattle.std.specs.Prelude.{List, drop, ◌<◌, ◌≤◌};
+
+    ghost Value = { List T };
+
+    ghost view = { λ s. drop s.next (M.row_of s.matrix.now s.row) };
+
+    ghost invariant = { λ s.
+        (s.row < M.height_of s.matrix.now) × (s.next ≤ M.width_of s.matrix.now) };
+}
+
+impl<'a, T, M: Matrix<T>> Iterator for Row<'a, T, M> {
+    type Item = T;
+
+    ghost next_gives = { YieldsFirst (λ rest. rest) };
+
+    ghost remaining = { item_count (λ rest. rest) };
+
+    fn next(&mut self) -> Option<T> {
+        if self.next == self.matrix.width() {
+            return None;
+        }
+        let item = self.matrix.get(self.row, self.next);
+        self.next += 1;
+        Some(item)
+    }
+}
+
+/// As many rows of a matrix as `P` has lanes, packed column by column. A contract sees the lanes of
+/// the columns that are left.
+#[derive(Drop)]
+pub struct PackedRow<'a, T, P: PackedValue<Value = T>, M: Matrix<T>> {
+    matrix: &'a M,
+    row: usize,
+    next: usize,
+    item: PhantomData<P>,
+}
+
+impl<'a, T, P: PackedValue<Value = T>, M: Matrix<T>> Model for PackedRow<'a, T, P, M> {
+    ghost use Rattle.std.specs.Prelude.{List, ◌+◌, ◌≤◌, drop};
+    ghost use Rattle.p3_support.specs.Lists.{columns};
+
+    ghost Value = { List (List T) };
+
+    ghost view = { λ s. drop s.next
+        (columns (M.row_of s.matrix.now) P.default_value s.row P.WIDTH (M.width_of s.matrix.now)) };
+
+    ghost invariant = { λ s.
+        (s.row + P.WIDTH ≤ M.height_of s.matrix.now) × (s.next ≤ M.width_of s.matrix.now) };
+}
+
+impl<'a, T, P: PackedValue<Value = T>, M: Matrix<T>> Iterator for PackedRow<'a, T, P, M> {
+    type Item = P;
+
+    ghost next_gives = { YieldsFirstBy P.lanes (λ rest. rest) };
+
+    ghost remaining = { item_count (λ rest. rest) };
+
+    fn next(&mut self) -> Option<P> {
+        if self.next == self.matrix.width() {
+            return None;
+        }
+        let item = packed_column(self.matrix, self.row, self.next);
+        self.next += 1;
+        Some(item)
+    }
+}
+
+/// One column of several rows.
+fn packed_column<T, P: PackedValue<Value = T>, M: Matrix<T>>(
+    matrix: &M,
+    row: usize,
+    column: usize,
+) -> P
+    requires rows { row + P.WIDTH ≤ M.height_of matrix.now }
+    requires column { column < M.width_of matrix.now }
+    ensures { P.lanes result
+        ≡ column_of_rows (M.row_of matrix.now) P.default_value row P.WIDTH column }
+{
+    // A height is a usize, so that the rows' indices are.
+    let _height = matrix.height();
+    P::from_fn(
+        |k| -> T
+            requires rows { row + k < M.height_of matrix.now }
+            requires column { column < M.width_of matrix.now }
+            requires fits { row + k < 2 ^ 64 }
+            ensures { slice_get (M.row_of matrix.entry.now (row + k)) column ≡ Some result }
+        { matrix.get(row + k, column) },
+    )
+}
+
+/// A matrix as the list of its elements, row after row.
+#[derive(Debug, Drop)]
+pub struct RowMajorMatrix<T> {
+    values: Vec<T>,
+    width: usize,
+    height: usize,
+    ghost full: { length values.items ≡ height * width },
+    ghost width_fits: { width < 2 ^ 64 },
+}
+
+impl<T> RowMajorMatrix<T> {
+    ghost use Rattle.p3_support.specs.RowMajor.{values_of, row_width, rows_in};
+
+    /// The matrix of these values, `width` of them in a row. The width divides their number; width
+    /// 0, which only no values allow, makes no rows.
+    pub fn new(values: Vec<T>, width: usize) -> RowMajorMatrix<T>
+        requires divides { (n : ℕ) × (length values.items ≡ n * width) }
+        ensures values { values_of result ≡ values.items }
+        ensures width { row_width result ≡ width }
+        ensures height { length values.items ≡ rows_in result * width }
+        ensures no_width { width ≡ 0 → rows_in result ≡ 0 }
+    {
+        let height = if width == 0 { 0 } else { values.len() / width };
+        RowMajorMatrix {
+            values,
+            width,
+            height,
+        }
+    }
+
+    /// All elements, row after row.
+    pub fn values(&self) -> &[T]
+        ensures { result.now ≡ values_of self.now }
+    {
+        self.values.as_slice()
+    }
+}
+
+impl<T: Copy> Clone for RowMajorMatrix<T> {
+    ghost use Rattle.p3_support.specs.RowMajor.{IsSameMatrix};
+
+    ghost is_clone = { IsSameMatrix };
+
+    fn clone(&self) -> Result<RowMajorMatrix<T>, AllocError> {
+        Ok(RowMajorMatrix {
+            values: Vec::from_slice(*self.values.allocator(), self.values.as_slice())?,
+            width: self.width,
+            height: self.height,
+        })
+    }
+}
+
+impl<T: Copy> Matrix<T> for RowMajorMatrix<T> {
+    ghost use Rattle.p3_support.specs.RowMajor.{values_of, row_width, rows_in};
+
+    ghost height_of = { rows_in };
+
+    ghost width_of = { row_width };
+
+    ghost row_of = { λ m r. message (row_width m) (values_of m) r };
+
+    fn height(&self) -> usize {
+        self.height
+    }
+
+    fn width(&self) -> usize {
+        self.width
+    }
+
+    fn get(&self, row: usize, column: usize) -> T {
+        self.values[row * self.width + column]
+    }
+
+    ghost length_row_of = { λ m r h. length-message m.values.items m.width m.height r m.full h };
+}

@@ -1,0 +1,161 @@
+//! Packed values: several values of one type that are worked on together.
+ghost use Rattle.std.specs.Prelude.{◌≡◌, ◌≢◌, ℕ, ◌<◌, List, [], ◌∷◌, length, map, refl, replicate, slice_index_or, slice_set};
+ghost use Rattle.std.specs.Bool.{Decides};
+ghost use Rattle.std.specs.Cmp.{unsigned_Decides};
+ghost use Rattle.std.specs.List.{range_with_len};
+ghost use Rattle.p3_support.specs.Lists.{lane_of};
+
+use std::cmp::Eq;
+use std::convert::AsSlice;
+
+/// `WIDTH` values that are worked on together, each in a lane. A contract sees the list of the
+/// lanes.
+pub trait PackedValue: Copy {
+    /// What a lane holds. Its `==` is equality of values, and every call of its `default` gives one
+    /// value.
+    type Value: Copy + Default + Eq;
+
+    /// The number of lanes.
+    const WIDTH: usize;
+
+    // The constant above.
+    ghost WIDTH: { ℕ };
+
+    // The lanes in order.
+    ghost lanes: { Self → List Self.Value };
+
+    // What the default of a lane's value is.
+    ghost default_value: { Self.Value };
+
+    /// The packed value that has `value` in every lane.
+    fn broadcast(value: Self::Value) -> Self
+        ensures { lanes result ≡ replicate WIDTH value };
+
+    /// Lane `k`.
+    fn lane(&self, k: usize) -> Self::Value
+        requires { k < WIDTH }
+        ensures { result ≡ slice_index_or (lanes self.now) k default_value };
+
+    /// The same lanes with `value` in place of lane `k`.
+    fn with_lane(self, k: usize, value: Self::Value) -> Self
+        requires { k < WIDTH }
+        ensures { lanes result ≡ slice_set (lanes self) k value };
+
+    /// The packed value whose lane `k` is `f(k)`, for each `k` below `WIDTH`.
+    final fn from_fn<F: Fn(usize) -> Self::Value>(f: F) -> Self
+    where
+        Self: Sized,
+        requires { (k : ℕ) → k < WIDTH → F.pre f k }
+        ensures { (k : ℕ) → k < WIDTH →
+            F.post f k (slice_index_or (lanes result) k default_value) }
+    {
+        let mut packed = Self::broadcast(Self::Value::default());
+        for k in 0..Self::WIDTH {
+            packed = packed.with_lane(k, f(k));
+        }
+        packed
+    }
+
+    // There are WIDTH lanes.
+    ghost length_lanes: { (p : Self) → length (lanes p) ≡ WIDTH };
+
+    // `==` tells values apart.
+    ghost eq_is_equality: { (a b : Self.Value) → Decides (Self.Value.eq a b) (a ≡ b) };
+
+    // Each default is the one value.
+    ghost default_is_unique: { (a : Self.Value) → Self.Value.is_default a → a ≡ default_value };
+}
+
+/// A single value is packed alone, in one lane.
+impl PackedValue for u32 {
+    type Value = u32;
+
+    const WIDTH: usize = 1;
+
+    ghost WIDTH = { 1 };
+
+    ghost lanes = { λ p. p ∷ [] };
+
+    ghost default_value = { 0 };
+
+    fn broadcast(value: u32) -> u32 {
+        value
+    }
+
+    fn lane(&self, k: usize) -> u32 {
+        *self
+    }
+
+    fn with_lane(self, k: usize, value: u32) -> u32 {
+        value
+    }
+
+    ghost length_lanes = { λ p. refl };
+
+    ghost eq_is_equality = { unsigned_Decides };
+
+    ghost default_is_unique = { λ a h. h };
+}
+
+/// Lane `k` of each packed value.
+fn lane_values<PW: PackedValue, const D: usize>(packed: &[PW; D], k: usize) -> [PW::Value; D]
+    requires { k < PW.WIDTH }
+    ensures { result ≡ lane_of PW.lanes PW.default_value k packed.now }
+{
+    std::array::from_fn(
+        |e| -> PW::Value
+            requires place { e < D }
+            requires lane { k < PW.WIDTH }
+            ensures { (d : _) → result
+                ≡ slice_index_or (PW.lanes (slice_index_or packed.entry.now e d)) k PW.default_value }
+        { packed[e].lane(k) },
+    )
+}
+
+/// Takes packed values apart: `rows[k][e]` becomes lane `k` of `packed[e]`. There is a row for each
+/// lane.
+pub fn unpack_into<PW: PackedValue, const D: usize>(packed: &[PW; D], rows: &mut [[PW::Value; D]])
+    requires { length rows.old ≡ PW.WIDTH }
+    ensures { rows.new
+        ≡ map (λ k. lane_of PW.lanes PW.default_value k packed.now) (range_with_len 0 PW.WIDTH) }
+{
+    for k in 0..rows.len() {
+        rows[k] = lane_values(packed, k);
+    }
+}
+
+/// Writes a column into lane `k` of the packed values, and leaves the other lanes.
+fn put_lane<PW: PackedValue, const D: usize>(packed: &mut [PW; D], k: usize, column: &[PW::Value])
+    requires lane { k < PW.WIDTH }
+    requires long { length column.now ≡ D }
+    ensures same { lane_of PW.lanes PW.default_value k packed.new ≡ column.now }
+    ensures other { (j : ℕ) → j ≢ k →
+        lane_of PW.lanes PW.default_value j packed.new
+        ≡ lane_of PW.lanes PW.default_value j packed.old }
+{
+    for e in 0..D {
+        packed[e] = packed[e].with_lane(k, column[e]);
+    }
+}
+
+/// Packs columns, which are arrays or slices of `D` values: lane `k` of element `e` is `f(k)[e]`,
+/// for each `k` below `WIDTH`.
+pub fn pack_columns_fn<
+    PW: PackedValue,
+    X: AsSlice<PW::Value> + Drop,
+    F: Fn(usize) -> X,
+    const D: usize,
+>(f: F) -> [PW; D]
+    requires callable { (k : ℕ) → k < PW.WIDTH → F.pre f k }
+    requires long { (k : ℕ) (column : _) → k < PW.WIDTH → F.post f k column →
+        length (X.items column) ≡ D }
+    ensures { (k : ℕ) → k < PW.WIDTH → (column : _)
+        × F.post f k column × (lane_of PW.lanes PW.default_value k result ≡ X.items column) }
+{
+    let mut packed = [PW::broadcast(PW::Value::default()); D];
+    for k in 0..PW::WIDTH {
+        let column = f(k);
+        put_lane(&mut packed, k, column.as_slice());
+    }
+    packed
+}
