@@ -1,0 +1,12 @@
+pub mod PlaceFacts
+pub mod LevelFacts
+pub mod LayerFacts
+pub mod BuildFacts
+pub mod TreeFacts
+pub mod OpenedFacts
+pub mod ReachFacts
+pub mod VerdictFacts
+pub mod RowFacts
+pub mod OwnFacts
+pub mod OwnAccepted
+pub mod CapFacts

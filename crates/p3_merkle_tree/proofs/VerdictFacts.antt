@@ -1,0 +1,24 @@
+-- What the answer to an opening means.
+use Rattle.std.proofs.Common.{◌≡◌, ◌↔◌, ◌≤◌, ℕ, List, Bool, sym, ◌∙◌, refl, IsOk, Result}
+use Rattle.std.specs.Prelude.{Ok, Err}
+use Rattle.p3_merkle_core.specs.Geometry.{Shape, IsLawful, tallest, max_height}
+use Rattle.p3_merkle_core.specs.Nodes.{Functions}
+use Rattle.p3_merkle_core.specs.Openings.{Opening, IsAccepted}
+use Rattle.p3_merkle_core.specs.Refusals.{answer_under, IsEquality}
+use Rattle.p3_merkle_core.specs.declared.error.MerkleTreeError.{MerkleTreeError}
+use Rattle.p3_merkle_core.proofs.GateFacts.{tallest_fits, none_large_from_lawful}
+use Rattle.p3_merkle_core.proofs.Verdicts.{accepted_from, accepted_answer}
+
+-- lawful heights are within the limit
+pub lawful_fits : (hs : List ℕ) → IsLawful hs → tallest hs ≤ max_height
+lawful_fits hs w = tallest_fits hs (none_large_from_lawful hs w)
+
+ok_is : {E : Type 0} (r : Result (Unit {0}) E) → IsOk r → r ≡ Ok tt
+ok_is (Ok x) h = refl
+ok_is (Err e) h = absurd cc
+
+-- Ok is answered exactly where the opening is accepted
+pub verdict_of : {T W : Type 0} (same : W → W → Bool) (f : Functions T W) (s : Shape) (t : ℕ) (roots : List (List W)) (o : Opening T W) → IsEquality same →
+    (r : Result (Unit {0}) MerkleTreeError) → r ≡ answer_under same f s t roots o → IsOk r ↔ IsAccepted f s t roots o
+verdict_of same f s t roots o dec r is =
+    (λ h. accepted_from same f s t roots o dec (sym is ∙ ok_is r h), λ w. rw (is ∙ accepted_answer same f s t roots o dec w) refl)

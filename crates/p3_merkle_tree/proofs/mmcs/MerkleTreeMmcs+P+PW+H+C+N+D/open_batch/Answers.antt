@@ -1,0 +1,27 @@
+-- What is opened is the tree's own; of an own tree it is accepted.
+use Rattle.std.proofs.Common.{arith}
+use Rattle.p3_merkle_core.specs.Geometry.{cap_layer}
+use Rattle.p3_merkle_core.specs.Nodes.{shape}
+use Rattle.p3_merkle_tree.specs.Parts.{layers_of, tree_batch}
+use Rattle.p3_merkle_tree.specs.Schemes.{cap_height_of, rows_in, scheme_functions}
+use Rattle.p3_merkle_tree.proofs.RowFacts.{full_rows}
+use Rattle.p3_merkle_tree.proofs.OwnAccepted.{own_accepted}
+use Rattle.p3_merkle_tree.proofs.mmcs.MerkleTreeMmcs+P+PW+H+C+N+D.open_batch.Goals as goal
+
+pub siblings-requires : goal.siblings-requires
+siblings-requires g c =
+    let few = c.num_levels.ensures in
+    (omega arith, (c.requires, omega arith))
+
+pub returns-clause-siblings : goal.returns-clause-siblings
+returns-clause-siblings g c = rw (← c.num_levels.ensures, ← c.saturating_sub-proof_levels.ensures) c.in_ok-siblings.ensures.siblings
+
+pub returns-clause-accepted : goal.returns-clause-accepted
+returns-clause-accepted g c =
+    let tree = c.args.tree.now in
+    let b = tree_batch tree in
+    λ own. own_accepted (scheme_functions g.H.CryptographicHasher.hash g.C.PseudoCompressionFunction.compression g.row.D c.args.self.now) b (layers_of tree)
+    (cap_layer (shape b) (cap_height_of c.args.self.now)) c.args.index (rows_in c.in_ok-rows_at.field-0.items) c.in_ok-siblings.field-0.items
+    tree.arity tree.lawful c.requires (omega arith)
+    (full_rows g.M.Matrix.height_of g.M.Matrix.width_of g.M.Matrix.row_of g.row.N g.met.M.Matrix.length_row_of tree.matrices.items)
+    own c.in_ok-rows_at.ensures.rows (returns-clause-siblings g c)

@@ -1,0 +1,6 @@
+pub mod Views
+pub mod Levels
+pub mod Built
+pub mod Parts
+pub mod Paths
+pub mod Schemes

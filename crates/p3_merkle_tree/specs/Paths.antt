@@ -1,0 +1,50 @@
+-- The path of one index: what is opened along it, and what its check reads and makes.
+use Rattle.std.specs.Prelude.{◌≡◌, ◌≤◌, ◌*◌, ℕ, suc, ◌==◌, nat_lt, Bool, List, [], ◌∷◌, ◌++◌, Option, length, take, drop, remove, slice_index_or, zip, filter, flat_map, if◌then◌else◌}
+use Rattle.p3_merkle_core.specs.Gate.{gate_refusal}
+use Rattle.p3_merkle_core.specs.Geometry.{Shape, ancestor, exponent, heights, joined, levels, position_in_group, step, tallest, widths}
+use Rattle.p3_merkle_core.specs.Nodes.{Functions, compress}
+use Rattle.p3_merkle_core.specs.Openings.{siblings_below}
+use Rattle.p3_merkle_core.specs.Refusals.{first_some, sibling_count_refusal, row_width_refusal, size_refusal, unless}
+use Rattle.p3_merkle_core.specs.declared.error.MerkleTreeError.{MerkleTreeError}
+use Rattle.p3_merkle_core.specs.declared.error.MerkleTreeError.TheVariants.{IndexOutOfBounds}
+
+-- of rows with their heights, those of the exponent x, one after another
+abbrev pub rows_with : {T : Type 0} → ℕ → List (ℕ × List T) → List T
+rows_with x pairs = flat_map (λ (h, row). row) (filter (λ (h, row). exponent h == x) pairs)
+
+-- the rows of the matrices of exponent x, where the first one is read from column c on
+abbrev pub opened_left : {T : Type 0} → ℕ → List ℕ → List (List T) → ℕ → List T
+opened_left x [] rs c = []
+opened_left x (h ∷ hs) [] c = []
+opened_left x (h ∷ hs) (r ∷ rs) c = (if exponent h == x then drop c r else []) ++ rows_with x (zip hs rs)
+
+-- the digest of a group, compressed once more with the rows of exponent x if there are any
+abbrev pub climbed : {T W : Type 0} → Functions T W → ℕ → ℕ → List (ℕ × List T) → Bool → List (List W) → List W
+climbed f n x pairs has group =
+    if has then compress f n (compress f n group ∷ f.hash (rows_with x pairs) ∷ []) else compress f n group
+
+-- the path of an opening has its siblings up to layer t
+pub record CanReach (s : Shape) (t count : ℕ) : Type 0 where
+  pub in_tree : t ≤ levels s
+  pub all_siblings : count ≡ siblings_below s t
+
+-- why an opening is refused before any of it is hashed
+abbrev pub form_refusal : {T : Type 0} → Shape → ℕ → ℕ → List (List T) → ℕ → Option MerkleTreeError
+form_refusal s t index rows count =
+    first_some (
+    size_refusal (length s.dimensions) (length rows)
+    ∷ gate_refusal (heights s)
+    ∷ sibling_count_refusal (siblings_below s t) count
+    ∷ row_width_refusal (widths s) rows
+    ∷ unless (nat_lt index (tallest (heights s))) (IndexOutOfBounds (tallest (heights s)) index)
+    ∷ [])
+
+-- ---- what is opened
+
+-- the other nodes of the group, in layer l, of the node above leaf i
+abbrev pub own_group : {X : Type 0} → Shape → List (List X) → ℕ → ℕ → List X
+own_group s layers i l = remove (take (step s l) (drop (step s l * ancestor s (suc l) i) (slice_index_or layers l []))) (position_in_group s l i)
+
+-- the siblings on the path of leaf i up to layer t, in the layers of a tree
+abbrev pub own_siblings : {X : Type 0} → Shape → List (List X) → ℕ → ℕ → List X
+own_siblings s layers t i = joined (own_group s layers i) t

@@ -1,0 +1,40 @@
+-- What a scheme, a cap and an opening show.
+use Rattle.std.specs.Prelude.{ℕ, List, map, replicate}
+use Rattle.std.specs.declared.vec.Vec.{Vec}
+use Rattle.std.specs.declared.default.Default as default
+use Rattle.std.specs.declared.cmp.PartialEq as equality
+use Rattle.p3_support.specs.declared.packed.PackedValue as packed
+use Rattle.p3_merkle_core.specs.Nodes.{Functions, functions_of}
+use Rattle.p3_merkle_core.specs.Openings.{Opening, opening_of}
+use Rattle.p3_merkle_tree.specs.declared.mmcs.Scheme.{Scheme}
+use Rattle.p3_support.specs.declared.opening.BatchOpening.{BatchOpening}
+use Rattle.p3_support.specs.declared.opening.BatchOpeningRef.{BatchOpeningRef}
+
+module _ {P PW H C X G V W : Type 0} {N : ℕ} {p : packed.Ghosts P V} {pd : default.Ghosts V} {pe : equality.Ghosts V} {q : packed.Ghosts PW W} {qd : default.Ghosts W} {qe : equality.Ghosts W} where
+  -- the hasher that a scheme was made of
+  abbrev pub hash_of : Scheme P PW H C X G N V W p pd pe q qd qe → H
+  hash_of scheme = scheme.hash
+
+  -- its compression
+  abbrev pub compression_of : Scheme P PW H C X G N V W p pd pe q qd qe → C
+  compression_of scheme = scheme.compress
+
+  -- how many layers below the root its cap is asked for
+  abbrev pub cap_height_of : Scheme P PW H C X G N V W p pd pe q qd qe → ℕ
+  cap_height_of scheme = scheme.cap_height
+
+  -- what its hasher and its compression compute, and the digest of d default words
+  abbrev pub scheme_functions : (H → List V → List W) → (C → List (List W) → List W) → ℕ → Scheme P PW H C X G N V W p pd pe q qd qe → Functions V W
+  scheme_functions hash compression d scheme = functions_of (hash scheme.hash) (compression scheme.compress) (replicate d q.default_value)
+
+-- the lists of words that rows are
+abbrev pub rows_in : {T A : Type 0} → List (Vec T A) → List (List T)
+rows_in rows = map (λ row. row.items) rows
+
+-- an opening of an index, by its rows and siblings
+abbrev pub opening_made : {T W A : Type 0} → ℕ → BatchOpening T (Vec (List W) A) → Opening T W
+opening_made index opening = opening_of index (rows_in opening.opened_values.items) opening.opening_proof.items
+
+-- the same of one that is lent
+abbrev pub opening_lent : {T W A : Type 0} → ℕ → BatchOpeningRef T (Vec (List W) A) → Opening T W
+opening_lent index opening = opening_of index (rows_in opening.opened_values.now) opening.opening_proof.now.items

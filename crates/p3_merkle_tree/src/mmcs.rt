@@ -1,0 +1,220 @@
+//! The scheme: committing to matrices, opening their rows, and checking what is opened.
+
+ghost use Rattle.std.specs.Prelude.{◌≡◌, ◌<◌, ◌≤◌, ◌↔◌, IfErr, IfOk, IsOk, IsTrue};
+ghost use Rattle.p3_merkle_core.specs.Geometry.{is_arity, IsArity};
+
+use crate::tree::MerkleTree;
+use p3_merkle_core::error::MerkleTreeError;
+use p3_support::compress::PseudoCompressionFunction;
+use p3_support::hasher::CryptographicHasher;
+use p3_support::matrix::{Dimensions, Matrix};
+use p3_support::opening::{BatchOpening, BatchOpeningRef, MerkleCap};
+use p3_support::packed::PackedValue;
+use std::alloc::{AllocError, Global};
+use std::marker::PhantomData;
+
+/// The scheme of a hasher `H` and a compression `C`, with digests `X` and groups `G` of `N` digests, packed in `P`
+/// and `PW`. [`MerkleTreeMmcs`] is this scheme at digests of words.
+///
+/// Every scheme has an arity `N` that is a power of two from 2 to 2^62, and packings of equally many lanes, at least
+/// one.
+#[derive(Debug)]
+pub struct Scheme<P: PackedValue, PW: PackedValue, H, C, X, G, const N: usize> {
+    pub(crate) hash: H,
+    pub(crate) compress: C,
+    pub(crate) cap_height: usize,
+    item: PhantomData<(P, PW, X, G)>,
+    ghost arity: { IsArity N },
+    ghost lanes: { P.WIDTH ≡ PW.WIDTH },
+    ghost some_lane: { 1 ≤ P.WIDTH },
+}
+
+/// A scheme that commits to matrices of words `P::Value` by digests of `D` words `PW::Value`, where a node has at
+/// most `N` children (`MerkleTreeMmcs` in the Rust crate).
+pub type MerkleTreeMmcs<P: PackedValue, PW: PackedValue, H, C, const N: usize, const D: usize> =
+    Scheme<P, PW, H, C, [PW::Value; D], [[PW::Value; D]; N], N>;
+
+impl<P: PackedValue, PW: PackedValue, H: Copy, C: Copy, X: Copy, G: Copy, const N: usize> Copy
+    for Scheme<P, PW, H, C, X, G, N> {}
+
+/// A clone has clones of the hasher and of the compression, and the same cap height.
+impl<P: PackedValue, PW: PackedValue, H: Clone, C: Clone, X: Clone, G: Clone, const N: usize> Clone
+    for Scheme<P, PW, H, C, X, G, N> {
+    ghost use Rattle.p3_merkle_tree.specs.Schemes.{cap_height_of, compression_of, hash_of};
+
+    ghost is_clone = { λ s t. H.is_clone (hash_of s) (hash_of t) × C.is_clone (compression_of s) (compression_of t) ×
+        (cap_height_of t ≡ cap_height_of s) };
+
+    ghost is_infallible = { λ s. H.is_infallible (hash_of s) × C.is_infallible (compression_of s) };
+
+    fn clone(&self) -> Result<Self, AllocError> {
+        Ok(Scheme {
+            hash: self.hash.clone()?,
+            compress: self.compress.clone()?,
+            cap_height: self.cap_height,
+            item: PhantomData,
+        })
+    }
+}
+
+impl<
+    P: PackedValue,
+    PW: PackedValue,
+    H: CryptographicHasher<P, PW, D>,
+    C: PseudoCompressionFunction<PW, N, D>,
+    const N: usize,
+    const D: usize,
+> MerkleTreeMmcs<P, PW, H, C, N, D> {
+    ghost use Rattle.p3_merkle_core.specs.Gate.{gate_refusal};
+    ghost use Rattle.p3_merkle_core.specs.Geometry.{cap_layer, heights, shape_of, tallest};
+    ghost use Rattle.p3_merkle_core.specs.Nodes.{layer, layers, shape};
+    ghost use Rattle.p3_merkle_core.specs.Openings.{honest_rows, IsAccepted};
+    ghost use Rattle.p3_merkle_core.specs.Refusals.{answer_under};
+    ghost use Rattle.p3_merkle_core.specs.declared.error.MerkleTreeError.TheVariants.{OutOfMemory};
+    ghost use Rattle.p3_merkle_tree.specs.Built.{OkUnlessRefused};
+    ghost use Rattle.p3_merkle_tree.specs.Parts.{layers_of, matrices_of, tree_batch};
+    ghost use Rattle.p3_merkle_tree.specs.Paths.{own_siblings};
+    ghost use Rattle.p3_merkle_tree.specs.Schemes.{cap_height_of, compression_of, hash_of, opening_lent, opening_made, rows_in, scheme_functions};
+    ghost use Rattle.p3_support.specs.Shown.{roots_of};
+    ghost use Rattle.p3_merkle_tree.specs.Views.{batch_of};
+
+    /// The scheme of a hasher and a compression, whose cap is `cap_height` levels below the root: 0 for the root
+    /// alone, and the leaves where a tree has no more levels than that.
+    ///
+    /// `N` is a power of two from 2 to 2^62, and both packings have as many lanes.
+    pub fn new(hash: H, compress: C, cap_height: usize) -> MerkleTreeMmcs<P, PW, H, C, N, D>
+        requires arity { IsTrue (is_arity N) }
+        requires lanes { P.WIDTH ≡ PW.WIDTH }
+        requires some_lane { 1 ≤ P.WIDTH }
+        ensures hash { hash_of result ≡ hash }
+        ensures compress { compression_of result ≡ compress }
+        ensures cap_height { cap_height_of result ≡ cap_height }
+    {
+        Scheme {
+            hash,
+            compress,
+            cap_height,
+            item: PhantomData,
+        }
+    }
+
+    /// How many levels below the root the cap is, as it was handed to [`new`](Self::new).
+    pub fn cap_height(&self) -> usize
+        ensures { result ≡ cap_height_of self.now }
+    {
+        self.cap_height
+    }
+
+    /// Commits to matrices: the cap of their tree, and the tree, which keeps the matrices in input order. The cap is
+    /// the whole layer `cap_height` levels below the root, padding included, or the leaves where there are fewer
+    /// levels.
+    ///
+    /// # Errors
+    ///
+    /// `EmptyBatch` where no matrix has a row; else `TooLarge` for the first height above 2^62; else
+    /// `IncompatibleHeights` for the first height that is not the tallest one halved and rounded up. `OutOfMemory`
+    /// may come at any time.
+    pub fn commit<M: Matrix<P::Value> + Drop>(
+        &self,
+        alloc: Global,
+        matrices: Vec<M>,
+    ) -> Result<
+        (
+            MerkleCap<P::Value, [PW::Value; D]>,
+            MerkleTree<P::Value, PW::Value, M, N, D>,
+        ),
+        MerkleTreeError,
+    >
+        ensures answer { let b = batch_of M.height_of M.width_of M.row_of N matrices.items in
+            OkUnlessRefused result (gate_refusal (heights (shape b))) }
+        ensures matrices { IfOk result (λ (cap, tree). matrices_of tree ≡ matrices.items) }
+        ensures layers { let f = scheme_functions H.hash C.compression D self.now in
+            let b = batch_of M.height_of M.width_of M.row_of N matrices.items in
+            IfOk result (λ (cap, tree). layers_of tree ≡ layers f b) }
+        ensures cap { let f = scheme_functions H.hash C.compression D self.now in
+            let b = batch_of M.height_of M.width_of M.row_of N matrices.items in
+            IfOk result (λ (cap, tree). roots_of cap ≡ layer f b (cap_layer (shape b) (cap_height_of self.now))) }
+    {
+        let tree = MerkleTree::<P::Value, PW::Value, M, N, D>::new::<P, PW, H, C>(
+            alloc,
+            &self.hash,
+            &self.compress,
+            matrices,
+        )?;
+        let cap = tree.cap(alloc, self.cap_height.min(tree.num_layers() - 1))?;
+        Ok((cap, tree))
+    }
+
+    /// Opens the leaf `index` of a tree: of each matrix, in input order, the row that belongs to the leaf, and the
+    /// siblings on the leaf's path to the cap.
+    ///
+    /// The index counts rows of the tallest matrix; a matrix whose height is halved `k` times opens the row
+    /// `index >> k`. The siblings come level by level, from the leaves up to the cap: of each group on the path all
+    /// digests but the path's own, ascending. They are read from the tree, whoever built it; where its layers are
+    /// those of this scheme's own hasher and compression, the opening is accepted under the cap of its tree.
+    ///
+    /// # Errors
+    ///
+    /// `OutOfMemory` alone.
+    pub fn open_batch<M: Matrix<P::Value>>(
+        &self,
+        alloc: Global,
+        index: usize,
+        tree: &MerkleTree<P::Value, PW::Value, M, N, D>,
+    ) -> Result<BatchOpening<P::Value, Vec<[PW::Value; D]>>, MerkleTreeError>
+        requires { index < tallest (heights (shape (tree_batch tree.now))) }
+        ensures rows { IfOk result (λ o. rows_in o.opened_values.items ≡ honest_rows (tree_batch tree.now) index) }
+        ensures siblings { let s = shape (tree_batch tree.now) in
+            let t = cap_layer s (cap_height_of self.now) in
+            IfOk result (λ o. o.opening_proof.items ≡ own_siblings s (layers_of tree.now) t index) }
+        ensures accepted { let f = scheme_functions H.hash C.compression D self.now in
+            let b = tree_batch tree.now in
+            let t = cap_layer (shape b) (cap_height_of self.now) in
+            layers_of tree.now ≡ layers f b →
+            IfOk result (λ o. IsAccepted f (shape b) t (layer f b t) (opening_made index o)) }
+        ensures memory { IfErr result (λ e. e ≡ OutOfMemory) }
+    {
+        let proof_levels = tree.num_levels().saturating_sub(self.cap_height);
+        Ok(BatchOpening {
+            opened_values: tree.rows_at(alloc, index)?,
+            opening_proof: tree.siblings(alloc, index, proof_levels)?,
+        })
+    }
+
+    /// Checks an opening of the leaf `index` against a cap: whether hashing the rows, and compressing the digest with
+    /// its siblings level by level, leads to the cap's entry above the leaf. It takes no memory.
+    ///
+    /// The opening has one row for each of `dimensions`, as wide as that says, and for each level below the cap one
+    /// sibling less than a node there has children. The dimensions must come from who checks, since a cap binds
+    /// heights only up to padding; and a matrix whose layer is above the cap's is never hashed, so that of its row
+    /// only the width is checked.
+    ///
+    /// # Errors
+    ///
+    /// The first of these that holds:
+    ///
+    /// - `WrongBatchSize`: there are not as many rows as dimensions;
+    /// - `EmptyBatch`, `TooLarge` or `IncompatibleHeights`: [`commit`](Self::commit) refuses such heights;
+    /// - `WrongHeight`: there are not as many siblings as the levels below the cap need;
+    /// - `WrongWidth`: a row, the first such, has not the width of its matrix;
+    /// - `IndexOutOfBounds`: the index is not below the tallest height;
+    /// - `CapMismatch`: the cap has no entry above the leaf, or it is not the digest that the check reaches.
+    pub fn verify_batch(
+        &self,
+        commit: &MerkleCap<P::Value, [PW::Value; D]>,
+        dimensions: &[Dimensions],
+        index: usize,
+        opening: BatchOpeningRef<'_, P::Value, Vec<[PW::Value; D]>>,
+    ) -> Result<(), MerkleTreeError>
+        ensures answer { let f = scheme_functions H.hash C.compression D self.now in
+            let s = shape_of N dimensions.now in
+            let t = cap_layer s (cap_height_of self.now) in
+            result ≡ answer_under PW.Value.eq f s t (roots_of commit.now) (opening_lent index opening.entry) }
+        ensures accepted { let f = scheme_functions H.hash C.compression D self.now in
+            let s = shape_of N dimensions.now in
+            let t = cap_layer s (cap_height_of self.now) in
+            IsOk result ↔ IsAccepted f s t (roots_of commit.now) (opening_lent index opening.entry) }
+    {
+        self.check_opening(commit, dimensions, index, opening)
+    }
+}

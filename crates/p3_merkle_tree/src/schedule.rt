@@ -1,0 +1,130 @@
+//! How the paths of a scheme go: steps and positions level by level, and what a tree shows of its matrices.
+
+ghost use Rattle.std.specs.Prelude.{◌≡◌, ◌-◌, ◌≤◌, IfErr, IfOk, map, take, vec_len};
+
+use crate::mmcs::MerkleTreeMmcs;
+use crate::tree::MerkleTree;
+use p3_merkle_core::error::MerkleTreeError;
+use p3_merkle_core::geometry::{
+    ArityAndPositions, check_heights, levels_of, positions_below_of, schedule_below_of,
+    siblings_below_of, tallest_of,
+};
+use p3_support::compress::PseudoCompressionFunction;
+use p3_support::hasher::CryptographicHasher;
+use p3_support::matrix::{Dimensions, Matrix};
+use p3_support::packed::PackedValue;
+use std::alloc::Global;
+
+impl<
+    P: PackedValue,
+    PW: PackedValue,
+    H: CryptographicHasher<P, PW, D>,
+    C: PseudoCompressionFunction<PW, N, D>,
+    const N: usize,
+    const D: usize,
+> MerkleTreeMmcs<P, PW, H, C, N, D> {
+    ghost use Rattle.p3_merkle_core.specs.Gate.{gate_refusal};
+    ghost use Rattle.p3_merkle_core.specs.Geometry.{arity_schedule as schedule_in, cap_layer, exponent, heights, heights_of, levels, positions_below, schedule_below, shape_of, tallest};
+    ghost use Rattle.p3_merkle_core.specs.Nodes.{shape};
+    ghost use Rattle.p3_merkle_core.specs.Refusals.{replay_refusal};
+    ghost use Rattle.p3_merkle_core.specs.declared.error.MerkleTreeError.TheVariants.{OutOfMemory};
+    ghost use Rattle.p3_merkle_tree.specs.Built.{OkUnlessRefused};
+    ghost use Rattle.p3_merkle_tree.specs.Parts.{matrices_of, tree_batch};
+    ghost use Rattle.p3_merkle_tree.specs.Schemes.{cap_height_of};
+
+    /// The steps of the levels below the cap, from the leaves up, in children a node: those of the tree over matrices
+    /// of these dimensions, without its topmost `cap_height`.
+    ///
+    /// # Errors
+    ///
+    /// `EmptyBatch`, `TooLarge` or `IncompatibleHeights` where [`commit`](Self::commit) refuses such heights;
+    /// `OutOfMemory`.
+    pub fn proof_arity_schedule(
+        &self,
+        alloc: Global,
+        dimensions: &[Dimensions],
+    ) -> Result<Vec<usize>, MerkleTreeError>
+        ensures answer { OkUnlessRefused result (gate_refusal (heights_of dimensions.now)) }
+        ensures steps { let s = shape_of N dimensions.now in
+            IfOk result (λ v. v.items ≡ schedule_below s (cap_layer s (cap_height_of self.now))) }
+        ensures first { let s = shape_of N dimensions.now in
+            IfOk result (λ v. v.items ≡ take (levels s - cap_height_of self.now) (schedule_in s)) }
+        ensures few { IfOk result (λ v. vec_len v ≤ exponent (tallest (heights_of dimensions.now))) }
+    {
+        check_heights(dimensions)?;
+        let proof_levels = levels_of(dimensions, N).saturating_sub(self.cap_height);
+        Ok(schedule_below_of(alloc, dimensions, N, proof_levels)?)
+    }
+
+    /// How the path of a leaf goes that a proof of `num_siblings` digests is for: the steps of
+    /// [`proof_arity_schedule`](Self::proof_arity_schedule), and the place of the leaf's ancestor on each level.
+    ///
+    /// # Errors
+    ///
+    /// The first of these that holds: `EmptyBatch`, `TooLarge` or `IncompatibleHeights` where
+    /// [`commit`](Self::commit) refuses such heights; `IndexOutOfBounds` where the index is not below the tallest
+    /// height; `WrongHeight` where there are not as many siblings as the levels below the cap need. `OutOfMemory` may
+    /// come at any time.
+    pub fn replay_arity_and_positions(
+        &self,
+        alloc: Global,
+        dimensions: &[Dimensions],
+        index: usize,
+        num_siblings: usize,
+    ) -> Result<ArityAndPositions, MerkleTreeError>
+        ensures answer { let s = shape_of N dimensions.now in
+            OkUnlessRefused result (replay_refusal s (cap_layer s (cap_height_of self.now)) index num_siblings) }
+        ensures schedule { let s = shape_of N dimensions.now in
+            IfOk result (λ r. r.arity_schedule.items ≡ schedule_below s (cap_layer s (cap_height_of self.now))) }
+        ensures positions { let s = shape_of N dimensions.now in
+            IfOk result (λ r. r.query_positions.items ≡ positions_below s (cap_layer s (cap_height_of self.now)) index) }
+    {
+        check_heights(dimensions)?;
+        let max_height = tallest_of(dimensions);
+        if index >= max_height {
+            return Err(MerkleTreeError::IndexOutOfBounds { max_height, index });
+        }
+        let proof_levels = levels_of(dimensions, N).saturating_sub(self.cap_height);
+        let expected_proof_len = siblings_below_of(dimensions, N, proof_levels);
+        if num_siblings != expected_proof_len {
+            return Err(MerkleTreeError::WrongHeight {
+                expected_proof_len,
+                num_siblings,
+            });
+        }
+        Ok(ArityAndPositions {
+            arity_schedule: schedule_below_of(alloc, dimensions, N, proof_levels)?,
+            query_positions: positions_below_of(alloc, dimensions, N, proof_levels, index)?,
+        })
+    }
+
+    /// The matrices of a tree, in input order.
+    ///
+    /// # Errors
+    ///
+    /// `OutOfMemory` alone.
+    pub fn get_matrices<'a, M: Matrix<P::Value>>(
+        &self,
+        alloc: Global,
+        tree: &'a MerkleTree<P::Value, PW::Value, M, N, D>,
+    ) -> Result<Vec<&'a M>, MerkleTreeError>
+        ensures matrices { IfOk result (λ v. map (λ m. m.now) v.items ≡ matrices_of tree.now) }
+        ensures memory { IfErr result (λ e. e ≡ OutOfMemory) }
+    {
+        let mut matrices = Vec::with_capacity(alloc, tree.matrices.len())?;
+        for matrix in &tree.matrices {
+            matrices.push(matrix)?;
+        }
+        Ok(matrices)
+    }
+
+    /// The height of the tallest matrix of a tree, in rows: one more than the greatest index that can be opened.
+    pub fn get_max_height<M: Matrix<P::Value>>(
+        &self,
+        tree: &MerkleTree<P::Value, PW::Value, M, N, D>,
+    ) -> usize
+        ensures { result ≡ tallest (heights (shape (tree_batch tree.now))) }
+    {
+        tree.max_height()
+    }
+}
