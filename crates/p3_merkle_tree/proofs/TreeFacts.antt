@@ -48,3 +48,11 @@ top_len s w lawful =
     let f = rw (exponent_at_levels s w) at (filled s w lawful.some_above_0 (levels s) (omega arith)) in
     let one : raw_len s (levels s) ≡ 1 = omega (arith, f.fits, f.above_half) in
     ap (λ r. padded_len r s.arity) one
+
+-- layers that are the same have the same lengths
+pub same_lengths : {T V U A : Type 0} (b d : Batch T) (items : V → List A) (copied : U → List A) (vs : List V) (us : List U) → b ≡ d → map copied us ≡ map items vs →
+    map (λ v. length (items v)) vs ≡ map (layer_len (shape b)) (range_with_len 0 (suc (levels (shape b)))) →
+    map (λ u. length (copied u)) us ≡ map (layer_len (shape d)) (range_with_len 0 (suc (levels (shape d))))
+same_lengths b d items copied vs us same e long =
+    sym (map-map length copied us) ∙ ap (λ (z : List (List _)). map length z) e ∙ map-map length items vs ∙ long
+    ∙ ap (λ (z : Batch _). map (layer_len (shape z)) (range_with_len 0 (suc (levels (shape z))))) same

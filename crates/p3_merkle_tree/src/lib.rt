@@ -2,6 +2,7 @@
 //! openings of its rows that a verifier checks against a cap.
 #![tactic(auto)]
 
+mod copy;
 mod group;
 mod layers;
 mod levels;

@@ -31,7 +31,7 @@ pub struct Tree<F, X, G, M: Matrix<F>, const N: usize> {
     pub(crate) matrices: Vec<M>,
     pub(crate) layers: Vec<Vec<X>>,
     pub(crate) arity_schedule: Vec<usize>,
-    item: PhantomData<(F, G)>,
+    pub(crate) item: PhantomData<(F, G)>,
     ghost arity: { IsArity N },
     ghost lawful: { IsLawful (heights (shape (batch_of M.height_of M.width_of M.row_of N matrices.items))) },
     ghost layer_lengths: { let s = shape (batch_of M.height_of M.width_of M.row_of N matrices.items) in
