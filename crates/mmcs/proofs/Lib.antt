@@ -1,0 +1,16 @@
+pub mod WordFacts
+pub mod NumberFacts
+pub mod Kept
+pub mod RowFacts
+pub mod TextFacts
+pub mod Runs
+pub mod BlankFacts
+pub mod RowsCut
+pub mod BlockFacts
+pub mod InputFacts
+pub mod MatrixFacts
+pub mod GateFacts
+pub mod Outcomes
+pub mod AnswerFacts
+pub mod InputLaws
+pub mod SchemeFacts

@@ -1,0 +1,167 @@
+//! From words and an input to an output.
+
+ghost use Rattle.std.specs.Prelude.{◌≡◌, ◌⊎◌, ◌↔◌, ◌≤◌, ◌^◌, ℕ, List, [], ◌∷◌, length, map, flat_map, Some, None, Ok, Err, IfOk, IfErr, IfSome, OnOk, OnErr, MatchResult, string_bytes};
+ghost use Rattle.std.specs.Io.KnownBytes.{Appends, Keeps};
+ghost use Rattle.p3_support.specs.RowMajor.{row_width, rows_in};
+ghost use Rattle.p3_merkle_core.specs.Gate.{gate_refusal};
+ghost use Rattle.p3_merkle_core.specs.Geometry.{cap_layer, heights, tallest};
+ghost use Rattle.p3_merkle_core.specs.Nodes.{layer, shape};
+ghost use Rattle.p3_merkle_core.specs.declared.error.MerkleTreeError.{MerkleTreeError};
+ghost use Rattle.p3_merkle_core.specs.declared.error.MerkleTreeError.TheVariants.{OutOfMemory};
+ghost use Rattle.p3_merkle_core.specs.Openings.{siblings_below};
+ghost use Rattle.mmcs.specs.declared.command.Command.{Command};
+ghost use Rattle.mmcs.specs.declared.command.Command.TheVariants.{Commit, Check};
+ghost use Rattle.mmcs.specs.declared.fault.Fault.TheVariants.{Usage, BadInput, Tree};
+ghost use Rattle.mmcs.specs.Input.{StandsFor};
+ghost use Rattle.mmcs.specs.Matrices.{stored_batch};
+ghost use Rattle.mmcs.specs.Program.{fold_functions, heights_of_rows, output_of, tree_refusal, IsTaken, Asks, AsksFor};
+ghost use Rattle.mmcs.specs.Text.{hex_line, ok_line};
+ghost use Rattle.mmcs.specs.Words.{texts_of, AreWords};
+
+use crate::command::Command;
+use crate::fault::Fault;
+use crate::input::read_matrices;
+use crate::scheme::{commit, open, verify};
+use crate::text::{hex_lines, make_ok_line};
+use p3_merkle_core::geometry::tallest_of;
+use p3_merkle_tree::MerkleTreeError;
+use p3_support::matrix::{Dimensions, Matrix, RowMajorMatrix};
+use std::alloc::{AllocError, Global};
+use std::io::{self, ErrorKind, Read, Write};
+
+/// Answers the words after the program's name: reads the whole input, and writes the output once all else has succeeded.
+pub fn run<Src: Read, Dst: Write>(
+    alloc: Global,
+    words: &[String],
+    input: &mut Src,
+    output: &mut Dst,
+) -> Result<(), Fault>
+    // Words that are no command, and only these, are told by the usage, before anything is read or written.
+    ensures usage { (result ≡ Err Fault.Usage) ↔ ((command : Command) → AreWords (texts_of words.now) command → ⊥) }
+    ensures unread { result ≡ Err Fault.Usage → (input.new ≡ input.old) × (output.new ≡ output.old) }
+
+    // Ok tells that all was taken, and that the definition's output was written and nothing else.
+    ensures ok { OnOk result (IfSome (Src.remaining input.old) (λ bytes. AsksFor (texts_of words.now) bytes (λ command matrices. IsTaken command (heights_of_rows matrices) × Appends (Dst.contents output.old) (Dst.contents output.new) (output_of command matrices)))) }
+    // What is taken ends in Ok, unless a read, a write or memory fails.
+    ensures taken { (bytes : List ℕ) (command : Command) (matrices : List (List (List ℕ))) → Src.remaining input.old ≡ Some bytes → Asks (texts_of words.now) bytes command matrices → IsTaken command (heights_of_rows matrices) → (result ≡ Ok tt) ⊎ ((result ≡ Err Fault.BadInput) ⊎ (result ≡ Err (Fault.Tree OutOfMemory))) }
+
+    // What the tree refuses, and how.
+    ensures tree { (e : MerkleTreeError) → result ≡ Err (Fault.Tree e) → (e ≡ OutOfMemory) ⊎ IfSome (Src.remaining input.old) (λ bytes. AsksFor (texts_of words.now) bytes (λ command matrices. tree_refusal command (heights_of_rows matrices) ≡ Some e)) }
+    ensures refused { (bytes : List ℕ) (command : Command) (matrices : List (List (List ℕ))) (e : MerkleTreeError) → Src.remaining input.old ≡ Some bytes → Asks (texts_of words.now) bytes command matrices → tree_refusal command (heights_of_rows matrices) ≡ Some e → (result ≡ Err (Fault.Tree e)) ⊎ ((result ≡ Err Fault.BadInput) ⊎ (result ≡ Err (Fault.Tree OutOfMemory))) }
+
+    // No fault but a failed write leaves anything written, and a write comes last.
+    ensures silent { OnErr result ((output.new ≡ output.old) ⊎ ((result ≡ Err Fault.BadInput) × IfSome (Src.remaining input.old) (λ bytes. AsksFor (texts_of words.now) bytes (λ command matrices. IsTaken command (heights_of_rows matrices))))) }
+{
+    run_command(alloc, words, input, output)
+}
+
+/// Does what `run` promises, clause by clause.
+fn run_command<Src: Read, Dst: Write>(
+    alloc: Global,
+    words: &[String],
+    input: &mut Src,
+    output: &mut Dst,
+) -> Result<(), Fault>
+    // Words that are no command, and only these, are told by the usage, before anything is read or written.
+    ensures usage { (result ≡ Err Fault.Usage) ↔ ((command : Command) → AreWords (texts_of words.now) command → ⊥) }
+    ensures unread { result ≡ Err Fault.Usage → (input.new ≡ input.old) × (output.new ≡ output.old) }
+
+    // Ok tells that all was taken, and that the definition's output was written and nothing else.
+    ensures ok { OnOk result (IfSome (Src.remaining input.old) (λ bytes. AsksFor (texts_of words.now) bytes (λ command matrices. IsTaken command (heights_of_rows matrices) × Appends (Dst.contents output.old) (Dst.contents output.new) (output_of command matrices)))) }
+
+    // What the tree refuses, and how.
+    ensures tree { (e : MerkleTreeError) → result ≡ Err (Fault.Tree e) → (e ≡ OutOfMemory) ⊎ IfSome (Src.remaining input.old) (λ bytes. AsksFor (texts_of words.now) bytes (λ command matrices. tree_refusal command (heights_of_rows matrices) ≡ Some e)) }
+
+    // No fault but a failed write leaves anything written, and a write comes last.
+    ensures silent { OnErr result ((output.new ≡ output.old) ⊎ ((result ≡ Err Fault.BadInput) × IfSome (Src.remaining input.old) (λ bytes. AsksFor (texts_of words.now) bytes (λ command matrices. IsTaken command (heights_of_rows matrices))))) }
+{
+    let command = Command::from_words(words).ok_or(Fault::Usage)?;
+    let bytes = read_all(alloc, input)?;
+    let text = answer(alloc, command, &bytes)?;
+    write_text(output, &text).map_err(|_error| Fault::BadInput)
+}
+
+/// All bytes of an input. A failed read is bad input, but for want of memory.
+fn read_all<Src: Read>(alloc: Global, input: &mut Src) -> Result<Vec<u8>, Fault>
+    ensures bytes { IfOk result (λ bytes. IfSome (Src.remaining input.old) (λ all. bytes.items ≡ all)) }
+    ensures fault { IfErr result (λ fault. (fault ≡ Fault.BadInput) ⊎ (fault ≡ Fault.Tree OutOfMemory)) }
+{
+    let mut bytes = Vec::new(alloc);
+    match input.read_to_end(&mut bytes) {
+        Ok(_) => Ok(bytes),
+        Err(error) if error.kind() == ErrorKind::OutOfMemory => {
+            Err(Fault::Tree(MerkleTreeError::OutOfMemory))
+        }
+        Err(_) => Err(Fault::BadInput),
+    }
+}
+
+/// Writes a text, and sees it through.
+fn write_text<Dst: Write>(output: &mut Dst, text: &str) -> io::Result<()>
+    ensures { OnOk result (Appends (Dst.contents output.old) (Dst.contents output.new) text.now) }
+{
+    output.write_all(text.as_bytes())?;
+    output.flush()
+}
+
+/// The text that a command prints of an input.
+fn answer(alloc: Global, command: Command, input: &[u8]) -> Result<String, Fault>
+    ensures text { IfOk result (λ text. (matrices : List (List (List ℕ))) × StandsFor (2 ^ 32) input.now matrices × (length matrices ≤ 1) × IsTaken command (heights_of_rows matrices) × (string_bytes text ≡ output_of command matrices)) }
+    ensures fault { IfErr result (λ fault. (fault ≡ Fault.Tree OutOfMemory) ⊎ (((fault ≡ Fault.BadInput) × ((matrices : List (List (List ℕ))) → StandsFor (2 ^ 32) input.now matrices → length matrices ≤ 1 → ⊥)) ⊎ ((matrices : List (List (List ℕ))) × (e : MerkleTreeError) × StandsFor (2 ^ 32) input.now matrices × (length matrices ≤ 1) × (fault ≡ Fault.Tree e) × (tree_refusal command (heights_of_rows matrices) ≡ Some e)))) }
+{
+    let matrices = read_matrices(alloc, input)?;
+    if matrices.len() > 1 {
+        return Err(Fault::BadInput);
+    }
+    match command {
+        Command::Commit => commit_text(alloc, matrices),
+        Command::Check(index) => check_text(alloc, matrices, index),
+    }
+}
+
+/// A line for each digest of the cap of some matrices.
+fn commit_text(alloc: Global, matrices: Vec<RowMajorMatrix<u32>>) -> Result<String, Fault>
+    ensures text { let b = stored_batch matrices.items in IfOk result (λ text. (gate_refusal (heights (shape b)) ≡ None) × (string_bytes text ≡ flat_map hex_line (layer fold_functions b (cap_layer (shape b) 0)))) }
+    ensures fault { let b = stored_batch matrices.items in IfErr result (λ fault. (fault ≡ Fault.Tree OutOfMemory) ⊎ ((e : MerkleTreeError) × (fault ≡ Fault.Tree e) × (tree_refusal Commit (heights (shape b)) ≡ Some e))) }
+{
+    let (cap, _tree) = commit(alloc, matrices)?;
+    let text = hex_lines(alloc, cap.roots())?;
+    Ok(text)
+}
+
+/// The dimensions of matrices, in their order.
+fn dimensions_of(
+    alloc: Global,
+    matrices: &[RowMajorMatrix<u32>],
+) -> Result<Vec<Dimensions>, AllocError>
+    ensures { IfOk result (λ dimensions. dimensions.items ≡ map (λ m. record { width = row_width m; height = rows_in m }) matrices.now) }
+{
+    matrices
+        .iter()
+        .map(|matrix| Dimensions {
+            width: matrix.width(),
+            height: matrix.height(),
+        })
+        .collect(alloc)
+}
+
+/// Opens an index of the tree over some matrices, verifies what is opened, and tells how many siblings it has.
+fn check_text(
+    alloc: Global,
+    matrices: Vec<RowMajorMatrix<u32>>,
+    index: usize,
+) -> Result<String, Fault>
+    ensures text { let s = shape (stored_batch matrices.items) in IfOk result (λ text. (tree_refusal (Check index) (heights s) ≡ None) × (string_bytes text ≡ ok_line (siblings_below s (cap_layer s 0)))) }
+    ensures fault { let s = shape (stored_batch matrices.items) in IfErr result (λ fault. (fault ≡ Fault.Tree OutOfMemory) ⊎ ((e : MerkleTreeError) × (fault ≡ Fault.Tree e) × (tree_refusal (Check index) (heights s) ≡ Some e))) }
+{
+    let dimensions = dimensions_of(alloc, &matrices)?;
+    let (cap, tree) = commit(alloc, matrices)?;
+    let max_height = tallest_of(&dimensions);
+    if index >= max_height {
+        return Err(Fault::Tree(MerkleTreeError::IndexOutOfBounds { max_height, index }));
+    }
+    let opening = open(alloc, index, &tree)?;
+    verify(&cap, &dimensions, index, &opening)?;
+    let text = make_ok_line(alloc, opening.opening_proof.len())?;
+    Ok(text)
+}

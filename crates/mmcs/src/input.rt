@@ -1,0 +1,146 @@
+//! Matrices, from the bytes of an input.
+
+ghost use Rattle.std.specs.Prelude.{◌≡◌, ◌≢◌, ℕ, ◌*◌, ◌^◌, ◌<◌, ◌⊎◌, false, List, [], ◌∷◌, ◌++◌, map, flat_map, length, All, IfOk, IfErr, IfSome, IfNone, OnOk};
+ghost use Rattle.std.specs.List.{AllZip};
+ghost use Rattle.std.specs.Option.{SomeIff};
+ghost use Rattle.std.specs.Str.Lines.{strip_carriage_return};
+ghost use Rattle.std.specs.Str.Parse.{digits_value};
+ghost use Rattle.p3_merkle_core.specs.declared.error.MerkleTreeError.TheVariants.{OutOfMemory};
+ghost use Rattle.mmcs.specs.declared.fault.Fault.TheVariants.{BadInput, Tree};
+ghost use Rattle.mmcs.specs.Numbers.{IsNumberBelow};
+ghost use Rattle.mmcs.specs.Input.{is_gap, is_blank, numerals_of, row_of, StandsFor};
+ghost use Rattle.mmcs.specs.Blocks.{IsBlock, IsRefused};
+ghost use Rattle.mmcs.specs.Matrices.{matrix_of_rows, batch_of_rows, stored_batch};
+
+use crate::fault::Fault;
+use crate::number::parse_number;
+use p3_support::matrix::{Matrix, RowMajorMatrix};
+use std::alloc::Global;
+use std::mem;
+
+/// Whether the byte is a space or a tab.
+fn is_gap(byte: u8) -> bool
+    ensures { result ≡ is_gap byte }
+{
+    byte == b' ' || byte == b'\t'
+}
+
+/// Whether the line is empty, or has spaces and tabs alone.
+fn is_blank(line: &[u8]) -> bool
+    ensures { result ≡ is_blank line.now }
+{
+    line.iter().all(|byte| is_gap(*byte))
+}
+
+/// The line less one carriage return at its end.
+fn without_return(line: &[u8]) -> &[u8]
+    ensures { result.now ≡ strip_carriage_return line.now }
+{
+    if line.last() == Some(&b'\r') {
+        &line[..line.len() - 1]
+    } else {
+        line
+    }
+}
+
+/// The number that one or more ASCII digits stand for, if it fits a word.
+fn parse_word(digits: &[u8]) -> Option<u32>
+    ensures { SomeIff result (IsNumberBelow (2 ^ 32) digits.now) (digits_value 10 digits.now) }
+{
+    u32::try_from(parse_number(digits)?).ok()
+}
+
+/// Appends the numbers of a line, and says how many there are.
+fn append_row(values: &mut Vec<u32>, line: &[u8]) -> Result<usize, Fault>
+    ensures values { OnOk result (values.new.items ≡ values.old.items ++ row_of line.now) }
+    ensures count { IfOk result (λ count. count ≡ length (row_of line.now)) }
+    ensures numbers { OnOk result (All (IsNumberBelow (2 ^ 32)) (numerals_of line.now)) }
+    ensures fault { IfErr result (λ fault. (fault ≡ Tree OutOfMemory) ⊎ ((fault ≡ BadInput) × ¬ All (IsNumberBelow (2 ^ 32)) (numerals_of line.now))) }
+{
+    let len = values.len();
+    for word in line.split(|byte| is_gap(*byte)) {
+        if word.is_empty() {
+            continue;
+        }
+        let value = parse_word(word).ok_or(Fault::BadInput)?;
+        values.push(value)?;
+    }
+    Ok(values.len() - len)
+}
+
+/// The rows of a matrix that has not ended.
+#[derive(Drop)]
+struct Block {
+    /// Row after row.
+    values: Vec<u32>,
+    /// How many values a row has; 0 before the first row.
+    width: usize,
+}
+
+impl Block {
+    fn new(alloc: Global) -> Block
+        ensures { IsBlock [] result.values.items result.width }
+    {
+        Block {
+            values: Vec::new(alloc),
+            width: 0,
+        }
+    }
+
+    /// Appends a line as a row.
+    fn push_row(&mut self, line: &[u8]) -> Result<(), Fault>
+        requires full { is_blank line.now ≡ false }
+        ensures row { (lines : List (List ℕ)) → IsBlock lines self.old.values.items self.old.width → OnOk result (IsBlock (lines ++ line.now ∷ []) self.new.values.items self.new.width) }
+        ensures fault { (lines : List (List ℕ)) → IsBlock lines self.old.values.items self.old.width → IfErr result (λ fault. (fault ≡ Tree OutOfMemory) ⊎ ((fault ≡ BadInput) × IsRefused (lines ++ line.now ∷ []))) }
+    {
+        let count = append_row(&mut self.values, line)?;
+        if self.width == 0 {
+            self.width = count;
+        }
+        if count == self.width {
+            Ok(())
+        } else {
+            Err(Fault::BadInput)
+        }
+    }
+
+    /// The matrix of the rows, if there are any, and no rows are left.
+    fn take_matrix(&mut self, alloc: Global) -> Option<RowMajorMatrix<u32>>
+        requires { (lines : List (List ℕ)) × IsBlock lines self.old.values.items self.old.width }
+        ensures emptied { IsBlock [] self.new.values.items self.new.width }
+        ensures none { IfNone result (self.old.width ≡ 0) }
+        ensures matrix { (lines : List (List ℕ)) → IsBlock lines self.old.values.items self.old.width → IfSome result (λ matrix. stored_batch (matrix ∷ []) ≡ batch_of_rows (map row_of lines ∷ [])) }
+        ensures some { IfSome result (λ matrix. 0 < self.old.width) }
+    {
+        let values = mem::replace(&mut self.values, Vec::new(alloc));
+        let width = mem::replace(&mut self.width, 0);
+        if width == 0 {
+            None
+        } else {
+            Some(RowMajorMatrix::new(values, width))
+        }
+    }
+}
+
+/// The matrices that the lines of an input stand for.
+pub fn read_matrices(alloc: Global, input: &[u8]) -> Result<Vec<RowMajorMatrix<u32>>, Fault>
+    ensures matrices { IfOk result (λ found. (matrices : List (List (List ℕ))) × StandsFor (2 ^ 32) input.now matrices × (stored_batch found.items ≡ batch_of_rows matrices)) }
+    ensures fault { IfErr result (λ fault. (fault ≡ Tree OutOfMemory) ⊎ ((fault ≡ BadInput) × ((matrices : List (List (List ℕ))) → StandsFor (2 ^ 32) input.now matrices → ⊥))) }
+{
+    let mut matrices = Vec::new(alloc);
+    let mut block = Block::new(alloc);
+    for piece in input.split(|byte| *byte == b'\n') {
+        let line = without_return(piece);
+        if is_blank(line) {
+            if let Some(matrix) = block.take_matrix(alloc) {
+                matrices.push(matrix)?;
+            }
+        } else {
+            block.push_row(line)?;
+        }
+    }
+    if let Some(matrix) = block.take_matrix(alloc) {
+        matrices.push(matrix)?;
+    }
+    Ok(matrices)
+}

@@ -1,0 +1,49 @@
+//! Commits to the matrices of an input, and checks openings of their tree: `mmcs HASH ARITY CAP commit|check I`.
+#![tactic(auto)]
+
+mod command;
+mod engine;
+mod fault;
+mod input;
+mod laws;
+mod number;
+mod scheme;
+#[cfg(test)]
+mod tests;
+mod text;
+
+use crate::engine::run;
+use crate::fault::Fault;
+use p3_merkle_tree::MerkleTreeError;
+use std::env;
+use std::io::{Error, ErrorKind};
+use std::process::ExitCode;
+
+/// Why the words cannot be had: memory, or a word that is no text and so of no command.
+fn word_fault(error: Error) -> Fault {
+    if error.kind() == ErrorKind::OutOfMemory {
+        Fault::Tree(MerkleTreeError::OutOfMemory)
+    } else {
+        Fault::Usage
+    }
+}
+
+/// Passes the words after the program's name and the standard streams on.
+fn answer_process(rt: &HostRuntime) -> Result<(), Fault> {
+    let words: Vec<String> = env::args(rt)
+        .map_err(word_fault)?
+        .skip(1)
+        .collect(rt.alloc())?;
+    run(rt.alloc(), &words, &mut rt.stdin(), &mut rt.stdout())
+}
+
+fn main(rt: HostRuntime) -> ExitCode {
+    match answer_process(&rt) {
+        Ok(()) => ExitCode::SUCCESS,
+        Err(fault) => {
+            // A line that cannot be written leaves the status to tell.
+            let _ = eprintln!(rt; "{fault}");
+            ExitCode::from(fault.status())
+        }
+    }
+}

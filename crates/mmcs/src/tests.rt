@@ -1,0 +1,195 @@
+//! What is printed for words and an input, over memory.
+
+use crate::engine::run;
+use std::alloc::Global;
+use std::io;
+use std::io::{Error, ErrorKind, Read, Write};
+use std::test::Fail;
+
+const FOUR_ROWS: &str = "1\n2\n3\n4\n";
+
+/// The words of a line, between spaces.
+fn words_of(alloc: Global, line: &str) -> Result<Vec<String>, Fail> {
+    let mut words = Vec::new(alloc);
+    for word in line.split(' ') {
+        words.push(String::from_str(alloc, word)?)?;
+    }
+    Ok(words)
+}
+
+/// What is printed, or the line and the status of the fault. A fault has to leave the output empty.
+fn printed(alloc: Global, words: &str, input: &str) -> Result<String, Fail> {
+    let words = words_of(alloc, words)?;
+    let mut output = Vec::new(alloc);
+    match run(alloc, &words, &mut input.as_bytes(), &mut output) {
+        Ok(()) => Ok(String::from_str(alloc, str::from_utf8(&output)?)?),
+        Err(fault) => {
+            let status = fault.status();
+            let written = output.len();
+            Ok(format!(in alloc; "{fault} ({status}, {written})")?)
+        }
+    }
+}
+
+#[test]
+fn prints_caps_and_counts(rt: HostRuntime) -> Result<(), Fail> {
+    for (words, input, want) in [
+        ("fold 2 0 commit", FOUR_ROWS, "00008081\n"),
+        ("fold 2 00 commit", "1\n2\n3\n4", "00008081\n"),
+        (
+            "fold 2 0 commit",
+            "\r\n\t \n 1\t\r\n2\r\n003 \n4\n \n\n",
+            "00008081\n",
+        ),
+        ("fold 2 0 commit", "9\n", "00000028\n"),
+        ("fold 2 0 commit", "1\n2\n3\n", "0000805e\n"),
+        ("fold 2 0 check 2", FOUR_ROWS, "ok 2\n"),
+        ("fold 2 0 check 0", "9\n", "ok 0\n"),
+        ("fold 2 0 check 02", "1\n2\n3\n", "ok 2\n"),
+    ] {
+        assert_eq!(rt;
+            printed(rt.alloc(), words, input)?.as_str(),
+            want,
+            "{words}"
+        );
+    }
+    Ok(())
+}
+
+#[test]
+fn tells_what_the_tree_refuses(rt: HostRuntime) -> Result<(), Fail> {
+    let empty = "empty batch: attempted to open an empty batch with no committed matrices (1, 0)";
+    for (words, input, want) in [
+        (
+            "fold 2 0 check 9",
+            FOUR_ROWS,
+            "index out of bounds: index 9 exceeds max height 4 (1, 0)",
+        ),
+        (
+            "fold 2 0 check 4",
+            FOUR_ROWS,
+            "index out of bounds: index 4 exceeds max height 4 (1, 0)",
+        ),
+        ("fold 2 0 commit", "", empty),
+        ("fold 2 0 commit", "\n \t\r\n", empty),
+        ("fold 2 0 check 9", "", empty),
+    ] {
+        assert_eq!(rt;
+            printed(rt.alloc(), words, input)?.as_str(),
+            want,
+            "{words}"
+        );
+    }
+    Ok(())
+}
+
+#[test]
+fn refuses_other_words(rt: HostRuntime) -> Result<(), Fail> {
+    let usage = "usage: mmcs fold|sha256 2|4|8 CAP commit|open I..|check I.. (2, 0)";
+    for words in [
+        "",
+        "fold",
+        "fold 2 0",
+        "Fold 2 0 commit",
+        "sha256 2 0 commit",
+        "fold 4 0 commit",
+        "fold 02 0 commit",
+        "fold 2 1 commit",
+        "fold 2 x commit",
+        "fold 2  commit",
+        "fold 2 +0 commit",
+        "fold 2 0 open 1",
+        "fold 2 0 commit 1",
+        "fold 2 0 check",
+        "fold 2 0 check 1 2",
+        "fold 2 0 check -1",
+        "fold 2 0 check +1",
+        "fold 2 0 check 18446744073709551616",
+    ] {
+        assert_eq!(rt;
+            printed(rt.alloc(), words, "x\n")?.as_str(),
+            usage,
+            "{words}"
+        );
+    }
+    Ok(())
+}
+
+#[test]
+fn refuses_other_input(rt: HostRuntime) -> Result<(), Fail> {
+    for input in [
+        "1\nx\n",
+        "-1\n",
+        "+1\n",
+        "1.5\n",
+        "1,2\n",
+        "4294967296\n",
+        "1 2\n3\n",
+        "1\n2 3\n",
+        "1\r\r\n",
+        "1\n\n2\n",
+    ] {
+        assert_eq!(rt;
+            printed(rt.alloc(), "fold 2 0 commit", input)?.as_str(),
+            "bad input (1, 0)",
+            "{input:?}"
+        );
+    }
+    Ok(())
+}
+
+/// Gives one row, and fails at the second read.
+#[derive(Drop)]
+struct FailingReader {
+    begun: bool,
+}
+
+impl Read for FailingReader {
+    fn read(&mut self, buf: &mut [u8]) -> io::Result<usize> {
+        if self.begun || buf.len() < 2 {
+            return Err(Error::from(ErrorKind::ConnectionReset));
+        }
+        self.begun = true;
+        buf[0] = b'1';
+        buf[1] = b'\n';
+        Ok(2)
+    }
+}
+
+/// Takes one byte, and fails at the second write.
+#[derive(Drop)]
+struct FailingWriter {
+    begun: bool,
+}
+
+impl Write for FailingWriter {
+    fn write(&mut self, buf: &[u8]) -> io::Result<usize> {
+        if self.begun || buf.is_empty() {
+            return Err(Error::from(ErrorKind::StorageFull));
+        }
+        self.begun = true;
+        Ok(1)
+    }
+
+    fn flush(&mut self) -> io::Result<()> {
+        Ok(())
+    }
+}
+
+#[test]
+fn tells_of_failed_streams(rt: HostRuntime) -> Result<(), Fail> {
+    let alloc = rt.alloc();
+    let words = words_of(alloc, "fold 2 0 commit")?;
+    let mut output = Vec::new(alloc);
+    let mut reader = FailingReader { begun: false };
+    let unread = run(alloc, &words, &mut reader, &mut output);
+    assert_eq!(rt; unread.map_err(|fault| fault.status()), Err(1));
+    assert!(rt; output.is_empty());
+    let mut writer = FailingWriter { begun: false };
+    let unwritten = run(alloc, &words, &mut FOUR_ROWS.as_bytes(), &mut writer);
+    assert_eq!(rt;
+        format!(in alloc; "{unwritten:?}")?.as_str(),
+        "Err(BadInput)"
+    );
+    Ok(())
+}

@@ -1,0 +1,35 @@
+//! The printed text.
+
+ghost use Rattle.std.specs.Prelude.{◌≡◌, ◌++◌, IfOk, OnOk, flat_map, string_bytes};
+ghost use Rattle.mmcs.specs.Text.{hex_word, hex_line, ok_line};
+
+use std::alloc::{AllocError, Global};
+
+/// A line for each digest: its words in lower case hexadecimal, eight digits each.
+pub fn hex_lines<const D: usize>(alloc: Global, digests: &[[u32; D]]) -> Result<String, AllocError>
+    ensures { IfOk result (λ text. string_bytes text ≡ flat_map hex_line digests.now) }
+{
+    let mut text = String::new(alloc);
+    for digest in digests {
+        push_hex(&mut text, digest)?;
+        text.push('\n')?;
+    }
+    Ok(text)
+}
+
+/// Appends the words of a digest in lower case hexadecimal, eight digits each.
+fn push_hex(text: &mut String, words: &[u32]) -> Result<(), AllocError>
+    ensures { OnOk result (string_bytes text.new ≡ string_bytes text.old ++ flat_map hex_word words.now) }
+{
+    for word in words {
+        write!(text, "{word:08x}")?;
+    }
+    Ok(())
+}
+
+/// The line that tells of an accepted opening with so many siblings.
+pub fn make_ok_line(alloc: Global, siblings: usize) -> Result<String, AllocError>
+    ensures { IfOk result (λ text. string_bytes text ≡ ok_line siblings) }
+{
+    format!(in alloc; "ok {siblings}\n")
+}
