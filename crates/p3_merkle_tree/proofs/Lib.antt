@@ -3,7 +3,6 @@ pub mod LevelFacts
 pub mod LayerFacts
 pub mod BuildFacts
 pub mod TreeFacts
-pub mod OpenedFacts
 pub mod ReachFacts
 pub mod VerdictFacts
 pub mod RowFacts

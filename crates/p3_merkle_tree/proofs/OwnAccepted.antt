@@ -13,6 +13,7 @@ use Rattle.p3_merkle_core.proofs.Accepted.{honest_accepted}
 use Rattle.p3_merkle_tree.specs.Paths.{own_group, own_siblings}
 use Rattle.p3_merkle_tree.proofs.LayerFacts.{part_made}
 
+-- the siblings of one level are the honest ones
 group_same : {T W : Type 0} (f : Functions T W) (b : Batch T) (own : List (List (List W))) (t i l : ℕ) → IsHonest b t i → own ≡ layers f b → l < t →
     own_group (shape b) own i l ≡ honest_group f b i l
 group_same f b own t i l w is h =
@@ -33,6 +34,7 @@ own_is_honest : {T W : Type 0} (f : Functions T W) (b : Batch T) (own : List (Li
     own_siblings (shape b) own t i ≡ honest_siblings f b t i
 own_is_honest f b own t i w is = joined_same (own_group (shape b) own i) (honest_group f b i) t (λ l h. group_same f b own t i l w is h)
 
+-- so the opening is accepted
 pub own_accepted : {T W : Type 0} (f : Functions T W) (b : Batch T) (own : List (List (List W))) (t i : ℕ) (rows : List (List T)) (siblings : List (List W)) →
     IsArity b.arity → IsLawful (heights (shape b)) → i < tallest (heights (shape b)) → t ≤ levels (shape b) → HasFullRows b → own ≡ layers f b →
     rows ≡ honest_rows b i → siblings ≡ own_siblings (shape b) own t i → IsAccepted f (shape b) t (layer f b t) (opening_of i rows siblings)

@@ -15,6 +15,7 @@ use Rattle.p3_merkle_tree.proofs.TreeFacts.{layer_long}
 pub steps_count : (s : Shape) (taken : List ℕ) → taken ≡ arity_schedule s → length taken ≡ levels s
 steps_count s taken e = ap length e ∙ length-map-range_with_len (step s) 0 (levels s)
 
+-- each is the step of its level
 pub step_of : (s : Shape) (taken : List ℕ) (l n : ℕ) → taken ≡ arity_schedule s → l < levels s → n ≡ get_or taken l n → n ≡ step s l
 step_of s taken l n e h is =
     let long = steps_count s taken e in
@@ -28,6 +29,7 @@ pub record IsGroup (s : Shape) (i l n node len : ℕ) : Type 0 where
   pub starts : node - node % n ≡ step s l * ancestor s (suc l) i
   pub fits : node - node % n + n ≤ len
 
+-- the group lies within its layer
 pub group_is : (s : Shape) (i l n node len : ℕ) → IsArity s.arity → IsLawful (heights s) → i < tallest (heights s) → l < levels s →
     node ≡ ancestor s l i → n ≡ step s l → len ≡ layer_len s l → IsGroup s i l n node len
 group_is s i l n node len w lawful below h at is long =
@@ -40,6 +42,7 @@ group_is s i l n node len w lawful below h at is long =
     let next : n * (node / n + 1) ≡ n * (node / n) + n = omega arith in
     record { is_step = is; at_node = at; wide = two; starts = start ∙ rw (up, ← is) refl; fits = omega arith }
 
+-- the same from the facts of a tree: its layers have their lengths, and its steps are the shape's
 pub group_at_level : {V : Type 0} (len : V → ℕ) (layers : List V) (taken : List ℕ) (s : Shape) (i l t n node : ℕ) (layer : V) → IsArity s.arity → IsLawful (heights s) →
     map len layers ≡ map (layer_len s) (range_with_len 0 (suc (levels s))) → taken ≡ arity_schedule s → i < tallest (heights s) → t ≤ levels s → l < t →
     node ≡ ancestor s l i → n ≡ get_or taken l n → layer ≡ get_or layers l layer → IsGroup s i l n node (len layer)

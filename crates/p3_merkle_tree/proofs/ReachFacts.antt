@@ -1,5 +1,5 @@
 -- A check of one opening, level by level.
-use Rattle.std.proofs.Common.{◌≡◌, ℕ, zero, suc, ◌+◌, ◌-◌, ◌/◌, ◌%◌, ◌<◌, ◌≤◌, cond, eqb, List, ap, sym, ◌∙◌, arith, length, take, drop, insert, zip, add-one, add-suc, length-take, length-drop}
+use Rattle.std.proofs.Common.{◌≡◌, ℕ, zero, suc, ◌+◌, ◌-◌, ◌/◌, ◌%◌, ◌<◌, ◌≤◌, cond, eqb, List, ap, sym, ◌∙◌, arith, take, drop, insert, zip, add-one, add-suc}
 use Rattle.std.specs.List.{list_any}
 use Rattle.std.proofs.lemmas.Bool.{cond_both}
 use Rattle.p3_merkle_core.specs.Geometry.{Shape, layer_exponent, is_bridge, exponent, step, ancestor, tallest, heights}
@@ -44,6 +44,7 @@ reach_more f s o l x node used n y digest next w is_step is_y is_next =
       taken = rw (add-one, is_step, w.taken) (sym (siblings_next s l));
     }
 
+-- more levels have more siblings
 siblings_mono : (s : Shape) (l k : ℕ) → siblings_below s l ≤ siblings_below s (l + k)
 siblings_mono s l zero = let z : l + 0 ≡ l = omega arith in rw z (omega arith)
 siblings_mono s l (suc k) = rw (add-suc, siblings_next s (l + k)) (omega (arith, siblings_mono s l k))
@@ -55,6 +56,7 @@ pub record IsTurn (s : Shape) (l n all : ℕ) : Type 0 where
   pub narrow : n ≤ s.arity
   pub within : siblings_below s l + (n - 1) ≤ all
 
+-- a level below layer t is such a turn
 pub turn_at : (s : Shape) (t l x n all : ℕ) → 2 ≤ s.arity → CanReach s t all → l < t → x ≡ layer_exponent s l → n ≡ cond (is_bridge s x) 2 s.arity → IsTurn s l n all
 turn_at s t l x n all two w h at e =
     let is : n ≡ step s l = step_at s l x n at e in
@@ -66,11 +68,3 @@ turn_at s t l x n all two w h at e =
       narrow = rw is (cond_both (is_bridge s (layer_exponent s l)) 2 s.arity (λ x. x ≤ s.arity) (λ t. two) (λ t. omega arith));
       within = omega (arith, more, siblings_next s l, is, w.all_siblings);
     }
-
--- how many siblings the code takes for one level
-pub taken_at : {X : Type 0} (s : Shape) (siblings : List X) (l n used : ℕ) → IsTurn s l n (length siblings) → used ≡ siblings_below s l →
-    length (take (used + (n - 1) - used) (drop used siblings)) ≡ n - 1
-taken_at s siblings l n used t e =
-    let i = t.within in
-    let w = t.wide in
-    simp (length-take, length-drop) (omega arith)

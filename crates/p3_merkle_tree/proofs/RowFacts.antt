@@ -14,11 +14,13 @@ pub few_halvings : (hs : List ℕ) (h : ℕ) → IsLawful hs → bits_reduced (t
 few_halvings hs h w = omega (arith, exponent_le (tallest hs) 62 (lawful_fits hs w))
 
 module _ {T M : Type 0} (height width : M → ℕ) (row : M → ℕ → List T) (n : ℕ) where
+  -- the heights of a batch, read in input order
   height_read : (ms : List M) (k : ℕ) (m : M) → k < length ms → get_or (heights (shape (batch_of height width row n ms))) k (height m) ≡ height (get_or ms k m)
   height_read [] k m h = absurd (omega arith)
   height_read (x ∷ ms) zero m h = refl
   height_read (x ∷ ms) (suc k) m h = height_read ms k m (omega arith)
 
+  -- they are as many as the matrices
   heights_count : (ms : List M) → length (heights (shape (batch_of height width row n ms))) ≡ length ms
   heights_count [] = refl
   heights_count (x ∷ ms) = ap suc (heights_count ms)
@@ -32,6 +34,7 @@ module _ {T M : Type 0} (height width : M → ℕ) (row : M → ℕ → List T) 
       let many = heights_count ms in
       row_below s (height m) i (rw same at (w.on_ladder k (height m) (omega arith))) below
 
+  -- a row of each matrix, read in input order
   picked_read : (pick : ℕ → ℕ) (ms : List M) (k : ℕ) (m : M) → k < length ms →
       get_or (map (λ x. x.row (pick x.height)) (map (matrix_of height width row) ms)) k (row m (pick (height m))) ≡ row (get_or ms k m) (pick (height (get_or ms k m)))
   picked_read pick [] k m h = absurd (omega arith)

@@ -13,6 +13,7 @@ use Rattle.p3_merkle_core.proofs.Verdicts.{accepted_from, accepted_answer}
 pub lawful_fits : (hs : List ℕ) → IsLawful hs → tallest hs ≤ max_height
 lawful_fits hs w = tallest_fits hs (none_large_from_lawful hs w)
 
+-- there is one Ok
 ok_is : {E : Type 0} (r : Result (Unit {0}) E) → IsOk r → r ≡ Ok tt
 ok_is (Ok x) h = refl
 ok_is (Err e) h = absurd cc

@@ -42,7 +42,8 @@ impl<P: PackedValue, PW: PackedValue, H: Clone, C: Clone, X: Clone, G: Clone, co
     for Scheme<P, PW, H, C, X, G, N> {
     ghost use Rattle.p3_merkle_tree.specs.Schemes.{cap_height_of, compression_of, hash_of};
 
-    ghost is_clone = { λ s t. H.is_clone (hash_of s) (hash_of t) × C.is_clone (compression_of s) (compression_of t) ×
+    ghost is_clone = { λ s t. H.is_clone (hash_of s) (hash_of t) ×
+        C.is_clone (compression_of s) (compression_of t) ×
         (cap_height_of t ≡ cap_height_of s) };
 
     ghost is_infallible = { λ s. H.is_infallible (hash_of s) × C.is_infallible (compression_of s) };
@@ -133,7 +134,8 @@ impl<
             IfOk result (λ (cap, tree). layers_of tree ≡ layers f b) }
         ensures cap { let f = scheme_functions H.hash C.compression D self.now in
             let b = batch_of M.height_of M.width_of M.row_of N matrices.items in
-            IfOk result (λ (cap, tree). roots_of cap ≡ layer f b (cap_layer (shape b) (cap_height_of self.now))) }
+            let t = cap_layer (shape b) (cap_height_of self.now) in
+            IfOk result (λ (cap, tree). roots_of cap ≡ layer f b t) }
     {
         let tree = MerkleTree::<P::Value, PW::Value, M, N, D>::new::<P, PW, H, C>(
             alloc,
@@ -163,7 +165,8 @@ impl<
         tree: &MerkleTree<P::Value, PW::Value, M, N, D>,
     ) -> Result<BatchOpening<P::Value, Vec<[PW::Value; D]>>, MerkleTreeError>
         requires { index < tallest (heights (shape (tree_batch tree.now))) }
-        ensures rows { IfOk result (λ o. rows_in o.opened_values.items ≡ honest_rows (tree_batch tree.now) index) }
+        ensures rows { let rows = honest_rows (tree_batch tree.now) index in
+            IfOk result (λ o. rows_in o.opened_values.items ≡ rows) }
         ensures siblings { let s = shape (tree_batch tree.now) in
             let t = cap_layer s (cap_height_of self.now) in
             IfOk result (λ o. o.opening_proof.items ≡ own_siblings s (layers_of tree.now) t index) }
@@ -175,9 +178,11 @@ impl<
         ensures memory { IfErr result (λ e. e ≡ OutOfMemory) }
     {
         let proof_levels = tree.num_levels().saturating_sub(self.cap_height);
+        let opened_values = tree.rows_at(alloc, index)?;
+        let opening_proof = tree.siblings(alloc, index, proof_levels)?;
         Ok(BatchOpening {
-            opened_values: tree.rows_at(alloc, index)?,
-            opening_proof: tree.siblings(alloc, index, proof_levels)?,
+            opened_values,
+            opening_proof,
         })
     }
 
@@ -209,11 +214,13 @@ impl<
         ensures answer { let f = scheme_functions H.hash C.compression D self.now in
             let s = shape_of N dimensions.now in
             let t = cap_layer s (cap_height_of self.now) in
-            result ≡ answer_under PW.Value.eq f s t (roots_of commit.now) (opening_lent index opening.entry) }
+            result ≡ answer_under PW.Value.eq f s t (roots_of commit.now)
+            (opening_lent index opening.entry) }
         ensures accepted { let f = scheme_functions H.hash C.compression D self.now in
             let s = shape_of N dimensions.now in
             let t = cap_layer s (cap_height_of self.now) in
-            IsOk result ↔ IsAccepted f s t (roots_of commit.now) (opening_lent index opening.entry) }
+            IsOk result ↔
+            IsAccepted f s t (roots_of commit.now) (opening_lent index opening.entry) }
     {
         self.check_opening(commit, dimensions, index, opening)
     }

@@ -41,7 +41,8 @@ impl<F: Copy, X: Copy, G, M: Matrix<F>, const N: usize> Tree<F, X, G, M, N> {
         index: usize,
     ) -> Result<Vec<Vec<F>>, MerkleTreeError>
         requires { index < tallest (heights (shape (tree_batch self.now))) }
-        ensures rows { IfOk result (λ rows. rows_in rows.items ≡ honest_rows (tree_batch self.now) index) }
+        ensures rows { let honest = honest_rows (tree_batch self.now) index in
+            IfOk result (λ rows. rows_in rows.items ≡ honest) }
         ensures memory { IfErr result (λ e. e ≡ OutOfMemory) }
     {
         let max_height = self.max_height();
@@ -100,7 +101,8 @@ fn extend_with_others<X: Copy>(
     position: usize,
 ) -> Result<(), MerkleTreeError>
     requires { position < length group.now }
-    ensures others { IfOk result (λ done. siblings.new.items ≡ siblings.old.items ++ remove group.now position) }
+    ensures others { let others = remove group.now position in
+        IfOk result (λ done. siblings.new.items ≡ siblings.old.items ++ others) }
     ensures memory { IfErr result (λ e. e ≡ OutOfMemory) }
 {
     siblings.extend_from_slice(&group[..position])?;

@@ -75,7 +75,8 @@ impl<
         rows: &[Vec<P::Value>],
         x: usize,
     ) -> [PW::Value; D]
-        ensures { result ≡ H.hash (hash_of self.now) (rows_with x (zip (heights_of dimensions.now) (rows_in rows.now))) }
+        ensures { let rows = zip (heights_of dimensions.now) (rows_in rows.now) in
+            result ≡ H.hash (hash_of self.now) (rows_with x rows) }
     {
         self.hash.hash_iter(opened_rows(dimensions, rows, x))
     }
@@ -96,7 +97,8 @@ impl<
         ensures { let f = scheme_functions H.hash C.compression D self.now in
             let heights = heights_of dimensions.now in
             let has_rows = list_any (λ h. exponent h == x) heights in
-            result ≡ climbed f N x (zip heights (rows_in rows.now)) has_rows (insert others.now position digest) }
+            let group = insert others.now position digest in
+            result ≡ climbed f N x (zip heights (rows_in rows.now)) has_rows group }
     {
         let default_digest = [PW::Value::default(); D];
         let group = group_with::<PW::Value, N, D>(default_digest, digest, position, others);
@@ -158,7 +160,8 @@ impl<
         ensures { let f = scheme_functions H.hash C.compression D self.now in
             let s = shape_of N dimensions.now in
             let t = cap_layer s (cap_height_of self.now) in
-            result ≡ answer_under PW.Value.eq f s t (roots_of commit.now) (opening_lent index opening.entry) }
+            result ≡ answer_under PW.Value.eq f s t (roots_of commit.now)
+            (opening_lent index opening.entry) }
     {
         let rows = opening.opened_values;
         let siblings = opening.opening_proof;
@@ -174,7 +177,8 @@ impl<
 
 /// Whether the entry `node` of some roots is this digest.
 fn is_entry<X: PartialEq>(roots: &[X], node: usize, digest: &X) -> bool
-    ensures { result ≡ unwrap_or (option_map (λ root. X.eq root digest.now) (slice_get roots.now node)) false }
+    ensures { let test = option_map (λ root. X.eq root digest.now) (slice_get roots.now node) in
+        result ≡ unwrap_or test false }
 {
     match roots.get(node) {
         Some(root) => *root == *digest,

@@ -11,17 +11,17 @@ use Rattle.p3_merkle_tree.proofs.mmcs.MerkleTreeMmcs+P+PW+H+C+N+D.open_batch.Goa
 pub siblings-requires : goal.siblings-requires
 siblings-requires g c =
     let few = c.num_levels.ensures in
-    (omega arith, (c.requires, omega arith))
+    (omega arith, (omega arith, omega arith))
 
 pub returns-clause-siblings : goal.returns-clause-siblings
-returns-clause-siblings g c = rw (← c.num_levels.ensures, ← c.saturating_sub-proof_levels.ensures) c.in_ok-siblings.ensures.siblings
+returns-clause-siblings g c = rw (← c.num_levels.ensures, ← c.saturating_sub-proof_levels.ensures) c.in_ok-opening_proof.ensures.siblings
 
 pub returns-clause-accepted : goal.returns-clause-accepted
 returns-clause-accepted g c =
     let tree = c.args.tree.now in
     let b = tree_batch tree in
     λ own. own_accepted (scheme_functions g.H.CryptographicHasher.hash g.C.PseudoCompressionFunction.compression g.row.D c.args.self.now) b (layers_of tree)
-    (cap_layer (shape b) (cap_height_of c.args.self.now)) c.args.index (rows_in c.in_ok-rows_at.field-0.items) c.in_ok-siblings.field-0.items
+    (cap_layer (shape b) (cap_height_of c.args.self.now)) c.args.index (rows_in c.in_ok-opened_values.opened_values.items) c.in_ok-opening_proof.opening_proof.items
     tree.arity tree.lawful c.requires (omega arith)
     (full_rows g.M.Matrix.height_of g.M.Matrix.width_of g.M.Matrix.row_of g.row.N g.met.M.Matrix.length_row_of tree.matrices.items)
-    own c.in_ok-rows_at.ensures.rows (returns-clause-siblings g c)
+    own c.in_ok-opened_values.ensures.rows (returns-clause-siblings g c)
