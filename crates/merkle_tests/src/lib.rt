@@ -1,0 +1,18 @@
+//! Tests of the trees, the scheme and the geometry together: values that were worked out by hand, every refusal, the
+//! texts of the errors, and generic code called at concrete types.
+#![tactic(auto)]
+
+#[cfg(test)]
+mod commitments;
+#[cfg(test)]
+mod fixtures;
+#[cfg(test)]
+mod generic;
+#[cfg(test)]
+mod openings;
+#[cfg(test)]
+mod refusals;
+#[cfg(test)]
+mod shapes;
+#[cfg(test)]
+mod texts;
