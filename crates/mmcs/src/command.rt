@@ -1,6 +1,6 @@
 //! Commands, from the words after the program's name.
 
-ghost use Rattle.std.specs.Prelude.{◌≡◌, IfNone, IfSome, IsSome};
+ghost use Rattle.std.specs.Prelude.{IfNone, IfSome};
 ghost use Rattle.mmcs.specs.Words.{texts_of, AreWords, AreActionWords};
 
 use crate::number::parse_number;
@@ -8,14 +8,15 @@ use crate::number::parse_number;
 /// What the program does with the matrices of its input.
 #[derive(Clone, Copy, Debug, PartialEq, Eq)]
 pub enum Command {
-    /// Prints the cap.
+    /// Writes the cap.
     Commit,
-    /// Opens this index of the tree, verifies the opening, and prints how many siblings it has.
+    /// Opens this index of the tree, verifies the opening, and writes how many siblings it has.
     Check(usize),
 }
 
 impl Command {
-    /// The command of the words, if they are one.
+    /// The command of the words after the program's name, if they are one: `fold`, `2`, a cap height of value 0, and
+    /// `commit`, or `check` and an index that fits usize. Numbers are one or more ASCII digits.
     pub fn from_words(words: &[String]) -> Option<Command>
         ensures found { IfSome result (AreWords (texts_of words.now)) }
         ensures none { IfNone result ((command : Command) → AreWords (texts_of words.now) command → ⊥) }

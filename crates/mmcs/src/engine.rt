@@ -1,7 +1,7 @@
 //! From words and an input to an output.
 
-ghost use Rattle.std.specs.Prelude.{◌≡◌, ◌⊎◌, ◌↔◌, ◌≤◌, ◌^◌, ℕ, List, [], ◌∷◌, length, map, flat_map, Some, None, Ok, Err, IfOk, IfErr, IfSome, OnOk, OnErr, MatchResult, string_bytes};
-ghost use Rattle.std.specs.Io.KnownBytes.{Appends, Keeps};
+ghost use Rattle.std.specs.Prelude.{◌≡◌, ◌⊎◌, ◌↔◌, ◌≤◌, ◌^◌, ℕ, List, length, map, flat_map, Some, None, Ok, Err, IfOk, IfErr, IfSome, OnOk, OnErr, string_bytes};
+ghost use Rattle.std.specs.Io.KnownBytes.{Appends};
 ghost use Rattle.p3_support.specs.RowMajor.{row_width, rows_in};
 ghost use Rattle.p3_merkle_core.specs.Gate.{gate_refusal};
 ghost use Rattle.p3_merkle_core.specs.Geometry.{cap_layer, heights, tallest};
@@ -22,7 +22,7 @@ use crate::command::Command;
 use crate::fault::Fault;
 use crate::input::read_matrices;
 use crate::scheme::{commit, open, verify};
-use crate::text::{hex_lines, make_ok_line};
+use crate::text::{hex_lines, ok_line};
 use p3_merkle_core::geometry::tallest_of;
 use p3_merkle_tree::MerkleTreeError;
 use p3_support::matrix::{Dimensions, Matrix, RowMajorMatrix};
@@ -30,6 +30,18 @@ use std::alloc::{AllocError, Global};
 use std::io::{self, ErrorKind, Read, Write};
 
 /// Answers the words after the program's name: reads the whole input, and writes the output once all else has succeeded.
+///
+/// The words are a command, as [`Command::from_words`] reads them, and the lines of the input are the rows of one
+/// matrix at most, as [`read_matrices`] reads them. `commit` writes the cap of the matrices' tree, a line for each
+/// digest; `check` opens an index, verifies the opening and writes `ok` and how many siblings it has. A stream is
+/// lent, so that what it has left or holds can be told of.
+///
+/// # Errors
+///
+/// - `Usage`: the words are no command. Nothing was read.
+/// - `BadInput`: a read or a write failed, the lines are no matrices, or there is a second matrix.
+/// - `Tree`: why the tree refuses the heights; else `IndexOutOfBounds`, for an index that is not below the tallest
+///   height; or `OutOfMemory`, at any time.
 pub fn run<Src: Read, Dst: Write>(
     alloc: Global,
     words: &[String],
@@ -162,6 +174,6 @@ fn check_text(
     }
     let opening = open(alloc, index, &tree)?;
     verify(&cap, &dimensions, index, &opening)?;
-    let text = make_ok_line(alloc, opening.opening_proof.len())?;
+    let text = ok_line(alloc, opening.opening_proof.len())?;
     Ok(text)
 }

@@ -1,6 +1,6 @@
 //! Why the program stops short.
 
-ghost use Rattle.std.specs.Prelude.{◌≡◌, if◌then◌else◌};
+ghost use Rattle.std.specs.Prelude.{◌≡◌};
 ghost use Rattle.p3_merkle_core.specs.declared.error.MerkleTreeError.TheVariants.{OutOfMemory};
 ghost use Rattle.mmcs.specs.declared.fault.Fault.TheVariants.{Tree};
 ghost use Rattle.mmcs.specs.Faults.{status_of};

@@ -1,7 +1,6 @@
 //! Matrices, from the bytes of an input.
 
-ghost use Rattle.std.specs.Prelude.{◌≡◌, ◌≢◌, ℕ, ◌*◌, ◌^◌, ◌<◌, ◌⊎◌, false, List, [], ◌∷◌, ◌++◌, map, flat_map, length, All, IfOk, IfErr, IfSome, IfNone, OnOk};
-ghost use Rattle.std.specs.List.{AllZip};
+ghost use Rattle.std.specs.Prelude.{◌≡◌, ℕ, ◌*◌, ◌^◌, ◌<◌, ◌⊎◌, false, List, [], ◌∷◌, ◌++◌, map, length, All, IfOk, IfErr, IfSome, IfNone, OnOk};
 ghost use Rattle.std.specs.Option.{SomeIff};
 ghost use Rattle.std.specs.Str.Lines.{strip_carriage_return};
 ghost use Rattle.std.specs.Str.Parse.{digits_value};
@@ -10,7 +9,7 @@ ghost use Rattle.mmcs.specs.declared.fault.Fault.TheVariants.{BadInput, Tree};
 ghost use Rattle.mmcs.specs.Numbers.{IsNumberBelow};
 ghost use Rattle.mmcs.specs.Input.{is_gap, is_blank, numerals_of, row_of, StandsFor};
 ghost use Rattle.mmcs.specs.Blocks.{IsBlock, IsRefused};
-ghost use Rattle.mmcs.specs.Matrices.{matrix_of_rows, batch_of_rows, stored_batch};
+ghost use Rattle.mmcs.specs.Matrices.{batch_of_rows, stored_batch};
 
 use crate::fault::Fault;
 use crate::number::parse_number;
@@ -50,7 +49,7 @@ fn parse_word(digits: &[u8]) -> Option<u32>
     u32::try_from(parse_number(digits)?).ok()
 }
 
-/// Appends the numbers of a line, and says how many there are.
+/// Appends the numbers of a line, and says how many there are. A part that is no number is bad input.
 fn append_row(values: &mut Vec<u32>, line: &[u8]) -> Result<usize, Fault>
     ensures values { OnOk result (values.new.items ≡ values.old.items ++ row_of line.now) }
     ensures count { IfOk result (λ count. count ≡ length (row_of line.now)) }
@@ -78,6 +77,7 @@ struct Block {
 }
 
 impl Block {
+    /// No rows.
     fn new(alloc: Global) -> Block
         ensures { IsBlock [] result.values.items result.width }
     {
@@ -87,7 +87,7 @@ impl Block {
         }
     }
 
-    /// Appends a line as a row.
+    /// Appends a line that is not blank as a row. One of another width than the rows before it is bad input.
     fn push_row(&mut self, line: &[u8]) -> Result<(), Fault>
         requires full { is_blank line.now ≡ false }
         ensures row { (lines : List (List ℕ)) → IsBlock lines self.old.values.items self.old.width → OnOk result (IsBlock (lines ++ line.now ∷ []) self.new.values.items self.new.width) }
@@ -122,7 +122,16 @@ impl Block {
     }
 }
 
-/// The matrices that the lines of an input stand for.
+/// The matrices that the lines of an input stand for, in order.
+///
+/// A line feed, with a carriage return before it or not, ends a line, and may be missing at the end. A line of spaces
+/// and tabs alone, or empty, is blank: one or more of these end a matrix, and are ignored before the first and after
+/// the last. Any other line is a row of numbers from 0 to 2^32 - 1 in decimal, with spaces or tabs between them; the
+/// rows of a matrix have equally many.
+///
+/// # Errors
+///
+/// `BadInput` where a line is no row of its matrix; `OutOfMemory`.
 pub fn read_matrices(alloc: Global, input: &[u8]) -> Result<Vec<RowMajorMatrix<u32>>, Fault>
     ensures matrices { IfOk result (λ found. (matrices : List (List (List ℕ))) × StandsFor (2 ^ 32) input.now matrices × (stored_batch found.items ≡ batch_of_rows matrices)) }
     ensures fault { IfErr result (λ fault. (fault ≡ Tree OutOfMemory) ⊎ ((fault ≡ BadInput) × ((matrices : List (List (List ℕ))) → StandsFor (2 ^ 32) input.now matrices → ⊥))) }

@@ -28,7 +28,7 @@ fn push_hex(text: &mut String, words: &[u32]) -> Result<(), AllocError>
 }
 
 /// The line that tells of an accepted opening with so many siblings.
-pub fn make_ok_line(alloc: Global, siblings: usize) -> Result<String, AllocError>
+pub fn ok_line(alloc: Global, siblings: usize) -> Result<String, AllocError>
     ensures { IfOk result (λ text. string_bytes text ≡ ok_line siblings) }
 {
     format!(in alloc; "ok {siblings}\n")
