@@ -9,14 +9,14 @@ use Rattle.p3_merkle_core.specs.Nodes.{Matrix, Batch}
 abbrev pub matrix_of_rows : List (List ℕ) → Matrix ℕ
 matrix_of_rows rows = record { height = length rows; width = length (slice_index_or rows 0 []); row = λ r. slice_index_or rows r [] }
 
--- the matrices of a batch, each by its rows, under the arity 2
-abbrev pub batch_of_rows : List (List (List ℕ)) → Batch ℕ
-batch_of_rows matrices = record { arity = 2; matrices = map matrix_of_rows matrices }
+-- the matrices of a batch, each by its rows, under an arity
+abbrev pub batch_of_rows : ℕ → List (List (List ℕ)) → Batch ℕ
+batch_of_rows arity matrices = record { arity = arity; matrices = map matrix_of_rows matrices }
 
 -- a stored matrix, by what its type says of it
 abbrev pub stored_matrix : RowMajorMatrix ℕ → Matrix ℕ
 stored_matrix m = record { height = rows_in m; width = row_width m; row = λ r. message (row_width m) (values_of m) r }
 
--- stored matrices under the arity 2
-abbrev pub stored_batch : List (RowMajorMatrix ℕ) → Batch ℕ
-stored_batch stored = record { arity = 2; matrices = map stored_matrix stored }
+-- stored matrices under an arity
+abbrev pub stored_batch : ℕ → List (RowMajorMatrix ℕ) → Batch ℕ
+stored_batch arity stored = record { arity = arity; matrices = map stored_matrix stored }

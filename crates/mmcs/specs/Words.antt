@@ -1,23 +1,46 @@
 -- The words of a command.
-use Rattle.std.specs.Prelude.{◌≡◌, ℕ, ◌^◌, List, [], ◌∷◌, codes, String, string_bytes, map}
+use Rattle.std.specs.Prelude.{◌≡◌, ℕ, ◌^◌, ◌==◌, ◌||◌, Bool, List, [], ◌∷◌, codes, String, string_bytes, map}
 use Rattle.std.specs.Str.Parse.{digits_value}
 use Rattle.mmcs.specs.Numbers.{IsNumberBelow}
+use Rattle.mmcs.specs.declared.command.Action.{Action}
+use Rattle.mmcs.specs.declared.command.Action.TheVariants.{Commit, Check}
+use Rattle.mmcs.specs.declared.command.Arity.{Arity}
+use Rattle.mmcs.specs.declared.command.Arity.TheVariants.{Two, Four, Eight}
 use Rattle.mmcs.specs.declared.command.Command.{Command}
-use Rattle.mmcs.specs.declared.command.Command.TheVariants.{Commit, Check}
 
 -- the texts of some words
 abbrev pub texts_of : {A : Type 0} → List (String A) → List (List ℕ)
 texts_of words = map string_bytes words
 
--- the words that name the action: `commit`, or `check` and an index
-abbrev pub AreActionWords : List (List ℕ) → Command → Type 0
-AreActionWords words Commit = words ≡ codes "commit" ∷ []
-AreActionWords words (Check index) = (digits : List ℕ) × (words ≡ codes "check" ∷ digits ∷ []) × IsNumberBelow (2 ^ 64) digits × (digits_value 10 digits ≡ index)
+-- how many children a node may have
+abbrev pub arity_number : Arity → ℕ
+arity_number Two = 2
+arity_number Four = 4
+arity_number Eight = 8
 
--- the words of a command: `fold`, `2`, a cap height of value 0, and the action
+-- whether a number is one of these
+abbrev pub is_taken_arity : ℕ → Bool
+is_taken_arity n = n == 2 || (n == 4 || n == 8)
+
+-- the word of an arity
+abbrev pub arity_word : Arity → List ℕ
+arity_word Two = codes "2"
+arity_word Four = codes "4"
+arity_word Eight = codes "8"
+
+-- the digits of a number that fits usize
+abbrev pub IsNumberWord : List ℕ → ℕ → Type 0
+IsNumberWord digits number = IsNumberBelow (2 ^ 64) digits × (digits_value 10 digits ≡ number)
+
+-- the words of an action: `commit`, or `check` and an index
+abbrev pub AreActionWords : List (List ℕ) → Action → Type 0
+AreActionWords words Commit = words ≡ codes "commit" ∷ []
+AreActionWords words (Check index) = (digits : List ℕ) × (words ≡ codes "check" ∷ digits ∷ []) × IsNumberWord digits index
+
+-- the words of a command: `fold`, an arity, a cap height, and the action
 pub record AreWords (words : List (List ℕ)) (command : Command) : Type 0 where
   pub cap : List ℕ
   pub action : List (List ℕ)
-  pub spelling : words ≡ codes "fold" ∷ codes "2" ∷ cap ∷ action
-  pub cap_height : IsNumberBelow 1 cap
-  pub action_words : AreActionWords action command
+  pub spelling : words ≡ codes "fold" ∷ arity_word command.arity ∷ cap ∷ action
+  pub cap_word : IsNumberWord cap command.cap_height
+  pub action_words : AreActionWords action command.action
