@@ -1,48 +1,66 @@
 -- What is said of stored matrices is said of the input's.
-use Rattle.std.proofs.Common.{◌≡◌, ℕ, ◌^◌, ◌≤◌, false, cond, ltb, List, [], ◌∷◌, length, map, Some, None, sym, refl, ap, ◌∙◌, subst, arith}
-use Rattle.std.specs.Prelude.{flat_map}
+use Rattle.std.proofs.Common.{◌≡◌, ◌⊎◌, ⊎_elim, inl, inr, ℕ, ◌^◌, ◌≤◌, false, cond, ltb, List, [], ◌∷◌, length, map, Some, None, Result, String, string_bytes, sym, refl, ap, ◌∙◌, subst, arith}
+use Rattle.std.specs.Prelude.{IfOk, IfErr}
 use Rattle.std.specs.Option.{option_or}
 use Rattle.std.proofs.lemmas.Bool.{le-ltb}
-use Rattle.std.proofs.lemmas.List.{length-map}
+use Rattle.std.proofs.lemmas.Result.{IfOk-weaker, IfErr-weaker}
 use Rattle.p3_support.specs.declared.matrix.Dimensions.{Dimensions}
 use Rattle.p3_support.specs.declared.matrix.RowMajorMatrix.{RowMajorMatrix}
 use Rattle.p3_support.specs.RowMajor.{row_width, rows_in}
 use Rattle.p3_merkle_core.specs.Gate.{gate_refusal}
 use Rattle.p3_merkle_core.specs.Geometry.{Shape, cap_layer, heights, tallest}
 use Rattle.p3_merkle_core.specs.Nodes.{Batch, Functions, layer, shape}
-use Rattle.p3_merkle_core.specs.Openings.{siblings_below, IsAccepted, Opening}
-use Rattle.p3_merkle_core.specs.declared.error.MerkleTreeError.TheVariants.{IndexOutOfBounds}
-use Rattle.mmcs.specs.declared.command.Command.TheVariants.{Commit, Check}
+use Rattle.p3_merkle_core.specs.Openings.{IsAccepted, Opening}
+use Rattle.p3_merkle_core.specs.declared.error.MerkleTreeError.{MerkleTreeError}
+use Rattle.p3_merkle_core.specs.declared.error.MerkleTreeError.TheVariants.{IndexOutOfBounds, OutOfMemory}
+use Rattle.mmcs.specs.declared.command.Action.TheVariants.{Check}
+use Rattle.mmcs.specs.declared.command.Command.{Command}
+use Rattle.mmcs.specs.declared.fault.Fault.{Fault}
+use Rattle.mmcs.specs.declared.fault.Fault.TheVariants.{BadInput, Tree}
 use Rattle.mmcs.specs.Input.{StandsFor}
-use Rattle.mmcs.specs.Matrices.{batch_of_rows, matrix_of_rows, stored_batch}
-use Rattle.mmcs.specs.Program.{fold_functions, heights_of_rows, output_of, tree_refusal, IsTaken}
-use Rattle.mmcs.specs.Text.{hex_line, ok_line}
-use Rattle.mmcs.proofs.GateFacts.{gate_passes, taken_from_none}
+use Rattle.mmcs.specs.Matrices.{batch_of_rows, matrix_of_rows, stored_batch, stored_matrix}
+use Rattle.mmcs.specs.Program.{heights_of_rows, output_of, text_of, tree_refusal, IsTaken}
+use Rattle.mmcs.specs.Words.{arity_number}
+use Rattle.mmcs.proofs.GateFacts.{taken_from_none}
 
-module _ (input : List ℕ) (stored : Batch ℕ) (found : (matrices : List (List (List ℕ))) × StandsFor (2 ^ 32) input matrices × (stored ≡ batch_of_rows matrices)) (few : length stored.matrices ≤ 1) where
-  -- the input's matrices are as few as the stored ones
-  count_fits : length found.0 ≤ 1
-  count_fits = omega (arith, few, ap (λ b. length b.matrices) found.2, length-map found.0 matrix_of_rows)
+-- the heights of matrices that are made of rows
+heights_are : (matrices : List (List (List ℕ))) (arity : ℕ) → heights (shape (batch_of_rows arity matrices)) ≡ heights_of_rows matrices
+heights_are [] arity = refl
+heights_are (rows ∷ matrices) arity = ap (λ hs. length rows ∷ hs) (heights_are matrices arity)
 
-  pub commit_answered : (text : List ℕ) → (gate_refusal (heights (shape stored)) ≡ None) × (text ≡ flat_map hex_line (layer fold_functions stored (cap_layer (shape stored) 0))) →
-      (matrices : List (List (List ℕ))) × StandsFor (2 ^ 32) input matrices × (length matrices ≤ 1) × IsTaken Commit (heights_of_rows matrices) × (text ≡ output_of Commit matrices)
-  commit_answered text told =
-      let there = subst (λ (b : Batch ℕ). (gate_refusal (heights (shape b)) ≡ None) × (text ≡ flat_map hex_line (layer fold_functions b (cap_layer (shape b) 0)))) found.2 told in
-      (found.0, found.1, count_fits, gate_passes (heights_of_rows found.0) there.0, there.1)
+module _ (input : List ℕ) (stored : List (RowMajorMatrix ℕ)) (command : Command) (found : (matrices : List (List (List ℕ))) × StandsFor (2 ^ 32) input matrices × (map stored_matrix stored ≡ map matrix_of_rows matrices))
+    (n : ℕ) (n_is : n ≡ arity_number command.arity) where
+  -- the batch is that of the input's matrices
+  batch_is : stored_batch n stored ≡ batch_of_rows (arity_number command.arity) found.0
+  batch_is = λ i. record { arity = n_is i; matrices = found.2 i }
 
-  pub check_answered : (index : ℕ) (text : List ℕ) → (tree_refusal (Check index) (heights (shape stored)) ≡ None) × (text ≡ ok_line (siblings_below (shape stored) (cap_layer (shape stored) 0))) →
-      (matrices : List (List (List ℕ))) × StandsFor (2 ^ 32) input matrices × (length matrices ≤ 1) × IsTaken (Check index) (heights_of_rows matrices) × (text ≡ output_of (Check index) matrices)
-  check_answered index text told =
-      let there = subst (λ (b : Batch ℕ). (tree_refusal (Check index) (heights (shape b)) ≡ None) × (text ≡ ok_line (siblings_below (shape b) (cap_layer (shape b) 0)))) found.2 told in
-      (found.0, found.1, count_fits, taken_from_none (Check index) (heights_of_rows found.0) there.0, there.1)
+  -- and has their heights
+  refusal_is : tree_refusal command.action (heights_of_rows found.0) ≡ tree_refusal command.action (heights (shape (stored_batch n stored)))
+  refusal_is = ap (tree_refusal command.action) (sym (ap (λ (b : Batch ℕ). heights (shape b)) batch_is ∙ heights_are found.0 (arity_number command.arity)))
+
+  -- what is printed of the batch is printed of them
+  pub told_text : {A : Type 0} (result : Result (String A) Fault) →
+      IfOk result (λ text. (tree_refusal command.action (heights (shape (stored_batch n stored))) ≡ None) × (string_bytes text ≡ text_of command.action (stored_batch n stored) (cap_layer (shape (stored_batch n stored)) command.cap_height))) →
+      IfOk result (λ text. (matrices : List (List (List ℕ))) × StandsFor (2 ^ 32) input matrices × IsTaken command.action (heights_of_rows matrices) × (string_bytes text ≡ output_of command matrices))
+  told_text result told =
+      IfOk-weaker result _ _
+      (λ text there. (found.0, found.1, taken_from_none command.action (heights_of_rows found.0) (refusal_is ∙ there.0), there.1 ∙ ap (λ (b : Batch ℕ). text_of command.action b (cap_layer (shape b) command.cap_height)) batch_is))
+      told
+
+  -- what the tree refuses of the batch it refuses of them
+  pub told_fault : {V : Type 0} (result : Result V Fault) →
+      IfErr result (λ fault. (fault ≡ Tree OutOfMemory) ⊎ ((e : MerkleTreeError) × (fault ≡ Tree e) × (tree_refusal command.action (heights (shape (stored_batch n stored))) ≡ Some e))) →
+      IfErr result (λ fault. (fault ≡ Tree OutOfMemory) ⊎ (((fault ≡ BadInput) × ((matrices : List (List (List ℕ))) → StandsFor (2 ^ 32) input matrices → ⊥)) ⊎ ((matrices : List (List (List ℕ))) × (e : MerkleTreeError) × StandsFor (2 ^ 32) input matrices × (fault ≡ Tree e) × (tree_refusal command.action (heights_of_rows matrices) ≡ Some e))))
+  told_fault result told =
+      IfErr-weaker result _ _ (λ fault there. ⊎_elim inl (λ refused. inr (inr (found.0, refused.0, found.1, refused.1, refusal_is ∙ refused.2))) there) told
 
 -- the dimensions of stored matrices
-same_dimensions : (stored : List (RowMajorMatrix ℕ)) → map (λ m. record { width = row_width m; height = rows_in m }) stored ≡ (shape (stored_batch stored)).dimensions
-same_dimensions [] = refl
-same_dimensions (m ∷ stored) = ap (λ ds. record { width = row_width m; height = rows_in m } ∷ ds) (same_dimensions stored)
+same_dimensions : (stored : List (RowMajorMatrix ℕ)) (arity : ℕ) → map (λ m. record { width = row_width m; height = rows_in m }) stored ≡ (shape (stored_batch arity stored)).dimensions
+same_dimensions [] arity = refl
+same_dimensions (m ∷ stored) arity = ap (λ ds. record { width = row_width m; height = rows_in m } ∷ ds) (same_dimensions stored arity)
 
-pub stored_dimensions : (stored : List (RowMajorMatrix ℕ)) (dimensions : List Dimensions) → dimensions ≡ map (λ m. record { width = row_width m; height = rows_in m }) stored → dimensions ≡ (shape (stored_batch stored)).dimensions
-stored_dimensions stored dimensions are = are ∙ same_dimensions stored
+pub stored_dimensions : (stored : List (RowMajorMatrix ℕ)) (arity : ℕ) (dimensions : List Dimensions) → dimensions ≡ map (λ m. record { width = row_width m; height = rows_in m }) stored → dimensions ≡ (shape (stored_batch arity stored)).dimensions
+stored_dimensions stored arity dimensions are = are ∙ same_dimensions stored arity
 
 -- an index past the greatest of lawful heights
 pub past_the_end : (hs : List ℕ) (index max_height : ℕ) → gate_refusal hs ≡ None → max_height ≡ tallest hs → max_height ≤ index → tree_refusal (Check index) hs ≡ Some (IndexOutOfBounds max_height index)

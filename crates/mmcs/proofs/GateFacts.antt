@@ -8,8 +8,8 @@ use Rattle.p3_merkle_core.specs.Gate.{gate_refusal, height_refusal_of, first_too
 use Rattle.p3_merkle_core.specs.declared.error.MerkleTreeError.{MerkleTreeError}
 use Rattle.p3_merkle_core.specs.declared.error.MerkleTreeError.TheVariants.{EmptyBatch, IndexOutOfBounds}
 use Rattle.p3_merkle_core.proofs.GateFacts.{lawful_from_none, none_large_from_lawful, none_off_from_lawful}
-use Rattle.mmcs.specs.declared.command.Command.{Command}
-use Rattle.mmcs.specs.declared.command.Command.TheVariants.{Commit, Check}
+use Rattle.mmcs.specs.declared.command.Action.{Action}
+use Rattle.mmcs.specs.declared.command.Action.TheVariants.{Commit, Check}
 use Rattle.mmcs.specs.Program.{tree_refusal, index_refusal, IsTaken}
 
 -- no reason of three holds
@@ -40,13 +40,13 @@ below_from_none : (i m : ℕ) (b : Bool) → ltb i m ≡ b → ◌≡◌ {A = Op
 below_from_none i m true is none = is
 below_from_none i m false is none = absurd cc
 
-pub taken_from_none : (command : Command) (hs : List ℕ) → tree_refusal command hs ≡ None → IsTaken command hs
+pub taken_from_none : (action : Action) (hs : List ℕ) → tree_refusal action hs ≡ None → IsTaken action hs
 taken_from_none Commit hs none = gate_passes hs (both_none (gate_refusal hs) None none).0
 taken_from_none (Check index) hs none =
     let parts = both_none (gate_refusal hs) (index_refusal (Check index) (tallest hs)) none in
     (gate_passes hs parts.0, ltb-true index (tallest hs) (below_from_none index (tallest hs) (ltb index (tallest hs)) refl parts.1))
 
-pub taken_unrefused : (command : Command) (hs : List ℕ) → IsTaken command hs → tree_refusal command hs ≡ None
+pub taken_unrefused : (action : Action) (hs : List ℕ) → IsTaken action hs → tree_refusal action hs ≡ None
 taken_unrefused Commit hs taken = ap (λ o. option_or o None) (lawful_passes hs taken)
 taken_unrefused (Check index) hs taken =
     let below : ltb index (tallest hs) ≡ true = lt-ltb index (tallest hs) taken.1 in

@@ -11,23 +11,19 @@ use Rattle.std.proofs.lemmas.List.Elements.{All-get_or}
 use Rattle.std.proofs.Math.Nat.{mul-div_cancel}
 use Rattle.mmcs.specs.Input.{row_of, StandsFor}
 use Rattle.mmcs.specs.Blocks.{IsBlock}
-use Rattle.mmcs.specs.Matrices.{matrix_of_rows, batch_of_rows, stored_matrix, stored_batch}
+use Rattle.mmcs.specs.Matrices.{matrix_of_rows, stored_matrix}
 use Rattle.mmcs.proofs.RowsCut.{length_of_rows, row_range}
 
 -- a stored matrix has these rows
 abbrev pub Shows : RowMajorMatrix ℕ → List (List ℕ) → Type 0
 Shows m rows = stored_matrix m ≡ matrix_of_rows rows
 
--- one after another
-maps_agree : (stored : List (RowMajorMatrix ℕ)) (matrices : List (List (List ℕ))) → AllZip Shows stored matrices → map stored_matrix stored ≡ map matrix_of_rows matrices
-maps_agree [] [] each = refl
-maps_agree [] (rows ∷ matrices) each = absurd each
-maps_agree (m ∷ stored) [] each = absurd each
-maps_agree (m ∷ stored) (rows ∷ matrices) each = λ i. each.0 i ∷ maps_agree stored matrices each.1 i
-
 -- stored matrices, each with its rows
-pub shown_batch : (stored : List (RowMajorMatrix ℕ)) (matrices : List (List (List ℕ))) → AllZip Shows stored matrices → stored_batch stored ≡ batch_of_rows matrices
-shown_batch stored matrices each = ap (λ ms. record { arity = 2; matrices = ms }) (maps_agree stored matrices each)
+pub matrices_shown : (stored : List (RowMajorMatrix ℕ)) (matrices : List (List (List ℕ))) → AllZip Shows stored matrices → map stored_matrix stored ≡ map matrix_of_rows matrices
+matrices_shown [] [] each = refl
+matrices_shown [] (rows ∷ matrices) each = absurd each
+matrices_shown (m ∷ stored) [] each = absurd each
+matrices_shown (m ∷ stored) (rows ∷ matrices) each = λ i. each.0 i ∷ matrices_shown stored matrices each.1 i
 
 -- the values of a block, stored under its width
 pub block_shown : (matrix : RowMajorMatrix ℕ) (lines : List (List ℕ)) (values : List ℕ) (width : ℕ) → 0 < width → values_of matrix ≡ values → row_width matrix ≡ width →
@@ -41,16 +37,7 @@ block_shown matrix lines values width some values_are width_is full block =
     λ r. ap (λ w. message w (values_of matrix) r) width_is ∙ row_range row_of width lines (values_of matrix) r block.widths (values_are ∙ block.values_are) in
     λ i. record { height = height_is i; width = (width_is ∙ first_is) i; row = λ r. row_is r i }
 
--- the first matrix of some, or an empty one
-abbrev first_matrix : List (Matrix ℕ) → Matrix ℕ
-first_matrix [] = matrix_of_rows []
-first_matrix (m ∷ ms) = m
-
--- one stored matrix, out of a batch of one
-pub matrix_shown : (matrix : RowMajorMatrix ℕ) (rows : List (List ℕ)) → stored_batch (matrix ∷ []) ≡ batch_of_rows (rows ∷ []) → Shows matrix rows
-matrix_shown matrix rows one = ap (λ b. first_matrix b.matrices) one
-
--- an input's matrices, as one batch
-pub batch_found : (input : List ℕ) (stored : List (RowMajorMatrix ℕ)) → (matrices : List (List (List ℕ))) × StandsFor (2 ^ 32) input matrices × AllZip Shows stored matrices →
-    (matrices : List (List (List ℕ))) × StandsFor (2 ^ 32) input matrices × (stored_batch stored ≡ batch_of_rows matrices)
-batch_found input stored found = (found.0, found.1, shown_batch stored found.0 found.2)
+-- an input's matrices, as one list
+pub matrices_found : (input : List ℕ) (stored : List (RowMajorMatrix ℕ)) → (matrices : List (List (List ℕ))) × StandsFor (2 ^ 32) input matrices × AllZip Shows stored matrices →
+    (matrices : List (List (List ℕ))) × StandsFor (2 ^ 32) input matrices × (map stored_matrix stored ≡ map matrix_of_rows matrices)
+matrices_found input stored found = (found.0, found.1, matrices_shown stored found.0 found.2)

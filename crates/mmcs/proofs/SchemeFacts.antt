@@ -5,9 +5,9 @@ use Rattle.p3_merkle_core.specs.Nodes.{Functions}
 use Rattle.p3_merkle_core.specs.Openings.{IsAccepted, Opening}
 
 -- equal functions, cap heights and openings
-pub accepted_alike : (f g : Functions ℕ ℕ) (s : Shape) (cap_height : ℕ) (roots : List (List ℕ)) (o p : Opening ℕ ℕ) → f ≡ g → cap_height ≡ 0 → o ≡ p →
-    IsAccepted g s (cap_layer s 0) roots p → IsAccepted f s (cap_layer s cap_height) roots o
-accepted_alike f g s cap_height roots o p same_functions is_zero same_opening accepted =
-    subst (λ (h : Functions ℕ ℕ). IsAccepted h s (cap_layer s cap_height) roots o) (sym same_functions)
-    (subst (λ (c : ℕ). IsAccepted g s (cap_layer s c) roots o) (sym is_zero)
-    (subst (λ (q : Opening ℕ ℕ). IsAccepted g s (cap_layer s 0) roots q) (sym same_opening) accepted))
+pub accepted_alike : (f g : Functions ℕ ℕ) (s : Shape) (c d : ℕ) (roots : List (List ℕ)) (o p : Opening ℕ ℕ) → f ≡ g → c ≡ d → o ≡ p →
+    IsAccepted g s (cap_layer s d) roots p → IsAccepted f s (cap_layer s c) roots o
+accepted_alike f g s c d roots o p same_functions same_cap same_opening accepted =
+    subst (λ (h : Functions ℕ ℕ). IsAccepted h s (cap_layer s c) roots o) (sym same_functions)
+    (subst (λ (h : ℕ). IsAccepted g s (cap_layer s h) roots o) (sym same_cap)
+    (subst (λ (q : Opening ℕ ℕ). IsAccepted g s (cap_layer s d) roots q) (sym same_opening) accepted))

@@ -2,9 +2,7 @@
 use Rattle.std.proofs.Common.{◌≡◌, ℕ, ◌<◌, ◌≤◌, List, [], ◌∷◌, length, get_or, take, drop, ◌-◌, map, ◌^◌, String, string_bytes, sym, ap, ◌∙◌, arith}
 use Rattle.std.specs.Prelude.{codes}
 use Rattle.std.proofs.lemmas.List.{take_all}
-use Rattle.std.specs.Str.Parse.{digits_value}
-use Rattle.mmcs.specs.Numbers.{IsNumberBelow}
-use Rattle.mmcs.specs.Words.{texts_of, AreWords, AreActionWords}
+use Rattle.mmcs.specs.Words.{arity_word, texts_of, AreWords, AreActionWords, IsNumberWord}
 use Rattle.mmcs.specs.declared.command.Command.{Command}
 
 -- a list of one element
@@ -27,18 +25,14 @@ three_elements (a ∷ []) x y z long x_is y_is z_is = absurd (omega (arith, long
 three_elements (a ∷ b ∷ []) x y z long x_is y_is z_is = absurd (omega (arith, long))
 three_elements (a ∷ b ∷ c ∷ xs) x y z long x_is y_is z_is = let shown : take (length (a ∷ b ∷ c ∷ xs) - 3) xs ≡ xs = take_all (length (a ∷ b ∷ c ∷ xs) - 3) xs (omega arith) in λ i. sym x_is i ∷ sym y_is i ∷ sym z_is i ∷ sym shown i
 
--- a number of value 0
-pub below_one : (digits : List ℕ) (value : ℕ) → IsNumberBelow (2 ^ 64) digits × (value ≡ digits_value 10 digits) → value ≡ 0 → IsNumberBelow 1 digits
-below_one digits value number is_zero = record { numeral = number.0.numeral; below = omega (arith, number.1, is_zero) }
-
 -- the words of a command, from their first three and the rest
 pub words_from_parts : {A : Type 0} (words : List (String A)) (hash arity cap : String A) (command : Command) →
-    (rest : List (String A)) → words ≡ hash ∷ arity ∷ cap ∷ rest → string_bytes hash ≡ codes "fold" → string_bytes arity ≡ codes "2" →
-    IsNumberBelow 1 (string_bytes cap) → AreActionWords (texts_of rest) command → AreWords (texts_of words) command
+    (rest : List (String A)) → words ≡ hash ∷ arity ∷ cap ∷ rest → string_bytes hash ≡ codes "fold" → string_bytes arity ≡ arity_word command.arity →
+    IsNumberWord (string_bytes cap) command.cap_height → AreActionWords (texts_of rest) command.action → AreWords (texts_of words) command
 words_from_parts words hash arity cap command rest parts hash_is arity_is cap_is action_is = record {
   cap = string_bytes cap;
   action = texts_of rest;
   spelling = ap (map string_bytes) parts ∙ (λ i. hash_is i ∷ arity_is i ∷ string_bytes cap ∷ texts_of rest);
-  cap_height = cap_is;
+  cap_word = cap_is;
   action_words = action_is;
 }

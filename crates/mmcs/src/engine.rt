@@ -1,24 +1,22 @@
 //! From words and an input to an output.
 
-ghost use Rattle.std.specs.Prelude.{◌≡◌, ◌⊎◌, ◌↔◌, ◌≤◌, ◌^◌, ℕ, List, length, map, flat_map, Some, None, Ok, Err, IfOk, IfErr, IfSome, OnOk, OnErr, string_bytes};
+ghost use Rattle.std.specs.Prelude.{◌≡◌, ◌⊎◌, ◌↔◌, ◌^◌, ℕ, List, map, Some, None, Ok, Err, IfOk, IfErr, IfSome, IsTrue, OnOk, OnErr, string_bytes};
 ghost use Rattle.std.specs.Io.KnownBytes.{Appends};
 ghost use Rattle.p3_support.specs.RowMajor.{row_width, rows_in};
 ghost use Rattle.p3_merkle_core.specs.Gate.{gate_refusal};
-ghost use Rattle.p3_merkle_core.specs.Geometry.{cap_layer, heights, tallest};
-ghost use Rattle.p3_merkle_core.specs.Nodes.{layer, shape};
+ghost use Rattle.p3_merkle_core.specs.Geometry.{cap_layer, heights};
+ghost use Rattle.p3_merkle_core.specs.Nodes.{shape};
 ghost use Rattle.p3_merkle_core.specs.declared.error.MerkleTreeError.{MerkleTreeError};
 ghost use Rattle.p3_merkle_core.specs.declared.error.MerkleTreeError.TheVariants.{OutOfMemory};
-ghost use Rattle.p3_merkle_core.specs.Openings.{siblings_below};
 ghost use Rattle.mmcs.specs.declared.command.Command.{Command};
-ghost use Rattle.mmcs.specs.declared.command.Command.TheVariants.{Commit, Check};
+ghost use Rattle.mmcs.specs.declared.command.Action.TheVariants.{Commit, Check};
 ghost use Rattle.mmcs.specs.declared.fault.Fault.TheVariants.{Usage, BadInput, Tree};
 ghost use Rattle.mmcs.specs.Input.{StandsFor};
 ghost use Rattle.mmcs.specs.Matrices.{stored_batch};
-ghost use Rattle.mmcs.specs.Program.{fold_functions, heights_of_rows, output_of, tree_refusal, IsTaken, Asks, AsksFor};
-ghost use Rattle.mmcs.specs.Text.{hex_line, ok_line};
-ghost use Rattle.mmcs.specs.Words.{texts_of, AreWords};
+ghost use Rattle.mmcs.specs.Program.{heights_of_rows, output_of, text_of, tree_refusal, IsTaken, Asks, AsksFor};
+ghost use Rattle.mmcs.specs.Words.{is_taken_arity, texts_of, AreWords};
 
-use crate::command::Command;
+use crate::command::{Action, Arity, Command};
 use crate::fault::Fault;
 use crate::input::read_matrices;
 use crate::scheme::{commit, open, verify};
@@ -31,15 +29,15 @@ use std::io::{self, ErrorKind, Read, Write};
 
 /// Answers the words after the program's name: reads the whole input, and writes the output once all else has succeeded.
 ///
-/// The words are a command, as [`Command::from_words`] reads them, and the lines of the input are the rows of one
-/// matrix at most, as [`read_matrices`] reads them. `commit` writes the cap of the matrices' tree, a line for each
-/// digest; `check` opens an index, verifies the opening and writes `ok` and how many siblings it has. A stream is
-/// lent, so that what it has left or holds can be told of.
+/// The words are a command, as [`Command::from_words`] reads them, and the lines of the input are the rows of
+/// matrices, as [`read_matrices`] reads them. `commit` writes the cap of the matrices' tree, a line for each digest;
+/// `check` opens an index, verifies the opening and writes `ok` and how many siblings it has. A stream is lent, so
+/// that what it has left or holds can be told of.
 ///
 /// # Errors
 ///
 /// - `Usage`: the words are no command. Nothing was read.
-/// - `BadInput`: a read or a write failed, the lines are no matrices, or there is a second matrix.
+/// - `BadInput`: a read or a write failed, or the lines are no matrices.
 /// - `Tree`: why the tree refuses the heights; else `IndexOutOfBounds`, for an index that is not below the tallest
 ///   height; or `OutOfMemory`, at any time.
 pub fn run<Src: Read, Dst: Write>(
@@ -53,16 +51,16 @@ pub fn run<Src: Read, Dst: Write>(
     ensures unread { result ≡ Err Fault.Usage → (input.new ≡ input.old) × (output.new ≡ output.old) }
 
     // Ok tells that all was taken, and that the definition's output was written and nothing else.
-    ensures ok { OnOk result (IfSome (Src.remaining input.old) (λ bytes. AsksFor (texts_of words.now) bytes (λ command matrices. IsTaken command (heights_of_rows matrices) × Appends (Dst.contents output.old) (Dst.contents output.new) (output_of command matrices)))) }
+    ensures ok { OnOk result (IfSome (Src.remaining input.old) (λ bytes. AsksFor (texts_of words.now) bytes (λ command matrices. IsTaken command.action (heights_of_rows matrices) × Appends (Dst.contents output.old) (Dst.contents output.new) (output_of command matrices)))) }
     // What is taken ends in Ok, unless a read, a write or memory fails.
-    ensures taken { (bytes : List ℕ) (command : Command) (matrices : List (List (List ℕ))) → Src.remaining input.old ≡ Some bytes → Asks (texts_of words.now) bytes command matrices → IsTaken command (heights_of_rows matrices) → (result ≡ Ok tt) ⊎ ((result ≡ Err Fault.BadInput) ⊎ (result ≡ Err (Fault.Tree OutOfMemory))) }
+    ensures taken { (bytes : List ℕ) (command : Command) (matrices : List (List (List ℕ))) → Src.remaining input.old ≡ Some bytes → Asks (texts_of words.now) bytes command matrices → IsTaken command.action (heights_of_rows matrices) → (result ≡ Ok tt) ⊎ ((result ≡ Err Fault.BadInput) ⊎ (result ≡ Err (Fault.Tree OutOfMemory))) }
 
     // What the tree refuses, and how.
-    ensures tree { (e : MerkleTreeError) → result ≡ Err (Fault.Tree e) → (e ≡ OutOfMemory) ⊎ IfSome (Src.remaining input.old) (λ bytes. AsksFor (texts_of words.now) bytes (λ command matrices. tree_refusal command (heights_of_rows matrices) ≡ Some e)) }
-    ensures refused { (bytes : List ℕ) (command : Command) (matrices : List (List (List ℕ))) (e : MerkleTreeError) → Src.remaining input.old ≡ Some bytes → Asks (texts_of words.now) bytes command matrices → tree_refusal command (heights_of_rows matrices) ≡ Some e → (result ≡ Err (Fault.Tree e)) ⊎ ((result ≡ Err Fault.BadInput) ⊎ (result ≡ Err (Fault.Tree OutOfMemory))) }
+    ensures tree { (e : MerkleTreeError) → result ≡ Err (Fault.Tree e) → (e ≡ OutOfMemory) ⊎ IfSome (Src.remaining input.old) (λ bytes. AsksFor (texts_of words.now) bytes (λ command matrices. tree_refusal command.action (heights_of_rows matrices) ≡ Some e)) }
+    ensures refused { (bytes : List ℕ) (command : Command) (matrices : List (List (List ℕ))) (e : MerkleTreeError) → Src.remaining input.old ≡ Some bytes → Asks (texts_of words.now) bytes command matrices → tree_refusal command.action (heights_of_rows matrices) ≡ Some e → (result ≡ Err (Fault.Tree e)) ⊎ ((result ≡ Err Fault.BadInput) ⊎ (result ≡ Err (Fault.Tree OutOfMemory))) }
 
     // No fault but a failed write leaves anything written, and a write comes last.
-    ensures silent { OnErr result ((output.new ≡ output.old) ⊎ ((result ≡ Err Fault.BadInput) × IfSome (Src.remaining input.old) (λ bytes. AsksFor (texts_of words.now) bytes (λ command matrices. IsTaken command (heights_of_rows matrices))))) }
+    ensures silent { OnErr result ((output.new ≡ output.old) ⊎ ((result ≡ Err Fault.BadInput) × IfSome (Src.remaining input.old) (λ bytes. AsksFor (texts_of words.now) bytes (λ command matrices. IsTaken command.action (heights_of_rows matrices))))) }
 {
     run_command(alloc, words, input, output)
 }
@@ -79,13 +77,13 @@ fn run_command<Src: Read, Dst: Write>(
     ensures unread { result ≡ Err Fault.Usage → (input.new ≡ input.old) × (output.new ≡ output.old) }
 
     // Ok tells that all was taken, and that the definition's output was written and nothing else.
-    ensures ok { OnOk result (IfSome (Src.remaining input.old) (λ bytes. AsksFor (texts_of words.now) bytes (λ command matrices. IsTaken command (heights_of_rows matrices) × Appends (Dst.contents output.old) (Dst.contents output.new) (output_of command matrices)))) }
+    ensures ok { OnOk result (IfSome (Src.remaining input.old) (λ bytes. AsksFor (texts_of words.now) bytes (λ command matrices. IsTaken command.action (heights_of_rows matrices) × Appends (Dst.contents output.old) (Dst.contents output.new) (output_of command matrices)))) }
 
     // What the tree refuses, and how.
-    ensures tree { (e : MerkleTreeError) → result ≡ Err (Fault.Tree e) → (e ≡ OutOfMemory) ⊎ IfSome (Src.remaining input.old) (λ bytes. AsksFor (texts_of words.now) bytes (λ command matrices. tree_refusal command (heights_of_rows matrices) ≡ Some e)) }
+    ensures tree { (e : MerkleTreeError) → result ≡ Err (Fault.Tree e) → (e ≡ OutOfMemory) ⊎ IfSome (Src.remaining input.old) (λ bytes. AsksFor (texts_of words.now) bytes (λ command matrices. tree_refusal command.action (heights_of_rows matrices) ≡ Some e)) }
 
     // No fault but a failed write leaves anything written, and a write comes last.
-    ensures silent { OnErr result ((output.new ≡ output.old) ⊎ ((result ≡ Err Fault.BadInput) × IfSome (Src.remaining input.old) (λ bytes. AsksFor (texts_of words.now) bytes (λ command matrices. IsTaken command (heights_of_rows matrices))))) }
+    ensures silent { OnErr result ((output.new ≡ output.old) ⊎ ((result ≡ Err Fault.BadInput) × IfSome (Src.remaining input.old) (λ bytes. AsksFor (texts_of words.now) bytes (λ command matrices. IsTaken command.action (heights_of_rows matrices))))) }
 {
     let command = Command::from_words(words).ok_or(Fault::Usage)?;
     let bytes = read_all(alloc, input)?;
@@ -118,25 +116,45 @@ fn write_text<Dst: Write>(output: &mut Dst, text: &str) -> io::Result<()>
 
 /// The text that a command prints of an input.
 fn answer(alloc: Global, command: Command, input: &[u8]) -> Result<String, Fault>
-    ensures text { IfOk result (λ text. (matrices : List (List (List ℕ))) × StandsFor (2 ^ 32) input.now matrices × (length matrices ≤ 1) × IsTaken command (heights_of_rows matrices) × (string_bytes text ≡ output_of command matrices)) }
-    ensures fault { IfErr result (λ fault. (fault ≡ Fault.Tree OutOfMemory) ⊎ (((fault ≡ Fault.BadInput) × ((matrices : List (List (List ℕ))) → StandsFor (2 ^ 32) input.now matrices → length matrices ≤ 1 → ⊥)) ⊎ ((matrices : List (List (List ℕ))) × (e : MerkleTreeError) × StandsFor (2 ^ 32) input.now matrices × (length matrices ≤ 1) × (fault ≡ Fault.Tree e) × (tree_refusal command (heights_of_rows matrices) ≡ Some e)))) }
+    ensures text { IfOk result (λ text. (matrices : List (List (List ℕ))) × StandsFor (2 ^ 32) input.now matrices × IsTaken command.action (heights_of_rows matrices) × (string_bytes text ≡ output_of command matrices)) }
+    ensures fault { IfErr result (λ fault. (fault ≡ Fault.Tree OutOfMemory) ⊎ (((fault ≡ Fault.BadInput) × ((matrices : List (List (List ℕ))) → StandsFor (2 ^ 32) input.now matrices → ⊥)) ⊎ ((matrices : List (List (List ℕ))) × (e : MerkleTreeError) × StandsFor (2 ^ 32) input.now matrices × (fault ≡ Fault.Tree e) × (tree_refusal command.action (heights_of_rows matrices) ≡ Some e)))) }
 {
     let matrices = read_matrices(alloc, input)?;
-    if matrices.len() > 1 {
-        return Err(Fault::BadInput);
+    match command.arity {
+        Arity::Two => act::<2>(alloc, command.cap_height, command.action, matrices),
+        Arity::Four => act::<4>(alloc, command.cap_height, command.action, matrices),
+        Arity::Eight => act::<8>(alloc, command.cap_height, command.action, matrices),
     }
-    match command {
-        Command::Commit => commit_text(alloc, matrices),
-        Command::Check(index) => check_text(alloc, matrices, index),
+}
+
+/// The text that an action prints of some matrices, under an arity and a cap height.
+fn act<const N: usize>(
+    alloc: Global,
+    cap_height: usize,
+    action: Action,
+    matrices: Vec<RowMajorMatrix<u32>>,
+) -> Result<String, Fault>
+    requires { IsTrue (is_taken_arity N) }
+    ensures text { let b = stored_batch N matrices.items in IfOk result (λ text. (tree_refusal action (heights (shape b)) ≡ None) × (string_bytes text ≡ text_of action b (cap_layer (shape b) cap_height))) }
+    ensures fault { let b = stored_batch N matrices.items in IfErr result (λ fault. (fault ≡ Fault.Tree OutOfMemory) ⊎ ((e : MerkleTreeError) × (fault ≡ Fault.Tree e) × (tree_refusal action (heights (shape b)) ≡ Some e))) }
+{
+    match action {
+        Action::Commit => commit_text::<N>(alloc, cap_height, matrices),
+        Action::Check(index) => check_text::<N>(alloc, cap_height, matrices, index),
     }
 }
 
 /// A line for each digest of the cap of some matrices.
-fn commit_text(alloc: Global, matrices: Vec<RowMajorMatrix<u32>>) -> Result<String, Fault>
-    ensures text { let b = stored_batch matrices.items in IfOk result (λ text. (gate_refusal (heights (shape b)) ≡ None) × (string_bytes text ≡ flat_map hex_line (layer fold_functions b (cap_layer (shape b) 0)))) }
-    ensures fault { let b = stored_batch matrices.items in IfErr result (λ fault. (fault ≡ Fault.Tree OutOfMemory) ⊎ ((e : MerkleTreeError) × (fault ≡ Fault.Tree e) × (tree_refusal Commit (heights (shape b)) ≡ Some e))) }
+fn commit_text<const N: usize>(
+    alloc: Global,
+    cap_height: usize,
+    matrices: Vec<RowMajorMatrix<u32>>,
+) -> Result<String, Fault>
+    requires { IsTrue (is_taken_arity N) }
+    ensures text { let b = stored_batch N matrices.items in IfOk result (λ text. (tree_refusal Commit (heights (shape b)) ≡ None) × (string_bytes text ≡ text_of Commit b (cap_layer (shape b) cap_height))) }
+    ensures fault { let b = stored_batch N matrices.items in IfErr result (λ fault. (fault ≡ Fault.Tree OutOfMemory) ⊎ ((e : MerkleTreeError) × (fault ≡ Fault.Tree e) × (tree_refusal Commit (heights (shape b)) ≡ Some e))) }
 {
-    let (cap, _tree) = commit(alloc, matrices)?;
+    let (cap, _tree) = commit::<N>(alloc, cap_height, matrices)?;
     let text = hex_lines(alloc, cap.roots())?;
     Ok(text)
 }
@@ -158,22 +176,24 @@ fn dimensions_of(
 }
 
 /// Opens an index of the tree over some matrices, verifies what is opened, and tells how many siblings it has.
-fn check_text(
+fn check_text<const N: usize>(
     alloc: Global,
+    cap_height: usize,
     matrices: Vec<RowMajorMatrix<u32>>,
     index: usize,
 ) -> Result<String, Fault>
-    ensures text { let s = shape (stored_batch matrices.items) in IfOk result (λ text. (tree_refusal (Check index) (heights s) ≡ None) × (string_bytes text ≡ ok_line (siblings_below s (cap_layer s 0)))) }
-    ensures fault { let s = shape (stored_batch matrices.items) in IfErr result (λ fault. (fault ≡ Fault.Tree OutOfMemory) ⊎ ((e : MerkleTreeError) × (fault ≡ Fault.Tree e) × (tree_refusal (Check index) (heights s) ≡ Some e))) }
+    requires { IsTrue (is_taken_arity N) }
+    ensures text { let b = stored_batch N matrices.items in IfOk result (λ text. (tree_refusal (Check index) (heights (shape b)) ≡ None) × (string_bytes text ≡ text_of (Check index) b (cap_layer (shape b) cap_height))) }
+    ensures fault { let b = stored_batch N matrices.items in IfErr result (λ fault. (fault ≡ Fault.Tree OutOfMemory) ⊎ ((e : MerkleTreeError) × (fault ≡ Fault.Tree e) × (tree_refusal (Check index) (heights (shape b)) ≡ Some e))) }
 {
     let dimensions = dimensions_of(alloc, &matrices)?;
-    let (cap, tree) = commit(alloc, matrices)?;
+    let (cap, tree) = commit::<N>(alloc, cap_height, matrices)?;
     let max_height = tallest_of(&dimensions);
     if index >= max_height {
         return Err(Fault::Tree(MerkleTreeError::IndexOutOfBounds { max_height, index }));
     }
-    let opening = open(alloc, index, &tree)?;
-    verify(&cap, &dimensions, index, &opening)?;
+    let opening = open::<N>(alloc, cap_height, index, &tree)?;
+    verify::<N>(cap_height, &cap, &dimensions, index, &opening)?;
     let text = ok_line(alloc, opening.opening_proof.len())?;
     Ok(text)
 }

@@ -9,7 +9,7 @@ ghost use Rattle.mmcs.specs.declared.fault.Fault.TheVariants.{BadInput, Tree};
 ghost use Rattle.mmcs.specs.Numbers.{IsNumberBelow};
 ghost use Rattle.mmcs.specs.Input.{is_gap, is_blank, numerals_of, row_of, StandsFor};
 ghost use Rattle.mmcs.specs.Blocks.{IsBlock, IsRefused};
-ghost use Rattle.mmcs.specs.Matrices.{batch_of_rows, stored_batch};
+ghost use Rattle.mmcs.specs.Matrices.{matrix_of_rows, stored_matrix};
 
 use crate::fault::Fault;
 use crate::number::parse_number;
@@ -109,7 +109,7 @@ impl Block {
         requires { (lines : List (List ℕ)) × IsBlock lines self.old.values.items self.old.width }
         ensures emptied { IsBlock [] self.new.values.items self.new.width }
         ensures none { IfNone result (self.old.width ≡ 0) }
-        ensures matrix { (lines : List (List ℕ)) → IsBlock lines self.old.values.items self.old.width → IfSome result (λ matrix. stored_batch (matrix ∷ []) ≡ batch_of_rows (map row_of lines ∷ [])) }
+        ensures matrix { (lines : List (List ℕ)) → IsBlock lines self.old.values.items self.old.width → IfSome result (λ matrix. stored_matrix matrix ≡ matrix_of_rows (map row_of lines)) }
         ensures some { IfSome result (λ matrix. 0 < self.old.width) }
     {
         let values = mem::replace(&mut self.values, Vec::new(alloc));
@@ -133,7 +133,7 @@ impl Block {
 ///
 /// `BadInput` where a line is no row of its matrix; `OutOfMemory`.
 pub fn read_matrices(alloc: Global, input: &[u8]) -> Result<Vec<RowMajorMatrix<u32>>, Fault>
-    ensures matrices { IfOk result (λ found. (matrices : List (List (List ℕ))) × StandsFor (2 ^ 32) input.now matrices × (stored_batch found.items ≡ batch_of_rows matrices)) }
+    ensures matrices { IfOk result (λ found. (matrices : List (List (List ℕ))) × StandsFor (2 ^ 32) input.now matrices × (map stored_matrix found.items ≡ map matrix_of_rows matrices)) }
     ensures fault { IfErr result (λ fault. (fault ≡ Tree OutOfMemory) ⊎ ((fault ≡ BadInput) × ((matrices : List (List (List ℕ))) → StandsFor (2 ^ 32) input.now matrices → ⊥))) }
 {
     let mut matrices = Vec::new(alloc);

@@ -1,4 +1,4 @@
-//! Commits to the matrices of an input, and checks openings of their tree: `mmcs HASH ARITY CAP commit|check I`.
+//! Commits to the matrices of an input, and checks openings of their tree: `mmcs fold 2|4|8 CAP commit|check I`.
 #![tactic(auto)]
 
 mod command;

@@ -8,6 +8,9 @@ use std::test::Fail;
 
 const FOUR_ROWS: &str = "1\n2\n3\n4\n";
 
+/// Matrices of the heights 5, 3 and 1.
+const THREE_HEIGHTS: &str = "1\n2\n3\n4\n5\n\n6\n7\n8\n\n9\n";
+
 /// The words of a line, between spaces.
 fn words_of(alloc: Global, line: &str) -> Result<Vec<String>, Fail> {
     let mut words = Vec::new(alloc);
@@ -57,6 +60,44 @@ fn prints_caps_and_counts(rt: HostRuntime) -> Result<(), Fail> {
 }
 
 #[test]
+fn takes_matrices_of_several_heights(rt: HostRuntime) -> Result<(), Fail> {
+    for (words, input, want) in [
+        ("fold 2 0 commit", "1\n2\n\n5\n", "00007c63\n"),
+        ("fold 2 0 commit", "1\n2\n3\n\n4\n5\n", "000f8fc5\n"),
+        ("fold 2 0 commit", "1\n2\n \n\n3\n4\n", "00007c81\n"),
+        ("fold 2 0 check 2", "1\n2\n3\n\n4\n5\n", "ok 2\n"),
+        ("fold 4 0 check 4", THREE_HEIGHTS, "ok 4\n"),
+    ] {
+        assert_eq!(rt;
+            printed(rt.alloc(), words, input)?.as_str(),
+            want,
+            "{words}"
+        );
+    }
+    Ok(())
+}
+
+#[test]
+fn takes_arities_and_cap_heights(rt: HostRuntime) -> Result<(), Fail> {
+    for (words, input, want) in [
+        ("fold 4 0 commit", "1\n2\n", "000f0bc3\n"),
+        ("fold 2 1 commit", FOUR_ROWS, "00000402\n00000442\n"),
+        ("fold 2 01 check 2", FOUR_ROWS, "ok 1\n"),
+        ("fold 2 9 commit", "1\n2\n", "00000020\n00000021\n"),
+        ("fold 2 18446744073709551615 check 1", FOUR_ROWS, "ok 0\n"),
+        ("fold 4 1 check 4", THREE_HEIGHTS, "ok 1\n"),
+        ("fold 8 0 check 3", "1\n2\n3\n4\n\n5\n6\n", "ok 8\n"),
+    ] {
+        assert_eq!(rt;
+            printed(rt.alloc(), words, input)?.as_str(),
+            want,
+            "{words}"
+        );
+    }
+    Ok(())
+}
+
+#[test]
 fn tells_what_the_tree_refuses(rt: HostRuntime) -> Result<(), Fail> {
     let empty = "empty batch: attempted to open an empty batch with no committed matrices (1, 0)";
     for (words, input, want) in [
@@ -73,6 +114,11 @@ fn tells_what_the_tree_refuses(rt: HostRuntime) -> Result<(), Fail> {
         ("fold 2 0 commit", "", empty),
         ("fold 2 0 commit", "\n \t\r\n", empty),
         ("fold 2 0 check 9", "", empty),
+        (
+            "fold 4 1 check 9",
+            "1\n2\n3\n4\n5\n6\n\n1\n2\n3\n4\n",
+            "matrix height 4 incompatible with tallest height 6; expected ceil_div(6, 2^1) = 3 so every global index maps to a row at depth 1 (1, 0)",
+        ),
     ] {
         assert_eq!(rt;
             printed(rt.alloc(), words, input)?.as_str(),
@@ -92,9 +138,11 @@ fn refuses_other_words(rt: HostRuntime) -> Result<(), Fail> {
         "fold 2 0",
         "Fold 2 0 commit",
         "sha256 2 0 commit",
-        "fold 4 0 commit",
+        "fold 1 0 commit",
+        "fold 3 0 commit",
+        "fold 16 0 commit",
         "fold 02 0 commit",
-        "fold 2 1 commit",
+        "fold 2 18446744073709551616 commit",
         "fold 2 x commit",
         "fold 2  commit",
         "fold 2 +0 commit",
@@ -127,7 +175,7 @@ fn refuses_other_input(rt: HostRuntime) -> Result<(), Fail> {
         "1 2\n3\n",
         "1\n2 3\n",
         "1\r\r\n",
-        "1\n\n2\n",
+        "1\n\n2 3\n4\n",
     ] {
         assert_eq!(rt;
             printed(rt.alloc(), "fold 2 0 commit", input)?.as_str(),

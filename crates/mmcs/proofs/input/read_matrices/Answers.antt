@@ -7,7 +7,7 @@ use Rattle.std.proofs.lemmas.Result.{err_from_is_err_and}
 use Rattle.std.proofs.iter.Serving.{serving}
 use Rattle.mmcs.specs.Input.{row_of}
 use Rattle.mmcs.proofs.InputFacts.{input_start, input_blank, input_ended, input_row, refused_input, input_end, input_end_block}
-use Rattle.mmcs.proofs.MatrixFacts.{Shows, matrix_shown, batch_found}
+use Rattle.mmcs.proofs.MatrixFacts.{Shows, matrices_found}
 use Rattle.mmcs.proofs.input.read_matrices.Goals as goal
 use Rattle.mmcs.proofs.input.read_matrices.Goals.{In-Some, In-None, in-Some-take_matrix-2+in_ok-push-2, in_default-take_matrix}
 
@@ -36,7 +36,7 @@ loop-piece-preserved-in-Continue-1 c =
       input =
           rw (length_push c.loop-piece.yielded c.in-Some.piece, c.in_ok-push.ensures.items)
           (input_ended Shows c.args.input.now _ c.in-Some.piece.now c.without_return-line.result.now c.loop-piece.matrices.items c.loop-piece.block.values.items c.loop-piece.block.width t.0 t.1 c.without_return-line.ensures c.loop-piece.invariant.input
-          new.values.items new.width c.in-Some-take_matrix.matrix (sym c.is_blank.ensures ∙ c.if-is_blank.true) c.in-Some-take_matrix.ensures.some c.take_matrix.ensures.emptied (λ lines block. matrix_shown c.in-Some-take_matrix.matrix (map row_of lines) (c.in-Some-take_matrix.ensures.matrix lines block)));
+          new.values.items new.width c.in-Some-take_matrix.matrix (sym c.is_blank.ensures ∙ c.if-is_blank.true) c.in-Some-take_matrix.ensures.some c.take_matrix.ensures.emptied c.in-Some-take_matrix.ensures.matrix);
     }
 
 -- a blank line after no row
@@ -92,8 +92,8 @@ returns-clause-matrices c =
       | in-Some-take_matrix-2+in_ok-push-2 w ↦
           let m = w.in-Some-take_matrix-2 in
           rw (w.matrices-is, w.in_ok-push-2.ensures.items)
-          (batch_found c.args.input.now _ (input_end_block Shows c.args.input.now _ c.loop-piece.matrices.items c.loop-piece.block.values.items c.loop-piece.block.width over c.loop-piece.invariant.input m.matrix m.ensures.some (λ lines block. matrix_shown m.matrix (map row_of lines) (m.ensures.matrix lines block))))
+          (matrices_found c.args.input.now _ (input_end_block Shows c.args.input.now _ c.loop-piece.matrices.items c.loop-piece.block.values.items c.loop-piece.block.width over c.loop-piece.invariant.input m.matrix m.ensures.some m.ensures.matrix))
       | in_default-take_matrix w ↦
           rw w.matrices-is
-          (batch_found c.args.input.now _ (input_end Shows c.args.input.now _ c.loop-piece.matrices.items c.loop-piece.block.values.items c.loop-piece.block.width over c.loop-piece.invariant.input w.in_default-take_matrix.ensures.none))
+          (matrices_found c.args.input.now _ (input_end Shows c.args.input.now _ c.loop-piece.matrices.items c.loop-piece.block.values.items c.loop-piece.block.width over c.loop-piece.invariant.input w.in_default-take_matrix.ensures.none))
     ]

@@ -4,6 +4,6 @@ use Rattle.mmcs.proofs.SchemeFacts.{accepted_alike}
 use Rattle.mmcs.proofs.scheme.verify.Goals as goal
 
 pub returns-clause-taken : goal.returns-clause-taken
-returns-clause-taken c = λ accepted.
+returns-clause-taken g c = λ accepted.
     let lent = c.from.ensures in
-    c.verify_batch.ensures.accepted.1 (accepted_alike _ _ _ _ _ _ _ c.fold_scheme.ensures.functions c.fold_scheme.ensures.cap_height (λ i. opening_of c.args.index (rows_in (lent.0 i)) ((lent.1 i).items)) accepted)
+    c.verify_batch.ensures.accepted.1 (accepted_alike _ _ _ _ _ _ _ _ c.fold_scheme.ensures.functions c.fold_scheme.ensures.cap_height (λ i. opening_of c.args.index (rows_in (lent.0 i)) ((lent.1 i).items)) accepted)

@@ -2,7 +2,7 @@ use Rattle.std.proofs.Common.{◌*◌, [], ◌∷◌, length, map, sym, ap, ◌�
 use Rattle.p3_support.specs.RowMajor.{rows_in}
 use Rattle.mmcs.specs.Input.{row_of}
 use Rattle.mmcs.proofs.RowsCut.{length_of_rows}
-use Rattle.mmcs.proofs.MatrixFacts.{block_shown, shown_batch}
+use Rattle.mmcs.proofs.MatrixFacts.{block_shown}
 use Rattle.mmcs.proofs.input.Block.take_matrix.Goals as goal
 
 pub new-requires-else-width-eq0 : goal.new-requires-else-width-eq0
@@ -13,9 +13,6 @@ new-requires-else-width-eq0 c =
 
 pub returns-else-width-eq0-clause-matrix : goal.returns-else-width-eq0-clause-matrix
 returns-else-width-eq0-clause-matrix c = λ lines block.
-    shown_batch (c.new-else-width-eq0.result ∷ []) (map row_of lines ∷ []) (
-      block_shown c.new-else-width-eq0.result lines c.args.self.now.values.items c.args.self.now.width (omega (arith, c.if-width-eq0.false, c.replace-width.ensures.value))
-          (c.new-else-width-eq0.ensures.values ∙ ap (λ v. v.items) c.replace-values.ensures.value) (c.new-else-width-eq0.ensures.width ∙ c.replace-width.ensures.value)
-          (sym (ap (λ v. length v.items) c.replace-values.ensures.value) ∙ c.new-else-width-eq0.ensures.height ∙ ap (λ w. rows_in c.new-else-width-eq0.result * w) c.replace-width.ensures.value) block,
-      tt,
-    )
+    block_shown c.new-else-width-eq0.result lines c.args.self.now.values.items c.args.self.now.width (omega (arith, c.if-width-eq0.false, c.replace-width.ensures.value))
+    (c.new-else-width-eq0.ensures.values ∙ ap (λ v. v.items) c.replace-values.ensures.value) (c.new-else-width-eq0.ensures.width ∙ c.replace-width.ensures.value)
+    (sym (ap (λ v. length v.items) c.replace-values.ensures.value) ∙ c.new-else-width-eq0.ensures.height ∙ ap (λ w. rows_in c.new-else-width-eq0.result * w) c.replace-width.ensures.value) block

@@ -2,7 +2,7 @@ use Rattle.std.proofs.Common.{[], ◌∷◌, sym, ap, ◌∙◌, map, string_byt
 use Rattle.std.specs.Prelude.{codes}
 use Rattle.std.specs.Cmp.Lexicographic.{bytes_decides}
 use Rattle.mmcs.proofs.WordFacts.{one_element, two_elements}
-use Rattle.mmcs.proofs.command.Command.from_action.Goals as goal
+use Rattle.mmcs.proofs.command.Action.from_words.Goals as goal
 
 -- the one word is `commit`
 pub returns-in-len1-clause-found : goal.returns-in-len1-clause-found
@@ -16,4 +16,4 @@ returns-in_ok-parse_number-in-len2-clause-found c =
     let words = two_elements c.args.words.now c.action-item-then-words-lt3.result c.index-item.result c.in-len2.len_below c.in-len2.len_at_least c.action-item-then-words-lt3.is c.index-item.is in
     let action = sym c.as_str-then-words-lt3.ensures.value ∙ (bytes_decides c.as_str-then-words-lt3.result.now (codes "check")).0 (sym c.eq-then-words-lt3.ensures ∙ c.if-eq-2.true) in
     let number = c.in_ok-parse_number-in-len2.ensures in
-    (c.as_bytes.result.now, ap (map string_bytes) words ∙ (λ i. action i ∷ sym c.as_bytes.ensures.value i ∷ []), number.0, sym number.1)
+    (c.as_bytes.result.now, ap (map string_bytes) words ∙ (λ i. action i ∷ sym c.as_bytes.ensures.value i ∷ []), (number.0, sym number.1))
