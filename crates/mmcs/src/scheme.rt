@@ -1,11 +1,12 @@
 //! The scheme of `fold` at any arity: digests of one word.
 
-ghost use Rattle.std.specs.Prelude.{◌≡◌, ◌<◌, IfOk, IfErr, IsOk, IsTrue};
+ghost use Rattle.std.specs.Prelude.{◌≡◌, ◌<◌, IfOk, IfErr, IsOk, IsTrue, nat_eq};
 ghost use Rattle.p3_support.specs.Shown.{roots_of};
 ghost use Rattle.p3_merkle_core.specs.Gate.{gate_refusal};
 ghost use Rattle.p3_merkle_core.specs.Geometry.{cap_layer, heights, shape_of, tallest};
 ghost use Rattle.p3_merkle_core.specs.Nodes.{layer, layers, shape};
 ghost use Rattle.p3_merkle_core.specs.Openings.{IsAccepted};
+ghost use Rattle.p3_merkle_core.specs.Refusals.{answer_under};
 ghost use Rattle.p3_merkle_core.specs.declared.error.MerkleTreeError.TheVariants.{OutOfMemory};
 ghost use Rattle.p3_merkle_tree.specs.Built.{OkUnlessRefused};
 ghost use Rattle.p3_merkle_tree.specs.Parts.{layers_of, matrices_of};
@@ -93,6 +94,7 @@ pub fn verify<const N: usize>(
     opening: &Opening,
 ) -> Result<(), MerkleTreeError>
     requires { IsTrue (is_taken_arity N) }
+    ensures answer { let s = shape_of N dimensions.now in result ≡ answer_under nat_eq fold_functions s (cap_layer s cap_height) (roots_of cap.now) (opening_made index opening.now) }
     ensures accepted { let s = shape_of N dimensions.now in IsOk result → IsAccepted fold_functions s (cap_layer s cap_height) (roots_of cap.now) (opening_made index opening.now) }
     ensures taken { let s = shape_of N dimensions.now in IsAccepted fold_functions s (cap_layer s cap_height) (roots_of cap.now) (opening_made index opening.now) → IsOk result }
 {
