@@ -13,6 +13,14 @@ pub single_lanes : {A : Type 0} (d : A) (xss : List (List A)) → map (lane_of (
 single_lanes d [] = map-id []
 single_lanes d (xs ∷ xss) = ap (λ ys. ys ∷ map (lane_of (λ x. x ∷ []) d 0) xss) (single_lane d xs) ∙ ap (λ yss. xs ∷ yss) (single_lanes d xss)
 
+-- what each lane of values alone in theirs is
+pub only_lane : {A : Type 0} (d : A) (k : ℕ) (xs : List A) → k < 1 → lane_of (λ x. x ∷ []) d k xs ≡ xs
+only_lane d k xs below = let first : k ≡ 0 = omega (arith, below) in rw first (single_lane d xs)
+
+-- the same of lists of such values
+pub only_lanes : {A : Type 0} (d : A) (k : ℕ) (xss : List (List A)) → k < 1 → map (lane_of (λ x. x ∷ []) d k) xss ≡ xss
+only_lanes d k xss below = let first : k ≡ 0 = omega (arith, below) in rw first (single_lanes d xss)
+
 -- a loop that writes y over the element at i, where `of y` is f of what `of` saw there
 pub map_seen_more : {A B : Type 0} (of : A → B) (f : B → B) (xs ys : List A) (i : ℕ) (y d : A) → i < length xs → length ys ≡ length xs
     → of y ≡ f (of (get_or ys i d))

@@ -2,4 +2,5 @@ pub mod Fold
 pub mod Lists
 pub mod RowLengths
 pub mod RowMajor
+pub mod Sha
 pub mod Shown

@@ -11,5 +11,6 @@ pub mod matrix;
 pub mod opening;
 pub mod packed;
 pub mod rows;
+pub mod sha;
 #[cfg(test)]
 mod tests;

@@ -200,6 +200,7 @@ pub struct RowMajorMatrix<T> {
     height: usize,
     ghost full: { length values.items ≡ height * width },
     ghost width_fits: { width < 2 ^ 64 },
+    ghost no_width: { width ≡ 0 → height ≡ 0 },
 }
 
 impl<T> RowMajorMatrix<T> {

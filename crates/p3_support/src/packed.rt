@@ -97,6 +97,37 @@ impl PackedValue for u32 {
     ghost default_is_unique = { λ a h. h };
 }
 
+/// A single byte likewise.
+impl PackedValue for u8 {
+    type Value = u8;
+
+    const WIDTH: usize = 1;
+
+    ghost WIDTH = { 1 };
+
+    ghost lanes = { λ p. p ∷ [] };
+
+    ghost default_value = { 0 };
+
+    fn broadcast(value: u8) -> u8 {
+        value
+    }
+
+    fn lane(&self, k: usize) -> u8 {
+        *self
+    }
+
+    fn with_lane(self, k: usize, value: u8) -> u8 {
+        value
+    }
+
+    ghost length_lanes = { λ p. refl };
+
+    ghost eq_is_equality = { unsigned_Decides };
+
+    ghost default_is_unique = { λ a h. h };
+}
+
 /// Lane `k` of each packed value.
 fn lane_values<PW: PackedValue, const D: usize>(packed: &[PW; D], k: usize) -> [PW::Value; D]
     requires { k < PW.WIDTH }

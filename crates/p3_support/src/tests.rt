@@ -11,6 +11,7 @@ use crate::matrix::{Dimensions, Matrix, RowMajorMatrix};
 use crate::opening::{BatchOpening, BatchOpeningRef, Hash, MerkleCap};
 use crate::packed::{PackedValue, pack_columns_fn, unpack_into};
 use crate::rows::rows_of;
+use crate::sha::{Sha256Nodes, Sha256Rows};
 use std::test::Fail;
 
 /// The digest of a row.
@@ -210,4 +211,122 @@ fn hands_out(rt: HostRuntime) -> Result<(), Fail> {
     let (values, _) = opening.unpack();
     assert_eq!(rt; values.len(), 1);
     Ok(())
+}
+
+/// The digest of "abc", of FIPS 180-4.
+const DIGEST_OF_ABC: [u8; 32] = [
+    0xba, 0x78, 0x16, 0xbf, 0x8f, 0x01, 0xcf, 0xea, 0x41, 0x41, 0x40, 0xde, 0x5d, 0xae, 0x22, 0x23,
+    0xb0, 0x03, 0x61, 0xa3, 0x96, 0x17, 0x7a, 0x9c, 0xb4, 0x10, 0xff, 0x61, 0xf2, 0x00, 0x15, 0xad,
+];
+
+/// The digest of no bytes.
+const DIGEST_OF_NOTHING: [u8; 32] = [
+    0xe3, 0xb0, 0xc4, 0x42, 0x98, 0xfc, 0x1c, 0x14, 0x9a, 0xfb, 0xf4, 0xc8, 0x99, 0x6f, 0xb9, 0x24,
+    0x27, 0xae, 0x41, 0xe4, 0x64, 0x9b, 0x93, 0x4c, 0xa4, 0x95, 0x99, 0x1b, 0x78, 0x52, 0xb8, 0x55,
+];
+
+/// A message that its padding carries into a second block, and its digest, of FIPS 180-4.
+const TWO_BLOCKS: &[u8; 56] = b"abcdbcdecdefdefgefghfghighijhijkijkljklmklmnlmnomnopnopq";
+
+const DIGEST_OF_TWO_BLOCKS: [u8; 32] = [
+    0x24, 0x8d, 0x6a, 0x61, 0xd2, 0x06, 0x38, 0xb8, 0xe5, 0xc0, 0x26, 0x93, 0x0c, 0x3e, 0x60, 0x39,
+    0xa3, 0x3c, 0xe4, 0x59, 0x64, 0xff, 0x21, 0x67, 0xf6, 0xec, 0xed, 0xd4, 0x19, 0xdb, 0x06, 0xc1,
+];
+
+/// A message of more bytes than a block, and its digest by python3's `hashlib.sha256`.
+const OVER_A_BLOCK: &[u8; 112] = b"abcdefghbcdefghicdefghijdefghijkefghijklfghijklmghijklmn\
+    hijklmnoijklmnopjklmnopqklmnopqrlmnopqrsmnopqrstnopqrstu";
+
+const DIGEST_OVER_A_BLOCK: [u8; 32] = [
+    0xcf, 0x5b, 0x16, 0xa7, 0x78, 0xaf, 0x83, 0x80, 0x03, 0x6c, 0xe5, 0x9e, 0x7b, 0x04, 0x92, 0x37,
+    0x0b, 0x24, 0x9b, 0x11, 0xe8, 0xf0, 0x7a, 0x51, 0xaf, 0xac, 0x45, 0x03, 0x7a, 0xfe, 0xe9, 0xd1,
+];
+
+/// The digest of the digest of "abc" followed by that of no bytes, by python3:
+/// `hashlib.sha256(hashlib.sha256(b"abc").digest() + hashlib.sha256(b"").digest()).digest()`.
+const DIGEST_OF_A_NODE: [u8; 32] = [
+    0x6f, 0x12, 0x90, 0x89, 0x6e, 0xe8, 0x1a, 0x03, 0x49, 0x17, 0x4d, 0x19, 0xf4, 0x47, 0x3d, 0x26,
+    0x7a, 0x10, 0x28, 0x9c, 0x40, 0x48, 0x08, 0x61, 0xd5, 0xc4, 0x2a, 0xff, 0xff, 0xbd, 0x79, 0xf9,
+];
+
+/// The digest of a message by each call of the hasher.
+fn sha256_by_each_call(message: &[u8]) -> [[u8; 32]; 5] {
+    let middle = message.len() / 2;
+    let parts = [&message[..middle], &message[middle..]];
+    let mut many = [[0; 32]; 1];
+    Sha256Rows.hash_many(message, &mut many);
+    [
+        Sha256Rows.hash_slice(message),
+        Sha256Rows.hash_iter(message.iter().copied()),
+        Sha256Rows.hash_iter_slices(parts.iter().copied()),
+        many[0],
+        Sha256Rows.hash_packed(message.iter().copied()),
+    ]
+}
+
+#[test]
+fn hashes_bytes(rt: HostRuntime) {
+    assert_eq!(rt; sha256_by_each_call(b"abc"), [DIGEST_OF_ABC; 5]);
+    assert_eq!(rt; sha256_by_each_call(b""), [DIGEST_OF_NOTHING; 5]);
+    assert_eq!(rt; sha256_by_each_call(TWO_BLOCKS), [DIGEST_OF_TWO_BLOCKS; 5]);
+    assert_eq!(rt; sha256_by_each_call(OVER_A_BLOCK), [DIGEST_OVER_A_BLOCK; 5]);
+    let mut two = [[0; 32]; 2];
+    Sha256Rows.hash_many(b"abcabc", &mut two);
+    assert_eq!(rt; two, [DIGEST_OF_ABC; 2]);
+}
+
+#[test]
+fn hashes_a_row_of_bytes(rt: HostRuntime) -> Result<(), Fail> {
+    let matrix = RowMajorMatrix::new(vec![in rt.alloc(); 97u8, 98, 99]?, 3);
+    assert_eq!(rt;
+        row_digest::<u8, Sha256Rows, RowMajorMatrix<u8>, 32>(&Sha256Rows, &matrix, 0),
+        DIGEST_OF_ABC
+    );
+    assert_eq!(rt;
+        packed_digest::<u8, Sha256Rows, RowMajorMatrix<u8>, 32>(&Sha256Rows, &matrix, 0),
+        DIGEST_OF_ABC
+    );
+    Ok(())
+}
+
+/// The digest of a group of two.
+fn pair_digest<C: PseudoCompressionFunction<u8, 2, 32>>(
+    compress: &C,
+    children: [[u8; 32]; 2],
+) -> [u8; 32] {
+    compress.compress(children)
+}
+
+#[test]
+fn compresses_bytes(rt: HostRuntime) {
+    let children = [DIGEST_OF_ABC, DIGEST_OF_NOTHING];
+    let nodes = Sha256Nodes::<2>;
+    assert_eq!(rt; pair_digest(&nodes, children), DIGEST_OF_A_NODE);
+    assert_eq!(rt; nodes.compress_packed(children), DIGEST_OF_A_NODE);
+    let mut many = [[0; 32]; 2];
+    nodes.compress_many(&[children, children], &mut many);
+    assert_eq!(rt; many, [DIGEST_OF_A_NODE; 2]);
+    assert_eq!(rt; Sha256Nodes::<0>.compress([]), DIGEST_OF_NOTHING);
+}
+
+#[test]
+fn takes_one_message_at_a_time(rt: HostRuntime) {
+    assert_eq!(rt; <Sha256Rows as CryptographicHasher<u8, u8, 32>>::LANES, 1);
+    assert!(rt; <Sha256Rows as CryptographicHasher<u8, u8, 32>>::PREFER_CONTIGUOUS_INPUT);
+    assert_eq!(rt;
+        <Sha256Nodes<2> as PseudoCompressionFunction<u8, 2, 32>>::LANES,
+        1
+    );
+}
+
+#[test]
+fn packs_a_byte_alone(rt: HostRuntime) {
+    let packed: [u8; 2] = pack_columns_fn(
+        |k| -> [u8; 2]
+            ensures { length result ≡ 2 }
+        { [5, 6] },
+    );
+    let mut rows = [[0; 2]; 1];
+    unpack_into(&packed, &mut rows);
+    assert_eq!(rt; (packed, rows), ([5, 6], [[5, 6]]));
 }
