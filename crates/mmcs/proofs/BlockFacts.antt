@@ -1,5 +1,5 @@
 -- Lines that are rows of one matrix.
-use Rattle.std.proofs.Common.{◌≡◌, ◌≢◌, ℕ, ◌^◌, ◌<◌, ◌⊎◌, ⊎_elim, false, List, [], ◌∷◌, ◌++◌, length, get_or, map, sym, refl, ap, ◌∙◌, subst, arith, append-nil}
+use Rattle.std.proofs.Common.{◌≡◌, ◌≢◌, ℕ, ◌<◌, ◌⊎◌, ⊎_elim, false, List, [], ◌∷◌, ◌++◌, length, get_or, map, sym, refl, ap, ◌∙◌, subst, arith, append-nil}
 use Rattle.std.specs.Prelude.{All, flat_map}
 use Rattle.std.proofs.lemmas.List.{length_push}
 use Rattle.std.proofs.lemmas.List.Concat.{flat_map-append}
@@ -14,10 +14,10 @@ pub all_from_map : {X Y : Type 0} (P : Y → Type 0) (f : X → Y) (xs : List X)
 all_from_map P f [] each = All-nil (λ x. P (f x))
 all_from_map P f (x ∷ xs) each = All-cons (λ y. P (f y)) x xs (All-head P (f x) (map f xs) each) (all_from_map P f xs (All-tail P (f x) (map f xs) each))
 
-module _ (lines : List (List ℕ)) (values : List ℕ) (width : ℕ) (block : IsBlock lines values width) where
+module _ (limit : ℕ) (lines : List (List ℕ)) (values : List ℕ) (width : ℕ) (block : IsBlock limit lines values width) where
   -- one more line
-  pub block_more : (line : List ℕ) (new_values : List ℕ) (new_width : ℕ) → is_blank line ≡ false → All (IsNumberBelow (2 ^ 32)) (numerals_of line) →
-      new_values ≡ values ++ row_of line → length (row_of line) ≡ new_width → (width ≡ 0) ⊎ (width ≡ new_width) → IsBlock (lines ++ line ∷ []) new_values new_width
+  pub block_more : (line : List ℕ) (new_values : List ℕ) (new_width : ℕ) → is_blank line ≡ false → All (IsNumberBelow limit) (numerals_of line) →
+      new_values ≡ values ++ row_of line → length (row_of line) ≡ new_width → (width ≡ 0) ⊎ (width ≡ new_width) → IsBlock limit (lines ++ line ∷ []) new_values new_width
   block_more line new_values new_width full numbers values_are width_is was =
       let some : 0 < new_width = omega (arith, row_has_number line full, width_is) in
       let same : All (λ l. length (row_of l) ≡ new_width) lines =
@@ -27,7 +27,7 @@ module _ (lines : List (List ℕ)) (values : List ℕ) (width : ℕ) (block : Is
       was in
       record {
         none_blank = All-push (λ l. is_blank l ≡ false) lines line block.none_blank full;
-        numbers = All-push (λ l. All (IsNumberBelow (2 ^ 32)) (numerals_of l)) lines line block.numbers numbers;
+        numbers = All-push (λ l. All (IsNumberBelow limit) (numerals_of l)) lines line block.numbers numbers;
         values_are =
             values_are ∙ ap (λ vs. vs ++ row_of line) block.values_are
             ∙ sym (flat_map-append row_of lines (line ∷ []) ∙ ap (λ vs. flat_map row_of lines ++ vs) (append-nil (row_of line)));
@@ -37,7 +37,7 @@ module _ (lines : List (List ℕ)) (values : List ℕ) (width : ℕ) (block : Is
       }
 
   -- a line of another width
-  pub width_refused : (line : List ℕ) → 0 < width → length (row_of line) ≢ width → IsRefused (lines ++ line ∷ [])
+  pub width_refused : (line : List ℕ) → 0 < width → length (row_of line) ≢ width → IsRefused limit (lines ++ line ∷ [])
   width_refused line some differs more rows matrix =
       let w = matrix.one_length.0 in
       let each : All (λ l. length (row_of l) ≡ w) ((lines ++ line ∷ []) ++ more) =
@@ -50,7 +50,7 @@ module _ (lines : List (List ℕ)) (values : List ℕ) (width : ℕ) (block : Is
       differs (line_width ∙ sym first_width ∙ known)
 
   -- the lines, if any, are a matrix
-  pub block_is_matrix : IsMatrix (2 ^ 32) lines (map row_of lines)
+  pub block_is_matrix : IsMatrix limit lines (map row_of lines)
   block_is_matrix = record {
     numbers = block.numbers;
     rows_are = refl;
@@ -58,6 +58,6 @@ module _ (lines : List (List ℕ)) (values : List ℕ) (width : ℕ) (block : Is
   }
 
 -- a line with a part that is no number
-pub numbers_refused : (lines : List (List ℕ)) (line : List ℕ) → ¬ All (IsNumberBelow (2 ^ 32)) (numerals_of line) → IsRefused (lines ++ line ∷ [])
-numbers_refused lines line bad more rows matrix =
-    bad (All-contains (λ l. All (IsNumberBelow (2 ^ 32)) (numerals_of l)) ((lines ++ line ∷ []) ++ more) line matrix.numbers (Contains-append_left (lines ++ line ∷ []) more line (Contains-push lines line)))
+pub numbers_refused : (limit : ℕ) (lines : List (List ℕ)) (line : List ℕ) → ¬ All (IsNumberBelow limit) (numerals_of line) → IsRefused limit (lines ++ line ∷ [])
+numbers_refused limit lines line bad more rows matrix =
+    bad (All-contains (λ l. All (IsNumberBelow limit) (numerals_of l)) ((lines ++ line ∷ []) ++ more) line matrix.numbers (Contains-append_left (lines ++ line ∷ []) more line (Contains-push lines line)))

@@ -1,5 +1,5 @@
 -- What is asked is one thing, and so is what becomes of it.
-use Rattle.std.proofs.Common.{eqb, get_or, ◌≡◌, ◌⊎◌, ⊎_elim, inl, inr, ℕ, ◌^◌, List, [], ◌∷◌, Option, Some, Result, Ok, Err, sym, refl, ap, ◌∙◌, subst}
+use Rattle.std.proofs.Common.{eqb, get_or, ◌≡◌, ◌⊎◌, ⊎_elim, inl, inr, ℕ, ◌+◌, List, [], ◌∷◌, Option, Some, Result, Ok, Err, sym, refl, ap, ◌∙◌, subst}
 use Rattle.std.specs.Prelude.{IfSome, OnOk}
 use Rattle.std.specs.List.{AllZip}
 use Rattle.std.specs.Str.Parse.{digits_value}
@@ -10,10 +10,12 @@ use Rattle.mmcs.specs.declared.command.Action.TheVariants.{Commit, Check}
 use Rattle.mmcs.specs.declared.command.Arity.{Arity}
 use Rattle.mmcs.specs.declared.command.Arity.TheVariants.{Two, Four, Eight}
 use Rattle.mmcs.specs.declared.command.Command.{Command}
+use Rattle.mmcs.specs.declared.command.HashName.{HashName}
+use Rattle.mmcs.specs.declared.command.HashName.TheVariants.{Fold, Sha256}
 use Rattle.mmcs.specs.declared.fault.Fault.{Fault}
 use Rattle.mmcs.specs.declared.fault.Fault.TheVariants.{Usage, BadInput, Tree}
 use Rattle.mmcs.specs.Input.{IsMatrix, StandsFor, blocks_of}
-use Rattle.mmcs.specs.Words.{arity_word, AreWords, AreActionWords, IsNumberWord}
+use Rattle.mmcs.specs.Words.{arity_word, hash_word, max_word, AreWords, AreActionWords, IsNumberWord}
 use Rattle.mmcs.specs.Program.{heights_of_rows, tree_refusal, IsTaken, Asks, AsksFor}
 use Rattle.mmcs.proofs.GateFacts.{taken_unrefused}
 
@@ -32,7 +34,14 @@ same_action words (Check i) (Check j) u v =
     let same : u.0 ≡ v.0 = cc in
     ap Check (same_number v.0 i j (subst (λ (w : List ℕ). IsNumberWord w i) same u.2) v.2)
 
--- a word is of one arity
+-- a word is of one hash
+same_hash : (a b : HashName) → hash_word a ≡ hash_word b → a ≡ b
+same_hash Fold Fold is = refl
+same_hash Fold Sha256 is = absurd (let apart = ap (λ w. eqb (get_or w 0 0) 102) is in cc)
+same_hash Sha256 Fold is = absurd (let apart = ap (λ w. eqb (get_or w 0 0) 115) is in cc)
+same_hash Sha256 Sha256 is = refl
+
+-- and of one arity
 same_arity : (a b : Arity) → arity_word a ≡ arity_word b → a ≡ b
 same_arity Two Two is = refl
 same_arity Two Four is = absurd (let apart = ap (λ w. eqb (get_or w 0 0) 50) is in cc)
@@ -50,11 +59,13 @@ same_command words c d u v =
     let f = v.spelling in
     let same_cap : u.cap ≡ v.cap = cc in
     let same_rest : u.action ≡ v.action = cc in
+    let same_first : hash_word c.hash ≡ hash_word d.hash = cc in
     let same_second : arity_word c.arity ≡ arity_word d.arity = cc in
+    let hash_is = same_hash c.hash d.hash same_first in
     let arity_is = same_arity c.arity d.arity same_second in
     let cap_is = same_number v.cap c.cap_height d.cap_height (subst (λ (w : List ℕ). IsNumberWord w c.cap_height) same_cap u.cap_word) v.cap_word in
     let action_is = same_action v.action c.action d.action (subst (λ (ws : List (List ℕ)). AreActionWords ws c.action) same_rest u.action_words) v.action_words in
-    λ i. record { arity = arity_is i; cap_height = cap_is i; action = action_is i }
+    λ i. record { hash = hash_is i; arity = arity_is i; cap_height = cap_is i; action = action_is i }
 
 -- blocks are of one list of matrices
 same_zipped : (limit : ℕ) (blocks : List (List (List ℕ))) (ms ns : List (List (List ℕ))) → AllZip (IsMatrix limit) blocks ms → AllZip (IsMatrix limit) blocks ns → ms ≡ ns
@@ -73,7 +84,7 @@ module _ (words : List (List ℕ)) (bytes : List ℕ) (command : Command) (matri
   same_refusal : (c : Command) (ms : List (List (List ℕ))) → Asks words bytes c ms → tree_refusal c.action (heights_of_rows ms) ≡ tree_refusal command.action (heights_of_rows matrices)
   same_refusal c ms other =
       let same_c = same_command words c command other.words_are asks.words_are in
-      let same_ms = same_matrices (2 ^ 32) bytes ms matrices other.input_is asks.input_is in
+      let same_ms = same_matrices (max_word command.hash + 1) bytes ms matrices (subst (λ (d : Command). StandsFor (max_word d.hash + 1) bytes ms) same_c other.input_is) asks.input_is in
       λ i. tree_refusal (same_c i).action (heights_of_rows (same_ms i))
 
   module _ (result : Result (Unit {0}) Fault)

@@ -2,7 +2,7 @@
 use Rattle.std.proofs.Common.{◌≡◌, ℕ, ◌<◌, ◌≤◌, List, [], ◌∷◌, length, get_or, take, drop, ◌-◌, map, ◌^◌, String, string_bytes, sym, ap, ◌∙◌, arith}
 use Rattle.std.specs.Prelude.{codes}
 use Rattle.std.proofs.lemmas.List.{take_all}
-use Rattle.mmcs.specs.Words.{arity_word, texts_of, AreWords, AreActionWords, IsNumberWord}
+use Rattle.mmcs.specs.Words.{arity_word, hash_word, texts_of, AreWords, AreActionWords, IsNumberWord}
 use Rattle.mmcs.specs.declared.command.Command.{Command}
 
 -- a list of one element
@@ -27,7 +27,7 @@ three_elements (a ∷ b ∷ c ∷ xs) x y z long x_is y_is z_is = let shown : ta
 
 -- the words of a command, from their first three and the rest
 pub words_from_parts : {A : Type 0} (words : List (String A)) (hash arity cap : String A) (command : Command) →
-    (rest : List (String A)) → words ≡ hash ∷ arity ∷ cap ∷ rest → string_bytes hash ≡ codes "fold" → string_bytes arity ≡ arity_word command.arity →
+    (rest : List (String A)) → words ≡ hash ∷ arity ∷ cap ∷ rest → string_bytes hash ≡ hash_word command.hash → string_bytes arity ≡ arity_word command.arity →
     IsNumberWord (string_bytes cap) command.cap_height → AreActionWords (texts_of rest) command.action → AreWords (texts_of words) command
 words_from_parts words hash arity cap command rest parts hash_is arity_is cap_is action_is = record {
   cap = string_bytes cap;

@@ -1,19 +1,31 @@
 //! Commands, from the words after the program's name.
 
 ghost use Rattle.std.specs.Prelude.{◌≡◌, IfNone, IfSome};
-ghost use Rattle.mmcs.specs.Words.{arity_word, texts_of, AreWords, AreActionWords};
+ghost use Rattle.mmcs.specs.declared.command.HashName.{HashName};
+ghost use Rattle.mmcs.specs.Words.{arity_word, hash_word, max_word, texts_of, AreWords, AreActionWords};
 
 use crate::number::parse_number;
 
 /// What the program is asked for.
 #[derive(Clone, Copy, Debug, PartialEq, Eq)]
 pub struct Command {
+    /// The hash of rows and nodes.
+    pub hash: HashName,
     /// How many children a node may have.
     pub arity: Arity,
     /// How many levels below the root the cap is.
     pub cap_height: usize,
     /// What is done with the matrices of the input.
     pub action: Action,
+}
+
+/// The hashes that the program takes.
+#[derive(Clone, Copy, Debug, PartialEq, Eq)]
+pub enum HashName {
+    /// The fold functions on words of 32 bits, with digests of one word. They are not secure.
+    Fold,
+    /// SHA-256 of rows of bytes, and of digests one after another.
+    Sha256,
 }
 
 /// The arities that the program takes.
@@ -34,7 +46,7 @@ pub enum Action {
 }
 
 impl Command {
-    /// The command of the words after the program's name, if they are one: `fold`, an arity, a cap height, and the
+    /// The command of the words after the program's name, if they are one: a hash, an arity, a cap height, and the
     /// words of an action. Numbers are one or more ASCII digits, and fit usize.
     pub fn from_words(words: &[String]) -> Option<Command>
         ensures found { IfSome result (AreWords (texts_of words.now)) }
@@ -43,17 +55,40 @@ impl Command {
         let [hash, arity, cap, action @ ..] = words else {
             return None;
         };
-        if hash.as_str() != "fold" {
-            return None;
-        }
+        let hash = HashName::from_word(hash.as_str())?;
         let arity = Arity::from_word(arity.as_str())?;
         let cap_height = parse_number(cap.as_bytes())?;
         let action = Action::from_words(action)?;
         Some(Command {
+            hash,
             arity,
             cap_height,
             action,
         })
+    }
+}
+
+impl HashName {
+    /// The hash of a word: `fold` or `sha256`.
+    fn from_word(word: &str) -> Option<HashName>
+        ensures found { IfSome result (λ hash. word.now ≡ hash_word hash) }
+        ensures none { IfNone result ((hash : HashName) → word.now ≡ hash_word hash → ⊥) }
+    {
+        match word {
+            "fold" => Some(HashName::Fold),
+            "sha256" => Some(HashName::Sha256),
+            _ => None,
+        }
+    }
+
+    /// The greatest word of a row.
+    pub fn max_word(self) -> u32
+        ensures { result ≡ max_word self }
+    {
+        match self {
+            HashName::Fold => u32::MAX,
+            HashName::Sha256 => u32::from(u8::MAX),
+        }
     }
 }
 

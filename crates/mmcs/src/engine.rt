@@ -1,8 +1,8 @@
 //! From words and an input to an output.
 
-ghost use Rattle.std.specs.Prelude.{◌≡◌, ◌⊎◌, ◌↔◌, ◌^◌, ℕ, List, map, Some, None, Ok, Err, IfOk, IfErr, IfSome, IsTrue, OnOk, OnErr, string_bytes};
+ghost use Rattle.std.specs.Prelude.{◌≡◌, ◌⊎◌, ◌↔◌, ◌+◌, ◌<◌, ℕ, All, List, map, Some, None, Ok, Err, IfOk, IfErr, IfSome, IsTrue, OnOk, OnErr, string_bytes};
 ghost use Rattle.std.specs.Io.KnownBytes.{Appends};
-ghost use Rattle.p3_support.specs.RowMajor.{row_width, rows_in};
+ghost use Rattle.p3_support.specs.RowMajor.{row_width, rows_in, values_of};
 ghost use Rattle.p3_merkle_core.specs.Gate.{gate_refusal};
 ghost use Rattle.p3_merkle_core.specs.Geometry.{cap_layer, heights};
 ghost use Rattle.p3_merkle_core.specs.Nodes.{shape};
@@ -14,13 +14,15 @@ ghost use Rattle.mmcs.specs.declared.fault.Fault.TheVariants.{Usage, BadInput, T
 ghost use Rattle.mmcs.specs.Input.{StandsFor};
 ghost use Rattle.mmcs.specs.Matrices.{stored_batch};
 ghost use Rattle.mmcs.specs.Program.{heights_of_rows, output_of, text_of, tree_refusal, IsTaken, Asks, AsksFor};
-ghost use Rattle.mmcs.specs.Words.{is_taken_arity, texts_of, AreWords};
+ghost use Rattle.mmcs.specs.Words.{is_taken_arity, max_word, texts_of, AreWords};
 
-use crate::command::{Action, Arity, Command};
+use crate::command::{Action, Arity, Command, HashName};
 use crate::fault::Fault;
+use crate::fold::Fold;
 use crate::input::read_matrices;
-use crate::scheme::{commit, open, verify};
-use crate::text::{hex_lines, ok_line};
+use crate::sha256::Sha256;
+use crate::suite::Suite;
+use crate::text::ok_line;
 use p3_merkle_core::geometry::tallest_of;
 use p3_merkle_tree::MerkleTreeError;
 use p3_support::matrix::{Dimensions, Matrix, RowMajorMatrix};
@@ -116,46 +118,52 @@ fn write_text<Dst: Write>(output: &mut Dst, text: &str) -> io::Result<()>
 
 /// The text that a command prints of an input.
 fn answer(alloc: Global, command: Command, input: &[u8]) -> Result<String, Fault>
-    ensures text { IfOk result (λ text. (matrices : List (List (List ℕ))) × StandsFor (2 ^ 32) input.now matrices × IsTaken command.action (heights_of_rows matrices) × (string_bytes text ≡ output_of command matrices)) }
-    ensures fault { IfErr result (λ fault. (fault ≡ Fault.Tree OutOfMemory) ⊎ (((fault ≡ Fault.BadInput) × ((matrices : List (List (List ℕ))) → StandsFor (2 ^ 32) input.now matrices → ⊥)) ⊎ ((matrices : List (List (List ℕ))) × (e : MerkleTreeError) × StandsFor (2 ^ 32) input.now matrices × (fault ≡ Fault.Tree e) × (tree_refusal command.action (heights_of_rows matrices) ≡ Some e)))) }
+    ensures text { IfOk result (λ text. (matrices : List (List (List ℕ))) × StandsFor (max_word command.hash + 1) input.now matrices × IsTaken command.action (heights_of_rows matrices) × (string_bytes text ≡ output_of command matrices)) }
+    ensures fault { IfErr result (λ fault. (fault ≡ Fault.Tree OutOfMemory) ⊎ (((fault ≡ Fault.BadInput) × ((matrices : List (List (List ℕ))) → StandsFor (max_word command.hash + 1) input.now matrices → ⊥)) ⊎ ((matrices : List (List (List ℕ))) × (e : MerkleTreeError) × StandsFor (max_word command.hash + 1) input.now matrices × (fault ≡ Fault.Tree e) × (tree_refusal command.action (heights_of_rows matrices) ≡ Some e)))) }
 {
-    let matrices = read_matrices(alloc, input)?;
-    match command.arity {
-        Arity::Two => act::<2>(alloc, command.cap_height, command.action, matrices),
-        Arity::Four => act::<4>(alloc, command.cap_height, command.action, matrices),
-        Arity::Eight => act::<8>(alloc, command.cap_height, command.action, matrices),
+    let matrices = read_matrices(alloc, input, command.hash.max_word())?;
+    let (cap_height, action) = (command.cap_height, command.action);
+    match (command.hash, command.arity) {
+        (HashName::Fold, Arity::Two) => act::<Fold, 2>(alloc, cap_height, action, matrices),
+        (HashName::Fold, Arity::Four) => act::<Fold, 4>(alloc, cap_height, action, matrices),
+        (HashName::Fold, Arity::Eight) => act::<Fold, 8>(alloc, cap_height, action, matrices),
+        (HashName::Sha256, Arity::Two) => act::<Sha256, 2>(alloc, cap_height, action, matrices),
+        (HashName::Sha256, Arity::Four) => act::<Sha256, 4>(alloc, cap_height, action, matrices),
+        (HashName::Sha256, Arity::Eight) => act::<Sha256, 8>(alloc, cap_height, action, matrices),
     }
 }
 
 /// The text that an action prints of some matrices, under an arity and a cap height.
-fn act<const N: usize>(
+fn act<S: Suite<N>, const N: usize>(
     alloc: Global,
     cap_height: usize,
     action: Action,
     matrices: Vec<RowMajorMatrix<u32>>,
 ) -> Result<String, Fault>
-    requires { IsTrue (is_taken_arity N) }
-    ensures text { let b = stored_batch N matrices.items in IfOk result (λ text. (tree_refusal action (heights (shape b)) ≡ None) × (string_bytes text ≡ text_of action b (cap_layer (shape b) cap_height))) }
+    requires arity { IsTrue (is_taken_arity N) }
+    requires words { All (λ m. All (λ v. v < max_word S.name + 1) (values_of m)) matrices.items }
+    ensures text { let b = stored_batch N matrices.items in IfOk result (λ text. (tree_refusal action (heights (shape b)) ≡ None) × (string_bytes text ≡ text_of S.name action b (cap_layer (shape b) cap_height))) }
     ensures fault { let b = stored_batch N matrices.items in IfErr result (λ fault. (fault ≡ Fault.Tree OutOfMemory) ⊎ ((e : MerkleTreeError) × (fault ≡ Fault.Tree e) × (tree_refusal action (heights (shape b)) ≡ Some e))) }
 {
     match action {
-        Action::Commit => commit_text::<N>(alloc, cap_height, matrices),
-        Action::Check(index) => check_text::<N>(alloc, cap_height, matrices, index),
+        Action::Commit => commit_text::<S, N>(alloc, cap_height, matrices),
+        Action::Check(index) => check_text::<S, N>(alloc, cap_height, matrices, index),
     }
 }
 
 /// A line for each digest of the cap of some matrices.
-fn commit_text<const N: usize>(
+fn commit_text<S: Suite<N>, const N: usize>(
     alloc: Global,
     cap_height: usize,
     matrices: Vec<RowMajorMatrix<u32>>,
 ) -> Result<String, Fault>
-    requires { IsTrue (is_taken_arity N) }
-    ensures text { let b = stored_batch N matrices.items in IfOk result (λ text. (tree_refusal Commit (heights (shape b)) ≡ None) × (string_bytes text ≡ text_of Commit b (cap_layer (shape b) cap_height))) }
+    requires arity { IsTrue (is_taken_arity N) }
+    requires words { All (λ m. All (λ v. v < max_word S.name + 1) (values_of m)) matrices.items }
+    ensures text { let b = stored_batch N matrices.items in IfOk result (λ text. (tree_refusal Commit (heights (shape b)) ≡ None) × (string_bytes text ≡ text_of S.name Commit b (cap_layer (shape b) cap_height))) }
     ensures fault { let b = stored_batch N matrices.items in IfErr result (λ fault. (fault ≡ Fault.Tree OutOfMemory) ⊎ ((e : MerkleTreeError) × (fault ≡ Fault.Tree e) × (tree_refusal Commit (heights (shape b)) ≡ Some e))) }
 {
-    let (cap, _tree) = commit::<N>(alloc, cap_height, matrices)?;
-    let text = hex_lines(alloc, cap.roots())?;
+    let (cap, _tree) = S::commit(alloc, cap_height, matrices)?;
+    let text = S::cap_lines(alloc, &cap)?;
     Ok(text)
 }
 
@@ -176,24 +184,26 @@ fn dimensions_of(
 }
 
 /// Opens an index of the tree over some matrices, verifies what is opened, and tells how many siblings it has.
-fn check_text<const N: usize>(
+fn check_text<S: Suite<N>, const N: usize>(
     alloc: Global,
     cap_height: usize,
     matrices: Vec<RowMajorMatrix<u32>>,
     index: usize,
 ) -> Result<String, Fault>
-    requires { IsTrue (is_taken_arity N) }
-    ensures text { let b = stored_batch N matrices.items in IfOk result (λ text. (tree_refusal (Check index) (heights (shape b)) ≡ None) × (string_bytes text ≡ text_of (Check index) b (cap_layer (shape b) cap_height))) }
+    requires arity { IsTrue (is_taken_arity N) }
+    requires words { All (λ m. All (λ v. v < max_word S.name + 1) (values_of m)) matrices.items }
+    ensures text { let b = stored_batch N matrices.items in IfOk result (λ text. (tree_refusal (Check index) (heights (shape b)) ≡ None) × (string_bytes text ≡ text_of S.name (Check index) b (cap_layer (shape b) cap_height))) }
     ensures fault { let b = stored_batch N matrices.items in IfErr result (λ fault. (fault ≡ Fault.Tree OutOfMemory) ⊎ ((e : MerkleTreeError) × (fault ≡ Fault.Tree e) × (tree_refusal (Check index) (heights (shape b)) ≡ Some e))) }
 {
     let dimensions = dimensions_of(alloc, &matrices)?;
-    let (cap, tree) = commit::<N>(alloc, cap_height, matrices)?;
+    let (cap, tree) = S::commit(alloc, cap_height, matrices)?;
     let max_height = tallest_of(&dimensions);
     if index >= max_height {
         return Err(Fault::Tree(MerkleTreeError::IndexOutOfBounds { max_height, index }));
     }
-    let opening = open::<N>(alloc, cap_height, index, &tree)?;
-    verify::<N>(cap_height, &cap, &dimensions, index, &opening)?;
-    let text = ok_line(alloc, opening.opening_proof.len())?;
+    let opening = S::open(alloc, cap_height, index, &tree)?;
+    S::verify(cap_height, &cap, &dimensions, index, &opening)?;
+    let siblings = S::num_siblings(&opening);
+    let text = ok_line(alloc, siblings)?;
     Ok(text)
 }

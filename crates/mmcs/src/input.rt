@@ -1,9 +1,10 @@
 //! Matrices, from the bytes of an input.
 
-ghost use Rattle.std.specs.Prelude.{◌≡◌, ℕ, ◌*◌, ◌^◌, ◌<◌, ◌⊎◌, false, List, [], ◌∷◌, ◌++◌, map, length, All, IfOk, IfErr, IfSome, IfNone, OnOk};
+ghost use Rattle.std.specs.Prelude.{◌≡◌, ℕ, ◌+◌, ◌*◌, ◌<◌, ◌⊎◌, false, List, [], ◌∷◌, ◌++◌, map, length, All, IfOk, IfErr, IfSome, IfNone, OnOk};
 ghost use Rattle.std.specs.Option.{SomeIff};
 ghost use Rattle.std.specs.Str.Lines.{strip_carriage_return};
 ghost use Rattle.std.specs.Str.Parse.{digits_value};
+ghost use Rattle.p3_support.specs.RowMajor.{values_of};
 ghost use Rattle.p3_merkle_core.specs.declared.error.MerkleTreeError.TheVariants.{OutOfMemory};
 ghost use Rattle.mmcs.specs.declared.fault.Fault.TheVariants.{BadInput, Tree};
 ghost use Rattle.mmcs.specs.Numbers.{IsNumberBelow};
@@ -42,26 +43,28 @@ fn without_return(line: &[u8]) -> &[u8]
     }
 }
 
-/// The number that one or more ASCII digits stand for, if it fits a word.
-fn parse_word(digits: &[u8]) -> Option<u32>
-    ensures { SomeIff result (IsNumberBelow (2 ^ 32) digits.now) (digits_value 10 digits.now) }
+/// The number that one or more ASCII digits stand for, if it is at most `max`.
+fn parse_word(digits: &[u8], max: u32) -> Option<u32>
+    ensures { SomeIff result (IsNumberBelow (max + 1) digits.now) (digits_value 10 digits.now) }
 {
-    u32::try_from(parse_number(digits)?).ok()
+    let word = u32::try_from(parse_number(digits)?).ok()?;
+    if word <= max { Some(word) } else { None }
 }
 
-/// Appends the numbers of a line, and says how many there are. A part that is no number is bad input.
-fn append_row(values: &mut Vec<u32>, line: &[u8]) -> Result<usize, Fault>
+/// Appends the numbers of a line, each at most `max`, and says how many there are. A part that is no number is bad
+/// input.
+fn append_row(values: &mut Vec<u32>, line: &[u8], max: u32) -> Result<usize, Fault>
     ensures values { OnOk result (values.new.items ≡ values.old.items ++ row_of line.now) }
     ensures count { IfOk result (λ count. count ≡ length (row_of line.now)) }
-    ensures numbers { OnOk result (All (IsNumberBelow (2 ^ 32)) (numerals_of line.now)) }
-    ensures fault { IfErr result (λ fault. (fault ≡ Tree OutOfMemory) ⊎ ((fault ≡ BadInput) × ¬ All (IsNumberBelow (2 ^ 32)) (numerals_of line.now))) }
+    ensures numbers { OnOk result (All (IsNumberBelow (max + 1)) (numerals_of line.now)) }
+    ensures fault { IfErr result (λ fault. (fault ≡ Tree OutOfMemory) ⊎ ((fault ≡ BadInput) × ¬ All (IsNumberBelow (max + 1)) (numerals_of line.now))) }
 {
     let len = values.len();
     for word in line.split(|byte| is_gap(*byte)) {
         if word.is_empty() {
             continue;
         }
-        let value = parse_word(word).ok_or(Fault::BadInput)?;
+        let value = parse_word(word, max).ok_or(Fault::BadInput)?;
         values.push(value)?;
     }
     Ok(values.len() - len)
@@ -79,7 +82,7 @@ struct Block {
 impl Block {
     /// No rows.
     fn new(alloc: Global) -> Block
-        ensures { IsBlock [] result.values.items result.width }
+        ensures { (limit : ℕ) → IsBlock limit [] result.values.items result.width }
     {
         Block {
             values: Vec::new(alloc),
@@ -87,13 +90,14 @@ impl Block {
         }
     }
 
-    /// Appends a line that is not blank as a row. One of another width than the rows before it is bad input.
-    fn push_row(&mut self, line: &[u8]) -> Result<(), Fault>
+    /// Appends a line that is not blank as a row of numbers, each at most `max`. One of another width than the rows
+    /// before it is bad input.
+    fn push_row(&mut self, line: &[u8], max: u32) -> Result<(), Fault>
         requires full { is_blank line.now ≡ false }
-        ensures row { (lines : List (List ℕ)) → IsBlock lines self.old.values.items self.old.width → OnOk result (IsBlock (lines ++ line.now ∷ []) self.new.values.items self.new.width) }
-        ensures fault { (lines : List (List ℕ)) → IsBlock lines self.old.values.items self.old.width → IfErr result (λ fault. (fault ≡ Tree OutOfMemory) ⊎ ((fault ≡ BadInput) × IsRefused (lines ++ line.now ∷ []))) }
+        ensures row { (lines : List (List ℕ)) → IsBlock (max + 1) lines self.old.values.items self.old.width → OnOk result (IsBlock (max + 1) (lines ++ line.now ∷ []) self.new.values.items self.new.width) }
+        ensures fault { (lines : List (List ℕ)) → IsBlock (max + 1) lines self.old.values.items self.old.width → IfErr result (λ fault. (fault ≡ Tree OutOfMemory) ⊎ ((fault ≡ BadInput) × IsRefused (max + 1) (lines ++ line.now ∷ []))) }
     {
-        let count = append_row(&mut self.values, line)?;
+        let count = append_row(&mut self.values, line, max)?;
         if self.width == 0 {
             self.width = count;
         }
@@ -106,10 +110,10 @@ impl Block {
 
     /// The matrix of the rows, if there are any, and no rows are left.
     fn take_matrix(&mut self, alloc: Global) -> Option<RowMajorMatrix<u32>>
-        requires { (lines : List (List ℕ)) × IsBlock lines self.old.values.items self.old.width }
-        ensures emptied { IsBlock [] self.new.values.items self.new.width }
+        requires { (limit : ℕ) × (lines : List (List ℕ)) × IsBlock limit lines self.old.values.items self.old.width }
+        ensures emptied { (limit : ℕ) → IsBlock limit [] self.new.values.items self.new.width }
         ensures none { IfNone result (self.old.width ≡ 0) }
-        ensures matrix { (lines : List (List ℕ)) → IsBlock lines self.old.values.items self.old.width → IfSome result (λ matrix. stored_matrix matrix ≡ matrix_of_rows (map row_of lines)) }
+        ensures matrix { (limit : ℕ) (lines : List (List ℕ)) → IsBlock limit lines self.old.values.items self.old.width → IfSome result (λ matrix. (stored_matrix matrix ≡ matrix_of_rows (map row_of lines)) × All (λ v. v < limit) (values_of matrix)) }
         ensures some { IfSome result (λ matrix. 0 < self.old.width) }
     {
         let values = mem::replace(&mut self.values, Vec::new(alloc));
@@ -126,15 +130,19 @@ impl Block {
 ///
 /// A line feed, with a carriage return before it or not, ends a line, and may be missing at the end. A line of spaces
 /// and tabs alone, or empty, is blank: one or more of these end a matrix, and are ignored before the first and after
-/// the last. Any other line is a row of numbers from 0 to 2^32 - 1 in decimal, with spaces or tabs between them; the
+/// the last. Any other line is a row of numbers from 0 to `max` in decimal, with spaces or tabs between them; the
 /// rows of a matrix have equally many.
 ///
 /// # Errors
 ///
 /// `BadInput` where a line is no row of its matrix; `OutOfMemory`.
-pub fn read_matrices(alloc: Global, input: &[u8]) -> Result<Vec<RowMajorMatrix<u32>>, Fault>
-    ensures matrices { IfOk result (λ found. (matrices : List (List (List ℕ))) × StandsFor (2 ^ 32) input.now matrices × (map stored_matrix found.items ≡ map matrix_of_rows matrices)) }
-    ensures fault { IfErr result (λ fault. (fault ≡ Tree OutOfMemory) ⊎ ((fault ≡ BadInput) × ((matrices : List (List (List ℕ))) → StandsFor (2 ^ 32) input.now matrices → ⊥))) }
+pub fn read_matrices(
+    alloc: Global,
+    input: &[u8],
+    max: u32,
+) -> Result<Vec<RowMajorMatrix<u32>>, Fault>
+    ensures matrices { IfOk result (λ found. (matrices : List (List (List ℕ))) × StandsFor (max + 1) input.now matrices × (map stored_matrix found.items ≡ map matrix_of_rows matrices) × All (λ m. All (λ v. v < max + 1) (values_of m)) found.items) }
+    ensures fault { IfErr result (λ fault. (fault ≡ Tree OutOfMemory) ⊎ ((fault ≡ BadInput) × ((matrices : List (List (List ℕ))) → StandsFor (max + 1) input.now matrices → ⊥))) }
 {
     let mut matrices = Vec::new(alloc);
     let mut block = Block::new(alloc);
@@ -145,7 +153,7 @@ pub fn read_matrices(alloc: Global, input: &[u8]) -> Result<Vec<RowMajorMatrix<u
                 matrices.push(matrix)?;
             }
         } else {
-            block.push_row(line)?;
+            block.push_row(line, max)?;
         }
     }
     if let Some(matrix) = block.take_matrix(alloc) {

@@ -1,13 +1,15 @@
-//! Commits to the matrices of an input, and checks openings of their tree: `mmcs fold 2|4|8 CAP commit|check I`.
+//! Commits to the matrices of an input, and checks openings of their tree: `mmcs fold|sha256 2|4|8 CAP commit|check I`.
 #![tactic(auto)]
 
 mod command;
 mod engine;
 mod fault;
+mod fold;
 mod input;
 mod laws;
 mod number;
-mod scheme;
+mod sha256;
+mod suite;
 #[cfg(test)]
 mod tests;
 mod text;

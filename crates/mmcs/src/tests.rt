@@ -77,6 +77,35 @@ fn takes_matrices_of_several_heights(rt: HostRuntime) -> Result<(), Fail> {
     Ok(())
 }
 
+/// The digest of "abc" is FIPS 180-4's own example. The root of the rows 1 and 2 is that of Python's `hashlib`:
+/// `sha256(sha256(b"\x01").digest() + sha256(b"\x02").digest()).hexdigest()`.
+#[test]
+fn takes_sha256(rt: HostRuntime) -> Result<(), Fail> {
+    for (words, input, want) in [
+        (
+            "sha256 2 0 commit",
+            "97 98 99\n",
+            "ba7816bf8f01cfea414140de5dae2223b00361a396177a9cb410ff61f20015ad\n",
+        ),
+        (
+            "sha256 2 0 commit",
+            "1\n2\n",
+            "42dbeeb4eb5d41bbdc93732c6a87ab3241ee03f44a0780a52ddf831f5fd88b53\n",
+        ),
+        ("sha256 8 0 check 1", "255\n0\n", "ok 7\n"),
+        ("sha256 4 9 check 0", "255 0\n1 2\n\n3\n", "ok 0\n"),
+        ("sha256 2 0 commit", "256\n", "bad input (1, 0)"),
+        ("sha256 2 0 commit", "0 1\n4294967296\n", "bad input (1, 0)"),
+    ] {
+        assert_eq!(rt;
+            printed(rt.alloc(), words, input)?.as_str(),
+            want,
+            "{words}"
+        );
+    }
+    Ok(())
+}
+
 #[test]
 fn takes_arities_and_cap_heights(rt: HostRuntime) -> Result<(), Fail> {
     for (words, input, want) in [
@@ -137,7 +166,8 @@ fn refuses_other_words(rt: HostRuntime) -> Result<(), Fail> {
         "fold",
         "fold 2 0",
         "Fold 2 0 commit",
-        "sha256 2 0 commit",
+        "sha-256 2 0 commit",
+        "SHA256 2 0 commit",
         "fold 1 0 commit",
         "fold 3 0 commit",
         "fold 16 0 commit",

@@ -7,7 +7,7 @@ use std::alloc::{AllocError, Global};
 
 /// A line for each digest: its words in lower case hexadecimal, eight digits each.
 pub fn hex_lines<const D: usize>(alloc: Global, digests: &[[u32; D]]) -> Result<String, AllocError>
-    ensures { IfOk result (λ text. string_bytes text ≡ flat_map hex_line digests.now) }
+    ensures { IfOk result (λ text. string_bytes text ≡ flat_map (hex_line 8) digests.now) }
 {
     let mut text = String::new(alloc);
     for digest in digests {
@@ -19,10 +19,32 @@ pub fn hex_lines<const D: usize>(alloc: Global, digests: &[[u32; D]]) -> Result<
 
 /// Appends the words of a digest in lower case hexadecimal, eight digits each.
 fn push_hex(text: &mut String, words: &[u32]) -> Result<(), AllocError>
-    ensures { OnOk result (string_bytes text.new ≡ string_bytes text.old ++ flat_map hex_word words.now) }
+    ensures { OnOk result (string_bytes text.new ≡ string_bytes text.old ++ flat_map (hex_word 8) words.now) }
 {
     for word in words {
         write!(text, "{word:08x}")?;
+    }
+    Ok(())
+}
+
+/// A line for each digest: its bytes in lower case hexadecimal, two digits each.
+pub fn byte_lines<const D: usize>(alloc: Global, digests: &[[u8; D]]) -> Result<String, AllocError>
+    ensures { IfOk result (λ text. string_bytes text ≡ flat_map (hex_line 2) digests.now) }
+{
+    let mut text = String::new(alloc);
+    for digest in digests {
+        push_bytes(&mut text, digest)?;
+        text.push('\n')?;
+    }
+    Ok(text)
+}
+
+/// Appends the bytes of a digest in lower case hexadecimal, two digits each.
+fn push_bytes(text: &mut String, bytes: &[u8]) -> Result<(), AllocError>
+    ensures { OnOk result (string_bytes text.new ≡ string_bytes text.old ++ flat_map (hex_word 2) bytes.now) }
+{
+    for byte in bytes {
+        write!(text, "{byte:02x}")?;
     }
     Ok(())
 }

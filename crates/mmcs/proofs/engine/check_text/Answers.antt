@@ -1,10 +1,10 @@
-use Rattle.std.proofs.Common.{◌≡◌, ◌<◌, map, inr, refl, sym, ap, ◌∙◌, subst, arith}
+use Rattle.std.proofs.Common.{string_bytes, ◌≡◌, ◌<◌, ℕ, map, inr, refl, sym, ap, ◌∙◌, subst, arith}
 use Rattle.p3_merkle_core.specs.Geometry.{heights_of, shape_of, tallest}
-use Rattle.p3_merkle_core.specs.Nodes.{layers, shape}
+use Rattle.p3_merkle_core.specs.Nodes.{layers, shape, Batch}
 use Rattle.p3_support.specs.RowMajor.{row_width, rows_in}
-use Rattle.mmcs.specs.Program.{fold_functions}
+use Rattle.mmcs.specs.Program.{functions_of_hash}
 use Rattle.mmcs.specs.Matrices.{stored_batch}
-use Rattle.mmcs.proofs.AnswerFacts.{stored_dimensions, past_the_end, accepted_as}
+use Rattle.mmcs.proofs.AnswerFacts.{stored_dimensions, past_the_end, accepted_as, check_told}
 use Rattle.mmcs.proofs.ArityFacts.{group_fits}
 use Rattle.mmcs.proofs.engine.check_text.Goals as goal
 use Rattle.mmcs.proofs.engine.check_text.Goals.{After-tallest_of-max_height}
@@ -25,12 +25,20 @@ returns-then-index-max_height-clause-fault g c =
 pub open-requires : goal.open-requires
 open-requires g c =
     let greatest = greatest_is g (goal.at.open-requires g c).After-tallest_of-max_height in
-    (omega arith, (group_fits g.row.N c.requires, (c.requires, subst (λ ms. c.args.index < tallest (heights_of (shape (stored_batch g.row.N ms)).dimensions)) (sym c.in_ok-cap.ensures.matrices) (omega (arith, greatest, c.if-index-max_height.false)))))
+    record { arity = c.requires.arity; index = subst (λ (b : Batch ℕ). c.args.index < tallest (heights_of (shape b).dimensions)) (sym c.in_ok-cap.ensures.batch) (omega (arith, greatest, c.if-index-max_height.false)) }
 
 -- an honest opening is accepted
 pub returns-in_err-verify-clause-fault : goal.returns-in_err-verify-clause-fault
 returns-in_err-verify-clause-fault g c =
-    let own = ap (λ ms. stored_batch g.row.N ms) c.in_ok-cap.ensures.matrices in
+    let own = c.in_ok-cap.ensures.batch in
     let shape_is = ap (λ ds. shape_of g.row.N ds) (c.deref-3.ensures.value ∙ dimensions_are g (goal.at.returns-in_err-verify-clause-fault g c).After-tallest_of-max_height) in
-    let layers_are = c.in_ok-cap.ensures.layers ∙ ap (layers fold_functions) (sym own) in
+    let layers_are = c.in_ok-cap.ensures.layers ∙ ap (layers (functions_of_hash g.S.Suite.name)) (sym own) in
     absurd (let accepted = c.in_err-verify.ensures.taken (accepted_as _ _ _ _ _ _ _ own shape_is c.in_ok-cap.ensures.cap (c.in_ok-opening.ensures.accepted layers_are)) in cc)
+
+-- so it has the siblings that are told of
+pub returns-clause-text : goal.returns-clause-text
+returns-clause-text g c =
+    let after = (goal.at.returns-clause-text g c).After-tallest_of-max_height in
+    let shape_is = ap (λ ds. shape_of g.row.N ds) (c.deref-3.ensures.value ∙ dimensions_are g after) in
+    let greatest = greatest_is g after in
+    check_told _ _ _ c.args.cap_height _ _ c.args.index c.num_siblings-siblings.result (string_bytes c.in_ok-text.text) shape_is (c.in_ok-verify.ensures.accepted refl) (omega (arith, greatest, c.if-index-max_height.false)) (c.num_siblings-siblings.ensures c.args.index) c.in_ok-text.ensures

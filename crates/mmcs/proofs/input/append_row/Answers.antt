@@ -1,4 +1,4 @@
-use Rattle.std.proofs.Common.{◌≡◌, ℕ, ◌<◌, ◌≤◌, length, get_or, sym, ap, ◌∙◌, not, subst, arith, rules, tests, inr, length-append}
+use Rattle.std.proofs.Common.{◌≡◌, ℕ, ◌+◌, ◌<◌, ◌≤◌, length, get_or, sym, ap, ◌∙◌, not, subst, arith, rules, tests, inr, length-append}
 use Rattle.std.specs.List.{slice_split}
 use Rattle.std.proofs.lemmas.Iterator.Consumers.{YieldsList-turn, YieldsList-end, YieldsList-at}
 use Rattle.std.proofs.lemmas.Iterator.Splits.{YieldsList-from_slice_split}
@@ -24,8 +24,8 @@ loop-word-preserved-then-is_empty c =
       can_next = search rules;
       finite = search rules;
       row =
-          subst (λ (n : ℕ). RowSoFar c.args.line.now n c.args.values.now.items c.loop-word.values.items) (sym (length_push c.loop-word.yielded c.in-Some.word))
-          (row_same c.args.line.now c.args.values.now.items _ c.in-Some.word.now c.loop-word.values.items t.0 t.1 c.loop-word.invariant.row (ap not (sym c.is_empty.ensures ∙ c.if-is_empty.true)));
+          subst (λ (n : ℕ). RowSoFar (c.args.max + 1) c.args.line.now n c.args.values.now.items c.loop-word.values.items) (sym (length_push c.loop-word.yielded c.in-Some.word))
+          (row_same (c.args.max + 1) c.args.line.now c.args.values.now.items _ c.in-Some.word.now c.loop-word.values.items t.0 t.1 c.loop-word.invariant.row (ap not (sym c.is_empty.ensures ∙ c.if-is_empty.true)));
     }
 
 -- a part that is no number is bad input
@@ -34,7 +34,7 @@ returns-in_err-value-clause-fault c =
     let t = turn (goal.at.returns-in_err-value-clause-fault c).In-Some in
     let refused = refused_from_ok_or _ _ _ _ _ c.parse_word.ensures (sym c.ok_or.ensures.value ∙ c.in_err-value.was) in
     let left = err_from_is_err_and c.from_residual.result c.from_residual.ensures.1 in
-    rw (left.1, left.2) (inr (refused.0, row_refused c.args.line.now c.args.values.now.items _ c.in-Some.word.now c.loop-word.values.items t.0 t.1 c.loop-word.invariant.row (ap not (sym c.is_empty.ensures ∙ c.if-is_empty.false)) refused.1))
+    rw (left.1, left.2) (inr (refused.0, row_refused (c.args.max + 1) c.args.line.now c.args.values.now.items _ c.in-Some.word.now c.loop-word.values.items t.0 t.1 c.loop-word.invariant.row (ap not (sym c.is_empty.ensures ∙ c.if-is_empty.false)) refused.1))
 
 pub loop-word-preserved : goal.loop-word-preserved
 loop-word-preserved c =
@@ -45,7 +45,7 @@ loop-word-preserved c =
       finite = search rules;
       row =
           rw (length_push c.loop-word.yielded c.in-Some.word, c.in_ok-push.ensures.items, number.1)
-          (row_more c.args.line.now c.args.values.now.items _ c.in-Some.word.now c.loop-word.values.items t.0 t.1 c.loop-word.invariant.row (ap not (sym c.is_empty.ensures ∙ c.if-is_empty.false)) number.0);
+          (row_more (c.args.max + 1) c.args.line.now c.args.values.now.items _ c.in-Some.word.now c.loop-word.values.items t.0 t.1 c.loop-word.invariant.row (ap not (sym c.is_empty.ensures ∙ c.if-is_empty.false)) number.0);
     }
 
 -- every part of the line was seen
@@ -57,12 +57,12 @@ ended c =
     omega (arith, e.1)
 
 pub returns-clause-values : goal.returns-clause-values
-returns-clause-values c = (row_end c.args.line.now c.args.values.now.items _ c.loop-word.values.items (ended (goal.at.returns-clause-values c).In-None) c.loop-word.invariant.row).0
+returns-clause-values c = (row_end (c.args.max + 1) c.args.line.now c.args.values.now.items _ c.loop-word.values.items (ended (goal.at.returns-clause-values c).In-None) c.loop-word.invariant.row).0
 
 pub returns-clause-count : goal.returns-clause-count
 returns-clause-count c =
-    let values = (row_end c.args.line.now c.args.values.now.items _ c.loop-word.values.items (ended (goal.at.returns-clause-count c).In-None) c.loop-word.invariant.row).0 in
+    let values = (row_end (c.args.max + 1) c.args.line.now c.args.values.now.items _ c.loop-word.values.items (ended (goal.at.returns-clause-count c).In-None) c.loop-word.invariant.row).0 in
     omega (arith, c.len.ensures, c.len-len.ensures, c.loop-word.values.ok.0, c.args.values.now.ok.0, ap length values ∙ length-append c.args.values.now.items (row_of c.args.line.now))
 
 pub returns-clause-numbers : goal.returns-clause-numbers
-returns-clause-numbers c = (row_end c.args.line.now c.args.values.now.items _ c.loop-word.values.items (ended (goal.at.returns-clause-numbers c).In-None) c.loop-word.invariant.row).1
+returns-clause-numbers c = (row_end (c.args.max + 1) c.args.line.now c.args.values.now.items _ c.loop-word.values.items (ended (goal.at.returns-clause-numbers c).In-None) c.loop-word.invariant.row).1

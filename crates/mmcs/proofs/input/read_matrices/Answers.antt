@@ -1,4 +1,4 @@
-use Rattle.std.proofs.Common.{◌≡◌, ◌==◌, ◌<◌, ◌≤◌, length, get_or, map, sym, ◌∙◌, arith, rules, tests, of_calls}
+use Rattle.std.proofs.Common.{◌≡◌, ◌+◌, ◌==◌, ◌<◌, ◌≤◌, length, get_or, map, sym, ◌∙◌, arith, rules, tests, of_calls}
 use Rattle.std.specs.List.{slice_split}
 use Rattle.std.proofs.lemmas.Iterator.Consumers.{YieldsList-turn, YieldsList-end, YieldsList-at}
 use Rattle.std.proofs.lemmas.Iterator.Splits.{YieldsList-from_slice_split}
@@ -22,7 +22,7 @@ pub loop-piece-init : goal.loop-piece-init
 loop-piece-init c = record {
   can_next = grind serving;
   finite = search of_calls;
-  input = rw c.new-matrices.ensures.items (input_start Shows c.args.input.now c.new-block.result.values.items c.new-block.result.width c.new-block.ensures);
+  input = rw c.new-matrices.ensures.items (input_start (Shows (c.args.max + 1)) (c.args.max + 1) c.args.input.now c.new-block.result.values.items c.new-block.result.width (c.new-block.ensures (c.args.max + 1)));
 }
 
 -- a blank line ends the matrix
@@ -35,8 +35,8 @@ loop-piece-preserved-in-Continue-1 c =
       finite = search rules;
       input =
           rw (length_push c.loop-piece.yielded c.in-Some.piece, c.in_ok-push.ensures.items)
-          (input_ended Shows c.args.input.now _ c.in-Some.piece.now c.without_return-line.result.now c.loop-piece.matrices.items c.loop-piece.block.values.items c.loop-piece.block.width t.0 t.1 c.without_return-line.ensures c.loop-piece.invariant.input
-          new.values.items new.width c.in-Some-take_matrix.matrix (sym c.is_blank.ensures ∙ c.if-is_blank.true) c.in-Some-take_matrix.ensures.some c.take_matrix.ensures.emptied c.in-Some-take_matrix.ensures.matrix);
+          (input_ended (Shows (c.args.max + 1)) (c.args.max + 1) c.args.input.now _ c.in-Some.piece.now c.without_return-line.result.now c.loop-piece.matrices.items c.loop-piece.block.values.items c.loop-piece.block.width t.0 t.1 c.without_return-line.ensures c.loop-piece.invariant.input
+          new.values.items new.width c.in-Some-take_matrix.matrix (sym c.is_blank.ensures ∙ c.if-is_blank.true) c.in-Some-take_matrix.ensures.some (c.take_matrix.ensures.emptied (c.args.max + 1)) (c.in-Some-take_matrix.ensures.matrix (c.args.max + 1)));
     }
 
 -- a blank line after no row
@@ -49,8 +49,8 @@ loop-piece-preserved-in_default c =
       finite = search rules;
       input =
           rw (length_push c.loop-piece.yielded c.in-Some.piece)
-          (input_blank Shows c.args.input.now _ c.in-Some.piece.now c.without_return-line.result.now c.loop-piece.matrices.items c.loop-piece.block.values.items c.loop-piece.block.width t.0 t.1 c.without_return-line.ensures c.loop-piece.invariant.input
-          new.values.items new.width (sym c.is_blank.ensures ∙ c.if-is_blank.true) c.in_default.ensures.none c.take_matrix.ensures.emptied);
+          (input_blank (Shows (c.args.max + 1)) (c.args.max + 1) c.args.input.now _ c.in-Some.piece.now c.without_return-line.result.now c.loop-piece.matrices.items c.loop-piece.block.values.items c.loop-piece.block.width t.0 t.1 c.without_return-line.ensures c.loop-piece.invariant.input
+          new.values.items new.width (sym c.is_blank.ensures ∙ c.if-is_blank.true) c.in_default.ensures.none (c.take_matrix.ensures.emptied (c.args.max + 1)));
     }
 
 -- any other line is a row
@@ -63,7 +63,7 @@ loop-piece-preserved c =
       finite = search rules;
       input =
           rw (length_push c.loop-piece.yielded c.in-Some.piece)
-          (input_row Shows c.args.input.now _ c.in-Some.piece.now c.without_return-line.result.now c.loop-piece.matrices.items c.loop-piece.block.values.items c.loop-piece.block.width t.0 t.1 c.without_return-line.ensures c.loop-piece.invariant.input
+          (input_row (Shows (c.args.max + 1)) (c.args.max + 1) c.args.input.now _ c.in-Some.piece.now c.without_return-line.result.now c.loop-piece.matrices.items c.loop-piece.block.values.items c.loop-piece.block.width t.0 t.1 c.without_return-line.ensures c.loop-piece.invariant.input
           new.values.items new.width c.in_ok-push_row.ensures.row);
     }
 
@@ -73,7 +73,7 @@ returns-in_err-push_row-clause-fault c =
     let t = turn (goal.at.returns-in_err-push_row-clause-fault c).In-Some in
     let left = err_from_is_err_and c.from_residual-in_err-push_row.result c.from_residual-in_err-push_row.ensures.1 in
     rw (left.1, left.2)
-    (refused_input Shows c.args.input.now _ c.in-Some.piece.now c.without_return-line.result.now c.loop-piece.matrices.items c.loop-piece.block.values.items c.loop-piece.block.width t.0 t.1 c.without_return-line.ensures c.loop-piece.invariant.input
+    (refused_input (Shows (c.args.max + 1)) (c.args.max + 1) c.args.input.now _ c.in-Some.piece.now c.without_return-line.result.now c.loop-piece.matrices.items c.loop-piece.block.values.items c.loop-piece.block.width t.0 t.1 c.without_return-line.ensures c.loop-piece.invariant.input
     c.in_err-push_row.field-0.0 (sym c.is_blank.ensures ∙ c.if-is_blank.false) c.in_err-push_row.ensures.fault)
 
 -- every piece of the input was seen
@@ -92,8 +92,8 @@ returns-clause-matrices c =
       | in-Some-take_matrix-2+in_ok-push-2 w ↦
           let m = w.in-Some-take_matrix-2 in
           rw (w.matrices-is, w.in_ok-push-2.ensures.items)
-          (matrices_found c.args.input.now _ (input_end_block Shows c.args.input.now _ c.loop-piece.matrices.items c.loop-piece.block.values.items c.loop-piece.block.width over c.loop-piece.invariant.input m.matrix m.ensures.some m.ensures.matrix))
+          (matrices_found (c.args.max + 1) c.args.input.now _ (input_end_block (Shows (c.args.max + 1)) (c.args.max + 1) c.args.input.now _ c.loop-piece.matrices.items c.loop-piece.block.values.items c.loop-piece.block.width over c.loop-piece.invariant.input m.matrix m.ensures.some (m.ensures.matrix (c.args.max + 1))))
       | in_default-take_matrix w ↦
           rw w.matrices-is
-          (matrices_found c.args.input.now _ (input_end Shows c.args.input.now _ c.loop-piece.matrices.items c.loop-piece.block.values.items c.loop-piece.block.width over c.loop-piece.invariant.input w.in_default-take_matrix.ensures.none))
+          (matrices_found (c.args.max + 1) c.args.input.now _ (input_end (Shows (c.args.max + 1)) (c.args.max + 1) c.args.input.now _ c.loop-piece.matrices.items c.loop-piece.block.values.items c.loop-piece.block.width over c.loop-piece.invariant.input w.in_default-take_matrix.ensures.none))
     ]

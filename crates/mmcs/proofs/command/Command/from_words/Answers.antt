@@ -11,6 +11,5 @@ pub returns-clause-found : goal.returns-clause-found
 returns-clause-found c =
     let words = c.args.words.now in
     let parts = three_elements words c.hash-item.result c.arity-item.result c.cap-item.result c.in-len3-up.len_at_least c.hash-item.is c.arity-item.is c.cap-item.is in
-    let hash = sym c.as_str.ensures.value ∙ (bytes_decides c.as_str.result.now (codes "fold")).0 (not-false _ (sym c.ne.ensures ∙ c.if-ne.false)) in
     let cap = c.in_ok-cap_height.ensures in
-    words_from_parts words c.hash-item.result c.arity-item.result c.cap-item.result _ _ parts hash (sym c.as_str-2.ensures.value ∙ c.in_ok-arity.ensures.found) (subst (λ digits. IsNumberWord digits c.in_ok-cap_height.cap_height) c.as_bytes.ensures.value (cap.0, sym cap.1)) c.in_ok-action.ensures.found
+    words_from_parts words c.hash-item.result c.arity-item.result c.cap-item.result _ _ parts (sym c.as_str.ensures.value ∙ c.in_ok-hash.ensures.found) (sym c.as_str-2.ensures.value ∙ c.in_ok-arity.ensures.found) (subst (λ digits. IsNumberWord digits c.in_ok-cap_height.cap_height) c.as_bytes.ensures.value (cap.0, sym cap.1)) c.in_ok-action.ensures.found

@@ -1,7 +1,7 @@
 use Rattle.p3_merkle_core.specs.Openings.{opening_of}
 use Rattle.p3_merkle_tree.specs.Schemes.{rows_in}
 use Rattle.mmcs.proofs.SchemeFacts.{accepted_alike}
-use Rattle.mmcs.proofs.scheme.verify.Goals as goal
+use Rattle.mmcs.proofs.fold.FoldSuite.verify.Goals as goal
 
 pub returns-clause-taken : goal.returns-clause-taken
 returns-clause-taken g c = λ accepted.
