@@ -1,11 +1,12 @@
 //! What the program asks of a hash.
 
-ghost use Rattle.std.specs.Prelude.{◌≡◌, ℕ, ◌+◌, ◌<◌, All, IfErr, IfOk, IsOk, IsTrue, List, flat_map, length, string_bytes};
+ghost use Rattle.std.specs.Prelude.{◌≡◌, ℕ, ◌+◌, ◌<◌, All, IfErr, IfOk, IsOk, IsTrue, List, flat_map, length, nat_eq, string_bytes};
 ghost use Rattle.p3_support.specs.RowMajor.{values_of};
 ghost use Rattle.p3_merkle_core.specs.Gate.{gate_refusal};
 ghost use Rattle.p3_merkle_core.specs.Geometry.{cap_layer, heights, shape_of, tallest};
 ghost use Rattle.p3_merkle_core.specs.Nodes.{layer, layers, shape, Batch};
 ghost use Rattle.p3_merkle_core.specs.Openings.{IsAccepted, Opening};
+ghost use Rattle.p3_merkle_core.specs.Refusals.{answer_under};
 ghost use Rattle.p3_merkle_core.specs.declared.error.MerkleTreeError.TheVariants.{OutOfMemory};
 ghost use Rattle.p3_merkle_tree.specs.Built.{OkUnlessRefused};
 ghost use Rattle.mmcs.specs.Matrices.{stored_batch};
@@ -76,7 +77,8 @@ pub trait Suite<const N: usize> {
         ensures memory { IfErr result (λ e. e ≡ OutOfMemory) }
         ensures accepted { let b = batch tree.now in let t = cap_layer (shape b) cap_height in nodes tree.now ≡ layers (functions_of_hash name) b → IfOk result (λ o. IsAccepted (functions_of_hash name) (shape b) t (layer (functions_of_hash name) b t) (opened index o)) };
 
-    /// Checks an opening of an index against a cap, for matrices of these dimensions: Ok exactly if it is accepted.
+    /// Checks an opening of an index against a cap, for matrices of these dimensions: Ok exactly if it is accepted,
+    /// else why it is refused.
     fn verify(
         cap_height: usize,
         cap: &Self::Cap,
@@ -85,6 +87,7 @@ pub trait Suite<const N: usize> {
         opening: &Self::Opening,
     ) -> Result<(), MerkleTreeError>
         requires { IsTrue (is_taken_arity N) }
+        ensures answer { let s = shape_of N dimensions.now in result ≡ answer_under nat_eq (functions_of_hash name) s (cap_layer s cap_height) (roots cap.now) (opened index opening.now) }
         ensures accepted { let s = shape_of N dimensions.now in IsOk result → IsAccepted (functions_of_hash name) s (cap_layer s cap_height) (roots cap.now) (opened index opening.now) }
         ensures taken { let s = shape_of N dimensions.now in IsAccepted (functions_of_hash name) s (cap_layer s cap_height) (roots cap.now) (opened index opening.now) → IsOk result };
 
