@@ -145,7 +145,7 @@ levels_collide f s o u m t w (suc n) h x y e d =
 
 -- ---- the whole check
 
-anc_same : (s : Shape) (m i j : ℕ) → ancestor s m i ≡ ancestor s m j → (k : ℕ) → ancestor s (m + k) i ≡ ancestor s (m + k) j
+pub anc_same : (s : Shape) (m i j : ℕ) → ancestor s m i ≡ ancestor s m j → (k : ℕ) → ancestor s (m + k) i ≡ ancestor s (m + k) j
 anc_same s m i j e zero = let z : m + 0 ≡ m = omega arith in rw z e
 anc_same s m i j e (suc k) = rw (add-suc, anc_next s (m + k) i, anc_next s (m + k) j, anc_same s m i j e k) refl
 

@@ -16,7 +16,7 @@ filled_long f n ds h = length-append ds (replicate (n - length ds) f.default_dig
 step_le : (s : Shape) (l : ℕ) → IsArity s.arity → step s l ≤ s.arity
 step_le s l w = cond_both (is_bridge s (layer_exponent s l)) 2 s.arity (λ x. x ≤ s.arity) (λ e. w.above_1) (λ e. omega arith)
 
-level_full : {T W : Type 0} (f : Functions T W) (s : Shape) (t : ℕ) (o : Opening T W) (l : ℕ) → IsArity s.arity → length o.siblings ≡ siblings_below s t → l < t → All (HasDigests s.arity) (inputs_at f s o l)
+pub level_full : {T W : Type 0} (f : Functions T W) (s : Shape) (t : ℕ) (o : Opening T W) (l : ℕ) → IsArity s.arity → length o.siblings ≡ siblings_below s t → l < t → All (HasDigests s.arity) (inputs_at f s o l)
 level_full f s t o l w e h =
     let two = w.above_1 in
     let a = step_above_1 s l w.above_1 in

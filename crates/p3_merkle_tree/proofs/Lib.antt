@@ -9,3 +9,7 @@ pub mod RowFacts
 pub mod OwnFacts
 pub mod OwnAccepted
 pub mod CapFacts
+pub mod AuthenticFacts
+pub mod WalkFacts
+pub mod SharedFacts
+pub mod ExtractFacts

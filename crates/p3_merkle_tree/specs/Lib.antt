@@ -4,3 +4,5 @@ pub mod Built
 pub mod Parts
 pub mod Paths
 pub mod Schemes
+pub mod Collisions
+pub mod Checks

@@ -2,17 +2,22 @@
 //! openings of its rows that a verifier checks against a cap.
 #![tactic(auto)]
 
+pub mod collision;
 mod copy;
+mod extract;
 mod group;
 mod layers;
 mod levels;
 pub mod mmcs;
 mod opened;
 mod opener;
+mod openings;
 pub mod schedule;
 pub mod tree;
 mod verify;
+mod walk;
 
+pub use collision::{Collision, Place};
 pub use mmcs::MerkleTreeMmcs;
 pub use p3_merkle_core::error::{MerkleTreeError, PrunedProofError};
 pub use p3_merkle_core::geometry::{ArityAndPositions, MAX_HEIGHT};

@@ -6,6 +6,7 @@ ghost use Rattle.std.specs.Option.{option_map};
 ghost use Rattle.p3_merkle_core.specs.Geometry.{ancestor, cap_layer, exponent, heights_of, shape_of};
 ghost use Rattle.p3_merkle_core.specs.Openings.{opening_of, path_digest};
 ghost use Rattle.p3_merkle_core.specs.Refusals.{answer_under};
+ghost use Rattle.p3_merkle_tree.specs.Collisions.{IsCheckedLevel};
 ghost use Rattle.p3_merkle_tree.specs.Paths.{climbed, form_refusal, rows_with, CanReach};
 ghost use Rattle.p3_merkle_tree.specs.Schemes.{cap_height_of, hash_of, opening_lent, rows_in, scheme_functions};
 ghost use Rattle.p3_support.specs.Shown.{roots_of};
@@ -23,6 +24,17 @@ use p3_support::hasher::CryptographicHasher;
 use p3_support::matrix::Dimensions;
 use p3_support::opening::{BatchOpeningRef, MerkleCap};
 use p3_support::packed::PackedValue;
+
+/// What a level of a check compresses, and the digest that it leads to.
+#[derive(Clone, Copy)]
+pub(crate) struct CheckedLevel<X, G> {
+    /// A digest at its place among its siblings.
+    pub group: G,
+    /// The group's digest and that of rows, where matrices belong to the layer above.
+    pub pair: Option<G>,
+    /// The digest of the last of these.
+    pub digest: X,
+}
 
 impl<
     P: PackedValue,
@@ -69,7 +81,7 @@ impl<
     }
 
     /// The digest of the rows of the matrices with the exponent `x`, one after another.
-    fn rows_digest(
+    pub(crate) fn rows_digest(
         &self,
         dimensions: &[Dimensions],
         rows: &[Vec<P::Value>],
@@ -79,6 +91,39 @@ impl<
             result ≡ H.hash (hash_of self.now) (rows_with x rows) }
     {
         self.hash.hash_iter(opened_rows(dimensions, rows, x))
+    }
+
+    /// A level of a check: a group, compressed, and where matrices belong to the next layer, whose exponent is `x`,
+    /// compressed once more with the digest of their rows.
+    pub(crate) fn checked_level(
+        &self,
+        dimensions: &[Dimensions],
+        x: usize,
+        rows: &[Vec<P::Value>],
+        group: [[PW::Value; D]; N],
+    ) -> CheckedLevel<[PW::Value; D], [[PW::Value; D]; N]>
+        ensures { let f = scheme_functions H.hash C.compression D self.now in
+            let heights = heights_of dimensions.now in
+            let has_rows = list_any (λ h. exponent h == x) heights in
+            IsCheckedLevel f N x (zip heights (rows_in rows.now)) has_rows group result }
+    {
+        let node = self.compress.compress(group);
+        if has_exponent(dimensions, x) {
+            let default_digest = [PW::Value::default(); D];
+            let injected = [self.rows_digest(dimensions, rows, x)];
+            let pair = group_with::<PW::Value, N, D>(default_digest, node, 0, &injected);
+            CheckedLevel {
+                group,
+                pair: Some(pair),
+                digest: self.compress.compress(pair),
+            }
+        } else {
+            CheckedLevel {
+                group,
+                pair: None,
+                digest: node,
+            }
+        }
     }
 
     /// The digest of the next layer, whose exponent is `x`: that of a digest at its place among its siblings,
@@ -102,14 +147,7 @@ impl<
     {
         let default_digest = [PW::Value::default(); D];
         let group = group_with::<PW::Value, N, D>(default_digest, digest, position, others);
-        let node = self.compress.compress(group);
-        if has_exponent(dimensions, x) {
-            let injected = [self.rows_digest(dimensions, rows, x)];
-            let pair = group_with::<PW::Value, N, D>(default_digest, node, 0, &injected);
-            self.compress.compress(pair)
-        } else {
-            node
-        }
+        self.checked_level(dimensions, x, rows, group).digest
     }
 
     /// The digest that the check of an opening reaches at layer `t`, and the node of that layer above the leaf.

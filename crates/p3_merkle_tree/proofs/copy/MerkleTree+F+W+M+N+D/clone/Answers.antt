@@ -1,6 +1,5 @@
 -- The copy has the facts of the tree.
-use Rattle.std.proofs.Common.{◌≡◌, List, ap, subst, sym, ◌∙◌, length, map, refl}
-use Rattle.std.proofs.lemmas.Simd.{map-map}
+use Rattle.std.proofs.Common.{List, ap, subst, sym, ◌∙◌, map}
 use Rattle.p3_merkle_core.specs.Geometry.{arity_schedule, heights, IsLawful}
 use Rattle.p3_merkle_core.specs.Nodes.{shape}
 use Rattle.p3_merkle_tree.specs.Views.{batch_of}

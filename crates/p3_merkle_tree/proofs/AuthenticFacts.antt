@@ -1,0 +1,49 @@
+-- A matrix is authenticated exactly if its exponent is no less than that of the cap's layer.
+use Rattle.std.proofs.Common.{◌≡◌, ◌↔◌, ℕ, zero, suc, ◌+◌, ◌-◌, ◌<◌, ◌≤◌, leb, sym, ◌∙◌, arith, inl, inr, add-suc, length, get_or}
+use Rattle.std.proofs.lemmas.Bool.{cases_lt, le-leb, lt-leb}
+use Rattle.p3_merkle_core.specs.Geometry.{Shape, IsArity, exponent, heights, layer_exponent, layer_of, levels}
+use Rattle.p3_merkle_core.proofs.LeastFacts.{least_le}
+use Rattle.p3_merkle_core.proofs.StepFacts.{next_exponent, next_falls}
+use Rattle.p3_merkle_core.proofs.LadderFacts.{step_cases, layer_of_is}
+use Rattle.p3_merkle_core.proofs.RawFacts.{positive_below}
+
+-- exponents go down from layer to layer
+exponents_fall : (s : Shape) (l k : ℕ) → layer_exponent s (l + k) ≤ layer_exponent s l
+exponents_fall s l zero = let z : l + 0 ≡ l = omega arith in rw z (omega arith)
+exponents_fall s l (suc k) =
+    let below = exponents_fall s l k in
+    rw add-suc (elim (step_cases s (l + k)) [ inl b ↦ omega (arith, b.1) | inr b ↦ omega (arith, b.1) ])
+
+-- the matrices with at least the exponent of layer t belong to it, or to a layer below it
+at_or_below : (s : Shape) (t k : ℕ) → IsArity s.arity → t ≤ levels s → k < length (heights s) →
+    (layer_exponent s t ≤ exponent (get_or (heights s) k 0)) ↔ (layer_of s (get_or (heights s) k 0) ≤ t)
+at_or_below s t k w in_tree inside =
+    let h = get_or (heights s) k 0 in
+    let l = layer_of s h in
+    let is = layer_of_is s w k inside in
+    let top : l ≤ levels s = least_le _ (levels s) in (
+      λ enough. elim (cases_lt t l) [
+        | inl above ↦
+            let up = next_falls s (layer_exponent s t) (layer_exponent s (suc t)) w.above_1 (positive_below s t (omega arith)) (next_exponent s t) in
+            let sum : suc t + (l - suc t) ≡ l = omega arith in
+            let further = rw sum at (exponents_fall s (suc t) (l - suc t)) in
+            absurd (omega arith)
+        | inr low ↦ low
+      ],
+      λ low.
+          let sum : l + (t - l) ≡ t = omega arith in
+          let further = rw sum at (exponents_fall s l (t - l)) in
+          omega arith,
+    )
+
+pub authenticated_is : (s : Shape) (t k : ℕ) → IsArity s.arity → t ≤ levels s → k < length (heights s) →
+    leb (layer_exponent s t) (exponent (get_or (heights s) k 0)) ≡ leb (layer_of s (get_or (heights s) k 0)) t
+authenticated_is s t k w in_tree inside =
+    let h = get_or (heights s) k 0 in
+    let both = at_or_below s t k w in_tree inside in
+    elim (cases_lt (exponent h) (layer_exponent s t)) [
+      | inl less ↦
+          let above : t < layer_of s h = elim (cases_lt t (layer_of s h)) [ inl a ↦ a | inr low ↦ let z = both.1 low in absurd (omega arith) ] in
+          lt-leb (layer_exponent s t) (exponent h) less ∙ sym (lt-leb (layer_of s h) t above)
+      | inr enough ↦ le-leb (layer_exponent s t) (exponent h) enough ∙ sym (le-leb (layer_of s h) t (both.0 enough))
+    ]

@@ -1,0 +1,180 @@
+//! Extraction: from two openings of one cap that differ to two inputs of one digest.
+
+ghost use Rattle.std.specs.Prelude.{◌≡◌, ◌<◌, ◌↔◌, IfOk, IfSome, IsNone, IsSome, MatchResult, None, Some, length};
+ghost use Rattle.p3_merkle_core.specs.Extracting.{extraction_under};
+ghost use Rattle.p3_merkle_core.specs.Gate.{gate_refusal};
+ghost use Rattle.p3_merkle_core.specs.Geometry.{cap_layer, heights_of, layer_exponent, shape_of};
+ghost use Rattle.p3_merkle_core.specs.Openings.{is_authenticated as authenticates, AgreeWhereShared, IsAccepted};
+ghost use Rattle.p3_merkle_tree.specs.Collisions.{AnswerAlike, AnswerOneRowTwice, AnswersUnlessMemory, IsCollision};
+ghost use Rattle.p3_merkle_tree.specs.Schemes.{cap_height_of, opening_lent, scheme_functions};
+ghost use Rattle.p3_support.specs.Shown.{roots_of};
+
+use crate::collision::Collision;
+use crate::mmcs::MerkleTreeMmcs;
+use crate::openings::{IndexedOpening, OpeningPair};
+use p3_merkle_core::error::MerkleTreeError;
+use p3_merkle_core::geometry::{
+    check_heights, exponent_of, levels_of, select_arity_step, tallest_of,
+};
+use p3_support::compress::PseudoCompressionFunction;
+use p3_support::hasher::CryptographicHasher;
+use p3_support::matrix::Dimensions;
+use p3_support::opening::{BatchOpeningRef, MerkleCap};
+use p3_support::packed::PackedValue;
+use std::alloc::Global;
+
+/// The exponent of layer `t`.
+fn exponent_at_of(dimensions: &[Dimensions], arity: usize, t: usize) -> usize
+    ensures { result ≡ layer_exponent (shape_of arity dimensions.now) t }
+{
+    let mut x = exponent_of(tallest_of(dimensions));
+    for _l in 0..t {
+        let (_, next) = select_arity_step(dimensions, arity, x);
+        x = next;
+    }
+    x
+}
+
+impl<
+    P: PackedValue,
+    PW: PackedValue,
+    H: CryptographicHasher<P, PW, D>,
+    C: PseudoCompressionFunction<PW, N, D>,
+    const N: usize,
+    const D: usize,
+> MerkleTreeMmcs<P, PW, H, C, N, D> {
+    /// Whether a cap over matrices of these dimensions authenticates the rows of one of them: its rows are hashed into
+    /// the cap's layer, or into a layer below it. Of any other matrix a check looks at the width of its row alone.
+    ///
+    /// It takes no memory.
+    ///
+    /// # Errors
+    ///
+    /// `EmptyBatch`, `TooLarge` or `IncompatibleHeights` where [`commit`](Self::commit) refuses such heights.
+    pub fn is_authenticated(
+        &self,
+        dimensions: &[Dimensions],
+        matrix: usize,
+    ) -> Result<bool, MerkleTreeError>
+        requires { matrix < length dimensions.now }
+        ensures answer { MatchResult result
+            (λ answer. gate_refusal (heights_of dimensions.now) ≡ None)
+            (λ e. gate_refusal (heights_of dimensions.now) ≡ Some e) }
+        ensures authenticated { let s = shape_of N dimensions.now in
+            let t = cap_layer s (cap_height_of self.now) in
+            IfOk result (λ answer. answer ≡ authenticates s t matrix) }
+    {
+        check_heights(dimensions)?;
+        let t = levels_of(dimensions, N).saturating_sub(self.cap_height);
+        let height = dimensions[matrix].height;
+        Ok(exponent_of(height) >= exponent_at_of(dimensions, N, t))
+    }
+
+    /// What two openings lead to. `extract_collision` gives it, and says what that means.
+    fn extracted(
+        &self,
+        alloc: Global,
+        commit: &MerkleCap<P::Value, [PW::Value; D]>,
+        dimensions: &[Dimensions],
+        index1: usize,
+        first: BatchOpeningRef<'_, P::Value, Vec<[PW::Value; D]>>,
+        index2: usize,
+        second: BatchOpeningRef<'_, P::Value, Vec<[PW::Value; D]>>,
+    ) -> Result<Option<Collision<P::Value, PW::Value, D>>, MerkleTreeError>
+        ensures { let f = scheme_functions H.hash C.compression D self.now in
+            let s = shape_of N dimensions.now in
+            let t = cap_layer s (cap_height_of self.now) in
+            let o = opening_lent index1 first.entry in
+            let u = opening_lent index2 second.entry in
+            AnswersUnlessMemory result (extraction_under P.Value.eq PW.Value.eq f s t (roots_of commit.now) o u) }
+    {
+        self.check_opening(commit, dimensions, index1, first)?;
+        self.check_opening(commit, dimensions, index2, second)?;
+        let t = levels_of(dimensions, N).saturating_sub(self.cap_height);
+        let openings = OpeningPair::<P::Value, [PW::Value; D], N> {
+            dimensions,
+            t,
+            first: IndexedOpening {
+                index: index1,
+                rows: first.opened_values,
+                siblings: first.opening_proof,
+            },
+            second: IndexedOpening {
+                index: index2,
+                rows: second.opened_values,
+                siblings: second.opening_proof,
+            },
+        };
+        Ok(self.last_difference(alloc, &openings)?)
+    }
+
+    /// What two openings of one cap lead to: nothing where they agree, and else two different inputs of the hasher or
+    /// of the compression that have one digest.
+    ///
+    /// Both are checked as [`verify_batch`](Self::verify_batch) checks them. A check goes through the leaf, then level
+    /// by level through a group and, where matrices belong to the layer above, through their rows and a pair (see
+    /// [`Place`](crate::Place)). Checks of one index share all places; checks of two indices share those from the level
+    /// on where their paths lead into one node. The collision is the last shared place at which the inputs differ, with
+    /// the first opening's input and the second's. It takes memory for levels that are shared alone.
+    ///
+    /// Two openings of one index lead to a collision exactly if their siblings differ, or their rows of a matrix that
+    /// [is authenticated](Self::is_authenticated). Openings of any indices do wherever they answer one row of such a
+    /// matrix in two ways.
+    ///
+    /// # Errors
+    ///
+    /// What `verify_batch` answers to the first opening, else what it answers to the second; `OutOfMemory` may come at
+    /// any time.
+    pub fn extract_collision(
+        &self,
+        alloc: Global,
+        commit: &MerkleCap<P::Value, [PW::Value; D]>,
+        dimensions: &[Dimensions],
+        index1: usize,
+        first: BatchOpeningRef<'_, P::Value, Vec<[PW::Value; D]>>,
+        index2: usize,
+        second: BatchOpeningRef<'_, P::Value, Vec<[PW::Value; D]>>,
+    ) -> Result<Option<Collision<P::Value, PW::Value, D>>, MerkleTreeError>
+        ensures answer { let f = scheme_functions H.hash C.compression D self.now in
+            let s = shape_of N dimensions.now in
+            let t = cap_layer s (cap_height_of self.now) in
+            let o = opening_lent index1 first.entry in
+            let u = opening_lent index2 second.entry in
+            AnswersUnlessMemory result (extraction_under P.Value.eq PW.Value.eq f s t (roots_of commit.now) o u) }
+
+        // Both openings are accepted, and nothing is found exactly where their checks agree.
+        ensures accepted { let f = scheme_functions H.hash C.compression D self.now in
+            let s = shape_of N dimensions.now in
+            let t = cap_layer s (cap_height_of self.now) in
+            let o = opening_lent index1 first.entry in
+            let u = opening_lent index2 second.entry in
+            let cap = roots_of commit.now in
+            IfOk result (λ found. IsAccepted f s t cap o × IsAccepted f s t cap u) }
+        ensures none { let f = scheme_functions H.hash C.compression D self.now in
+            let s = shape_of N dimensions.now in
+            let t = cap_layer s (cap_height_of self.now) in
+            let o = opening_lent index1 first.entry in
+            let u = opening_lent index2 second.entry in
+            IfOk result (λ found. IsNone found ↔ AgreeWhereShared f s t o u) }
+        ensures collision { let f = scheme_functions H.hash C.compression D self.now in
+            let s = shape_of N dimensions.now in
+            let t = cap_layer s (cap_height_of self.now) in
+            let o = opening_lent index1 first.entry in
+            let u = opening_lent index2 second.entry in
+            IfOk result (λ found. IfSome found (IsCollision f s t o u)) }
+
+        // When something is found, in the words of siblings and rows.
+        ensures one_index { let s = shape_of N dimensions.now in
+            let t = cap_layer s (cap_height_of self.now) in
+            let o = opening_lent index1 first.entry in
+            let u = opening_lent index2 second.entry in
+            index1 ≡ index2 → IfOk result (λ found. IsNone found ↔ AnswerAlike s t o u) }
+        ensures two_ways { let s = shape_of N dimensions.now in
+            let t = cap_layer s (cap_height_of self.now) in
+            let o = opening_lent index1 first.entry in
+            let u = opening_lent index2 second.entry in
+            AnswerOneRowTwice s t o u → IfOk result (λ found. IsSome found) }
+    {
+        self.extracted(alloc, commit, dimensions, index1, first, index2, second)
+    }
+}
