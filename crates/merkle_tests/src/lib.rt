@@ -3,7 +3,11 @@
 #![tactic(auto)]
 
 #[cfg(test)]
+mod collisions;
+#[cfg(test)]
 mod commitments;
+#[cfg(test)]
+mod exclusive_or;
 #[cfg(test)]
 mod fixtures;
 #[cfg(test)]
@@ -12,6 +16,8 @@ mod generic;
 mod openings;
 #[cfg(test)]
 mod refusals;
+#[cfg(test)]
+mod sha256;
 #[cfg(test)]
 mod shapes;
 #[cfg(test)]

@@ -1,0 +1,157 @@
+//! Trees of SHA-256 over matrices of two heights, against roots that were computed outside.
+
+ghost use Rattle.std.specs.Prelude.{◌≤◌, IsTrue};
+ghost use Rattle.p3_merkle_core.specs.Geometry.{is_arity};
+
+use p3_merkle_tree::{
+    BatchOpening, BatchOpeningRef, MerkleCap, MerkleTree, MerkleTreeError, MerkleTreeMmcs,
+};
+use p3_support::matrix::{Dimensions, RowMajorMatrix};
+use p3_support::sha::{Sha256Nodes, Sha256Rows};
+use std::alloc::{AllocError, Global};
+use std::process::Abort;
+use std::test::Fail;
+
+/// The SHA-256 of "abc", of FIPS 180-4.
+const DIGEST_OF_ABC: [u8; 32] = [
+    0xba, 0x78, 0x16, 0xbf, 0x8f, 0x01, 0xcf, 0xea, 0x41, 0x41, 0x40, 0xde, 0x5d, 0xae, 0x22, 0x23,
+    0xb0, 0x03, 0x61, 0xa3, 0x96, 0x17, 0x7a, 0x9c, 0xb4, 0x10, 0xff, 0x61, 0xf2, 0x00, 0x15, 0xad,
+];
+
+/// The root over the rows [1, 2], [3, 4], [5, 6] and, halfway up, [7], [8], at arity 2, by python3 from
+///
+/// ```text
+/// h = lambda b: hashlib.sha256(bytes(b)).digest()
+/// a = h(h(h([1, 2]) + h([3, 4])) + h([7]))
+/// b = h(h(h([5, 6]) + bytes(32)) + h([8]))
+/// root = h(a + b)
+/// ```
+const ROOT_AT_TWO: [u8; 32] = [
+    0x6c, 0x02, 0x7b, 0xdf, 0x01, 0x2c, 0x1b, 0x83, 0x14, 0x44, 0x9e, 0xa6, 0xaa, 0xba, 0x3f, 0xbd,
+    0x0a, 0x64, 0x89, 0xed, 0xa9, 0xa5, 0x4e, 0xc3, 0x28, 0x7b, 0xb3, 0xb1, 0xde, 0xff, 0x74, 0xe9,
+];
+
+/// The root over the same rows at arity 4, where the first step joins two, by python3 from
+///
+/// ```text
+/// z = bytes(64)
+/// a = h(h(h([1, 2]) + h([3, 4]) + z) + h([7]) + z)
+/// b = h(h(h([5, 6]) + bytes(32) + z) + h([8]) + z)
+/// root = h(a + b + z)
+/// ```
+const ROOT_AT_FOUR: [u8; 32] = [
+    0xcf, 0x86, 0x06, 0x78, 0x1a, 0x48, 0x18, 0x03, 0xf4, 0x18, 0x84, 0x93, 0x6c, 0x9b, 0xa2, 0xbb,
+    0x53, 0x62, 0xfb, 0x89, 0xc0, 0xc8, 0xfa, 0xc3, 0x92, 0x5c, 0xff, 0x47, 0xd6, 0xb0, 0x1c, 0x3e,
+];
+
+/// The scheme of SHA-256.
+type ShaScheme<const N: usize> = MerkleTreeMmcs<u8, u8, Sha256Rows, Sha256Nodes<N>, N, 32>;
+
+/// A tree of that scheme.
+type ShaTree<const N: usize> = MerkleTree<u8, u8, RowMajorMatrix<u8>, N, 32>;
+
+/// An opening of that scheme.
+type ShaOpening = BatchOpening<u8, Vec<[u8; 32]>>;
+
+/// The dimensions of the two matrices.
+const DIMENSIONS: [Dimensions; 2] = [
+    Dimensions {
+        width: 2,
+        height: 3,
+    },
+    Dimensions {
+        width: 1,
+        height: 2,
+    },
+];
+
+/// The matrices of the rows [1, 2], [3, 4], [5, 6] and of the rows [7], [8].
+fn matrices(alloc: Global) -> Result<Vec<RowMajorMatrix<u8>>, AllocError> {
+    let tall = RowMajorMatrix::new(vec![in alloc; 1, 2, 3, 4, 5, 6]?, 2);
+    let low = RowMajorMatrix::new(vec![in alloc; 7, 8]?, 1);
+    Ok(vec![in alloc; tall, low]?)
+}
+
+/// An opening with the first word of its row of matrix `matrix` replaced.
+fn with_word(rt: &impl Abort, mut opening: ShaOpening, matrix: usize, word: u8) -> ShaOpening {
+    assert!(rt; matrix < opening.opened_values.len());
+    assert!(rt; !opening.opened_values[matrix].is_empty());
+    opening.opened_values[matrix][0] = word;
+    opening
+}
+
+/// Asserts of each leaf that its opening is accepted, that it is refused with another row of either matrix, and that
+/// the opening and itself lead to no collision.
+fn assert_openings<const N: usize>(
+    rt: &impl Abort,
+    alloc: Global,
+    scheme: &ShaScheme<N>,
+    cap: &MerkleCap<u8, [u8; 32]>,
+    tree: &ShaTree<N>,
+) -> Result<(), MerkleTreeError>
+    requires { N ≤ 8 }
+{
+    let mismatch = Err(MerkleTreeError::CapMismatch);
+    assert_eq!(rt; scheme.get_max_height(tree), 3);
+    for index in 0..scheme.get_max_height(tree) {
+        let opening = scheme.open_batch(alloc, index, tree)?;
+        let honest = BatchOpeningRef::from(&opening);
+        scheme.verify_batch(cap, &DIMENSIONS, index, honest)?;
+        let found = scheme.extract_collision(
+            alloc,
+            cap,
+            &DIMENSIONS,
+            index,
+            honest,
+            index,
+            honest,
+        )?;
+        assert_eq!(rt; found, None);
+        for matrix in 0..2 {
+            let other = with_word(rt, scheme.open_batch(alloc, index, tree)?, matrix, 9);
+            let refused = scheme.verify_batch(
+                cap,
+                &DIMENSIONS,
+                index,
+                BatchOpeningRef::from(&other),
+            );
+            assert_eq!(rt; refused, mismatch);
+        }
+    }
+    Ok(())
+}
+
+/// Asserts that the tree of arity `N` over the two matrices has this root, and what its openings are answered.
+fn assert_tree<const N: usize>(
+    rt: &impl Abort,
+    alloc: Global,
+    root: [u8; 32],
+) -> Result<(), MerkleTreeError>
+    requires arity { IsTrue (is_arity N) }
+    requires few { N ≤ 8 }
+{
+    let scheme = ShaScheme::<N>::new(Sha256Rows, Sha256Nodes::<N>, 0);
+    let (cap, tree) = scheme.commit(alloc, matrices(alloc)?)?;
+    assert_eq!(rt; cap.roots(), [root].as_slice());
+    assert_openings::<N>(rt, alloc, &scheme, &cap, &tree)
+}
+
+#[test]
+fn two_heights_have_the_root_computed_outside(rt: HostRuntime) -> Result<(), Fail> {
+    assert_tree::<2>(&rt, rt.alloc(), ROOT_AT_TWO)?;
+    assert_tree::<4>(&rt, rt.alloc(), ROOT_AT_FOUR)?;
+    Ok(())
+}
+
+#[test]
+fn one_row_has_its_own_digest_as_root(rt: HostRuntime) -> Result<(), Fail> {
+    let alloc = rt.alloc();
+    let matrix = RowMajorMatrix::new(vec![in alloc; 97, 98, 99]?, 3);
+    let (cap, tree) = ShaScheme::<2>::new(Sha256Rows, Sha256Nodes::<2>, 0).commit(
+        alloc,
+        vec![in alloc; matrix]?,
+    )?;
+    assert_eq!(rt; cap.roots(), [DIGEST_OF_ABC].as_slice());
+    assert_eq!(rt; *tree.root().value(), DIGEST_OF_ABC);
+    Ok(())
+}
