@@ -1,6 +1,6 @@
 //! What two accepted openings of one cap lead to, and which matrices a cap authenticates.
 
-use crate::fixtures::{fold_scheme, of_heights};
+use crate::fixtures::{dimensions_of, fold_scheme};
 use p3_merkle_tree::{BatchOpening, BatchOpeningRef, Collision, MerkleCap, MerkleTreeError, Place};
 use p3_support::matrix::Dimensions;
 use std::alloc::{AllocError, Global};
@@ -120,7 +120,7 @@ fn siblings_that_make_up_for_a_row_collide_in_the_group(rt: HostRuntime) -> Resu
         alloc,
         0,
         &[[1026]],
-        &of_heights(alloc, &[2])?,
+        &dimensions_of(alloc, 1, &[2])?,
         two_rows(0, &[&[1]], &[[33]]),
         two_rows(0, &[&[2]], &[[2]]),
     )?;
@@ -207,7 +207,7 @@ fn two_indices_collide_from_where_their_paths_meet(rt: HostRuntime) -> Result<()
         alloc,
         0,
         &[[32_897]],
-        &of_heights(alloc, &[4])?,
+        &dimensions_of(alloc, 1, &[4])?,
         two_rows(0, &[&[1]], &[[33], [1090]]),
         two_rows(2, &[&[2]], &[[35], [1027]]),
     )?;
@@ -260,7 +260,7 @@ fn assert_authenticated(
 
 #[test]
 fn matrices_up_to_the_cap_are_authenticated(rt: HostRuntime) -> Result<(), Fail> {
-    let dimensions = of_heights(rt.alloc(), &[5, 3, 1])?;
+    let dimensions = dimensions_of(rt.alloc(), 1, &[5, 3, 1])?;
     assert_authenticated(&rt, &dimensions, 0, &[true, true, true]);
     assert_authenticated(&rt, &dimensions, 1, &[true, true, false]);
     assert_authenticated(&rt, &dimensions, 2, &[true, false, false]);

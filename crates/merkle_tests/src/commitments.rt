@@ -1,154 +1,315 @@
-//! What is committed to: layers, caps and roots that were worked out by hand.
+//! What is committed to: layers, caps and roots that were worked out by hand, and longer ones outside of this
+//! repository, from the definitions.
 
-ghost use Rattle.std.specs.Prelude.{◌≤◌, IsTrue};
-ghost use Rattle.p3_merkle_core.specs.Geometry.{is_arity};
-
-use crate::fixtures::{Numbers, columns, fold_scheme, fold_tree, numbered_matrices};
+use crate::calls::{commit, layers_in};
+use crate::fixtures::{
+    BinaryTree, FoldCap, FoldScheme, Numbers, assert_digests, binary_tree, columns, fold_scheme,
+};
 use p3_merkle_tree::MerkleTreeError;
+use p3_support::compress::PseudoCompressionFunction;
+use p3_support::fold::{FoldCompress, FoldHash};
+use p3_support::hasher::CryptographicHasher;
 use std::alloc::Global;
 use std::process::Abort;
 use std::test::Fail;
 
-/// Asserts that the tree of arity `N` over these columns has these layers, leaves first.
-fn assert_layers<const N: usize>(
-    rt: &impl Abort,
-    alloc: Global,
-    matrices: &[&[u32]],
-    layers: &[&[[u32; 1]]],
-) -> Result<(), MerkleTreeError>
-    requires arity { IsTrue (is_arity N) }
-    requires few { N ≤ 8 }
-{
-    let tree = fold_tree::<_, N>(alloc, columns(alloc, matrices)?)?;
-    assert_eq!(rt; tree.num_layers(), layers.len());
-    for level in 0..layers.len() {
-        let cap = tree.cap(alloc, layers.len() - 1 - level)?;
-        assert_eq!(rt; cap.roots(), layers[level]);
-    }
-    assert_eq!(rt; [*tree.root().value()].as_slice(), layers[layers.len() - 1]);
-    Ok(())
+/// Columns, and the layers of the tree over them, leaves first.
+#[derive(Clone, Copy)]
+struct Built<'a> {
+    columns: &'a [&'a [u32]],
+    layers: &'a [&'a [[u32; 1]]],
 }
 
-/// Asserts that committing to these columns at each cap height gives the layer that many levels below the root, and
-/// the leaves where there are fewer levels.
-fn assert_caps<const N: usize>(
-    rt: &impl Abort,
-    alloc: Global,
-    matrices: &[&[u32]],
-    layers: &[&[[u32; 1]]],
-) -> Result<(), MerkleTreeError>
-    requires arity { IsTrue (is_arity N) }
-    requires few { N ≤ 8 }
-{
-    assert!(rt; !layers.is_empty());
-    for cap_height in [0, 1, 2, 3, 4, 9] {
-        let scheme = fold_scheme::<N>(cap_height);
-        assert_eq!(rt; scheme.cap_height(), cap_height);
-        let (cap, _) = scheme.commit(alloc, columns(alloc, matrices)?)?;
-        assert_eq!(rt;
-            cap.roots(),
-            layers[(layers.len() - 1).saturating_sub(cap_height)]
-        );
-    }
-    Ok(())
-}
-
-/// Asserts that these columns have these layers, leaves first, and that each layer is a cap.
-fn assert_committed<const N: usize>(
-    rt: &impl Abort,
-    alloc: Global,
-    matrices: &[&[u32]],
-    layers: &[&[[u32; 1]]],
-) -> Result<(), MerkleTreeError>
-    requires arity { IsTrue (is_arity N) }
-    requires few { N ≤ 8 }
-{
-    assert_layers::<N>(rt, alloc, matrices, layers)?;
-    assert_caps::<N>(rt, alloc, matrices, layers)
-}
-
-#[test]
-fn one_matrix_has_the_layers_worked_out(rt: HostRuntime) -> Result<(), Fail> {
-    let alloc = rt.alloc();
-    assert_committed::<2>(
-        &rt,
-        alloc,
-        &[&[1, 2, 3, 4]],
-        &[&[[32], [33], [34], [35]], &[[1026], [1090]], &[[32897]]],
-    )?;
-    assert_committed::<2>(&rt, alloc, &[&[9]], &[&[[40]]])?;
-    assert_committed::<2>(
-        &rt,
-        alloc,
-        &[&[1, 2, 3]],
-        &[&[[32], [33], [34], [0]], &[[1026], [1055]], &[[32862]]],
-    )?;
-    assert_committed::<4>(
-        &rt,
-        alloc,
-        &[&[1, 2]],
-        &[&[[32], [33], [0], [0]], &[[986_051]]],
-    )?;
-    Ok(())
-}
-
-#[test]
-fn matrices_of_several_heights_have_the_layers_worked_out(rt: HostRuntime) -> Result<(), Fail> {
-    let alloc = rt.alloc();
-    assert_committed::<2>(&rt, alloc, &[&[1, 2], &[5]], &[&[[32], [33]], &[[31_843]]])?;
-    assert_committed::<2>(
-        &rt,
-        alloc,
-        &[&[1, 2], &[3, 4]],
-        &[&[[995], [1027]], &[[31_873]]],
-    )?;
-    assert_committed::<2>(
-        &rt,
-        alloc,
-        &[&[1, 2, 3], &[4, 5]],
-        &[
+static TWO_CHILDREN: [Built<'static>; 11] = [
+    Built {
+        columns: &[&[9]],
+        layers: &[&[[40]]],
+    },
+    Built {
+        columns: &[&[1, 2, 3]],
+        layers: &[&[[32], [33], [34], [0]], &[[1026], [1055]], &[[32_862]]],
+    },
+    Built {
+        columns: &[&[1, 2, 3, 4]],
+        layers: &[&[[32], [33], [34], [35]], &[[1026], [1090]], &[[32_897]]],
+    },
+    Built {
+        columns: &[&[1, 2, 3, 4, 5]],
+        layers: &[
+            &[[32], [33], [34], [35], [36], [0]],
+            &[[1026], [1090], [1117], [0]],
+            &[[32_897], [34_628]],
+            &[[1_054_436]],
+        ],
+    },
+    Built {
+        columns: &[&[1, 2, 3, 4, 5, 6, 7, 8]],
+        layers: &[
+            &[[32], [33], [34], [35], [36], [37], [38], [39]],
+            &[[1026], [1090], [1154], [1218]],
+            &[[32_897], [36_993]],
+            &[[1_056_801]],
+        ],
+    },
+    Built {
+        columns: &[&[1, 2], &[3, 4]],
+        layers: &[&[[995], [1027]], &[[31_873]]],
+    },
+    Built {
+        columns: &[&[1, 2], &[5]],
+        layers: &[&[[32], [33]], &[[31_843]]],
+    },
+    // Rows of one layer are hashed in input order, wherever the tallest matrix stands.
+    Built {
+        columns: &[&[1, 2], &[5], &[6]],
+        layers: &[&[[32], [33]], &[[32_929]]],
+    },
+    Built {
+        columns: &[&[5], &[1, 2], &[6]],
+        layers: &[&[[32], [33]], &[[32_929]]],
+    },
+    Built {
+        columns: &[&[1, 2, 3], &[4, 5]],
+        layers: &[
             &[[32], [33], [34], [0]],
             &[[31_842], [32_742]],
             &[[1_019_845]],
         ],
-    )?;
-    Ok(())
+    },
+    Built {
+        columns: &[&[4, 5], &[1, 2, 3]],
+        layers: &[
+            &[[32], [33], [34], [0]],
+            &[[31_842], [32_742]],
+            &[[1_019_845]],
+        ],
+    },
+];
+
+static FOUR_CHILDREN: [Built<'static>; 3] = [
+    Built {
+        columns: &[&[1, 2]],
+        layers: &[&[[32], [33], [0], [0]], &[[986_051]]],
+    },
+    // The last node of the middle layer is past the end of the lower matrix, whatever the rows are.
+    Built {
+        columns: &[&[1, 2, 3, 4, 5], &[6, 7, 8]],
+        layers: &[
+            &[[32], [33], [34], [35], [36], [0], [0], [0]],
+            &[
+                [3_605_678_148],
+                [1_142_977_477],
+                [1_915_965_515],
+                [30_566_592],
+            ],
+            &[[2_106_285_464]],
+        ],
+    },
+    Built {
+        columns: &[&[9, 9, 9, 9, 9], &[7, 0, 7]],
+        layers: &[
+            &[[40], [40], [40], [40], [40], [0], [0], [0]],
+            &[
+                [2_316_178_022],
+                [2_316_171_295],
+                [1_171_011_982],
+                [30_566_592],
+            ],
+            &[[1_334_631_725]],
+        ],
+    },
+];
+
+static EIGHT_CHILDREN: [Built<'static>; 1] = [Built {
+    columns: &[&[1, 2, 3, 4], &[5, 6]],
+    layers: &[
+        &[[32], [33], [34], [35], [0], [0], [0], [0]],
+        &[
+            [1_100_893_763],
+            [3_992_383_812],
+            [0],
+            [0],
+            [0],
+            [0],
+            [0],
+            [0],
+        ],
+        &[[1_025_423_013]],
+    ],
+}];
+
+/// The layers of the tree over these columns, leaves first.
+fn layers_of<const N: usize>(
+    alloc: Global,
+    scheme: &FoldScheme<N>,
+    lists: &[&[u32]],
+) -> Result<Vec<FoldCap>, MerkleTreeError> {
+    let (_, tree) = scheme.commit(alloc, columns(alloc, lists)?)?;
+    layers_in(alloc, &tree)
 }
 
-#[test]
-fn eight_rows_have_the_caps_worked_out(rt: HostRuntime) -> Result<(), Fail> {
-    let alloc = rt.alloc();
-    let tree = fold_tree::<_, 2>(alloc, columns(alloc, &[&[1, 2, 3, 4, 5, 6, 7, 8]])?)?;
-    assert_eq!(rt; tree.num_layers(), 4);
-    assert_eq!(rt;
-        tree.cap(alloc, 1)?.roots(),
-        [[32_897], [36_993]].as_slice()
+/// The root of that tree.
+fn root_of<const N: usize>(
+    alloc: Global,
+    scheme: &FoldScheme<N>,
+    lists: &[&[u32]],
+) -> Result<[u32; 1], MerkleTreeError> {
+    let (_, tree) = scheme.commit(alloc, columns(alloc, lists)?)?;
+    Ok(*tree.root().value())
+}
+
+/// The layer so many levels below the last, or the first where there are fewer levels.
+fn layer_below_root<'a>(layers: &[&'a [[u32; 1]]], levels: usize) -> &'a [[u32; 1]] {
+    let layer = layers.len().saturating_sub(1).saturating_sub(levels);
+    layers.get(layer).copied().unwrap_or(&[])
+}
+
+/// Asserts that these are the layers.
+fn assert_layers(rt: &impl Abort, got: &[FoldCap], expected: &[&[[u32; 1]]]) {
+    assert_eq!(rt; got.len(), expected.len());
+    for (layer, digests) in got.iter().zip(expected) {
+        assert_digests(rt, layer.roots(), *digests);
+    }
+}
+
+/// Asserts that the tree over these columns has these layers, and that one of them is the scheme's cap.
+fn assert_built<const N: usize>(
+    rt: &impl Abort,
+    alloc: Global,
+    scheme: &FoldScheme<N>,
+    built: &Built<'_>,
+) -> Result<(), MerkleTreeError> {
+    let Built {
+        columns: lists,
+        layers,
+    } = *built;
+    assert_layers(rt, &layers_of(alloc, scheme, lists)?, layers);
+    assert_digests(
+        rt,
+        &[root_of(alloc, scheme, lists)?],
+        layer_below_root(layers, 0),
     );
-    assert_eq!(rt; *tree.root().value(), [1_056_801]);
+    let cap = commit(alloc, scheme, columns(alloc, lists)?)?;
+    assert_digests(
+        rt,
+        cap.roots(),
+        layer_below_root(layers, scheme.cap_height()),
+    );
+    Ok(())
+}
+
+/// The cap heights that are tried. The last is above all levels.
+static CAP_HEIGHTS: [usize; 6] = [0, 1, 2, 3, 4, 9];
+
+#[test]
+fn two_children_have_the_layers_worked_out(rt: HostRuntime) -> Result<(), Fail> {
+    for built in &TWO_CHILDREN {
+        for cap_height in &CAP_HEIGHTS {
+            assert_built(&rt, rt.alloc(), &fold_scheme::<2>(*cap_height), built)?;
+        }
+    }
     Ok(())
 }
 
 #[test]
-fn rows_past_the_end_of_a_lower_matrix_are_default_digests(rt: HostRuntime) -> Result<(), Fail> {
-    let alloc = rt.alloc();
-    let (cap, _) = fold_scheme::<4>(1).commit(alloc, numbered_matrices(alloc, &[5, 3])?)?;
-    assert_eq!(rt; cap.num_roots(), 4);
-    assert_eq!(rt; cap[3], [30_566_592]);
+fn four_children_have_the_layers_worked_out(rt: HostRuntime) -> Result<(), Fail> {
+    for built in &FOUR_CHILDREN {
+        for cap_height in &CAP_HEIGHTS {
+            assert_built(&rt, rt.alloc(), &fold_scheme::<4>(*cap_height), built)?;
+        }
+    }
     Ok(())
+}
+
+#[test]
+fn eight_children_have_the_layers_worked_out(rt: HostRuntime) -> Result<(), Fail> {
+    for built in &EIGHT_CHILDREN {
+        for cap_height in &CAP_HEIGHTS {
+            assert_built(&rt, rt.alloc(), &fold_scheme::<8>(*cap_height), built)?;
+        }
+    }
+    Ok(())
+}
+
+/// The digest of some words.
+fn hash(words: &[u32]) -> [u32; 1] {
+    CryptographicHasher::<u32, u32, 1>::hash_slice(&FoldHash::<1>, words)
+}
+
+static ROW_DIGESTS: [(&[u32], u32); 8] = [
+    (&[], 1),
+    (&[4], 35),
+    (&[5], 36),
+    (&[1, 3], 995),
+    (&[2, 4], 1027),
+    (&[5, 6], 1122),
+    (&[1, 31], 1023),
+    (&[2, 0], 1023),
+];
+
+#[test]
+fn rows_have_the_digests_worked_out(rt: HostRuntime) {
+    for (words, digest) in &ROW_DIGESTS {
+        assert_eq!(rt; hash(*words), [*digest]);
+    }
+}
+
+/// The digest of a group of two.
+fn pair(first: u32, second: u32) -> [u32; 1] {
+    PseudoCompressionFunction::<u32, 2, 1>::compress(&FoldCompress::<2, 1>, [[first], [second]])
+}
+
+/// Pairs of children, and then nodes with the digests of the rows of their layer.
+static PAIRS: [(u32, u32, u32); 6] = [
+    (32, 33, 1026),
+    (34, 0, 1055),
+    (1026, 35, 31_842),
+    (1055, 36, 32_742),
+    (1026, 36, 31_843),
+    (1026, 1122, 32_929),
+];
+
+#[test]
+fn pairs_have_the_digests_worked_out(rt: HostRuntime) {
+    for (first, second, digest) in &PAIRS {
+        assert_eq!(rt; pair(*first, *second), [*digest]);
+    }
+}
+
+/// The digest of a group of four, of which only the first is not the default digest.
+fn four(first: u32) -> [u32; 1] {
+    PseudoCompressionFunction::<u32, 4, 1>::compress(
+        &FoldCompress::<4, 1>,
+        [[first], [0], [0], [0]],
+    )
+}
+
+#[test]
+fn a_node_past_the_rows_is_compressed_with_default_digests(rt: HostRuntime) {
+    assert_eq!(rt; four(0), [1026]);
+    assert_eq!(rt; four(1026), [30_566_592]);
+}
+
+/// The tree over a matrix of 13 rows and 3 columns.
+fn tree_of_thirteen_rows(alloc: Global) -> Result<BinaryTree, MerkleTreeError> {
+    binary_tree(alloc, vec![in alloc; Numbers { words: 3, rows: 13 }]?)
+}
+
+/// The layers of that tree.
+fn layers_of_thirteen_rows(alloc: Global) -> Result<Vec<FoldCap>, MerkleTreeError> {
+    layers_in(alloc, &tree_of_thirteen_rows(alloc)?)
+}
+
+/// The layers of a clone of that tree.
+fn layers_of_a_clone(alloc: Global) -> Result<Vec<FoldCap>, MerkleTreeError> {
+    layers_in(alloc, &tree_of_thirteen_rows(alloc)?.clone()?)
 }
 
 #[test]
 fn two_builds_and_a_clone_give_equal_caps(rt: HostRuntime) -> Result<(), Fail> {
-    let alloc = rt.alloc();
-    let wide = Numbers { words: 3, rows: 13 };
-    let first = fold_tree::<_, 2>(alloc, vec![in alloc; wide]?)?;
-    let second = fold_tree::<_, 2>(alloc, vec![in alloc; wide]?)?;
-    let copy = first.clone()?;
-    assert_eq!(rt; first.num_layers(), second.num_layers());
-    assert_eq!(rt; first.num_layers(), copy.num_layers());
-    for cap_height in 0..first.num_layers() {
-        let cap = first.cap(alloc, cap_height)?;
-        assert!(rt; cap == second.cap(alloc, cap_height)? && cap == copy.cap(alloc, cap_height)?);
-    }
+    let layers = layers_of_thirteen_rows(rt.alloc())?;
+    assert_eq!(rt; layers.len(), 5);
+    assert!(rt; layers == layers_of_thirteen_rows(rt.alloc())?);
+    assert!(rt; layers == layers_of_a_clone(rt.alloc())?);
     Ok(())
 }

@@ -3,6 +3,8 @@
 #![tactic(auto)]
 
 #[cfg(test)]
+mod calls;
+#[cfg(test)]
 mod collisions;
 #[cfg(test)]
 mod commitments;
@@ -15,6 +17,8 @@ mod generic;
 #[cfg(test)]
 mod openings;
 #[cfg(test)]
+mod paths;
+#[cfg(test)]
 mod refusals;
 #[cfg(test)]
 mod sha256;
@@ -22,3 +26,5 @@ mod sha256;
 mod shapes;
 #[cfg(test)]
 mod texts;
+#[cfg(test)]
+mod verdicts;

@@ -1,234 +1,273 @@
 //! What is opened, and that it is accepted.
 
-ghost use Rattle.std.specs.Prelude.{◌≤◌, IsTrue};
-ghost use Rattle.p3_merkle_core.specs.Geometry.{is_arity};
-
-use crate::fixtures::{FoldScheme, FoldTree, columns, fold_scheme, numbered_matrices, of_heights};
-use p3_merkle_tree::{BatchOpening, BatchOpeningRef, MerkleTreeError};
-use p3_support::matrix::{Dimensions, Matrix, RowMajorMatrix};
+use crate::calls::{Claim, commit, dimensions_in, open, round_trip};
+use crate::fixtures::{FoldScheme, assert_digests, columns, dimensions_of, fold_scheme, numbered};
+use p3_merkle_tree::{BatchOpeningRef, MerkleTreeError};
+use p3_support::matrix::{Dimensions, RowMajorMatrix};
 use std::alloc::Global;
 use std::process::Abort;
 use std::test::Fail;
 
-/// The dimensions of the matrices of a tree.
-fn dimensions_in<M: Matrix<u32> + Drop, const N: usize>(
-    alloc: Global,
-    scheme: &FoldScheme<N>,
-    tree: &FoldTree<M, N>,
-) -> Result<Vec<Dimensions>, MerkleTreeError>
-    requires { N ≤ 8 }
-{
-    let mut dimensions = Vec::new(alloc);
-    for matrix in scheme.get_matrices(alloc, tree)? {
-        dimensions.push(matrix.dimensions())?;
-    }
-    Ok(dimensions)
+/// Columns, a cap height and an index, and what is opened: rows and siblings.
+#[derive(Clone, Copy)]
+struct Opened<'a> {
+    columns: &'a [&'a [u32]],
+    cap_height: usize,
+    index: usize,
+    rows: &'a [&'a [u32]],
+    siblings: &'a [[u32; 1]],
 }
 
-/// Asserts that an opening has these rows and siblings.
-fn assert_opening(
-    rt: &impl Abort,
-    opening: &BatchOpening<u32, Vec<[u32; 1]>>,
-    rows: &[&[u32]],
-    siblings: &[[u32; 1]],
-) {
-    assert_eq!(rt; opening.opened_values.len(), rows.len());
-    for matrix in 0..rows.len() {
-        assert_eq!(rt; opening.opened_values[matrix].as_slice(), rows[matrix]);
-    }
-    assert_eq!(rt; opening.opening_proof.as_slice(), siblings);
+/// The column 1 to 4, opened at index 2 under its root.
+const OF_FOUR: Opened<'static> = Opened {
+    columns: &[&[1, 2, 3, 4]],
+    cap_height: 0,
+    index: 2,
+    rows: &[&[3]],
+    siblings: &[[35], [1026]],
+};
+
+/// The column 1 to 8, opened at index 5 under its root.
+const OF_EIGHT: Opened<'static> = Opened {
+    columns: &[&[1, 2, 3, 4, 5, 6, 7, 8]],
+    cap_height: 0,
+    index: 5,
+    rows: &[&[6]],
+    siblings: &[[36], [1218], [32_897]],
+};
+
+static ONE_MATRIX: [Opened<'static>; 8] = [
+    OF_FOUR,
+    Opened {
+        cap_height: 1,
+        siblings: &[[35]],
+        ..OF_FOUR
+    },
+    Opened {
+        cap_height: 9,
+        siblings: &[],
+        ..OF_FOUR
+    },
+    OF_EIGHT,
+    Opened {
+        index: 1,
+        rows: &[&[2]],
+        siblings: &[[32], [1090], [36_993]],
+        ..OF_EIGHT
+    },
+    Opened {
+        index: 2,
+        rows: &[&[3]],
+        siblings: &[[35], [1026], [36_993]],
+        ..OF_EIGHT
+    },
+    Opened {
+        columns: &[&[9]],
+        cap_height: 0,
+        index: 0,
+        rows: &[&[9]],
+        siblings: &[],
+    },
+    Opened {
+        columns: &[&[1, 2, 3]],
+        cap_height: 0,
+        index: 2,
+        rows: &[&[3]],
+        siblings: &[[0], [1026]],
+    },
+];
+
+/// The columns 1, 2 and 5, opened at index 0 under their root.
+const OF_TWO: Opened<'static> = Opened {
+    columns: &[&[1, 2], &[5]],
+    cap_height: 0,
+    index: 0,
+    rows: &[&[1], &[5]],
+    siblings: &[[33]],
+};
+
+static SEVERAL_MATRICES: [Opened<'static>; 5] = [
+    OF_TWO,
+    Opened {
+        cap_height: 1,
+        siblings: &[],
+        ..OF_TWO
+    },
+    Opened {
+        columns: &[&[1, 2, 3], &[4, 5]],
+        cap_height: 0,
+        index: 2,
+        rows: &[&[3], &[5]],
+        siblings: &[[0], [31_842]],
+    },
+    Opened {
+        columns: &[&[4, 5], &[1, 2, 3]],
+        cap_height: 0,
+        index: 2,
+        rows: &[&[5], &[3]],
+        siblings: &[[0], [31_842]],
+    },
+    Opened {
+        columns: &[&[0, 1, 2, 3, 4, 5, 6], &[0, 1, 2, 3], &[0, 1], &[0]],
+        cap_height: 0,
+        index: 6,
+        rows: &[&[6], &[3], &[1], &[0]],
+        siblings: &[[0], [34_816], [30_660_830]],
+    },
+];
+
+static FOUR_CHILDREN: [Opened<'static>; 2] = [
+    Opened {
+        columns: &[&[1, 2]],
+        cap_height: 0,
+        index: 0,
+        rows: &[&[1]],
+        siblings: &[[33], [0], [0]],
+    },
+    Opened {
+        columns: &[&[1, 2, 3, 4, 5], &[6, 7, 8], &[9]],
+        cap_height: 0,
+        index: 4,
+        rows: &[&[5], &[8], &[9]],
+        siblings: &[[0], [3_605_678_148], [1_142_977_477], [30_566_592]],
+    },
+];
+
+static EIGHT_CHILDREN: [Opened<'static>; 1] = [Opened {
+    columns: &[&[1, 2, 3, 4], &[5, 6]],
+    cap_height: 0,
+    index: 3,
+    rows: &[&[4], &[6]],
+    siblings: &[[34], [1_100_893_763], [0], [0], [0], [0], [0], [0]],
+}];
+
+/// Asserts that a row has these words.
+fn assert_words(rt: &impl Abort, row: &[u32], words: &[u32]) {
+    assert_eq!(rt; row, words);
 }
 
-/// Asserts that these columns are opened at an index by these rows and siblings, and that the opening is accepted.
+/// Asserts that these are the rows.
+fn assert_rows(rt: &impl Abort, got: &[Vec<u32>], expected: &[&[u32]]) {
+    assert_eq!(rt; got.len(), expected.len());
+    for (row, words) in got.iter().zip(expected) {
+        assert_words(rt, row, *words);
+    }
+}
+
+/// Asserts that this is opened, and accepted.
 fn assert_opened<const N: usize>(
     rt: &impl Abort,
     alloc: Global,
     scheme: &FoldScheme<N>,
-    matrices: &[&[u32]],
-    index: usize,
-    rows: &[&[u32]],
-    siblings: &[[u32; 1]],
-) -> Result<(), MerkleTreeError>
-    requires { N ≤ 8 }
-{
-    let (cap, tree) = scheme.commit(alloc, columns(alloc, matrices)?)?;
-    assert!(rt; index < scheme.get_max_height(&tree));
-    let opening = scheme.open_batch(alloc, index, &tree)?;
-    assert_opening(rt, &opening, rows, siblings);
-    let dimensions = dimensions_in(alloc, scheme, &tree)?;
-    scheme.verify_batch(&cap, &dimensions, index, BatchOpeningRef::from(&opening))
+    opened: &Opened<'_>,
+) -> Result<(), MerkleTreeError> {
+    let accepted = round_trip(alloc, scheme, columns(alloc, opened.columns)?, opened.index)?;
+    assert_rows(rt, &accepted.opening.opened_values, opened.rows);
+    assert_digests(rt, &accepted.opening.opening_proof, opened.siblings);
+    Ok(())
 }
 
 #[test]
 fn openings_of_one_matrix_are_accepted(rt: HostRuntime) -> Result<(), Fail> {
-    let alloc = rt.alloc();
-    let root = fold_scheme::<2>(0);
-    assert_opened(
-        &rt,
-        alloc,
-        &root,
-        &[&[1, 2, 3, 4]],
-        2,
-        &[&[3]],
-        &[[35], [1026]],
-    )?;
-    assert_opened(&rt, alloc, &root, &[&[9]], 0, &[&[9]], &[])?;
-    assert_opened(&rt, alloc, &root, &[&[1, 2, 3]], 2, &[&[3]], &[[0], [1026]])?;
-    assert_opened(
-        &rt,
-        alloc,
-        &fold_scheme::<2>(1),
-        &[&[1, 2, 3, 4]],
-        2,
-        &[&[3]],
-        &[[35]],
-    )?;
-    assert_opened(
-        &rt,
-        alloc,
-        &fold_scheme::<4>(0),
-        &[&[1, 2]],
-        0,
-        &[&[1]],
-        &[[33], [0], [0]],
-    )?;
+    for opened in &ONE_MATRIX {
+        assert_opened(
+            &rt,
+            rt.alloc(),
+            &fold_scheme::<2>(opened.cap_height),
+            opened,
+        )?;
+    }
     Ok(())
 }
 
 #[test]
-fn each_leaf_of_eight_has_its_own_siblings(rt: HostRuntime) -> Result<(), Fail> {
-    let alloc = rt.alloc();
-    let root = fold_scheme::<2>(0);
-    let eight = [1, 2, 3, 4, 5, 6, 7, 8].as_slice();
-    assert_opened(
-        &rt,
-        alloc,
-        &root,
-        &[eight],
-        5,
-        &[&[6]],
-        &[[36], [1218], [32_897]],
-    )?;
-    assert_opened(
-        &rt,
-        alloc,
-        &root,
-        &[eight],
-        1,
-        &[&[2]],
-        &[[32], [1090], [36_993]],
-    )?;
-    assert_opened(
-        &rt,
-        alloc,
-        &root,
-        &[eight],
-        2,
-        &[&[3]],
-        &[[35], [1026], [36_993]],
-    )?;
-    Ok(())
-}
-
-#[test]
-fn openings_of_several_heights_are_accepted(rt: HostRuntime) -> Result<(), Fail> {
-    let alloc = rt.alloc();
-    let root = fold_scheme::<2>(0);
-    assert_opened(
-        &rt,
-        alloc,
-        &root,
-        &[&[1, 2], &[5]],
-        0,
-        &[&[1], &[5]],
-        &[[33]],
-    )?;
-    assert_opened(
-        &rt,
-        alloc,
-        &root,
-        &[&[1, 2, 3], &[4, 5]],
-        2,
-        &[&[3], &[5]],
-        &[[0], [31_842]],
-    )?;
+fn openings_of_several_matrices_are_accepted(rt: HostRuntime) -> Result<(), Fail> {
+    for opened in &SEVERAL_MATRICES {
+        assert_opened(
+            &rt,
+            rt.alloc(),
+            &fold_scheme::<2>(opened.cap_height),
+            opened,
+        )?;
+    }
     Ok(())
 }
 
 #[test]
 fn children_past_the_end_are_siblings_too(rt: HostRuntime) -> Result<(), Fail> {
-    let alloc = rt.alloc();
-    let scheme = fold_scheme::<8>(0);
-    let (cap, tree) = scheme.commit(alloc, numbered_matrices(alloc, &[4, 2])?)?;
-    for (cap_height, roots) in [(0, 1), (1, 8), (2, 8)] {
-        let (cap, _) = fold_scheme::<8>(cap_height).commit(
-            alloc,
-            numbered_matrices(alloc, &[4, 2])?,
+    for opened in &FOUR_CHILDREN {
+        assert_opened(
+            &rt,
+            rt.alloc(),
+            &fold_scheme::<4>(opened.cap_height),
+            opened,
         )?;
-        assert_eq!(rt; cap.num_roots(), roots);
     }
-    assert_eq!(rt; tree.num_layers(), 3);
-    let leaves = tree.cap(alloc, 2)?;
-    let nodes = tree.cap(alloc, 1)?;
-    assert!(rt;
-        scheme.get_max_height(&tree) == 4 && leaves.num_roots() == 8 && nodes.num_roots() == 8
-    );
-    let opening = scheme.open_batch(alloc, 3, &tree)?;
-    assert_opening(
-        &rt,
-        &opening,
-        &[&[3], &[1]],
-        &[leaves[2], nodes[0], [0], [0], [0], [0], [0], [0]],
-    );
-    let dimensions = dimensions_in(alloc, &scheme, &tree)?;
-    scheme.verify_batch(&cap, &dimensions, 3, BatchOpeningRef::from(&opening))?;
+    for opened in &EIGHT_CHILDREN {
+        assert_opened(
+            &rt,
+            rt.alloc(),
+            &fold_scheme::<8>(opened.cap_height),
+            opened,
+        )?;
+    }
     Ok(())
 }
 
-/// What is answered to the opening of an index of matrices of some heights, where it is checked under other heights.
-fn opened_under<const N: usize>(
+/// The lawful heights that are opened at each leaf, with the greatest.
+static LADDERS: [(&[usize], usize); 7] = [
+    (&[1], 1),
+    (&[5], 5),
+    (&[7, 4, 2, 1], 7),
+    (&[7, 4, 4], 7),
+    (&[3, 17, 5, 9], 17),
+    (&[8, 2], 8),
+    (&[4, 2], 4),
+];
+
+/// Opens each leaf under these heights, and checks the openings.
+fn open_all<const N: usize>(
     alloc: Global,
+    scheme: &FoldScheme<N>,
     heights: &[usize],
-    index: usize,
-    checked: &[usize],
-) -> Result<(), MerkleTreeError>
-    requires arity { IsTrue (is_arity N) }
-    requires few { N ≤ 8 }
-{
-    let scheme = fold_scheme::<N>(0);
-    let (cap, tree) = scheme.commit(alloc, numbered_matrices(alloc, heights)?)?;
-    let max_height = scheme.get_max_height(&tree);
-    if index >= max_height {
-        return Err(MerkleTreeError::IndexOutOfBounds { max_height, index });
+    leaves: usize,
+) -> Result<(), MerkleTreeError> {
+    for index in 0..leaves {
+        round_trip(alloc, scheme, numbered(alloc, heights)?, index)?;
     }
-    let opening = scheme.open_batch(alloc, index, &tree)?;
-    let dimensions = of_heights(alloc, checked)?;
-    scheme.verify_batch(&cap, &dimensions, index, BatchOpeningRef::from(&opening))
+    Ok(())
 }
 
 #[test]
 fn every_leaf_under_lawful_heights_is_accepted(rt: HostRuntime) -> Result<(), Fail> {
-    let alloc = rt.alloc();
-    for heights in [
-        [5].as_slice(),
-        [7, 4, 2, 1].as_slice(),
-        [7, 4, 4].as_slice(),
-        [17, 9, 5, 3].as_slice(),
-        [8, 2].as_slice(),
-    ] {
-        for index in 0..heights[0] {
-            opened_under::<2>(alloc, heights, index, heights)?;
-            opened_under::<4>(alloc, heights, index, heights)?;
-            opened_under::<8>(alloc, heights, index, heights)?;
+    for (heights, leaves) in &LADDERS {
+        for cap_height in [0, 1, 2, 9] {
+            open_all(rt.alloc(), &fold_scheme::<2>(cap_height), *heights, *leaves)?;
+            open_all(rt.alloc(), &fold_scheme::<4>(cap_height), *heights, *leaves)?;
+            open_all(rt.alloc(), &fold_scheme::<8>(cap_height), *heights, *leaves)?;
         }
     }
     Ok(())
 }
 
+/// What is answered to the opening of an index of matrices of some heights, where it is checked under other heights.
+fn opened_under(
+    alloc: Global,
+    heights: &[usize],
+    index: usize,
+    checked: &[usize],
+) -> Result<(), MerkleTreeError> {
+    let scheme = fold_scheme::<2>(0);
+    let (cap, tree) = scheme.commit(alloc, numbered(alloc, heights)?)?;
+    let opening = open(alloc, &scheme, &tree, index)?;
+    let dimensions = dimensions_of(alloc, 1, checked)?;
+    scheme.verify_batch(&cap, &dimensions, index, BatchOpeningRef::from(&opening))
+}
+
 #[test]
 fn an_opening_is_refused_under_heights_that_no_tree_has(rt: HostRuntime) {
     assert_eq!(rt;
-        opened_under::<2>(rt.alloc(), &[7, 4], 6, &[7, 3]),
+        opened_under(rt.alloc(), &[7, 4], 6, &[7, 3]),
         Err(MerkleTreeError::IncompatibleHeights {
             height: 3,
             max_height: 7,
@@ -238,32 +277,58 @@ fn an_opening_is_refused_under_heights_that_no_tree_has(rt: HostRuntime) {
     );
 }
 
-#[test]
-fn a_lower_matrix_opens_its_row_above_the_leaf(rt: HostRuntime) -> Result<(), Fail> {
-    let alloc = rt.alloc();
+/// The greatest height and the dimensions of a tree over matrices of these heights.
+fn kept(alloc: Global, heights: &[usize]) -> Result<(usize, Vec<Dimensions>), MerkleTreeError> {
     let scheme = fold_scheme::<2>(0);
-    let (_, tree) = scheme.commit(alloc, numbered_matrices(alloc, &[7, 4, 2, 1])?)?;
-    assert_eq!(rt; scheme.get_max_height(&tree), 7);
-    let (rows, _) = scheme.open_batch(alloc, 6, &tree)?.unpack();
-    assert_eq!(rt; rows.len(), 4);
-    for (matrix, row) in [(0, 6), (1, 3), (2, 1), (3, 0)] {
-        assert_eq!(rt; rows[matrix].as_slice(), [row].as_slice());
-    }
-    Ok(())
+    let (_, tree) = scheme.commit(alloc, numbered(alloc, heights)?)?;
+    Ok((
+        scheme.get_max_height(&tree),
+        dimensions_in(alloc, &scheme, &tree)?,
+    ))
 }
 
 #[test]
+fn a_tree_keeps_its_matrices_in_input_order(rt: HostRuntime) -> Result<(), Fail> {
+    let heights = [2, 7, 4];
+    let (max_height, dimensions) = kept(rt.alloc(), &heights)?;
+    assert!(rt; max_height == 7 && dimensions == dimensions_of(rt.alloc(), 1, &heights)?);
+    Ok(())
+}
+
+/// A matrix of the rows 1, 31 and 3, 4.
+fn two_wide_rows(alloc: Global) -> Result<Vec<RowMajorMatrix<u32>>, MerkleTreeError> {
+    let values = vec![in alloc; 1, 31, 3, 4]?;
+    Ok(vec![in alloc; RowMajorMatrix::new(values, 2)]?)
+}
+
+/// Two rows of one digest, each under that matrix's root.
+static TWO_ROWS: [Claim<'static>; 2] = [
+    Claim {
+        cap_height: 0,
+        cap: &[[32_772]],
+        width: 2,
+        heights: &[2],
+        index: 0,
+        rows: &[&[1, 31]],
+        siblings: &[[1058]],
+    },
+    Claim {
+        cap_height: 0,
+        cap: &[[32_772]],
+        width: 2,
+        heights: &[2],
+        index: 0,
+        rows: &[&[2, 0]],
+        siblings: &[[1058]],
+    },
+];
+
+#[test]
 fn two_rows_of_one_digest_are_both_accepted(rt: HostRuntime) -> Result<(), Fail> {
-    let alloc = rt.alloc();
-    let scheme = fold_scheme::<2>(0);
-    let matrix = RowMajorMatrix::new(vec![in alloc; 1, 31, 3, 4]?, 2);
-    let dimensions = [matrix.dimensions()];
-    let (cap, _) = scheme.commit(alloc, vec![in alloc; matrix]?)?;
-    assert_eq!(rt; cap.roots(), [[32_772]].as_slice());
-    for row in [[1, 31], [2, 0]] {
-        let rows = vec![in alloc; Vec::from_slice(alloc, &row)?]?;
-        let opening = BatchOpening::new(rows, vec![in alloc; [1058]]?);
-        scheme.verify_batch(&cap, &dimensions, 0, BatchOpeningRef::from(&opening))?;
+    let cap = commit(rt.alloc(), &fold_scheme::<2>(0), two_wide_rows(rt.alloc())?)?;
+    for claim in &TWO_ROWS {
+        assert_eq!(rt; cap.roots(), claim.cap);
+        claim.verdict(rt.alloc())?;
     }
     Ok(())
 }
