@@ -30,7 +30,7 @@ arity_number Two = 2
 arity_number Four = 4
 arity_number Eight = 8
 
--- whether a number is one of these
+-- whether a number is 2, 4 or 8
 abbrev pub is_taken_arity : ℕ → Bool
 is_taken_arity n = n == 2 || (n == 4 || n == 8)
 

@@ -31,8 +31,11 @@ pub enum HashName {
 /// The arities that the program takes.
 #[derive(Clone, Copy, Debug, PartialEq, Eq)]
 pub enum Arity {
+    /// 2 children.
     Two,
+    /// 4 children.
     Four,
+    /// 8 children.
     Eight,
 }
 

@@ -39,7 +39,7 @@ use std::io::{self, ErrorKind, Read, Write};
 /// # Errors
 ///
 /// - `Usage`: the words are no command. Nothing was read.
-/// - `BadInput`: a read or a write failed, or the lines are no matrices.
+/// - `BadInput`: a read (but for want of memory) or a write failed, or the lines are no matrices.
 /// - `Tree`: why the tree refuses the heights; else `IndexOutOfBounds`, for an index that is not below the tallest
 ///   height; or `OutOfMemory`, at any time.
 pub fn run<Src: Read, Dst: Write>(

@@ -15,7 +15,7 @@ pub enum Fault {
     /// The words are no command.
     #[error("usage: mmcs fold|sha256 2|4|8 CAP commit|open I..|check I..")]
     Usage,
-    /// The input stands for no batch that is taken, or could not be read, or the output could not be written.
+    /// The lines of the input are no matrices, or it could not be read, or the output could not be written.
     #[error("bad input")]
     BadInput,
     /// The tree refuses the matrices or the index, or memory was refused.

@@ -17,6 +17,7 @@ narrow arity heights = shape_of arity (map (λ h. record { width = 1; height = h
 abbrev pub column : List ℕ → Matrix ℕ
 column xs = record { height = length xs; width = 1; row = λ r. slice_index xs r ∷ [] }
 
+-- the batch of an arity and matrices
 abbrev pub batch : ℕ → List (Matrix ℕ) → Batch ℕ
 batch arity matrices = record { arity = arity; matrices = matrices }
 

@@ -40,34 +40,47 @@ pub enum MerkleTreeError {
     /// There are not as many rows, row sets or salts as there should be.
     #[error("batch size mismatch: expected {expected} entries, got {got}")]
     WrongBatchSize {
+        /// How many there should be.
         expected: usize,
+        /// How many there are.
         got: usize,
     },
     /// An opened row has not the width of its matrix.
     #[error("wrong width: matrix {matrix} expected {expected} values, got {got}")]
     WrongWidth {
+        /// The place of the matrix in input order.
         matrix: usize,
+        /// Its width.
         expected: usize,
+        /// How many words the row has.
         got: usize,
     },
     /// A proof has not as many siblings as the levels below the cap need.
     #[error("wrong height: expected {expected_proof_len} siblings, got {num_siblings}")]
     WrongHeight {
+        /// How many siblings the levels need.
         expected_proof_len: usize,
+        /// How many there are.
         num_siblings: usize,
     },
     /// A height is not the tallest one halved and rounded up some number of times.
     #[error("matrix height {height} incompatible with tallest height {max_height}; expected ceil_div({max_height}, 2^{bits_reduced}) = {expected_height} so every global index maps to a row at depth {bits_reduced}")]
     IncompatibleHeights {
+        /// The height that is refused.
         height: usize,
+        /// The tallest height.
         max_height: usize,
+        /// The height that a matrix so many halvings below the tallest one has.
         expected_height: usize,
+        /// How many halvings lead from the tallest height to this one.
         bits_reduced: usize,
     },
     /// An index is not below the tallest height.
     #[error("index out of bounds: index {index} exceeds max height {max_height}")]
     IndexOutOfBounds {
+        /// The tallest height.
         max_height: usize,
+        /// The index that is refused.
         index: usize,
     },
     /// There are no matrices, or none of them has a row.
@@ -82,7 +95,9 @@ pub enum MerkleTreeError {
     /// A matrix has more rows, or wider rows, than this crate takes.
     #[error("matrix {matrix}: size {size} is too large")]
     TooLarge {
+        /// The place of the matrix in input order.
         matrix: usize,
+        /// Its height in rows, or its width in words.
         size: usize,
     },
     /// There is no memory left.

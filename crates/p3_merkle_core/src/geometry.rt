@@ -87,7 +87,7 @@ fn first_off_ladder_of(dimensions: &[Dimensions], tallest: usize) -> Option<usiz
 /// # Errors
 ///
 /// `EmptyBatch` where no matrix has a row; else `TooLarge` for the first height above [`MAX_HEIGHT`]; else
-/// `IncompatibleHeights` for the first height that is not the tallest one halved and rounded up.
+/// `IncompatibleHeights` for the first height that is not the tallest one halved and rounded up some number of times.
 pub fn check_heights(dimensions: &[Dimensions]) -> Result<(), MerkleTreeError>
     ensures answer { MatchResult result (λ ok. gate_refusal (heights_of dimensions.now) ≡ None) (λ e. gate_refusal (heights_of dimensions.now) ≡ Some e) }
     ensures lawful { IsOk result ↔ IsLawful (heights_of dimensions.now) }

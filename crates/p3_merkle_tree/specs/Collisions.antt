@@ -72,10 +72,11 @@ pub record AnswerOneRowTwice {T W : Type 0} (s : Shape) (t : ℕ) (o u : Opening
   pub one_row : row_of s (slice_index (heights s) matrix) o.index ≡ row_of s (slice_index (heights s) matrix) u.index
   pub two_ways : opened_row o matrix ≢ opened_row u matrix
 
--- the words that each of two openings has for the matrices of an exponent, row after row
+-- the words that the first of two openings has for the matrices of an exponent, row after row
 abbrev pub first_words : {T : Type 0} → RowPair T → List T
 first_words rows = rows_with rows.exponent (zip (heights_of rows.dimensions.now) (rows_in rows.first.now))
 
+-- the same of the second
 abbrev pub second_words : {T : Type 0} → RowPair T → List T
 second_words rows = rows_with rows.exponent (zip (heights_of rows.dimensions.now) (rows_in rows.second.now))
 

@@ -49,9 +49,10 @@ pub record CanRaise (n : ℕ) (v : Level) (slots : ℕ) : Type 0 where
   pub narrow : v.step ≤ n
   pub fits : v.step * v.raw_len ≤ slots
 
--- a slot of the layer above a layer, and all of them
+-- slot j of the layer above a layer
 abbrev pub slot_above : {T W M : Type 0} → Functions T W → ℕ → (M → ℕ) → (M → ℕ → List T) → List M → Level → List (List W) → ℕ → List W
 slot_above f n height row ms v below j = if nat_lt j v.raw_len then built f n height row ms v.has_rows v.height j (take v.step (drop (v.step * j) below)) else f.default_digest
 
+-- all slots of that layer
 abbrev pub raised : {T W M : Type 0} → Functions T W → ℕ → (M → ℕ) → (M → ℕ → List T) → List M → Level → List (List W) → List (List W)
 raised f n height row ms v below = map (slot_above f n height row ms v below) (range_with_len 0 v.layer_len)

@@ -30,14 +30,20 @@ pub enum Place {
 pub enum InputPair<T, X> {
     /// Words that are hashed: the rows of the matrices there, one after another.
     Words {
+        /// Where both inputs stand.
         place: Place,
+        /// The input of the first opening.
         first: Vec<T>,
+        /// The input of the second.
         second: Vec<T>,
     },
     /// Digests that are compressed, as many as the arity.
     Digests {
+        /// Where both inputs stand.
         place: Place,
+        /// The input of the first opening.
         first: Vec<X>,
+        /// The input of the second.
         second: Vec<X>,
     },
 }

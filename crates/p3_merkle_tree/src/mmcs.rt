@@ -82,7 +82,7 @@ impl<
     /// The scheme of a hasher and a compression, whose cap is `cap_height` levels below the root: 0 for the root
     /// alone, and the leaves where a tree has no more levels than that.
     ///
-    /// `N` is a power of two from 2 to 2^62, and both packings have as many lanes.
+    /// `N` is a power of two from 2 to 2^62, and both packings have equally many lanes, at least one.
     pub fn new(hash: H, compress: C, cap_height: usize) -> MerkleTreeMmcs<P, PW, H, C, N, D>
         requires arity { IsTrue (is_arity N) }
         requires lanes { P.WIDTH ≡ PW.WIDTH }
@@ -113,8 +113,8 @@ impl<
     /// # Errors
     ///
     /// `EmptyBatch` where no matrix has a row; else `TooLarge` for the first height above 2^62; else
-    /// `IncompatibleHeights` for the first height that is not the tallest one halved and rounded up. `OutOfMemory`
-    /// may come at any time.
+    /// `IncompatibleHeights` for the first height that is not the tallest one halved and rounded up some number of
+    /// times. `OutOfMemory` may come at any time.
     pub fn commit<M: Matrix<P::Value> + Drop>(
         &self,
         alloc: Global,

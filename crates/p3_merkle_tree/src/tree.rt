@@ -58,13 +58,14 @@ impl<F: Copy, W: Copy, M: Matrix<F> + Drop, const N: usize, const D: usize> Merk
     /// the matrices whose heights belong to its layer. Default digests stand for children that are missing, for rows
     /// past the end of their matrices, and in slots that only pad a layer.
     ///
-    /// `N` is a power of two from 2 to 2^62, and both packings have as many lanes. Each layer is allocated once.
+    /// `N` is a power of two from 2 to 2^62, and both packings have equally many lanes, at least one. Each layer is
+    /// allocated once.
     ///
     /// # Errors
     ///
     /// `EmptyBatch` where no matrix has a row; else `TooLarge` for the first height above 2^62; else
-    /// `IncompatibleHeights` for the first height that is not the tallest one halved and rounded up. `OutOfMemory`
-    /// may come at any time.
+    /// `IncompatibleHeights` for the first height that is not the tallest one halved and rounded up some number of
+    /// times. `OutOfMemory` may come at any time.
     pub fn new<
         P: PackedValue<Value = F>,
         PW: PackedValue<Value = W>,

@@ -11,7 +11,9 @@ use std::simd::prelude::*;
 /// Two lanes, each in a field of its own.
 #[derive(Clone, Copy, Debug)]
 pub struct Lanes<T> {
+    /// Lane 0.
     pub first: T,
+    /// Lane 1.
     pub second: T,
 }
 

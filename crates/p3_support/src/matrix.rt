@@ -9,10 +9,12 @@ use crate::packed::PackedValue;
 use std::alloc::AllocError;
 use std::marker::{Model, PhantomData};
 
-/// How many elements a row has, and how many rows there are.
+/// The size of a matrix.
 #[derive(Clone, Copy, Debug, PartialEq, Eq)]
 pub struct Dimensions {
+    /// How many elements a row has.
     pub width: usize,
+    /// How many rows there are.
     pub height: usize,
 }
 

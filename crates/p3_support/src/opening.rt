@@ -96,7 +96,9 @@ impl<F, X> Index<usize> for MerkleCap<F, X> {
 /// The opened row of each matrix, in matrix order, and the proof that they were committed to.
 #[derive(Clone, Debug, Drop)]
 pub struct BatchOpening<T, Proof> {
+    /// A row of each matrix, in matrix order.
     pub opened_values: Vec<Vec<T>>,
+    /// What proves that they were committed to.
     pub opening_proof: Proof,
 }
 
@@ -129,7 +131,9 @@ impl<T, Proof> BatchOpening<T, Proof> {
 #[derive_where(Clone, Copy)]
 #[derive_where(Debug; T, Proof)]
 pub struct BatchOpeningRef<'a, T, Proof> {
+    /// A row of each matrix, in matrix order.
     pub opened_values: &'a [Vec<T>],
+    /// What proves that they were committed to.
     pub opening_proof: &'a Proof,
 }
 
