@@ -1,5 +1,5 @@
-//! What is committed to: layers, caps and roots that were worked out by hand, and longer ones outside of this
-//! repository, from the definitions.
+//! What is committed to: layers, caps and roots that were worked out by hand, or, where the digests are long, outside
+//! of this repository from the definitions.
 
 use crate::calls::{commit, layers_in};
 use crate::fixtures::{
@@ -255,7 +255,7 @@ fn rows_have_the_digests_worked_out(rt: HostRuntime) {
 }
 
 /// The digest of a group of two.
-fn pair(first: u32, second: u32) -> [u32; 1] {
+fn compress_two(first: u32, second: u32) -> [u32; 1] {
     PseudoCompressionFunction::<u32, 2, 1>::compress(&FoldCompress::<2, 1>, [[first], [second]])
 }
 
@@ -272,12 +272,12 @@ static PAIRS: [(u32, u32, u32); 6] = [
 #[test]
 fn pairs_have_the_digests_worked_out(rt: HostRuntime) {
     for (first, second, digest) in &PAIRS {
-        assert_eq!(rt; pair(*first, *second), [*digest]);
+        assert_eq!(rt; compress_two(*first, *second), [*digest]);
     }
 }
 
 /// The digest of a group of four, of which only the first is not the default digest.
-fn four(first: u32) -> [u32; 1] {
+fn compress_four(first: u32) -> [u32; 1] {
     PseudoCompressionFunction::<u32, 4, 1>::compress(
         &FoldCompress::<4, 1>,
         [[first], [0], [0], [0]],
@@ -286,8 +286,8 @@ fn four(first: u32) -> [u32; 1] {
 
 #[test]
 fn a_node_past_the_rows_is_compressed_with_default_digests(rt: HostRuntime) {
-    assert_eq!(rt; four(0), [1026]);
-    assert_eq!(rt; four(1026), [30_566_592]);
+    assert_eq!(rt; compress_four(0), [1026]);
+    assert_eq!(rt; compress_four(1026), [30_566_592]);
 }
 
 /// The tree over a matrix of 13 rows and 3 columns.

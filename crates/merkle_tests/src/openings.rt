@@ -214,7 +214,7 @@ fn children_past_the_end_are_siblings_too(rt: HostRuntime) -> Result<(), Fail> {
     Ok(())
 }
 
-/// The lawful heights that are opened at each leaf, with the greatest.
+/// Lawful heights, and the greatest of them: the number of leaves.
 static LADDERS: [(&[usize], usize); 7] = [
     (&[1], 1),
     (&[5], 5),
@@ -278,7 +278,10 @@ fn an_opening_is_refused_under_heights_that_no_tree_has(rt: HostRuntime) {
 }
 
 /// The greatest height and the dimensions of a tree over matrices of these heights.
-fn kept(alloc: Global, heights: &[usize]) -> Result<(usize, Vec<Dimensions>), MerkleTreeError> {
+fn height_and_dimensions(
+    alloc: Global,
+    heights: &[usize],
+) -> Result<(usize, Vec<Dimensions>), MerkleTreeError> {
     let scheme = fold_scheme::<2>(0);
     let (_, tree) = scheme.commit(alloc, numbered(alloc, heights)?)?;
     Ok((
@@ -290,7 +293,7 @@ fn kept(alloc: Global, heights: &[usize]) -> Result<(usize, Vec<Dimensions>), Me
 #[test]
 fn a_tree_keeps_its_matrices_in_input_order(rt: HostRuntime) -> Result<(), Fail> {
     let heights = [2, 7, 4];
-    let (max_height, dimensions) = kept(rt.alloc(), &heights)?;
+    let (max_height, dimensions) = height_and_dimensions(rt.alloc(), &heights)?;
     assert!(rt; max_height == 7 && dimensions == dimensions_of(rt.alloc(), 1, &heights)?);
     Ok(())
 }
