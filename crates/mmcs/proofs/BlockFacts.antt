@@ -56,8 +56,3 @@ module _ (limit : ℕ) (lines : List (List ℕ)) (values : List ℕ) (width : �
     rows_are = refl;
     one_length = (width, All-map (λ r. length r ≡ width) row_of lines block.widths);
   }
-
--- a line with a part that is no number
-pub numbers_refused : (limit : ℕ) (lines : List (List ℕ)) (line : List ℕ) → ¬ All (IsNumberBelow limit) (numerals_of line) → IsRefused limit (lines ++ line ∷ [])
-numbers_refused limit lines line bad more rows matrix =
-    bad (All-contains (λ l. All (IsNumberBelow limit) (numerals_of l)) ((lines ++ line ∷ []) ++ more) line matrix.numbers (Contains-append_left (lines ++ line ∷ []) more line (Contains-push lines line)))

@@ -12,6 +12,5 @@ pub mod MatrixFacts
 pub mod GateFacts
 pub mod Outcomes
 pub mod AnswerFacts
-pub mod ArityFacts
 pub mod InputLaws
 pub mod SchemeFacts

@@ -2,7 +2,6 @@
 use Rattle.std.proofs.Common.{eqb, get_or, ◌≡◌, ◌⊎◌, ⊎_elim, inl, inr, ℕ, ◌+◌, List, [], ◌∷◌, Option, Some, Result, Ok, Err, sym, refl, ap, ◌∙◌, subst}
 use Rattle.std.specs.Prelude.{IfSome, OnOk}
 use Rattle.std.specs.List.{AllZip}
-use Rattle.std.specs.Str.Parse.{digits_value}
 use Rattle.p3_merkle_core.specs.declared.error.MerkleTreeError.{MerkleTreeError}
 use Rattle.p3_merkle_core.specs.declared.error.MerkleTreeError.TheVariants.{OutOfMemory}
 use Rattle.mmcs.specs.declared.command.Action.{Action}

@@ -1,6 +1,5 @@
 -- Words by their places.
-use Rattle.std.proofs.Common.{◌≡◌, ℕ, ◌<◌, ◌≤◌, List, [], ◌∷◌, length, get_or, take, drop, ◌-◌, map, ◌^◌, String, string_bytes, sym, ap, ◌∙◌, arith}
-use Rattle.std.specs.Prelude.{codes}
+use Rattle.std.proofs.Common.{◌≡◌, ◌<◌, ◌≤◌, List, [], ◌∷◌, length, get_or, take, drop, ◌-◌, map, String, string_bytes, sym, ap, ◌∙◌, arith}
 use Rattle.std.proofs.lemmas.List.{take_all}
 use Rattle.mmcs.specs.Words.{arity_word, hash_word, texts_of, AreWords, AreActionWords, IsNumberWord}
 use Rattle.mmcs.specs.declared.command.Command.{Command}

@@ -5,7 +5,6 @@ use Rattle.p3_support.specs.RowMajor.{row_width, rows_in}
 use Rattle.mmcs.specs.Program.{functions_of_hash}
 use Rattle.mmcs.specs.Matrices.{stored_batch}
 use Rattle.mmcs.proofs.AnswerFacts.{stored_dimensions, past_the_end, accepted_as, check_told}
-use Rattle.mmcs.proofs.ArityFacts.{group_fits}
 use Rattle.mmcs.proofs.engine.check_text.Goals as goal
 use Rattle.mmcs.proofs.engine.check_text.Goals.{After-tallest_of-max_height}
 use Rattle.mmcs.proofs.engine.check_text.Given.{Over}

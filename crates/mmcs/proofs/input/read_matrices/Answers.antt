@@ -1,11 +1,10 @@
-use Rattle.std.proofs.Common.{◌≡◌, ◌+◌, ◌==◌, ◌<◌, ◌≤◌, length, get_or, map, sym, ◌∙◌, arith, rules, tests, of_calls}
+use Rattle.std.proofs.Common.{◌≡◌, ◌+◌, ◌==◌, ◌<◌, ◌≤◌, length, get_or, sym, ◌∙◌, arith, rules, tests, of_calls}
 use Rattle.std.specs.List.{slice_split}
 use Rattle.std.proofs.lemmas.Iterator.Consumers.{YieldsList-turn, YieldsList-end, YieldsList-at}
 use Rattle.std.proofs.lemmas.Iterator.Splits.{YieldsList-from_slice_split}
 use Rattle.std.proofs.lemmas.List.{length_push}
 use Rattle.std.proofs.lemmas.Result.{err_from_is_err_and}
 use Rattle.std.proofs.iter.Serving.{serving}
-use Rattle.mmcs.specs.Input.{row_of}
 use Rattle.mmcs.proofs.InputFacts.{input_start, input_blank, input_ended, input_row, refused_input, input_end, input_end_block}
 use Rattle.mmcs.proofs.MatrixFacts.{Shows, matrices_found}
 use Rattle.mmcs.proofs.input.read_matrices.Goals as goal

@@ -1,7 +1,4 @@
 use Rattle.std.proofs.Common.{sym, ◌∙◌, subst}
-use Rattle.std.specs.Prelude.{codes}
-use Rattle.std.specs.Cmp.Lexicographic.{bytes_decides}
-use Rattle.std.proofs.lemmas.Bool.{not-false}
 use Rattle.mmcs.specs.Words.{IsNumberWord}
 use Rattle.mmcs.proofs.WordFacts.{three_elements, words_from_parts}
 use Rattle.mmcs.proofs.command.Command.from_words.Goals as goal

@@ -1,4 +1,4 @@
-use Rattle.std.proofs.Common.{◌*◌, [], ◌∷◌, length, map, sym, ap, ◌∙◌, arith}
+use Rattle.std.proofs.Common.{◌*◌, length, sym, ap, ◌∙◌, arith}
 use Rattle.p3_support.specs.RowMajor.{rows_in}
 use Rattle.mmcs.specs.Input.{row_of}
 use Rattle.mmcs.proofs.RowsCut.{length_of_rows}
