@@ -139,8 +139,8 @@ impl<P: FoldLane, const L: usize, const D: usize> CryptographicHasher<P, P, D> f
             return;
         }
         let width = messages.len() / out.len();
-        for i in 0..out.len() {
-            out[i] = hash_words(&messages[i * width..(i + 1) * width]);
+        for (i, digest) in out.iter_mut().enumerate() {
+            *digest = hash_words(&messages[i * width..(i + 1) * width]);
         }
     }
 
@@ -160,8 +160,8 @@ fn mix<P: FoldLane, const D: usize>(digest: &mut [P; D], child: &[P; D], place: 
         (place, slice_index_or (lane_of P.lanes P.default_value k child.now) e 0) }
 {
     let number = low_bits(place);
-    for e in 0..D {
-        digest[e] = digest[e].step_together(child[e]).add_to_each(number);
+    for (e, element) in digest.iter_mut().enumerate() {
+        *element = element.step_together(child[e]).add_to_each(number);
     }
 }
 
@@ -172,8 +172,8 @@ fn compress_lanes<P: FoldLane, const N: usize, const D: usize>(children: &[[P; D
         ≡ fold_compress D (map (lane_of P.lanes P.default_value k) children.now) }
 {
     let mut digest = [P::broadcast(0); D];
-    for i in 0..N {
-        mix(&mut digest, &children[i], i);
+    for (i, child) in children.iter().enumerate() {
+        mix(&mut digest, child, i);
     }
     digest
 }
@@ -204,8 +204,8 @@ impl<P: FoldLane, const N: usize, const L: usize, const D: usize> PseudoCompress
     }
 
     fn compress_many(&self, groups: &[[[u32; D]; N]], out: &mut [[u32; D]]) {
-        for i in 0..out.len() {
-            out[i] = compress_group(&groups[i]);
+        for (i, digest) in out.iter_mut().enumerate() {
+            *digest = compress_group(&groups[i]);
         }
     }
 

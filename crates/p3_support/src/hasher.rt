@@ -21,7 +21,7 @@ pub trait CryptographicHasher<P: PackedValue, PW: PackedValue, const D: usize> {
     // The digest of a list of words.
     ghost hash: { Self → List P.Value → List PW.Value };
 
-    /// The digest of the items of `input`.
+    /// The digest of the items of `input`, which can be read to its end.
     fn hash_iter<I: Iterator<Item = P::Value>>(&self, input: I) -> [PW::Value; D]
         requires can { I.can_next input }
         requires ends { IsFinite (I.remaining input) }
@@ -31,7 +31,7 @@ pub trait CryptographicHasher<P: PackedValue, PW: PackedValue, const D: usize> {
     fn hash_slice(&self, input: &[P::Value]) -> [PW::Value; D]
         ensures { result ≡ hash self.now input.now };
 
-    /// The digest of the slices of `input`, one after another.
+    /// The digest of the slices of `input`, one after another. `input` can be read to its end.
     fn hash_iter_slices<S: AsSlice<P::Value> + Drop, I: Iterator<Item = S>>(
         &self,
         input: I,
@@ -50,7 +50,7 @@ pub trait CryptographicHasher<P: PackedValue, PW: PackedValue, const D: usize> {
             out.new ≡ map (hash self.now) (messages_of w (length out.old) messages.now) };
 
     /// The digests of `P::WIDTH` messages that are packed word by word: lane `k` of the result is
-    /// the digest of the lanes `k` of the items.
+    /// the digest of the lanes `k` of the items. `input` can be read to its end.
     fn hash_packed<I: Iterator<Item = P>>(&self, input: I) -> [PW; D]
         requires can { I.can_next input }
         requires ends { IsFinite (I.remaining input) }

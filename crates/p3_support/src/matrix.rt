@@ -38,7 +38,8 @@ pub trait Matrix<T> {
     fn width(&self) -> usize
         ensures { result ≡ width_of self.now };
 
-    /// The element of a row at a column, both from 0.
+    /// The element of a row at a column, both from 0. The row is below the height, and the column
+    /// below the width.
     fn get(&self, row: usize, column: usize) -> T
         requires row_in { row < height_of self.now }
         requires column_in { column < width_of self.now }
@@ -55,7 +56,7 @@ pub trait Matrix<T> {
         }
     }
 
-    /// The elements of a row, by ascending columns.
+    /// The elements of a row, by ascending columns. The row is below the height.
     final fn row(&self, row: usize) -> Row<'_, T, Self>
     where
         Self: Sized,
@@ -71,7 +72,7 @@ pub trait Matrix<T> {
     }
 
     /// The rows from `row` on, as many as `P` has lanes, packed column by column: lane `k` of an
-    /// item is the element of row `row + k`.
+    /// item is the element of row `row + k`. `row + P::WIDTH` is at most the height.
     final fn vertically_packed_row<P: PackedValue<Value = T>>(
         &self,
         row: usize,

@@ -31,17 +31,18 @@ pub trait PackedValue: Copy {
     fn broadcast(value: Self::Value) -> Self
         ensures { lanes result ≡ replicate WIDTH value };
 
-    /// Lane `k`.
+    /// Lane `k`, where `k < WIDTH`.
     fn lane(&self, k: usize) -> Self::Value
         requires { k < WIDTH }
         ensures { result ≡ slice_index_or (lanes self.now) k default_value };
 
-    /// The same lanes with `value` in place of lane `k`.
+    /// The same lanes with `value` in place of lane `k`, where `k < WIDTH`.
     fn with_lane(self, k: usize, value: Self::Value) -> Self
         requires { k < WIDTH }
         ensures { lanes result ≡ slice_set (lanes self) k value };
 
-    /// The packed value whose lane `k` is `f(k)`, for each `k` below `WIDTH`.
+    /// The packed value whose lane `k` is `f(k)`, for each `k` below `WIDTH`. `f` may be called at
+    /// each of them.
     final fn from_fn<F: Fn(usize) -> Self::Value>(f: F) -> Self
     where
         Self: Sized,
@@ -150,8 +151,8 @@ pub fn unpack_into<PW: PackedValue, const D: usize>(packed: &[PW; D], rows: &mut
     ensures { rows.new
         ≡ map (λ k. lane_of PW.lanes PW.default_value k packed.now) (range_with_len 0 PW.WIDTH) }
 {
-    for k in 0..rows.len() {
-        rows[k] = lane_values(packed, k);
+    for (k, row) in rows.iter_mut().enumerate() {
+        *row = lane_values(packed, k);
     }
 }
 
@@ -164,13 +165,13 @@ fn put_lane<PW: PackedValue, const D: usize>(packed: &mut [PW; D], k: usize, col
         lane_of PW.lanes PW.default_value j packed.new
         ≡ lane_of PW.lanes PW.default_value j packed.old }
 {
-    for e in 0..D {
-        packed[e] = packed[e].with_lane(k, column[e]);
+    for (e, element) in packed.iter_mut().enumerate() {
+        *element = element.with_lane(k, column[e]);
     }
 }
 
 /// Packs columns, which are arrays or slices of `D` values: lane `k` of element `e` is `f(k)[e]`,
-/// for each `k` below `WIDTH`.
+/// for each `k` below `WIDTH`. `f` may be called at each of them.
 pub fn pack_columns_fn<
     PW: PackedValue,
     X: AsSlice<PW::Value> + Drop,

@@ -68,8 +68,8 @@ impl CryptographicHasher<u8, u8, 32> for Sha256Rows {
             return;
         }
         let width = messages.len() / out.len();
-        for i in 0..out.len() {
-            out[i] = Sha256::digest(&messages[i * width..(i + 1) * width]);
+        for (i, digest) in out.iter_mut().enumerate() {
+            *digest = Sha256::digest(&messages[i * width..(i + 1) * width]);
         }
     }
 
@@ -127,8 +127,8 @@ where
     }
 
     fn compress_many(&self, groups: &[[[u8; D]; N]], out: &mut [[u8; D]]) {
-        for i in 0..out.len() {
-            out[i] = Sha256::array(hash_group(&groups[i]));
+        for (i, digest) in out.iter_mut().enumerate() {
+            *digest = Sha256::array(hash_group(&groups[i]));
         }
     }
 
