@@ -117,6 +117,24 @@ module _ {T M : Type 0} (height width : M → ℕ) (row : M → ℕ → List T) 
         | inr e ↦ rw (e, none_same ms e) refl
       ]
 
+-- the rows of the matrices of a height, picked from all and read through references, are those of all
+module _ {T M R : Type 0} (height : M → ℕ) (row : M → ℕ → List T) (now : R → M) (h j : ℕ) where
+  rows_of_references : (rs : List R) → rows_at (λ r. height (now r)) (λ r. row (now r)) h j rs ≡ rows_at height row h j (map now rs)
+  rows_of_references [] = refl
+  rows_of_references (r ∷ rs) = rw (rows_of_references rs) refl
+
+  rows_of_picked : (ms : List M) → rows_at height row h j (filter (λ m. eqb (height m) h) ms) ≡ rows_at height row h j ms
+  rows_of_picked [] = refl
+  rows_of_picked (m ∷ ms) =
+      elim (cases_Bool (eqb (height m) h)) [
+        | inl t ↦ rw (t, t) (ap (λ ws. row m j ++ ws) (rows_of_picked ms))
+        | inr f ↦ rw f (rows_of_picked ms)
+      ]
+
+  pub rows_picked : (rs : List R) (ms : List M) → map now rs ≡ filter (λ m. eqb (height m) h) ms →
+      rows_at (λ r. height (now r)) (λ r. row (now r)) h j rs ≡ rows_at height row h j ms
+  rows_picked rs ms e = rows_of_references rs ∙ ap (rows_at height row h j) e ∙ rows_of_picked ms
+
 -- on the ladder, an exponent is one height's
 agree : {M : Type 0} (height : M → ℕ) (top x : ℕ) (ms : List M) → All (λ y. y ≡ expected_height top y) (map height ms) → All (λ m. exponent (height m) ≡ x → height m ≡ height_at top x) ms
 agree height top x [] on k d b e = absurd (omega arith)

@@ -1,8 +1,9 @@
 //! The layers of a tree, one above the other.
 //!
-//! Each layer is allocated once, at its length, and filled from the first slot to the last.
+//! Each layer is allocated once, at its length, and filled from the first slot to the last. The matrices of its height
+//! are picked once, and its rows are read from those alone.
 
-ghost use Rattle.std.specs.Prelude.{suc, take, drop, ◌≡◌, ℕ, ◌-◌, ◌*◌, ◌<◌, ◌≤◌, ◌++◌, [], ◌∷◌, IfOk, List, map, length, replicate, if◌then◌else◌, nat_lt};
+ghost use Rattle.std.specs.Prelude.{suc, take, drop, ◌≡◌, ℕ, ◌-◌, ◌*◌, ◌<◌, ◌≤◌, ◌++◌, [], ◌∷◌, IfOk, List, map, filter, length, replicate, if◌then◌else◌, nat_lt, ◌==◌};
 ghost use Rattle.std.specs.List.{range_with_len};
 ghost use Rattle.p3_support.specs.Lists.{rows_at};
 ghost use Rattle.p3_merkle_core.specs.Geometry.{arity_schedule as schedule_of};
@@ -38,10 +39,31 @@ pub struct Stack<X> {
 /// Builds the layers over matrices, with a hash for their rows and a compression of `N` digests for nodes.
 #[derive(Drop)]
 pub struct Builder<'a, P, H, C, M, G> {
+    /// The hash of rows.
     pub hash: &'a H,
+    /// The compression of the children of a node.
     pub compress: &'a C,
+    /// The matrices, in input order.
     pub matrices: &'a [M],
+    /// How words are packed, and the groups that the compression takes.
     pub item: PhantomData<(P, G)>,
+}
+
+/// The matrices of a height, in input order. It takes no memory where there are none.
+fn of_height<'a, T, M: Matrix<T>>(
+    alloc: Global,
+    matrices: &'a [M],
+    height: usize,
+) -> Result<Vec<&'a M>, AllocError>
+    ensures { IfOk result (λ v. map (λ m. m.now) v.items ≡ filter (λ m. M.height_of m == height) matrices.now) }
+{
+    let mut picked = Vec::new(alloc);
+    for matrix in matrices {
+        if matrix.height() == height {
+            picked.push(matrix)?;
+        }
+    }
+    Ok(picked)
 }
 
 impl<
@@ -86,6 +108,10 @@ impl<
         ensures { result ≡ C.compression self.now.compress.now
             (children.now ++ replicate (N - length children.now) (replicate D PW.default_value)) }
     {
+        // A group without default digests is copied as a whole.
+        if let Some(group) = children.first_chunk::<N>() {
+            return self.compress.compress(*group);
+        }
         let (first, others) = (children[0], &children[1..]);
         let group = group_with::<PW::Value, N, D>([PW::Value::default(); D], first, 0, others);
         self.compress.compress(group)
@@ -126,6 +152,23 @@ impl<
         }
     }
 
+    /// This builder over some of its matrices alone.
+    fn over<'b>(
+        &self,
+        picked: &'b [&'a M],
+    ) -> Builder<'b, (P, PW), H, C, &'a M, [[PW::Value; D]; N]>
+        ensures hash { result.hash.now ≡ self.now.hash.now }
+        ensures compress { result.compress.now ≡ self.now.compress.now }
+        ensures matrices { result.matrices.now ≡ picked.now }
+    {
+        Builder {
+            hash: self.hash,
+            compress: self.compress,
+            matrices: picked,
+            item: self.item,
+        }
+    }
+
     /// The leaves, over the rows of the matrices of this height, in `len` slots.
     fn first_layer(
         &self,
@@ -137,9 +180,11 @@ impl<
             then H.hash self.now.hash.now (rows_at M.height_of M.row_of height j self.now.matrices.now)
             else replicate D PW.default_value)) (range_with_len 0 len)) }
     {
+        let picked = of_height(alloc, self.matrices, height)?;
+        let builder = self.over(&picked);
         let mut nodes = Vec::with_capacity(alloc, len)?;
         for j in 0..len {
-            nodes.push(self.rows_digest(height, j))?;
+            nodes.push(builder.rows_digest(height, j))?;
         }
         Ok(nodes)
     }
@@ -156,9 +201,11 @@ impl<
             (replicate D PW.default_value) in
             IfOk result (λ v. v.items ≡ raised f N M.height_of M.row_of self.now.matrices.now level.now below.now) }
     {
+        let picked = of_height(alloc, self.matrices, level.height)?;
+        let builder = self.over(&picked);
         let mut nodes = Vec::with_capacity(alloc, level.layer_len)?;
         for j in 0..level.layer_len {
-            nodes.push(self.slot(level, below, j))?;
+            nodes.push(builder.slot(level, below, j))?;
         }
         Ok(nodes)
     }

@@ -95,6 +95,30 @@ pub trait Matrix<T> {
         length (row_of m r) ≡ width_of m };
 }
 
+// A reference to a matrix is one too: what reads a slice of matrices also reads some of them that
+// were picked out.
+impl<T, M: Matrix<T>> Matrix<T> for &M {
+    ghost height_of = { λ m. M.height_of m.now };
+
+    ghost width_of = { λ m. M.width_of m.now };
+
+    ghost row_of = { λ m r. M.row_of m.now r };
+
+    fn height(&self) -> usize {
+        (**self).height()
+    }
+
+    fn width(&self) -> usize {
+        (**self).width()
+    }
+
+    fn get(&self, row: usize, column: usize) -> T {
+        (**self).get(row, column)
+    }
+
+    ghost length_row_of = { λ m r h. M.length_row_of m.now r h };
+}
+
 /// The elements of one row of a matrix. A contract sees those that are left.
 #[derive(Drop)]
 pub struct Row<'a, T, M: Matrix<T>> {
