@@ -128,6 +128,19 @@ pub fn replay<const N: usize>(
     scheme.replay_arity_and_positions(alloc, &dimensions, index, num_siblings)
 }
 
+/// The opening of these rows and siblings.
+pub fn opening_of(
+    alloc: Global,
+    rows: &[&[u32]],
+    siblings: &[[u32; 1]],
+) -> Result<BatchOpening<u32, Vec<[u32; 1]>>, MerkleTreeError> {
+    let mut opened = Vec::with_capacity(alloc, rows.len())?;
+    for row in rows {
+        opened.push(Vec::from_slice(alloc, *row)?)?;
+    }
+    Ok(BatchOpening::new(opened, Vec::from_slice(alloc, siblings)?))
+}
+
 /// What an opening claims of matrices of one width, and the cap that it is checked against.
 #[derive(Clone, Copy)]
 pub struct Claim<'a> {
@@ -141,20 +154,11 @@ pub struct Claim<'a> {
 }
 
 impl<'a> Claim<'a> {
-    /// The opening alone.
-    fn opening(&self, alloc: Global) -> Result<BatchOpening<u32, Vec<[u32; 1]>>, MerkleTreeError> {
-        let mut rows = Vec::with_capacity(alloc, self.rows.len())?;
-        for row in self.rows {
-            rows.push(Vec::from_slice(alloc, *row)?)?;
-        }
-        Ok(BatchOpening::new(rows, Vec::from_slice(alloc, self.siblings)?))
-    }
-
     /// What the scheme of the fold functions at arity 2 answers to it.
     pub fn verdict(&self, alloc: Global) -> Result<(), MerkleTreeError> {
         let cap = MerkleCap::new(Vec::from_slice(alloc, self.cap)?);
         let dimensions = dimensions_of(alloc, self.width, self.heights)?;
-        let opening = self.opening(alloc)?;
+        let opening = opening_of(alloc, self.rows, self.siblings)?;
         fold_scheme::<2>(self.cap_height).verify_batch(
             &cap,
             &dimensions,

@@ -1,7 +1,8 @@
 //! What two accepted openings of one cap lead to, and which matrices a cap authenticates.
 
+use crate::calls::opening_of;
 use crate::fixtures::{dimensions_of, fold_scheme};
-use p3_merkle_tree::{BatchOpening, BatchOpeningRef, Collision, MerkleCap, MerkleTreeError, Place};
+use p3_merkle_tree::{BatchOpeningRef, Collision, MerkleCap, MerkleTreeError, Place};
 use p3_support::matrix::Dimensions;
 use std::alloc::{AllocError, Global};
 use std::process::Abort;
@@ -10,23 +11,12 @@ use std::test::Fail;
 /// What is found between two openings of digests of one word.
 type Found = Option<Collision<u32, u32, 1>>;
 
-/// An opening of the leaf `index`.
+/// The index of a leaf, and what is opened of it.
 #[derive(Clone, Copy)]
-struct Claimed<'a> {
+struct LeafOpening<'a> {
     index: usize,
     rows: &'a [&'a [u32]],
     siblings: &'a [[u32; 1]],
-}
-
-impl<'a> Claimed<'a> {
-    /// The opening alone.
-    fn opening(&self, alloc: Global) -> Result<BatchOpening<u32, Vec<[u32; 1]>>, AllocError> {
-        let mut rows = Vec::with_capacity(alloc, self.rows.len())?;
-        for row in self.rows {
-            rows.push(Vec::from_slice(alloc, *row)?)?;
-        }
-        Ok(BatchOpening::new(rows, Vec::from_slice(alloc, self.siblings)?))
-    }
 }
 
 /// What two openings under a cap lead to, at arity 2.
@@ -35,11 +25,12 @@ fn extracted(
     cap_height: usize,
     cap: &[[u32; 1]],
     dimensions: &[Dimensions],
-    first: Claimed<'_>,
-    second: Claimed<'_>,
+    first: LeafOpening<'_>,
+    second: LeafOpening<'_>,
 ) -> Result<Found, MerkleTreeError> {
     let cap = MerkleCap::new(Vec::from_slice(alloc, cap)?);
-    let (opening, other) = (first.opening(alloc)?, second.opening(alloc)?);
+    let opening = opening_of(alloc, first.rows, first.siblings)?;
+    let other = opening_of(alloc, second.rows, second.siblings)?;
     fold_scheme::<2>(cap_height).extract_collision(
         alloc,
         &cap,
@@ -85,9 +76,9 @@ fn two_and_one(width: usize) -> [Dimensions; 2] {
     ]
 }
 
-/// An opening of matrices of two rows and of one: the sibling stands beside the first row.
-fn two_rows<'a>(index: usize, rows: &'a [&'a [u32]], siblings: &'a [[u32; 1]]) -> Claimed<'a> {
-    Claimed {
+/// An opening of the leaf `index`, by its rows and siblings.
+fn claimed<'a>(index: usize, rows: &'a [&'a [u32]], siblings: &'a [[u32; 1]]) -> LeafOpening<'a> {
+    LeafOpening {
         index,
         rows,
         siblings,
@@ -106,8 +97,8 @@ fn rows_of_one_digest_collide_at_the_leaf(rt: HostRuntime) -> Result<(), Fail> {
         0,
         &[[32_772]],
         &dimensions,
-        two_rows(0, &[&[1, 31]], &[[1058]]),
-        two_rows(0, &[&[2, 0]], &[[1058]]),
+        claimed(0, &[&[1, 31]], &[[1058]]),
+        claimed(0, &[&[2, 0]], &[[1058]]),
     )?;
     assert_eq!(rt; found, words(alloc, Place::Leaf, &[1, 31], &[2, 0])?);
     Ok(())
@@ -121,8 +112,8 @@ fn siblings_that_make_up_for_a_row_collide_in_the_group(rt: HostRuntime) -> Resu
         0,
         &[[1026]],
         &dimensions_of(alloc, 1, &[2])?,
-        two_rows(0, &[&[1]], &[[33]]),
-        two_rows(0, &[&[2]], &[[2]]),
+        claimed(0, &[&[1]], &[[33]]),
+        claimed(0, &[&[2]], &[[2]]),
     )?;
     assert_eq!(rt;
         found,
@@ -135,13 +126,13 @@ fn siblings_that_make_up_for_a_row_collide_in_the_group(rt: HostRuntime) -> Resu
 fn rows_above_the_cap_lead_to_nothing(rt: HostRuntime) -> Result<(), Fail> {
     let alloc = rt.alloc();
     let cap = [[32], [33]];
-    let first = two_rows(0, &[&[1], &[77]], &[]);
-    let second = two_rows(0, &[&[1], &[78]], &[]);
+    let first = claimed(0, &[&[1], &[77]], &[]);
+    let second = claimed(0, &[&[1], &[78]], &[]);
     assert_eq!(rt;
         extracted(alloc, 1, &cap, &two_and_one(1), first, second)?,
         None
     );
-    let wide = two_rows(0, &[&[1], &[77, 0]], &[]);
+    let wide = claimed(0, &[&[1], &[77, 0]], &[]);
     assert_eq!(rt;
         extracted(alloc, 1, &cap, &two_and_one(1), first, wide),
         Err(MerkleTreeError::WrongWidth {
@@ -161,8 +152,8 @@ fn injected_rows_of_one_digest_collide(rt: HostRuntime) -> Result<(), Fail> {
         0,
         &[[32_830]],
         &two_and_one(2),
-        two_rows(0, &[&[1], &[1, 31]], &[[33]]),
-        two_rows(0, &[&[1], &[2, 0]], &[[33]]),
+        claimed(0, &[&[1], &[1, 31]], &[[33]]),
+        claimed(0, &[&[1], &[2, 0]], &[[33]]),
     )?;
     assert_eq!(rt; found, words(alloc, Place::Rows(0), &[1, 31], &[2, 0])?);
     Ok(())
@@ -172,10 +163,10 @@ fn injected_rows_of_one_digest_collide(rt: HostRuntime) -> Result<(), Fail> {
 fn assert_found(
     rt: &impl Abort,
     alloc: Global,
-    second: Claimed<'_>,
+    second: LeafOpening<'_>,
     expected: &Found,
 ) -> Result<(), MerkleTreeError> {
-    let first = two_rows(0, &[&[1], &[5]], &[[33]]);
+    let first = claimed(0, &[&[1], &[5]], &[[33]]);
     let found = extracted(alloc, 0, &[[31_843]], &two_and_one(1), first, second)?;
     assert_eq!(rt; &found, expected);
     Ok(())
@@ -187,19 +178,21 @@ fn an_injected_row_that_a_sibling_makes_up_for_collides_in_the_pair(
 ) -> Result<(), Fail> {
     let alloc = rt.alloc();
     let pair = digests(alloc, Place::Pair(0), &[[1026], [36]], &[[1025], [67]])?;
-    assert_found(&rt, alloc, two_rows(0, &[&[1], &[36]], &[[32]]), &pair)?;
-    assert_found(&rt, alloc, two_rows(1, &[&[1], &[36]], &[[32]]), &pair)?;
+    assert_found(&rt, alloc, claimed(0, &[&[1], &[36]], &[[32]]), &pair)?;
+    assert_found(&rt, alloc, claimed(1, &[&[1], &[36]], &[[32]]), &pair)?;
     Ok(())
 }
 
 #[test]
 fn honest_openings_lead_to_nothing(rt: HostRuntime) -> Result<(), Fail> {
     let alloc = rt.alloc();
-    assert_found(&rt, alloc, two_rows(0, &[&[1], &[5]], &[[33]]), &None)?;
-    assert_found(&rt, alloc, two_rows(1, &[&[2], &[5]], &[[32]]), &None)?;
+    assert_found(&rt, alloc, claimed(0, &[&[1], &[5]], &[[33]]), &None)?;
+    assert_found(&rt, alloc, claimed(1, &[&[2], &[5]], &[[32]]), &None)?;
     Ok(())
 }
 
+/// The first opening is of the column 1, 2, 3, 4. In the second the row [2], whose digest is 33, and the sibling 35
+/// give 31 * 33 + 35 + 1 = 1059, and 1027 is what leads from there to the same root: 31 * 1027 + 1059 + 1 = 32897.
 #[test]
 fn two_indices_collide_from_where_their_paths_meet(rt: HostRuntime) -> Result<(), Fail> {
     let alloc = rt.alloc();
@@ -208,8 +201,8 @@ fn two_indices_collide_from_where_their_paths_meet(rt: HostRuntime) -> Result<()
         0,
         &[[32_897]],
         &dimensions_of(alloc, 1, &[4])?,
-        two_rows(0, &[&[1]], &[[33], [1090]]),
-        two_rows(2, &[&[2]], &[[35], [1027]]),
+        claimed(0, &[&[1]], &[[33], [1090]]),
+        claimed(2, &[&[2]], &[[35], [1027]]),
     )?;
     assert_eq!(rt;
         found,
@@ -222,9 +215,9 @@ fn two_indices_collide_from_where_their_paths_meet(rt: HostRuntime) -> Result<()
 fn the_first_refusal_is_answered(rt: HostRuntime) -> Result<(), Fail> {
     let alloc = rt.alloc();
     let cap = [[31_843]];
-    let narrow = two_rows(0, &[&[1], &[]], &[[33]]);
-    let wrong = two_rows(0, &[&[1], &[6]], &[[33]]);
-    let right = two_rows(0, &[&[1], &[5]], &[[33]]);
+    let narrow = claimed(0, &[&[1], &[]], &[[33]]);
+    let wrong = claimed(0, &[&[1], &[6]], &[[33]]);
+    let right = claimed(0, &[&[1], &[5]], &[[33]]);
     let width = MerkleTreeError::WrongWidth {
         matrix: 1,
         expected: 1,

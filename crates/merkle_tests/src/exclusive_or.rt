@@ -32,7 +32,7 @@ fn first_byte<I: Iterator<Item = u8>>(input: I) -> u8
     first.unwrap_or(0)
 }
 
-/// The hash whose digest is 32 times the first byte of a row, or 0 where a row has none.
+/// The hash whose digest is the first byte of a row, repeated 32 times; 0 where a row has none.
 #[derive(Clone, Copy, Debug)]
 struct RepeatHash;
 
@@ -117,7 +117,8 @@ impl PseudoCompressionFunction<u8, 2, 32> for XorNodes {
     }
 }
 
-/// Asserts that the cap over these rows of one byte has one digest for each of the bytes expected: 32 times that byte.
+/// Asserts that the cap over these rows of one byte has one digest for each of the bytes expected: that byte, repeated
+/// 32 times.
 fn assert_cap(
     rt: &impl Abort,
     alloc: Global,

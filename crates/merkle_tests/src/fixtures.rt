@@ -4,14 +4,14 @@ ghost use Rattle.std.specs.Prelude.{◌%◌, ◌^◌, ◌≤◌, IsTrue, replica
 ghost use Rattle.std.proofs.lemmas.List.{length-replicate};
 ghost use Rattle.p3_merkle_core.specs.Geometry.{is_arity};
 
-use p3_merkle_tree::{MerkleCap, MerkleTree, MerkleTreeError, MerkleTreeMmcs};
+use p3_merkle_tree::{MAX_HEIGHT, MerkleCap, MerkleTree, MerkleTreeError, MerkleTreeMmcs};
 use p3_support::fold::{FoldCompress, FoldHash};
 use p3_support::matrix::{Dimensions, Matrix, RowMajorMatrix};
 use std::alloc::Global;
 use std::process::Abort;
 
 /// One more row than a matrix may have.
-pub const TOO_TALL: usize = 4_611_686_018_427_387_905;
+pub const TOO_TALL: usize = MAX_HEIGHT + 1;
 
 /// The scheme of the fold functions with digests of one word.
 pub type FoldScheme<const N: usize> = MerkleTreeMmcs<

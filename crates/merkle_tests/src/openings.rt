@@ -1,5 +1,8 @@
 //! What is opened, and that it is accepted.
 
+ghost use Rattle.std.specs.Prelude.{◌≤◌, IsTrue};
+ghost use Rattle.p3_merkle_core.specs.Geometry.{is_arity};
+
 use crate::calls::{Claim, commit, dimensions_in, open, round_trip};
 use crate::fixtures::{FoldScheme, assert_digests, columns, dimensions_of, fold_scheme, numbered};
 use p3_merkle_tree::{BatchOpeningRef, MerkleTreeError};
@@ -154,63 +157,45 @@ fn assert_rows(rt: &impl Abort, got: &[Vec<u32>], expected: &[&[u32]]) {
     }
 }
 
-/// Asserts that this is opened, and accepted.
+/// Asserts that these are opened at the arity `N`, and accepted.
 fn assert_opened<const N: usize>(
     rt: &impl Abort,
     alloc: Global,
-    scheme: &FoldScheme<N>,
-    opened: &Opened<'_>,
-) -> Result<(), MerkleTreeError> {
-    let accepted = round_trip(alloc, scheme, columns(alloc, opened.columns)?, opened.index)?;
-    assert_rows(rt, &accepted.opening.opened_values, opened.rows);
-    assert_digests(rt, &accepted.opening.opening_proof, opened.siblings);
+    openings: &[Opened<'_>],
+) -> Result<(), MerkleTreeError>
+    requires arity { IsTrue (is_arity N) }
+    requires few { N ≤ 8 }
+{
+    for opened in openings {
+        let scheme = fold_scheme::<N>(opened.cap_height);
+        let accepted = round_trip(
+            alloc,
+            &scheme,
+            columns(alloc, opened.columns)?,
+            opened.index,
+        )?;
+        assert_rows(rt, &accepted.opening.opened_values, opened.rows);
+        assert_digests(rt, &accepted.opening.opening_proof, opened.siblings);
+    }
     Ok(())
 }
 
 #[test]
 fn openings_of_one_matrix_are_accepted(rt: HostRuntime) -> Result<(), Fail> {
-    for opened in &ONE_MATRIX {
-        assert_opened(
-            &rt,
-            rt.alloc(),
-            &fold_scheme::<2>(opened.cap_height),
-            opened,
-        )?;
-    }
+    assert_opened::<2>(&rt, rt.alloc(), &ONE_MATRIX)?;
     Ok(())
 }
 
 #[test]
 fn openings_of_several_matrices_are_accepted(rt: HostRuntime) -> Result<(), Fail> {
-    for opened in &SEVERAL_MATRICES {
-        assert_opened(
-            &rt,
-            rt.alloc(),
-            &fold_scheme::<2>(opened.cap_height),
-            opened,
-        )?;
-    }
+    assert_opened::<2>(&rt, rt.alloc(), &SEVERAL_MATRICES)?;
     Ok(())
 }
 
 #[test]
 fn children_past_the_end_are_siblings_too(rt: HostRuntime) -> Result<(), Fail> {
-    for opened in &FOUR_CHILDREN {
-        assert_opened(
-            &rt,
-            rt.alloc(),
-            &fold_scheme::<4>(opened.cap_height),
-            opened,
-        )?;
-    }
-    for opened in &EIGHT_CHILDREN {
-        assert_opened(
-            &rt,
-            rt.alloc(),
-            &fold_scheme::<8>(opened.cap_height),
-            opened,
-        )?;
-    }
+    assert_opened::<4>(&rt, rt.alloc(), &FOUR_CHILDREN)?;
+    assert_opened::<8>(&rt, rt.alloc(), &EIGHT_CHILDREN)?;
     Ok(())
 }
 

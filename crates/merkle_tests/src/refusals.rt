@@ -138,18 +138,28 @@ fn verified(alloc: Global, heights: &[usize]) -> Result<(), MerkleTreeError> {
     claim.verdict(alloc)
 }
 
-/// Asserts that each call that takes heights refuses these.
+/// Asserts that each call that takes heights refuses these with this error.
+fn assert_heights_refused(
+    rt: &impl Abort,
+    alloc: Global,
+    heights: &[usize],
+    error: &MerkleTreeError,
+) {
+    for answer in [
+        committed(alloc, heights),
+        built(alloc, heights),
+        checked(alloc, heights),
+        scheduled(alloc, heights),
+        verified(alloc, heights),
+    ] {
+        assert_eq!(rt; answer.err().as_ref(), Some(error));
+    }
+}
+
+/// Asserts that heights are refused, each with its error.
 fn assert_refused(rt: &impl Abort, alloc: Global, cases: &[(&[usize], MerkleTreeError)]) {
     for (heights, error) in cases {
-        for answer in [
-            committed(alloc, *heights),
-            built(alloc, *heights),
-            checked(alloc, *heights),
-            scheduled(alloc, *heights),
-            verified(alloc, *heights),
-        ] {
-            assert_eq!(rt; answer.err().as_ref(), Some(error));
-        }
+        assert_heights_refused(rt, alloc, *heights, error);
     }
 }
 

@@ -20,12 +20,13 @@ use p3_support::hasher::CryptographicHasher;
 use p3_support::matrix::{Dimensions, RowMajorMatrix};
 use std::alloc::{AllocError, Global};
 
-/// The scheme of the fold functions, whose cap is so many levels below the root.
+/// The scheme of the fold functions, whose cap is so many levels below the root. The arity is 2, 4 or 8.
 fn fold_scheme<const N: usize>(
     cap_height: usize,
 ) -> MerkleTreeMmcs<u32, u32, FoldHash<4>, FoldCompress<N, 4>, N, 1>
     requires { IsTrue (is_taken_arity N) }
-    ensures functions { scheme_functions ⟦<FoldHash<4> as CryptographicHasher<u32, u32, 1>>⟧.hash ⟦<FoldCompress<N, 4> as PseudoCompressionFunction<u32, N, 1>>⟧.compression 1 result ≡ fold_functions }
+    ensures functions { scheme_functions ⟦<FoldHash<4> as CryptographicHasher<u32, u32, 1>>⟧.hash
+        ⟦<FoldCompress<N, 4> as PseudoCompressionFunction<u32, N, 1>>⟧.compression 1 result ≡ fold_functions }
     ensures cap_height { cap_height_of result ≡ cap_height }
 {
     MerkleTreeMmcs::new(FoldHash::<4>, FoldCompress::<N, 4>, cap_height)

@@ -36,11 +36,7 @@ fn is_blank(line: &[u8]) -> bool
 fn without_return(line: &[u8]) -> &[u8]
     ensures { result.now ≡ strip_carriage_return line.now }
 {
-    if line.last() == Some(&b'\r') {
-        &line[..line.len() - 1]
-    } else {
-        line
-    }
+    line.strip_suffix(b"\r").unwrap_or(line)
 }
 
 /// The number that one or more ASCII digits stand for, if it is at most `max`.
@@ -48,16 +44,20 @@ fn parse_word(digits: &[u8], max: u32) -> Option<u32>
     ensures { SomeIff result (IsNumberBelow (max + 1) digits.now) (digits_value 10 digits.now) }
 {
     let word = u32::try_from(parse_number(digits)?).ok()?;
-    if word <= max { Some(word) } else { None }
+    (word <= max).then_some(word)
 }
 
-/// Appends the numbers of a line, each at most `max`, and says how many there are. A part that is no number is bad
-/// input.
+/// Appends the numbers of a line, each at most `max`, and says how many there are.
+///
+/// # Errors
+///
+/// `BadInput` where a part of the line is no such number; `Tree(OutOfMemory)` where there is no memory.
 fn append_row(values: &mut Vec<u32>, line: &[u8], max: u32) -> Result<usize, Fault>
     ensures values { OnOk result (values.new.items ≡ values.old.items ++ row_of line.now) }
     ensures count { IfOk result (λ count. count ≡ length (row_of line.now)) }
     ensures numbers { OnOk result (All (IsNumberBelow (max + 1)) (numerals_of line.now)) }
-    ensures fault { IfErr result (λ fault. (fault ≡ Tree OutOfMemory) ⊎ ((fault ≡ BadInput) × ¬ All (IsNumberBelow (max + 1)) (numerals_of line.now))) }
+    ensures fault { IfErr result (λ fault. (fault ≡ Tree OutOfMemory) ⊎
+        ((fault ≡ BadInput) × ¬ All (IsNumberBelow (max + 1)) (numerals_of line.now))) }
 {
     let len = values.len();
     for word in line.split(|byte| is_gap(*byte)) {
@@ -90,12 +90,19 @@ impl Block {
         }
     }
 
-    /// Appends a line that is not blank as a row of numbers, each at most `max`. One of another width than the rows
-    /// before it is bad input.
+    /// Appends a line that is not blank as a row of numbers, each at most `max`.
+    ///
+    /// # Errors
+    ///
+    /// `BadInput` where a part of the line is no such number, or the row is of another width than the rows before it;
+    /// `Tree(OutOfMemory)` where there is no memory.
     fn push_row(&mut self, line: &[u8], max: u32) -> Result<(), Fault>
         requires full { is_blank line.now ≡ false }
-        ensures row { (lines : List (List ℕ)) → IsBlock (max + 1) lines self.old.values.items self.old.width → OnOk result (IsBlock (max + 1) (lines ++ line.now ∷ []) self.new.values.items self.new.width) }
-        ensures fault { (lines : List (List ℕ)) → IsBlock (max + 1) lines self.old.values.items self.old.width → IfErr result (λ fault. (fault ≡ Tree OutOfMemory) ⊎ ((fault ≡ BadInput) × IsRefused (max + 1) (lines ++ line.now ∷ []))) }
+        ensures row { (lines : List (List ℕ)) → IsBlock (max + 1) lines self.old.values.items self.old.width →
+            OnOk result (IsBlock (max + 1) (lines ++ line.now ∷ []) self.new.values.items self.new.width) }
+        ensures fault { (lines : List (List ℕ)) → IsBlock (max + 1) lines self.old.values.items self.old.width →
+            IfErr result (λ fault. (fault ≡ Tree OutOfMemory) ⊎
+            ((fault ≡ BadInput) × IsRefused (max + 1) (lines ++ line.now ∷ []))) }
     {
         let count = append_row(&mut self.values, line, max)?;
         if self.width == 0 {
@@ -108,16 +115,20 @@ impl Block {
         }
     }
 
-    /// The matrix of the rows, if there are any, and no rows are left.
+    /// The matrix of the rows, if there are any, and no rows are left. The values are those of rows that have `width`
+    /// values each.
     fn take_matrix(&mut self, alloc: Global) -> Option<RowMajorMatrix<u32>>
         requires { (limit : ℕ) × (lines : List (List ℕ)) × IsBlock limit lines self.old.values.items self.old.width }
         ensures emptied { (limit : ℕ) → IsBlock limit [] self.new.values.items self.new.width }
         ensures none { IfNone result (self.old.width ≡ 0) }
-        ensures matrix { (limit : ℕ) (lines : List (List ℕ)) → IsBlock limit lines self.old.values.items self.old.width → IfSome result (λ matrix. (stored_matrix matrix ≡ matrix_of_rows (map row_of lines)) × All (λ v. v < limit) (values_of matrix)) }
+        ensures matrix { (limit : ℕ) (lines : List (List ℕ)) →
+            IsBlock limit lines self.old.values.items self.old.width →
+            IfSome result (λ matrix. (stored_matrix matrix ≡ matrix_of_rows (map row_of lines)) ×
+            All (λ v. v < limit) (values_of matrix)) }
         ensures some { IfSome result (λ matrix. 0 < self.old.width) }
     {
         let values = mem::replace(&mut self.values, Vec::new(alloc));
-        let width = mem::replace(&mut self.width, 0);
+        let width = mem::take(&mut self.width);
         if width == 0 {
             None
         } else {
@@ -135,14 +146,18 @@ impl Block {
 ///
 /// # Errors
 ///
-/// `BadInput` where a line is no row of its matrix; `OutOfMemory`.
+/// `BadInput` where a line is no row of its matrix; `Tree(OutOfMemory)` where there is no memory.
 pub fn read_matrices(
     alloc: Global,
     input: &[u8],
     max: u32,
 ) -> Result<Vec<RowMajorMatrix<u32>>, Fault>
-    ensures matrices { IfOk result (λ found. (matrices : List (List (List ℕ))) × StandsFor (max + 1) input.now matrices × (map stored_matrix found.items ≡ map matrix_of_rows matrices) × All (λ m. All (λ v. v < max + 1) (values_of m)) found.items) }
-    ensures fault { IfErr result (λ fault. (fault ≡ Tree OutOfMemory) ⊎ ((fault ≡ BadInput) × ((matrices : List (List (List ℕ))) → StandsFor (max + 1) input.now matrices → ⊥))) }
+    ensures matrices { IfOk result (λ found.
+        (matrices : List (List (List ℕ))) × StandsFor (max + 1) input.now matrices ×
+        (map stored_matrix found.items ≡ map matrix_of_rows matrices) ×
+        All (λ m. All (λ v. v < max + 1) (values_of m)) found.items) }
+    ensures fault { IfErr result (λ fault. (fault ≡ Tree OutOfMemory) ⊎
+        ((fault ≡ BadInput) × ((matrices : List (List (List ℕ))) → StandsFor (max + 1) input.now matrices → ⊥))) }
 {
     let mut matrices = Vec::new(alloc);
     let mut block = Block::new(alloc);

@@ -31,6 +31,10 @@ fn word_fault(error: Error) -> Fault {
 }
 
 /// Passes the words after the program's name and the standard streams on.
+///
+/// # Errors
+///
+/// Those of [`run`], and `Usage` for a word that is no text.
 fn answer_process(rt: &HostRuntime) -> Result<(), Fault> {
     let words: Vec<String> = env::args(rt)
         .map_err(word_fault)?

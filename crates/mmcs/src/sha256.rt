@@ -21,30 +21,35 @@ use p3_support::matrix::{Dimensions, Matrix, RowMajorMatrix};
 use p3_support::sha::{Sha256Nodes, Sha256Rows};
 use std::alloc::{AllocError, Global};
 
-/// The scheme of SHA-256, whose cap is so many levels below the root.
+/// The scheme of SHA-256, whose cap is so many levels below the root. The arity is 2, 4 or 8.
 fn sha_scheme<const N: usize>(
     cap_height: usize,
 ) -> MerkleTreeMmcs<u8, u8, Sha256Rows, Sha256Nodes<N>, N, 32>
     requires { IsTrue (is_taken_arity N) }
-    ensures functions { scheme_functions ⟦<Sha256Rows as CryptographicHasher<u8, u8, 32>>⟧.hash ⟦<Sha256Nodes<N> as PseudoCompressionFunction<u8, N, 32>>⟧.compression 32 result ≡ sha_functions }
+    ensures functions { scheme_functions ⟦<Sha256Rows as CryptographicHasher<u8, u8, 32>>⟧.hash
+        ⟦<Sha256Nodes<N> as PseudoCompressionFunction<u8, N, 32>>⟧.compression 32 result ≡ sha_functions }
     ensures cap_height { cap_height_of result ≡ cap_height }
 {
     MerkleTreeMmcs::new(Sha256Rows, Sha256Nodes::<N>, cap_height)
 }
 
-/// The same numbers, as bytes.
+/// The same numbers, each below 256, as bytes.
+///
+/// # Errors
+///
+/// `AllocError` where there is no memory.
 fn bytes_of(alloc: Global, words: &[u32]) -> Result<Vec<u8>, AllocError>
     requires { All (λ v. v < 256) words.now }
     ensures { IfOk result (λ bytes. bytes.items ≡ words.now) }
 {
-    let mut bytes = Vec::with_capacity(alloc, words.len())?;
-    for word in words {
-        bytes.push(*word as u8)?;
-    }
-    Ok(bytes)
+    words.iter().map(|word| *word as u8).collect(alloc)
 }
 
-/// The same matrix, of bytes.
+/// The same matrix, of bytes. Each word is below 256.
+///
+/// # Errors
+///
+/// `AllocError` where there is no memory.
 fn byte_matrix(
     alloc: Global,
     matrix: &RowMajorMatrix<u32>,
@@ -56,7 +61,11 @@ fn byte_matrix(
     Ok(RowMajorMatrix::new(bytes, matrix.width()))
 }
 
-/// The same matrices, of bytes.
+/// The same matrices, of bytes. Each word is below 256.
+///
+/// # Errors
+///
+/// `AllocError` where there is no memory.
 fn byte_matrices(
     alloc: Global,
     matrices: &[RowMajorMatrix<u32>],

@@ -4,6 +4,7 @@ use crate::engine::run;
 use std::alloc::Global;
 use std::io;
 use std::io::{Error, ErrorKind, Read, Write};
+use std::process::Abort;
 use std::test::Fail;
 
 const FOUR_ROWS: &str = "1\n2\n3\n4\n";
@@ -34,9 +35,25 @@ fn printed(alloc: Global, words: &str, input: &str) -> Result<String, Fail> {
     }
 }
 
+/// Asserts what is printed for each of these words and inputs.
+fn assert_printed(
+    rt: &impl Abort,
+    alloc: Global,
+    cases: &[(&str, &str, &str)],
+) -> Result<(), Fail> {
+    for (words, input, want) in cases {
+        assert_eq!(rt;
+            printed(alloc, *words, *input)?.as_str(),
+            *want,
+            "{words}: {input:?}"
+        );
+    }
+    Ok(())
+}
+
 #[test]
 fn prints_caps_and_counts(rt: HostRuntime) -> Result<(), Fail> {
-    for (words, input, want) in [
+    let cases = [
         ("fold 2 0 commit", FOUR_ROWS, "00008081\n"),
         ("fold 2 00 commit", "1\n2\n3\n4", "00008081\n"),
         (
@@ -49,39 +66,27 @@ fn prints_caps_and_counts(rt: HostRuntime) -> Result<(), Fail> {
         ("fold 2 0 check 2", FOUR_ROWS, "ok 2\n"),
         ("fold 2 0 check 0", "9\n", "ok 0\n"),
         ("fold 2 0 check 02", "1\n2\n3\n", "ok 2\n"),
-    ] {
-        assert_eq!(rt;
-            printed(rt.alloc(), words, input)?.as_str(),
-            want,
-            "{words}"
-        );
-    }
-    Ok(())
+    ];
+    assert_printed(&rt, rt.alloc(), &cases)
 }
 
 #[test]
 fn takes_matrices_of_several_heights(rt: HostRuntime) -> Result<(), Fail> {
-    for (words, input, want) in [
+    let cases = [
         ("fold 2 0 commit", "1\n2\n\n5\n", "00007c63\n"),
         ("fold 2 0 commit", "1\n2\n3\n\n4\n5\n", "000f8fc5\n"),
         ("fold 2 0 commit", "1\n2\n \n\n3\n4\n", "00007c81\n"),
         ("fold 2 0 check 2", "1\n2\n3\n\n4\n5\n", "ok 2\n"),
         ("fold 4 0 check 4", THREE_HEIGHTS, "ok 4\n"),
-    ] {
-        assert_eq!(rt;
-            printed(rt.alloc(), words, input)?.as_str(),
-            want,
-            "{words}"
-        );
-    }
-    Ok(())
+    ];
+    assert_printed(&rt, rt.alloc(), &cases)
 }
 
-/// The digest of "abc" is FIPS 180-4's own example. The root of the rows 1 and 2 is that of Python's `hashlib`:
+/// The digest of "abc" is NIST's example for FIPS 180-4. The root of the rows 1 and 2 is that of Python's `hashlib`:
 /// `sha256(sha256(b"\x01").digest() + sha256(b"\x02").digest()).hexdigest()`.
 #[test]
 fn takes_sha256(rt: HostRuntime) -> Result<(), Fail> {
-    for (words, input, want) in [
+    let cases = [
         (
             "sha256 2 0 commit",
             "97 98 99\n",
@@ -96,19 +101,13 @@ fn takes_sha256(rt: HostRuntime) -> Result<(), Fail> {
         ("sha256 4 9 check 0", "255 0\n1 2\n\n3\n", "ok 0\n"),
         ("sha256 2 0 commit", "256\n", "bad input (1, 0)"),
         ("sha256 2 0 commit", "0 1\n4294967296\n", "bad input (1, 0)"),
-    ] {
-        assert_eq!(rt;
-            printed(rt.alloc(), words, input)?.as_str(),
-            want,
-            "{words}"
-        );
-    }
-    Ok(())
+    ];
+    assert_printed(&rt, rt.alloc(), &cases)
 }
 
 #[test]
 fn takes_arities_and_cap_heights(rt: HostRuntime) -> Result<(), Fail> {
-    for (words, input, want) in [
+    let cases = [
         ("fold 4 0 commit", "1\n2\n", "000f0bc3\n"),
         ("fold 2 1 commit", FOUR_ROWS, "00000402\n00000442\n"),
         ("fold 2 01 check 2", FOUR_ROWS, "ok 1\n"),
@@ -116,20 +115,14 @@ fn takes_arities_and_cap_heights(rt: HostRuntime) -> Result<(), Fail> {
         ("fold 2 18446744073709551615 check 1", FOUR_ROWS, "ok 0\n"),
         ("fold 4 1 check 4", THREE_HEIGHTS, "ok 1\n"),
         ("fold 8 0 check 3", "1\n2\n3\n4\n\n5\n6\n", "ok 8\n"),
-    ] {
-        assert_eq!(rt;
-            printed(rt.alloc(), words, input)?.as_str(),
-            want,
-            "{words}"
-        );
-    }
-    Ok(())
+    ];
+    assert_printed(&rt, rt.alloc(), &cases)
 }
 
 #[test]
 fn tells_what_the_tree_refuses(rt: HostRuntime) -> Result<(), Fail> {
     let empty = "empty batch: attempted to open an empty batch with no committed matrices (1, 0)";
-    for (words, input, want) in [
+    let cases = [
         (
             "fold 2 0 check 9",
             FOUR_ROWS,
@@ -148,14 +141,8 @@ fn tells_what_the_tree_refuses(rt: HostRuntime) -> Result<(), Fail> {
             "1\n2\n3\n4\n5\n6\n\n1\n2\n3\n4\n",
             "matrix height 4 incompatible with tallest height 6; expected ceil_div(6, 2^1) = 3 so every global index maps to a row at depth 1 (1, 0)",
         ),
-    ] {
-        assert_eq!(rt;
-            printed(rt.alloc(), words, input)?.as_str(),
-            want,
-            "{words}"
-        );
-    }
-    Ok(())
+    ];
+    assert_printed(&rt, rt.alloc(), &cases)
 }
 
 #[test]
@@ -184,11 +171,7 @@ fn refuses_other_words(rt: HostRuntime) -> Result<(), Fail> {
         "fold 2 0 check +1",
         "fold 2 0 check 18446744073709551616",
     ] {
-        assert_eq!(rt;
-            printed(rt.alloc(), words, "x\n")?.as_str(),
-            usage,
-            "{words}"
-        );
+        assert_printed(&rt, rt.alloc(), &[(words, "x\n", usage)])?;
     }
     Ok(())
 }
@@ -207,11 +190,11 @@ fn refuses_other_input(rt: HostRuntime) -> Result<(), Fail> {
         "1\r\r\n",
         "1\n\n2 3\n4\n",
     ] {
-        assert_eq!(rt;
-            printed(rt.alloc(), "fold 2 0 commit", input)?.as_str(),
-            "bad input (1, 0)",
-            "{input:?}"
-        );
+        assert_printed(
+            &rt,
+            rt.alloc(),
+            &[("fold 2 0 commit", input, "bad input (1, 0)")],
+        )?;
     }
     Ok(())
 }

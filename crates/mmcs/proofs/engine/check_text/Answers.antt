@@ -1,4 +1,4 @@
-use Rattle.std.proofs.Common.{string_bytes, ◌≡◌, ◌<◌, ℕ, map, inr, refl, sym, ap, ◌∙◌, subst, arith}
+use Rattle.std.proofs.Common.{◌≡◌, ◌<◌, ℕ, map, inr, refl, sym, ap, ◌∙◌, subst, arith}
 use Rattle.p3_merkle_core.specs.Geometry.{heights_of, shape_of, tallest}
 use Rattle.p3_merkle_core.specs.Nodes.{layers, shape, Batch}
 use Rattle.p3_support.specs.RowMajor.{row_width, rows_in}
@@ -40,4 +40,4 @@ returns-clause-text g c =
     let after = (goal.at.returns-clause-text g c).After-tallest_of-max_height in
     let shape_is = ap (λ ds. shape_of g.row.N ds) (c.deref-3.ensures.value ∙ dimensions_are g after) in
     let greatest = greatest_is g after in
-    check_told _ _ _ c.args.cap_height _ _ c.args.index c.num_siblings-siblings.result (string_bytes c.in_ok-text.text) shape_is (c.in_ok-verify.ensures.accepted refl) (omega (arith, greatest, c.if-index-max_height.false)) (c.num_siblings-siblings.ensures c.args.index) c.in_ok-text.ensures
+    check_told _ _ _ c.args.cap_height _ _ c.args.index c.num_siblings-siblings.result _ shape_is (c.in_ok-verify.ensures.accepted refl) (omega (arith, greatest, c.if-index-max_height.false)) (c.num_siblings-siblings.ensures c.args.index) c.in_ok-ok_line.ensures
