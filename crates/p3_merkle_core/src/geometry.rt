@@ -5,7 +5,7 @@
 
 ghost use Rattle.std.specs.Prelude.{◌≡◌, ℕ, ◌+◌, ◌-◌, ◌*◌, ◌^◌, ◌<◌, ◌≤◌, ◌==◌, ◌↔◌, Some, None, IfOk, IsOk, MatchResult, List, map, if◌then◌else◌};
 ghost use Rattle.std.specs.List.{list_any};
-ghost use Rattle.p3_merkle_core.specs.Geometry.{bits_reduced, expected_height, exponent, heights_of, is_bridge, max_height, padded_len, positions_below, schedule_below, shape_of, tallest, levels, IsArity, IsLawful, Shape};
+ghost use Rattle.p3_merkle_core.specs.Geometry.{bits_reduced, expected_height, exponent, heights_of, is_bridge, layer_exponent, max_height, padded_len, positions_below, schedule_below, shape_of, tallest, levels, IsArity, IsLawful, Shape};
 ghost use Rattle.p3_merkle_core.specs.Gate.{first_off_ladder, first_too_large, gate_refusal};
 ghost use Rattle.p3_merkle_core.specs.Openings.{siblings_below};
 ghost use Rattle.p3_merkle_core.specs.Refusals.{width_refusal};
@@ -52,7 +52,8 @@ pub fn bits_reduced_of(tallest: usize, height: usize) -> usize
     exponent_of(tallest).saturating_sub(exponent_of(height))
 }
 
-/// The one lawful height with the exponent of `height`: the tallest height halved and rounded up so many times.
+/// The one lawful height with the exponent of `height`: the tallest height, at most [`MAX_HEIGHT`], halved and rounded
+/// up so many times; 1 where the tallest height is 0.
 pub fn expected_height_of(tallest: usize, height: usize) -> usize
     requires { tallest ≤ max_height }
     ensures { result ≡ expected_height tallest height }
@@ -143,6 +144,7 @@ pub fn check_widths<T>(dimensions: &[Dimensions], rows: &[Vec<T>]) -> Result<(),
 }
 
 /// How many slots a layer of `len` nodes has: `len` up to 1, else the least multiple of `arity` that is not below it.
+/// The arity is above 0, and the answer is below 2^64.
 pub fn padded_len_of(len: usize, arity: usize) -> usize
     requires positive { 0 < arity }
     requires fits { padded_len len arity < 2 ^ 64 }
@@ -192,7 +194,18 @@ pub fn select_arity_step(dimensions: &[Dimensions], arity: usize, x: usize) -> (
     }
 }
 
-/// How many steps lead from the leaves to the root. Each ladder and each arity ends.
+/// The exponent of layer `t`, counted from the leaves.
+pub fn layer_exponent_of(dimensions: &[Dimensions], arity: usize, t: usize) -> usize
+    ensures { result ≡ layer_exponent (shape_of arity dimensions.now) t }
+{
+    let mut x = exponent_of(tallest_of(dimensions));
+    for _l in 0..t {
+        x = select_arity_step(dimensions, arity, x).1;
+    }
+    x
+}
+
+/// How many steps lead from the leaves to the root. They end for all dimensions and every arity of at least 2.
 pub fn levels_of(dimensions: &[Dimensions], arity: usize) -> usize
     requires { 2 ≤ arity }
     ensures { result ≡ levels (shape_of arity dimensions.now) }
@@ -208,7 +221,8 @@ pub fn levels_of(dimensions: &[Dimensions], arity: usize) -> usize
 }
 
 /// How many siblings the levels below layer `t` have, in digests: one less than the step of each
-/// (`total_siblings_for_levels` in the Rust crate).
+/// (`total_siblings_for_levels` in the Rust crate). `t` is at most the number of levels, the arity a power of two from 2
+/// to 2^62, and no height is above [`MAX_HEIGHT`].
 pub fn siblings_below_of(dimensions: &[Dimensions], arity: usize, t: usize) -> usize
     requires arity { IsArity arity }
     requires low { tallest (heights_of dimensions.now) ≤ max_height }
@@ -226,6 +240,10 @@ pub fn siblings_below_of(dimensions: &[Dimensions], arity: usize, t: usize) -> u
 }
 
 /// The steps of the levels below layer `t`, from the leaves up, in children a node. Takes memory for `t` numbers.
+///
+/// # Errors
+///
+/// `AllocError` where there is no memory.
 pub fn schedule_below_of(
     alloc: Global,
     dimensions: &[Dimensions],
@@ -245,7 +263,11 @@ pub fn schedule_below_of(
 }
 
 /// The place of the index's ancestor among the children of its parent, for each level below layer `t`, from the
-/// leaves up. Takes memory for `t` numbers.
+/// leaves up. Takes memory for `t` numbers. The arity is at least 2.
+///
+/// # Errors
+///
+/// `AllocError` where there is no memory.
 pub fn positions_below_of(
     alloc: Global,
     dimensions: &[Dimensions],

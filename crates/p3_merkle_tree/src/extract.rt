@@ -3,7 +3,7 @@
 ghost use Rattle.std.specs.Prelude.{◌≡◌, ◌<◌, ◌↔◌, IfOk, IfSome, IsNone, IsSome, MatchResult, None, Some, length};
 ghost use Rattle.p3_merkle_core.specs.Extracting.{extraction_under};
 ghost use Rattle.p3_merkle_core.specs.Gate.{gate_refusal};
-ghost use Rattle.p3_merkle_core.specs.Geometry.{cap_layer, heights_of, layer_exponent, shape_of};
+ghost use Rattle.p3_merkle_core.specs.Geometry.{cap_layer, heights_of, shape_of};
 ghost use Rattle.p3_merkle_core.specs.Openings.{is_authenticated as authenticates, AgreeWhereShared, IsAccepted};
 ghost use Rattle.p3_merkle_tree.specs.Collisions.{AnswerAlike, AnswerOneRowTwice, AnswersUnlessMemory, IsCollision};
 ghost use Rattle.p3_merkle_tree.specs.Schemes.{cap_height_of, opening_lent, scheme_functions};
@@ -13,27 +13,13 @@ use crate::collision::Collision;
 use crate::mmcs::MerkleTreeMmcs;
 use crate::openings::{IndexedOpening, OpeningPair};
 use p3_merkle_core::error::MerkleTreeError;
-use p3_merkle_core::geometry::{
-    check_heights, exponent_of, levels_of, select_arity_step, tallest_of,
-};
+use p3_merkle_core::geometry::{check_heights, exponent_of, layer_exponent_of};
 use p3_support::compress::PseudoCompressionFunction;
 use p3_support::hasher::CryptographicHasher;
 use p3_support::matrix::Dimensions;
 use p3_support::opening::{BatchOpeningRef, MerkleCap};
 use p3_support::packed::PackedValue;
 use std::alloc::Global;
-
-/// The exponent of layer `t`.
-fn exponent_at_of(dimensions: &[Dimensions], arity: usize, t: usize) -> usize
-    ensures { result ≡ layer_exponent (shape_of arity dimensions.now) t }
-{
-    let mut x = exponent_of(tallest_of(dimensions));
-    for _l in 0..t {
-        let (_, next) = select_arity_step(dimensions, arity, x);
-        x = next;
-    }
-    x
-}
 
 impl<
     P: PackedValue,
@@ -46,7 +32,7 @@ impl<
     /// Whether a cap over matrices of these dimensions authenticates the rows of one of them: its rows are hashed into
     /// the cap's layer, or into a layer below it. Of any other matrix a check looks at the width of its row alone.
     ///
-    /// It takes no memory.
+    /// `matrix` is a place in `dimensions`. The call takes no memory.
     ///
     /// # Errors
     ///
@@ -65,9 +51,9 @@ impl<
             IfOk result (λ answer. answer ≡ authenticates s t matrix) }
     {
         check_heights(dimensions)?;
-        let t = levels_of(dimensions, N).saturating_sub(self.cap_height);
+        let t = self.proof_levels(dimensions);
         let height = dimensions[matrix].height;
-        Ok(exponent_of(height) >= exponent_at_of(dimensions, N, t))
+        Ok(exponent_of(height) >= layer_exponent_of(dimensions, N, t))
     }
 
     /// What two openings lead to. `extract_collision` gives it, and says what that means.
@@ -90,7 +76,7 @@ impl<
     {
         self.check_opening(commit, dimensions, index1, first)?;
         self.check_opening(commit, dimensions, index2, second)?;
-        let t = levels_of(dimensions, N).saturating_sub(self.cap_height);
+        let t = self.proof_levels(dimensions);
         let openings = OpeningPair::<P::Value, [PW::Value; D], N> {
             dimensions,
             t,
@@ -115,7 +101,7 @@ impl<
     /// by level through a group and, where matrices belong to the layer above, through their rows and a pair (see
     /// [`Place`](crate::Place)). Checks of one index share all places; checks of two indices share those from the level
     /// on where their paths lead into one node. The collision is the last shared place at which the inputs differ, with
-    /// the first opening's input and the second's. It takes memory for levels that are shared alone.
+    /// the first opening's input and the second's. It takes memory only at places that both checks share.
     ///
     /// Two openings of one index lead to a collision exactly if their siblings differ, or their rows of a matrix that
     /// [is authenticated](Self::is_authenticated). Openings of any indices do wherever they answer one row of such a

@@ -5,6 +5,7 @@ ghost use Rattle.p3_merkle_core.specs.Geometry.{is_arity, IsArity};
 
 use crate::tree::MerkleTree;
 use p3_merkle_core::error::MerkleTreeError;
+use p3_merkle_core::geometry::levels_of;
 use p3_support::compress::PseudoCompressionFunction;
 use p3_support::hasher::CryptographicHasher;
 use p3_support::matrix::{Dimensions, Matrix};
@@ -106,6 +107,13 @@ impl<
         self.cap_height
     }
 
+    /// How many levels lead from the leaves of a tree over matrices of these dimensions up to its cap.
+    pub(crate) fn proof_levels(&self, dimensions: &[Dimensions]) -> usize
+        ensures { result ≡ cap_layer (shape_of N dimensions.now) (cap_height_of self.now) }
+    {
+        levels_of(dimensions, N).saturating_sub(self.cap_height)
+    }
+
     /// Commits to matrices: the cap of their tree, and the tree, which keeps the matrices in input order. The cap is
     /// the whole layer `cap_height` levels below the root, padding included, or the leaves where there are fewer
     /// levels.
@@ -150,7 +158,7 @@ impl<
     /// Opens the leaf `index` of a tree: of each matrix, in input order, the row that belongs to the leaf, and the
     /// siblings on the leaf's path to the cap.
     ///
-    /// The index counts rows of the tallest matrix; a matrix whose height is halved `k` times opens the row
+    /// The index counts rows of the tallest matrix and is below its height; a matrix whose height is halved `k` times opens the row
     /// `index >> k`. The siblings come level by level, from the leaves up to the cap: of each group on the path all
     /// digests but the path's own, ascending. They are read from the tree, whoever built it; where its layers are
     /// those of this scheme's own hasher and compression, the opening is accepted under the cap of its tree.

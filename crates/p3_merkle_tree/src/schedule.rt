@@ -6,8 +6,8 @@ use crate::mmcs::MerkleTreeMmcs;
 use crate::tree::MerkleTree;
 use p3_merkle_core::error::MerkleTreeError;
 use p3_merkle_core::geometry::{
-    ArityAndPositions, check_heights, levels_of, positions_below_of, schedule_below_of,
-    siblings_below_of, tallest_of,
+    ArityAndPositions, check_heights, positions_below_of, schedule_below_of, siblings_below_of,
+    tallest_of,
 };
 use p3_support::compress::PseudoCompressionFunction;
 use p3_support::hasher::CryptographicHasher;
@@ -52,8 +52,7 @@ impl<
         ensures few { IfOk result (λ v. vec_len v ≤ exponent (tallest (heights_of dimensions.now))) }
     {
         check_heights(dimensions)?;
-        let proof_levels = levels_of(dimensions, N).saturating_sub(self.cap_height);
-        Ok(schedule_below_of(alloc, dimensions, N, proof_levels)?)
+        Ok(schedule_below_of(alloc, dimensions, N, self.proof_levels(dimensions))?)
     }
 
     /// How the path of a leaf goes that a proof of `num_siblings` digests is for: the steps of
@@ -84,7 +83,7 @@ impl<
         if index >= max_height {
             return Err(MerkleTreeError::IndexOutOfBounds { max_height, index });
         }
-        let proof_levels = levels_of(dimensions, N).saturating_sub(self.cap_height);
+        let proof_levels = self.proof_levels(dimensions);
         let expected_proof_len = siblings_below_of(dimensions, N, proof_levels);
         if num_siblings != expected_proof_len {
             return Err(MerkleTreeError::WrongHeight {

@@ -16,8 +16,8 @@ use crate::mmcs::MerkleTreeMmcs;
 use crate::opened::opened_rows;
 use p3_merkle_core::error::MerkleTreeError;
 use p3_merkle_core::geometry::{
-    check_heights, check_widths, exponent_of, has_exponent, levels_of, select_arity_step,
-    siblings_below_of, tallest_of,
+    check_heights, check_widths, exponent_of, has_exponent, select_arity_step, siblings_below_of,
+    tallest_of,
 };
 use p3_support::compress::PseudoCompressionFunction;
 use p3_support::hasher::CryptographicHasher;
@@ -64,7 +64,7 @@ impl<
             });
         }
         check_heights(dimensions)?;
-        let t = levels_of(dimensions, N).saturating_sub(self.cap_height);
+        let t = self.proof_levels(dimensions);
         let expected_proof_len = siblings_below_of(dimensions, N, t);
         if num_siblings != expected_proof_len {
             return Err(MerkleTreeError::WrongHeight {

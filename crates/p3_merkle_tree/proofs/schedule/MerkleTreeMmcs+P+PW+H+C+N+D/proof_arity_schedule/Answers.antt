@@ -10,11 +10,11 @@ pub returns-clause-first : goal.returns-clause-first
 returns-clause-first g c =
     let s = shape_of g.row.N c.args.dimensions.now in
     let cap = cap_height_of c.args.self.now in
-    (rw (c.saturating_sub-proof_levels.ensures, c.levels_of.ensures) at c.in_ok-schedule_below_of.ensures)
+    (rw c.proof_levels.ensures at c.in_ok-schedule_below_of.ensures)
     ∙ sym (take-map-range_with_len (step s) 0 (levels s) (levels s - cap) (omega arith))
 
 pub returns-clause-few : goal.returns-clause-few
 returns-clause-few g c =
     let s = shape_of g.row.N c.args.dimensions.now in
-    let is = rw (c.saturating_sub-proof_levels.ensures, c.levels_of.ensures) at c.in_ok-schedule_below_of.ensures in
+    let is = rw c.proof_levels.ensures at c.in_ok-schedule_below_of.ensures in
     omega (arith, ap length is, length-map-range_with_len (step s) 0 (levels s - cap_height_of c.args.self.now), levels_le s)

@@ -2,7 +2,7 @@
 use Rattle.std.proofs.Common.{◌≡◌, arith, ap, sym, ◌∙◌}
 use Rattle.p3_merkle_core.specs.Geometry.{shape_of, exponent, layer_exponent}
 use Rattle.p3_merkle_core.proofs.StepFacts.{layer_start, next_at}
-use Rattle.p3_merkle_tree.proofs.extract.exponent_at_of.Goals as goal
+use Rattle.p3_merkle_core.proofs.geometry.layer_exponent_of.Goals as goal
 
 pub loop-l-init : goal.loop-l-init
 loop-l-init c =
@@ -12,7 +12,7 @@ loop-l-init c =
 pub loop-l-preserved : goal.loop-l-preserved
 loop-l-preserved c =
     let s = shape_of c.args.arity c.args.dimensions.now in
-    next_at s c.loop-l._l c.loop-l.x c.select_arity_step-next.result.1 c.loop-l.invariant c.select_arity_step-next.ensures.next
+    next_at s c.loop-l._l c.loop-l.x c.select_arity_step-x.result.1 c.loop-l.invariant c.select_arity_step-x.ensures.next
 
 pub returns : goal.returns
 returns c =
