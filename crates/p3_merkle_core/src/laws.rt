@@ -1,7 +1,10 @@
 //! Laws of the definitions, each as the contract of a function that does nothing. They speak of every hash, every
 //! compression, every batch and every opening; the calls of the crates above answer what the definitions say.
 
+ghost use Rattle.std.specs.Prelude.{◌≡◌, ◌↔◌, IsTrue};
 ghost use Rattle.p3_merkle_core.specs.Laws.{AnsweredAsEachPath, BoundaryIsAlone, BoundaryIsSmallest, BoundaryNodesAreApart, BoundaryNodesAreHeld, BoundarySuffices, CappedIsEachAccepted, HonestIsAccepted, HonestNodesAreRestored, HonestPathsAreRestored, HonestQueryIsAccepted, HonestQueryIsCapped, InputsAreFull, LastDifferenceCollides, LastInputIsReached, MatricesHaveLayers, NoPairDiffers, NoneIsAgreement, OkIsAccepted, OkIsCapped, OkIsEachAccepted, OkIsRestorable, OkOrCapMismatch, OneIndexIsBound, PairCollides, PairIsFirst, PairsBeforeAgree, RefusedUnderEachCap, RootIsAlone, RowsAreAncestors, RowsAreBound, ScheduleStopsAtCap, SomeIsCollision, WalkEnds};
+
+use crate::error::MerkleTreeError;
 
 /// The walk over the steps ends for each arity and each list of heights, and each matrix has its layer.
 pub fn shape()
@@ -85,3 +88,10 @@ pub fn minimality()
     ensures apart { BoundaryNodesAreApart }
     ensures held { BoundaryNodesAreHeld }
 {}
+
+/// Equality of errors is equality of values. It answers what `==` answers.
+pub fn errors(a: &MerkleTreeError, b: &MerkleTreeError) -> bool
+    ensures { IsTrue result ↔ (a.now ≡ b.now) }
+{
+    *a == *b
+}

@@ -12,7 +12,7 @@ use std::alloc::{AllocError, Global};
 
 /// Where an input of the check of an opening stands. The check hashes the leaf, and then goes up level by level, from
 /// level 0; level `l` leads from layer `l` to layer `l + 1`.
-#[derive(Debug, Clone, Copy, PartialEq, Eq)]
+#[derive(Debug, PartialEq, Eq, Drop)]
 pub enum Place {
     /// The words that are hashed at the leaf.
     Leaf,
@@ -55,9 +55,13 @@ pub type Collision<T, W, const D: usize> = InputPair<T, [W; D]>;
 /// The rows of two openings, of which those of the matrices of one exponent are compared.
 #[derive(Clone, Copy)]
 pub(crate) struct RowPair<'a, T> {
+    /// The dimensions of all matrices.
     pub dimensions: &'a [Dimensions],
+    /// The exponent of those whose rows are compared.
     pub exponent: usize,
+    /// The first opening's rows of all matrices.
     pub first: &'a [Vec<T>],
+    /// The second's.
     pub second: &'a [Vec<T>],
 }
 
@@ -103,7 +107,8 @@ pub(crate) fn differing_words<T: Copy + Eq + Drop, W, const D: usize>(
     }))
 }
 
-/// The last place above the group of a level at which two checks differ, where these are the rows of the next layer.
+/// The last place of a level above its group (the rows, then the pair) at which two checks differ. `rows` are those of
+/// both openings for the next layer.
 fn differing_above<T: Copy + Eq + Drop, W: Copy + Eq, const N: usize, const D: usize>(
     alloc: Global,
     level: usize,
@@ -125,7 +130,7 @@ fn differing_above<T: Copy + Eq + Drop, W: Copy + Eq, const N: usize, const D: u
     differing_words(alloc, Place::Rows(level), rows)
 }
 
-/// The last place of a level at which two checks differ, where these are the rows of the next layer.
+/// The last place of a level at which two checks differ. `rows` are those of both openings for the next layer.
 pub(crate) fn differing_level<T: Copy + Eq + Drop, W: Copy + Eq, const N: usize, const D: usize>(
     alloc: Global,
     level: usize,
