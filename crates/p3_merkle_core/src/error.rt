@@ -6,7 +6,7 @@ ghost use Rattle.p3_merkle_core.specs.declared.error.MerkleTreeError.TheVariants
 use std::alloc::{AllocError, AllocFailed};
 use thiserror::Error;
 
-/// Why a pruned proof does not fit the queries and rows that it comes with.
+/// Why a pruned proof does not fit the queries and rows that it comes with. No call answers it yet: the definitions do.
 #[derive(Debug, PartialEq, Eq, Drop, Error)]
 pub enum PrunedProofError {
     /// The proof has not as many digests as its queries leave unknown.
@@ -37,7 +37,7 @@ pub enum PrunedProofError {
 /// entries, words of a row, digests, rows.
 #[derive(Debug, PartialEq, Eq, Drop, Error)]
 pub enum MerkleTreeError {
-    /// There are not as many rows, row sets or salts as there should be.
+    /// There are not as many rows as matrices.
     #[error("batch size mismatch: expected {expected} entries, got {got}")]
     WrongBatchSize {
         /// How many there should be.
@@ -92,12 +92,12 @@ pub enum MerkleTreeError {
     /// A pruned proof does not fit its queries and rows.
     #[error("malformed pruned proof: {0}")]
     MalformedPrunedProof(PrunedProofError),
-    /// A matrix has more rows, or wider rows, than this crate takes.
+    /// A matrix has more rows than the greatest height that is taken, 2^62.
     #[error("matrix {matrix}: size {size} is too large")]
     TooLarge {
         /// The place of the matrix in input order.
         matrix: usize,
-        /// Its height in rows, or its width in words.
+        /// Its height, in rows.
         size: usize,
     },
     /// There is no memory left.

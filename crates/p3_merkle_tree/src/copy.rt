@@ -16,7 +16,11 @@ impl<F: Copy, W: Copy, M: Matrix<F> + Clone + Drop, const N: usize, const D: usi
 > {
     ghost use Rattle.p3_merkle_tree.specs.Parts.{layers_of, matrices_of};
 
-    /// A tree with clones of the matrices, which equal them, and the same layers.
+    /// A tree with clones of the matrices, and the same layers. A clone of a matrix equals it.
+    ///
+    /// # Errors
+    ///
+    /// `AllocError` where there is no memory.
     pub fn clone(&self) -> Result<Self, AllocError>
         requires { (matrix copy : M) → M.is_clone matrix copy → copy ≡ matrix }
         ensures matrices { IfOk result (λ tree. matrices_of tree ≡ matrices_of self.now) }

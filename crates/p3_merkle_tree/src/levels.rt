@@ -34,7 +34,7 @@ pub struct Level {
     pub below: usize,
     /// How many children each of its nodes has.
     pub step: usize,
-    /// The exponent of the matrices that belong to it.
+    /// The exponent of the layer, and of the matrices that belong to it.
     pub exponent: usize,
     /// How many of its slots are nodes; they come first.
     pub raw_len: usize,
@@ -54,8 +54,8 @@ fn height_at_of(tallest: usize, x: usize) -> usize
     (tallest.saturating_sub(1) >> exponent_of(tallest).saturating_sub(x)) + 1
 }
 
-/// How many slots of a layer of `len` nodes are grouped: `2^x` in a bridge step from fewer nodes than the arity,
-/// where the pairs of the layer above are fewer than its slots; else all slots.
+/// How many slots of a layer of `len` nodes are grouped: `2^x` where a bridge step starts from fewer nodes than the
+/// arity, since the slots that pad such a layer have no pair above; else all slots.
 fn grouped_slots(dimensions: &[Dimensions], arity: usize, x: usize, len: usize) -> usize
     requires positive { 0 < arity }
     requires shift { x < 64 }

@@ -9,8 +9,11 @@ use p3_support::matrix::Dimensions;
 /// An opening of the leaf `index`, by its rows and siblings.
 #[derive(Clone, Copy)]
 pub(crate) struct IndexedOpening<'a, T, X> {
+    /// The leaf.
     pub index: usize,
+    /// Its rows, one of each matrix.
     pub rows: &'a [Vec<T>],
+    /// The siblings on its path, from the leaves up.
     pub siblings: &'a [X],
 }
 
@@ -18,9 +21,13 @@ pub(crate) struct IndexedOpening<'a, T, X> {
 /// children.
 #[derive(Drop)]
 pub(crate) struct OpeningPair<'a, T, X, const N: usize> {
+    /// The dimensions of all matrices.
     pub dimensions: &'a [Dimensions],
+    /// The cap's layer.
     pub t: usize,
+    /// The first opening.
     pub first: IndexedOpening<'a, T, X>,
+    /// The second.
     pub second: IndexedOpening<'a, T, X>,
     ghost first_reaches: { CanReach (shape_of N dimensions.now) t (length first.siblings.now) },
     ghost second_reaches: { CanReach (shape_of N dimensions.now) t (length second.siblings.now) },

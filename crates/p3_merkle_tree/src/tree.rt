@@ -93,8 +93,7 @@ impl<F: Copy, W: Copy, M: Matrix<F> + Drop, const N: usize, const D: usize> Merk
         let Stack {
             layers,
             arity_schedule,
-            exponent: _,
-            len: _,
+            ..
         } = builder.layers(alloc, &dimensions)?;
         Ok(Tree {
             matrices: leaves,
@@ -121,7 +120,7 @@ impl<F: Copy, W: Copy, M: Matrix<F> + Drop, const N: usize, const D: usize> Merk
     }
 
     /// The cap of this height: the whole layer `cap_height` levels below the root, padding included. Height 0 is the
-    /// root alone.
+    /// root alone; the height is below `num_layers()`, whose last is the leaves.
     ///
     /// # Errors
     ///

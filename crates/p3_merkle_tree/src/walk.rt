@@ -67,7 +67,9 @@ impl<W: Copy, const D: usize> Standing<[W; D]> {
 pub(crate) struct StandingPair<X> {
     /// The exponent of the layer.
     pub exponent: usize,
+    /// The check of the first opening.
     pub first: Standing<X>,
+    /// The check of the second.
     pub second: Standing<X>,
 }
 
@@ -129,7 +131,7 @@ impl<
     }
 
     /// The last place that the checks of two openings share and at which they differ, with both inputs. Memory is taken
-    /// for one level at a time, and only where it is shared.
+    /// at shared places alone: for the rows there, and for inputs that differ, of which the last found are kept.
     pub(crate) fn last_difference(
         &self,
         alloc: Global,
