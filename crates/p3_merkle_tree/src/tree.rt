@@ -119,8 +119,8 @@ impl<F: Copy, W: Copy, M: Matrix<F> + Drop, const N: usize, const D: usize> Merk
         self.layers.len()
     }
 
-    /// The cap of this height: the whole layer `cap_height` levels below the root, padding included. Height 0 is the
-    /// root alone; the height is below `num_layers()`, whose last is the leaves.
+    /// The cap of this height: the whole layer `cap_height` levels below the root, padding included. The height is below
+    /// `num_layers()`: 0 is the root alone, the greatest the leaves.
     ///
     /// # Errors
     ///
