@@ -6,6 +6,13 @@ ghost use Rattle.p3_merkle_core.specs.Laws.{AnsweredAsEachPath, BoundaryIsAlone,
 
 use crate::error::MerkleTreeError;
 
+/// Equality of errors is equality of values. It answers what `==` answers.
+pub fn errors(a: &MerkleTreeError, b: &MerkleTreeError) -> bool
+    ensures { IsTrue result ↔ (a.now ≡ b.now) }
+{
+    *a == *b
+}
+
 /// The walk over the steps ends for each arity and each list of heights, and each matrix has its layer.
 pub fn shape()
     ensures ends { WalkEnds }
@@ -88,10 +95,3 @@ pub fn minimality()
     ensures apart { BoundaryNodesAreApart }
     ensures held { BoundaryNodesAreHeld }
 {}
-
-/// Equality of errors is equality of values. It answers what `==` answers.
-pub fn errors(a: &MerkleTreeError, b: &MerkleTreeError) -> bool
-    ensures { IsTrue result ↔ (a.now ≡ b.now) }
-{
-    *a == *b
-}
