@@ -108,6 +108,23 @@ fn hashes_rows_of_two_matrices(rt: HostRuntime) -> Result<(), Fail> {
 }
 
 #[test]
+fn hashes_rows_of_picked_matrices(rt: HostRuntime) -> Result<(), Fail> {
+    let tall = RowMajorMatrix::new(vec![in rt.alloc(); 1u32, 2]?, 1);
+    let wide = RowMajorMatrix::new(vec![in rt.alloc(); 3u32, 7, 4, 8]?, 2);
+    let picked = [&tall, &wide];
+    assert_eq!(rt; picked[1].dimensions(), wide.dimensions());
+    // 31 * 33 + 4 = 1027 is the digest of 2 and 4, and 31 * 1027 + 8 = 31845 that of 2, 4 and 8.
+    let leaf = leaf_digest::<u32, FoldHash<8>, &RowMajorMatrix<u32>, 1>(
+        &FoldHash::<8>,
+        &picked,
+        2,
+        1,
+    );
+    assert_eq!(rt; leaf, [31845]);
+    Ok(())
+}
+
+#[test]
 fn hashes_packed_rows(rt: HostRuntime) -> Result<(), Fail> {
     let matrix = RowMajorMatrix::new(vec![in rt.alloc(); 1u32, 2, 3, 4, 5, 6, 7, 8]?, 1);
     let packed = packed_digest::<U32x8, FoldHash<8>, RowMajorMatrix<u32>, 1>(
