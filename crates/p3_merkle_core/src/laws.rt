@@ -1,5 +1,5 @@
-//! Laws of the definitions, each as the contract of a function that does nothing. They speak of every hash, every
-//! compression, every batch and every opening; the calls of the crates above answer what the definitions say.
+//! Laws of the definitions, each as the contract of a function that does nothing, and one of errors. They speak of every
+//! hash, every compression, every batch and every opening; the calls of the crates above answer what the definitions say.
 
 ghost use Rattle.std.specs.Prelude.{◌≡◌, ◌↔◌, IsTrue};
 ghost use Rattle.p3_merkle_core.specs.Laws.{AnsweredAsEachPath, BoundaryIsAlone, BoundaryIsSmallest, BoundaryNodesAreApart, BoundaryNodesAreHeld, BoundarySuffices, CappedIsEachAccepted, HonestIsAccepted, HonestNodesAreRestored, HonestPathsAreRestored, HonestQueryIsAccepted, HonestQueryIsCapped, InputsAreFull, LastDifferenceCollides, LastInputIsReached, MatricesHaveLayers, NoPairDiffers, NoneIsAgreement, OkIsAccepted, OkIsCapped, OkIsEachAccepted, OkIsRestorable, OkOrCapMismatch, OneIndexIsBound, PairCollides, PairIsFirst, PairsBeforeAgree, RefusedUnderEachCap, RootIsAlone, RowsAreAncestors, RowsAreBound, ScheduleStopsAtCap, SomeIsCollision, WalkEnds};
