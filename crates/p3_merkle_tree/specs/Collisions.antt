@@ -13,6 +13,13 @@ use Rattle.p3_merkle_tree.specs.declared.collision.InputPair.TheVariants.{Words,
 use Rattle.p3_merkle_tree.specs.declared.collision.RowPair.{RowPair}
 use Rattle.p3_merkle_tree.specs.declared.verify.CheckedLevel.{CheckedLevel}
 
+-- two collisions are of one kind, at one place, with the same inputs
+abbrev pub IsSamePair : {T X : Type 0} → InputPair T X → InputPair T X → Type 0
+IsSamePair (Words p x y) (Words q z w) = (p ≡ q) × (x.items ≡ z.items) × (y.items ≡ w.items)
+IsSamePair (Words p x y) (Digests q z w) = ⊥
+IsSamePair (Digests p x y) (Words q z w) = ⊥
+IsSamePair (Digests p x y) (Digests q z w) = (p ≡ q) × (x.items ≡ z.items) × (y.items ≡ w.items)
+
 module _ {T W : Type 0} where
   -- two inputs of words at a place, if it is one of words
   abbrev pub words_at : Place → List T → List T → Option (Input T W × Input T W)
