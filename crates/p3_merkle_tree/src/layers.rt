@@ -49,7 +49,7 @@ pub struct Builder<'a, P, H, C, M, G> {
     pub item: PhantomData<(P, G)>,
 }
 
-/// The matrices of a height, in input order. It takes no memory where there are none.
+/// The matrices of a height, in input order.
 fn of_height<'a, T, M: Matrix<T>>(
     alloc: Global,
     matrices: &'a [M],
@@ -57,13 +57,10 @@ fn of_height<'a, T, M: Matrix<T>>(
 ) -> Result<Vec<&'a M>, AllocError>
     ensures { IfOk result (λ v. map (λ m. m.now) v.items ≡ filter (λ m. M.height_of m == height) matrices.now) }
 {
-    let mut picked = Vec::new(alloc);
-    for matrix in matrices {
-        if matrix.height() == height {
-            picked.push(matrix)?;
-        }
-    }
-    Ok(picked)
+    matrices
+        .iter()
+        .filter(|matrix| matrix.height() == height)
+        .collect(alloc)
 }
 
 impl<
