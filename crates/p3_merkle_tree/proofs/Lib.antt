@@ -1,12 +1,5 @@
-pub mod PlaceFacts
-pub mod LevelFacts
-pub mod LayerFacts
-pub mod BuildFacts
-pub mod TreeFacts
 pub mod ReachFacts
 pub mod VerdictFacts
-pub mod RowFacts
-pub mod OwnFacts
 pub mod OwnAccepted
 pub mod CapFacts
 pub mod AuthenticFacts

@@ -1,17 +1,12 @@
 -- What the answer to an opening means.
-use Rattle.std.proofs.Common.{◌≡◌, ◌↔◌, ◌≤◌, ℕ, List, Bool, sym, ◌∙◌, refl, IsOk, Result}
+use Rattle.std.proofs.Common.{◌≡◌, ◌↔◌, ℕ, List, Bool, sym, ◌∙◌, refl, IsOk, Result}
 use Rattle.std.specs.Prelude.{Ok, Err}
-use Rattle.p3_merkle_core.specs.Geometry.{Shape, IsLawful, tallest, max_height}
+use Rattle.p3_merkle_core.specs.Geometry.{Shape}
 use Rattle.p3_merkle_core.specs.Nodes.{Functions}
 use Rattle.p3_merkle_core.specs.Openings.{Opening, IsAccepted}
 use Rattle.p3_merkle_core.specs.Refusals.{answer_under, IsEquality}
 use Rattle.p3_merkle_core.specs.declared.error.MerkleTreeError.{MerkleTreeError}
-use Rattle.p3_merkle_core.proofs.GateFacts.{tallest_fits, none_large_from_lawful}
 use Rattle.p3_merkle_core.proofs.Verdicts.{accepted_from, accepted_answer}
-
--- lawful heights are within the limit
-pub lawful_fits : (hs : List ℕ) → IsLawful hs → tallest hs ≤ max_height
-lawful_fits hs w = tallest_fits hs (none_large_from_lawful hs w)
 
 -- there is one Ok
 ok_is : {E : Type 0} (r : Result (Unit {0}) E) → IsOk r → r ≡ Ok tt

@@ -16,7 +16,7 @@ use Rattle.p3_merkle_core.proofs.StepFacts.{anc_next, layer_start, next_exponent
 use Rattle.p3_merkle_tree.specs.Checks.{CanStep, IsRaised, StandsAt, leaf_difference, level_difference, step_siblings}
 use Rattle.p3_merkle_tree.specs.Collisions.{IsCheckedLevel, IsDifference, Shows, level_inputs, inputs_above}
 use Rattle.p3_merkle_tree.specs.Paths.{rows_with}
-use Rattle.p3_merkle_tree.specs.Views.{placed}
+use Rattle.p3_merkle_builder.specs.Views.{placed}
 use Rattle.p3_merkle_tree.specs.declared.collision.InputPair.{InputPair}
 use Rattle.p3_merkle_tree.specs.declared.verify.CheckedLevel.{CheckedLevel}
 use Rattle.p3_merkle_tree.specs.declared.walk.Standing.{Standing}

@@ -4,7 +4,7 @@ use Rattle.p3_merkle_core.specs.Extracting.{last_difference}
 use Rattle.p3_merkle_core.specs.Geometry.{Shape, ancestor, layer_exponent}
 use Rattle.p3_merkle_core.specs.Nodes.{Functions}
 use Rattle.p3_merkle_core.specs.Openings.{Input, Opening, Leaf, inputs_at, opening_of, path_digest, rows_at, siblings_below}
-use Rattle.p3_merkle_tree.specs.Schemes.{rows_in}
+use Rattle.p3_merkle_builder.specs.Own.{rows_in}
 use Rattle.p3_merkle_tree.specs.declared.openings.IndexedOpening.{IndexedOpening}
 use Rattle.p3_merkle_tree.specs.declared.openings.OpeningPair.{OpeningPair}
 use Rattle.p3_merkle_tree.specs.declared.walk.Standing.{Standing}

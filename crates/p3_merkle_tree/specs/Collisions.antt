@@ -6,7 +6,7 @@ use Rattle.p3_merkle_core.specs.Openings.{Opening, Input, Leaf, Group, Rows, Pai
 use Rattle.p3_merkle_core.specs.declared.error.MerkleTreeError.{MerkleTreeError}
 use Rattle.p3_merkle_core.specs.declared.error.MerkleTreeError.TheVariants.{OutOfMemory}
 use Rattle.p3_merkle_tree.specs.Paths.{rows_with}
-use Rattle.p3_merkle_tree.specs.Schemes.{rows_in}
+use Rattle.p3_merkle_builder.specs.Own.{rows_in}
 use Rattle.p3_merkle_tree.specs.declared.collision.Place.{Place}
 use Rattle.p3_merkle_tree.specs.declared.collision.InputPair.{InputPair}
 use Rattle.p3_merkle_tree.specs.declared.collision.InputPair.TheVariants.{Words, Digests}

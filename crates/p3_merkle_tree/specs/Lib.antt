@@ -1,7 +1,7 @@
-pub mod Views
-pub mod Levels
-pub mod Built
-pub mod Parts
+pub use Rattle.p3_merkle_builder.specs.Views
+pub use Rattle.p3_merkle_builder.specs.Built
+pub use Rattle.p3_merkle_builder.specs.Parts
+pub use Rattle.p3_merkle_builder.specs.Own
 pub mod Paths
 pub mod Schemes
 pub mod Collisions

@@ -38,13 +38,3 @@ form_refusal s t index rows count =
     ∷ row_width_refusal (widths s) rows
     ∷ unless (nat_lt index (tallest (heights s))) (IndexOutOfBounds (tallest (heights s)) index)
     ∷ [])
-
--- ---- what is opened
-
--- the other nodes of the group, in layer l, of the node above leaf i
-abbrev pub own_group : {X : Type 0} → Shape → List (List X) → ℕ → ℕ → List X
-own_group s layers i l = remove (take (step s l) (drop (step s l * ancestor s (suc l) i) (slice_index_or layers l []))) (position_in_group s l i)
-
--- the siblings on the path of leaf i up to layer t, in the layers of a tree
-abbrev pub own_siblings : {X : Type 0} → Shape → List (List X) → ℕ → ℕ → List X
-own_siblings s layers t i = joined (own_group s layers i) t

@@ -6,6 +6,7 @@ use Rattle.std.specs.declared.cmp.PartialEq as equality
 use Rattle.p3_support.specs.declared.packed.PackedValue as packed
 use Rattle.p3_merkle_core.specs.Nodes.{Functions, functions_of}
 use Rattle.p3_merkle_core.specs.Openings.{Opening, opening_of}
+use Rattle.p3_merkle_builder.specs.Own.{rows_in}
 use Rattle.p3_merkle_tree.specs.declared.mmcs.Scheme.{Scheme}
 use Rattle.p3_support.specs.declared.opening.BatchOpening.{BatchOpening}
 use Rattle.p3_support.specs.declared.opening.BatchOpeningRef.{BatchOpeningRef}
@@ -26,10 +27,6 @@ module _ {P PW H C X G V W : Type 0} {N : ℕ} {p : packed.Ghosts P V} {pd : def
   -- what its hasher and its compression compute, and the digest of d default words
   abbrev pub scheme_functions : (H → List V → List W) → (C → List (List W) → List W) → ℕ → Scheme P PW H C X G N V W p pd pe q qd qe → Functions V W
   scheme_functions hash compression d scheme = functions_of (hash scheme.hash) (compression scheme.compress) (replicate d q.default_value)
-
--- the lists of words that rows are
-abbrev pub rows_in : {T A : Type 0} → List (Vec T A) → List (List T)
-rows_in rows = map (λ row. row.items) rows
 
 -- an opening of an index, by its rows and siblings
 abbrev pub opening_made : {T W A : Type 0} → ℕ → BatchOpening T (Vec (List W) A) → Opening T W

@@ -3,7 +3,7 @@
 ghost use Rattle.std.specs.Prelude.{◌≡◌, ◌<◌, ◌≤◌, ◌↔◌, IfErr, IfOk, IsOk, IsTrue};
 ghost use Rattle.p3_merkle_core.specs.Geometry.{is_arity, IsArity};
 
-use crate::tree::MerkleTree;
+use p3_merkle_builder::tree::MerkleTree;
 use p3_merkle_core::error::MerkleTreeError;
 use p3_merkle_core::geometry::levels_of;
 use p3_support::compress::PseudoCompressionFunction;
@@ -73,12 +73,13 @@ impl<
     ghost use Rattle.p3_merkle_core.specs.Openings.{honest_rows, IsAccepted};
     ghost use Rattle.p3_merkle_core.specs.Refusals.{answer_under};
     ghost use Rattle.p3_merkle_core.specs.declared.error.MerkleTreeError.TheVariants.{OutOfMemory};
-    ghost use Rattle.p3_merkle_tree.specs.Built.{OkUnlessRefused};
-    ghost use Rattle.p3_merkle_tree.specs.Parts.{layers_of, matrices_of, tree_batch};
-    ghost use Rattle.p3_merkle_tree.specs.Paths.{own_siblings};
-    ghost use Rattle.p3_merkle_tree.specs.Schemes.{cap_height_of, compression_of, hash_of, opening_lent, opening_made, rows_in, scheme_functions};
+    ghost use Rattle.p3_merkle_builder.specs.Built.{OkUnlessRefused};
+    ghost use Rattle.p3_merkle_builder.specs.Parts.{layers_of, matrices_of, tree_batch};
+    ghost use Rattle.p3_merkle_builder.specs.Own.{own_siblings};
+    ghost use Rattle.p3_merkle_tree.specs.Schemes.{cap_height_of, compression_of, hash_of, opening_lent, opening_made, scheme_functions};
+    ghost use Rattle.p3_merkle_builder.specs.Own.{rows_in};
     ghost use Rattle.p3_support.specs.Shown.{roots_of};
-    ghost use Rattle.p3_merkle_tree.specs.Views.{batch_of};
+    ghost use Rattle.p3_merkle_builder.specs.Views.{batch_of};
 
     /// The scheme of a hasher and a compression, whose cap is `cap_height` levels below the root: 0 for the root
     /// alone, and the leaves where a tree has no more levels than that.

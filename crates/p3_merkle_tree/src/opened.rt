@@ -4,7 +4,7 @@ ghost use Rattle.std.specs.Prelude.{◌≡◌};
 ghost use Rattle.std.specs.Iterator.{YieldsFirst, item_count};
 ghost use Rattle.p3_merkle_core.specs.Geometry.{heights_of};
 ghost use Rattle.p3_merkle_tree.specs.Paths.{opened_left};
-ghost use Rattle.p3_merkle_tree.specs.Schemes.{rows_in};
+ghost use Rattle.p3_merkle_builder.specs.Own.{rows_in};
 
 use p3_merkle_core::geometry::exponent_of;
 use p3_support::matrix::Dimensions;

@@ -3,7 +3,7 @@
 ghost use Rattle.std.specs.Prelude.{◌≡◌, ◌-◌, ◌≤◌, IfErr, IfOk, map, take, vec_len};
 
 use crate::mmcs::MerkleTreeMmcs;
-use crate::tree::MerkleTree;
+use p3_merkle_builder::tree::MerkleTree;
 use p3_merkle_core::error::MerkleTreeError;
 use p3_merkle_core::geometry::{
     ArityAndPositions, check_heights, positions_below_of, schedule_below_of, siblings_below_of,
@@ -28,8 +28,8 @@ impl<
     ghost use Rattle.p3_merkle_core.specs.Nodes.{shape};
     ghost use Rattle.p3_merkle_core.specs.Refusals.{replay_refusal};
     ghost use Rattle.p3_merkle_core.specs.declared.error.MerkleTreeError.TheVariants.{OutOfMemory};
-    ghost use Rattle.p3_merkle_tree.specs.Built.{OkUnlessRefused};
-    ghost use Rattle.p3_merkle_tree.specs.Parts.{matrices_of, tree_batch};
+    ghost use Rattle.p3_merkle_builder.specs.Built.{OkUnlessRefused};
+    ghost use Rattle.p3_merkle_builder.specs.Parts.{matrices_of, tree_batch};
     ghost use Rattle.p3_merkle_tree.specs.Schemes.{cap_height_of};
 
     /// The steps of the levels below the cap, from the leaves up, in children a node: those of the tree over matrices
@@ -110,11 +110,7 @@ impl<
         ensures matrices { IfOk result (λ v. map (λ m. m.now) v.items ≡ matrices_of tree.now) }
         ensures memory { IfErr result (λ e. e ≡ OutOfMemory) }
     {
-        let mut matrices = Vec::with_capacity(alloc, tree.matrices.len())?;
-        for matrix in &tree.matrices {
-            matrices.push(matrix)?;
-        }
-        Ok(matrices)
+        tree.matrix_refs(alloc)
     }
 
     /// The height of the tallest matrix of a tree, in rows: one more than the greatest index that can be opened.

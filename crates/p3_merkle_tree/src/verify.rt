@@ -8,12 +8,13 @@ ghost use Rattle.p3_merkle_core.specs.Openings.{opening_of, path_digest};
 ghost use Rattle.p3_merkle_core.specs.Refusals.{answer_under};
 ghost use Rattle.p3_merkle_tree.specs.Collisions.{IsCheckedLevel};
 ghost use Rattle.p3_merkle_tree.specs.Paths.{climbed, form_refusal, rows_with, CanReach};
-ghost use Rattle.p3_merkle_tree.specs.Schemes.{cap_height_of, hash_of, opening_lent, rows_in, scheme_functions};
+ghost use Rattle.p3_merkle_tree.specs.Schemes.{cap_height_of, hash_of, opening_lent, scheme_functions};
+ghost use Rattle.p3_merkle_builder.specs.Own.{rows_in};
 ghost use Rattle.p3_support.specs.Shown.{roots_of};
 
-use crate::group::group_with;
 use crate::mmcs::MerkleTreeMmcs;
 use crate::opened::opened_rows;
+use p3_merkle_builder::group::group_with;
 use p3_merkle_core::error::MerkleTreeError;
 use p3_merkle_core::geometry::{
     check_heights, check_widths, exponent_of, has_exponent, select_arity_step, siblings_below_of,

@@ -7,12 +7,12 @@ ghost use Rattle.p3_merkle_core.specs.Openings.{shared_inputs};
 ghost use Rattle.p3_merkle_tree.specs.Checks.{leaf_difference, opening_in, step_siblings, CanStep, IsRaised, StandTogether};
 ghost use Rattle.p3_merkle_tree.specs.Collisions.{Shows};
 ghost use Rattle.p3_merkle_tree.specs.Schemes.{scheme_functions};
-ghost use Rattle.p3_merkle_tree.specs.Views.{placed};
+ghost use Rattle.p3_merkle_builder.specs.Views.{placed};
 
 use crate::collision::{Collision, Place, RowPair, differing_level, differing_words};
-use crate::group::group_with;
 use crate::mmcs::MerkleTreeMmcs;
 use crate::openings::OpeningPair;
+use p3_merkle_builder::group::group_with;
 use p3_merkle_core::geometry::{exponent_of, select_arity_step, tallest_of};
 use p3_support::compress::PseudoCompressionFunction;
 use p3_support::hasher::CryptographicHasher;

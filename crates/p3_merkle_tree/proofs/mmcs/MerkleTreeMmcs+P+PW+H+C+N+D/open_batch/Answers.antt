@@ -2,9 +2,10 @@
 use Rattle.std.proofs.Common.{arith}
 use Rattle.p3_merkle_core.specs.Geometry.{cap_layer}
 use Rattle.p3_merkle_core.specs.Nodes.{shape}
-use Rattle.p3_merkle_tree.specs.Parts.{layers_of, tree_batch}
-use Rattle.p3_merkle_tree.specs.Schemes.{cap_height_of, rows_in, scheme_functions}
-use Rattle.p3_merkle_tree.proofs.RowFacts.{full_rows}
+use Rattle.p3_merkle_builder.specs.Parts.{layers_of, tree_batch}
+use Rattle.p3_merkle_tree.specs.Schemes.{cap_height_of, scheme_functions}
+use Rattle.p3_merkle_builder.specs.Own.{rows_in}
+use Rattle.p3_merkle_builder.proofs.RowFacts.{full_rows}
 use Rattle.p3_merkle_tree.proofs.OwnAccepted.{own_accepted}
 use Rattle.p3_merkle_tree.proofs.mmcs.MerkleTreeMmcs+P+PW+H+C+N+D.open_batch.Goals as goal
 

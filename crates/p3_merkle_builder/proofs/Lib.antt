@@ -1,0 +1,7 @@
+pub mod PlaceFacts
+pub mod LevelFacts
+pub mod LayerFacts
+pub mod BuildFacts
+pub mod TreeFacts
+pub mod OwnFacts
+pub mod RowFacts

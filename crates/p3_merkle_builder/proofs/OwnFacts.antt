@@ -1,0 +1,60 @@
+-- What a tree opens of one index: the bounds of each group, and the siblings level by level.
+use Rattle.std.proofs.Common.{◌≡◌, ℕ, suc, ◌+◌, ◌-◌, ◌*◌, ◌/◌, ◌%◌, ◌<◌, ◌≤◌, List, ◌++◌, [], map, refl, ap, sym, ◌∙◌, arith, length, get_or, take, drop, remove, add-one}
+use Rattle.std.specs.List.{range_with_len}
+use Rattle.std.specs.Prelude.{slice_index_or}
+use Rattle.std.proofs.lemmas.List.{get_or-map, get_or_default}
+use Rattle.std.proofs.lemmas.List.FromFn.{length-map-range_with_len}
+use Rattle.std.proofs.Math.Nat.{mul-le-mul_left}
+use Rattle.p3_merkle_core.specs.Geometry.{Shape, arity_schedule, joined, step, ancestor, levels, tallest, heights, raw_len, layer_len, IsArity, IsLawful}
+use Rattle.p3_merkle_core.proofs.RawFacts.{anc_below, children_fit}
+use Rattle.p3_merkle_core.proofs.StepFacts.{anc_next, step_above_1, step_read}
+use Rattle.p3_merkle_builder.specs.Own.{own_group}
+use Rattle.p3_merkle_builder.proofs.TreeFacts.{layer_long}
+
+-- the steps of a tree are as many as its levels
+pub steps_count : (s : Shape) (taken : List ℕ) → taken ≡ arity_schedule s → length taken ≡ levels s
+steps_count s taken e = ap length e ∙ length-map-range_with_len (step s) 0 (levels s)
+
+-- each is the step of its level
+pub step_of : (s : Shape) (taken : List ℕ) (l n : ℕ) → taken ≡ arity_schedule s → l < levels s → n ≡ get_or taken l n → n ≡ step s l
+step_of s taken l n e h is =
+    let long = steps_count s taken e in
+    is ∙ get_or_default taken l n 0 (omega arith) ∙ step_read s l taken e (omega arith)
+
+-- the group, in layer l, of the node above leaf i: from `node - node % n` on, n of the layer's digests
+pub record IsGroup (s : Shape) (i l n node len : ℕ) : Type 0 where
+  pub is_step : n ≡ step s l
+  pub at_node : node ≡ ancestor s l i
+  pub wide : 2 ≤ n
+  pub starts : node - node % n ≡ step s l * ancestor s (suc l) i
+  pub fits : node - node % n + n ≤ len
+
+-- the group lies within its layer
+pub group_is : (s : Shape) (i l n node len : ℕ) → IsArity s.arity → IsLawful (heights s) → i < tallest (heights s) → l < levels s →
+    node ≡ ancestor s l i → n ≡ step s l → len ≡ layer_len s l → IsGroup s i l n node len
+group_is s i l n node len w lawful below h at is long =
+    let two : 2 ≤ n = rw is (step_above_1 s l w.above_1) in
+    let up : ancestor s (suc l) i ≡ node / n = anc_next s l i ∙ rw (is, at) refl in
+    let start : node - node % n ≡ n * (node / n) = omega arith in
+    let inside : node / n < raw_len s (suc l) = rw (← up) (anc_below s w i below (suc l) (omega arith)) in
+    let room : n * raw_len s (suc l) ≤ layer_len s l = rw is (children_fit s w lawful.some_above_0 l h) in
+    let whole : n * (node / n + 1) ≤ n * raw_len s (suc l) = mul-le-mul_left n (omega arith) in
+    let next : n * (node / n + 1) ≡ n * (node / n) + n = omega arith in
+    record { is_step = is; at_node = at; wide = two; starts = start ∙ rw (up, ← is) refl; fits = omega arith }
+
+-- the same from the facts of a tree: its layers have their lengths, and its steps are the shape's
+pub group_at_level : {V : Type 0} (len : V → ℕ) (layers : List V) (taken : List ℕ) (s : Shape) (i l t n node : ℕ) (layer : V) → IsArity s.arity → IsLawful (heights s) →
+    map len layers ≡ map (layer_len s) (range_with_len 0 (suc (levels s))) → taken ≡ arity_schedule s → i < tallest (heights s) → t ≤ levels s → l < t →
+    node ≡ ancestor s l i → n ≡ get_or taken l n → layer ≡ get_or layers l layer → IsGroup s i l n node (len layer)
+group_at_level len layers taken s i l t n node layer w lawful lengths steps below in_tree h at read is =
+    group_is s i l n node (len layer) w lawful below (omega arith) at (step_of s taken l n steps (omega arith) read) (layer_long len layers s lengths l layer (omega arith) is)
+
+-- one level more of the siblings
+pub group_next : {V X : Type 0} (items : V → List X) (layers : List V) (s : Shape) (i l n node : ℕ) (layer : V) (old new : List X) →
+    IsGroup s i l n node (length (items layer)) → l < length layers → layer ≡ get_or layers l layer → old ≡ joined (own_group s (map items layers) i) l →
+    new ≡ old ++ remove (take (node - node % n + n - (node - node % n)) (drop (node - node % n) (items layer))) (node % n) →
+    (new ≡ joined (own_group s (map items layers) i) (l + 1)) × (node / n ≡ ancestor s (l + 1) i)
+group_next items layers s i l n node layer old new w h is is_old is_new =
+    let count : node - node % n + n - (node - node % n) ≡ n = omega arith in
+    let read : slice_index_or (map items layers) l [] ≡ items layer = get_or-map items layers l layer [] h ∙ ap items (sym is) in
+    (is_new ∙ rw (is_old, count, add-one, read, w.starts, w.is_step, w.at_node) refl, rw (add-one, w.is_step, w.at_node) (sym (anc_next s l i)))

@@ -1,0 +1,58 @@
+-- What the facts of a tree say of its layers.
+use Rattle.std.proofs.Common.{◌≡◌, ℕ, suc, ◌<◌, ◌≤◌, List, map, ap, sym, ◌∙◌, arith, length, get_or}
+use Rattle.std.specs.Prelude.{[], ◌∷◌, Some, slice_get}
+use Rattle.std.specs.List.{range_with_len}
+use Rattle.std.proofs.lemmas.Option.{slice_get_read}
+use Rattle.std.proofs.lemmas.List.FromFn.{length-map-range_with_len, get_or-map-range_with_len}
+use Rattle.std.proofs.lemmas.List.{length-map, get_or-map}
+use Rattle.p3_merkle_core.specs.Geometry.{Shape, heights, layer_len, levels, raw_len, padded_len, IsArity, IsLawful}
+use Rattle.p3_merkle_core.specs.Nodes.{Functions, Batch, shape, node, layer, layers}
+use Rattle.std.proofs.lemmas.Simd.{map-map}
+use Rattle.p3_merkle_builder.proofs.LayerFacts.{same_made}
+use Rattle.p3_merkle_core.proofs.LadderFacts.{exponent_at_levels}
+use Rattle.p3_merkle_core.proofs.RawFacts.{filled}
+
+module _ {V : Type 0} (len : V → ℕ) (vs : List V) (s : Shape) where
+  -- a tree has one layer more than levels
+  pub layers_count : map len vs ≡ map (layer_len s) (range_with_len 0 (suc (levels s))) → length vs ≡ suc (levels s)
+  layers_count e = sym (length-map vs len) ∙ ap length e ∙ length-map-range_with_len (layer_len s) 0 (suc (levels s))
+
+  -- each of its length
+  pub layer_long : map len vs ≡ map (layer_len s) (range_with_len 0 (suc (levels s))) → (l : ℕ) (v : V) → l ≤ levels s → v ≡ get_or vs l v → len v ≡ layer_len s l
+  layer_long e l v h is =
+      let many = layers_count e in
+      ap len is ∙ sym (get_or-map len vs l v (len v) (omega arith))
+      ∙ ap (λ (z : List ℕ). get_or z l (len v)) e ∙ get_or-map-range_with_len (layer_len s) 0 (suc (levels s)) l l (len v) (omega arith) (omega arith)
+
+-- the layers of the definition are of their lengths
+pub lengths_from : {V T W : Type 0} (items : V → List (List W)) (vs : List V) (f : Functions T W) (b : Batch T) → map items vs ≡ layers f b →
+    map (λ v. length (items v)) vs ≡ map (layer_len (shape b)) (range_with_len 0 (suc (levels (shape b))))
+lengths_from items vs f b e =
+    sym (map-map length items vs) ∙ ap (λ (z : List (List (List _))). map length z) e ∙ map-map length (layer f b) (range_with_len 0 (suc (levels (shape b))))
+    ∙ same_made (λ l. length (layer f b l)) (layer_len (shape b)) (suc (levels (shape b))) (λ l h. length-map-range_with_len (node f b l) 0 (layer_len (shape b) l))
+
+-- a layer read by its place, as a list
+pub layer_read : {V A : Type 0} (items : V → List A) (vs : List V) (l : ℕ) (v : V) → l < length vs → v ≡ get_or vs l v → slice_get (map items vs) l ≡ Some (items v)
+layer_read items vs l v h is =
+    slice_get_read (map items vs) (length vs) l (items v) (sym (length-map vs items)) h (ap items is ∙ sym (get_or-map items vs l v (items v) h))
+
+-- a list of one element
+pub one_element : {A : Type 0} (xs : List A) (x : A) → length xs ≡ 1 → x ≡ get_or xs 0 x → xs ≡ x ∷ []
+one_element [] x h is = absurd (omega arith)
+one_element (y ∷ []) x h is = ap (λ z. z ∷ []) (sym is)
+one_element (y ∷ z ∷ ys) x h is = absurd (omega arith)
+
+-- the last layer has one node
+pub top_len : (s : Shape) → IsArity s.arity → IsLawful (heights s) → layer_len s (levels s) ≡ 1
+top_len s w lawful =
+    let f = rw (exponent_at_levels s w) at (filled s w lawful.some_above_0 (levels s) (omega arith)) in
+    let one : raw_len s (levels s) ≡ 1 = omega (arith, f.fits, f.above_half) in
+    ap (λ r. padded_len r s.arity) one
+
+-- layers that are the same have the same lengths
+pub same_lengths : {T V U A : Type 0} (b d : Batch T) (items : V → List A) (copied : U → List A) (vs : List V) (us : List U) → b ≡ d → map copied us ≡ map items vs →
+    map (λ v. length (items v)) vs ≡ map (layer_len (shape b)) (range_with_len 0 (suc (levels (shape b)))) →
+    map (λ u. length (copied u)) us ≡ map (layer_len (shape d)) (range_with_len 0 (suc (levels (shape d))))
+same_lengths b d items copied vs us same e long =
+    sym (map-map length copied us) ∙ ap (λ (z : List (List _)). map length z) e ∙ map-map length items vs ∙ long
+    ∙ ap (λ (z : Batch _). map (layer_len (shape z)) (range_with_len 0 (suc (levels (shape z))))) same

@@ -1,0 +1,33 @@
+//! Groups of digests, as a compression takes them.
+
+ghost use Rattle.std.specs.Prelude.{◌≡◌, ◌+◌, ◌<◌, ◌≤◌, ◌++◌, length, drop, insert};
+ghost use Rattle.p3_merkle_builder.specs.Views.{placed};
+
+/// Writes a value at its place among others into the first slots.
+pub fn place<X: Copy>(slots: &mut [X], position: usize, value: X, others: &[X])
+    requires placed { position ≤ length others.now }
+    requires room { length others.now < length slots.old }
+    ensures { slots.new ≡ insert others.now position value ++ drop (length others.now + 1) slots.old }
+{
+    let (front, rest) = others.split_at(position);
+    slots[..position].copy_from_slice(front);
+    slots[position] = value;
+    slots[position + 1..others.len() + 1].copy_from_slice(rest);
+}
+
+/// A digest at its place among its siblings, then default digests: what a compression of `N` digests takes where a
+/// node has fewer children.
+pub fn group_with<W: Copy, const N: usize, const D: usize>(
+    default_digest: [W; D],
+    digest: [W; D],
+    position: usize,
+    siblings: &[[W; D]],
+) -> [[W; D]; N]
+    requires placed { position ≤ length siblings.now }
+    requires room { length siblings.now < N }
+    ensures { result ≡ placed N default_digest siblings.now position digest }
+{
+    let mut group = [default_digest; N];
+    place(&mut group, position, digest, siblings);
+    group
+}

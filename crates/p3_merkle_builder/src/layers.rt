@@ -1,0 +1,286 @@
+//! The layers of a tree, one above the other.
+//!
+//! Each layer is allocated once, at its length, and filled from the first slot to the last. The matrices of its height
+//! are picked once, and its rows are read from those alone.
+
+ghost use Rattle.std.specs.Prelude.{suc, take, drop, ◌≡◌, ℕ, ◌-◌, ◌*◌, ◌<◌, ◌≤◌, ◌++◌, [], ◌∷◌, IfOk, List, map, filter, length, replicate, if◌then◌else◌, nat_lt, ◌==◌};
+ghost use Rattle.std.specs.List.{range_with_len};
+ghost use Rattle.p3_support.specs.Lists.{rows_at};
+ghost use Rattle.p3_merkle_core.specs.Geometry.{arity_schedule as schedule_of};
+ghost use Rattle.p3_merkle_core.specs.Nodes.{functions_of, layer, layers as layers_over, shape};
+ghost use Rattle.p3_merkle_builder.specs.Built.{IsBuilt};
+ghost use Rattle.p3_merkle_builder.specs.Levels.{built, CanBuild, CanRaise, IsLevel, raised, slot_above};
+ghost use Rattle.p3_merkle_builder.specs.Views.{batch_of};
+
+use crate::group::group_with;
+use crate::levels::{Level, level_above};
+use p3_merkle_core::geometry::{exponent_of, padded_len_of, tallest_of};
+use p3_support::compress::PseudoCompressionFunction;
+use p3_support::hasher::CryptographicHasher;
+use p3_support::matrix::{Dimensions, Matrix};
+use p3_support::packed::PackedValue;
+use p3_support::rows::rows_of;
+use std::alloc::{AllocError, Global};
+use std::marker::PhantomData;
+
+/// The first layers of a tree, from the leaves on, and the steps between them.
+#[derive(Debug, Drop)]
+pub struct Stack<X> {
+    /// The digests of each layer, padding included.
+    pub layers: Vec<Vec<X>>,
+    /// How many children a node has, from layer to layer.
+    pub arity_schedule: Vec<usize>,
+    /// The exponent of the last layer.
+    pub exponent: usize,
+    /// How many slots of the last layer are nodes.
+    pub len: usize,
+}
+
+/// Builds the layers over matrices, with a hash for their rows and a compression of `N` digests for nodes.
+#[derive(Drop)]
+pub struct Builder<'a, P, H, C, M, G> {
+    /// The hash of rows.
+    pub hash: &'a H,
+    /// The compression of the children of a node.
+    pub compress: &'a C,
+    /// The matrices, in input order.
+    pub matrices: &'a [M],
+    /// How words are packed, and the groups that the compression takes.
+    pub item: PhantomData<(P, G)>,
+}
+
+/// The matrices of a height, in input order.
+fn of_height<'a, T, M: Matrix<T>>(
+    alloc: Global,
+    matrices: &'a [M],
+    height: usize,
+) -> Result<Vec<&'a M>, AllocError>
+    ensures { IfOk result (λ v. map (λ m. m.now) v.items ≡ filter (λ m. M.height_of m == height) matrices.now) }
+{
+    matrices
+        .iter()
+        .filter(|matrix| matrix.height() == height)
+        .collect(alloc)
+}
+
+impl<
+    'a,
+    P: PackedValue,
+    PW: PackedValue,
+    H: CryptographicHasher<P, PW, D>,
+    C: PseudoCompressionFunction<PW, N, D>,
+    M: Matrix<P::Value>,
+    const N: usize,
+    const D: usize,
+> Builder<'a, (P, PW), H, C, M, [[PW::Value; D]; N]> {
+    /// The digest of the rows `row` of the matrices of this height, one matrix after another; the default digest past
+    /// their end.
+    fn rows_digest(&self, height: usize, row: usize) -> [PW::Value; D]
+        ensures { result ≡ (if nat_lt row height
+            then H.hash self.now.hash.now (rows_at M.height_of M.row_of height row self.now.matrices.now)
+            else replicate D PW.default_value) }
+    {
+        if row < height {
+            self.hash.hash_iter(rows_of(self.matrices, height, row))
+        } else {
+            [PW::Value::default(); D]
+        }
+    }
+
+    /// The compression of two digests, with default digests behind them.
+    fn pair_digest(&self, left: [PW::Value; D], right: [PW::Value; D]) -> [PW::Value; D]
+        requires { 2 ≤ N }
+        ensures { result ≡ C.compression self.now.compress.now
+            (left ∷ right ∷ replicate (N - 2) (replicate D PW.default_value)) }
+    {
+        let others = [right];
+        let group = group_with::<PW::Value, N, D>([PW::Value::default(); D], left, 0, &others);
+        self.compress.compress(group)
+    }
+
+    /// The compression of the children of a node, with default digests behind them.
+    fn children_digest(&self, children: &[[PW::Value; D]]) -> [PW::Value; D]
+        requires some { 0 < length children.now }
+        requires few { length children.now ≤ N }
+        ensures { result ≡ C.compression self.now.compress.now
+            (children.now ++ replicate (N - length children.now) (replicate D PW.default_value)) }
+    {
+        // A group without default digests is copied as a whole.
+        if let Some(group) = children.first_chunk::<N>() {
+            return self.compress.compress(*group);
+        }
+        let (first, others) = (children[0], &children[1..]);
+        let group = group_with::<PW::Value, N, D>([PW::Value::default(); D], first, 0, others);
+        self.compress.compress(group)
+    }
+
+    /// Node `j` of a layer over the layer below: the compression of its children, and where matrices belong to the
+    /// layer, compressed once more with the digest of their rows `j`.
+    fn node(&self, level: &Level, below: &[[PW::Value; D]], j: usize) -> [PW::Value; D]
+        requires wide { 2 ≤ level.now.step }
+        requires narrow { level.now.step ≤ N }
+        requires inside { j < level.now.raw_len }
+        requires fits { level.now.step * level.now.raw_len ≤ length below.now }
+        ensures { let f = functions_of (H.hash self.now.hash.now) (C.compression self.now.compress.now)
+            (replicate D PW.default_value) in
+            result ≡ built f N M.height_of M.row_of self.now.matrices.now level.now.has_rows level.now.height j
+            (take level.now.step (drop (level.now.step * j) below.now)) }
+    {
+        let start = level.step * j;
+        let digest = self.children_digest(&below[start..start + level.step]);
+        if level.has_rows {
+            self.pair_digest(digest, self.rows_digest(level.height, j))
+        } else {
+            digest
+        }
+    }
+
+    /// Slot `j` of the layer above a layer: a node, or the default digest.
+    fn slot(&self, level: &Level, below: &[[PW::Value; D]], j: usize) -> [PW::Value; D]
+        requires { CanRaise N level.now (length below.now) }
+        ensures { let f = functions_of (H.hash self.now.hash.now) (C.compression self.now.compress.now)
+            (replicate D PW.default_value) in
+            result ≡ slot_above f N M.height_of M.row_of self.now.matrices.now level.now below.now j }
+    {
+        if j < level.raw_len {
+            self.node(level, below, j)
+        } else {
+            [PW::Value::default(); D]
+        }
+    }
+
+    /// This builder over some of its matrices alone.
+    fn over<'b>(
+        &self,
+        picked: &'b [&'a M],
+    ) -> Builder<'b, (P, PW), H, C, &'a M, [[PW::Value; D]; N]>
+        ensures hash { result.hash.now ≡ self.now.hash.now }
+        ensures compress { result.compress.now ≡ self.now.compress.now }
+        ensures matrices { result.matrices.now ≡ picked.now }
+    {
+        Builder {
+            hash: self.hash,
+            compress: self.compress,
+            matrices: picked,
+            item: self.item,
+        }
+    }
+
+    /// The leaves, over the rows of the matrices of this height, in `len` slots.
+    fn first_layer(
+        &self,
+        alloc: Global,
+        height: usize,
+        len: usize,
+    ) -> Result<Vec<[PW::Value; D]>, AllocError>
+        ensures { IfOk result (λ v. v.items ≡ map (λ j. (if nat_lt j height
+            then H.hash self.now.hash.now (rows_at M.height_of M.row_of height j self.now.matrices.now)
+            else replicate D PW.default_value)) (range_with_len 0 len)) }
+    {
+        let picked = of_height(alloc, self.matrices, height)?;
+        let builder = self.over(&picked);
+        let mut nodes = Vec::with_capacity(alloc, len)?;
+        for j in 0..len {
+            nodes.push(builder.rows_digest(height, j))?;
+        }
+        Ok(nodes)
+    }
+
+    /// The layer above a layer.
+    fn next_layer(
+        &self,
+        alloc: Global,
+        level: &Level,
+        below: &[[PW::Value; D]],
+    ) -> Result<Vec<[PW::Value; D]>, AllocError>
+        requires { CanRaise N level.now (length below.now) }
+        ensures { let f = functions_of (H.hash self.now.hash.now) (C.compression self.now.compress.now)
+            (replicate D PW.default_value) in
+            IfOk result (λ v. v.items ≡ raised f N M.height_of M.row_of self.now.matrices.now level.now below.now) }
+    {
+        let picked = of_height(alloc, self.matrices, level.height)?;
+        let builder = self.over(&picked);
+        let mut nodes = Vec::with_capacity(alloc, level.layer_len)?;
+        for j in 0..level.layer_len {
+            nodes.push(builder.slot(level, below, j))?;
+        }
+        Ok(nodes)
+    }
+
+    /// The first layer alone.
+    fn bottom(
+        &self,
+        alloc: Global,
+        dimensions: &[Dimensions],
+    ) -> Result<Stack<[PW::Value; D]>, AllocError>
+        requires { CanBuild (batch_of M.height_of M.width_of M.row_of N self.now.matrices.now) dimensions.now }
+        ensures { let f = functions_of (H.hash self.now.hash.now) (C.compression self.now.compress.now)
+            (replicate D PW.default_value) in
+            let b = batch_of M.height_of M.width_of M.row_of N self.now.matrices.now in
+            IfOk result (λ stack. IsBuilt f b stack.exponent stack.len
+            (map (λ nodes. nodes.items) stack.layers.items) stack.arity_schedule.items) }
+    {
+        let height = tallest_of(dimensions);
+        let layer = self.first_layer(alloc, height, padded_len_of(height, N))?;
+        let mut layers = Vec::new(alloc);
+        layers.push(layer)?;
+        Ok(Stack {
+            layers,
+            arity_schedule: Vec::new(alloc),
+            exponent: exponent_of(height),
+            len: height,
+        })
+    }
+
+    /// The layer above the layers so far.
+    fn raise(
+        &self,
+        alloc: Global,
+        dimensions: &[Dimensions],
+        stack: &Stack<[PW::Value; D]>,
+    ) -> Result<(Level, Vec<[PW::Value; D]>), AllocError>
+        requires build { CanBuild (batch_of M.height_of M.width_of M.row_of N self.now.matrices.now) dimensions.now }
+        requires built { let f = functions_of (H.hash self.now.hash.now) (C.compression self.now.compress.now)
+            (replicate D PW.default_value) in
+            let b = batch_of M.height_of M.width_of M.row_of N self.now.matrices.now in
+            IsBuilt f b stack.now.exponent stack.now.len
+            (map (λ nodes. nodes.items) stack.now.layers.items) stack.now.arity_schedule.items }
+        requires more { 0 < stack.now.exponent }
+        ensures level { IfOk result (λ made. IsLevel (shape (batch_of M.height_of M.width_of M.row_of N self.now.matrices.now)) made.0) }
+        ensures below { IfOk result (λ made. made.0.below ≡ length stack.now.arity_schedule.items) }
+        ensures nodes { let f = functions_of (H.hash self.now.hash.now) (C.compression self.now.compress.now)
+            (replicate D PW.default_value) in
+            let b = batch_of M.height_of M.width_of M.row_of N self.now.matrices.now in
+            IfOk result (λ made. made.1.items ≡ layer f b (suc made.0.below)) }
+    {
+        let below = stack.arity_schedule.len();
+        let level = level_above(dimensions, N, below, stack.exponent, stack.len);
+        let layer = self.next_layer(alloc, &level, &stack.layers[below])?;
+        Ok((level, layer))
+    }
+
+    /// All layers of the tree over the matrices, whose dimensions these are.
+    pub fn layers(
+        &self,
+        alloc: Global,
+        dimensions: &[Dimensions],
+    ) -> Result<Stack<[PW::Value; D]>, AllocError>
+        requires { CanBuild (batch_of M.height_of M.width_of M.row_of N self.now.matrices.now) dimensions.now }
+        ensures layers { let f = functions_of (H.hash self.now.hash.now) (C.compression self.now.compress.now)
+            (replicate D PW.default_value) in
+            let b = batch_of M.height_of M.width_of M.row_of N self.now.matrices.now in
+            IfOk result (λ made. map (λ nodes. nodes.items) made.layers.items ≡ layers_over f b) }
+        ensures arity_schedule { let b = batch_of M.height_of M.width_of M.row_of N self.now.matrices.now in
+            IfOk result (λ made. made.arity_schedule.items ≡ schedule_of (shape b)) }
+    {
+        let mut stack = self.bottom(alloc, dimensions)?;
+        while stack.exponent > 0 {
+            let (level, layer) = self.raise(alloc, dimensions, &stack)?;
+            stack.layers.push(layer)?;
+            stack.arity_schedule.push(level.step)?;
+            stack.exponent = level.exponent;
+            stack.len = level.raw_len;
+        }
+        Ok(stack)
+    }
+}

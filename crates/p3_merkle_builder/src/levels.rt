@@ -1,0 +1,96 @@
+//! What is known of a layer before it is built: how many nodes and slots it has, and whose rows it takes in.
+
+ghost use Rattle.std.specs.Prelude.{◌≡◌, ◌+◌, ◌-◌, ◌*◌, ◌/◌, ◌^◌, ◌<◌, ◌≤◌, ◌&&◌, nat_lt, if◌then◌else◌, IfOk, map};
+ghost use Rattle.p3_merkle_core.specs.Geometry.{is_bridge, max_height, padded_len, shape_of};
+ghost use Rattle.p3_merkle_core.specs.Nodes.{dimensions_of as dimensions_in};
+ghost use Rattle.p3_merkle_builder.specs.Levels.{height_at, IsBelowTop, IsLevel};
+ghost use Rattle.p3_merkle_builder.specs.Views.{matrix_of};
+
+use p3_merkle_core::geometry::{
+    exponent_of, has_exponent, is_bridge_step, padded_len_of, select_arity_step, tallest_of,
+};
+use p3_support::matrix::{Dimensions, Matrix};
+use std::alloc::{AllocError, Global};
+
+/// The dimensions of matrices, in input order.
+pub fn dimensions_of<T, M: Matrix<T>>(
+    alloc: Global,
+    matrices: &[M],
+) -> Result<Vec<Dimensions>, AllocError>
+    ensures { IfOk result (λ v.
+        v.items ≡ dimensions_in (map (matrix_of M.height_of M.width_of M.row_of) matrices.now)) }
+{
+    let mut dimensions = Vec::with_capacity(alloc, matrices.len())?;
+    for matrix in matrices {
+        dimensions.push(matrix.dimensions())?;
+    }
+    Ok(dimensions)
+}
+
+/// A layer above another, before it is built.
+#[derive(Debug, Clone, Copy)]
+pub struct Level {
+    /// The number of the layer below it, from the leaves on.
+    pub below: usize,
+    /// How many children each of its nodes has.
+    pub step: usize,
+    /// The exponent of the layer, and of the matrices that belong to it.
+    pub exponent: usize,
+    /// How many of its slots are nodes; they come first.
+    pub raw_len: usize,
+    /// How many slots it has, padding included.
+    pub layer_len: usize,
+    /// The height, in rows, of the matrices that belong to it, where there are any.
+    pub height: usize,
+    /// Whether there are any.
+    pub has_rows: bool,
+}
+
+/// The one lawful height with the exponent `x`: the tallest height halved and rounded up.
+fn height_at_of(tallest: usize, x: usize) -> usize
+    requires { tallest ≤ max_height }
+    ensures { result ≡ height_at tallest x }
+{
+    (tallest.saturating_sub(1) >> exponent_of(tallest).saturating_sub(x)) + 1
+}
+
+/// How many slots of a layer of `len` nodes are grouped: `2^x` where a bridge step starts from fewer nodes than the
+/// arity, since the slots that pad such a layer have no pair above; else all slots.
+fn grouped_slots(dimensions: &[Dimensions], arity: usize, x: usize, len: usize) -> usize
+    requires positive { 0 < arity }
+    requires shift { x < 64 }
+    requires fits { padded_len len arity < 2 ^ 64 }
+    ensures { result ≡ (if is_bridge (shape_of arity dimensions.now) x && nat_lt len arity
+        then 2 ^ x else padded_len len arity) }
+{
+    if is_bridge_step(dimensions, arity, x) && len < arity {
+        1 << x
+    } else {
+        padded_len_of(len, arity)
+    }
+}
+
+/// The layer above the layer `below`, which has `len` nodes and the exponent `x`.
+pub fn level_above(
+    dimensions: &[Dimensions],
+    arity: usize,
+    below: usize,
+    x: usize,
+    len: usize,
+) -> Level
+    requires { IsBelowTop (shape_of arity dimensions.now) below x len }
+    ensures level { IsLevel (shape_of arity dimensions.now) result }
+    ensures below { result.below ≡ below }
+{
+    let (step, exponent) = select_arity_step(dimensions, arity, x);
+    let raw_len = grouped_slots(dimensions, arity, x, len) / step;
+    Level {
+        below,
+        step,
+        exponent,
+        raw_len,
+        layer_len: padded_len_of(raw_len, arity),
+        height: height_at_of(tallest_of(dimensions), exponent),
+        has_rows: has_exponent(dimensions, exponent),
+    }
+}

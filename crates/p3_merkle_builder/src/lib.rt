@@ -1,0 +1,9 @@
+//! The tree over a batch of matrices: how it is built, and what it opens of a leaf.
+#![tactic(auto)]
+
+pub mod copy;
+pub mod group;
+pub mod layers;
+pub mod levels;
+pub mod opener;
+pub mod tree;

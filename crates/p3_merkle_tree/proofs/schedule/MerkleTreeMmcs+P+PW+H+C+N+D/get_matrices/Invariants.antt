@@ -1,6 +1,0 @@
-use Rattle.std.proofs.Common.{◌≡◌, map, take}
-use Rattle.p3_merkle_tree.proofs.schedule.MerkleTreeMmcs+P+PW+H+C+N+D.get_matrices.Given as goal
-
--- the references so far are to the first matrices
-abbrev pub invariant-loop-matrix : goal.invariant-loop-matrix
-invariant-loop-matrix g l = map (λ m. m.now) l.matrices.items ≡ take l.matrix-index l.matrix-items
