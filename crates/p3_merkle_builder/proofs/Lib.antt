@@ -1,4 +1,3 @@
-pub mod PlaceFacts
 pub mod LevelFacts
 pub mod LayerFacts
 pub mod BuildFacts

@@ -1,5 +1,5 @@
 -- How the values of the code are read by the definitions.
-use Rattle.std.specs.Prelude.{◌-◌, ℕ, List, ◌++◌, map, insert, replicate, length}
+use Rattle.std.specs.Prelude.{ℕ, List, map}
 use Rattle.p3_merkle_core.specs.Nodes.{Matrix, Batch}
 
 module _ {T M : Type 0} (height width : M → ℕ) (row : M → ℕ → List T) where
@@ -10,7 +10,3 @@ module _ {T M : Type 0} (height width : M → ℕ) (row : M → ℕ → List T) 
   -- matrices in input order, under an arity
   abbrev pub batch_of : ℕ → List M → Batch T
   batch_of arity ms = record { arity = arity; matrices = map matrix_of ms }
-
--- x at its place among the others, then default elements up to n
-abbrev pub placed : {X : Type 0} → ℕ → X → List X → ℕ → X → List X
-placed n default_element others position x = insert others position x ++ replicate (n - length (insert others position x)) default_element

@@ -2,7 +2,6 @@
 #![tactic(auto)]
 
 pub mod copy;
-pub mod group;
 pub mod layers;
 pub mod levels;
 pub mod opener;

@@ -30,3 +30,4 @@ pub mod ExtractedMulti
 pub mod PlaceFacts
 pub mod RootFacts
 pub mod SiblingFacts
+pub mod GroupFacts

@@ -2,6 +2,7 @@ pub mod Geometry
 pub mod Gate
 pub mod Nodes
 pub mod Openings
+pub mod Groups
 pub mod Pruning
 pub mod Refusals
 pub mod Extracting

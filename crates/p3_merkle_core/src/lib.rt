@@ -5,4 +5,5 @@
 
 pub mod error;
 pub mod geometry;
+pub mod group;
 pub mod laws;

@@ -16,7 +16,7 @@ use Rattle.p3_merkle_core.proofs.StepFacts.{anc_next, layer_start, next_exponent
 use Rattle.p3_merkle_tree.specs.Checks.{CanStep, IsRaised, StandsAt, leaf_difference, level_difference, step_siblings}
 use Rattle.p3_merkle_tree.specs.Collisions.{IsCheckedLevel, IsDifference, Shows, level_inputs, inputs_above}
 use Rattle.p3_merkle_tree.specs.Paths.{rows_with}
-use Rattle.p3_merkle_builder.specs.Views.{placed}
+use Rattle.p3_merkle_core.specs.Groups.{group_around}
 use Rattle.p3_merkle_tree.specs.declared.collision.InputPair.{InputPair}
 use Rattle.p3_merkle_tree.specs.declared.verify.CheckedLevel.{CheckedLevel}
 use Rattle.p3_merkle_tree.specs.declared.walk.Standing.{Standing}
@@ -45,12 +45,12 @@ can_step s l n used count w taken = record { wide = w.wide; narrow = w.narrow; e
 
 -- the group of the level
 group_is : {T W : Type 0} (f : Functions T W) (s : Shape) (o : Opening T W) (l n y : ℕ) (standing : Standing (List W)) (group : List (List W)) → IsStepFrom s l n y → StandsAt f s o l standing →
-    group ≡ placed s.arity f.default_digest (step_siblings n o.siblings standing.used) (standing.node % n) standing.digest → group ≡ full_group f s o l
+    group ≡ group_around s.arity f.default_digest (step_siblings n o.siblings standing.used) (standing.node % n) standing.digest → group ≡ full_group f s o l
 group_is f s o l n y standing group w at e = e ∙ rw (w.is_step, at.taken, at.at_node, at.reached) refl
 
 -- the check stands one layer higher
 pub raised_stands : {T W : Type 0} (f : Functions T W) (s : Shape) (o : Opening T W) (l n y : ℕ) (standing raised : Standing (List W)) (group : List (List W)) (level : CheckedLevel (List W) (List (List W))) →
-    IsStepFrom s l n y → StandsAt f s o l standing → group ≡ placed s.arity f.default_digest (step_siblings n o.siblings standing.used) (standing.node % n) standing.digest →
+    IsStepFrom s l n y → StandsAt f s o l standing → group ≡ group_around s.arity f.default_digest (step_siblings n o.siblings standing.used) (standing.node % n) standing.digest →
     IsCheckedLevel f s.arity y (zip (heights s) o.rows) (list_any (λ h. eqb (exponent h) y) (heights s)) group level → IsRaised n level.digest standing raised →
     StandsAt f s o (l + 1) raised
 raised_stands f s o l n y standing raised group level w at e here up =
@@ -63,7 +63,7 @@ raised_stands f s o l n y standing raised group level w at e here up =
 
 -- the level's inputs are those of the check
 pub level_is : {T W : Type 0} (f : Functions T W) (s : Shape) (o : Opening T W) (l n y : ℕ) (standing : Standing (List W)) (group : List (List W)) (level : CheckedLevel (List W) (List (List W))) →
-    IsStepFrom s l n y → StandsAt f s o l standing → group ≡ placed s.arity f.default_digest (step_siblings n o.siblings standing.used) (standing.node % n) standing.digest →
+    IsStepFrom s l n y → StandsAt f s o l standing → group ≡ group_around s.arity f.default_digest (step_siblings n o.siblings standing.used) (standing.node % n) standing.digest →
     IsCheckedLevel f s.arity y (zip (heights s) o.rows) (list_any (λ h. eqb (exponent h) y) (heights s)) group level →
     level_inputs l (rows_with y (zip (heights s) o.rows)) level ≡ inputs_at f s o l
 level_is f s o l n y standing group level w at e here =

@@ -14,7 +14,7 @@ ghost use Rattle.p3_support.specs.Shown.{roots_of};
 
 use crate::mmcs::MerkleTreeMmcs;
 use crate::opened::opened_rows;
-use p3_merkle_builder::group::group_with;
+use p3_merkle_core::group::group_with;
 use p3_merkle_core::error::MerkleTreeError;
 use p3_merkle_core::geometry::{
     check_heights, check_widths, exponent_of, has_exponent, select_arity_step, siblings_below_of,

@@ -7,12 +7,12 @@ ghost use Rattle.p3_merkle_core.specs.Openings.{shared_inputs};
 ghost use Rattle.p3_merkle_tree.specs.Checks.{leaf_difference, opening_in, step_siblings, CanStep, IsRaised, StandTogether};
 ghost use Rattle.p3_merkle_tree.specs.Collisions.{Shows};
 ghost use Rattle.p3_merkle_tree.specs.Schemes.{scheme_functions};
-ghost use Rattle.p3_merkle_builder.specs.Views.{placed};
+ghost use Rattle.p3_merkle_core.specs.Groups.{group_around};
 
 use crate::collision::{Collision, Place, RowPair, differing_level, differing_words};
 use crate::mmcs::MerkleTreeMmcs;
 use crate::openings::OpeningPair;
-use p3_merkle_builder::group::group_with;
+use p3_merkle_core::group::group_with;
 use p3_merkle_core::geometry::{exponent_of, select_arity_step, tallest_of};
 use p3_support::compress::PseudoCompressionFunction;
 use p3_support::hasher::CryptographicHasher;
@@ -41,7 +41,7 @@ impl<W: Copy, const D: usize> Standing<[W; D]> {
     ) -> [[W; D]; N]
         requires { CanStep N step self.now.used (length siblings.now) }
         ensures { let others = step_siblings step siblings.now self.now.used in
-            result ≡ placed N default_digest others (self.now.node % step) self.now.digest }
+            result ≡ group_around N default_digest others (self.now.node % step) self.now.digest }
     {
         let end = self.used + (step - 1);
         let others = &siblings[self.used..end];

@@ -2,7 +2,7 @@
 use Rattle.std.proofs.Common.{◌≡◌, ℕ, ◌+◌, ◌-◌, ◌<◌, ◌≤◌, List, [], ◌∷◌, ◌++◌, refl, ap, sym, ◌∙◌, arith, length, get_or, take, drop, set, insert, replicate, length-append, length-take, length-drop}
 use Rattle.std.proofs.lemmas.List.{drop_more, append_assoc, set_at, take_at, drop_at, drop-drop, length-take-le, length_push, drop-replicate}
 use borrow.Rule.Slice.PartMut.{put_mid}
-use Rattle.p3_merkle_builder.specs.Views.{placed}
+use Rattle.p3_merkle_core.specs.Groups.{group_around}
 
 -- three writes leave a value among the others
 pub written : {X : Type 0} (slots others : List X) (p : ℕ) (v : X) → p ≤ length others → length others < length slots →
@@ -20,7 +20,7 @@ written slots others p v h room =
     (append_assoc front (v ∷ []) (drop p others ++ drop (length others + 1) slots) ∙ sym (append_assoc front (v ∷ drop p others) (drop (length others + 1) slots)))
 
 -- what they leave of default digests
-pub placed_is : {X : Type 0} (n : ℕ) (default_element v : X) (others : List X) (p : ℕ) → p ≤ length others → insert others p v ++ drop (length others + 1) (replicate n default_element) ≡ placed n default_element others p v
-placed_is n default_element v others p h =
+pub group_around_is : {X : Type 0} (n : ℕ) (default_element v : X) (others : List X) (p : ℕ) → p ≤ length others → insert others p v ++ drop (length others + 1) (replicate n default_element) ≡ group_around n default_element others p v
+group_around_is n default_element v others p h =
     let size : length (insert others p v) ≡ length others + 1 = simp (length-append, length-take, length-drop) (omega arith) in
     rw (size, drop-replicate (length others + 1) n default_element) refl

@@ -1,7 +1,7 @@
 -- Three writes leave the value among the others.
 use Rattle.std.proofs.Common.{◌∙◌}
-use Rattle.p3_merkle_builder.proofs.PlaceFacts.{written}
-use Rattle.p3_merkle_builder.proofs.group.place.Goals as goal
+use Rattle.p3_merkle_core.proofs.GroupFacts.{written}
+use Rattle.p3_merkle_core.proofs.group.place.Goals as goal
 
 pub returns : goal.returns
 returns g c =

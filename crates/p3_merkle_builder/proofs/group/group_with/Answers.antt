@@ -1,7 +1,0 @@
--- What `place` leaves of default digests.
-use Rattle.std.proofs.Common.{◌∙◌}
-use Rattle.p3_merkle_builder.proofs.PlaceFacts.{placed_is}
-use Rattle.p3_merkle_builder.proofs.group.group_with.Goals as goal
-
-pub returns : goal.returns
-returns g c = c.place.ensures ∙ placed_is g.row.N c.args.default_digest c.args.digest c.args.siblings.now c.args.position c.requires.placed
