@@ -6,7 +6,7 @@ use Rattle.std.proofs.lemmas.Bool.{le-ltb}
 use Rattle.std.proofs.lemmas.Result.{IfOk-weaker, IfErr-weaker}
 use Rattle.p3_support.specs.declared.matrix.Dimensions.{Dimensions}
 use Rattle.p3_support.specs.declared.matrix.RowMajorMatrix.{RowMajorMatrix}
-use Rattle.p3_support.specs.RowMajor.{row_width, rows_in, values_of}
+use Rattle.p3_support.specs.RowMajor.{row_width, row_count, values_of}
 use Rattle.p3_merkle_core.specs.Gate.{gate_refusal}
 use Rattle.p3_merkle_core.specs.Geometry.{Shape, cap_layer, heights, tallest, IsLawful}
 use Rattle.p3_merkle_core.specs.Nodes.{Batch, Functions, layer, shape}
@@ -62,11 +62,11 @@ module _ (input : List ℕ) (stored : List (RowMajorMatrix ℕ)) (command : Comm
       IfErr-weaker result _ _ (λ fault there. ⊎_elim inl (λ refused. inr (inr (found.0, refused.0, stands, refused.1, refusal_is ∙ refused.2))) there) told
 
 -- the dimensions of stored matrices
-same_dimensions : (stored : List (RowMajorMatrix ℕ)) (arity : ℕ) → map (λ m. record { width = row_width m; height = rows_in m }) stored ≡ (shape (stored_batch arity stored)).dimensions
+same_dimensions : (stored : List (RowMajorMatrix ℕ)) (arity : ℕ) → map (λ m. record { width = row_width m; height = row_count m }) stored ≡ (shape (stored_batch arity stored)).dimensions
 same_dimensions [] arity = refl
-same_dimensions (m ∷ stored) arity = ap (λ ds. record { width = row_width m; height = rows_in m } ∷ ds) (same_dimensions stored arity)
+same_dimensions (m ∷ stored) arity = ap (λ ds. record { width = row_width m; height = row_count m } ∷ ds) (same_dimensions stored arity)
 
-pub stored_dimensions : (stored : List (RowMajorMatrix ℕ)) (arity : ℕ) (dimensions : List Dimensions) → dimensions ≡ map (λ m. record { width = row_width m; height = rows_in m }) stored → dimensions ≡ (shape (stored_batch arity stored)).dimensions
+pub stored_dimensions : (stored : List (RowMajorMatrix ℕ)) (arity : ℕ) (dimensions : List Dimensions) → dimensions ≡ map (λ m. record { width = row_width m; height = row_count m }) stored → dimensions ≡ (shape (stored_batch arity stored)).dimensions
 stored_dimensions stored arity dimensions are = are ∙ same_dimensions stored arity
 
 -- an index past the greatest of lawful heights

@@ -3,7 +3,7 @@ use Rattle.std.proofs.Common.{◌≡◌, ℕ, ◌<◌, Bool, true, false, ◌&&�
 use Rattle.std.proofs.lemmas.List.{length-map}
 use Rattle.std.specs.Str.Parse.{digits_value}
 use Rattle.std.proofs.lemmas.List.Elements.{All-nil, All-cons}
-use Rattle.mmcs.specs.Input.{is_gap, is_blank, numerals_of, row_of}
+use Rattle.mmcs.specs.Input.{is_gap, is_blank, numerals_of, numbers_of}
 use Rattle.mmcs.proofs.Runs.{run_skips, first_run}
 
 -- one more byte in front, that is a gap or not
@@ -18,5 +18,5 @@ some_numeral : (line : List ℕ) → is_blank line ≡ false → 0 < length (num
 some_numeral [] full = absurd cc
 some_numeral (b ∷ line) full = some_numeral_cons b line (some_numeral line) full (is_gap b) refl
 
-pub row_has_number : (line : List ℕ) → is_blank line ≡ false → 0 < length (row_of line)
+pub row_has_number : (line : List ℕ) → is_blank line ≡ false → 0 < length (numbers_of line)
 row_has_number line full = omega (arith, some_numeral line full, length-map (numerals_of line) (digits_value 10))

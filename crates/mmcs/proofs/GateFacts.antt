@@ -10,7 +10,7 @@ use Rattle.p3_merkle_core.specs.declared.error.MerkleTreeError.TheVariants.{Empt
 use Rattle.p3_merkle_core.proofs.GateFacts.{lawful_from_none, none_large_from_lawful, none_off_from_lawful}
 use Rattle.mmcs.specs.declared.command.Action.{Action}
 use Rattle.mmcs.specs.declared.command.Action.TheVariants.{Commit, Check}
-use Rattle.mmcs.specs.Program.{tree_refusal, index_refusal, IsTaken}
+use Rattle.mmcs.specs.Program.{tree_refusal, action_index_refusal, IsTaken}
 
 -- no reason of three holds
 none_from_cases : (hs : List ℕ) (b : Bool) (large off : Option ℕ) → eqb (tallest hs) 0 ≡ b → first_too_large hs ≡ large → first_off_ladder (tallest hs) hs ≡ off →
@@ -43,7 +43,7 @@ below_from_none i m false is none = absurd cc
 pub taken_from_none : (action : Action) (hs : List ℕ) → tree_refusal action hs ≡ None → IsTaken action hs
 taken_from_none Commit hs none = gate_passes hs (both_none (gate_refusal hs) None none).0
 taken_from_none (Check index) hs none =
-    let parts = both_none (gate_refusal hs) (index_refusal (Check index) (tallest hs)) none in
+    let parts = both_none (gate_refusal hs) (action_index_refusal (Check index) (tallest hs)) none in
     (gate_passes hs parts.0, ltb-true index (tallest hs) (below_from_none index (tallest hs) (ltb index (tallest hs)) refl parts.1))
 
 pub taken_unrefused : (action : Action) (hs : List ℕ) → IsTaken action hs → tree_refusal action hs ≡ None

@@ -4,7 +4,7 @@ use Rattle.std.specs.List.{slice_split, AllZip}
 use Rattle.std.specs.Str.Lines.{strip_carriage_return}
 use Rattle.std.proofs.lemmas.List.{at_drop_more, at_drop_all, get_or-map, length-map, length_push}
 use Rattle.std.proofs.lemmas.List.Elements.{All-push}
-use Rattle.mmcs.specs.Input.{is_blank, row_of, runs_between, pieces_of, blocks_of, IsMatrix, StandsFor}
+use Rattle.mmcs.specs.Input.{is_blank, numbers_of, runs_between, pieces_of, blocks_of, IsMatrix, StandsFor}
 use Rattle.mmcs.specs.declared.fault.Fault.{Fault}
 use Rattle.mmcs.specs.declared.fault.Fault.TheVariants.{BadInput, Tree}
 use Rattle.p3_merkle_core.specs.declared.error.MerkleTreeError.TheVariants.{OutOfMemory}
@@ -80,19 +80,19 @@ module _ {M : Type 0} (Shows : M → List (List ℕ) → Type 0) (limit : ℕ) (
 
     -- a blank line ends the block
     pub input_ended : (new_values : List ℕ) (new_width : ℕ) (matrix : M) → is_blank line ≡ true → 0 < width → IsBlock limit [] new_values new_width →
-        ((lines : List (List ℕ)) → IsBlock limit lines values width → Shows matrix (map row_of lines)) → InputSoFar Shows limit input (n + 1) (found ++ matrix ∷ []) new_values new_width
+        ((lines : List (List ℕ)) → IsBlock limit lines values width → Shows matrix (map numbers_of lines)) → InputSoFar Shows limit input (n + 1) (found ++ matrix ∷ []) new_values new_width
     input_ended new_values new_width matrix blank some emptied shows = record {
       done = so_far.done ++ so_far.lines ∷ [];
       lines = [];
-      matrices = so_far.matrices ++ map row_of so_far.lines ∷ [];
+      matrices = so_far.matrices ++ map numbers_of so_far.lines ∷ [];
       with_rest =
           append_assoc so_far.done (so_far.lines ∷ []) (runs_between is_blank (drop (n + 1) (pieces_of input)))
           ∙ ap (λ runs. so_far.done ++ runs)
           (sym (run_ends is_blank so_far.lines line (drop (n + 1) (pieces_of input)) so_far.block.none_blank (so_far.block.some_above_0 some) blank)
           ∙ ap (λ ps. runs_between is_blank (so_far.lines ++ ps)) (sym rest_is))
           ∙ so_far.with_rest;
-      are_matrices = zip_push (IsMatrix limit) so_far.done so_far.matrices so_far.lines (map row_of so_far.lines) so_far.are_matrices (block_is_matrix limit so_far.lines values width so_far.block);
-      shown = zip_push Shows found so_far.matrices matrix (map row_of so_far.lines) so_far.shown (shows so_far.lines so_far.block);
+      are_matrices = zip_push (IsMatrix limit) so_far.done so_far.matrices so_far.lines (map numbers_of so_far.lines) so_far.are_matrices (block_is_matrix limit so_far.lines values width so_far.block);
+      shown = zip_push Shows found so_far.matrices matrix (map numbers_of so_far.lines) so_far.shown (shows so_far.lines so_far.block);
       block = emptied;
     }
 
@@ -143,12 +143,12 @@ module _ {M : Type 0} (Shows : M → List (List ℕ) → Type 0) (limit : ℕ) (
         (so_far.matrices, subst (λ (bs : List (List (List ℕ))). AllZip (IsMatrix limit) bs so_far.matrices) blocks so_far.are_matrices, so_far.shown)
 
     -- the end of the last block
-    pub input_end_block : (matrix : M) → 0 < width → ((lines : List (List ℕ)) → IsBlock limit lines values width → Shows matrix (map row_of lines)) →
+    pub input_end_block : (matrix : M) → 0 < width → ((lines : List (List ℕ)) → IsBlock limit lines values width → Shows matrix (map numbers_of lines)) →
         (matrices : List (List (List ℕ))) × StandsFor limit input matrices × AllZip Shows (found ++ matrix ∷ []) matrices
     input_end_block matrix some shows =
         let blocks : so_far.done ++ so_far.lines ∷ [] ≡ blocks_of input = ap (λ runs. so_far.done ++ runs) (sym (run_whole is_blank so_far.lines so_far.block.none_blank (so_far.block.some_above_0 some))) ∙ no_rest in (
-          so_far.matrices ++ map row_of so_far.lines ∷ [],
-          subst (λ (bs : List (List (List ℕ))). AllZip (IsMatrix limit) bs (so_far.matrices ++ map row_of so_far.lines ∷ [])) blocks
-              (zip_push (IsMatrix limit) so_far.done so_far.matrices so_far.lines (map row_of so_far.lines) so_far.are_matrices (block_is_matrix limit so_far.lines values width so_far.block)),
-          zip_push Shows found so_far.matrices matrix (map row_of so_far.lines) so_far.shown (shows so_far.lines so_far.block),
+          so_far.matrices ++ map numbers_of so_far.lines ∷ [],
+          subst (λ (bs : List (List (List ℕ))). AllZip (IsMatrix limit) bs (so_far.matrices ++ map numbers_of so_far.lines ∷ [])) blocks
+              (zip_push (IsMatrix limit) so_far.done so_far.matrices so_far.lines (map numbers_of so_far.lines) so_far.are_matrices (block_is_matrix limit so_far.lines values width so_far.block)),
+          zip_push Shows found so_far.matrices matrix (map numbers_of so_far.lines) so_far.shown (shows so_far.lines so_far.block),
         )

@@ -5,13 +5,13 @@ use Rattle.std.specs.Str.Parse.{digits_value}
 use Rattle.std.specs.List.{AllZip}
 use Rattle.p3_support.specs.declared.matrix.RowMajorMatrix.{RowMajorMatrix}
 use Rattle.p3_support.specs.Lists.{message}
-use Rattle.p3_support.specs.RowMajor.{values_of, row_width, rows_in}
+use Rattle.p3_support.specs.RowMajor.{values_of, row_width, row_count}
 use Rattle.std.proofs.lemmas.List.{length-map, get_or-map}
 use Rattle.std.proofs.lemmas.List.Elements.{All-get_or, All-nil, All-cons, All-head, All-tail, All-map, All-append, All-weaker}
 use Rattle.std.proofs.lemmas.Bool.Decides.{eqb_tells}
 use Rattle.std.proofs.Math.Nat.{mul-div_cancel}
 use Rattle.mmcs.specs.Numbers.{IsNumberBelow}
-use Rattle.mmcs.specs.Input.{numerals_of, row_of, StandsFor}
+use Rattle.mmcs.specs.Input.{numerals_of, numbers_of, StandsFor}
 use Rattle.mmcs.specs.Blocks.{IsBlock}
 use Rattle.mmcs.specs.Matrices.{matrix_of_rows, stored_matrix}
 use Rattle.mmcs.proofs.RowsCut.{length_of_rows, row_range}
@@ -35,23 +35,23 @@ words_fit limit (m ∷ stored) [] each = absurd each
 words_fit limit (m ∷ stored) (rows ∷ matrices) each = All-cons (λ n. All (λ v. v < limit) (values_of n)) m stored each.0.1 (words_fit limit stored matrices each.1)
 
 -- the numbers of lines are below the limit
-numbers_fit : (limit : ℕ) (lines : List (List ℕ)) → All (λ line. All (IsNumberBelow limit) (numerals_of line)) lines → All (λ v. v < limit) (flat_map row_of lines)
+numbers_fit : (limit : ℕ) (lines : List (List ℕ)) → All (λ line. All (IsNumberBelow limit) (numerals_of line)) lines → All (λ v. v < limit) (flat_map numbers_of lines)
 numbers_fit limit [] each = All-nil (λ v. v < limit)
 numbers_fit limit (line ∷ lines) each =
-    All-append (λ v. v < limit) (row_of line) (flat_map row_of lines)
+    All-append (λ v. v < limit) (numbers_of line) (flat_map numbers_of lines)
     (All-map (λ v. v < limit) (digits_value 10) (numerals_of line) (All-weaker (IsNumberBelow limit) (λ digits. digits_value 10 digits < limit) (λ digits number. number.below) (numerals_of line) (All-head (λ l. All (IsNumberBelow limit) (numerals_of l)) line lines each)))
     (numbers_fit limit lines (All-tail (λ l. All (IsNumberBelow limit) (numerals_of l)) line lines each))
 
 -- the values of a block, stored under its width
 pub block_shown : (limit : ℕ) (matrix : RowMajorMatrix ℕ) (lines : List (List ℕ)) (values : List ℕ) (width : ℕ) → 0 < width → values_of matrix ≡ values → row_width matrix ≡ width →
-    length values ≡ rows_in matrix * width → IsBlock limit lines values width → Shows limit matrix (map row_of lines)
+    length values ≡ row_count matrix * width → IsBlock limit lines values width → Shows limit matrix (map numbers_of lines)
 block_shown limit matrix lines values width some values_are width_is full block =
-    let lines_fill : length lines * width ≡ rows_in matrix * width = sym (length_of_rows row_of width lines block.widths) ∙ ap length (sym block.values_are) ∙ full in
-    let height_is : rows_in matrix ≡ length (map row_of lines) = sym (mul-div_cancel (rows_in matrix) some) ∙ ap (λ v. v / width) (sym lines_fill) ∙ mul-div_cancel (length lines) some ∙ sym (length-map lines row_of) in
-    let first_is : width ≡ length (slice_index_or (map row_of lines) 0 []) =
-    sym (All-get_or (λ l. length (row_of l) ≡ width) lines 0 [] (block.some_above_0 some) block.widths) ∙ ap length (sym (get_or-map row_of lines 0 [] [] (block.some_above_0 some))) in
-    let row_is : (r : ℕ) → message (row_width matrix) (values_of matrix) r ≡ slice_index_or (map row_of lines) r [] =
-    λ r. ap (λ w. message w (values_of matrix) r) width_is ∙ row_range row_of width lines (values_of matrix) r block.widths (values_are ∙ block.values_are) in
+    let lines_fill : length lines * width ≡ row_count matrix * width = sym (length_of_rows numbers_of width lines block.widths) ∙ ap length (sym block.values_are) ∙ full in
+    let height_is : row_count matrix ≡ length (map numbers_of lines) = sym (mul-div_cancel (row_count matrix) some) ∙ ap (λ v. v / width) (sym lines_fill) ∙ mul-div_cancel (length lines) some ∙ sym (length-map lines numbers_of) in
+    let first_is : width ≡ length (slice_index_or (map numbers_of lines) 0 []) =
+    sym (All-get_or (λ l. length (numbers_of l) ≡ width) lines 0 [] (block.some_above_0 some) block.widths) ∙ ap length (sym (get_or-map numbers_of lines 0 [] [] (block.some_above_0 some))) in
+    let row_is : (r : ℕ) → message (row_width matrix) (values_of matrix) r ≡ slice_index_or (map numbers_of lines) r [] =
+    λ r. ap (λ w. message w (values_of matrix) r) width_is ∙ row_range numbers_of width lines (values_of matrix) r block.widths (values_are ∙ block.values_are) in
     (λ i. record { height = height_is i; width = (width_is ∙ first_is) i; row = λ r. row_is r i }, subst (λ (vs : List ℕ). All (λ v. v < limit) vs) (sym (values_are ∙ block.values_are)) (numbers_fit limit lines block.numbers))
 
 -- an input's matrices, as one list
@@ -62,11 +62,11 @@ matrices_found limit input stored found = (found.0, found.1, matrices_shown limi
 -- matrices of the same values and width are stored alike
 pub stored_alike : (m n : RowMajorMatrix ℕ) → values_of m ≡ values_of n → row_width m ≡ row_width n → stored_matrix m ≡ stored_matrix n
 stored_alike m n same_values same_width =
-    let same_height : rows_in m ≡ rows_in n =
+    let same_height : row_count m ≡ row_count n =
     ⊎_elim
     (λ none. m.no_width (same_width ∙ none.1) ∙ sym (n.no_width none.1))
     (λ some.
     let wide : 0 < row_width n = omega (arith, some.1) in
-    sym (mul-div_cancel (rows_in m) wide) ∙ ap (λ v. v / row_width n) (ap (λ w. rows_in m * w) (sym same_width) ∙ sym m.full ∙ ap length same_values ∙ n.full) ∙ mul-div_cancel (rows_in n) wide)
+    sym (mul-div_cancel (row_count m) wide) ∙ ap (λ v. v / row_width n) (ap (λ w. row_count m * w) (sym same_width) ∙ sym m.full ∙ ap length same_values ∙ n.full) ∙ mul-div_cancel (row_count n) wide)
     (eqb_tells (row_width n) 0) in
     λ i. record { height = same_height i; width = same_width i; row = λ r. message (same_width i) (same_values i) r }

@@ -6,7 +6,7 @@ use Rattle.std.specs.Str.Parse.{digits_value}
 use Rattle.std.proofs.lemmas.List.{map-append}
 use Rattle.std.proofs.lemmas.List.Elements.{All-nil, All-push}
 use Rattle.mmcs.specs.Numbers.{IsNumberBelow}
-use Rattle.mmcs.specs.Input.{is_gap, numerals_of, row_of}
+use Rattle.mmcs.specs.Input.{is_gap, numerals_of, numbers_of}
 use Rattle.mmcs.proofs.Kept.{KeepsSoFar, keeps_none, keeps_same, keeps_more, keeps_all, holds_at_passing}
 
 -- the test that a run has a byte
@@ -52,7 +52,7 @@ module _ (limit : ℕ) (line : List ℕ) (before : List ℕ) where
 
   -- after the last part
   pub row_end : (n : ℕ) (values : List ℕ) → length (slice_split is_gap line) ≤ n → RowSoFar limit line n before values →
-      (values ≡ before ++ row_of line) × All (IsNumberBelow limit) (numerals_of line)
+      (values ≡ before ++ numbers_of line) × All (IsNumberBelow limit) (numerals_of line)
   row_end n values ended so_far =
       let all = keeps_all has_byte (slice_split is_gap line) n so_far.kept ended so_far.keeps in
       (so_far.values_are ∙ ap (λ ks. before ++ map (digits_value 10) ks) all, rw all at so_far.numbers)

@@ -26,8 +26,8 @@ abbrev pub numerals_of : List ℕ → List (List ℕ)
 numerals_of piece = runs_between is_gap piece
 
 -- the numbers of a piece
-abbrev pub row_of : List ℕ → List ℕ
-row_of piece = map (digits_value 10) (numerals_of piece)
+abbrev pub numbers_of : List ℕ → List ℕ
+numbers_of piece = map (digits_value 10) (numerals_of piece)
 
 -- the texts of the matrices: the longest runs of pieces that are not blank
 abbrev pub blocks_of : List ℕ → List (List (List ℕ))
@@ -36,7 +36,7 @@ blocks_of input = runs_between is_blank (pieces_of input)
 -- the pieces are the rows of a matrix: each has numbers below the limit, and as many of them as the others
 pub record IsMatrix (limit : ℕ) (block : List (List ℕ)) (rows : List (List ℕ)) : Type 0 where
   pub numbers : All (λ piece. All (IsNumberBelow limit) (numerals_of piece)) block
-  pub rows_are : rows ≡ map row_of block
+  pub rows_are : rows ≡ map numbers_of block
   pub one_length : (width : ℕ) × All (λ row. length row ≡ width) rows
 
 -- the input stands for these matrices, each by its rows, of numbers below the limit

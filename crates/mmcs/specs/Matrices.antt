@@ -2,7 +2,7 @@
 use Rattle.std.specs.Prelude.{ℕ, List, [], map, length, slice_index_or}
 use Rattle.p3_support.specs.declared.matrix.RowMajorMatrix.{RowMajorMatrix}
 use Rattle.p3_support.specs.Lists.{message}
-use Rattle.p3_support.specs.RowMajor.{values_of, row_width, rows_in}
+use Rattle.p3_support.specs.RowMajor.{values_of, row_width, row_count}
 use Rattle.p3_merkle_core.specs.Nodes.{Matrix, Batch}
 
 -- the matrix of some rows, as wide as the first of them
@@ -15,7 +15,7 @@ batch_of_rows arity matrices = record { arity = arity; matrices = map matrix_of_
 
 -- a stored matrix, by what its type says of it
 abbrev pub stored_matrix : RowMajorMatrix ℕ → Matrix ℕ
-stored_matrix m = record { height = rows_in m; width = row_width m; row = λ r. message (row_width m) (values_of m) r }
+stored_matrix m = record { height = row_count m; width = row_width m; row = λ r. message (row_width m) (values_of m) r }
 
 -- stored matrices under an arity
 abbrev pub stored_batch : ℕ → List (RowMajorMatrix ℕ) → Batch ℕ

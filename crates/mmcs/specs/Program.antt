@@ -51,13 +51,13 @@ abbrev pub output_of : Command → List (List (List ℕ)) → List ℕ
 output_of command matrices = let b = batch_of_rows (arity_number command.arity) matrices in text_of command.hash command.action b (cap_layer (shape b) command.cap_height)
 
 -- why an index is refused: it is past the greatest height
-abbrev pub index_refusal : Action → ℕ → Option MerkleTreeError
-index_refusal Commit max_height = None
-index_refusal (Check index) max_height = if nat_lt index max_height then None else Some (IndexOutOfBounds max_height index)
+abbrev pub action_index_refusal : Action → ℕ → Option MerkleTreeError
+action_index_refusal Commit max_height = None
+action_index_refusal (Check index) max_height = if nat_lt index max_height then None else Some (IndexOutOfBounds max_height index)
 
 -- why the tree refuses: its heights come before the index
 abbrev pub tree_refusal : Action → List ℕ → Option MerkleTreeError
-tree_refusal action hs = option_or (gate_refusal hs) (index_refusal action (tallest hs))
+tree_refusal action hs = option_or (gate_refusal hs) (action_index_refusal action (tallest hs))
 
 -- heights that a tree can have, and an index below the greatest of them
 abbrev pub IsTaken : Action → List ℕ → Type 0

@@ -2,7 +2,7 @@
 
 ghost use Rattle.std.specs.Prelude.{◌≡◌, ◌⊎◌, ◌↔◌, ◌+◌, ◌<◌, ℕ, All, List, map, Some, None, Ok, Err, IfOk, IfErr, IfSome, IsTrue, OnOk, OnErr, string_bytes};
 ghost use Rattle.std.specs.Io.KnownBytes.{Appends};
-ghost use Rattle.p3_support.specs.RowMajor.{row_width, rows_in, values_of};
+ghost use Rattle.p3_support.specs.RowMajor.{row_width, row_count, values_of};
 ghost use Rattle.p3_merkle_core.specs.Gate.{gate_refusal};
 ghost use Rattle.p3_merkle_core.specs.Geometry.{cap_layer, heights};
 ghost use Rattle.p3_merkle_core.specs.Nodes.{shape};
@@ -244,7 +244,7 @@ fn dimensions_of(
     matrices: &[RowMajorMatrix<u32>],
 ) -> Result<Vec<Dimensions>, AllocError>
     ensures { IfOk result (λ dimensions.
-        dimensions.items ≡ map (λ m. record { width = row_width m; height = rows_in m }) matrices.now) }
+        dimensions.items ≡ map (λ m. record { width = row_width m; height = row_count m }) matrices.now) }
 {
     matrices
         .iter()

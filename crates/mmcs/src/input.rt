@@ -8,7 +8,7 @@ ghost use Rattle.p3_support.specs.RowMajor.{values_of};
 ghost use Rattle.p3_merkle_core.specs.declared.error.MerkleTreeError.TheVariants.{OutOfMemory};
 ghost use Rattle.mmcs.specs.declared.fault.Fault.TheVariants.{BadInput, Tree};
 ghost use Rattle.mmcs.specs.Numbers.{IsNumberBelow};
-ghost use Rattle.mmcs.specs.Input.{is_gap, is_blank, numerals_of, row_of, StandsFor};
+ghost use Rattle.mmcs.specs.Input.{is_gap, is_blank, numerals_of, numbers_of, StandsFor};
 ghost use Rattle.mmcs.specs.Blocks.{IsBlock, IsRefused};
 ghost use Rattle.mmcs.specs.Matrices.{matrix_of_rows, stored_matrix};
 
@@ -53,8 +53,8 @@ fn parse_word(digits: &[u8], max: u32) -> Option<u32>
 ///
 /// `BadInput` where a part of the line is no such number; `Tree(OutOfMemory)` where there is no memory.
 fn append_row(values: &mut Vec<u32>, line: &[u8], max: u32) -> Result<usize, Fault>
-    ensures values { OnOk result (values.new.items ≡ values.old.items ++ row_of line.now) }
-    ensures count { IfOk result (λ count. count ≡ length (row_of line.now)) }
+    ensures values { OnOk result (values.new.items ≡ values.old.items ++ numbers_of line.now) }
+    ensures count { IfOk result (λ count. count ≡ length (numbers_of line.now)) }
     ensures numbers { OnOk result (All (IsNumberBelow (max + 1)) (numerals_of line.now)) }
     ensures fault { IfErr result (λ fault. (fault ≡ Tree OutOfMemory) ⊎
         ((fault ≡ BadInput) × ¬ All (IsNumberBelow (max + 1)) (numerals_of line.now))) }
@@ -123,7 +123,7 @@ impl Block {
         ensures none { IfNone result (self.old.width ≡ 0) }
         ensures matrix { (limit : ℕ) (lines : List (List ℕ)) →
             IsBlock limit lines self.old.values.items self.old.width →
-            IfSome result (λ matrix. (stored_matrix matrix ≡ matrix_of_rows (map row_of lines)) ×
+            IfSome result (λ matrix. (stored_matrix matrix ≡ matrix_of_rows (map numbers_of lines)) ×
             All (λ v. v < limit) (values_of matrix)) }
         ensures some { IfSome result (λ matrix. 0 < self.old.width) }
     {

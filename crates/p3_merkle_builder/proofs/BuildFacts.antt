@@ -4,7 +4,7 @@ use Rattle.std.specs.List.{range_with_len}
 use Rattle.std.proofs.lemmas.Bool.{cases_eq, eq-eqb}
 use Rattle.std.proofs.lemmas.List.FromFn.{map-range_with_len_more, length-map-range_with_len, get_or-map-range_with_len}
 use Rattle.std.proofs.lemmas.List.{length_push, length-map, get_or-map}
-use Rattle.p3_support.specs.Lists.{rows_at}
+use Rattle.p3_support.specs.Lists.{rows_of_height}
 use Rattle.p3_support.specs.declared.matrix.Dimensions.{Dimensions}
 use Rattle.p3_merkle_core.specs.Geometry.{Shape, shape_of, heights, heights_of, exponent, tallest, layer_exponent, is_bridge, step, arity_schedule, levels, raw_len, layer_len, padded_len, max_height}
 use Rattle.p3_merkle_core.specs.Nodes.{Functions, Batch, shape, layer, layers, node}
@@ -38,7 +38,7 @@ tallest_low {T} {b} w = subst (λ (z : Shape). tallest (heights z) ≤ max_heigh
 -- the first layer alone
 pub built_first : {T W M : Type 0} (f : Functions T W) (n : ℕ) (height width : M → ℕ) (row : M → ℕ → List T) (ms : List M) {ds : List Dimensions} → CanBuild (batch_of height width row n ms) ds →
     (x top slots : ℕ) (nodes : List (List W)) → x ≡ exponent top → top ≡ tallest (heights_of ds) → slots ≡ padded_len top n →
-    nodes ≡ map (λ j. cond (nat_lt j top) (f.hash (rows_at height row top j ms)) f.default_digest) (range_with_len 0 slots) → IsBuilt f (batch_of height width row n ms) x top (nodes ∷ []) []
+    nodes ≡ map (λ j. cond (nat_lt j top) (f.hash (rows_of_height height row top j ms)) f.default_digest) (range_with_len 0 slots) → IsBuilt f (batch_of height width row n ms) x top (nodes ∷ []) []
 built_first f n height width row ms w x top slots nodes e t p d =
     let b = batch_of height width row n ms in
     let is : top ≡ tallest (heights (shape b)) = t ∙ ap (λ (s : Shape). tallest (heights s)) (same_shape w) in

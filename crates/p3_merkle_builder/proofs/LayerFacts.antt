@@ -6,7 +6,7 @@ use Rattle.std.proofs.lemmas.List.FromFn.{fill_by_all, get_or-map-range_with_len
 use Rattle.std.proofs.lemmas.List.{length-take-le, get_or-take, get_or-drop}
 use Rattle.std.proofs.Common.{length-drop}
 use Rattle.std.proofs.Math.Nat.{mul-le-mul_left, mul-suc}
-use Rattle.p3_support.specs.Lists.{rows_at}
+use Rattle.p3_support.specs.Lists.{rows_of_height}
 use Rattle.std.proofs.lemmas.Simd.{map-map}
 use Rattle.p3_merkle_core.specs.Geometry.{heights, exponent, tallest, layer_exponent, step, raw_len, layer_len, expected_height, IsLawful}
 use Rattle.p3_merkle_core.specs.Nodes.{Functions, Batch, Matrix, shape, at_layer, joined_rows, compress, injected, node, children, layer}
@@ -41,7 +41,7 @@ and_true false = refl
 module _ {T M : Type 0} (height width : M → ℕ) (row : M → ℕ → List T) (x h : ℕ) where
   -- the rows of one height are those of one exponent
   rows_same : (j : ℕ) (ms : List M) → exponent h ≡ x → All (λ m. exponent (height m) ≡ x → height m ≡ h) ms →
-      rows_at height row h j ms ≡ joined_rows (filter (λ m. eqb (exponent m.height) x) (map (matrix_of height width row) ms)) j
+      rows_of_height height row h j ms ≡ joined_rows (filter (λ m. eqb (exponent m.height) x) (map (matrix_of height width row) ms)) j
   rows_same j [] e w = refl
   rows_same j (m ∷ ms) e w =
       let rest = rows_same j ms e (λ k d b. w (suc k) d (omega arith)) in
@@ -105,7 +105,7 @@ module _ {T M : Type 0} (height width : M → ℕ) (row : M → ℕ → List T) 
 
   -- so what the rows of one height make of a digest is what the matrices of the exponent do
   injected_same : {W : Type 0} (f : Functions T W) (n j : ℕ) (c : List W) (ms : List M) → All (λ m. exponent (height m) ≡ x → height m ≡ h) ms →
-      cond (list_any (λ y. eqb (exponent y) x) (map height ms)) (compress f n (c ∷ cond (nat_lt j h) (f.hash (rows_at height row h j ms)) f.default_digest ∷ [])) c
+      cond (list_any (λ y. eqb (exponent y) x) (map height ms)) (compress f n (c ∷ cond (nat_lt j h) (f.hash (rows_of_height height row h j ms)) f.default_digest ∷ [])) c
       ≡ injected f n (filter (λ m. eqb (exponent m.height) x) (map (matrix_of height width row) ms)) j c
   injected_same f n j c ms w =
       elim (cases_Bool (list_any (λ y. eqb (exponent y) x) (map height ms))) [
@@ -119,11 +119,11 @@ module _ {T M : Type 0} (height width : M → ℕ) (row : M → ℕ → List T) 
 
 -- the rows of the matrices of a height, picked from all and read through references, are those of all
 module _ {T M R : Type 0} (height : M → ℕ) (row : M → ℕ → List T) (now : R → M) (h j : ℕ) where
-  rows_of_references : (rs : List R) → rows_at (λ r. height (now r)) (λ r. row (now r)) h j rs ≡ rows_at height row h j (map now rs)
+  rows_of_references : (rs : List R) → rows_of_height (λ r. height (now r)) (λ r. row (now r)) h j rs ≡ rows_of_height height row h j (map now rs)
   rows_of_references [] = refl
   rows_of_references (r ∷ rs) = rw (rows_of_references rs) refl
 
-  rows_of_picked : (ms : List M) → rows_at height row h j (filter (λ m. eqb (height m) h) ms) ≡ rows_at height row h j ms
+  rows_of_picked : (ms : List M) → rows_of_height height row h j (filter (λ m. eqb (height m) h) ms) ≡ rows_of_height height row h j ms
   rows_of_picked [] = refl
   rows_of_picked (m ∷ ms) =
       elim (cases_Bool (eqb (height m) h)) [
@@ -132,8 +132,8 @@ module _ {T M R : Type 0} (height : M → ℕ) (row : M → ℕ → List T) (now
       ]
 
   pub rows_picked : (rs : List R) (ms : List M) → map now rs ≡ filter (λ m. eqb (height m) h) ms →
-      rows_at (λ r. height (now r)) (λ r. row (now r)) h j rs ≡ rows_at height row h j ms
-  rows_picked rs ms e = rows_of_references rs ∙ ap (rows_at height row h j) e ∙ rows_of_picked ms
+      rows_of_height (λ r. height (now r)) (λ r. row (now r)) h j rs ≡ rows_of_height height row h j ms
+  rows_picked rs ms e = rows_of_references rs ∙ ap (rows_of_height height row h j) e ∙ rows_of_picked ms
 
 -- on the ladder, an exponent is one height's
 agree : {M : Type 0} (height : M → ℕ) (top x : ℕ) (ms : List M) → All (λ y. y ≡ expected_height top y) (map height ms) → All (λ m. exponent (height m) ≡ x → height m ≡ height_at top x) ms
@@ -179,7 +179,7 @@ module _ {T W M : Type 0} (f : Functions T W) (n : ℕ) (height width_of : M →
       let kids : take v.step (drop (v.step * j) below) ≡ group = rw (e, k.step_is) (part_made (node f whole l) (layer_len s l) (step s l * j) (step s l) inside) in
       let same = injected_same height width_of row x (height_at top x) f n j c ms (agree height top x ms (on_ladder w)) in
       rw (kids, k.rows_are, k.height_is)
-      (ap (λ (hs : List ℕ). cond (list_any (λ y. eqb (exponent y) x) hs) (compress f n (c ∷ cond (nat_lt j (height_at top x)) (f.hash (rows_at height row (height_at top x) j ms)) f.default_digest ∷ [])) c) heights_are
+      (ap (λ (hs : List ℕ). cond (list_any (λ y. eqb (exponent y) x) hs) (compress f n (c ∷ cond (nat_lt j (height_at top x)) (f.hash (rows_of_height height row (height_at top x) j ms)) f.default_digest ∷ [])) c) heights_are
       ∙ same ∙ sym (node_next f whole l j (omega (arith, k.raw_is))))
 
   -- the layer above a layer of the definition is the definition's
@@ -195,7 +195,7 @@ module _ {T W M : Type 0} (f : Functions T W) (n : ℕ) (height width_of : M →
 
   -- and so is the first layer
   pub layer_first : (top slots : ℕ) → top ≡ tallest (heights (shape whole)) → slots ≡ layer_len (shape whole) 0 → IsLawful (heights (shape whole)) →
-      map (λ j. cond (nat_lt j top) (f.hash (rows_at height row top j ms)) f.default_digest) (range_with_len 0 slots) ≡ layer f whole 0
+      map (λ j. cond (nat_lt j top) (f.hash (rows_of_height height row top j ms)) f.default_digest) (range_with_len 0 slots) ≡ layer f whole 0
   layer_first top slots is wide w =
       let some = w.some_above_0 in
       let x = exponent top in
@@ -203,7 +203,7 @@ module _ {T W M : Type 0} (f : Functions T W) (n : ℕ) (height width_of : M →
       let all = subst (λ (q : ℕ). All (λ m. exponent (height m) ≡ x → height m ≡ q) ms) here (agree height top x ms (rw is (on_ladder w))) in
       let at : x ≡ layer_exponent (shape whole) 0 = ap exponent is ∙ sym (layer_start (shape whole)) in
       rw (← wide)
-      (same_made (λ j. cond (nat_lt j top) (f.hash (rows_at height row top j ms)) f.default_digest) (node f whole 0) slots
+      (same_made (λ j. cond (nat_lt j top) (f.hash (rows_of_height height row top j ms)) f.default_digest) (node f whole 0) slots
       (λ j b. ap (λ (ws : List T). cond (nat_lt j top) (f.hash ws) f.default_digest) (rows_same height width_of row x top j ms refl all)
       ∙ ap (λ (y : ℕ). cond (nat_lt j top) (f.hash (joined_rows (filter (λ m. eqb (exponent m.height) y) whole.matrices) j)) f.default_digest) at
       ∙ ap (λ (q : ℕ). cond (nat_lt j q) (f.hash (joined_rows (at_layer whole 0) j)) f.default_digest) is

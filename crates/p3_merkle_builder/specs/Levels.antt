@@ -2,7 +2,7 @@
 use Rattle.std.specs.Prelude.{◌≡◌, ℕ, suc, ◌+◌, ◌-◌, ◌*◌, ◌/◌, ◌^◌, ◌<◌, ◌≤◌, Bool, if◌then◌else◌, nat_lt, List, [], ◌∷◌, take, drop, map}
 use Rattle.std.specs.List.{range_with_len}
 use Rattle.p3_support.specs.declared.matrix.Dimensions.{Dimensions}
-use Rattle.p3_support.specs.Lists.{rows_at}
+use Rattle.p3_support.specs.Lists.{rows_of_height}
 use Rattle.p3_merkle_core.specs.Geometry.{Shape, exponent, heights, tallest, layer_exponent, step, raw_len, layer_len, levels, IsArity, IsLawful}
 use Rattle.p3_merkle_core.specs.Nodes.{Functions, Batch, shape, compress, dimensions_of}
 use Rattle.p3_merkle_core.specs.Openings.{has_rows}
@@ -35,7 +35,7 @@ pub record IsLevel (s : Shape) (v : Level) : Type 0 where
 -- a node over some children, compressed once more with the rows of the matrices of a height, if there are any
 abbrev pub built : {T W M : Type 0} → Functions T W → ℕ → (M → ℕ) → (M → ℕ → List T) → List M → Bool → ℕ → ℕ → List (List W) → List W
 built f n height row ms has h j children =
-    if has then compress f n (compress f n children ∷ (if nat_lt j h then f.hash (rows_at height row h j ms) else f.default_digest) ∷ []) else compress f n children
+    if has then compress f n (compress f n children ∷ (if nat_lt j h then f.hash (rows_of_height height row h j ms) else f.default_digest) ∷ []) else compress f n children
 
 -- a batch that is not refused, and the dimensions of its matrices
 pub record CanBuild {T : Type 0} (b : Batch T) (dimensions : List Dimensions) : Type 0 where

@@ -1,6 +1,5 @@
 -- What is opened along the path of one index in a tree.
-use Rattle.std.specs.Prelude.{◌*◌, ℕ, suc, List, [], map, drop, take, remove, slice_index_or}
-use Rattle.std.specs.declared.vec.Vec.{Vec}
+use Rattle.std.specs.Prelude.{◌*◌, ℕ, suc, List, [], drop, take, remove, slice_index_or}
 use Rattle.p3_merkle_core.specs.Geometry.{Shape, ancestor, joined, position_in_group, step}
 
 -- the other nodes of the group, in layer l, of the node above leaf i
@@ -10,7 +9,3 @@ own_group s layers i l = remove (take (step s l) (drop (step s l * ancestor s (s
 -- the siblings on the path of leaf i up to layer t, in the layers of a tree
 abbrev pub own_siblings : {X : Type 0} → Shape → List (List X) → ℕ → ℕ → List X
 own_siblings s layers t i = joined (own_group s layers i) t
-
--- the lists of words that rows are
-abbrev pub rows_in : {T A : Type 0} → List (Vec T A) → List (List T)
-rows_in rows = map (λ row. row.items) rows

@@ -5,7 +5,7 @@
 
 ghost use Rattle.std.specs.Prelude.{suc, take, drop, ◌≡◌, ℕ, ◌-◌, ◌*◌, ◌<◌, ◌≤◌, ◌++◌, [], ◌∷◌, IfOk, List, map, filter, length, replicate, if◌then◌else◌, nat_lt, ◌==◌};
 ghost use Rattle.std.specs.List.{range_with_len};
-ghost use Rattle.p3_support.specs.Lists.{rows_at};
+ghost use Rattle.p3_support.specs.Lists.{rows_of_height};
 ghost use Rattle.p3_merkle_core.specs.Geometry.{arity_schedule as schedule_of};
 ghost use Rattle.p3_merkle_core.specs.Nodes.{functions_of, layer, layers as layers_over, shape};
 ghost use Rattle.p3_merkle_builder.specs.Built.{IsBuilt};
@@ -77,7 +77,7 @@ impl<
     /// their end.
     fn rows_digest(&self, height: usize, row: usize) -> [PW::Value; D]
         ensures { result ≡ (if nat_lt row height
-            then H.hash self.now.hash.now (rows_at M.height_of M.row_of height row self.now.matrices.now)
+            then H.hash self.now.hash.now (rows_of_height M.height_of M.row_of height row self.now.matrices.now)
             else replicate D PW.default_value) }
     {
         if row < height {
@@ -174,7 +174,7 @@ impl<
         len: usize,
     ) -> Result<Vec<[PW::Value; D]>, AllocError>
         ensures { IfOk result (λ v. v.items ≡ map (λ j. (if nat_lt j height
-            then H.hash self.now.hash.now (rows_at M.height_of M.row_of height j self.now.matrices.now)
+            then H.hash self.now.hash.now (rows_of_height M.height_of M.row_of height j self.now.matrices.now)
             else replicate D PW.default_value)) (range_with_len 0 len)) }
     {
         let picked = of_height(alloc, self.matrices, height)?;

@@ -6,7 +6,7 @@ ghost use Rattle.p3_merkle_core.specs.Nodes.{shape};
 ghost use Rattle.p3_merkle_core.specs.Openings.{honest_rows};
 ghost use Rattle.p3_merkle_core.specs.declared.error.MerkleTreeError.TheVariants.{OutOfMemory};
 ghost use Rattle.p3_merkle_builder.specs.Own.{own_siblings};
-ghost use Rattle.p3_merkle_builder.specs.Own.{rows_in};
+ghost use Rattle.p3_support.specs.Shown.{row_lists};
 ghost use Rattle.p3_merkle_builder.specs.Parts.{layers_of, matrices_of, tree_batch};
 
 use crate::tree::Tree;
@@ -38,7 +38,7 @@ impl<F: Copy, X: Copy, G, M: Matrix<F>, const N: usize> Tree<F, X, G, M, N> {
     pub fn rows_at(&self, alloc: Global, index: usize) -> Result<Vec<Vec<F>>, MerkleTreeError>
         requires { index < tallest (heights (shape (tree_batch self.now))) }
         ensures rows { let honest = honest_rows (tree_batch self.now) index in
-            IfOk result (λ rows. rows_in rows.items ≡ honest) }
+            IfOk result (λ rows. row_lists rows.items ≡ honest) }
         ensures memory { IfErr result (λ e. e ≡ OutOfMemory) }
     {
         let max_height = self.max_height();

@@ -4,7 +4,7 @@ use Rattle.std.specs.Int.{next_multiple_of}
 use Rattle.std.proofs.lemmas.Bool.{cond_both, ltb-true}
 use Rattle.std.proofs.lemmas.List.FromFn.{length-map-range_with_len, get_or-map-range_with_len}
 use Rattle.std.proofs.lemmas.Option.{slice_get-get_or}
-use Rattle.p3_merkle_core.specs.Geometry.{ancestor, raw_len, layer_len, padded_len, row_of, heights, heights_of, widths_of}
+use Rattle.p3_merkle_core.specs.Geometry.{ancestor, raw_len, layer_len, padded_len, row_at_index, heights, heights_of, widths_of}
 use Rattle.p3_merkle_core.specs.Nodes.{Functions, Batch, Matrix, shape, node, layer, dimensions_of, HasFullRows}
 use Rattle.p3_merkle_core.specs.Openings.{honest, IsAccepted}
 use Rattle.p3_merkle_core.proofs.LadderFacts.{row_below}
@@ -31,7 +31,7 @@ honest_accepted f b t i w widths =
     let in_layer : j < layer_len s t = omega (arith, padded_ge (raw_len s t) b.arity) in
     record {
       lawful = w.lawful;
-      rows_fit = lengths_are (λ h. row_of s h i) b.matrices widths (λ k d h. row_below s (get_or (heights s) k d) i (w.lawful.on_ladder k d h) w.below);
+      rows_fit = lengths_are (λ h. row_at_index s h i) b.matrices widths (λ k d h. row_below s (get_or (heights s) k d) i (w.lawful.on_ladder k d h) w.below);
       count = honest_count f b t i w;
       in_range = w.below;
       authentic =

@@ -9,7 +9,7 @@ use Rattle.p3_merkle_core.proofs.ShapeFacts.{widths_in_pairs}
 use Rattle.p3_merkle_core.specs.Geometry.{Shape, tallest, exponent, layer_exponent, ancestor, heights, widths}
 use Rattle.p3_merkle_core.specs.Gate.{gate_refusal}
 use Rattle.p3_merkle_core.specs.Pruning.{PrunedOpening, boundary}
-use Rattle.p3_merkle_core.specs.Refusals.{first_of, first_some, first_rows, lead, matrices_at, slots_below, slot_of, is_queried, size_refusal, idle_refusal, index_refusal, repeat_refusal, digest_count_refusal, width_refusal, row_refusal, group_refusal, pruned_refusal, pruned_answer, IsRestorable}
+use Rattle.p3_merkle_core.specs.Refusals.{first_of, first_some, first_rows, lead, matrices_at, slots_below, slot_of, is_queried, size_refusal, idle_refusal, queries_refusal, repeat_refusal, digest_count_refusal, width_refusal, row_refusal, group_refusal, pruned_refusal, pruned_answer, IsRestorable}
 use Rattle.p3_merkle_core.specs.declared.error.PrunedProofError.TheVariants.{SiblingCountMismatch, InconsistentDuplicateOpenings, InconsistentGroupOpening}
 use Rattle.p3_merkle_core.specs.declared.error.MerkleTreeError.TheVariants.{WrongBatchSize, MalformedPrunedProof}
 use Rattle.p3_merkle_core.proofs.NoneFacts.{none_parts, unless_none, verdict_ok, kept_none, range_none, paired_none, lawful_from, below_from, fit_from}
@@ -18,7 +18,7 @@ use Rattle.p3_merkle_core.proofs.NoneFacts.{none_parts, unless_none, verdict_ok,
 record HasNoFault {T W : Type 0} (eq : T → T → Bool) (s : Shape) (t : ℕ) (q : PrunedOpening T W) : Type 0 where
   pub gate : gate_refusal (heights s) ≡ None
   pub sizes : length q.rows ≡ length q.indices
-  pub index : index_refusal (tallest (heights s)) q.indices ≡ None
+  pub index : queries_refusal (tallest (heights s)) q.indices ≡ None
   pub repeat : repeat_refusal eq q ≡ None
   pub count : length q.digests ≡ length (boundary s q.indices t)
   pub width : first_of (λ i. width_refusal s.dimensions (first_rows q i)) (slots_below (tallest (heights s)) q.indices) ≡ None
@@ -32,12 +32,12 @@ no_fault eq s t q e =
     let r7 = first_of (λ i. width_refusal s.dimensions (first_rows q i)) (slots_below m q.indices) ∷ r8 in
     let r6 = digest_count_refusal (length (boundary s q.indices t)) (length q.digests) ∷ r7 in
     let r5 = repeat_refusal eq q ∷ r6 in
-    let r4 = index_refusal m q.indices ∷ r5 in
+    let r4 = queries_refusal m q.indices ∷ r5 in
     let r3 = idle_refusal n (length q.digests) ∷ r4 in
     let a = none_parts (gate_refusal (heights s)) (first_some (size_refusal n (length q.rows) ∷ r3)) e in
     let b = none_parts (size_refusal n (length q.rows)) (first_some r3) a.1 in
     let c = none_parts (idle_refusal n (length q.digests)) (first_some r4) b.1 in
-    let d = none_parts (index_refusal m q.indices) (first_some r5) c.1 in
+    let d = none_parts (queries_refusal m q.indices) (first_some r5) c.1 in
     let f = none_parts (repeat_refusal eq q) (first_some r6) d.1 in
     let g = none_parts (digest_count_refusal (length (boundary s q.indices t)) (length q.digests)) (first_some r7) f.1 in
     let h = none_parts (first_of (λ i. width_refusal s.dimensions (first_rows q i)) (slots_below m q.indices)) (first_some r8) g.1 in

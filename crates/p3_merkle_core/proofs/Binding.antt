@@ -4,7 +4,7 @@ use Rattle.std.specs.List.{list_any}
 use Rattle.std.proofs.lemmas.Bool.{cases_Bool, cases_eq, or_parts, ne_eqb}
 use Rattle.p3_merkle_core.specs.Geometry.{Shape, exponent, layer_exponent, joined, ancestor, heights}
 use Rattle.p3_merkle_core.specs.Nodes.{Functions}
-use Rattle.p3_merkle_core.specs.Openings.{Opening, IsAccepted, inputs_at, shared_inputs, meeting_level, has_rows, rows_at, layer_rows}
+use Rattle.p3_merkle_core.specs.Openings.{Opening, IsAccepted, inputs_at, shared_inputs, meeting_level, has_rows, layer_words, layer_rows}
 use Rattle.p3_merkle_core.proofs.LeastFacts.{least_bound}
 use Rattle.p3_merkle_core.proofs.StepFacts.{anc_start}
 use Rattle.p3_merkle_core.proofs.Extraction.{same_ends, inputs_with_rows, level_lengths}
@@ -79,7 +79,7 @@ level_rows f s o u l long e =
     elim (cases_Bool (has_rows s (suc l))) [
       | inl t ↦
           let c = sym (inputs_with_rows f s o l t) ∙ e ∙ inputs_with_rows f s u l t in
-          let words : rows_at s o.rows (suc l) ≡ rows_at s u.rows (suc l) = cc in
+          let words : layer_words s o.rows (suc l) ≡ layer_words s u.rows (suc l) = cc in
           rows_told (layer_exponent s (suc l)) (heights s) o.rows u.rows long words
       | inr n ↦ no_layer_rows (layer_exponent s (suc l)) (heights s) o.rows n ∙ sym (no_layer_rows (layer_exponent s (suc l)) (heights s) u.rows n)
     ]
@@ -111,6 +111,6 @@ rows_bound f s t cap o u a b e zero h same =
     let z : o.index ≡ u.index = sym (anc_start s o.index) ∙ same ∙ anc_start s u.index in
     let test = eq-eqb o.index u.index z in
     let c = rw test at e in
-    let words : rows_at s o.rows 0 ≡ rows_at s u.rows 0 = cc in
+    let words : layer_words s o.rows 0 ≡ layer_words s u.rows 0 = cc in
     rows_told (layer_exponent s 0) (heights s) o.rows u.rows (a.rows_fit ∙ sym b.rows_fit) words
 rows_bound f s t cap o u a b e (suc l) h same = level_rows f s o u l (a.rows_fit ∙ sym b.rows_fit) (level_shared f s t o u e l (omega arith) same)

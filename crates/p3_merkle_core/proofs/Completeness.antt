@@ -2,9 +2,9 @@
 use Rattle.std.proofs.Common.{◌≡◌, ℕ, zero, suc, ◌<◌, ◌≤◌, true, false, cond, eqb, nat_lt, List, [], ◌∷◌, ◌++◌, map, refl, ap, sym, ◌∙◌, arith, inl, inr, length, filter, flat_map, zip, All}
 use Rattle.std.specs.List.{list_any, list_all}
 use Rattle.std.proofs.lemmas.Bool.{cond-true, cond-false, cases_Bool, lt-ltb, eqb-true, or_parts, true≢false}
-use Rattle.p3_merkle_core.specs.Geometry.{Shape, IsLawful, exponent, tallest, layer_exponent, levels, ancestor, row_of, expected_height, raw_len, heights, heights_of}
+use Rattle.p3_merkle_core.specs.Geometry.{Shape, IsLawful, exponent, tallest, layer_exponent, levels, ancestor, row_at_index, expected_height, raw_len, heights, heights_of}
 use Rattle.p3_merkle_core.specs.Nodes.{Functions, Batch, Matrix, shape, at_layer, joined_rows, compress, injected, node, children, dimensions_of}
-use Rattle.p3_merkle_core.specs.Openings.{honest, honest_rows, honest_siblings, Opening, siblings_below, has_rows, rows_at, group_at, path_digest}
+use Rattle.p3_merkle_core.specs.Openings.{honest, honest_rows, honest_siblings, Opening, siblings_below, has_rows, layer_words, group_at, path_digest}
 use Rattle.p3_merkle_core.proofs.LadderFacts.{IsArity, row_is_anc_at, row_below}
 use Rattle.p3_merkle_core.proofs.RawFacts.{anc_below}
 use Rattle.p3_merkle_core.proofs.PathFacts.{path_length, path_group}
@@ -64,10 +64,10 @@ all_tall x top j tall (m ∷ ms) le on =
 
 -- ---- one level
 
-pub rows_are : {T : Type 0} (b : Batch T) (t i l : ℕ) → IsHonest b t i → rows_at (shape b) (honest_rows b i) l ≡ joined_rows (at_layer b l) (ancestor (shape b) l i)
+pub rows_are : {T : Type 0} (b : Batch T) (t i l : ℕ) → IsHonest b t i → layer_words (shape b) (honest_rows b i) l ≡ joined_rows (at_layer b l) (ancestor (shape b) l i)
 rows_are b t i l w =
     let s = shape b in
-    rows_join (layer_exponent s l) (tallest (heights s)) (ancestor s l i) (λ h. row_of s h i)
+    rows_join (layer_exponent s l) (tallest (heights s)) (ancestor s l i) (λ h. row_at_index s h i)
     (λ h le e. row_is_anc_at s w.well_shaped h i l le w.below (sym e)) b.matrices (omega arith)
 
 pub injected_is : {T W : Type 0} (f : Functions T W) (b : Batch T) (t i l : ℕ) (c : List W) → IsHonest b t i →
@@ -81,7 +81,7 @@ injected_is f b t i l c w =
       | inl e ↦
           let some = some_here x b.matrices e in
           let tall = all_tall x (tallest (heights s)) j
-          (λ h le on is. let below : row_of s h i < h = row_below s h i on w.below in rw (row_is_anc_at s w.well_shaped h i l le w.below (sym is)) at below) b.matrices (omega arith) w.lawful.on_ladder in
+          (λ h le on is. let below : row_at_index s h i < h = row_below s h i on w.below in rw (row_is_anc_at s w.well_shaped h i l le w.below (sym is)) at below) b.matrices (omega arith) w.lawful.on_ladder in
           let passes = rw some.2 at tall in
           rw (e, some.2, passes) refl
       | inr e ↦ rw (e, none_here x b.matrices e) refl
@@ -100,11 +100,11 @@ node_next f b l j h =
 -- ---- the whole check
 
 pub reached_next : {T W : Type 0} (f : Functions T W) (s : Shape) (o : Opening T W) (l : ℕ) →
-    path_digest f s o (suc l) ≡ cond (has_rows s (suc l)) (compress f s.arity (compress f s.arity (group_at f s o l (path_digest f s o l)) ∷ f.hash (rows_at s o.rows (suc l)) ∷ [])) (compress f s.arity (group_at f s o l (path_digest f s o l)))
+    path_digest f s o (suc l) ≡ cond (has_rows s (suc l)) (compress f s.arity (compress f s.arity (group_at f s o l (path_digest f s o l)) ∷ f.hash (layer_words s o.rows (suc l)) ∷ [])) (compress f s.arity (group_at f s o l (path_digest f s o l)))
 unfolding path_digest
 reached_next f s o l = refl
 
-pub reached_leaf : {T W : Type 0} (f : Functions T W) (s : Shape) (o : Opening T W) → path_digest f s o 0 ≡ f.hash (rows_at s o.rows 0)
+pub reached_leaf : {T W : Type 0} (f : Functions T W) (s : Shape) (o : Opening T W) → path_digest f s o 0 ≡ f.hash (layer_words s o.rows 0)
 unfolding path_digest
 reached_leaf f s o = refl
 

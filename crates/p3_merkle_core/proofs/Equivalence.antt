@@ -6,19 +6,19 @@ use Rattle.std.proofs.lemmas.Bool.{cases_Bool, cond-true, eqb-true, true≢false
 use Rattle.std.proofs.lemmas.List.Folds.{list_any_at}
 use Rattle.p3_merkle_core.specs.Geometry.{Shape, IsLawful, ancestor, tallest, heights, widths}
 use Rattle.p3_merkle_core.specs.Nodes.{Functions, compress}
-use Rattle.p3_merkle_core.specs.Openings.{path_digest, has_rows, rows_at, group_at}
+use Rattle.p3_merkle_core.specs.Openings.{path_digest, has_rows, layer_words, group_at}
 use Rattle.p3_merkle_core.specs.Pruning.{PrunedOpening, is_covered, rows_under, restored, value_of, opening_at, IsAgreed, IsCapped, EachAccepted}
 use Rattle.p3_merkle_core.proofs.LadderFacts.{IsArity}
 use Rattle.p3_merkle_core.proofs.Completeness.{reached_next, reached_leaf}
 use Rattle.p3_merkle_core.proofs.PathFacts.{group_values, path_length, path_group}
 
-pub restored_leaf : {T W : Type 0} (f : Functions T W) (s : Shape) (t : ℕ) (q : PrunedOpening T W) (j : ℕ) → restored f s t q 0 j ≡ f.hash (rows_at s (rows_under s q 0 j) 0)
+pub restored_leaf : {T W : Type 0} (f : Functions T W) (s : Shape) (t : ℕ) (q : PrunedOpening T W) (j : ℕ) → restored f s t q 0 j ≡ f.hash (layer_words s (rows_under s q 0 j) 0)
 unfolding restored
 restored_leaf f s t q j = refl
 
 pub restored_next : {T W : Type 0} (f : Functions T W) (s : Shape) (t : ℕ) (q : PrunedOpening T W) (l j : ℕ) →
     restored f s t q (suc l) j
-    ≡ cond (has_rows s (suc l)) (compress f s.arity (compress f s.arity (group_values s (value_of f s t q) l j) ∷ f.hash (rows_at s (rows_under s q (suc l) j) (suc l)) ∷ [])) (compress f s.arity (group_values s (value_of f s t q) l j))
+    ≡ cond (has_rows s (suc l)) (compress f s.arity (compress f s.arity (group_values s (value_of f s t q) l j) ∷ f.hash (layer_words s (rows_under s q (suc l) j) (suc l)) ∷ [])) (compress f s.arity (group_values s (value_of f s t q) l j))
 unfolding restored
 restored_next f s t q l j = refl
 
@@ -42,11 +42,11 @@ rows_under_is s (i ∷ indices) (r ∷ rows) l j e c =
 
 -- the rows of query k stand for each node above it
 rows_agree : {T W : Type 0} (s : Shape) (t : ℕ) (q : PrunedOpening T W) → IsAgreed s t q → (k l : ℕ) → k < length q.indices → l ≤ t →
-    rows_at s (get_or q.rows k []) l ≡ rows_at s (rows_under s q l (ancestor s l (get_or q.indices k 0))) l
+    layer_words s (get_or q.rows k []) l ≡ layer_words s (rows_under s q l (ancestor s l (get_or q.indices k 0))) l
 rows_agree s t q a k l h le =
     let u = rows_under_is s q.indices q.rows l (ancestor s l (get_or q.indices k 0)) a.in_pairs (query_covered s q.indices k l h) in
     let same = a.groups l k (u.0) le h (u.1) (sym u.2) in
-    ap (λ rs. flat_map (λ (h, row). row) rs) same ∙ ap (λ rows. rows_at s rows l) (sym u.3)
+    ap (λ rs. flat_map (λ (h, row). row) rs) same ∙ ap (λ rows. layer_words s rows l) (sym u.3)
 
 -- the check of a query with its restored path reaches the restored values above it
 pub path_reaches : {T W : Type 0} (f : Functions T W) (s : Shape) (t : ℕ) (q : PrunedOpening T W) → IsArity s.arity → IsAgreed s t q → (k : ℕ) → k < length q.indices → (l : ℕ) → l ≤ t →

@@ -6,7 +6,7 @@ use Rattle.std.specs.Option.{option_or, option_map}
 use Rattle.std.proofs.lemmas.Bool.{cases_eq}
 use Rattle.p3_merkle_core.specs.Geometry.{Shape, IsArity}
 use Rattle.p3_merkle_core.specs.Nodes.{Functions}
-use Rattle.p3_merkle_core.specs.Openings.{Input, shared_inputs, digest_of, AgreeWhereShared, IsLastShared, IsAtOnePlace}
+use Rattle.p3_merkle_core.specs.Openings.{Input, shared_inputs, input_digest, AgreeWhereShared, IsLastShared, IsAtOnePlace}
 use Rattle.p3_merkle_core.specs.Pruning.{PrunedOpening, opening_at, EachAccepted}
 use Rattle.p3_merkle_core.specs.Refusals.{first_of, verdict, IsEquality, IsRestorable, pruned_refusal_under}
 use Rattle.p3_merkle_core.specs.Extracting.{input_eq, difference_at, first_pair, extraction_multi_under}
@@ -122,7 +122,7 @@ multi_none eq same f s t cap q r dec dec_w w =
 
 pub multi_some : {T W : Type 0} (eq : T → T → Bool) (same : W → W → Bool) (f : Functions T W) (s : Shape) (t : ℕ) (cap : List (List W)) (q r : PrunedOpening T W) (a b : ℕ) (x y : Input T W) → IsEquality eq → IsEquality same → IsArity s.arity →
     extraction_multi_under eq same f s t cap q r ≡ Ok (Some (a, b, (x, y))) →
-    (a < length q.indices) × (b < length r.indices) × IsLastShared f s t (opening_at f s t q a) (opening_at f s t r b) x y × IsAtOnePlace x y × (digest_of f x ≡ digest_of f y)
+    (a < length q.indices) × (b < length r.indices) × IsLastShared f s t (opening_at f s t q a) (opening_at f s t r b) x y × IsAtOnePlace x y × (input_digest f x ≡ input_digest f y)
 multi_some eq same f s t cap q r a b x y dec dec_w w e =
     let p = (multi_extracted eq same f s t cap q r dec dec_w w (Some (a, b, (x, y)))).0 e in
     let n = length q.indices in

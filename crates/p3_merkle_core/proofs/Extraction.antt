@@ -3,7 +3,7 @@ use Rattle.std.proofs.Common.{◌≡◌, ℕ, zero, suc, ◌+◌, ◌-◌, ◌%�
 use Rattle.std.proofs.lemmas.Bool.{cases_Bool, cases_lt, cases_eq, eqb-true, ne_eqb}
 use Rattle.p3_merkle_core.specs.Geometry.{Shape, joined, step, ancestor, position_in_group}
 use Rattle.p3_merkle_core.specs.Nodes.{Functions, padded_group}
-use Rattle.p3_merkle_core.specs.Openings.{Opening, Input, Group, Rows, Pair, digest_of, inputs_at, group_at, path_digest, has_rows, rows_at, siblings_at, siblings_below, IsLastDifference, shared_inputs, meeting_level, IsAccepted}
+use Rattle.p3_merkle_core.specs.Openings.{Opening, Input, Group, Rows, Pair, input_digest, inputs_at, group_at, path_digest, has_rows, layer_words, siblings_at, siblings_below, IsLastDifference, shared_inputs, meeting_level, IsAccepted}
 use Rattle.p3_merkle_core.proofs.LeastFacts.{least_passes}
 use Rattle.p3_merkle_core.proofs.StepFacts.{anc_next, step_above_1}
 use Rattle.p3_merkle_core.proofs.LadderFacts.{IsArity}
@@ -45,7 +45,7 @@ abbrev pub full_group : {T W : Type 0} → Functions T W → Shape → Opening T
 full_group f s o l = padded_group f s.arity (group_at f s o l (path_digest f s o l))
 
 pub inputs_with_rows : {T W : Type 0} (f : Functions T W) (s : Shape) (o : Opening T W) (l : ℕ) → has_rows s (suc l) ≡ true →
-    inputs_at f s o l ≡ Group l (full_group f s o l) ∷ Rows l (rows_at s o.rows (suc l)) ∷ Pair l (padded_group f s.arity (f.compression (full_group f s o l) ∷ f.hash (rows_at s o.rows (suc l)) ∷ [])) ∷ []
+    inputs_at f s o l ≡ Group l (full_group f s o l) ∷ Rows l (layer_words s o.rows (suc l)) ∷ Pair l (padded_group f s.arity (f.compression (full_group f s o l) ∷ f.hash (layer_words s o.rows (suc l)) ∷ [])) ∷ []
 inputs_with_rows f s o l e = rw e refl
 
 pub inputs_alone : {T W : Type 0} (f : Functions T W) (s : Shape) (o : Opening T W) (l : ℕ) → has_rows s (suc l) ≡ false →
@@ -54,7 +54,7 @@ inputs_alone f s o l e = rw e refl
 
 -- where the level ends in one digest, a last difference of its inputs has one digest
 level_collides : {T W : Type 0} (f : Functions T W) (s : Shape) (o u : Opening T W) (l : ℕ) (x y : Input T W) → path_digest f s o (suc l) ≡ path_digest f s u (suc l) →
-    IsLastDifference (inputs_at f s o l) (inputs_at f s u l) x y → digest_of f x ≡ digest_of f y
+    IsLastDifference (inputs_at f s o l) (inputs_at f s u l) x y → input_digest f x ≡ input_digest f y
 level_collides f s o u l x y e d =
     let a = reached_next f s o l in
     let b = reached_next f s u l in
@@ -124,7 +124,7 @@ pub in_group : (s : Shape) (l i : ℕ) → IsArity s.arity → position_in_group
 in_group s l i w = let a = step_above_1 s l w.above_1 in omega arith
 
 levels_collide : {T W : Type 0} (f : Functions T W) (s : Shape) (o u : Opening T W) (m t : ℕ) → Meet s o u m t → (n : ℕ) → m + n ≤ t → (x y : Input T W) →
-    path_digest f s o (m + n) ≡ path_digest f s u (m + n) → IsLastDifference (joined (λ k. inputs_at f s o (m + k)) n) (joined (λ k. inputs_at f s u (m + k)) n) x y → digest_of f x ≡ digest_of f y
+    path_digest f s o (m + n) ≡ path_digest f s u (m + n) → IsLastDifference (joined (λ k. inputs_at f s o (m + k)) n) (joined (λ k. inputs_at f s u (m + k)) n) x y → input_digest f x ≡ input_digest f y
 levels_collide f s o u m t w zero h x y e d = absurd d
 levels_collide f s o u m t w (suc n) h x y e d =
     let l = m + n in
@@ -165,7 +165,7 @@ first_piece g h (suc n) e same =
 -- two accepted openings of one cap, and the last difference of what their checks share: one digest
 pub collides : {T W : Type 0} (f : Functions T W) (s : Shape) (t : ℕ) (cap : List (List W)) (o u : Opening T W) → IsArity s.arity →
     IsAccepted f s t cap o → IsAccepted f s t cap u → (x y : Input T W) →
-    IsLastDifference (shared_inputs f s t o.index u.index o) (shared_inputs f s t o.index u.index u) x y → digest_of f x ≡ digest_of f y
+    IsLastDifference (shared_inputs f s t o.index u.index o) (shared_inputs f s t o.index u.index u) x y → input_digest f x ≡ input_digest f y
 collides f s t cap o u w a b x y d =
     let m = meeting_level s t o.index u.index in
     elim (cases_eq o.index u.index) [

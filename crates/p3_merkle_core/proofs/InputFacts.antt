@@ -6,7 +6,7 @@ use Rattle.std.proofs.lemmas.List.Edits.{length-insert}
 use Rattle.std.proofs.lemmas.List.Elements.{All-append, All-cons, All-nil}
 use Rattle.p3_merkle_core.specs.Geometry.{Shape, IsArity, is_bridge, layer_exponent, joined, step, position_in_group}
 use Rattle.p3_merkle_core.specs.Nodes.{Functions, padded_group}
-use Rattle.p3_merkle_core.specs.Openings.{Opening, Leaf, Group, Rows, Pair, HasDigests, inputs, inputs_at, group_at, path_digest, has_rows, siblings_at, siblings_below, rows_at}
+use Rattle.p3_merkle_core.specs.Openings.{Opening, Leaf, Group, Rows, Pair, HasDigests, inputs, inputs_at, group_at, path_digest, has_rows, siblings_at, siblings_below, layer_words}
 use Rattle.p3_merkle_core.proofs.StepFacts.{step_above_1}
 use Rattle.p3_merkle_core.proofs.Extraction.{siblings_full, in_group}
 
@@ -24,7 +24,7 @@ level_full f s t o l w e h =
     let inside = in_group s l o.index w in
     let long = length-insert (siblings_at s o l) (position_in_group s l o.index) (path_digest f s o l) (omega arith) in
     let group = filled_long f s.arity (group_at f s o l (path_digest f s o l)) (omega (arith, step_le s l w)) in
-    let words = rows_at s o.rows (suc l) in
+    let words = layer_words s o.rows (suc l) in
     let first = padded_group f s.arity (group_at f s o l (path_digest f s o l)) in
     let last = padded_group f s.arity (f.compression first ∷ f.hash words ∷ []) in
     let pair = filled_long f s.arity (f.compression first ∷ f.hash words ∷ []) (omega arith) in
@@ -35,7 +35,7 @@ level_full f s t o l w e h =
     ]
 
 pub inputs_full : {T W : Type 0} (f : Functions T W) (s : Shape) (t : ℕ) (o : Opening T W) → IsArity s.arity → length o.siblings ≡ siblings_below s t → All (HasDigests s.arity) (inputs f s t o)
-inputs_full f s t o w e = All-cons (HasDigests s.arity) (Leaf (rows_at s o.rows 0)) (joined (inputs_at f s o) t) tt (levels_full f s t o w e t (omega arith))
+inputs_full f s t o w e = All-cons (HasDigests s.arity) (Leaf (layer_words s o.rows 0)) (joined (inputs_at f s o) t) tt (levels_full f s t o w e t (omega arith))
   where
     levels_full : {T W : Type 0} (f : Functions T W) (s : Shape) (t : ℕ) (o : Opening T W) → IsArity s.arity → length o.siblings ≡ siblings_below s t → (n : ℕ) → n ≤ t → All (HasDigests s.arity) (joined (inputs_at f s o) n)
     levels_full f s t o w e zero h = All-nil (HasDigests s.arity)

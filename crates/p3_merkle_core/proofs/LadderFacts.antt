@@ -6,7 +6,7 @@ use Rattle.std.proofs.lemmas.Nat.{pow-add, pow_pos}
 use Rattle.std.proofs.Math.Nat.{mul_assoc, two-pow-succ, mul-le-mul_left, mul-div_cancel, div-eq_of_lt, le-div_iff_mul-le, div-mul-le_self, sub-zero}
 use Rattle.std.proofs.Math.Pow.{pow_mono}
 pub use Rattle.p3_merkle_core.specs.Geometry.{IsArity, heights}
-use Rattle.p3_merkle_core.specs.Geometry.{Shape, exponent, tallest, layer_exponent, is_bridge, step, levels, leaves_under, ancestor, row_of, layer_of, bits_reduced, expected_height}
+use Rattle.p3_merkle_core.specs.Geometry.{Shape, exponent, tallest, layer_exponent, is_bridge, step, levels, leaves_under, ancestor, row_at_index, layer_of, bits_reduced, expected_height}
 use Rattle.p3_merkle_core.proofs.LeastFacts.{least_le, least_passes, least_bound, exponent_covers, exponent_mono, le_tallest}
 use Rattle.p3_merkle_core.proofs.StepFacts.{next_exponent, whole_step_falls}
 
@@ -145,7 +145,7 @@ leaves_under_is s w l h le =
 
 -- the row of a matrix that belongs to an index is the index's ancestor at the layer of the matrix's exponent
 pub row_is_anc_at : (s : Shape) → IsArity s.arity → (height index l : ℕ) → height ≤ tallest (heights s) → index < tallest (heights s) → layer_exponent s l ≡ exponent height →
-    row_of s height index ≡ ancestor s l index
+    row_at_index s height index ≡ ancestor s l index
 row_is_anc_at s w height index l in_reach below is =
     let top = exponent_covers (tallest (heights s)) in
     let le = exponent_mono height (tallest (heights s)) in_reach in
@@ -160,12 +160,12 @@ row_is_anc_at s w height index l in_reach below is =
     ]
 
 pub row_is_anc : (s : Shape) → IsArity s.arity → (i index : ℕ) → i < length (heights s) → index < tallest (heights s) →
-    row_of s (get_or (heights s) i 0) index ≡ ancestor s (layer_of s (get_or (heights s) i 0)) index
+    row_at_index s (get_or (heights s) i 0) index ≡ ancestor s (layer_of s (get_or (heights s) i 0)) index
 row_is_anc s w i index h below =
     row_is_anc_at s w (get_or (heights s) i 0) index (layer_of s (get_or (heights s) i 0)) (le_tallest (heights s) i) below (layer_of_is s w i h)
 
 -- and the matrix has it
-pub row_below : (s : Shape) (h index : ℕ) → h ≡ expected_height (tallest (heights s)) h → index < tallest (heights s) → row_of s h index < h
+pub row_below : (s : Shape) (h index : ℕ) → h ≡ expected_height (tallest (heights s)) h → index < tallest (heights s) → row_at_index s h index < h
 row_below s h index e below =
     let k = 2 ^ bits_reduced (tallest (heights s)) h in
     let m = div-mul-le_self index k in

@@ -8,7 +8,7 @@ use Rattle.std.proofs.lemmas.List.{get_or_default, length-map}
 use Rattle.p3_support.specs.declared.matrix.Dimensions.{Dimensions}
 use Rattle.p3_merkle_core.specs.Geometry.{IsLawful, tallest, widths_of}
 use Rattle.p3_merkle_core.specs.Gate.{gate_refusal, height_refusal_of, first_too_large, first_off_ladder}
-use Rattle.p3_merkle_core.specs.Refusals.{first_of, unless, verdict, width_refusal, row_width_refusal, size_refusal, index_refusal, width_fault}
+use Rattle.p3_merkle_core.specs.Refusals.{first_of, unless, verdict, width_refusal, row_width_refusal, size_refusal, queries_refusal, width_fault}
 use Rattle.p3_merkle_core.specs.declared.error.MerkleTreeError.TheVariants.{EmptyBatch, WrongBatchSize, WrongWidth, IndexOutOfBounds}
 use Rattle.p3_merkle_core.proofs.LeastFacts.{le_tallest}
 use Rattle.p3_merkle_core.proofs.GateFacts.{lawful_from_none}
@@ -83,7 +83,7 @@ lawful_from hs e =
           lawful_from_none hs (eqb-false m 0 f) p.0 p.1
     ]
 
-pub below_from : (m : ℕ) (indices : List ℕ) → index_refusal m indices ≡ None → All (λ i. i < m) indices
+pub below_from : (m : ℕ) (indices : List ℕ) → queries_refusal m indices ≡ None → All (λ i. i < m) indices
 below_from m indices e k d h =
     let top = ltb-true (tallest indices) m (unless_none (nat_lt (tallest indices) m) (IndexOutOfBounds m (tallest indices)) e) in
     omega (arith, le_tallest indices k, get_or_default indices k d 0 h)

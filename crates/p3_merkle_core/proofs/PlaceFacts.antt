@@ -4,7 +4,7 @@ use Rattle.std.proofs.lemmas.Bool.{cases_Bool, cases_eq, ne_eqb}
 use Rattle.std.proofs.lemmas.List.{append_assoc}
 use Rattle.p3_merkle_core.specs.Geometry.{Shape, joined}
 use Rattle.p3_merkle_core.specs.Nodes.{Functions, padded_group}
-use Rattle.p3_merkle_core.specs.Openings.{Opening, Input, Leaf, Group, Rows, Pair, IsAtOnePlace, IsLastDifference, IsLastShared, inputs, inputs_at, meeting_level, has_rows, rows_at, digest_of, path_digest}
+use Rattle.p3_merkle_core.specs.Openings.{Opening, Input, Leaf, Group, Rows, Pair, IsAtOnePlace, IsLastDifference, IsLastShared, inputs, inputs_at, meeting_level, has_rows, layer_words, input_digest, path_digest}
 use Rattle.p3_merkle_core.proofs.Extraction.{inputs_with_rows, inputs_alone, full_group}
 use Rattle.p3_merkle_core.proofs.Completeness.{reached_next, reached_leaf}
 
@@ -59,11 +59,11 @@ at_one_place f s t o u x y d =
 
 -- the last input of a check has the digest that the check reaches
 pub last_reached : {T W : Type 0} (f : Functions T W) (s : Shape) (t : ℕ) (o : Opening T W) →
-    (before : List (Input T W)) × (x : Input T W) × (inputs f s t o ≡ before ++ x ∷ []) × (digest_of f x ≡ path_digest f s o t)
-last_reached f s zero o = ([], Leaf (rows_at s o.rows 0), refl, sym (reached_leaf f s o))
+    (before : List (Input T W)) × (x : Input T W) × (inputs f s t o ≡ before ++ x ∷ []) × (input_digest f x ≡ path_digest f s o t)
+last_reached f s zero o = ([], Leaf (layer_words s o.rows 0), refl, sym (reached_leaf f s o))
 last_reached f s (suc t) o =
     let below = inputs f s t o in
-    let words = rows_at s o.rows (suc t) in
+    let words = layer_words s o.rows (suc t) in
     let group = full_group f s o t in
     let pair = padded_group f s.arity (f.compression group ∷ f.hash words ∷ []) in
     let next = reached_next f s o t in

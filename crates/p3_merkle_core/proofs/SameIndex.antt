@@ -5,7 +5,7 @@ use Rattle.std.proofs.lemmas.List.{take_all}
 use Rattle.std.proofs.lemmas.List.Edits.{length-insert}
 use Rattle.p3_merkle_core.specs.Geometry.{Shape, IsArity, joined, step, ancestor, position_in_group}
 use Rattle.p3_merkle_core.specs.Nodes.{Functions}
-use Rattle.p3_merkle_core.specs.Openings.{Opening, IsAccepted, inputs, inputs_at, shared_inputs, group_at, path_digest, has_rows, rows_at, layer_rows, siblings_at, siblings_below}
+use Rattle.p3_merkle_core.specs.Openings.{Opening, IsAccepted, inputs, inputs_at, shared_inputs, group_at, path_digest, has_rows, layer_words, layer_rows, siblings_at, siblings_below}
 use Rattle.p3_merkle_core.proofs.Completeness.{reached_leaf, reached_next}
 use Rattle.p3_merkle_core.proofs.PathFacts.{joined_same}
 use Rattle.p3_merkle_core.proofs.Extraction.{same_ends, siblings_full, in_group, inputs_with_rows, inputs_alone, full_group}
@@ -43,7 +43,7 @@ level_siblings f s t o u w a b same l h e =
 
 -- ---- from equal siblings and rows
 
-words_same : {T : Type 0} (s : Shape) (us vs : List (List T)) (l : ℕ) → layer_rows s us l ≡ layer_rows s vs l → rows_at s us l ≡ rows_at s vs l
+words_same : {T : Type 0} (s : Shape) (us vs : List (List T)) (l : ℕ) → layer_rows s us l ≡ layer_rows s vs l → layer_words s us l ≡ layer_words s vs l
 words_same s us vs l e = ap (λ rs. flat_map (λ (h, row). row) rs) e
 
 group_same : {T W : Type 0} (f : Functions T W) (s : Shape) (o u : Opening T W) (l : ℕ) → o.index ≡ u.index → o.siblings ≡ u.siblings → path_digest f s o l ≡ path_digest f s u l →

@@ -11,7 +11,7 @@ use Rattle.p3_merkle_core.proofs.ShapeFacts.{widths_in_pairs}
 use Rattle.p3_merkle_core.specs.Geometry.{Shape, IsLawful, tallest, exponent, layer_exponent, ancestor, least, layer_len, heights, widths_of}
 use Rattle.p3_merkle_core.specs.Gate.{gate_refusal, height_refusal_of, first_too_large, first_off_ladder}
 use Rattle.p3_merkle_core.specs.Pruning.{PrunedOpening, is_boundary, boundary}
-use Rattle.p3_merkle_core.specs.Refusals.{first_of, first_rows, lead, matrices_at, slots_below, slot_of, is_queried, unless, verdict, size_refusal, idle_refusal, index_refusal, repeat_refusal, digest_count_refusal, width_refusal, row_refusal, group_refusal, pruned_refusal, pruned_answer, IsRestorable, row_width_refusal, width_fault}
+use Rattle.p3_merkle_core.specs.Refusals.{first_of, first_rows, lead, matrices_at, slots_below, slot_of, is_queried, unless, verdict, size_refusal, idle_refusal, queries_refusal, repeat_refusal, digest_count_refusal, width_refusal, row_refusal, group_refusal, pruned_refusal, pruned_answer, IsRestorable, row_width_refusal, width_fault}
 use Rattle.p3_merkle_core.specs.declared.error.PrunedProofError.TheVariants.{SiblingCountMismatch, InconsistentDuplicateOpenings, InconsistentGroupOpening}
 use Rattle.p3_merkle_core.specs.declared.error.MerkleTreeError.TheVariants.{EmptyBatch, WrongBatchSize, WrongWidth, IndexOutOfBounds, MalformedPrunedProof}
 use Rattle.p3_merkle_core.proofs.LeastFacts.{least_passes, least_bound}
@@ -74,7 +74,7 @@ tallest_below : (m : ℕ) (indices : List ℕ) → 0 < m → All (λ i. i < m) i
 tallest_below m [] some below = some
 tallest_below m (i ∷ indices) some below = omega (arith, below 0 0 (omega arith), tallest_below m indices some (λ k d h. below (suc k) d (omega arith)))
 
-index_none : (m : ℕ) (indices : List ℕ) → 0 < m → All (λ i. i < m) indices → index_refusal m indices ≡ None
+index_none : (m : ℕ) (indices : List ℕ) → 0 < m → All (λ i. i < m) indices → queries_refusal m indices ≡ None
 index_none m indices some below = none_unless (nat_lt (tallest indices) m) (IndexOutOfBounds m (tallest indices)) (lt-ltb (tallest indices) m (tallest_below m indices some below))
 
 pub each_width : {T : Type 0} (n : ℕ) (rows : List (List T)) → first_of width_fault (enumerate_from n (zip (map length rows) rows)) ≡ None

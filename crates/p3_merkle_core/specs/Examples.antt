@@ -6,8 +6,8 @@ use Rattle.p3_merkle_core.specs.Nodes.{Batch, Functions, Matrix, functions_of}
 use Rattle.p3_merkle_core.specs.Pruning.{PrunedOpening}
 
 -- the fold functions at digests of d words
-abbrev pub fold_functions : ℕ → Functions ℕ ℕ
-fold_functions d = functions_of (fold_hash d) (fold_compress d) (replicate d 0)
+abbrev pub fold_example : ℕ → Functions ℕ ℕ
+fold_example d = functions_of (fold_hash d) (fold_compress d) (replicate d 0)
 
 -- a shape of rows of one word
 abbrev pub narrow : ℕ → List ℕ → Shape

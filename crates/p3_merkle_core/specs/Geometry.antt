@@ -158,5 +158,5 @@ abbrev pub positions_below : Shape → ℕ → ℕ → List ℕ
 positions_below s t i = map (λ l. position_in_group s l i) (range_with_len 0 t)
 
 -- the row of a matrix of height h that belongs to leaf i
-abbrev pub row_of : Shape → ℕ → ℕ → ℕ
-row_of s h i = i / 2 ^ bits_reduced (tallest (heights s)) h
+abbrev pub row_at_index : Shape → ℕ → ℕ → ℕ
+row_at_index s h i = i / 2 ^ bits_reduced (tallest (heights s)) h

@@ -1,8 +1,8 @@
 -- What holds of the definitions, whatever the hash, the compression, the batch, the openings and the cap.
 use Rattle.std.specs.Prelude.{◌≡◌, ◌≢◌, ◌↔◌, ◌⊎◌, ℕ, suc, ◌-◌, ◌<◌, ◌≤◌, true, Bool, IsTrue, List, [], ◌∷◌, ◌++◌, Option, None, Some, Ok, Err, length, take, slice_index, All}
-use Rattle.p3_merkle_core.specs.Geometry.{Shape, heights, tallest, levels, layer_exponent, exponent, layer_of, layer_len, row_of, step, ancestor, arity_schedule, schedule_below, cap_layer, IsArity, IsLawful}
+use Rattle.p3_merkle_core.specs.Geometry.{Shape, heights, tallest, levels, layer_exponent, exponent, layer_of, layer_len, row_at_index, step, ancestor, arity_schedule, schedule_below, cap_layer, IsArity, IsLawful}
 use Rattle.p3_merkle_core.specs.Nodes.{Functions, Batch, HasFullRows, shape, node, layer}
-use Rattle.p3_merkle_core.specs.Openings.{Opening, Input, AgreeWhereShared, HasDigests, IsAccepted, IsAtOnePlace, IsLastShared, honest, honest_siblings, inputs, is_authenticated, opened_row, path_digest, digest_of}
+use Rattle.p3_merkle_core.specs.Openings.{Opening, Input, AgreeWhereShared, HasDigests, IsAccepted, IsAtOnePlace, IsLastShared, honest, honest_siblings, inputs, is_authenticated, opened_row, path_digest, input_digest}
 use Rattle.p3_merkle_core.specs.Pruning.{PrunedOpening, AreQueries, IsHonestQuery, IsCapped, IsUncovered, EachAccepted, Suffices, boundary, honest_query, is_covered, is_in, is_under, opening_at, restored, restored_path, tally}
 use Rattle.p3_merkle_core.specs.Refusals.{IsEquality, IsRestorable, answer_under, pruned_answer, pruned_answer_under}
 use Rattle.p3_merkle_core.specs.Extracting.{difference_at, extraction_under, extraction_multi_under, first_pair}
@@ -41,7 +41,7 @@ abbrev pub RowsAreAncestors : Type 0
 RowsAreAncestors =
     (s : Shape) (k i : ℕ) → IsArity s.arity → IsLawful (heights s) → k < length (heights s) → i < tallest (heights s) →
     let h = slice_index (heights s) k in
-    (row_of s h i < h) × (row_of s h i ≡ ancestor s (layer_of s h) i)
+    (row_at_index s h i < h) × (row_at_index s h i ≡ ancestor s (layer_of s h) i)
 
 -- ---- pruned proofs
 
@@ -164,7 +164,7 @@ module _ (T W : Type 0) where
   abbrev pub LastDifferenceCollides : Type 0
   LastDifferenceCollides =
       (f : Functions T W) (s : Shape) (t : ℕ) (cap : List (List W)) (o u : Opening T W) → IsArity s.arity → IsAccepted f s t cap o → IsAccepted f s t cap u →
-      (x y : Input T W) → IsLastShared f s t o u x y → IsAtOnePlace x y × (x ≢ y) × (digest_of f x ≡ digest_of f y)
+      (x y : Input T W) → IsLastShared f s t o u x y → IsAtOnePlace x y × (x ≢ y) × (input_digest f x ≡ input_digest f y)
 
   -- extraction answers None exactly where both openings are accepted and agree wherever they share a place
   abbrev pub NoneIsAgreement : Type 0
@@ -187,7 +187,7 @@ module _ (T W : Type 0) where
       AgreeWhereShared f s t o u →
       (k : ℕ) → k < length (heights s) → IsTrue (is_authenticated s t k) →
       let h = slice_index (heights s) k in
-      row_of s h o.index ≡ row_of s h u.index → opened_row o k ≡ opened_row u k
+      row_at_index s h o.index ≡ row_at_index s h u.index → opened_row o k ≡ opened_row u k
 
   -- two accepted openings of one index agree wherever they share a place exactly if their siblings do, and their rows of each authenticated matrix
   abbrev pub OneIndexIsBound : Type 0
@@ -206,7 +206,7 @@ module _ (T W : Type 0) where
   abbrev pub LastInputIsReached : Type 0
   LastInputIsReached =
       (f : Functions T W) (s : Shape) (t : ℕ) (o : Opening T W) →
-      (before : List (Input T W)) × (x : Input T W) × (inputs f s t o ≡ before ++ x ∷ []) × (digest_of f x ≡ path_digest f s o t)
+      (before : List (Input T W)) × (x : Input T W) × (inputs f s t o ≡ before ++ x ∷ []) × (input_digest f x ≡ path_digest f s o t)
 
   -- ---- two pruned openings under one cap
 
@@ -233,7 +233,7 @@ module _ (T W : Type 0) where
       (eq : T → T → Bool) (same : W → W → Bool) (f : Functions T W) (s : Shape) (t : ℕ) (cap : List (List W)) (q r : PrunedOpening T W) (a b : ℕ) (x y : Input T W) → IsEquality eq → IsEquality same → IsArity s.arity →
       extraction_multi_under eq same f s t cap q r ≡ Ok (Some (a, b, (x, y))) →
       (a < length q.indices) × (b < length r.indices) × IsLastShared f s t (opening_at f s t q a) (opening_at f s t r b) x y
-      × IsAtOnePlace x y × (digest_of f x ≡ digest_of f y)
+      × IsAtOnePlace x y × (input_digest f x ≡ input_digest f y)
 
   -- each pair of queries before it, by the first list, then by the second, agrees wherever it shares a place
   abbrev pub PairsBeforeAgree : Type 0

@@ -1,14 +1,14 @@
 -- Openings of one index: the honest one, the inputs of a check, when it is accepted, where two meet.
 use Rattle.std.specs.Prelude.{◌≡◌, ◌≢◌, ◌⊎◌, ℕ, zero, suc, ◌+◌, ◌-◌, ◌<◌, ◌==◌, Bool, if◌then◌else◌, List, [], ◌∷◌, map, length, take, drop, filter, flat_map, zip, insert, remove, Some, slice_get, slice_index, slice_index_or, nat_le}
 use Rattle.std.specs.List.{list_any}
-use Rattle.p3_merkle_core.specs.Geometry.{Shape, IsLawful, least, joined, exponent, tallest, layer_exponent, layer_of, step, ancestor, position_in_group, row_of, heights, widths}
+use Rattle.p3_merkle_core.specs.Geometry.{Shape, IsLawful, least, joined, exponent, tallest, layer_exponent, layer_of, step, ancestor, position_in_group, row_at_index, heights, widths}
 use Rattle.p3_merkle_core.specs.Nodes.{Functions, Batch, shape, padded_group, compress, children}
 
 -- ---- the honest opening
 
 -- the row of each matrix that belongs to leaf i
 abbrev pub honest_rows : {T : Type 0} → Batch T → ℕ → List (List T)
-honest_rows b i = map (λ m. m.row (row_of (shape b) m.height i)) b.matrices
+honest_rows b i = map (λ m. m.row (row_at_index (shape b) m.height i)) b.matrices
 
 -- the siblings of leaf i's ancestor of layer l: the other children of its parent, ascending
 abbrev pub honest_group : {T W : Type 0} → Functions T W → Batch T → ℕ → ℕ → List (List W)
@@ -52,8 +52,8 @@ abbrev pub layer_rows : {T : Type 0} → Shape → List (List T) → ℕ → Lis
 layer_rows s rows l = filter (λ (h, row). exponent h == layer_exponent s l) (zip (heights s) rows)
 
 -- these rows one after another
-abbrev pub rows_at : {T : Type 0} → Shape → List (List T) → ℕ → List T
-rows_at s rows l = flat_map (λ (h, row). row) (layer_rows s rows l)
+abbrev pub layer_words : {T : Type 0} → Shape → List (List T) → ℕ → List T
+layer_words s rows l = flat_map (λ (h, row). row) (layer_rows s rows l)
 
 -- a digest at its place among the siblings of level l
 abbrev pub group_at : {T W : Type 0} → Functions T W → Shape → Opening T W → ℕ → List W → List (List W)
@@ -61,10 +61,10 @@ group_at f s o l digest = insert (siblings_at s o l) (position_in_group s l o.in
 
 -- the digest that the check of an opening reaches at layer l
 unfoldable pub path_digest : {T W : Type 0} → Functions T W → Shape → Opening T W → ℕ → List W
-path_digest f s o zero = f.hash (rows_at s o.rows 0)
+path_digest f s o zero = f.hash (layer_words s o.rows 0)
 path_digest f s o (suc l) =
     let c = compress f s.arity (group_at f s o l (path_digest f s o l)) in
-    if has_rows s (suc l) then compress f s.arity (c ∷ f.hash (rows_at s o.rows (suc l)) ∷ []) else c
+    if has_rows s (suc l) then compress f s.arity (c ∷ f.hash (layer_words s o.rows (suc l)) ∷ []) else c
 
 -- an input of a check with its place: words that are hashed, or as many digests as the arity, which are compressed
 pub data Input (T W : Type 0) : Type 0 where
@@ -74,11 +74,11 @@ pub data Input (T W : Type 0) : Type 0 where
   Pair : ℕ → List (List W) → Input T W
 
 -- the digest of words is their hash, of digests their compression
-abbrev pub digest_of : {T W : Type 0} → Functions T W → Input T W → List W
-digest_of f (Leaf words) = f.hash words
-digest_of f (Group l digests) = f.compression digests
-digest_of f (Rows l words) = f.hash words
-digest_of f (Pair l digests) = f.compression digests
+abbrev pub input_digest : {T W : Type 0} → Functions T W → Input T W → List W
+input_digest f (Leaf words) = f.hash words
+input_digest f (Group l digests) = f.compression digests
+input_digest f (Rows l words) = f.hash words
+input_digest f (Pair l digests) = f.compression digests
 
 -- an input of digests has n of them
 abbrev pub HasDigests : {T W : Type 0} → ℕ → Input T W → Type 0
@@ -91,7 +91,7 @@ HasDigests n (Pair l digests) = length digests ≡ n
 abbrev pub inputs_at : {T W : Type 0} → Functions T W → Shape → Opening T W → ℕ → List (Input T W)
 inputs_at f s o l =
     let group = padded_group f s.arity (group_at f s o l (path_digest f s o l)) in
-    let words = rows_at s o.rows (suc l) in
+    let words = layer_words s o.rows (suc l) in
     if has_rows s (suc l)
     then Group l group ∷ Rows l words ∷ Pair l (padded_group f s.arity (f.compression group ∷ f.hash words ∷ [])) ∷ []
     else (Group l group ∷ [])
@@ -106,7 +106,7 @@ IsAtOnePlace x y = ⊥
 
 -- all inputs of a check up to layer t, in order
 abbrev pub inputs : {T W : Type 0} → Functions T W → Shape → ℕ → Opening T W → List (Input T W)
-inputs f s t o = Leaf (rows_at s o.rows 0) ∷ joined (inputs_at f s o) t
+inputs f s t o = Leaf (layer_words s o.rows 0) ∷ joined (inputs_at f s o) t
 
 -- ---- accepted
 

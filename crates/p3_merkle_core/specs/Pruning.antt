@@ -3,7 +3,7 @@ use Rattle.std.specs.Prelude.{◌≡◌, ℕ, zero, suc, ◌+◌, ◌*◌, ◌/�
 use Rattle.std.specs.List.{list_any, range_with_len}
 use Rattle.p3_merkle_core.specs.Geometry.{Shape, IsArity, IsLawful, tallest, levels, joined, step, raw_len, layer_len, ancestor, position_in_group, heights}
 use Rattle.p3_merkle_core.specs.Nodes.{Functions, Batch, shape, node, compress}
-use Rattle.p3_merkle_core.specs.Openings.{Opening, IsAccepted, has_rows, layer_rows, rows_at, honest_rows}
+use Rattle.p3_merkle_core.specs.Openings.{Opening, IsAccepted, has_rows, layer_rows, layer_words, honest_rows}
 
 -- node j of layer l is a queried leaf, or above one
 abbrev pub is_covered : Shape → List ℕ → ℕ → ℕ → Bool
@@ -80,11 +80,11 @@ sent f s t q l j =
 
 -- the value of a covered node
 unfoldable pub restored : {T W : Type 0} → Functions T W → Shape → ℕ → PrunedOpening T W → ℕ → ℕ → List W
-restored f s t q zero j = f.hash (rows_at s (rows_under s q 0 j) 0)
+restored f s t q zero j = f.hash (layer_words s (rows_under s q 0 j) 0)
 restored f s t q (suc l) j =
     let child = λ (k : ℕ). if is_covered s q.indices l k then restored f s t q l k else sent f s t q l k in
     let c = compress f s.arity (map (λ i. child (step s l * j + i)) (range_with_len 0 (step s l))) in
-    if has_rows s (suc l) then compress f s.arity (c ∷ f.hash (rows_at s (rows_under s q (suc l) j) (suc l)) ∷ []) else c
+    if has_rows s (suc l) then compress f s.arity (c ∷ f.hash (layer_words s (rows_under s q (suc l) j) (suc l)) ∷ []) else c
 
 -- the value of a covered node or a boundary node
 abbrev pub value_of : {T W : Type 0} → Functions T W → Shape → ℕ → PrunedOpening T W → ℕ → ℕ → List W

@@ -88,8 +88,8 @@ abbrev pub idle_refusal : ℕ → ℕ → Option MerkleTreeError
 idle_refusal queries digests = if queries == 0 then digest_count_refusal 0 digests else None
 
 -- queries of which the highest is not below the tallest height m
-abbrev pub index_refusal : ℕ → List ℕ → Option MerkleTreeError
-index_refusal m indices = unless (nat_lt (tallest indices) m) (IndexOutOfBounds m (tallest indices))
+abbrev pub queries_refusal : ℕ → List ℕ → Option MerkleTreeError
+queries_refusal m indices = unless (nat_lt (tallest indices) m) (IndexOutOfBounds m (tallest indices))
 
 -- a query whose row set is not that of the first query of its index
 abbrev pub repeat_refusal : {T W : Type 0} → (T → T → Bool) → PrunedOpening T W → Option MerkleTreeError
@@ -151,7 +151,7 @@ pruned_refusal eq s t q =
     gate_refusal (heights s)
     ∷ size_refusal (length q.indices) (length q.rows)
     ∷ idle_refusal (length q.indices) (length q.digests)
-    ∷ index_refusal (tallest (heights s)) q.indices
+    ∷ queries_refusal (tallest (heights s)) q.indices
     ∷ repeat_refusal eq q
     ∷ digest_count_refusal (length (boundary s q.indices t)) (length q.digests)
     ∷ first_of (λ i. width_refusal s.dimensions (first_rows q i)) (slots_below (tallest (heights s)) q.indices)

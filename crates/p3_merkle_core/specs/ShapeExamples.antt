@@ -1,6 +1,6 @@
 -- Shapes and gates, worked out.
 use Rattle.std.specs.Prelude.{◌≡◌, ◌+◌, ◌^◌, [], ◌∷◌, map, refl, Some, None}
-use Rattle.p3_merkle_core.specs.Geometry.{exponent, layer_exponent, arity_schedule, padded_len, raw_len, layer_len, cap_layer, row_of, leaves_under, position_in_group}
+use Rattle.p3_merkle_core.specs.Geometry.{exponent, layer_exponent, arity_schedule, padded_len, raw_len, layer_len, cap_layer, row_at_index, leaves_under, position_in_group}
 use Rattle.p3_merkle_core.specs.Gate.{gate_refusal}
 use Rattle.p3_merkle_core.specs.Examples.{narrow}
 use Rattle.p3_merkle_core.specs.declared.error.MerkleTreeError.TheVariants.{EmptyBatch, IncompatibleHeights, TooLarge}
@@ -111,7 +111,7 @@ cap_lengths_of_5 : map (λ c. layer_len (narrow 2 (5 ∷ [])) (cap_layer (narrow
 unfolding exponent layer_exponent raw_len
 cap_lengths_of_5 = refl
 
-rows_of_index_6 : map (λ h. row_of (narrow 2 (7 ∷ 4 ∷ 2 ∷ 1 ∷ [])) h 6) (7 ∷ 4 ∷ 2 ∷ 1 ∷ []) ≡ 6 ∷ 3 ∷ 1 ∷ 0 ∷ []
+rows_of_index_6 : map (λ h. row_at_index (narrow 2 (7 ∷ 4 ∷ 2 ∷ 1 ∷ [])) h 6) (7 ∷ 4 ∷ 2 ∷ 1 ∷ []) ≡ 6 ∷ 3 ∷ 1 ∷ 0 ∷ []
 unfolding exponent
 rows_of_index_6 = refl
 

@@ -6,7 +6,7 @@ use Rattle.std.proofs.lemmas.List.{append-nil}
 use Rattle.p3_merkle_core.specs.Extracting.{last_difference}
 use Rattle.p3_merkle_core.specs.Geometry.{Shape, ancestor, joined}
 use Rattle.p3_merkle_core.specs.Nodes.{Functions}
-use Rattle.p3_merkle_core.specs.Openings.{Input, Leaf, Opening, inputs_at, meeting_level, rows_at, shared_inputs}
+use Rattle.p3_merkle_core.specs.Openings.{Input, Leaf, Opening, inputs_at, meeting_level, layer_words, shared_inputs}
 use Rattle.p3_merkle_core.specs.Refusals.{unless}
 use Rattle.p3_merkle_core.proofs.Binding.{pieces_long}
 use Rattle.p3_merkle_core.proofs.Extraction.{anc_same, level_lengths}
@@ -60,10 +60,10 @@ meets s i j k = eqb (ancestor s (suc k) i) (ancestor s (suc k) j)
 
 -- what a check of i shares with one of j below layer l
 abbrev pub so_far : {T W : Type 0} → Functions T W → Shape → ℕ → ℕ → Opening T W → ℕ → List (Input T W)
-so_far f s i j o l = cond (eqb i j) (Leaf (rows_at s o.rows 0) ∷ []) [] ++ joined (λ k. cond (meets s i j k) (inputs_at f s o k) []) l
+so_far f s i j o l = cond (eqb i j) (Leaf (layer_words s o.rows 0) ∷ []) [] ++ joined (λ k. cond (meets s i j k) (inputs_at f s o k) []) l
 
 so_far_next : {T W : Type 0} (f : Functions T W) (s : Shape) (i j l : ℕ) (o : Opening T W) → so_far f s i j o (suc l) ≡ so_far f s i j o l ++ cond (meets s i j l) (inputs_at f s o l) []
-so_far_next f s i j l o = sym (append_assoc (cond (eqb i j) (Leaf (rows_at s o.rows 0) ∷ []) []) (joined (λ k. cond (meets s i j k) (inputs_at f s o k) []) l) (cond (meets s i j l) (inputs_at f s o l) []))
+so_far_next f s i j l o = sym (append_assoc (cond (eqb i j) (Leaf (layer_words s o.rows 0) ∷ []) []) (joined (λ k. cond (meets s i j k) (inputs_at f s o k) []) l) (cond (meets s i j l) (inputs_at f s o l) []))
 
 so_far_long : {T W : Type 0} (f : Functions T W) (s : Shape) (i j l : ℕ) (o u : Opening T W) → length (so_far f s i j o l) ≡ length (so_far f s i j u l)
 so_far_long f s i j l o u =
@@ -79,7 +79,7 @@ so_far_all f s i j t o =
       | inl e ↦
           let all : joined g t ≡ joined (inputs_at f s o) t =
           joined_alike g (inputs_at f s o) t (λ k h. cond-true (meets s i j k) (inputs_at f s o k) [] (eq-eqb (ancestor s (suc k) i) (ancestor s (suc k) j) (ap (λ n. ancestor s (suc k) n) e))) in
-          rw (eq-eqb i j e) (ap (λ (xs : List (Input _ _)). Leaf (rows_at s o.rows 0) ∷ xs) all)
+          rw (eq-eqb i j e) (ap (λ (xs : List (Input _ _)). Leaf (layer_words s o.rows 0) ∷ xs) all)
       | inr ne ↦
           let low = least_le (meets s i j) t in
           let sum : m + (t - m) ≡ t = omega arith in
@@ -106,9 +106,9 @@ difference_so_far : {T W : Type 0} (test : Input T W → Input T W → Bool) (f 
     difference_below test f s o u l ≡ last_difference test (so_far f s o.index u.index o l) (so_far f s o.index u.index u l)
 difference_so_far test f s o u zero =
     let b = eqb o.index u.index in
-    let mine = cond b (Leaf (rows_at s o.rows 0) ∷ []) [] in
-    let theirs = cond b (Leaf (rows_at s u.rows 0) ∷ []) [] in
-    last_if test b (Leaf (rows_at s o.rows 0) ∷ []) (Leaf (rows_at s u.rows 0) ∷ [])
+    let mine = cond b (Leaf (layer_words s o.rows 0) ∷ []) [] in
+    let theirs = cond b (Leaf (layer_words s u.rows 0) ∷ []) [] in
+    last_if test b (Leaf (layer_words s o.rows 0) ∷ []) (Leaf (layer_words s u.rows 0) ∷ [])
     ∙ ap (λ (xs : List (Input _ _)). last_difference test xs theirs) (sym (append-nil mine))
     ∙ ap (λ (ys : List (Input _ _)). last_difference test (mine ++ []) ys) (sym (append-nil theirs))
 difference_so_far test f s o u (suc l) =

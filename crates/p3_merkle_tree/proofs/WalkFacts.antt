@@ -7,7 +7,7 @@ use Rattle.std.proofs.lemmas.Bool.{cases_Bool, eq-eqb, ne_eqb}
 use Rattle.p3_merkle_core.specs.Extracting.{input_eq, last_difference}
 use Rattle.p3_merkle_core.specs.Geometry.{Shape, ancestor, exponent, heights, is_bridge, layer_exponent, step, tallest}
 use Rattle.p3_merkle_core.specs.Nodes.{Functions, padded_group}
-use Rattle.p3_merkle_core.specs.Openings.{Opening, Input, Group, Leaf, has_rows, inputs_at, rows_at, siblings_below}
+use Rattle.p3_merkle_core.specs.Openings.{Opening, Input, Group, Leaf, has_rows, inputs_at, layer_words, siblings_below}
 use Rattle.p3_merkle_core.specs.Refusals.{unless}
 use Rattle.p3_merkle_core.proofs.Completeness.{reached_next}
 use Rattle.p3_merkle_core.proofs.Extraction.{full_group, inputs_with_rows, inputs_alone}
@@ -72,8 +72,8 @@ level_is f s o l n y standing group level w at e here =
   where
     level_with : {T W : Type 0} (f : Functions T W) (s : Shape) (o : Opening T W) (l : ℕ) (group : List (List W)) (pair : Option (List (List W))) {made : List (Input T W)} →
         group ≡ full_group f s o l →
-        pair ≡ cond (has_rows s (suc l)) (Some (padded_group f s.arity (f.compression (full_group f s o l) ∷ f.hash (rows_at s o.rows (suc l)) ∷ []))) None →
-        made ≡ Group l group ∷ inputs_above l (rows_at s o.rows (suc l)) pair → made ≡ inputs_at f s o l
+        pair ≡ cond (has_rows s (suc l)) (Some (padded_group f s.arity (f.compression (full_group f s o l) ∷ f.hash (layer_words s o.rows (suc l)) ∷ []))) None →
+        made ≡ Group l group ∷ inputs_above l (layer_words s o.rows (suc l)) pair → made ≡ inputs_at f s o l
     level_with f s o l group pair a b c =
         elim (cases_Bool (has_rows s (suc l))) [
           | inl t ↦ let p = rw t at b in c ∙ rw (a, p) (sym (inputs_with_rows f s o l t))
@@ -92,7 +92,7 @@ pub found_leaf : {T W : Type 0} (eq : T → T → Bool) (same : W → W → Bool
 found_leaf eq same s o u x found e top is =
     let at : x ≡ layer_exponent s 0 = top ∙ sym (layer_start s) in
     let here = rw at at is in
-    rw (eq-eqb o.index u.index e) (shows_unless found (pointwise eq (rows_at s o.rows 0) (rows_at s u.rows 0)) (Leaf (rows_at s o.rows 0), Leaf (rows_at s u.rows 0)) here)
+    rw (eq-eqb o.index u.index e) (shows_unless found (pointwise eq (layer_words s o.rows 0) (layer_words s u.rows 0)) (Leaf (layer_words s o.rows 0), Leaf (layer_words s u.rows 0)) here)
 
 -- on one more level
 pub found_next : {T W : Type 0} (test : Input T W → Input T W → Bool) (f : Functions T W) (s : Shape) (l i j : ℕ) (o u : Opening T W) (last next : Option (InputPair T (List W))) (mine theirs : List (Input T W)) →

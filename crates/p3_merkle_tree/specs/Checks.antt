@@ -3,8 +3,8 @@ use Rattle.std.specs.Prelude.{◌≡◌, ◌+◌, ◌-◌, ◌/◌, ◌≤◌, �
 use Rattle.p3_merkle_core.specs.Extracting.{last_difference}
 use Rattle.p3_merkle_core.specs.Geometry.{Shape, ancestor, layer_exponent}
 use Rattle.p3_merkle_core.specs.Nodes.{Functions}
-use Rattle.p3_merkle_core.specs.Openings.{Input, Opening, Leaf, inputs_at, opening_of, path_digest, rows_at, siblings_below}
-use Rattle.p3_merkle_builder.specs.Own.{rows_in}
+use Rattle.p3_merkle_core.specs.Openings.{Input, Opening, Leaf, inputs_at, opening_of, path_digest, layer_words, siblings_below}
+use Rattle.p3_support.specs.Shown.{row_lists}
 use Rattle.p3_merkle_tree.specs.declared.openings.IndexedOpening.{IndexedOpening}
 use Rattle.p3_merkle_tree.specs.declared.openings.OpeningPair.{OpeningPair}
 use Rattle.p3_merkle_tree.specs.declared.walk.Standing.{Standing}
@@ -12,7 +12,7 @@ use Rattle.p3_merkle_tree.specs.declared.walk.StandingPair.{StandingPair}
 
 -- an opening that is lent with its index
 abbrev pub opening_in : {T W : Type 0} → IndexedOpening T (List W) → Opening T W
-opening_in opening = opening_of opening.index (rows_in opening.rows.now) opening.siblings.now
+opening_in opening = opening_of opening.index (row_lists opening.rows.now) opening.siblings.now
 
 -- so many siblings are left that a step can take its own
 pub record CanStep (arity step used count : ℕ) : Type 0 where
@@ -45,7 +45,7 @@ pub record StandTogether {T W : Type 0} {n : ℕ} (f : Functions T W) (s : Shape
 -- the inputs of the leaf, if the checks of o and u share it and they differ
 abbrev pub leaf_difference : {T W : Type 0} → (Input T W → Input T W → Bool) → Shape → Opening T W → Opening T W → Option (Input T W × Input T W)
 leaf_difference test s o u =
-    if o.index == u.index then last_difference test (Leaf (rows_at s o.rows 0) ∷ []) (Leaf (rows_at s u.rows 0) ∷ []) else None
+    if o.index == u.index then last_difference test (Leaf (layer_words s o.rows 0) ∷ []) (Leaf (layer_words s u.rows 0) ∷ []) else None
 
 -- the last inputs of level l that differ, if the checks of o and u share the level
 abbrev pub level_difference : {T W : Type 0} → (Input T W → Input T W → Bool) → Functions T W → Shape → ℕ → Opening T W → Opening T W → Option (Input T W × Input T W)

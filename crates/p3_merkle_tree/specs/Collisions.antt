@@ -1,12 +1,12 @@
 -- What an extraction finds, as the inputs of checks that it shows.
 use Rattle.std.specs.Prelude.{◌≡◌, ◌≢◌, ◌⊎◌, ◌<◌, ℕ, List, [], ◌∷◌, Bool, IsTrue, Option, None, Some, Result, Ok, Err, if◌then◌else◌, option_map, length, slice_index, zip}
-use Rattle.p3_merkle_core.specs.Geometry.{Shape, heights, heights_of, row_of}
+use Rattle.p3_merkle_core.specs.Geometry.{Shape, heights, heights_of, row_at_index}
 use Rattle.p3_merkle_core.specs.Nodes.{Functions, compress, padded_group}
-use Rattle.p3_merkle_core.specs.Openings.{Opening, Input, Leaf, Group, Rows, Pair, HasDigests, IsAtOnePlace, IsLastShared, digest_of, is_authenticated, opened_row}
+use Rattle.p3_merkle_core.specs.Openings.{Opening, Input, Leaf, Group, Rows, Pair, HasDigests, IsAtOnePlace, IsLastShared, input_digest, is_authenticated, opened_row}
 use Rattle.p3_merkle_core.specs.declared.error.MerkleTreeError.{MerkleTreeError}
 use Rattle.p3_merkle_core.specs.declared.error.MerkleTreeError.TheVariants.{OutOfMemory}
 use Rattle.p3_merkle_tree.specs.Paths.{rows_with}
-use Rattle.p3_merkle_builder.specs.Own.{rows_in}
+use Rattle.p3_support.specs.Shown.{row_lists}
 use Rattle.p3_merkle_tree.specs.declared.collision.Place.{Place}
 use Rattle.p3_merkle_tree.specs.declared.collision.InputPair.{InputPair}
 use Rattle.p3_merkle_tree.specs.declared.collision.InputPair.TheVariants.{Words, Digests}
@@ -64,7 +64,7 @@ module _ {T W : Type 0} where
     pub different : first ≢ second
     pub first_full : HasDigests s.arity first
     pub second_full : HasDigests s.arity second
-    pub one_digest : digest_of f first ≡ digest_of f second
+    pub one_digest : input_digest f first ≡ input_digest f second
 
 -- two openings have the same siblings, and the same row of each authenticated matrix
 pub record AnswerAlike {T W : Type 0} (s : Shape) (t : ℕ) (o u : Opening T W) : Type 0 where
@@ -76,16 +76,16 @@ pub record AnswerOneRowTwice {T W : Type 0} (s : Shape) (t : ℕ) (o u : Opening
   pub matrix : ℕ
   pub exists : matrix < length (heights s)
   pub authenticated : IsTrue (is_authenticated s t matrix)
-  pub one_row : row_of s (slice_index (heights s) matrix) o.index ≡ row_of s (slice_index (heights s) matrix) u.index
+  pub one_row : row_at_index s (slice_index (heights s) matrix) o.index ≡ row_at_index s (slice_index (heights s) matrix) u.index
   pub two_ways : opened_row o matrix ≢ opened_row u matrix
 
 -- the words that the first of two openings has for the matrices of an exponent, row after row
 abbrev pub first_words : {T : Type 0} → RowPair T → List T
-first_words rows = rows_with rows.exponent (zip (heights_of rows.dimensions.now) (rows_in rows.first.now))
+first_words rows = rows_with rows.exponent (zip (heights_of rows.dimensions.now) (row_lists rows.first.now))
 
 -- the same of the second
 abbrev pub second_words : {T : Type 0} → RowPair T → List T
-second_words rows = rows_with rows.exponent (zip (heights_of rows.dimensions.now) (rows_in rows.second.now))
+second_words rows = rows_with rows.exponent (zip (heights_of rows.dimensions.now) (row_lists rows.second.now))
 
 -- the inputs of a level above its group: words and a pair, if there is one
 abbrev pub inputs_above : {T W : Type 0} → ℕ → List T → Option (List (List W)) → List (Input T W)

@@ -6,7 +6,7 @@ use Rattle.std.specs.declared.cmp.PartialEq as equality
 use Rattle.p3_support.specs.declared.packed.PackedValue as packed
 use Rattle.p3_merkle_core.specs.Nodes.{Functions, functions_of}
 use Rattle.p3_merkle_core.specs.Openings.{Opening, opening_of}
-use Rattle.p3_merkle_builder.specs.Own.{rows_in}
+use Rattle.p3_support.specs.Shown.{row_lists}
 use Rattle.p3_merkle_tree.specs.declared.mmcs.Scheme.{Scheme}
 use Rattle.p3_support.specs.declared.opening.BatchOpening.{BatchOpening}
 use Rattle.p3_support.specs.declared.opening.BatchOpeningRef.{BatchOpeningRef}
@@ -30,8 +30,8 @@ module _ {P PW H C X G V W : Type 0} {N : ℕ} {p : packed.Ghosts P V} {pd : def
 
 -- an opening of an index, by its rows and siblings
 abbrev pub opening_made : {T W A : Type 0} → ℕ → BatchOpening T (Vec (List W) A) → Opening T W
-opening_made index opening = opening_of index (rows_in opening.opened_values.items) opening.opening_proof.items
+opening_made index opening = opening_of index (row_lists opening.opened_values.items) opening.opening_proof.items
 
 -- the same of one that is lent
 abbrev pub opening_lent : {T W A : Type 0} → ℕ → BatchOpeningRef T (Vec (List W) A) → Opening T W
-opening_lent index opening = opening_of index (rows_in opening.opened_values.now) opening.opening_proof.now.items
+opening_lent index opening = opening_of index (row_lists opening.opened_values.now) opening.opening_proof.now.items

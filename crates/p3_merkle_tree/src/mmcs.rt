@@ -77,7 +77,7 @@ impl<
     ghost use Rattle.p3_merkle_builder.specs.Parts.{layers_of, matrices_of, tree_batch};
     ghost use Rattle.p3_merkle_builder.specs.Own.{own_siblings};
     ghost use Rattle.p3_merkle_tree.specs.Schemes.{cap_height_of, compression_of, hash_of, opening_lent, opening_made, scheme_functions};
-    ghost use Rattle.p3_merkle_builder.specs.Own.{rows_in};
+    ghost use Rattle.p3_support.specs.Shown.{row_lists};
     ghost use Rattle.p3_support.specs.Shown.{roots_of};
     ghost use Rattle.p3_merkle_builder.specs.Views.{batch_of};
 
@@ -175,7 +175,7 @@ impl<
     ) -> Result<BatchOpening<P::Value, Vec<[PW::Value; D]>>, MerkleTreeError>
         requires { index < tallest (heights (shape (tree_batch tree.now))) }
         ensures rows { let rows = honest_rows (tree_batch tree.now) index in
-            IfOk result (λ o. rows_in o.opened_values.items ≡ rows) }
+            IfOk result (λ o. row_lists o.opened_values.items ≡ rows) }
         ensures siblings { let s = shape (tree_batch tree.now) in
             let t = cap_layer s (cap_height_of self.now) in
             IfOk result (λ o. o.opening_proof.items ≡ own_siblings s (layers_of tree.now) t index) }

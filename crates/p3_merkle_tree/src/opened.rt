@@ -4,7 +4,7 @@ ghost use Rattle.std.specs.Prelude.{◌≡◌};
 ghost use Rattle.std.specs.Iterator.{YieldsFirst, item_count};
 ghost use Rattle.p3_merkle_core.specs.Geometry.{heights_of};
 ghost use Rattle.p3_merkle_tree.specs.Paths.{opened_left};
-ghost use Rattle.p3_merkle_builder.specs.Own.{rows_in};
+ghost use Rattle.p3_support.specs.Shown.{row_lists};
 
 use p3_merkle_core::geometry::exponent_of;
 use p3_support::matrix::Dimensions;
@@ -40,9 +40,9 @@ pub fn opened_rows<'a, T>(
 impl<'a, T: Copy> Iterator for OpenedRows<'a, T> {
     type Item = T;
 
-    ghost next_gives = { YieldsFirst (λ s. opened_left s.exponent (heights_of s.dimensions.now) (rows_in s.rows.now) s.next) };
+    ghost next_gives = { YieldsFirst (λ s. opened_left s.exponent (heights_of s.dimensions.now) (row_lists s.rows.now) s.next) };
 
-    ghost remaining = { item_count (λ s. opened_left s.exponent (heights_of s.dimensions.now) (rows_in s.rows.now) s.next) };
+    ghost remaining = { item_count (λ s. opened_left s.exponent (heights_of s.dimensions.now) (row_lists s.rows.now) s.next) };
 
     fn next(&mut self) -> Option<T> {
         while let Some((matrix, matrices)) = self.dimensions.split_first() {

@@ -9,7 +9,7 @@ ghost use Rattle.p3_merkle_core.specs.Refusals.{answer_under};
 ghost use Rattle.p3_merkle_tree.specs.Collisions.{IsCheckedLevel};
 ghost use Rattle.p3_merkle_tree.specs.Paths.{climbed, form_refusal, rows_with, CanReach};
 ghost use Rattle.p3_merkle_tree.specs.Schemes.{cap_height_of, hash_of, opening_lent, scheme_functions};
-ghost use Rattle.p3_merkle_builder.specs.Own.{rows_in};
+ghost use Rattle.p3_support.specs.Shown.{row_lists};
 ghost use Rattle.p3_support.specs.Shown.{roots_of};
 
 use crate::mmcs::MerkleTreeMmcs;
@@ -55,7 +55,7 @@ impl<
     ) -> Result<usize, MerkleTreeError>
         ensures { let s = shape_of N dimensions.now in
             let t = cap_layer s (cap_height_of self.now) in
-            let refusal = form_refusal s t index (rows_in rows.now) num_siblings in
+            let refusal = form_refusal s t index (row_lists rows.now) num_siblings in
             MatchResult result (λ layer. (layer ≡ t) × (refusal ≡ None)) (λ e. refusal ≡ Some e) }
     {
         if rows.len() != dimensions.len() {
@@ -88,7 +88,7 @@ impl<
         rows: &[Vec<P::Value>],
         x: usize,
     ) -> [PW::Value; D]
-        ensures { let rows = zip (heights_of dimensions.now) (rows_in rows.now) in
+        ensures { let rows = zip (heights_of dimensions.now) (row_lists rows.now) in
             result ≡ H.hash (hash_of self.now) (rows_with x rows) }
     {
         self.hash.hash_iter(opened_rows(dimensions, rows, x))
@@ -106,7 +106,7 @@ impl<
         ensures { let f = scheme_functions H.hash C.compression D self.now in
             let heights = heights_of dimensions.now in
             let has_rows = list_any (λ h. exponent h == x) heights in
-            IsCheckedLevel f N x (zip heights (rows_in rows.now)) has_rows group result }
+            IsCheckedLevel f N x (zip heights (row_lists rows.now)) has_rows group result }
     {
         let node = self.compress.compress(group);
         if has_exponent(dimensions, x) {
@@ -144,7 +144,7 @@ impl<
             let heights = heights_of dimensions.now in
             let has_rows = list_any (λ h. exponent h == x) heights in
             let group = insert others.now position digest in
-            result ≡ climbed f N x (zip heights (rows_in rows.now)) has_rows group }
+            result ≡ climbed f N x (zip heights (row_lists rows.now)) has_rows group }
     {
         let default_digest = [PW::Value::default(); D];
         let group = group_with::<PW::Value, N, D>(default_digest, digest, position, others);
@@ -162,7 +162,7 @@ impl<
     ) -> ([PW::Value; D], usize)
         requires { CanReach (shape_of N dimensions.now) t (length siblings.now) }
         ensures digest { let f = scheme_functions H.hash C.compression D self.now in
-            let opening = opening_of index (rows_in rows.now) siblings.now in
+            let opening = opening_of index (row_lists rows.now) siblings.now in
             result.0 ≡ path_digest f (shape_of N dimensions.now) opening t }
         ensures node { result.1 ≡ ancestor (shape_of N dimensions.now) t index }
     {

@@ -16,14 +16,14 @@ lane_of lanes d k ps = map (λ p. slice_index_or (lanes p) k d) ps
 
 module _ {A M : Type 0} (height : M → ℕ) (row : M → ℕ → List A) (h r : ℕ) where
   -- row r of each matrix of height h, one after another
-  abbrev pub rows_at : List M → List A
-  rows_at [] = []
-  rows_at (m ∷ ms) = cond (height m == h) (row m r) [] ++ rows_at ms
+  abbrev pub rows_of_height : List M → List A
+  rows_of_height [] = []
+  rows_of_height (m ∷ ms) = cond (height m == h) (row m r) [] ++ rows_of_height ms
 
   -- the same, where the first matrix is read from column c on
   abbrev pub rows_left : List M → ℕ → List A
   rows_left [] c = []
-  rows_left (m ∷ ms) c = cond (height m == h) (drop c (row m r)) [] ++ rows_at ms
+  rows_left (m ∷ ms) c = cond (height m == h) (drop c (row m r)) [] ++ rows_of_height ms
 
 module _ {A : Type 0} (row : ℕ → List A) (d : A) (r n : ℕ) where
   -- column c of the n rows from r on

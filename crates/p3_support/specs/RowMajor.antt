@@ -11,11 +11,11 @@ abbrev pub row_width : {A : Type 0} → RowMajorMatrix A → ℕ
 row_width m = m.width
 
 -- the number of rows
-abbrev pub rows_in : {A : Type 0} → RowMajorMatrix A → ℕ
-rows_in m = m.height
+abbrev pub row_count : {A : Type 0} → RowMajorMatrix A → ℕ
+row_count m = m.height
 
 -- n has the elements of m, in as many rows of the same width
 pub record IsSameMatrix {A : Type 0} (m n : RowMajorMatrix A) : Type 0 where
   pub same_values : values_of n ≡ values_of m
   pub same_width : row_width n ≡ row_width m
-  pub same_height : rows_in n ≡ rows_in m
+  pub same_height : row_count n ≡ row_count m

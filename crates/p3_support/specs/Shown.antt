@@ -1,12 +1,17 @@
 -- What the values show that a commitment scheme hands out.
-use Rattle.std.specs.Prelude.{List}
+use Rattle.std.specs.Prelude.{List, map}
+use Rattle.std.specs.declared.vec.Vec.{Vec}
 use Rattle.p3_support.specs.declared.opening.LentDigest.{LentDigest}
 use Rattle.p3_support.specs.declared.opening.MerkleCap.{MerkleCap}
 
 -- the digest that is lent
-abbrev pub digest_of : {F X : Type 0} → LentDigest F X → X
-digest_of lent = lent.value.now
+abbrev pub lent_digest : {F X : Type 0} → LentDigest F X → X
+lent_digest lent = lent.value.now
 
 -- the digests of a cap
 abbrev pub roots_of : {F X : Type 0} → MerkleCap F X → List X
 roots_of cap = cap.roots.items
+
+-- the lists of words that rows are
+abbrev pub row_lists : {T A : Type 0} → List (Vec T A) → List (List T)
+row_lists rows = map (λ row. row.items) rows

@@ -231,7 +231,7 @@ pub struct RowMajorMatrix<T> {
 }
 
 impl<T> RowMajorMatrix<T> {
-    ghost use Rattle.p3_support.specs.RowMajor.{values_of, row_width, rows_in};
+    ghost use Rattle.p3_support.specs.RowMajor.{values_of, row_width, row_count};
 
     /// The matrix of these values, `width` of them in a row. The width divides their number; width
     /// 0, which only no values allow, makes no rows.
@@ -239,8 +239,8 @@ impl<T> RowMajorMatrix<T> {
         requires divides { (n : ℕ) × (length values.items ≡ n * width) }
         ensures values { values_of result ≡ values.items }
         ensures width { row_width result ≡ width }
-        ensures height { length values.items ≡ rows_in result * width }
-        ensures no_width { width ≡ 0 → rows_in result ≡ 0 }
+        ensures height { length values.items ≡ row_count result * width }
+        ensures no_width { width ≡ 0 → row_count result ≡ 0 }
     {
         let height = if width == 0 { 0 } else { values.len() / width };
         RowMajorMatrix {
@@ -273,9 +273,9 @@ impl<T: Copy> Clone for RowMajorMatrix<T> {
 }
 
 impl<T: Copy> Matrix<T> for RowMajorMatrix<T> {
-    ghost use Rattle.p3_support.specs.RowMajor.{values_of, row_width, rows_in};
+    ghost use Rattle.p3_support.specs.RowMajor.{values_of, row_width, row_count};
 
-    ghost height_of = { rows_in };
+    ghost height_of = { row_count };
 
     ghost width_of = { row_width };
 

@@ -18,9 +18,9 @@ pub struct LentDigest<'a, F, X> {
 pub type Hash<'a, F, W, const D: usize> = LentDigest<'a, F, [W; D]>;
 
 impl<'a, F, X> From<&'a X> for LentDigest<'a, F, X> {
-    ghost use Rattle.p3_support.specs.Shown.{digest_of};
+    ghost use Rattle.p3_support.specs.Shown.{lent_digest};
 
-    ghost from_gives = { λ digest lent. digest_of lent ≡ digest.now };
+    ghost from_gives = { λ digest lent. lent_digest lent ≡ digest.now };
 
     fn from(value: &'a X) -> LentDigest<'a, F, X> {
         LentDigest {
@@ -31,11 +31,11 @@ impl<'a, F, X> From<&'a X> for LentDigest<'a, F, X> {
 }
 
 impl<'a, F, X> LentDigest<'a, F, X> {
-    ghost use Rattle.p3_support.specs.Shown.{digest_of};
+    ghost use Rattle.p3_support.specs.Shown.{lent_digest};
 
     /// The digest.
     pub fn value(&self) -> &'a X
-        ensures { result.now ≡ digest_of self.now }
+        ensures { result.now ≡ lent_digest self.now }
     {
         self.value
     }

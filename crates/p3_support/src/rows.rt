@@ -1,7 +1,7 @@
 //! The rows of several matrices of one height, one after another.
 ghost use Rattle.std.specs.Prelude.{◌≡◌, ℕ, ◌<◌};
 ghost use Rattle.std.specs.Iterator.{YieldsFirst, item_count};
-ghost use Rattle.p3_support.specs.Lists.{rows_at};
+ghost use Rattle.p3_support.specs.Lists.{rows_of_height};
 
 use crate::matrix::Matrix;
 use std::marker::{Model, PhantomData};
@@ -32,7 +32,7 @@ impl<'a, T, M: Matrix<T>> Model for Rows<'a, T, M> {
 /// memory.
 pub fn rows_of<'a, T, M: Matrix<T>>(matrices: &'a [M], height: usize, row: usize) -> Rows<'a, T, M>
     requires { row < height }
-    ensures { result ≡ rows_at M.height_of M.row_of height row matrices.now }
+    ensures { result ≡ rows_of_height M.height_of M.row_of height row matrices.now }
 {
     Rows {
         matrices,

@@ -1,6 +1,6 @@
 //! Each call once, on values that were worked out by hand, and generic code through its bounds.
 ghost use Rattle.std.specs.Prelude.{◌≡◌, ℕ, ◌+◌, ◌<◌, ◌≤◌, length};
-ghost use Rattle.p3_support.specs.Lists.{lane_of, rows_at};
+ghost use Rattle.p3_support.specs.Lists.{lane_of, rows_of_height};
 
 use crate::batched::Batched3;
 use crate::compress::PseudoCompressionFunction;
@@ -34,7 +34,7 @@ fn leaf_digest<
     const D: usize,
 >(hasher: &H, matrices: &[M], height: usize, row: usize) -> [P::Value; D]
     requires { row < height }
-    ensures { result ≡ H.hash hasher.now (rows_at M.height_of M.row_of height row matrices.now) }
+    ensures { result ≡ H.hash hasher.now (rows_of_height M.height_of M.row_of height row matrices.now) }
 {
     hasher.hash_iter(rows_of(matrices, height, row))
 }

@@ -1,7 +1,7 @@
 use Rattle.std.proofs.Common.{◌≡◌, ◌<◌, ℕ, map, inr, refl, sym, ap, ◌∙◌, subst, arith}
 use Rattle.p3_merkle_core.specs.Geometry.{heights_of, shape_of, tallest}
 use Rattle.p3_merkle_core.specs.Nodes.{layers, shape, Batch}
-use Rattle.p3_support.specs.RowMajor.{row_width, rows_in}
+use Rattle.p3_support.specs.RowMajor.{row_width, row_count}
 use Rattle.mmcs.specs.Program.{functions_of_hash}
 use Rattle.mmcs.specs.Matrices.{stored_batch}
 use Rattle.mmcs.proofs.AnswerFacts.{stored_dimensions, past_the_end, accepted_as, check_told}
@@ -11,7 +11,7 @@ use Rattle.mmcs.proofs.engine.check_text.Given.{Over}
 
 -- the dimensions are those of the matrices
 dimensions_are : (g : Over) (c : After-tallest_of-max_height g) → c.in_ok-dimensions.dimensions.items ≡ (shape (stored_batch g.row.N c.args.matrices.items)).dimensions
-dimensions_are g c = stored_dimensions c.args.matrices.items g.row.N c.in_ok-dimensions.dimensions.items (c.in_ok-dimensions.ensures ∙ ap (map (λ m. record { width = row_width m; height = rows_in m })) c.deref.ensures.value)
+dimensions_are g c = stored_dimensions c.args.matrices.items g.row.N c.in_ok-dimensions.dimensions.items (c.in_ok-dimensions.ensures ∙ ap (map (λ m. record { width = row_width m; height = row_count m })) c.deref.ensures.value)
 
 -- so the greatest height is theirs
 greatest_is : (g : Over) (c : After-tallest_of-max_height g) → c.tallest_of-max_height.result ≡ tallest (heights_of (shape (stored_batch g.row.N c.args.matrices.items)).dimensions)

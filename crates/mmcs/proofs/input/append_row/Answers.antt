@@ -4,7 +4,7 @@ use Rattle.std.proofs.lemmas.Iterator.Consumers.{YieldsList-turn, YieldsList-end
 use Rattle.std.proofs.lemmas.Iterator.Splits.{YieldsList-from_slice_split}
 use Rattle.std.proofs.lemmas.List.{length_push}
 use Rattle.std.proofs.lemmas.Result.{err_from_is_err_and}
-use Rattle.mmcs.specs.Input.{is_gap, row_of}
+use Rattle.mmcs.specs.Input.{is_gap, numbers_of}
 use Rattle.mmcs.proofs.NumberFacts.{refused_from_ok_or, passed_from_ok_or}
 use Rattle.mmcs.proofs.RowFacts.{RowSoFar, row_same, row_more, row_refused, row_end}
 use Rattle.mmcs.proofs.input.append_row.Goals as goal
@@ -62,7 +62,7 @@ returns-clause-values c = (row_end (c.args.max + 1) c.args.line.now c.args.value
 pub returns-clause-count : goal.returns-clause-count
 returns-clause-count c =
     let values = (row_end (c.args.max + 1) c.args.line.now c.args.values.now.items _ c.loop-word.values.items (ended (goal.at.returns-clause-count c).In-None) c.loop-word.invariant.row).0 in
-    omega (arith, c.len.ensures, c.len-len.ensures, c.loop-word.values.ok.0, c.args.values.now.ok.0, ap length values ∙ length-append c.args.values.now.items (row_of c.args.line.now))
+    omega (arith, c.len.ensures, c.len-len.ensures, c.loop-word.values.ok.0, c.args.values.now.ok.0, ap length values ∙ length-append c.args.values.now.items (numbers_of c.args.line.now))
 
 pub returns-clause-numbers : goal.returns-clause-numbers
 returns-clause-numbers c = (row_end (c.args.max + 1) c.args.line.now c.args.values.now.items _ c.loop-word.values.items (ended (goal.at.returns-clause-numbers c).In-None) c.loop-word.invariant.row).1

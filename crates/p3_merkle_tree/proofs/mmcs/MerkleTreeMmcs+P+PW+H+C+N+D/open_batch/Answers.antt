@@ -4,7 +4,7 @@ use Rattle.p3_merkle_core.specs.Geometry.{cap_layer}
 use Rattle.p3_merkle_core.specs.Nodes.{shape}
 use Rattle.p3_merkle_builder.specs.Parts.{layers_of, tree_batch}
 use Rattle.p3_merkle_tree.specs.Schemes.{cap_height_of, scheme_functions}
-use Rattle.p3_merkle_builder.specs.Own.{rows_in}
+use Rattle.p3_support.specs.Shown.{row_lists}
 use Rattle.p3_merkle_builder.proofs.RowFacts.{full_rows}
 use Rattle.p3_merkle_tree.proofs.OwnAccepted.{own_accepted}
 use Rattle.p3_merkle_tree.proofs.mmcs.MerkleTreeMmcs+P+PW+H+C+N+D.open_batch.Goals as goal
@@ -22,7 +22,7 @@ returns-clause-accepted g c =
     let tree = c.args.tree.now in
     let b = tree_batch tree in
     λ own. own_accepted (scheme_functions g.H.CryptographicHasher.hash g.C.PseudoCompressionFunction.compression g.row.D c.args.self.now) b (layers_of tree)
-    (cap_layer (shape b) (cap_height_of c.args.self.now)) c.args.index (rows_in c.in_ok-opened_values.opened_values.items) c.in_ok-opening_proof.opening_proof.items
+    (cap_layer (shape b) (cap_height_of c.args.self.now)) c.args.index (row_lists c.in_ok-opened_values.opened_values.items) c.in_ok-opening_proof.opening_proof.items
     tree.arity tree.lawful c.requires (omega arith)
     (full_rows g.M.Matrix.height_of g.M.Matrix.width_of g.M.Matrix.row_of g.row.N g.met.M.Matrix.length_row_of tree.matrices.items)
     own c.in_ok-opened_values.ensures.rows (returns-clause-siblings g c)
