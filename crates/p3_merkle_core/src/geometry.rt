@@ -145,7 +145,7 @@ pub fn check_widths<T>(dimensions: &[Dimensions], rows: &[Vec<T>]) -> Result<(),
 
 /// How many slots a layer of `len` nodes has: `len` up to 1, else the least multiple of `arity` that is not below it.
 /// The arity is above 0, and the answer is below 2^64.
-pub fn padded_len_of(len: usize, arity: usize) -> usize
+pub fn padded_len(len: usize, arity: usize) -> usize
     requires positive { 0 < arity }
     requires fits { padded_len len arity < 2 ^ 64 }
     ensures { result ≡ padded_len len arity }
