@@ -7,20 +7,20 @@ use Rattle.std.proofs.lemmas.List.Folds.{list_any_at}
 use Rattle.p3_merkle_core.specs.Geometry.{Shape, IsLawful, ancestor, tallest, heights, widths}
 use Rattle.p3_merkle_core.specs.Nodes.{Functions, compress}
 use Rattle.p3_merkle_core.specs.Openings.{path_digest, has_rows, layer_words, group_at}
-use Rattle.p3_merkle_core.specs.Pruning.{PrunedOpening, is_covered, rows_under, restored, value_of, opening_at, IsAgreed, IsCapped, EachAccepted}
+use Rattle.p3_merkle_core.specs.Pruning.{PrunedOpening, is_covered, rows_under, restored_node, value_of, opening_at, IsAgreed, IsCapped, EachAccepted}
 use Rattle.p3_merkle_core.proofs.LadderFacts.{IsArity}
 use Rattle.p3_merkle_core.proofs.Completeness.{reached_next, reached_leaf}
 use Rattle.p3_merkle_core.proofs.PathFacts.{group_values, path_length, path_group}
 
-pub restored_leaf : {T W : Type 0} (f : Functions T W) (s : Shape) (t : ℕ) (q : PrunedOpening T W) (j : ℕ) → restored f s t q 0 j ≡ f.hash (layer_words s (rows_under s q 0 j) 0)
-unfolding restored
-restored_leaf f s t q j = refl
+pub restored_leaf : {T W : Type 0} (f : Functions T W) (s : Shape) (t : ℕ) (p : PrunedOpening T W) (j : ℕ) → restored_node f s t p 0 j ≡ f.hash (layer_words s (rows_under s p 0 j) 0)
+unfolding restored_node
+restored_leaf f s t p j = refl
 
-pub restored_next : {T W : Type 0} (f : Functions T W) (s : Shape) (t : ℕ) (q : PrunedOpening T W) (l j : ℕ) →
-    restored f s t q (suc l) j
-    ≡ cond (has_rows s (suc l)) (compress f s.arity (compress f s.arity (group_values s (value_of f s t q) l j) ∷ f.hash (layer_words s (rows_under s q (suc l) j) (suc l)) ∷ [])) (compress f s.arity (group_values s (value_of f s t q) l j))
-unfolding restored
-restored_next f s t q l j = refl
+pub restored_next : {T W : Type 0} (f : Functions T W) (s : Shape) (t : ℕ) (p : PrunedOpening T W) (l j : ℕ) →
+    restored_node f s t p (suc l) j
+    ≡ cond (has_rows s (suc l)) (compress f s.arity (compress f s.arity (group_values s (value_of f s t p) l j) ∷ f.hash (layer_words s (rows_under s p (suc l) j) (suc l)) ∷ [])) (compress f s.arity (group_values s (value_of f s t p) l j))
+unfolding restored_node
+restored_next f s t p l j = refl
 
 pub query_covered : (s : Shape) (indices : List ℕ) (k l : ℕ) → k < length indices → is_covered s indices l (ancestor s l (get_or indices k 0)) ≡ true
 query_covered s indices k l h =
@@ -41,44 +41,44 @@ rows_under_is s (i ∷ indices) (r ∷ rows) l j e c =
     ]
 
 -- the rows of query k stand for each node above it
-rows_agree : {T W : Type 0} (s : Shape) (t : ℕ) (q : PrunedOpening T W) → IsAgreed s t q → (k l : ℕ) → k < length q.indices → l ≤ t →
-    layer_words s (get_or q.rows k []) l ≡ layer_words s (rows_under s q l (ancestor s l (get_or q.indices k 0))) l
-rows_agree s t q a k l h le =
-    let u = rows_under_is s q.indices q.rows l (ancestor s l (get_or q.indices k 0)) a.in_pairs (query_covered s q.indices k l h) in
+rows_agree : {T W : Type 0} (s : Shape) (t : ℕ) (p : PrunedOpening T W) → IsAgreed s t p → (k l : ℕ) → k < length p.indices → l ≤ t →
+    layer_words s (get_or p.rows k []) l ≡ layer_words s (rows_under s p l (ancestor s l (get_or p.indices k 0))) l
+rows_agree s t p a k l h le =
+    let u = rows_under_is s p.indices p.rows l (ancestor s l (get_or p.indices k 0)) a.in_pairs (query_covered s p.indices k l h) in
     let same = a.groups l k (u.0) le h (u.1) (sym u.2) in
     ap (λ rs. flat_map (λ (h, row). row) rs) same ∙ ap (λ rows. layer_words s rows l) (sym u.3)
 
 -- the check of a query with its restored path reaches the restored values above it
-pub path_reaches : {T W : Type 0} (f : Functions T W) (s : Shape) (t : ℕ) (q : PrunedOpening T W) → IsArity s.arity → IsAgreed s t q → (k : ℕ) → k < length q.indices → (l : ℕ) → l ≤ t →
-    path_digest f s (opening_at f s t q k) l ≡ restored f s t q l (ancestor s l (get_or q.indices k 0))
-path_reaches f s t q w a k h zero le =
-    reached_leaf f s (opening_at f s t q k) ∙ ap f.hash (rows_agree s t q a k 0 h le) ∙ sym (restored_leaf f s t q (ancestor s 0 (get_or q.indices k 0)))
-path_reaches f s t q w a k h (suc l) le =
-    let o = opening_at f s t q k in
-    let i = get_or q.indices k 0 in
-    let below = path_reaches f s t q w a k h l (omega arith) in
-    let value : restored f s t q l (ancestor s l i) ≡ value_of f s t q l (ancestor s l i) =
-    sym (cond-true (is_covered s q.indices l (ancestor s l i)) (restored f s t q l (ancestor s l i)) _ (query_covered s q.indices k l h)) in
-    let group : group_at f s o l (path_digest f s o l) ≡ group_values s (value_of f s t q) l (ancestor s (suc l) i) =
-    ap (λ d. group_at f s o l d) (below ∙ value) ∙ path_group f s w (value_of f s t q) t o refl l (omega arith) in
-    reached_next f s o l ∙ rw (group, rows_agree s t q a k (suc l) h le) (sym (restored_next f s t q l (ancestor s (suc l) i)))
+pub path_reaches : {T W : Type 0} (f : Functions T W) (s : Shape) (t : ℕ) (p : PrunedOpening T W) → IsArity s.arity → IsAgreed s t p → (k : ℕ) → k < length p.indices → (l : ℕ) → l ≤ t →
+    path_digest f s (opening_at f s t p k) l ≡ restored_node f s t p l (ancestor s l (get_or p.indices k 0))
+path_reaches f s t p w a k h zero le =
+    reached_leaf f s (opening_at f s t p k) ∙ ap f.hash (rows_agree s t p a k 0 h le) ∙ sym (restored_leaf f s t p (ancestor s 0 (get_or p.indices k 0)))
+path_reaches f s t p w a k h (suc l) le =
+    let o = opening_at f s t p k in
+    let i = get_or p.indices k 0 in
+    let below = path_reaches f s t p w a k h l (omega arith) in
+    let value : restored_node f s t p l (ancestor s l i) ≡ value_of f s t p l (ancestor s l i) =
+    sym (cond-true (is_covered s p.indices l (ancestor s l i)) (restored_node f s t p l (ancestor s l i)) _ (query_covered s p.indices k l h)) in
+    let group : group_at f s o l (path_digest f s o l) ≡ group_values s (value_of f s t p) l (ancestor s (suc l) i) =
+    ap (λ d. group_at f s o l d) (below ∙ value) ∙ path_group f s w (value_of f s t p) t o refl l (omega arith) in
+    reached_next f s o l ∙ rw (group, rows_agree s t p a k (suc l) h le) (sym (restored_next f s t p l (ancestor s (suc l) i)))
 
-pub equivalent : {T W : Type 0} (f : Functions T W) (s : Shape) (t : ℕ) (cap : List (List W)) (q : PrunedOpening T W) → IsArity s.arity → IsLawful (heights s) →
-    All (λ i. i < tallest (heights s)) q.indices → All (λ rows. map length rows ≡ widths s) q.rows → IsAgreed s t q → IsCapped f s t cap q ↔ EachAccepted f s t cap q
-equivalent f s t cap q w lawful below fit a = (
+pub equivalent : {T W : Type 0} (f : Functions T W) (s : Shape) (t : ℕ) (cap : List (List W)) (p : PrunedOpening T W) → IsArity s.arity → IsLawful (heights s) →
+    All (λ i. i < tallest (heights s)) p.indices → All (λ rows. map length rows ≡ widths s) p.rows → IsAgreed s t p → IsCapped f s t cap p ↔ EachAccepted f s t cap p
+equivalent f s t cap p w lawful below fit a = (
   λ capped k h.
-      let i = get_or q.indices k 0 in
+      let i = get_or p.indices k 0 in
       record {
         lawful = lawful;
         rows_fit = fit k [] (let e = a.in_pairs in omega arith);
-        count = path_length s w (value_of f s t q) i t;
+        count = path_length s w (value_of f s t p) i t;
         in_range = below k 0 h;
-        authentic = capped (ancestor s t i) (query_covered s q.indices k t h) ∙ ap (λ d. Some d) (sym (path_reaches f s t q w a k h t (omega arith)));
+        authentic = capped (ancestor s t i) (query_covered s p.indices k t h) ∙ ap (λ d. Some d) (sym (path_reaches f s t p w a k h t (omega arith)));
       },
   λ each j c.
-      let u = rows_under_is s q.indices q.rows t j a.in_pairs c in
+      let u = rows_under_is s p.indices p.rows t j a.in_pairs c in
       let x = each (u.0) (u.1) in
       let at = u.2 in
-      let top = path_reaches f s t q w a (u.0) (u.1) t (omega arith) in
+      let top = path_reaches f s t p w a (u.0) (u.1) t (omega arith) in
       rw (← at) (x.authentic ∙ ap (λ d. Some d) top),
 )

@@ -8,7 +8,7 @@ use Rattle.p3_merkle_core.specs.Geometry.{Shape}
 use Rattle.p3_merkle_core.specs.Nodes.{Functions}
 use Rattle.p3_merkle_core.specs.Openings.{Opening, Input, Leaf, Group, Rows, Pair, IsAccepted, IsLastDifference, IsLastShared, inputs_at, shared_inputs, meeting_level}
 use Rattle.p3_merkle_core.specs.Refusals.{unless, verdict, refusal_under, IsEquality}
-use Rattle.p3_merkle_core.specs.Extracting.{input_eq, last_difference, after, extraction_under}
+use Rattle.p3_merkle_core.specs.Extracting.{input_eq, last_difference, ok_unless, extraction_under}
 use Rattle.p3_merkle_core.proofs.NoneFacts.{none_parts, unless_none, none_unless, none_of_both, verdict_ok}
 use Rattle.p3_merkle_core.proofs.Verdicts.{accepted_from, accepted_answer}
 use Rattle.p3_merkle_core.proofs.Extraction.{level_lengths}
@@ -22,28 +22,28 @@ same_words eq dec l m x y = (
   λ (a, b). and_from (eqb l m) (pointwise eq x y) (eq-eqb l m a) ((pointwise_decides dec x y).1 b),
 )
 
-pub input_eq_decides : {T W : Type 0} (eq : T → T → Bool) (same : W → W → Bool) → IsEquality eq → IsEquality same → IsEquality (input_eq eq same)
-input_eq_decides eq same dec dec_w (Leaf x) (Leaf y) = (λ e. ap (λ w. Leaf w) ((pointwise_decides dec x y).0 e), λ e. (pointwise_decides dec x y).1 cc)
-input_eq_decides eq same dec dec_w (Leaf x) (Group m y) = (λ e. absurd (false≢true e), λ e. absurd cc)
-input_eq_decides eq same dec dec_w (Leaf x) (Rows m y) = (λ e. absurd (false≢true e), λ e. absurd cc)
-input_eq_decides eq same dec dec_w (Leaf x) (Pair m y) = (λ e. absurd (false≢true e), λ e. absurd cc)
-input_eq_decides eq same dec dec_w (Group l x) (Leaf y) = (λ e. absurd (false≢true e), λ e. absurd cc)
-input_eq_decides eq same dec dec_w (Group l x) (Group m y) =
-    let p = same_words (pointwise same) (pointwise_decides dec_w) l m x y in
+pub input_eq_decides : {T W : Type 0} (row_eq : T → T → Bool) (digest_eq : W → W → Bool) → IsEquality row_eq → IsEquality digest_eq → IsEquality (input_eq row_eq digest_eq)
+input_eq_decides row_eq digest_eq dec dec_w (Leaf x) (Leaf y) = (λ e. ap (λ w. Leaf w) ((pointwise_decides dec x y).0 e), λ e. (pointwise_decides dec x y).1 cc)
+input_eq_decides row_eq digest_eq dec dec_w (Leaf x) (Group m y) = (λ e. absurd (false≢true e), λ e. absurd cc)
+input_eq_decides row_eq digest_eq dec dec_w (Leaf x) (Rows m y) = (λ e. absurd (false≢true e), λ e. absurd cc)
+input_eq_decides row_eq digest_eq dec dec_w (Leaf x) (Pair m y) = (λ e. absurd (false≢true e), λ e. absurd cc)
+input_eq_decides row_eq digest_eq dec dec_w (Group l x) (Leaf y) = (λ e. absurd (false≢true e), λ e. absurd cc)
+input_eq_decides row_eq digest_eq dec dec_w (Group l x) (Group m y) =
+    let p = same_words (pointwise digest_eq) (pointwise_decides dec_w) l m x y in
     (λ e. let q = p.0 e in let a = q.0 in let b = q.1 in cc, λ e. p.1 (cc, cc))
-input_eq_decides eq same dec dec_w (Group l x) (Rows m y) = (λ e. absurd (false≢true e), λ e. absurd cc)
-input_eq_decides eq same dec dec_w (Group l x) (Pair m y) = (λ e. absurd (false≢true e), λ e. absurd cc)
-input_eq_decides eq same dec dec_w (Rows l x) (Leaf y) = (λ e. absurd (false≢true e), λ e. absurd cc)
-input_eq_decides eq same dec dec_w (Rows l x) (Group m y) = (λ e. absurd (false≢true e), λ e. absurd cc)
-input_eq_decides eq same dec dec_w (Rows l x) (Rows m y) =
-    let p = same_words eq dec l m x y in
+input_eq_decides row_eq digest_eq dec dec_w (Group l x) (Rows m y) = (λ e. absurd (false≢true e), λ e. absurd cc)
+input_eq_decides row_eq digest_eq dec dec_w (Group l x) (Pair m y) = (λ e. absurd (false≢true e), λ e. absurd cc)
+input_eq_decides row_eq digest_eq dec dec_w (Rows l x) (Leaf y) = (λ e. absurd (false≢true e), λ e. absurd cc)
+input_eq_decides row_eq digest_eq dec dec_w (Rows l x) (Group m y) = (λ e. absurd (false≢true e), λ e. absurd cc)
+input_eq_decides row_eq digest_eq dec dec_w (Rows l x) (Rows m y) =
+    let p = same_words row_eq dec l m x y in
     (λ e. let q = p.0 e in let a = q.0 in let b = q.1 in cc, λ e. p.1 (cc, cc))
-input_eq_decides eq same dec dec_w (Rows l x) (Pair m y) = (λ e. absurd (false≢true e), λ e. absurd cc)
-input_eq_decides eq same dec dec_w (Pair l x) (Leaf y) = (λ e. absurd (false≢true e), λ e. absurd cc)
-input_eq_decides eq same dec dec_w (Pair l x) (Group m y) = (λ e. absurd (false≢true e), λ e. absurd cc)
-input_eq_decides eq same dec dec_w (Pair l x) (Rows m y) = (λ e. absurd (false≢true e), λ e. absurd cc)
-input_eq_decides eq same dec dec_w (Pair l x) (Pair m y) =
-    let p = same_words (pointwise same) (pointwise_decides dec_w) l m x y in
+input_eq_decides row_eq digest_eq dec dec_w (Rows l x) (Pair m y) = (λ e. absurd (false≢true e), λ e. absurd cc)
+input_eq_decides row_eq digest_eq dec dec_w (Pair l x) (Leaf y) = (λ e. absurd (false≢true e), λ e. absurd cc)
+input_eq_decides row_eq digest_eq dec dec_w (Pair l x) (Group m y) = (λ e. absurd (false≢true e), λ e. absurd cc)
+input_eq_decides row_eq digest_eq dec dec_w (Pair l x) (Rows m y) = (λ e. absurd (false≢true e), λ e. absurd cc)
+input_eq_decides row_eq digest_eq dec dec_w (Pair l x) (Pair m y) =
+    let p = same_words (pointwise digest_eq) (pointwise_decides dec_w) l m x y in
     (λ e. let q = p.0 e in let a = q.0 in let b = q.1 in cc, λ e. p.1 (cc, cc))
 
 -- ---- the last difference
@@ -124,43 +124,43 @@ shared_long f s t o u =
           rw test long
     ]
 
-pub after_ok : {X E : Type 0} (o : Option E) (x y : X) → after o x ≡ Ok y → (o ≡ None) × (x ≡ y)
-after_ok None x y e = (refl, let c : x ≡ y = cc in c)
-after_ok (Some z) x y e = absurd cc
+pub ok_unless_is : {X E : Type 0} (o : Option E) (x y : X) → ok_unless o x ≡ Ok y → (o ≡ None) × (x ≡ y)
+ok_unless_is None x y e = (refl, let c : x ≡ y = cc in c)
+ok_unless_is (Some z) x y e = absurd cc
 
 -- it is Ok exactly where both openings are accepted, and then the last difference
-pub extracted : {T W : Type 0} (eq : T → T → Bool) (same : W → W → Bool) (f : Functions T W) (s : Shape) (t : ℕ) (cap : List (List W)) (o u : Opening T W) → IsEquality same → (answer : Option (Input T W × Input T W)) →
-    (extraction_under eq same f s t cap o u ≡ Ok answer) ↔
-    (IsAccepted f s t cap o × IsAccepted f s t cap u × (last_difference (input_eq eq same) (shared_inputs f s t o.index u.index o) (shared_inputs f s t o.index u.index u) ≡ answer))
-extracted eq same f s t cap o u dec answer =
-    let first = refusal_under same f s t cap o in
-    let second = refusal_under same f s t cap u in
-    let found = last_difference (input_eq eq same) (shared_inputs f s t o.index u.index o) (shared_inputs f s t o.index u.index u) in (
+pub extracted : {T W : Type 0} (row_eq : T → T → Bool) (digest_eq : W → W → Bool) (f : Functions T W) (s : Shape) (t : ℕ) (cap : List (List W)) (o u : Opening T W) → IsEquality digest_eq → (answer : Option (Input T W × Input T W)) →
+    (extraction_under row_eq digest_eq f s t cap o u ≡ Ok answer) ↔
+    (IsAccepted f s t cap o × IsAccepted f s t cap u × (last_difference (input_eq row_eq digest_eq) (shared_inputs f s t o.index u.index o) (shared_inputs f s t o.index u.index u) ≡ answer))
+extracted row_eq digest_eq f s t cap o u dec answer =
+    let first = refusal_under digest_eq f s t cap o in
+    let second = refusal_under digest_eq f s t cap u in
+    let found = last_difference (input_eq row_eq digest_eq) (shared_inputs f s t o.index u.index o) (shared_inputs f s t o.index u.index u) in (
       λ e.
-          let p = after_ok (option_or first second) found answer e in
+          let p = ok_unless_is (option_or first second) found answer e in
           let q = none_parts first second p.0 in
-          (accepted_from same f s t cap o dec (ap verdict q.0), accepted_from same f s t cap u dec (ap verdict q.1), p.1),
+          (accepted_from digest_eq f s t cap o dec (ap verdict q.0), accepted_from digest_eq f s t cap u dec (ap verdict q.1), p.1),
       λ (a, b, is).
-          let x = verdict_ok first (accepted_answer same f s t cap o dec a) in
-          let y = verdict_ok second (accepted_answer same f s t cap u dec b) in
+          let x = verdict_ok first (accepted_answer digest_eq f s t cap o dec a) in
+          let y = verdict_ok second (accepted_answer digest_eq f s t cap u dec b) in
           let none = none_of_both first second x y in
           rw (none, is) refl,
     )
 
-pub extracts_none : {T W : Type 0} (eq : T → T → Bool) (same : W → W → Bool) (f : Functions T W) (s : Shape) (t : ℕ) (cap : List (List W)) (o u : Opening T W) → IsEquality eq → IsEquality same →
-    (extraction_under eq same f s t cap o u ≡ Ok None) ↔
+pub extracts_none : {T W : Type 0} (row_eq : T → T → Bool) (digest_eq : W → W → Bool) (f : Functions T W) (s : Shape) (t : ℕ) (cap : List (List W)) (o u : Opening T W) → IsEquality row_eq → IsEquality digest_eq →
+    (extraction_under row_eq digest_eq f s t cap o u ≡ Ok None) ↔
     (IsAccepted f s t cap o × IsAccepted f s t cap u × (shared_inputs f s t o.index u.index o ≡ shared_inputs f s t o.index u.index u))
-extracts_none eq same f s t cap o u dec dec_w =
-    let whole = extracted eq same f s t cap o u dec_w None in
-    let none = none_differs (input_eq eq same) (input_eq_decides eq same dec dec_w) (shared_inputs f s t o.index u.index o) (shared_inputs f s t o.index u.index u) (shared_long f s t o u) in
+extracts_none row_eq digest_eq f s t cap o u dec dec_w =
+    let whole = extracted row_eq digest_eq f s t cap o u dec_w None in
+    let none = none_differs (input_eq row_eq digest_eq) (input_eq_decides row_eq digest_eq dec dec_w) (shared_inputs f s t o.index u.index o) (shared_inputs f s t o.index u.index u) (shared_long f s t o u) in
     (λ e. let p = whole.0 e in (p.0, p.1, none.0 p.2), λ (a, b, is). whole.1 (a, b, none.1 is))
 
-pub extracts_some : {T W : Type 0} (eq : T → T → Bool) (same : W → W → Bool) (f : Functions T W) (s : Shape) (t : ℕ) (cap : List (List W)) (o u : Opening T W) (x y : Input T W) → IsEquality eq → IsEquality same →
-    (extraction_under eq same f s t cap o u ≡ Ok (Some (x, y))) ↔ (IsAccepted f s t cap o × IsAccepted f s t cap u × IsLastShared f s t o u x y)
-extracts_some eq same f s t cap o u x y dec dec_w =
-    let whole = extracted eq same f s t cap o u dec_w (Some (x, y)) in
-    let test = input_eq eq same in
-    let equal = input_eq_decides eq same dec dec_w in
+pub extracts_some : {T W : Type 0} (row_eq : T → T → Bool) (digest_eq : W → W → Bool) (f : Functions T W) (s : Shape) (t : ℕ) (cap : List (List W)) (o u : Opening T W) (x y : Input T W) → IsEquality row_eq → IsEquality digest_eq →
+    (extraction_under row_eq digest_eq f s t cap o u ≡ Ok (Some (x, y))) ↔ (IsAccepted f s t cap o × IsAccepted f s t cap u × IsLastShared f s t o u x y)
+extracts_some row_eq digest_eq f s t cap o u x y dec dec_w =
+    let whole = extracted row_eq digest_eq f s t cap o u dec_w (Some (x, y)) in
+    let test = input_eq row_eq digest_eq in
+    let equal = input_eq_decides row_eq digest_eq dec dec_w in
     let mine = shared_inputs f s t o.index u.index o in
     let theirs = shared_inputs f s t o.index u.index u in (
       λ e. let p = whole.0 e in (p.0, p.1, some_differs test equal mine theirs x y (shared_long f s t o u) p.2),

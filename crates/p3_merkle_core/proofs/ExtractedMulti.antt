@@ -15,7 +15,7 @@ use Rattle.p3_merkle_core.proofs.Unrefused.{all_in_range}
 use Rattle.p3_merkle_core.proofs.Verdicts.{pruned_accepted}
 use Rattle.p3_merkle_core.proofs.Extraction.{collides}
 use Rattle.p3_merkle_core.proofs.PlaceFacts.{at_one_place}
-use Rattle.p3_merkle_core.proofs.Extracted.{input_eq_decides, none_differs, some_differs, shared_long, after_ok}
+use Rattle.p3_merkle_core.proofs.Extracted.{input_eq_decides, none_differs, some_differs, shared_long, ok_unless_is}
 
 -- ---- the first that is found
 
@@ -86,65 +86,65 @@ one_pair {X} d n m a b x e =
 -- ---- extraction
 
 -- both openings are accepted, and d is what the first pair of queries that differs answers
-pub multi_extracted : {T W : Type 0} (eq : T → T → Bool) (same : W → W → Bool) (f : Functions T W) (s : Shape) (t : ℕ) (cap : List (List W)) (q r : PrunedOpening T W) → IsEquality eq → IsEquality same → IsArity s.arity →
+pub multi_extracted : {T W : Type 0} (row_eq : T → T → Bool) (digest_eq : W → W → Bool) (f : Functions T W) (s : Shape) (t : ℕ) (cap : List (List W)) (p r : PrunedOpening T W) → IsEquality row_eq → IsEquality digest_eq → IsArity s.arity →
     (answer : Option (ℕ × ℕ × (Input T W × Input T W))) →
-    (extraction_multi_under eq same f s t cap q r ≡ Ok answer) ↔
-    ((IsRestorable s t q × EachAccepted f s t cap q) × (IsRestorable s t r × EachAccepted f s t cap r) × (first_pair (difference_at eq same f s t q r) (length q.indices) (length r.indices) ≡ answer))
-multi_extracted eq same f s t cap q r dec dec_w w answer =
-    let refused = λ (p : PrunedOpening _ _). pruned_refusal_under eq same f s t cap p in
-    let found = first_pair (difference_at eq same f s t q r) (length q.indices) (length r.indices) in
-    let accept = λ (p : PrunedOpening _ _). pruned_accepted eq same f s t cap p dec dec_w w in (
+    (extraction_multi_under row_eq digest_eq f s t cap p r ≡ Ok answer) ↔
+    ((IsRestorable s t p × EachAccepted f s t cap p) × (IsRestorable s t r × EachAccepted f s t cap r) × (first_pair (difference_at row_eq digest_eq f s t p r) (length p.indices) (length r.indices) ≡ answer))
+multi_extracted row_eq digest_eq f s t cap p r dec dec_w w answer =
+    let refused = λ (z : PrunedOpening _ _). pruned_refusal_under row_eq digest_eq f s t cap z in
+    let found = first_pair (difference_at row_eq digest_eq f s t p r) (length p.indices) (length r.indices) in
+    let accept = λ (z : PrunedOpening _ _). pruned_accepted row_eq digest_eq f s t cap z dec dec_w w in (
       λ e.
-          let p = after_ok (option_or (refused q) (refused r)) found answer e in
-          let n = none_parts (refused q) (refused r) p.0 in
-          ((accept q).0 (ap verdict n.0), (accept r).0 (ap verdict n.1), p.1),
+          let both = ok_unless_is (option_or (refused p) (refused r)) found answer e in
+          let n = none_parts (refused p) (refused r) both.0 in
+          ((accept p).0 (ap verdict n.0), (accept r).0 (ap verdict n.1), both.1),
       λ (a, b, is).
-          let x = verdict_ok (refused q) ((accept q).1 a) in
+          let x = verdict_ok (refused p) ((accept p).1 a) in
           let y = verdict_ok (refused r) ((accept r).1 b) in
-          let none = none_of_both (refused q) (refused r) x y in
+          let none = none_of_both (refused p) (refused r) x y in
           rw (none, is) refl,
     )
 
-pub multi_none : {T W : Type 0} (eq : T → T → Bool) (same : W → W → Bool) (f : Functions T W) (s : Shape) (t : ℕ) (cap : List (List W)) (q r : PrunedOpening T W) → IsEquality eq → IsEquality same → IsArity s.arity →
-    (extraction_multi_under eq same f s t cap q r ≡ Ok None) ↔
-    ((IsRestorable s t q × EachAccepted f s t cap q) × (IsRestorable s t r × EachAccepted f s t cap r)
-    × ((a b : ℕ) → a < length q.indices → b < length r.indices → AgreeWhereShared f s t (opening_at f s t q a) (opening_at f s t r b)))
-multi_none eq same f s t cap q r dec dec_w w =
-    let whole = multi_extracted eq same f s t cap q r dec dec_w w None in
-    let pairs = no_pair (difference_at eq same f s t q r) (length q.indices) (length r.indices) in
+pub multi_none : {T W : Type 0} (row_eq : T → T → Bool) (digest_eq : W → W → Bool) (f : Functions T W) (s : Shape) (t : ℕ) (cap : List (List W)) (p r : PrunedOpening T W) → IsEquality row_eq → IsEquality digest_eq → IsArity s.arity →
+    (extraction_multi_under row_eq digest_eq f s t cap p r ≡ Ok None) ↔
+    ((IsRestorable s t p × EachAccepted f s t cap p) × (IsRestorable s t r × EachAccepted f s t cap r)
+    × ((a b : ℕ) → a < length p.indices → b < length r.indices → AgreeWhereShared f s t (opening_at f s t p a) (opening_at f s t r b)))
+multi_none row_eq digest_eq f s t cap p r dec dec_w w =
+    let whole = multi_extracted row_eq digest_eq f s t cap p r dec dec_w w None in
+    let pairs = no_pair (difference_at row_eq digest_eq f s t p r) (length p.indices) (length r.indices) in
     let agree = λ (a b : ℕ).
-    let o = opening_at f s t q a in
+    let o = opening_at f s t p a in
     let u = opening_at f s t r b in
-    none_differs (input_eq eq same) (input_eq_decides eq same dec dec_w) (shared_inputs f s t o.index u.index o) (shared_inputs f s t o.index u.index u) (shared_long f s t o u) in (
-      λ e. let p = whole.0 e in (p.0, p.1, λ a b h g. (agree a b).0 (pairs.0 p.2 a b h g)),
+    none_differs (input_eq row_eq digest_eq) (input_eq_decides row_eq digest_eq dec dec_w) (shared_inputs f s t o.index u.index o) (shared_inputs f s t o.index u.index u) (shared_long f s t o u) in (
+      λ e. let both = whole.0 e in (both.0, both.1, λ a b h g. (agree a b).0 (pairs.0 both.2 a b h g)),
       λ (x, y, each). whole.1 (x, y, pairs.1 (λ a b h g. (agree a b).1 (each a b h g))),
     )
 
-pub multi_some : {T W : Type 0} (eq : T → T → Bool) (same : W → W → Bool) (f : Functions T W) (s : Shape) (t : ℕ) (cap : List (List W)) (q r : PrunedOpening T W) (a b : ℕ) (x y : Input T W) → IsEquality eq → IsEquality same → IsArity s.arity →
-    extraction_multi_under eq same f s t cap q r ≡ Ok (Some (a, b, (x, y))) →
-    (a < length q.indices) × (b < length r.indices) × IsLastShared f s t (opening_at f s t q a) (opening_at f s t r b) x y × IsAtOnePlace x y × (input_digest f x ≡ input_digest f y)
-multi_some eq same f s t cap q r a b x y dec dec_w w e =
-    let p = (multi_extracted eq same f s t cap q r dec dec_w w (Some (a, b, (x, y)))).0 e in
-    let n = length q.indices in
+pub multi_some : {T W : Type 0} (row_eq : T → T → Bool) (digest_eq : W → W → Bool) (f : Functions T W) (s : Shape) (t : ℕ) (cap : List (List W)) (p r : PrunedOpening T W) (a b : ℕ) (x y : Input T W) → IsEquality row_eq → IsEquality digest_eq → IsArity s.arity →
+    extraction_multi_under row_eq digest_eq f s t cap p r ≡ Ok (Some (a, b, (x, y))) →
+    (a < length p.indices) × (b < length r.indices) × IsLastShared f s t (opening_at f s t p a) (opening_at f s t r b) x y × IsAtOnePlace x y × (input_digest f x ≡ input_digest f y)
+multi_some row_eq digest_eq f s t cap p r a b x y dec dec_w w e =
+    let both = (multi_extracted row_eq digest_eq f s t cap p r dec dec_w w (Some (a, b, (x, y)))).0 e in
+    let n = length p.indices in
     let m = length r.indices in
-    let o = opening_at f s t q a in
+    let o = opening_at f s t p a in
     let u = opening_at f s t r b in
-    let one = one_pair (difference_at eq same f s t q r) n m a b (x, y) p.2 in
+    let one = one_pair (difference_at row_eq digest_eq f s t p r) n m a b (x, y) both.2 in
     let mine = shared_inputs f s t o.index u.index o in
     let theirs = shared_inputs f s t o.index u.index u in
-    let last = some_differs (input_eq eq same) (input_eq_decides eq same dec dec_w) mine theirs x y (shared_long f s t o u) one.2 in
-    let first_accepted = p.0.1 a one.0 in
-    let second_accepted = p.1.1 b one.1 in
+    let last = some_differs (input_eq row_eq digest_eq) (input_eq_decides row_eq digest_eq dec dec_w) mine theirs x y (shared_long f s t o u) one.2 in
+    let first_accepted = both.0.1 a one.0 in
+    let second_accepted = both.1.1 b one.1 in
     (one.0, one.1, last, at_one_place f s t o u x y last, collides f s t cap o u w first_accepted second_accepted x y last)
 
 -- no pair before it differs
-pub multi_first : {T W : Type 0} (eq : T → T → Bool) (same : W → W → Bool) (f : Functions T W) (s : Shape) (t : ℕ) (cap : List (List W)) (q r : PrunedOpening T W) (a b : ℕ) (x y : Input T W) → IsEquality eq → IsEquality same → IsArity s.arity →
-    extraction_multi_under eq same f s t cap q r ≡ Ok (Some (a, b, (x, y))) →
+pub multi_first : {T W : Type 0} (row_eq : T → T → Bool) (digest_eq : W → W → Bool) (f : Functions T W) (s : Shape) (t : ℕ) (cap : List (List W)) (p r : PrunedOpening T W) (a b : ℕ) (x y : Input T W) → IsEquality row_eq → IsEquality digest_eq → IsArity s.arity →
+    extraction_multi_under row_eq digest_eq f s t cap p r ≡ Ok (Some (a, b, (x, y))) →
     (c d : ℕ) → ((c < a) ⊎ ((c ≡ a) × (d < b))) → d < length r.indices →
-    shared_inputs f s t (get_or q.indices c 0) (get_or r.indices d 0) (opening_at f s t q c) ≡ shared_inputs f s t (get_or q.indices c 0) (get_or r.indices d 0) (opening_at f s t r d)
-multi_first eq same f s t cap q r a b x y dec dec_w w e c d before inside =
-    let p = (multi_extracted eq same f s t cap q r dec dec_w w (Some (a, b, (x, y)))).0 e in
-    let o = opening_at f s t q c in
+    shared_inputs f s t (get_or p.indices c 0) (get_or r.indices d 0) (opening_at f s t p c) ≡ shared_inputs f s t (get_or p.indices c 0) (get_or r.indices d 0) (opening_at f s t r d)
+multi_first row_eq digest_eq f s t cap p r a b x y dec dec_w w e c d before inside =
+    let both = (multi_extracted row_eq digest_eq f s t cap p r dec dec_w w (Some (a, b, (x, y)))).0 e in
+    let o = opening_at f s t p c in
     let u = opening_at f s t r d in
-    let one = one_pair (difference_at eq same f s t q r) (length q.indices) (length r.indices) a b (x, y) p.2 in
-    (none_differs (input_eq eq same) (input_eq_decides eq same dec dec_w) (shared_inputs f s t o.index u.index o) (shared_inputs f s t o.index u.index u) (shared_long f s t o u)).0 (one.3 c d before inside)
+    let one = one_pair (difference_at row_eq digest_eq f s t p r) (length p.indices) (length r.indices) a b (x, y) both.2 in
+    (none_differs (input_eq row_eq digest_eq) (input_eq_decides row_eq digest_eq dec dec_w) (shared_inputs f s t o.index u.index o) (shared_inputs f s t o.index u.index u) (shared_long f s t o u)).0 (one.3 c d before inside)

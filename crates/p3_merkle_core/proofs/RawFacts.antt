@@ -5,7 +5,7 @@ use Rattle.std.proofs.lemmas.Bool.{cond-true, cond-false, cases_lt, cases_eq, lt
 use Rattle.std.proofs.lemmas.Nat.{pow_pos}
 use Rattle.std.proofs.Math.Nat.{mul_assoc, mul_comm, two-pow-succ, mul-le-mul_left, mul-div_cancel_left, mod-eq_of_lt, mod_self, sub-zero, le_of_mul-le-mul_left, lt_of_mul-lt-mul_left, div-lt_iff_lt-mul}
 use Rattle.std.proofs.Math.Pow.{pow_mono, pow-lt}
-use Rattle.p3_merkle_core.specs.Geometry.{Shape, exponent, tallest, layer_exponent, is_bridge, step, levels, ancestor, padded_len, raw_len, grouped, layer_len, heights}
+use Rattle.p3_merkle_core.specs.Geometry.{Shape, exponent, tallest, layer_exponent, is_bridge, step, levels, ancestor, padded_len, raw_len, grouped_len, layer_len, heights}
 use Rattle.p3_merkle_core.proofs.LeastFacts.{below_least, exponent_covers, below_exponent}
 use Rattle.p3_merkle_core.proofs.StepFacts.{whole_step_falls, anc_next, anc_start, step_above_1}
 use Rattle.p3_merkle_core.proofs.LadderFacts.{IsArity, step_cases, binary_power, whole_power}
@@ -129,7 +129,7 @@ long_binary s w x r h f l =
     )
 
 grouped_is : (s : Shape) → IsArity s.arity → (l : ℕ) → 0 < layer_exponent s l → IsFilled (layer_exponent s l) (raw_len s l) →
-    (q : ℕ) × IsGrouped (layer_exponent s l) (raw_len s l) (grouped s l) (step s l) q (layer_exponent s (suc l))
+    (q : ℕ) × IsGrouped (layer_exponent s l) (raw_len s l) (grouped_len s l) (step s l) q (layer_exponent s (suc l))
 grouped_is s w l h f =
     let x = layer_exponent s l in
     let r = raw_len s l in
@@ -138,22 +138,22 @@ grouped_is s w l h f =
     elim (step_cases s l) [
       | inl b ↦ elim (cases_lt r s.arity) [
         | inl lt ↦
-            let g : grouped s l ≡ pow = cond-true (is_bridge s x && nat_lt r s.arity) pow pad (and_from (is_bridge s x) (nat_lt r s.arity) b.0 (lt-ltb r s.arity lt)) in
+            let g : grouped_len s l ≡ pow = cond-true (is_bridge s x && nat_lt r s.arity) pow pad (and_from (is_bridge s x) (nat_lt r s.arity) b.0 (lt-ltb r s.arity lt)) in
             (2 ^ (x - 1), rw (g, b.1, b.2) (short_binary s x r h f))
         | inr ge ↦
-            let g : grouped s l ≡ pad = cond-false (is_bridge s x && nat_lt r s.arity) pow pad (and_right (is_bridge s x) (nat_lt r s.arity) (le-ltb r s.arity ge)) in
+            let g : grouped_len s l ≡ pad = cond-false (is_bridge s x && nat_lt r s.arity) pow pad (and_right (is_bridge s x) (nat_lt r s.arity) (le-ltb r s.arity ge)) in
             let m = long_binary s w x r h f ge in
             (m.0, rw (g, b.1, b.2) m.1)
       ]
       | inr b ↦
-          let g : grouped s l ≡ pad = cond-false (is_bridge s x && nat_lt r s.arity) pow pad (and_left (is_bridge s x) (nat_lt r s.arity) b.0) in
+          let g : grouped_len s l ≡ pad = cond-false (is_bridge s x && nat_lt r s.arity) pow pad (and_left (is_bridge s x) (nat_lt r s.arity) b.0) in
           elim (cases_lt r s.arity) [
             | inl lt ↦ (1, rw (g, b.1, b.2, padded_short r s.arity (above_1 x r h f) lt) (short_whole s w x r h f lt))
             | inr ge ↦ let m = long_whole s w x r h f ge in (m.0, rw (g, b.1, b.2) m.1)
           ]
     ]
 
-raw_next : (s : Shape) (l : ℕ) → raw_len s (suc l) ≡ grouped s l / step s l
+raw_next : (s : Shape) (l : ℕ) → raw_len s (suc l) ≡ grouped_len s l / step s l
 unfolding raw_len
 raw_next s l = refl
 
@@ -195,7 +195,7 @@ children_fit s w some l h =
     let f = filled s w some l (omega arith) in
     let g = grouped_is s w l (positive_below s l h) f in
     let e : raw_len s (suc l) ≡ g.0 = raw_next s l ∙ ap (λ n. n / step s l) g.1.in_groups ∙ mul-div_cancel_left g.0 (let a = step_above_1 s l w.above_1 in omega arith) in
-    let is : step s l * raw_len s (suc l) ≡ grouped s l = rw e (sym g.1.in_groups) in
+    let is : step s l * raw_len s (suc l) ≡ grouped_len s l = rw e (sym g.1.in_groups) in
     rw is (cond_both (is_bridge s x && nat_lt r s.arity) (2 ^ x) pad (λ z. z ≤ pad)
     (λ short.
     let k = exponent s.arity in

@@ -9,7 +9,7 @@ use Rattle.std.proofs.lemmas.Option.{slice_get-get_or}
 use Rattle.p3_merkle_core.specs.Geometry.{step, ancestor, raw_len, layer_len, position_in_group}
 use Rattle.p3_merkle_core.specs.Nodes.{Functions, Batch, shape, compress, node, layer, at_layer, children, injected}
 use Rattle.p3_merkle_core.specs.Openings.{honest_rows, honest_siblings, honest_group}
-use Rattle.p3_merkle_core.specs.Pruning.{is_covered, boundary, is_in, rows_under, sent, restored, value_of, restored_path, honest_query, IsHonestQuery, IsCapped}
+use Rattle.p3_merkle_core.specs.Pruning.{is_covered, boundary, is_in, rows_under, sent_digest, restored_node, value_of, restored_path, honest_query, IsHonestQuery, IsCapped}
 use Rattle.p3_merkle_core.proofs.Completeness.{IsHonest, rows_are, injected_is, node_leaf, node_next}
 use Rattle.p3_merkle_core.proofs.Accepted.{padded_ge}
 use Rattle.p3_merkle_core.proofs.Sufficient.{covered_below, child_listed}
@@ -45,28 +45,28 @@ honest_under f b t indices w l j h c =
 
 -- the children of a covered node, where the covered ones are restored
 group_restored : {T W : Type 0} (f : Functions T W) (b : Batch T) (t : ℕ) (indices : List ℕ) → IsHonestQuery b t indices → (l j : ℕ) → l < t → is_covered (shape b) indices (suc l) j ≡ true →
-    ((k : ℕ) → is_covered (shape b) indices l k ≡ true → restored f (shape b) t (honest_query f b t indices) l k ≡ node f b l k) →
+    ((k : ℕ) → is_covered (shape b) indices l k ≡ true → restored_node f (shape b) t (honest_query f b t indices) l k ≡ node f b l k) →
     group_values (shape b) (value_of f (shape b) t (honest_query f b t indices)) l j ≡ children f b l j
 group_restored f b t indices w l j h c below =
     let s = shape b in
-    let q = honest_query f b t indices in
-    map_same (λ i. value_of f s t q l (step s l * j + i)) (λ i. node f b l (step s l * j + i)) 0 (step s l)
+    let p = honest_query f b t indices in
+    map_same (λ i. value_of f s t p l (step s l * j + i)) (λ i. node f b l (step s l * j + i)) 0 (step s l)
     (λ i low high.
     let k = step s l * j + i in
     elim (cases_Bool (is_covered s indices l k)) [
-      | inl y ↦ cond-true (is_covered s indices l k) (restored f s t q l k) (sent f s t q l k) y ∙ below k y
-      | inr n ↦ cond-false (is_covered s indices l k) (restored f s t q l k) (sent f s t q l k) n
-          ∙ found (boundary s indices t) (λ (m, k). node f b m k) f.default_digest l k (child_listed s t indices w.queried l j i h (omega arith) c n)
+      | inl y ↦ cond-true (is_covered s indices l k) (restored_node f s t p l k) (sent_digest f s t p l k) y ∙ below k y
+      | inr n ↦ cond-false (is_covered s indices l k) (restored_node f s t p l k) (sent_digest f s t p l k) n
+          ∙ found (boundary s indices t) (λ (m, k). node f b m k) f.default_digest l k (child_listed s indices t w.queried l j i h (omega arith) c n)
     ])
 
 -- the value of a covered node
 pub honest_restores : {T W : Type 0} (f : Functions T W) (b : Batch T) (t : ℕ) (indices : List ℕ) → IsHonestQuery b t indices → (l j : ℕ) → l ≤ t → is_covered (shape b) indices l j ≡ true →
-    restored f (shape b) t (honest_query f b t indices) l j ≡ node f b l j
+    restored_node f (shape b) t (honest_query f b t indices) l j ≡ node f b l j
 honest_restores f b t indices w zero j h c =
     let s = shape b in
     let u = honest_under f b t indices w 0 j h c in
     let at = u.2 in
-    restored_leaf f s t (honest_query f b t indices) j ∙ rw (u.3, rows_are b t (u.0) 0 (u.1), at) (sym (node_leaf f b j (covered_below s t indices w.queried 0 j h c)))
+    restored_leaf f s t (honest_query f b t indices) j ∙ rw (u.3, rows_are b t (u.0) 0 (u.1), at) (sym (node_leaf f b j (covered_below s indices t w.queried 0 j h c)))
 honest_restores f b t indices w (suc l) j h c =
     let s = shape b in
     let u = honest_under f b t indices w (suc l) j h c in
@@ -75,7 +75,7 @@ honest_restores f b t indices w (suc l) j h c =
     let inner = compress f b.arity (children f b l j) in
     restored_next f s t (honest_query f b t indices) l j
     ∙ rw (group, u.3, rows_are b t (u.0) (suc l) (u.1)) (sym (injected_is f b t (u.0) (suc l) inner (u.1)) ∙ ap (λ k. injected f b.arity (at_layer b (suc l)) k inner) at)
-    ∙ sym (node_next f b l j (covered_below s t indices w.queried (suc l) j h c))
+    ∙ sym (node_next f b l j (covered_below s indices t w.queried (suc l) j h c))
 
 -- each query's restored path is its honest one
 pub honest_paths : {T W : Type 0} (f : Functions T W) (b : Batch T) (t : ℕ) (indices : List ℕ) → IsHonestQuery b t indices → (k : ℕ) → k < length indices →
@@ -91,6 +91,6 @@ honest_paths f b t indices w k h =
 pub honest_capped : {T W : Type 0} (f : Functions T W) (b : Batch T) (t : ℕ) (indices : List ℕ) → IsHonestQuery b t indices → IsCapped f (shape b) t (layer f b t) (honest_query f b t indices)
 honest_capped f b t indices w j c =
     let s = shape b in
-    let in_layer : j < layer_len s t = omega (arith, covered_below s t indices w.queried t j (omega arith) c, padded_ge (raw_len s t) b.arity) in
+    let in_layer : j < layer_len s t = omega (arith, covered_below s indices t w.queried t j (omega arith) c, padded_ge (raw_len s t) b.arity) in
     slice_get-get_or (layer f b t) j f.default_digest (omega (arith, length-map-range_with_len (node f b t) 0 (layer_len s t)))
     ∙ ap (λ d. Some d) (get_or-map-range_with_len (node f b t) 0 (layer_len s t) j j f.default_digest in_layer (omega arith) ∙ sym (honest_restores f b t indices w t j (omega arith) c))

@@ -5,7 +5,7 @@ use Rattle.std.proofs.lemmas.Bool.{cases_Bool, cases_eq, eqb-true, and_parts, an
 use Rattle.std.proofs.lemmas.List.Folds.{list_any-append}
 use Rattle.std.proofs.Math.Nat.{mul-le-mul_left}
 use Rattle.p3_merkle_core.specs.Geometry.{Shape, step, ancestor, raw_len, layer_len, tallest, heights}
-use Rattle.p3_merkle_core.specs.Pruning.{tally, is_covered, is_boundary, boundary_at, boundary, is_in, IsKnown, Suffices, IsUncovered, AreQueries}
+use Rattle.p3_merkle_core.specs.Pruning.{tally, is_covered, is_boundary, boundary_at, boundary, is_in, IsKnown, Suffices, IsUncovered, CanQuery}
 use Rattle.p3_merkle_core.proofs.LadderFacts.{IsArity}
 use Rattle.p3_merkle_core.proofs.RawFacts.{anc_below, children_fit}
 use Rattle.p3_merkle_core.proofs.Under.{under_self, child_parent}
@@ -22,8 +22,8 @@ covered_query s (q ∷ queries) l j below c =
       | inr r ↦ covered_query s queries l j (λ k d h. below (suc k) d (omega arith)) r
     ]
 
-pub covered_below : (s : Shape) (t : ℕ) (queries : List ℕ) → AreQueries s t queries → (l j : ℕ) → l ≤ t → is_covered s queries l j ≡ true → j < raw_len s l
-covered_below s t queries w l j h c =
+pub covered_below : (s : Shape) (queries : List ℕ) (t : ℕ) → CanQuery s queries t → (l j : ℕ) → l ≤ t → is_covered s queries l j ≡ true → j < raw_len s l
+covered_below s queries t w l j h c =
     let q = covered_query s queries l j w.below c in
     let b = anc_below s w.well_shaped q.0 q.1 l (omega (arith, w.in_tree)) in
     let e = q.2 in rw (← e) b
@@ -55,12 +55,12 @@ boundary_lists s queries (suc t) l j h b fits =
     ]
 
 -- an uncovered child of a covered node is listed
-pub child_listed : (s : Shape) (t : ℕ) (queries : List ℕ) → AreQueries s t queries → (l j i : ℕ) → l < t → i < step s l →
+pub child_listed : (s : Shape) (queries : List ℕ) (t : ℕ) → CanQuery s queries t → (l j i : ℕ) → l < t → i < step s l →
     is_covered s queries (suc l) j ≡ true → is_covered s queries l (step s l * j + i) ≡ false → is_in (boundary s queries t) l (step s l * j + i) ≡ true
-child_listed s t queries w l j i h k c n =
+child_listed s queries t w l j i h k c n =
     let child = step s l * j + i in
     let q = covered_query s queries (suc l) j w.below c in
-    let inside = covered_below s t queries w (suc l) j (omega arith) c in
+    let inside = covered_below s queries t w (suc l) j (omega arith) c in
     let all = children_fit s w.well_shaped (let b = q.1 in omega arith) l (omega (arith, w.in_tree)) in
     let most : step s l * suc j ≤ step s l * raw_len s (suc l) = mul-le-mul_left (step s l) inside in
     let b : is_boundary s queries l child ≡ true =
@@ -73,19 +73,19 @@ given_known : (s : Shape) (queries : List ℕ) (given : List (ℕ × ℕ)) (l j 
 given_known s queries given zero j h = inl h
 given_known s queries given (suc l) j h = inl h
 
-boundary_knows : (s : Shape) (t : ℕ) (queries : List ℕ) → AreQueries s t queries → (l j : ℕ) → l ≤ t → is_covered s queries l j ≡ true → IsKnown s queries (boundary s queries t) l j
-boundary_knows s t queries w zero j h c = inr c
-boundary_knows s t queries w (suc l) j h c =
+boundary_knows : (s : Shape) (queries : List ℕ) (t : ℕ) → CanQuery s queries t → (l j : ℕ) → l ≤ t → is_covered s queries l j ≡ true → IsKnown s queries (boundary s queries t) l j
+boundary_knows s queries t w zero j h c = inr c
+boundary_knows s queries t w (suc l) j h c =
     inr (
-      covered_below s t queries w (suc l) j h c,
+      covered_below s queries t w (suc l) j h c,
       λ i k. elim (cases_Bool (is_covered s queries l (step s l * j + i))) [
-        | inl y ↦ boundary_knows s t queries w l (step s l * j + i) (omega arith) y
-        | inr n ↦ given_known s queries (boundary s queries t) l (step s l * j + i) (child_listed s t queries w l j i (omega arith) k c n)
+        | inl y ↦ boundary_knows s queries t w l (step s l * j + i) (omega arith) y
+        | inr n ↦ given_known s queries (boundary s queries t) l (step s l * j + i) (child_listed s queries t w l j i (omega arith) k c n)
       ],
     )
 
-pub boundary_suffices : (s : Shape) (t : ℕ) (queries : List ℕ) → AreQueries s t queries → Suffices s queries t (boundary s queries t)
-boundary_suffices s t queries w j c = boundary_knows s t queries w t j (omega arith) c
+pub boundary_suffices : (s : Shape) (queries : List ℕ) (t : ℕ) → CanQuery s queries t → Suffices s queries t (boundary s queries t)
+boundary_suffices s queries t w j c = boundary_knows s queries t w t j (omega arith) c
 
 -- ---- nothing else of its size does
 

@@ -127,42 +127,42 @@ kept_same x (h ∷ hs) (u ∷ us) (v ∷ vs) a b e (suc m) l t =
       | inr n ↦ kept_same x hs us vs (omega arith) (omega arith) (rw n at e) m (omega arith) t
     ]
 
-pub unrefused : {T W : Type 0} (eq : T → T → Bool) (s : Shape) (t : ℕ) (q : PrunedOpening T W) → ((x y : T) → Decides (eq x y) (x ≡ y)) →
-    IsRestorable s t q → pruned_answer eq s t q ≡ Ok tt
-unrefused eq s t q dec w =
+pub unrefused : {T W : Type 0} (row_eq : T → T → Bool) (s : Shape) (t : ℕ) (p : PrunedOpening T W) → ((x y : T) → Decides (row_eq x y) (x ≡ y)) →
+    IsRestorable s t p → pruned_answer row_eq s t p ≡ Ok tt
+unrefused row_eq s t p dec w =
     let top = tallest (heights s) in
     let some = w.lawful.some_above_0 in
     let paired = w.agreed.in_pairs in
-    let first = first_is q.indices q.rows in
-    let long : (k : ℕ) → k < length q.indices → length (get_or q.rows k []) ≡ length (heights s) =
-    λ k h. sym (length-map (get_or q.rows k []) length) ∙ ap length (w.rows_fit k [] (omega arith)) ∙ widths_in_pairs s in
+    let first = first_is p.indices p.rows in
+    let long : (k : ℕ) → k < length p.indices → length (get_or p.rows k []) ≡ length (heights s) =
+    λ k h. sym (length-map (get_or p.rows k []) length) ∙ ap length (w.rows_fit k [] (omega arith)) ∙ widths_in_pairs s in
     let gate = gate_none (heights s) w.lawful in
-    let size = size_none (length q.indices) (length q.rows) (sym paired) in
-    let idle = idle_none s t q.indices (length q.digests) w.count in
-    let index = index_none top q.indices some w.below in
-    let repeat : repeat_refusal eq q ≡ None = all_pairs _ q.indices q.rows [] paired (λ k h.
-    let i = get_or q.indices k 0 in
-    let f = first i paired (query_is q.indices k h) in
-    none_unless (pointwise (pointwise eq) (get_or q.rows k []) (first_rows q i)) (MalformedPrunedProof (InconsistentDuplicateOpenings (slot_of q.indices i)))
-    ((pointwise_decides (pointwise_decides dec) (get_or q.rows k []) (first_rows q i)).1 (w.agreed.repeats k (f.0) h (f.1) (sym f.2) ∙ sym f.3))) in
-    let count = count_none (length (boundary s q.indices t)) (length q.digests) (sym w.count) in
-    let widths_none = all_none (λ i. width_refusal s.dimensions (first_rows q i)) (is_queried q.indices) 0 top (λ i asked low high.
+    let size = size_none (length p.indices) (length p.rows) (sym paired) in
+    let idle = idle_none s t p.indices (length p.digests) w.count in
+    let index = index_none top p.indices some w.below in
+    let repeat : repeat_refusal row_eq p ≡ None = all_pairs _ p.indices p.rows [] paired (λ k h.
+    let i = get_or p.indices k 0 in
+    let f = first i paired (query_is p.indices k h) in
+    none_unless (pointwise (pointwise row_eq) (get_or p.rows k []) (first_rows p i)) (MalformedPrunedProof (InconsistentDuplicateOpenings (slot_of p.indices i)))
+    ((pointwise_decides (pointwise_decides dec) (get_or p.rows k []) (first_rows p i)).1 (w.agreed.repeats k (f.0) h (f.1) (sym f.2) ∙ sym f.3))) in
+    let count = count_none (length (boundary s p.indices t)) (length p.digests) (sym w.count) in
+    let widths_none = all_none (λ i. width_refusal s.dimensions (first_rows p i)) (is_queried p.indices) 0 top (λ i asked low high.
     let f = first i paired asked in
-    width_none s.dimensions (first_rows q i) (ap (λ rows. map length rows) f.3 ∙ w.rows_fit (f.0) [] (let z = f.1 in omega arith))) in
-    let group : group_refusal eq s t q ≡ None =
-    all_in_range (λ l. first_of (λ i. first_of (row_refusal eq s q l i) (matrices_at s l)) (slots_below top q.indices)) 0 (suc t) (λ l low high.
-    all_none (λ i. first_of (row_refusal eq s q l i) (matrices_at s l)) (is_queried q.indices) 0 top (λ i asked from below.
-    all_none (row_refusal eq s q l i) (λ m. eqb (exponent (get_or (heights s) m 0)) (layer_exponent s l)) 0 (length (heights s)) (λ m here start inside.
-    let k = lead s q.indices l (ancestor s l i) in
-    let lowest = lead_is s q.indices l i asked (omega arith) in
+    width_none s.dimensions (first_rows p i) (ap (λ rows. map length rows) f.3 ∙ w.rows_fit (f.0) [] (let z = f.1 in omega arith))) in
+    let group : group_refusal row_eq s t p ≡ None =
+    all_in_range (λ l. first_of (λ i. first_of (row_refusal row_eq s p l i) (matrices_at s l)) (slots_below top p.indices)) 0 (suc t) (λ l low high.
+    all_none (λ i. first_of (row_refusal row_eq s p l i) (matrices_at s l)) (is_queried p.indices) 0 top (λ i asked from below.
+    all_none (row_refusal row_eq s p l i) (λ m. eqb (exponent (get_or (heights s) m 0)) (layer_exponent s l)) 0 (length (heights s)) (λ m here start inside.
+    let k = lead s p.indices l (ancestor s l i) in
+    let lowest = lead_is s p.indices l i asked (omega arith) in
     let f = first i paired asked in
     let g = first k paired lowest.0 in
-    let together : ancestor s l (get_or q.indices (f.0) 0) ≡ ancestor s l (get_or q.indices (g.0) 0) = ap (λ n. ancestor s l n) f.2 ∙ sym lowest.1 ∙ sym (ap (λ n. ancestor s l n) g.2) in
-    let rows = kept_same (layer_exponent s l) (heights s) (get_or q.rows (f.0) []) (get_or q.rows (g.0) []) (long (f.0) (f.1)) (long (g.0) (g.1))
+    let together : ancestor s l (get_or p.indices (f.0) 0) ≡ ancestor s l (get_or p.indices (g.0) 0) = ap (λ n. ancestor s l n) f.2 ∙ sym lowest.1 ∙ sym (ap (λ n. ancestor s l n) g.2) in
+    let rows = kept_same (layer_exponent s l) (heights s) (get_or p.rows (f.0) []) (get_or p.rows (g.0) []) (long (f.0) (f.1)) (long (g.0) (g.1))
     (w.agreed.groups l (f.0) (g.0) (omega arith) (f.1) (g.1) together) m (omega arith) here in
-    let x = get_or (first_rows q i) m [] in
-    let y = get_or (first_rows q k) m [] in
-    none_unless (pointwise eq x y) (MalformedPrunedProof (InconsistentGroupOpening (slot_of q.indices i) m))
+    let x = get_or (first_rows p i) m [] in
+    let y = get_or (first_rows p k) m [] in
+    none_unless (pointwise row_eq x y) (MalformedPrunedProof (InconsistentGroupOpening (slot_of p.indices i) m))
     ((pointwise_decides dec x y).1 (ap (λ rs. get_or rs m []) f.3 ∙ rows ∙ sym (ap (λ rs. get_or rs m []) g.3)))))) in
-    let none : pruned_refusal eq s t q ≡ None = rw (gate, size, idle, index, repeat, count, widths_none, group) refl in
+    let none : pruned_refusal row_eq s t p ≡ None = rw (gate, size, idle, index, repeat, count, widths_none, group) refl in
     ap verdict none

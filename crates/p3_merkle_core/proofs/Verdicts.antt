@@ -11,7 +11,7 @@ use Rattle.p3_merkle_core.specs.Geometry.{Shape, IsArity, tallest, ancestor, hei
 use Rattle.p3_merkle_core.specs.Gate.{gate_refusal}
 use Rattle.p3_merkle_core.specs.Nodes.{Functions}
 use Rattle.p3_merkle_core.specs.Openings.{Opening, IsAccepted, siblings_below, path_digest}
-use Rattle.p3_merkle_core.specs.Pruning.{PrunedOpening, restored, IsCapped, EachAccepted}
+use Rattle.p3_merkle_core.specs.Pruning.{PrunedOpening, restored_node, IsCapped, EachAccepted}
 use Rattle.p3_merkle_core.specs.Refusals.{first_some, unless, verdict, is_entry, size_refusal, sibling_count_refusal, row_width_refusal, refusal_under, answer_under, pruned_refusal, cap_refusal, pruned_answer_under, IsRestorable}
 use Rattle.p3_merkle_core.specs.declared.error.MerkleTreeError.TheVariants.{WrongBatchSize, WrongHeight, IndexOutOfBounds, CapMismatch}
 use Rattle.p3_merkle_core.proofs.NoneFacts.{none_parts, unless_none, none_unless, verdict_ok, lawful_from, rows_fit_from}
@@ -21,14 +21,14 @@ use Rattle.p3_merkle_core.proofs.Equivalence.{query_covered, rows_under_is, equi
 
 -- ---- entries
 
-some_is : {W : Type 0} (same : W → W → Bool) → ((x y : W) → Decides (same x y) (x ≡ y)) → (o : Option (List W)) (d : List W) →
-    (unwrap_or (option_map (λ entry. pointwise same entry d) o) false ≡ true) ↔ (o ≡ Some d)
-some_is same dec None d = (λ e. absurd (true≢false (sym e)), λ e. absurd cc)
-some_is same dec (Some x) d =
+some_is : {W : Type 0} (digest_eq : W → W → Bool) → ((x y : W) → Decides (digest_eq x y) (x ≡ y)) → (o : Option (List W)) (d : List W) →
+    (unwrap_or (option_map (λ entry. pointwise digest_eq entry d) o) false ≡ true) ↔ (o ≡ Some d)
+some_is digest_eq dec None d = (λ e. absurd (true≢false (sym e)), λ e. absurd cc)
+some_is digest_eq dec (Some x) d =
     (λ e. ap (λ y. Some y) ((pointwise_decides dec x d).0 e), λ e. (pointwise_decides dec x d).1 (let c : x ≡ d = cc in c))
 
-pub entry_is : {W : Type 0} (same : W → W → Bool) → ((x y : W) → Decides (same x y) (x ≡ y)) → (cap : List (List W)) (j : ℕ) (d : List W) → (is_entry same cap j d ≡ true) ↔ (slice_get cap j ≡ Some d)
-entry_is same dec cap j d = some_is same dec (slice_get cap j) d
+pub entry_is : {W : Type 0} (digest_eq : W → W → Bool) → ((x y : W) → Decides (digest_eq x y) (x ≡ y)) → (cap : List (List W)) (j : ℕ) (d : List W) → (is_entry digest_eq cap j d ≡ true) ↔ (slice_get cap j ≡ Some d)
+entry_is digest_eq dec cap j d = some_is digest_eq dec (slice_get cap j) d
 
 each_true : (p : ℕ → Bool) (xs : List ℕ) → list_all p xs ≡ true → (k : ℕ) → k < length xs → p (get_or xs k 0) ≡ true
 each_true p [] e k h = absurd (omega arith)
@@ -41,17 +41,17 @@ true_each p (x ∷ xs) e = and_from (p x) (list_all p xs) (e 0 (omega arith)) (t
 
 -- ---- single openings
 
-pub accepted_from : {T W : Type 0} (same : W → W → Bool) (f : Functions T W) (s : Shape) (t : ℕ) (cap : List (List W)) (o : Opening T W) → ((x y : W) → Decides (same x y) (x ≡ y)) →
-    answer_under same f s t cap o ≡ Ok tt → IsAccepted f s t cap o
-accepted_from same f s t cap o dec e =
+pub accepted_from : {T W : Type 0} (digest_eq : W → W → Bool) (f : Functions T W) (s : Shape) (t : ℕ) (cap : List (List W)) (o : Opening T W) → ((x y : W) → Decides (digest_eq x y) (x ≡ y)) →
+    answer_under digest_eq f s t cap o ≡ Ok tt → IsAccepted f s t cap o
+accepted_from digest_eq f s t cap o dec e =
     let m = tallest (heights s) in
     let digest = path_digest f s o t in
-    let entry = is_entry same cap (ancestor s t o.index) digest in
+    let entry = is_entry digest_eq cap (ancestor s t o.index) digest in
     let r6 = unless entry CapMismatch ∷ [] in
     let r5 = unless (nat_lt o.index m) (IndexOutOfBounds m o.index) ∷ r6 in
     let r4 = row_width_refusal (widths s) o.rows ∷ r5 in
     let r3 = sibling_count_refusal (siblings_below s t) (length o.siblings) ∷ r4 in
-    let a = none_parts (size_refusal (length s.dimensions) (length o.rows)) (first_some (gate_refusal (heights s) ∷ r3)) (verdict_ok (refusal_under same f s t cap o) e) in
+    let a = none_parts (size_refusal (length s.dimensions) (length o.rows)) (first_some (gate_refusal (heights s) ∷ r3)) (verdict_ok (refusal_under digest_eq f s t cap o) e) in
     let b = none_parts (gate_refusal (heights s)) (first_some r3) a.1 in
     let c = none_parts (sibling_count_refusal (siblings_below s t) (length o.siblings)) (first_some r4) b.1 in
     let d = none_parts (row_width_refusal (widths s) o.rows) (first_some r5) c.1 in
@@ -63,12 +63,12 @@ accepted_from same f s t cap o dec e =
       rows_fit = rows_fit_from (widths s) o.rows (length-widths s ∙ size) d.0;
       count = sym (eqb-true (siblings_below s t) (length o.siblings) (unless_none (eqb (siblings_below s t) (length o.siblings)) (WrongHeight (siblings_below s t) (length o.siblings)) c.0));
       in_range = ltb-true o.index m (unless_none (nat_lt o.index m) (IndexOutOfBounds m o.index) g.0);
-      authentic = (entry_is same dec cap (ancestor s t o.index) digest).0 (unless_none entry CapMismatch h.0);
+      authentic = (entry_is digest_eq dec cap (ancestor s t o.index) digest).0 (unless_none entry CapMismatch h.0);
     }
 
-pub accepted_answer : {T W : Type 0} (same : W → W → Bool) (f : Functions T W) (s : Shape) (t : ℕ) (cap : List (List W)) (o : Opening T W) → ((x y : W) → Decides (same x y) (x ≡ y)) →
-    IsAccepted f s t cap o → answer_under same f s t cap o ≡ Ok tt
-accepted_answer same f s t cap o dec w =
+pub accepted_answer : {T W : Type 0} (digest_eq : W → W → Bool) (f : Functions T W) (s : Shape) (t : ℕ) (cap : List (List W)) (o : Opening T W) → ((x y : W) → Decides (digest_eq x y) (x ≡ y)) →
+    IsAccepted f s t cap o → answer_under digest_eq f s t cap o ≡ Ok tt
+accepted_answer digest_eq f s t cap o dec w =
     let m = tallest (heights s) in
     let digest = path_digest f s o t in
     let size = size_none (length s.dimensions) (length o.rows) (sym (length-widths s) ∙ sym (ap length w.rows_fit) ∙ length-map o.rows length) in
@@ -76,49 +76,49 @@ accepted_answer same f s t cap o dec w =
     let height = none_unless (eqb (siblings_below s t) (length o.siblings)) (WrongHeight (siblings_below s t) (length o.siblings)) (eq-eqb (siblings_below s t) (length o.siblings) (sym w.count)) in
     let rows : row_width_refusal (widths s) o.rows ≡ None = rw (← w.rows_fit) (each_width 0 o.rows) in
     let index = none_unless (nat_lt o.index m) (IndexOutOfBounds m o.index) (lt-ltb o.index m w.in_range) in
-    let entry = none_unless (is_entry same cap (ancestor s t o.index) digest) CapMismatch ((entry_is same dec cap (ancestor s t o.index) digest).1 w.authentic) in
-    let none : refusal_under same f s t cap o ≡ None = rw (size, gate, height, rows, index, entry) refl in
+    let entry = none_unless (is_entry digest_eq cap (ancestor s t o.index) digest) CapMismatch ((entry_is digest_eq dec cap (ancestor s t o.index) digest).1 w.authentic) in
+    let none : refusal_under digest_eq f s t cap o ≡ None = rw (size, gate, height, rows, index, entry) refl in
     ap verdict none
 
 -- ---- pruned openings
 
-cap_fits : {T W : Type 0} (same : W → W → Bool) (f : Functions T W) (s : Shape) (t : ℕ) (cap : List (List W)) (q : PrunedOpening T W) → ((x y : W) → Decides (same x y) (x ≡ y)) → length q.rows ≡ length q.indices →
-    (cap_refusal same f s t cap q ≡ None) ↔ IsCapped f s t cap q
-cap_fits same f s t cap q dec paired =
-    let p : ℕ → Bool = λ i. is_entry same cap (ancestor s t i) (restored f s t q t (ancestor s t i)) in (
+cap_fits : {T W : Type 0} (digest_eq : W → W → Bool) (f : Functions T W) (s : Shape) (t : ℕ) (cap : List (List W)) (p : PrunedOpening T W) → ((x y : W) → Decides (digest_eq x y) (x ≡ y)) → length p.rows ≡ length p.indices →
+    (cap_refusal digest_eq f s t cap p ≡ None) ↔ IsCapped f s t cap p
+cap_fits digest_eq f s t cap p dec paired =
+    let test : ℕ → Bool = λ i. is_entry digest_eq cap (ancestor s t i) (restored_node f s t p t (ancestor s t i)) in (
       λ e j c.
-          let all = each_true p q.indices (unless_none (list_all p q.indices) CapMismatch e) in
-          let u = rows_under_is s q.indices q.rows t j paired c in
+          let all = each_true test p.indices (unless_none (list_all test p.indices) CapMismatch e) in
+          let u = rows_under_is s p.indices p.rows t j paired c in
           let at = u.2 in
-          rw (← at) ((entry_is same dec cap (ancestor s t (get_or q.indices (u.0) 0)) (restored f s t q t (ancestor s t (get_or q.indices (u.0) 0)))).0 (all (u.0) (u.1))),
-      λ capped. none_unless (list_all p q.indices) CapMismatch (true_each p q.indices (λ k h.
-          let j = ancestor s t (get_or q.indices k 0) in
-          (entry_is same dec cap j (restored f s t q t j)).1 (capped j (query_covered s q.indices k t h)))),
+          rw (← at) ((entry_is digest_eq dec cap (ancestor s t (get_or p.indices (u.0) 0)) (restored_node f s t p t (ancestor s t (get_or p.indices (u.0) 0)))).0 (all (u.0) (u.1))),
+      λ capped. none_unless (list_all test p.indices) CapMismatch (true_each test p.indices (λ k h.
+          let j = ancestor s t (get_or p.indices k 0) in
+          (entry_is digest_eq dec cap j (restored_node f s t p t j)).1 (capped j (query_covered s p.indices k t h)))),
     )
 
 -- a pruned opening is answered Ok exactly if it is restorable and the cap has each covered node of its layer
-pub pruned_capped : {T W : Type 0} (eq : T → T → Bool) (same : W → W → Bool) (f : Functions T W) (s : Shape) (t : ℕ) (cap : List (List W)) (q : PrunedOpening T W) →
-    ((x y : T) → Decides (eq x y) (x ≡ y)) → ((x y : W) → Decides (same x y) (x ≡ y)) →
-    (pruned_answer_under eq same f s t cap q ≡ Ok tt) ↔ (IsRestorable s t q × IsCapped f s t cap q)
-pruned_capped eq same f s t cap q dec dec_w =
-    let first = pruned_refusal eq s t q in
-    let last = cap_refusal same f s t cap q in (
+pub pruned_capped : {T W : Type 0} (row_eq : T → T → Bool) (digest_eq : W → W → Bool) (f : Functions T W) (s : Shape) (t : ℕ) (cap : List (List W)) (p : PrunedOpening T W) →
+    ((x y : T) → Decides (row_eq x y) (x ≡ y)) → ((x y : W) → Decides (digest_eq x y) (x ≡ y)) →
+    (pruned_answer_under row_eq digest_eq f s t cap p ≡ Ok tt) ↔ (IsRestorable s t p × IsCapped f s t cap p)
+pruned_capped row_eq digest_eq f s t cap p dec dec_w =
+    let first = pruned_refusal row_eq s t p in
+    let last = cap_refusal digest_eq f s t cap p in (
       λ e.
           let both = none_parts first last (verdict_ok (option_or first last) e) in
-          let r = restorable eq s t q dec (ap verdict both.0) in
-          (r, (cap_fits same f s t cap q dec_w r.agreed.in_pairs).0 both.1),
+          let r = restorable row_eq s t p dec (ap verdict both.0) in
+          (r, (cap_fits digest_eq f s t cap p dec_w r.agreed.in_pairs).0 both.1),
       λ (r, capped).
-          let a = verdict_ok first (unrefused eq s t q dec r) in
-          let b = (cap_fits same f s t cap q dec_w r.agreed.in_pairs).1 capped in
+          let a = verdict_ok first (unrefused row_eq s t p dec r) in
+          let b = (cap_fits digest_eq f s t cap p dec_w r.agreed.in_pairs).1 capped in
           let none : option_or first last ≡ None = rw (a, b) refl in
           ap verdict none,
     )
 
 -- and exactly if it is restorable and each query is accepted with its restored path
-pub pruned_accepted : {T W : Type 0} (eq : T → T → Bool) (same : W → W → Bool) (f : Functions T W) (s : Shape) (t : ℕ) (cap : List (List W)) (q : PrunedOpening T W) →
-    ((x y : T) → Decides (eq x y) (x ≡ y)) → ((x y : W) → Decides (same x y) (x ≡ y)) → IsArity s.arity →
-    (pruned_answer_under eq same f s t cap q ≡ Ok tt) ↔ (IsRestorable s t q × EachAccepted f s t cap q)
-pruned_accepted eq same f s t cap q dec dec_w w =
-    let capped = pruned_capped eq same f s t cap q dec dec_w in
-    let alike = λ (r : IsRestorable s t q). equivalent f s t cap q w r.lawful r.below r.rows_fit r.agreed in
-    (λ e. let p = capped.0 e in (p.0, (alike p.0).0 p.1), λ (r, each). capped.1 (r, (alike r).1 each))
+pub pruned_accepted : {T W : Type 0} (row_eq : T → T → Bool) (digest_eq : W → W → Bool) (f : Functions T W) (s : Shape) (t : ℕ) (cap : List (List W)) (p : PrunedOpening T W) →
+    ((x y : T) → Decides (row_eq x y) (x ≡ y)) → ((x y : W) → Decides (digest_eq x y) (x ≡ y)) → IsArity s.arity →
+    (pruned_answer_under row_eq digest_eq f s t cap p ≡ Ok tt) ↔ (IsRestorable s t p × EachAccepted f s t cap p)
+pruned_accepted row_eq digest_eq f s t cap p dec dec_w w =
+    let capped = pruned_capped row_eq digest_eq f s t cap p dec dec_w in
+    let alike = λ (r : IsRestorable s t p). equivalent f s t cap p w r.lawful r.below r.rows_fit r.agreed in
+    (λ e. let both = capped.0 e in (both.0, (alike both.0).0 both.1), λ (r, each). capped.1 (r, (alike r).1 each))

@@ -12,11 +12,11 @@ use Rattle.p3_merkle_core.specs.declared.error.MerkleTreeError.{MerkleTreeError}
 
 -- whether two inputs are one, by tests on words
 abbrev pub input_eq : {T W : Type 0} → (T → T → Bool) → (W → W → Bool) → Input T W → Input T W → Bool
-input_eq eq same (Leaf x) (Leaf y) = pointwise eq x y
-input_eq eq same (Group l x) (Group m y) = (l == m) && pointwise (pointwise same) x y
-input_eq eq same (Rows l x) (Rows m y) = (l == m) && pointwise eq x y
-input_eq eq same (Pair l x) (Pair m y) = (l == m) && pointwise (pointwise same) x y
-input_eq eq same x y = false
+input_eq row_eq digest_eq (Leaf x) (Leaf y) = pointwise row_eq x y
+input_eq row_eq digest_eq (Group l x) (Group m y) = (l == m) && pointwise (pointwise digest_eq) x y
+input_eq row_eq digest_eq (Rows l x) (Rows m y) = (l == m) && pointwise row_eq x y
+input_eq row_eq digest_eq (Pair l x) (Pair m y) = (l == m) && pointwise (pointwise digest_eq) x y
+input_eq row_eq digest_eq x y = false
 
 -- both elements at the last place at which two lists differ
 abbrev pub last_difference : {X : Type 0} → (X → X → Bool) → List X → List X → Option (X × X)
@@ -25,24 +25,24 @@ last_difference test (x ∷ xs) [] = None
 last_difference test (x ∷ xs) (y ∷ ys) = option_or (last_difference test xs ys) (unless (test x y) (x, y))
 
 -- the refusal if there is one, else the value
-abbrev pub after : {X E : Type 0} → Option E → X → Result X E
-after None x = Ok x
-after (Some e) x = Err e
+abbrev pub ok_unless : {X E : Type 0} → Option E → X → Result X E
+ok_unless None x = Ok x
+ok_unless (Some e) x = Err e
 
 -- the answer to two openings under one cap
 abbrev pub extraction_under : {T W : Type 0} → (T → T → Bool) → (W → W → Bool) → Functions T W → Shape → ℕ → List (List W) → Opening T W → Opening T W → Result (Option (Input T W × Input T W)) MerkleTreeError
-extraction_under eq same f s t cap o u =
-    after (option_or (refusal_under same f s t cap o) (refusal_under same f s t cap u))
-    (last_difference (input_eq eq same) (shared_inputs f s t o.index u.index o) (shared_inputs f s t o.index u.index u))
+extraction_under row_eq digest_eq f s t cap o u =
+    ok_unless (option_or (refusal_under digest_eq f s t cap o) (refusal_under digest_eq f s t cap u))
+    (last_difference (input_eq row_eq digest_eq) (shared_inputs f s t o.index u.index o) (shared_inputs f s t o.index u.index u))
 
 -- ---- pruned openings
 
 -- the last difference of query a of the one and query b of the other, by their restored paths
 abbrev pub difference_at : {T W : Type 0} → (T → T → Bool) → (W → W → Bool) → Functions T W → Shape → ℕ → PrunedOpening T W → PrunedOpening T W → ℕ → ℕ → Option (Input T W × Input T W)
-difference_at eq same f s t q r a b =
-    let i = slice_index q.indices a in
+difference_at row_eq digest_eq f s t p r a b =
+    let i = slice_index p.indices a in
     let j = slice_index r.indices b in
-    last_difference (input_eq eq same) (shared_inputs f s t i j (opening_at f s t q a)) (shared_inputs f s t i j (opening_at f s t r b))
+    last_difference (input_eq row_eq digest_eq) (shared_inputs f s t i j (opening_at f s t p a)) (shared_inputs f s t i j (opening_at f s t r b))
 
 -- the first pair of places at which d answers, by the first place, then by the second
 abbrev pub first_pair : {X : Type 0} → (ℕ → ℕ → Option X) → ℕ → ℕ → Option (ℕ × ℕ × X)
@@ -50,6 +50,6 @@ first_pair d n m = first_of (λ a. first_of (λ b. option_map (λ x. (a, b, x)) 
 
 -- the answer to two pruned openings under one cap
 abbrev pub extraction_multi_under : {T W : Type 0} → (T → T → Bool) → (W → W → Bool) → Functions T W → Shape → ℕ → List (List W) → PrunedOpening T W → PrunedOpening T W → Result (Option (ℕ × ℕ × (Input T W × Input T W))) MerkleTreeError
-extraction_multi_under eq same f s t cap q r =
-    after (option_or (pruned_refusal_under eq same f s t cap q) (pruned_refusal_under eq same f s t cap r))
-    (first_pair (difference_at eq same f s t q r) (length q.indices) (length r.indices))
+extraction_multi_under row_eq digest_eq f s t cap p r =
+    ok_unless (option_or (pruned_refusal_under row_eq digest_eq f s t cap p) (pruned_refusal_under row_eq digest_eq f s t cap r))
+    (first_pair (difference_at row_eq digest_eq f s t p r) (length p.indices) (length r.indices))

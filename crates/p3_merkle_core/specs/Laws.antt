@@ -3,7 +3,7 @@ use Rattle.std.specs.Prelude.{◌≡◌, ◌≢◌, ◌↔◌, ◌⊎◌, ℕ, s
 use Rattle.p3_merkle_core.specs.Geometry.{Shape, heights, tallest, levels, layer_exponent, exponent, layer_of, layer_len, row_at_index, step, ancestor, arity_schedule, schedule_below, cap_layer, IsArity, IsLawful}
 use Rattle.p3_merkle_core.specs.Nodes.{Functions, Batch, HasFullRows, shape, node, layer}
 use Rattle.p3_merkle_core.specs.Openings.{Opening, Input, AgreeWhereShared, HasDigests, IsAccepted, IsAtOnePlace, IsLastShared, honest, honest_siblings, inputs, is_authenticated, opened_row, path_digest, input_digest}
-use Rattle.p3_merkle_core.specs.Pruning.{PrunedOpening, AreQueries, IsHonestQuery, IsCapped, IsUncovered, EachAccepted, Suffices, boundary, honest_query, is_covered, is_in, is_under, opening_at, restored, restored_path, tally}
+use Rattle.p3_merkle_core.specs.Pruning.{PrunedOpening, CanQuery, IsHonestQuery, IsCapped, IsUncovered, EachAccepted, Suffices, boundary, honest_query, is_covered, is_in, is_under, opening_at, restored_node, restored_path, tally}
 use Rattle.p3_merkle_core.specs.Refusals.{IsEquality, IsRestorable, answer_under, pruned_answer, pruned_answer_under}
 use Rattle.p3_merkle_core.specs.Extracting.{difference_at, extraction_under, extraction_multi_under, first_pair}
 use Rattle.p3_merkle_core.specs.declared.error.MerkleTreeError.{MerkleTreeError}
@@ -47,7 +47,7 @@ RowsAreAncestors =
 
 -- the boundary suffices
 abbrev pub BoundarySuffices : Type 0
-BoundarySuffices = (s : Shape) (t : ℕ) (queries : List ℕ) → AreQueries s t queries → Suffices s queries t (boundary s queries t)
+BoundarySuffices = (s : Shape) (queries : List ℕ) (t : ℕ) → CanQuery s queries t → Suffices s queries t (boundary s queries t)
 
 -- a list of uncovered nodes that suffices is no shorter than the boundary
 abbrev pub BoundaryIsSmallest : Type 0
@@ -84,14 +84,14 @@ module _ (T W : Type 0) where
   -- the honest pruned opening of each list of indices is answered Ok
   abbrev pub HonestQueryIsAccepted : Type 0
   HonestQueryIsAccepted =
-      (eq : T → T → Bool) (same : W → W → Bool) (f : Functions T W) (b : Batch T) (t : ℕ) (indices : List ℕ) → IsEquality eq → IsEquality same → IsHonestQuery b t indices → HasFullRows b →
-      pruned_answer_under eq same f (shape b) t (layer f b t) (honest_query f b t indices) ≡ Ok tt
+      (row_eq : T → T → Bool) (digest_eq : W → W → Bool) (f : Functions T W) (b : Batch T) (t : ℕ) (indices : List ℕ) → IsEquality row_eq → IsEquality digest_eq → IsHonestQuery b t indices → HasFullRows b →
+      pruned_answer_under row_eq digest_eq f (shape b) t (layer f b t) (honest_query f b t indices) ≡ Ok tt
 
   -- an honest pruned opening restores each covered node
   abbrev pub HonestNodesAreRestored : Type 0
   HonestNodesAreRestored =
       (f : Functions T W) (b : Batch T) (t : ℕ) (indices : List ℕ) → IsHonestQuery b t indices → (l j : ℕ) → l ≤ t → is_covered (shape b) indices l j ≡ true →
-      restored f (shape b) t (honest_query f b t indices) l j ≡ node f b l j
+      restored_node f (shape b) t (honest_query f b t indices) l j ≡ node f b l j
 
   -- an honest pruned opening restores the honest siblings of each query
   abbrev pub HonestPathsAreRestored : Type 0
@@ -110,53 +110,53 @@ module _ (T W : Type 0) where
   -- an opening is answered Ok exactly if it is accepted
   abbrev pub OkIsAccepted : Type 0
   OkIsAccepted =
-      (same : W → W → Bool) (f : Functions T W) (s : Shape) (t : ℕ) (cap : List (List W)) (o : Opening T W) → IsEquality same →
-      (answer_under same f s t cap o ≡ Ok tt) ↔ IsAccepted f s t cap o
+      (digest_eq : W → W → Bool) (f : Functions T W) (s : Shape) (t : ℕ) (cap : List (List W)) (o : Opening T W) → IsEquality digest_eq →
+      (answer_under digest_eq f s t cap o ≡ Ok tt) ↔ IsAccepted f s t cap o
 
   -- a pruned opening is answered Ok, whatever the cap, exactly if it is restorable
   abbrev pub OkIsRestorable : Type 0
   OkIsRestorable =
-      (eq : T → T → Bool) (s : Shape) (t : ℕ) (q : PrunedOpening T W) → IsEquality eq →
-      (pruned_answer eq s t q ≡ Ok tt) ↔ IsRestorable s t q
+      (row_eq : T → T → Bool) (s : Shape) (t : ℕ) (p : PrunedOpening T W) → IsEquality row_eq →
+      (pruned_answer row_eq s t p ≡ Ok tt) ↔ IsRestorable s t p
 
   -- a pruned opening is answered Ok under a cap exactly if it is restorable and each query is accepted with its restored path
   abbrev pub OkIsEachAccepted : Type 0
   OkIsEachAccepted =
-      (eq : T → T → Bool) (same : W → W → Bool) (f : Functions T W) (s : Shape) (t : ℕ) (cap : List (List W)) (q : PrunedOpening T W) → IsEquality eq → IsEquality same → IsArity s.arity →
-      (pruned_answer_under eq same f s t cap q ≡ Ok tt) ↔ (IsRestorable s t q × EachAccepted f s t cap q)
+      (row_eq : T → T → Bool) (digest_eq : W → W → Bool) (f : Functions T W) (s : Shape) (t : ℕ) (cap : List (List W)) (p : PrunedOpening T W) → IsEquality row_eq → IsEquality digest_eq → IsArity s.arity →
+      (pruned_answer_under row_eq digest_eq f s t cap p ≡ Ok tt) ↔ (IsRestorable s t p × EachAccepted f s t cap p)
 
   -- a pruned opening is answered Ok under a cap exactly if it is restorable and the cap has each covered node of its layer
   abbrev pub OkIsCapped : Type 0
   OkIsCapped =
-      (eq : T → T → Bool) (same : W → W → Bool) (f : Functions T W) (s : Shape) (t : ℕ) (cap : List (List W)) (q : PrunedOpening T W) → IsEquality eq → IsEquality same →
-      (pruned_answer_under eq same f s t cap q ≡ Ok tt) ↔ (IsRestorable s t q × IsCapped f s t cap q)
+      (row_eq : T → T → Bool) (digest_eq : W → W → Bool) (f : Functions T W) (s : Shape) (t : ℕ) (cap : List (List W)) (p : PrunedOpening T W) → IsEquality row_eq → IsEquality digest_eq →
+      (pruned_answer_under row_eq digest_eq f s t cap p ≡ Ok tt) ↔ (IsRestorable s t p × IsCapped f s t cap p)
 
   -- ---- pruned openings and their restored paths
 
   -- a restorable opening fits the cap exactly if each query is accepted with its restored path
   abbrev pub CappedIsEachAccepted : Type 0
   CappedIsEachAccepted =
-      (f : Functions T W) (s : Shape) (t : ℕ) (cap : List (List W)) (q : PrunedOpening T W) → IsArity s.arity → IsRestorable s t q →
-      IsCapped f s t cap q ↔ EachAccepted f s t cap q
+      (f : Functions T W) (s : Shape) (t : ℕ) (cap : List (List W)) (p : PrunedOpening T W) → IsArity s.arity → IsRestorable s t p →
+      IsCapped f s t cap p ↔ EachAccepted f s t cap p
 
   -- a pruned opening that is refused whatever the cap is refused alike under each cap
   abbrev pub RefusedUnderEachCap : Type 0
   RefusedUnderEachCap =
-      (eq : T → T → Bool) (same : W → W → Bool) (f : Functions T W) (s : Shape) (t : ℕ) (cap : List (List W)) (q : PrunedOpening T W) (e : MerkleTreeError) →
-      pruned_answer eq s t q ≡ Err e → pruned_answer_under eq same f s t cap q ≡ Err e
+      (row_eq : T → T → Bool) (digest_eq : W → W → Bool) (f : Functions T W) (s : Shape) (t : ℕ) (cap : List (List W)) (p : PrunedOpening T W) (e : MerkleTreeError) →
+      pruned_answer row_eq s t p ≡ Err e → pruned_answer_under row_eq digest_eq f s t cap p ≡ Err e
 
   -- what is not refused whatever the cap is answered Ok under a cap exactly if each query with its restored path is
   abbrev pub AnsweredAsEachPath : Type 0
   AnsweredAsEachPath =
-      (eq : T → T → Bool) (same : W → W → Bool) (f : Functions T W) (s : Shape) (t : ℕ) (cap : List (List W)) (q : PrunedOpening T W) → IsEquality eq → IsEquality same → IsArity s.arity →
-      pruned_answer eq s t q ≡ Ok tt →
-      (pruned_answer_under eq same f s t cap q ≡ Ok tt) ↔ ((k : ℕ) → k < length q.indices → answer_under same f s t cap (opening_at f s t q k) ≡ Ok tt)
+      (row_eq : T → T → Bool) (digest_eq : W → W → Bool) (f : Functions T W) (s : Shape) (t : ℕ) (cap : List (List W)) (p : PrunedOpening T W) → IsEquality row_eq → IsEquality digest_eq → IsArity s.arity →
+      pruned_answer row_eq s t p ≡ Ok tt →
+      (pruned_answer_under row_eq digest_eq f s t cap p ≡ Ok tt) ↔ ((k : ℕ) → k < length p.indices → answer_under digest_eq f s t cap (opening_at f s t p k) ≡ Ok tt)
 
   -- what is not refused whatever the cap is answered Ok under a cap, or CapMismatch
   abbrev pub OkOrCapMismatch : Type 0
   OkOrCapMismatch =
-      (eq : T → T → Bool) (same : W → W → Bool) (f : Functions T W) (s : Shape) (t : ℕ) (cap : List (List W)) (q : PrunedOpening T W) → pruned_answer eq s t q ≡ Ok tt →
-      (pruned_answer_under eq same f s t cap q ≡ Ok tt) ⊎ (pruned_answer_under eq same f s t cap q ≡ Err CapMismatch)
+      (row_eq : T → T → Bool) (digest_eq : W → W → Bool) (f : Functions T W) (s : Shape) (t : ℕ) (cap : List (List W)) (p : PrunedOpening T W) → pruned_answer row_eq s t p ≡ Ok tt →
+      (pruned_answer_under row_eq digest_eq f s t cap p ≡ Ok tt) ⊎ (pruned_answer_under row_eq digest_eq f s t cap p ≡ Err CapMismatch)
 
   -- ---- two openings under one cap
 
@@ -169,15 +169,15 @@ module _ (T W : Type 0) where
   -- extraction answers None exactly where both openings are accepted and agree wherever they share a place
   abbrev pub NoneIsAgreement : Type 0
   NoneIsAgreement =
-      (eq : T → T → Bool) (same : W → W → Bool) (f : Functions T W) (s : Shape) (t : ℕ) (cap : List (List W)) (o u : Opening T W) → IsEquality eq → IsEquality same →
-      (extraction_under eq same f s t cap o u ≡ Ok None)
+      (row_eq : T → T → Bool) (digest_eq : W → W → Bool) (f : Functions T W) (s : Shape) (t : ℕ) (cap : List (List W)) (o u : Opening T W) → IsEquality row_eq → IsEquality digest_eq →
+      (extraction_under row_eq digest_eq f s t cap o u ≡ Ok None)
       ↔ (IsAccepted f s t cap o × IsAccepted f s t cap u × AgreeWhereShared f s t o u)
 
   -- extraction answers two inputs exactly where both openings are accepted and these are the last that they share and that differ
   abbrev pub SomeIsCollision : Type 0
   SomeIsCollision =
-      (eq : T → T → Bool) (same : W → W → Bool) (f : Functions T W) (s : Shape) (t : ℕ) (cap : List (List W)) (o u : Opening T W) (x y : Input T W) → IsEquality eq → IsEquality same →
-      (extraction_under eq same f s t cap o u ≡ Ok (Some (x, y)))
+      (row_eq : T → T → Bool) (digest_eq : W → W → Bool) (f : Functions T W) (s : Shape) (t : ℕ) (cap : List (List W)) (o u : Opening T W) (x y : Input T W) → IsEquality row_eq → IsEquality digest_eq →
+      (extraction_under row_eq digest_eq f s t cap o u ≡ Ok (Some (x, y)))
       ↔ (IsAccepted f s t cap o × IsAccepted f s t cap u × IsLastShared f s t o u x y)
 
   -- where two accepted openings agree wherever they share a place, they answer each row of an authenticated matrix alike
@@ -213,31 +213,31 @@ module _ (T W : Type 0) where
   -- extraction from two pruned openings answers Ok exactly where both restore and each query is accepted, with the first pair of queries that differs
   abbrev pub PairIsFirst : Type 0
   PairIsFirst =
-      (eq : T → T → Bool) (same : W → W → Bool) (f : Functions T W) (s : Shape) (t : ℕ) (cap : List (List W)) (q r : PrunedOpening T W) → IsEquality eq → IsEquality same → IsArity s.arity →
+      (row_eq : T → T → Bool) (digest_eq : W → W → Bool) (f : Functions T W) (s : Shape) (t : ℕ) (cap : List (List W)) (p r : PrunedOpening T W) → IsEquality row_eq → IsEquality digest_eq → IsArity s.arity →
       (answer : Option (ℕ × ℕ × (Input T W × Input T W))) →
-      (extraction_multi_under eq same f s t cap q r ≡ Ok answer)
-      ↔ ((IsRestorable s t q × EachAccepted f s t cap q) × (IsRestorable s t r × EachAccepted f s t cap r)
-      × (first_pair (difference_at eq same f s t q r) (length q.indices) (length r.indices) ≡ answer))
+      (extraction_multi_under row_eq digest_eq f s t cap p r ≡ Ok answer)
+      ↔ ((IsRestorable s t p × EachAccepted f s t cap p) × (IsRestorable s t r × EachAccepted f s t cap r)
+      × (first_pair (difference_at row_eq digest_eq f s t p r) (length p.indices) (length r.indices) ≡ answer))
 
   -- it answers None exactly where both are accepted and each query of the one agrees with each of the other wherever they share a place
   abbrev pub NoPairDiffers : Type 0
   NoPairDiffers =
-      (eq : T → T → Bool) (same : W → W → Bool) (f : Functions T W) (s : Shape) (t : ℕ) (cap : List (List W)) (q r : PrunedOpening T W) → IsEquality eq → IsEquality same → IsArity s.arity →
-      (extraction_multi_under eq same f s t cap q r ≡ Ok None)
-      ↔ ((IsRestorable s t q × EachAccepted f s t cap q) × (IsRestorable s t r × EachAccepted f s t cap r)
-      × ((a b : ℕ) → a < length q.indices → b < length r.indices → AgreeWhereShared f s t (opening_at f s t q a) (opening_at f s t r b)))
+      (row_eq : T → T → Bool) (digest_eq : W → W → Bool) (f : Functions T W) (s : Shape) (t : ℕ) (cap : List (List W)) (p r : PrunedOpening T W) → IsEquality row_eq → IsEquality digest_eq → IsArity s.arity →
+      (extraction_multi_under row_eq digest_eq f s t cap p r ≡ Ok None)
+      ↔ ((IsRestorable s t p × EachAccepted f s t cap p) × (IsRestorable s t r × EachAccepted f s t cap r)
+      × ((a b : ℕ) → a < length p.indices → b < length r.indices → AgreeWhereShared f s t (opening_at f s t p a) (opening_at f s t r b)))
 
   -- else it answers two queries, each by its place, and the last inputs that they share and that differ, which have one digest
   abbrev pub PairCollides : Type 0
   PairCollides =
-      (eq : T → T → Bool) (same : W → W → Bool) (f : Functions T W) (s : Shape) (t : ℕ) (cap : List (List W)) (q r : PrunedOpening T W) (a b : ℕ) (x y : Input T W) → IsEquality eq → IsEquality same → IsArity s.arity →
-      extraction_multi_under eq same f s t cap q r ≡ Ok (Some (a, b, (x, y))) →
-      (a < length q.indices) × (b < length r.indices) × IsLastShared f s t (opening_at f s t q a) (opening_at f s t r b) x y
+      (row_eq : T → T → Bool) (digest_eq : W → W → Bool) (f : Functions T W) (s : Shape) (t : ℕ) (cap : List (List W)) (p r : PrunedOpening T W) (a b : ℕ) (x y : Input T W) → IsEquality row_eq → IsEquality digest_eq → IsArity s.arity →
+      extraction_multi_under row_eq digest_eq f s t cap p r ≡ Ok (Some (a, b, (x, y))) →
+      (a < length p.indices) × (b < length r.indices) × IsLastShared f s t (opening_at f s t p a) (opening_at f s t r b) x y
       × IsAtOnePlace x y × (input_digest f x ≡ input_digest f y)
 
   -- each pair of queries before it, by the first list, then by the second, agrees wherever it shares a place
   abbrev pub PairsBeforeAgree : Type 0
   PairsBeforeAgree =
-      (eq : T → T → Bool) (same : W → W → Bool) (f : Functions T W) (s : Shape) (t : ℕ) (cap : List (List W)) (q r : PrunedOpening T W) (a b : ℕ) (x y : Input T W) → IsEquality eq → IsEquality same → IsArity s.arity →
-      extraction_multi_under eq same f s t cap q r ≡ Ok (Some (a, b, (x, y))) → (c d : ℕ) → ((c < a) ⊎ ((c ≡ a) × (d < b))) → d < length r.indices →
-      AgreeWhereShared f s t (opening_at f s t q c) (opening_at f s t r d)
+      (row_eq : T → T → Bool) (digest_eq : W → W → Bool) (f : Functions T W) (s : Shape) (t : ℕ) (cap : List (List W)) (p r : PrunedOpening T W) (a b : ℕ) (x y : Input T W) → IsEquality row_eq → IsEquality digest_eq → IsArity s.arity →
+      extraction_multi_under row_eq digest_eq f s t cap p r ≡ Ok (Some (a, b, (x, y))) → (c d : ℕ) → ((c < a) ⊎ ((c ≡ a) × (d < b))) → d < length r.indices →
+      AgreeWhereShared f s t (opening_at f s t p c) (opening_at f s t r d)

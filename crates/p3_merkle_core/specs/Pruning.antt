@@ -21,8 +21,8 @@ boundary_at s queries l = map (λ j. (l, j)) (filter (is_boundary s queries l) (
 abbrev pub boundary : Shape → List ℕ → ℕ → List (ℕ × ℕ)
 boundary s queries t = joined (boundary_at s queries) t
 
--- queries below the greatest height, a lawful arity, and a layer of the tree
-pub record AreQueries (s : Shape) (t : ℕ) (queries : List ℕ) : Type 0 where
+-- a tree can be asked for these queries under layer t: its arity is one, the queries are below its tallest height, and it has the layer
+pub record CanQuery (s : Shape) (queries : List ℕ) (t : ℕ) : Type 0 where
   pub well_shaped : IsArity s.arity
   pub below : All (λ q. q < tallest (heights s)) queries
   pub in_tree : t ≤ levels s
@@ -71,52 +71,52 @@ pub record PrunedOpening (T W : Type 0) : Type 0 where
 
 -- the rows of the first query under node j of layer l
 abbrev pub rows_under : {T W : Type 0} → Shape → PrunedOpening T W → ℕ → ℕ → List (List T)
-rows_under s q l j = unwrap_or (option_map (λ (i, rows). rows) (find (λ (i, rows). ancestor s l i == j) (zip q.indices q.rows))) []
+rows_under s p l j = unwrap_or (option_map (λ (i, rows). rows) (find (λ (i, rows). ancestor s l i == j) (zip p.indices p.rows))) []
 
 -- the digest that was sent for node j of layer l
-abbrev pub sent : {T W : Type 0} → Functions T W → Shape → ℕ → PrunedOpening T W → ℕ → ℕ → List W
-sent f s t q l j =
-    unwrap_or (option_map (λ (place, digest). digest) (find (λ ((m, k), digest). (m == l) && (k == j)) (zip (boundary s q.indices t) q.digests))) f.default_digest
+abbrev pub sent_digest : {T W : Type 0} → Functions T W → Shape → ℕ → PrunedOpening T W → ℕ → ℕ → List W
+sent_digest f s t p l j =
+    unwrap_or (option_map (λ (place, digest). digest) (find (λ ((m, k), digest). (m == l) && (k == j)) (zip (boundary s p.indices t) p.digests))) f.default_digest
 
 -- the value of a covered node
-unfoldable pub restored : {T W : Type 0} → Functions T W → Shape → ℕ → PrunedOpening T W → ℕ → ℕ → List W
-restored f s t q zero j = f.hash (layer_words s (rows_under s q 0 j) 0)
-restored f s t q (suc l) j =
-    let child = λ (k : ℕ). if is_covered s q.indices l k then restored f s t q l k else sent f s t q l k in
+unfoldable pub restored_node : {T W : Type 0} → Functions T W → Shape → ℕ → PrunedOpening T W → ℕ → ℕ → List W
+restored_node f s t p zero j = f.hash (layer_words s (rows_under s p 0 j) 0)
+restored_node f s t p (suc l) j =
+    let child = λ (k : ℕ). if is_covered s p.indices l k then restored_node f s t p l k else sent_digest f s t p l k in
     let c = compress f s.arity (map (λ i. child (step s l * j + i)) (range_with_len 0 (step s l))) in
-    if has_rows s (suc l) then compress f s.arity (c ∷ f.hash (layer_words s (rows_under s q (suc l) j) (suc l)) ∷ []) else c
+    if has_rows s (suc l) then compress f s.arity (c ∷ f.hash (layer_words s (rows_under s p (suc l) j) (suc l)) ∷ []) else c
 
 -- the value of a covered node or a boundary node
 abbrev pub value_of : {T W : Type 0} → Functions T W → Shape → ℕ → PrunedOpening T W → ℕ → ℕ → List W
-value_of f s t q l j = if is_covered s q.indices l j then restored f s t q l j else sent f s t q l j
+value_of f s t p l j = if is_covered s p.indices l j then restored_node f s t p l j else sent_digest f s t p l j
 
 -- the siblings on the path of query i
 abbrev pub restored_path : {T W : Type 0} → Functions T W → Shape → ℕ → PrunedOpening T W → ℕ → List (List W)
-restored_path f s t q i =
-    joined (λ l. remove (map (λ k. value_of f s t q l (step s l * ancestor s (suc l) i + k)) (range_with_len 0 (step s l))) (position_in_group s l i)) t
+restored_path f s t p i =
+    joined (λ l. remove (map (λ k. value_of f s t p l (step s l * ancestor s (suc l) i + k)) (range_with_len 0 (step s l))) (position_in_group s l i)) t
 
 -- the opening of query k, with its restored path
 abbrev pub opening_at : {T W : Type 0} → Functions T W → Shape → ℕ → PrunedOpening T W → ℕ → Opening T W
-opening_at f s t q k =
-    record { index = slice_index q.indices k; rows = slice_index_or q.rows k []; siblings = restored_path f s t q (slice_index q.indices k) }
+opening_at f s t p k =
+    record { index = slice_index p.indices k; rows = slice_index_or p.rows k []; siblings = restored_path f s t p (slice_index p.indices k) }
 
 -- ---- agreed, accepted
 
 -- queries of one index have one row set, and queries under one node the same rows of the matrices of its layer
-pub record IsAgreed {T W : Type 0} (s : Shape) (t : ℕ) (q : PrunedOpening T W) : Type 0 where
-  pub in_pairs : length q.rows ≡ length q.indices
-  pub repeats : (a b : ℕ) → a < length q.indices → b < length q.indices → slice_index q.indices a ≡ slice_index q.indices b →
-      slice_index_or q.rows a [] ≡ slice_index_or q.rows b []
-  pub groups : (l a b : ℕ) → l ≤ t → a < length q.indices → b < length q.indices → ancestor s l (slice_index q.indices a) ≡ ancestor s l (slice_index q.indices b) →
-      layer_rows s (slice_index_or q.rows a []) l ≡ layer_rows s (slice_index_or q.rows b []) l
+pub record IsAgreed {T W : Type 0} (s : Shape) (t : ℕ) (p : PrunedOpening T W) : Type 0 where
+  pub in_pairs : length p.rows ≡ length p.indices
+  pub repeats : (a b : ℕ) → a < length p.indices → b < length p.indices → slice_index p.indices a ≡ slice_index p.indices b →
+      slice_index_or p.rows a [] ≡ slice_index_or p.rows b []
+  pub groups : (l a b : ℕ) → l ≤ t → a < length p.indices → b < length p.indices → ancestor s l (slice_index p.indices a) ≡ ancestor s l (slice_index p.indices b) →
+      layer_rows s (slice_index_or p.rows a []) l ≡ layer_rows s (slice_index_or p.rows b []) l
 
 -- each covered node of layer t has its entry in the cap
 abbrev pub IsCapped : {T W : Type 0} → Functions T W → Shape → ℕ → List (List W) → PrunedOpening T W → Type 0
-IsCapped f s t cap q = (j : ℕ) → IsTrue (is_covered s q.indices t j) → slice_get cap j ≡ Some (restored f s t q t j)
+IsCapped f s t cap p = (j : ℕ) → IsTrue (is_covered s p.indices t j) → slice_get cap j ≡ Some (restored_node f s t p t j)
 
 -- each query is accepted with its restored path
 abbrev pub EachAccepted : {T W : Type 0} → Functions T W → Shape → ℕ → List (List W) → PrunedOpening T W → Type 0
-EachAccepted f s t cap q = (k : ℕ) → k < length q.indices → IsAccepted f s t cap (opening_at f s t q k)
+EachAccepted f s t cap p = (k : ℕ) → k < length p.indices → IsAccepted f s t cap (opening_at f s t p k)
 
 -- ---- the honest opening
 
@@ -127,5 +127,5 @@ honest_query f b t indices =
 
 -- queries below the greatest height of a lawful batch, and a layer of its tree
 pub record IsHonestQuery {T : Type 0} (b : Batch T) (t : ℕ) (indices : List ℕ) : Type 0 where
-  pub queried : AreQueries (shape b) t indices
+  pub queried : CanQuery (shape b) indices t
   pub lawful : IsLawful (heights (shape b))

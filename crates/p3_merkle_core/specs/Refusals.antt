@@ -8,14 +8,14 @@ use Rattle.p3_support.specs.declared.matrix.Dimensions.{Dimensions}
 use Rattle.p3_merkle_core.specs.Gate.{gate_refusal}
 use Rattle.p3_merkle_core.specs.Nodes.{Functions}
 use Rattle.p3_merkle_core.specs.Openings.{Opening, siblings_below, path_digest}
-use Rattle.p3_merkle_core.specs.Pruning.{PrunedOpening, boundary, restored, IsAgreed}
+use Rattle.p3_merkle_core.specs.Pruning.{PrunedOpening, boundary, restored_node, IsAgreed}
 use Rattle.p3_merkle_core.specs.declared.error.PrunedProofError.TheVariants.{SiblingCountMismatch, InconsistentDuplicateOpenings, InconsistentGroupOpening}
 use Rattle.p3_merkle_core.specs.declared.error.MerkleTreeError.{MerkleTreeError}
 use Rattle.p3_merkle_core.specs.declared.error.MerkleTreeError.TheVariants.{WrongBatchSize, WrongWidth, WrongHeight, CapMismatch, IndexOutOfBounds, MalformedPrunedProof}
 
 -- the test decides equality
 abbrev pub IsEquality : {T : Type 0} → (T → T → Bool) → Type 0
-IsEquality {T} eq = (x y : T) → Decides (eq x y) (x ≡ y)
+IsEquality {T} test = (x y : T) → Decides (test x y) (x ≡ y)
 
 -- the first of some answers
 abbrev pub first_some : {E : Type 0} → List (Option E) → Option E
@@ -51,7 +51,7 @@ slot_of indices i = length (slots_below i indices)
 
 -- the row set of the first query of index i
 abbrev pub first_rows : {T W : Type 0} → PrunedOpening T W → ℕ → List (List T)
-first_rows q i = unwrap_or (option_map (λ (j, rows). rows) (find (λ (j, rows). j == i) (zip q.indices q.rows))) []
+first_rows p i = unwrap_or (option_map (λ (j, rows). rows) (find (λ (j, rows). j == i) (zip p.indices p.rows))) []
 
 -- the lowest queried index under node j of layer l
 abbrev pub lead : Shape → List ℕ → ℕ → ℕ → ℕ
@@ -87,29 +87,29 @@ digest_count_refusal expected got = unless (expected == got) (MalformedPrunedPro
 abbrev pub idle_refusal : ℕ → ℕ → Option MerkleTreeError
 idle_refusal queries digests = if queries == 0 then digest_count_refusal 0 digests else None
 
--- queries of which the highest is not below the tallest height m
+-- indices of which the highest is not below the tallest height m
 abbrev pub queries_refusal : ℕ → List ℕ → Option MerkleTreeError
 queries_refusal m indices = unless (nat_lt (tallest indices) m) (IndexOutOfBounds m (tallest indices))
 
 -- a query whose row set is not that of the first query of its index
 abbrev pub repeat_refusal : {T W : Type 0} → (T → T → Bool) → PrunedOpening T W → Option MerkleTreeError
-repeat_refusal eq q =
-    first_of (λ (i, rows). unless (pointwise (pointwise eq) rows (first_rows q i)) (MalformedPrunedProof (InconsistentDuplicateOpenings (slot_of q.indices i)))) (zip q.indices q.rows)
+repeat_refusal row_eq p =
+    first_of (λ (i, rows). unless (pointwise (pointwise row_eq) rows (first_rows p i)) (MalformedPrunedProof (InconsistentDuplicateOpenings (slot_of p.indices i)))) (zip p.indices p.rows)
 
 -- a row of matrix m, of layer l, that is not that of the lowest queried index under the same node
 abbrev pub row_refusal : {T W : Type 0} → (T → T → Bool) → Shape → PrunedOpening T W → ℕ → ℕ → ℕ → Option MerkleTreeError
-row_refusal eq s q l i m =
-    unless (pointwise eq (slice_index_or (first_rows q i) m []) (slice_index_or (first_rows q (lead s q.indices l (ancestor s l i))) m []))
-    (MalformedPrunedProof (InconsistentGroupOpening (slot_of q.indices i) m))
+row_refusal row_eq s p l i m =
+    unless (pointwise row_eq (slice_index_or (first_rows p i) m []) (slice_index_or (first_rows p (lead s p.indices l (ancestor s l i))) m []))
+    (MalformedPrunedProof (InconsistentGroupOpening (slot_of p.indices i) m))
 
 -- layers up to t, slots ascending, matrices in input order: the first row that disagrees
 abbrev pub group_refusal : {T W : Type 0} → (T → T → Bool) → Shape → ℕ → PrunedOpening T W → Option MerkleTreeError
-group_refusal eq s t q =
-    first_of (λ l. first_of (λ i. first_of (row_refusal eq s q l i) (matrices_at s l)) (slots_below (tallest (heights s)) q.indices)) (range_with_len 0 (suc t))
+group_refusal row_eq s t p =
+    first_of (λ l. first_of (λ i. first_of (row_refusal row_eq s p l i) (matrices_at s l)) (slots_below (tallest (heights s)) p.indices)) (range_with_len 0 (suc t))
 
 -- whether the digest is the cap's entry j
 abbrev pub is_entry : {W : Type 0} → (W → W → Bool) → List (List W) → ℕ → List W → Bool
-is_entry same cap j digest = unwrap_or (option_map (λ entry. pointwise same entry digest) (slice_get cap j)) false
+is_entry digest_eq cap j digest = unwrap_or (option_map (λ entry. pointwise digest_eq entry digest) (slice_get cap j)) false
 
 -- ---- single openings
 
@@ -119,19 +119,19 @@ sibling_count_refusal expected got = unless (expected == got) (WrongHeight expec
 
 -- why an opening is refused under a cap, which is layer t: the first of these reasons
 abbrev pub refusal_under : {T W : Type 0} → (W → W → Bool) → Functions T W → Shape → ℕ → List (List W) → Opening T W → Option MerkleTreeError
-refusal_under same f s t cap o =
+refusal_under digest_eq f s t cap o =
     first_some (
     size_refusal (length s.dimensions) (length o.rows)
     ∷ gate_refusal (heights s)
     ∷ sibling_count_refusal (siblings_below s t) (length o.siblings)
     ∷ row_width_refusal (widths s) o.rows
     ∷ unless (nat_lt o.index (tallest (heights s))) (IndexOutOfBounds (tallest (heights s)) o.index)
-    ∷ unless (is_entry same cap (ancestor s t o.index) (path_digest f s o t)) CapMismatch
+    ∷ unless (is_entry digest_eq cap (ancestor s t o.index) (path_digest f s o t)) CapMismatch
     ∷ [])
 
 -- the answer to an opening under a cap
 abbrev pub answer_under : {T W : Type 0} → (W → W → Bool) → Functions T W → Shape → ℕ → List (List W) → Opening T W → Result (Unit {0}) MerkleTreeError
-answer_under same f s t cap o = verdict (refusal_under same f s t cap o)
+answer_under digest_eq f s t cap o = verdict (refusal_under digest_eq f s t cap o)
 
 -- why a replay of an index is refused, where a proof has so many siblings: the first of these reasons
 abbrev pub replay_refusal : Shape → ℕ → ℕ → ℕ → Option MerkleTreeError
@@ -146,39 +146,39 @@ replay_refusal s t index siblings =
 
 -- why a pruned opening is refused, whatever the cap, which is layer t: the first of these reasons
 abbrev pub pruned_refusal : {T W : Type 0} → (T → T → Bool) → Shape → ℕ → PrunedOpening T W → Option MerkleTreeError
-pruned_refusal eq s t q =
+pruned_refusal row_eq s t p =
     first_some (
     gate_refusal (heights s)
-    ∷ size_refusal (length q.indices) (length q.rows)
-    ∷ idle_refusal (length q.indices) (length q.digests)
-    ∷ queries_refusal (tallest (heights s)) q.indices
-    ∷ repeat_refusal eq q
-    ∷ digest_count_refusal (length (boundary s q.indices t)) (length q.digests)
-    ∷ first_of (λ i. width_refusal s.dimensions (first_rows q i)) (slots_below (tallest (heights s)) q.indices)
-    ∷ group_refusal eq s t q
+    ∷ size_refusal (length p.indices) (length p.rows)
+    ∷ idle_refusal (length p.indices) (length p.digests)
+    ∷ queries_refusal (tallest (heights s)) p.indices
+    ∷ repeat_refusal row_eq p
+    ∷ digest_count_refusal (length (boundary s p.indices t)) (length p.digests)
+    ∷ first_of (λ i. width_refusal s.dimensions (first_rows p i)) (slots_below (tallest (heights s)) p.indices)
+    ∷ group_refusal row_eq s t p
     ∷ [])
 
 -- the answer to a pruned opening, whatever the cap
 abbrev pub pruned_answer : {T W : Type 0} → (T → T → Bool) → Shape → ℕ → PrunedOpening T W → Result (Unit {0}) MerkleTreeError
-pruned_answer eq s t q = verdict (pruned_refusal eq s t q)
+pruned_answer row_eq s t p = verdict (pruned_refusal row_eq s t p)
 
 -- a covered node of layer t whose value is not the cap's entry
 abbrev pub cap_refusal : {T W : Type 0} → (W → W → Bool) → Functions T W → Shape → ℕ → List (List W) → PrunedOpening T W → Option MerkleTreeError
-cap_refusal same f s t cap q =
-    unless (list_all (λ i. is_entry same cap (ancestor s t i) (restored f s t q t (ancestor s t i))) q.indices) CapMismatch
+cap_refusal digest_eq f s t cap p =
+    unless (list_all (λ i. is_entry digest_eq cap (ancestor s t i) (restored_node f s t p t (ancestor s t i))) p.indices) CapMismatch
 
 -- why a pruned opening is refused under a cap
 abbrev pub pruned_refusal_under : {T W : Type 0} → (T → T → Bool) → (W → W → Bool) → Functions T W → Shape → ℕ → List (List W) → PrunedOpening T W → Option MerkleTreeError
-pruned_refusal_under eq same f s t cap q = option_or (pruned_refusal eq s t q) (cap_refusal same f s t cap q)
+pruned_refusal_under row_eq digest_eq f s t cap p = option_or (pruned_refusal row_eq s t p) (cap_refusal digest_eq f s t cap p)
 
 -- the answer to a pruned opening under a cap
 abbrev pub pruned_answer_under : {T W : Type 0} → (T → T → Bool) → (W → W → Bool) → Functions T W → Shape → ℕ → List (List W) → PrunedOpening T W → Result (Unit {0}) MerkleTreeError
-pruned_answer_under eq same f s t cap q = verdict (pruned_refusal_under eq same f s t cap q)
+pruned_answer_under row_eq digest_eq f s t cap p = verdict (pruned_refusal_under row_eq digest_eq f s t cap p)
 
 -- lawful heights, queries below the tallest height, a digest for each boundary node, and rows of their widths that agree
-pub record IsRestorable {T W : Type 0} (s : Shape) (t : ℕ) (q : PrunedOpening T W) : Type 0 where
+pub record IsRestorable {T W : Type 0} (s : Shape) (t : ℕ) (p : PrunedOpening T W) : Type 0 where
   pub lawful : IsLawful (heights s)
-  pub below : All (λ i. i < tallest (heights s)) q.indices
-  pub count : length q.digests ≡ length (boundary s q.indices t)
-  pub rows_fit : All (λ rows. map length rows ≡ widths s) q.rows
-  pub agreed : IsAgreed s t q
+  pub below : All (λ i. i < tallest (heights s)) p.indices
+  pub count : length p.digests ≡ length (boundary s p.indices t)
+  pub rows_fit : All (λ rows. map length rows ≡ widths s) p.rows
+  pub agreed : IsAgreed s t p

@@ -4,10 +4,10 @@ use Rattle.p3_merkle_core.proofs.Verdicts.{accepted_from, accepted_answer, prune
 use Rattle.p3_merkle_core.proofs.laws.answers.Goals as goal
 
 pub returns-clause-single : goal.returns-clause-single
-returns-clause-single g c = λ same f s t cap o dec. (accepted_from same f s t cap o dec, accepted_answer same f s t cap o dec)
+returns-clause-single g c = λ digest_eq f s t cap o dec. (accepted_from digest_eq f s t cap o dec, accepted_answer digest_eq f s t cap o dec)
 
 pub returns-clause-pruned : goal.returns-clause-pruned
-returns-clause-pruned g c = λ eq s t q dec. (restorable eq s t q dec, unrefused eq s t q dec)
+returns-clause-pruned g c = λ row_eq s t p dec. (restorable row_eq s t p dec, unrefused row_eq s t p dec)
 
 pub returns-clause-under_cap : goal.returns-clause-under_cap
 returns-clause-under_cap g c = pruned_capped

@@ -3,7 +3,7 @@ use Rattle.p3_merkle_core.proofs.Equivalence.{equivalent}
 use Rattle.p3_merkle_core.proofs.laws.equivalence.Goals as goal
 
 pub returns-clause-restored : goal.returns-clause-restored
-returns-clause-restored g c = λ f s t cap q w r. equivalent f s t cap q w r.lawful r.below r.rows_fit r.agreed
+returns-clause-restored g c = λ f s t cap p w r. equivalent f s t cap p w r.lawful r.below r.rows_fit r.agreed
 
 pub returns-clause-refused : goal.returns-clause-refused
 returns-clause-refused g c = refused_under
