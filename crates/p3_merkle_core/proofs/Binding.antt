@@ -2,9 +2,9 @@
 use Rattle.std.proofs.Common.{◌≡◌, ℕ, zero, suc, ◌+◌, ◌-◌, ◌<◌, ◌≤◌, false, eqb, List, [], ◌∷◌, ◌++◌, map, refl, sym, ◌∙◌, arith, inl, inr, length, take, drop, insert, filter, flat_map, zip, length-append, eq-eqb}
 use Rattle.std.specs.List.{list_any}
 use Rattle.std.proofs.lemmas.Bool.{cases_Bool, cases_eq, or_parts, ne_eqb}
-use Rattle.p3_merkle_core.specs.Geometry.{Shape, exponent, layer_exponent, joined, ancestor, heights}
+use Rattle.p3_merkle_core.specs.Geometry.{Shape, exponent, layer_exponent, joined, ancestor, heights, has_rows}
 use Rattle.p3_merkle_core.specs.Nodes.{Functions}
-use Rattle.p3_merkle_core.specs.Openings.{Opening, IsAccepted, inputs_at, shared_inputs, meeting_level, has_rows, layer_words, layer_rows}
+use Rattle.p3_merkle_core.specs.Openings.{Opening, IsAccepted, inputs_at, shared_inputs, meeting_level, layer_words, layer_rows}
 use Rattle.p3_merkle_core.proofs.LeastFacts.{least_bound}
 use Rattle.p3_merkle_core.proofs.StepFacts.{anc_start}
 use Rattle.p3_merkle_core.proofs.Extraction.{same_ends, inputs_with_rows, level_lengths}

@@ -2,9 +2,9 @@
 use Rattle.std.proofs.Common.{◌≡◌, ℕ, zero, suc, ◌<◌, ◌≤◌, true, false, cond, eqb, nat_lt, List, [], ◌∷◌, ◌++◌, map, refl, ap, sym, ◌∙◌, arith, inl, inr, length, filter, flat_map, zip, All}
 use Rattle.std.specs.List.{list_any, list_all}
 use Rattle.std.proofs.lemmas.Bool.{cond-true, cond-false, cases_Bool, lt-ltb, eqb-true, or_parts, true≢false}
-use Rattle.p3_merkle_core.specs.Geometry.{Shape, IsLawful, exponent, tallest, layer_exponent, levels, ancestor, row_at_index, expected_height, raw_len, heights, heights_of}
-use Rattle.p3_merkle_core.specs.Nodes.{Functions, Batch, Matrix, shape, at_layer, joined_rows, compress, injected, node, children, dimensions_of}
-use Rattle.p3_merkle_core.specs.Openings.{honest, honest_rows, honest_siblings, Opening, siblings_below, has_rows, layer_words, group_at, path_digest}
+use Rattle.p3_merkle_core.specs.Geometry.{Shape, IsLawful, exponent, tallest, layer_exponent, levels, ancestor, row_at_index, expected_height, raw_len, heights, heights_of, has_rows}
+use Rattle.p3_merkle_core.specs.Nodes.{Functions, Batch, Matrix, shape, at_layer, joined_rows, compress, row_digest, with_rows, node, children, dimensions_of}
+use Rattle.p3_merkle_core.specs.Openings.{honest, honest_rows, honest_siblings, Opening, siblings_below, layer_words, group_at, path_digest}
 use Rattle.p3_merkle_core.proofs.LadderFacts.{IsArity, row_is_anc_at, row_below}
 use Rattle.p3_merkle_core.proofs.RawFacts.{anc_below}
 use Rattle.p3_merkle_core.proofs.PathFacts.{path_length, path_group}
@@ -32,24 +32,6 @@ rows_join x top j row same (m ∷ ms) le =
       | inr f ↦ rw f rest
     ]
 
-none_here : {T : Type 0} (x : ℕ) (ms : List (Matrix T)) → list_any (λ h. eqb (exponent h) x) (matrix_heights ms) ≡ false → filter (λ m. eqb (exponent m.height) x) ms ≡ []
-none_here x [] e = refl
-none_here x (m ∷ ms) e =
-    let p = or_parts (eqb (exponent m.height) x) (list_any (λ h. eqb (exponent h) x) (matrix_heights ms)) e in
-    cond-false (eqb (exponent m.height) x) (m ∷ filter (λ m. eqb (exponent m.height) x) ms) (filter (λ m. eqb (exponent m.height) x) ms) p.0 ∙ none_here x ms p.1
-
-some_here : {T : Type 0} (x : ℕ) (ms : List (Matrix T)) → list_any (λ h. eqb (exponent h) x) (matrix_heights ms) ≡ true →
-    (first : Matrix T) × (rest : List (Matrix T)) × (filter (λ m. eqb (exponent m.height) x) ms ≡ first ∷ rest)
-some_here x [] e = absurd (true≢false (sym e))
-some_here x (m ∷ ms) e =
-    let others = filter (λ m. eqb (exponent m.height) x) ms in
-    elim (cases_Bool (eqb (exponent m.height) x)) [
-      | inl t ↦ (m, others, cond-true (eqb (exponent m.height) x) (m ∷ others) others t)
-      | inr f ↦
-          let s = some_here x ms (rw f at e) in
-          (s.0, s.1, cond-false (eqb (exponent m.height) x) (m ∷ others) others f ∙ s.2)
-    ]
-
 all_tall : {T : Type 0} (x top j : ℕ) → ((h : ℕ) → h ≤ top → h ≡ expected_height top h → exponent h ≡ x → j < h) → (ms : List (Matrix T)) → tallest (matrix_heights ms) ≤ top → All (λ h. h ≡ expected_height top h) (matrix_heights ms) →
     list_all (λ m. nat_lt j m.height) (filter (λ m. eqb (exponent m.height) x) ms) ≡ true
 all_tall x top j tall [] le on = refl
@@ -70,37 +52,31 @@ rows_are b t i l w =
     rows_join (layer_exponent s l) (tallest (heights s)) (ancestor s l i) (λ h. row_at_index s h i)
     (λ h le e. row_is_anc_at s w.well_shaped h i l le w.below (sym e)) b.matrices (omega arith)
 
-pub injected_is : {T W : Type 0} (f : Functions T W) (b : Batch T) (t i l : ℕ) (c : List W) → IsHonest b t i →
-    injected f b.arity (at_layer b l) (ancestor (shape b) l i) c
-    ≡ cond (has_rows (shape b) l) (compress f b.arity (c ∷ f.hash (joined_rows (at_layer b l) (ancestor (shape b) l i)) ∷ [])) c
-injected_is f b t i l c w =
+-- each matrix of a layer has the row of a leaf's ancestor, so they are hashed
+pub row_digest_is : {T W : Type 0} (f : Functions T W) (b : Batch T) (t i l : ℕ) → IsHonest b t i →
+    row_digest f (at_layer b l) (ancestor (shape b) l i) ≡ f.hash (joined_rows (at_layer b l) (ancestor (shape b) l i))
+row_digest_is f b t i l w =
     let s = shape b in
     let x = layer_exponent s l in
     let j = ancestor s l i in
-    elim (cases_Bool (has_rows s l)) [
-      | inl e ↦
-          let some = some_here x b.matrices e in
-          let tall = all_tall x (tallest (heights s)) j
-          (λ h le on is. let below : row_at_index s h i < h = row_below s h i on w.below in rw (row_is_anc_at s w.well_shaped h i l le w.below (sym is)) at below) b.matrices (omega arith) w.lawful.on_ladder in
-          let passes = rw some.2 at tall in
-          rw (e, some.2, passes) refl
-      | inr e ↦ rw (e, none_here x b.matrices e) refl
-    ]
+    let tall = all_tall x (tallest (heights s)) j
+    (λ h le on is. let below : row_at_index s h i < h = row_below s h i on w.below in rw (row_is_anc_at s w.well_shaped h i l le w.below (sym is)) at below) b.matrices (omega arith) w.lawful.on_ladder in
+    rw tall refl
 
 pub node_leaf : {T W : Type 0} (f : Functions T W) (b : Batch T) (j : ℕ) → j < raw_len (shape b) 0 → node f b 0 j ≡ f.hash (joined_rows (at_layer b 0) j)
 unfolding node
 node_leaf f b j h = cond-true (nat_lt j (raw_len (shape b) 0)) (f.hash (joined_rows (at_layer b 0) j)) f.default_digest (lt-ltb j (raw_len (shape b) 0) h)
 
 pub node_next : {T W : Type 0} (f : Functions T W) (b : Batch T) (l j : ℕ) → j < raw_len (shape b) (suc l) →
-    node f b (suc l) j ≡ injected f b.arity (at_layer b (suc l)) j (compress f b.arity (children f b l j))
+    node f b (suc l) j ≡ with_rows f b.arity (has_rows (shape b) (suc l)) (compress f b.arity (children f b l j)) (row_digest f (at_layer b (suc l)) j)
 unfolding node
 node_next f b l j h =
-    cond-true (nat_lt j (raw_len (shape b) (suc l))) (injected f b.arity (at_layer b (suc l)) j (compress f b.arity (children f b l j))) f.default_digest (lt-ltb j (raw_len (shape b) (suc l)) h)
+    cond-true (nat_lt j (raw_len (shape b) (suc l))) (with_rows f b.arity (has_rows (shape b) (suc l)) (compress f b.arity (children f b l j)) (row_digest f (at_layer b (suc l)) j)) f.default_digest (lt-ltb j (raw_len (shape b) (suc l)) h)
 
 -- ---- the whole check
 
 pub reached_next : {T W : Type 0} (f : Functions T W) (s : Shape) (o : Opening T W) (l : ℕ) →
-    path_digest f s o (suc l) ≡ cond (has_rows s (suc l)) (compress f s.arity (compress f s.arity (group_at f s o l (path_digest f s o l)) ∷ f.hash (layer_words s o.rows (suc l)) ∷ [])) (compress f s.arity (group_at f s o l (path_digest f s o l)))
+    path_digest f s o (suc l) ≡ with_rows f s.arity (has_rows s (suc l)) (compress f s.arity (group_at f s o l (path_digest f s o l))) (f.hash (layer_words s o.rows (suc l)))
 unfolding path_digest
 reached_next f s o l = refl
 
@@ -120,7 +96,7 @@ honest_reaches f b t i w (suc l) h =
     let j = ancestor s (suc l) i in
     let fits = anc_below s w.well_shaped i w.below (suc l) (omega (arith, w.in_tree)) in
     reached_next f s (honest f b t i) l
-    ∙ rw (ih, path_group f s w.well_shaped (node f b) t (honest f b t i) refl l (omega arith), rows_are b t i (suc l) w) (sym (injected_is f b t i (suc l) (compress f b.arity (children f b l j)) w))
+    ∙ rw (ih, path_group f s w.well_shaped (node f b) t (honest f b t i) refl l (omega arith), rows_are b t i (suc l) w, row_digest_is f b t i (suc l) w) refl
     ∙ sym (node_next f b l j fits)
 
 pub honest_count : {T W : Type 0} (f : Functions T W) (b : Batch T) (t i : ℕ) → IsHonest b t i → length (honest_siblings f b t i) ≡ siblings_below (shape b) t

@@ -4,9 +4,9 @@ use Rattle.std.specs.List.{find}
 use Rattle.std.specs.Option.{unwrap_or, option_map}
 use Rattle.std.proofs.lemmas.Bool.{cases_Bool, cond-true, eqb-true, true≢false}
 use Rattle.std.proofs.lemmas.List.Folds.{list_any_at}
-use Rattle.p3_merkle_core.specs.Geometry.{Shape, IsLawful, ancestor, tallest, heights, widths}
-use Rattle.p3_merkle_core.specs.Nodes.{Functions, compress}
-use Rattle.p3_merkle_core.specs.Openings.{path_digest, has_rows, layer_words, group_at}
+use Rattle.p3_merkle_core.specs.Geometry.{Shape, IsLawful, ancestor, tallest, heights, widths, has_rows}
+use Rattle.p3_merkle_core.specs.Nodes.{Functions, compress, with_rows}
+use Rattle.p3_merkle_core.specs.Openings.{path_digest, layer_words, group_at}
 use Rattle.p3_merkle_core.specs.Pruning.{PrunedOpening, is_covered, rows_under, restored_node, value_of, opening_at, IsAgreed, IsCapped, EachAccepted}
 use Rattle.p3_merkle_core.proofs.LadderFacts.{IsArity}
 use Rattle.p3_merkle_core.proofs.Completeness.{reached_next, reached_leaf}
@@ -18,7 +18,7 @@ restored_leaf f s t p j = refl
 
 pub restored_next : {T W : Type 0} (f : Functions T W) (s : Shape) (t : ℕ) (p : PrunedOpening T W) (l j : ℕ) →
     restored_node f s t p (suc l) j
-    ≡ cond (has_rows s (suc l)) (compress f s.arity (compress f s.arity (group_values s (value_of f s t p) l j) ∷ f.hash (layer_words s (rows_under s p (suc l) j) (suc l)) ∷ [])) (compress f s.arity (group_values s (value_of f s t p) l j))
+    ≡ with_rows f s.arity (has_rows s (suc l)) (compress f s.arity (group_values s (value_of f s t p) l j)) (f.hash (layer_words s (rows_under s p (suc l) j) (suc l)))
 unfolding restored_node
 restored_next f s t p l j = refl
 

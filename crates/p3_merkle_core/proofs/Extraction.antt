@@ -1,9 +1,9 @@
 -- The last difference of two checks that reach one digest is a collision.
 use Rattle.std.proofs.Common.{◌≡◌, ℕ, zero, suc, ◌+◌, ◌-◌, ◌%◌, ◌<◌, ◌≤◌, Bool, true, false, eqb, List, [], ◌∷◌, ◌++◌, refl, ap, sym, subst, ◌∙◌, arith, inl, inr, ◌⊎◌, length, insert, replicate, length-append, length-take, length-drop, add-suc, eq-eqb, slice_get}
 use Rattle.std.proofs.lemmas.Bool.{cases_Bool, cases_lt, cases_eq, eqb-true, ne_eqb}
-use Rattle.p3_merkle_core.specs.Geometry.{Shape, joined, step, ancestor, position_in_group}
-use Rattle.p3_merkle_core.specs.Nodes.{Functions, padded_group}
-use Rattle.p3_merkle_core.specs.Openings.{Opening, Input, Group, Rows, Pair, input_digest, inputs_at, group_at, path_digest, has_rows, layer_words, siblings_at, siblings_below, IsLastDifference, shared_inputs, meeting_level, IsAccepted}
+use Rattle.p3_merkle_core.specs.Geometry.{Shape, joined, step, ancestor, position_in_group, has_rows}
+use Rattle.p3_merkle_core.specs.Nodes.{Functions, padded_group, pair}
+use Rattle.p3_merkle_core.specs.Openings.{Opening, Input, Group, Rows, Pair, input_digest, inputs_at, group_at, path_digest, layer_words, siblings_at, siblings_below, IsLastDifference, shared_inputs, meeting_level, IsAccepted}
 use Rattle.p3_merkle_core.proofs.LeastFacts.{least_passes}
 use Rattle.p3_merkle_core.proofs.StepFacts.{anc_next, step_above_1}
 use Rattle.p3_merkle_core.proofs.LadderFacts.{IsArity}
@@ -45,7 +45,7 @@ abbrev pub full_group : {T W : Type 0} → Functions T W → Shape → Opening T
 full_group f s o l = padded_group f s.arity (group_at f s o l (path_digest f s o l))
 
 pub inputs_with_rows : {T W : Type 0} (f : Functions T W) (s : Shape) (o : Opening T W) (l : ℕ) → has_rows s (suc l) ≡ true →
-    inputs_at f s o l ≡ Group l (full_group f s o l) ∷ Rows l (layer_words s o.rows (suc l)) ∷ Pair l (padded_group f s.arity (f.compression (full_group f s o l) ∷ f.hash (layer_words s o.rows (suc l)) ∷ [])) ∷ []
+    inputs_at f s o l ≡ Group l (full_group f s o l) ∷ Rows l (layer_words s o.rows (suc l)) ∷ Pair l (pair f s.arity (f.compression (full_group f s o l)) (f.hash (layer_words s o.rows (suc l)))) ∷ []
 inputs_with_rows f s o l e = rw e refl
 
 pub inputs_alone : {T W : Type 0} (f : Functions T W) (s : Shape) (o : Opening T W) (l : ℕ) → has_rows s (suc l) ≡ false →

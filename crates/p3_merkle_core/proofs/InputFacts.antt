@@ -4,9 +4,9 @@ use Rattle.std.proofs.lemmas.Bool.{cases_Bool, cond_both}
 use Rattle.std.proofs.lemmas.List.{length-replicate}
 use Rattle.std.proofs.lemmas.List.Edits.{length-insert}
 use Rattle.std.proofs.lemmas.List.Elements.{All-append, All-cons, All-nil}
-use Rattle.p3_merkle_core.specs.Geometry.{Shape, IsArity, is_bridge, layer_exponent, joined, step, position_in_group}
-use Rattle.p3_merkle_core.specs.Nodes.{Functions, padded_group}
-use Rattle.p3_merkle_core.specs.Openings.{Opening, Leaf, Group, Rows, Pair, HasDigests, inputs, inputs_at, group_at, path_digest, has_rows, siblings_at, siblings_below, layer_words}
+use Rattle.p3_merkle_core.specs.Geometry.{Shape, IsArity, is_bridge, layer_exponent, joined, step, position_in_group, has_rows}
+use Rattle.p3_merkle_core.specs.Nodes.{Functions, padded_group, pair}
+use Rattle.p3_merkle_core.specs.Openings.{Opening, Leaf, Group, Rows, Pair, HasDigests, inputs, inputs_at, group_at, path_digest, siblings_at, siblings_below, layer_words}
 use Rattle.p3_merkle_core.proofs.StepFacts.{step_above_1}
 use Rattle.p3_merkle_core.proofs.Extraction.{siblings_full, in_group}
 
@@ -26,11 +26,11 @@ level_full f s t o l w e h =
     let group = filled_long f s.arity (group_at f s o l (path_digest f s o l)) (omega (arith, step_le s l w)) in
     let words = layer_words s o.rows (suc l) in
     let first = padded_group f s.arity (group_at f s o l (path_digest f s o l)) in
-    let last = padded_group f s.arity (f.compression first ∷ f.hash words ∷ []) in
-    let pair = filled_long f s.arity (f.compression first ∷ f.hash words ∷ []) (omega arith) in
+    let last = pair f s.arity (f.compression first) (f.hash words) in
+    let long_pair = filled_long f s.arity (f.compression first ∷ f.hash words ∷ []) (omega arith) in
     let P = HasDigests s.arity in
     elim (cases_Bool (has_rows s (suc l))) [
-      | inl y ↦ rw y (All-cons P (Group l first) (Rows l words ∷ Pair l last ∷ []) group (All-cons P (Rows l words) (Pair l last ∷ []) tt (All-cons P (Pair l last) [] pair (All-nil P))))
+      | inl y ↦ rw y (All-cons P (Group l first) (Rows l words ∷ Pair l last ∷ []) group (All-cons P (Rows l words) (Pair l last ∷ []) tt (All-cons P (Pair l last) [] long_pair (All-nil P))))
       | inr n ↦ rw n (All-cons P (Group l first) [] group (All-nil P))
     ]
 

@@ -2,9 +2,9 @@
 use Rattle.std.proofs.Common.{◌≡◌, ℕ, zero, suc, ◌+◌, ◌-◌, List, [], ◌∷◌, ◌++◌, refl, sym, inl, inr, eq-eqb}
 use Rattle.std.proofs.lemmas.Bool.{cases_Bool, cases_eq, ne_eqb}
 use Rattle.std.proofs.lemmas.List.{append_assoc}
-use Rattle.p3_merkle_core.specs.Geometry.{Shape, joined}
-use Rattle.p3_merkle_core.specs.Nodes.{Functions, padded_group}
-use Rattle.p3_merkle_core.specs.Openings.{Opening, Input, Leaf, Group, Rows, Pair, IsAtOnePlace, IsLastDifference, IsLastShared, inputs, inputs_at, meeting_level, has_rows, layer_words, input_digest, path_digest}
+use Rattle.p3_merkle_core.specs.Geometry.{Shape, joined, has_rows}
+use Rattle.p3_merkle_core.specs.Nodes.{Functions, padded_group, pair}
+use Rattle.p3_merkle_core.specs.Openings.{Opening, Input, Leaf, Group, Rows, Pair, IsAtOnePlace, IsLastDifference, IsLastShared, inputs, inputs_at, meeting_level, layer_words, input_digest, path_digest}
 use Rattle.p3_merkle_core.proofs.Extraction.{inputs_with_rows, inputs_alone, full_group}
 use Rattle.p3_merkle_core.proofs.Completeness.{reached_next, reached_leaf}
 
@@ -65,9 +65,9 @@ last_reached f s (suc t) o =
     let below = inputs f s t o in
     let words = layer_words s o.rows (suc t) in
     let group = full_group f s o t in
-    let pair = padded_group f s.arity (f.compression group ∷ f.hash words ∷ []) in
+    let last = pair f s.arity (f.compression group) (f.hash words) in
     let next = reached_next f s o t in
     elim (cases_Bool (has_rows s (suc t))) [
-      | inl e ↦ (below ++ Group t group ∷ Rows t words ∷ [], Pair t pair, rw (inputs_with_rows f s o t e) (sym (append_assoc below (Group t group ∷ Rows t words ∷ []) (Pair t pair ∷ []))), sym (rw e at next))
+      | inl e ↦ (below ++ Group t group ∷ Rows t words ∷ [], Pair t last, rw (inputs_with_rows f s o t e) (sym (append_assoc below (Group t group ∷ Rows t words ∷ []) (Pair t last ∷ []))), sym (rw e at next))
       | inr n ↦ (below, Group t group, rw (inputs_alone f s o t n) refl, sym (rw n at next))
     ]

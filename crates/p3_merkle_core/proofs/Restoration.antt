@@ -1,5 +1,5 @@
 -- The honest pruned opening restores the nodes and the honest paths.
-use Rattle.std.proofs.Common.{◌≡◌, ℕ, zero, suc, ◌+◌, ◌*◌, ◌<◌, ◌≤◌, true, eqb, ◌&&◌, List, [], ◌∷◌, map, ap, sym, ◌∙◌, arith, inl, inr, length, get_or, remove, Some, zip}
+use Rattle.std.proofs.Common.{◌≡◌, ℕ, zero, suc, ◌+◌, ◌*◌, ◌<◌, ◌≤◌, true, eqb, ◌&&◌, List, [], ◌∷◌, map, refl, ap, sym, ◌∙◌, arith, inl, inr, length, get_or, remove, Some, zip}
 use Rattle.std.specs.List.{find}
 use Rattle.std.specs.Option.{unwrap_or, option_map}
 use Rattle.std.proofs.lemmas.Bool.{cases_Bool, cond-true, cond-false, eqb-true, and_parts, true≢false}
@@ -7,10 +7,10 @@ use Rattle.std.proofs.lemmas.List.{length-map, get_or-map}
 use Rattle.std.proofs.lemmas.List.FromFn.{length-map-range_with_len, get_or-map-range_with_len}
 use Rattle.std.proofs.lemmas.Option.{slice_get-get_or}
 use Rattle.p3_merkle_core.specs.Geometry.{step, ancestor, raw_len, layer_len, position_in_group}
-use Rattle.p3_merkle_core.specs.Nodes.{Functions, Batch, shape, compress, node, layer, at_layer, children, injected}
+use Rattle.p3_merkle_core.specs.Nodes.{Functions, Batch, shape, compress, node, layer, at_layer, children}
 use Rattle.p3_merkle_core.specs.Openings.{honest_rows, honest_siblings, honest_group}
 use Rattle.p3_merkle_core.specs.Pruning.{is_covered, boundary, is_in, rows_under, sent_digest, restored_node, value_of, restored_path, honest_query, IsHonestQuery, IsCapped}
-use Rattle.p3_merkle_core.proofs.Completeness.{IsHonest, rows_are, injected_is, node_leaf, node_next}
+use Rattle.p3_merkle_core.proofs.Completeness.{IsHonest, rows_are, row_digest_is, node_leaf, node_next}
 use Rattle.p3_merkle_core.proofs.Accepted.{padded_ge}
 use Rattle.p3_merkle_core.proofs.Sufficient.{covered_below, child_listed}
 use Rattle.p3_merkle_core.proofs.PathFacts.{joined_same, map_same, group_values, piece}
@@ -72,9 +72,8 @@ honest_restores f b t indices w (suc l) j h c =
     let u = honest_under f b t indices w (suc l) j h c in
     let at = u.2 in
     let group = group_restored f b t indices w l j (omega arith) c (λ k y. honest_restores f b t indices w l k (omega arith) y) in
-    let inner = compress f b.arity (children f b l j) in
     restored_next f s t (honest_query f b t indices) l j
-    ∙ rw (group, u.3, rows_are b t (u.0) (suc l) (u.1)) (sym (injected_is f b t (u.0) (suc l) inner (u.1)) ∙ ap (λ k. injected f b.arity (at_layer b (suc l)) k inner) at)
+    ∙ rw (group, u.3, rows_are b t (u.0) (suc l) (u.1), ← row_digest_is f b t (u.0) (suc l) (u.1), at) refl
     ∙ sym (node_next f b l j (covered_below s indices t w.queried (suc l) j h c))
 
 -- each query's restored path is its honest one

@@ -3,9 +3,9 @@ use Rattle.std.proofs.Common.{◌≡◌, ◌↔◌, ℕ, zero, suc, ◌-◌, ◌
 use Rattle.std.proofs.lemmas.Bool.{cases_Bool}
 use Rattle.std.proofs.lemmas.List.{take_all}
 use Rattle.std.proofs.lemmas.List.Edits.{length-insert}
-use Rattle.p3_merkle_core.specs.Geometry.{Shape, IsArity, joined, step, ancestor, position_in_group}
+use Rattle.p3_merkle_core.specs.Geometry.{Shape, IsArity, joined, step, ancestor, position_in_group, has_rows}
 use Rattle.p3_merkle_core.specs.Nodes.{Functions}
-use Rattle.p3_merkle_core.specs.Openings.{Opening, IsAccepted, inputs, inputs_at, shared_inputs, group_at, path_digest, has_rows, layer_words, layer_rows, siblings_at, siblings_below}
+use Rattle.p3_merkle_core.specs.Openings.{Opening, IsAccepted, inputs, inputs_at, shared_inputs, group_at, path_digest, layer_words, layer_rows, siblings_at, siblings_below}
 use Rattle.p3_merkle_core.proofs.Completeness.{reached_leaf, reached_next}
 use Rattle.p3_merkle_core.proofs.PathFacts.{joined_same}
 use Rattle.p3_merkle_core.proofs.Extraction.{same_ends, siblings_full, in_group, inputs_with_rows, inputs_alone, full_group}

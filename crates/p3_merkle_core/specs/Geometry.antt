@@ -115,6 +115,10 @@ cap_layer s cap_height = levels s - cap_height
 abbrev pub layer_of : Shape → ℕ → ℕ
 layer_of s h = least (λ l. layer_exponent s l == exponent h) (levels s)
 
+-- whether a matrix belongs to layer l, so that its nodes have rows
+abbrev pub has_rows : Shape → ℕ → Bool
+has_rows s l = list_any (λ h. exponent h == layer_exponent s l) (heights s)
+
 -- ---- lengths of layers
 
 -- r for r ≤ 1, n for 1 < r < n, else the least multiple of n not below r

@@ -1,8 +1,8 @@
 -- The value of each node of a tree.
-use Rattle.std.specs.Prelude.{◌≡◌, ℕ, zero, suc, ◌+◌, ◌-◌, ◌*◌, ◌<◌, ◌==◌, nat_lt, if◌then◌else◌, List, [], ◌∷◌, ◌++◌, map, length, replicate, filter, flat_map, All}
+use Rattle.std.specs.Prelude.{◌≡◌, ℕ, zero, suc, ◌+◌, ◌-◌, ◌*◌, ◌<◌, ◌==◌, Bool, nat_lt, if◌then◌else◌, List, [], ◌∷◌, ◌++◌, map, length, replicate, filter, flat_map, All}
 use Rattle.std.specs.List.{list_all, range_with_len}
 use Rattle.p3_support.specs.declared.matrix.Dimensions.{Dimensions}
-use Rattle.p3_merkle_core.specs.Geometry.{Shape, exponent, layer_exponent, step, levels, raw_len, layer_len}
+use Rattle.p3_merkle_core.specs.Geometry.{Shape, exponent, layer_exponent, step, levels, raw_len, layer_len, has_rows}
 
 -- the hash of words, the compression of digests, and the default digest
 pub record Functions (T W : Type 0) : Type 0 where
@@ -57,18 +57,21 @@ compress f n ds = f.compression (padded_group f n ds)
 abbrev pub row_digest : {T W : Type 0} → Functions T W → List (Matrix T) → ℕ → List W
 row_digest f ms j = if list_all (λ m. nat_lt j m.height) ms then f.hash (joined_rows ms j) else f.default_digest
 
--- the digest c, compressed once more with the digest of the rows j of the matrices, if there are any
-abbrev pub injected : {T W : Type 0} → Functions T W → ℕ → List (Matrix T) → ℕ → List W → List W
-injected f n [] j c = c
-injected f n (m ∷ ms) j c = compress f n (c ∷ row_digest f (m ∷ ms) j ∷ [])
+-- the digest of a node's children beside that of rows, followed by default digests: what is compressed where a node has rows
+abbrev pub pair : {T W : Type 0} → Functions T W → ℕ → List W → List W → List (List W)
+pair f n c r = padded_group f n (c ∷ r ∷ [])
 
--- node j of layer l: the hash of rows for a leaf, else the compression of its children, with the rows that are injected; the default digest for padding
+-- the digest c of a node's children, compressed once more with the digest r of rows if the node has rows
+abbrev pub with_rows : {T W : Type 0} → Functions T W → ℕ → Bool → List W → List W → List W
+with_rows f n has c r = if has then f.compression (pair f n c r) else c
+
+-- node j of layer l: the hash of rows for a leaf, else the compression of its children, with its rows if the layer has any; the default digest for padding
 unfoldable pub node : {T W : Type 0} → Functions T W → Batch T → ℕ → ℕ → List W
 node f b zero j = if nat_lt j (raw_len (shape b) 0) then f.hash (joined_rows (at_layer b 0) j) else f.default_digest
 node f b (suc l) j =
     let s = step (shape b) l in
     if nat_lt j (raw_len (shape b) (suc l))
-    then injected f b.arity (at_layer b (suc l)) j (compress f b.arity (map (λ i. node f b l (s * j + i)) (range_with_len 0 s)))
+    then with_rows f b.arity (has_rows (shape b) (suc l)) (compress f b.arity (map (λ i. node f b l (s * j + i)) (range_with_len 0 s))) (row_digest f (at_layer b (suc l)) j)
     else f.default_digest
 
 -- the children of node j of layer l + 1

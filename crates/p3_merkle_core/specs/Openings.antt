@@ -1,8 +1,7 @@
 -- Openings of one index: the honest one, the inputs of a check, when it is accepted, where two meet.
 use Rattle.std.specs.Prelude.{◌≡◌, ◌≢◌, ◌⊎◌, ℕ, zero, suc, ◌+◌, ◌-◌, ◌<◌, ◌==◌, Bool, if◌then◌else◌, List, [], ◌∷◌, map, length, take, drop, filter, flat_map, zip, insert, remove, Some, slice_get, slice_index, slice_index_or, nat_le}
-use Rattle.std.specs.List.{list_any}
-use Rattle.p3_merkle_core.specs.Geometry.{Shape, IsLawful, least, joined, exponent, tallest, layer_exponent, layer_of, step, ancestor, position_in_group, row_at_index, heights, widths}
-use Rattle.p3_merkle_core.specs.Nodes.{Functions, Batch, shape, padded_group, compress, children}
+use Rattle.p3_merkle_core.specs.Geometry.{Shape, IsLawful, least, joined, exponent, tallest, layer_exponent, layer_of, step, ancestor, position_in_group, row_at_index, heights, widths, has_rows}
+use Rattle.p3_merkle_core.specs.Nodes.{Functions, Batch, shape, padded_group, compress, children, pair, with_rows}
 
 -- ---- the honest opening
 
@@ -43,10 +42,6 @@ siblings_below s (suc l) = siblings_below s l + (step s l - 1)
 abbrev pub siblings_at : {T W : Type 0} → Shape → Opening T W → ℕ → List (List W)
 siblings_at s o l = take (step s l - 1) (drop (siblings_below s l) o.siblings)
 
--- whether a matrix belongs to layer l
-abbrev pub has_rows : Shape → ℕ → Bool
-has_rows s l = list_any (λ h. exponent h == layer_exponent s l) (heights s)
-
 -- the rows of the matrices of layer l, each with its height
 abbrev pub layer_rows : {T : Type 0} → Shape → List (List T) → ℕ → List (ℕ × List T)
 layer_rows s rows l = filter (λ (h, row). exponent h == layer_exponent s l) (zip (heights s) rows)
@@ -62,9 +57,7 @@ group_at f s o l digest = insert (siblings_at s o l) (position_in_group s l o.in
 -- the digest that the check of an opening reaches at layer l
 unfoldable pub path_digest : {T W : Type 0} → Functions T W → Shape → Opening T W → ℕ → List W
 path_digest f s o zero = f.hash (layer_words s o.rows 0)
-path_digest f s o (suc l) =
-    let c = compress f s.arity (group_at f s o l (path_digest f s o l)) in
-    if has_rows s (suc l) then compress f s.arity (c ∷ f.hash (layer_words s o.rows (suc l)) ∷ []) else c
+path_digest f s o (suc l) = with_rows f s.arity (has_rows s (suc l)) (compress f s.arity (group_at f s o l (path_digest f s o l))) (f.hash (layer_words s o.rows (suc l)))
 
 -- an input of a check with its place: words that are hashed, or as many digests as the arity, which are compressed
 pub data Input (T W : Type 0) : Type 0 where
@@ -93,7 +86,7 @@ inputs_at f s o l =
     let group = padded_group f s.arity (group_at f s o l (path_digest f s o l)) in
     let words = layer_words s o.rows (suc l) in
     if has_rows s (suc l)
-    then Group l group ∷ Rows l words ∷ Pair l (padded_group f s.arity (f.compression group ∷ f.hash words ∷ [])) ∷ []
+    then Group l group ∷ Rows l words ∷ Pair l (pair f s.arity (f.compression group) (f.hash words)) ∷ []
     else (Group l group ∷ [])
 
 -- two inputs stand at one place

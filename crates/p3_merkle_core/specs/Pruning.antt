@@ -1,9 +1,9 @@
 -- Pruned openings of many indices: what is covered, what is sent, what suffices, what is restored.
 use Rattle.std.specs.Prelude.{◌≡◌, ℕ, zero, suc, ◌+◌, ◌*◌, ◌/◌, ◌<◌, ◌==◌, ◌&&◌, ◌⊎◌, Bool, false, not, if◌then◌else◌, IsTrue, List, [], ◌∷◌, map, length, filter, zip, remove, find, unwrap_or, option_map, slice_index, slice_index_or, slice_get, Some, ◌≤◌, All, ◌-◌, nat_le}
 use Rattle.std.specs.List.{list_any, range_with_len}
-use Rattle.p3_merkle_core.specs.Geometry.{Shape, IsArity, IsLawful, tallest, levels, joined, step, raw_len, layer_len, ancestor, position_in_group, heights}
-use Rattle.p3_merkle_core.specs.Nodes.{Functions, Batch, shape, node, compress}
-use Rattle.p3_merkle_core.specs.Openings.{Opening, IsAccepted, has_rows, layer_rows, layer_words, honest_rows}
+use Rattle.p3_merkle_core.specs.Geometry.{Shape, IsArity, IsLawful, tallest, levels, joined, step, raw_len, layer_len, ancestor, position_in_group, heights, has_rows}
+use Rattle.p3_merkle_core.specs.Nodes.{Functions, Batch, shape, node, compress, with_rows}
+use Rattle.p3_merkle_core.specs.Openings.{Opening, IsAccepted, layer_rows, layer_words, honest_rows}
 
 -- node j of layer l is a queried leaf, or above one
 abbrev pub is_covered : Shape → List ℕ → ℕ → ℕ → Bool
@@ -84,7 +84,7 @@ restored_node f s t p zero j = f.hash (layer_words s (rows_under s p 0 j) 0)
 restored_node f s t p (suc l) j =
     let child = λ (k : ℕ). if is_covered s p.indices l k then restored_node f s t p l k else sent_digest f s t p l k in
     let c = compress f s.arity (map (λ i. child (step s l * j + i)) (range_with_len 0 (step s l))) in
-    if has_rows s (suc l) then compress f s.arity (c ∷ f.hash (layer_words s (rows_under s p (suc l) j) (suc l)) ∷ []) else c
+    with_rows f s.arity (has_rows s (suc l)) c (f.hash (layer_words s (rows_under s p (suc l) j) (suc l)))
 
 -- the value of a covered node or a boundary node
 abbrev pub value_of : {T W : Type 0} → Functions T W → Shape → ℕ → PrunedOpening T W → ℕ → ℕ → List W
