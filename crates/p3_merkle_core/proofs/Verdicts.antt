@@ -1,5 +1,5 @@
 -- The answers under a cap: what is accepted is what is not refused.
-use Rattle.std.proofs.Common.{◌≡◌, ◌↔◌, ℕ, zero, suc, ◌<◌, Bool, true, false, eqb, nat_lt, List, [], ◌∷◌, refl, ap, sym, ◌∙◌, arith, length, get_or, slice_get, Option, Some, None, eq-eqb}
+use Rattle.std.proofs.Common.{◌≡◌, ◌↔◌, ℕ, zero, suc, ◌<◌, Bool, true, false, eqb, nat_lt, List, [], ◌∷◌, map, refl, ap, sym, ◌∙◌, arith, length, get_or, slice_get, Option, Some, None, eq-eqb}
 use Rattle.std.specs.Prelude.{Ok, Decides}
 use Rattle.std.specs.Cmp.Lexicographic.{pointwise, pointwise_decides}
 use Rattle.std.specs.List.{list_all}
@@ -7,12 +7,12 @@ use Rattle.std.specs.Option.{unwrap_or, option_map, option_or}
 use Rattle.std.proofs.lemmas.Bool.{and_parts, and_from, eqb-true, ltb-true, lt-ltb, true≢false}
 use Rattle.std.proofs.lemmas.List.{length-map}
 use Rattle.p3_merkle_core.proofs.ShapeFacts.{length-widths}
-use Rattle.p3_merkle_core.specs.Geometry.{Shape, IsArity, tallest, ancestor, heights, widths}
+use Rattle.p3_merkle_core.specs.Geometry.{Shape, IsArity, tallest, ancestor, heights, widths, IsLawful}
 use Rattle.p3_merkle_core.specs.Gate.{gate_refusal}
 use Rattle.p3_merkle_core.specs.Nodes.{Functions}
 use Rattle.p3_merkle_core.specs.Openings.{Opening, IsAccepted, siblings_below, path_digest}
 use Rattle.p3_merkle_core.specs.Pruning.{PrunedOpening, restored_node, IsCapped, EachAccepted}
-use Rattle.p3_merkle_core.specs.Refusals.{first_some, unless, verdict, is_entry, size_refusal, sibling_count_refusal, row_width_refusal, refusal_under, answer_under, pruned_refusal, cap_refusal, pruned_answer_under, IsRestorable}
+use Rattle.p3_merkle_core.specs.Refusals.{first_some, unless, verdict, is_entry, size_refusal, sibling_count_refusal, row_width_refusal, refusal_under, answer_under, pruned_refusal, cap_refusal, pruned_answer_under, IsRestorable, form_refusal}
 use Rattle.p3_merkle_core.specs.declared.error.MerkleTreeError.TheVariants.{WrongBatchSize, WrongHeight, IndexOutOfBounds, CapMismatch}
 use Rattle.p3_merkle_core.proofs.NoneFacts.{none_parts, unless_none, none_unless, verdict_ok, lawful_from, rows_fit_from}
 use Rattle.p3_merkle_core.proofs.Answered.{restorable}
@@ -41,43 +41,64 @@ true_each p (x ∷ xs) e = and_from (p x) (list_all p xs) (e 0 (omega arith)) (t
 
 -- ---- single openings
 
+-- the form is not refused exactly if the heights are lawful and rows, siblings and index fit them
+pub record HasForm {T : Type 0} (s : Shape) (t index : ℕ) (rows : List (List T)) (siblings : ℕ) : Type 0 where
+  pub lawful : IsLawful (heights s)
+  pub rows_fit : map length rows ≡ widths s
+  pub count : siblings ≡ siblings_below s t
+  pub in_range : index < tallest (heights s)
+
+pub form_from : {T : Type 0} (s : Shape) (t index : ℕ) (rows : List (List T)) (siblings : ℕ) → form_refusal s t index rows siblings ≡ None → HasForm s t index rows siblings
+form_from s t index rows siblings e =
+    let m = tallest (heights s) in
+    let r5 = unless (nat_lt index m) (IndexOutOfBounds m index) ∷ [] in
+    let r4 = row_width_refusal (widths s) rows ∷ r5 in
+    let r3 = sibling_count_refusal (siblings_below s t) siblings ∷ r4 in
+    let a = none_parts (size_refusal (length s.dimensions) (length rows)) (first_some (gate_refusal (heights s) ∷ r3)) e in
+    let b = none_parts (gate_refusal (heights s)) (first_some r3) a.1 in
+    let c = none_parts (sibling_count_refusal (siblings_below s t) siblings) (first_some r4) b.1 in
+    let d = none_parts (row_width_refusal (widths s) rows) (first_some r5) c.1 in
+    let g = none_parts (unless (nat_lt index m) (IndexOutOfBounds m index)) None d.1 in
+    let size = eqb-true (length s.dimensions) (length rows) (unless_none (eqb (length s.dimensions) (length rows)) (WrongBatchSize (length s.dimensions) (length rows)) a.0) in
+    record {
+      lawful = lawful_from (heights s) b.0;
+      rows_fit = rows_fit_from (widths s) rows (length-widths s ∙ size) d.0;
+      count = sym (eqb-true (siblings_below s t) siblings (unless_none (eqb (siblings_below s t) siblings) (WrongHeight (siblings_below s t) siblings) c.0));
+      in_range = ltb-true index m (unless_none (nat_lt index m) (IndexOutOfBounds m index) g.0);
+    }
+
+pub form_none : {T : Type 0} (s : Shape) (t index : ℕ) (rows : List (List T)) (siblings : ℕ) → HasForm s t index rows siblings → form_refusal s t index rows siblings ≡ None
+form_none s t index rows siblings w =
+    let m = tallest (heights s) in
+    let size = size_none (length s.dimensions) (length rows) (sym (length-widths s) ∙ sym (ap length w.rows_fit) ∙ length-map rows length) in
+    let gate = gate_none (heights s) w.lawful in
+    let height = none_unless (eqb (siblings_below s t) siblings) (WrongHeight (siblings_below s t) siblings) (eq-eqb (siblings_below s t) siblings (sym w.count)) in
+    let fit : row_width_refusal (widths s) rows ≡ None = rw (← w.rows_fit) (each_width 0 rows) in
+    let below = none_unless (nat_lt index m) (IndexOutOfBounds m index) (lt-ltb index m w.in_range) in
+    rw (size, gate, height, fit, below) refl
+
 pub accepted_from : {T W : Type 0} (digest_eq : W → W → Bool) (f : Functions T W) (s : Shape) (t : ℕ) (cap : List (List W)) (o : Opening T W) → ((x y : W) → Decides (digest_eq x y) (x ≡ y)) →
     answer_under digest_eq f s t cap o ≡ Ok tt → IsAccepted f s t cap o
 accepted_from digest_eq f s t cap o dec e =
-    let m = tallest (heights s) in
     let digest = path_digest f s o t in
     let entry = is_entry digest_eq cap (ancestor s t o.index) digest in
-    let r6 = unless entry CapMismatch ∷ [] in
-    let r5 = unless (nat_lt o.index m) (IndexOutOfBounds m o.index) ∷ r6 in
-    let r4 = row_width_refusal (widths s) o.rows ∷ r5 in
-    let r3 = sibling_count_refusal (siblings_below s t) (length o.siblings) ∷ r4 in
-    let a = none_parts (size_refusal (length s.dimensions) (length o.rows)) (first_some (gate_refusal (heights s) ∷ r3)) (verdict_ok (refusal_under digest_eq f s t cap o) e) in
-    let b = none_parts (gate_refusal (heights s)) (first_some r3) a.1 in
-    let c = none_parts (sibling_count_refusal (siblings_below s t) (length o.siblings)) (first_some r4) b.1 in
-    let d = none_parts (row_width_refusal (widths s) o.rows) (first_some r5) c.1 in
-    let g = none_parts (unless (nat_lt o.index m) (IndexOutOfBounds m o.index)) (first_some r6) d.1 in
-    let h = none_parts (unless entry CapMismatch) None g.1 in
-    let size = eqb-true (length s.dimensions) (length o.rows) (unless_none (eqb (length s.dimensions) (length o.rows)) (WrongBatchSize (length s.dimensions) (length o.rows)) a.0) in
+    let both = none_parts (form_refusal s t o.index o.rows (length o.siblings)) (unless entry CapMismatch) (verdict_ok (refusal_under digest_eq f s t cap o) e) in
+    let form = form_from s t o.index o.rows (length o.siblings) both.0 in
     record {
-      lawful = lawful_from (heights s) b.0;
-      rows_fit = rows_fit_from (widths s) o.rows (length-widths s ∙ size) d.0;
-      count = sym (eqb-true (siblings_below s t) (length o.siblings) (unless_none (eqb (siblings_below s t) (length o.siblings)) (WrongHeight (siblings_below s t) (length o.siblings)) c.0));
-      in_range = ltb-true o.index m (unless_none (nat_lt o.index m) (IndexOutOfBounds m o.index) g.0);
-      authentic = (entry_is digest_eq dec cap (ancestor s t o.index) digest).0 (unless_none entry CapMismatch h.0);
+      lawful = form.lawful;
+      rows_fit = form.rows_fit;
+      count = form.count;
+      in_range = form.in_range;
+      authentic = (entry_is digest_eq dec cap (ancestor s t o.index) digest).0 (unless_none entry CapMismatch both.1);
     }
 
 pub accepted_answer : {T W : Type 0} (digest_eq : W → W → Bool) (f : Functions T W) (s : Shape) (t : ℕ) (cap : List (List W)) (o : Opening T W) → ((x y : W) → Decides (digest_eq x y) (x ≡ y)) →
     IsAccepted f s t cap o → answer_under digest_eq f s t cap o ≡ Ok tt
 accepted_answer digest_eq f s t cap o dec w =
-    let m = tallest (heights s) in
     let digest = path_digest f s o t in
-    let size = size_none (length s.dimensions) (length o.rows) (sym (length-widths s) ∙ sym (ap length w.rows_fit) ∙ length-map o.rows length) in
-    let gate = gate_none (heights s) w.lawful in
-    let height = none_unless (eqb (siblings_below s t) (length o.siblings)) (WrongHeight (siblings_below s t) (length o.siblings)) (eq-eqb (siblings_below s t) (length o.siblings) (sym w.count)) in
-    let rows : row_width_refusal (widths s) o.rows ≡ None = rw (← w.rows_fit) (each_width 0 o.rows) in
-    let index = none_unless (nat_lt o.index m) (IndexOutOfBounds m o.index) (lt-ltb o.index m w.in_range) in
+    let form = form_none s t o.index o.rows (length o.siblings) (record { lawful = w.lawful; rows_fit = w.rows_fit; count = w.count; in_range = w.in_range }) in
     let entry = none_unless (is_entry digest_eq cap (ancestor s t o.index) digest) CapMismatch ((entry_is digest_eq dec cap (ancestor s t o.index) digest).1 w.authentic) in
-    let none : refusal_under digest_eq f s t cap o ≡ None = rw (size, gate, height, rows, index, entry) refl in
+    let none : refusal_under digest_eq f s t cap o ≡ None = rw (form, entry) refl in
     ap verdict none
 
 -- ---- pruned openings

@@ -117,17 +117,21 @@ is_entry digest_eq cap j digest = unwrap_or (option_map (λ entry. pointwise dig
 abbrev pub sibling_count_refusal : ℕ → ℕ → Option MerkleTreeError
 sibling_count_refusal expected got = unless (expected == got) (WrongHeight expected got)
 
--- why an opening is refused under a cap, which is layer t: the first of these reasons
+-- why an opening of an index, rows and so many siblings is refused before any of it is hashed, where the cap is layer t: the first of these reasons
+abbrev pub form_refusal : {T : Type 0} → Shape → ℕ → ℕ → List (List T) → ℕ → Option MerkleTreeError
+form_refusal s t index rows siblings =
+    first_some (
+    size_refusal (length s.dimensions) (length rows)
+    ∷ gate_refusal (heights s)
+    ∷ sibling_count_refusal (siblings_below s t) siblings
+    ∷ row_width_refusal (widths s) rows
+    ∷ unless (nat_lt index (tallest (heights s))) (IndexOutOfBounds (tallest (heights s)) index)
+    ∷ [])
+
+-- why an opening is refused under a cap, which is layer t: its form, else a cap whose entry is not the digest that the check reaches
 abbrev pub refusal_under : {T W : Type 0} → (W → W → Bool) → Functions T W → Shape → ℕ → List (List W) → Opening T W → Option MerkleTreeError
 refusal_under digest_eq f s t cap o =
-    first_some (
-    size_refusal (length s.dimensions) (length o.rows)
-    ∷ gate_refusal (heights s)
-    ∷ sibling_count_refusal (siblings_below s t) (length o.siblings)
-    ∷ row_width_refusal (widths s) o.rows
-    ∷ unless (nat_lt o.index (tallest (heights s))) (IndexOutOfBounds (tallest (heights s)) o.index)
-    ∷ unless (is_entry digest_eq cap (ancestor s t o.index) (path_digest f s o t)) CapMismatch
-    ∷ [])
+    option_or (form_refusal s t o.index o.rows (length o.siblings)) (unless (is_entry digest_eq cap (ancestor s t o.index) (path_digest f s o t)) CapMismatch)
 
 -- the answer to an opening under a cap
 abbrev pub answer_under : {T W : Type 0} → (W → W → Bool) → Functions T W → Shape → ℕ → List (List W) → Opening T W → Result (Unit {0}) MerkleTreeError
