@@ -10,6 +10,7 @@ use Rattle.p3_merkle_core.specs.Openings.{honest, IsAccepted}
 use Rattle.p3_merkle_core.proofs.LadderFacts.{row_below}
 use Rattle.p3_merkle_core.proofs.RawFacts.{anc_below}
 use Rattle.p3_merkle_core.proofs.Completeness.{IsHonest, honest_reaches, honest_count}
+use Rattle.p3_merkle_core.proofs.CheckFacts.{accepted_by_walk}
 
 pub padded_ge : (r n : ℕ) → r ≤ padded_len r n
 padded_ge r n =
@@ -29,12 +30,8 @@ honest_accepted f b t i w widths =
     let j = ancestor s t i in
     let below = anc_below s w.well_shaped i w.below t w.in_tree in
     let in_layer : j < layer_len s t = omega (arith, padded_ge (raw_len s t) b.arity) in
-    record {
-      lawful = w.lawful;
-      rows_fit = lengths_are (λ h. row_at_index s h i) b.matrices widths (λ k d h. row_below s (get_or (heights s) k d) i (w.lawful.on_ladder k d h) w.below);
-      count = honest_count f b t i w;
-      in_range = w.below;
-      authentic =
-          slice_get-get_or (layer f b t) j f.default_digest (omega (arith, length-map-range_with_len (node f b t) 0 (layer_len s t)))
-          ∙ ap (λ d. Some d) (get_or-map-range_with_len (node f b t) 0 (layer_len s t) j j f.default_digest in_layer (omega arith) ∙ sym (honest_reaches f b t i w t (omega arith)));
-    }
+    accepted_by_walk f s t (layer f b t) (honest f b t i) w.lawful
+    (lengths_are (λ h. row_at_index s h i) b.matrices widths (λ k d h. row_below s (get_or (heights s) k d) i (w.lawful.on_ladder k d h) w.below))
+    (honest_count f b t i w) w.below
+    (slice_get-get_or (layer f b t) j f.default_digest (omega (arith, length-map-range_with_len (node f b t) 0 (layer_len s t)))
+    ∙ ap (λ d. Some d) (get_or-map-range_with_len (node f b t) 0 (layer_len s t) j j f.default_digest in_layer (omega arith) ∙ sym (honest_reaches f b t i w t (omega arith))))

@@ -11,6 +11,7 @@ use Rattle.p3_merkle_core.specs.Pruning.{PrunedOpening, is_covered, rows_under, 
 use Rattle.p3_merkle_core.proofs.LadderFacts.{IsArity}
 use Rattle.p3_merkle_core.proofs.Completeness.{reached_next, reached_leaf}
 use Rattle.p3_merkle_core.proofs.PathFacts.{group_values, path_length, path_group}
+use Rattle.p3_merkle_core.proofs.CheckFacts.{accepted_walk, accepted_by_walk}
 
 pub restored_leaf : {T W : Type 0} (f : Functions T W) (s : Shape) (t : ℕ) (p : PrunedOpening T W) (j : ℕ) → restored_node f s t p 0 j ≡ f.hash (layer_words s (rows_under s p 0 j) 0)
 unfolding restored_node
@@ -68,17 +69,12 @@ pub equivalent : {T W : Type 0} (f : Functions T W) (s : Shape) (t : ℕ) (cap :
 equivalent f s t cap p w lawful below fit a = (
   λ capped k h.
       let i = get_or p.indices k 0 in
-      record {
-        lawful = lawful;
-        rows_fit = fit k [] (let e = a.in_pairs in omega arith);
-        count = path_length s w (value_of f s t p) i t;
-        in_range = below k 0 h;
-        authentic = capped (ancestor s t i) (query_covered s p.indices k t h) ∙ ap (λ d. Some d) (sym (path_reaches f s t p w a k h t (omega arith)));
-      },
+      accepted_by_walk f s t cap (opening_at f s t p k) lawful (fit k [] (let e = a.in_pairs in omega arith)) (path_length s w (value_of f s t p) i t) (below k 0 h)
+      (capped (ancestor s t i) (query_covered s p.indices k t h) ∙ ap (λ d. Some d) (sym (path_reaches f s t p w a k h t (omega arith)))),
   λ each j c.
       let u = rows_under_is s p.indices p.rows t j a.in_pairs c in
       let x = each (u.0) (u.1) in
       let at = u.2 in
       let top = path_reaches f s t p w a (u.0) (u.1) t (omega arith) in
-      rw (← at) (x.authentic ∙ ap (λ d. Some d) top),
+      rw (← at) (accepted_walk f s t cap (opening_at f s t p (u.0)) x ∙ ap (λ d. Some d) top),
 )

@@ -8,6 +8,8 @@ use Rattle.p3_merkle_core.proofs.LeastFacts.{least_passes}
 use Rattle.p3_merkle_core.proofs.StepFacts.{anc_next, step_above_1}
 use Rattle.p3_merkle_core.proofs.LadderFacts.{IsArity}
 use Rattle.p3_merkle_core.proofs.Completeness.{reached_next, reached_leaf}
+pub use Rattle.p3_merkle_core.proofs.CheckFacts.{full_group, inputs_with_rows, inputs_alone}
+use Rattle.p3_merkle_core.proofs.CheckFacts.{accepted_walk}
 
 -- ---- lists
 
@@ -39,18 +41,6 @@ put_back (a ∷ xs) [] cs ds (suc p) x y h k e = absurd (omega arith)
 put_back (a ∷ xs) (b ∷ ys) cs ds (suc p) x y h k e = put_back xs ys cs ds p x y (omega arith) (omega arith) (let c : insert xs p x ++ cs ≡ insert ys p y ++ ds = cc in c)
 
 -- ---- one level
-
--- the N digests of level l
-abbrev pub full_group : {T W : Type 0} → Functions T W → Shape → Opening T W → ℕ → List (List W)
-full_group f s o l = padded_group f s.arity (group_at f s o l (path_digest f s o l))
-
-pub inputs_with_rows : {T W : Type 0} (f : Functions T W) (s : Shape) (o : Opening T W) (l : ℕ) → has_rows s (suc l) ≡ true →
-    inputs_at f s o l ≡ Group l (full_group f s o l) ∷ Rows l (layer_words s o.rows (suc l)) ∷ Pair l (pair f s.arity (f.compression (full_group f s o l)) (f.hash (layer_words s o.rows (suc l)))) ∷ []
-inputs_with_rows f s o l e = rw e refl
-
-pub inputs_alone : {T W : Type 0} (f : Functions T W) (s : Shape) (o : Opening T W) (l : ℕ) → has_rows s (suc l) ≡ false →
-    inputs_at f s o l ≡ Group l (full_group f s o l) ∷ []
-inputs_alone f s o l e = rw e refl
 
 -- where the level ends in one digest, a last difference of its inputs has one digest
 level_collides : {T W : Type 0} (f : Functions T W) (s : Shape) (o u : Opening T W) (l : ℕ) (x y : Input T W) → path_digest f s o (suc l) ≡ path_digest f s u (suc l) →
@@ -171,7 +161,7 @@ collides f s t cap o u w a b x y d =
     elim (cases_eq o.index u.index) [
       | inl e ↦
           let test = eq-eqb o.index u.index e in
-          let top : path_digest f s o t ≡ path_digest f s u t = let c = a.authentic in let c' = b.authentic in let k = ap (λ i. slice_get cap (ancestor s t i)) e in cc in
+          let top : path_digest f s o t ≡ path_digest f s u t = let c = accepted_walk f s t cap o a in let c' = accepted_walk f s t cap u b in let k = ap (λ i. slice_get cap (ancestor s t i)) e in cc in
           let meet : Meet s o u 0 t = record { first_full = a.count; second_full = b.count; together = λ l h k. ap (λ i. position_in_group s l i) e; well_shaped = w } in
           elim (rw test at d) [
             | inl higher ↦
@@ -189,7 +179,7 @@ collides f s t cap o u w a b x y d =
                 let p : ℕ → Bool = λ l. eqb (ancestor s (suc l) o.index) (ancestor s (suc l) u.index) in
                 let join = eqb-true (ancestor s (suc m) o.index) (ancestor s (suc m) u.index) (least_passes p t lt) in
                 let above : (l : ℕ) → m < l → ancestor s l o.index ≡ ancestor s l u.index = λ l h. (let z : suc m + (l - suc m) ≡ l = omega arith in rw z at (anc_same s (suc m) o.index u.index join (l - suc m))) in
-                let top : path_digest f s o t ≡ path_digest f s u t = let c = a.authentic in let c' = b.authentic in let k = ap (λ i. slice_get cap i) (above t lt) in cc in
+                let top : path_digest f s o t ≡ path_digest f s u t = let c = accepted_walk f s t cap o a in let c' = accepted_walk f s t cap u b in let k = ap (λ i. slice_get cap i) (above t lt) in cc in
                 let z : m + (t - m) ≡ t = omega arith in
                 levels_collide f s o u m t
                 (record { first_full = a.count; second_full = b.count; together = λ l h k. ap (λ i. i % step s l) (above l h); well_shaped = w })

@@ -7,6 +7,7 @@ pub mod LadderFacts
 pub mod RawFacts
 pub mod ListFacts
 pub mod Completeness
+pub mod CheckFacts
 pub mod Accepted
 pub mod Extraction
 pub mod Under

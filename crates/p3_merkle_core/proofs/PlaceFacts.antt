@@ -1,12 +1,11 @@
--- The inputs of two checks of one shape stand at the same places, and the last one has the digest that is reached.
+-- The inputs of two checks of one shape stand at the same places.
 use Rattle.std.proofs.Common.{◌≡◌, ℕ, zero, suc, ◌+◌, ◌-◌, List, [], ◌∷◌, ◌++◌, refl, sym, inl, inr, eq-eqb}
 use Rattle.std.proofs.lemmas.Bool.{cases_Bool, cases_eq, ne_eqb}
 use Rattle.std.proofs.lemmas.List.{append_assoc}
 use Rattle.p3_merkle_core.specs.Geometry.{Shape, joined, has_rows}
 use Rattle.p3_merkle_core.specs.Nodes.{Functions, padded_group, pair}
 use Rattle.p3_merkle_core.specs.Openings.{Opening, Input, Leaf, Group, Rows, Pair, IsAtOnePlace, IsLastDifference, IsLastShared, inputs, inputs_at, meeting_level, layer_words, input_digest, path_digest}
-use Rattle.p3_merkle_core.proofs.Extraction.{inputs_with_rows, inputs_alone, full_group}
-use Rattle.p3_merkle_core.proofs.Completeness.{reached_next, reached_leaf}
+use Rattle.p3_merkle_core.proofs.CheckFacts.{inputs_with_rows, inputs_alone, full_group}
 
 -- two lists of inputs stand at the same places
 AreAlike : {T W : Type 0} → List (Input T W) → List (Input T W) → Type 0
@@ -55,19 +54,4 @@ at_one_place f s t o u x y d =
           let test = ne_eqb o.index u.index ne in
           alike_last (joined (λ k. inputs_at f s o (m + k)) (t - m)) (joined (λ k. inputs_at f s u (m + k)) (t - m)) x y
           (alike_joined (λ k. inputs_at f s o (m + k)) (λ k. inputs_at f s u (m + k)) (t - m) (λ k. level_alike f s o u (m + k))) (rw test at d)
-    ]
-
--- the last input of a check has the digest that the check reaches
-pub last_reached : {T W : Type 0} (f : Functions T W) (s : Shape) (t : ℕ) (o : Opening T W) →
-    (before : List (Input T W)) × (x : Input T W) × (inputs f s t o ≡ before ++ x ∷ []) × (input_digest f x ≡ path_digest f s o t)
-last_reached f s zero o = ([], Leaf (layer_words s o.rows 0), refl, sym (reached_leaf f s o))
-last_reached f s (suc t) o =
-    let below = inputs f s t o in
-    let words = layer_words s o.rows (suc t) in
-    let group = full_group f s o t in
-    let last = pair f s.arity (f.compression group) (f.hash words) in
-    let next = reached_next f s o t in
-    elim (cases_Bool (has_rows s (suc t))) [
-      | inl e ↦ (below ++ Group t group ∷ Rows t words ∷ [], Pair t last, rw (inputs_with_rows f s o t e) (sym (append_assoc below (Group t group ∷ Rows t words ∷ []) (Pair t last ∷ []))), sym (rw e at next))
-      | inr n ↦ (below, Group t group, rw (inputs_alone f s o t n) refl, sym (rw n at next))
     ]

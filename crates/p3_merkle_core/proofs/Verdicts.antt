@@ -18,6 +18,7 @@ use Rattle.p3_merkle_core.proofs.NoneFacts.{none_parts, unless_none, none_unless
 use Rattle.p3_merkle_core.proofs.Answered.{restorable}
 use Rattle.p3_merkle_core.proofs.Unrefused.{unrefused, gate_none, size_none, each_width}
 use Rattle.p3_merkle_core.proofs.Equivalence.{query_covered, rows_under_is, equivalent}
+use Rattle.p3_merkle_core.proofs.CheckFacts.{accepted_walk, accepted_by_walk}
 
 -- ---- entries
 
@@ -84,20 +85,14 @@ accepted_from digest_eq f s t cap o dec e =
     let entry = is_entry digest_eq cap (ancestor s t o.index) digest in
     let both = none_parts (form_refusal s t o.index o.rows (length o.siblings)) (unless entry CapMismatch) (verdict_ok (refusal_under digest_eq f s t cap o) e) in
     let form = form_from s t o.index o.rows (length o.siblings) both.0 in
-    record {
-      lawful = form.lawful;
-      rows_fit = form.rows_fit;
-      count = form.count;
-      in_range = form.in_range;
-      authentic = (entry_is digest_eq dec cap (ancestor s t o.index) digest).0 (unless_none entry CapMismatch both.1);
-    }
+    accepted_by_walk f s t cap o form.lawful form.rows_fit form.count form.in_range ((entry_is digest_eq dec cap (ancestor s t o.index) digest).0 (unless_none entry CapMismatch both.1))
 
 pub accepted_answer : {T W : Type 0} (digest_eq : W → W → Bool) (f : Functions T W) (s : Shape) (t : ℕ) (cap : List (List W)) (o : Opening T W) → ((x y : W) → Decides (digest_eq x y) (x ≡ y)) →
     IsAccepted f s t cap o → answer_under digest_eq f s t cap o ≡ Ok tt
 accepted_answer digest_eq f s t cap o dec w =
     let digest = path_digest f s o t in
     let form = form_none s t o.index o.rows (length o.siblings) (record { lawful = w.lawful; rows_fit = w.rows_fit; count = w.count; in_range = w.in_range }) in
-    let entry = none_unless (is_entry digest_eq cap (ancestor s t o.index) digest) CapMismatch ((entry_is digest_eq dec cap (ancestor s t o.index) digest).1 w.authentic) in
+    let entry = none_unless (is_entry digest_eq cap (ancestor s t o.index) digest) CapMismatch ((entry_is digest_eq dec cap (ancestor s t o.index) digest).1 (accepted_walk f s t cap o w)) in
     let none : refusal_under digest_eq f s t cap o ≡ None = rw (form, entry) refl in
     ap verdict none
 

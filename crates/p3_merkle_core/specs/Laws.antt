@@ -2,7 +2,7 @@
 use Rattle.std.specs.Prelude.{◌≡◌, ◌≢◌, ◌↔◌, ◌⊎◌, ℕ, suc, ◌-◌, ◌<◌, ◌≤◌, true, Bool, IsTrue, List, [], ◌∷◌, ◌++◌, Option, None, Some, Ok, Err, length, take, slice_index, All}
 use Rattle.p3_merkle_core.specs.Geometry.{Shape, heights, tallest, levels, layer_exponent, exponent, layer_of, layer_len, row_at_index, step, ancestor, arity_schedule, schedule_below, cap_layer, IsArity, IsLawful}
 use Rattle.p3_merkle_core.specs.Nodes.{Functions, Batch, HasFullRows, shape, node, layer}
-use Rattle.p3_merkle_core.specs.Openings.{Opening, Input, AgreeWhereShared, HasDigests, IsAccepted, IsAtOnePlace, IsLastShared, honest, honest_siblings, inputs, is_authenticated, opened_row, path_digest, input_digest}
+use Rattle.p3_merkle_core.specs.Openings.{Opening, Input, AgreeWhereShared, HasDigests, IsAccepted, IsAtOnePlace, IsLastShared, honest, honest_siblings, inputs, is_authenticated, opened_row, path_digest, input_digest, check_digest, last_input}
 use Rattle.p3_merkle_core.specs.Pruning.{PrunedOpening, CanQuery, IsHonestQuery, IsCapped, IsUncovered, EachAccepted, Suffices, boundary, honest_query, is_covered, is_in, is_under, opening_at, restored_node, restored_path, tally}
 use Rattle.p3_merkle_core.specs.Refusals.{IsEquality, IsRestorable, answer_under, pruned_answer, pruned_answer_under}
 use Rattle.p3_merkle_core.specs.Extracting.{difference_at, extraction_under, extraction_multi_under, first_pair}
@@ -202,11 +202,11 @@ module _ (T W : Type 0) where
       (f : Functions T W) (s : Shape) (t : ℕ) (cap : List (List W)) (o : Opening T W) → IsArity s.arity → IsAccepted f s t cap o →
       All (HasDigests s.arity) (inputs f s t o)
 
-  -- the digest that a check reaches at layer t is that of its last input
+  -- the walk up the path reaches, at layer t, the digest of the check's last input, after which no other stands
   abbrev pub LastInputIsReached : Type 0
   LastInputIsReached =
       (f : Functions T W) (s : Shape) (t : ℕ) (o : Opening T W) →
-      (before : List (Input T W)) × (x : Input T W) × (inputs f s t o ≡ before ++ x ∷ []) × (input_digest f x ≡ path_digest f s o t)
+      (path_digest f s o t ≡ check_digest f s t o) × ((before : List (Input T W)) × (inputs f s t o ≡ before ++ last_input f s t o ∷ []))
 
   -- ---- two pruned openings under one cap
 

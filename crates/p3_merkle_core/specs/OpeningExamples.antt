@@ -3,7 +3,7 @@ use Rattle.std.specs.Prelude.{◌≡◌, [], ◌∷◌, refl, Some, None, Ok, Er
 use Rattle.p3_support.specs.Fold.{fold_hash, fold_compress}
 use Rattle.p3_merkle_core.specs.Geometry.{shape_of, exponent, layer_exponent, raw_len, leaves_under}
 use Rattle.p3_merkle_core.specs.Nodes.{node}
-use Rattle.p3_merkle_core.specs.Openings.{honest_rows, honest_siblings, opening_of, siblings_below, path_digest, inputs, Leaf, Group, Rows, Pair}
+use Rattle.p3_merkle_core.specs.Openings.{honest_rows, honest_siblings, opening_of, siblings_below, path_digest, inputs, Leaf, Group, Rows, Pair, check_digest}
 use Rattle.p3_merkle_core.specs.Refusals.{refusal_under}
 use Rattle.p3_merkle_core.specs.Extracting.{extraction_under}
 use Rattle.p3_merkle_core.specs.Examples.{batch, column, narrow, fold_example}
@@ -32,6 +32,10 @@ siblings_at_4 = refl
 digest_reached_from_index_2 : path_digest (fold_example 1) (narrow 2 (4 ∷ [])) (opening_of 2 ((3 ∷ []) ∷ []) ((35 ∷ []) ∷ (1026 ∷ []) ∷ [])) 2 ≡ 32897 ∷ []
 unfolding exponent layer_exponent raw_len leaves_under siblings_below path_digest fold_hash fold_compress
 digest_reached_from_index_2 = refl
+
+digest_at_which_the_check_of_index_2_ends : check_digest (fold_example 1) (narrow 2 (4 ∷ [])) 2 (opening_of 2 ((3 ∷ []) ∷ []) ((35 ∷ []) ∷ (1026 ∷ []) ∷ [])) ≡ 32897 ∷ []
+unfolding exponent layer_exponent raw_len leaves_under siblings_below path_digest fold_hash fold_compress
+digest_at_which_the_check_of_index_2_ends = refl
 
 inputs_of_a_check : inputs (fold_example 1) (narrow 2 (2 ∷ [])) 1 (opening_of 0 ((2 ∷ []) ∷ []) ((2 ∷ []) ∷ [])) ≡ Leaf (2 ∷ []) ∷ Group 0 ((33 ∷ []) ∷ (2 ∷ []) ∷ []) ∷ []
 unfolding exponent layer_exponent raw_len leaves_under siblings_below path_digest fold_hash fold_compress

@@ -101,15 +101,28 @@ IsAtOnePlace x y = ⊥
 abbrev pub inputs : {T W : Type 0} → Functions T W → Shape → ℕ → Opening T W → List (Input T W)
 inputs f s t o = Leaf (layer_words s o.rows 0) ∷ joined (inputs_at f s o) t
 
+-- the last element of a list, or x of none
+abbrev pub last_of : {X : Type 0} → X → List X → X
+last_of x [] = x
+last_of x (y ∷ ys) = last_of y ys
+
+-- the last input of a check up to layer t: there is always one, the leaf's at least
+abbrev pub last_input : {T W : Type 0} → Functions T W → Shape → ℕ → Opening T W → Input T W
+last_input f s t o = last_of (Leaf (layer_words s o.rows 0)) (inputs f s t o)
+
+-- the digest in which a check ends: that of its last input
+abbrev pub check_digest : {T W : Type 0} → Functions T W → Shape → ℕ → Opening T W → List W
+check_digest f s t o = input_digest f (last_input f s t o)
+
 -- ---- accepted
 
--- an opening is accepted under a cap, which is layer t: lawful heights, rows of their widths, as many siblings as the levels below t have, an index below the tallest height, and the cap's entry at its ancestor is the digest that its check reaches
+-- an opening is accepted under a cap, which is layer t: lawful heights, rows of their widths, as many siblings as the levels below t have, an index below the tallest height, and the cap's entry at its ancestor is the digest of the last input of its check
 pub record IsAccepted {T W : Type 0} (f : Functions T W) (s : Shape) (t : ℕ) (cap : List (List W)) (o : Opening T W) : Type 0 where
   pub lawful : IsLawful (heights s)
   pub rows_fit : map length o.rows ≡ widths s
   pub count : length o.siblings ≡ siblings_below s t
   pub in_range : o.index < tallest (heights s)
-  pub authentic : slice_get cap (ancestor s t o.index) ≡ Some (path_digest f s o t)
+  pub authentic : slice_get cap (ancestor s t o.index) ≡ Some (check_digest f s t o)
 
 -- ---- authenticated
 
