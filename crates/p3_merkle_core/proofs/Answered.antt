@@ -12,7 +12,8 @@ use Rattle.p3_merkle_core.specs.Pruning.{PrunedOpening, boundary}
 use Rattle.p3_merkle_core.specs.Refusals.{first_of, first_some, first_rows, lead, matrices_at, slots_below, slot_of, is_queried, size_refusal, idle_refusal, queries_refusal, repeat_refusal, digest_count_refusal, width_refusal, row_refusal, group_refusal, pruned_refusal, pruned_answer, IsRestorable}
 use Rattle.p3_merkle_core.specs.declared.error.PrunedProofError.TheVariants.{SiblingCountMismatch, InconsistentDuplicateOpenings, InconsistentGroupOpening}
 use Rattle.p3_merkle_core.specs.declared.error.MerkleTreeError.TheVariants.{WrongBatchSize, MalformedPrunedProof}
-use Rattle.p3_merkle_core.proofs.NoneFacts.{none_parts, unless_none, verdict_ok, kept_none, range_none, paired_none, lawful_from, below_from, fit_from}
+use Rattle.p3_merkle_core.proofs.NoneFacts.{none_parts, unless_none, verdict_ok, kept_none, range_none, paired_none, below_from, fit_from}
+use Rattle.p3_merkle_core.proofs.GateFacts.{gate_lawful}
 
 -- none of the reasons holds
 record HasNoFault {T W : Type 0} (row_eq : T → T → Bool) (s : Shape) (t : ℕ) (p : PrunedOpening T W) : Type 0 where
@@ -110,7 +111,7 @@ restorable row_eq s t p dec e =
     let long : (k : ℕ) → k < length p.indices → length (get_or p.rows k []) ≡ length (heights s) =
     λ k h. ap length (first k h) ∙ sym (length-map (first_rows p (get_or p.indices k 0)) length) ∙ ap length (fits k h) ∙ widths_in_pairs s in
     record {
-      lawful = lawful_from (heights s) w.gate;
+      lawful = (gate_lawful (heights s)).0 w.gate;
       below = below_from (tallest (heights s)) p.indices w.index;
       count = w.count;
       rows_fit = λ k d h.

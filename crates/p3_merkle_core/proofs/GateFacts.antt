@@ -1,10 +1,11 @@
 -- There is no refusal exactly if the heights are lawful.
-use Rattle.std.proofs.Common.{◌≡◌, ℕ, zero, suc, ◌≤◌, Bool, false, not, eqb, nat_lt, List, [], ◌∷◌, refl, sym, ◌∙◌, arith, inl, inr, length, get_or, Some, None, All, position, find, eq-eqb}
+use Rattle.std.proofs.Common.{◌≡◌, ℕ, zero, suc, ◌≤◌, Bool, false, not, eqb, nat_lt, List, [], ◌∷◌, refl, sym, ◌∙◌, arith, inl, inr, length, get_or, Some, None, All, position, find, eq-eqb, ◌↔◌, Option}
 use Rattle.std.specs.List.{position_or_len}
-use Rattle.std.proofs.lemmas.Bool.{cases_lt, cases_Bool, ltb-false, le-ltb, lt-ltb, eqb-true, not-false, not_from_true, cond-true, cond-false}
+use Rattle.std.proofs.lemmas.Bool.{cases_lt, cases_Bool, ltb-false, le-ltb, lt-ltb, eqb-true, not-false, not_from_true, cond-true, cond-false, ne_eqb, eqb-false}
 use Rattle.std.proofs.lemmas.List.Sums.{fails_before_first, position_or_len_is}
 use Rattle.p3_merkle_core.specs.Geometry.{tallest, max_height, expected_height, IsLawful}
-use Rattle.p3_merkle_core.specs.Gate.{first_too_large, first_off_ladder}
+use Rattle.p3_merkle_core.specs.Gate.{first_too_large, first_off_ladder, gate_refusal, height_refusal_of}
+use Rattle.p3_merkle_core.specs.declared.error.MerkleTreeError.TheVariants.{EmptyBatch}
 
 position_none : {X : Type 0} (p : X → Bool) (xs : List X) → position p xs ≡ None → All (λ x. p x ≡ false) xs
 position_none p xs e k d h =
@@ -61,3 +62,31 @@ pub none_off_from_lawful : (hs : List ℕ) → IsLawful hs → first_off_ladder 
 none_off_from_lawful hs w =
     find_none_from (λ h. not (eqb h (expected_height (tallest hs) h))) hs
     (λ k d h. not_from_true (eqb (get_or hs k d) (expected_height (tallest hs) (get_or hs k d))) (eq-eqb (get_or hs k d) (expected_height (tallest hs) (get_or hs k d)) (w.on_ladder k d h)))
+
+refusal_parts : (m : ℕ) (hs : List ℕ) (x o : Option ℕ) → height_refusal_of m hs x o ≡ None → (x ≡ None) × (o ≡ None)
+refusal_parts m hs (Some i) o e = absurd cc
+refusal_parts m hs None (Some h) e = absurd cc
+refusal_parts m hs None None e = (refl, refl)
+
+lawful_from : (hs : List ℕ) → gate_refusal hs ≡ None → IsLawful hs
+lawful_from hs e =
+    let m = tallest hs in
+    let rest = height_refusal_of m hs (first_too_large hs) (first_off_ladder m hs) in
+    elim (cases_Bool (eqb m 0)) [
+      | inl t ↦ absurd (let s = cond-true (eqb m 0) (Some EmptyBatch) rest t in cc)
+      | inr f ↦
+          let p = refusal_parts m hs (first_too_large hs) (first_off_ladder m hs) (sym (cond-false (eqb m 0) (Some EmptyBatch) rest f) ∙ e) in
+          lawful_from_none hs (eqb-false m 0 f) p.0 p.1
+    ]
+
+gate_none : (hs : List ℕ) → IsLawful hs → gate_refusal hs ≡ None
+gate_none hs w =
+    let m = tallest hs in
+    let a = none_large_from_lawful hs w in
+    let b = none_off_from_lawful hs w in
+    let some = w.some_above_0 in
+    cond-false (eqb m 0) (Some EmptyBatch) (height_refusal_of m hs (first_too_large hs) (first_off_ladder m hs)) (ne_eqb m 0 (λ z. omega arith)) ∙ rw (a, b) refl
+
+-- the gate refuses nothing exactly if the heights are lawful
+pub gate_lawful : (hs : List ℕ) → (gate_refusal hs ≡ None) ↔ IsLawful hs
+gate_lawful hs = (lawful_from hs, gate_none hs)

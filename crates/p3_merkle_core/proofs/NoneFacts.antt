@@ -6,12 +6,10 @@ use Rattle.std.specs.Option.{option_or}
 use Rattle.std.proofs.lemmas.Bool.{cases_Bool, cases_eq, cond-true, cond-false, eqb-true, eqb-false, ltb-true, true≢false}
 use Rattle.std.proofs.lemmas.List.{get_or_default, length-map}
 use Rattle.p3_support.specs.declared.matrix.Dimensions.{Dimensions}
-use Rattle.p3_merkle_core.specs.Geometry.{IsLawful, tallest, widths_of}
-use Rattle.p3_merkle_core.specs.Gate.{gate_refusal, height_refusal_of, first_too_large, first_off_ladder}
+use Rattle.p3_merkle_core.specs.Geometry.{tallest, widths_of}
 use Rattle.p3_merkle_core.specs.Refusals.{first_of, unless, verdict, width_refusal, row_width_refusal, size_refusal, queries_refusal, width_fault}
-use Rattle.p3_merkle_core.specs.declared.error.MerkleTreeError.TheVariants.{EmptyBatch, WrongBatchSize, WrongWidth, IndexOutOfBounds}
+use Rattle.p3_merkle_core.specs.declared.error.MerkleTreeError.TheVariants.{WrongBatchSize, WrongWidth, IndexOutOfBounds}
 use Rattle.p3_merkle_core.proofs.LeastFacts.{le_tallest}
-use Rattle.p3_merkle_core.proofs.GateFacts.{lawful_from_none}
 
 -- ---- what None says
 
@@ -65,23 +63,7 @@ paired_none h (i ∷ is) [] k d e same l = absurd (omega arith)
 paired_none h (i ∷ is) (x ∷ xs) zero d e same l = (none_parts (h (i, x)) (first_of h (zip is xs)) e).0
 paired_none h (i ∷ is) (x ∷ xs) (suc k) d e same l = paired_none h is xs k d (none_parts (h (i, x)) (first_of h (zip is xs)) e).1 (omega arith) (omega arith)
 
--- ---- the gate, indices, widths
-
-refusal_parts : (m : ℕ) (hs : List ℕ) (x o : Option ℕ) → height_refusal_of m hs x o ≡ None → (x ≡ None) × (o ≡ None)
-refusal_parts m hs (Some i) o e = absurd cc
-refusal_parts m hs None (Some h) e = absurd cc
-refusal_parts m hs None None e = (refl, refl)
-
-pub lawful_from : (hs : List ℕ) → gate_refusal hs ≡ None → IsLawful hs
-lawful_from hs e =
-    let m = tallest hs in
-    let rest = height_refusal_of m hs (first_too_large hs) (first_off_ladder m hs) in
-    elim (cases_Bool (eqb m 0)) [
-      | inl t ↦ absurd (let s = cond-true (eqb m 0) (Some EmptyBatch) rest t in cc)
-      | inr f ↦
-          let p = refusal_parts m hs (first_too_large hs) (first_off_ladder m hs) (sym (cond-false (eqb m 0) (Some EmptyBatch) rest f) ∙ e) in
-          lawful_from_none hs (eqb-false m 0 f) p.0 p.1
-    ]
+-- ---- indices, widths
 
 pub below_from : (m : ℕ) (indices : List ℕ) → queries_refusal m indices ≡ None → All (λ i. i < m) indices
 below_from m indices e k d h =

@@ -8,16 +8,15 @@ use Rattle.std.proofs.lemmas.Bool.{cases_Bool, cond-false, eqb-true, lt-ltb, ne_
 use Rattle.std.proofs.lemmas.List.{length-map}
 use Rattle.p3_support.specs.declared.matrix.Dimensions.{Dimensions}
 use Rattle.p3_merkle_core.proofs.ShapeFacts.{widths_in_pairs}
-use Rattle.p3_merkle_core.specs.Geometry.{Shape, IsLawful, tallest, exponent, layer_exponent, ancestor, least, layer_len, heights, widths_of}
-use Rattle.p3_merkle_core.specs.Gate.{gate_refusal, height_refusal_of, first_too_large, first_off_ladder}
+use Rattle.p3_merkle_core.specs.Geometry.{Shape, tallest, exponent, layer_exponent, ancestor, least, layer_len, heights, widths_of}
 use Rattle.p3_merkle_core.specs.Pruning.{PrunedOpening, is_boundary, boundary}
 use Rattle.p3_merkle_core.specs.Refusals.{first_of, first_rows, lead, matrices_at, slots_below, slot_of, is_queried, unless, verdict, size_refusal, idle_refusal, queries_refusal, repeat_refusal, digest_count_refusal, width_refusal, row_refusal, group_refusal, pruned_refusal, pruned_answer, IsRestorable, row_width_refusal, width_fault}
 use Rattle.p3_merkle_core.specs.declared.error.PrunedProofError.TheVariants.{SiblingCountMismatch, InconsistentDuplicateOpenings, InconsistentGroupOpening}
-use Rattle.p3_merkle_core.specs.declared.error.MerkleTreeError.TheVariants.{EmptyBatch, WrongBatchSize, WrongWidth, IndexOutOfBounds, MalformedPrunedProof}
+use Rattle.p3_merkle_core.specs.declared.error.MerkleTreeError.TheVariants.{WrongBatchSize, WrongWidth, IndexOutOfBounds, MalformedPrunedProof}
 use Rattle.p3_merkle_core.proofs.LeastFacts.{least_passes, least_bound}
-use Rattle.p3_merkle_core.proofs.GateFacts.{none_large_from_lawful, none_off_from_lawful}
 use Rattle.p3_merkle_core.proofs.NoneFacts.{none_of_both, none_unless}
 use Rattle.p3_merkle_core.proofs.Answered.{query_is}
+use Rattle.p3_merkle_core.proofs.GateFacts.{gate_lawful}
 
 -- ---- over lists
 
@@ -42,14 +41,6 @@ all_pairs h (i ∷ is) (x ∷ xs) d same e =
     none_of_both (h (i, x)) (first_of h (zip is xs)) (e 0 (omega arith)) (all_pairs h is xs d (omega arith) (λ k l. e (suc k) (omega arith)))
 
 -- ---- one by one
-
-pub gate_none : (hs : List ℕ) → IsLawful hs → gate_refusal hs ≡ None
-gate_none hs w =
-    let m = tallest hs in
-    let a = none_large_from_lawful hs w in
-    let b = none_off_from_lawful hs w in
-    let some = w.some_above_0 in
-    cond-false (eqb m 0) (Some EmptyBatch) (height_refusal_of m hs (first_too_large hs) (first_off_ladder m hs)) (ne_eqb m 0 (λ z. omega arith)) ∙ rw (a, b) refl
 
 pub size_none : (expected got : ℕ) → expected ≡ got → size_refusal expected got ≡ None
 size_none expected got e = none_unless (eqb expected got) (WrongBatchSize expected got) (eq-eqb expected got e)
@@ -136,7 +127,7 @@ unrefused row_eq s t p dec w =
     let first = first_is p.indices p.rows in
     let long : (k : ℕ) → k < length p.indices → length (get_or p.rows k []) ≡ length (heights s) =
     λ k h. sym (length-map (get_or p.rows k []) length) ∙ ap length (w.rows_fit k [] (omega arith)) ∙ widths_in_pairs s in
-    let gate = gate_none (heights s) w.lawful in
+    let gate = (gate_lawful (heights s)).1 w.lawful in
     let size = size_none (length p.indices) (length p.rows) (sym paired) in
     let idle = idle_none s t p.indices (length p.digests) w.count in
     let index = index_none top p.indices some w.below in

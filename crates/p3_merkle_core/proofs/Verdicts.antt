@@ -14,11 +14,12 @@ use Rattle.p3_merkle_core.specs.Openings.{Opening, IsAccepted, siblings_below, p
 use Rattle.p3_merkle_core.specs.Pruning.{PrunedOpening, restored_node, IsCapped, EachAccepted}
 use Rattle.p3_merkle_core.specs.Refusals.{first_some, unless, verdict, is_entry, size_refusal, sibling_count_refusal, row_width_refusal, refusal_under, answer_under, pruned_refusal, cap_refusal, pruned_answer_under, IsRestorable, form_refusal}
 use Rattle.p3_merkle_core.specs.declared.error.MerkleTreeError.TheVariants.{WrongBatchSize, WrongHeight, IndexOutOfBounds, CapMismatch}
-use Rattle.p3_merkle_core.proofs.NoneFacts.{none_parts, unless_none, none_unless, verdict_ok, lawful_from, rows_fit_from}
+use Rattle.p3_merkle_core.proofs.NoneFacts.{none_parts, unless_none, none_unless, verdict_ok, rows_fit_from}
 use Rattle.p3_merkle_core.proofs.Answered.{restorable}
-use Rattle.p3_merkle_core.proofs.Unrefused.{unrefused, gate_none, size_none, each_width}
+use Rattle.p3_merkle_core.proofs.Unrefused.{unrefused, size_none, each_width}
 use Rattle.p3_merkle_core.proofs.Equivalence.{query_covered, rows_under_is, equivalent}
 use Rattle.p3_merkle_core.proofs.CheckFacts.{accepted_walk, accepted_by_walk}
+use Rattle.p3_merkle_core.proofs.GateFacts.{gate_lawful}
 
 -- ---- entries
 
@@ -62,7 +63,7 @@ form_from s t index rows siblings e =
     let g = none_parts (unless (nat_lt index m) (IndexOutOfBounds m index)) None d.1 in
     let size = eqb-true (length s.dimensions) (length rows) (unless_none (eqb (length s.dimensions) (length rows)) (WrongBatchSize (length s.dimensions) (length rows)) a.0) in
     record {
-      lawful = lawful_from (heights s) b.0;
+      lawful = (gate_lawful (heights s)).0 b.0;
       rows_fit = rows_fit_from (widths s) rows (length-widths s ∙ size) d.0;
       count = sym (eqb-true (siblings_below s t) siblings (unless_none (eqb (siblings_below s t) siblings) (WrongHeight (siblings_below s t) siblings) c.0));
       in_range = ltb-true index m (unless_none (nat_lt index m) (IndexOutOfBounds m index) g.0);
@@ -72,7 +73,7 @@ pub form_none : {T : Type 0} (s : Shape) (t index : ℕ) (rows : List (List T)) 
 form_none s t index rows siblings w =
     let m = tallest (heights s) in
     let size = size_none (length s.dimensions) (length rows) (sym (length-widths s) ∙ sym (ap length w.rows_fit) ∙ length-map rows length) in
-    let gate = gate_none (heights s) w.lawful in
+    let gate = (gate_lawful (heights s)).1 w.lawful in
     let height = none_unless (eqb (siblings_below s t) siblings) (WrongHeight (siblings_below s t) siblings) (eq-eqb (siblings_below s t) siblings (sym w.count)) in
     let fit : row_width_refusal (widths s) rows ≡ None = rw (← w.rows_fit) (each_width 0 rows) in
     let below = none_unless (nat_lt index m) (IndexOutOfBounds m index) (lt-ltb index m w.in_range) in

@@ -8,6 +8,7 @@ use Rattle.p3_merkle_core.specs.Refusals.{IsEquality, IsRestorable, answer_under
 use Rattle.p3_merkle_core.specs.Extracting.{difference_at, extraction_under, extraction_multi_under, first_pair}
 use Rattle.p3_merkle_core.specs.declared.error.MerkleTreeError.{MerkleTreeError}
 use Rattle.p3_merkle_core.specs.declared.error.MerkleTreeError.TheVariants.{CapMismatch}
+use Rattle.p3_merkle_core.specs.Gate.{gate_refusal}
 
 -- ---- shapes
 
@@ -42,6 +43,10 @@ RowsAreAncestors =
     (s : Shape) (k i : ℕ) → IsArity s.arity → IsLawful (heights s) → k < length (heights s) → i < tallest (heights s) →
     let h = slice_index (heights s) k in
     (row_at_index s h i < h) × (row_at_index s h i ≡ ancestor s (layer_of s h) i)
+
+-- the gate refuses nothing exactly if the heights are lawful
+abbrev pub UnrefusedIsLawful : Type 0
+UnrefusedIsLawful = (hs : List ℕ) → (gate_refusal hs ≡ None) ↔ IsLawful hs
 
 -- ---- pruned proofs
 

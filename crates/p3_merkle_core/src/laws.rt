@@ -2,7 +2,7 @@
 //! hash, every compression, every batch and every opening; the calls of the crates above answer what the definitions say.
 
 ghost use Rattle.std.specs.Prelude.{◌≡◌, ◌↔◌, IsTrue};
-ghost use Rattle.p3_merkle_core.specs.Laws.{AnsweredAsEachPath, BoundaryIsAlone, BoundaryIsSmallest, BoundaryNodesAreApart, BoundaryNodesAreHeld, BoundarySuffices, CappedIsEachAccepted, HonestIsAccepted, HonestNodesAreRestored, HonestPathsAreRestored, HonestQueryIsAccepted, HonestQueryIsCapped, InputsAreFull, LastDifferenceCollides, LastInputIsReached, MatricesHaveLayers, NoPairDiffers, NoneIsAgreement, OkIsAccepted, OkIsCapped, OkIsEachAccepted, OkIsRestorable, OkOrCapMismatch, OneIndexIsBound, PairCollides, PairIsFirst, PairsBeforeAgree, RefusedUnderEachCap, RootIsAlone, RowsAreAncestors, RowsAreBound, ScheduleStopsAtCap, SomeIsCollision, WalkEnds};
+ghost use Rattle.p3_merkle_core.specs.Laws.{AnsweredAsEachPath, BoundaryIsAlone, BoundaryIsSmallest, BoundaryNodesAreApart, BoundaryNodesAreHeld, BoundarySuffices, CappedIsEachAccepted, HonestIsAccepted, HonestNodesAreRestored, HonestPathsAreRestored, HonestQueryIsAccepted, HonestQueryIsCapped, InputsAreFull, LastDifferenceCollides, LastInputIsReached, MatricesHaveLayers, NoPairDiffers, NoneIsAgreement, OkIsAccepted, OkIsCapped, OkIsEachAccepted, OkIsRestorable, OkOrCapMismatch, OneIndexIsBound, PairCollides, PairIsFirst, PairsBeforeAgree, RefusedUnderEachCap, RootIsAlone, RowsAreAncestors, RowsAreBound, ScheduleStopsAtCap, SomeIsCollision, UnrefusedIsLawful, WalkEnds};
 
 use crate::error::MerkleTreeError;
 
@@ -13,13 +13,15 @@ pub fn errors(a: &MerkleTreeError, b: &MerkleTreeError) -> bool
     *a == *b
 }
 
-/// The walk over the steps ends for each arity and each list of heights, and each matrix has its layer.
+/// The walk over the steps ends for each arity and each list of heights, each matrix has its layer, and the gate takes
+/// just the lawful heights.
 pub fn shape()
     ensures ends { WalkEnds }
     ensures root { RootIsAlone }
     ensures schedule { ScheduleStopsAtCap }
     ensures layers { MatricesHaveLayers }
     ensures rows { RowsAreAncestors }
+    ensures gate { UnrefusedIsLawful }
 {}
 
 /// The honest opening of each index is accepted.

@@ -4,6 +4,7 @@ use Rattle.p3_merkle_core.specs.Geometry.{heights, levels, step}
 use Rattle.p3_merkle_core.proofs.LadderFacts.{exponent_at_levels, levels_le, layer_of_is, row_below, row_is_anc}
 use Rattle.p3_merkle_core.proofs.RootFacts.{root_alone, last_step}
 use Rattle.p3_merkle_core.proofs.laws.shape.Goals as goal
+use Rattle.p3_merkle_core.proofs.GateFacts.{gate_lawful}
 
 pub returns-clause-ends : goal.returns-clause-ends
 returns-clause-ends c = λ s w. (exponent_at_levels s w, length-map-range_with_len (step s) 0 (levels s), levels_le s)
@@ -23,3 +24,6 @@ returns-clause-schedule c = λ s cap.
     let long = length-map-range_with_len (step s) 0 (levels s) in
     let short = length-map-range_with_len (step s) 0 (levels s - cap) in
     (rw long (sym (take-map-range_with_len (step s) 0 (levels s) (levels s - cap) (omega arith))), omega (arith, short, levels_le s))
+
+pub returns-clause-gate : goal.returns-clause-gate
+returns-clause-gate c = gate_lawful
