@@ -1,12 +1,13 @@
 -- No set of uncovered nodes that suffices has fewer members than the boundary.
-use Rattle.std.proofs.Common.{◌≡◌, ℕ, zero, suc, ◌+◌, ◌-◌, ◌*◌, ◌/◌, ◌%◌, ◌<◌, ◌≤◌, Bool, true, false, not, eqb, nat_le, ◌&&◌, List, [], ◌∷◌, ◌++◌, map, refl, sym, ◌∙◌, arith, inl, inr, ◌⊎◌, length, filter, add-suc, eq-eqb}
-use Rattle.std.specs.List.{range_with_len}
+use Rattle.std.proofs.Common.{◌≡◌, ℕ, zero, suc, ◌+◌, ◌-◌, ◌*◌, ◌/◌, ◌%◌, ◌<◌, ◌≤◌, Bool, true, false, not, eqb, nat_le, ◌&&◌, List, [], ◌∷◌, ◌++◌, map, refl, sym, ◌∙◌, arith, inl, inr, ◌⊎◌, length, filter, add-suc, eq-eqb, subst, ◌≢◌}
+use Rattle.std.specs.List.{range_with_len, count_by}
 use Rattle.std.proofs.lemmas.Bool.{cases_Bool, eqb-true, and_parts, and_from, or_cases, or_left, or_right, leb-true, not-true, both_ways, true≢false, false_from_ne_true}
 use Rattle.p3_merkle_core.specs.Geometry.{Shape, step, layer_len}
-use Rattle.p3_merkle_core.specs.Pruning.{tally, up, is_under, is_covered, is_boundary, boundary_at, boundary, is_in, IsKnown, Suffices, IsUncovered}
+use Rattle.p3_merkle_core.specs.Pruning.{up, is_under, is_covered, is_boundary, boundary_at, boundary, is_in, IsKnown, Suffices, IsUncovered, IsGivenUnder}
 use Rattle.p3_merkle_core.proofs.StepFacts.{step_above_1}
 use Rattle.p3_merkle_core.proofs.LadderFacts.{IsArity}
-use Rattle.p3_merkle_core.proofs.Under.{tally_two, tally_append, up_next, under_parent, under_one, child_parent, covered_up, member_counts}
+use Rattle.p3_merkle_core.proofs.Under.{tally_two, tally_append, up_next, under_parent, under_one, child_parent, covered_up, member_counts, under_self}
+use Rattle.p3_merkle_core.proofs.ListFacts.{tally, tally_is}
 
 -- a node that is known and uncovered is given, or two nodes under it are
 pub known_counts : (s : Shape) → IsArity s.arity → (queries : List ℕ) (given : List (ℕ × ℕ)) (l j : ℕ) → IsKnown s queries given l j → is_covered s queries l j ≡ false →
@@ -220,13 +221,34 @@ minimal s w queries t given un enough =
     (omega (arith, each.0, top), λ same. each.1 (omega (arith, top)))
 
 -- no node is under two boundary nodes
-pub apart : (s : Shape) (queries : List ℕ) (t : ℕ) (x : ℕ × ℕ) → tally (λ (l, j). is_under s l j x) (boundary s queries t) ≤ 1
-apart s queries t (m, k) = elim (boundary_one s queries m k t) [ inl z ↦ omega (arith, z) | inr o ↦ omega (arith, o.0) ]
+pub apart : (s : Shape) (queries : List ℕ) (t : ℕ) (x : ℕ × ℕ) → count_by (λ (l, j). is_under s l j x) (boundary s queries t) ≤ 1
+apart s queries t (m, k) = rw (← tally_is (above s (m, k)) (boundary s queries t)) (elim (boundary_one s queries m k t) [ inl z ↦ omega (arith, z) | inr o ↦ omega (arith, o.0) ])
 
--- a set that suffices holds each boundary node, or two nodes under it
+-- a node that is known and uncovered has a given node under it, which is itself, or it has two
+known_held : (s : Shape) → IsArity s.arity → (queries : List ℕ) (given : List (ℕ × ℕ)) (l j : ℕ) → IsKnown s queries given l j → is_covered s queries l j ≡ false →
+    ((x : ℕ × ℕ) × IsGivenUnder s given l j x) × ((is_in given l j ≡ true) ⊎ ((x : ℕ × ℕ) × (y : ℕ × ℕ) × IsGivenUnder s given l j x × IsGivenUnder s given l j y × (x ≢ y)))
+known_held s w queries given zero j (inl h) bare = (((zero, j), (h, under_self s zero j)), inl h)
+known_held s w queries given zero j (inr c) bare = absurd (both_ways (is_covered s queries 0 j) bare c)
+known_held s w queries given (suc l) j (inl h) bare = (((suc l, j), (h, under_self s (suc l) j)), inl h)
+known_held s w queries given (suc l) j (inr k) bare =
+    let two = step_above_1 s l w.above_1 in
+    let n = step s l in
+    let child : (i : ℕ) → i < n → (x : ℕ × ℕ) × IsGivenUnder s given l (n * j + i) x =
+    λ i h. (known_held s w queries given l (n * j + i) (k.1 i h) (false_from_ne_true (is_covered s queries l (n * j + i)) (λ c.
+    both_ways (is_covered s queries (suc l) j) bare (rw (child_parent s l j i h) at (covered_up s queries l (n * j + i) c))))).0 in
+    let first = child 0 (omega arith) in
+    let second = child 1 (omega arith) in
+    let x = first.0 in
+    let y = second.0 in
+    let here : IsGivenUnder s given (suc l) j x = (first.1.0, under_parent s l j (n * j + 0) (child_parent s l j 0 (omega arith)) x (first.1.1)) in
+    let there : IsGivenUnder s given (suc l) j y = (second.1.0, under_parent s l j (n * j + 1) (child_parent s l j 1 (omega arith)) y (second.1.1)) in
+    let different : x ≢ y = λ e. (let z = under_one s l (n * j + 0) (n * j + 1) x (first.1.1) (subst (λ (v : ℕ × ℕ). is_under s l (n * j + 1) v ≡ true) (sym e) (second.1.1)) in omega arith) in
+    ((x, here), inr (x, y, here, there, different))
+
+-- a set that suffices holds each boundary node, or two different nodes under it
 pub held : (s : Shape) → IsArity s.arity → (queries : List ℕ) (t : ℕ) (given : List (ℕ × ℕ)) → IsUncovered s queries t given → Suffices s queries t given →
-    (l j : ℕ) → is_in (boundary s queries t) l j ≡ true → (is_in given l j ≡ true) ⊎ (2 ≤ tally (is_under s l j) given)
+    (l j : ℕ) → is_in (boundary s queries t) l j ≡ true → (is_in given l j ≡ true) ⊎ ((x : ℕ × ℕ) × (y : ℕ × ℕ) × IsGivenUnder s given l j x × IsGivenUnder s given l j y × (x ≢ y))
 held s w queries t given un enough l j e =
     let b = in_boundary s queries t l j e in
-    (known_counts s w queries given l j (boundary_known s w queries t given un enough l j b.0 b.1)
+    (known_held s w queries given l j (boundary_known s w queries t given un enough l j b.0 b.1)
     (not-true (is_covered s queries l j) (and_parts (is_covered s queries (suc l) (j / step s l)) (not (is_covered s queries l j)) b.1).1)).1

@@ -5,11 +5,12 @@ use Rattle.std.proofs.lemmas.Bool.{cases_Bool, cases_eq, eqb-true, and_parts, an
 use Rattle.std.proofs.lemmas.List.Folds.{list_any-append}
 use Rattle.std.proofs.Math.Nat.{mul-le-mul_left}
 use Rattle.p3_merkle_core.specs.Geometry.{Shape, step, ancestor, raw_len, layer_len, tallest, heights}
-use Rattle.p3_merkle_core.specs.Pruning.{tally, is_covered, is_boundary, boundary_at, boundary, is_in, IsKnown, Suffices, IsUncovered, CanQuery}
+use Rattle.p3_merkle_core.specs.Pruning.{is_covered, is_boundary, boundary_at, boundary, is_in, IsKnown, Suffices, IsUncovered, CanQuery}
 use Rattle.p3_merkle_core.proofs.LadderFacts.{IsArity}
 use Rattle.p3_merkle_core.proofs.RawFacts.{anc_below, children_fit}
 use Rattle.p3_merkle_core.proofs.Under.{under_self, child_parent}
 use Rattle.p3_merkle_core.proofs.Minimal.{above, boundary_one, minimal}
+use Rattle.p3_merkle_core.proofs.ListFacts.{tally}
 
 -- ---- a covered node
 

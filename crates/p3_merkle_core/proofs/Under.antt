@@ -4,8 +4,9 @@ use Rattle.std.proofs.lemmas.Bool.{cases_Bool, eqb-true, and_parts, and_from, or
 use Rattle.std.proofs.lemmas.Nat.{div-mul-add}
 use Rattle.std.proofs.Math.Nat.{mul_comm}
 use Rattle.p3_merkle_core.specs.Geometry.{Shape, step, ancestor}
-use Rattle.p3_merkle_core.specs.Pruning.{is_covered, is_in, tally, up, is_under}
+use Rattle.p3_merkle_core.specs.Pruning.{is_covered, is_in, up, is_under}
 use Rattle.p3_merkle_core.proofs.StepFacts.{anc_next}
+use Rattle.p3_merkle_core.proofs.ListFacts.{tally}
 
 -- ---- how many elements pass
 

@@ -1,9 +1,10 @@
 -- What holds of the definitions, whatever the hash, the compression, the batch, the openings and the cap.
 use Rattle.std.specs.Prelude.{◌≡◌, ◌≢◌, ◌↔◌, ◌⊎◌, ℕ, suc, ◌-◌, ◌<◌, ◌≤◌, true, Bool, IsTrue, List, [], ◌∷◌, ◌++◌, Option, None, Some, Ok, Err, length, take, slice_index, All}
+use Rattle.std.specs.List.{count_by}
 use Rattle.p3_merkle_core.specs.Geometry.{Shape, heights, tallest, levels, layer_exponent, exponent, layer_of, layer_len, row_at_index, step, ancestor, arity_schedule, schedule_below, cap_layer, IsArity, IsLawful}
 use Rattle.p3_merkle_core.specs.Nodes.{Functions, Batch, HasFullRows, shape, node, layer}
 use Rattle.p3_merkle_core.specs.Openings.{Opening, Input, AgreeWhereShared, HasDigests, IsAccepted, IsAtOnePlace, IsLastShared, honest, honest_siblings, inputs, is_authenticated, opened_row, path_digest, input_digest, check_digest, last_input}
-use Rattle.p3_merkle_core.specs.Pruning.{PrunedOpening, CanQuery, IsHonestQuery, IsCapped, IsUncovered, EachAccepted, Suffices, boundary, honest_query, is_covered, is_in, is_under, opening_at, restored_node, restored_path, tally}
+use Rattle.p3_merkle_core.specs.Pruning.{PrunedOpening, CanQuery, IsHonestQuery, IsCapped, IsUncovered, EachAccepted, Suffices, boundary, honest_query, is_covered, is_in, is_under, opening_at, restored_node, restored_path, IsGivenUnder}
 use Rattle.p3_merkle_core.specs.Refusals.{IsEquality, IsRestorable, answer_under, pruned_answer, pruned_answer_under}
 use Rattle.p3_merkle_core.specs.Extracting.{difference_at, extraction_under, extraction_multi_under, first_pair}
 use Rattle.p3_merkle_core.specs.declared.error.MerkleTreeError.{MerkleTreeError}
@@ -69,13 +70,14 @@ BoundaryIsAlone =
 -- no node is under two boundary nodes
 abbrev pub BoundaryNodesAreApart : Type 0
 BoundaryNodesAreApart =
-    (s : Shape) (queries : List ℕ) (t : ℕ) (x : ℕ × ℕ) → tally (λ (l, j). is_under s l j x) (boundary s queries t) ≤ 1
+    (s : Shape) (queries : List ℕ) (t : ℕ) (x : ℕ × ℕ) → count_by (λ (l, j). is_under s l j x) (boundary s queries t) ≤ 1
 
--- a list of uncovered nodes that suffices has each boundary node, or two entries under it
+-- a list of uncovered nodes that suffices has each boundary node, or two different nodes under it
 abbrev pub BoundaryNodesAreHeld : Type 0
 BoundaryNodesAreHeld =
     (s : Shape) (queries : List ℕ) (t : ℕ) (given : List (ℕ × ℕ)) → IsArity s.arity → IsUncovered s queries t given → Suffices s queries t given →
-    (l j : ℕ) → is_in (boundary s queries t) l j ≡ true → (is_in given l j ≡ true) ⊎ (2 ≤ tally (is_under s l j) given)
+    (l j : ℕ) → is_in (boundary s queries t) l j ≡ true →
+    (is_in given l j ≡ true) ⊎ ((x : ℕ × ℕ) × (y : ℕ × ℕ) × IsGivenUnder s given l j x × IsGivenUnder s given l j y × (x ≢ y))
 
 module _ (T W : Type 0) where
   -- ---- honest openings

@@ -56,10 +56,9 @@ up s m k (suc d) = up s m k d / step s (m + d)
 unfoldable pub is_under : Shape → ℕ → ℕ → ℕ × ℕ → Bool
 is_under s l j (m, k) = nat_le m l && (up s m k (l - m) == j)
 
--- how many elements pass
-unfoldable pub tally : {X : Type 0} → (X → Bool) → List X → ℕ
-tally p [] = 0
-tally p (x ∷ xs) = (if p x then 1 else 0) + tally p xs
+-- x is one of the nodes in given, and is under node j of layer l
+abbrev pub IsGivenUnder : Shape → List (ℕ × ℕ) → ℕ → ℕ → ℕ × ℕ → Type 0
+IsGivenUnder s given l j x = IsTrue (is_in given x.0 x.1) × IsTrue (is_under s l j x)
 
 -- ---- what is restored
 
