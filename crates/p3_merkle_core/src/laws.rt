@@ -1,13 +1,20 @@
-//! Laws of the definitions, each as the contract of a function that does nothing, and one of errors. They speak of every
+//! Laws of the definitions, each as the contract of a function that does nothing, and two of errors. They speak of every
 //! hash, every compression, every batch and every opening; the calls of the crates above answer what the definitions say.
 
 ghost use Rattle.std.specs.Prelude.{◌≡◌, ◌↔◌, IsTrue};
 ghost use Rattle.p3_merkle_core.specs.Laws.{AnsweredAsEachPath, BoundaryIsAlone, BoundaryIsSmallest, BoundaryNodesAreApart, BoundaryNodesAreHeld, BoundarySuffices, CappedIsEachAccepted, HonestIsAccepted, HonestNodesAreRestored, HonestPathsAreRestored, HonestQueryIsAccepted, HonestQueryIsCapped, InputsAreFull, LastDifferenceCollides, LastInputIsReached, MatricesHaveLayers, NoPairDiffers, NoneIsAgreement, OkIsAccepted, OkIsCapped, OkIsEachAccepted, OkIsRestorable, OkOrCapMismatch, OneIndexIsBound, PairCollides, PairIsFirst, PairsBeforeAgree, RefusedUnderEachCap, RootIsAlone, RowsAreAncestors, RowsAreBound, ScheduleStopsAtCap, SomeIsCollision, UnrefusedIsLawful, WalkEnds};
 
-use crate::error::MerkleTreeError;
+use crate::error::{MerkleTreeError, PrunedProofError};
 
 /// Equality of errors is equality of values. It answers what `==` answers.
 pub fn errors(a: &MerkleTreeError, b: &MerkleTreeError) -> bool
+    ensures { IsTrue result ↔ (a.now ≡ b.now) }
+{
+    *a == *b
+}
+
+/// The same of errors of pruned proofs.
+pub fn pruned_proof_errors(a: &PrunedProofError, b: &PrunedProofError) -> bool
     ensures { IsTrue result ↔ (a.now ≡ b.now) }
 {
     *a == *b
