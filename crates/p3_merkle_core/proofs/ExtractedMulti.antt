@@ -6,16 +6,18 @@ use Rattle.std.specs.Option.{option_or, option_map}
 use Rattle.std.proofs.lemmas.Bool.{cases_eq}
 use Rattle.p3_merkle_core.specs.Geometry.{Shape, IsArity}
 use Rattle.p3_merkle_core.specs.Nodes.{Functions}
-use Rattle.p3_merkle_core.specs.Openings.{Input, shared_inputs, input_digest, AgreeWhereShared, IsLastShared, IsAtOnePlace}
-use Rattle.p3_merkle_core.specs.Pruning.{PrunedOpening, opening_at, EachAccepted}
-use Rattle.p3_merkle_core.specs.Refusals.{first_of, verdict, IsEquality, IsRestorable, pruned_refusal_under}
-use Rattle.p3_merkle_core.specs.Extracting.{input_eq, difference_at, first_pair, extraction_multi_under}
+use Rattle.p3_merkle_core.specs.Openings.{Input, shared_inputs, AgreeWhereShared, HasDigests}
+use Rattle.p3_merkle_core.specs.Pruning.{PrunedOpening, opening_at}
+use Rattle.p3_merkle_core.specs.Refusals.{first_of, verdict, IsEquality, pruned_refusal_under}
+use Rattle.p3_merkle_core.specs.PrunedCalls.{IsPrunedAccepted}
+use Rattle.p3_merkle_core.specs.Extracting.{input_eq, difference_at, first_pair, extraction_multi_under, IsPairCollision}
 use Rattle.p3_merkle_core.proofs.NoneFacts.{none_parts, none_of_both, verdict_ok, range_none}
 use Rattle.p3_merkle_core.proofs.Unrefused.{all_in_range}
 use Rattle.p3_merkle_core.proofs.Verdicts.{pruned_accepted}
 use Rattle.p3_merkle_core.proofs.Extraction.{collides}
+use Rattle.p3_merkle_core.proofs.InputFacts.{shared_full, of_last_difference}
 use Rattle.p3_merkle_core.proofs.PlaceFacts.{at_one_place}
-use Rattle.p3_merkle_core.proofs.Extracted.{input_eq_decides, none_differs, some_differs, shared_long, ok_unless_is}
+use Rattle.p3_merkle_core.proofs.Extracted.{input_eq_decides, none_differs, some_differs, shared_long, ok_unless_is, differs}
 
 -- ---- the first that is found
 
@@ -89,7 +91,7 @@ one_pair {X} d n m a b x e =
 pub multi_extracted : {T W : Type 0} (row_eq : T → T → Bool) (digest_eq : W → W → Bool) (f : Functions T W) (s : Shape) (t : ℕ) (cap : List (List W)) (p r : PrunedOpening T W) → IsEquality row_eq → IsEquality digest_eq → IsArity s.arity →
     (answer : Option (ℕ × ℕ × (Input T W × Input T W))) →
     (extraction_multi_under row_eq digest_eq f s t cap p r ≡ Ok answer) ↔
-    ((IsRestorable s t p × EachAccepted f s t cap p) × (IsRestorable s t r × EachAccepted f s t cap r) × (first_pair (difference_at row_eq digest_eq f s t p r) (length p.indices) (length r.indices) ≡ answer))
+    (IsPrunedAccepted f s t cap p × IsPrunedAccepted f s t cap r × (first_pair (difference_at row_eq digest_eq f s t p r) (length p.indices) (length r.indices) ≡ answer))
 multi_extracted row_eq digest_eq f s t cap p r dec dec_w w answer =
     let refused = λ (z : PrunedOpening _ _). pruned_refusal_under row_eq digest_eq f s t cap z in
     let found = first_pair (difference_at row_eq digest_eq f s t p r) (length p.indices) (length r.indices) in
@@ -107,7 +109,7 @@ multi_extracted row_eq digest_eq f s t cap p r dec dec_w w answer =
 
 pub multi_none : {T W : Type 0} (row_eq : T → T → Bool) (digest_eq : W → W → Bool) (f : Functions T W) (s : Shape) (t : ℕ) (cap : List (List W)) (p r : PrunedOpening T W) → IsEquality row_eq → IsEquality digest_eq → IsArity s.arity →
     (extraction_multi_under row_eq digest_eq f s t cap p r ≡ Ok None) ↔
-    ((IsRestorable s t p × EachAccepted f s t cap p) × (IsRestorable s t r × EachAccepted f s t cap r)
+    (IsPrunedAccepted f s t cap p × IsPrunedAccepted f s t cap r
     × ((a b : ℕ) → a < length p.indices → b < length r.indices → AgreeWhereShared f s t (opening_at f s t p a) (opening_at f s t r b)))
 multi_none row_eq digest_eq f s t cap p r dec dec_w w =
     let whole = multi_extracted row_eq digest_eq f s t cap p r dec dec_w w None in
@@ -122,7 +124,7 @@ multi_none row_eq digest_eq f s t cap p r dec dec_w w =
 
 pub multi_some : {T W : Type 0} (row_eq : T → T → Bool) (digest_eq : W → W → Bool) (f : Functions T W) (s : Shape) (t : ℕ) (cap : List (List W)) (p r : PrunedOpening T W) (a b : ℕ) (x y : Input T W) → IsEquality row_eq → IsEquality digest_eq → IsArity s.arity →
     extraction_multi_under row_eq digest_eq f s t cap p r ≡ Ok (Some (a, b, (x, y))) →
-    (a < length p.indices) × (b < length r.indices) × IsLastShared f s t (opening_at f s t p a) (opening_at f s t r b) x y × IsAtOnePlace x y × (input_digest f x ≡ input_digest f y)
+    IsPairCollision f s t p r a b x y
 multi_some row_eq digest_eq f s t cap p r a b x y dec dec_w w e =
     let both = (multi_extracted row_eq digest_eq f s t cap p r dec dec_w w (Some (a, b, (x, y)))).0 e in
     let n = length p.indices in
@@ -135,7 +137,17 @@ multi_some row_eq digest_eq f s t cap p r a b x y dec dec_w w e =
     let last = some_differs (input_eq row_eq digest_eq) (input_eq_decides row_eq digest_eq dec dec_w) mine theirs x y (shared_long f s t o u) one.2 in
     let first_accepted = both.0.1 a one.0 in
     let second_accepted = both.1.1 b one.1 in
-    (one.0, one.1, last, at_one_place f s t o u x y last, collides f s t cap o u w first_accepted second_accepted x y last)
+    let full = of_last_difference (HasDigests s.arity) mine theirs x y (shared_full f s t o.index u.index o w first_accepted.count) (shared_full f s t o.index u.index u w second_accepted.count) last in
+    record {
+      first_query = one.0;
+      second_query = one.1;
+      last_shared = last;
+      at_one_place = at_one_place f s t o u x y last;
+      different = differs mine theirs x y last;
+      first_full = full.0;
+      second_full = full.1;
+      one_digest = collides f s t cap o u w first_accepted second_accepted x y last;
+    }
 
 -- no pair before it differs
 pub multi_first : {T W : Type 0} (row_eq : T → T → Bool) (digest_eq : W → W → Bool) (f : Functions T W) (s : Shape) (t : ℕ) (cap : List (List W)) (p r : PrunedOpening T W) (a b : ℕ) (x y : Input T W) → IsEquality row_eq → IsEquality digest_eq → IsArity s.arity →

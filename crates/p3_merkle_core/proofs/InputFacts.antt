@@ -1,12 +1,12 @@
 -- The inputs of a check with all its siblings have N digests each.
-use Rattle.std.proofs.Common.{◌≡◌, ℕ, zero, suc, ◌-◌, ◌<◌, ◌≤◌, List, [], ◌∷◌, ◌∙◌, arith, inl, inr, length, All, replicate, length-append}
+use Rattle.std.proofs.Common.{◌≡◌, ℕ, zero, suc, ◌-◌, ◌<◌, ◌≤◌, List, [], ◌∷◌, ◌∙◌, arith, inl, inr, length, All, replicate, length-append, eqb, ◌+◌}
 use Rattle.std.proofs.lemmas.Bool.{cases_Bool, cond_both}
 use Rattle.std.proofs.lemmas.List.{length-replicate}
 use Rattle.std.proofs.lemmas.List.Edits.{length-insert}
 use Rattle.std.proofs.lemmas.List.Elements.{All-append, All-cons, All-nil}
 use Rattle.p3_merkle_core.specs.Geometry.{Shape, IsArity, is_bridge, layer_exponent, joined, step, position_in_group, has_rows}
 use Rattle.p3_merkle_core.specs.Nodes.{Functions, padded_group, pair}
-use Rattle.p3_merkle_core.specs.Openings.{Opening, Leaf, Group, Rows, Pair, HasDigests, inputs, inputs_at, group_at, path_digest, siblings_at, siblings_below, layer_words}
+use Rattle.p3_merkle_core.specs.Openings.{Opening, Leaf, Group, Rows, Pair, HasDigests, inputs, inputs_at, group_at, path_digest, siblings_at, siblings_below, layer_words, IsLastDifference, shared_inputs, meeting_level}
 use Rattle.p3_merkle_core.proofs.StepFacts.{step_above_1}
 use Rattle.p3_merkle_core.proofs.Extraction.{siblings_full, in_group}
 
@@ -41,3 +41,24 @@ inputs_full f s t o w e = All-cons (HasDigests s.arity) (Leaf (layer_words s o.r
     levels_full f s t o w e zero h = All-nil (HasDigests s.arity)
     levels_full f s t o w e (suc n) h =
         All-append (HasDigests s.arity) (joined (inputs_at f s o) n) (inputs_at f s o n) (levels_full f s t o w e n (omega arith)) (level_full f s t o n w e (omega arith))
+
+-- so have those that two checks share
+pub shared_full : {T W : Type 0} (f : Functions T W) (s : Shape) (t i j : ℕ) (o : Opening T W) → IsArity s.arity → length o.siblings ≡ siblings_below s t → All (HasDigests s.arity) (shared_inputs f s t i j o)
+shared_full f s t i j o w e =
+    let m = meeting_level s t i j in
+    elim (cases_Bool (eqb i j)) [
+      | inl y ↦ rw y (inputs_full f s t o w e)
+      | inr n ↦ rw n (above_full f s t m o w e (t - m) (omega arith))
+    ]
+  where
+    above_full : {T W : Type 0} (f : Functions T W) (s : Shape) (t m : ℕ) (o : Opening T W) → IsArity s.arity → length o.siblings ≡ siblings_below s t → (n : ℕ) → n ≤ t - m → All (HasDigests s.arity) (joined (λ k. inputs_at f s o (m + k)) n)
+    above_full f s t m o w e zero h = All-nil (HasDigests s.arity)
+    above_full f s t m o w e (suc n) h =
+        All-append (HasDigests s.arity) (joined (λ k. inputs_at f s o (m + k)) n) (inputs_at f s o (m + n)) (above_full f s t m o w e n (omega arith)) (level_full f s t o (m + n) w e (omega arith))
+
+-- what holds of all elements of two lists holds of both at their last difference
+pub of_last_difference : {X : Type 0} (P : X → Type 0) (xs ys : List X) (x y : X) → All P xs → All P ys → IsLastDifference xs ys x y → P x × P y
+of_last_difference P [] ys x y a b d = absurd d
+of_last_difference P (v ∷ xs) [] x y a b d = absurd d
+of_last_difference P (v ∷ xs) (w ∷ ys) x y a b (inl d) = of_last_difference P xs ys x y (λ k e h. a (suc k) e (omega arith)) (λ k e h. b (suc k) e (omega arith)) d
+of_last_difference P (v ∷ xs) (w ∷ ys) x y a b (inr d) = (rw (← d.1) (a 0 x (omega arith)), rw (← d.2) (b 0 y (omega arith)))

@@ -1,15 +1,15 @@
 -- The boundary suffices, and a set of no more nodes that suffices has its members.
 use Rattle.std.proofs.Common.{◌≡◌, ℕ, zero, suc, ◌+◌, ◌*◌, ◌/◌, ◌<◌, ◌≤◌, Bool, true, false, not, eqb, ◌&&◌, ◌||◌, List, [], ◌∷◌, map, refl, sym, ◌∙◌, arith, inl, inr, length, filter, eq-eqb, All}
 use Rattle.std.specs.List.{list_any, range_with_len}
-use Rattle.std.proofs.lemmas.Bool.{cases_Bool, cases_eq, eqb-true, and_parts, and_from, or_cases, or_left, or_right, or_parts, not_from_false, true≢false}
+use Rattle.std.proofs.lemmas.Bool.{cases_Bool, cases_eq, eqb-true, and_parts, and_from, or_cases, or_left, or_right, or_parts, not_from_false, true≢false, cases_lt, not-true}
 use Rattle.std.proofs.lemmas.List.Folds.{list_any-append}
 use Rattle.std.proofs.Math.Nat.{mul-le-mul_left}
 use Rattle.p3_merkle_core.specs.Geometry.{Shape, step, ancestor, raw_len, layer_len, tallest, heights}
-use Rattle.p3_merkle_core.specs.Pruning.{is_covered, is_boundary, boundary_at, boundary, is_in, IsKnown, Suffices, IsUncovered, CanQuery}
+use Rattle.p3_merkle_core.specs.Pruning.{is_covered, is_boundary, boundary_at, boundary, is_in, IsKnown, Suffices, IsUncovered, CanQuery, IsLeast}
 use Rattle.p3_merkle_core.proofs.LadderFacts.{IsArity}
 use Rattle.p3_merkle_core.proofs.RawFacts.{anc_below, children_fit}
 use Rattle.p3_merkle_core.proofs.Under.{under_self, child_parent}
-use Rattle.p3_merkle_core.proofs.Minimal.{above, boundary_one, minimal}
+use Rattle.p3_merkle_core.proofs.Minimal.{above, boundary_one, minimal, in_boundary}
 use Rattle.p3_merkle_core.proofs.ListFacts.{tally}
 
 -- ---- a covered node
@@ -187,3 +187,16 @@ only_the_boundary s w queries t given un enough few l j =
         | inr f ↦ f ∙ sym n
       ]
     ]
+
+-- the boundary is uncovered and suffices, and what else does has its members or is longer
+pub boundary_least : (s : Shape) (queries : List ℕ) (t : ℕ) → CanQuery s queries t → IsLeast s queries t (boundary s queries t)
+boundary_least s queries t w =
+    let nodes = boundary s queries t in
+    record {
+      uncovered = λ l j le e. (let b = in_boundary s queries t l j e in not-true (is_covered s queries l j) (and_parts (is_covered s queries (suc l) (j / step s l)) (not (is_covered s queries l j)) b.1).1);
+      suffices = boundary_suffices s queries t w;
+      others_longer = λ given un enough. elim (cases_lt (length nodes) (length given)) [
+        | inl longer ↦ inr longer
+        | inr few ↦ inl (only_the_boundary s w.well_shaped queries t given un enough few)
+      ];
+    }

@@ -3,7 +3,7 @@ use Rattle.std.specs.Prelude.{ℕ, List, [], ◌∷◌, map, length, replicate, 
 use Rattle.p3_support.specs.Fold.{fold_hash, fold_compress}
 use Rattle.p3_merkle_core.specs.Geometry.{Shape, shape_of}
 use Rattle.p3_merkle_core.specs.Nodes.{Batch, Functions, Matrix, functions_of}
-use Rattle.p3_merkle_core.specs.Pruning.{PrunedOpening}
+use Rattle.p3_merkle_core.specs.Pruning.{PrunedOpening, pruned_of}
 
 -- the fold functions at digests of d words
 abbrev pub fold_example : ℕ → Functions ℕ ℕ
@@ -23,4 +23,4 @@ batch arity matrices = record { arity = arity; matrices = matrices }
 
 -- a pruned opening of indices, row sets and digests
 abbrev pub pruned : List ℕ → List (List (List ℕ)) → List (List ℕ) → PrunedOpening ℕ ℕ
-pruned indices rows digests = record { indices = indices; rows = rows; digests = digests }
+pruned indices rows digests = pruned_of indices rows digests

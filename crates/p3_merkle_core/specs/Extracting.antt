@@ -1,11 +1,11 @@
 -- What extraction answers: a refusal, or the last difference of what two checks share.
-use Rattle.std.specs.Prelude.{ℕ, ◌==◌, ◌&&◌, Bool, false, List, [], ◌∷◌, Option, Some, None, Result, Ok, Err, length, slice_index, option_map}
+use Rattle.std.specs.Prelude.{◌≡◌, ◌≢◌, ◌<◌, ℕ, ◌==◌, ◌&&◌, Bool, false, List, [], ◌∷◌, Option, Some, None, Result, Ok, Err, length, slice_index, option_map}
 use Rattle.std.specs.List.{range_with_len}
 use Rattle.std.specs.Option.{option_or}
 use Rattle.std.specs.Cmp.Lexicographic.{pointwise}
 use Rattle.p3_merkle_core.specs.Geometry.{Shape}
 use Rattle.p3_merkle_core.specs.Nodes.{Functions}
-use Rattle.p3_merkle_core.specs.Openings.{Opening, Input, Leaf, Group, Rows, Pair, shared_inputs}
+use Rattle.p3_merkle_core.specs.Openings.{Opening, Input, Leaf, Group, Rows, Pair, shared_inputs, HasDigests, IsAtOnePlace, IsLastShared, input_digest}
 use Rattle.p3_merkle_core.specs.Pruning.{PrunedOpening, opening_at}
 use Rattle.p3_merkle_core.specs.Refusals.{first_of, pruned_refusal_under, unless, refusal_under}
 use Rattle.p3_merkle_core.specs.declared.error.MerkleTreeError.{MerkleTreeError}
@@ -53,3 +53,14 @@ abbrev pub extraction_multi_under : {T W : Type 0} → (T → T → Bool) → (W
 extraction_multi_under row_eq digest_eq f s t cap p r =
     ok_unless (option_or (pruned_refusal_under row_eq digest_eq f s t cap p) (pruned_refusal_under row_eq digest_eq f s t cap r))
     (first_pair (difference_at row_eq digest_eq f s t p r) (length p.indices) (length r.indices))
+
+-- query a of p and query b of r collide: the last inputs that their checks share and that differ are x and y, at one place, full and of one digest
+pub record IsPairCollision {T W : Type 0} (f : Functions T W) (s : Shape) (t : ℕ) (p r : PrunedOpening T W) (a b : ℕ) (x y : Input T W) : Type 0 where
+  pub first_query : a < length p.indices
+  pub second_query : b < length r.indices
+  pub last_shared : IsLastShared f s t (opening_at f s t p a) (opening_at f s t r b) x y
+  pub at_one_place : IsAtOnePlace x y
+  pub different : x ≢ y
+  pub first_full : HasDigests s.arity x
+  pub second_full : HasDigests s.arity y
+  pub one_digest : input_digest f x ≡ input_digest f y

@@ -4,9 +4,10 @@ use Rattle.std.specs.List.{count_by}
 use Rattle.p3_merkle_core.specs.Geometry.{Shape, heights, tallest, levels, layer_exponent, exponent, layer_of, layer_len, row_at_index, step, ancestor, arity_schedule, schedule_below, cap_layer, IsArity, IsLawful}
 use Rattle.p3_merkle_core.specs.Nodes.{Functions, Batch, HasFullRows, shape, node, layer}
 use Rattle.p3_merkle_core.specs.Openings.{Opening, Input, AgreeWhereShared, HasDigests, IsAccepted, IsAtOnePlace, IsLastShared, honest, honest_siblings, inputs, is_authenticated, opened_row, path_digest, input_digest, check_digest, last_input}
-use Rattle.p3_merkle_core.specs.Pruning.{PrunedOpening, CanQuery, IsHonestQuery, IsCapped, IsUncovered, EachAccepted, Suffices, boundary, honest_query, is_covered, is_in, is_under, opening_at, restored_node, restored_path, IsGivenUnder}
+use Rattle.p3_merkle_core.specs.Pruning.{PrunedOpening, CanQuery, IsHonestQuery, IsCapped, IsUncovered, EachAccepted, Suffices, boundary, honest_query, is_covered, is_in, is_under, opening_at, restored_node, restored_path, IsGivenUnder, IsLeast}
 use Rattle.p3_merkle_core.specs.Refusals.{IsEquality, IsRestorable, answer_under, pruned_answer, pruned_answer_under}
-use Rattle.p3_merkle_core.specs.Extracting.{difference_at, extraction_under, extraction_multi_under, first_pair}
+use Rattle.p3_merkle_core.specs.PrunedCalls.{IsPrunedAccepted}
+use Rattle.p3_merkle_core.specs.Extracting.{difference_at, extraction_under, extraction_multi_under, first_pair, IsPairCollision}
 use Rattle.p3_merkle_core.specs.declared.error.MerkleTreeError.{MerkleTreeError}
 use Rattle.p3_merkle_core.specs.declared.error.MerkleTreeError.TheVariants.{CapMismatch}
 use Rattle.p3_merkle_core.specs.Gate.{gate_refusal}
@@ -66,6 +67,10 @@ abbrev pub BoundaryIsAlone : Type 0
 BoundaryIsAlone =
     (s : Shape) (queries : List ℕ) (t : ℕ) (given : List (ℕ × ℕ)) → IsArity s.arity → IsUncovered s queries t given → Suffices s queries t given →
     length given ≤ length (boundary s queries t) → (l j : ℕ) → is_in given l j ≡ is_in (boundary s queries t) l j
+
+-- the boundary is least: it suffices, and each other list of uncovered nodes that suffices is longer
+abbrev pub BoundaryIsLeast : Type 0
+BoundaryIsLeast = (s : Shape) (queries : List ℕ) (t : ℕ) → CanQuery s queries t → IsLeast s queries t (boundary s queries t)
 
 -- no node is under two boundary nodes
 abbrev pub BoundaryNodesAreApart : Type 0
@@ -130,7 +135,7 @@ module _ (T W : Type 0) where
   abbrev pub OkIsEachAccepted : Type 0
   OkIsEachAccepted =
       (row_eq : T → T → Bool) (digest_eq : W → W → Bool) (f : Functions T W) (s : Shape) (t : ℕ) (cap : List (List W)) (p : PrunedOpening T W) → IsEquality row_eq → IsEquality digest_eq → IsArity s.arity →
-      (pruned_answer_under row_eq digest_eq f s t cap p ≡ Ok tt) ↔ (IsRestorable s t p × EachAccepted f s t cap p)
+      (pruned_answer_under row_eq digest_eq f s t cap p ≡ Ok tt) ↔ IsPrunedAccepted f s t cap p
 
   -- a pruned opening is answered Ok under a cap exactly if it is restorable and the cap has each covered node of its layer
   abbrev pub OkIsCapped : Type 0
@@ -223,7 +228,7 @@ module _ (T W : Type 0) where
       (row_eq : T → T → Bool) (digest_eq : W → W → Bool) (f : Functions T W) (s : Shape) (t : ℕ) (cap : List (List W)) (p r : PrunedOpening T W) → IsEquality row_eq → IsEquality digest_eq → IsArity s.arity →
       (answer : Option (ℕ × ℕ × (Input T W × Input T W))) →
       (extraction_multi_under row_eq digest_eq f s t cap p r ≡ Ok answer)
-      ↔ ((IsRestorable s t p × EachAccepted f s t cap p) × (IsRestorable s t r × EachAccepted f s t cap r)
+      ↔ (IsPrunedAccepted f s t cap p × IsPrunedAccepted f s t cap r
       × (first_pair (difference_at row_eq digest_eq f s t p r) (length p.indices) (length r.indices) ≡ answer))
 
   -- it answers None exactly where both are accepted and each query of the one agrees with each of the other wherever they share a place
@@ -231,16 +236,14 @@ module _ (T W : Type 0) where
   NoPairDiffers =
       (row_eq : T → T → Bool) (digest_eq : W → W → Bool) (f : Functions T W) (s : Shape) (t : ℕ) (cap : List (List W)) (p r : PrunedOpening T W) → IsEquality row_eq → IsEquality digest_eq → IsArity s.arity →
       (extraction_multi_under row_eq digest_eq f s t cap p r ≡ Ok None)
-      ↔ ((IsRestorable s t p × EachAccepted f s t cap p) × (IsRestorable s t r × EachAccepted f s t cap r)
+      ↔ (IsPrunedAccepted f s t cap p × IsPrunedAccepted f s t cap r
       × ((a b : ℕ) → a < length p.indices → b < length r.indices → AgreeWhereShared f s t (opening_at f s t p a) (opening_at f s t r b)))
 
-  -- else it answers two queries, each by its place, and the last inputs that they share and that differ, which have one digest
+  -- else it answers two queries, each by its place, that collide, and the inputs in which they do
   abbrev pub PairCollides : Type 0
   PairCollides =
       (row_eq : T → T → Bool) (digest_eq : W → W → Bool) (f : Functions T W) (s : Shape) (t : ℕ) (cap : List (List W)) (p r : PrunedOpening T W) (a b : ℕ) (x y : Input T W) → IsEquality row_eq → IsEquality digest_eq → IsArity s.arity →
-      extraction_multi_under row_eq digest_eq f s t cap p r ≡ Ok (Some (a, b, (x, y))) →
-      (a < length p.indices) × (b < length r.indices) × IsLastShared f s t (opening_at f s t p a) (opening_at f s t r b) x y
-      × IsAtOnePlace x y × (input_digest f x ≡ input_digest f y)
+      extraction_multi_under row_eq digest_eq f s t cap p r ≡ Ok (Some (a, b, (x, y))) → IsPairCollision f s t p r a b x y
 
   -- each pair of queries before it, by the first list, then by the second, agrees wherever it shares a place
   abbrev pub PairsBeforeAgree : Type 0

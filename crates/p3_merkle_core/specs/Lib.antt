@@ -5,6 +5,7 @@ pub mod Openings
 pub mod Groups
 pub mod Pruning
 pub mod Refusals
+pub mod PrunedCalls
 pub mod Extracting
 pub mod Laws
 pub mod Examples
@@ -12,3 +13,4 @@ pub mod ShapeExamples
 pub mod NodeExamples
 pub mod OpeningExamples
 pub mod PruningExamples
+pub mod PrunedCallExamples

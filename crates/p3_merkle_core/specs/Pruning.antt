@@ -60,6 +60,13 @@ is_under s l j (m, k) = nat_le m l && (up s m k (l - m) == j)
 abbrev pub IsGivenUnder : Shape → List (ℕ × ℕ) → ℕ → ℕ → ℕ × ℕ → Type 0
 IsGivenUnder s given l j x = IsTrue (is_in given x.0 x.1) × IsTrue (is_under s l j x)
 
+-- uncovered nodes that suffice, where each list of uncovered nodes that suffices has just these nodes, or is longer
+pub record IsLeast (s : Shape) (queries : List ℕ) (t : ℕ) (nodes : List (ℕ × ℕ)) : Type 0 where
+  pub uncovered : IsUncovered s queries t nodes
+  pub suffices : Suffices s queries t nodes
+  pub others_longer : (given : List (ℕ × ℕ)) → IsUncovered s queries t given → Suffices s queries t given →
+      ((l j : ℕ) → is_in given l j ≡ is_in nodes l j) ⊎ (length nodes < length given)
+
 -- ---- what is restored
 
 -- an opening of several indices by one pruned proof: a row set for each index, and the digests that are sent
@@ -67,6 +74,10 @@ pub record PrunedOpening (T W : Type 0) : Type 0 where
   pub indices : List ℕ
   pub rows : List (List (List T))
   pub digests : List (List W)
+
+-- the pruned opening of indices, row sets and digests
+abbrev pub pruned_of : {T W : Type 0} → List ℕ → List (List (List T)) → List (List W) → PrunedOpening T W
+pruned_of indices rows digests = record { indices = indices; rows = rows; digests = digests }
 
 -- the rows of the first query under node j of layer l
 abbrev pub rows_under : {T W : Type 0} → Shape → PrunedOpening T W → ℕ → ℕ → List (List T)

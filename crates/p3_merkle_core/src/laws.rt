@@ -2,7 +2,7 @@
 //! hash, every compression, every batch and every opening; the calls of the crates above answer what the definitions say.
 
 ghost use Rattle.std.specs.Prelude.{◌≡◌, ◌↔◌, IsTrue};
-ghost use Rattle.p3_merkle_core.specs.Laws.{AnsweredAsEachPath, BoundaryIsAlone, BoundaryIsSmallest, BoundaryNodesAreApart, BoundaryNodesAreHeld, BoundarySuffices, CappedIsEachAccepted, HonestIsAccepted, HonestNodesAreRestored, HonestPathsAreRestored, HonestQueryIsAccepted, HonestQueryIsCapped, InputsAreFull, LastDifferenceCollides, LastInputIsReached, MatricesHaveLayers, NoPairDiffers, NoneIsAgreement, OkIsAccepted, OkIsCapped, OkIsEachAccepted, OkIsRestorable, OkOrCapMismatch, OneIndexIsBound, PairCollides, PairIsFirst, PairsBeforeAgree, RefusedUnderEachCap, RootIsAlone, RowsAreAncestors, RowsAreBound, ScheduleStopsAtCap, SomeIsCollision, UnrefusedIsLawful, WalkEnds};
+ghost use Rattle.p3_merkle_core.specs.Laws.{AnsweredAsEachPath, BoundaryIsAlone, BoundaryIsLeast, BoundaryIsSmallest, BoundaryNodesAreApart, BoundaryNodesAreHeld, BoundarySuffices, CappedIsEachAccepted, HonestIsAccepted, HonestNodesAreRestored, HonestPathsAreRestored, HonestQueryIsAccepted, HonestQueryIsCapped, InputsAreFull, LastDifferenceCollides, LastInputIsReached, MatricesHaveLayers, NoPairDiffers, NoneIsAgreement, OkIsAccepted, OkIsCapped, OkIsEachAccepted, OkIsRestorable, OkOrCapMismatch, OneIndexIsBound, PairCollides, PairIsFirst, PairsBeforeAgree, RefusedUnderEachCap, RootIsAlone, RowsAreAncestors, RowsAreBound, ScheduleStopsAtCap, SomeIsCollision, UnrefusedIsLawful, WalkEnds};
 
 use crate::error::{MerkleTreeError, PrunedProofError};
 
@@ -101,6 +101,7 @@ pub fn sufficiency()
 pub fn minimality()
     ensures smallest { BoundaryIsSmallest }
     ensures alone { BoundaryIsAlone }
+    ensures least { BoundaryIsLeast }
     ensures apart { BoundaryNodesAreApart }
     ensures held { BoundaryNodesAreHeld }
 {}
