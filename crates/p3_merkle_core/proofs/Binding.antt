@@ -2,23 +2,24 @@
 use Rattle.std.proofs.Common.{◌≡◌, ℕ, zero, suc, ◌+◌, ◌-◌, ◌<◌, ◌≤◌, false, eqb, List, [], ◌∷◌, ◌++◌, map, refl, sym, ◌∙◌, arith, inl, inr, length, take, drop, insert, filter, flat_map, zip, length-append, eq-eqb}
 use Rattle.std.specs.List.{list_any}
 use Rattle.std.proofs.lemmas.Bool.{cases_Bool, cases_eq, or_parts, ne_eqb}
-use Rattle.p3_merkle_core.specs.Geometry.{Shape, exponent, layer_exponent, joined, ancestor, heights, has_rows}
+use Rattle.p3_merkle_core.specs.Geometry.{Shape, exponent, layer_exponent, ancestor, heights, has_rows}
 use Rattle.p3_merkle_core.specs.Nodes.{Functions}
 use Rattle.p3_merkle_core.specs.Openings.{Opening, IsAccepted, inputs_at, shared_inputs, meeting_level, layer_words, layer_rows}
 use Rattle.p3_merkle_core.proofs.LeastFacts.{least_bound}
 use Rattle.p3_merkle_core.proofs.StepFacts.{anc_start}
 use Rattle.p3_merkle_core.proofs.Extraction.{same_ends, inputs_with_rows, level_lengths}
+use Rattle.p3_merkle_core.proofs.ListFacts.{joined, joined_more}
 
 -- ---- lists
 
 pub pieces_long : {A : Type 0} (g h : ℕ → List A) (n : ℕ) → ((k : ℕ) → length (g k) ≡ length (h k)) → length (joined g n) ≡ length (joined h n)
 pieces_long g h zero e = refl
-pieces_long g h (suc n) e = length-append (joined g n) (g n) ∙ (let p = pieces_long g h n e in let q = e n in omega arith) ∙ sym (length-append (joined h n) (h n))
+pieces_long g h (suc n) e = rw (joined_more g n, joined_more h n) (length-append (joined g n) (g n) ∙ (let p = pieces_long g h n e in let q = e n in omega arith) ∙ sym (length-append (joined h n) (h n)))
 
 pieces_same : {A : Type 0} (g h : ℕ → List A) (n : ℕ) → ((k : ℕ) → length (g k) ≡ length (h k)) → joined g n ≡ joined h n → (k : ℕ) → k < n → g k ≡ h k
 pieces_same g h zero e same k l = absurd (omega arith)
 pieces_same g h (suc n) e same k l =
-    let ends = same_ends (joined g n) (joined h n) (g n) (h n) (pieces_long g h n e) same in
+    let ends = same_ends (joined g n) (joined h n) (g n) (h n) (pieces_long g h n e) (sym (joined_more g n) ∙ same ∙ joined_more h n) in
     elim (cases_eq k n) [ inl z ↦ rw z ends.1 | inr nz ↦ pieces_same g h n e ends.0 k (omega arith) ]
 
 pub insert_same : {X : Type 0} (xs ys : List X) (p : ℕ) (x y : X) → length xs ≡ length ys → insert xs p x ≡ insert ys p y → xs ≡ ys

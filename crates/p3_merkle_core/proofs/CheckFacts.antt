@@ -5,6 +5,7 @@ use Rattle.std.proofs.lemmas.List.{append_assoc}
 use Rattle.p3_merkle_core.specs.Geometry.{Shape, IsLawful, ancestor, has_rows, heights, tallest, widths}
 use Rattle.p3_merkle_core.specs.Nodes.{Functions, padded_group, pair}
 use Rattle.p3_merkle_core.specs.Openings.{Opening, Input, Leaf, Group, Rows, Pair, IsAccepted, check_digest, group_at, input_digest, inputs, inputs_at, last_input, last_of, layer_words, path_digest, siblings_below}
+use Rattle.p3_merkle_core.proofs.ListFacts.{joined_more}
 use Rattle.p3_merkle_core.proofs.Completeness.{reached_next, reached_leaf}
 
 -- ---- the inputs of one level
@@ -34,8 +35,8 @@ last_reached f s (suc t) o =
     let last = pair f s.arity (f.compression group) (f.hash words) in
     let next = reached_next f s o t in
     elim (cases_Bool (has_rows s (suc t))) [
-      | inl e ↦ (below ++ Group t group ∷ Rows t words ∷ [], Pair t last, rw (inputs_with_rows f s o t e) (sym (append_assoc below (Group t group ∷ Rows t words ∷ []) (Pair t last ∷ []))), sym (rw e at next))
-      | inr n ↦ (below, Group t group, rw (inputs_alone f s o t n) refl, sym (rw n at next))
+      | inl e ↦ (below ++ Group t group ∷ Rows t words ∷ [], Pair t last, rw (joined_more (inputs_at f s o) t, inputs_with_rows f s o t e) (sym (append_assoc below (Group t group ∷ Rows t words ∷ []) (Pair t last ∷ []))), sym (rw e at next))
+      | inr n ↦ (below, Group t group, rw (joined_more (inputs_at f s o) t, inputs_alone f s o t n) refl, sym (rw n at next))
     ]
 
 last_after : {X : Type 0} (x y : X) (xs : List X) → last_of x (xs ++ y ∷ []) ≡ y

@@ -1,7 +1,8 @@
 -- The last difference of two checks that reach one digest is a collision.
 use Rattle.std.proofs.Common.{◌≡◌, ℕ, zero, suc, ◌+◌, ◌-◌, ◌%◌, ◌<◌, ◌≤◌, Bool, true, false, eqb, List, [], ◌∷◌, ◌++◌, refl, ap, sym, subst, ◌∙◌, arith, inl, inr, ◌⊎◌, length, insert, replicate, length-append, length-take, length-drop, add-suc, eq-eqb, slice_get}
 use Rattle.std.proofs.lemmas.Bool.{cases_Bool, cases_lt, cases_eq, eqb-true, ne_eqb}
-use Rattle.p3_merkle_core.specs.Geometry.{Shape, joined, step, ancestor, position_in_group, has_rows}
+use Rattle.std.specs.List.{flat_map, range_with_len}
+use Rattle.p3_merkle_core.specs.Geometry.{Shape, step, ancestor, position_in_group, has_rows}
 use Rattle.p3_merkle_core.specs.Nodes.{Functions, padded_group, pair}
 use Rattle.p3_merkle_core.specs.Openings.{Opening, Input, Group, Rows, Pair, input_digest, inputs_at, group_at, path_digest, layer_words, siblings_at, siblings_below, IsLastDifference, shared_inputs, meeting_level, IsAccepted}
 use Rattle.p3_merkle_core.proofs.LeastFacts.{least_passes}
@@ -10,6 +11,7 @@ use Rattle.p3_merkle_core.proofs.LadderFacts.{IsArity}
 use Rattle.p3_merkle_core.proofs.Completeness.{reached_next, reached_leaf}
 pub use Rattle.p3_merkle_core.proofs.CheckFacts.{full_group, inputs_with_rows, inputs_alone}
 use Rattle.p3_merkle_core.proofs.CheckFacts.{accepted_walk}
+use Rattle.p3_merkle_core.proofs.ListFacts.{joined, joined_more}
 
 -- ---- lists
 
@@ -86,9 +88,11 @@ level_lengths f s o u l = elim (cases_Bool (has_rows s (suc l))) [ inl t ↦ rw 
 joined_lengths : {T W : Type 0} (f : Functions T W) (s : Shape) (o u : Opening T W) (m n : ℕ) → length (joined (λ k. inputs_at f s o (m + k)) n) ≡ length (joined (λ k. inputs_at f s u (m + k)) n)
 joined_lengths f s o u m zero = refl
 joined_lengths f s o u m (suc n) =
-    length-append (joined (λ k. inputs_at f s o (m + k)) n) (inputs_at f s o (m + n))
+    ap length (joined_more (λ k. inputs_at f s o (m + k)) n)
+    ∙ length-append (joined (λ k. inputs_at f s o (m + k)) n) (inputs_at f s o (m + n))
     ∙ (let p = joined_lengths f s o u m n in let q = level_lengths f s o u (m + n) in omega arith)
     ∙ sym (length-append (joined (λ k. inputs_at f s u (m + k)) n) (inputs_at f s u (m + n)))
+    ∙ ap length (sym (joined_more (λ k. inputs_at f s u (m + k)) n))
 
 -- two openings with all their siblings, whose places in their groups are the same at each level above m and below t
 pub record Meet {T W : Type 0} (s : Shape) (o u : Opening T W) (m t : ℕ) : Type 0 where
@@ -119,7 +123,7 @@ levels_collide f s o u m t w zero h x y e d = absurd d
 levels_collide f s o u m t w (suc n) h x y e d =
     let l = m + n in
     let up = rw add-suc at e in
-    elim (last_of_joined (joined (λ k. inputs_at f s o (m + k)) n) (joined (λ k. inputs_at f s u (m + k)) n) (inputs_at f s o l) (inputs_at f s u l) x y (joined_lengths f s o u m n) d) [
+    elim (last_of_joined (joined (λ k. inputs_at f s o (m + k)) n) (joined (λ k. inputs_at f s u (m + k)) n) (inputs_at f s o l) (inputs_at f s u l) x y (joined_lengths f s o u m n) (rw (joined_more (λ k. inputs_at f s o (m + k)) n, joined_more (λ k. inputs_at f s u (m + k)) n) at d)) [
       | inl here ↦ level_collides f s o u l x y up here
       | inr below ↦ elim (cases_eq n 0) [
         | inl z ↦ absurd (rw z at below.1)
@@ -141,16 +145,10 @@ anc_same s m i j e (suc k) = rw (add-suc, anc_next s (m + k) i, anc_next s (m + 
 
 joined_from_0 : {A : Type 0} (g : ℕ → List A) (n : ℕ) → joined g n ≡ joined (λ k. g (0 + k)) n
 joined_from_0 g zero = refl
-joined_from_0 g (suc n) = let z : 0 + n ≡ n = omega arith in rw (joined_from_0 g n, z) refl
+joined_from_0 g (suc n) = let z : 0 + n ≡ n = omega arith in joined_more g n ∙ rw (joined_from_0 g n) (ap (λ k. joined (λ k. g (0 + k)) n ++ g k) (sym z)) ∙ sym (joined_more (λ k. g (0 + k)) n)
 
 first_piece : {A : Type 0} (g h : ℕ → List A) (n : ℕ) → ((k : ℕ) → length (g k) ≡ length (h k)) → joined g (suc n) ≡ joined h (suc n) → g 0 ≡ h 0
-first_piece g h zero e same = same
-first_piece g h (suc n) e same =
-    first_piece g h n e (same_ends (joined g (suc n)) (joined h (suc n)) (g (suc n)) (h (suc n)) (pieces_long g h (suc n) e) same).0
-  where
-    pieces_long : {A : Type 0} (g h : ℕ → List A) (n : ℕ) → ((k : ℕ) → length (g k) ≡ length (h k)) → length (joined g n) ≡ length (joined h n)
-    pieces_long g h zero e = refl
-    pieces_long g h (suc n) e = length-append (joined g n) (g n) ∙ (let p = pieces_long g h n e in let q = e n in omega arith) ∙ sym (length-append (joined h n) (h n))
+first_piece g h n e same = (same_ends (g 0) (h 0) (flat_map g (range_with_len 1 n)) (flat_map h (range_with_len 1 n)) (e 0) same).0
 
 -- two accepted openings of one cap, and the last difference of what their checks share: one digest
 pub collides : {T W : Type 0} (f : Functions T W) (s : Shape) (t : ℕ) (cap : List (List W)) (o u : Opening T W) → IsArity s.arity →

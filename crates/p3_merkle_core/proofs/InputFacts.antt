@@ -4,11 +4,12 @@ use Rattle.std.proofs.lemmas.Bool.{cases_Bool, cond_both}
 use Rattle.std.proofs.lemmas.List.{length-replicate}
 use Rattle.std.proofs.lemmas.List.Edits.{length-insert}
 use Rattle.std.proofs.lemmas.List.Elements.{All-append, All-cons, All-nil}
-use Rattle.p3_merkle_core.specs.Geometry.{Shape, IsArity, is_bridge, layer_exponent, joined, step, position_in_group, has_rows}
+use Rattle.p3_merkle_core.specs.Geometry.{Shape, IsArity, is_bridge, layer_exponent, step, position_in_group, has_rows}
 use Rattle.p3_merkle_core.specs.Nodes.{Functions, padded_group, pair}
 use Rattle.p3_merkle_core.specs.Openings.{Opening, Leaf, Group, Rows, Pair, HasDigests, inputs, inputs_at, group_at, path_digest, siblings_at, siblings_below, layer_words, IsLastDifference, shared_inputs, meeting_level}
 use Rattle.p3_merkle_core.proofs.StepFacts.{step_above_1}
 use Rattle.p3_merkle_core.proofs.Extraction.{siblings_full, in_group}
+use Rattle.p3_merkle_core.proofs.ListFacts.{joined, joined_more}
 
 filled_long : {T W : Type 0} (f : Functions T W) (n : ℕ) (ds : List (List W)) → length ds ≤ n → length (padded_group f n ds) ≡ n
 filled_long f n ds h = length-append ds (replicate (n - length ds) f.default_digest) ∙ (let r = length-replicate (n - length ds) f.default_digest in omega arith)
@@ -40,7 +41,7 @@ inputs_full f s t o w e = All-cons (HasDigests s.arity) (Leaf (layer_words s o.r
     levels_full : {T W : Type 0} (f : Functions T W) (s : Shape) (t : ℕ) (o : Opening T W) → IsArity s.arity → length o.siblings ≡ siblings_below s t → (n : ℕ) → n ≤ t → All (HasDigests s.arity) (joined (inputs_at f s o) n)
     levels_full f s t o w e zero h = All-nil (HasDigests s.arity)
     levels_full f s t o w e (suc n) h =
-        All-append (HasDigests s.arity) (joined (inputs_at f s o) n) (inputs_at f s o n) (levels_full f s t o w e n (omega arith)) (level_full f s t o n w e (omega arith))
+        rw (joined_more (inputs_at f s o) n) (All-append (HasDigests s.arity) (joined (inputs_at f s o) n) (inputs_at f s o n) (levels_full f s t o w e n (omega arith)) (level_full f s t o n w e (omega arith)))
 
 -- so have those that two checks share
 pub shared_full : {T W : Type 0} (f : Functions T W) (s : Shape) (t i j : ℕ) (o : Opening T W) → IsArity s.arity → length o.siblings ≡ siblings_below s t → All (HasDigests s.arity) (shared_inputs f s t i j o)
@@ -54,7 +55,7 @@ shared_full f s t i j o w e =
     above_full : {T W : Type 0} (f : Functions T W) (s : Shape) (t m : ℕ) (o : Opening T W) → IsArity s.arity → length o.siblings ≡ siblings_below s t → (n : ℕ) → n ≤ t - m → All (HasDigests s.arity) (joined (λ k. inputs_at f s o (m + k)) n)
     above_full f s t m o w e zero h = All-nil (HasDigests s.arity)
     above_full f s t m o w e (suc n) h =
-        All-append (HasDigests s.arity) (joined (λ k. inputs_at f s o (m + k)) n) (inputs_at f s o (m + n)) (above_full f s t m o w e n (omega arith)) (level_full f s t o (m + n) w e (omega arith))
+        rw (joined_more (λ k. inputs_at f s o (m + k)) n) (All-append (HasDigests s.arity) (joined (λ k. inputs_at f s o (m + k)) n) (inputs_at f s o (m + n)) (above_full f s t m o w e n (omega arith)) (level_full f s t o (m + n) w e (omega arith)))
 
 -- what holds of all elements of two lists holds of both at their last difference
 pub of_last_difference : {X : Type 0} (P : X → Type 0) (xs ys : List X) (x y : X) → All P xs → All P ys → IsLastDifference xs ys x y → P x × P y

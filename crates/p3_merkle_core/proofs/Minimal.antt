@@ -1,5 +1,5 @@
 -- No set of uncovered nodes that suffices has fewer members than the boundary.
-use Rattle.std.proofs.Common.{◌≡◌, ℕ, zero, suc, ◌+◌, ◌-◌, ◌*◌, ◌/◌, ◌%◌, ◌<◌, ◌≤◌, Bool, true, false, not, eqb, nat_le, ◌&&◌, List, [], ◌∷◌, ◌++◌, map, refl, sym, ◌∙◌, arith, inl, inr, ◌⊎◌, length, filter, add-suc, eq-eqb, subst, ◌≢◌}
+use Rattle.std.proofs.Common.{◌≡◌, ℕ, zero, suc, ◌+◌, ◌-◌, ◌*◌, ◌/◌, ◌%◌, ◌<◌, ◌≤◌, Bool, true, false, not, eqb, nat_le, ◌&&◌, List, [], ◌∷◌, ◌++◌, map, refl, sym, ◌∙◌, arith, inl, inr, ◌⊎◌, length, filter, add-suc, eq-eqb, subst, ◌≢◌, ap}
 use Rattle.std.specs.List.{range_with_len, count_by}
 use Rattle.std.proofs.lemmas.Bool.{cases_Bool, eqb-true, and_parts, and_from, or_cases, or_left, or_right, leb-true, not-true, both_ways, true≢false, false_from_ne_true}
 use Rattle.p3_merkle_core.specs.Geometry.{Shape, step, layer_len}
@@ -7,7 +7,7 @@ use Rattle.p3_merkle_core.specs.Pruning.{up, is_under, is_covered, is_boundary, 
 use Rattle.p3_merkle_core.proofs.StepFacts.{step_above_1}
 use Rattle.p3_merkle_core.proofs.LadderFacts.{IsArity}
 use Rattle.p3_merkle_core.proofs.Under.{tally_two, tally_append, up_next, under_parent, under_one, child_parent, covered_up, member_counts, under_self}
-use Rattle.p3_merkle_core.proofs.ListFacts.{tally, tally_is}
+use Rattle.p3_merkle_core.proofs.ListFacts.{tally, tally_is, joined_more}
 
 -- a node that is known and uncovered is given, or two nodes under it are
 pub known_counts : (s : Shape) → IsArity s.arity → (queries : List ℕ) (given : List (ℕ × ℕ)) (l j : ℕ) → IsKnown s queries given l j → is_covered s queries l j ≡ false →
@@ -118,7 +118,7 @@ unfolding tally layer_tally
 boundary_one s queries m k zero = inl refl
 boundary_one s queries m k (suc t) =
     let here = layer_one s m k (is_boundary s queries t) t 0 (layer_len s t) in
-    let split = tally_append (above s (m, k)) (boundary s queries t) (boundary_at s queries t) in
+    let split = ap (λ xs. tally (above s (m, k)) xs) (joined_more (boundary_at s queries) t) ∙ tally_append (above s (m, k)) (boundary s queries t) (boundary_at s queries t) in
     let v = up s m k (t - m) in
     elim (boundary_one s queries m k t) [
       | inl none ↦ elim here [
@@ -204,7 +204,7 @@ in_append ((m, k) ∷ xs) ys l j e =
 pub in_boundary : (s : Shape) (queries : List ℕ) (t l j : ℕ) → is_in (boundary s queries t) l j ≡ true → (l < t) × (is_boundary s queries l j ≡ true)
 in_boundary s queries zero l j e = absurd (true≢false (sym e))
 in_boundary s queries (suc t) l j e =
-    elim (in_append (boundary s queries t) (boundary_at s queries t) l j e) [
+    elim (in_append (boundary s queries t) (boundary_at s queries t) l j (ap (λ xs. is_in xs l j) (sym (joined_more (boundary_at s queries) t)) ∙ e)) [
       | inl a ↦ let r = in_boundary s queries t l j a in (omega (arith, r.0), r.1)
       | inr b ↦ let r = in_layer s queries (is_boundary s queries t) t 0 (layer_len s t) l j b in (omega (arith, r.0), rw r.0 r.1)
     ]

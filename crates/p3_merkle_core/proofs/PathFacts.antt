@@ -1,17 +1,17 @@
 -- Paths made of values of nodes: their length, and the groups that they complete.
-use Rattle.std.proofs.Common.{◌≡◌, ℕ, zero, suc, ◌+◌, ◌-◌, ◌*◌, ◌/◌, ◌<◌, ◌≤◌, List, map, refl, ap, ◌∙◌, arith, length, get_or, remove, length-append}
+use Rattle.std.proofs.Common.{◌≡◌, ℕ, zero, suc, ◌+◌, ◌-◌, ◌*◌, ◌/◌, ◌<◌, ◌≤◌, List, map, refl, ap, ◌∙◌, arith, length, get_or, remove, length-append, sym}
 use Rattle.std.specs.List.{range_with_len}
 use Rattle.std.proofs.lemmas.List.FromFn.{length-map-range_with_len, get_or-map-range_with_len}
-use Rattle.p3_merkle_core.specs.Geometry.{Shape, step, ancestor, joined, position_in_group}
+use Rattle.p3_merkle_core.specs.Geometry.{Shape, step, ancestor, position_in_group}
 use Rattle.p3_merkle_core.specs.Nodes.{Functions}
 use Rattle.p3_merkle_core.specs.Openings.{Opening, siblings_below, siblings_at, group_at}
 use Rattle.p3_merkle_core.proofs.LadderFacts.{IsArity}
 use Rattle.p3_merkle_core.proofs.StepFacts.{anc_next, step_above_1}
-use Rattle.p3_merkle_core.proofs.ListFacts.{joined_piece, insert-remove, length-remove}
+use Rattle.p3_merkle_core.proofs.ListFacts.{joined_piece, insert-remove, length-remove, joined, joined_more}
 
 pub joined_same : {A : Type 0} (g h : ℕ → List A) (t : ℕ) → ((l : ℕ) → l < t → g l ≡ h l) → joined g t ≡ joined h t
 joined_same g h zero e = refl
-joined_same g h (suc t) e = rw (joined_same g h t (λ l k. e l (omega arith)), e t (omega arith)) refl
+joined_same g h (suc t) e = joined_more g t ∙ rw (joined_same g h t (λ l k. e l (omega arith)), e t (omega arith)) (sym (joined_more h t))
 
 pub map_same : {X : Type 0} (g h : ℕ → X) (a n : ℕ) → ((k : ℕ) → a ≤ k → k < a + n → g k ≡ h k) → map g (range_with_len a n) ≡ map h (range_with_len a n)
 map_same g h a zero e = refl
@@ -36,7 +36,8 @@ pub path_length : {X : Type 0} (s : Shape) → IsArity s.arity → (v : ℕ → 
 unfolding siblings_below
 path_length s w v i zero = refl
 path_length s w v i (suc l) =
-    length-append (joined (piece s v i) l) (piece s v i l) ∙ (let p = path_length s w v i l in let q = piece_length s w v i l in omega arith)
+    ap length (joined_more (piece s v i) l)
+    ∙ length-append (joined (piece s v i) l) (piece s v i l) ∙ (let p = path_length s w v i l in let q = piece_length s w v i l in omega arith)
 
 -- the path's siblings of a level complete the group of the node on it
 pub path_group : {T W : Type 0} (f : Functions T W) (s : Shape) → IsArity s.arity → (v : ℕ → ℕ → List W) (t : ℕ) (o : Opening T W) → o.siblings ≡ joined (piece s v o.index) t →

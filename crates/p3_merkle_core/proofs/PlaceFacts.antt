@@ -2,10 +2,11 @@
 use Rattle.std.proofs.Common.{◌≡◌, ℕ, zero, suc, ◌+◌, ◌-◌, List, [], ◌∷◌, ◌++◌, refl, sym, inl, inr, eq-eqb}
 use Rattle.std.proofs.lemmas.Bool.{cases_Bool, cases_eq, ne_eqb}
 use Rattle.std.proofs.lemmas.List.{append_assoc}
-use Rattle.p3_merkle_core.specs.Geometry.{Shape, joined, has_rows}
+use Rattle.p3_merkle_core.specs.Geometry.{Shape, has_rows}
 use Rattle.p3_merkle_core.specs.Nodes.{Functions, padded_group, pair}
 use Rattle.p3_merkle_core.specs.Openings.{Opening, Input, Leaf, Group, Rows, Pair, IsAtOnePlace, IsLastDifference, IsLastShared, inputs, inputs_at, meeting_level, layer_words, input_digest, path_digest}
 use Rattle.p3_merkle_core.proofs.CheckFacts.{inputs_with_rows, inputs_alone, full_group}
+use Rattle.p3_merkle_core.proofs.ListFacts.{joined, joined_more}
 
 -- two lists of inputs stand at the same places
 AreAlike : {T W : Type 0} → List (Input T W) → List (Input T W) → Type 0
@@ -24,7 +25,7 @@ alike_append (x ∷ xs) (y ∷ ys) us vs a b = (a.0, alike_append xs ys us vs a.
 alike_joined : {T W : Type 0} (g h : ℕ → List (Input T W)) (n : ℕ) → ((k : ℕ) → AreAlike (g k) (h k)) → AreAlike (joined g n) (joined h n)
 unfolding AreAlike
 alike_joined g h zero e = tt
-alike_joined g h (suc n) e = alike_append (joined g n) (joined h n) (g n) (h n) (alike_joined g h n e) (e n)
+alike_joined g h (suc n) e = rw (joined_more g n, joined_more h n) (alike_append (joined g n) (joined h n) (g n) (h n) (alike_joined g h n e) (e n))
 
 level_alike : {T W : Type 0} (f : Functions T W) (s : Shape) (o u : Opening T W) (l : ℕ) → AreAlike (inputs_at f s o l) (inputs_at f s u l)
 unfolding AreAlike

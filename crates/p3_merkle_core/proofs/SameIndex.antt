@@ -3,13 +3,14 @@ use Rattle.std.proofs.Common.{◌≡◌, ◌↔◌, ℕ, zero, suc, ◌-◌, ◌
 use Rattle.std.proofs.lemmas.Bool.{cases_Bool}
 use Rattle.std.proofs.lemmas.List.{take_all}
 use Rattle.std.proofs.lemmas.List.Edits.{length-insert}
-use Rattle.p3_merkle_core.specs.Geometry.{Shape, IsArity, joined, step, ancestor, position_in_group, has_rows}
+use Rattle.p3_merkle_core.specs.Geometry.{Shape, IsArity, step, ancestor, position_in_group, has_rows}
 use Rattle.p3_merkle_core.specs.Nodes.{Functions}
 use Rattle.p3_merkle_core.specs.Openings.{Opening, IsAccepted, inputs, inputs_at, shared_inputs, group_at, path_digest, layer_words, layer_rows, siblings_at, siblings_below}
 use Rattle.p3_merkle_core.proofs.Completeness.{reached_leaf, reached_next}
 use Rattle.p3_merkle_core.proofs.PathFacts.{joined_same}
 use Rattle.p3_merkle_core.proofs.Extraction.{same_ends, siblings_full, in_group, inputs_with_rows, inputs_alone, full_group}
 use Rattle.p3_merkle_core.proofs.Binding.{insert_same, take_more_of, level_shared, rows_bound}
+use Rattle.p3_merkle_core.proofs.ListFacts.{joined, joined_more}
 
 -- ---- siblings
 
@@ -17,6 +18,7 @@ siblings_joined : {X : Type 0} (s : Shape) (xs : List X) (n : ℕ) → take (sib
 unfolding siblings_below
 siblings_joined s xs zero = refl
 siblings_joined s xs (suc n) = take_more_of (siblings_below s n) (step s n - 1) xs ∙ ap (λ ys. ys ++ take (step s n - 1) (drop (siblings_below s n) xs)) (siblings_joined s xs n)
+    ∙ sym (joined_more (λ l. take (step s l - 1) (drop (siblings_below s l) xs)) n)
 
 all_siblings : {T W : Type 0} (s : Shape) (t : ℕ) (o : Opening T W) → length o.siblings ≡ siblings_below s t → o.siblings ≡ joined (siblings_at s o) t
 all_siblings s t o e = sym (take_all (siblings_below s t) o.siblings (omega arith)) ∙ siblings_joined s o.siblings t

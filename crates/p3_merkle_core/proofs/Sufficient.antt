@@ -1,5 +1,5 @@
 -- The boundary suffices, and a set of no more nodes that suffices has its members.
-use Rattle.std.proofs.Common.{◌≡◌, ℕ, zero, suc, ◌+◌, ◌*◌, ◌/◌, ◌<◌, ◌≤◌, Bool, true, false, not, eqb, ◌&&◌, ◌||◌, List, [], ◌∷◌, map, refl, sym, ◌∙◌, arith, inl, inr, length, filter, eq-eqb, All}
+use Rattle.std.proofs.Common.{◌≡◌, ℕ, zero, suc, ◌+◌, ◌*◌, ◌/◌, ◌<◌, ◌≤◌, Bool, true, false, not, eqb, ◌&&◌, ◌||◌, List, [], ◌∷◌, map, refl, sym, ◌∙◌, arith, inl, inr, length, filter, eq-eqb, All, ap}
 use Rattle.std.specs.List.{list_any, range_with_len}
 use Rattle.std.proofs.lemmas.Bool.{cases_Bool, cases_eq, eqb-true, and_parts, and_from, or_cases, or_left, or_right, or_parts, not_from_false, true≢false, cases_lt, not-true}
 use Rattle.std.proofs.lemmas.List.Folds.{list_any-append}
@@ -10,7 +10,7 @@ use Rattle.p3_merkle_core.proofs.LadderFacts.{IsArity}
 use Rattle.p3_merkle_core.proofs.RawFacts.{anc_below, children_fit}
 use Rattle.p3_merkle_core.proofs.Under.{under_self, child_parent}
 use Rattle.p3_merkle_core.proofs.Minimal.{above, boundary_one, minimal, in_boundary}
-use Rattle.p3_merkle_core.proofs.ListFacts.{tally}
+use Rattle.p3_merkle_core.proofs.ListFacts.{tally, joined_more}
 
 -- ---- a covered node
 
@@ -49,7 +49,7 @@ boundary_lists s queries zero l j h b fits = absurd (omega arith)
 boundary_lists s queries (suc t) l j h b fits =
     let before = is_in (boundary s queries t) l j in
     let here = is_in (boundary_at s queries t) l j in
-    let split : is_in (boundary s queries (suc t)) l j ≡ (before || here) = list_any-append (λ (m, k). eqb m l && eqb k j) (boundary s queries t) (boundary_at s queries t) in
+    let split : is_in (boundary s queries (suc t)) l j ≡ (before || here) = ap (λ xs. is_in xs l j) (joined_more (boundary_at s queries) t) ∙ list_any-append (λ (m, k). eqb m l && eqb k j) (boundary s queries t) (boundary_at s queries t) in
     elim (cases_eq l t) [
       | inl e ↦ split ∙ or_right before here (rw (← e) (in_here (is_boundary s queries l) l 0 (layer_len s l) j b (omega arith) (omega arith)))
       | inr ne ↦ split ∙ or_left before here (boundary_lists s queries t l j (omega arith) b fits)

@@ -9,11 +9,12 @@ use Rattle.std.proofs.lemmas.List.{length-map}
 use Rattle.p3_support.specs.declared.matrix.Dimensions.{Dimensions}
 use Rattle.p3_merkle_core.proofs.ShapeFacts.{widths_in_pairs}
 use Rattle.p3_merkle_core.specs.Geometry.{Shape, tallest, exponent, layer_exponent, ancestor, least, layer_len, heights, widths_of}
-use Rattle.p3_merkle_core.specs.Pruning.{PrunedOpening, is_boundary, boundary}
+use Rattle.p3_merkle_core.specs.Pruning.{PrunedOpening, is_boundary, boundary, boundary_at}
 use Rattle.p3_merkle_core.specs.Refusals.{first_of, first_rows, lead, matrices_at, slots_below, slot_of, is_queried, unless, verdict, size_refusal, idle_refusal, queries_refusal, repeat_refusal, digest_count_refusal, width_refusal, row_refusal, group_refusal, pruned_refusal, pruned_answer, IsRestorable, row_width_refusal, width_fault}
 use Rattle.p3_merkle_core.specs.declared.error.PrunedProofError.TheVariants.{SiblingCountMismatch, InconsistentDuplicateOpenings, InconsistentGroupOpening}
 use Rattle.p3_merkle_core.specs.declared.error.MerkleTreeError.TheVariants.{WrongBatchSize, WrongWidth, IndexOutOfBounds, MalformedPrunedProof}
 use Rattle.p3_merkle_core.proofs.LeastFacts.{least_passes, least_bound}
+use Rattle.p3_merkle_core.proofs.ListFacts.{joined_more}
 use Rattle.p3_merkle_core.proofs.NoneFacts.{none_of_both, none_unless}
 use Rattle.p3_merkle_core.proofs.Answered.{query_is}
 use Rattle.p3_merkle_core.proofs.GateFacts.{gate_lawful}
@@ -55,7 +56,7 @@ filter_none p a (suc n) e = rw (e a) (filter_none p (a + 1) n e)
 -- without queries nothing is sent
 idle_boundary : (s : Shape) (t : ℕ) → boundary s [] t ≡ []
 idle_boundary s zero = refl
-idle_boundary s (suc t) = rw (idle_boundary s t, filter_none (is_boundary s [] t) 0 (layer_len s t) (λ j. refl)) refl
+idle_boundary s (suc t) = joined_more (boundary_at s []) t ∙ rw (idle_boundary s t, filter_none (is_boundary s [] t) 0 (layer_len s t) (λ j. refl)) refl
 
 idle_none : (s : Shape) (t : ℕ) (indices : List ℕ) (digests : ℕ) → digests ≡ length (boundary s indices t) → idle_refusal (length indices) digests ≡ None
 idle_none s t [] digests e = count_none 0 digests (let z = ap length (idle_boundary s t) in omega arith)

@@ -1,5 +1,5 @@
 -- The shape of a tree: exponents of heights, the ladder of lawful heights, steps, lengths, ancestors.
-use Rattle.std.specs.Prelude.{◌≡◌, ℕ, zero, suc, ◌+◌, ◌-◌, ◌*◌, ◌/◌, ◌%◌, ◌^◌, ◌<◌, ◌≤◌, max, Bool, true, false, ◌&&◌, ◌==◌, nat_lt, nat_le, if◌then◌else◌, List, [], ◌∷◌, ◌++◌, map, All}
+use Rattle.std.specs.Prelude.{◌≡◌, ℕ, zero, suc, ◌+◌, ◌-◌, ◌*◌, ◌/◌, ◌%◌, ◌^◌, ◌<◌, ◌≤◌, max, Bool, true, false, ◌&&◌, ◌==◌, nat_lt, nat_le, if◌then◌else◌, List, [], ◌∷◌, map, All}
 use Rattle.std.specs.List.{list_any, range_with_len}
 use Rattle.std.specs.Int.{next_multiple_of}
 use Rattle.p3_support.specs.declared.matrix.Dimensions.{Dimensions}
@@ -8,11 +8,6 @@ use Rattle.p3_support.specs.declared.matrix.Dimensions.{Dimensions}
 abbrev pub least : (ℕ → Bool) → ℕ → ℕ
 least p zero = 0
 least p (suc bound) = elim (p 0) [ true ↦ 0 | false ↦ suc (least (λ k. p (suc k)) bound) ]
-
--- g 0, g 1 and so on up to g (n - 1), one after another
-abbrev pub joined : {A : Type 0} → (ℕ → List A) → ℕ → List A
-joined g zero = []
-joined g (suc n) = joined g n ++ g n
 
 -- ---- heights
 

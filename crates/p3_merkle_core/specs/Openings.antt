@@ -1,6 +1,7 @@
 -- Openings of one index: the honest one, the inputs of a check, when it is accepted, where two meet.
 use Rattle.std.specs.Prelude.{◌≡◌, ◌≢◌, ◌⊎◌, ℕ, zero, suc, ◌+◌, ◌-◌, ◌<◌, ◌==◌, Bool, if◌then◌else◌, List, [], ◌∷◌, map, length, take, drop, filter, flat_map, zip, insert, remove, Some, slice_get, slice_index, slice_index_or, nat_le}
-use Rattle.p3_merkle_core.specs.Geometry.{Shape, IsLawful, least, joined, exponent, tallest, layer_exponent, layer_of, step, ancestor, position_in_group, row_at_index, heights, widths, has_rows}
+use Rattle.std.specs.List.{range_with_len}
+use Rattle.p3_merkle_core.specs.Geometry.{Shape, IsLawful, least, exponent, tallest, layer_exponent, layer_of, step, ancestor, position_in_group, row_at_index, heights, widths, has_rows}
 use Rattle.p3_merkle_core.specs.Nodes.{Functions, Batch, shape, padded_group, compress, children, pair, with_rows}
 
 -- ---- the honest opening
@@ -15,7 +16,7 @@ honest_group f b i l = remove (children f b l (ancestor (shape b) (suc l) i)) (p
 
 -- the siblings on the path of leaf i up to layer t
 abbrev pub honest_siblings : {T W : Type 0} → Functions T W → Batch T → ℕ → ℕ → List (List W)
-honest_siblings f b t i = joined (honest_group f b i) t
+honest_siblings f b t i = flat_map (honest_group f b i) (range_with_len 0 t)
 
 -- ---- the inputs of a check
 
@@ -99,7 +100,7 @@ IsAtOnePlace x y = ⊥
 
 -- all inputs of a check up to layer t, in order
 abbrev pub inputs : {T W : Type 0} → Functions T W → Shape → ℕ → Opening T W → List (Input T W)
-inputs f s t o = Leaf (layer_words s o.rows 0) ∷ joined (inputs_at f s o) t
+inputs f s t o = Leaf (layer_words s o.rows 0) ∷ flat_map (inputs_at f s o) (range_with_len 0 t)
 
 -- the last element of a list, or x of none
 abbrev pub last_of : {X : Type 0} → X → List X → X
@@ -144,7 +145,7 @@ meeting_level s t i j = least (λ l. ancestor s (suc l) i == ancestor s (suc l) 
 abbrev pub shared_inputs : {T W : Type 0} → Functions T W → Shape → ℕ → ℕ → ℕ → Opening T W → List (Input T W)
 shared_inputs f s t i j o =
     let m = meeting_level s t i j in
-    if i == j then inputs f s t o else joined (λ k. inputs_at f s o (m + k)) (t - m)
+    if i == j then inputs f s t o else flat_map (λ k. inputs_at f s o (m + k)) (range_with_len 0 (t - m))
 
 -- the two checks agree wherever they share a place
 abbrev pub AgreeWhereShared : {T W : Type 0} → Functions T W → Shape → ℕ → Opening T W → Opening T W → Type 0

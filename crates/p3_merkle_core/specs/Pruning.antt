@@ -1,7 +1,7 @@
 -- Pruned openings of many indices: what is covered, what is sent, what suffices, what is restored.
-use Rattle.std.specs.Prelude.{◌≡◌, ℕ, zero, suc, ◌+◌, ◌*◌, ◌/◌, ◌<◌, ◌==◌, ◌&&◌, ◌⊎◌, Bool, false, not, if◌then◌else◌, IsTrue, List, [], ◌∷◌, map, length, filter, zip, remove, find, unwrap_or, option_map, slice_index, slice_index_or, slice_get, Some, ◌≤◌, All, ◌-◌, nat_le}
+use Rattle.std.specs.Prelude.{◌≡◌, ℕ, zero, suc, ◌+◌, ◌*◌, ◌/◌, ◌<◌, ◌==◌, ◌&&◌, ◌⊎◌, Bool, false, not, if◌then◌else◌, IsTrue, List, [], ◌∷◌, map, length, filter, flat_map, zip, remove, find, unwrap_or, option_map, slice_index, slice_index_or, slice_get, Some, ◌≤◌, All, ◌-◌, nat_le}
 use Rattle.std.specs.List.{list_any, range_with_len}
-use Rattle.p3_merkle_core.specs.Geometry.{Shape, IsArity, IsLawful, tallest, levels, joined, step, raw_len, layer_len, ancestor, position_in_group, heights, has_rows}
+use Rattle.p3_merkle_core.specs.Geometry.{Shape, IsArity, IsLawful, tallest, levels, step, raw_len, layer_len, ancestor, position_in_group, heights, has_rows}
 use Rattle.p3_merkle_core.specs.Nodes.{Functions, Batch, shape, node, compress, with_rows}
 use Rattle.p3_merkle_core.specs.Openings.{Opening, IsAccepted, layer_rows, layer_words, honest_rows}
 
@@ -19,7 +19,7 @@ boundary_at s queries l = map (λ j. (l, j)) (filter (is_boundary s queries l) (
 
 -- the boundary nodes below layer t, in wire order
 abbrev pub boundary : Shape → List ℕ → ℕ → List (ℕ × ℕ)
-boundary s queries t = joined (boundary_at s queries) t
+boundary s queries t = flat_map (boundary_at s queries) (range_with_len 0 t)
 
 -- a tree can be asked for these queries under layer t: its arity is one, the queries are below its tallest height, and it has the layer
 pub record CanQuery (s : Shape) (queries : List ℕ) (t : ℕ) : Type 0 where
@@ -103,7 +103,7 @@ value_of f s t p l j = if is_covered s p.indices l j then restored_node f s t p 
 -- the siblings on the path of query i
 abbrev pub restored_path : {T W : Type 0} → Functions T W → Shape → ℕ → PrunedOpening T W → ℕ → List (List W)
 restored_path f s t p i =
-    joined (λ l. remove (map (λ k. value_of f s t p l (step s l * ancestor s (suc l) i + k)) (range_with_len 0 (step s l))) (position_in_group s l i)) t
+    flat_map (λ l. remove (map (λ k. value_of f s t p l (step s l * ancestor s (suc l) i + k)) (range_with_len 0 (step s l))) (position_in_group s l i)) (range_with_len 0 t)
 
 -- the opening of query k, with its restored path
 abbrev pub opening_at : {T W : Type 0} → Functions T W → Shape → ℕ → PrunedOpening T W → ℕ → Opening T W
