@@ -1,11 +1,10 @@
 -- The inputs of two checks of one shape stand at the same places.
-use Rattle.std.proofs.Common.{◌≡◌, ℕ, zero, suc, ◌+◌, ◌-◌, List, [], ◌∷◌, ◌++◌, refl, sym, inl, inr, eq-eqb}
+use Rattle.std.proofs.Common.{ℕ, zero, suc, ◌+◌, ◌-◌, List, [], ◌∷◌, ◌++◌, refl, inl, inr, eq-eqb}
 use Rattle.std.proofs.lemmas.Bool.{cases_Bool, cases_eq, ne_eqb}
-use Rattle.std.proofs.lemmas.List.{append_assoc}
 use Rattle.p3_merkle_core.specs.Geometry.{Shape, has_rows}
-use Rattle.p3_merkle_core.specs.Nodes.{Functions, padded_group, pair}
-use Rattle.p3_merkle_core.specs.Openings.{Opening, Input, Leaf, Group, Rows, Pair, IsAtOnePlace, IsLastDifference, IsLastShared, inputs, inputs_at, meeting_level, layer_words, input_digest, path_digest}
-use Rattle.p3_merkle_core.proofs.CheckFacts.{inputs_with_rows, inputs_alone, full_group}
+use Rattle.p3_merkle_core.specs.Nodes.{Functions}
+use Rattle.p3_merkle_core.specs.Openings.{Opening, Input, IsAtOnePlace, IsLastDifference, IsLastShared, inputs, inputs_at, meeting_level}
+use Rattle.p3_merkle_core.proofs.CheckFacts.{inputs_with_rows, inputs_alone}
 use Rattle.p3_merkle_core.proofs.ListFacts.{joined, joined_more}
 
 -- two lists of inputs stand at the same places

@@ -7,7 +7,7 @@ use Rattle.std.proofs.lemmas.List.{length-map, get_or-map}
 use Rattle.std.proofs.lemmas.List.FromFn.{length-map-range_with_len, get_or-map-range_with_len}
 use Rattle.std.proofs.lemmas.Option.{slice_get-get_or}
 use Rattle.p3_merkle_core.specs.Geometry.{step, ancestor, raw_len, layer_len, position_in_group}
-use Rattle.p3_merkle_core.specs.Nodes.{Functions, Batch, shape, compress, node, layer, at_layer, children}
+use Rattle.p3_merkle_core.specs.Nodes.{Functions, Batch, shape, node, layer, children}
 use Rattle.p3_merkle_core.specs.Openings.{honest_rows, honest_siblings, honest_group}
 use Rattle.p3_merkle_core.specs.Pruning.{is_covered, boundary, is_in, rows_under, sent_digest, restored_node, value_of, restored_path, honest_query, IsHonestQuery, IsCapped}
 use Rattle.p3_merkle_core.proofs.Completeness.{IsHonest, rows_are, row_digest_is, node_leaf, node_next}

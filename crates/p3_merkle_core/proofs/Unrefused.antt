@@ -1,5 +1,5 @@
 -- A restorable pruned opening is not refused.
-use Rattle.std.proofs.Common.{◌≡◌, ℕ, zero, suc, ◌+◌, ◌<◌, ◌≤◌, Bool, true, false, eqb, nat_lt, ◌&&◌, List, [], ◌∷◌, map, refl, ap, sym, ◌∙◌, arith, inl, inr, length, get_or, drop, All, Option, Some, None, filter, zip, find, eq-eqb}
+use Rattle.std.proofs.Common.{◌≡◌, ℕ, zero, suc, ◌+◌, ◌<◌, ◌≤◌, Bool, true, false, eqb, nat_lt, ◌&&◌, List, [], ◌∷◌, map, refl, ap, sym, ◌∙◌, arith, inl, inr, length, get_or, drop, All, Option, None, filter, zip, find, eq-eqb}
 use Rattle.std.specs.Prelude.{Ok, Decides}
 use Rattle.std.specs.Cmp.Lexicographic.{pointwise, pointwise_decides}
 use Rattle.std.specs.List.{range_with_len, enumerate_from}

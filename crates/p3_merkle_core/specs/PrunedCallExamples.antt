@@ -1,5 +1,5 @@
 -- What the calls on pruned openings take and answer, worked out at the fold functions and digests of one word.
-use Rattle.std.specs.Prelude.{◌≡◌, ℕ, List, [], ◌∷◌, refl, Some, None, Ok, Err, nat_eq}
+use Rattle.std.specs.Prelude.{◌≡◌, ℕ, [], ◌∷◌, refl, Some, None, Ok, Err, nat_eq}
 use Rattle.std.specs.declared.vec.Vec.{Vec}
 use Rattle.p3_support.specs.Fold.{fold_hash, fold_compress}
 use Rattle.p3_support.specs.Shown.{row_lists}

@@ -1,5 +1,5 @@
 -- Pruned openings of many indices: what is covered, what is sent, what suffices, what is restored.
-use Rattle.std.specs.Prelude.{◌≡◌, ℕ, zero, suc, ◌+◌, ◌*◌, ◌/◌, ◌<◌, ◌==◌, ◌&&◌, ◌⊎◌, Bool, false, not, if◌then◌else◌, IsTrue, List, [], ◌∷◌, map, length, filter, flat_map, zip, remove, find, unwrap_or, option_map, slice_index, slice_index_or, slice_get, Some, ◌≤◌, All, ◌-◌, nat_le}
+use Rattle.std.specs.Prelude.{◌≡◌, ℕ, zero, suc, ◌+◌, ◌*◌, ◌/◌, ◌<◌, ◌==◌, ◌&&◌, ◌⊎◌, Bool, false, not, if◌then◌else◌, IsTrue, List, [], map, length, filter, flat_map, zip, remove, find, unwrap_or, option_map, slice_index, slice_index_or, slice_get, Some, ◌≤◌, All, ◌-◌, nat_le}
 use Rattle.std.specs.List.{list_any, range_with_len}
 use Rattle.p3_merkle_core.specs.Geometry.{Shape, IsArity, IsLawful, tallest, levels, step, raw_len, layer_len, ancestor, position_in_group, heights, has_rows}
 use Rattle.p3_merkle_core.specs.Nodes.{Functions, Batch, shape, node, compress, with_rows}
