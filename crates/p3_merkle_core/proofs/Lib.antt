@@ -16,6 +16,7 @@ pub mod Sufficient
 pub mod PathFacts
 pub mod Equivalence
 pub mod Restoration
+pub mod OwnNodes
 pub mod NoneFacts
 pub mod Answered
 pub mod Unrefused

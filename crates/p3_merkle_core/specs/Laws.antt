@@ -1,12 +1,12 @@
 -- What holds of the definitions, whatever the hash, the compression, the batch, the openings and the cap.
-use Rattle.std.specs.Prelude.{◌≡◌, ◌≢◌, ◌↔◌, ◌⊎◌, ℕ, suc, ◌-◌, ◌<◌, ◌≤◌, true, Bool, IsTrue, List, [], ◌∷◌, ◌++◌, Option, None, Some, Ok, Err, length, take, slice_index, All}
+use Rattle.std.specs.Prelude.{◌≡◌, ◌≢◌, ◌↔◌, ◌⊎◌, ℕ, suc, ◌-◌, ◌<◌, ◌≤◌, true, Bool, IsTrue, List, [], ◌∷◌, ◌++◌, Option, None, Some, Ok, Err, length, take, slice_index, All, map}
 use Rattle.std.specs.List.{count_by}
 use Rattle.p3_merkle_core.specs.Geometry.{Shape, heights, tallest, levels, layer_exponent, exponent, layer_of, layer_len, row_at_index, step, ancestor, arity_schedule, schedule_below, cap_layer, IsArity, IsLawful}
-use Rattle.p3_merkle_core.specs.Nodes.{Functions, Batch, HasFullRows, shape, node, layer}
+use Rattle.p3_merkle_core.specs.Nodes.{Functions, Batch, HasFullRows, shape, node, layer, layers}
 use Rattle.p3_merkle_core.specs.Openings.{Opening, Input, AgreeWhereShared, HasDigests, IsAccepted, IsAtOnePlace, IsLastShared, honest, honest_siblings, inputs, is_authenticated, opened_row, path_digest, input_digest, check_digest, last_input}
 use Rattle.p3_merkle_core.specs.Pruning.{PrunedOpening, CanQuery, IsHonestQuery, IsCapped, IsUncovered, EachAccepted, Suffices, boundary, honest_query, is_covered, is_in, is_under, opening_at, restored_node, restored_path, IsGivenUnder, IsLeast}
 use Rattle.p3_merkle_core.specs.Refusals.{IsEquality, IsRestorable, answer_under, pruned_answer, pruned_answer_under}
-use Rattle.p3_merkle_core.specs.PrunedCalls.{IsPrunedAccepted}
+use Rattle.p3_merkle_core.specs.PrunedCalls.{IsPrunedAccepted, restored_paths, own_digests}
 use Rattle.p3_merkle_core.specs.Extracting.{difference_at, extraction_under, extraction_multi_under, first_pair, IsPairCollision}
 use Rattle.p3_merkle_core.specs.declared.error.MerkleTreeError.{MerkleTreeError}
 use Rattle.p3_merkle_core.specs.declared.error.MerkleTreeError.TheVariants.{CapMismatch}
@@ -110,6 +110,18 @@ module _ (T W : Type 0) where
   HonestPathsAreRestored =
       (f : Functions T W) (b : Batch T) (t : ℕ) (indices : List ℕ) → IsHonestQuery b t indices → (k : ℕ) → k < length indices →
       restored_path f (shape b) t (honest_query f b t indices) (slice_index indices k) ≡ honest_siblings f b t (slice_index indices k)
+
+  -- so it answers the honest siblings of each query, in order
+  abbrev pub HonestPathsInOrder : Type 0
+  HonestPathsInOrder =
+      (f : Functions T W) (b : Batch T) (t : ℕ) (indices : List ℕ) → IsHonestQuery b t indices →
+      restored_paths f (shape b) t (honest_query f b t indices) ≡ map (λ i. (i, honest_siblings f b t i)) indices
+
+  -- the digests that the layers of a batch's tree have of the boundary are those of the honest pruned opening
+  abbrev pub OwnDigestsAreHonest : Type 0
+  OwnDigestsAreHonest =
+      (f : Functions T W) (b : Batch T) (t : ℕ) (indices : List ℕ) → IsHonestQuery b t indices →
+      own_digests (shape b) (layers f b) indices t ≡ (honest_query f b t indices).digests
 
   -- under an honest pruned opening the cap has each covered node of its layer
   abbrev pub HonestQueryIsCapped : Type 0

@@ -2,7 +2,7 @@
 //! hash, every compression, every batch and every opening; the calls of the crates above answer what the definitions say.
 
 ghost use Rattle.std.specs.Prelude.{◌≡◌, ◌↔◌, IsTrue};
-ghost use Rattle.p3_merkle_core.specs.Laws.{AnsweredAsEachPath, BoundaryIsAlone, BoundaryIsLeast, BoundaryIsSmallest, BoundaryNodesAreApart, BoundaryNodesAreHeld, BoundarySuffices, CappedIsEachAccepted, HonestIsAccepted, HonestNodesAreRestored, HonestPathsAreRestored, HonestQueryIsAccepted, HonestQueryIsCapped, InputsAreFull, LastDifferenceCollides, LastInputIsReached, MatricesHaveLayers, NoPairDiffers, NoneIsAgreement, OkIsAccepted, OkIsCapped, OkIsEachAccepted, OkIsRestorable, OkOrCapMismatch, OneIndexIsBound, PairCollides, PairIsFirst, PairsBeforeAgree, RefusedUnderEachCap, RootIsAlone, RowsAreAncestors, RowsAreBound, ScheduleStopsAtCap, SomeIsCollision, UnrefusedIsLawful, WalkEnds};
+ghost use Rattle.p3_merkle_core.specs.Laws.{AnsweredAsEachPath, BoundaryIsAlone, BoundaryIsLeast, BoundaryIsSmallest, BoundaryNodesAreApart, BoundaryNodesAreHeld, BoundarySuffices, CappedIsEachAccepted, HonestIsAccepted, HonestNodesAreRestored, HonestPathsAreRestored, HonestPathsInOrder, HonestQueryIsAccepted, HonestQueryIsCapped, InputsAreFull, LastDifferenceCollides, LastInputIsReached, MatricesHaveLayers, NoPairDiffers, NoneIsAgreement, OkIsAccepted, OkIsCapped, OkIsEachAccepted, OkIsRestorable, OkOrCapMismatch, OneIndexIsBound, OwnDigestsAreHonest, PairCollides, PairIsFirst, PairsBeforeAgree, RefusedUnderEachCap, RootIsAlone, RowsAreAncestors, RowsAreBound, ScheduleStopsAtCap, SomeIsCollision, UnrefusedIsLawful, WalkEnds};
 
 use crate::error::{MerkleTreeError, PrunedProofError};
 
@@ -41,10 +41,12 @@ pub fn pruned_completeness<T, W>()
     ensures { HonestQueryIsAccepted T W }
 {}
 
-/// An honest pruned opening restores the tree's own nodes and siblings.
+/// An honest pruned opening restores the tree's own nodes and siblings, and its digests are those that the tree's layers have.
 pub fn restoration<T, W>()
     ensures nodes { HonestNodesAreRestored T W }
     ensures paths { HonestPathsAreRestored T W }
+    ensures in_order { HonestPathsInOrder T W }
+    ensures digests { OwnDigestsAreHonest T W }
     ensures capped { HonestQueryIsCapped T W }
 {}
 

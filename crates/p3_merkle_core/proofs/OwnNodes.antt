@@ -1,0 +1,55 @@
+-- What is read out of a tree's own layers, and the restored paths of an honest pruned opening, in query order.
+use Rattle.std.proofs.Common.{◌≡◌, ℕ, zero, suc, ◌+◌, ◌<◌, ◌≤◌, Bool, List, [], ◌∷◌, ◌++◌, map, refl, ap, ◌∙◌, arith, inl, inr, length, get_or, filter}
+use Rattle.std.specs.List.{range_with_len}
+use Rattle.std.proofs.lemmas.Bool.{cases_Bool}
+use Rattle.std.proofs.lemmas.List.{map-append}
+use Rattle.std.proofs.lemmas.List.FromFn.{get_or-map-range_with_len}
+use Rattle.p3_merkle_core.specs.Geometry.{Shape, levels, layer_len}
+use Rattle.p3_merkle_core.specs.Nodes.{Functions, Batch, shape, node, layer, layers}
+use Rattle.p3_merkle_core.specs.Openings.{honest_siblings}
+use Rattle.p3_merkle_core.specs.Pruning.{boundary, boundary_at, is_boundary, honest_query, restored_path, IsHonestQuery}
+use Rattle.p3_merkle_core.specs.PrunedCalls.{own_node, own_digests, restored_paths}
+use Rattle.p3_merkle_core.proofs.ListFacts.{joined_more}
+use Rattle.p3_merkle_core.proofs.Restoration.{honest_paths}
+
+-- a tree's layers have its nodes
+pub own_node_is : {T W : Type 0} (f : Functions T W) (b : Batch T) (l j : ℕ) → l ≤ levels (shape b) → j < layer_len (shape b) l → own_node (layers f b) l j ≡ node f b l j
+own_node_is f b l j h g =
+    let s = shape b in
+    ap (λ nodes. get_or nodes j []) (get_or-map-range_with_len (layer f b) 0 (suc (levels s)) l l [] (omega arith) (omega arith))
+    ∙ get_or-map-range_with_len (node f b l) 0 (layer_len s l) j j [] g (omega arith)
+
+-- ---- two functions of nodes that agree on the boundary
+
+layer_alike : {X : Type 0} (g h : ℕ × ℕ → X) (p : ℕ → Bool) (l a n : ℕ) → ((j : ℕ) → j < a + n → g (l, j) ≡ h (l, j)) →
+    map g (map (λ j. (l, j)) (filter p (range_with_len a n))) ≡ map h (map (λ j. (l, j)) (filter p (range_with_len a n)))
+layer_alike g h p l a zero e = refl
+layer_alike g h p l a (suc n) e =
+    let rest = layer_alike g h p l (a + 1) n (λ j k. e j (omega arith)) in
+    elim (cases_Bool (p a)) [ inl t ↦ rw (t, e a (omega arith), rest) refl | inr f ↦ rw f rest ]
+
+boundary_alike : {X : Type 0} (g h : ℕ × ℕ → X) (s : Shape) (queries : List ℕ) (t : ℕ) → ((l j : ℕ) → l < t → j < layer_len s l → g (l, j) ≡ h (l, j)) → map g (boundary s queries t) ≡ map h (boundary s queries t)
+boundary_alike g h s queries zero e = refl
+boundary_alike g h s queries (suc t) e =
+    let below = boundary_alike g h s queries t (λ l j k i. e l j (omega arith) i) in
+    let here = layer_alike g h (is_boundary s queries t) t 0 (layer_len s t) (λ j k. e t j (omega arith) (omega arith)) in
+    rw (joined_more (boundary_at s queries) t, map-append g (boundary s queries t) (boundary_at s queries t), map-append h (boundary s queries t) (boundary_at s queries t), below, here) refl
+
+-- the digests of the boundary that a tree's layers have are those of the honest pruned opening
+pub own_digests_are : {T W : Type 0} (f : Functions T W) (b : Batch T) (t : ℕ) (indices : List ℕ) → IsHonestQuery b t indices → own_digests (shape b) (layers f b) indices t ≡ (honest_query f b t indices).digests
+own_digests_are f b t indices w =
+    boundary_alike (λ (l, j). own_node (layers f b) l j) (λ (l, k). node f b l k) (shape b) indices t
+    (λ l j h g. own_node_is f b l j (omega (arith, w.queried.in_tree)) g)
+
+-- ---- paths in query order
+
+map_each : {X : Type 0} (g h : ℕ → X) (xs : List ℕ) → ((k : ℕ) → k < length xs → g (get_or xs k 0) ≡ h (get_or xs k 0)) → map g xs ≡ map h xs
+map_each g h [] e = refl
+map_each g h (x ∷ xs) e = rw (e 0 (omega arith), map_each g h xs (λ k l. e (suc k) (omega arith))) refl
+
+-- an honest pruned opening restores one honest path a query, in order
+pub honest_restored_paths : {T W : Type 0} (f : Functions T W) (b : Batch T) (t : ℕ) (indices : List ℕ) → IsHonestQuery b t indices →
+    restored_paths f (shape b) t (honest_query f b t indices) ≡ map (λ i. (i, honest_siblings f b t i)) indices
+honest_restored_paths f b t indices w =
+    map_each (λ i. (i, restored_path f (shape b) t (honest_query f b t indices) i)) (λ i. (i, honest_siblings f b t i)) indices
+    (λ k h. ap (λ path. (get_or indices k 0, path)) (honest_paths f b t indices w k h))
