@@ -16,10 +16,10 @@ use Rattle.p3_merkle_core.proofs.Binding.{pieces_long}
 
 -- ---- the test on inputs
 
-same_words : {X : Type 0} (eq : X → X → Bool) → IsEquality eq → (l m : ℕ) (x y : List X) → ((eqb l m && pointwise eq x y) ≡ true) ↔ ((l ≡ m) × (x ≡ y))
-same_words eq dec l m x y = (
-  λ e. let p = and_parts (eqb l m) (pointwise eq x y) e in (eqb-true l m p.0, (pointwise_decides dec x y).0 p.1),
-  λ (a, b). and_from (eqb l m) (pointwise eq x y) (eq-eqb l m a) ((pointwise_decides dec x y).1 b),
+same_words : {X : Type 0} (test : X → X → Bool) → IsEquality test → (l m : ℕ) (x y : List X) → ((eqb l m && pointwise test x y) ≡ true) ↔ ((l ≡ m) × (x ≡ y))
+same_words test dec l m x y = (
+  λ e. let p = and_parts (eqb l m) (pointwise test x y) e in (eqb-true l m p.0, (pointwise_decides dec x y).0 p.1),
+  λ (a, b). and_from (eqb l m) (pointwise test x y) (eq-eqb l m a) ((pointwise_decides dec x y).1 b),
 )
 
 pub input_eq_decides : {T W : Type 0} (row_eq : T → T → Bool) (digest_eq : W → W → Bool) → IsEquality row_eq → IsEquality digest_eq → IsEquality (input_eq row_eq digest_eq)
