@@ -111,6 +111,10 @@ arity_schedule s = schedule_below s (levels s)
 abbrev pub cap_layer : Shape → ℕ → ℕ
 cap_layer s cap_height = levels s - cap_height
 
+-- the layer so many levels below the root, and no lower than the leaves
+abbrev pub layer_below_root : Shape → ℕ → ℕ
+layer_below_root s k = levels s - k
+
 -- the layer to which a matrix of height h belongs
 abbrev pub layer_of : Shape → ℕ → ℕ
 layer_of s h = least (λ l. layer_exponent s l == exponent h) (levels s)
