@@ -5,9 +5,9 @@ use Rattle.std.proofs.lemmas.Bool.{cond-true, cond-false, cases_lt, cases_eq, lt
 use Rattle.std.proofs.lemmas.Nat.{pow_pos}
 use Rattle.std.proofs.Math.Nat.{mul_assoc, mul_comm, two-pow-succ, mul-le-mul_left, mul-div_cancel_left, mod-eq_of_lt, mod_self, sub-zero, le_of_mul-le-mul_left, lt_of_mul-lt-mul_left, div-lt_iff_lt-mul}
 use Rattle.std.proofs.Math.Pow.{pow_mono, pow-lt}
-use Rattle.p3_merkle_core.specs.Geometry.{Shape, exponent, tallest, layer_exponent, is_bridge, step, levels, ancestor, padded_len, raw_len, grouped_len, layer_len, heights}
+use Rattle.p3_merkle_core.specs.Geometry.{Shape, exponent, tallest, layer_exponent, is_bridge, step, levels, ancestor, padded_len, raw_len, grouped_len, grouped_len_of, layer_len, heights}
 use Rattle.p3_merkle_core.proofs.LeastFacts.{below_least, exponent_covers, below_exponent}
-use Rattle.p3_merkle_core.proofs.StepFacts.{whole_step_falls, anc_next, anc_start, step_above_1}
+use Rattle.p3_merkle_core.proofs.StepFacts.{whole_step_falls, anc_next, anc_start, step_above_1, step_at}
 use Rattle.p3_merkle_core.proofs.LadderFacts.{IsArity, step_cases, binary_power, whole_power}
 
 -- ---- the least multiple of y that is x or more
@@ -156,6 +156,12 @@ grouped_is s w l h f =
 raw_next : (s : Shape) (l : ℕ) → raw_len s (suc l) ≡ grouped_len s l / step s l
 unfolding raw_len
 raw_next s l = refl
+
+-- the nodes above, counted from the exponent and the nodes of the layer below
+pub raw_at : (s : Shape) (l x r g n : ℕ) → x ≡ layer_exponent s l → r ≡ raw_len s l → g ≡ grouped_len_of s x r → n ≡ cond (is_bridge s x) 2 s.arity → g / n ≡ raw_len s (suc l)
+raw_at s l x r g n at_x at_raw is_g is_n =
+    ap (λ q. q / n) (is_g ∙ ap (λ y. grouped_len_of s y r) at_x ∙ ap (λ q. grouped_len_of s (layer_exponent s l) q) at_raw)
+    ∙ ap (λ q. grouped_len s l / q) (step_at s l x n at_x is_n) ∙ sym (raw_next s l)
 
 -- above the layers below the last, the exponent is positive
 pub positive_below : (s : Shape) (l : ℕ) → l < levels s → 0 < layer_exponent s l

@@ -106,6 +106,10 @@ arity_schedule s = schedule_below s (levels s)
 abbrev pub cap_layer : Shape → ℕ → ℕ
 cap_layer s cap_height = levels s - cap_height
 
+-- the layer so many levels below the root, and no lower than the leaves
+abbrev pub layer_below_root : Shape → ℕ → ℕ
+layer_below_root s k = levels s - k
+
 -- the layer to which a matrix of height h belongs
 abbrev pub layer_of : Shape → ℕ → ℕ
 layer_of s h = least (λ l. layer_exponent s l == exponent h) (levels s)
@@ -120,18 +124,18 @@ has_rows s l = list_any (λ h. exponent h == layer_exponent s l) (heights s)
 abbrev pub padded_len : ℕ → ℕ → ℕ
 padded_len r n = if nat_le r 1 then r else (if nat_lt r n then n else next_multiple_of r n)
 
--- how many slots of layer l are grouped, where r of them are nodes
+-- how many slots of a layer of the exponent x are grouped, where r of them are nodes
 abbrev pub grouped_len_of : Shape → ℕ → ℕ → ℕ
-grouped_len_of s l r = if is_bridge s (layer_exponent s l) && nat_lt r s.arity then 2 ^ layer_exponent s l else padded_len r s.arity
+grouped_len_of s x r = if is_bridge s x && nat_lt r s.arity then 2 ^ x else padded_len r s.arity
 
 -- how many slots of layer l are nodes, and no padding
 unfoldable pub raw_len : Shape → ℕ → ℕ
 raw_len s zero = tallest (heights s)
-raw_len s (suc l) = grouped_len_of s l (raw_len s l) / step s l
+raw_len s (suc l) = grouped_len_of s (layer_exponent s l) (raw_len s l) / step s l
 
 -- how many slots of layer l are grouped into nodes of layer l + 1
 abbrev pub grouped_len : Shape → ℕ → ℕ
-grouped_len s l = grouped_len_of s l (raw_len s l)
+grouped_len s l = grouped_len_of s (layer_exponent s l) (raw_len s l)
 
 -- how many slots layer l has, padding included
 abbrev pub layer_len : Shape → ℕ → ℕ
