@@ -1,21 +1,8 @@
 //! Commits to the matrices of an input, and checks openings of their tree: `mmcs fold|sha256 2|4|8 CAP commit|check I`.
 #![tactic(auto)]
 
-mod command;
-mod engine;
-mod fault;
-mod fold;
-mod input;
-mod laws;
-mod number;
-mod sha256;
-mod suite;
-#[cfg(test)]
-mod tests;
-mod text;
-
-use crate::engine::run;
-use crate::fault::Fault;
+use mmcs_engine::engine::run;
+use mmcs_engine::fault::Fault;
 use p3_merkle_tree::MerkleTreeError;
 use std::env;
 use std::io::{Error, ErrorKind};

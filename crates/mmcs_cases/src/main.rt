@@ -1,0 +1,29 @@
+//! Runs the engine of `mmcs` on cases, one a line of standard input, and names each that is not answered as it is
+//! written.
+//!
+//! A case is `WORDS | "INPUT" | ANSWER`: the words after the program's name, where `""` is an empty word; the input;
+//! and what is printed, with the line and the status of a fault. In the input and the answer `\n`, `\r` and `\t` are
+//! the bytes that they are in Rust. Blank lines, and lines that begin with `#`, are no cases.
+#![tactic(auto)]
+
+mod case;
+
+use crate::case::mistake;
+use anyhow::Error;
+
+fn main(rt: HostRuntime) -> Result<(), Error> {
+    let (mut cases, mut wrong) = (0_u64, 0_u64);
+    for line in rt.lines(rt.alloc()) {
+        let line = line?;
+        if line.is_empty() || line.starts_with('#') {
+            continue;
+        }
+        cases = cases.saturating_add(1);
+        if let Some(what) = mistake(rt.alloc(), line.as_str())? {
+            wrong = wrong.saturating_add(1);
+            println!(rt; "{line}\n  {what}")?;
+        }
+    }
+    println!(rt; "{cases} cases, {wrong} wrong")?;
+    Ok(())
+}

@@ -1,0 +1,8 @@
+use Rattle.mmcs_engine.proofs.Outcomes.{same_command, same_matrices}
+use Rattle.mmcs_engine.proofs.laws.meanings_are_unique.Goals as goal
+
+pub returns-clause-command : goal.returns-clause-command
+returns-clause-command c = same_command
+
+pub returns-clause-matrices : goal.returns-clause-matrices
+returns-clause-matrices c = same_matrices

@@ -1,0 +1,9 @@
+use Rattle.p3_merkle_core.specs.Openings.{opening_of}
+use Rattle.p3_support.specs.Shown.{row_lists}
+use Rattle.mmcs_engine.proofs.SchemeFacts.{accepted_alike}
+use Rattle.mmcs_engine.proofs.sha256.Sha256Suite.verify.Goals as goal
+
+pub returns-clause-taken : goal.returns-clause-taken
+returns-clause-taken g c = λ accepted.
+    let lent = c.from.ensures in
+    c.verify_batch.ensures.accepted.1 (accepted_alike _ _ _ _ _ _ _ _ c.sha_scheme.ensures.functions c.sha_scheme.ensures.cap_height (λ i. opening_of c.args.index (row_lists (lent.0 i)) ((lent.1 i).items)) accepted)

@@ -1,0 +1,27 @@
+//! What follows from the meaning of words and of inputs.
+
+ghost use Rattle.std.specs.Prelude.{◌≡◌, ◌↔◌, ℕ, true, List, ◌∷◌, ◌++◌, All};
+ghost use Rattle.mmcs_engine.specs.declared.command.Command.{Command};
+ghost use Rattle.mmcs_engine.specs.Input.{is_blank, pieces_of, StandsFor};
+ghost use Rattle.mmcs_engine.specs.Words.{AreWords};
+
+/// Words are of one command, and an input stands for one list of matrices.
+pub fn meanings_are_unique()
+    ensures command { (words : List (List ℕ)) (c d : Command) → AreWords words c → AreWords words d → c ≡ d }
+    ensures matrices { (limit : ℕ) (input : List ℕ) (ms ns : List (List (List ℕ))) →
+        StandsFor limit input ms → StandsFor limit input ns → ms ≡ ns }
+{}
+
+/// Blank lines in front and at the end do not matter, and a blank line between two inputs puts the matrices of the
+/// second behind those of the first. So the last line feed may be missing.
+pub fn blank_lines_part_matrices()
+    ensures front { (limit : ℕ) (blank input : List ℕ) (matrices : List (List (List ℕ))) →
+        All (λ piece. is_blank piece ≡ true) (pieces_of blank) →
+        StandsFor limit (blank ++ 10 ∷ input) matrices ↔ StandsFor limit input matrices }
+    ensures end { (limit : ℕ) (input blank : List ℕ) (matrices : List (List (List ℕ))) →
+        All (λ piece. is_blank piece ≡ true) (pieces_of blank) →
+        StandsFor limit (input ++ 10 ∷ blank) matrices ↔ StandsFor limit input matrices }
+    ensures between { (limit : ℕ) (front back : List ℕ) (ms ns : List (List (List ℕ))) →
+        StandsFor limit front ms → StandsFor limit back ns →
+        StandsFor limit (front ++ 10 ∷ 10 ∷ back) (ms ++ ns) }
+{}
