@@ -7,7 +7,7 @@ ghost use Rattle.mmcs_engine.specs.Words.{arity_word, hash_word, max_word, texts
 use crate::number::parse_number;
 
 /// What the program is asked for.
-#[derive(Clone, Copy, Debug, PartialEq, Eq)]
+#[derive(Clone, Copy)]
 pub struct Command {
     /// The hash of rows and nodes.
     pub hash: HashName,
@@ -20,7 +20,7 @@ pub struct Command {
 }
 
 /// The hashes that the program takes.
-#[derive(Clone, Copy, Debug, PartialEq, Eq)]
+#[derive(Clone, Copy)]
 pub enum HashName {
     /// The fold functions on words of 32 bits, with digests of one word. They are not secure.
     Fold,
@@ -29,7 +29,7 @@ pub enum HashName {
 }
 
 /// The arities that the program takes.
-#[derive(Clone, Copy, Debug, PartialEq, Eq)]
+#[derive(Clone, Copy)]
 pub enum Arity {
     /// 2 children.
     Two,
@@ -40,7 +40,7 @@ pub enum Arity {
 }
 
 /// What the program does with the matrices of its input.
-#[derive(Clone, Copy, Debug, PartialEq, Eq)]
+#[derive(Clone, Copy)]
 pub enum Action {
     /// Writes the cap.
     Commit,

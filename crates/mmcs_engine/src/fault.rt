@@ -10,7 +10,7 @@ use std::alloc::{AllocError, AllocFailed};
 use thiserror::Error;
 
 /// What went wrong. It prints as one line, and ends the program with its status.
-#[derive(Debug, PartialEq, Eq, Drop, Error)]
+#[derive(Debug, Drop, Error)]
 pub enum Fault {
     /// The words are no command.
     #[error("usage: mmcs fold|sha256 2|4|8 CAP commit|open I..|check I..")]
