@@ -1,5 +1,6 @@
 -- What the program answers.
-use Rattle.std.specs.Prelude.{ℕ, ◌+◌, ◌<◌, nat_lt, List, [], ◌∷◌, length, map, replicate, flat_map, if◌then◌else◌, Option, Some, None}
+use Rattle.std.specs.Prelude.{◌≡◌, ◌⊎◌, ◌↔◌, ℕ, ◌+◌, ◌<◌, nat_lt, List, [], ◌∷◌, length, map, replicate, flat_map, if◌then◌else◌, Option, Some, None, IfSome, Result, Ok, Err}
+use Rattle.std.specs.Io.KnownBytes.{Appends}
 use Rattle.std.specs.Option.{option_or}
 use Rattle.p3_support.specs.Fold.{fold_hash, fold_compress}
 use Rattle.p3_support.specs.Sha.{sha256_rows, sha256_nodes}
@@ -8,12 +9,14 @@ use Rattle.p3_merkle_core.specs.Geometry.{cap_layer, tallest, IsLawful}
 use Rattle.p3_merkle_core.specs.Nodes.{Batch, Functions, functions_of, layer, shape}
 use Rattle.p3_merkle_core.specs.Openings.{siblings_below}
 use Rattle.p3_merkle_core.specs.declared.error.MerkleTreeError.{MerkleTreeError}
-use Rattle.p3_merkle_core.specs.declared.error.MerkleTreeError.TheVariants.{IndexOutOfBounds}
+use Rattle.p3_merkle_core.specs.declared.error.MerkleTreeError.TheVariants.{IndexOutOfBounds, OutOfMemory}
 use Rattle.mmcs_engine.specs.declared.command.Action.{Action}
 use Rattle.mmcs_engine.specs.declared.command.Action.TheVariants.{Commit, Check}
 use Rattle.mmcs_engine.specs.declared.command.Command.{Command}
 use Rattle.mmcs_engine.specs.declared.command.HashName.{HashName}
 use Rattle.mmcs_engine.specs.declared.command.HashName.TheVariants.{Fold, Sha256}
+use Rattle.mmcs_engine.specs.declared.fault.Fault.{Fault}
+use Rattle.mmcs_engine.specs.declared.fault.Fault.TheVariants.{Usage, BadInput, Tree}
 use Rattle.mmcs_engine.specs.Input.{StandsFor}
 use Rattle.mmcs_engine.specs.Matrices.{batch_of_rows}
 use Rattle.mmcs_engine.specs.Text.{hex_line, ok_line}
@@ -64,6 +67,14 @@ abbrev pub IsTaken : Action → List ℕ → Type 0
 IsTaken Commit hs = IsLawful hs
 IsTaken (Check index) hs = IsLawful hs × (index < tallest hs)
 
+-- why the tree refuses what a command asks of some matrices
+abbrev pub refusal_of : Command → List (List (List ℕ)) → Option MerkleTreeError
+refusal_of command matrices = tree_refusal command.action (heights_of_rows matrices)
+
+-- the tree takes what a command asks of some matrices
+abbrev pub AreTaken : Command → List (List (List ℕ)) → Type 0
+AreTaken command matrices = IsTaken command.action (heights_of_rows matrices)
+
 -- the words are a command, and the whole input stands for these matrices of its words
 pub record Asks (words : List (List ℕ)) (input : List ℕ) (command : Command) (matrices : List (List (List ℕ))) : Type 0 where
   pub words_are : AreWords words command
@@ -72,3 +83,23 @@ pub record Asks (words : List (List ℕ)) (input : List ℕ) (command : Command)
 -- the same of some command and matrices, of which a fact holds
 abbrev pub AsksFor : List (List ℕ) → List ℕ → (Command → List (List (List ℕ)) → Type 0) → Type 0
 AsksFor words input Holds = (command : Command) × (matrices : List (List (List ℕ))) × Asks words input command matrices × Holds command matrices
+
+-- the same, where the bytes of the input are known
+abbrev pub AsksIfKnown : List (List ℕ) → Option (List ℕ) → (Command → List (List (List ℕ)) → Type 0) → Type 0
+AsksIfKnown words known Holds = IfSome known (λ bytes. AsksFor words bytes Holds)
+
+-- the usage tells of words that are no command, and of these alone
+abbrev pub TellsUsage : List (List ℕ) → Result (Unit {0}) Fault → Type 0
+TellsUsage words result = (result ≡ Err Usage) ↔ ((command : Command) → AreWords words command → ⊥)
+
+-- what is asked is taken, and known bytes of the output grow by what the definition gives for it
+abbrev pub WritesOutput : List (List ℕ) → Option (List ℕ) → Option (List ℕ) → Option (List ℕ) → Type 0
+WritesOutput words known old new = AsksIfKnown words known (λ command matrices. AreTaken command matrices × Appends old new (output_of command matrices))
+
+-- a refusal of the tree, but for want of memory, is that of what is asked
+abbrev pub TellsRefusal : List (List ℕ) → Option (List ℕ) → Result (Unit {0}) Fault → Type 0
+TellsRefusal words known result = (e : MerkleTreeError) → result ≡ Err (Tree e) → (e ≡ OutOfMemory) ⊎ AsksIfKnown words known (λ command matrices. refusal_of command matrices ≡ Some e)
+
+-- this outcome, unless a read, a write or memory fails
+abbrev pub EndsIn : Result (Unit {0}) Fault → Result (Unit {0}) Fault → Type 0
+EndsIn outcome result = (result ≡ outcome) ⊎ ((result ≡ Err BadInput) ⊎ (result ≡ Err (Tree OutOfMemory)))

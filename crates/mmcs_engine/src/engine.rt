@@ -1,6 +1,6 @@
 //! From words and an input to an output.
 
-ghost use Rattle.std.specs.Prelude.{◌≡◌, ◌⊎◌, ◌↔◌, ◌+◌, ◌<◌, ℕ, All, List, map, Some, None, Ok, Err, IfOk, IfErr, IfSome, IsTrue, OnOk, OnErr, string_bytes};
+ghost use Rattle.std.specs.Prelude.{◌≡◌, ◌⊎◌, ◌+◌, ◌<◌, ℕ, All, List, map, Some, None, Ok, Err, IfOk, IfErr, IfSome, IsTrue, OnOk, OnErr, string_bytes};
 ghost use Rattle.std.specs.Io.KnownBytes.{Appends};
 ghost use Rattle.p3_support.specs.RowMajor.{row_width, row_count, values_of};
 ghost use Rattle.p3_merkle_core.specs.Gate.{gate_refusal};
@@ -13,8 +13,8 @@ ghost use Rattle.mmcs_engine.specs.declared.command.Action.TheVariants.{Commit, 
 ghost use Rattle.mmcs_engine.specs.declared.fault.Fault.TheVariants.{Usage, BadInput, Tree};
 ghost use Rattle.mmcs_engine.specs.Input.{StandsFor};
 ghost use Rattle.mmcs_engine.specs.Matrices.{stored_batch};
-ghost use Rattle.mmcs_engine.specs.Program.{heights_of_rows, output_of, text_of, tree_refusal, IsTaken, Asks, AsksFor};
-ghost use Rattle.mmcs_engine.specs.Words.{is_taken_arity, max_word, texts_of, AreWords};
+ghost use Rattle.mmcs_engine.specs.Program.{output_of, refusal_of, text_of, tree_refusal, AreTaken, Asks, AsksIfKnown, EndsIn, TellsRefusal, TellsUsage, WritesOutput};
+ghost use Rattle.mmcs_engine.specs.Words.{is_taken_arity, max_word, texts_of};
 
 use crate::command::{Action, Arity, Command, HashName};
 use crate::fault::Fault;
@@ -50,35 +50,26 @@ pub fn run<Src: Read, Dst: Write>(
     output: &mut Dst,
 ) -> Result<(), Fault>
     // Words that are no command, and only these, are told by the usage, before anything is read or written.
-    ensures usage { (result ≡ Err Fault.Usage) ↔ ((command : Command) → AreWords (texts_of words.now) command → ⊥) }
+    ensures usage { TellsUsage (texts_of words.now) result }
     ensures unread { result ≡ Err Fault.Usage → (input.new ≡ input.old) × (output.new ≡ output.old) }
 
     // Ok tells that all was taken, and that the definition's output was written and nothing else.
-    ensures ok { OnOk result (IfSome (Src.remaining input.old) (λ bytes.
-        AsksFor (texts_of words.now) bytes (λ command matrices.
-        IsTaken command.action (heights_of_rows matrices) ×
-        Appends (Dst.contents output.old) (Dst.contents output.new) (output_of command matrices)))) }
+    ensures ok { OnOk result (WritesOutput (texts_of words.now) (Src.remaining input.old)
+        (Dst.contents output.old) (Dst.contents output.new)) }
     // What is taken ends in Ok, unless a read, a write or memory fails.
     ensures taken { (bytes : List ℕ) (command : Command) (matrices : List (List (List ℕ))) →
         Src.remaining input.old ≡ Some bytes → Asks (texts_of words.now) bytes command matrices →
-        IsTaken command.action (heights_of_rows matrices) →
-        (result ≡ Ok tt) ⊎ ((result ≡ Err Fault.BadInput) ⊎ (result ≡ Err (Fault.Tree OutOfMemory))) }
+        AreTaken command matrices → EndsIn (Ok tt) result }
 
     // What the tree refuses, and how.
-    ensures tree { (e : MerkleTreeError) → result ≡ Err (Fault.Tree e) →
-        (e ≡ OutOfMemory) ⊎ IfSome (Src.remaining input.old) (λ bytes.
-        AsksFor (texts_of words.now) bytes (λ command matrices.
-        tree_refusal command.action (heights_of_rows matrices) ≡ Some e)) }
+    ensures tree { TellsRefusal (texts_of words.now) (Src.remaining input.old) result }
     ensures refused { (bytes : List ℕ) (command : Command) (matrices : List (List (List ℕ))) (e : MerkleTreeError) →
         Src.remaining input.old ≡ Some bytes → Asks (texts_of words.now) bytes command matrices →
-        tree_refusal command.action (heights_of_rows matrices) ≡ Some e →
-        (result ≡ Err (Fault.Tree e)) ⊎ ((result ≡ Err Fault.BadInput) ⊎ (result ≡ Err (Fault.Tree OutOfMemory))) }
+        refusal_of command matrices ≡ Some e → EndsIn (Err (Fault.Tree e)) result }
 
     // No fault but a failed write leaves anything written, and a write comes last.
-    ensures silent { OnErr result ((output.new ≡ output.old) ⊎
-        ((result ≡ Err Fault.BadInput) × IfSome (Src.remaining input.old) (λ bytes.
-        AsksFor (texts_of words.now) bytes (λ command matrices.
-        IsTaken command.action (heights_of_rows matrices))))) }
+    ensures silent { OnErr result ((output.new ≡ output.old) ⊎ ((result ≡ Err Fault.BadInput) ×
+        AsksIfKnown (texts_of words.now) (Src.remaining input.old) AreTaken)) }
 {
     run_command(alloc, words, input, output)
 }
@@ -94,27 +85,13 @@ fn run_command<Src: Read, Dst: Write>(
     input: &mut Src,
     output: &mut Dst,
 ) -> Result<(), Fault>
-    // Words that are no command, and only these, are told by the usage, before anything is read or written.
-    ensures usage { (result ≡ Err Fault.Usage) ↔ ((command : Command) → AreWords (texts_of words.now) command → ⊥) }
+    ensures usage { TellsUsage (texts_of words.now) result }
     ensures unread { result ≡ Err Fault.Usage → (input.new ≡ input.old) × (output.new ≡ output.old) }
-
-    // Ok tells that all was taken, and that the definition's output was written and nothing else.
-    ensures ok { OnOk result (IfSome (Src.remaining input.old) (λ bytes.
-        AsksFor (texts_of words.now) bytes (λ command matrices.
-        IsTaken command.action (heights_of_rows matrices) ×
-        Appends (Dst.contents output.old) (Dst.contents output.new) (output_of command matrices)))) }
-
-    // What the tree refuses, and how.
-    ensures tree { (e : MerkleTreeError) → result ≡ Err (Fault.Tree e) →
-        (e ≡ OutOfMemory) ⊎ IfSome (Src.remaining input.old) (λ bytes.
-        AsksFor (texts_of words.now) bytes (λ command matrices.
-        tree_refusal command.action (heights_of_rows matrices) ≡ Some e)) }
-
-    // No fault but a failed write leaves anything written, and a write comes last.
-    ensures silent { OnErr result ((output.new ≡ output.old) ⊎
-        ((result ≡ Err Fault.BadInput) × IfSome (Src.remaining input.old) (λ bytes.
-        AsksFor (texts_of words.now) bytes (λ command matrices.
-        IsTaken command.action (heights_of_rows matrices))))) }
+    ensures ok { OnOk result (WritesOutput (texts_of words.now) (Src.remaining input.old)
+        (Dst.contents output.old) (Dst.contents output.new)) }
+    ensures tree { TellsRefusal (texts_of words.now) (Src.remaining input.old) result }
+    ensures silent { OnErr result ((output.new ≡ output.old) ⊎ ((result ≡ Err Fault.BadInput) ×
+        AsksIfKnown (texts_of words.now) (Src.remaining input.old) AreTaken)) }
 {
     let command = Command::from_words(words).ok_or(Fault::Usage)?;
     let bytes = read_all(alloc, input)?;
@@ -163,13 +140,13 @@ fn write_text<Dst: Write>(output: &mut Dst, text: &str) -> io::Result<()>
 fn answer(alloc: Global, command: Command, input: &[u8]) -> Result<String, Fault>
     ensures text { IfOk result (λ text.
         (matrices : List (List (List ℕ))) × StandsFor (max_word command.hash + 1) input.now matrices ×
-        IsTaken command.action (heights_of_rows matrices) × (string_bytes text ≡ output_of command matrices)) }
+        AreTaken command matrices × (string_bytes text ≡ output_of command matrices)) }
     ensures fault { IfErr result (λ fault. (fault ≡ Fault.Tree OutOfMemory) ⊎
         (((fault ≡ Fault.BadInput) ×
         ((matrices : List (List (List ℕ))) → StandsFor (max_word command.hash + 1) input.now matrices → ⊥)) ⊎
         ((matrices : List (List (List ℕ))) × (e : MerkleTreeError) ×
         StandsFor (max_word command.hash + 1) input.now matrices ×
-        (fault ≡ Fault.Tree e) × (tree_refusal command.action (heights_of_rows matrices) ≡ Some e)))) }
+        (fault ≡ Fault.Tree e) × (refusal_of command matrices ≡ Some e)))) }
 {
     let matrices = read_matrices(alloc, input, command.hash.max_word())?;
     let (cap_height, action) = (command.cap_height, command.action);

@@ -50,7 +50,7 @@ impl<const N: usize> Suite<N> for Fold {
 
     ghost nodes = { λ tree. layers_of tree };
 
-    ghost opened = { λ index opening. opening_made index opening };
+    ghost opening_of = { λ index opening. opening_made index opening };
 
     fn commit(
         alloc: Global,

@@ -42,7 +42,7 @@ pub trait Suite<const N: usize> {
     ghost nodes: { Self.Tree → List (List (List ℕ)) };
 
     // What is opened of an index.
-    ghost opened: { ℕ → Self.Opening → Opening ℕ ℕ };
+    ghost opening_of: { ℕ → Self.Opening → Opening ℕ ℕ };
 
     /// The cap of some matrices, and their tree. No word is above the greatest that the hash takes.
     ///
@@ -82,7 +82,7 @@ pub trait Suite<const N: usize> {
         ensures accepted { let b = batch tree.now in let t = cap_layer (shape b) cap_height in
             nodes tree.now ≡ layers (functions_of_hash name) b →
             IfOk result (λ o. IsAccepted (functions_of_hash name) (shape b) t
-            (layer (functions_of_hash name) b t) (opened index o)) };
+            (layer (functions_of_hash name) b t) (opening_of index o)) };
 
     /// Checks an opening of an index against a cap, for matrices of these dimensions: Ok exactly if it is accepted.
     ///
@@ -99,13 +99,13 @@ pub trait Suite<const N: usize> {
         requires { IsTrue (is_taken_arity N) }
         ensures answer { let s = shape_of N dimensions.now in
             result ≡ answer_under nat_eq (functions_of_hash name) s (cap_layer s cap_height)
-            (roots cap.now) (opened index opening.now) }
+            (roots cap.now) (opening_of index opening.now) }
         ensures accepted { let s = shape_of N dimensions.now in
             IsOk result → IsAccepted (functions_of_hash name) s (cap_layer s cap_height)
-            (roots cap.now) (opened index opening.now) }
+            (roots cap.now) (opening_of index opening.now) }
         ensures taken { let s = shape_of N dimensions.now in
             IsAccepted (functions_of_hash name) s (cap_layer s cap_height)
-            (roots cap.now) (opened index opening.now) → IsOk result };
+            (roots cap.now) (opening_of index opening.now) → IsOk result };
 
     /// A line for each digest of a cap, in hexadecimal.
     ///
@@ -117,5 +117,5 @@ pub trait Suite<const N: usize> {
 
     /// How many siblings are opened.
     fn num_siblings(opening: &Self::Opening) -> usize
-        ensures { (index : ℕ) → result ≡ length (opened index opening.now).siblings };
+        ensures { (index : ℕ) → result ≡ length (opening_of index opening.now).siblings };
 }
