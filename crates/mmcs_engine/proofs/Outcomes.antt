@@ -1,6 +1,7 @@
 -- What is asked is one thing, and so is what becomes of it.
-use Rattle.std.proofs.Common.{eqb, get_or, ◌≡◌, ◌⊎◌, ⊎_elim, inl, inr, ℕ, ◌+◌, List, [], ◌∷◌, Option, Some, Result, Ok, Err, sym, refl, ap, ◌∙◌, subst}
-use Rattle.std.specs.Prelude.{IfSome, OnOk}
+use Rattle.std.proofs.Common.{eqb, get_or, ◌≡◌, ◌⊎◌, ⊎_elim, inl, inr, ℕ, ◌+◌, List, [], ◌∷◌, Option, Some, None, Result, Ok, Err, sym, refl, ap, ◌∙◌, subst}
+use Rattle.std.specs.Prelude.{IfSome, OnOk, is_ok}
+use Rattle.std.specs.Io.KnownBytes.{Appends}
 use Rattle.std.specs.List.{AllZip}
 use Rattle.p3_merkle_core.specs.declared.error.MerkleTreeError.{MerkleTreeError}
 use Rattle.p3_merkle_core.specs.declared.error.MerkleTreeError.TheVariants.{OutOfMemory}
@@ -15,7 +16,7 @@ use Rattle.mmcs_engine.specs.declared.fault.Fault.{Fault}
 use Rattle.mmcs_engine.specs.declared.fault.Fault.TheVariants.{Usage, BadInput, Tree}
 use Rattle.mmcs_engine.specs.Input.{IsMatrix, StandsFor, blocks_of}
 use Rattle.mmcs_engine.specs.Words.{arity_word, hash_word, max_word, AreWords, AreActionWords, IsNumberWord}
-use Rattle.mmcs_engine.specs.Program.{heights_of_rows, tree_refusal, IsTaken, Asks, AsksFor}
+use Rattle.mmcs_engine.specs.Program.{heights_of_rows, output_of, tree_refusal, AreTaken, IsTaken, Asks, AsksFor, WritesOutput}
 use Rattle.mmcs_engine.proofs.GateFacts.{taken_unrefused}
 
 -- digits are of one number
@@ -126,3 +127,15 @@ pub known_refusal : (words : List (List ℕ)) (bytes : List ℕ) (remaining : Op
     (e : MerkleTreeError) → result ≡ Err (Tree e) → (e ≡ OutOfMemory) ⊎ (AsksFor words bytes (λ c ms. tree_refusal c.action (heights_of_rows ms) ≡ Some e))
 known_refusal words bytes remaining result known told e is =
     ⊎_elim inl (λ refused. inr (subst (λ (r : Option (List ℕ)). IfSome r (λ all. AsksFor words all (λ c ms. tree_refusal c.action (heights_of_rows ms) ≡ Some e))) known refused)) (told e is)
+
+-- what was answered is what is written
+pub output_written : {E D : Type 0} (words : List (List ℕ)) (known : Option (List ℕ)) (command : Command) (bytes seen text shown : List ℕ) (old new : Option (List ℕ))
+    (r : Result (Unit {0}) E) (s : Result (Unit {0}) D) → AreWords words command → IfSome known (λ all. bytes ≡ all) → seen ≡ bytes →
+    ((matrices : List (List (List ℕ))) × StandsFor (max_word command.hash + 1) seen matrices × AreTaken command matrices × (text ≡ output_of command matrices)) →
+    shown ≡ text → OnOk r (Appends old new shown) → is_ok s ≡ is_ok r → OnOk s (WritesOutput words known old new)
+output_written words known command bytes seen text shown old new r (Err d) are read whole told same written variant = tt
+output_written words known command bytes seen text shown old new (Err e) (Ok v) are read whole told same written variant = absurd cc
+output_written words None command bytes seen text shown old new (Ok u) (Ok v) are read whole told same written variant = tt
+output_written words (Some all) command bytes seen text shown old new (Ok u) (Ok v) are read whole told same written variant =
+    let input_is = subst (λ (b : List ℕ). StandsFor (max_word command.hash + 1) b told.0) (whole ∙ read) told.1 in
+    (command, told.0, record { words_are = are; input_is = input_is }, (told.2, subst (λ (t : List ℕ). Appends old new t) (same ∙ told.3) written))
