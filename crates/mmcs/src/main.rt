@@ -3,7 +3,7 @@
 
 use mmcs_engine::engine::run;
 use mmcs_engine::fault::Fault;
-use p3_merkle_tree::MerkleTreeError;
+use std::alloc::AllocError;
 use std::env;
 use std::io::{Error, ErrorKind};
 use std::process::ExitCode;
@@ -11,7 +11,7 @@ use std::process::ExitCode;
 /// Why the words cannot be had: memory, or a word that is no text and so of no command.
 fn word_fault(error: Error) -> Fault {
     if error.kind() == ErrorKind::OutOfMemory {
-        Fault::Tree(MerkleTreeError::OutOfMemory)
+        Fault::from(AllocError)
     } else {
         Fault::Usage
     }
