@@ -1,5 +1,5 @@
 -- What a scheme, a cap and an opening show.
-use Rattle.std.specs.Prelude.{ℕ, List, map, replicate}
+use Rattle.std.specs.Prelude.{ℕ, List, replicate}
 use Rattle.std.specs.declared.vec.Vec.{Vec}
 use Rattle.std.specs.declared.default.Default as default
 use Rattle.std.specs.declared.cmp.PartialEq as equality

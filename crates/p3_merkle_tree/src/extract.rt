@@ -9,9 +9,9 @@ ghost use Rattle.p3_merkle_tree.specs.Collisions.{AnswerAlike, AnswerOneRowTwice
 ghost use Rattle.p3_merkle_tree.specs.Schemes.{cap_height_of, opening_lent, scheme_functions};
 ghost use Rattle.p3_support.specs.Shown.{roots_of};
 
-use crate::collision::Collision;
-use crate::mmcs::MerkleTreeMmcs;
-use crate::openings::{IndexedOpening, OpeningPair};
+use crate::mmcs::{MerkleTreeMmcs, Scheme};
+use p3_merkle_checker::collision::Collision;
+use p3_merkle_checker::openings::IndexedOpening;
 use p3_merkle_core::error::MerkleTreeError;
 use p3_merkle_core::geometry::{check_heights, exponent_of, layer_exponent_of};
 use p3_support::compress::PseudoCompressionFunction;
@@ -21,14 +21,7 @@ use p3_support::opening::{BatchOpeningRef, MerkleCap};
 use p3_support::packed::PackedValue;
 use std::alloc::Global;
 
-impl<
-    P: PackedValue,
-    PW: PackedValue,
-    H: CryptographicHasher<P, PW, D>,
-    C: PseudoCompressionFunction<PW, N, D>,
-    const N: usize,
-    const D: usize,
-> MerkleTreeMmcs<P, PW, H, C, N, D> {
+impl<P: PackedValue, PW: PackedValue, H, C, X, G, const N: usize> Scheme<P, PW, H, C, X, G, N> {
     /// Whether a cap over matrices of these dimensions authenticates the rows of one of them: its rows are hashed into
     /// the cap's layer, or into a layer below it. Of any other matrix a check looks at the width of its row alone.
     ///
@@ -55,45 +48,16 @@ impl<
         let height = dimensions[matrix].height;
         Ok(exponent_of(height) >= layer_exponent_of(dimensions, N, t))
     }
+}
 
-    /// What two openings lead to. `extract_collision` gives it, and says what that means.
-    fn extracted(
-        &self,
-        alloc: Global,
-        commit: &MerkleCap<P::Value, [PW::Value; D]>,
-        dimensions: &[Dimensions],
-        index1: usize,
-        first: BatchOpeningRef<'_, P::Value, Vec<[PW::Value; D]>>,
-        index2: usize,
-        second: BatchOpeningRef<'_, P::Value, Vec<[PW::Value; D]>>,
-    ) -> Result<Option<Collision<P::Value, PW::Value, D>>, MerkleTreeError>
-        ensures { let f = scheme_functions H.hash C.compression D self.now in
-            let s = shape_of N dimensions.now in
-            let t = cap_layer s (cap_height_of self.now) in
-            let o = opening_lent index1 first.entry in
-            let u = opening_lent index2 second.entry in
-            AnswersUnlessMemory result (extraction_under P.Value.eq PW.Value.eq f s t (roots_of commit.now) o u) }
-    {
-        self.check_opening(commit, dimensions, index1, first)?;
-        self.check_opening(commit, dimensions, index2, second)?;
-        let t = self.proof_levels(dimensions);
-        let openings = OpeningPair::<P::Value, [PW::Value; D], N> {
-            dimensions,
-            t,
-            first: IndexedOpening {
-                index: index1,
-                rows: first.opened_values,
-                siblings: first.opening_proof,
-            },
-            second: IndexedOpening {
-                index: index2,
-                rows: second.opened_values,
-                siblings: second.opening_proof,
-            },
-        };
-        Ok(self.last_difference(alloc, &openings)?)
-    }
-
+impl<
+    P: PackedValue,
+    PW: PackedValue,
+    H: CryptographicHasher<P, PW, D>,
+    C: PseudoCompressionFunction<PW, N, D>,
+    const N: usize,
+    const D: usize,
+> MerkleTreeMmcs<P, PW, H, C, N, D> {
     /// What two openings of one cap lead to: nothing where they agree, and else two different inputs of the hasher or
     /// of the compression that have one digest.
     ///
@@ -161,6 +125,10 @@ impl<
             let u = opening_lent index2 second.entry in
             AnswerOneRowTwice s t o u → IfOk result (λ found. IsSome found) }
     {
-        self.extracted(alloc, commit, dimensions, index1, first, index2, second)
+        let t = self.proof_levels(dimensions);
+        let first = IndexedOpening::new(index1, first);
+        let second = IndexedOpening::new(index2, second);
+        self.checker()
+            .extraction(alloc, commit.roots(), dimensions, t, first, second)
     }
 }

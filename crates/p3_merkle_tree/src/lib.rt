@@ -2,20 +2,15 @@
 //! openings of its rows that a verifier checks against a cap.
 #![tactic(auto)]
 
-pub mod collision;
 mod extract;
-pub mod laws;
 pub mod mmcs;
-mod opened;
-mod openings;
 mod schedule;
-mod verify;
-mod walk;
 
-pub use collision::{Collision, Place};
 pub use mmcs::MerkleTreeMmcs;
 pub use p3_merkle_builder::tree;
 pub use p3_merkle_builder::tree::MerkleTree;
+pub use p3_merkle_checker::collision::{Collision, Place};
+pub use p3_merkle_checker::{collision, laws};
 pub use p3_merkle_core::error::{MerkleTreeError, PrunedProofError};
 pub use p3_merkle_core::geometry::{ArityAndPositions, MAX_HEIGHT};
 pub use p3_support::opening::{BatchOpening, BatchOpeningRef, Hash, MerkleCap};

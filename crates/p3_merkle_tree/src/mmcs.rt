@@ -4,6 +4,8 @@ ghost use Rattle.std.specs.Prelude.{◌≡◌, ◌<◌, ◌≤◌, ◌↔◌, If
 ghost use Rattle.p3_merkle_core.specs.Geometry.{is_arity, IsArity};
 
 use p3_merkle_builder::tree::MerkleTree;
+use p3_merkle_checker::level::Checker;
+use p3_merkle_checker::openings::IndexedOpening;
 use p3_merkle_core::error::MerkleTreeError;
 use p3_merkle_core::geometry::levels_of;
 use p3_support::compress::PseudoCompressionFunction;
@@ -59,6 +61,37 @@ impl<P: PackedValue, PW: PackedValue, H: Clone, C: Clone, X: Clone, G: Clone, co
     }
 }
 
+impl<P: PackedValue, PW: PackedValue, H, C, X, G, const N: usize> Scheme<P, PW, H, C, X, G, N> {
+    ghost use Rattle.p3_merkle_core.specs.Geometry.{cap_layer, shape_of};
+    ghost use Rattle.p3_merkle_tree.specs.Schemes.{cap_height_of, compression_of, hash_of};
+
+    /// How many levels below the root the cap is, as it was handed to [`new`](Self::new).
+    pub fn cap_height(&self) -> usize
+        ensures { result ≡ cap_height_of self.now }
+    {
+        self.cap_height
+    }
+
+    /// How many levels lead from the leaves of a tree over matrices of these dimensions up to its cap.
+    pub(crate) fn proof_levels(&self, dimensions: &[Dimensions]) -> usize
+        ensures { result ≡ cap_layer (shape_of N dimensions.now) (cap_height_of self.now) }
+    {
+        levels_of(dimensions, N).saturating_sub(self.cap_height)
+    }
+
+    /// What checks openings for the scheme, with its hasher and its compression.
+    pub(crate) fn checker(&self) -> Checker<'_, P, PW, H, C, G>
+        ensures hash { result.hash.now ≡ hash_of self.now }
+        ensures compress { result.compress.now ≡ compression_of self.now }
+    {
+        Checker {
+            hash: &self.hash,
+            compress: &self.compress,
+            item: PhantomData,
+        }
+    }
+}
+
 impl<
     P: PackedValue,
     PW: PackedValue,
@@ -77,8 +110,7 @@ impl<
     ghost use Rattle.p3_merkle_builder.specs.Parts.{layers_of, matrices_of, tree_batch};
     ghost use Rattle.p3_merkle_builder.specs.Own.{own_siblings};
     ghost use Rattle.p3_merkle_tree.specs.Schemes.{cap_height_of, compression_of, hash_of, opening_lent, opening_made, scheme_functions};
-    ghost use Rattle.p3_support.specs.Shown.{row_lists};
-    ghost use Rattle.p3_support.specs.Shown.{roots_of};
+    ghost use Rattle.p3_support.specs.Shown.{roots_of, row_lists};
     ghost use Rattle.p3_merkle_builder.specs.Views.{batch_of};
 
     /// The scheme of a hasher and a compression, whose cap is `cap_height` levels below the root: 0 for the root
@@ -99,20 +131,6 @@ impl<
             cap_height,
             item: PhantomData,
         }
-    }
-
-    /// How many levels below the root the cap is, as it was handed to [`new`](Self::new).
-    pub fn cap_height(&self) -> usize
-        ensures { result ≡ cap_height_of self.now }
-    {
-        self.cap_height
-    }
-
-    /// How many levels lead from the leaves of a tree over matrices of these dimensions up to its cap.
-    pub(crate) fn proof_levels(&self, dimensions: &[Dimensions]) -> usize
-        ensures { result ≡ cap_layer (shape_of N dimensions.now) (cap_height_of self.now) }
-    {
-        levels_of(dimensions, N).saturating_sub(self.cap_height)
     }
 
     /// Commits to matrices: the cap of their tree, and the tree, which keeps the matrices in input order. The cap is
@@ -231,6 +249,9 @@ impl<
             IsOk result ↔
             IsAccepted f s t (roots_of commit.now) (opening_lent index opening.entry) }
     {
-        self.check_opening(commit, dimensions, index, opening)
+        let t = self.proof_levels(dimensions);
+        let opening = IndexedOpening::new(index, opening);
+        self.checker()
+            .check_opening(commit.roots(), dimensions, t, opening)
     }
 }

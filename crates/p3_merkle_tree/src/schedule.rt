@@ -2,27 +2,26 @@
 
 ghost use Rattle.std.specs.Prelude.{◌≡◌, ◌-◌, ◌≤◌, IfErr, IfOk, map, take, vec_len};
 
-use crate::mmcs::MerkleTreeMmcs;
-use p3_merkle_builder::tree::MerkleTree;
+use crate::mmcs::Scheme;
+use p3_merkle_builder::tree::Tree;
 use p3_merkle_core::error::MerkleTreeError;
 use p3_merkle_core::geometry::{
     ArityAndPositions, check_heights, positions_below_of, schedule_below_of, siblings_below_of,
     tallest_of,
 };
-use p3_support::compress::PseudoCompressionFunction;
-use p3_support::hasher::CryptographicHasher;
 use p3_support::matrix::{Dimensions, Matrix};
 use p3_support::packed::PackedValue;
 use std::alloc::Global;
 
-impl<
-    P: PackedValue,
-    PW: PackedValue,
-    H: CryptographicHasher<P, PW, D>,
-    C: PseudoCompressionFunction<PW, N, D>,
-    const N: usize,
-    const D: usize,
-> MerkleTreeMmcs<P, PW, H, C, N, D> {
+impl<P: PackedValue, PW: PackedValue, H, C, X: Copy, G, const N: usize> Scheme<
+    P,
+    PW,
+    H,
+    C,
+    X,
+    G,
+    N,
+> {
     ghost use Rattle.p3_merkle_core.specs.Gate.{gate_refusal};
     ghost use Rattle.p3_merkle_core.specs.Geometry.{arity_schedule as schedule_in, cap_layer, exponent, heights, heights_of, levels, positions_below, schedule_below, shape_of, tallest};
     ghost use Rattle.p3_merkle_core.specs.Nodes.{shape};
@@ -105,7 +104,7 @@ impl<
     pub fn get_matrices<'a, M: Matrix<P::Value>>(
         &self,
         alloc: Global,
-        tree: &'a MerkleTree<P::Value, PW::Value, M, N, D>,
+        tree: &'a Tree<P::Value, X, G, M, N>,
     ) -> Result<Vec<&'a M>, MerkleTreeError>
         ensures matrices { IfOk result (λ v. map (λ m. m.now) v.items ≡ matrices_of tree.now) }
         ensures memory { IfErr result (λ e. e ≡ OutOfMemory) }
@@ -114,10 +113,7 @@ impl<
     }
 
     /// The height of the tallest matrix of a tree, in rows: one more than the greatest index that can be opened.
-    pub fn get_max_height<M: Matrix<P::Value>>(
-        &self,
-        tree: &MerkleTree<P::Value, PW::Value, M, N, D>,
-    ) -> usize
+    pub fn get_max_height<M: Matrix<P::Value>>(&self, tree: &Tree<P::Value, X, G, M, N>) -> usize
         ensures { result ≡ tallest (heights (shape (tree_batch tree.now))) }
     {
         tree.max_height()

@@ -1,63 +1,39 @@
 -- What the answer means of the openings.
-use Rattle.std.proofs.Common.{refl}
+use Rattle.std.proofs.Common.{ap, refl, replicate, subst}
 use Rattle.std.proofs.lemmas.Result.{IfOk-weaker}
 use Rattle.p3_merkle_core.specs.Geometry.{cap_layer, shape_of}
-use Rattle.p3_merkle_tree.specs.Schemes.{cap_height_of, opening_lent, scheme_functions}
-use Rattle.p3_support.specs.Shown.{roots_of}
-use Rattle.p3_merkle_tree.proofs.ExtractFacts.{alike_at_one_index, meant, twice_is_found}
+use Rattle.p3_merkle_core.specs.Nodes.{functions_of}
+use Rattle.p3_merkle_checker.proofs.ExtractFacts.{alike_at_one_index, meant, twice_is_found}
+use Rattle.p3_merkle_checker.specs.Checks.{opening_in}
+use Rattle.p3_merkle_checker.specs.Collisions.{AnswersUnlessMemory}
+use Rattle.p3_merkle_tree.specs.Schemes.{cap_height_of, compression_of, hash_of, opening_lent, scheme_functions}
+use Rattle.p3_support.specs.Shown.{roots_of, row_lists}
+use Rattle.p3_merkle_tree.proofs.CheckFacts.{extraction_alike, functions_alike, opening_is}
 use Rattle.p3_merkle_tree.proofs.extract.MerkleTreeMmcs+P+PW+H+C+N+D.extract_collision.Goals as goal
 
-pub returns-clause-accepted : goal.returns-clause-accepted
-returns-clause-accepted g c =
-    let f = scheme_functions g.H.CryptographicHasher.hash g.C.PseudoCompressionFunction.compression g.row.D c.args.self.now in
+pub returns : goal.returns
+returns g c =
+    let scheme = c.args.self.now in
+    let eq = g.P.Value.PartialEq.eq in
+    let same = g.PW.Value.PartialEq.eq in
+    let made = functions_of (g.H.CryptographicHasher.hash c.checker.result.hash.now) (g.C.PseudoCompressionFunction.compression c.checker.result.compress.now) (replicate g.row.D g.PW.PackedValue.default_value) in
+    let f = scheme_functions g.H.CryptographicHasher.hash g.C.PseudoCompressionFunction.compression g.row.D scheme in
     let s = shape_of g.row.N c.args.dimensions.now in
-    let t = cap_layer s (cap_height_of c.args.self.now) in
+    let t = cap_layer s (cap_height_of scheme) in
     let cap = roots_of c.args.commit.now in
     let o = opening_lent c.args.index1 c.args.first in
     let u = opening_lent c.args.index2 c.args.second in
-    let m = meant g.P.Value.PartialEq.eq g.PW.Value.PartialEq.eq f s t cap o u g.met.P.PackedValue.eq_is_equality g.met.PW.PackedValue.eq_is_equality c.args.self.now.arity c.extracted.result _ refl c.extracted.ensures in
-    IfOk-weaker c.extracted.result _ _ (λ found is. (is.first_accepted, is.second_accepted)) m
-
-pub returns-clause-none : goal.returns-clause-none
-returns-clause-none g c =
-    let f = scheme_functions g.H.CryptographicHasher.hash g.C.PseudoCompressionFunction.compression g.row.D c.args.self.now in
-    let s = shape_of g.row.N c.args.dimensions.now in
-    let t = cap_layer s (cap_height_of c.args.self.now) in
-    let cap = roots_of c.args.commit.now in
-    let o = opening_lent c.args.index1 c.args.first in
-    let u = opening_lent c.args.index2 c.args.second in
-    let m = meant g.P.Value.PartialEq.eq g.PW.Value.PartialEq.eq f s t cap o u g.met.P.PackedValue.eq_is_equality g.met.PW.PackedValue.eq_is_equality c.args.self.now.arity c.extracted.result _ refl c.extracted.ensures in
-    IfOk-weaker c.extracted.result _ _ (λ found is. is.none) m
-
-pub returns-clause-collision : goal.returns-clause-collision
-returns-clause-collision g c =
-    let f = scheme_functions g.H.CryptographicHasher.hash g.C.PseudoCompressionFunction.compression g.row.D c.args.self.now in
-    let s = shape_of g.row.N c.args.dimensions.now in
-    let t = cap_layer s (cap_height_of c.args.self.now) in
-    let cap = roots_of c.args.commit.now in
-    let o = opening_lent c.args.index1 c.args.first in
-    let u = opening_lent c.args.index2 c.args.second in
-    let m = meant g.P.Value.PartialEq.eq g.PW.Value.PartialEq.eq f s t cap o u g.met.P.PackedValue.eq_is_equality g.met.PW.PackedValue.eq_is_equality c.args.self.now.arity c.extracted.result _ refl c.extracted.ensures in
-    IfOk-weaker c.extracted.result _ _ (λ found is. is.collision) m
-
-pub returns-clause-one_index : goal.returns-clause-one_index
-returns-clause-one_index g c = λ same.
-    let f = scheme_functions g.H.CryptographicHasher.hash g.C.PseudoCompressionFunction.compression g.row.D c.args.self.now in
-    let s = shape_of g.row.N c.args.dimensions.now in
-    let t = cap_layer s (cap_height_of c.args.self.now) in
-    let cap = roots_of c.args.commit.now in
-    let o = opening_lent c.args.index1 c.args.first in
-    let u = opening_lent c.args.index2 c.args.second in
-    let m = meant g.P.Value.PartialEq.eq g.PW.Value.PartialEq.eq f s t cap o u g.met.P.PackedValue.eq_is_equality g.met.PW.PackedValue.eq_is_equality c.args.self.now.arity c.extracted.result _ refl c.extracted.ensures in
-    IfOk-weaker c.extracted.result _ _ (λ found is. alike_at_one_index f s t cap o u found c.args.self.now.arity same is) m
-
-pub returns-clause-two_ways : goal.returns-clause-two_ways
-returns-clause-two_ways g c = λ twice.
-    let f = scheme_functions g.H.CryptographicHasher.hash g.C.PseudoCompressionFunction.compression g.row.D c.args.self.now in
-    let s = shape_of g.row.N c.args.dimensions.now in
-    let t = cap_layer s (cap_height_of c.args.self.now) in
-    let cap = roots_of c.args.commit.now in
-    let o = opening_lent c.args.index1 c.args.first in
-    let u = opening_lent c.args.index2 c.args.second in
-    let m = meant g.P.Value.PartialEq.eq g.PW.Value.PartialEq.eq f s t cap o u g.met.P.PackedValue.eq_is_equality g.met.PW.PackedValue.eq_is_equality c.args.self.now.arity c.extracted.result _ refl c.extracted.ensures in
-    IfOk-weaker c.extracted.result _ _ (λ found is. twice_is_found f s t cap o u found c.args.self.now.arity twice is) m
+    let are_functions = functions_alike g.H.CryptographicHasher.hash g.C.PseudoCompressionFunction.compression (replicate g.row.D g.PW.PackedValue.default_value) c.checker.result.hash.now (hash_of scheme) c.checker.result.compress.now (compression_of scheme) c.checker.ensures.hash c.checker.ensures.compress in
+    let is_first = opening_is c.new-first.result c.args.index1 (row_lists c.args.first.opened_values.now) c.args.first.opening_proof.now.items c.new-first.ensures.index (ap row_lists c.new-first.ensures.rows) c.new-first.ensures.siblings in
+    let is_second = opening_is c.new-second.result c.args.index2 (row_lists c.args.second.opened_values.now) c.args.second.opening_proof.now.items c.new-second.ensures.index (ap row_lists c.new-second.ensures.rows) c.new-second.ensures.siblings in
+    let alike = extraction_alike eq same made f s c.proof_levels-t.result t c.roots.result.now cap (opening_in c.new-first.result) o (opening_in c.new-second.result) u are_functions c.proof_levels-t.ensures c.roots.ensures is_first is_second in
+    let answer = subst (AnswersUnlessMemory c.extraction.result) alike c.extraction.ensures in
+    let m = meant eq same f s t cap o u g.met.P.PackedValue.eq_is_equality g.met.PW.PackedValue.eq_is_equality scheme.arity c.extraction.result _ refl answer in
+    record {
+      answer = answer;
+      accepted = IfOk-weaker c.extraction.result _ _ (λ found is. (is.first_accepted, is.second_accepted)) m;
+      none = IfOk-weaker c.extraction.result _ _ (λ found is. is.none) m;
+      collision = IfOk-weaker c.extraction.result _ _ (λ found is. is.collision) m;
+      one_index = λ one. IfOk-weaker c.extraction.result _ _ (λ found is. alike_at_one_index f s t cap o u found scheme.arity one is) m;
+      two_ways = λ twice. IfOk-weaker c.extraction.result _ _ (λ found is. twice_is_found f s t cap o u found scheme.arity twice is) m;
+    }

@@ -1,0 +1,110 @@
+-- What an extraction answers.
+use Rattle.std.proofs.Common.{◌≡◌, ◌↔◌, ℕ, zero, suc, ◌+◌, ◌-◌, ◌<◌, All, Bool, List, [], ◌∷◌, subst, refl, arith, inl, inr, length, Option, None, Some}
+use Rattle.std.specs.Prelude.{Ok, Err, Result, IsNone, IsSome, IfOk, IfSome}
+use Rattle.std.specs.Option.{option_or}
+use Rattle.std.proofs.lemmas.Bool.{cases_eq, eq-eqb, ne_eqb}
+use Rattle.std.proofs.lemmas.List.Elements.{All-append, All-head, All-nil, All-tail}
+use Rattle.p3_merkle_core.specs.Extracting.{after, extraction_under, input_eq, last_difference}
+use Rattle.p3_merkle_core.specs.Geometry.{Shape, IsArity, joined}
+use Rattle.p3_merkle_core.specs.Nodes.{Functions}
+use Rattle.p3_merkle_core.specs.Openings.{AgreeWhereShared, HasDigests, Input, IsAccepted, IsLastDifference, Opening, inputs_at, meeting_level, shared_inputs, siblings_below}
+use Rattle.p3_merkle_core.specs.Refusals.{IsEquality, answer_under, refusal_under, verdict}
+use Rattle.p3_merkle_core.specs.declared.error.MerkleTreeError.{MerkleTreeError}
+use Rattle.p3_merkle_core.proofs.AuthenticatedFacts.{authenticated_bound, authenticated_at_one_index}
+use Rattle.p3_merkle_core.proofs.Extracted.{differs, extracts_none, extracts_some}
+use Rattle.p3_merkle_core.proofs.Extraction.{collides}
+use Rattle.p3_merkle_core.proofs.InputFacts.{inputs_full, level_full}
+use Rattle.p3_merkle_core.proofs.PlaceFacts.{at_one_place}
+use Rattle.p3_merkle_checker.specs.Collisions.{AnswerAlike, AnswerOneRowTwice, AnswersUnlessMemory, IsCollision, Shows}
+use Rattle.p3_merkle_checker.specs.declared.collision.InputPair.{InputPair}
+
+-- the second refusal is named where there is no first
+second_refusal : {X E : Type 0} (x y : Option E) (v : X) (e : E) → Ok tt ≡ verdict x → Err e ≡ verdict y → after (option_or x y) v ≡ Err e
+second_refusal None None v e a b = absurd cc
+second_refusal None (Some z) v e a b = cc
+second_refusal (Some z) y v e a b = absurd cc
+
+pub second_refused : {T W : Type 0} (eq : T → T → Bool) (same : W → W → Bool) (f : Functions T W) (s : Shape) (t : ℕ) (cap : List (List W)) (o u : Opening T W) (e : MerkleTreeError) →
+    Ok tt ≡ answer_under same f s t cap o → Err e ≡ answer_under same f s t cap u → extraction_under eq same f s t cap o u ≡ Err e
+second_refused eq same f s t cap o u e a b =
+    second_refusal (refusal_under same f s t cap o) (refusal_under same f s t cap u) (last_difference (input_eq eq same) (shared_inputs f s t o.index u.index o) (shared_inputs f s t o.index u.index u)) e a b
+
+-- ---- shared inputs of digests
+
+joined_all : {A : Type 0} (P : A → Type 0) (g : ℕ → List A) (n : ℕ) → ((k : ℕ) → k < n → All P (g k)) → All P (joined g n)
+joined_all P g zero each = All-nil P
+joined_all P g (suc n) each = All-append P (joined g n) (g n) (joined_all P g n (λ k h. each k (omega arith))) (each n (omega arith))
+
+shared_full : {T W : Type 0} (f : Functions T W) (s : Shape) (t i j : ℕ) (o : Opening T W) → IsArity s.arity → length o.siblings ≡ siblings_below s t → All (HasDigests s.arity) (shared_inputs f s t i j o)
+shared_full f s t i j o w e =
+    let m = meeting_level s t i j in
+    elim (cases_eq i j) [
+      | inl same ↦ rw (eq-eqb i j same) (inputs_full f s t o w e)
+      | inr apart ↦ rw (ne_eqb i j apart) (joined_all (HasDigests s.arity) (λ k. inputs_at f s o (m + k)) (t - m) (λ k h. level_full f s t o (m + k) w e (omega arith)))
+    ]
+
+last_holds : {X : Type 0} (P : X → Type 0) (xs ys : List X) (x y : X) → IsLastDifference xs ys x y → All P xs → All P ys → P x × P y
+last_holds P [] ys x y d a b = absurd d
+last_holds P (v ∷ xs) [] x y d a b = absurd d
+last_holds P (v ∷ xs) (u ∷ ys) x y (inl d) a b = last_holds P xs ys x y d (All-tail P v xs a) (All-tail P u ys b)
+last_holds P (v ∷ xs) (u ∷ ys) x y (inr d) a b = (subst P d.1 (All-head P v xs a), subst P d.2 (All-head P u ys b))
+
+-- ---- what is found, in the words of the openings
+
+pub record IsMeant {T W : Type 0} (f : Functions T W) (s : Shape) (t : ℕ) (cap : List (List W)) (o u : Opening T W) (found : Option (InputPair T (List W))) : Type 0 where
+  pub first_accepted : IsAccepted f s t cap o
+  pub second_accepted : IsAccepted f s t cap u
+  pub none : IsNone found ↔ AgreeWhereShared f s t o u
+  pub collision : IfSome found (IsCollision f s t o u)
+
+meant_by : {T W : Type 0} (eq : T → T → Bool) (same : W → W → Bool) (f : Functions T W) (s : Shape) (t : ℕ) (cap : List (List W)) (o u : Opening T W) (found : Option (InputPair T (List W))) (inputs : Option (Input T W × Input T W)) →
+    IsEquality eq → IsEquality same → IsArity s.arity → extraction_under eq same f s t cap o u ≡ Ok inputs → Shows found inputs → IsMeant f s t cap o u found
+meant_by eq same f s t cap o u None None dec dec_w w e shown =
+    let is = (extracts_none eq same f s t cap o u dec dec_w).0 e in
+    let agree = is.2 in
+    record { first_accepted = is.0; second_accepted = is.1; none = (λ _. agree, λ _. refl); collision = tt }
+meant_by eq same f s t cap o u None (Some pair) dec dec_w w e shown = absurd cc
+meant_by eq same f s t cap o u (Some c) None dec dec_w w e shown = absurd cc
+meant_by eq same f s t cap o u (Some c) (Some (x, y)) dec dec_w w e shown =
+    let is = (extracts_some eq same f s t cap o u x y dec dec_w).0 e in
+    let mine = shared_inputs f s t o.index u.index o in
+    let theirs = shared_inputs f s t o.index u.index u in
+    let full = last_holds (HasDigests s.arity) mine theirs x y is.2 (shared_full f s t o.index u.index o w is.0.count) (shared_full f s t o.index u.index u w is.1.count) in
+    record {
+      first_accepted = is.0;
+      second_accepted = is.1;
+      none = (λ n. absurd cc, λ agree. absurd (let none = (extracts_none eq same f s t cap o u dec dec_w).1 (is.0, is.1, agree) in cc));
+      collision = record {
+        first = x;
+        second = y;
+        shown = cc;
+        last = is.2;
+        at_one_place = at_one_place f s t o u x y is.2;
+        different = differs mine theirs x y is.2;
+        first_full = full.0;
+        second_full = full.1;
+        one_digest = collides f s t cap o u w is.0 is.1 x y is.2;
+      };
+    }
+
+pub meant : {T W : Type 0} (eq : T → T → Bool) (same : W → W → Bool) (f : Functions T W) (s : Shape) (t : ℕ) (cap : List (List W)) (o u : Opening T W) → IsEquality eq → IsEquality same → IsArity s.arity →
+    (r : Result (Option (InputPair T (List W))) MerkleTreeError) (answer : Result (Option (Input T W × Input T W)) MerkleTreeError) → extraction_under eq same f s t cap o u ≡ answer → AnswersUnlessMemory r answer →
+    IfOk r (IsMeant f s t cap o u)
+meant eq same f s t cap o u dec dec_w w (Ok found) (Ok inputs) e a = meant_by eq same f s t cap o u found inputs dec dec_w w e a
+meant eq same f s t cap o u dec dec_w w (Ok found) (Err x) e a = absurd a
+meant eq same f s t cap o u dec dec_w w (Err x) answer e a = tt
+
+-- at one index nothing is found exactly where siblings and authenticated rows agree
+pub alike_at_one_index : {T W : Type 0} (f : Functions T W) (s : Shape) (t : ℕ) (cap : List (List W)) (o u : Opening T W) (found : Option (InputPair T (List W))) → IsArity s.arity → o.index ≡ u.index → IsMeant f s t cap o u found →
+    IsNone found ↔ AnswerAlike s t o u
+alike_at_one_index f s t cap o u found w same m =
+    let both = authenticated_at_one_index f s t cap o u w m.first_accepted m.second_accepted same in (
+      λ n. let alike = both.0 (m.none.0 n) in record { siblings = alike.0; rows = alike.1 },
+      λ alike. m.none.1 (both.1 (alike.siblings, alike.rows)),
+    )
+
+-- where a row is answered in two ways, something is found
+pub twice_is_found : {T W : Type 0} (f : Functions T W) (s : Shape) (t : ℕ) (cap : List (List W)) (o u : Opening T W) (found : Option (InputPair T (List W))) → IsArity s.arity → AnswerOneRowTwice s t o u → IsMeant f s t cap o u found → IsSome found
+twice_is_found f s t cap o u (Some c) w twice m = refl
+twice_is_found f s t cap o u None w twice m =
+    absurd (twice.two_ways (authenticated_bound f s t cap o u w m.first_accepted m.second_accepted (m.none.0 refl) twice.matrix twice.exists twice.authenticated twice.one_row))

@@ -1,0 +1,105 @@
+-- One level of the check of an opening.
+use Rattle.std.proofs.Common.{◌≡◌, ℕ, zero, suc, ◌+◌, ◌-◌, ◌%◌, ◌<◌, ◌≤◌, add-suc, true, false, cond, eqb, List, [], ◌∷◌, refl, ap, sym, ◌∙◌, arith, zip, None, Some}
+use Rattle.std.specs.List.{list_any}
+use Rattle.std.proofs.lemmas.Bool.{cond_both}
+use Rattle.p3_merkle_core.specs.Geometry.{Shape, IsArity, exponent, heights, is_bridge, layer_exponent, step, tallest}
+use Rattle.p3_merkle_core.specs.Groups.{group_around}
+use Rattle.p3_merkle_core.specs.Nodes.{Functions, padded_group}
+use Rattle.p3_merkle_core.specs.Openings.{Opening, has_rows, layer_words, path_digest, siblings_below}
+use Rattle.p3_merkle_core.proofs.Completeness.{reached_leaf, reached_next}
+use Rattle.p3_merkle_core.proofs.Extraction.{full_group, inputs_alone, inputs_with_rows}
+use Rattle.p3_merkle_core.proofs.SiblingFacts.{siblings_next, siblings_start}
+use Rattle.p3_merkle_core.proofs.StepFacts.{anc_next, anc_start, layer_start, next_exponent, step_above_1, step_at}
+use Rattle.p3_merkle_checker.specs.Checks.{CanStep, IsAbove, IsLevel, StandsAt, step_siblings}
+use Rattle.p3_merkle_checker.specs.Paths.{CanReach, rows_with}
+use Rattle.p3_merkle_checker.specs.declared.level.Standing.{Standing}
+
+-- a check begins at its leaf
+pub stands_first : {T W : Type 0} (f : Functions T W) (s : Shape) (o : Opening T W) (standing : Standing (List W)) → standing.exponent ≡ exponent (tallest (heights s)) → standing.node ≡ o.index → standing.used ≡ 0 →
+    standing.digest ≡ f.hash (rows_with standing.exponent (zip (heights s) o.rows)) → StandsAt f s o 0 standing
+stands_first f s o standing top node used digest =
+    let is : standing.exponent ≡ layer_exponent s 0 = top ∙ sym (layer_start s) in
+    record {
+      at_exponent = is;
+      at_node = node ∙ sym (anc_start s o.index);
+      taken = used ∙ sym (siblings_start s);
+      reached = digest ∙ ap (λ y. f.hash (rows_with y (zip (heights s) o.rows))) is ∙ sym (reached_leaf f s o);
+    }
+
+-- a step from layer l, to the exponent of the next layer
+pub record IsStepFrom (s : Shape) (l n y : ℕ) : Type 0 where
+  pub is_step : n ≡ step s l
+  pub above : y ≡ layer_exponent s (suc l)
+
+pub step_from : (s : Shape) (l x n y : ℕ) → x ≡ layer_exponent s l → n ≡ cond (is_bridge s x) 2 s.arity → y ≡ cond (is_bridge s x) (x - 1) (x - exponent s.arity) → IsStepFrom s l n y
+step_from s l x n y at e next =
+    record { is_step = step_at s l x n at e; above = next ∙ ap (λ z. cond (is_bridge s z) (z - 1) (z - exponent s.arity)) at ∙ sym (next_exponent s l) }
+
+-- where there are siblings for the level, the step can take its own
+pub can_step : (s : Shape) (l n y used count : ℕ) → IsArity s.arity → IsStepFrom s l n y → used ≡ siblings_below s l → siblings_below s (suc l) ≤ count → CanStep s.arity n used count
+can_step s l n y used count w from taken enough =
+    let two = w.above_1 in
+    record {
+      wide = rw from.is_step (step_above_1 s l two);
+      narrow = rw from.is_step (cond_both (is_bridge s (layer_exponent s l)) 2 s.arity (λ x. x ≤ s.arity) (λ t. two) (λ t. omega arith));
+      enough = omega (arith, siblings_next s l, from.is_step, taken, enough);
+    }
+
+-- more levels have more siblings
+siblings_mono : (s : Shape) (l k : ℕ) → siblings_below s l ≤ siblings_below s (l + k)
+siblings_mono s l zero = let z : l + 0 ≡ l = omega arith in rw z (omega arith)
+siblings_mono s l (suc k) = rw (add-suc, siblings_next s (l + k)) (omega (arith, siblings_mono s l k))
+
+-- below layer t each level has its siblings
+pub enough_below : (s : Shape) (t l count : ℕ) → CanReach s t count → l < t → siblings_below s (suc l) ≤ count
+enough_below s t l count w h =
+    let rest : suc l + (t - suc l) ≡ t = omega arith in
+    let more = rw rest at (siblings_mono s (suc l) (t - suc l)) in
+    omega (arith, more, w.all_siblings)
+
+module _ {T W : Type 0} (f : Functions T W) (s : Shape) (o : Opening T W) (l n y : ℕ) (standing above : Standing (List W)) (group : List (List W)) where
+  -- the group of the level
+  group_is : IsStepFrom s l n y → StandsAt f s o l standing →
+      group ≡ group_around s.arity f.default_digest (step_siblings n o.siblings standing.used) (standing.node % n) standing.digest → group ≡ full_group f s o l
+  group_is from at e = e ∙ rw (from.is_step, at.taken, at.at_node, at.reached) refl
+
+  -- the check stands at the next layer, if the digest there is the one that the path reaches
+  stands_above : IsStepFrom s l n y → StandsAt f s o l standing → {digest : List W} → IsAbove n y digest standing above → digest ≡ path_digest f s o (suc l) → StandsAt f s o (suc l) above
+  stands_above from at up reached =
+      record {
+        at_exponent = up.at_exponent ∙ from.above;
+        at_node = up.at_node ∙ rw (at.at_node, from.is_step) (sym (anc_next s l o.index));
+        taken = up.taken ∙ rw (at.taken, from.is_step) (sym (siblings_next s l));
+        reached = up.reached ∙ reached;
+      }
+
+  -- a level with rows above it
+  pub level_with_rows : IsStepFrom s l n y → StandsAt f s o l standing →
+      group ≡ group_around s.arity f.default_digest (step_siblings n o.siblings standing.used) (standing.node % n) standing.digest → list_any (λ h. eqb (exponent h) y) (heights s) ≡ true →
+      (pair : List (List W)) → pair ≡ padded_group f s.arity (f.compression group ∷ f.hash (rows_with y (zip (heights s) o.rows)) ∷ []) → IsAbove n y (f.compression pair) standing above →
+      IsLevel f s o l (record { level = l; group = group; pair = Some pair; above = above })
+  level_with_rows from at e has pair p up =
+      let whole = group_is from at e in
+      let some : has_rows s (suc l) ≡ true = rw from.above at has in
+      let full : pair ≡ padded_group f s.arity (f.compression (full_group f s o l) ∷ f.hash (layer_words s o.rows (suc l)) ∷ []) = rw (whole, from.above) at p in
+      let next = rw some at (reached_next f s o l) in
+      record {
+        at_level = refl;
+        inputs_are = rw (whole, full) (sym (inputs_with_rows f s o l some));
+        stands = stands_above from at up (ap f.compression full ∙ sym next);
+      }
+
+  -- a level without
+  pub level_alone : IsStepFrom s l n y → StandsAt f s o l standing →
+      group ≡ group_around s.arity f.default_digest (step_siblings n o.siblings standing.used) (standing.node % n) standing.digest → list_any (λ h. eqb (exponent h) y) (heights s) ≡ false →
+      IsAbove n y (f.compression group) standing above →
+      IsLevel f s o l (record { level = l; group = group; pair = None; above = above })
+  level_alone from at e has up =
+      let whole = group_is from at e in
+      let none : has_rows s (suc l) ≡ false = rw from.above at has in
+      let next = rw none at (reached_next f s o l) in
+      record {
+        at_level = refl;
+        inputs_are = rw whole (sym (inputs_alone f s o l none));
+        stands = stands_above from at up (ap f.compression whole ∙ sym next);
+      }

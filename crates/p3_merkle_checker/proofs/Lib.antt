@@ -1,0 +1,4 @@
+pub mod LevelFacts
+pub mod SharedFacts
+pub mod WalkFacts
+pub mod ExtractFacts

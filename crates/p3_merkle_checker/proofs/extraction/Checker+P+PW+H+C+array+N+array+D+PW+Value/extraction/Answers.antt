@@ -1,0 +1,16 @@
+-- The first opening's refusal, else the second's, else the last difference.
+use Rattle.std.proofs.Common.{inr, replicate}
+use Rattle.std.proofs.lemmas.Result.{err_from_is_err_and}
+use Rattle.p3_merkle_core.specs.Geometry.{shape_of}
+use Rattle.p3_merkle_core.specs.Nodes.{functions_of}
+use Rattle.p3_merkle_checker.specs.Checks.{opening_in}
+use Rattle.p3_merkle_checker.proofs.ExtractFacts.{second_refused}
+use Rattle.p3_merkle_checker.proofs.extraction.Checker+P+PW+H+C+array+N+array+D+PW+Value.extraction.Goals as goal
+
+pub returns-in_err-check_opening-2 : goal.returns-in_err-check_opening-2
+returns-in_err-check_opening-2 g c =
+    let f = functions_of (g.H.CryptographicHasher.hash c.args.self.now.hash.now) (g.C.PseudoCompressionFunction.compression c.args.self.now.compress.now) (replicate g.row.D g.PW.PackedValue.default_value) in
+    let s = shape_of g.row.N c.args.dimensions.now in
+    let p = err_from_is_err_and c.from_residual-in_err-check_opening-2.result c.from_residual-in_err-check_opening-2.ensures.1 in
+    rw (p.1, p.2) (inr (second_refused g.P.Value.PartialEq.eq g.PW.Value.PartialEq.eq f s c.args.t c.args.roots.now
+    (opening_in c.args.first) (opening_in c.args.second) c.in_err-check_opening-2.field-0.0 c.in_ok-check_opening.ensures c.in_err-check_opening-2.ensures))

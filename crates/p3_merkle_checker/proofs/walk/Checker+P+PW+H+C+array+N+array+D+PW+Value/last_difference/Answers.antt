@@ -1,0 +1,71 @@
+-- Each turn is one level of both checks.
+use Rattle.std.proofs.Common.{◌≡◌, ◌∙◌, add-one, arith, inl, inr, length, replicate, suc}
+use Rattle.p3_merkle_core.specs.Extracting.{input_eq}
+use Rattle.p3_merkle_core.specs.Geometry.{layer_exponent, shape_of}
+use Rattle.p3_merkle_core.specs.Nodes.{functions_of}
+use Rattle.p3_merkle_checker.specs.Checks.{opening_in}
+use Rattle.p3_merkle_checker.specs.Collisions.{first_words, second_words}
+use Rattle.p3_merkle_checker.proofs.LevelFacts.{enough_below, stands_first}
+use Rattle.p3_merkle_checker.proofs.SharedFacts.{difference_shared}
+use Rattle.p3_merkle_checker.proofs.WalkFacts.{found_here, found_next, words_alike}
+use Rattle.p3_merkle_checker.proofs.walk.Checker+P+PW+H+C+array+N+array+D+PW+Value.last_difference.Goals as goal
+use Rattle.p3_merkle_checker.proofs.walk.Checker+P+PW+H+C+array+N+array+D+PW+Value.last_difference.Goals.{then-mine-theirs+in_ok-found, else-mine-theirs}
+
+pub loop-level-init : goal.loop-level-init
+loop-level-init g c =
+    let f = functions_of (g.H.CryptographicHasher.hash c.args.self.now.hash.now) (g.C.PseudoCompressionFunction.compression c.args.self.now.compress.now) (replicate g.row.D g.PW.PackedValue.default_value) in
+    let s = shape_of g.row.N c.args.openings.now.dimensions.now in
+    record {
+      first_stands = stands_first f s (opening_in c.args.openings.now.first) c.leaf-first.result c.leaf-first.ensures.exponent c.leaf-first.ensures.node c.leaf-first.ensures.used c.leaf-first.ensures.digest;
+      second_stands = stands_first f s (opening_in c.args.openings.now.second) c.leaf-second.result c.leaf-second.ensures.exponent c.leaf-second.ensures.node c.leaf-second.ensures.used c.leaf-second.ensures.digest;
+      found = c.in_ok-last.ensures;
+    }
+
+pub checked_level-mine-requires : goal.checked_level-mine-requires
+checked_level-mine-requires g c =
+    let pair = c.args.openings.now in
+    let enough = enough_below (shape_of g.row.N pair.dimensions.now) pair.t c.loop-level.level (length pair.first.siblings.now) pair.first_reaches c.loop-level-test.true in
+    (omega arith, (omega arith, record { arity = pair.first_reaches.arity; stands = c.loop-level.invariant.first_stands; enough = enough }))
+
+pub checked_level-theirs-requires : goal.checked_level-theirs-requires
+checked_level-theirs-requires g c =
+    let pair = c.args.openings.now in
+    let enough = enough_below (shape_of g.row.N pair.dimensions.now) pair.t c.loop-level.level (length pair.second.siblings.now) pair.second_reaches c.loop-level-test.true in
+    (omega arith, (omega arith, record { arity = pair.second_reaches.arity; stands = c.loop-level.invariant.second_stands; enough = enough }))
+
+pub loop-level-preserved : goal.loop-level-preserved
+loop-level-preserved g c =
+    let f = functions_of (g.H.CryptographicHasher.hash c.args.self.now.hash.now) (g.C.PseudoCompressionFunction.compression c.args.self.now.compress.now) (replicate g.row.D g.PW.PackedValue.default_value) in
+    let test = input_eq g.P.Value.PartialEq.eq g.PW.Value.PartialEq.eq in
+    let pair = c.args.openings.now in
+    let s = shape_of g.row.N pair.dimensions.now in
+    let l = c.loop-level.level in
+    let o = opening_in pair.first in
+    let u = opening_in pair.second in
+    let mine = c.checked_level-mine in
+    let theirs = c.checked_level-theirs in
+    record {
+      first_stands = rw add-one mine.ensures.stands;
+      second_stands = rw add-one theirs.ensures.stands;
+      found = found_next test f s l o u c.loop-level.last c.if-mine-theirs.last mine.result theirs.result mine.ensures theirs.ensures c.loop-level.invariant.found
+          (elim c.if-mine-theirs.branch [
+            | then-mine-theirs+in_ok-found w ↦
+                let rows = w.rows_with-rows.result in
+                let are = w.rows_with-rows.ensures in
+                let at = are.exponent ∙ mine.ensures.stands.at_exponent in
+                let a = words_alike rows.dimensions.now pair.dimensions.now rows.exponent (layer_exponent s (suc l)) rows.first.now pair.first.rows.now are.dimensions at are.first in
+                let b = words_alike rows.dimensions.now pair.dimensions.now rows.exponent (layer_exponent s (suc l)) rows.second.now pair.second.rows.now are.dimensions at are.second in
+                inl (w.if-mine-theirs.true, (w.in_ok-found.found, found_here test f s l o u w.in_ok-found.found mine.result theirs.result (first_words rows) (second_words rows) mine.ensures theirs.ensures a b w.in_ok-found.ensures, w.last-is ∙ w.or-last.ensures))
+            | else-mine-theirs w ↦ inr (w.if-mine-theirs.false, w.last-is)
+          ]);
+    }
+
+pub returns : goal.returns
+returns g c =
+    let f = functions_of (g.H.CryptographicHasher.hash c.args.self.now.hash.now) (g.C.PseudoCompressionFunction.compression c.args.self.now.compress.now) (replicate g.row.D g.PW.PackedValue.default_value) in
+    let s = shape_of g.row.N c.args.openings.now.dimensions.now in
+    let o = opening_in c.args.openings.now.first in
+    let u = opening_in c.args.openings.now.second in
+    let test = input_eq g.P.Value.PartialEq.eq g.PW.Value.PartialEq.eq in
+    let here : c.loop-level.level ≡ c.args.openings.now.t = omega arith in
+    rw (← difference_shared test f s o u c.args.openings.now.t, ← here) c.loop-level.invariant.found

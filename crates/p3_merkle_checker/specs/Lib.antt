@@ -1,0 +1,3 @@
+pub mod Paths
+pub mod Collisions
+pub mod Checks

@@ -1,0 +1,175 @@
+//! One level of a check: what it compresses, and where the check stands above it.
+
+ghost use Rattle.std.specs.Prelude.{◌≡◌, ◌+◌, ◌-◌, ◌%◌, ◌^◌, ◌<◌, length, replicate, zip};
+ghost use Rattle.p3_merkle_core.specs.Geometry.{exponent, heights_of, shape_of, tallest};
+ghost use Rattle.p3_merkle_core.specs.Groups.{group_around};
+ghost use Rattle.p3_merkle_core.specs.Nodes.{functions_of};
+ghost use Rattle.p3_merkle_checker.specs.Checks.{opening_in, step_siblings, CanClimb, CanStep, IsAbove, IsLevel};
+ghost use Rattle.p3_merkle_checker.specs.Paths.{rows_with};
+ghost use Rattle.p3_support.specs.Shown.{row_lists};
+
+use crate::opened::opened_rows;
+use crate::openings::IndexedOpening;
+use p3_merkle_core::geometry::{exponent_of, has_exponent, select_arity_step, tallest_of};
+use p3_merkle_core::group::group_with;
+use p3_support::compress::PseudoCompressionFunction;
+use p3_support::hasher::CryptographicHasher;
+use p3_support::matrix::Dimensions;
+use p3_support::packed::PackedValue;
+use std::marker::PhantomData;
+
+/// How far the check of an opening has come.
+#[derive(Clone, Copy)]
+pub struct Standing<X> {
+    /// The exponent of the layer that is reached.
+    pub exponent: usize,
+    /// The node above the leaf in this layer.
+    pub node: usize,
+    /// How many of the siblings are compressed already.
+    pub used: usize,
+    /// The digest that is reached.
+    pub digest: X,
+}
+
+impl<W: Copy, const D: usize> Standing<[W; D]> {
+    /// The group of the next step: the digest that is reached at its place among its siblings, then default digests.
+    fn group<const N: usize>(
+        &self,
+        default_digest: [W; D],
+        step: usize,
+        siblings: &[[W; D]],
+    ) -> [[W; D]; N]
+        requires { CanStep N step self.now.used (length siblings.now) }
+        ensures { let others = step_siblings step siblings.now self.now.used in
+            result ≡ group_around N default_digest others (self.now.node % step) self.now.digest }
+    {
+        let end = self.used + (step - 1);
+        let others = &siblings[self.used..end];
+        group_with::<W, N, D>(default_digest, self.digest, self.node % step, others)
+    }
+}
+
+impl<X: Copy> Standing<X> {
+    /// The same check one step higher, at a layer of this exponent, where this digest is reached.
+    fn above(&self, step: usize, exponent: usize, digest: X) -> Standing<X>
+        requires step { 0 < step }
+        requires fits { self.now.used + (step - 1) < 2 ^ 64 }
+        ensures { IsAbove step exponent digest self.now result }
+    {
+        Standing {
+            exponent,
+            node: self.node / step,
+            used: self.used + (step - 1),
+            digest,
+        }
+    }
+}
+
+/// A level of the check of an opening: what it compresses, and where the check stands above it.
+#[derive(Clone, Copy)]
+pub struct CheckedLevel<X, G> {
+    /// The level, counted from the leaves.
+    pub level: usize,
+    /// The digest that was reached at its place among its siblings, then default digests.
+    pub group: G,
+    /// The group's digest and that of rows, where matrices belong to the layer above.
+    pub pair: Option<G>,
+    /// How far the check has come above the level.
+    pub above: Standing<X>,
+}
+
+/// The digest of the rows of the matrices of this exponent, one after another.
+fn rows_digest<P: PackedValue, PW: PackedValue, H: CryptographicHasher<P, PW, D>, const D: usize>(
+    hash: &H,
+    dimensions: &[Dimensions],
+    rows: &[Vec<P::Value>],
+    exponent: usize,
+) -> [PW::Value; D]
+    ensures { let rows = zip (heights_of dimensions.now) (row_lists rows.now) in
+        result ≡ H.hash hash.now (rows_with exponent rows) }
+{
+    hash.hash_iter(opened_rows(dimensions, rows, exponent))
+}
+
+/// The check of an opening at its leaf.
+pub(crate) fn leaf<
+    P: PackedValue,
+    PW: PackedValue,
+    H: CryptographicHasher<P, PW, D>,
+    const D: usize,
+>(
+    hash: &H,
+    dimensions: &[Dimensions],
+    opening: IndexedOpening<'_, P::Value, [PW::Value; D]>,
+) -> Standing<[PW::Value; D]>
+    ensures exponent { result.exponent ≡ exponent (tallest (heights_of dimensions.now)) }
+    ensures node { result.node ≡ opening.entry.index }
+    ensures used { result.used ≡ 0 }
+    ensures digest { let rows = zip (heights_of dimensions.now) (row_lists opening.entry.rows.now) in
+        result.digest ≡ H.hash hash.now (rows_with result.exponent rows) }
+{
+    let exponent = exponent_of(tallest_of(dimensions));
+    Standing {
+        exponent,
+        node: opening.index,
+        used: 0,
+        digest: rows_digest::<P, PW, H, D>(hash, dimensions, opening.rows, exponent),
+    }
+}
+
+/// Checks openings, with a hash for their rows and a compression of `N` digests for nodes.
+#[derive(Drop)]
+pub struct Checker<'a, P, PW, H, C, G> {
+    /// The hash of rows.
+    pub hash: &'a H,
+    /// The compression of the children of a node.
+    pub compress: &'a C,
+    /// How words are packed, and the groups that the compression takes.
+    pub item: PhantomData<(P, PW, G)>,
+}
+
+impl<
+    'a,
+    P: PackedValue,
+    PW: PackedValue,
+    H: CryptographicHasher<P, PW, D>,
+    C: PseudoCompressionFunction<PW, N, D>,
+    const N: usize,
+    const D: usize,
+> Checker<'a, P, PW, H, C, [[PW::Value; D]; N]> {
+    /// The level above the layer where the check of an opening stands.
+    pub(crate) fn checked_level(
+        &self,
+        dimensions: &[Dimensions],
+        level: usize,
+        opening: IndexedOpening<'_, P::Value, [PW::Value; D]>,
+        standing: &Standing<[PW::Value; D]>,
+    ) -> CheckedLevel<[PW::Value; D], [[PW::Value; D]; N]>
+        requires { let f = functions_of (H.hash self.now.hash.now) (C.compression self.now.compress.now) (replicate D PW.default_value) in
+            CanClimb f (shape_of N dimensions.now) (opening_in opening) level standing.now }
+        ensures { let f = functions_of (H.hash self.now.hash.now) (C.compression self.now.compress.now) (replicate D PW.default_value) in
+            IsLevel f (shape_of N dimensions.now) (opening_in opening.entry) level result }
+    {
+        let (step, exponent) = select_arity_step(dimensions, N, standing.exponent);
+        let default_digest = [PW::Value::default(); D];
+        let group = standing.group::<N>(default_digest, step, opening.siblings);
+        let node = self.compress.compress(group);
+        if has_exponent(dimensions, exponent) {
+            let rows = [rows_digest::<P, PW, H, D>(self.hash, dimensions, opening.rows, exponent)];
+            let pair = group_with::<PW::Value, N, D>(default_digest, node, 0, &rows);
+            CheckedLevel {
+                level,
+                group,
+                pair: Some(pair),
+                above: standing.above(step, exponent, self.compress.compress(pair)),
+            }
+        } else {
+            CheckedLevel {
+                level,
+                group,
+                pair: None,
+                above: standing.above(step, exponent, node),
+            }
+        }
+    }
+}

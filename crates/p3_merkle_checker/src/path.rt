@@ -1,0 +1,94 @@
+//! The check of one opening: its form first, then the digests on its path, then the cap's entry. It takes no memory.
+
+ghost use Rattle.std.specs.Prelude.{◌≡◌, ◌==◌, false, length, replicate, slice_get, unwrap_or};
+ghost use Rattle.std.specs.Option.{option_map};
+ghost use Rattle.p3_merkle_core.specs.Geometry.{ancestor, shape_of};
+ghost use Rattle.p3_merkle_core.specs.Nodes.{functions_of};
+ghost use Rattle.p3_merkle_core.specs.Openings.{path_digest};
+ghost use Rattle.p3_merkle_core.specs.Refusals.{answer_under};
+ghost use Rattle.p3_merkle_checker.specs.Checks.{opening_in};
+ghost use Rattle.p3_merkle_checker.specs.Paths.{CanCheck, CanReach};
+
+use crate::form::check_form;
+use crate::level::{Checker, leaf};
+use crate::openings::IndexedOpening;
+use p3_merkle_core::error::MerkleTreeError;
+use p3_support::compress::PseudoCompressionFunction;
+use p3_support::hasher::CryptographicHasher;
+use p3_support::matrix::Dimensions;
+use p3_support::packed::PackedValue;
+
+impl<
+    'a,
+    P: PackedValue,
+    PW: PackedValue,
+    H: CryptographicHasher<P, PW, D>,
+    C: PseudoCompressionFunction<PW, N, D>,
+    const N: usize,
+    const D: usize,
+> Checker<'a, P, PW, H, C, [[PW::Value; D]; N]> {
+    /// The digest that the check of an opening reaches at layer `t`, and the node of that layer above the leaf.
+    ///
+    /// The opening has its siblings up to layer `t`, `N` is a power of two from 2 to 2^62, and `t` is at most the number
+    /// of levels. The call takes no memory.
+    pub fn path_digest(
+        &self,
+        dimensions: &[Dimensions],
+        t: usize,
+        opening: IndexedOpening<'_, P::Value, [PW::Value; D]>,
+    ) -> ([PW::Value; D], usize)
+        requires { CanReach (shape_of N dimensions.now) t (length opening.siblings.now) }
+        ensures digest { let f = functions_of (H.hash self.now.hash.now) (C.compression self.now.compress.now) (replicate D PW.default_value) in
+            result.0 ≡ path_digest f (shape_of N dimensions.now) (opening_in opening.entry) t }
+        ensures node { result.1 ≡ ancestor (shape_of N dimensions.now) t opening.entry.index }
+    {
+        let mut standing = leaf::<P, PW, H, D>(self.hash, dimensions, opening);
+        for level in 0..t {
+            standing = self
+                .checked_level(dimensions, level, opening, &standing)
+                .above;
+        }
+        (standing.digest, standing.node)
+    }
+
+    /// Checks an opening against the roots of a cap, which is layer `t`: whether its form is right, and its path leads to
+    /// the root above the leaf.
+    ///
+    /// `N` is a power of two from 2 to 2^62, and `t` is at most the number of levels. The call takes no memory.
+    ///
+    /// # Errors
+    ///
+    /// What [`check_form`] answers; else `CapMismatch` where there is no root above the leaf, or it is not the digest that
+    /// the check reaches.
+    pub fn check_opening(
+        &self,
+        roots: &[[PW::Value; D]],
+        dimensions: &[Dimensions],
+        t: usize,
+        opening: IndexedOpening<'_, P::Value, [PW::Value; D]>,
+    ) -> Result<(), MerkleTreeError>
+        requires { CanCheck (shape_of N dimensions.now) t }
+        ensures { let f = functions_of (H.hash self.now.hash.now) (C.compression self.now.compress.now) (replicate D PW.default_value) in
+            result ≡ answer_under PW.Value.eq f (shape_of N dimensions.now) t roots.now (opening_in opening.entry) }
+    {
+        let (index, num_siblings) = (opening.index, opening.siblings.len());
+        check_form(dimensions, N, t, index, opening.rows, num_siblings)?;
+        let (digest, node) = self.path_digest(dimensions, t, opening);
+        if is_entry(roots, node, &digest) {
+            Ok(())
+        } else {
+            Err(MerkleTreeError::CapMismatch)
+        }
+    }
+}
+
+/// Whether the entry `node` of some roots is this digest.
+fn is_entry<X: PartialEq>(roots: &[X], node: usize, digest: &X) -> bool
+    ensures { let test = option_map (λ root. X.eq root digest.now) (slice_get roots.now node) in
+        result ≡ unwrap_or test false }
+{
+    match roots.get(node) {
+        Some(root) => *root == *digest,
+        None => false,
+    }
+}

@@ -1,0 +1,35 @@
+-- What the scheme hands to its checker.
+use Rattle.std.proofs.Common.{◌≡◌, ℕ, Bool, List, ap, ◌∙◌}
+use Rattle.p3_merkle_core.specs.Extracting.{extraction_under}
+use Rattle.p3_merkle_core.specs.Geometry.{Shape}
+use Rattle.p3_merkle_core.specs.Nodes.{Functions, functions_of}
+use Rattle.p3_merkle_core.specs.Openings.{Opening, opening_of}
+use Rattle.p3_merkle_core.specs.Refusals.{answer_under}
+use Rattle.p3_merkle_checker.specs.Checks.{opening_in}
+use Rattle.p3_merkle_checker.specs.declared.openings.IndexedOpening.{IndexedOpening}
+use Rattle.p3_support.specs.Shown.{row_lists}
+
+-- the same functions, of the same hash and compression
+pub functions_alike : {T W H C : Type 0} (hash : H → List T → List W) (compression : C → List (List W) → List W) (d : List W) (h k : H) (c e : C) → h ≡ k → c ≡ e →
+    functions_of (hash h) (compression c) d ≡ functions_of (hash k) (compression e) d
+functions_alike hash compression d h k c e p q = ap (λ (z : _). functions_of (hash z) (compression c) d) p ∙ ap (λ (z : _). functions_of (hash k) (compression z) d) q
+
+-- the opening of an index, rows and siblings
+pub opening_is : {T W : Type 0} (v : IndexedOpening T (List W)) (index : ℕ) (rows : List (List T)) (siblings : List (List W)) → v.index ≡ index → row_lists v.rows.now ≡ rows → v.siblings.now ≡ siblings →
+    opening_in v ≡ opening_of index rows siblings
+opening_is v index rows siblings a b c =
+    ap (λ (z : ℕ). opening_of z (row_lists v.rows.now) v.siblings.now) a ∙ ap (λ (z : List (List _)). opening_of index z v.siblings.now) b ∙ ap (λ (z : List (List _)). opening_of index rows z) c
+
+module _ {T W : Type 0} (eq : T → T → Bool) (same : W → W → Bool) (f g : Functions T W) (s : Shape) (t v : ℕ) (roots cap : List (List W)) where
+  -- the same answer to an opening
+  pub answer_alike : (o p : Opening T W) → f ≡ g → t ≡ v → roots ≡ cap → o ≡ p → answer_under same f s t roots o ≡ answer_under same g s v cap p
+  answer_alike o p a b c d =
+      ap (λ (z : Functions T W). answer_under same z s t roots o) a ∙ ap (λ (z : ℕ). answer_under same g s z roots o) b
+      ∙ ap (λ (z : List (List W)). answer_under same g s v z o) c ∙ ap (λ (z : Opening T W). answer_under same g s v cap z) d
+
+  -- the same answer to two
+  pub extraction_alike : (o p u q : Opening T W) → f ≡ g → t ≡ v → roots ≡ cap → o ≡ p → u ≡ q → extraction_under eq same f s t roots o u ≡ extraction_under eq same g s v cap p q
+  extraction_alike o p u q a b c d e =
+      ap (λ (z : Functions T W). extraction_under eq same z s t roots o u) a ∙ ap (λ (z : ℕ). extraction_under eq same g s z roots o u) b
+      ∙ ap (λ (z : List (List W)). extraction_under eq same g s v z o u) c ∙ ap (λ (z : Opening T W). extraction_under eq same g s v cap z u) d
+      ∙ ap (λ (z : Opening T W). extraction_under eq same g s v cap p z) e

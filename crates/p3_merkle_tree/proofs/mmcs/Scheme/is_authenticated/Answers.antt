@@ -1,0 +1,20 @@
+-- The exponent of the matrix is compared with that of the cap's layer.
+use Rattle.std.proofs.Common.{◌≡◌, ap, sym, ◌∙◌, arith, get_or}
+use Rattle.std.proofs.lemmas.List.{get_or-map, length-map}
+use Rattle.p3_support.specs.declared.matrix.Dimensions.{Dimensions}
+use Rattle.p3_merkle_core.specs.Geometry.{cap_layer, exponent, heights, layer_exponent, shape_of}
+use Rattle.p3_merkle_tree.specs.Schemes.{cap_height_of}
+use Rattle.p3_merkle_tree.proofs.AuthenticFacts.{authenticated_is}
+use Rattle.p3_merkle_tree.proofs.mmcs.Scheme.is_authenticated.Goals as goal
+
+pub returns-clause-authenticated : goal.returns-clause-authenticated
+returns-clause-authenticated g c =
+    let dimensions = c.args.dimensions.now in
+    let s = shape_of g.row.N dimensions in
+    let cap = cap_height_of c.args.self.now in
+    let t = cap_layer s cap in
+    let k = c.args.matrix in
+    let at_cap : c.layer_exponent_of.result ≡ layer_exponent s t = c.layer_exponent_of.ensures ∙ ap (layer_exponent s) c.proof_levels-t.ensures in
+    let own : c.exponent_of.result ≡ exponent (get_or (heights s) k 0) =
+    c.exponent_of.ensures ∙ ap exponent (sym (get_or-map (λ (d : Dimensions). d.height) dimensions k (record { width = 0; height = 0 }) 0 c.requires)) in
+    rw (at_cap, own) (authenticated_is s t k c.args.self.now.arity (omega arith) (omega (arith, c.requires, length-map dimensions (λ (d : Dimensions). d.height))))
