@@ -4,6 +4,7 @@ use Rattle.std.specs.declared.vec.Vec.{Vec}
 use Rattle.std.specs.declared.default.Default as default
 use Rattle.std.specs.declared.cmp.PartialEq as equality
 use Rattle.p3_support.specs.declared.packed.PackedValue as packed
+use Rattle.p3_merkle_core.specs.Geometry.{Shape, cap_layer}
 use Rattle.p3_merkle_core.specs.Nodes.{Functions, functions_of}
 use Rattle.p3_merkle_core.specs.Openings.{Opening, opening_of}
 use Rattle.p3_support.specs.Shown.{row_lists}
@@ -23,6 +24,10 @@ module _ {P PW H C X G V W : Type 0} {N : ℕ} {p : packed.Ghosts P V} {pd : def
   -- how many layers below the root its cap is asked for
   abbrev pub cap_height_of : Scheme P PW H C X G N V W p pd pe q qd qe → ℕ
   cap_height_of scheme = scheme.cap_height
+
+  -- the layer that is its cap, over a shape
+  abbrev pub proof_layer : Scheme P PW H C X G N V W p pd pe q qd qe → Shape → ℕ
+  proof_layer scheme s = cap_layer s scheme.cap_height
 
   -- what its hasher and its compression compute, and the digest of d default words
   abbrev pub scheme_functions : (H → List V → List W) → (C → List (List W) → List W) → ℕ → Scheme P PW H C X G N V W p pd pe q qd qe → Functions V W

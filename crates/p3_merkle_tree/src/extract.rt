@@ -3,10 +3,10 @@
 ghost use Rattle.std.specs.Prelude.{◌≡◌, ◌<◌, ◌↔◌, IfOk, IfSome, IsNone, IsSome, MatchResult, None, Some, length};
 ghost use Rattle.p3_merkle_core.specs.Extracting.{extraction_under};
 ghost use Rattle.p3_merkle_core.specs.Gate.{gate_refusal};
-ghost use Rattle.p3_merkle_core.specs.Geometry.{cap_layer, heights_of, shape_of};
+ghost use Rattle.p3_merkle_core.specs.Geometry.{heights_of, shape_of};
 ghost use Rattle.p3_merkle_core.specs.Openings.{is_authenticated as authenticates, AgreeWhereShared, IsAccepted};
 ghost use Rattle.p3_merkle_tree.specs.Collisions.{AnswerAlike, AnswerOneRowTwice, AnswersUnlessMemory, IsCollision};
-ghost use Rattle.p3_merkle_tree.specs.Schemes.{cap_height_of, opening_lent, scheme_functions};
+ghost use Rattle.p3_merkle_tree.specs.Schemes.{opening_lent, proof_layer, scheme_functions};
 ghost use Rattle.p3_support.specs.Shown.{roots_of};
 
 use crate::mmcs::{MerkleTreeMmcs, Scheme};
@@ -40,7 +40,7 @@ impl<P: PackedValue, PW: PackedValue, H, C, X, G, const N: usize> Scheme<P, PW, 
             (λ answer. gate_refusal (heights_of dimensions.now) ≡ None)
             (λ e. gate_refusal (heights_of dimensions.now) ≡ Some e) }
         ensures authenticated { let s = shape_of N dimensions.now in
-            let t = cap_layer s (cap_height_of self.now) in
+            let t = proof_layer self.now s in
             IfOk result (λ answer. answer ≡ authenticates s t matrix) }
     {
         check_heights(dimensions)?;
@@ -87,7 +87,7 @@ impl<
     ) -> Result<Option<Collision<P::Value, PW::Value, D>>, MerkleTreeError>
         ensures answer { let f = scheme_functions H.hash C.compression D self.now in
             let s = shape_of N dimensions.now in
-            let t = cap_layer s (cap_height_of self.now) in
+            let t = proof_layer self.now s in
             let o = opening_lent index1 first.entry in
             let u = opening_lent index2 second.entry in
             AnswersUnlessMemory result (extraction_under P.Value.eq PW.Value.eq f s t (roots_of commit.now) o u) }
@@ -95,32 +95,32 @@ impl<
         // Both openings are accepted, and nothing is found exactly where their checks agree.
         ensures accepted { let f = scheme_functions H.hash C.compression D self.now in
             let s = shape_of N dimensions.now in
-            let t = cap_layer s (cap_height_of self.now) in
+            let t = proof_layer self.now s in
             let o = opening_lent index1 first.entry in
             let u = opening_lent index2 second.entry in
             let cap = roots_of commit.now in
             IfOk result (λ found. IsAccepted f s t cap o × IsAccepted f s t cap u) }
         ensures none { let f = scheme_functions H.hash C.compression D self.now in
             let s = shape_of N dimensions.now in
-            let t = cap_layer s (cap_height_of self.now) in
+            let t = proof_layer self.now s in
             let o = opening_lent index1 first.entry in
             let u = opening_lent index2 second.entry in
             IfOk result (λ found. IsNone found ↔ AgreeWhereShared f s t o u) }
         ensures collision { let f = scheme_functions H.hash C.compression D self.now in
             let s = shape_of N dimensions.now in
-            let t = cap_layer s (cap_height_of self.now) in
+            let t = proof_layer self.now s in
             let o = opening_lent index1 first.entry in
             let u = opening_lent index2 second.entry in
             IfOk result (λ found. IfSome found (IsCollision f s t o u)) }
 
         // When something is found, in the words of siblings and rows.
         ensures one_index { let s = shape_of N dimensions.now in
-            let t = cap_layer s (cap_height_of self.now) in
+            let t = proof_layer self.now s in
             let o = opening_lent index1 first.entry in
             let u = opening_lent index2 second.entry in
             index1 ≡ index2 → IfOk result (λ found. IsNone found ↔ AnswerAlike s t o u) }
         ensures two_ways { let s = shape_of N dimensions.now in
-            let t = cap_layer s (cap_height_of self.now) in
+            let t = proof_layer self.now s in
             let o = opening_lent index1 first.entry in
             let u = opening_lent index2 second.entry in
             AnswerOneRowTwice s t o u → IfOk result (λ found. IsSome found) }

@@ -62,8 +62,8 @@ impl<P: PackedValue, PW: PackedValue, H: Clone, C: Clone, X: Clone, G: Clone, co
 }
 
 impl<P: PackedValue, PW: PackedValue, H, C, X, G, const N: usize> Scheme<P, PW, H, C, X, G, N> {
-    ghost use Rattle.p3_merkle_core.specs.Geometry.{cap_layer, shape_of};
-    ghost use Rattle.p3_merkle_tree.specs.Schemes.{cap_height_of, compression_of, hash_of};
+    ghost use Rattle.p3_merkle_core.specs.Geometry.{shape_of};
+    ghost use Rattle.p3_merkle_tree.specs.Schemes.{cap_height_of, compression_of, hash_of, proof_layer};
 
     /// How many levels below the root the cap is, as it was handed to [`new`](Self::new).
     pub fn cap_height(&self) -> usize
@@ -74,7 +74,7 @@ impl<P: PackedValue, PW: PackedValue, H, C, X, G, const N: usize> Scheme<P, PW, 
 
     /// How many levels lead from the leaves of a tree over matrices of these dimensions up to its cap.
     pub(crate) fn proof_levels(&self, dimensions: &[Dimensions]) -> usize
-        ensures { result ≡ cap_layer (shape_of N dimensions.now) (cap_height_of self.now) }
+        ensures { result ≡ proof_layer self.now (shape_of N dimensions.now) }
     {
         levels_of(dimensions, N).saturating_sub(self.cap_height)
     }
@@ -101,7 +101,7 @@ impl<
     const D: usize,
 > MerkleTreeMmcs<P, PW, H, C, N, D> {
     ghost use Rattle.p3_merkle_core.specs.Gate.{gate_refusal};
-    ghost use Rattle.p3_merkle_core.specs.Geometry.{cap_layer, heights, shape_of, tallest};
+    ghost use Rattle.p3_merkle_core.specs.Geometry.{heights, shape_of, tallest};
     ghost use Rattle.p3_merkle_core.specs.Nodes.{layer, layers, shape};
     ghost use Rattle.p3_merkle_core.specs.Openings.{honest_rows, IsAccepted};
     ghost use Rattle.p3_merkle_core.specs.Refusals.{answer_under};
@@ -109,7 +109,7 @@ impl<
     ghost use Rattle.p3_merkle_builder.specs.Built.{OkUnlessRefused};
     ghost use Rattle.p3_merkle_builder.specs.Parts.{layers_of, matrices_of, tree_batch};
     ghost use Rattle.p3_merkle_builder.specs.Own.{own_siblings};
-    ghost use Rattle.p3_merkle_tree.specs.Schemes.{cap_height_of, compression_of, hash_of, opening_lent, opening_made, scheme_functions};
+    ghost use Rattle.p3_merkle_tree.specs.Schemes.{cap_height_of, compression_of, hash_of, opening_lent, opening_made, proof_layer, scheme_functions};
     ghost use Rattle.p3_support.specs.Shown.{roots_of, row_lists};
     ghost use Rattle.p3_merkle_builder.specs.Views.{batch_of};
 
@@ -161,7 +161,7 @@ impl<
             IfOk result (λ (cap, tree). layers_of tree ≡ layers f b) }
         ensures cap { let f = scheme_functions H.hash C.compression D self.now in
             let b = batch_of M.height_of M.width_of M.row_of N matrices.items in
-            let t = cap_layer (shape b) (cap_height_of self.now) in
+            let t = proof_layer self.now (shape b) in
             IfOk result (λ (cap, tree). roots_of cap ≡ layer f b t) }
     {
         let tree = MerkleTree::<P::Value, PW::Value, M, N, D>::new::<P, PW, H, C>(
@@ -195,11 +195,11 @@ impl<
         ensures rows { let rows = honest_rows (tree_batch tree.now) index in
             IfOk result (λ o. row_lists o.opened_values.items ≡ rows) }
         ensures siblings { let s = shape (tree_batch tree.now) in
-            let t = cap_layer s (cap_height_of self.now) in
+            let t = proof_layer self.now s in
             IfOk result (λ o. o.opening_proof.items ≡ own_siblings s (layers_of tree.now) t index) }
         ensures accepted { let f = scheme_functions H.hash C.compression D self.now in
             let b = tree_batch tree.now in
-            let t = cap_layer (shape b) (cap_height_of self.now) in
+            let t = proof_layer self.now (shape b) in
             layers_of tree.now ≡ layers f b →
             IfOk result (λ o. IsAccepted f (shape b) t (layer f b t) (opening_made index o)) }
         ensures memory { IfErr result (λ e. e ≡ OutOfMemory) }
@@ -240,12 +240,12 @@ impl<
     ) -> Result<(), MerkleTreeError>
         ensures answer { let f = scheme_functions H.hash C.compression D self.now in
             let s = shape_of N dimensions.now in
-            let t = cap_layer s (cap_height_of self.now) in
+            let t = proof_layer self.now s in
             result ≡ answer_under PW.Value.eq f s t (roots_of commit.now)
             (opening_lent index opening.entry) }
         ensures accepted { let f = scheme_functions H.hash C.compression D self.now in
             let s = shape_of N dimensions.now in
-            let t = cap_layer s (cap_height_of self.now) in
+            let t = proof_layer self.now s in
             IsOk result ↔
             IsAccepted f s t (roots_of commit.now) (opening_lent index opening.entry) }
     {

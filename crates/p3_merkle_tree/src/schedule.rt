@@ -1,6 +1,6 @@
 //! How the paths of a scheme go: steps and positions level by level, and what a tree shows of its matrices.
 
-ghost use Rattle.std.specs.Prelude.{◌≡◌, ◌-◌, ◌≤◌, IfErr, IfOk, map, take, vec_len};
+ghost use Rattle.std.specs.Prelude.{◌≡◌, ◌≤◌, IfErr, IfOk, map, take, vec_len};
 
 use crate::mmcs::Scheme;
 use p3_merkle_builder::tree::Tree;
@@ -23,13 +23,13 @@ impl<P: PackedValue, PW: PackedValue, H, C, X: Copy, G, const N: usize> Scheme<
     N,
 > {
     ghost use Rattle.p3_merkle_core.specs.Gate.{gate_refusal};
-    ghost use Rattle.p3_merkle_core.specs.Geometry.{arity_schedule as schedule_in, cap_layer, exponent, heights, heights_of, levels, positions_below, schedule_below, shape_of, tallest};
+    ghost use Rattle.p3_merkle_core.specs.Geometry.{arity_schedule as schedule_in, exponent, heights, heights_of, positions_below, schedule_below, shape_of, tallest};
     ghost use Rattle.p3_merkle_core.specs.Nodes.{shape};
     ghost use Rattle.p3_merkle_core.specs.Refusals.{replay_refusal};
     ghost use Rattle.p3_merkle_core.specs.declared.error.MerkleTreeError.TheVariants.{OutOfMemory};
     ghost use Rattle.p3_merkle_builder.specs.Built.{OkUnlessRefused};
     ghost use Rattle.p3_merkle_builder.specs.Parts.{matrices_of, tree_batch};
-    ghost use Rattle.p3_merkle_tree.specs.Schemes.{cap_height_of};
+    ghost use Rattle.p3_merkle_tree.specs.Schemes.{proof_layer};
 
     /// The steps of the levels below the cap, from the leaves up, in children a node: those of the tree over matrices
     /// of these dimensions, without its topmost `cap_height`.
@@ -45,9 +45,9 @@ impl<P: PackedValue, PW: PackedValue, H, C, X: Copy, G, const N: usize> Scheme<
     ) -> Result<Vec<usize>, MerkleTreeError>
         ensures answer { OkUnlessRefused result (gate_refusal (heights_of dimensions.now)) }
         ensures steps { let s = shape_of N dimensions.now in
-            IfOk result (λ v. v.items ≡ schedule_below s (cap_layer s (cap_height_of self.now))) }
+            IfOk result (λ v. v.items ≡ schedule_below s (proof_layer self.now s)) }
         ensures first { let s = shape_of N dimensions.now in
-            IfOk result (λ v. v.items ≡ take (levels s - cap_height_of self.now) (schedule_in s)) }
+            IfOk result (λ v. v.items ≡ take (proof_layer self.now s) (schedule_in s)) }
         ensures few { IfOk result (λ v. vec_len v ≤ exponent (tallest (heights_of dimensions.now))) }
     {
         check_heights(dimensions)?;
@@ -71,11 +71,11 @@ impl<P: PackedValue, PW: PackedValue, H, C, X: Copy, G, const N: usize> Scheme<
         num_siblings: usize,
     ) -> Result<ArityAndPositions, MerkleTreeError>
         ensures answer { let s = shape_of N dimensions.now in
-            OkUnlessRefused result (replay_refusal s (cap_layer s (cap_height_of self.now)) index num_siblings) }
+            OkUnlessRefused result (replay_refusal s (proof_layer self.now s) index num_siblings) }
         ensures schedule { let s = shape_of N dimensions.now in
-            IfOk result (λ r. r.arity_schedule.items ≡ schedule_below s (cap_layer s (cap_height_of self.now))) }
+            IfOk result (λ r. r.arity_schedule.items ≡ schedule_below s (proof_layer self.now s)) }
         ensures positions { let s = shape_of N dimensions.now in
-            IfOk result (λ r. r.query_positions.items ≡ positions_below s (cap_layer s (cap_height_of self.now)) index) }
+            IfOk result (λ r. r.query_positions.items ≡ positions_below s (proof_layer self.now s) index) }
     {
         check_heights(dimensions)?;
         let max_height = tallest_of(dimensions);

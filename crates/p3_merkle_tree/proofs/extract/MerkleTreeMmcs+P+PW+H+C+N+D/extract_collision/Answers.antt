@@ -1,12 +1,12 @@
 -- What the answer means of the openings.
 use Rattle.std.proofs.Common.{ap, refl, replicate, subst}
 use Rattle.std.proofs.lemmas.Result.{IfOk-weaker}
-use Rattle.p3_merkle_core.specs.Geometry.{cap_layer, shape_of}
+use Rattle.p3_merkle_core.specs.Geometry.{shape_of}
 use Rattle.p3_merkle_core.specs.Nodes.{functions_of}
 use Rattle.p3_merkle_checker.proofs.ExtractFacts.{alike_at_one_index, meant, twice_is_found}
 use Rattle.p3_merkle_checker.specs.Checks.{opening_in}
 use Rattle.p3_merkle_checker.specs.Collisions.{AnswersUnlessMemory}
-use Rattle.p3_merkle_tree.specs.Schemes.{cap_height_of, compression_of, hash_of, opening_lent, scheme_functions}
+use Rattle.p3_merkle_tree.specs.Schemes.{compression_of, hash_of, opening_lent, proof_layer, scheme_functions}
 use Rattle.p3_support.specs.Shown.{roots_of, row_lists}
 use Rattle.p3_merkle_tree.proofs.CheckFacts.{extraction_alike, functions_alike, opening_is}
 use Rattle.p3_merkle_tree.proofs.extract.MerkleTreeMmcs+P+PW+H+C+N+D.extract_collision.Goals as goal
@@ -19,7 +19,7 @@ returns g c =
     let made = functions_of (g.H.CryptographicHasher.hash c.checker.result.hash.now) (g.C.PseudoCompressionFunction.compression c.checker.result.compress.now) (replicate g.row.D g.PW.PackedValue.default_value) in
     let f = scheme_functions g.H.CryptographicHasher.hash g.C.PseudoCompressionFunction.compression g.row.D scheme in
     let s = shape_of g.row.N c.args.dimensions.now in
-    let t = cap_layer s (cap_height_of scheme) in
+    let t = proof_layer scheme s in
     let cap = roots_of c.args.commit.now in
     let o = opening_lent c.args.index1 c.args.first in
     let u = opening_lent c.args.index2 c.args.second in

@@ -2,8 +2,8 @@
 use Rattle.std.proofs.Common.{◌≡◌, ap, sym, ◌∙◌, arith, get_or}
 use Rattle.std.proofs.lemmas.List.{get_or-map, length-map}
 use Rattle.p3_support.specs.declared.matrix.Dimensions.{Dimensions}
-use Rattle.p3_merkle_core.specs.Geometry.{cap_layer, exponent, heights, layer_exponent, shape_of}
-use Rattle.p3_merkle_tree.specs.Schemes.{cap_height_of}
+use Rattle.p3_merkle_core.specs.Geometry.{exponent, heights, layer_exponent, shape_of}
+use Rattle.p3_merkle_tree.specs.Schemes.{proof_layer}
 use Rattle.p3_merkle_tree.proofs.AuthenticFacts.{authenticated_is}
 use Rattle.p3_merkle_tree.proofs.mmcs.Scheme.is_authenticated.Goals as goal
 
@@ -11,8 +11,7 @@ pub returns-clause-authenticated : goal.returns-clause-authenticated
 returns-clause-authenticated g c =
     let dimensions = c.args.dimensions.now in
     let s = shape_of g.row.N dimensions in
-    let cap = cap_height_of c.args.self.now in
-    let t = cap_layer s cap in
+    let t = proof_layer c.args.self.now s in
     let k = c.args.matrix in
     let at_cap : c.layer_exponent_of.result ≡ layer_exponent s t = c.layer_exponent_of.ensures ∙ ap (layer_exponent s) c.proof_levels-t.ensures in
     let own : c.exponent_of.result ≡ exponent (get_or (heights s) k 0) =

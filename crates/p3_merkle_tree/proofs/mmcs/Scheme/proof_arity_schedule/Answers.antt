@@ -1,20 +1,19 @@
 -- The steps below the cap are the first of all steps.
-use Rattle.std.proofs.Common.{◌-◌, ◌∙◌, ap, length, sym, arith}
+use Rattle.std.proofs.Common.{◌∙◌, ap, length, sym, arith}
 use Rattle.std.proofs.lemmas.List.FromFn.{length-map-range_with_len, take-map-range_with_len}
 use Rattle.p3_merkle_core.specs.Geometry.{levels, shape_of, step}
 use Rattle.p3_merkle_core.proofs.LadderFacts.{levels_le}
-use Rattle.p3_merkle_tree.specs.Schemes.{cap_height_of}
+use Rattle.p3_merkle_tree.specs.Schemes.{proof_layer}
 use Rattle.p3_merkle_tree.proofs.mmcs.Scheme.proof_arity_schedule.Goals as goal
 
 pub returns-clause-first : goal.returns-clause-first
 returns-clause-first g c =
     let s = shape_of g.row.N c.args.dimensions.now in
-    let cap = cap_height_of c.args.self.now in
     (rw c.proof_levels.ensures at c.in_ok-schedule_below_of.ensures)
-    ∙ sym (take-map-range_with_len (step s) 0 (levels s) (levels s - cap) (omega arith))
+    ∙ sym (take-map-range_with_len (step s) 0 (levels s) (proof_layer c.args.self.now s) (omega arith))
 
 pub returns-clause-few : goal.returns-clause-few
 returns-clause-few g c =
     let s = shape_of g.row.N c.args.dimensions.now in
     let is = rw c.proof_levels.ensures at c.in_ok-schedule_below_of.ensures in
-    omega (arith, ap length is, length-map-range_with_len (step s) 0 (levels s - cap_height_of c.args.self.now), levels_le s)
+    omega (arith, ap length is, length-map-range_with_len (step s) 0 (proof_layer c.args.self.now s), levels_le s)
