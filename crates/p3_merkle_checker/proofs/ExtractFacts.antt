@@ -1,6 +1,6 @@
 -- What an extraction answers.
 use Rattle.std.proofs.Common.{◌≡◌, ◌↔◌, ℕ, zero, suc, ◌+◌, ◌-◌, ◌<◌, All, Bool, List, [], ◌∷◌, subst, refl, arith, inl, inr, length, Option, None, Some}
-use Rattle.std.specs.Prelude.{Ok, Err, Result, IsNone, IsSome, IfOk, IfSome}
+use Rattle.std.specs.Prelude.{Ok, Err, Result, IsNone, IsSome, IfErr, IfOk, IfSome}
 use Rattle.std.specs.Option.{option_or}
 use Rattle.std.proofs.lemmas.Bool.{cases_eq, eq-eqb, ne_eqb}
 use Rattle.std.proofs.lemmas.List.Elements.{All-append, All-head, All-nil, All-tail}
@@ -10,11 +10,13 @@ use Rattle.p3_merkle_core.specs.Nodes.{Functions}
 use Rattle.p3_merkle_core.specs.Openings.{AgreeWhereShared, HasDigests, Input, IsAccepted, IsLastDifference, Opening, inputs_at, meeting_level, shared_inputs, siblings_below}
 use Rattle.p3_merkle_core.specs.Refusals.{IsEquality, answer_under, refusal_under, verdict}
 use Rattle.p3_merkle_core.specs.declared.error.MerkleTreeError.{MerkleTreeError}
+use Rattle.p3_merkle_core.specs.declared.error.MerkleTreeError.TheVariants.{OutOfMemory}
 use Rattle.p3_merkle_core.proofs.AuthenticatedFacts.{authenticated_bound, authenticated_at_one_index}
 use Rattle.p3_merkle_core.proofs.Extracted.{differs, extracts_none, extracts_some}
 use Rattle.p3_merkle_core.proofs.Extraction.{collides}
 use Rattle.p3_merkle_core.proofs.InputFacts.{inputs_full, level_full}
 use Rattle.p3_merkle_core.proofs.PlaceFacts.{at_one_place}
+use Rattle.p3_merkle_core.proofs.Verdicts.{accepted_answer}
 use Rattle.p3_merkle_checker.specs.Collisions.{AnswerAlike, AnswerOneRowTwice, AnswersUnlessMemory, IsCollision, Shows}
 use Rattle.p3_merkle_checker.specs.declared.collision.InputPair.{InputPair}
 
@@ -28,6 +30,25 @@ pub second_refused : {T W : Type 0} (eq : T → T → Bool) (same : W → W → 
     Ok tt ≡ answer_under same f s t cap o → Err e ≡ answer_under same f s t cap u → extraction_under eq same f s t cap o u ≡ Err e
 second_refused eq same f s t cap o u e a b =
     second_refusal (refusal_under same f s t cap o) (refusal_under same f s t cap u) (last_difference (input_eq eq same) (shared_inputs f s t o.index u.index o) (shared_inputs f s t o.index u.index u)) e a b
+
+-- where nothing is refused, there is an answer
+both_taken : {X E : Type 0} (x y : Option E) (v : X) → verdict x ≡ Ok tt → verdict y ≡ Ok tt → after (option_or x y) v ≡ Ok v
+both_taken None None v a b = refl
+both_taken None (Some z) v a b = absurd cc
+both_taken (Some z) y v a b = absurd cc
+
+memory_alone : {T W : Type 0} (r : Result (Option (InputPair T (List W))) MerkleTreeError) (answer : Result (Option (Input T W × Input T W)) MerkleTreeError) (v : Option (Input T W × Input T W)) →
+    answer ≡ Ok v → AnswersUnlessMemory r answer → IfErr r (λ e. e ≡ OutOfMemory)
+memory_alone (Ok found) answer v is a = tt
+memory_alone (Err e) answer v is (inl m) = m
+memory_alone (Err e) answer v is (inr n) = absurd cc
+
+pub answered : {T W : Type 0} (eq : T → T → Bool) (same : W → W → Bool) (f : Functions T W) (s : Shape) (t : ℕ) (cap : List (List W)) (o u : Opening T W) → IsEquality same → IsAccepted f s t cap o → IsAccepted f s t cap u →
+    (r : Result (Option (InputPair T (List W))) MerkleTreeError) → AnswersUnlessMemory r (extraction_under eq same f s t cap o u) → IfErr r (λ e. e ≡ OutOfMemory)
+answered eq same f s t cap o u dec first second r a =
+    let v = last_difference (input_eq eq same) (shared_inputs f s t o.index u.index o) (shared_inputs f s t o.index u.index u) in
+    memory_alone r (extraction_under eq same f s t cap o u) v
+    (both_taken (refusal_under same f s t cap o) (refusal_under same f s t cap u) v (accepted_answer same f s t cap o dec first) (accepted_answer same f s t cap u dec second)) a
 
 -- ---- shared inputs of digests
 

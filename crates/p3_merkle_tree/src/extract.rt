@@ -1,10 +1,11 @@
 //! Extraction: from two openings of one cap that differ to two inputs of one digest.
 
-ghost use Rattle.std.specs.Prelude.{◌≡◌, ◌<◌, ◌↔◌, IfOk, IfSome, IsNone, IsSome, MatchResult, None, Some, length};
+ghost use Rattle.std.specs.Prelude.{◌≡◌, ◌<◌, ◌↔◌, IfErr, IfOk, IfSome, IsNone, IsSome, MatchResult, None, Some, length};
 ghost use Rattle.p3_merkle_core.specs.Extracting.{extraction_under};
 ghost use Rattle.p3_merkle_core.specs.Gate.{gate_refusal};
 ghost use Rattle.p3_merkle_core.specs.Geometry.{heights_of, shape_of};
 ghost use Rattle.p3_merkle_core.specs.Openings.{is_authenticated as authenticates, AgreeWhereShared, IsAccepted};
+ghost use Rattle.p3_merkle_core.specs.declared.error.MerkleTreeError.TheVariants.{OutOfMemory};
 ghost use Rattle.p3_merkle_tree.specs.Collisions.{AnswerAlike, AnswerOneRowTwice, AnswersUnlessMemory, IsCollision};
 ghost use Rattle.p3_merkle_tree.specs.Schemes.{opening_lent, proof_layer, scheme_functions};
 ghost use Rattle.p3_support.specs.Shown.{roots_of};
@@ -92,7 +93,7 @@ impl<
             let u = opening_lent index2 second.entry in
             AnswersUnlessMemory result (extraction_under P.Value.eq PW.Value.eq f s t (roots_of commit.now) o u) }
 
-        // Both openings are accepted, and nothing is found exactly where their checks agree.
+        // Two accepted openings are answered, others are not; nothing is found exactly where their checks agree.
         ensures accepted { let f = scheme_functions H.hash C.compression D self.now in
             let s = shape_of N dimensions.now in
             let t = proof_layer self.now s in
@@ -100,6 +101,13 @@ impl<
             let u = opening_lent index2 second.entry in
             let cap = roots_of commit.now in
             IfOk result (λ found. IsAccepted f s t cap o × IsAccepted f s t cap u) }
+        ensures answered { let f = scheme_functions H.hash C.compression D self.now in
+            let s = shape_of N dimensions.now in
+            let t = proof_layer self.now s in
+            let o = opening_lent index1 first.entry in
+            let u = opening_lent index2 second.entry in
+            let cap = roots_of commit.now in
+            IsAccepted f s t cap o → IsAccepted f s t cap u → IfErr result (λ e. e ≡ OutOfMemory) }
         ensures none { let f = scheme_functions H.hash C.compression D self.now in
             let s = shape_of N dimensions.now in
             let t = proof_layer self.now s in

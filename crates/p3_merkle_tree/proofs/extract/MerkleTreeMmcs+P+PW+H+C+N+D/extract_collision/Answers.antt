@@ -3,7 +3,7 @@ use Rattle.std.proofs.Common.{ap, refl, replicate, subst}
 use Rattle.std.proofs.lemmas.Result.{IfOk-weaker}
 use Rattle.p3_merkle_core.specs.Geometry.{shape_of}
 use Rattle.p3_merkle_core.specs.Nodes.{functions_of}
-use Rattle.p3_merkle_checker.proofs.ExtractFacts.{alike_at_one_index, meant, twice_is_found}
+use Rattle.p3_merkle_checker.proofs.ExtractFacts.{alike_at_one_index, answered, meant, twice_is_found}
 use Rattle.p3_merkle_checker.specs.Checks.{opening_in}
 use Rattle.p3_merkle_checker.specs.Collisions.{AnswersUnlessMemory}
 use Rattle.p3_merkle_tree.specs.Schemes.{compression_of, hash_of, opening_lent, proof_layer, scheme_functions}
@@ -32,6 +32,7 @@ returns g c =
     record {
       answer = answer;
       accepted = IfOk-weaker c.extraction.result _ _ (λ found is. (is.first_accepted, is.second_accepted)) m;
+      answered = λ first second. answered eq same f s t cap o u g.met.PW.PackedValue.eq_is_equality first second c.extraction.result answer;
       none = IfOk-weaker c.extraction.result _ _ (λ found is. is.none) m;
       collision = IfOk-weaker c.extraction.result _ _ (λ found is. is.collision) m;
       one_index = λ one. IfOk-weaker c.extraction.result _ _ (λ found is. alike_at_one_index f s t cap o u found scheme.arity one is) m;
