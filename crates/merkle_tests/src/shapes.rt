@@ -7,7 +7,7 @@ use crate::calls::{layers_in, schedule};
 use crate::fixtures::{FoldCap, FoldScheme, dimensions_of, fold_scheme, numbered};
 use p3_merkle_core::geometry::{
     MAX_HEIGHT, bits_reduced_of, expected_height_of, exponent_of, has_exponent, is_bridge_step,
-    levels_of, padded_len_of, schedule_below_of, select_arity_step, siblings_below_of, tallest_of,
+    levels_of, padded_len, schedule_below_of, select_arity_step, siblings_below_of, tallest_of,
 };
 use p3_merkle_tree::MerkleTreeError;
 use p3_support::matrix::Dimensions;
@@ -120,7 +120,7 @@ fn lengths_are_padded_to_whole_groups(rt: HostRuntime) {
         assert!(rt; 0 < arity && arity <= 8);
         for (len, padded) in paddings.lengths {
             assert!(rt; *len <= 16);
-            assert_eq!(rt; padded_len_of(*len, arity), *padded);
+            assert_eq!(rt; padded_len(*len, arity), *padded);
         }
     }
 }
@@ -130,7 +130,7 @@ fn padded_lengths_hold_whole_groups(rt: HostRuntime) {
     for arity in [2, 4, 8] {
         assert!(rt; 0 < arity && arity <= 8);
         for len in 2..129 {
-            let padded = padded_len_of(len, arity);
+            let padded = padded_len(len, arity);
             assert!(rt; padded % arity == 0 && padded >= arity && padded >= len);
         }
     }

@@ -4,8 +4,8 @@ use Rattle.std.specs.Prelude.{Ok, Err, Result, IsNone, IsSome, IfErr, IfOk, IfSo
 use Rattle.std.specs.Option.{option_or}
 use Rattle.std.proofs.lemmas.Bool.{cases_eq, eq-eqb, ne_eqb}
 use Rattle.std.proofs.lemmas.List.Elements.{All-append, All-head, All-nil, All-tail}
-use Rattle.p3_merkle_core.specs.Extracting.{after, extraction_under, input_eq, last_difference}
-use Rattle.p3_merkle_core.specs.Geometry.{Shape, IsArity, joined}
+use Rattle.p3_merkle_core.specs.Extracting.{ok_unless, extraction_under, input_eq, last_difference}
+use Rattle.p3_merkle_core.specs.Geometry.{Shape, IsArity}
 use Rattle.p3_merkle_core.specs.Nodes.{Functions}
 use Rattle.p3_merkle_core.specs.Openings.{AgreeWhereShared, HasDigests, Input, IsAccepted, IsLastDifference, Opening, inputs_at, meeting_level, shared_inputs, siblings_below}
 use Rattle.p3_merkle_core.specs.Refusals.{IsEquality, answer_under, refusal_under, verdict}
@@ -14,14 +14,14 @@ use Rattle.p3_merkle_core.specs.declared.error.MerkleTreeError.TheVariants.{OutO
 use Rattle.p3_merkle_core.proofs.AuthenticatedFacts.{authenticated_bound, authenticated_at_one_index}
 use Rattle.p3_merkle_core.proofs.Extracted.{differs, extracts_none, extracts_some}
 use Rattle.p3_merkle_core.proofs.Extraction.{collides}
-use Rattle.p3_merkle_core.proofs.InputFacts.{inputs_full, level_full}
+use Rattle.p3_merkle_core.proofs.InputFacts.{shared_full, of_last_difference}
 use Rattle.p3_merkle_core.proofs.PlaceFacts.{at_one_place}
 use Rattle.p3_merkle_core.proofs.Verdicts.{accepted_answer}
 use Rattle.p3_merkle_checker.specs.Collisions.{AnswerAlike, AnswerOneRowTwice, AnswersUnlessMemory, IsCollision, Shows}
 use Rattle.p3_merkle_checker.specs.declared.collision.InputPair.{InputPair}
 
 -- the second refusal is named where there is no first
-second_refusal : {X E : Type 0} (x y : Option E) (v : X) (e : E) → Ok tt ≡ verdict x → Err e ≡ verdict y → after (option_or x y) v ≡ Err e
+second_refusal : {X E : Type 0} (x y : Option E) (v : X) (e : E) → Ok tt ≡ verdict x → Err e ≡ verdict y → ok_unless (option_or x y) v ≡ Err e
 second_refusal None None v e a b = absurd cc
 second_refusal None (Some z) v e a b = cc
 second_refusal (Some z) y v e a b = absurd cc
@@ -32,7 +32,7 @@ second_refused eq same f s t cap o u e a b =
     second_refusal (refusal_under same f s t cap o) (refusal_under same f s t cap u) (last_difference (input_eq eq same) (shared_inputs f s t o.index u.index o) (shared_inputs f s t o.index u.index u)) e a b
 
 -- where nothing is refused, there is an answer
-both_taken : {X E : Type 0} (x y : Option E) (v : X) → verdict x ≡ Ok tt → verdict y ≡ Ok tt → after (option_or x y) v ≡ Ok v
+both_taken : {X E : Type 0} (x y : Option E) (v : X) → verdict x ≡ Ok tt → verdict y ≡ Ok tt → ok_unless (option_or x y) v ≡ Ok v
 both_taken None None v a b = refl
 both_taken None (Some z) v a b = absurd cc
 both_taken (Some z) y v a b = absurd cc
@@ -49,26 +49,6 @@ answered eq same f s t cap o u dec first second r a =
     let v = last_difference (input_eq eq same) (shared_inputs f s t o.index u.index o) (shared_inputs f s t o.index u.index u) in
     memory_alone r (extraction_under eq same f s t cap o u) v
     (both_taken (refusal_under same f s t cap o) (refusal_under same f s t cap u) v (accepted_answer same f s t cap o dec first) (accepted_answer same f s t cap u dec second)) a
-
--- ---- shared inputs of digests
-
-joined_all : {A : Type 0} (P : A → Type 0) (g : ℕ → List A) (n : ℕ) → ((k : ℕ) → k < n → All P (g k)) → All P (joined g n)
-joined_all P g zero each = All-nil P
-joined_all P g (suc n) each = All-append P (joined g n) (g n) (joined_all P g n (λ k h. each k (omega arith))) (each n (omega arith))
-
-shared_full : {T W : Type 0} (f : Functions T W) (s : Shape) (t i j : ℕ) (o : Opening T W) → IsArity s.arity → length o.siblings ≡ siblings_below s t → All (HasDigests s.arity) (shared_inputs f s t i j o)
-shared_full f s t i j o w e =
-    let m = meeting_level s t i j in
-    elim (cases_eq i j) [
-      | inl same ↦ rw (eq-eqb i j same) (inputs_full f s t o w e)
-      | inr apart ↦ rw (ne_eqb i j apart) (joined_all (HasDigests s.arity) (λ k. inputs_at f s o (m + k)) (t - m) (λ k h. level_full f s t o (m + k) w e (omega arith)))
-    ]
-
-last_holds : {X : Type 0} (P : X → Type 0) (xs ys : List X) (x y : X) → IsLastDifference xs ys x y → All P xs → All P ys → P x × P y
-last_holds P [] ys x y d a b = absurd d
-last_holds P (v ∷ xs) [] x y d a b = absurd d
-last_holds P (v ∷ xs) (u ∷ ys) x y (inl d) a b = last_holds P xs ys x y d (All-tail P v xs a) (All-tail P u ys b)
-last_holds P (v ∷ xs) (u ∷ ys) x y (inr d) a b = (subst P d.1 (All-head P v xs a), subst P d.2 (All-head P u ys b))
 
 -- ---- what is found, in the words of the openings
 
@@ -90,7 +70,7 @@ meant_by eq same f s t cap o u (Some c) (Some (x, y)) dec dec_w w e shown =
     let is = (extracts_some eq same f s t cap o u x y dec dec_w).0 e in
     let mine = shared_inputs f s t o.index u.index o in
     let theirs = shared_inputs f s t o.index u.index u in
-    let full = last_holds (HasDigests s.arity) mine theirs x y is.2 (shared_full f s t o.index u.index o w is.0.count) (shared_full f s t o.index u.index u w is.1.count) in
+    let full = of_last_difference (HasDigests s.arity) mine theirs x y (shared_full f s t o.index u.index o w is.0.count) (shared_full f s t o.index u.index u w is.1.count) is.2 in
     record {
       first_accepted = is.0;
       second_accepted = is.1;

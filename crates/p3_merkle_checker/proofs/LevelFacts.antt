@@ -2,17 +2,17 @@
 use Rattle.std.proofs.Common.{◌≡◌, ℕ, zero, suc, ◌+◌, ◌-◌, ◌%◌, ◌<◌, ◌≤◌, add-suc, true, false, cond, eqb, List, [], ◌∷◌, refl, ap, sym, ◌∙◌, arith, zip, None, Some}
 use Rattle.std.specs.List.{list_any}
 use Rattle.std.proofs.lemmas.Bool.{cond_both}
-use Rattle.p3_merkle_core.specs.Geometry.{Shape, IsArity, exponent, heights, is_bridge, layer_exponent, step, tallest}
+use Rattle.p3_merkle_core.specs.Geometry.{Shape, IsArity, exponent, heights, is_bridge, layer_exponent, step, tallest, has_rows}
 use Rattle.p3_merkle_core.specs.Groups.{group_around}
 use Rattle.p3_merkle_core.specs.Nodes.{Functions, padded_group}
-use Rattle.p3_merkle_core.specs.Openings.{Opening, has_rows, layer_words, path_digest, siblings_below}
+use Rattle.p3_merkle_core.specs.Openings.{Opening, layer_words, path_digest, siblings_below}
 use Rattle.p3_merkle_core.proofs.Completeness.{reached_leaf, reached_next}
-use Rattle.p3_merkle_core.proofs.Extraction.{full_group, inputs_alone, inputs_with_rows}
 use Rattle.p3_merkle_core.proofs.SiblingFacts.{siblings_next, siblings_start}
 use Rattle.p3_merkle_core.proofs.StepFacts.{anc_next, anc_start, layer_start, next_exponent, step_above_1, step_at}
 use Rattle.p3_merkle_checker.specs.Checks.{CanStep, IsAbove, IsLevel, StandsAt, step_siblings}
 use Rattle.p3_merkle_checker.specs.Paths.{CanReach, rows_with}
 use Rattle.p3_merkle_checker.specs.declared.level.Standing.{Standing}
+use Rattle.p3_merkle_core.proofs.CheckFacts.{full_group, inputs_with_rows, inputs_alone}
 
 -- a check begins at its leaf
 pub stands_first : {T W : Type 0} (f : Functions T W) (s : Shape) (o : Opening T W) (standing : Standing (List W)) → standing.exponent ≡ exponent (tallest (heights s)) → standing.node ≡ o.index → standing.used ≡ 0 →

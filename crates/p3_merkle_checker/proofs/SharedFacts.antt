@@ -4,12 +4,14 @@ use Rattle.std.specs.Option.{option_or}
 use Rattle.std.proofs.lemmas.Bool.{cases_Bool, cases_eq, cond-true, cond-false, eqb-true, eq-eqb, ne_eqb}
 use Rattle.std.proofs.lemmas.List.{append-nil}
 use Rattle.p3_merkle_core.specs.Extracting.{last_difference}
-use Rattle.p3_merkle_core.specs.Geometry.{Shape, ancestor, joined}
+use Rattle.p3_merkle_core.specs.Geometry.{Shape, ancestor}
 use Rattle.p3_merkle_core.specs.Nodes.{Functions}
 use Rattle.p3_merkle_core.specs.Openings.{Input, Leaf, Opening, inputs_at, meeting_level, layer_words, shared_inputs}
 use Rattle.p3_merkle_core.specs.Refusals.{unless}
 use Rattle.p3_merkle_core.proofs.Binding.{pieces_long}
 use Rattle.p3_merkle_core.proofs.Extraction.{anc_same, level_lengths}
+use Rattle.p3_merkle_core.proofs.ListFacts.{joined, joined_more}
+use Rattle.p3_merkle_core.proofs.PathFacts.{joined_same}
 use Rattle.p3_merkle_core.proofs.LeastFacts.{least_le, least_passes, below_least}
 use Rattle.p3_merkle_checker.specs.Checks.{leaf_difference, level_difference}
 use Rattle.p3_merkle_checker.specs.Collisions.{Shows}
@@ -42,15 +44,11 @@ long_if b xs ys e = elim (cases_Bool b) [ inl t ↦ rw t e | inr f ↦ rw f refl
 
 joined_parts : {A : Type 0} (g : ℕ → List A) (m n : ℕ) → joined g (m + n) ≡ joined g m ++ joined (λ k. g (m + k)) n
 joined_parts g m zero = let z : m + 0 ≡ m = omega arith in rw z (sym (append-nil (joined g m)))
-joined_parts g m (suc n) = rw (add-suc, joined_parts g m n) (append_assoc (joined g m) (joined (λ k. g (m + k)) n) (g (m + n)))
+joined_parts g m (suc n) = rw (add-suc, joined_more g (m + n), joined_more (λ k. g (m + k)) n, joined_parts g m n) (append_assoc (joined g m) (joined (λ k. g (m + k)) n) (g (m + n)))
 
 joined_none : {A : Type 0} (g : ℕ → List A) (n : ℕ) → ((k : ℕ) → k < n → g k ≡ []) → joined g n ≡ []
 joined_none g zero e = refl
-joined_none g (suc n) e = rw (joined_none g n (λ k h. e k (omega arith)), e n (omega arith)) refl
-
-joined_alike : {A : Type 0} (g h : ℕ → List A) (n : ℕ) → ((k : ℕ) → k < n → g k ≡ h k) → joined g n ≡ joined h n
-joined_alike g h zero e = refl
-joined_alike g h (suc n) e = rw (joined_alike g h n (λ k l. e k (omega arith)), e n (omega arith)) refl
+joined_none g (suc n) e = joined_more g n ∙ rw (joined_none g n (λ k h. e k (omega arith)), e n (omega arith)) refl
 
 -- ---- what is shared below a layer
 
@@ -63,7 +61,8 @@ abbrev pub so_far : {T W : Type 0} → Functions T W → Shape → ℕ → ℕ �
 so_far f s i j o l = cond (eqb i j) (Leaf (layer_words s o.rows 0) ∷ []) [] ++ joined (λ k. cond (meets s i j k) (inputs_at f s o k) []) l
 
 so_far_next : {T W : Type 0} (f : Functions T W) (s : Shape) (i j l : ℕ) (o : Opening T W) → so_far f s i j o (suc l) ≡ so_far f s i j o l ++ cond (meets s i j l) (inputs_at f s o l) []
-so_far_next f s i j l o = sym (append_assoc (cond (eqb i j) (Leaf (layer_words s o.rows 0) ∷ []) []) (joined (λ k. cond (meets s i j k) (inputs_at f s o k) []) l) (cond (meets s i j l) (inputs_at f s o l) []))
+so_far_next f s i j l o =
+    ap (λ (xs : List (Input _ _)). cond (eqb i j) (Leaf (layer_words s o.rows 0) ∷ []) [] ++ xs) (joined_more (λ k. cond (meets s i j k) (inputs_at f s o k) []) l) ∙ sym (append_assoc (cond (eqb i j) (Leaf (layer_words s o.rows 0) ∷ []) []) (joined (λ k. cond (meets s i j k) (inputs_at f s o k) []) l) (cond (meets s i j l) (inputs_at f s o l) []))
 
 so_far_long : {T W : Type 0} (f : Functions T W) (s : Shape) (i j l : ℕ) (o u : Opening T W) → length (so_far f s i j o l) ≡ length (so_far f s i j u l)
 so_far_long f s i j l o u =
@@ -78,14 +77,14 @@ so_far_all f s i j t o =
     elim (cases_eq i j) [
       | inl e ↦
           let all : joined g t ≡ joined (inputs_at f s o) t =
-          joined_alike g (inputs_at f s o) t (λ k h. cond-true (meets s i j k) (inputs_at f s o k) [] (eq-eqb (ancestor s (suc k) i) (ancestor s (suc k) j) (ap (λ n. ancestor s (suc k) n) e))) in
+          joined_same g (inputs_at f s o) t (λ k h. cond-true (meets s i j k) (inputs_at f s o k) [] (eq-eqb (ancestor s (suc k) i) (ancestor s (suc k) j) (ap (λ n. ancestor s (suc k) n) e))) in
           rw (eq-eqb i j e) (ap (λ (xs : List (Input _ _)). Leaf (layer_words s o.rows 0) ∷ xs) all)
       | inr ne ↦
           let low = least_le (meets s i j) t in
           let sum : m + (t - m) ≡ t = omega arith in
           let front : joined g m ≡ [] = joined_none g m (λ k h. cond-false (meets s i j k) (inputs_at f s o k) [] (below_least (meets s i j) t k h)) in
           let rest : joined (λ k. g (m + k)) (t - m) ≡ joined (λ k. inputs_at f s o (m + k)) (t - m) =
-          joined_alike (λ k. g (m + k)) (λ k. inputs_at f s o (m + k)) (t - m)
+          joined_same (λ k. g (m + k)) (λ k. inputs_at f s o (m + k)) (t - m)
           (λ k h.
           let met = eqb-true (ancestor s (suc m) i) (ancestor s (suc m) j) (least_passes (meets s i j) t (omega arith)) in
           let up : suc m + k ≡ suc (m + k) = omega arith in

@@ -1,11 +1,7 @@
--- The form of an opening, and what its check reads.
-use Rattle.std.specs.Prelude.{◌≡◌, ◌≤◌, ℕ, ◌==◌, nat_lt, List, [], ◌∷◌, ◌++◌, Option, length, drop, zip, filter, flat_map, if◌then◌else◌}
-use Rattle.p3_merkle_core.specs.Gate.{gate_refusal}
-use Rattle.p3_merkle_core.specs.Geometry.{Shape, IsArity, exponent, heights, levels, tallest, widths}
+-- What the check of an opening reads.
+use Rattle.std.specs.Prelude.{◌≡◌, ◌≤◌, ℕ, ◌==◌, List, [], ◌∷◌, ◌++◌, drop, zip, filter, flat_map, if◌then◌else◌}
+use Rattle.p3_merkle_core.specs.Geometry.{Shape, IsArity, exponent, levels}
 use Rattle.p3_merkle_core.specs.Openings.{siblings_below}
-use Rattle.p3_merkle_core.specs.Refusals.{first_some, sibling_count_refusal, row_width_refusal, size_refusal, unless}
-use Rattle.p3_merkle_core.specs.declared.error.MerkleTreeError.{MerkleTreeError}
-use Rattle.p3_merkle_core.specs.declared.error.MerkleTreeError.TheVariants.{IndexOutOfBounds}
 
 -- of rows with their heights, those of the exponent x, one after another
 abbrev pub rows_with : {T : Type 0} → ℕ → List (ℕ × List T) → List T
@@ -26,14 +22,3 @@ pub record CanCheck (s : Shape) (t : ℕ) : Type 0 where
 pub record CanReach (s : Shape) (t count : ℕ) : Type 0 where
   pub arity : IsArity s.arity
   pub all_siblings : count ≡ siblings_below s t
-
--- why an opening is refused before any of it is hashed
-abbrev pub form_refusal : {T : Type 0} → Shape → ℕ → ℕ → List (List T) → ℕ → Option MerkleTreeError
-form_refusal s t index rows count =
-    first_some (
-    size_refusal (length s.dimensions) (length rows)
-    ∷ gate_refusal (heights s)
-    ∷ sibling_count_refusal (siblings_below s t) count
-    ∷ row_width_refusal (widths s) rows
-    ∷ unless (nat_lt index (tallest (heights s))) (IndexOutOfBounds (tallest (heights s)) index)
-    ∷ [])

@@ -2,7 +2,8 @@
 
 ghost use Rattle.std.specs.Prelude.{◌≡◌, MatchResult, None, Some};
 ghost use Rattle.p3_merkle_core.specs.Geometry.{shape_of};
-ghost use Rattle.p3_merkle_checker.specs.Paths.{form_refusal, CanCheck};
+ghost use Rattle.p3_merkle_core.specs.Refusals.{form_refusal};
+ghost use Rattle.p3_merkle_checker.specs.Paths.{CanCheck};
 ghost use Rattle.p3_support.specs.Shown.{row_lists};
 
 use p3_merkle_core::error::MerkleTreeError;
