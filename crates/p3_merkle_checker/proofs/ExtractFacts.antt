@@ -1,5 +1,5 @@
 -- What an extraction answers.
-use Rattle.std.proofs.Common.{◌≡◌, ◌↔◌, ℕ, zero, suc, ◌+◌, ◌-◌, ◌<◌, All, Bool, List, [], ◌∷◌, subst, refl, arith, inl, inr, length, Option, None, Some}
+use Rattle.std.proofs.Common.{◌≡◌, ◌↔◌, ℕ, zero, suc, ◌+◌, ◌-◌, ◌<◌, All, Bool, List, [], ◌∷◌, subst, sym, refl, arith, inl, inr, length, Option, None, Some}
 use Rattle.std.specs.Prelude.{Ok, Err, Result, IsNone, IsSome, IfErr, IfOk, IfSome}
 use Rattle.std.specs.Option.{option_or}
 use Rattle.std.proofs.lemmas.Bool.{cases_eq, eq-eqb, ne_eqb}
@@ -36,6 +36,13 @@ both_taken : {X E : Type 0} (x y : Option E) (v : X) → verdict x ≡ Ok tt →
 both_taken None None v a b = refl
 both_taken None (Some z) v a b = absurd cc
 both_taken (Some z) y v a b = absurd cc
+
+pub both_answered : {T W : Type 0} (eq : T → T → Bool) (same : W → W → Bool) (f : Functions T W) (s : Shape) (t : ℕ) (cap : List (List W)) (o u : Opening T W) (found : Option (InputPair T (List W))) →
+    Ok tt ≡ answer_under same f s t cap o → Ok tt ≡ answer_under same f s t cap u → Shows found (last_difference (input_eq eq same) (shared_inputs f s t o.index u.index o) (shared_inputs f s t o.index u.index u)) →
+    AnswersUnlessMemory (Ok found) (extraction_under eq same f s t cap o u)
+both_answered eq same f s t cap o u found a b shown =
+    let v = last_difference (input_eq eq same) (shared_inputs f s t o.index u.index o) (shared_inputs f s t o.index u.index u) in
+    subst (AnswersUnlessMemory (Ok found)) (sym (both_taken (refusal_under same f s t cap o) (refusal_under same f s t cap u) v (sym a) (sym b))) shown
 
 memory_alone : {T W : Type 0} (r : Result (Option (InputPair T (List W))) MerkleTreeError) (answer : Result (Option (Input T W × Input T W)) MerkleTreeError) (v : Option (Input T W × Input T W)) →
     answer ≡ Ok v → AnswersUnlessMemory r answer → IfErr r (λ e. e ≡ OutOfMemory)

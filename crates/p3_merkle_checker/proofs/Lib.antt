@@ -1,3 +1,4 @@
+pub mod FormFacts
 pub mod LevelFacts
 pub mod SharedFacts
 pub mod WalkFacts
