@@ -7,28 +7,10 @@ use Rattle.p3_merkle_core.specs.Geometry.{tallest, IsLawful}
 use Rattle.p3_merkle_core.specs.Gate.{gate_refusal, height_refusal_of, first_too_large, first_off_ladder}
 use Rattle.p3_merkle_core.specs.declared.error.MerkleTreeError.{MerkleTreeError}
 use Rattle.p3_merkle_core.specs.declared.error.MerkleTreeError.TheVariants.{EmptyBatch, IndexOutOfBounds}
-use Rattle.p3_merkle_core.proofs.GateFacts.{lawful_from_none, none_large_from_lawful, none_off_from_lawful}
+use Rattle.p3_merkle_core.proofs.GateFacts.{gate_lawful}
 use Rattle.mmcs_engine.specs.declared.command.Action.{Action}
 use Rattle.mmcs_engine.specs.declared.command.Action.TheVariants.{Commit, Check}
 use Rattle.mmcs_engine.specs.Program.{tree_refusal, action_index_refusal, IsTaken}
-
--- no reason of three holds
-none_from_cases : (hs : List ℕ) (b : Bool) (large off : Option ℕ) → eqb (tallest hs) 0 ≡ b → first_too_large hs ≡ large → first_off_ladder (tallest hs) hs ≡ off →
-    cond b (Some EmptyBatch) (height_refusal_of (tallest hs) hs large off) ≡ None → IsLawful hs
-none_from_cases hs true large off empty_is large_is off_is none = absurd cc
-none_from_cases hs false (Some i) off empty_is large_is off_is none = absurd cc
-none_from_cases hs false None (Some h) empty_is large_is off_is none = absurd cc
-none_from_cases hs false None None empty_is large_is off_is none = lawful_from_none hs (eqb-false (tallest hs) 0 empty_is) large_is off_is
-
--- the gate passes lawful heights only
-pub gate_passes : (hs : List ℕ) → gate_refusal hs ≡ None → IsLawful hs
-gate_passes hs none = none_from_cases hs (eqb (tallest hs) 0) (first_too_large hs) (first_off_ladder (tallest hs) hs) refl refl refl none
-
--- and all of them
-lawful_passes : (hs : List ℕ) → IsLawful hs → gate_refusal hs ≡ None
-lawful_passes hs lawful =
-    let some : eqb (tallest hs) 0 ≡ false = ⊎_elim (λ empty. absurd (omega (arith, empty.1, lawful.some_above_0))) (λ full. full.0) (eqb_tells (tallest hs) 0) in
-    λ i. cond (some i) (Some EmptyBatch) (height_refusal_of (tallest hs) hs (none_large_from_lawful hs lawful i) (none_off_from_lawful hs lawful i))
 
 -- where both of two reasons fail
 both_none : {E : Type 0} (x y : Option E) → option_or x y ≡ None → (x ≡ None) × (y ≡ None)
@@ -41,13 +23,13 @@ below_from_none i m true is none = is
 below_from_none i m false is none = absurd cc
 
 pub taken_from_none : (action : Action) (hs : List ℕ) → tree_refusal action hs ≡ None → IsTaken action hs
-taken_from_none Commit hs none = gate_passes hs (both_none (gate_refusal hs) None none).0
+taken_from_none Commit hs none = (gate_lawful hs).0 (both_none (gate_refusal hs) None none).0
 taken_from_none (Check index) hs none =
     let parts = both_none (gate_refusal hs) (action_index_refusal (Check index) (tallest hs)) none in
-    (gate_passes hs parts.0, ltb-true index (tallest hs) (below_from_none index (tallest hs) (ltb index (tallest hs)) refl parts.1))
+    ((gate_lawful hs).0 parts.0, ltb-true index (tallest hs) (below_from_none index (tallest hs) (ltb index (tallest hs)) refl parts.1))
 
 pub taken_unrefused : (action : Action) (hs : List ℕ) → IsTaken action hs → tree_refusal action hs ≡ None
-taken_unrefused Commit hs taken = ap (λ o. option_or o None) (lawful_passes hs taken)
+taken_unrefused Commit hs taken = ap (λ o. option_or o None) ((gate_lawful hs).1 taken)
 taken_unrefused (Check index) hs taken =
     let below : ltb index (tallest hs) ≡ true = lt-ltb index (tallest hs) taken.1 in
-    λ i. option_or (lawful_passes hs taken.0 i) (cond (below i) None (Some (IndexOutOfBounds (tallest hs) index)))
+    λ i. option_or ((gate_lawful hs).1 taken.0 i) (cond (below i) None (Some (IndexOutOfBounds (tallest hs) index)))

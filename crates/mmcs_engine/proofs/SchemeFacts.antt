@@ -1,10 +1,11 @@
 -- What the scheme of `fold` accepts.
 use Rattle.std.proofs.Common.{◌≡◌, ◌∙◌, ℕ, List, Result, sym, subst}
-use Rattle.std.specs.Prelude.{IfOk}
+use Rattle.std.specs.Prelude.{IfOk, nat_eq}
 use Rattle.std.proofs.lemmas.Result.{IfOk-weaker}
 use Rattle.p3_merkle_core.specs.Geometry.{Shape, cap_layer}
 use Rattle.p3_merkle_core.specs.Nodes.{layer, layers, shape, Batch, Functions}
 use Rattle.p3_merkle_core.specs.Openings.{IsAccepted, Opening}
+use Rattle.p3_merkle_core.specs.Refusals.{answer_under}
 
 -- equal functions, cap heights and openings
 pub accepted_alike : (f g : Functions ℕ ℕ) (s : Shape) (c d : ℕ) (roots : List (List ℕ)) (o p : Opening ℕ ℕ) → f ≡ g → c ≡ d → o ≡ p →
@@ -13,6 +14,11 @@ accepted_alike f g s c d roots o p same_functions same_cap same_opening accepted
     subst (λ (h : Functions ℕ ℕ). IsAccepted h s (cap_layer s c) roots o) (sym same_functions)
     (subst (λ (h : ℕ). IsAccepted g s (cap_layer s h) roots o) (sym same_cap)
     (subst (λ (q : Opening ℕ ℕ). IsAccepted g s (cap_layer s d) roots q) (sym same_opening) accepted))
+
+-- and what it answers
+pub answered_alike : (f g : Functions ℕ ℕ) (s : Shape) (c d : ℕ) (roots : List (List ℕ)) (o p : Opening ℕ ℕ) → f ≡ g → c ≡ d → o ≡ p →
+    answer_under nat_eq f s (cap_layer s c) roots o ≡ answer_under nat_eq g s (cap_layer s d) roots p
+answered_alike f g s c d roots o p same_functions same_cap same_opening = λ i. answer_under nat_eq (same_functions i) s (cap_layer s (same_cap i)) roots (same_opening i)
 
 -- and what it opens
 pub opened_alike : {V E : Type 0} (f g : Functions ℕ ℕ) (b : Batch ℕ) (c d : ℕ) (built : List (List (List ℕ))) (result : Result V E) (opening : V → Opening ℕ ℕ) → f ≡ g → c ≡ d →
