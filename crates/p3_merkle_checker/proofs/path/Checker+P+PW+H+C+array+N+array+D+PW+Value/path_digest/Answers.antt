@@ -1,5 +1,5 @@
 -- Each turn is one level of the check.
-use Rattle.std.proofs.Common.{add-one, arith, length, replicate}
+use Rattle.std.proofs.Common.{◌≡◌, add-one, arith, length, replicate}
 use Rattle.p3_merkle_core.specs.Geometry.{shape_of}
 use Rattle.p3_merkle_core.specs.Nodes.{functions_of}
 use Rattle.p3_merkle_checker.specs.Checks.{opening_in}
@@ -18,3 +18,9 @@ checked_level-requires g c =
 
 pub loop-level-preserved : goal.loop-level-preserved
 loop-level-preserved g c = rw add-one c.checked_level.ensures.stands
+
+pub returns-clause-digest : goal.returns-clause-digest
+returns-clause-digest g c = let here : c.loop-level.level ≡ c.args.t = omega arith in rw (← here) c.loop-level.invariant.reached
+
+pub returns-clause-node : goal.returns-clause-node
+returns-clause-node g c = let here : c.loop-level.level ≡ c.args.t = omega arith in rw (← here) c.loop-level.invariant.at_node
