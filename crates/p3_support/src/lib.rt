@@ -12,5 +12,3 @@ pub mod opening;
 pub mod packed;
 pub mod rows;
 pub mod sha;
-#[cfg(test)]
-mod tests;

@@ -3,7 +3,7 @@ use Rattle.std.proofs.Common.{arith, ◌≡◌, ◌+◌, ◌∙◌, ap, map}
 use Rattle.std.proofs.iter.Rest.{run_of_first_by}
 use Rattle.p3_support.specs.Lists.{columns}
 use Rattle.p3_support.proofs.RowReads.{lane_of_columns}
-use Rattle.p3_support.proofs.tests.packed_digest.Goals as goal
+use Rattle.support_tests.proofs.tests.packed_digest.Goals as goal
 
 pub returns : goal.returns
 returns g c = λ k below.

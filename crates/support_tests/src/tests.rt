@@ -2,16 +2,17 @@
 ghost use Rattle.std.specs.Prelude.{◌≡◌, ℕ, ◌+◌, ◌<◌, ◌≤◌, length};
 ghost use Rattle.p3_support.specs.Lists.{lane_of, rows_of_height};
 
-use crate::batched::Batched3;
-use crate::compress::PseudoCompressionFunction;
-use crate::fold::{FoldCompress, FoldHash};
-use crate::hasher::CryptographicHasher;
-use crate::lanes::{Lanes, U32x8};
-use crate::matrix::{Dimensions, Matrix, RowMajorMatrix};
-use crate::opening::{BatchOpening, BatchOpeningRef, Hash, MerkleCap};
-use crate::packed::{PackedValue, pack_columns_fn, unpack_into};
-use crate::rows::rows_of;
-use crate::sha::{Sha256Nodes, Sha256Rows};
+use p3_support::batched::Batched3;
+use p3_support::compress::PseudoCompressionFunction;
+use p3_support::fold::{FoldCompress, FoldHash};
+use p3_support::hasher::CryptographicHasher;
+use p3_support::lanes::{Lanes, U32x8};
+use p3_support::matrix::{Dimensions, Matrix, RowMajorMatrix};
+use p3_support::opening::{BatchOpening, BatchOpeningRef, Hash, MerkleCap};
+use p3_support::packed::{PackedValue, pack_columns_fn, unpack_into};
+use p3_support::rows::rows_of;
+use p3_support::sha::{Sha256Nodes, Sha256Rows};
+use std::alloc::{AllocError, Global};
 use std::test::Fail;
 
 /// The digest of a row.
@@ -212,20 +213,41 @@ fn compresses_lanes(rt: HostRuntime) {
 }
 
 #[test]
-fn hands_out(rt: HostRuntime) -> Result<(), Fail> {
+fn lends_a_root(rt: HostRuntime) {
     let root = [32897u32];
     let lent: Hash<'_, u32, u32, 1> = Hash::from(&root);
     assert_eq!(rt; *lent.value(), root);
     assert!(rt; lent == Hash::from(&[32897]) && lent != Hash::from(&[32862]));
+}
+
+#[test]
+fn hands_out_roots(rt: HostRuntime) -> Result<(), Fail> {
     let cap: MerkleCap<u32, [u32; 1]> = MerkleCap::new(vec![in rt.alloc(); [1026], [1090]]?);
     assert_eq!(rt; (cap.num_roots(), cap[1]), (2, [1090]));
     assert_eq!(rt; cap.roots(), [[1026], [1090]].as_slice());
-    let rows = vec![in rt.alloc(); vec![in rt.alloc(); 3u32]?]?;
-    let opening = BatchOpening::new(rows, vec![in rt.alloc(); [35u32], [1026]]?);
+    Ok(())
+}
+
+/// An opening of one row of one word.
+fn small_opening(alloc: Global) -> Result<BatchOpening<u32, Vec<[u32; 1]>>, AllocError> {
+    let mut rows = Vec::new(alloc);
+    rows.push(vec![in alloc; 3u32]?)?;
+    Ok(BatchOpening::new(rows, vec![in alloc; [35u32], [1026]]?))
+}
+
+#[test]
+fn hands_out_what_is_lent(rt: HostRuntime) -> Result<(), Fail> {
+    let opening = small_opening(rt.alloc())?;
     let (values, siblings) = BatchOpeningRef::from(&opening).unpack();
+    assert_eq!(rt; values.len(), 1);
     assert_eq!(rt; values[0].as_slice(), [3u32].as_slice());
     assert_eq!(rt; siblings.as_slice(), [[35], [1026]].as_slice());
-    let (values, _) = opening.unpack();
+    Ok(())
+}
+
+#[test]
+fn hands_out_what_it_has(rt: HostRuntime) -> Result<(), Fail> {
+    let (values, _) = small_opening(rt.alloc())?.unpack();
     assert_eq!(rt; values.len(), 1);
     Ok(())
 }
