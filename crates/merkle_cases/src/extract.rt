@@ -1,0 +1,73 @@
+//! What two openings of one cap lead to.
+
+ghost use Rattle.std.specs.Prelude.{◌≤◌, IsTrue};
+ghost use Rattle.p3_merkle_core.specs.Geometry.{is_arity};
+
+use crate::fields::{Fault, Fields};
+use crate::scheme::fold_scheme;
+use crate::text;
+use crate::verify::LeafOpening;
+use p3_merkle_tree::{BatchOpeningRef, Collision, MerkleCap, Place};
+use std::alloc::{AllocError, Global};
+
+/// A place by its name, and the level that it is on.
+fn place_text(alloc: Global, place: &Place) -> Result<String, AllocError> {
+    match place {
+        Place::Leaf => String::from_str(alloc, "leaf"),
+        Place::Group(level) => format!(in alloc; "group {level}"),
+        Place::Rows(level) => format!(in alloc; "rows {level}"),
+        Place::Pair(level) => format!(in alloc; "pair {level}"),
+    }
+}
+
+/// The place of a collision with both inputs.
+fn collision_text(alloc: Global, collision: &Collision<u32, u32, 1>) -> Result<String, AllocError> {
+    let (place, first, second) = match collision {
+        Collision::Words {
+            place,
+            first,
+            second,
+        } => (
+            place,
+            text::words(alloc, first)?,
+            text::words(alloc, second)?,
+        ),
+        Collision::Digests {
+            place,
+            first,
+            second,
+        } => (
+            place,
+            text::digests(alloc, first)?,
+            text::digests(alloc, second)?,
+        ),
+    };
+    let place = place_text(alloc, place)?;
+    format!(in alloc; "{place} | {first} | {second}")
+}
+
+/// `extract | ARITY | CAP HEIGHT | CAP | DIMENSIONS | INDEX | ROWS | SIBLINGS | INDEX | ROWS | SIBLINGS | ANSWER`: what
+/// two openings lead to, which is `none`, or a place with the input of the first and that of the second.
+pub fn extract<const N: usize>(alloc: Global, fields: &mut Fields<'_>) -> Result<String, Fault>
+    requires arity { IsTrue (is_arity N) }
+    requires few { N ≤ 8 }
+{
+    let scheme = fold_scheme::<N>(fields.number()?);
+    let cap = MerkleCap::new(fields.digests(alloc)?);
+    let dimensions = fields.dimensions(alloc)?;
+    let first = LeafOpening::of(alloc, fields)?;
+    let second = LeafOpening::of(alloc, fields)?;
+    let found = scheme.extract_collision(
+        alloc,
+        &cap,
+        &dimensions,
+        first.index,
+        BatchOpeningRef::from(&first.opening),
+        second.index,
+        BatchOpeningRef::from(&second.opening),
+    )?;
+    match &found {
+        Some(collision) => Ok(collision_text(alloc, collision)?),
+        None => Ok(String::from_str(alloc, "none")?),
+    }
+}

@@ -1,0 +1,103 @@
+//! The fields of a case: what stands between the bars of its line.
+
+use crate::lists;
+use p3_merkle_tree::MerkleTreeError;
+use p3_support::matrix::{Dimensions, RowMajorMatrix};
+use std::alloc::{AllocError, AllocFailed, Global};
+
+/// Why a case has no answer of its own.
+#[derive(Drop)]
+pub enum Fault {
+    /// A call refuses what it is handed, which is an answer, too.
+    Refused(MerkleTreeError),
+    /// The line can't be read, for this reason.
+    Unreadable(&'static str),
+}
+
+impl From<MerkleTreeError> for Fault {
+    fn from(error: MerkleTreeError) -> Fault {
+        Fault::Refused(error)
+    }
+}
+
+impl From<AllocError> for Fault {
+    fn from(_error: AllocError) -> Fault {
+        Fault::Refused(MerkleTreeError::OutOfMemory)
+    }
+}
+
+impl<T: Drop> From<AllocFailed<T>> for Fault {
+    fn from(_error: AllocFailed<T>) -> Fault {
+        Fault::Refused(MerkleTreeError::OutOfMemory)
+    }
+}
+
+/// The fields of a line, of which the first `next` have been read.
+#[derive(Drop)]
+pub struct Fields<'a> {
+    fields: &'a [&'a str],
+    next: usize,
+}
+
+impl<'a> Fields<'a> {
+    /// These fields, all unread.
+    pub fn of(fields: &'a [&'a str]) -> Fields<'a> {
+        Fields { fields, next: 0 }
+    }
+
+    /// The next field, without the blanks around it.
+    pub fn take(&mut self) -> Result<&'a str, Fault> {
+        match self.fields.get(self.next) {
+            Some(field) => {
+                self.next = self.next.saturating_add(1);
+                Ok(field.trim())
+            }
+            None => Err(Fault::Unreadable("a field or the answer is missing")),
+        }
+    }
+
+    /// The fields that have not been read: the expected answer.
+    pub fn rest(&self) -> &[&'a str] {
+        &self.fields[self.next.min(self.fields.len())..]
+    }
+
+    /// The number that the next field is.
+    pub fn number(&mut self) -> Result<usize, Fault> {
+        lists::number_of(self.take()?)
+    }
+
+    /// The numbers of the next field.
+    pub fn numbers(&mut self, alloc: Global) -> Result<Vec<usize>, Fault> {
+        lists::numbers_of(alloc, self.take()?)
+    }
+
+    /// The words of the next field.
+    pub fn words(&mut self, alloc: Global) -> Result<Vec<u32>, Fault> {
+        lists::words_of(alloc, self.take()?)
+    }
+
+    /// The digests of the next field.
+    pub fn digests(&mut self, alloc: Global) -> Result<Vec<[u32; 1]>, Fault> {
+        lists::digests_of(alloc, self.take()?)
+    }
+
+    /// The rows of the next field.
+    pub fn rows(&mut self, alloc: Global) -> Result<Vec<Vec<u32>>, Fault> {
+        lists::rows_of(alloc, self.take()?)
+    }
+
+    /// The dimensions of the next field.
+    pub fn dimensions(&mut self, alloc: Global) -> Result<Vec<Dimensions>, Fault> {
+        lists::dimensions_of(alloc, self.take()?)
+    }
+
+    /// The dimensions of columns, whose heights are the next field.
+    pub fn columns(&mut self, alloc: Global) -> Result<Vec<Dimensions>, Fault> {
+        lists::columns_of(alloc, &self.numbers(alloc)?)
+    }
+
+    /// The matrices of the next field.
+    pub fn matrices(&mut self, alloc: Global) -> Result<Vec<RowMajorMatrix<u32>>, Fault> {
+        lists::matrices_of(alloc, self.take()?)
+    }
+}

@@ -1,0 +1,100 @@
+//! Heights: what each call answers to them, and the shapes of trees over them.
+
+ghost use Rattle.std.specs.Prelude.{◌≤◌, IsTrue};
+ghost use Rattle.p3_merkle_core.specs.Geometry.{is_arity};
+
+use crate::fields::{Fault, Fields};
+use crate::lists::columns_of;
+use crate::scheme::{FoldOpening, fold_scheme, fold_tree, numbered};
+use crate::text;
+use p3_merkle_core::geometry::check_heights;
+use p3_merkle_tree::{BatchOpening, BatchOpeningRef, MerkleCap, MerkleTreeError};
+use p3_support::matrix::Dimensions;
+use std::alloc::{AllocError, Global};
+
+/// What committing to columns of these heights answers.
+fn committed(alloc: Global, heights: &[usize]) -> Result<(), MerkleTreeError> {
+    fold_scheme::<2>(0).commit(alloc, numbered(alloc, heights)?)?;
+    Ok(())
+}
+
+/// What building a tree over them answers.
+fn built(alloc: Global, heights: &[usize]) -> Result<(), MerkleTreeError> {
+    fold_tree::<_, 2>(alloc, numbered(alloc, heights)?)?;
+    Ok(())
+}
+
+/// What the schedule below the root answers.
+fn scheduled(alloc: Global, dimensions: &[Dimensions]) -> Result<(), MerkleTreeError> {
+    fold_scheme::<2>(0).proof_arity_schedule(alloc, dimensions)?;
+    Ok(())
+}
+
+/// An opening of one word of each column, and no siblings.
+fn opening_of(alloc: Global, heights: &[usize]) -> Result<FoldOpening, AllocError> {
+    let mut rows = Vec::new(alloc);
+    for _height in heights {
+        rows.push(vec![in alloc; 0u32]?)?;
+    }
+    Ok(BatchOpening::new(rows, Vec::new(alloc)))
+}
+
+/// `heights | HEIGHTS | ERROR`: what each call that takes heights answers, where all answer alike, and else all their
+/// answers: of the test of heights, the commit, the tree, the schedule and the check of an opening.
+pub fn heights(alloc: Global, fields: &mut Fields<'_>) -> Result<String, Fault> {
+    let heights = fields.numbers(alloc)?;
+    let dimensions = columns_of(alloc, &heights)?;
+    let cap = MerkleCap::new(Vec::new(alloc));
+    let opening = opening_of(alloc, &heights)?;
+    let lent = BatchOpeningRef::from(&opening);
+    let answers = [
+        text::verdict(alloc, check_heights(&dimensions))?,
+        text::verdict(alloc, committed(alloc, &heights))?,
+        text::verdict(alloc, built(alloc, &heights))?,
+        text::verdict(alloc, scheduled(alloc, &dimensions))?,
+        text::verdict(
+            alloc,
+            fold_scheme::<2>(0).verify_batch(&cap, &dimensions, 0, lent),
+        )?,
+    ];
+    if answers.iter().all(|answer| *answer == answers[0]) {
+        Ok(answers[0].clone()?)
+    } else {
+        Ok(text::joined(alloc, &answers, " | ")?)
+    }
+}
+
+/// How many digests at the end of a layer are the default one. The last node of these trees has another.
+fn padding_of(layer: &[[u32; 1]]) -> usize {
+    let mut padding: usize = 0;
+    for digest in layer {
+        padding = if *digest == [0] {
+            padding.saturating_add(1)
+        } else {
+            0
+        };
+    }
+    padding
+}
+
+/// `shape | ARITY | CAP HEIGHT | HEIGHTS | STEPS | LENGTHS`: the steps from the leaves up to the cap, and of each layer,
+/// leaves first, how many of its slots are nodes.
+pub fn shape<const N: usize>(alloc: Global, fields: &mut Fields<'_>) -> Result<String, Fault>
+    requires arity { IsTrue (is_arity N) }
+    requires few { N ≤ 8 }
+{
+    let scheme = fold_scheme::<N>(fields.number()?);
+    let heights = fields.numbers(alloc)?;
+    let steps = scheme.proof_arity_schedule(alloc, &columns_of(alloc, &heights)?)?;
+    let (_, tree) = scheme.commit(alloc, numbered(alloc, &heights)?)?;
+    let mut lengths = Vec::new(alloc);
+    for below in (0..tree.num_layers()).rev() {
+        let layer = tree.cap(alloc, below)?;
+        let slots = layer.num_roots();
+        let nodes = slots.saturating_sub(padding_of(layer.roots()));
+        lengths.push(format!(in alloc; "{nodes}/{slots}")?)?;
+    }
+    let steps = text::numbers(alloc, &steps)?;
+    let lengths = text::joined(alloc, &lengths, " ")?;
+    Ok(format!(in alloc; "{steps} | {lengths}")?)
+}

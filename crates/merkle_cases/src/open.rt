@@ -1,0 +1,84 @@
+//! What is opened of a tree, and that it is accepted.
+
+ghost use Rattle.std.specs.Prelude.{◌≤◌, IsTrue};
+ghost use Rattle.p3_merkle_core.specs.Geometry.{is_arity};
+
+use crate::fields::{Fault, Fields};
+use crate::scheme::{FoldOpening, FoldScheme, FoldTree, fold_scheme, numbered};
+use crate::text;
+use p3_merkle_tree::{BatchOpeningRef, MerkleCap, MerkleTreeError};
+use p3_support::matrix::{Dimensions, Matrix};
+use std::alloc::Global;
+
+/// The dimensions of the matrices of a tree.
+fn dimensions_in<M: Matrix<u32>, const N: usize>(
+    alloc: Global,
+    scheme: &FoldScheme<N>,
+    tree: &FoldTree<M, N>,
+) -> Result<Vec<Dimensions>, MerkleTreeError> {
+    let matrices = scheme.get_matrices(alloc, tree)?;
+    let mut dimensions = Vec::new(alloc);
+    for matrix in &matrices {
+        dimensions.push(matrix.dimensions())?;
+    }
+    Ok(dimensions)
+}
+
+/// The opening of a leaf, where there is such a leaf and its opening is accepted.
+fn accepted<M: Matrix<u32>, const N: usize>(
+    alloc: Global,
+    scheme: &FoldScheme<N>,
+    cap: &MerkleCap<u32, [u32; 1]>,
+    tree: &FoldTree<M, N>,
+    index: usize,
+) -> Result<FoldOpening, MerkleTreeError> {
+    let max_height = scheme.get_max_height(tree);
+    if index >= max_height {
+        return Err(MerkleTreeError::IndexOutOfBounds { max_height, index });
+    }
+    let opening = scheme.open_batch(alloc, index, tree)?;
+    let dimensions = dimensions_in(alloc, scheme, tree)?;
+    scheme.verify_batch(cap, &dimensions, index, BatchOpeningRef::from(&opening))?;
+    Ok(opening)
+}
+
+/// `open | ARITY | CAP HEIGHT | MATRICES | INDEX | ROWS | SIBLINGS`: the opening of a leaf, which is accepted.
+pub fn open<const N: usize>(alloc: Global, fields: &mut Fields<'_>) -> Result<String, Fault>
+    requires arity { IsTrue (is_arity N) }
+    requires few { N ≤ 8 }
+{
+    let scheme = fold_scheme::<N>(fields.number()?);
+    let matrices = fields.matrices(alloc)?;
+    let index = fields.number()?;
+    let (cap, tree) = scheme.commit(alloc, matrices)?;
+    let opening = accepted(alloc, &scheme, &cap, &tree, index)?;
+    let rows = text::rows(alloc, &opening.opened_values)?;
+    let siblings = text::digests(alloc, &opening.opening_proof)?;
+    Ok(format!(in alloc; "{rows} | {siblings}")?)
+}
+
+/// `leaves | ARITY | CAP HEIGHT | HEIGHTS | LEAVES accepted`: the opening of each leaf is accepted.
+pub fn leaves<const N: usize>(alloc: Global, fields: &mut Fields<'_>) -> Result<String, Fault>
+    requires arity { IsTrue (is_arity N) }
+    requires few { N ≤ 8 }
+{
+    let scheme = fold_scheme::<N>(fields.number()?);
+    let (cap, tree) = scheme.commit(alloc, numbered(alloc, &fields.numbers(alloc)?)?)?;
+    let leaves = scheme.get_max_height(&tree);
+    for index in 0..leaves {
+        accepted(alloc, &scheme, &cap, &tree, index)?;
+    }
+    Ok(format!(in alloc; "{leaves} accepted")?)
+}
+
+/// `kept | ARITY | HEIGHTS | GREATEST HEIGHT | DIMENSIONS`: what a tree over columns shows of them.
+pub fn kept<const N: usize>(alloc: Global, fields: &mut Fields<'_>) -> Result<String, Fault>
+    requires arity { IsTrue (is_arity N) }
+    requires few { N ≤ 8 }
+{
+    let scheme = fold_scheme::<N>(0);
+    let (_, tree) = scheme.commit(alloc, numbered(alloc, &fields.numbers(alloc)?)?)?;
+    let max_height = scheme.get_max_height(&tree);
+    let dimensions = text::dimensions(alloc, &dimensions_in(alloc, &scheme, &tree)?)?;
+    Ok(format!(in alloc; "{max_height} | {dimensions}")?)
+}

@@ -1,0 +1,86 @@
+//! Trees and schemes of the fold functions.
+
+ghost use Rattle.std.specs.Prelude.{◌%◌, ◌^◌, ◌≤◌, ◌∷◌, [], refl, IsTrue};
+ghost use Rattle.p3_merkle_core.specs.Geometry.{is_arity};
+
+use p3_merkle_tree::{BatchOpening, MerkleTree, MerkleTreeError, MerkleTreeMmcs};
+use p3_support::fold::{FoldCompress, FoldHash};
+use p3_support::matrix::Matrix;
+use std::alloc::{AllocError, Global};
+
+/// The scheme of the fold functions with digests of one word.
+pub type FoldScheme<const N: usize> = MerkleTreeMmcs<
+    u32,
+    u32,
+    FoldHash<1>,
+    FoldCompress<N, 1>,
+    N,
+    1,
+>;
+
+/// A tree of that scheme.
+pub type FoldTree<M, const N: usize> = MerkleTree<u32, u32, M, N, 1>;
+
+/// An opening of that scheme.
+pub type FoldOpening = BatchOpening<u32, Vec<[u32; 1]>>;
+
+/// The scheme with this cap height.
+pub fn fold_scheme<const N: usize>(cap_height: usize) -> FoldScheme<N>
+    requires arity { IsTrue (is_arity N) }
+    requires few { N ≤ 8 }
+{
+    MerkleTreeMmcs::new(FoldHash::<1>, FoldCompress::<N, 1>, cap_height)
+}
+
+/// The tree over matrices, built without a scheme.
+pub fn fold_tree<M: Matrix<u32> + Drop, const N: usize>(
+    alloc: Global,
+    matrices: Vec<M>,
+) -> Result<FoldTree<M, N>, MerkleTreeError>
+    requires arity { IsTrue (is_arity N) }
+    requires few { N ≤ 8 }
+{
+    MerkleTree::new::<u32, u32, FoldHash<1>, FoldCompress<N, 1>>(
+        alloc,
+        &FoldHash::<1>,
+        &FoldCompress::<N, 1>,
+        matrices,
+    )
+}
+
+/// A column whose words are the numbers of its rows, from 0. It takes no memory, whatever its height.
+#[derive(Clone, Copy)]
+pub struct Numbers {
+    rows: usize,
+}
+
+impl Matrix<u32> for Numbers {
+    ghost height_of = { λ m. m.rows };
+
+    ghost width_of = { λ m. 1 };
+
+    ghost row_of = { λ m r. (r % 2 ^ 32) ∷ [] };
+
+    fn height(&self) -> usize {
+        self.rows
+    }
+
+    fn width(&self) -> usize {
+        1
+    }
+
+    fn get(&self, row: usize, _column: usize) -> u32 {
+        (row % 4_294_967_296) as u32
+    }
+
+    ghost length_row_of = { λ m r h. refl };
+}
+
+/// Such columns of these heights.
+pub fn numbered(alloc: Global, heights: &[usize]) -> Result<Vec<Numbers>, AllocError> {
+    let mut matrices = Vec::with_capacity(alloc, heights.len())?;
+    for rows in heights {
+        matrices.push(Numbers { rows: *rows })?;
+    }
+    Ok(matrices)
+}

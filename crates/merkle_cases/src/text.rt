@@ -1,0 +1,73 @@
+//! How answers are written.
+
+use p3_merkle_tree::MerkleTreeError;
+use p3_support::matrix::Dimensions;
+use std::alloc::{AllocError, Global};
+
+/// Texts with a text between them; `-` where there are none.
+pub fn joined(alloc: Global, texts: &[String], between: &str) -> Result<String, AllocError> {
+    let mut whole = String::new(alloc);
+    for (place, text) in texts.iter().enumerate() {
+        if place > 0 {
+            whole.push_str(between)?;
+        }
+        whole.push_str(text.as_str())?;
+    }
+    if texts.is_empty() {
+        whole.push_str("-")?;
+    }
+    Ok(whole)
+}
+
+/// Numbers with blanks between them.
+pub fn numbers(alloc: Global, numbers: &[usize]) -> Result<String, AllocError> {
+    let mut each = Vec::new(alloc);
+    for number in numbers {
+        each.push(format!(in alloc; "{number}")?)?;
+    }
+    joined(alloc, &each, " ")
+}
+
+/// Words with blanks between them.
+pub fn words(alloc: Global, words: &[u32]) -> Result<String, AllocError> {
+    let mut each = Vec::new(alloc);
+    for word in words {
+        each.push(*word as usize)?;
+    }
+    numbers(alloc, &each)
+}
+
+/// Digests with blanks between them.
+pub fn digests(alloc: Global, digests: &[[u32; 1]]) -> Result<String, AllocError> {
+    let mut each = Vec::new(alloc);
+    for [word] in digests {
+        each.push(*word)?;
+    }
+    words(alloc, &each)
+}
+
+/// Rows with `;` between them.
+pub fn rows(alloc: Global, rows: &[Vec<u32>]) -> Result<String, AllocError> {
+    let mut each = Vec::new(alloc);
+    for row in rows {
+        each.push(words(alloc, row)?)?;
+    }
+    joined(alloc, &each, "; ")
+}
+
+/// Dimensions of matrices with blanks between them.
+pub fn dimensions(alloc: Global, dimensions: &[Dimensions]) -> Result<String, AllocError> {
+    let mut each = Vec::new(alloc);
+    for Dimensions { width, height } in dimensions {
+        each.push(format!(in alloc; "{width}x{height}")?)?;
+    }
+    joined(alloc, &each, " ")
+}
+
+/// `accepted`, or the text of the error that is answered.
+pub fn verdict(alloc: Global, answer: Result<(), MerkleTreeError>) -> Result<String, AllocError> {
+    match answer {
+        Ok(()) => String::from_str(alloc, "accepted"),
+        Err(error) => format!(in alloc; "{error}"),
+    }
+}
