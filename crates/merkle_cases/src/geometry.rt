@@ -7,7 +7,7 @@ use crate::fields::{Fault, Fields};
 use crate::text;
 use p3_merkle_core::geometry::{
     MAX_HEIGHT, bits_reduced_of, check_widths, expected_height_of, exponent_of, has_exponent,
-    is_bridge_step, levels_of, padded_len_of, positions_below_of, schedule_below_of,
+    is_bridge_step, levels_of, padded_len, positions_below_of, schedule_below_of,
     select_arity_step, siblings_below_of, tallest_of,
 };
 use std::alloc::Global;
@@ -42,7 +42,7 @@ pub fn padding<const N: usize>(alloc: Global, fields: &mut Fields<'_>) -> Result
         if *len > MAX_LEN {
             return Err(Fault::Unreadable("the length is too great"));
         }
-        padded.push(padded_len_of(*len, N))?;
+        padded.push(padded_len(*len, N))?;
     }
     Ok(text::numbers(alloc, &padded)?)
 }
