@@ -1,6 +1,7 @@
 -- How the values of the code are read by the definitions.
-use Rattle.std.specs.Prelude.{ℕ, List, map}
-use Rattle.p3_merkle_core.specs.Nodes.{Matrix, Batch}
+use Rattle.std.specs.Prelude.{◌≡◌, ℕ, List, map}
+use Rattle.p3_merkle_core.specs.Geometry.{heights_of, tallest}
+use Rattle.p3_merkle_core.specs.Nodes.{Matrix, Batch, dimensions_of}
 
 module _ {T M : Type 0} (height width : M → ℕ) (row : M → ℕ → List T) where
   -- a matrix, by what its type says of it
@@ -10,3 +11,11 @@ module _ {T M : Type 0} (height width : M → ℕ) (row : M → ℕ → List T) 
   -- matrices in input order, under an arity
   abbrev pub batch_of : ℕ → List M → Batch T
   batch_of arity ms = record { arity = arity; matrices = map matrix_of ms }
+
+  -- the height of the tallest of some matrices, and 0 of none
+  abbrev pub max_height_in : List M → ℕ
+  max_height_in ms = tallest (heights_of (dimensions_of (map matrix_of ms)))
+
+  -- a clone of a matrix has its height, its width and its rows
+  abbrev pub ClonesShowTheSame : (M → M → Type 0) → Type 0
+  ClonesShowTheSame is_clone = (matrix clone : M) → is_clone matrix clone → matrix_of clone ≡ matrix_of matrix
