@@ -4,7 +4,7 @@ ghost use Rattle.std.specs.Prelude.{◌≡◌, ◌+◌, ◌-◌, ◌*◌, ◌/�
 ghost use Rattle.p3_merkle_core.specs.Geometry.{is_bridge, max_height, padded_len, shape_of};
 ghost use Rattle.p3_merkle_core.specs.Nodes.{dimensions_of as dimensions_in};
 ghost use Rattle.p3_merkle_builder.specs.Levels.{height_at, IsBelowTop, IsLevel};
-ghost use Rattle.p3_merkle_builder.specs.Views.{matrix_of};
+ghost use Rattle.p3_merkle_builder.specs.Views.{matrix_of, max_height_in};
 
 use p3_merkle_core::geometry::{
     exponent_of, has_exponent, is_bridge_step, padded_len_of, select_arity_step, tallest_of,
@@ -25,6 +25,17 @@ pub fn dimensions_of<T, M: Matrix<T>>(
         dimensions.push(matrix.dimensions())?;
     }
     Ok(dimensions)
+}
+
+/// The height of the tallest matrix, in rows, and 0 of none.
+pub fn max_height_of<T, M: Matrix<T>>(matrices: &[M]) -> usize
+    ensures { result ≡ max_height_in M.height_of M.width_of M.row_of matrices.now }
+{
+    let mut tallest = 0;
+    for matrix in matrices {
+        tallest = tallest.max(matrix.height());
+    }
+    tallest
 }
 
 /// A layer above another, before it is built.

@@ -9,80 +9,99 @@ ghost use Rattle.p3_merkle_builder.specs.Own.{own_siblings};
 ghost use Rattle.p3_support.specs.Shown.{row_lists};
 ghost use Rattle.p3_merkle_builder.specs.Parts.{layers_of, matrices_of, tree_batch};
 
+use crate::levels::max_height_of;
 use crate::tree::Tree;
 use p3_merkle_core::error::MerkleTreeError;
 use p3_merkle_core::geometry::bits_reduced_of;
 use p3_support::matrix::Matrix;
 use std::alloc::{AllocError, Global};
 
-impl<F: Copy, X: Copy, G, M: Matrix<F>, const N: usize> Tree<F, X, G, M, N> {
-    /// How many levels lead from the leaves to the root.
-    pub fn num_levels(&self) -> usize
-        ensures { result ≡ levels (shape (tree_batch self.now)) }
-    {
-        self.arity_schedule.len()
-    }
+/// How many levels lead from the leaves of a tree to its root.
+pub fn num_levels<F, X, G, M: Matrix<F>, const N: usize>(tree: &Tree<F, X, G, M, N>) -> usize
+    ensures { result ≡ levels (shape (tree_batch tree.now)) }
+{
+    tree.arity_schedule.len()
+}
 
-    /// The height of the tallest matrix, in rows.
-    pub fn max_height(&self) -> usize
-        ensures { result ≡ tallest (heights (shape (tree_batch self.now))) }
-    {
-        let mut tallest = 0;
-        for matrix in &self.matrices {
-            tallest = tallest.max(matrix.height());
-        }
-        tallest
-    }
+/// The height of the tallest matrix of a tree, in rows: how many leaves it has, padding aside.
+pub fn max_height<F, X, G, M: Matrix<F>, const N: usize>(tree: &Tree<F, X, G, M, N>) -> usize
+    ensures { result ≡ tallest (heights (shape (tree_batch tree.now))) }
+{
+    max_height_of(&tree.matrices)
+}
 
-    /// The row of each matrix that belongs to leaf `index`, in input order.
-    pub fn rows_at(&self, alloc: Global, index: usize) -> Result<Vec<Vec<F>>, MerkleTreeError>
-        requires { index < tallest (heights (shape (tree_batch self.now))) }
-        ensures rows { let honest = honest_rows (tree_batch self.now) index in
-            IfOk result (λ rows. row_lists rows.items ≡ honest) }
-        ensures memory { IfErr result (λ e. e ≡ OutOfMemory) }
-    {
-        let max_height = self.max_height();
-        let mut rows = Vec::with_capacity(alloc, self.matrices.len())?;
-        for matrix in &self.matrices {
-            let row = index >> bits_reduced_of(max_height, matrix.height());
-            rows.push(words_of_row(alloc, matrix, row)?)?;
-        }
-        Ok(rows)
+/// The row of each matrix that belongs to leaf `index`, in input order. The index is below [`max_height`].
+///
+/// # Errors
+///
+/// `OutOfMemory` alone.
+pub fn rows_of_index<F: Copy, X, G, M: Matrix<F>, const N: usize>(
+    alloc: Global,
+    tree: &Tree<F, X, G, M, N>,
+    index: usize,
+) -> Result<Vec<Vec<F>>, MerkleTreeError>
+    requires { index < tallest (heights (shape (tree_batch tree.now))) }
+    ensures rows { let honest = honest_rows (tree_batch tree.now) index in
+        IfOk result (λ rows. row_lists rows.items ≡ honest) }
+    ensures memory { IfErr result (λ e. e ≡ OutOfMemory) }
+{
+    let max_height = max_height(tree);
+    let mut rows = Vec::with_capacity(alloc, tree.matrices.len())?;
+    for matrix in &tree.matrices {
+        let row = index >> bits_reduced_of(max_height, matrix.height());
+        rows.push(words_of_row(alloc, matrix, row)?)?;
     }
+    Ok(rows)
+}
 
-    /// The matrices, in input order.
-    pub fn matrix_refs<'a>(&'a self, alloc: Global) -> Result<Vec<&'a M>, MerkleTreeError>
-        ensures matrices { IfOk result (λ v. map (λ m. m.now) v.items ≡ matrices_of self.now) }
-        ensures memory { IfErr result (λ e. e ≡ OutOfMemory) }
-    {
-        let mut matrices = Vec::with_capacity(alloc, self.matrices.len())?;
-        for matrix in &self.matrices {
-            matrices.push(matrix)?;
-        }
-        Ok(matrices)
+/// The matrices of a tree, in input order.
+///
+/// # Errors
+///
+/// `OutOfMemory` alone.
+pub fn matrix_refs<'a, F, X, G, M: Matrix<F>, const N: usize>(
+    alloc: Global,
+    tree: &'a Tree<F, X, G, M, N>,
+) -> Result<Vec<&'a M>, MerkleTreeError>
+    ensures matrices { IfOk result (λ v. map (λ m. m.now) v.items ≡ matrices_of tree.now) }
+    ensures memory { IfErr result (λ e. e ≡ OutOfMemory) }
+{
+    let mut matrices = Vec::with_capacity(alloc, tree.matrices.len())?;
+    for matrix in &tree.matrices {
+        matrices.push(matrix)?;
     }
+    Ok(matrices)
+}
 
-    /// The siblings on the path of leaf `index` up to layer `t`: of each group on it all digests but the path's own,
-    /// level by level from the leaves, ascending.
-    pub fn siblings(&self, alloc: Global, index: usize, t: usize) -> Result<Vec<X>, MerkleTreeError>
-        requires index { index < tallest (heights (shape (tree_batch self.now))) }
-        requires layer { t ≤ levels (shape (tree_batch self.now)) }
-        ensures siblings { let own = own_siblings (shape (tree_batch self.now)) (layers_of self.now) t index in
-            IfOk result (λ siblings. siblings.items ≡ own) }
-        ensures memory { IfErr result (λ e. e ≡ OutOfMemory) }
-    {
-        let mut siblings = Vec::new(alloc);
-        let mut ancestor = index;
-        for level in 0..t {
-            let step = self.arity_schedule[level];
-            let position = ancestor % step;
-            let first = ancestor - position;
-            let group = &self.layers[level][first..first + step];
-            extend_with_others(&mut siblings, group, position)?;
-            ancestor /= step;
-        }
-        Ok(siblings)
+/// The siblings on the path of leaf `index` up to layer `t`: of each group on it all digests but the path's own,
+/// level by level from the leaves, ascending. The index is below [`max_height`], and `t` at most [`num_levels`].
+///
+/// # Errors
+///
+/// `OutOfMemory` alone.
+pub fn siblings_of_index<F, X: Copy, G, M: Matrix<F>, const N: usize>(
+    alloc: Global,
+    tree: &Tree<F, X, G, M, N>,
+    index: usize,
+    t: usize,
+) -> Result<Vec<X>, MerkleTreeError>
+    requires index { index < tallest (heights (shape (tree_batch tree.now))) }
+    requires layer { t ≤ levels (shape (tree_batch tree.now)) }
+    ensures siblings { let own = own_siblings (shape (tree_batch tree.now)) (layers_of tree.now) t index in
+        IfOk result (λ siblings. siblings.items ≡ own) }
+    ensures memory { IfErr result (λ e. e ≡ OutOfMemory) }
+{
+    let mut siblings = Vec::new(alloc);
+    let mut ancestor = index;
+    for level in 0..t {
+        let step = tree.arity_schedule[level];
+        let position = ancestor % step;
+        let first = ancestor - position;
+        let group = &tree.layers[level][first..first + step];
+        extend_with_others(&mut siblings, group, position)?;
+        ancestor /= step;
     }
+    Ok(siblings)
 }
 
 /// The words of a row.

@@ -1,5 +1,5 @@
 use Rattle.std.proofs.Common.{◌≡◌, map, take}
-use Rattle.p3_merkle_builder.proofs.tree.Tree.matrix_refs.Given as goal
+use Rattle.p3_merkle_builder.proofs.opener.matrix_refs.Given as goal
 
 -- the references so far are to the first matrices
 abbrev pub invariant-loop-matrix : goal.invariant-loop-matrix
