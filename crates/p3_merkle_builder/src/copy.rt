@@ -1,6 +1,8 @@
 //! Copies of trees.
 
 ghost use Rattle.std.specs.Prelude.{◌≡◌, IfOk, map};
+ghost use Rattle.std.specs.List.{AllZip};
+ghost use Rattle.p3_merkle_builder.specs.Views.{ClonesShowTheSame};
 
 use crate::tree::{MerkleTree, Tree};
 use p3_support::matrix::Matrix;
@@ -14,38 +16,28 @@ impl<F: Copy, W: Copy, M: Matrix<F> + Clone + Drop, const N: usize, const D: usi
     N,
     D,
 > {
-    ghost use Rattle.p3_merkle_builder.specs.Parts.{layers_of, matrices_of};
+    ghost use Rattle.p3_merkle_builder.specs.Parts.{layers_of, matrices_of, tree_batch};
 
-    /// A tree with clones of the matrices, and the same layers. A clone of a matrix equals it.
+    /// A tree with clones of the matrices, and the same layers. A clone of a matrix has its height, its width and its
+    /// rows, so that the copy opens what the tree opens.
     ///
     /// # Errors
     ///
     /// `AllocError` where there is no memory.
     pub fn clone(&self) -> Result<Self, AllocError>
-        requires { (matrix copy : M) → M.is_clone matrix copy → copy ≡ matrix }
-        ensures matrices { IfOk result (λ tree. matrices_of tree ≡ matrices_of self.now) }
+        requires { ClonesShowTheSame M.height_of M.width_of M.row_of M.is_clone }
+        ensures matrices { IfOk result (λ tree. AllZip M.is_clone (matrices_of self.now) (matrices_of tree)) }
+        ensures batch { IfOk result (λ tree. tree_batch tree ≡ tree_batch self.now) }
         ensures layers { IfOk result (λ tree. layers_of tree ≡ layers_of self.now) }
     {
         let alloc = *self.matrices.allocator();
         Ok(Tree {
-            matrices: clones_of(alloc, &self.matrices)?,
+            matrices: self.matrices.clone()?,
             layers: copies_of(alloc, &self.layers)?,
             arity_schedule: Vec::from_slice(alloc, &self.arity_schedule)?,
             item: PhantomData,
         })
     }
-}
-
-/// Clones of some matrices.
-fn clones_of<M: Clone + Drop>(alloc: Global, matrices: &[M]) -> Result<Vec<M>, AllocError>
-    requires { (matrix copy : M) → M.is_clone matrix copy → copy ≡ matrix }
-    ensures { IfOk result (λ clones. clones.items ≡ matrices.now) }
-{
-    let mut clones = Vec::with_capacity(alloc, matrices.len())?;
-    for matrix in matrices {
-        clones.push(matrix.clone()?)?;
-    }
-    Ok(clones)
 }
 
 /// Copies of some layers.
