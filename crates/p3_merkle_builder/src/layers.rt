@@ -12,9 +12,9 @@ ghost use Rattle.p3_merkle_builder.specs.Built.{IsBuilt};
 ghost use Rattle.p3_merkle_builder.specs.Levels.{built, CanBuild, CanRaise, IsLevel, raised, slot_above};
 ghost use Rattle.p3_merkle_builder.specs.Views.{batch_of};
 
-use p3_merkle_core::group::group_with;
 use crate::levels::{Level, level_above};
 use p3_merkle_core::geometry::{exponent_of, padded_len_of, tallest_of};
+use p3_merkle_core::group::group_with;
 use p3_support::compress::PseudoCompressionFunction;
 use p3_support::hasher::CryptographicHasher;
 use p3_support::matrix::{Dimensions, Matrix};

@@ -2,7 +2,7 @@
 
 ghost use Rattle.std.specs.Prelude.{◌≡◌, ℕ, suc, ◌+◌, ◌-◌, ◌<◌, ◌≤◌, ◌⊎◌, [], ◌∷◌, IfOk, MatchResult, List, Some, map, length, replicate, slice_get};
 ghost use Rattle.std.specs.List.{range_with_len};
-ghost use Rattle.p3_merkle_core.specs.Geometry.{arity_schedule as schedule_in, cap_layer, heights, layer_len, levels, IsArity, IsLawful};
+ghost use Rattle.p3_merkle_core.specs.Geometry.{arity_schedule as schedule_in, heights, layer_below_root, layer_len, levels, IsArity, IsLawful};
 ghost use Rattle.p3_merkle_core.specs.Gate.{gate_refusal};
 ghost use Rattle.p3_merkle_core.specs.Nodes.{functions_of, layers as layers_over, shape};
 ghost use Rattle.p3_merkle_core.specs.declared.error.MerkleTreeError.TheVariants.{OutOfMemory};
@@ -131,7 +131,7 @@ impl<F: Copy, W: Copy, M: Matrix<F> + Drop, const N: usize, const D: usize> Merk
         cap_height: usize,
     ) -> Result<MerkleCap<F, [W; D]>, MerkleTreeError>
         requires { cap_height < length (layers_of self.now) }
-        ensures { let layer = slice_get (layers_of self.now) (cap_layer (shape (tree_batch self.now)) cap_height) in
+        ensures { let layer = slice_get (layers_of self.now) (layer_below_root (shape (tree_batch self.now)) cap_height) in
             MatchResult result (λ cap. layer ≡ Some (roots_of cap)) (λ e. e ≡ OutOfMemory) }
     {
         let layer = &self.layers[self.num_layers() - 1 - cap_height];
