@@ -1,38 +1,10 @@
-//! Schemes and trees over the fold functions, and the matrices and dimensions that they are tried on.
+//! The matrices that trees are tried on.
 
-ghost use Rattle.std.specs.Prelude.{◌%◌, ◌^◌, ◌≤◌, IsTrue, replicate};
+ghost use Rattle.std.specs.Prelude.{◌%◌, ◌^◌, replicate};
 ghost use Rattle.std.proofs.lemmas.List.{length-replicate};
-ghost use Rattle.p3_merkle_core.specs.Geometry.{is_arity};
 
-use p3_merkle_tree::{MAX_HEIGHT, MerkleCap, MerkleTree, MerkleTreeError, MerkleTreeMmcs};
-use p3_support::fold::{FoldCompress, FoldHash};
-use p3_support::matrix::{Dimensions, Matrix, RowMajorMatrix};
-use std::alloc::Global;
-use std::process::Abort;
-
-/// One more row than a matrix may have.
-pub const TOO_TALL: usize = MAX_HEIGHT + 1;
-
-/// The scheme of the fold functions with digests of one word.
-pub type FoldScheme<const N: usize> = MerkleTreeMmcs<
-    u32,
-    u32,
-    FoldHash<1>,
-    FoldCompress<N, 1>,
-    N,
-    1,
->;
-
-/// A cap of that scheme.
-pub type FoldCap = MerkleCap<u32, [u32; 1]>;
-
-/// The scheme of the fold functions with this cap height.
-pub fn fold_scheme<const N: usize>(cap_height: usize) -> FoldScheme<N>
-    requires arity { IsTrue (is_arity N) }
-    requires few { N ≤ 8 }
-{
-    MerkleTreeMmcs::new(FoldHash::<1>, FoldCompress::<N, 1>, cap_height)
-}
+use p3_support::matrix::{Matrix, RowMajorMatrix};
+use std::alloc::{AllocError, Global};
 
 /// A matrix whose every word is the number of its row, from 0. It takes no memory, whatever its height.
 #[derive(Clone, Copy, Debug)]
@@ -64,7 +36,7 @@ impl Matrix<u32> for Numbers {
 }
 
 /// Matrices of these heights and one column, whose rows are their own numbers.
-pub fn numbered(alloc: Global, heights: &[usize]) -> Result<Vec<Numbers>, MerkleTreeError> {
+pub fn numbered(alloc: Global, heights: &[usize]) -> Result<Vec<Numbers>, AllocError> {
     let mut matrices = Vec::with_capacity(alloc, heights.len())?;
     for rows in heights {
         matrices.push(Numbers {
@@ -75,48 +47,11 @@ pub fn numbered(alloc: Global, heights: &[usize]) -> Result<Vec<Numbers>, Merkle
     Ok(matrices)
 }
 
-/// A tree of two children over such matrices.
-pub type BinaryTree = MerkleTree<u32, u32, Numbers, 2, 1>;
-
-/// The tree of the fold functions over these matrices.
-pub fn binary_tree(alloc: Global, matrices: Vec<Numbers>) -> Result<BinaryTree, MerkleTreeError> {
-    MerkleTree::new::<u32, u32, FoldHash<1>, FoldCompress<2, 1>>(
-        alloc,
-        &FoldHash::<1>,
-        &FoldCompress::<2, 1>,
-        matrices,
-    )
-}
-
 /// A matrix of one column for each list of rows.
-pub fn columns(
-    alloc: Global,
-    lists: &[&[u32]],
-) -> Result<Vec<RowMajorMatrix<u32>>, MerkleTreeError> {
+pub fn columns(alloc: Global, lists: &[&[u32]]) -> Result<Vec<RowMajorMatrix<u32>>, AllocError> {
     let mut matrices = Vec::with_capacity(alloc, lists.len())?;
     for rows in lists {
         matrices.push(RowMajorMatrix::new(Vec::from_slice(alloc, *rows)?, 1))?;
     }
     Ok(matrices)
-}
-
-/// The dimensions of matrices of this width and these heights.
-pub fn dimensions_of(
-    alloc: Global,
-    width: usize,
-    heights: &[usize],
-) -> Result<Vec<Dimensions>, MerkleTreeError> {
-    let mut dimensions = Vec::with_capacity(alloc, heights.len())?;
-    for height in heights {
-        dimensions.push(Dimensions {
-            width,
-            height: *height,
-        })?;
-    }
-    Ok(dimensions)
-}
-
-/// Asserts that these are the same digests.
-pub fn assert_digests(rt: &impl Abort, got: &[[u32; 1]], expected: &[[u32; 1]]) {
-    assert_eq!(rt; got, expected);
 }

@@ -1,8 +1,8 @@
 //! Generic code over the bounds of a scheme, called at packings of one, two and eight lanes and at digests of one and
 //! two words.
 
-use crate::calls::round_trip;
-use crate::fixtures::{FoldCap, columns, fold_scheme, numbered};
+use crate::calls::accepted_cap;
+use crate::fixtures::{columns, numbered};
 use p3_merkle_tree::{MerkleCap, MerkleTreeError, MerkleTreeMmcs};
 use p3_support::batched::Batched3;
 use p3_support::fold::{FoldCompress, FoldHash};
@@ -10,28 +10,35 @@ use p3_support::lanes::{Lanes, U32x8};
 use std::alloc::Global;
 use std::test::Fail;
 
+/// A cap of digests of one word.
+type WordCap = MerkleCap<u32, [u32; 1]>;
+
 /// The heights of the matrices that are committed to in different ways.
 static HEIGHTS: [usize; 4] = [17, 9, 5, 3];
 
 /// The cap of the fold functions at arity 4 in one lane, each message and each group on its own, where an opening is
 /// accepted.
-fn plain_cap(alloc: Global, cap_height: usize) -> Result<FoldCap, MerkleTreeError> {
-    let scheme = fold_scheme::<4>(cap_height);
-    Ok(round_trip(alloc, &scheme, numbered(alloc, &HEIGHTS)?, 2)?.cap)
+fn plain_cap(alloc: Global, cap_height: usize) -> Result<WordCap, MerkleTreeError> {
+    let scheme = MerkleTreeMmcs::<u32, u32, FoldHash<1>, FoldCompress<4, 1>, 4, 1>::new(
+        FoldHash,
+        FoldCompress,
+        cap_height,
+    );
+    accepted_cap(alloc, &scheme, numbered(alloc, &HEIGHTS)?, 2)
 }
 
 /// That cap at arity 4, in eight lanes.
-fn cap_by_eight(alloc: Global, cap_height: usize) -> Result<FoldCap, MerkleTreeError> {
+fn cap_by_eight(alloc: Global, cap_height: usize) -> Result<WordCap, MerkleTreeError> {
     let scheme = MerkleTreeMmcs::<U32x8, U32x8, FoldHash<8>, FoldCompress<4, 8>, 4, 1>::new(
         FoldHash,
         FoldCompress,
         cap_height,
     );
-    Ok(round_trip(alloc, &scheme, numbered(alloc, &HEIGHTS)?, 16)?.cap)
+    accepted_cap(alloc, &scheme, numbered(alloc, &HEIGHTS)?, 16)
 }
 
 /// That cap at arity 4, by functions that take three at a time.
-fn cap_by_three(alloc: Global, cap_height: usize) -> Result<FoldCap, MerkleTreeError> {
+fn cap_by_three(alloc: Global, cap_height: usize) -> Result<WordCap, MerkleTreeError> {
     let scheme = MerkleTreeMmcs::<
         u32,
         u32,
@@ -40,7 +47,7 @@ fn cap_by_three(alloc: Global, cap_height: usize) -> Result<FoldCap, MerkleTreeE
         4,
         1,
     >::new(Batched3(FoldHash), Batched3(FoldCompress), cap_height);
-    Ok(round_trip(alloc, &scheme, numbered(alloc, &HEIGHTS)?, 5)?.cap)
+    accepted_cap(alloc, &scheme, numbered(alloc, &HEIGHTS)?, 5)
 }
 
 /// A cap of digests of two words.
@@ -55,13 +62,13 @@ type LanesScheme = MerkleTreeMmcs<Lanes<u32>, Lanes<u32>, FoldHash<8>, FoldCompr
 /// The cap at arity 2 and digests of two words, in one lane.
 fn pair_cap(alloc: Global, cap_height: usize) -> Result<PairCap, MerkleTreeError> {
     let scheme = PairScheme::new(FoldHash, FoldCompress, cap_height);
-    Ok(round_trip(alloc, &scheme, numbered(alloc, &HEIGHTS)?, 2)?.cap)
+    accepted_cap(alloc, &scheme, numbered(alloc, &HEIGHTS)?, 2)
 }
 
 /// That cap in two lanes.
 fn pair_cap_by_two(alloc: Global, cap_height: usize) -> Result<PairCap, MerkleTreeError> {
     let scheme = LanesScheme::new(FoldHash, FoldCompress, cap_height);
-    Ok(round_trip(alloc, &scheme, numbered(alloc, &HEIGHTS)?, 7)?.cap)
+    accepted_cap(alloc, &scheme, numbered(alloc, &HEIGHTS)?, 7)
 }
 
 #[test]
@@ -86,7 +93,7 @@ fn lanes_commit_alike_to_digests_of_two_words(rt: HostRuntime) -> Result<(), Fai
 
 /// The cap of the rows 1 and 2, where the opening of row 1 is accepted.
 fn cap_of_two_rows(alloc: Global, scheme: &PairScheme) -> Result<PairCap, MerkleTreeError> {
-    Ok(round_trip(alloc, scheme, columns(alloc, &[&[1, 2]])?, 1)?.cap)
+    accepted_cap(alloc, scheme, columns(alloc, &[&[1, 2]])?, 1)
 }
 
 #[test]

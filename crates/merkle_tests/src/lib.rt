@@ -1,13 +1,11 @@
-//! Tests of the trees, the scheme and the geometry together: values that were worked out by hand, every refusal, the
-//! texts of the errors, and generic code called at concrete types.
+//! Tests of trees and schemes that no line of a file of cases can say: generic code called at other packings and at
+//! longer digests, SHA-256, trees over exclusive or, random rows, clones, and the texts of the errors.
 #![tactic(auto)]
 
 #[cfg(test)]
 mod calls;
 #[cfg(test)]
-mod collisions;
-#[cfg(test)]
-mod commitments;
+mod clones;
 #[cfg(test)]
 mod exclusive_or;
 #[cfg(test)]
@@ -15,16 +13,6 @@ mod fixtures;
 #[cfg(test)]
 mod generic;
 #[cfg(test)]
-mod openings;
-#[cfg(test)]
-mod paths;
-#[cfg(test)]
-mod refusals;
-#[cfg(test)]
 mod sha256;
 #[cfg(test)]
-mod shapes;
-#[cfg(test)]
 mod texts;
-#[cfg(test)]
-mod verdicts;
