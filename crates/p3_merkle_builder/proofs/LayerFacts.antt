@@ -8,8 +8,8 @@ use Rattle.std.proofs.Common.{length-drop}
 use Rattle.std.proofs.Math.Nat.{mul-le-mul_left, mul-suc}
 use Rattle.p3_support.specs.Lists.{rows_of_height}
 use Rattle.std.proofs.lemmas.Simd.{map-map}
-use Rattle.p3_merkle_core.specs.Geometry.{heights, exponent, tallest, layer_exponent, step, raw_len, layer_len, expected_height, IsLawful}
-use Rattle.p3_merkle_core.specs.Nodes.{Functions, Batch, Matrix, shape, at_layer, joined_rows, compress, injected, node, children, layer}
+use Rattle.p3_merkle_core.specs.Geometry.{heights, exponent, tallest, layer_exponent, step, raw_len, layer_len, expected_height, has_rows, IsLawful}
+use Rattle.p3_merkle_core.specs.Nodes.{Functions, Batch, Matrix, shape, at_layer, joined_rows, row_digest, with_rows, compress, node, children, layer}
 use Rattle.p3_merkle_core.proofs.Completeness.{node_next}
 use Rattle.p3_merkle_core.proofs.StepFacts.{layer_start}
 use Rattle.p3_merkle_builder.specs.Views.{batch_of, matrix_of}
@@ -63,17 +63,6 @@ module _ {T M : Type 0} (height width : M → ℕ) (row : M → ℕ → List T) 
       let p = or_parts (eqb (exponent (height m)) x) (list_any (λ y. eqb (exponent y) x) (map height ms)) e in
       rw p.0 (none_same ms p.1)
 
-  -- some row is joined, where a matrix has the exponent
-  some_same : (ms : List M) → list_any (λ y. eqb (exponent y) x) (map height ms) ≡ true →
-      (first : Matrix T) × (rest : List (Matrix T)) × (filter (λ m. eqb (exponent m.height) x) (map (matrix_of height width row) ms) ≡ first ∷ rest)
-  some_same [] e = absurd (true≢false (sym e))
-  some_same (m ∷ ms) e =
-      let others = filter (λ m. eqb (exponent m.height) x) (map (matrix_of height width row) ms) in
-      elim (cases_Bool (eqb (exponent (height m)) x)) [
-        | inl t ↦ (matrix_of height width row m, others, rw t refl)
-        | inr f ↦ let s = some_same ms (rw f at e) in (s.0, s.1, rw f s.2)
-      ]
-
   -- all of these matrices have the row, or none
   tall_same : (j : ℕ) (ms : List M) → All (λ m. exponent (height m) ≡ x → height m ≡ h) ms → list_any (λ y. eqb (exponent y) x) (map height ms) ≡ true →
       list_all (λ m. nat_lt j m.height) (filter (λ m. eqb (exponent m.height) x) (map (matrix_of height width row) ms)) ≡ nat_lt j h
@@ -103,18 +92,14 @@ module _ {T M : Type 0} (height width : M → ℕ) (row : M → ℕ → List T) 
         | inr other ↦ let u = ne_eqb (exponent (height m)) x other in exponent_is_there ms (λ k d b. w (suc k) d (omega arith)) (rw u at e)
       ]
 
-  -- so what the rows of one height make of a digest is what the matrices of the exponent do
-  injected_same : {W : Type 0} (f : Functions T W) (n j : ℕ) (c : List W) (ms : List M) → All (λ m. exponent (height m) ≡ x → height m ≡ h) ms →
-      cond (list_any (λ y. eqb (exponent y) x) (map height ms)) (compress f n (c ∷ cond (nat_lt j h) (f.hash (rows_of_height height row h j ms)) f.default_digest ∷ [])) c
-      ≡ injected f n (filter (λ m. eqb (exponent m.height) x) (map (matrix_of height width row) ms)) j c
-  injected_same f n j c ms w =
+  -- so where a node has rows, the digest of those of one height is that of the matrices of the exponent
+  with_rows_same : {W : Type 0} (f : Functions T W) (n j : ℕ) (c : List W) (ms : List M) → All (λ m. exponent (height m) ≡ x → height m ≡ h) ms →
+      with_rows f n (list_any (λ y. eqb (exponent y) x) (map height ms)) c (cond (nat_lt j h) (f.hash (rows_of_height height row h j ms)) f.default_digest)
+      ≡ with_rows f n (list_any (λ y. eqb (exponent y) x) (map height ms)) c (row_digest f (filter (λ m. eqb (exponent m.height) x) (map (matrix_of height width row) ms)) j)
+  with_rows_same f n j c ms w =
       elim (cases_Bool (list_any (λ y. eqb (exponent y) x) (map height ms))) [
-        | inl e ↦
-            let some = some_same ms e in
-            let tall = rw some.2 at (tall_same j ms w e) in
-            let rows = rw some.2 at (rows_same j ms (exponent_is_there ms w e) w) in
-            rw (e, some.2, tall, rows) refl
-        | inr e ↦ rw (e, none_same ms e) refl
+        | inl e ↦ rw (e, tall_same j ms w e, rows_same j ms (exponent_is_there ms w e) w) refl
+        | inr e ↦ rw e refl
       ]
 
 -- the rows of the matrices of a height, picked from all and read through references, are those of all
@@ -145,7 +130,7 @@ agree height top x (m ∷ ms) on (suc k) d b e = agree height top x ms (λ i z l
 node_past : {T W : Type 0} (f : Functions T W) (b : Batch T) (l j : ℕ) → raw_len (shape b) (suc l) ≤ j → node f b (suc l) j ≡ f.default_digest
 unfolding node
 node_past f b l j h =
-    cond-false (nat_lt j (raw_len (shape b) (suc l))) (injected f b.arity (at_layer b (suc l)) j (compress f b.arity (children f b l j))) f.default_digest (le-ltb j (raw_len (shape b) (suc l)) h)
+    cond-false (nat_lt j (raw_len (shape b) (suc l))) (with_rows f b.arity (has_rows (shape b) (suc l)) (compress f b.arity (children f b l j)) (row_digest f (at_layer b (suc l)) j)) f.default_digest (le-ltb j (raw_len (shape b) (suc l)) h)
 
 -- a slot of the first layer
 node_first : {T W : Type 0} (f : Functions T W) (b : Batch T) (j : ℕ) → node f b 0 j ≡ cond (nat_lt j (tallest (heights (shape b)))) (f.hash (joined_rows (at_layer b 0) j)) f.default_digest
@@ -177,10 +162,12 @@ module _ {T W M : Type 0} (f : Functions T W) (n : ℕ) (height width_of : M →
       let more : v.step * suc j ≤ v.step * v.raw_len = mul-le-mul_left v.step h in
       let inside : step s l * j + step s l ≤ layer_len s l = rw (← k.step_is) (omega (arith, more, k.fits, mul-suc v.step j)) in
       let kids : take v.step (drop (v.step * j) below) ≡ group = rw (e, k.step_is) (part_made (node f whole l) (layer_len s l) (step s l * j) (step s l) inside) in
-      let same = injected_same height width_of row x (height_at top x) f n j c ms (agree height top x ms (on_ladder w)) in
+      let same = with_rows_same height width_of row x (height_at top x) f n j c ms (agree height top x ms (on_ladder w)) in
       rw (kids, k.rows_are, k.height_is)
-      (ap (λ (hs : List ℕ). cond (list_any (λ y. eqb (exponent y) x) hs) (compress f n (c ∷ cond (nat_lt j (height_at top x)) (f.hash (rows_of_height height row (height_at top x) j ms)) f.default_digest ∷ [])) c) heights_are
-      ∙ same ∙ sym (node_next f whole l j (omega (arith, k.raw_is))))
+      (ap (λ (hs : List ℕ). with_rows f n (list_any (λ y. eqb (exponent y) x) hs) c (cond (nat_lt j (height_at top x)) (f.hash (rows_of_height height row (height_at top x) j ms)) f.default_digest)) heights_are
+      ∙ same
+      ∙ ap (λ (hs : List ℕ). with_rows f n (list_any (λ y. eqb (exponent y) x) hs) c (row_digest f (at_layer whole (suc l)) j)) (sym heights_are)
+      ∙ sym (node_next f whole l j (omega (arith, k.raw_is))))
 
   -- the layer above a layer of the definition is the definition's
   pub layer_above : (v : Level) (below : List (List W)) → IsLevel (shape whole) v → IsLawful (heights (shape whole)) → below ≡ layer f whole v.below →

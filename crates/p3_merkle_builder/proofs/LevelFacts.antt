@@ -4,7 +4,7 @@ use Rattle.std.specs.Int.{next_multiple_of}
 use Rattle.std.specs.List.{list_any}
 use Rattle.std.proofs.lemmas.Bool.{cond_both}
 use Rattle.std.proofs.Math.Pow.{pow_mono}
-use Rattle.p3_merkle_core.specs.Geometry.{Shape, heights, exponent, tallest, layer_exponent, is_bridge, step, levels, raw_len, grouped, padded_len, max_height, IsArity, IsLawful}
+use Rattle.p3_merkle_core.specs.Geometry.{Shape, heights, exponent, tallest, layer_exponent, is_bridge, step, levels, raw_len, grouped_len, padded_len, max_height, IsArity, IsLawful}
 use Rattle.p3_merkle_core.proofs.GateFacts.{tallest_fits, none_large_from_lawful}
 use Rattle.p3_merkle_core.proofs.LeastFacts.{exponent_le}
 use Rattle.p3_merkle_core.proofs.LadderFacts.{step_cases}
@@ -46,14 +46,14 @@ small s w lawful l h =
 pub small_at : {s : Shape} {l x r : ℕ} → IsBelowTop s l x r → IsSmall s l
 small_at {s} {l} w = let h = w.in_tree in small s w.arity w.lawful l (omega arith)
 
--- the grouped slots, from what is known of the layer below
-grouped_at : {s : Shape} {l x r : ℕ} (g : ℕ) → IsBelowTop s l x r → g ≡ cond (is_bridge s x && nat_lt r s.arity) (2 ^ x) (padded_len r s.arity) → g ≡ grouped s l
+-- the grouped_len slots, from what is known of the layer below
+grouped_at : {s : Shape} {l x r : ℕ} (g : ℕ) → IsBelowTop s l x r → g ≡ cond (is_bridge s x && nat_lt r s.arity) (2 ^ x) (padded_len r s.arity) → g ≡ grouped_len s l
 grouped_at {s} {l} {x} {r} g w e =
     e ∙ ap (λ y. cond (is_bridge s y && nat_lt r s.arity) (2 ^ y) (padded_len r s.arity)) w.at_x
     ∙ ap (λ q. cond (is_bridge s (layer_exponent s l) && nat_lt q s.arity) (2 ^ layer_exponent s l) (padded_len q s.arity)) w.at_raw
 
 -- a layer's nodes are the groups below
-raw_next : (s : Shape) (l : ℕ) → raw_len s (suc l) ≡ grouped s l / step s l
+raw_next : (s : Shape) (l : ℕ) → raw_len s (suc l) ≡ grouped_len s l / step s l
 unfolding raw_len
 raw_next s l = refl
 

@@ -5,11 +5,12 @@ use Rattle.std.specs.Prelude.{slice_index_or}
 use Rattle.std.proofs.lemmas.List.{get_or-map, get_or_default}
 use Rattle.std.proofs.lemmas.List.FromFn.{length-map-range_with_len}
 use Rattle.std.proofs.Math.Nat.{mul-le-mul_left}
-use Rattle.p3_merkle_core.specs.Geometry.{Shape, arity_schedule, joined, step, ancestor, levels, tallest, heights, raw_len, layer_len, IsArity, IsLawful}
+use Rattle.p3_merkle_core.specs.Geometry.{Shape, arity_schedule, step, ancestor, levels, tallest, heights, raw_len, layer_len, IsArity, IsLawful}
 use Rattle.p3_merkle_core.proofs.RawFacts.{anc_below, children_fit}
 use Rattle.p3_merkle_core.proofs.StepFacts.{anc_next, step_above_1, step_read}
 use Rattle.p3_merkle_builder.specs.Own.{own_group}
 use Rattle.p3_merkle_builder.proofs.TreeFacts.{layer_long}
+use Rattle.p3_merkle_core.proofs.ListFacts.{joined, joined_more}
 
 -- the steps of a tree are as many as its levels
 pub steps_count : (s : Shape) (taken : List ℕ) → taken ≡ arity_schedule s → length taken ≡ levels s
@@ -57,4 +58,4 @@ pub group_next : {V X : Type 0} (items : V → List X) (layers : List V) (s : Sh
 group_next items layers s i l n node layer old new w h is is_old is_new =
     let count : node - node % n + n - (node - node % n) ≡ n = omega arith in
     let read : slice_index_or (map items layers) l [] ≡ items layer = get_or-map items layers l layer [] h ∙ ap items (sym is) in
-    (is_new ∙ rw (is_old, count, add-one, read, w.starts, w.is_step, w.at_node) refl, rw (add-one, w.is_step, w.at_node) (sym (anc_next s l i)))
+    (is_new ∙ rw (is_old, count, add-one, joined_more (own_group s (map items layers) i) l, read, w.starts, w.is_step, w.at_node) refl, rw (add-one, w.is_step, w.at_node) (sym (anc_next s l i)))

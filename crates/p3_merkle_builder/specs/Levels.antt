@@ -3,9 +3,8 @@ use Rattle.std.specs.Prelude.{◌≡◌, ℕ, suc, ◌+◌, ◌-◌, ◌*◌, �
 use Rattle.std.specs.List.{range_with_len}
 use Rattle.p3_support.specs.declared.matrix.Dimensions.{Dimensions}
 use Rattle.p3_support.specs.Lists.{rows_of_height}
-use Rattle.p3_merkle_core.specs.Geometry.{Shape, exponent, heights, tallest, layer_exponent, step, raw_len, layer_len, levels, IsArity, IsLawful}
+use Rattle.p3_merkle_core.specs.Geometry.{Shape, exponent, heights, tallest, layer_exponent, step, raw_len, layer_len, levels, IsArity, IsLawful, has_rows}
 use Rattle.p3_merkle_core.specs.Nodes.{Functions, Batch, shape, compress, dimensions_of}
-use Rattle.p3_merkle_core.specs.Openings.{has_rows}
 use Rattle.p3_merkle_builder.specs.declared.levels.Level.{Level}
 
 -- the height of the matrices of exponent x, where m is the greatest height

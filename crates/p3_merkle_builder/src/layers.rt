@@ -13,7 +13,7 @@ ghost use Rattle.p3_merkle_builder.specs.Levels.{built, CanBuild, CanRaise, IsLe
 ghost use Rattle.p3_merkle_builder.specs.Views.{batch_of};
 
 use crate::levels::{Level, level_above};
-use p3_merkle_core::geometry::{exponent_of, padded_len_of, tallest_of};
+use p3_merkle_core::geometry::{exponent_of, padded_len, tallest_of};
 use p3_merkle_core::group::group_with;
 use p3_support::compress::PseudoCompressionFunction;
 use p3_support::hasher::CryptographicHasher;
@@ -221,7 +221,7 @@ impl<
             (map (λ nodes. nodes.items) stack.layers.items) stack.arity_schedule.items) }
     {
         let height = tallest_of(dimensions);
-        let layer = self.first_layer(alloc, height, padded_len_of(height, N))?;
+        let layer = self.first_layer(alloc, height, padded_len(height, N))?;
         let mut layers = Vec::new(alloc);
         layers.push(layer)?;
         Ok(Stack {

@@ -7,7 +7,7 @@ ghost use Rattle.p3_merkle_builder.specs.Levels.{height_at, IsBelowTop, IsLevel}
 ghost use Rattle.p3_merkle_builder.specs.Views.{matrix_of, max_height_in};
 
 use p3_merkle_core::geometry::{
-    exponent_of, has_exponent, is_bridge_step, padded_len_of, select_arity_step, tallest_of,
+    exponent_of, has_exponent, is_bridge_step, padded_len, select_arity_step, tallest_of,
 };
 use p3_support::matrix::{Dimensions, Matrix};
 use std::alloc::{AllocError, Global};
@@ -77,7 +77,7 @@ fn grouped_slots(dimensions: &[Dimensions], arity: usize, x: usize, len: usize) 
     if is_bridge_step(dimensions, arity, x) && len < arity {
         1 << x
     } else {
-        padded_len_of(len, arity)
+        padded_len(len, arity)
     }
 }
 
@@ -100,7 +100,7 @@ pub fn level_above(
         step,
         exponent,
         raw_len,
-        layer_len: padded_len_of(raw_len, arity),
+        layer_len: padded_len(raw_len, arity),
         height: height_at_of(tallest_of(dimensions), exponent),
         has_rows: has_exponent(dimensions, exponent),
     }

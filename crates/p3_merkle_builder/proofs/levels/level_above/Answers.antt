@@ -16,8 +16,8 @@ grouped_slots-requires-clause-fits c =
     let two = c.requires.arity.above_1 in
     omega (arith, padded_le c.args.len c.args.arity (omega arith), k.raw_small, c.requires.at_raw)
 
-pub padded_len_of-requires-clause-fits : goal.padded_len_of-requires-clause-fits
-padded_len_of-requires-clause-fits c =
+pub padded_len-requires-clause-fits : goal.padded_len-requires-clause-fits
+padded_len-requires-clause-fits c =
     let least = c.requires.arity.fits in
     let two = c.requires.arity.above_1 in
     let k = next_small c.select_arity_step-step.result.0 c.grouped_slots.result c.requires c.select_arity_step-step.ensures.step c.grouped_slots.ensures in
@@ -28,6 +28,6 @@ height_at_of-requires c = omega (arith, low (shape_of c.args.arity c.args.dimens
 
 pub returns-clause-level : goal.returns-clause-level
 returns-clause-level c =
-    level_is c.select_arity_step-step.result.0 c.select_arity_step-step.result.1 c.grouped_slots.result c.padded_len_of.result c.height_at_of.result c.has_exponent.result
-    c.requires c.select_arity_step-step.ensures.step c.select_arity_step-step.ensures.next c.grouped_slots.ensures c.padded_len_of.ensures
+    level_is c.select_arity_step-step.result.0 c.select_arity_step-step.result.1 c.grouped_slots.result c.padded_len.result c.height_at_of.result c.has_exponent.result
+    c.requires c.select_arity_step-step.ensures.step c.select_arity_step-step.ensures.next c.grouped_slots.ensures c.padded_len.ensures
     (c.height_at_of.ensures ∙ ap (λ m. height_at m c.select_arity_step-step.result.1) c.tallest_of.ensures) c.has_exponent.ensures
