@@ -13,7 +13,7 @@ use Rattle.p3_merkle_core.specs.Nodes.{Functions, Batch, Matrix, shape, at_layer
 use Rattle.p3_merkle_core.proofs.Completeness.{node_next}
 use Rattle.p3_merkle_core.proofs.StepFacts.{layer_start}
 use Rattle.p3_merkle_builder.specs.Views.{batch_of, matrix_of}
-use Rattle.p3_merkle_builder.specs.Levels.{IsLevel, height_at, built}
+use Rattle.p3_merkle_builder.specs.Levels.{IsLevel, height_at, node_above}
 use Rattle.p3_merkle_builder.specs.declared.levels.Level.{Level}
 
 -- two functions that agree below n make the same list
@@ -151,7 +151,7 @@ module _ {T W M : Type 0} (f : Functions T W) (n : ℕ) (height width_of : M →
 
   -- a node is built as it is defined
   built_is : (v : Level) (below : List (List W)) (j : ℕ) → IsLevel (shape whole) v → IsLawful (heights (shape whole)) → below ≡ layer f whole v.below → j < v.raw_len →
-      built f n height row ms v.has_rows v.height j (take v.step (drop (v.step * j) below)) ≡ node f whole (suc v.below) j
+      node_above f n height row ms v.has_rows v.height j (take v.step (drop (v.step * j) below)) ≡ node f whole (suc v.below) j
   built_is v below j k w e h =
       let s = shape whole in
       let l = v.below in
@@ -170,14 +170,14 @@ module _ {T W M : Type 0} (f : Functions T W) (n : ℕ) (height width_of : M →
       ∙ sym (node_next f whole l j (omega (arith, k.raw_is))))
 
   -- the layer above a layer of the definition is the definition's
-  pub layer_above : (v : Level) (below : List (List W)) → IsLevel (shape whole) v → IsLawful (heights (shape whole)) → below ≡ layer f whole v.below →
-      map (λ j. cond (nat_lt j v.raw_len) (built f n height row ms v.has_rows v.height j (take v.step (drop (v.step * j) below))) f.default_digest) (range_with_len 0 v.layer_len) ≡ layer f whole (suc v.below)
-  layer_above v below k w e =
+  pub layer_next : (v : Level) (below : List (List W)) → IsLevel (shape whole) v → IsLawful (heights (shape whole)) → below ≡ layer f whole v.below →
+      map (λ j. cond (nat_lt j v.raw_len) (node_above f n height row ms v.has_rows v.height j (take v.step (drop (v.step * j) below))) f.default_digest) (range_with_len 0 v.layer_len) ≡ layer f whole (suc v.below)
+  layer_next v below k w e =
       rw (← k.layer_len_is)
-      (same_made (λ j. cond (nat_lt j v.raw_len) (built f n height row ms v.has_rows v.height j (take v.step (drop (v.step * j) below))) f.default_digest) (node f whole (suc v.below)) v.layer_len
+      (same_made (λ j. cond (nat_lt j v.raw_len) (node_above f n height row ms v.has_rows v.height j (take v.step (drop (v.step * j) below))) f.default_digest) (node f whole (suc v.below)) v.layer_len
       (λ j b. elim (cases_lt j v.raw_len) [
-        | inl lt ↦ cond-true (nat_lt j v.raw_len) (built f n height row ms v.has_rows v.height j (take v.step (drop (v.step * j) below))) f.default_digest (lt-ltb j v.raw_len lt) ∙ built_is v below j k w e lt
-        | inr ge ↦ cond-false (nat_lt j v.raw_len) (built f n height row ms v.has_rows v.height j (take v.step (drop (v.step * j) below))) f.default_digest (le-ltb j v.raw_len ge) ∙ sym (node_past f whole v.below j (omega (arith, k.raw_is)))
+        | inl lt ↦ cond-true (nat_lt j v.raw_len) (node_above f n height row ms v.has_rows v.height j (take v.step (drop (v.step * j) below))) f.default_digest (lt-ltb j v.raw_len lt) ∙ built_is v below j k w e lt
+        | inr ge ↦ cond-false (nat_lt j v.raw_len) (node_above f n height row ms v.has_rows v.height j (take v.step (drop (v.step * j) below))) f.default_digest (le-ltb j v.raw_len ge) ∙ sym (node_past f whole v.below j (omega (arith, k.raw_is)))
       ]))
 
   -- and so is the first layer

@@ -31,10 +31,12 @@ pub record IsLevel (s : Shape) (v : Level) : Type 0 where
   pub rows_are : v.has_rows ≡ has_rows s (suc v.below)
   pub fits : v.step * v.raw_len ≤ layer_len s v.below
 
--- a node over some children, compressed once more with the rows of the matrices of a height, if there are any
-abbrev pub built : {T W M : Type 0} → Functions T W → ℕ → (M → ℕ) → (M → ℕ → List T) → List M → Bool → ℕ → ℕ → List (List W) → List W
-built f n height row ms has h j children =
-    if has then compress f n (compress f n children ∷ (if nat_lt j h then f.hash (rows_of_height height row h j ms) else f.default_digest) ∷ []) else compress f n children
+-- a node over some children, compressed once more with the rows j of the matrices of the height h, if it has rows
+abbrev pub node_above : {T W M : Type 0} → Functions T W → ℕ → (M → ℕ) → (M → ℕ → List T) → List M → Bool → ℕ → ℕ → List (List W) → List W
+node_above f n height row ms has h j children =
+    let c = compress f n children in
+    let r = if nat_lt j h then f.hash (rows_of_height height row h j ms) else f.default_digest in
+    if has then compress f n (c ∷ r ∷ []) else c
 
 -- a batch that is not refused, and the dimensions of its matrices
 pub record CanBuild {T : Type 0} (b : Batch T) (dimensions : List Dimensions) : Type 0 where
@@ -50,8 +52,8 @@ pub record CanRaise (n : ℕ) (v : Level) (slots : ℕ) : Type 0 where
 
 -- slot j of the layer above a layer
 abbrev pub slot_above : {T W M : Type 0} → Functions T W → ℕ → (M → ℕ) → (M → ℕ → List T) → List M → Level → List (List W) → ℕ → List W
-slot_above f n height row ms v below j = if nat_lt j v.raw_len then built f n height row ms v.has_rows v.height j (take v.step (drop (v.step * j) below)) else f.default_digest
+slot_above f n height row ms v below j = if nat_lt j v.raw_len then node_above f n height row ms v.has_rows v.height j (take v.step (drop (v.step * j) below)) else f.default_digest
 
 -- all slots of that layer
-abbrev pub raised : {T W M : Type 0} → Functions T W → ℕ → (M → ℕ) → (M → ℕ → List T) → List M → Level → List (List W) → List (List W)
-raised f n height row ms v below = map (slot_above f n height row ms v below) (range_with_len 0 v.layer_len)
+abbrev pub layer_above : {T W M : Type 0} → Functions T W → ℕ → (M → ℕ) → (M → ℕ → List T) → List M → Level → List (List W) → List (List W)
+layer_above f n height row ms v below = map (slot_above f n height row ms v below) (range_with_len 0 v.layer_len)

@@ -9,7 +9,7 @@ ghost use Rattle.p3_support.specs.Lists.{rows_of_height};
 ghost use Rattle.p3_merkle_core.specs.Geometry.{arity_schedule as schedule_of};
 ghost use Rattle.p3_merkle_core.specs.Nodes.{functions_of, layer, layers as layers_over, shape};
 ghost use Rattle.p3_merkle_builder.specs.Built.{IsBuilt};
-ghost use Rattle.p3_merkle_builder.specs.Levels.{built, CanBuild, CanRaise, IsLevel, raised, slot_above};
+ghost use Rattle.p3_merkle_builder.specs.Levels.{layer_above, node_above, slot_above, CanBuild, CanRaise, IsLevel};
 ghost use Rattle.p3_merkle_builder.specs.Views.{batch_of};
 
 use crate::levels::{Level, level_above};
@@ -123,7 +123,7 @@ impl<
         requires fits { level.now.step * level.now.raw_len ≤ length below.now }
         ensures { let f = functions_of (H.hash self.now.hash.now) (C.compression self.now.compress.now)
             (replicate D PW.default_value) in
-            result ≡ built f N M.height_of M.row_of self.now.matrices.now level.now.has_rows level.now.height j
+            result ≡ node_above f N M.height_of M.row_of self.now.matrices.now level.now.has_rows level.now.height j
             (take level.now.step (drop (level.now.step * j) below.now)) }
     {
         let start = level.step * j;
@@ -196,7 +196,7 @@ impl<
         requires { CanRaise N level.now (length below.now) }
         ensures { let f = functions_of (H.hash self.now.hash.now) (C.compression self.now.compress.now)
             (replicate D PW.default_value) in
-            IfOk result (λ v. v.items ≡ raised f N M.height_of M.row_of self.now.matrices.now level.now below.now) }
+            IfOk result (λ v. v.items ≡ layer_above f N M.height_of M.row_of self.now.matrices.now level.now below.now) }
     {
         let picked = of_height(alloc, self.matrices, level.height)?;
         let builder = self.over(&picked);

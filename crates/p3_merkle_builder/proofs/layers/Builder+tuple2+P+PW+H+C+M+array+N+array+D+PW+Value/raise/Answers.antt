@@ -1,7 +1,7 @@
 use Rattle.std.proofs.Common.{arith, ◌≡◌, ◌∙◌, sym, ap, length, replicate}
 use Rattle.p3_merkle_core.specs.Nodes.{functions_of, layer}
 use Rattle.p3_merkle_builder.specs.Views.{batch_of}
-use Rattle.p3_merkle_builder.proofs.LayerFacts.{layer_above}
+use Rattle.p3_merkle_builder.proofs.LayerFacts.{layer_next}
 use Rattle.p3_merkle_builder.proofs.BuildFacts.{below_top, layer_at, layers_long, can_raise, level_there}
 use Rattle.p3_merkle_builder.proofs.layers.Builder+tuple2+P+PW+H+C+M+array+N+array+D+PW+Value.raise.Goals as goal
 
@@ -34,4 +34,4 @@ returns-clause-nodes g c =
     let long : c.len-below.result ≡ length c.args.stack.now.arity_schedule.items = c.len-below.ensures ∙ c.args.stack.now.arity_schedule.ok.0 in
     let kids : c.deref.result.now ≡ layer f b c.level_above-level.result.below =
     c.deref.ensures.value ∙ layer_at (λ nodes. nodes.items) c.args.stack.now.layers.items c.index.result.now c.requires.built (rw long at c.index.ensures) ∙ ap (layer f b) (sym long ∙ sym c.level_above-level.ensures.below) in
-    c.in_ok-layer.ensures ∙ layer_above f g.row.N g.M.Matrix.height_of g.M.Matrix.width_of g.M.Matrix.row_of c.args.self.now.matrices.now c.level_above-level.result c.deref.result.now (level_there c.requires.build c.level_above-level.result c.level_above-level.ensures.level) c.requires.build.lawful kids
+    c.in_ok-layer.ensures ∙ layer_next f g.row.N g.M.Matrix.height_of g.M.Matrix.width_of g.M.Matrix.row_of c.args.self.now.matrices.now c.level_above-level.result c.deref.result.now (level_there c.requires.build c.level_above-level.result c.level_above-level.ensures.level) c.requires.build.lawful kids
