@@ -4,7 +4,7 @@ use Rattle.std.specs.List.{range_with_len}
 use Rattle.p3_support.specs.declared.matrix.Dimensions.{Dimensions}
 use Rattle.p3_support.specs.Lists.{rows_of_height}
 use Rattle.p3_merkle_core.specs.Geometry.{Shape, exponent, heights, tallest, layer_exponent, step, raw_len, layer_len, levels, IsArity, IsLawful, has_rows}
-use Rattle.p3_merkle_core.specs.Nodes.{Functions, Batch, shape, compress, dimensions_of}
+use Rattle.p3_merkle_core.specs.Nodes.{Functions, Batch, shape, compress, dimensions_of, with_rows}
 use Rattle.p3_merkle_builder.specs.declared.levels.Level.{Level}
 
 -- the height of the matrices of exponent x, where m is the greatest height
@@ -34,9 +34,7 @@ pub record IsLevel (s : Shape) (v : Level) : Type 0 where
 -- a node over some children, compressed once more with the rows j of the matrices of the height h, if it has rows
 abbrev pub node_above : {T W M : Type 0} → Functions T W → ℕ → (M → ℕ) → (M → ℕ → List T) → List M → Bool → ℕ → ℕ → List (List W) → List W
 node_above f n height row ms has h j children =
-    let c = compress f n children in
-    let r = if nat_lt j h then f.hash (rows_of_height height row h j ms) else f.default_digest in
-    if has then compress f n (c ∷ r ∷ []) else c
+    with_rows f n has (compress f n children) (if nat_lt j h then f.hash (rows_of_height height row h j ms) else f.default_digest)
 
 -- a batch that is not refused, and the dimensions of its matrices
 pub record CanBuild {T : Type 0} (b : Batch T) (dimensions : List Dimensions) : Type 0 where

@@ -3,6 +3,7 @@
 ghost use Rattle.std.specs.Prelude.{◌≡◌, ◌<◌, ◌≤◌, ◌↔◌, IfErr, IfOk, IsOk, IsTrue};
 ghost use Rattle.p3_merkle_core.specs.Geometry.{is_arity, IsArity};
 
+use p3_merkle_builder::opener::{num_levels, rows_of_index, siblings_of_index};
 use p3_merkle_builder::tree::MerkleTree;
 use p3_merkle_checker::level::Checker;
 use p3_merkle_checker::openings::IndexedOpening;
@@ -204,9 +205,9 @@ impl<
             IfOk result (λ o. IsAccepted f (shape b) t (layer f b t) (opening_made index o)) }
         ensures memory { IfErr result (λ e. e ≡ OutOfMemory) }
     {
-        let proof_levels = tree.num_levels().saturating_sub(self.cap_height);
-        let opened_values = tree.rows_at(alloc, index)?;
-        let opening_proof = tree.siblings(alloc, index, proof_levels)?;
+        let proof_levels = num_levels(tree).saturating_sub(self.cap_height);
+        let opened_values = rows_of_index(alloc, tree, index)?;
+        let opening_proof = siblings_of_index(alloc, tree, index, proof_levels)?;
         Ok(BatchOpening {
             opened_values,
             opening_proof,

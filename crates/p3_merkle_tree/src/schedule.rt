@@ -3,6 +3,7 @@
 ghost use Rattle.std.specs.Prelude.{◌≡◌, ◌≤◌, IfErr, IfOk, map, take, vec_len};
 
 use crate::mmcs::Scheme;
+use p3_merkle_builder::opener::{matrix_refs, max_height};
 use p3_merkle_builder::tree::Tree;
 use p3_merkle_core::error::MerkleTreeError;
 use p3_merkle_core::geometry::{
@@ -109,13 +110,13 @@ impl<P: PackedValue, PW: PackedValue, H, C, X: Copy, G, const N: usize> Scheme<
         ensures matrices { IfOk result (λ v. map (λ m. m.now) v.items ≡ matrices_of tree.now) }
         ensures memory { IfErr result (λ e. e ≡ OutOfMemory) }
     {
-        tree.matrix_refs(alloc)
+        matrix_refs(alloc, tree)
     }
 
     /// The height of the tallest matrix of a tree, in rows: one more than the greatest index that can be opened.
     pub fn get_max_height<M: Matrix<P::Value>>(&self, tree: &Tree<P::Value, X, G, M, N>) -> usize
         ensures { result ≡ tallest (heights (shape (tree_batch tree.now))) }
     {
-        tree.max_height()
+        max_height(tree)
     }
 }

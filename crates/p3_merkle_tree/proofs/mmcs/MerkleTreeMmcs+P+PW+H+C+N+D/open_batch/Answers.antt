@@ -8,8 +8,8 @@ use Rattle.p3_merkle_builder.proofs.RowFacts.{full_rows}
 use Rattle.p3_merkle_tree.proofs.OwnAccepted.{own_accepted}
 use Rattle.p3_merkle_tree.proofs.mmcs.MerkleTreeMmcs+P+PW+H+C+N+D.open_batch.Goals as goal
 
-pub siblings-requires : goal.siblings-requires
-siblings-requires g c =
+pub siblings_of_index-requires : goal.siblings_of_index-requires
+siblings_of_index-requires g c =
     let few = c.num_levels.ensures in
     (omega arith, (omega arith, omega arith))
 
