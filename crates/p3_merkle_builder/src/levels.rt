@@ -1,13 +1,13 @@
 //! What is known of a layer before it is built: how many nodes and slots it has, and whose rows it takes in.
 
-ghost use Rattle.std.specs.Prelude.{◌≡◌, ◌+◌, ◌-◌, ◌*◌, ◌/◌, ◌^◌, ◌<◌, ◌≤◌, ◌&&◌, nat_lt, if◌then◌else◌, IfOk, map};
-ghost use Rattle.p3_merkle_core.specs.Geometry.{is_bridge, max_height, padded_len, shape_of};
+ghost use Rattle.std.specs.Prelude.{◌≡◌, ◌≤◌, IfOk, map};
+ghost use Rattle.p3_merkle_core.specs.Geometry.{max_height, shape_of};
 ghost use Rattle.p3_merkle_core.specs.Nodes.{dimensions_of as dimensions_in};
 ghost use Rattle.p3_merkle_builder.specs.Levels.{height_at, IsBelowTop, IsLevel};
 ghost use Rattle.p3_merkle_builder.specs.Views.{matrix_of, max_height_in};
 
 use p3_merkle_core::geometry::{
-    exponent_of, has_exponent, is_bridge_step, padded_len, select_arity_step, tallest_of,
+    exponent_of, grouped_len, has_exponent, padded_len, select_arity_step, tallest_of,
 };
 use p3_support::matrix::{Dimensions, Matrix};
 use std::alloc::{AllocError, Global};
@@ -65,22 +65,6 @@ fn height_at_of(tallest: usize, x: usize) -> usize
     (tallest.saturating_sub(1) >> exponent_of(tallest).saturating_sub(x)) + 1
 }
 
-/// How many slots of a layer of `len` nodes are grouped: `2^x` where a bridge step starts from fewer nodes than the
-/// arity, since the slots that pad such a layer have no pair above; else all slots.
-fn grouped_slots(dimensions: &[Dimensions], arity: usize, x: usize, len: usize) -> usize
-    requires positive { 0 < arity }
-    requires shift { x < 64 }
-    requires fits { padded_len len arity < 2 ^ 64 }
-    ensures { result ≡ (if is_bridge (shape_of arity dimensions.now) x && nat_lt len arity
-        then 2 ^ x else padded_len len arity) }
-{
-    if is_bridge_step(dimensions, arity, x) && len < arity {
-        1 << x
-    } else {
-        padded_len(len, arity)
-    }
-}
-
 /// The layer above the layer `below`, which has `len` nodes and the exponent `x`.
 pub fn level_above(
     dimensions: &[Dimensions],
@@ -94,7 +78,7 @@ pub fn level_above(
     ensures below { result.below ≡ below }
 {
     let (step, exponent) = select_arity_step(dimensions, arity, x);
-    let raw_len = grouped_slots(dimensions, arity, x, len) / step;
+    let raw_len = grouped_len(dimensions, arity, x, len) / step;
     Level {
         below,
         step,
