@@ -1,5 +1,5 @@
 -- What holds of the definitions, whatever the hash, the compression, the batch, the openings and the cap.
-use Rattle.std.specs.Prelude.{◌≡◌, ◌≢◌, ◌↔◌, ◌⊎◌, ℕ, suc, ◌-◌, ◌<◌, ◌≤◌, true, Bool, IsTrue, List, [], ◌∷◌, ◌++◌, Option, None, Some, Ok, Err, length, take, slice_index, All, map}
+use Rattle.std.specs.Prelude.{◌≡◌, ◌≢◌, ◌↔◌, ◌⊎◌, ℕ, suc, ◌<◌, ◌≤◌, true, Bool, IsTrue, List, [], ◌∷◌, ◌++◌, Option, None, Some, Ok, Err, length, take, slice_index, All, map}
 use Rattle.std.specs.List.{count_by}
 use Rattle.p3_merkle_core.specs.Geometry.{Shape, heights, tallest, levels, layer_exponent, exponent, layer_of, layer_len, row_at_index, step, ancestor, arity_schedule, schedule_below, cap_layer, IsArity, IsLawful}
 use Rattle.p3_merkle_core.specs.Nodes.{Functions, Batch, HasFullRows, shape, node, layer, layers}
@@ -24,7 +24,7 @@ WalkEnds =
 abbrev pub ScheduleStopsAtCap : Type 0
 ScheduleStopsAtCap =
     (s : Shape) (cap_height : ℕ) →
-    (schedule_below s (cap_layer s cap_height) ≡ take (length (arity_schedule s) - cap_height) (arity_schedule s))
+    (schedule_below s (cap_layer s cap_height) ≡ take (cap_layer s cap_height) (arity_schedule s))
     × (length (schedule_below s (cap_layer s cap_height)) ≤ exponent (tallest (heights s)))
 
 -- the last layer is one node, and the last step is of the whole arity

@@ -21,9 +21,8 @@ returns-clause-root c = λ s w some. (root_alone s w some, last_step s w)
 
 pub returns-clause-schedule : goal.returns-clause-schedule
 returns-clause-schedule c = λ s cap.
-    let long = length-map-range_with_len (step s) 0 (levels s) in
     let short = length-map-range_with_len (step s) 0 (levels s - cap) in
-    (rw long (sym (take-map-range_with_len (step s) 0 (levels s) (levels s - cap) (omega arith))), omega (arith, short, levels_le s))
+    (sym (take-map-range_with_len (step s) 0 (levels s) (levels s - cap) (omega arith)), omega (arith, short, levels_le s))
 
 pub returns-clause-gate : goal.returns-clause-gate
 returns-clause-gate c = gate_lawful
