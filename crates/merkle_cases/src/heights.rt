@@ -19,7 +19,7 @@ fn committed(alloc: Global, heights: &[usize]) -> Result<(), MerkleTreeError> {
 }
 
 /// What building a tree over them answers.
-fn built(alloc: Global, heights: &[usize]) -> Result<(), MerkleTreeError> {
+fn build(alloc: Global, heights: &[usize]) -> Result<(), MerkleTreeError> {
     fold_tree::<_, 2>(alloc, numbered(alloc, heights)?)?;
     Ok(())
 }
@@ -50,7 +50,7 @@ pub fn heights(alloc: Global, fields: &mut Fields<'_>) -> Result<String, Fault> 
     let answers = [
         text::verdict(alloc, check_heights(&dimensions))?,
         text::verdict(alloc, committed(alloc, &heights))?,
-        text::verdict(alloc, built(alloc, &heights))?,
+        text::verdict(alloc, build(alloc, &heights))?,
         text::verdict(alloc, scheduled(alloc, &dimensions))?,
         text::verdict(
             alloc,
