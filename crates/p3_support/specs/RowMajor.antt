@@ -1,5 +1,6 @@
 -- What a matrix shows that is stored row after row.
 use Rattle.std.specs.Prelude.{◌≡◌, ℕ, List}
+use Rattle.std.specs.List.{AllZip}
 use Rattle.p3_support.specs.declared.matrix.RowMajorMatrix.{RowMajorMatrix}
 
 -- all elements, row after row
@@ -14,8 +15,8 @@ row_width m = m.width
 abbrev pub row_count : {A : Type 0} → RowMajorMatrix A → ℕ
 row_count m = m.height
 
--- n has the elements of m, in as many rows of the same width
-pub record IsSameMatrix {A : Type 0} (m n : RowMajorMatrix A) : Type 0 where
-  pub same_values : values_of n ≡ values_of m
+-- n has clones of the elements of m, in as many rows of the same width
+pub record IsMatrixClone {A : Type 0} (is_clone : A → A → Type 0) (m n : RowMajorMatrix A) : Type 0 where
+  pub cloned_values : AllZip is_clone (values_of m) (values_of n)
   pub same_width : row_width n ≡ row_width m
   pub same_height : row_count n ≡ row_count m

@@ -258,14 +258,15 @@ impl<T> RowMajorMatrix<T> {
     }
 }
 
-impl<T: Copy> Clone for RowMajorMatrix<T> {
-    ghost use Rattle.p3_support.specs.RowMajor.{IsSameMatrix};
+/// A clone has clones of the elements, in as many rows of the same width.
+impl<T: Clone> Clone for RowMajorMatrix<T> {
+    ghost use Rattle.p3_support.specs.RowMajor.{IsMatrixClone};
 
-    ghost is_clone = { IsSameMatrix };
+    ghost is_clone = { IsMatrixClone T.is_clone };
 
     fn clone(&self) -> Result<RowMajorMatrix<T>, AllocError> {
         Ok(RowMajorMatrix {
-            values: Vec::from_slice(*self.values.allocator(), self.values.as_slice())?,
+            values: self.values.clone()?,
             width: self.width,
             height: self.height,
         })
