@@ -178,10 +178,11 @@ impl<
     /// Opens the leaf `index` of a tree: of each matrix, in input order, the row that belongs to the leaf, and the
     /// siblings on the leaf's path to the cap.
     ///
-    /// The index counts rows of the tallest matrix and is below its height; a matrix whose height is halved `k` times opens the row
-    /// `index >> k`. The siblings come level by level, from the leaves up to the cap: of each group on the path all
-    /// digests but the path's own, ascending. They are read from the tree, whoever built it; where its layers are
-    /// those of this scheme's own hasher and compression, the opening is accepted under the cap of its tree.
+    /// The index counts rows of the tallest matrix and is below its height; a matrix whose height is the tallest halved
+    /// `k` times (and rounded up each time) opens the row `index >> k`. The siblings come level by level, from the leaves
+    /// up to the cap: of each group on the path all digests but the path's own, ascending. They are read from the tree,
+    /// whoever built it; where its layers are those of this scheme's own hasher and compression, the opening is accepted
+    /// under the cap of its tree.
     ///
     /// # Errors
     ///
