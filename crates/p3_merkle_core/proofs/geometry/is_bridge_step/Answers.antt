@@ -1,0 +1,11 @@
+-- The heights are gone through up to one whose exponent lies between.
+use Rattle.std.proofs.Common.{◌-◌, ◌&&◌, nat_lt, rules, tests}
+use Rattle.std.proofs.lemmas.Iterator.{YieldsList-from_map, YieldsList-from_slice}
+use Rattle.std.proofs.lemmas.Iterator.Search.{any_from_yields_List}
+use Rattle.p3_support.specs.declared.matrix.Dimensions.{Dimensions}
+use Rattle.p3_merkle_core.specs.Geometry.{exponent}
+use Rattle.p3_merkle_core.proofs.geometry.is_bridge_step.Goals as goal
+
+pub returns : goal.returns
+returns c =
+    any_from_yields_List (λ h. nat_lt (c.args.x - exponent c.args.arity) (exponent h) && nat_lt (exponent h) c.args.x) _ _ _ c.any.ensures.ran (YieldsList-from_map _ (λ (d : Dimensions). d.height) (YieldsList-from_slice c.args.dimensions.now (cc)) c.map.ensures.closure (λ x r q k. search rules)) (λ x b q k. search (rules, tests))
