@@ -25,3 +25,6 @@ returns-clause-accepted g c =
     tree.arity tree.lawful c.requires (omega arith)
     (full_rows g.M.Matrix.height_of g.M.Matrix.width_of g.M.Matrix.row_of g.row.N g.met.M.Matrix.length_row_of tree.matrices.items)
     own c.in_ok-opened_values.ensures.rows (returns-clause-siblings g c)
+
+pub returns-clause-rows : goal.returns-clause-rows
+returns-clause-rows g c = c.in_ok-opened_values.ensures.rows

@@ -17,3 +17,6 @@ returns-clause-few g c =
     let s = shape_of g.row.N c.args.dimensions.now in
     let is = rw c.proof_levels.ensures at c.in_ok-schedule_below_of.ensures in
     omega (arith, ap length is, length-map-range_with_len (step s) 0 (proof_layer c.args.self.now s), levels_le s)
+
+pub returns-clause-steps : goal.returns-clause-steps
+returns-clause-steps g c = rw c.proof_levels.ensures at c.in_ok-schedule_below_of.ensures
