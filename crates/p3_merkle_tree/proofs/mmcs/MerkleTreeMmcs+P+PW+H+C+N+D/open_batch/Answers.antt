@@ -13,6 +13,9 @@ siblings_of_index-requires g c =
     let few = c.num_levels.ensures in
     (omega arith, (omega arith, omega arith))
 
+pub returns-clause-rows : goal.returns-clause-rows
+returns-clause-rows g c = c.in_ok-opened_values.ensures.rows
+
 pub returns-clause-siblings : goal.returns-clause-siblings
 returns-clause-siblings g c = rw (← c.num_levels.ensures, ← c.saturating_sub-proof_levels.ensures) c.in_ok-opening_proof.ensures.siblings
 
@@ -24,7 +27,4 @@ returns-clause-accepted g c =
     (proof_layer c.args.self.now (shape b)) c.args.index (row_lists c.in_ok-opened_values.opened_values.items) c.in_ok-opening_proof.opening_proof.items
     tree.arity tree.lawful c.requires (omega arith)
     (full_rows g.M.Matrix.height_of g.M.Matrix.width_of g.M.Matrix.row_of g.row.N g.met.M.Matrix.length_row_of tree.matrices.items)
-    own c.in_ok-opened_values.ensures.rows (returns-clause-siblings g c)
-
-pub returns-clause-rows : goal.returns-clause-rows
-returns-clause-rows g c = c.in_ok-opened_values.ensures.rows
+    own (returns-clause-rows g c) (returns-clause-siblings g c)
