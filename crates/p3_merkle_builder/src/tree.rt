@@ -1,8 +1,8 @@
 //! The tree over a batch of matrices.
 
-ghost use Rattle.std.specs.Prelude.{◌≡◌, ℕ, suc, ◌+◌, ◌-◌, ◌<◌, ◌≤◌, ◌⊎◌, [], ◌∷◌, IfOk, MatchResult, List, Some, map, length, replicate, slice_get};
+ghost use Rattle.std.specs.Prelude.{◌≡◌, ℕ, suc, ◌+◌, ◌-◌, ◌<◌, ◌≤◌, ◌⊎◌, [], ◌∷◌, IfOk, IsTrue, MatchResult, List, Some, map, length, replicate, slice_get};
 ghost use Rattle.std.specs.List.{range_with_len};
-ghost use Rattle.p3_merkle_core.specs.Geometry.{arity_schedule as schedule_in, heights, layer_below_root, layer_len, levels, IsArity, IsLawful};
+ghost use Rattle.p3_merkle_core.specs.Geometry.{arity_schedule as schedule_in, heights, is_arity, layer_below_root, layer_len, levels, IsArity, IsLawful};
 ghost use Rattle.p3_merkle_core.specs.Gate.{gate_refusal};
 ghost use Rattle.p3_merkle_core.specs.Nodes.{functions_of, layers as layers_over, shape};
 ghost use Rattle.p3_merkle_core.specs.declared.error.MerkleTreeError.TheVariants.{OutOfMemory};
@@ -67,6 +67,27 @@ impl<F: Copy, W: Copy, M: Matrix<F> + Drop, const N: usize, const D: usize> Merk
     /// `IncompatibleHeights` for the first height that is not the tallest one halved and rounded up some number of
     /// times. `OutOfMemory` may come at any time.
     pub fn new<
+        P: PackedValue<Value = F>,
+        PW: PackedValue<Value = W>,
+        H: CryptographicHasher<P, PW, D>,
+        C: PseudoCompressionFunction<PW, N, D>,
+    >(alloc: Global, hash: &H, compress: &C, leaves: Vec<M>) -> Result<Self, MerkleTreeError>
+        requires arity { IsTrue (is_arity N) }
+        requires lanes { P.WIDTH ≡ PW.WIDTH }
+        requires some_lane { 1 ≤ P.WIDTH }
+        ensures answer { let b = batch_of M.height_of M.width_of M.row_of N leaves.items in
+            OkUnlessRefused result (gate_refusal (heights (shape b))) }
+        ensures matrices { IfOk result (λ tree. matrices_of tree ≡ leaves.items) }
+        ensures layers { let f = functions_of (H.hash hash.now) (C.compression compress.now) (replicate D PW.default_value) in
+            let b = batch_of M.height_of M.width_of M.row_of N leaves.items in
+            IfOk result (λ tree. layers_of tree ≡ layers_over f b) }
+    {
+        know_arity::<N>();
+        Self::build::<P, PW, H, C>(alloc, hash, compress, leaves)
+    }
+
+    /// The tree over matrices, as [`Tree::new`] has it.
+    fn build<
         P: PackedValue<Value = F>,
         PW: PackedValue<Value = W>,
         H: CryptographicHasher<P, PW, D>,
@@ -138,3 +159,9 @@ impl<F: Copy, W: Copy, M: Matrix<F> + Drop, const N: usize, const D: usize> Merk
         Ok(MerkleCap::new(Vec::from_slice(alloc, layer)?))
     }
 }
+
+/// Tells what is known of a number that passes the test of arities. It does nothing at run time.
+fn know_arity<const N: usize>()
+    requires { IsTrue (is_arity N) }
+    ensures { IsArity N }
+{}

@@ -5,7 +5,7 @@ use Rattle.p3_merkle_core.specs.Geometry.{heights_of, arity_schedule, IsLawful}
 use Rattle.p3_merkle_core.specs.Nodes.{functions_of, dimensions_of, layers, shape}
 use Rattle.p3_merkle_builder.specs.Views.{batch_of, matrix_of}
 use Rattle.p3_merkle_builder.proofs.TreeFacts.{lengths_from}
-use Rattle.p3_merkle_builder.proofs.tree.MerkleTree+F+W+M+N+D.new.Goals as goal
+use Rattle.p3_merkle_builder.proofs.tree.MerkleTree+F+W+M+N+D.build.Goals as goal
 
 pub invariant_of-result-clause-lawful : goal.invariant_of-result-clause-lawful
 invariant_of-result-clause-lawful g c =
