@@ -165,6 +165,7 @@ impl<
             let t = proof_layer self.now (shape b) in
             IfOk result (λ (cap, tree). roots_of cap ≡ layer f b t) }
     {
+        tell_arity::<N>();
         let tree = MerkleTree::<P::Value, PW::Value, M, N, D>::new::<P, PW, H, C>(
             alloc,
             &self.hash,
@@ -257,3 +258,9 @@ impl<
             .check_opening(commit.roots(), dimensions, t, opening)
     }
 }
+
+/// Tells that an arity passes the test of arities. It does nothing at run time.
+fn tell_arity<const N: usize>()
+    requires { IsArity N }
+    ensures { IsTrue (is_arity N) }
+{}
