@@ -38,11 +38,10 @@ pub record StandsAt {T W : Type 0} (f : Functions T W) (s : Shape) (o : Opening 
   pub taken : standing.used ≡ siblings_below s l
   pub reached : standing.digest ≡ path_digest f s o l
 
--- the check of an opening stands at layer l, and there are siblings for level l
-pub record CanClimb {T W : Type 0} (f : Functions T W) (s : Shape) (o : Opening T W) (l : ℕ) (standing : Standing (List W)) : Type 0 where
+-- a check can climb level l: the arity is one, and there are siblings for this level and those below it
+pub record CanClimb (s : Shape) (l count : ℕ) : Type 0 where
   pub arity : IsArity s.arity
-  pub stands : StandsAt f s o l standing
-  pub enough : siblings_below s (suc l) ≤ length o.siblings
+  pub enough : siblings_below s (suc l) ≤ count
 
 -- level l of the check of an opening: it has the level's inputs, and above it the check stands at the next layer
 pub record IsLevel {T W : Type 0} (f : Functions T W) (s : Shape) (o : Opening T W) (l : ℕ) (level : CheckedLevel (List W) (List (List W))) : Type 0 where

@@ -4,8 +4,8 @@ ghost use Rattle.std.specs.Prelude.{◌≡◌, ◌+◌, ◌-◌, ◌%◌, ◌^�
 ghost use Rattle.p3_merkle_core.specs.Geometry.{exponent, heights_of, shape_of, tallest};
 ghost use Rattle.p3_merkle_core.specs.Groups.{group_around};
 ghost use Rattle.p3_merkle_core.specs.Nodes.{functions_of};
-ghost use Rattle.p3_merkle_checker.specs.Checks.{opening_in, step_siblings, CanClimb, CanStep, IsAbove, IsLevel};
-ghost use Rattle.p3_merkle_checker.specs.Paths.{rows_with};
+ghost use Rattle.p3_merkle_checker.specs.Checks.{opening_in, step_siblings, CanClimb, CanStep, IsAbove, IsLevel, StandsAt};
+ghost use Rattle.p3_merkle_checker.specs.Paths.{rows_with, CanReach};
 ghost use Rattle.p3_support.specs.Shown.{row_lists};
 
 use crate::opened::opened_rows;
@@ -117,6 +117,19 @@ pub(crate) fn leaf<
     }
 }
 
+/// Tells that an opening with its siblings up to layer `t` has those of each level below it. It does nothing at run time.
+pub(crate) fn tell_siblings<X>(
+    dimensions: &[Dimensions],
+    arity: usize,
+    t: usize,
+    level: usize,
+    siblings: &[X],
+)
+    requires reach { CanReach (shape_of arity dimensions.now) t (length siblings.now) }
+    requires below { level < t }
+    ensures { CanClimb (shape_of arity dimensions.now) level (length siblings.now) }
+{}
+
 /// Checks openings, with a hash for their rows and a compression of `N` digests for nodes.
 #[derive(Drop)]
 pub struct Checker<'a, P, PW, H, C, G> {
@@ -145,8 +158,9 @@ impl<
         opening: IndexedOpening<'_, P::Value, [PW::Value; D]>,
         standing: &Standing<[PW::Value; D]>,
     ) -> CheckedLevel<[PW::Value; D], [[PW::Value; D]; N]>
-        requires { let f = functions_of (H.hash self.now.hash.now) (C.compression self.now.compress.now) (replicate D PW.default_value) in
-            CanClimb f (shape_of N dimensions.now) (opening_in opening) level standing.now }
+        requires stands { let f = functions_of (H.hash self.now.hash.now) (C.compression self.now.compress.now) (replicate D PW.default_value) in
+            StandsAt f (shape_of N dimensions.now) (opening_in opening) level standing.now }
+        requires climbs { CanClimb (shape_of N dimensions.now) level (length opening.siblings.now) }
         ensures { let f = functions_of (H.hash self.now.hash.now) (C.compression self.now.compress.now) (replicate D PW.default_value) in
             IsLevel f (shape_of N dimensions.now) (opening_in opening.entry) level result }
     {

@@ -10,7 +10,7 @@ ghost use Rattle.p3_merkle_checker.specs.Checks.{opening_in};
 ghost use Rattle.p3_merkle_checker.specs.Paths.{CanCheck, CanReach};
 
 use crate::form::check_form;
-use crate::level::{Checker, leaf};
+use crate::level::{Checker, leaf, tell_siblings};
 use crate::openings::IndexedOpening;
 use p3_merkle_core::error::MerkleTreeError;
 use p3_support::compress::PseudoCompressionFunction;
@@ -44,6 +44,7 @@ impl<
     {
         let mut standing = leaf::<P, PW, H, D>(self.hash, dimensions, opening);
         for level in 0..t {
+            tell_siblings(dimensions, N, t, level, opening.siblings);
             standing = self
                 .checked_level(dimensions, level, opening, &standing)
                 .above;

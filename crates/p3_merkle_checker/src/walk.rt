@@ -9,7 +9,7 @@ ghost use Rattle.p3_merkle_checker.specs.Checks.{leaf_difference, opening_in};
 ghost use Rattle.p3_merkle_checker.specs.Collisions.{Shows};
 
 use crate::collision::{Collision, Place, differing_level, differing_words};
-use crate::level::{Checker, leaf};
+use crate::level::{Checker, leaf, tell_siblings};
 use crate::openings::OpeningPair;
 use p3_merkle_core::geometry::{exponent_of, tallest_of};
 use p3_support::compress::PseudoCompressionFunction;
@@ -68,6 +68,8 @@ impl<
         let mut second = leaf::<P, PW, H, D>(self.hash, dimensions, openings.second);
         let mut last = leaf_difference(alloc, openings)?;
         for level in 0..openings.t {
+            tell_siblings(dimensions, N, openings.t, level, openings.first.siblings);
+            tell_siblings(dimensions, N, openings.t, level, openings.second.siblings);
             let mine = self.checked_level(dimensions, level, openings.first, &first);
             let theirs = self.checked_level(dimensions, level, openings.second, &second);
             if mine.above.node == theirs.above.node {

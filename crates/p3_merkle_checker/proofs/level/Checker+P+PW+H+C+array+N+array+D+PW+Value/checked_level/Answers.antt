@@ -11,14 +11,14 @@ group-group-requires g c =
     let s = shape_of g.row.N c.args.dimensions.now in
     let step = c.select_arity_step-step in
     let from = step_from s c.args.level c.args.standing.now.exponent step.result.0 step.result.1 c.requires.stands.at_exponent step.ensures.step step.ensures.next in
-    (omega arith, (omega arith, can_step s c.args.level step.result.0 step.result.1 c.args.standing.now.used (length c.args.opening.siblings.now) c.requires.arity from c.requires.stands.taken c.requires.enough))
+    (omega arith, (omega arith, can_step s c.args.level step.result.0 step.result.1 c.args.standing.now.used (length c.args.opening.siblings.now) c.requires.climbs.arity from c.requires.stands.taken c.requires.climbs.enough))
 
 pub above-requires-clause-fits : goal.above-requires-clause-fits
 above-requires-clause-fits g c =
     let s = shape_of g.row.N c.args.dimensions.now in
     let step = c.select_arity_step-step in
     let from = step_from s c.args.level c.args.standing.now.exponent step.result.0 step.result.1 c.requires.stands.at_exponent step.ensures.step step.ensures.next in
-    let can = can_step s c.args.level step.result.0 step.result.1 c.args.standing.now.used (length c.args.opening.siblings.now) c.requires.arity from c.requires.stands.taken c.requires.enough in
+    let can = can_step s c.args.level step.result.0 step.result.1 c.args.standing.now.used (length c.args.opening.siblings.now) c.requires.climbs.arity from c.requires.stands.taken c.requires.climbs.enough in
     omega (arith, can.enough)
 
 pub above-requires-else-has_exponent-clause-fits : goal.above-requires-else-has_exponent-clause-fits
@@ -26,7 +26,7 @@ above-requires-else-has_exponent-clause-fits g c =
     let s = shape_of g.row.N c.args.dimensions.now in
     let step = c.select_arity_step-step in
     let from = step_from s c.args.level c.args.standing.now.exponent step.result.0 step.result.1 c.requires.stands.at_exponent step.ensures.step step.ensures.next in
-    let can = can_step s c.args.level step.result.0 step.result.1 c.args.standing.now.used (length c.args.opening.siblings.now) c.requires.arity from c.requires.stands.taken c.requires.enough in
+    let can = can_step s c.args.level step.result.0 step.result.1 c.args.standing.now.used (length c.args.opening.siblings.now) c.requires.climbs.arity from c.requires.stands.taken c.requires.climbs.enough in
     omega (arith, can.enough)
 
 pub returns-then-has_exponent : goal.returns-then-has_exponent

@@ -1,20 +1,15 @@
 -- Each turn is one level of the check.
-use Rattle.std.proofs.Common.{◌≡◌, add-one, arith, length, replicate}
+use Rattle.std.proofs.Common.{◌≡◌, add-one, arith, replicate}
 use Rattle.p3_merkle_core.specs.Geometry.{shape_of}
 use Rattle.p3_merkle_core.specs.Nodes.{functions_of}
 use Rattle.p3_merkle_checker.specs.Checks.{opening_in}
-use Rattle.p3_merkle_checker.proofs.LevelFacts.{enough_below, stands_first}
+use Rattle.p3_merkle_checker.proofs.LevelFacts.{stands_first}
 use Rattle.p3_merkle_checker.proofs.path.Checker+P+PW+H+C+array+N+array+D+PW+Value.path_digest.Goals as goal
 
 pub loop-level-init : goal.loop-level-init
 loop-level-init g c =
     stands_first (functions_of (g.H.CryptographicHasher.hash c.args.self.now.hash.now) (g.C.PseudoCompressionFunction.compression c.args.self.now.compress.now) (replicate g.row.D g.PW.PackedValue.default_value)) (shape_of g.row.N c.args.dimensions.now)
     (opening_in c.args.opening) c.leaf-standing.result c.leaf-standing.ensures.exponent c.leaf-standing.ensures.node c.leaf-standing.ensures.used c.leaf-standing.ensures.digest
-
-pub checked_level-requires : goal.checked_level-requires
-checked_level-requires g c =
-    let enough = enough_below (shape_of g.row.N c.args.dimensions.now) c.args.t c.loop-level.level (length c.args.opening.siblings.now) c.requires c.loop-level-test.true in
-    (omega arith, (omega arith, record { arity = c.requires.arity; stands = c.loop-level.invariant; enough = enough }))
 
 pub loop-level-preserved : goal.loop-level-preserved
 loop-level-preserved g c = rw add-one c.checked_level.ensures.stands

@@ -1,11 +1,11 @@
 -- Each turn is one level of both checks.
-use Rattle.std.proofs.Common.{◌≡◌, ◌∙◌, add-one, arith, inl, inr, length, replicate, suc}
+use Rattle.std.proofs.Common.{◌≡◌, ◌∙◌, add-one, arith, inl, inr, replicate, suc}
 use Rattle.p3_merkle_core.specs.Extracting.{input_eq}
 use Rattle.p3_merkle_core.specs.Geometry.{layer_exponent, shape_of}
 use Rattle.p3_merkle_core.specs.Nodes.{functions_of}
 use Rattle.p3_merkle_checker.specs.Checks.{opening_in}
 use Rattle.p3_merkle_checker.specs.Collisions.{first_words, second_words}
-use Rattle.p3_merkle_checker.proofs.LevelFacts.{enough_below, stands_first}
+use Rattle.p3_merkle_checker.proofs.LevelFacts.{stands_first}
 use Rattle.p3_merkle_checker.proofs.SharedFacts.{difference_shared}
 use Rattle.p3_merkle_checker.proofs.WalkFacts.{found_here, found_next, words_alike}
 use Rattle.p3_merkle_checker.proofs.walk.Checker+P+PW+H+C+array+N+array+D+PW+Value.last_difference.Goals as goal
@@ -20,18 +20,6 @@ loop-level-init g c =
       second_stands = stands_first f s (opening_in c.args.openings.now.second) c.leaf-second.result c.leaf-second.ensures.exponent c.leaf-second.ensures.node c.leaf-second.ensures.used c.leaf-second.ensures.digest;
       found = c.in_ok-last.ensures;
     }
-
-pub checked_level-mine-requires : goal.checked_level-mine-requires
-checked_level-mine-requires g c =
-    let pair = c.args.openings.now in
-    let enough = enough_below (shape_of g.row.N pair.dimensions.now) pair.t c.loop-level.level (length pair.first.siblings.now) pair.first_reaches c.loop-level-test.true in
-    (omega arith, (omega arith, record { arity = pair.first_reaches.arity; stands = c.loop-level.invariant.first_stands; enough = enough }))
-
-pub checked_level-theirs-requires : goal.checked_level-theirs-requires
-checked_level-theirs-requires g c =
-    let pair = c.args.openings.now in
-    let enough = enough_below (shape_of g.row.N pair.dimensions.now) pair.t c.loop-level.level (length pair.second.siblings.now) pair.second_reaches c.loop-level-test.true in
-    (omega arith, (omega arith, record { arity = pair.second_reaches.arity; stands = c.loop-level.invariant.second_stands; enough = enough }))
 
 pub loop-level-preserved : goal.loop-level-preserved
 loop-level-preserved g c =
