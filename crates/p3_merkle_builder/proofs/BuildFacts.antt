@@ -12,7 +12,7 @@ use Rattle.p3_merkle_core.proofs.LadderFacts.{exponent_at_levels}
 use Rattle.p3_merkle_core.proofs.LeastFacts.{least_bound}
 use Rattle.p3_merkle_core.proofs.StepFacts.{layer_start, next_exponent, next_falls}
 use Rattle.p3_merkle_builder.specs.Built.{IsBuilt}
-use Rattle.p3_merkle_builder.specs.Levels.{IsBelowTop, IsLevel, CanBuild, CanRaise}
+use Rattle.p3_merkle_builder.specs.Levels.{IsBelowTop, IsLevel, CanBuild}
 use Rattle.p3_merkle_builder.specs.Views.{batch_of}
 use Rattle.p3_merkle_builder.specs.declared.levels.Level.{Level}
 use Rattle.p3_merkle_builder.proofs.LayerFacts.{layer_first}
@@ -30,6 +30,10 @@ same_shape {T} {b} w = ap (shape_of b.arity) w.same
 -- and so what is known of a level
 pub level_there : {T : Type 0} {b : Batch T} {ds : List Dimensions} → CanBuild b ds → (v : Level) → IsLevel (shape_of b.arity ds) v → IsLevel (shape b) v
 level_there w v k = subst (λ (s : Shape). IsLevel s v) (same_shape w) k
+
+-- a layer has as many slots as the dimensions give it
+pub slots_are : {T W : Type 0} (f : Functions T W) {b : Batch T} {ds : List Dimensions} → CanBuild b ds → (l : ℕ) (nodes : List (List W)) → nodes ≡ layer f b l → length nodes ≡ layer_len (shape_of b.arity ds) l
+slots_are f {b} w l nodes e = ap length e ∙ length-map-range_with_len (node f b l) 0 (layer_len (shape b) l) ∙ ap (λ (s : Shape). layer_len s l) (sym (same_shape w))
 
 -- none of them is above the limit
 pub tallest_low : {T : Type 0} {b : Batch T} {ds : List Dimensions} → CanBuild b ds → tallest (heights_of ds) ≤ max_height
@@ -121,9 +125,3 @@ module _ {T W : Type 0} {f : Functions T W} {b : Batch T} {x len : ℕ} {so_far 
       let many = layers_long items vs k in
       ap items is ∙ sym (get_or-map items vs (length so_far) v (items v) (omega arith))
       ∙ ap (λ (z : List (List (List W))). get_or z (length so_far) (items v)) k.are_layers ∙ get_or-map-range_with_len (layer f b) 0 (suc (length so_far)) (length so_far) (length so_far) (items v) (omega arith) (omega arith)
-
--- a layer of the definition has the children of the nodes above
-pub can_raise : {T W : Type 0} (f : Functions T W) (b : Batch T) (v : Level) (nodes : List (List W)) → IsLevel (shape b) v → nodes ≡ layer f b v.below → CanRaise b.arity v (length nodes)
-can_raise f b v nodes u e =
-    let long : length nodes ≡ layer_len (shape b) v.below = ap length e ∙ length-map-range_with_len (node f b v.below) 0 (layer_len (shape b) v.below) in
-    record { wide = u.wide; narrow = u.narrow; fits = omega (arith, u.fits, long) }

@@ -9,7 +9,7 @@ use Rattle.std.proofs.Math.Nat.{mul-le-mul_left, mul-suc}
 use Rattle.p3_support.specs.Lists.{rows_of_height}
 use Rattle.std.proofs.lemmas.Simd.{map-map}
 use Rattle.p3_merkle_core.specs.Geometry.{heights, exponent, tallest, layer_exponent, step, raw_len, layer_len, expected_height, has_rows, IsLawful}
-use Rattle.p3_merkle_core.specs.Nodes.{Functions, Batch, Matrix, shape, at_layer, joined_rows, row_digest, with_rows, compress, node, children, layer}
+use Rattle.p3_merkle_core.specs.Nodes.{Functions, Batch, shape, at_layer, joined_rows, row_digest, with_rows, compress, node, children, layer}
 use Rattle.p3_merkle_core.proofs.Completeness.{node_next}
 use Rattle.p3_merkle_core.proofs.StepFacts.{layer_start}
 use Rattle.p3_merkle_builder.specs.Views.{batch_of, matrix_of}

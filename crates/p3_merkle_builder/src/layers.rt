@@ -6,7 +6,7 @@
 ghost use Rattle.std.specs.Prelude.{suc, take, drop, ◌≡◌, ℕ, ◌-◌, ◌*◌, ◌<◌, ◌≤◌, ◌++◌, [], ◌∷◌, IfOk, List, map, filter, length, replicate, if◌then◌else◌, nat_lt, ◌==◌};
 ghost use Rattle.std.specs.List.{range_with_len};
 ghost use Rattle.p3_support.specs.Lists.{rows_of_height};
-ghost use Rattle.p3_merkle_core.specs.Geometry.{arity_schedule as schedule_of};
+ghost use Rattle.p3_merkle_core.specs.Geometry.{arity_schedule as schedule_of, layer_len, shape_of};
 ghost use Rattle.p3_merkle_core.specs.Nodes.{functions_of, layer, layers as layers_over, shape};
 ghost use Rattle.p3_merkle_builder.specs.Built.{IsBuilt};
 ghost use Rattle.p3_merkle_builder.specs.Levels.{layer_above, node_above, slot_above, CanBuild, CanRaise, IsLevel};
@@ -62,6 +62,14 @@ fn of_height<'a, T, M: Matrix<T>>(
         .filter(|matrix| matrix.height() == height)
         .collect(alloc)
 }
+
+/// Tells that a layer of its whole length has the children of the nodes of the level above it. It does nothing at run
+/// time.
+fn tell_children<X>(dimensions: &[Dimensions], arity: usize, level: &Level, below: &[X])
+    requires level { IsLevel (shape_of arity dimensions.now) level.now }
+    requires slots { length below.now ≡ layer_len (shape_of arity dimensions.now) level.now.below }
+    ensures { CanRaise arity level.now (length below.now) }
+{}
 
 impl<
     'a,
@@ -255,7 +263,9 @@ impl<
     {
         let below = stack.arity_schedule.len();
         let level = level_above(dimensions, N, below, stack.exponent, stack.len);
-        let layer = self.next_layer(alloc, &level, &stack.layers[below])?;
+        let nodes = stack.layers[below].as_slice();
+        tell_children(dimensions, N, &level, nodes);
+        let layer = self.next_layer(alloc, &level, nodes)?;
         Ok((level, layer))
     }
 

@@ -1,5 +1,5 @@
 -- The copy has the facts of the tree.
-use Rattle.std.proofs.Common.{ap, subst, sym, ◌≡◌, ◌∙◌, map}
+use Rattle.std.proofs.Common.{ap, subst, sym, ◌∙◌, map}
 use Rattle.p3_merkle_core.specs.Geometry.{arity_schedule, heights, IsLawful}
 use Rattle.p3_merkle_core.specs.Nodes.{Batch, shape}
 use Rattle.p3_merkle_builder.specs.Parts.{tree_batch}
