@@ -31,5 +31,7 @@ pub mod Extracted
 pub mod ExtractedMulti
 pub mod PlaceFacts
 pub mod RootFacts
+pub mod FallFacts
+pub mod CapFacts
 pub mod SiblingFacts
 pub mod GroupFacts

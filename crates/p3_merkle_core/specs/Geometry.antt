@@ -1,5 +1,5 @@
 -- The shape of a tree: exponents of heights, the ladder of lawful heights, steps, lengths, ancestors.
-use Rattle.std.specs.Prelude.{◌≡◌, ℕ, zero, suc, ◌+◌, ◌-◌, ◌*◌, ◌/◌, ◌%◌, ◌^◌, ◌<◌, ◌≤◌, max, Bool, true, false, ◌&&◌, ◌==◌, nat_lt, nat_le, if◌then◌else◌, List, [], ◌∷◌, map, All}
+use Rattle.std.specs.Prelude.{◌≡◌, ℕ, zero, suc, ◌+◌, ◌-◌, ◌*◌, ◌/◌, ◌%◌, ◌^◌, ◌<◌, ◌≤◌, max, min, Bool, true, false, ◌&&◌, ◌==◌, nat_lt, nat_le, if◌then◌else◌, List, [], ◌∷◌, map, All}
 use Rattle.std.specs.List.{list_any, range_with_len}
 use Rattle.std.specs.Int.{next_multiple_of}
 use Rattle.p3_support.specs.declared.matrix.Dimensions.{Dimensions}
@@ -19,6 +19,15 @@ exponent h = least (λ k. nat_le h (2 ^ k)) h
 abbrev pub tallest : List ℕ → ℕ
 tallest [] = 0
 tallest (h ∷ hs) = max h (tallest hs)
+
+-- the least of m and some heights
+abbrev pub least_height : ℕ → List ℕ → ℕ
+least_height m [] = m
+least_height m (h ∷ hs) = min h (least_height m hs)
+
+-- the least height, and 0 of none
+abbrev pub shortest : List ℕ → ℕ
+shortest hs = least_height (tallest hs) hs
 
 -- how many halvings lead from the greatest height m down to the height h
 abbrev pub bits_reduced : ℕ → ℕ → ℕ
@@ -101,10 +110,6 @@ schedule_below s t = map (step s) (range_with_len 0 t)
 -- the steps from the leaves to the root
 abbrev pub arity_schedule : Shape → List ℕ
 arity_schedule s = schedule_below s (levels s)
-
--- the cap layer of a cap height: so many layers below the root, and no lower than the leaves
-abbrev pub cap_layer : Shape → ℕ → ℕ
-cap_layer s cap_height = levels s - cap_height
 
 -- the layer so many levels below the root, and no lower than the leaves
 abbrev pub layer_below_root : Shape → ℕ → ℕ

@@ -1,7 +1,8 @@
 -- What holds of the definitions, whatever the hash, the compression, the batch, the openings and the cap.
 use Rattle.std.specs.Prelude.{◌≡◌, ◌≢◌, ◌↔◌, ◌⊎◌, ℕ, suc, ◌<◌, ◌≤◌, true, Bool, IsTrue, List, [], ◌∷◌, ◌++◌, Option, None, Some, Ok, Err, length, take, slice_index, All, map}
 use Rattle.std.specs.List.{count_by}
-use Rattle.p3_merkle_core.specs.Geometry.{Shape, heights, tallest, levels, layer_exponent, exponent, layer_of, layer_len, row_at_index, step, ancestor, arity_schedule, schedule_below, cap_layer, IsArity, IsLawful}
+use Rattle.p3_merkle_core.specs.Geometry.{Shape, heights, tallest, levels, layer_exponent, exponent, layer_of, layer_len, row_at_index, step, ancestor, arity_schedule, schedule_below, layer_below_root, IsArity, IsLawful}
+use Rattle.p3_merkle_core.specs.Caps.{cap_layer}
 use Rattle.p3_merkle_core.specs.Nodes.{Functions, Batch, HasFullRows, shape, node, layer, layers}
 use Rattle.p3_merkle_core.specs.Openings.{Opening, Input, AgreeWhereShared, HasDigests, IsAccepted, IsAtOnePlace, IsLastShared, honest, honest_siblings, inputs, is_authenticated, opened_row, path_digest, input_digest, check_digest, last_input}
 use Rattle.p3_merkle_core.specs.Pruning.{PrunedOpening, CanQuery, IsHonestQuery, IsCapped, IsUncovered, EachAccepted, Suffices, boundary, honest_query, is_covered, is_in, is_under, opening_at, restored_node, restored_path, IsGivenUnder, IsLeast}
@@ -11,6 +12,8 @@ use Rattle.p3_merkle_core.specs.Extracting.{difference_at, extraction_under, ext
 use Rattle.p3_merkle_core.specs.declared.error.MerkleTreeError.{MerkleTreeError}
 use Rattle.p3_merkle_core.specs.declared.error.MerkleTreeError.TheVariants.{CapMismatch}
 use Rattle.p3_merkle_core.specs.Gate.{gate_refusal}
+use Rattle.p3_merkle_core.specs.declared.cap.CapRule.{CapRule}
+use Rattle.p3_merkle_core.specs.declared.cap.CapRule.TheVariants.{Lowered, Fixed}
 
 -- ---- shapes
 
@@ -23,9 +26,9 @@ WalkEnds =
 -- the steps below the cap are the first of the schedule, and at most as many as the tallest height has halvings
 abbrev pub ScheduleStopsAtCap : Type 0
 ScheduleStopsAtCap =
-    (s : Shape) (cap_height : ℕ) →
-    (schedule_below s (cap_layer s cap_height) ≡ take (cap_layer s cap_height) (arity_schedule s))
-    × (length (schedule_below s (cap_layer s cap_height)) ≤ exponent (tallest (heights s)))
+    (s : Shape) (rule : CapRule) (cap_height : ℕ) →
+    (schedule_below s (cap_layer s rule cap_height) ≡ take (cap_layer s rule cap_height) (arity_schedule s))
+    × (length (schedule_below s (cap_layer s rule cap_height)) ≤ exponent (tallest (heights s)))
 
 -- the last layer is one node, and the last step is of the whole arity
 abbrev pub RootIsAlone : Type 0
@@ -49,6 +52,23 @@ RowsAreAncestors =
 -- the gate refuses nothing exactly if the heights are lawful
 abbrev pub UnrefusedIsLawful : Type 0
 UnrefusedIsLawful = (hs : List ℕ) → (gate_refusal hs ≡ None) ↔ IsLawful hs
+
+-- ---- caps
+
+-- under the rule Lowered each matrix is authenticated
+abbrev pub LoweredLeavesNoneOut : Type 0
+LoweredLeavesNoneOut =
+    (s : Shape) (cap_height k : ℕ) → IsArity s.arity → k < length (heights s) → IsTrue (is_authenticated s (cap_layer s Lowered cap_height) k)
+
+-- where the rule Fixed leaves no matrix out, both rules have one cap layer
+abbrev pub RulesAgree : Type 0
+RulesAgree =
+    (s : Shape) (cap_height : ℕ) → IsArity s.arity → ((k : ℕ) → k < length (heights s) → IsTrue (is_authenticated s (cap_layer s Fixed cap_height) k)) →
+    cap_layer s Lowered cap_height ≡ cap_layer s Fixed cap_height
+
+-- under the rule Fixed the cap is the layer so many levels below the root
+abbrev pub FixedIsBelowRoot : Type 0
+FixedIsBelowRoot = (s : Shape) (cap_height : ℕ) → cap_layer s Fixed cap_height ≡ layer_below_root s cap_height
 
 -- ---- pruned proofs
 

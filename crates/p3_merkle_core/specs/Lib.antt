@@ -1,4 +1,5 @@
 pub mod Geometry
+pub mod Caps
 pub mod Gate
 pub mod Nodes
 pub mod Openings

@@ -1,8 +1,10 @@
 -- Shapes and gates, worked out.
 use Rattle.std.specs.Prelude.{◌≡◌, ◌+◌, ◌^◌, [], ◌∷◌, map, refl, Some, None}
-use Rattle.p3_merkle_core.specs.Geometry.{exponent, layer_exponent, arity_schedule, padded_len, raw_len, layer_len, cap_layer, row_at_index, leaves_under, position_in_group}
+use Rattle.p3_merkle_core.specs.Geometry.{exponent, layer_exponent, arity_schedule, padded_len, raw_len, layer_len, row_at_index, leaves_under, position_in_group}
+use Rattle.p3_merkle_core.specs.Caps.{cap_layer}
 use Rattle.p3_merkle_core.specs.Gate.{gate_refusal}
 use Rattle.p3_merkle_core.specs.Examples.{narrow}
+use Rattle.p3_merkle_core.specs.declared.cap.CapRule.TheVariants.{Lowered, Fixed}
 use Rattle.p3_merkle_core.specs.declared.error.MerkleTreeError.TheVariants.{EmptyBatch, IncompatibleHeights, TooLarge}
 
 padded_lengths_at_2 : map (λ r. padded_len r 2) (0 ∷ 1 ∷ 2 ∷ 3 ∷ 4 ∷ 5 ∷ 7 ∷ 8 ∷ 9 ∷ 15 ∷ 16 ∷ []) ≡ 0 ∷ 1 ∷ 2 ∷ 4 ∷ 4 ∷ 6 ∷ 8 ∷ 8 ∷ 10 ∷ 16 ∷ 16 ∷ []
@@ -107,9 +109,22 @@ unfolding exponent layer_exponent
 no_steps_over_one_leaf = refl
 
 -- a cap height above the levels is the leaves
-cap_lengths_of_5 : map (λ c. layer_len (narrow 2 (5 ∷ [])) (cap_layer (narrow 2 (5 ∷ [])) c)) (0 ∷ 1 ∷ 2 ∷ 3 ∷ 9 ∷ []) ≡ 1 ∷ 2 ∷ 4 ∷ 6 ∷ 6 ∷ []
+cap_lengths_of_5 : map (λ c. layer_len (narrow 2 (5 ∷ [])) (cap_layer (narrow 2 (5 ∷ [])) Fixed c)) (0 ∷ 1 ∷ 2 ∷ 3 ∷ 9 ∷ []) ≡ 1 ∷ 2 ∷ 4 ∷ 6 ∷ 6 ∷ []
 unfolding exponent layer_exponent raw_len
 cap_lengths_of_5 = refl
+
+-- under the lowered rule the cap stays at or above the layer of the height 3, two levels below the root
+cap_layers_of_17_to_3 : map (cap_layer (narrow 2 (17 ∷ 9 ∷ 5 ∷ 3 ∷ [])) Lowered) (0 ∷ 1 ∷ 2 ∷ 3 ∷ 9 ∷ []) ≡ 5 ∷ 4 ∷ 3 ∷ 3 ∷ 3 ∷ []
+unfolding exponent layer_exponent
+cap_layers_of_17_to_3 = refl
+
+fixed_cap_layers_of_17_to_3 : map (cap_layer (narrow 2 (17 ∷ 9 ∷ 5 ∷ 3 ∷ [])) Fixed) (0 ∷ 1 ∷ 2 ∷ 3 ∷ 9 ∷ []) ≡ 5 ∷ 4 ∷ 3 ∷ 2 ∷ 0 ∷ []
+unfolding exponent layer_exponent
+fixed_cap_layers_of_17_to_3 = refl
+
+cap_layers_of_17_to_3_at_4 : map (cap_layer (narrow 4 (17 ∷ 9 ∷ 5 ∷ 3 ∷ [])) Lowered) (0 ∷ 1 ∷ 2 ∷ 9 ∷ []) ≡ 4 ∷ 3 ∷ 3 ∷ 3 ∷ []
+unfolding exponent layer_exponent
+cap_layers_of_17_to_3_at_4 = refl
 
 rows_of_index_6 : map (λ h. row_at_index (narrow 2 (7 ∷ 4 ∷ 2 ∷ 1 ∷ [])) h 6) (7 ∷ 4 ∷ 2 ∷ 1 ∷ []) ≡ 6 ∷ 3 ∷ 1 ∷ 0 ∷ []
 unfolding exponent

@@ -5,7 +5,7 @@
 
 ghost use Rattle.std.specs.Prelude.{◌≡◌, ℕ, suc, ◌+◌, ◌-◌, ◌*◌, ◌^◌, ◌<◌, ◌≤◌, ◌==◌, ◌↔◌, Some, None, IfOk, IsOk, MatchResult, List, map, if◌then◌else◌};
 ghost use Rattle.std.specs.List.{list_any};
-ghost use Rattle.p3_merkle_core.specs.Geometry.{bits_reduced, expected_height, exponent, grouped_len_of, heights_of, is_bridge, layer_exponent, max_height, padded_len, positions_below, raw_len, schedule_below, shape_of, tallest, levels, IsArity, IsLawful, Shape};
+ghost use Rattle.p3_merkle_core.specs.Geometry.{bits_reduced, expected_height, exponent, grouped_len_of, heights_of, is_bridge, layer_exponent, max_height, padded_len, positions_below, raw_len, schedule_below, shape_of, shortest, tallest, levels, IsArity, IsLawful, Shape};
 ghost use Rattle.p3_merkle_core.specs.Gate.{first_off_ladder, first_too_large, gate_refusal};
 ghost use Rattle.p3_merkle_core.specs.Openings.{siblings_below};
 ghost use Rattle.p3_merkle_core.specs.Refusals.{width_refusal};
@@ -43,6 +43,17 @@ pub fn tallest_of(dimensions: &[Dimensions]) -> usize
         tallest = tallest.max(matrix.height);
     }
     tallest
+}
+
+/// The least height of the matrices, in rows, and 0 of none.
+pub fn shortest_of(dimensions: &[Dimensions]) -> usize
+    ensures { result ≡ shortest (heights_of dimensions.now) }
+{
+    let mut shortest = tallest_of(dimensions);
+    for matrix in dimensions {
+        shortest = shortest.min(matrix.height);
+    }
+    shortest
 }
 
 /// How many halvings lead from the tallest height down to this one.

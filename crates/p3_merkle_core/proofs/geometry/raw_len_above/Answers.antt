@@ -1,5 +1,4 @@
-use Rattle.std.proofs.Common.{ap, ◌∙◌, ◌/◌}
-use Rattle.p3_merkle_core.specs.Geometry.{grouped_len_of, shape_of}
+use Rattle.p3_merkle_core.specs.Geometry.{shape_of}
 use Rattle.p3_merkle_core.proofs.RawFacts.{raw_at}
 use Rattle.p3_merkle_core.proofs.geometry.raw_len_above.Goals as goal
 

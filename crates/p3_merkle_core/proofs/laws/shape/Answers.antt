@@ -1,5 +1,6 @@
 use Rattle.std.proofs.lemmas.List.FromFn.{length-map-range_with_len, take-map-range_with_len}
-use Rattle.std.proofs.Common.{◌-◌, get_or, sym, arith}
+use Rattle.std.proofs.Common.{get_or, sym, arith}
+use Rattle.p3_merkle_core.specs.Caps.{cap_layer}
 use Rattle.p3_merkle_core.specs.Geometry.{heights, levels, step}
 use Rattle.p3_merkle_core.proofs.LadderFacts.{exponent_at_levels, levels_le, layer_of_is, row_below, row_is_anc}
 use Rattle.p3_merkle_core.proofs.RootFacts.{root_alone, last_step}
@@ -20,9 +21,10 @@ pub returns-clause-root : goal.returns-clause-root
 returns-clause-root c = λ s w some. (root_alone s w some, last_step s w)
 
 pub returns-clause-schedule : goal.returns-clause-schedule
-returns-clause-schedule c = λ s cap.
-    let short = length-map-range_with_len (step s) 0 (levels s - cap) in
-    (sym (take-map-range_with_len (step s) 0 (levels s) (levels s - cap) (omega arith)), omega (arith, short, levels_le s))
+returns-clause-schedule c = λ s rule cap_height.
+    let t = cap_layer s rule cap_height in
+    let short = length-map-range_with_len (step s) 0 t in
+    (sym (take-map-range_with_len (step s) 0 (levels s) t (omega arith)), omega (arith, short, levels_le s))
 
 pub returns-clause-gate : goal.returns-clause-gate
 returns-clause-gate c = gate_lawful

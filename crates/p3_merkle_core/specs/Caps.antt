@@ -1,0 +1,18 @@
+-- Caps: the layer that a scheme hands out, by its rule.
+use Rattle.std.specs.Prelude.{ℕ, min}
+use Rattle.p3_merkle_core.specs.Geometry.{Shape, has_rows, layer_below_root, least, levels}
+use Rattle.p3_merkle_core.specs.declared.cap.CapRule.{CapRule}
+use Rattle.p3_merkle_core.specs.declared.cap.CapRule.TheVariants.{Lowered, Fixed}
+
+-- how many levels are above the last layer to which a matrix belongs
+abbrev pub levels_above_rows : Shape → ℕ
+levels_above_rows s = least (λ k. has_rows s (layer_below_root s k)) (levels s)
+
+-- how many levels below the root a cap may be: under the rule Fixed all there are, under Lowered those above the last layer to which a matrix belongs
+abbrev pub room : Shape → CapRule → ℕ
+room s Lowered = levels_above_rows s
+room s Fixed = levels s
+
+-- the cap layer of a shape, a rule and a cap height: so many levels below the root, as far as there is room
+abbrev pub cap_layer : Shape → CapRule → ℕ → ℕ
+cap_layer s rule cap_height = layer_below_root s (min cap_height (room s rule))
