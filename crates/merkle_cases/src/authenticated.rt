@@ -8,7 +8,7 @@ use crate::scheme::fold_scheme;
 use crate::text;
 use std::alloc::Global;
 
-/// `authenticated | ARITY | CAP HEIGHT | HEIGHTS | ANSWERS`: of each matrix `yes` or `no`.
+/// `authenticated | ARITY | CAP | HEIGHTS | ANSWERS`: of each matrix `yes` or `no`.
 pub fn authenticated<const N: usize>(
     alloc: Global,
     fields: &mut Fields<'_>,
@@ -16,7 +16,7 @@ pub fn authenticated<const N: usize>(
     requires arity { IsTrue (is_arity N) }
     requires few { N ≤ 8 }
 {
-    let scheme = fold_scheme::<N>(fields.number()?);
+    let scheme = fold_scheme::<N>(fields.cap()?);
     let dimensions = fields.columns(alloc)?;
     let mut answers = Vec::new(alloc);
     for matrix in 0..dimensions.len() {

@@ -8,12 +8,12 @@ use crate::scheme::{fold_scheme, fold_tree};
 use crate::text;
 use std::alloc::Global;
 
-/// `commit | ARITY | CAP HEIGHT | MATRICES | CAP`.
+/// `commit | ARITY | CAP | MATRICES | CAP`.
 pub fn commit<const N: usize>(alloc: Global, fields: &mut Fields<'_>) -> Result<String, Fault>
     requires arity { IsTrue (is_arity N) }
     requires few { N ≤ 8 }
 {
-    let scheme = fold_scheme::<N>(fields.number()?);
+    let scheme = fold_scheme::<N>(fields.cap()?);
     let (cap, _) = scheme.commit(alloc, fields.matrices(alloc)?)?;
     Ok(text::digests(alloc, cap.roots())?)
 }

@@ -46,13 +46,13 @@ fn collision_text(alloc: Global, collision: &Collision<u32, u32, 1>) -> Result<S
     format!(in alloc; "{place} | {first} | {second}")
 }
 
-/// `extract | ARITY | CAP HEIGHT | CAP | DIMENSIONS | INDEX | ROWS | SIBLINGS | INDEX | ROWS | SIBLINGS | ANSWER`: what
+/// `extract | ARITY | CAP | CAP | DIMENSIONS | INDEX | ROWS | SIBLINGS | INDEX | ROWS | SIBLINGS | ANSWER`: what
 /// two openings lead to, which is `none`, or a place with the input of the first and that of the second.
 pub fn extract<const N: usize>(alloc: Global, fields: &mut Fields<'_>) -> Result<String, Fault>
     requires arity { IsTrue (is_arity N) }
     requires few { N ≤ 8 }
 {
-    let scheme = fold_scheme::<N>(fields.number()?);
+    let scheme = fold_scheme::<N>(fields.cap()?);
     let cap = MerkleCap::new(fields.digests(alloc)?);
     let dimensions = fields.dimensions(alloc)?;
     let first = LeafOpening::of(alloc, fields)?;

@@ -1,7 +1,8 @@
 //! The fields of a case: what stands between the bars of its line.
 
 use crate::lists;
-use p3_merkle_tree::MerkleTreeError;
+use crate::scheme::Cap;
+use p3_merkle_tree::{CapRule, MerkleTreeError};
 use p3_support::matrix::{Dimensions, RowMajorMatrix};
 use std::alloc::{AllocError, AllocFailed, Global};
 
@@ -37,12 +38,17 @@ impl<T: Drop> From<AllocFailed<T>> for Fault {
 pub struct Fields<'a> {
     fields: &'a [&'a str],
     next: usize,
+    rule: CapRule,
 }
 
 impl<'a> Fields<'a> {
-    /// These fields, all unread.
-    pub fn of(fields: &'a [&'a str]) -> Fields<'a> {
-        Fields { fields, next: 0 }
+    /// These fields, all unread. A cap that names no rule has this one.
+    pub fn of(fields: &'a [&'a str], rule: CapRule) -> Fields<'a> {
+        Fields {
+            fields,
+            next: 0,
+            rule,
+        }
     }
 
     /// The next field, without the blanks around it.
@@ -64,6 +70,11 @@ impl<'a> Fields<'a> {
     /// The number that the next field is.
     pub fn number(&mut self) -> Result<usize, Fault> {
         lists::number_of(self.take()?)
+    }
+
+    /// The cap that the next field is: its height, and `l` or `f` after it where it has a rule of its own.
+    pub fn cap(&mut self) -> Result<Cap, Fault> {
+        lists::cap_of(self.take()?, self.rule)
     }
 
     /// The numbers of the next field.

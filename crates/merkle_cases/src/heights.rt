@@ -5,7 +5,7 @@ ghost use Rattle.p3_merkle_core.specs.Geometry.{is_arity};
 
 use crate::fields::{Fault, Fields};
 use crate::lists::columns_of;
-use crate::scheme::{FoldOpening, fold_scheme, fold_tree, numbered};
+use crate::scheme::{FoldOpening, ROOT, fold_scheme, fold_tree, numbered};
 use crate::text;
 use p3_merkle_core::geometry::check_heights;
 use p3_merkle_tree::{BatchOpening, BatchOpeningRef, MerkleCap, MerkleTreeError};
@@ -14,7 +14,7 @@ use std::alloc::{AllocError, Global};
 
 /// What committing to columns of these heights answers.
 fn committed(alloc: Global, heights: &[usize]) -> Result<(), MerkleTreeError> {
-    fold_scheme::<2>(0).commit(alloc, numbered(alloc, heights)?)?;
+    fold_scheme::<2>(ROOT).commit(alloc, numbered(alloc, heights)?)?;
     Ok(())
 }
 
@@ -26,7 +26,7 @@ fn build(alloc: Global, heights: &[usize]) -> Result<(), MerkleTreeError> {
 
 /// What the schedule below the root answers.
 fn scheduled(alloc: Global, dimensions: &[Dimensions]) -> Result<(), MerkleTreeError> {
-    fold_scheme::<2>(0).proof_arity_schedule(alloc, dimensions)?;
+    fold_scheme::<2>(ROOT).proof_arity_schedule(alloc, dimensions)?;
     Ok(())
 }
 
@@ -54,7 +54,7 @@ pub fn heights(alloc: Global, fields: &mut Fields<'_>) -> Result<String, Fault> 
         text::verdict(alloc, scheduled(alloc, &dimensions))?,
         text::verdict(
             alloc,
-            fold_scheme::<2>(0).verify_batch(&cap, &dimensions, 0, lent),
+            fold_scheme::<2>(ROOT).verify_batch(&cap, &dimensions, 0, lent),
         )?,
     ];
     if answers.iter().all(|answer| *answer == answers[0]) {
@@ -77,13 +77,13 @@ fn padding_of(layer: &[[u32; 1]]) -> usize {
     padding
 }
 
-/// `shape | ARITY | CAP HEIGHT | HEIGHTS | STEPS | LENGTHS`: the steps from the leaves up to the cap, and of each layer,
+/// `shape | ARITY | CAP | HEIGHTS | STEPS | LENGTHS`: the steps from the leaves up to the cap, and of each layer,
 /// leaves first, how many of its slots are nodes.
 pub fn shape<const N: usize>(alloc: Global, fields: &mut Fields<'_>) -> Result<String, Fault>
     requires arity { IsTrue (is_arity N) }
     requires few { N ≤ 8 }
 {
-    let scheme = fold_scheme::<N>(fields.number()?);
+    let scheme = fold_scheme::<N>(fields.cap()?);
     let heights = fields.numbers(alloc)?;
     let steps = scheme.proof_arity_schedule(alloc, &columns_of(alloc, &heights)?)?;
     let (_, tree) = scheme.commit(alloc, numbered(alloc, &heights)?)?;

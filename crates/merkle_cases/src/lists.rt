@@ -2,6 +2,8 @@
 //! at all are written `none`.
 
 use crate::fields::Fault;
+use crate::scheme::Cap;
+use p3_merkle_tree::CapRule;
 use p3_support::matrix::{Dimensions, RowMajorMatrix};
 use std::alloc::Global;
 
@@ -11,6 +13,24 @@ pub fn number_of(word: &str) -> Result<usize, Fault> {
         Ok(number) => Ok(number),
         Err(_) => Err(Fault::Unreadable("a number is wrong or missing")),
     }
+}
+
+/// The cap that a word is: a height under this rule, or with `l` after it under the lowered rule, with `f` under the
+/// fixed one.
+pub fn cap_of(word: &str, rule: CapRule) -> Result<Cap, Fault> {
+    if let Some(height) = word.strip_suffix('l') {
+        return cap_of_height(height, CapRule::Lowered);
+    }
+    if let Some(height) = word.strip_suffix('f') {
+        return cap_of_height(height, CapRule::Fixed);
+    }
+    cap_of_height(word, rule)
+}
+
+/// The cap of the height that a word is.
+fn cap_of_height(word: &str, rule: CapRule) -> Result<Cap, Fault> {
+    let height = number_of(word)?;
+    Ok(Cap { height, rule })
 }
 
 /// The numbers in a text.

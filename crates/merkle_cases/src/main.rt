@@ -24,6 +24,7 @@ mod text;
 mod verify;
 
 use crate::fields::{Fault, Fields};
+use p3_merkle_tree::CapRule;
 use std::alloc::Global;
 use std::io;
 use std::process::ExitCode;
@@ -89,10 +90,10 @@ fn expected(alloc: Global, fields: &Fields<'_>) -> Result<String, Fault> {
     Ok(text::joined(alloc, &texts, " | ")?)
 }
 
-/// What a case is answered, where that is not what its line says.
-fn wrong_answer(alloc: Global, line: &str) -> Result<Option<String>, Fault> {
+/// What a case is answered under a rule, where that is not what its line says.
+fn wrong_under(alloc: Global, line: &str, rule: CapRule) -> Result<Option<String>, Fault> {
     let pieces: Vec<&str> = line.split('|').collect(alloc)?;
-    let mut fields = Fields::of(&pieces);
+    let mut fields = Fields::of(&pieces, rule);
     let got = match answer(alloc, &mut fields) {
         Ok(text) => text,
         Err(Fault::Refused(error)) => format!(in alloc; "{error}")?,
@@ -102,6 +103,14 @@ fn wrong_answer(alloc: Global, line: &str) -> Result<Option<String>, Fault> {
         Ok(None)
     } else {
         Ok(Some(got))
+    }
+}
+
+/// The same under both rules: a cap that names no rule is answered alike under each.
+fn wrong_answer(alloc: Global, line: &str) -> Result<Option<String>, Fault> {
+    match wrong_under(alloc, line, CapRule::Lowered)? {
+        Some(got) => Ok(Some(got)),
+        None => wrong_under(alloc, line, CapRule::Fixed),
     }
 }
 

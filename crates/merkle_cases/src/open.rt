@@ -4,7 +4,7 @@ ghost use Rattle.std.specs.Prelude.{◌≤◌, IsTrue};
 ghost use Rattle.p3_merkle_core.specs.Geometry.{is_arity};
 
 use crate::fields::{Fault, Fields};
-use crate::scheme::{FoldOpening, FoldScheme, FoldTree, fold_scheme, numbered};
+use crate::scheme::{FoldOpening, FoldScheme, FoldTree, ROOT, fold_scheme, numbered};
 use crate::text;
 use p3_merkle_tree::{BatchOpeningRef, MerkleCap, MerkleTreeError};
 use p3_support::matrix::{Dimensions, Matrix};
@@ -42,12 +42,12 @@ fn accepted<M: Matrix<u32>, const N: usize>(
     Ok(opening)
 }
 
-/// `open | ARITY | CAP HEIGHT | MATRICES | INDEX | ROWS | SIBLINGS`: the opening of a leaf, which is accepted.
+/// `open | ARITY | CAP | MATRICES | INDEX | ROWS | SIBLINGS`: the opening of a leaf, which is accepted.
 pub fn open<const N: usize>(alloc: Global, fields: &mut Fields<'_>) -> Result<String, Fault>
     requires arity { IsTrue (is_arity N) }
     requires few { N ≤ 8 }
 {
-    let scheme = fold_scheme::<N>(fields.number()?);
+    let scheme = fold_scheme::<N>(fields.cap()?);
     let matrices = fields.matrices(alloc)?;
     let index = fields.number()?;
     let (cap, tree) = scheme.commit(alloc, matrices)?;
@@ -57,12 +57,12 @@ pub fn open<const N: usize>(alloc: Global, fields: &mut Fields<'_>) -> Result<St
     Ok(format!(in alloc; "{rows} | {siblings}")?)
 }
 
-/// `leaves | ARITY | CAP HEIGHT | HEIGHTS | LEAVES accepted`: the opening of each leaf is accepted.
+/// `leaves | ARITY | CAP | HEIGHTS | LEAVES accepted`: the opening of each leaf is accepted.
 pub fn leaves<const N: usize>(alloc: Global, fields: &mut Fields<'_>) -> Result<String, Fault>
     requires arity { IsTrue (is_arity N) }
     requires few { N ≤ 8 }
 {
-    let scheme = fold_scheme::<N>(fields.number()?);
+    let scheme = fold_scheme::<N>(fields.cap()?);
     let (cap, tree) = scheme.commit(alloc, numbered(alloc, &fields.numbers(alloc)?)?)?;
     let leaves = scheme.get_max_height(&tree);
     for index in 0..leaves {
@@ -76,7 +76,7 @@ pub fn kept<const N: usize>(alloc: Global, fields: &mut Fields<'_>) -> Result<St
     requires arity { IsTrue (is_arity N) }
     requires few { N ≤ 8 }
 {
-    let scheme = fold_scheme::<N>(0);
+    let scheme = fold_scheme::<N>(ROOT);
     let (_, tree) = scheme.commit(alloc, numbered(alloc, &fields.numbers(alloc)?)?)?;
     let max_height = scheme.get_max_height(&tree);
     let dimensions = text::dimensions(alloc, &dimensions_in(alloc, &scheme, &tree)?)?;

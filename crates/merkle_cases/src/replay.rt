@@ -8,23 +8,23 @@ use crate::scheme::fold_scheme;
 use crate::text;
 use std::alloc::Global;
 
-/// `schedule | ARITY | CAP HEIGHT | HEIGHTS | STEPS`: the steps from the leaves up to the cap, in children a node.
+/// `schedule | ARITY | CAP | HEIGHTS | STEPS`: the steps from the leaves up to the cap, in children a node.
 pub fn schedule<const N: usize>(alloc: Global, fields: &mut Fields<'_>) -> Result<String, Fault>
     requires arity { IsTrue (is_arity N) }
     requires few { N ≤ 8 }
 {
-    let scheme = fold_scheme::<N>(fields.number()?);
+    let scheme = fold_scheme::<N>(fields.cap()?);
     let steps = scheme.proof_arity_schedule(alloc, &fields.columns(alloc)?)?;
     Ok(text::numbers(alloc, &steps)?)
 }
 
-/// `replay | ARITY | CAP HEIGHT | HEIGHTS | INDEX | NUMBER OF SIBLINGS | STEPS | POSITIONS`: how the path of an
+/// `replay | ARITY | CAP | HEIGHTS | INDEX | NUMBER OF SIBLINGS | STEPS | POSITIONS`: how the path of an
 /// index goes, as a clone of the answer shows it.
 pub fn replay<const N: usize>(alloc: Global, fields: &mut Fields<'_>) -> Result<String, Fault>
     requires arity { IsTrue (is_arity N) }
     requires few { N ≤ 8 }
 {
-    let scheme = fold_scheme::<N>(fields.number()?);
+    let scheme = fold_scheme::<N>(fields.cap()?);
     let dimensions = fields.columns(alloc)?;
     let index = fields.number()?;
     let num_siblings = fields.number()?;

@@ -3,7 +3,7 @@
 ghost use Rattle.std.specs.Prelude.{◌%◌, ◌^◌, ◌≤◌, ◌∷◌, [], refl, IsTrue};
 ghost use Rattle.p3_merkle_core.specs.Geometry.{is_arity};
 
-use p3_merkle_tree::{BatchOpening, MerkleTree, MerkleTreeError, MerkleTreeMmcs};
+use p3_merkle_tree::{BatchOpening, CapRule, MerkleTree, MerkleTreeError, MerkleTreeMmcs};
 use p3_support::fold::{FoldCompress, FoldHash};
 use p3_support::matrix::Matrix;
 use std::alloc::{AllocError, Global};
@@ -24,12 +24,27 @@ pub type FoldTree<M, const N: usize> = MerkleTree<u32, u32, M, N, 1>;
 /// An opening of that scheme.
 pub type FoldOpening = BatchOpening<u32, Vec<[u32; 1]>>;
 
-/// The scheme with this cap height.
-pub fn fold_scheme<const N: usize>(cap_height: usize) -> FoldScheme<N>
+/// How far below the root a cap is asked for, in levels, and by which rule.
+#[derive(Clone, Copy)]
+pub struct Cap {
+    /// The cap height.
+    pub height: usize,
+    /// The rule.
+    pub rule: CapRule,
+}
+
+/// The root alone.
+pub const ROOT: Cap = Cap {
+    height: 0,
+    rule: CapRule::Lowered,
+};
+
+/// The scheme with such a cap.
+pub fn fold_scheme<const N: usize>(cap: Cap) -> FoldScheme<N>
     requires arity { IsTrue (is_arity N) }
     requires few { N ≤ 8 }
 {
-    MerkleTreeMmcs::new(FoldHash::<1>, FoldCompress::<N, 1>, cap_height)
+    MerkleTreeMmcs::new_with_rule(FoldHash::<1>, FoldCompress::<N, 1>, cap.height, cap.rule)
 }
 
 /// The tree over matrices, built without a scheme.

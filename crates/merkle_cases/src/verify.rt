@@ -28,12 +28,12 @@ impl LeafOpening {
     }
 }
 
-/// `verify | ARITY | CAP HEIGHT | CAP | DIMENSIONS | INDEX | ROWS | SIBLINGS | ANSWER`.
+/// `verify | ARITY | CAP | CAP | DIMENSIONS | INDEX | ROWS | SIBLINGS | ANSWER`.
 pub fn verify<const N: usize>(alloc: Global, fields: &mut Fields<'_>) -> Result<String, Fault>
     requires arity { IsTrue (is_arity N) }
     requires few { N ≤ 8 }
 {
-    let scheme = fold_scheme::<N>(fields.number()?);
+    let scheme = fold_scheme::<N>(fields.cap()?);
     let cap = MerkleCap::new(fields.digests(alloc)?);
     let dimensions = fields.dimensions(alloc)?;
     let LeafOpening { index, opening } = LeafOpening::of(alloc, fields)?;

@@ -3,7 +3,7 @@
 
 use crate::calls::accepted_cap;
 use crate::fixtures::{columns, numbered};
-use p3_merkle_tree::{MerkleCap, MerkleTreeError, MerkleTreeMmcs};
+use p3_merkle_tree::{CapRule, MerkleCap, MerkleTreeError, MerkleTreeMmcs};
 use p3_support::batched::Batched3;
 use p3_support::fold::{FoldCompress, FoldHash};
 use p3_support::lanes::{Lanes, U32x8};
@@ -19,21 +19,25 @@ static HEIGHTS: [usize; 4] = [17, 9, 5, 3];
 /// The cap of the fold functions at arity 4 in one lane, each message and each group on its own, where an opening is
 /// accepted.
 fn plain_cap(alloc: Global, cap_height: usize) -> Result<WordCap, MerkleTreeError> {
-    let scheme = MerkleTreeMmcs::<u32, u32, FoldHash<1>, FoldCompress<4, 1>, 4, 1>::new(
+    let scheme = MerkleTreeMmcs::<u32, u32, FoldHash<1>, FoldCompress<4, 1>, 4, 1>::new_with_rule(
         FoldHash,
         FoldCompress,
         cap_height,
+        CapRule::Fixed,
     );
     accepted_cap(alloc, &scheme, numbered(alloc, &HEIGHTS)?, 2)
 }
 
 /// That cap at arity 4, in eight lanes.
 fn cap_by_eight(alloc: Global, cap_height: usize) -> Result<WordCap, MerkleTreeError> {
-    let scheme = MerkleTreeMmcs::<U32x8, U32x8, FoldHash<8>, FoldCompress<4, 8>, 4, 1>::new(
-        FoldHash,
-        FoldCompress,
-        cap_height,
-    );
+    let scheme = MerkleTreeMmcs::<
+        U32x8,
+        U32x8,
+        FoldHash<8>,
+        FoldCompress<4, 8>,
+        4,
+        1,
+    >::new_with_rule(FoldHash, FoldCompress, cap_height, CapRule::Fixed);
     accepted_cap(alloc, &scheme, numbered(alloc, &HEIGHTS)?, 16)
 }
 
@@ -46,7 +50,12 @@ fn cap_by_three(alloc: Global, cap_height: usize) -> Result<WordCap, MerkleTreeE
         Batched3<FoldCompress<4, 1>>,
         4,
         1,
-    >::new(Batched3(FoldHash), Batched3(FoldCompress), cap_height);
+    >::new_with_rule(
+        Batched3(FoldHash),
+        Batched3(FoldCompress),
+        cap_height,
+        CapRule::Fixed,
+    );
     accepted_cap(alloc, &scheme, numbered(alloc, &HEIGHTS)?, 5)
 }
 
@@ -61,13 +70,13 @@ type LanesScheme = MerkleTreeMmcs<Lanes<u32>, Lanes<u32>, FoldHash<8>, FoldCompr
 
 /// The cap at arity 2 and digests of two words, in one lane.
 fn pair_cap(alloc: Global, cap_height: usize) -> Result<PairCap, MerkleTreeError> {
-    let scheme = PairScheme::new(FoldHash, FoldCompress, cap_height);
+    let scheme = PairScheme::new_with_rule(FoldHash, FoldCompress, cap_height, CapRule::Fixed);
     accepted_cap(alloc, &scheme, numbered(alloc, &HEIGHTS)?, 2)
 }
 
 /// That cap in two lanes.
 fn pair_cap_by_two(alloc: Global, cap_height: usize) -> Result<PairCap, MerkleTreeError> {
-    let scheme = LanesScheme::new(FoldHash, FoldCompress, cap_height);
+    let scheme = LanesScheme::new_with_rule(FoldHash, FoldCompress, cap_height, CapRule::Fixed);
     accepted_cap(alloc, &scheme, numbered(alloc, &HEIGHTS)?, 7)
 }
 
@@ -104,5 +113,15 @@ fn digests_of_two_words_have_the_root_worked_out(rt: HostRuntime) -> Result<(), 
         let cap = cap_of_two_rows(rt.alloc(), &each)?;
         assert_eq!(rt; cap.roots(), [[1026, 2018]].as_slice());
     }
+    Ok(())
+}
+
+#[test]
+fn a_scheme_and_its_clone_keep_the_rule(rt: HostRuntime) -> Result<(), Fail> {
+    let lowered = PairScheme::new(FoldHash, FoldCompress, 3);
+    let fixed = PairScheme::new_with_rule(FoldHash, FoldCompress, 4, CapRule::Fixed);
+    assert_eq!(rt; lowered.clone()?.cap_rule(), CapRule::Lowered);
+    assert_eq!(rt; fixed.clone()?.cap_rule(), CapRule::Fixed);
+    assert_eq!(rt; fixed.cap_height(), 4);
     Ok(())
 }

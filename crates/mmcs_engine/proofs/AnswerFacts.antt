@@ -8,7 +8,9 @@ use Rattle.p3_support.specs.declared.matrix.Dimensions.{Dimensions}
 use Rattle.p3_support.specs.declared.matrix.RowMajorMatrix.{RowMajorMatrix}
 use Rattle.p3_support.specs.RowMajor.{row_width, row_count, values_of}
 use Rattle.p3_merkle_core.specs.Gate.{gate_refusal}
-use Rattle.p3_merkle_core.specs.Geometry.{Shape, cap_layer, heights, tallest, IsLawful}
+use Rattle.p3_merkle_core.specs.Caps.{cap_layer}
+use Rattle.p3_merkle_core.specs.Geometry.{Shape, heights, tallest, IsLawful}
+use Rattle.p3_merkle_core.specs.declared.cap.CapRule.TheVariants.{Lowered}
 use Rattle.p3_merkle_core.specs.Nodes.{Batch, Functions, layer, shape}
 use Rattle.p3_merkle_core.specs.Openings.{siblings_below, IsAccepted, Opening}
 use Rattle.p3_merkle_core.specs.declared.error.MerkleTreeError.{MerkleTreeError}
@@ -47,11 +49,11 @@ module _ (input : List ℕ) (stored : List (RowMajorMatrix ℕ)) (command : Comm
 
   -- what is printed of the batch is printed of them
   pub told_text : {A : Type 0} (result : Result (String A) Fault) →
-      IfOk result (λ text. (tree_refusal command.action (heights (shape (stored_batch n stored))) ≡ None) × (string_bytes text ≡ text_of hash command.action (stored_batch n stored) (cap_layer (shape (stored_batch n stored)) command.cap_height))) →
+      IfOk result (λ text. (tree_refusal command.action (heights (shape (stored_batch n stored))) ≡ None) × (string_bytes text ≡ text_of hash command.action (stored_batch n stored) (cap_layer (shape (stored_batch n stored)) Lowered command.cap_height))) →
       IfOk result (λ text. (matrices : List (List (List ℕ))) × StandsFor (max_word command.hash + 1) input matrices × IsTaken command.action (heights_of_rows matrices) × (string_bytes text ≡ output_of command matrices))
   told_text result told =
       IfOk-weaker result _ _
-      (λ text there. (found.0, stands, taken_from_none command.action (heights_of_rows found.0) (refusal_is ∙ there.0), there.1 ∙ (λ i. text_of (hash_is i) command.action (batch_is i) (cap_layer (shape (batch_is i)) command.cap_height))))
+      (λ text there. (found.0, stands, taken_from_none command.action (heights_of_rows found.0) (refusal_is ∙ there.0), there.1 ∙ (λ i. text_of (hash_is i) command.action (batch_is i) (cap_layer (shape (batch_is i)) Lowered command.cap_height))))
       told
 
   -- what the tree refuses of the batch it refuses of them
@@ -77,17 +79,17 @@ past_the_end hs index max_height passes greatest past =
 
 -- an opening that is accepted under the tree's own batch and cap is accepted under what stands for them
 pub accepted_as : (f : Functions ℕ ℕ) (batch own : Batch ℕ) (cap_height : ℕ) (s : Shape) (roots : List (List ℕ)) (opening : Opening ℕ ℕ) → own ≡ batch → s ≡ shape batch →
-    roots ≡ layer f batch (cap_layer (shape batch) cap_height) → IsAccepted f (shape own) (cap_layer (shape own) cap_height) (layer f own (cap_layer (shape own) cap_height)) opening →
-    IsAccepted f s (cap_layer s cap_height) roots opening
+    roots ≡ layer f batch (cap_layer (shape batch) Lowered cap_height) → IsAccepted f (shape own) (cap_layer (shape own) Lowered cap_height) (layer f own (cap_layer (shape own) Lowered cap_height)) opening →
+    IsAccepted f s (cap_layer s Lowered cap_height) roots opening
 accepted_as f batch own cap_height s roots opening same shape_is roots_are accepted =
-    subst (λ (r : List (List ℕ)). IsAccepted f s (cap_layer s cap_height) r opening) (sym roots_are)
-    (subst (λ (t : Shape). IsAccepted f t (cap_layer t cap_height) (layer f batch (cap_layer (shape batch) cap_height)) opening) (sym shape_is)
-    (subst (λ (b : Batch ℕ). IsAccepted f (shape b) (cap_layer (shape b) cap_height) (layer f b (cap_layer (shape b) cap_height)) opening) same accepted))
+    subst (λ (r : List (List ℕ)). IsAccepted f s (cap_layer s Lowered cap_height) r opening) (sym roots_are)
+    (subst (λ (t : Shape). IsAccepted f t (cap_layer t Lowered cap_height) (layer f batch (cap_layer (shape batch) Lowered cap_height)) opening) (sym shape_is)
+    (subst (λ (b : Batch ℕ). IsAccepted f (shape b) (cap_layer (shape b) Lowered cap_height) (layer f b (cap_layer (shape b) Lowered cap_height)) opening) same accepted))
 
 -- what is told of an accepted opening of an index below the greatest height
 pub check_told : (f : Functions ℕ ℕ) (checked own : Shape) (cap_height : ℕ) (roots : List (List ℕ)) (opening : Opening ℕ ℕ) (index count : ℕ) (text : List ℕ) → checked ≡ own →
-    IsAccepted f checked (cap_layer checked cap_height) roots opening → index < tallest (heights own) → count ≡ length opening.siblings → text ≡ ok_line count →
-    (tree_refusal (Check index) (heights own) ≡ None) × (text ≡ ok_line (siblings_below own (cap_layer own cap_height)))
+    IsAccepted f checked (cap_layer checked Lowered cap_height) roots opening → index < tallest (heights own) → count ≡ length opening.siblings → text ≡ ok_line count →
+    (tree_refusal (Check index) (heights own) ≡ None) × (text ≡ ok_line (siblings_below own (cap_layer own Lowered cap_height)))
 check_told f checked own cap_height roots opening index count text same accepted below count_is text_is =
-    let there = subst (λ (s : Shape). IsLawful (heights s) × (length opening.siblings ≡ siblings_below s (cap_layer s cap_height))) same (accepted.lawful, accepted.count) in
+    let there = subst (λ (s : Shape). IsLawful (heights s) × (length opening.siblings ≡ siblings_below s (cap_layer s Lowered cap_height))) same (accepted.lawful, accepted.count) in
     (taken_unrefused (Check index) (heights own) (there.0, below), text_is ∙ ap ok_line (count_is ∙ there.1))

@@ -5,7 +5,9 @@ use Rattle.std.specs.Option.{option_or}
 use Rattle.p3_support.specs.Fold.{fold_hash, fold_compress}
 use Rattle.p3_support.specs.Sha.{sha256_rows, sha256_nodes}
 use Rattle.p3_merkle_core.specs.Gate.{gate_refusal}
-use Rattle.p3_merkle_core.specs.Geometry.{cap_layer, tallest, IsLawful}
+use Rattle.p3_merkle_core.specs.Caps.{cap_layer}
+use Rattle.p3_merkle_core.specs.Geometry.{tallest, IsLawful}
+use Rattle.p3_merkle_core.specs.declared.cap.CapRule.TheVariants.{Lowered}
 use Rattle.p3_merkle_core.specs.Nodes.{Batch, Functions, functions_of, layer, shape}
 use Rattle.p3_merkle_core.specs.Openings.{siblings_below}
 use Rattle.p3_merkle_core.specs.declared.error.MerkleTreeError.{MerkleTreeError}
@@ -51,7 +53,7 @@ text_of hash (Check index) b t = ok_line (siblings_below (shape b) t)
 
 -- what a command prints of some matrices
 abbrev pub output_of : Command → List (List (List ℕ)) → List ℕ
-output_of command matrices = let b = batch_of_rows (arity_number command.arity) matrices in text_of command.hash command.action b (cap_layer (shape b) command.cap_height)
+output_of command matrices = let b = batch_of_rows (arity_number command.arity) matrices in text_of command.hash command.action b (cap_layer (shape b) Lowered command.cap_height)
 
 -- why an index is refused: it is past the greatest height
 abbrev pub action_index_refusal : Action → ℕ → Option MerkleTreeError

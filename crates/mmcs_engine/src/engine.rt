@@ -3,7 +3,9 @@
 ghost use Rattle.std.specs.Prelude.{◌≡◌, ◌⊎◌, ◌+◌, ◌<◌, ℕ, All, List, map, Some, None, Ok, Err, IfOk, IfErr, IfSome, IsTrue, OnOk, OnErr, string_bytes};
 ghost use Rattle.std.specs.Io.KnownBytes.{Appends};
 ghost use Rattle.p3_support.specs.RowMajor.{row_width, row_count, values_of};
-ghost use Rattle.p3_merkle_core.specs.Geometry.{cap_layer, heights};
+ghost use Rattle.p3_merkle_core.specs.Caps.{cap_layer};
+ghost use Rattle.p3_merkle_core.specs.Geometry.{heights};
+ghost use Rattle.p3_merkle_core.specs.declared.cap.CapRule.TheVariants.{Lowered};
 ghost use Rattle.p3_merkle_core.specs.Nodes.{shape};
 ghost use Rattle.p3_merkle_core.specs.declared.error.MerkleTreeError.{MerkleTreeError};
 ghost use Rattle.p3_merkle_core.specs.declared.error.MerkleTreeError.TheVariants.{OutOfMemory};
@@ -176,7 +178,7 @@ fn act<S: Suite<N>, const N: usize>(
     requires words { All (λ m. All (λ v. v < max_word S.name + 1) (values_of m)) matrices.items }
     ensures text { let b = stored_batch N matrices.items in
         IfOk result (λ text. (tree_refusal action (heights (shape b)) ≡ None) ×
-        (string_bytes text ≡ text_of S.name action b (cap_layer (shape b) cap_height))) }
+        (string_bytes text ≡ text_of S.name action b (cap_layer (shape b) Lowered cap_height))) }
     ensures fault { let b = stored_batch N matrices.items in
         IfErr result (λ fault. (fault ≡ Fault.Tree OutOfMemory) ⊎
         ((e : MerkleTreeError) × (fault ≡ Fault.Tree e) × (tree_refusal action (heights (shape b)) ≡ Some e))) }
@@ -201,7 +203,7 @@ fn commit_text<S: Suite<N>, const N: usize>(
     requires words { All (λ m. All (λ v. v < max_word S.name + 1) (values_of m)) matrices.items }
     ensures text { let b = stored_batch N matrices.items in
         IfOk result (λ text. (tree_refusal Commit (heights (shape b)) ≡ None) ×
-        (string_bytes text ≡ text_of S.name Commit b (cap_layer (shape b) cap_height))) }
+        (string_bytes text ≡ text_of S.name Commit b (cap_layer (shape b) Lowered cap_height))) }
     ensures fault { let b = stored_batch N matrices.items in
         IfErr result (λ fault. (fault ≡ Fault.Tree OutOfMemory) ⊎
         ((e : MerkleTreeError) × (fault ≡ Fault.Tree e) × (tree_refusal Commit (heights (shape b)) ≡ Some e))) }
@@ -245,7 +247,7 @@ fn check_text<S: Suite<N>, const N: usize>(
     requires words { All (λ m. All (λ v. v < max_word S.name + 1) (values_of m)) matrices.items }
     ensures text { let b = stored_batch N matrices.items in
         IfOk result (λ text. (tree_refusal (Check index) (heights (shape b)) ≡ None) ×
-        (string_bytes text ≡ text_of S.name (Check index) b (cap_layer (shape b) cap_height))) }
+        (string_bytes text ≡ text_of S.name (Check index) b (cap_layer (shape b) Lowered cap_height))) }
     ensures fault { let b = stored_batch N matrices.items in
         IfErr result (λ fault. (fault ≡ Fault.Tree OutOfMemory) ⊎
         ((e : MerkleTreeError) × (fault ≡ Fault.Tree e) × (tree_refusal (Check index) (heights (shape b)) ≡ Some e))) }

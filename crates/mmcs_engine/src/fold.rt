@@ -2,8 +2,9 @@
 
 ghost use Rattle.std.specs.Prelude.{◌≡◌, IsTrue};
 ghost use Rattle.p3_support.specs.Shown.{roots_of};
+ghost use Rattle.p3_merkle_core.specs.declared.cap.CapRule.TheVariants.{Lowered};
 ghost use Rattle.p3_merkle_tree.specs.Parts.{layers_of, matrices_of};
-ghost use Rattle.p3_merkle_tree.specs.Schemes.{cap_height_of, opening_made, scheme_functions};
+ghost use Rattle.p3_merkle_tree.specs.Schemes.{cap_height_of, cap_rule_of, opening_made, scheme_functions};
 ghost use Rattle.mmcs_engine.specs.Matrices.{stored_batch};
 ghost use Rattle.mmcs_engine.specs.Program.{fold_functions};
 ghost use Rattle.mmcs_engine.specs.Words.{is_taken_arity};
@@ -20,7 +21,7 @@ use p3_support::hasher::CryptographicHasher;
 use p3_support::matrix::{Dimensions, RowMajorMatrix};
 use std::alloc::{AllocError, Global};
 
-/// The scheme of the fold functions, whose cap is so many levels below the root. The arity is 2, 4 or 8.
+/// The scheme of the fold functions, whose cap is so many levels below the root, by the lowered rule. The arity is 2, 4 or 8.
 fn fold_scheme<const N: usize>(
     cap_height: usize,
 ) -> MerkleTreeMmcs<u32, u32, FoldHash<4>, FoldCompress<N, 4>, N, 1>
@@ -28,6 +29,7 @@ fn fold_scheme<const N: usize>(
     ensures functions { scheme_functions ⟦<FoldHash<4> as CryptographicHasher<u32, u32, 1>>⟧.hash
         ⟦<FoldCompress<N, 4> as PseudoCompressionFunction<u32, N, 1>>⟧.compression 1 result ≡ fold_functions }
     ensures cap_height { cap_height_of result ≡ cap_height }
+    ensures rule { cap_rule_of result ≡ Lowered }
 {
     MerkleTreeMmcs::new(FoldHash::<4>, FoldCompress::<N, 4>, cap_height)
 }

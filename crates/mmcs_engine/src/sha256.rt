@@ -3,8 +3,9 @@
 ghost use Rattle.std.specs.Prelude.{◌≡◌, ◌<◌, All, IfOk, IsTrue, map};
 ghost use Rattle.p3_support.specs.RowMajor.{values_of};
 ghost use Rattle.p3_support.specs.Shown.{roots_of};
+ghost use Rattle.p3_merkle_core.specs.declared.cap.CapRule.TheVariants.{Lowered};
 ghost use Rattle.p3_merkle_tree.specs.Parts.{layers_of, matrices_of};
-ghost use Rattle.p3_merkle_tree.specs.Schemes.{cap_height_of, opening_made, scheme_functions};
+ghost use Rattle.p3_merkle_tree.specs.Schemes.{cap_height_of, cap_rule_of, opening_made, scheme_functions};
 ghost use Rattle.mmcs_engine.specs.Matrices.{stored_batch, stored_matrix};
 ghost use Rattle.mmcs_engine.specs.Program.{sha_functions};
 ghost use Rattle.mmcs_engine.specs.Words.{is_taken_arity};
@@ -21,7 +22,7 @@ use p3_support::matrix::{Dimensions, Matrix, RowMajorMatrix};
 use p3_support::sha::{Sha256Nodes, Sha256Rows};
 use std::alloc::{AllocError, Global};
 
-/// The scheme of SHA-256, whose cap is so many levels below the root. The arity is 2, 4 or 8.
+/// The scheme of SHA-256, whose cap is so many levels below the root, by the lowered rule. The arity is 2, 4 or 8.
 fn sha_scheme<const N: usize>(
     cap_height: usize,
 ) -> MerkleTreeMmcs<u8, u8, Sha256Rows, Sha256Nodes<N>, N, 32>
@@ -29,6 +30,7 @@ fn sha_scheme<const N: usize>(
     ensures functions { scheme_functions ⟦<Sha256Rows as CryptographicHasher<u8, u8, 32>>⟧.hash
         ⟦<Sha256Nodes<N> as PseudoCompressionFunction<u8, N, 32>>⟧.compression 32 result ≡ sha_functions }
     ensures cap_height { cap_height_of result ≡ cap_height }
+    ensures rule { cap_rule_of result ≡ Lowered }
 {
     MerkleTreeMmcs::new(Sha256Rows, Sha256Nodes::<N>, cap_height)
 }

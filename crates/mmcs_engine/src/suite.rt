@@ -3,7 +3,9 @@
 ghost use Rattle.std.specs.Prelude.{◌≡◌, ℕ, ◌+◌, ◌<◌, All, IfErr, IfOk, IsOk, IsTrue, List, flat_map, length, nat_eq, string_bytes};
 ghost use Rattle.p3_support.specs.RowMajor.{values_of};
 ghost use Rattle.p3_merkle_core.specs.Gate.{gate_refusal};
-ghost use Rattle.p3_merkle_core.specs.Geometry.{cap_layer, heights, shape_of, tallest};
+ghost use Rattle.p3_merkle_core.specs.Caps.{cap_layer};
+ghost use Rattle.p3_merkle_core.specs.Geometry.{heights, shape_of, tallest};
+ghost use Rattle.p3_merkle_core.specs.declared.cap.CapRule.TheVariants.{Lowered};
 ghost use Rattle.p3_merkle_core.specs.Nodes.{layer, layers, shape, Batch};
 ghost use Rattle.p3_merkle_core.specs.Openings.{IsAccepted, Opening};
 ghost use Rattle.p3_merkle_core.specs.Refusals.{answer_under};
@@ -59,7 +61,7 @@ pub trait Suite<const N: usize> {
         ensures answer { let b = stored_batch N matrices.items in
             OkUnlessRefused result (gate_refusal (heights (shape b))) }
         ensures cap { let b = stored_batch N matrices.items in
-            IfOk result (λ made. roots made.0 ≡ layer (functions_of_hash name) b (cap_layer (shape b) cap_height)) }
+            IfOk result (λ made. roots made.0 ≡ layer (functions_of_hash name) b (cap_layer (shape b) Lowered cap_height)) }
         ensures batch { IfOk result (λ made. batch made.1 ≡ stored_batch N matrices.items) }
         ensures layers { let b = stored_batch N matrices.items in
             IfOk result (λ made. nodes made.1 ≡ layers (functions_of_hash name) b) };
@@ -79,7 +81,7 @@ pub trait Suite<const N: usize> {
         requires arity { IsTrue (is_taken_arity N) }
         requires index { index < tallest (heights (shape (batch tree.now))) }
         ensures memory { IfErr result (λ e. e ≡ OutOfMemory) }
-        ensures accepted { let b = batch tree.now in let t = cap_layer (shape b) cap_height in
+        ensures accepted { let b = batch tree.now in let t = cap_layer (shape b) Lowered cap_height in
             nodes tree.now ≡ layers (functions_of_hash name) b →
             IfOk result (λ o. IsAccepted (functions_of_hash name) (shape b) t
             (layer (functions_of_hash name) b t) (opening_of index o)) };
@@ -98,13 +100,13 @@ pub trait Suite<const N: usize> {
     ) -> Result<(), MerkleTreeError>
         requires { IsTrue (is_taken_arity N) }
         ensures answer { let s = shape_of N dimensions.now in
-            result ≡ answer_under nat_eq (functions_of_hash name) s (cap_layer s cap_height)
+            result ≡ answer_under nat_eq (functions_of_hash name) s (cap_layer s Lowered cap_height)
             (roots cap.now) (opening_of index opening.now) }
         ensures accepted { let s = shape_of N dimensions.now in
-            IsOk result → IsAccepted (functions_of_hash name) s (cap_layer s cap_height)
+            IsOk result → IsAccepted (functions_of_hash name) s (cap_layer s Lowered cap_height)
             (roots cap.now) (opening_of index opening.now) }
         ensures taken { let s = shape_of N dimensions.now in
-            IsAccepted (functions_of_hash name) s (cap_layer s cap_height)
+            IsAccepted (functions_of_hash name) s (cap_layer s Lowered cap_height)
             (roots cap.now) (opening_of index opening.now) → IsOk result };
 
     /// A line for each digest of a cap, in hexadecimal.

@@ -1,6 +1,6 @@
 -- How the values of the code are read by the definitions.
 use Rattle.std.specs.Prelude.{◌≡◌, ℕ, List, map}
-use Rattle.p3_merkle_core.specs.Geometry.{heights_of, tallest}
+use Rattle.p3_merkle_core.specs.Geometry.{heights_of, shortest, tallest}
 use Rattle.p3_merkle_core.specs.Nodes.{Matrix, Batch, dimensions_of}
 
 module _ {T M : Type 0} (height width : M → ℕ) (row : M → ℕ → List T) where
@@ -12,9 +12,17 @@ module _ {T M : Type 0} (height width : M → ℕ) (row : M → ℕ → List T) 
   abbrev pub batch_of : ℕ → List M → Batch T
   batch_of arity ms = record { arity = arity; matrices = map matrix_of ms }
 
-  -- the height of the tallest of some matrices, and 0 of none
+  -- the heights of some matrices
+  abbrev pub heights_in : List M → List ℕ
+  heights_in ms = heights_of (dimensions_of (map matrix_of ms))
+
+  -- the height of the tallest of them, and 0 of none
   abbrev pub max_height_in : List M → ℕ
-  max_height_in ms = tallest (heights_of (dimensions_of (map matrix_of ms)))
+  max_height_in ms = tallest (heights_in ms)
+
+  -- the height of the shortest of them, and 0 of none
+  abbrev pub min_height_in : List M → ℕ
+  min_height_in ms = shortest (heights_in ms)
 
   -- a clone of a matrix has its height, its width and its rows
   abbrev pub ClonesShowTheSame : (M → M → Type 0) → Type 0

@@ -4,7 +4,7 @@ ghost use Rattle.std.specs.Prelude.{◌≡◌, ◌≤◌, IfOk, map};
 ghost use Rattle.p3_merkle_core.specs.Geometry.{max_height, shape_of};
 ghost use Rattle.p3_merkle_core.specs.Nodes.{dimensions_of as dimensions_in};
 ghost use Rattle.p3_merkle_builder.specs.Levels.{height_at, IsBelowTop, IsLevel};
-ghost use Rattle.p3_merkle_builder.specs.Views.{matrix_of, max_height_in};
+ghost use Rattle.p3_merkle_builder.specs.Views.{matrix_of, max_height_in, min_height_in};
 
 use p3_merkle_core::geometry::{
     exponent_of, grouped_len, has_exponent, padded_len, select_arity_step, tallest_of,
@@ -36,6 +36,17 @@ pub fn max_height_of<T, M: Matrix<T>>(matrices: &[M]) -> usize
         tallest = tallest.max(matrix.height());
     }
     tallest
+}
+
+/// The height of the shortest matrix, in rows, and 0 of none.
+pub fn min_height_of<T, M: Matrix<T>>(matrices: &[M]) -> usize
+    ensures { result ≡ min_height_in M.height_of M.width_of M.row_of matrices.now }
+{
+    let mut shortest = max_height_of(matrices);
+    for matrix in matrices {
+        shortest = shortest.min(matrix.height());
+    }
+    shortest
 }
 
 /// A layer above another, before it is built.

@@ -1,6 +1,7 @@
 //! What a tree opens of one leaf: a row of each matrix, and the siblings on the leaf's path.
 
 ghost use Rattle.std.specs.Prelude.{◌≡◌, ◌<◌, ◌≤◌, ◌++◌, length, map, remove, IfErr, IfOk};
+ghost use Rattle.p3_merkle_core.specs.Caps.{cap_layer};
 ghost use Rattle.p3_merkle_core.specs.Geometry.{heights, levels, tallest};
 ghost use Rattle.p3_merkle_core.specs.Nodes.{shape};
 ghost use Rattle.p3_merkle_core.specs.Openings.{honest_rows};
@@ -9,8 +10,9 @@ ghost use Rattle.p3_merkle_builder.specs.Own.{own_siblings};
 ghost use Rattle.p3_support.specs.Shown.{row_lists};
 ghost use Rattle.p3_merkle_builder.specs.Parts.{layers_of, matrices_of, tree_batch};
 
-use crate::levels::max_height_of;
+use crate::levels::{max_height_of, min_height_of};
 use crate::tree::Tree;
+use p3_merkle_core::cap::{CapRule, cap_layer_at};
 use p3_merkle_core::error::MerkleTreeError;
 use p3_merkle_core::geometry::bits_reduced_of;
 use p3_support::matrix::Matrix;
@@ -28,6 +30,23 @@ pub fn max_height<F, X, G, M: Matrix<F>, const N: usize>(tree: &Tree<F, X, G, M,
     ensures { result ≡ tallest (heights (shape (tree_batch tree.now))) }
 {
     max_height_of(&tree.matrices)
+}
+
+/// The layer of a tree, counted from the leaves, that is the cap of this height.
+pub fn cap_layer_in<F, X, G, M: Matrix<F>, const N: usize>(
+    tree: &Tree<F, X, G, M, N>,
+    rule: CapRule,
+    cap_height: usize,
+) -> usize
+    ensures { result ≡ cap_layer (shape (tree_batch tree.now)) rule cap_height }
+{
+    cap_layer_at(
+        num_levels(tree),
+        min_height_of(&tree.matrices),
+        N,
+        rule,
+        cap_height,
+    )
 }
 
 /// The row of each matrix that belongs to leaf `index`, in input order. The index is below [`max_height`].

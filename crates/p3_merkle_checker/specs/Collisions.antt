@@ -79,6 +79,13 @@ pub record AnswerOneRowTwice {T W : Type 0} (s : Shape) (t : ℕ) (o u : Opening
   pub one_row : row_at_index s (slice_index (heights s) matrix) o.index ≡ row_at_index s (slice_index (heights s) matrix) u.index
   pub two_ways : opened_row o matrix ≢ opened_row u matrix
 
+-- two openings answer one row of some matrix in two ways
+pub record AnswerAnyRowTwice {T W : Type 0} (s : Shape) (o u : Opening T W) : Type 0 where
+  pub matrix : ℕ
+  pub exists : matrix < length (heights s)
+  pub one_row : row_at_index s (slice_index (heights s) matrix) o.index ≡ row_at_index s (slice_index (heights s) matrix) u.index
+  pub two_ways : opened_row o matrix ≢ opened_row u matrix
+
 -- the words that the first of two openings has for the matrices of an exponent, row after row
 abbrev pub first_words : {T : Type 0} → RowPair T → List T
 first_words rows = rows_with rows.exponent (zip (heights_of rows.dimensions.now) (row_lists rows.first.now))

@@ -1,18 +1,10 @@
 -- A matrix is authenticated exactly if its exponent is no less than that of the cap's layer.
-use Rattle.std.proofs.Common.{◌≡◌, ◌↔◌, ℕ, zero, suc, ◌+◌, ◌-◌, ◌<◌, ◌≤◌, leb, sym, ◌∙◌, arith, inl, inr, add-suc, length, get_or}
+use Rattle.std.proofs.Common.{◌≡◌, ◌↔◌, ℕ, ◌+◌, ◌-◌, ◌<◌, ◌≤◌, leb, sym, ◌∙◌, arith, inl, inr, length, get_or}
 use Rattle.std.proofs.lemmas.Bool.{cases_lt, le-leb, lt-leb}
 use Rattle.p3_merkle_core.specs.Geometry.{Shape, IsArity, exponent, heights, layer_exponent, layer_of, levels}
 use Rattle.p3_merkle_core.proofs.LeastFacts.{least_le}
-use Rattle.p3_merkle_core.proofs.StepFacts.{next_exponent, next_falls}
-use Rattle.p3_merkle_core.proofs.LadderFacts.{step_cases, layer_of_is}
-use Rattle.p3_merkle_core.proofs.RawFacts.{positive_below}
-
--- exponents go down from layer to layer
-exponents_fall : (s : Shape) (l k : ℕ) → layer_exponent s (l + k) ≤ layer_exponent s l
-exponents_fall s l zero = let z : l + 0 ≡ l = omega arith in rw z (omega arith)
-exponents_fall s l (suc k) =
-    let below = exponents_fall s l k in
-    rw add-suc (elim (step_cases s (l + k)) [ inl b ↦ omega (arith, b.1) | inr b ↦ omega (arith, b.1) ])
+use Rattle.p3_merkle_core.proofs.LadderFacts.{layer_of_is}
+use Rattle.p3_merkle_core.proofs.FallFacts.{exponents_fall, falls_above}
 
 -- the matrices with at least the exponent of layer t belong to it, or to a layer below it
 at_or_below : (s : Shape) (t k : ℕ) → IsArity s.arity → t ≤ levels s → k < length (heights s) →
@@ -23,11 +15,7 @@ at_or_below s t k w in_tree inside =
     let is = layer_of_is s w k inside in
     let top : l ≤ levels s = least_le _ (levels s) in (
       λ enough. elim (cases_lt t l) [
-        | inl above ↦
-            let up = next_falls s (layer_exponent s t) (layer_exponent s (suc t)) w.above_1 (positive_below s t (omega arith)) (next_exponent s t) in
-            let sum : suc t + (l - suc t) ≡ l = omega arith in
-            let further = rw sum at (exponents_fall s (suc t) (l - suc t)) in
-            absurd (omega arith)
+        | inl above ↦ absurd (omega (arith, falls_above s t l w (omega arith) above))
         | inr low ↦ low
       ],
       λ low.

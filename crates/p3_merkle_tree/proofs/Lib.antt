@@ -3,3 +3,4 @@ pub mod OwnAccepted
 pub mod CapFacts
 pub mod AuthenticFacts
 pub mod CheckFacts
+pub mod LoweredFacts

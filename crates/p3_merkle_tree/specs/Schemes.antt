@@ -4,7 +4,9 @@ use Rattle.std.specs.declared.vec.Vec.{Vec}
 use Rattle.std.specs.declared.default.Default as default
 use Rattle.std.specs.declared.cmp.PartialEq as equality
 use Rattle.p3_support.specs.declared.packed.PackedValue as packed
-use Rattle.p3_merkle_core.specs.Geometry.{Shape, cap_layer}
+use Rattle.p3_merkle_core.specs.Caps.{cap_layer}
+use Rattle.p3_merkle_core.specs.Geometry.{Shape}
+use Rattle.p3_merkle_core.specs.declared.cap.CapRule.{CapRule}
 use Rattle.p3_merkle_core.specs.Nodes.{Functions, functions_of}
 use Rattle.p3_merkle_core.specs.Openings.{Opening, opening_of}
 use Rattle.p3_support.specs.Shown.{row_lists}
@@ -25,9 +27,13 @@ module _ {P PW H C X G V W : Type 0} {N : ℕ} {p : packed.Ghosts P V} {pd : def
   abbrev pub cap_height_of : Scheme P PW H C X G N V W p pd pe q qd qe → ℕ
   cap_height_of scheme = scheme.cap_height
 
+  -- by which rule
+  abbrev pub cap_rule_of : Scheme P PW H C X G N V W p pd pe q qd qe → CapRule
+  cap_rule_of scheme = scheme.cap_rule
+
   -- the layer that is its cap, over a shape
   abbrev pub proof_layer : Scheme P PW H C X G N V W p pd pe q qd qe → Shape → ℕ
-  proof_layer scheme s = cap_layer s scheme.cap_height
+  proof_layer scheme s = cap_layer s scheme.cap_rule scheme.cap_height
 
   -- what its hasher and its compression compute, and the digest of d default words
   abbrev pub scheme_functions : (H → List V → List W) → (C → List (List W) → List W) → ℕ → Scheme P PW H C X G N V W p pd pe q qd qe → Functions V W

@@ -1,13 +1,14 @@
 //! Extraction: from two openings of one cap that differ to two inputs of one digest.
 
-ghost use Rattle.std.specs.Prelude.{◌≡◌, ◌<◌, ◌↔◌, IfErr, IfOk, IfSome, IsNone, IsSome, MatchResult, None, Some, length};
+ghost use Rattle.std.specs.Prelude.{◌≡◌, ◌<◌, ◌↔◌, IfErr, IfOk, IfSome, IsNone, IsSome, IsTrue, MatchResult, None, Some, length};
 ghost use Rattle.p3_merkle_core.specs.Extracting.{extraction_under};
 ghost use Rattle.p3_merkle_core.specs.Gate.{gate_refusal};
 ghost use Rattle.p3_merkle_core.specs.Geometry.{heights_of, shape_of};
 ghost use Rattle.p3_merkle_core.specs.Openings.{is_authenticated as authenticates, AgreeWhereShared, IsAccepted};
 ghost use Rattle.p3_merkle_core.specs.declared.error.MerkleTreeError.TheVariants.{OutOfMemory};
-ghost use Rattle.p3_merkle_tree.specs.Collisions.{AnswerAlike, AnswerOneRowTwice, AnswersUnlessMemory, IsCollision};
-ghost use Rattle.p3_merkle_tree.specs.Schemes.{opening_lent, proof_layer, scheme_functions};
+ghost use Rattle.p3_merkle_core.specs.declared.cap.CapRule.TheVariants.{Lowered};
+ghost use Rattle.p3_merkle_tree.specs.Collisions.{AnswerAlike, AnswerAnyRowTwice, AnswerOneRowTwice, AnswersUnlessMemory, IsCollision};
+ghost use Rattle.p3_merkle_tree.specs.Schemes.{cap_rule_of, opening_lent, proof_layer, scheme_functions};
 ghost use Rattle.p3_support.specs.Shown.{roots_of};
 
 use crate::mmcs::{MerkleTreeMmcs, Scheme};
@@ -24,7 +25,8 @@ use std::alloc::Global;
 
 impl<P: PackedValue, PW: PackedValue, H, C, X, G, const N: usize> Scheme<P, PW, H, C, X, G, N> {
     /// Whether a cap over matrices of these dimensions authenticates the rows of one of them: its rows are hashed into
-    /// the cap's layer, or into a layer below it. Of any other matrix a check looks at the width of its row alone.
+    /// the cap's layer, or into a layer below it. Of any other matrix a check looks at the width of its row alone. Under
+    /// the rule `Lowered` each matrix is authenticated.
     ///
     /// `matrix` is a place in `dimensions`. The call takes no memory.
     ///
@@ -43,6 +45,7 @@ impl<P: PackedValue, PW: PackedValue, H, C, X, G, const N: usize> Scheme<P, PW, 
         ensures authenticated { let s = shape_of N dimensions.now in
             let t = proof_layer self.now s in
             IfOk result (λ answer. answer ≡ authenticates s t matrix) }
+        ensures lowered { cap_rule_of self.now ≡ Lowered → IfOk result (λ answer. IsTrue answer) }
     {
         check_heights(dimensions)?;
         let t = self.proof_levels(dimensions);
@@ -70,7 +73,8 @@ impl<
     ///
     /// Two openings of one index lead to a collision exactly if their siblings differ, or their rows of a matrix that
     /// [is authenticated](Self::is_authenticated). Openings of any indices do wherever they answer one row of such a
-    /// matrix in two ways.
+    /// matrix in two ways. Under the rule `Lowered` each matrix is one: different openings of one index lead to a
+    /// collision, and so do openings that answer one row of any matrix in two ways.
     ///
     /// # Errors
     ///
@@ -132,6 +136,15 @@ impl<
             let o = opening_lent index1 first.entry in
             let u = opening_lent index2 second.entry in
             AnswerOneRowTwice s t o u → IfOk result (λ found. IsSome found) }
+
+        // The same under the lowered rule, where each matrix is authenticated.
+        ensures lowered_one_index { let o = opening_lent index1 first.entry in
+            let u = opening_lent index2 second.entry in
+            cap_rule_of self.now ≡ Lowered → index1 ≡ index2 → IfOk result (λ found. IsNone found ↔ (o ≡ u)) }
+        ensures lowered_two_ways { let s = shape_of N dimensions.now in
+            let o = opening_lent index1 first.entry in
+            let u = opening_lent index2 second.entry in
+            cap_rule_of self.now ≡ Lowered → AnswerAnyRowTwice s o u → IfOk result (λ found. IsSome found) }
     {
         let t = self.proof_levels(dimensions);
         let first = IndexedOpening::new(index1, first);

@@ -11,6 +11,7 @@ pub use p3_merkle_builder::tree;
 pub use p3_merkle_builder::tree::MerkleTree;
 pub use p3_merkle_checker::collision::{Collision, Place};
 pub use p3_merkle_checker::{collision, laws};
+pub use p3_merkle_core::cap::CapRule;
 pub use p3_merkle_core::error::{MerkleTreeError, PrunedProofError};
 pub use p3_merkle_core::geometry::{ArityAndPositions, MAX_HEIGHT};
 pub use p3_support::opening::{BatchOpening, BatchOpeningRef, Hash, MerkleCap};

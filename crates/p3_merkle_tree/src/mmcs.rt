@@ -3,12 +3,12 @@
 ghost use Rattle.std.specs.Prelude.{◌≡◌, ◌<◌, ◌≤◌, ◌↔◌, IfErr, IfOk, IsOk, IsTrue};
 ghost use Rattle.p3_merkle_core.specs.Geometry.{is_arity, IsArity};
 
-use p3_merkle_builder::opener::{num_levels, rows_of_index, siblings_of_index};
+use p3_merkle_builder::opener::{cap_layer_in, rows_of_index, siblings_of_index};
 use p3_merkle_builder::tree::MerkleTree;
 use p3_merkle_checker::level::Checker;
 use p3_merkle_checker::openings::IndexedOpening;
+use p3_merkle_core::cap::{CapRule, cap_layer_of};
 use p3_merkle_core::error::MerkleTreeError;
-use p3_merkle_core::geometry::levels_of;
 use p3_support::compress::PseudoCompressionFunction;
 use p3_support::hasher::CryptographicHasher;
 use p3_support::matrix::{Dimensions, Matrix};
@@ -27,6 +27,7 @@ pub struct Scheme<P: PackedValue, PW: PackedValue, H, C, X, G, const N: usize> {
     pub(crate) hash: H,
     pub(crate) compress: C,
     pub(crate) cap_height: usize,
+    pub(crate) cap_rule: CapRule,
     item: PhantomData<(P, PW, X, G)>,
     ghost arity: { IsArity N },
     ghost lanes: { P.WIDTH ≡ PW.WIDTH },
@@ -41,14 +42,14 @@ pub type MerkleTreeMmcs<P: PackedValue, PW: PackedValue, H, C, const N: usize, c
 impl<P: PackedValue, PW: PackedValue, H: Copy, C: Copy, X: Copy, G: Copy, const N: usize> Copy
     for Scheme<P, PW, H, C, X, G, N> {}
 
-/// A clone has clones of the hasher and of the compression, and the same cap height.
+/// A clone has clones of the hasher and of the compression, the same cap height and the same rule.
 impl<P: PackedValue, PW: PackedValue, H: Clone, C: Clone, X: Clone, G: Clone, const N: usize> Clone
     for Scheme<P, PW, H, C, X, G, N> {
-    ghost use Rattle.p3_merkle_tree.specs.Schemes.{cap_height_of, compression_of, hash_of};
+    ghost use Rattle.p3_merkle_tree.specs.Schemes.{cap_height_of, cap_rule_of, compression_of, hash_of};
 
     ghost is_clone = { λ s t. H.is_clone (hash_of s) (hash_of t) ×
         C.is_clone (compression_of s) (compression_of t) ×
-        (cap_height_of t ≡ cap_height_of s) };
+        (cap_height_of t ≡ cap_height_of s) × (cap_rule_of t ≡ cap_rule_of s) };
 
     ghost is_infallible = { λ s. H.is_infallible (hash_of s) × C.is_infallible (compression_of s) };
 
@@ -57,6 +58,7 @@ impl<P: PackedValue, PW: PackedValue, H: Clone, C: Clone, X: Clone, G: Clone, co
             hash: self.hash.clone()?,
             compress: self.compress.clone()?,
             cap_height: self.cap_height,
+            cap_rule: self.cap_rule,
             item: PhantomData,
         })
     }
@@ -64,7 +66,7 @@ impl<P: PackedValue, PW: PackedValue, H: Clone, C: Clone, X: Clone, G: Clone, co
 
 impl<P: PackedValue, PW: PackedValue, H, C, X, G, const N: usize> Scheme<P, PW, H, C, X, G, N> {
     ghost use Rattle.p3_merkle_core.specs.Geometry.{shape_of};
-    ghost use Rattle.p3_merkle_tree.specs.Schemes.{cap_height_of, compression_of, hash_of, proof_layer};
+    ghost use Rattle.p3_merkle_tree.specs.Schemes.{cap_height_of, cap_rule_of, compression_of, hash_of, proof_layer};
 
     /// How many levels below the root the cap is, as it was handed to [`new`](Self::new).
     pub fn cap_height(&self) -> usize
@@ -73,11 +75,18 @@ impl<P: PackedValue, PW: PackedValue, H, C, X, G, const N: usize> Scheme<P, PW, 
         self.cap_height
     }
 
+    /// By which rule the cap's layer is chosen.
+    pub fn cap_rule(&self) -> CapRule
+        ensures { result ≡ cap_rule_of self.now }
+    {
+        self.cap_rule
+    }
+
     /// How many levels lead from the leaves of a tree over matrices of these dimensions up to its cap.
     pub(crate) fn proof_levels(&self, dimensions: &[Dimensions]) -> usize
         ensures { result ≡ proof_layer self.now (shape_of N dimensions.now) }
     {
-        levels_of(dimensions, N).saturating_sub(self.cap_height)
+        cap_layer_of(dimensions, N, self.cap_rule, self.cap_height)
     }
 
     /// What checks openings for the scheme, with its hasher and its compression.
@@ -110,12 +119,14 @@ impl<
     ghost use Rattle.p3_merkle_builder.specs.Built.{OkUnlessRefused};
     ghost use Rattle.p3_merkle_builder.specs.Parts.{layers_of, matrices_of, tree_batch};
     ghost use Rattle.p3_merkle_builder.specs.Own.{own_siblings};
-    ghost use Rattle.p3_merkle_tree.specs.Schemes.{cap_height_of, compression_of, hash_of, opening_lent, opening_made, proof_layer, scheme_functions};
+    ghost use Rattle.p3_merkle_core.specs.declared.cap.CapRule.TheVariants.{Lowered};
+    ghost use Rattle.p3_merkle_tree.specs.Schemes.{cap_height_of, cap_rule_of, compression_of, hash_of, opening_lent, opening_made, proof_layer, scheme_functions};
     ghost use Rattle.p3_support.specs.Shown.{roots_of, row_lists};
     ghost use Rattle.p3_merkle_builder.specs.Views.{batch_of};
 
-    /// The scheme of a hasher and a compression, whose cap is `cap_height` levels below the root: 0 for the root
-    /// alone, and the leaves where a tree has no more levels than that.
+    /// The scheme of a hasher and a compression, whose cap is `cap_height` levels below the root, 0 for the root alone,
+    /// but never below the last layer to which a matrix belongs: the rule [`CapRule::Lowered`], under which a cap fixes
+    /// every row of every matrix. [`new_with_rule`](Self::new_with_rule) takes the rule of the Rust crate, too.
     ///
     /// `N` is a power of two from 2 to 2^62, and both packings have equally many lanes, at least one.
     pub fn new(hash: H, compress: C, cap_height: usize) -> MerkleTreeMmcs<P, PW, H, C, N, D>
@@ -125,18 +136,40 @@ impl<
         ensures hash { hash_of result ≡ hash }
         ensures compress { compression_of result ≡ compress }
         ensures cap_height { cap_height_of result ≡ cap_height }
+        ensures rule { cap_rule_of result ≡ Lowered }
+    {
+        Self::new_with_rule(hash, compress, cap_height, CapRule::Lowered)
+    }
+
+    /// The scheme of a hasher and a compression, whose cap is `cap_height` levels below the root as far as the rule lets
+    /// it: see [`CapRule`]. A cap of one rule is in general not accepted under the other.
+    ///
+    /// It asks what [`new`](Self::new) asks, and takes no memory.
+    pub fn new_with_rule(
+        hash: H,
+        compress: C,
+        cap_height: usize,
+        rule: CapRule,
+    ) -> MerkleTreeMmcs<P, PW, H, C, N, D>
+        requires arity { IsTrue (is_arity N) }
+        requires lanes { P.WIDTH ≡ PW.WIDTH }
+        requires some_lane { 1 ≤ P.WIDTH }
+        ensures hash { hash_of result ≡ hash }
+        ensures compress { compression_of result ≡ compress }
+        ensures cap_height { cap_height_of result ≡ cap_height }
+        ensures rule { cap_rule_of result ≡ rule }
     {
         Scheme {
             hash,
             compress,
             cap_height,
+            cap_rule: rule,
             item: PhantomData,
         }
     }
 
     /// Commits to matrices: the cap of their tree, and the tree, which keeps the matrices in input order. The cap is
-    /// the whole layer `cap_height` levels below the root, padding included, or the leaves where there are fewer
-    /// levels.
+    /// a whole layer, padding included: the one `cap_height` levels below the root, as far as the scheme's rule lets it.
     ///
     /// # Errors
     ///
@@ -172,7 +205,8 @@ impl<
             &self.compress,
             matrices,
         )?;
-        let cap = tree.cap(alloc, self.cap_height.min(tree.num_layers() - 1))?;
+        let t = cap_layer_in(&tree, self.cap_rule, self.cap_height);
+        let cap = tree.cap(alloc, tree.num_layers() - 1 - t)?;
         Ok((cap, tree))
     }
 
@@ -207,7 +241,7 @@ impl<
             IfOk result (λ o. IsAccepted f (shape b) t (layer f b t) (opening_made index o)) }
         ensures memory { IfErr result (λ e. e ≡ OutOfMemory) }
     {
-        let proof_levels = num_levels(tree).saturating_sub(self.cap_height);
+        let proof_levels = cap_layer_in(tree, self.cap_rule, self.cap_height);
         let opened_values = rows_of_index(alloc, tree, index)?;
         let opening_proof = siblings_of_index(alloc, tree, index, proof_levels)?;
         Ok(BatchOpening {
@@ -221,8 +255,8 @@ impl<
     ///
     /// The opening has one row for each of `dimensions`, as wide as that says, and for each level below the cap one
     /// sibling less than a node there has children. The dimensions must come from who checks, since a cap binds
-    /// heights only up to padding; and a matrix whose layer is above the cap's is never hashed, so that of its row
-    /// only the width is checked.
+    /// heights only up to padding. Under the rule `Fixed` a matrix whose layer is above the cap's is never hashed, so
+    /// that of its row only the width is checked; under `Lowered` there is no such matrix.
     ///
     /// # Errors
     ///

@@ -33,7 +33,7 @@ impl<P: PackedValue, PW: PackedValue, H, C, X: Copy, G, const N: usize> Scheme<
     ghost use Rattle.p3_merkle_tree.specs.Schemes.{proof_layer};
 
     /// The steps of the levels below the cap, from the leaves up, in children a node: those of the tree over matrices
-    /// of these dimensions, without its topmost `cap_height`.
+    /// of these dimensions, without those above the cap.
     ///
     /// # Errors
     ///

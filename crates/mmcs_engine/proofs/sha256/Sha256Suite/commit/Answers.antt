@@ -9,7 +9,7 @@ use Rattle.mmcs_engine.proofs.sha256.Sha256Suite.commit.Goals as goal
 pub returns-clause-cap : goal.returns-clause-cap
 returns-clause-cap g c =
     let same : stored_batch g.row.N c.in_ok-matrices.matrices.items ≡ stored_batch g.row.N c.args.matrices.items = ap (λ ms. record { arity = g.row.N; matrices = ms }) (c.in_ok-matrices.ensures ∙ ap (map stored_matrix) c.deref.ensures.value) in
-    capped_alike _ _ _ _ _ _ c.commit.result (λ made. roots_of made.0) c.sha_scheme.ensures.functions same c.sha_scheme.ensures.cap_height c.commit.ensures.cap
+    capped_alike _ _ _ _ _ _ _ _ c.commit.result (λ made. roots_of made.0) c.sha_scheme.ensures.functions same c.sha_scheme.ensures.rule c.sha_scheme.ensures.cap_height c.commit.ensures.cap
 
 pub returns-clause-layers : goal.returns-clause-layers
 returns-clause-layers g c =

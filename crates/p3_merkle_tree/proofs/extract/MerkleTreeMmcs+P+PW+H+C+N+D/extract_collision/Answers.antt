@@ -9,6 +9,7 @@ use Rattle.p3_merkle_checker.specs.Collisions.{AnswersUnlessMemory}
 use Rattle.p3_merkle_tree.specs.Schemes.{compression_of, hash_of, opening_lent, proof_layer, scheme_functions}
 use Rattle.p3_support.specs.Shown.{roots_of, row_lists}
 use Rattle.p3_merkle_tree.proofs.CheckFacts.{extraction_alike, functions_alike, opening_is}
+use Rattle.p3_merkle_tree.proofs.LoweredFacts.{all_authenticated, any_twice_is_found, same_at_one_index}
 use Rattle.p3_merkle_tree.proofs.extract.MerkleTreeMmcs+P+PW+H+C+N+D.extract_collision.Goals as goal
 
 pub returns : goal.returns
@@ -29,6 +30,7 @@ returns g c =
     let alike = extraction_alike eq same made f s c.proof_levels-t.result t c.roots.result.now cap (opening_in c.new-first.result) o (opening_in c.new-second.result) u are_functions c.proof_levels-t.ensures c.roots.ensures is_first is_second in
     let answer = subst (AnswersUnlessMemory c.extraction.result) alike c.extraction.ensures in
     let m = meant eq same f s t cap o u g.met.P.PackedValue.eq_is_equality g.met.PW.PackedValue.eq_is_equality scheme.arity c.extraction.result _ refl answer in
+    let all = all_authenticated s scheme.cap_rule scheme.cap_height scheme.arity in
     record {
       answer = answer;
       accepted = IfOk-weaker c.extraction.result _ _ (λ found is. (is.first_accepted, is.second_accepted)) m;
@@ -36,5 +38,7 @@ returns g c =
       none = IfOk-weaker c.extraction.result _ _ (λ found is. is.none) m;
       collision = IfOk-weaker c.extraction.result _ _ (λ found is. is.collision) m;
       one_index = λ one. IfOk-weaker c.extraction.result _ _ (λ found is. alike_at_one_index f s t cap o u found scheme.arity one is) m;
+      lowered_one_index = λ rule one. IfOk-weaker c.extraction.result _ _ (λ found is. same_at_one_index f s t cap o u found scheme.arity one (all rule) is) m;
+      lowered_two_ways = λ rule twice. IfOk-weaker c.extraction.result _ _ (λ found is. any_twice_is_found f s t cap o u found scheme.arity (all rule) twice is) m;
       two_ways = λ twice. IfOk-weaker c.extraction.result _ _ (λ found is. twice_is_found f s t cap o u found scheme.arity twice is) m;
     }

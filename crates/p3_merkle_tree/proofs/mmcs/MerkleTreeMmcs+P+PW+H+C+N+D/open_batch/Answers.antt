@@ -8,16 +8,11 @@ use Rattle.p3_merkle_builder.proofs.RowFacts.{full_rows}
 use Rattle.p3_merkle_tree.proofs.OwnAccepted.{own_accepted}
 use Rattle.p3_merkle_tree.proofs.mmcs.MerkleTreeMmcs+P+PW+H+C+N+D.open_batch.Goals as goal
 
-pub siblings_of_index-requires : goal.siblings_of_index-requires
-siblings_of_index-requires g c =
-    let few = c.num_levels.ensures in
-    (omega arith, (omega arith, omega arith))
-
 pub returns-clause-rows : goal.returns-clause-rows
 returns-clause-rows g c = c.in_ok-opened_values.ensures.rows
 
 pub returns-clause-siblings : goal.returns-clause-siblings
-returns-clause-siblings g c = rw (← c.num_levels.ensures, ← c.saturating_sub-proof_levels.ensures) c.in_ok-opening_proof.ensures.siblings
+returns-clause-siblings g c = rw (← c.cap_layer_in-proof_levels.ensures) c.in_ok-opening_proof.ensures.siblings
 
 pub returns-clause-accepted : goal.returns-clause-accepted
 returns-clause-accepted g c =

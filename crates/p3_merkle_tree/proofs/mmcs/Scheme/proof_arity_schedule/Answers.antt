@@ -6,17 +6,15 @@ use Rattle.p3_merkle_core.proofs.LadderFacts.{levels_le}
 use Rattle.p3_merkle_tree.specs.Schemes.{proof_layer}
 use Rattle.p3_merkle_tree.proofs.mmcs.Scheme.proof_arity_schedule.Goals as goal
 
+pub returns-clause-steps : goal.returns-clause-steps
+returns-clause-steps g c = rw c.proof_levels.ensures at c.in_ok-schedule_below_of.ensures
+
 pub returns-clause-first : goal.returns-clause-first
 returns-clause-first g c =
     let s = shape_of g.row.N c.args.dimensions.now in
-    (rw c.proof_levels.ensures at c.in_ok-schedule_below_of.ensures)
-    ∙ sym (take-map-range_with_len (step s) 0 (levels s) (proof_layer c.args.self.now s) (omega arith))
+    returns-clause-steps g c ∙ sym (take-map-range_with_len (step s) 0 (levels s) (proof_layer c.args.self.now s) (omega arith))
 
 pub returns-clause-few : goal.returns-clause-few
 returns-clause-few g c =
     let s = shape_of g.row.N c.args.dimensions.now in
-    let is = rw c.proof_levels.ensures at c.in_ok-schedule_below_of.ensures in
-    omega (arith, ap length is, length-map-range_with_len (step s) 0 (proof_layer c.args.self.now s), levels_le s)
-
-pub returns-clause-steps : goal.returns-clause-steps
-returns-clause-steps g c = rw c.proof_levels.ensures at c.in_ok-schedule_below_of.ensures
+    omega (arith, ap length (returns-clause-steps g c), length-map-range_with_len (step s) 0 (proof_layer c.args.self.now s), levels_le s)
