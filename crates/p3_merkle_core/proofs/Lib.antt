@@ -35,3 +35,5 @@ pub mod FallFacts
 pub mod CapFacts
 pub mod SiblingFacts
 pub mod GroupFacts
+pub mod RisingFacts
+pub mod CoveredFacts

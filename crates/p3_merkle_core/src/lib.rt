@@ -8,3 +8,4 @@ pub mod error;
 pub mod geometry;
 pub mod group;
 pub mod laws;
+pub mod pruning;
