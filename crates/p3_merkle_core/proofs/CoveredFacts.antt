@@ -1,5 +1,5 @@
 -- The covered nodes of a layer, ascending: those of the leaves, those of the layer above, and what is left of their groups.
-use Rattle.std.proofs.Common.{◌≡◌, ℕ, zero, suc, ◌+◌, ◌-◌, ◌*◌, ◌/◌, ◌^◌, ◌<◌, ◌≤◌, Bool, true, not, eqb, cond, nat_le, nat_lt, ◌||◌, List, [], ◌∷◌, map, refl, ap, sym, ◌∙◌, arith, inl, inr, length, filter, All, eq-eqb, IsSorted, IsPermutation}
+use Rattle.std.proofs.Common.{◌≡◌, ℕ, zero, suc, ◌+◌, ◌-◌, ◌*◌, ◌/◌, ◌^◌, ◌<◌, ◌≤◌, true, not, eqb, cond, nat_le, nat_lt, ◌||◌, List, [], ◌∷◌, map, refl, ap, sym, ◌∙◌, arith, add-one, inl, inr, length, filter, All, eq-eqb, IsSorted, IsPermutation}
 use Rattle.std.specs.Int.{next_multiple_of}
 use Rattle.std.specs.List.{dedup, range_with_len}
 use Rattle.std.specs.Ordering.{nat_cmp}
@@ -9,7 +9,7 @@ use Rattle.std.proofs.lemmas.List.Sorted.{list_any-IsPermutation}
 use Rattle.std.proofs.lemmas.Map.Keys.{IsStrictlyIncreasing-dedup}
 use Rattle.std.proofs.Math.Nat.{mul-le-mul_left}
 use Rattle.std.proofs.Math.Pow.{pow_mono}
-use Rattle.p3_merkle_core.specs.Geometry.{Shape, IsArity, step, ancestor, raw_len, layer_len, padded_len, leaves_under, levels, layer_exponent, exponent, tallest, heights, max_height}
+use Rattle.p3_merkle_core.specs.Geometry.{Shape, step, ancestor, raw_len, layer_len, padded_len, leaves_under, levels, layer_exponent, exponent, tallest, heights, max_height}
 use Rattle.p3_merkle_core.specs.Pruning.{CanQuery, is_covered, is_boundary, covered_at, boundary_at, boundary}
 use Rattle.p3_merkle_core.specs.PrunedCalls.{pruned_len}
 use Rattle.p3_merkle_core.proofs.LeastFacts.{exponent_le}
@@ -20,7 +20,7 @@ use Rattle.p3_merkle_core.proofs.ListFacts.{joined_more}
 use Rattle.p3_merkle_core.proofs.Under.{covered_up}
 use Rattle.p3_merkle_core.proofs.Sufficient.{covered_below}
 use Rattle.p3_merkle_core.proofs.Accepted.{padded_ge}
-use Rattle.p3_merkle_core.proofs.RisingFacts.{is_listed, IsRising, rising_from, rising_filter, filter_is, listed_in, listed_there, by_groups, groups_are, groups_count, listed_dedup, listed_map, map_lists, rising_dedup, rising_length}
+use Rattle.p3_merkle_core.proofs.RisingFacts.{is_listed, rising_from, rising_filter, filter_is, listed_in, listed_there, by_groups, groups_are, groups_count, listed_dedup, listed_map, map_lists, rising_dedup, rising_length}
 
 -- ---- which nodes are listed
 
@@ -209,4 +209,28 @@ counted_at s queries t w low l h =
       wide = step_above_1 s l w.well_shaped.above_1;
       small = omega (arith, children_fit s w.well_shaped some l in_tree, padded_le (raw_len s l) s.arity (let two = w.well_shaped.above_1 in omega arith), w.well_shaped.fits);
       few = omega (arith, pruned_few s queries t w l (omega arith));
+    }
+
+-- ---- the walk over the levels
+
+-- what one turn of the walk counts, from the exponent x of layer l and n children a node: `below` covered nodes have `above` parents
+pub record IsTurn (s : Shape) (queries : List ℕ) (l n count below above : ℕ) : Type 0 where
+  pub mul_fits : n * above < 2 ^ 64
+  pub sub_fits : below ≤ n * above
+  pub add_fits : count + (n * above - below) < 2 ^ 64
+  pub next : count + (n * above - below) ≡ pruned_len s queries (l + 1)
+
+pub turn_at : (s : Shape) (queries : List ℕ) (t : ℕ) → CanQuery s queries t → tallest (heights s) ≤ max_height → (l n count below above : ℕ) → l < t →
+    n ≡ step s l → count ≡ pruned_len s queries l → below ≡ length (covered_at s queries l) → above ≡ length (covered_at s queries (suc l)) → IsTurn s queries l n count below above
+turn_at s queries t w low l n count below above h is_step is_count is_below is_above =
+    let k = counted_at s queries t w low l h in
+    let product : n * above ≡ step s l * length (covered_at s queries (suc l)) = rw (is_step, is_above) refl in
+    let total = k.counted in
+    let small = k.small in
+    let few = k.few in
+    record {
+      mul_fits = omega arith;
+      sub_fits = omega arith;
+      add_fits = omega arith;
+      next = rw add-one (omega (arith, pruned_next s queries l));
     }

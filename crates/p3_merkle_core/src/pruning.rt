@@ -1,10 +1,44 @@
 //! Which nodes a pruned opening covers, and how many digests it sends: what needs no hash.
 
-ghost use Rattle.std.specs.Prelude.{◌≡◌, ℕ, suc, ◌<◌, ◌≤◌, All, IfOk};
-ghost use Rattle.p3_merkle_core.specs.Geometry.{heights, heights_of, levels, max_height, shape_of, step, tallest, IsArity, Shape};
+ghost use Rattle.std.specs.Prelude.{◌≡◌, ℕ, suc, ◌<◌, ◌≤◌, Some, None, List, All, IfOk, MatchResult};
+ghost use Rattle.p3_merkle_core.specs.Geometry.{heights, heights_of, levels, max_height, shape_of, step as step_in, tallest, IsArity, Shape};
 ghost use Rattle.p3_merkle_core.specs.Pruning.{covered_at, CanQuery};
+ghost use Rattle.p3_merkle_core.specs.PrunedCalls.{pruned_len};
+ghost use Rattle.p3_merkle_core.specs.Refusals.{queries_refusal};
 
+use crate::error::MerkleTreeError;
+use crate::geometry::{exponent_of, select_arity_step, tallest_of};
+use p3_support::matrix::Dimensions;
 use std::alloc::{AllocError, Global};
+
+/// Whether each index is below `max_height`, the tallest height of some matrices: the Rust crate's check of the highest
+/// index.
+///
+/// # Errors
+///
+/// `IndexOutOfBounds` for the highest index; of no index, where `max_height` is 0, for the index 0.
+pub fn check_indices(max_height: usize, indices: &[usize]) -> Result<(), MerkleTreeError>
+    ensures answer { MatchResult result (λ ok. queries_refusal max_height indices.now ≡ None) (λ e. queries_refusal max_height indices.now ≡ Some e) }
+    ensures below { IfOk result (λ ok. All (λ q. q < max_height) indices.now) }
+{
+    let index = highest_of(indices);
+    if index < max_height {
+        Ok(())
+    } else {
+        Err(MerkleTreeError::IndexOutOfBounds { max_height, index })
+    }
+}
+
+/// The highest index, and 0 of none.
+fn highest_of(indices: &[usize]) -> usize
+    ensures { result ≡ tallest indices.now }
+{
+    let mut highest = 0;
+    for index in indices {
+        highest = highest.max(*index);
+    }
+    highest
+}
 
 /// The leaves that some indices cover: each index once, ascending. Takes memory for all indices, and the time of a sort.
 ///
@@ -18,4 +52,50 @@ pub fn covered_leaves(alloc: Global, indices: &[usize]) -> Result<Vec<usize>, Al
     leaves.sort_unstable();
     leaves.dedup();
     Ok(leaves)
+}
+
+/// Turns the covered nodes of a layer into those of the layer above, in place: each node's parent once, ascending. A
+/// parent has `step` children, at least one.
+pub fn climb(covered: &mut Vec<usize>, step: usize)
+    requires { 0 < step }
+    ensures { (s : Shape) (queries : List ℕ) (t l : ℕ) → CanQuery s queries t → l < t → step ≡ step_in s l → covered.old.items ≡ covered_at s queries l →
+        covered.new.items ≡ covered_at s queries (suc l) }
+{
+    for node in covered.iter_mut() {
+        *node /= step;
+    }
+    covered.dedup();
+}
+
+/// How many digests a pruned proof of some indices sends under the cap of layer `t`: on each level, the children of covered
+/// nodes that are not covered. `t` is at most the number of levels, the arity a power of two from 2 to 2^62, no height
+/// above [`MAX_HEIGHT`](crate::geometry::MAX_HEIGHT), and each index below the tallest height. Takes memory for all indices.
+///
+/// # Errors
+///
+/// `AllocError` where there is no memory.
+pub fn pruned_len_of(
+    alloc: Global,
+    dimensions: &[Dimensions],
+    arity: usize,
+    t: usize,
+    indices: &[usize],
+) -> Result<usize, AllocError>
+    requires arity { IsArity arity }
+    requires low { tallest (heights_of dimensions.now) ≤ max_height }
+    requires layer { t ≤ levels (shape_of arity dimensions.now) }
+    requires below { All (λ q. q < tallest (heights_of dimensions.now)) indices.now }
+    ensures { IfOk result (λ count. count ≡ pruned_len (shape_of arity dimensions.now) indices.now t) }
+{
+    let mut covered = covered_leaves(alloc, indices)?;
+    let mut x = exponent_of(tallest_of(dimensions));
+    let mut count = 0;
+    for _l in 0..t {
+        let (step, next) = select_arity_step(dimensions, arity, x);
+        let below = covered.len();
+        climb(&mut covered, step);
+        count += step * covered.len() - below;
+        x = next;
+    }
+    Ok(count)
 }

@@ -1,5 +1,5 @@
 -- What is left after the sort and the dropping of repeats.
-use Rattle.std.proofs.Common.{◌≡◌, ◌∙◌, rules, subst}
+use Rattle.std.proofs.Common.{◌∙◌}
 use Rattle.std.proofs.lemmas.List.Filters.{dedup_is}
 use Rattle.p3_merkle_core.proofs.CoveredFacts.{leaves_are}
 use Rattle.p3_merkle_core.proofs.pruning.covered_leaves.Goals as goal
