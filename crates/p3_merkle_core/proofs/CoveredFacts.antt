@@ -1,9 +1,9 @@
 -- The covered nodes of a layer, ascending: those of the leaves, those of the layer above, and what is left of their groups.
-use Rattle.std.proofs.Common.{◌≡◌, ℕ, zero, suc, ◌+◌, ◌-◌, ◌*◌, ◌/◌, ◌^◌, ◌<◌, ◌≤◌, true, not, eqb, cond, nat_le, nat_lt, ◌||◌, List, [], ◌∷◌, map, refl, ap, sym, ◌∙◌, arith, add-one, inl, inr, length, filter, All, eq-eqb, IsSorted, IsPermutation}
+use Rattle.std.proofs.Common.{◌≡◌, ℕ, zero, suc, ◌+◌, ◌-◌, ◌*◌, ◌/◌, ◌^◌, ◌<◌, ◌≤◌, Bool, true, not, eqb, cond, nat_le, nat_lt, ◌||◌, List, [], ◌∷◌, map, refl, ap, sym, ◌∙◌, arith, add-one, inl, inr, length, filter, All, eq-eqb, IsSorted, IsPermutation}
 use Rattle.std.specs.Int.{next_multiple_of}
 use Rattle.std.specs.List.{dedup, range_with_len}
 use Rattle.std.specs.Ordering.{nat_cmp}
-use Rattle.std.proofs.lemmas.Bool.{cases_eq, cond_both, and_parts, and_from, or_cases, or_left, or_right, eqb-true, true≢false}
+use Rattle.std.proofs.lemmas.Bool.{cases_eq, cond_both, and_parts, and_from, or_cases, or_left, or_right, eqb-true, true≢false, both_ways, not-true, not_from_false, false_from_ne_true}
 use Rattle.std.proofs.lemmas.List.{length-map, length-append}
 use Rattle.std.proofs.lemmas.List.Sorted.{list_any-IsPermutation}
 use Rattle.std.proofs.lemmas.Map.Keys.{IsStrictlyIncreasing-dedup}
@@ -113,6 +113,9 @@ covered_above s queries t w l h =
           listed_dedup above j ∙ rw child.2 at (map_lists (λ j. j / n) here child.0 (covered_listed s queries t w l child.0 (omega arith) child.1));
     })
 
+not_if : (x y : Bool) → (x ≡ true → y ≡ true) → not y ≡ true → not x ≡ true
+not_if x y h n = not_from_false x (false_from_ne_true x (λ e. both_ways y (not-true y n) (h e)))
+
 -- parent by parent, the covered children are the covered nodes of the layer
 pub covered_by_groups : (s : Shape) (queries : List ℕ) (t : ℕ) → CanQuery s queries t → (l : ℕ) → l < t → by_groups (step s l) (is_covered s queries l) (covered_at s queries (suc l)) ≡ covered_at s queries l
 covered_by_groups s queries t w l h =
@@ -130,6 +133,20 @@ boundary_by_groups s queries t w l h =
     (rising_filter (is_covered s queries (suc l)) 0 (layer_len s (suc l))) (group_fits s queries t w l h)
     (λ j b. let p = and_parts (is_covered s queries (suc l) (j / step s l)) (not (is_covered s queries l j)) b in (covered_listed s queries t w (suc l) (j / step s l) (omega arith) p.0, p.1))
     (λ j g c. and_from (is_covered s queries (suc l) (j / step s l)) (not (is_covered s queries l j)) (listed_covered s queries (suc l) (j / step s l) g) c)
+
+-- the same by what is listed below
+pub boundary_by_lists : (s : Shape) (queries : List ℕ) (t : ℕ) → CanQuery s queries t → (l : ℕ) → l < t →
+    by_groups (step s l) (λ j. not (is_listed (covered_at s queries l) j)) (covered_at s queries (suc l)) ≡ filter (is_boundary s queries l) (range_with_len 0 (layer_len s l))
+boundary_by_lists s queries t w l h =
+    let two = step_above_1 s l w.well_shaped.above_1 in
+    let here = covered_at s queries l in
+    groups_are (step s l) (omega arith) (λ j. not (is_listed here j)) (is_boundary s queries l) (covered_at s queries (suc l)) (layer_len s l)
+    (rising_filter (is_covered s queries (suc l)) 0 (layer_len s (suc l))) (group_fits s queries t w l h)
+    (λ j b.
+    let p = and_parts (is_covered s queries (suc l) (j / step s l)) (not (is_covered s queries l j)) b in
+    (covered_listed s queries t w (suc l) (j / step s l) (omega arith) p.0, not_if (is_listed here j) (is_covered s queries l j) (listed_covered s queries l j) p.1))
+    (λ j g c. and_from (is_covered s queries (suc l) (j / step s l)) (not (is_covered s queries l j)) (listed_covered s queries (suc l) (j / step s l) g)
+    (not_if (is_covered s queries l j) (is_listed here j) (covered_listed s queries t w l j (omega arith)) c))
 
 -- the boundary nodes and the covered nodes of a layer are the children of the covered nodes above
 pub covered_count : (s : Shape) (queries : List ℕ) (t : ℕ) → CanQuery s queries t → (l : ℕ) → l < t →

@@ -5,7 +5,7 @@ use Rattle.std.specs.List.Sorted.{IsStrictlyIncreasing}
 use Rattle.std.proofs.lemmas.Bool.{cases_Bool, cases_eq, cases_lt, eqb-true, eqb-false, or_cases, or_left, or_right, true≢false, false_from_ne_true}
 use Rattle.std.proofs.lemmas.Nat.{div-mul-add}
 use Rattle.std.proofs.Math.Nat.{mul_comm, mul-le-mul_left}
-use Rattle.std.proofs.lemmas.List.Folds.{list_any-append}
+use Rattle.std.proofs.lemmas.List.Folds.{list_any-append, list_any_at}
 use Rattle.std.proofs.lemmas.List.Filters.{length-filter_both}
 use Rattle.std.proofs.lemmas.List.FromFn.{length-range_with_len}
 use Rattle.std.proofs.lemmas.List.{take_all, drop_all}
@@ -279,3 +279,16 @@ mapped_more f (z ∷ zs) xs (suc i) h e =
 
 pub mapped_all : (f : ℕ → ℕ) (zs xs : List ℕ) (i : ℕ) → length zs ≤ i → xs ≡ map f (take i zs) ++ drop i zs → xs ≡ map f zs
 mapped_all f zs xs i h e = e ∙ rw (take_all i zs h, drop_all i zs h) (append-nil (map f zs))
+
+-- ---- by places
+
+pub listed_at : (xs : List ℕ) (k d : ℕ) → k < length xs → is_listed xs (get_or xs k d) ≡ true
+listed_at xs k d h = list_any_at (λ x. eqb x (get_or xs k d)) xs k d h (eq-eqb (get_or xs k d) (get_or xs k d) refl)
+
+pub increasing_from : (a : ℕ) (xs : List ℕ) → IsRising a xs → IsStrictlyIncreasing xs
+increasing_from a [] r k h = absurd (omega arith)
+increasing_from a (x ∷ []) r k h = absurd (omega arith)
+increasing_from a (x ∷ y ∷ xs) r zero h = omega (arith, r.1.0)
+increasing_from a (x ∷ y ∷ xs) r (suc k) h =
+    let e : suc k + 1 ≡ suc (k + 1) = omega arith in
+    rw e (increasing_from (suc x) (y ∷ xs) r.1 k (omega arith))
