@@ -4,3 +4,4 @@ pub mod BuildFacts
 pub mod TreeFacts
 pub mod OwnFacts
 pub mod RowFacts
+pub mod BoundaryFacts

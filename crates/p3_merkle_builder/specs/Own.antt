@@ -1,7 +1,8 @@
--- What is opened along the path of one index in a tree.
-use Rattle.std.specs.Prelude.{◌*◌, ℕ, suc, List, [], drop, flat_map, take, remove, slice_index_or}
-use Rattle.std.specs.List.{range_with_len}
+-- What is opened along the path of one index in a tree, and what is sent for several indices.
+use Rattle.std.specs.Prelude.{◌*◌, ◌==◌, ℕ, suc, not, List, [], drop, filter, flat_map, map, take, remove, slice_index_or}
+use Rattle.std.specs.List.{list_any, range_with_len}
 use Rattle.p3_merkle_core.specs.Geometry.{Shape, ancestor, position_in_group, step}
+use Rattle.p3_merkle_core.specs.Pruning.{boundary}
 
 -- the other nodes of the group, in layer l, of the node above leaf i
 abbrev pub own_group : {X : Type 0} → Shape → List (List X) → ℕ → ℕ → List X
@@ -10,3 +11,15 @@ own_group s layers i l = remove (take (step s l) (drop (step s l * ancestor s (s
 -- the siblings on the path of leaf i up to layer t, in the layers of a tree
 abbrev pub own_siblings : {X : Type 0} → Shape → List (List X) → ℕ → ℕ → List X
 own_siblings s layers t i = flat_map (own_group s layers i) (range_with_len 0 t)
+
+-- the n nodes of a layer from first on, but for those that are covered; d stands for a node that the layer has not
+abbrev pub others_in : {X : Type 0} → List X → List ℕ → ℕ → ℕ → X → List X
+others_in layer covered first n d = map (λ j. slice_index_or layer j d) (filter (λ j. not (list_any (λ k. k == j) covered)) (range_with_len first n))
+
+-- the same of the n children of each parent, parent by parent
+abbrev pub others_under : {X : Type 0} → List X → List ℕ → ℕ → List ℕ → X → List X
+others_under layer covered n parents d = flat_map (λ p. others_in layer covered (n * p) n d) parents
+
+-- the boundary nodes below layer t, in wire order, in the layers of a tree
+abbrev pub own_boundary : {X : Type 0} → Shape → List (List X) → List ℕ → ℕ → X → List X
+own_boundary s layers indices t d = map (λ (l, j). slice_index_or (slice_index_or layers l []) j d) (boundary s indices t)

@@ -5,4 +5,5 @@ pub mod copy;
 pub mod layers;
 pub mod levels;
 pub mod opener;
+pub mod pruned;
 pub mod tree;
