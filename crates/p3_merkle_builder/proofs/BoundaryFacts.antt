@@ -1,18 +1,19 @@
 -- The digests of a boundary, level by level and parent by parent.
-use Rattle.std.proofs.Common.{◌≡◌, ℕ, zero, suc, ◌+◌, ◌-◌, ◌*◌, ◌<◌, ◌≤◌, Bool, true, false, not, cond, eqb, List, [], ◌∷◌, ◌++◌, map, refl, ap, sym, ◌∙◌, arith, inl, inr, length, filter, get_or, take, All, Result, Ok, Err, MatchResult, is_err, append_assoc}
+use Rattle.std.proofs.Common.{◌≡◌, ℕ, zero, suc, ◌+◌, ◌-◌, ◌*◌, ◌<◌, ◌≤◌, Bool, true, false, not, cond, eqb, List, [], ◌∷◌, ◌++◌, map, refl, ap, sym, ◌∙◌, arith, add-one, inl, inr, length, filter, get_or, take, All, Result, Ok, Err, MatchResult, is_err, append_assoc}
 use Rattle.std.specs.List.{flat_map, range_with_len}
 use Rattle.std.specs.Prelude.{slice_index_or}
 use Rattle.std.specs.List.Sorted.{IsStrictlyIncreasing, IsBinarySearchResult}
 use Rattle.std.specs.Ordering.{nat_cmp}
 use Rattle.std.proofs.lemmas.Bool.{cases_Bool, cases_eq, cases_lt, eqb-true, false_from_ne_true}
-use Rattle.std.proofs.lemmas.List.{map-append, append-nil, get_or_default, take_more}
+use Rattle.std.proofs.lemmas.List.{map-append, append-nil, get_or_default, take_more, get_or-map}
 use Rattle.std.proofs.lemmas.List.Folds.{Any-from_list_any}
 use Rattle.std.proofs.lemmas.List.Kept.{AllPairs-from_increasing}
 use Rattle.std.proofs.lemmas.List.Sorted.{searched}
 use Rattle.p3_merkle_core.specs.Geometry.{Shape, step, layer_len}
-use Rattle.p3_merkle_core.specs.Pruning.{CanQuery, is_boundary, covered_at, boundary_at, boundary}
+use Rattle.p3_merkle_core.specs.Pruning.{CanQuery, is_covered, is_boundary, covered_at, boundary_at, boundary}
+use Rattle.p3_merkle_core.specs.PrunedCalls.{own_digests}
 use Rattle.p3_merkle_core.proofs.ListFacts.{joined_more}
-use Rattle.p3_merkle_core.proofs.RisingFacts.{is_listed, by_groups, listed_at}
+use Rattle.p3_merkle_core.proofs.RisingFacts.{is_listed, by_groups, listed_at, increasing_from, rising_filter}
 use Rattle.p3_merkle_core.proofs.CoveredFacts.{boundary_by_lists, group_fits}
 use Rattle.p3_merkle_builder.specs.Own.{others_in, others_under, own_boundary}
 
@@ -104,3 +105,21 @@ pub groups_more : {X : Type 0} (layer : List X) (covered : List ℕ) (n : ℕ) (
 groups_more layer covered n parents i old so_far new d h e is =
     let g = λ (p : ℕ). others_in layer covered (n * p) n d in
     is ∙ rw (e, take_more parents i 0 h) (append_assoc old (flat_map g (take i parents)) (g (get_or parents i 0)) ∙ ap (λ ys. old ++ ys) (one_more g (take i parents) (get_or parents i 0)))
+
+-- ---- one level of a tree
+
+pub covered_increasing : (s : Shape) (indices : List ℕ) (l : ℕ) (xs : List ℕ) → xs ≡ covered_at s indices l → IsStrictlyIncreasing xs
+covered_increasing s indices l xs e = rw e (increasing_from 0 (covered_at s indices l) (rising_filter (is_covered s indices l) 0 (layer_len s l)))
+
+-- one level more of the digests, from the tree's own layers
+pub boundary_more : {V X : Type 0} (items : V → List X) (layers : List V) (s : Shape) (indices : List ℕ) (t : ℕ) → CanQuery s indices t → (l : ℕ) → l < t → (n : ℕ) (layer : V) (row : List X) (here parents : List ℕ) (old new : List X) (d : X) →
+    n ≡ step s l → l < length layers → layer ≡ get_or layers l layer → row ≡ items layer → here ≡ covered_at s indices l → parents ≡ covered_at s indices (suc l) →
+    old ≡ own_boundary s (map items layers) indices l d → new ≡ old ++ others_under row here n parents d → new ≡ own_boundary s (map items layers) indices (l + 1) d
+boundary_more items layers s indices t w l h n layer row here parents old new d is_step long is is_row is_here is_parents is_old is_new =
+    let read : get_or (map items layers) l [] ≡ items layer = get_or-map items layers l layer [] long ∙ ap items (sym is) in
+    let next = rw read at (boundary_next s (map items layers) indices t w l h d) in
+    is_new ∙ rw (is_old, is_step, is_row, is_here, is_parents, add-one) (sym next)
+
+-- of digests of words, they are those that the definition of pruned openings has
+pub own_boundary_is : {W : Type 0} (s : Shape) (layers : List (List (List W))) (indices : List ℕ) (t : ℕ) → own_boundary s layers indices t [] ≡ own_digests s layers indices t
+own_boundary_is s layers indices t = refl

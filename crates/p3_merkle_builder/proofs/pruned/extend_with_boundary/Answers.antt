@@ -1,7 +1,6 @@
 -- Each turn adds one group.
-use Rattle.std.proofs.Common.{◌≡◌, ◌++◌, take, length, arith, sym, append-nil}
+use Rattle.std.proofs.Common.{arith, sym, append-nil}
 use Rattle.std.proofs.lemmas.List.{take_all}
-use Rattle.p3_merkle_builder.specs.Own.{others_under}
 use Rattle.p3_merkle_builder.proofs.BoundaryFacts.{groups_more}
 use Rattle.p3_merkle_builder.proofs.pruned.extend_with_boundary.Goals as goal
 

@@ -1,8 +1,7 @@
 -- Each turn looks for one child among the covered nodes.
-use Rattle.std.proofs.Common.{◌≡◌, ◌+◌, ◌-◌, ◌++◌, arith, sym, ◌∙◌, append-nil}
+use Rattle.std.proofs.Common.{◌≡◌, ◌-◌, arith, sym, ◌∙◌, append-nil}
 use Rattle.std.proofs.lemmas.List.{get_or_read}
-use Rattle.p3_merkle_builder.specs.Own.{others_in}
-use Rattle.p3_merkle_builder.proofs.BoundaryFacts.{group_more, boundary_next, groups_fit}
+use Rattle.p3_merkle_builder.proofs.BoundaryFacts.{group_more}
 use Rattle.p3_merkle_builder.proofs.pruned.extend_with_uncovered.Goals as goal
 use Rattle.p3_merkle_builder.proofs.pruned.extend_with_uncovered.Goals.{then-is_err+in_ok-push, else-is_err}
 
