@@ -11,6 +11,31 @@ use crate::geometry::{exponent_of, select_arity_step, tallest_of};
 use p3_support::matrix::Dimensions;
 use std::alloc::{AllocError, Global};
 
+/// The digests of a pruned proof, which opens several leaves at once. [`PrunedMerklePaths`] is this proof at digests of
+/// words.
+#[derive(Debug, Clone, Drop)]
+pub struct PrunedProof<X> {
+    /// The digests of the boundary in wire order: level by level from the leaves, and ascending on each level, those of the
+    /// children of covered nodes that are not covered.
+    pub sibling_hashes: Vec<X>,
+}
+
+/// The digests of a pruned proof, of `D` words each (`PrunedMerklePaths` in the Rust crate).
+pub type PrunedMerklePaths<W, const D: usize> = PrunedProof<[W; D]>;
+
+/// The rows of several leaves, and one proof for all of them. [`PrunedBatchOpening`] is this opening at digests of words.
+#[derive(Debug, Clone, Drop)]
+pub struct PrunedRows<T, X> {
+    /// For each query, in query order, a row of each matrix, in matrix order.
+    pub opened_values: Vec<Vec<Vec<T>>>,
+    /// What proves that they were committed to.
+    pub pruned_proof: PrunedProof<X>,
+}
+
+/// The rows of several leaves, and one proof for all of them, with digests of `D` words (`PrunedBatchOpening` in the Rust
+/// crate).
+pub type PrunedBatchOpening<T, W, const D: usize> = PrunedRows<T, [W; D]>;
+
 /// Whether each index is below `max_height`, the tallest height of some matrices: the Rust crate's check of the highest
 /// index.
 ///

@@ -4,3 +4,4 @@ pub mod CapFacts
 pub mod AuthenticFacts
 pub mod CheckFacts
 pub mod LoweredFacts
+pub mod PrunedFacts

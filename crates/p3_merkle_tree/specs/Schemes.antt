@@ -9,6 +9,9 @@ use Rattle.p3_merkle_core.specs.Geometry.{Shape}
 use Rattle.p3_merkle_core.specs.declared.cap.CapRule.{CapRule}
 use Rattle.p3_merkle_core.specs.Nodes.{Functions, functions_of}
 use Rattle.p3_merkle_core.specs.Openings.{Opening, opening_of}
+use Rattle.p3_merkle_core.specs.PrunedCalls.{row_sets}
+use Rattle.p3_merkle_core.specs.Pruning.{PrunedOpening, pruned_of}
+use Rattle.p3_merkle_core.specs.declared.pruning.PrunedRows.{PrunedRows}
 use Rattle.p3_support.specs.Shown.{row_lists}
 use Rattle.p3_merkle_tree.specs.declared.mmcs.Scheme.{Scheme}
 use Rattle.p3_support.specs.declared.opening.BatchOpening.{BatchOpening}
@@ -46,3 +49,7 @@ opening_made index opening = opening_of index (row_lists opening.opened_values.i
 -- the same of one that is lent
 abbrev pub opening_lent : {T W A : Type 0} → ℕ → BatchOpeningRef T (Vec (List W) A) → Opening T W
 opening_lent index opening = opening_of index (row_lists opening.opened_values.now) opening.opening_proof.now.items
+
+-- a pruned opening of some indices, by its row sets and digests
+abbrev pub pruned_made : {T W : Type 0} → List ℕ → PrunedRows T (List W) → PrunedOpening T W
+pruned_made indices opening = pruned_of indices (row_sets opening.opened_values.items) opening.pruned_proof.sibling_hashes.items

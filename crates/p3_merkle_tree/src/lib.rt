@@ -4,6 +4,7 @@
 
 mod extract;
 pub mod mmcs;
+mod pruned;
 mod schedule;
 
 pub use mmcs::MerkleTreeMmcs;
@@ -14,4 +15,5 @@ pub use p3_merkle_checker::{collision, laws};
 pub use p3_merkle_core::cap::CapRule;
 pub use p3_merkle_core::error::{MerkleTreeError, PrunedProofError};
 pub use p3_merkle_core::geometry::{ArityAndPositions, MAX_HEIGHT};
+pub use p3_merkle_core::pruning::{PrunedBatchOpening, PrunedMerklePaths};
 pub use p3_support::opening::{BatchOpening, BatchOpeningRef, Hash, MerkleCap};
