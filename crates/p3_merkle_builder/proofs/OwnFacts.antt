@@ -1,13 +1,15 @@
 -- What a tree opens of one index: the bounds of each group, and the siblings level by level.
-use Rattle.std.proofs.Common.{◌≡◌, ℕ, suc, ◌+◌, ◌-◌, ◌*◌, ◌/◌, ◌%◌, ◌<◌, ◌≤◌, List, ◌++◌, [], map, refl, ap, sym, ◌∙◌, arith, length, get_or, take, drop, remove, add-one}
+use Rattle.std.proofs.Common.{◌≡◌, ℕ, suc, ◌+◌, ◌-◌, ◌*◌, ◌/◌, ◌%◌, ◌^◌, ◌<◌, ◌≤◌, List, ◌++◌, [], map, refl, ap, sym, ◌∙◌, arith, length, get_or, take, drop, remove, add-one}
 use Rattle.std.specs.List.{range_with_len}
 use Rattle.std.specs.Prelude.{slice_index_or}
-use Rattle.std.proofs.lemmas.List.{get_or-map, get_or_default}
+use Rattle.std.proofs.lemmas.List.{get_or-map, get_or_default, get_or-take, length-take-le}
 use Rattle.std.proofs.lemmas.List.FromFn.{length-map-range_with_len}
 use Rattle.std.proofs.Math.Nat.{mul-le-mul_left}
-use Rattle.p3_merkle_core.specs.Geometry.{Shape, arity_schedule, step, ancestor, levels, tallest, heights, raw_len, layer_len, IsArity, IsLawful}
+use Rattle.p3_merkle_core.specs.Geometry.{Shape, arity_schedule, max_height, step, ancestor, levels, tallest, heights, raw_len, layer_len, IsArity, IsLawful}
 use Rattle.p3_merkle_core.proofs.RawFacts.{anc_below, children_fit}
 use Rattle.p3_merkle_core.proofs.StepFacts.{anc_next, step_above_1, step_read}
+use Rattle.p3_merkle_core.proofs.SiblingFacts.{siblings_next, step_is}
+use Rattle.p3_merkle_core.specs.Openings.{siblings_below}
 use Rattle.p3_merkle_builder.specs.Own.{own_group}
 use Rattle.p3_merkle_builder.proofs.TreeFacts.{layer_long}
 use Rattle.p3_merkle_core.proofs.ListFacts.{joined, joined_more}
@@ -21,6 +23,23 @@ pub step_of : (s : Shape) (taken : List ℕ) (l n : ℕ) → taken ≡ arity_sch
 step_of s taken l n e h is =
     let long = steps_count s taken e in
     is ∙ get_or_default taken l n 0 (omega arith) ∙ step_read s l taken e (omega arith)
+
+-- a level below layer t, by its step among those of the first t levels
+pub record CountsLevel (s : Shape) (l step : ℕ) : Type 0 where
+  pub wide : 2 ≤ step
+  pub narrow : step ≤ s.arity
+  pub few : siblings_below s l < 2 ^ 62
+  pub more : siblings_below s l + (step - 1) ≡ siblings_below s (l + 1)
+
+pub counts_level : (s : Shape) (taken : List ℕ) (t l : ℕ) → IsArity s.arity → tallest (heights s) ≤ max_height → taken ≡ arity_schedule s → t ≤ levels s → l < length (take t taken) →
+    CountsLevel s l (get_or (take t taken) l 0)
+counts_level s taken t l w low e in_tree h =
+    let long = steps_count s taken e in
+    let size : length (take t taken) ≡ t = length-take-le t taken (omega arith) in
+    let below : l < t = omega arith in
+    let is : get_or (take t taken) l 0 ≡ step s l = get_or-take t taken l 0 below ∙ step_read s l taken e (omega arith) in
+    let k = step_is s l w low (omega arith) in
+    rw is (record { wide = k.wide; narrow = k.narrow; few = k.few; more = rw (add-one, siblings_next s l) refl })
 
 -- the group, in layer l, of the node above leaf i: from `node - node % n` on, n of the layer's digests
 pub record IsGroup (s : Shape) (i l n node len : ℕ) : Type 0 where

@@ -4,7 +4,7 @@ ghost use Rattle.std.specs.Prelude.{◌≡◌, ◌<◌, ◌≤◌, ◌++◌, len
 ghost use Rattle.p3_merkle_core.specs.Caps.{cap_layer};
 ghost use Rattle.p3_merkle_core.specs.Geometry.{heights, levels, tallest};
 ghost use Rattle.p3_merkle_core.specs.Nodes.{shape};
-ghost use Rattle.p3_merkle_core.specs.Openings.{honest_rows};
+ghost use Rattle.p3_merkle_core.specs.Openings.{honest_rows, siblings_below};
 ghost use Rattle.p3_merkle_core.specs.declared.error.MerkleTreeError.TheVariants.{OutOfMemory};
 ghost use Rattle.p3_merkle_builder.specs.Own.{own_siblings};
 ghost use Rattle.p3_support.specs.Shown.{row_lists};
@@ -110,7 +110,7 @@ pub fn siblings_of_index<F, X: Copy, G, M: Matrix<F>, const N: usize>(
         IfOk result (λ siblings. siblings.items ≡ own) }
     ensures memory { IfErr result (λ e. e ≡ OutOfMemory) }
 {
-    let mut siblings = Vec::new(alloc);
+    let mut siblings = Vec::with_capacity(alloc, num_siblings(tree, t))?;
     let mut ancestor = index;
     for level in 0..t {
         let step = tree.arity_schedule[level];
@@ -123,6 +123,21 @@ pub fn siblings_of_index<F, X: Copy, G, M: Matrix<F>, const N: usize>(
     Ok(siblings)
 }
 
+/// How many siblings the path of a leaf up to layer `t` has. `t` is at most [`num_levels`].
+fn num_siblings<F, X, G, M: Matrix<F>, const N: usize>(
+    tree: &Tree<F, X, G, M, N>,
+    t: usize,
+) -> usize
+    requires { t ≤ levels (shape (tree_batch tree.now)) }
+    ensures { result ≡ siblings_below (shape (tree_batch tree.now)) t }
+{
+    let mut count = 0;
+    for step in &tree.arity_schedule[..t] {
+        count += step - 1;
+    }
+    count
+}
+
 /// The words of a row.
 fn words_of_row<F: Copy, M: Matrix<F>>(
     alloc: Global,
@@ -132,7 +147,9 @@ fn words_of_row<F: Copy, M: Matrix<F>>(
     requires { row < M.height_of matrix.now }
     ensures { IfOk result (λ words. words.items ≡ M.row_of matrix.now row) }
 {
-    matrix.row(row).collect(alloc)
+    let mut words = Vec::with_capacity(alloc, matrix.width())?;
+    words.extend(matrix.row(row))?;
+    Ok(words)
 }
 
 /// Adds the members of a group to the end, all but the one at `position`.
@@ -146,7 +163,10 @@ fn extend_with_others<X: Copy>(
         IfOk result (λ done. siblings.new.items ≡ siblings.old.items ++ others) }
     ensures memory { IfErr result (λ e. e ≡ OutOfMemory) }
 {
-    siblings.extend_from_slice(&group[..position])?;
-    siblings.extend_from_slice(&group[position + 1..])?;
+    for (place, digest) in group.iter().enumerate() {
+        if place != position {
+            siblings.push(*digest)?;
+        }
+    }
     Ok(())
 }

@@ -8,7 +8,7 @@ use Rattle.p3_merkle_builder.proofs.OwnFacts.{steps_count, step_of, group_at_lev
 use Rattle.p3_merkle_builder.proofs.opener.siblings_of_index.Goals as goal
 
 pub loop-level-init : goal.loop-level-init
-loop-level-init g c = (c.new-siblings.ensures.items, sym (anc_start (shape (tree_batch c.args.tree.now)) c.args.index))
+loop-level-init g c = (c.in_ok-siblings.ensures.items, sym (anc_start (shape (tree_batch c.args.tree.now)) c.args.index))
 
 pub index-step-requires : goal.index-step-requires
 index-step-requires g c =
