@@ -1,5 +1,5 @@
 -- The layers that are built are those of the definition.
-use Rattle.std.proofs.Common.{◌≡◌, ℕ, zero, suc, ◌+◌, ◌-◌, ◌*◌, ◌/◌, ◌^◌, ◌<◌, ◌≤◌, Bool, true, false, cond, eqb, nat_lt, ◌&&◌, List, [], ◌∷◌, ◌++◌, map, refl, ap, sym, ◌∙◌, subst, arith, inl, inr, length, take, drop, filter, All}
+use Rattle.std.proofs.Common.{◌≡◌, ℕ, zero, suc, ◌+◌, ◌-◌, ◌*◌, ◌/◌, ◌^◌, ◌<◌, ◌≤◌, Bool, true, false, cond, eqb, nat_lt, ◌&&◌, List, [], ◌∷◌, ◌++◌, map, refl, ap, sym, ◌∙◌, subst, arith, inl, inr, length, take, drop, filter, All, get_or, append-nil}
 use Rattle.std.specs.List.{range_with_len, list_any, list_all}
 use Rattle.std.proofs.lemmas.Bool.{cases_Bool, cases_lt, cases_eq, cond-true, cond-false, le-ltb, lt-ltb, eq-eqb, ne_eqb, or_parts, true≢false}
 use Rattle.std.proofs.lemmas.List.FromFn.{fill_by_all, get_or-map-range_with_len, length-map-range_with_len}
@@ -15,6 +15,12 @@ use Rattle.p3_merkle_core.proofs.StepFacts.{layer_start}
 use Rattle.p3_merkle_builder.specs.Views.{batch_of, matrix_of}
 use Rattle.p3_merkle_builder.specs.Levels.{IsLevel, height_at, node_above}
 use Rattle.p3_merkle_builder.specs.declared.levels.Level.{Level}
+
+-- a list of one element
+pub one_element : {A : Type 0} (xs : List A) (x : A) → length xs ≡ 1 → x ≡ get_or xs 0 x → xs ≡ x ∷ []
+one_element [] x h is = absurd (omega arith)
+one_element (y ∷ []) x h is = ap (λ z. z ∷ []) (sym is)
+one_element (y ∷ z ∷ ys) x h is = absurd (omega arith)
 
 -- two functions that agree below n make the same list
 pub same_made : {X : Type 0} (f g : ℕ → X) (n : ℕ) → ((k : ℕ) → k < n → f k ≡ g k) → map f (range_with_len 0 n) ≡ map g (range_with_len 0 n)
@@ -101,6 +107,10 @@ module _ {T M : Type 0} (height width : M → ℕ) (row : M → ℕ → List T) 
         | inl e ↦ rw (e, tall_same j ms w e, rows_same j ms (exponent_is_there ms w e) w) refl
         | inr e ↦ rw e refl
       ]
+
+-- one matrix alone gives its own row
+pub rows_alone : {T M : Type 0} (height : M → ℕ) (row : M → ℕ → List T) (h j : ℕ) (ms : List M) (m : M) → length ms ≡ 1 → m ≡ get_or ms 0 m → height m ≡ h → rows_of_height height row h j ms ≡ row m j
+rows_alone height row h j ms m one is same = rw (one_element ms m one is, eq-eqb (height m) h same) (append-nil (row m j))
 
 -- the rows of the matrices of a height, picked from all and read through references, are those of all
 module _ {T M R : Type 0} (height : M → ℕ) (row : M → ℕ → List T) (now : R → M) (h j : ℕ) where

@@ -37,12 +37,6 @@ pub layer_read : {V A : Type 0} (items : V → List A) (vs : List V) (l : ℕ) (
 layer_read items vs l v h is =
     slice_get_read (map items vs) (length vs) l (items v) (sym (length-map vs items)) h (ap items is ∙ sym (get_or-map items vs l v (items v) h))
 
--- a list of one element
-pub one_element : {A : Type 0} (xs : List A) (x : A) → length xs ≡ 1 → x ≡ get_or xs 0 x → xs ≡ x ∷ []
-one_element [] x h is = absurd (omega arith)
-one_element (y ∷ []) x h is = ap (λ z. z ∷ []) (sym is)
-one_element (y ∷ z ∷ ys) x h is = absurd (omega arith)
-
 -- the last layer has one node
 pub top_len : (s : Shape) → IsArity s.arity → IsLawful (heights s) → layer_len s (levels s) ≡ 1
 top_len s w lawful =

@@ -88,10 +88,13 @@ impl<
             then H.hash self.now.hash.now (rows_of_height M.height_of M.row_of height row self.now.matrices.now)
             else replicate D PW.default_value) }
     {
-        if row < height {
-            self.hash.hash_iter(rows_of(self.matrices, height, row))
-        } else {
-            [PW::Value::default(); D]
+        if row >= height {
+            return [PW::Value::default(); D];
+        }
+        match self.matrices {
+            // A row that stands alone is read without a look for the next one after each word.
+            [matrix] if matrix.height() == height => self.hash.hash_iter(matrix.row(row)),
+            _ => self.hash.hash_iter(rows_of(self.matrices, height, row)),
         }
     }
 
