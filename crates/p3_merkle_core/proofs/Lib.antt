@@ -34,6 +34,7 @@ pub mod RootFacts
 pub mod FallFacts
 pub mod CapFacts
 pub mod SiblingFacts
+pub mod BridgeFacts
 pub mod GroupFacts
 pub mod RisingFacts
 pub mod CoveredFacts

@@ -215,6 +215,10 @@ pub fn is_bridge_step(dimensions: &[Dimensions], arity: usize, x: usize) -> bool
     ensures { result ≡ is_bridge (shape_of arity dimensions.now) x }
 {
     let target = x.saturating_sub(exponent_of(arity));
+    // Where no number lies between, no height is asked.
+    if x - target < 2 {
+        return false;
+    }
     dimensions.iter().map(|matrix| matrix.height).any(|height| {
         let e = exponent_of(height);
         target < e && e < x

@@ -9,10 +9,12 @@ pub fn place<X: Copy>(slots: &mut [X], position: usize, value: X, others: &[X])
     requires room { length others.now < length slots.old }
     ensures { slots.new ≡ insert others.now position value ++ drop (length others.now + 1) slots.old }
 {
-    let (front, rest) = others.split_at(position);
-    slots[..position].copy_from_slice(front);
+    // Groups are so small that one write each costs less than two copies of parts.
     slots[position] = value;
-    slots[position + 1..others.len() + 1].copy_from_slice(rest);
+    for (k, other) in others.iter().enumerate() {
+        let slot = if k < position { k } else { k + 1 };
+        slots[slot] = *other;
+    }
 }
 
 /// A digest at its place among its siblings, then default digests: what a compression of `N` digests takes where a

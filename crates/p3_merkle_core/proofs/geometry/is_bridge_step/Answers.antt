@@ -1,10 +1,14 @@
 -- The heights are gone through up to one whose exponent lies between.
-use Rattle.std.proofs.Common.{◌-◌, ◌&&◌, nat_lt, rules, tests}
+use Rattle.std.proofs.Common.{◌-◌, ◌&&◌, nat_lt, rules, tests, arith, sym}
 use Rattle.std.proofs.lemmas.Iterator.{YieldsList-from_map, YieldsList-from_slice}
 use Rattle.std.proofs.lemmas.Iterator.Search.{any_from_yields_List}
 use Rattle.p3_support.specs.declared.matrix.Dimensions.{Dimensions}
-use Rattle.p3_merkle_core.specs.Geometry.{exponent}
+use Rattle.p3_merkle_core.specs.Geometry.{exponent, heights_of}
+use Rattle.p3_merkle_core.proofs.BridgeFacts.{none_between}
 use Rattle.p3_merkle_core.proofs.geometry.is_bridge_step.Goals as goal
+
+pub returns-then-x-target-lt2 : goal.returns-then-x-target-lt2
+returns-then-x-target-lt2 c = sym (none_between (c.args.x - exponent c.args.arity) c.args.x (heights_of c.args.dimensions.now) (omega (arith, c.exponent_of.ensures, c.saturating_sub-target.ensures)))
 
 pub returns : goal.returns
 returns c =
