@@ -1,13 +1,11 @@
 -- What an extraction answers.
-use Rattle.std.proofs.Common.{◌≡◌, ◌↔◌, ℕ, zero, suc, ◌+◌, ◌-◌, ◌<◌, All, Bool, List, [], ◌∷◌, subst, sym, refl, arith, inl, inr, length, Option, None, Some}
+use Rattle.std.proofs.Common.{◌≡◌, ◌↔◌, ℕ, Bool, List, subst, sym, refl, inl, inr, Option, None, Some}
 use Rattle.std.specs.Prelude.{Ok, Err, Result, IsNone, IsSome, IfErr, IfOk, IfSome}
 use Rattle.std.specs.Option.{option_or}
-use Rattle.std.proofs.lemmas.Bool.{cases_eq, eq-eqb, ne_eqb}
-use Rattle.std.proofs.lemmas.List.Elements.{All-append, All-head, All-nil, All-tail}
 use Rattle.p3_merkle_core.specs.Extracting.{ok_unless, extraction_under, input_eq, last_difference}
 use Rattle.p3_merkle_core.specs.Geometry.{Shape, IsArity}
 use Rattle.p3_merkle_core.specs.Nodes.{Functions}
-use Rattle.p3_merkle_core.specs.Openings.{AgreeWhereShared, HasDigests, Input, IsAccepted, IsLastDifference, Opening, inputs_at, meeting_level, shared_inputs, siblings_below}
+use Rattle.p3_merkle_core.specs.Openings.{AgreeWhereShared, HasDigests, Input, IsAccepted, Opening, shared_inputs}
 use Rattle.p3_merkle_core.specs.Refusals.{IsEquality, answer_under, refusal_under, verdict}
 use Rattle.p3_merkle_core.specs.declared.error.MerkleTreeError.{MerkleTreeError}
 use Rattle.p3_merkle_core.specs.declared.error.MerkleTreeError.TheVariants.{OutOfMemory}

@@ -1,5 +1,5 @@
 -- An opening of the right form is answered by the cap's entry.
-use Rattle.std.proofs.Common.{◌≡◌, ℕ, Bool, List, ap, sym, ◌∙◌, length, Option, None, Some}
+use Rattle.std.proofs.Common.{◌≡◌, ℕ, Bool, List, ap, sym, ◌∙◌, length, Option, None}
 use Rattle.std.specs.Option.{option_or}
 use Rattle.std.specs.Prelude.{Ok}
 use Rattle.p3_merkle_core.specs.Geometry.{Shape, ancestor}

@@ -1,7 +1,8 @@
 -- One level of the check of an opening.
-use Rattle.std.proofs.Common.{◌≡◌, ℕ, zero, suc, ◌+◌, ◌-◌, ◌%◌, ◌<◌, ◌≤◌, add-suc, true, false, cond, eqb, List, [], ◌∷◌, refl, ap, sym, ◌∙◌, arith, zip, None, Some}
-use Rattle.std.specs.List.{list_any}
+use Rattle.std.proofs.Common.{◌≡◌, ℕ, zero, suc, ◌+◌, ◌-◌, ◌%◌, ◌<◌, ◌≤◌, add-suc, true, false, cond, eqb, List, [], ◌∷◌, refl, ap, sym, ◌∙◌, arith, map, zip, None, Some}
+use Rattle.std.specs.List.{list_any, filter, flat_map}
 use Rattle.std.proofs.lemmas.Bool.{cond_both}
+use Rattle.std.proofs.lemmas.List.Folds.{flat_map-map}
 use Rattle.p3_merkle_core.specs.Geometry.{Shape, IsArity, exponent, heights, is_bridge, layer_exponent, step, tallest, has_rows}
 use Rattle.p3_merkle_core.specs.Groups.{group_around}
 use Rattle.p3_merkle_core.specs.Nodes.{Functions, padded_group}
@@ -10,9 +11,14 @@ use Rattle.p3_merkle_core.proofs.Completeness.{reached_leaf, reached_next}
 use Rattle.p3_merkle_core.proofs.SiblingFacts.{siblings_next, siblings_start}
 use Rattle.p3_merkle_core.proofs.StepFacts.{anc_next, anc_start, layer_start, next_exponent, step_above_1, step_at}
 use Rattle.p3_merkle_checker.specs.Checks.{CanStep, IsAbove, IsLevel, StandsAt, step_siblings}
-use Rattle.p3_merkle_checker.specs.Paths.{CanReach, rows_with}
+use Rattle.p3_merkle_checker.specs.Paths.{CanReach, rows_of_exponent, rows_with}
 use Rattle.p3_merkle_checker.specs.declared.level.Standing.{Standing}
 use Rattle.p3_merkle_core.proofs.CheckFacts.{full_group, inputs_with_rows, inputs_alone}
+
+-- rows that are read whole, one after another, are the words of these rows
+pub words_read : {T R : Type 0} (now : R → List T) (x : ℕ) (pairs : List (ℕ × List T)) (rows : List R) → map now rows ≡ rows_of_exponent x pairs → flat_map now rows ≡ rows_with x pairs
+words_read now x pairs rows e =
+    sym (flat_map-map (λ row. row) now rows) ∙ ap (flat_map (λ row. row)) e ∙ flat_map-map (λ row. row) (λ (h, row). row) (filter (λ (h, row). eqb (exponent h) x) pairs)
 
 -- a check begins at its leaf
 pub stands_first : {T W : Type 0} (f : Functions T W) (s : Shape) (o : Opening T W) (standing : Standing (List W)) → standing.exponent ≡ exponent (tallest (heights s)) → standing.node ≡ o.index → standing.used ≡ 0 →

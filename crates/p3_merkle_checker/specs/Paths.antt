@@ -1,11 +1,15 @@
 -- What the check of an opening reads.
-use Rattle.std.specs.Prelude.{◌≡◌, ◌≤◌, ℕ, ◌==◌, List, [], ◌∷◌, ◌++◌, drop, zip, filter, flat_map, if◌then◌else◌}
+use Rattle.std.specs.Prelude.{◌≡◌, ◌≤◌, ℕ, ◌==◌, List, [], ◌∷◌, ◌++◌, drop, zip, filter, flat_map, map, if◌then◌else◌}
 use Rattle.p3_merkle_core.specs.Geometry.{Shape, IsArity, exponent, levels}
 use Rattle.p3_merkle_core.specs.Openings.{siblings_below}
 
 -- of rows with their heights, those of the exponent x, one after another
 abbrev pub rows_with : {T : Type 0} → ℕ → List (ℕ × List T) → List T
 rows_with x pairs = flat_map (λ (h, row). row) (filter (λ (h, row). exponent h == x) pairs)
+
+-- the same, each whole
+abbrev pub rows_of_exponent : {T : Type 0} → ℕ → List (ℕ × List T) → List (List T)
+rows_of_exponent x pairs = map (λ (h, row). row) (filter (λ (h, row). exponent h == x) pairs)
 
 -- the rows of the matrices of exponent x, where the first one is read from column c on
 abbrev pub opened_left : {T : Type 0} → ℕ → List ℕ → List (List T) → ℕ → List T

@@ -8,7 +8,7 @@ ghost use Rattle.p3_merkle_checker.specs.Checks.{opening_in, step_siblings, CanC
 ghost use Rattle.p3_merkle_checker.specs.Paths.{rows_with, CanReach};
 ghost use Rattle.p3_support.specs.Shown.{row_lists};
 
-use crate::opened::opened_rows;
+use crate::opened::opened_slices;
 use crate::openings::IndexedOpening;
 use p3_merkle_core::geometry::{exponent_of, has_exponent, select_arity_step, tallest_of};
 use p3_merkle_core::group::group_with;
@@ -88,7 +88,7 @@ fn rows_digest<P: PackedValue, PW: PackedValue, H: CryptographicHasher<P, PW, D>
     ensures { let rows = zip (heights_of dimensions.now) (row_lists rows.now) in
         result ≡ H.hash hash.now (rows_with exponent rows) }
 {
-    hash.hash_iter(opened_rows(dimensions, rows, exponent))
+    hash.hash_iter_slices(opened_slices(dimensions, rows, exponent))
 }
 
 /// The check of an opening at its leaf.
