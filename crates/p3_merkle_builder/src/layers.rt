@@ -81,6 +81,17 @@ impl<
     const N: usize,
     const D: usize,
 > Builder<'a, (P, PW), H, C, M, [[PW::Value; D]; N]> {
+    /// The digest of row `row` of a matrix, which is below its height.
+    fn row_digest(&self, matrix: &M, row: usize) -> [PW::Value; D]
+        requires { row < M.height_of matrix.now }
+        ensures { result ≡ H.hash self.now.hash.now (M.row_of matrix.now row) }
+    {
+        match matrix.row_slice(row) {
+            Some(words) => self.hash.hash_slice(words),
+            None => self.hash.hash_iter(matrix.row(row)),
+        }
+    }
+
     /// The digest of the rows `row` of the matrices of this height, one matrix after another; the default digest past
     /// their end.
     fn rows_digest(&self, height: usize, row: usize) -> [PW::Value; D]
@@ -93,7 +104,7 @@ impl<
         }
         match self.matrices {
             // A row that stands alone is read without a look for the next one after each word.
-            [matrix] if matrix.height() == height => self.hash.hash_iter(matrix.row(row)),
+            [matrix] if matrix.height() == height => self.row_digest(matrix, row),
             _ => self.hash.hash_iter(rows_of(self.matrices, height, row)),
         }
     }

@@ -147,6 +147,9 @@ fn words_of_row<F: Copy, M: Matrix<F>>(
     requires { row < M.height_of matrix.now }
     ensures { IfOk result (λ words. words.items ≡ M.row_of matrix.now row) }
 {
+    if let Some(words) = matrix.row_slice(row) {
+        return Vec::from_slice(alloc, words);
+    }
     let mut words = Vec::with_capacity(alloc, matrix.width())?;
     words.extend(matrix.row(row))?;
     Ok(words)

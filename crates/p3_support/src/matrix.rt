@@ -1,5 +1,5 @@
 //! Matrices, seen as their height, their width and their rows.
-ghost use Rattle.std.specs.Prelude.{◌≡◌, ℕ, ◌+◌, ◌*◌, ◌<◌, ◌≤◌, ◌^◌, List, length, map, slice_get, slice_index_or, Some};
+ghost use Rattle.std.specs.Prelude.{◌≡◌, ℕ, ◌+◌, ◌*◌, ◌<◌, ◌≤◌, ◌^◌, List, length, map, slice_get, slice_index_or, IfSome, Some};
 ghost use Rattle.std.specs.List.{range_with_len};
 ghost use Rattle.std.specs.Iterator.{YieldsFirst, YieldsFirstBy, item_count};
 ghost use Rattle.p3_support.specs.Lists.{message, column_of_rows, columns};
@@ -44,6 +44,15 @@ pub trait Matrix<T> {
         requires row_in { row < height_of self.now }
         requires column_in { column < width_of self.now }
         ensures { slice_get (row_of self.now row) column ≡ Some result };
+
+    /// The elements of a row, by ascending columns, where the matrix has them in one piece; `None` is
+    /// no claim that it has not. The row is below the height.
+    fn row_slice(&self, row: usize) -> Option<&[T]>
+        requires { row < height_of self.now }
+        ensures { IfSome result (λ words. words.now ≡ row_of self.now row) }
+    {
+        None
+    }
 
     /// Width and height.
     final fn dimensions(&self) -> Dimensions
@@ -114,6 +123,10 @@ impl<T, M: Matrix<T>> Matrix<T> for &M {
 
     fn get(&self, row: usize, column: usize) -> T {
         (**self).get(row, column)
+    }
+
+    fn row_slice(&self, row: usize) -> Option<&[T]> {
+        (**self).row_slice(row)
     }
 
     ghost length_row_of = { λ m r h. M.length_row_of m.now r h };
@@ -292,6 +305,10 @@ impl<T: Copy> Matrix<T> for RowMajorMatrix<T> {
 
     fn get(&self, row: usize, column: usize) -> T {
         self.values[row * self.width + column]
+    }
+
+    fn row_slice(&self, row: usize) -> Option<&[T]> {
+        Some(&self.values[row * self.width..(row + 1) * self.width])
     }
 
     ghost length_row_of = { λ m r h. length-message m.values.items m.width m.height r m.full h };
