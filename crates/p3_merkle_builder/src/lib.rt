@@ -1,4 +1,4 @@
-//! The tree over a batch of matrices: how it is built, and what it opens of a leaf.
+//! The tree over a batch of matrices: how it is built, and what it opens of one leaf and of several.
 #![tactic(auto)]
 
 pub mod copy;

@@ -4,12 +4,21 @@ use Rattle.p3_support.specs.Fold.{fold_hash, fold_compress}
 use Rattle.p3_merkle_core.specs.Geometry.{exponent, layer_exponent, raw_len, leaves_under}
 use Rattle.p3_merkle_core.specs.Nodes.{node}
 use Rattle.p3_merkle_core.specs.Openings.{siblings_below, path_digest, Group}
-use Rattle.p3_merkle_core.specs.Pruning.{boundary, honest_query, restored_node, restored_path}
+use Rattle.p3_merkle_core.specs.Pruning.{boundary, covered_at, honest_query, restored_node, restored_path}
 use Rattle.p3_merkle_core.specs.Refusals.{pruned_refusal}
 use Rattle.p3_merkle_core.specs.Extracting.{extraction_multi_under}
 use Rattle.p3_merkle_core.specs.Examples.{batch, column, narrow, pruned, fold_example}
 use Rattle.p3_merkle_core.specs.declared.error.PrunedProofError.TheVariants.{SiblingCountMismatch, InconsistentDuplicateOpenings, InconsistentGroupOpening}
 use Rattle.p3_merkle_core.specs.declared.error.MerkleTreeError.TheVariants.{IncompatibleHeights, IndexOutOfBounds, MalformedPrunedProof, WrongBatchSize, WrongWidth}
+
+leaves_of_four_queries : covered_at (narrow 2 (8 ∷ [])) (5 ∷ 1 ∷ 2 ∷ 1 ∷ []) 0 ≡ 1 ∷ 2 ∷ 5 ∷ []
+unfolding exponent layer_exponent raw_len leaves_under
+leaves_of_four_queries = refl
+
+-- two queries under one node cover it once
+parents_of_four_queries : covered_at (narrow 2 (8 ∷ [])) (5 ∷ 1 ∷ 2 ∷ 0 ∷ []) 1 ≡ 0 ∷ 1 ∷ 2 ∷ []
+unfolding exponent layer_exponent raw_len leaves_under
+parents_of_four_queries = refl
 
 boundary_of_four_queries : boundary (narrow 2 (8 ∷ [])) (5 ∷ 1 ∷ 2 ∷ 1 ∷ []) 3 ≡ (0, 0) ∷ (0, 3) ∷ (0, 4) ∷ (1, 3) ∷ []
 unfolding exponent layer_exponent raw_len leaves_under
