@@ -1,20 +1,21 @@
 -- The digests of a boundary, level by level and parent by parent.
-use Rattle.std.proofs.Common.{◌≡◌, ℕ, zero, suc, ◌+◌, ◌-◌, ◌*◌, ◌<◌, ◌≤◌, Bool, true, false, not, cond, eqb, List, [], ◌∷◌, ◌++◌, map, refl, ap, sym, ◌∙◌, arith, add-one, inl, inr, length, filter, get_or, take, All, Result, Ok, Err, MatchResult, is_err, append_assoc}
+use Rattle.std.proofs.Common.{◌≡◌, ℕ, zero, suc, ◌+◌, ◌-◌, ◌*◌, ◌<◌, ◌≤◌, Bool, true, false, not, cond, eqb, List, [], ◌∷◌, ◌++◌, map, refl, ap, sym, ◌∙◌, arith, add-one, inl, inr, length, filter, get_or, take, All, Vec, Result, Ok, Err, MatchResult, is_err, append_assoc}
 use Rattle.std.specs.List.{flat_map, range_with_len}
 use Rattle.std.specs.Prelude.{slice_index_or}
 use Rattle.std.specs.List.Sorted.{IsStrictlyIncreasing, IsBinarySearchResult}
 use Rattle.std.specs.Ordering.{nat_cmp}
 use Rattle.std.proofs.lemmas.Bool.{cases_Bool, cases_eq, cases_lt, eqb-true, false_from_ne_true}
-use Rattle.std.proofs.lemmas.List.{map-append, append-nil, get_or_default, take_more, get_or-map}
+use Rattle.std.proofs.lemmas.List.{map-append, append-nil, get_or_default, take_more, map_more, get_or-map}
 use Rattle.std.proofs.lemmas.List.Folds.{Any-from_list_any}
 use Rattle.std.proofs.lemmas.List.Kept.{AllPairs-from_increasing}
 use Rattle.std.proofs.lemmas.List.Sorted.{searched}
 use Rattle.p3_merkle_core.specs.Geometry.{Shape, step, layer_len}
 use Rattle.p3_merkle_core.specs.Pruning.{CanQuery, is_covered, is_boundary, covered_at, boundary_at, boundary}
-use Rattle.p3_merkle_core.specs.PrunedCalls.{own_digests}
+use Rattle.p3_merkle_core.specs.PrunedCalls.{own_digests, row_sets}
 use Rattle.p3_merkle_core.proofs.ListFacts.{joined_more}
 use Rattle.p3_merkle_core.proofs.RisingFacts.{is_listed, by_groups, listed_at, increasing_from, rising_filter}
 use Rattle.p3_merkle_core.proofs.CoveredFacts.{boundary_by_lists, group_fits}
+use Rattle.p3_support.specs.Shown.{row_lists}
 use Rattle.p3_merkle_builder.specs.Own.{others_in, others_under, own_boundary}
 
 map_groups : {X : Type 0} (g : ℕ → X) (n : ℕ) (here parents : List ℕ) →
@@ -123,3 +124,11 @@ boundary_more items layers s indices t w l h n layer row here parents old new d 
 -- of digests of words, they are those that the definition of pruned openings has
 pub own_boundary_is : {W : Type 0} (s : Shape) (layers : List (List (List W))) (indices : List ℕ) (t : ℕ) → own_boundary s layers indices t [] ≡ own_digests s layers indices t
 own_boundary_is s layers indices t = refl
+
+-- ---- row sets
+
+-- one row set more
+pub sets_more : {T A B : Type 0} (f : ℕ → List (List T)) (indices : List ℕ) (i : ℕ) (old new : List (Vec (Vec T A) B)) (rows : Vec (Vec T A) B) → i < length indices →
+    row_sets old ≡ map f (take i indices) → new ≡ old ++ rows ∷ [] → row_lists rows.items ≡ f (get_or indices i 0) → row_sets new ≡ map f (take (i + 1) indices)
+sets_more f indices i old new rows h so_far is_new is =
+    rw (is_new, map-append (λ (v : Vec (Vec _ _) _). row_lists v.items) old (rows ∷ []), so_far, is) (sym (map_more f indices i 0 h))

@@ -9,13 +9,13 @@ use Rattle.std.proofs.lemmas.List.Sorted.{list_any-IsPermutation}
 use Rattle.std.proofs.lemmas.Map.Keys.{IsStrictlyIncreasing-dedup}
 use Rattle.std.proofs.Math.Nat.{mul-le-mul_left}
 use Rattle.std.proofs.Math.Pow.{pow_mono}
-use Rattle.p3_merkle_core.specs.Geometry.{Shape, step, ancestor, raw_len, layer_len, padded_len, leaves_under, levels, layer_exponent, exponent, tallest, heights, max_height}
+use Rattle.p3_merkle_core.specs.Geometry.{Shape, is_bridge, step, ancestor, raw_len, layer_len, padded_len, leaves_under, levels, layer_exponent, exponent, tallest, heights, max_height}
 use Rattle.p3_merkle_core.specs.Pruning.{CanQuery, is_covered, is_boundary, covered_at, boundary_at, boundary}
 use Rattle.p3_merkle_core.specs.PrunedCalls.{pruned_len}
 use Rattle.p3_merkle_core.proofs.LeastFacts.{exponent_le}
 use Rattle.p3_merkle_core.proofs.LadderFacts.{levels_le, exact}
 use Rattle.p3_merkle_core.proofs.RawFacts.{children_fit, filled, positive_below}
-use Rattle.p3_merkle_core.proofs.StepFacts.{anc_next, anc_start, step_above_1}
+use Rattle.p3_merkle_core.proofs.StepFacts.{anc_next, anc_start, step_above_1, step_at}
 use Rattle.p3_merkle_core.proofs.ListFacts.{joined_more}
 use Rattle.p3_merkle_core.proofs.Under.{covered_up}
 use Rattle.p3_merkle_core.proofs.Sufficient.{covered_below}
@@ -251,3 +251,12 @@ turn_at s queries t w low l n count below above h is_step is_count is_below is_a
       add_fits = omega arith;
       next = rw add-one (omega (arith, pruned_next s queries l));
     }
+
+-- the same from what is known of the step, of the climb and of the two lengths; `up` is covered above
+pub turned : (s : Shape) (queries : List ℕ) (t : ℕ) → CanQuery s queries t → tallest (heights s) ≤ max_height → (l x n count below above : ℕ) (here up : List ℕ) → l < t →
+    x ≡ layer_exponent s l → n ≡ cond (is_bridge s x) 2 s.arity → count ≡ pruned_len s queries l → here ≡ covered_at s queries l → (n ≡ step s l → here ≡ covered_at s queries l → up ≡ covered_at s queries (suc l)) →
+    below ≡ length here → above ≡ length up → (up ≡ covered_at s queries (l + 1)) × IsTurn s queries l n count below above
+turned s queries t w low l x n count below above here up h at is_n is_count is_here climbs many fewer =
+    let is_step = step_at s l x n at is_n in
+    let is_up = climbs is_step is_here in
+    (rw add-one is_up, turn_at s queries t w low l n count below above h is_step is_count (many ∙ ap length is_here) (fewer ∙ ap length is_up))

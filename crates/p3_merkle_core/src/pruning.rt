@@ -119,7 +119,8 @@ pub fn pruned_len_of(
         let (step, next) = select_arity_step(dimensions, arity, x);
         let below = covered.len();
         climb(&mut covered, step);
-        count += step * covered.len() - below;
+        let children = step * covered.len();
+        count += children - below;
         x = next;
     }
     Ok(count)

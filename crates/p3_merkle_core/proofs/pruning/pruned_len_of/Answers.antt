@@ -1,10 +1,10 @@
 -- Each turn is one level.
-use Rattle.std.proofs.Common.{◌≡◌, ◌+◌, length, refl, arith, ap, sym, ◌∙◌, add-one}
+use Rattle.std.proofs.Common.{◌≡◌, length, refl, arith, ap, sym, ◌∙◌}
 use Rattle.p3_merkle_core.specs.Geometry.{shape_of, exponent}
-use Rattle.p3_merkle_core.specs.Pruning.{CanQuery, covered_at}
+use Rattle.p3_merkle_core.specs.Pruning.{CanQuery}
 use Rattle.p3_merkle_core.specs.PrunedCalls.{pruned_len}
 use Rattle.p3_merkle_core.proofs.StepFacts.{layer_start, next_at, step_at, step_above_1}
-use Rattle.p3_merkle_core.proofs.CoveredFacts.{IsTurn, turn_at}
+use Rattle.p3_merkle_core.proofs.CoveredFacts.{turned}
 use Rattle.p3_merkle_core.proofs.pruning.pruned_len_of.Goals as goal
 
 pub loop-l-init : goal.loop-l-init
@@ -22,38 +22,45 @@ climb-requires c =
     let e = step_at s c.loop-l._l c.loop-l.x c.select_arity_step-step.result.0 c.loop-l.invariant.at c.select_arity_step-step.ensures.step in
     omega (arith, step_above_1 s c.loop-l._l c.requires.arity.above_1)
 
--- the covered nodes after the turn, and what the turn counts
-turned : (c : goal.After-len) →
+pub overflow_mul-children : goal.overflow_mul-children
+overflow_mul-children c =
     let s = shape_of c.args.arity c.args.dimensions.now in
-    (c.climb.new.covered.items ≡ covered_at s c.args.indices.now (c.loop-l._l + 1)) × IsTurn s c.args.indices.now c.loop-l._l c.select_arity_step-step.result.0 c.loop-l.count c.len-below.result c.len.result
-turned c =
-    let s = shape_of c.args.arity c.args.dimensions.now in
-    let l = c.loop-l._l in
-    let step = c.select_arity_step-step in
     let w : CanQuery s c.args.indices.now c.args.t = record { well_shaped = c.requires.arity; below = c.requires.below; in_tree = c.requires.layer } in
-    let e = step_at s l c.loop-l.x step.result.0 c.loop-l.invariant.at step.ensures.step in
-    let above = c.climb.ensures s c.args.indices.now c.args.t l w c.loop-l-test.true e c.loop-l.invariant.covered in
     let many : c.len-below.result ≡ length c.loop-l.covered.items = omega arith in
-    let fewer : c.len.result ≡ length c.climb.new.covered.items = omega arith in (
-      rw add-one above,
-      turn_at s c.args.indices.now c.args.t w c.requires.low l step.result.0 c.loop-l.count c.len-below.result c.len.result c.loop-l-test.true
-          e c.loop-l.invariant.so_far (many ∙ ap length c.loop-l.invariant.covered) (fewer ∙ ap length above),
-    )
-
-pub overflow_mul-count : goal.overflow_mul-count
-overflow_mul-count c = omega (arith, (turned c).1.mul_fits)
+    let fewer : c.len.result ≡ length c.climb.new.covered.items = omega arith in
+    let k = turned s c.args.indices.now c.args.t w c.requires.low c.loop-l._l c.loop-l.x c.select_arity_step-step.result.0 c.loop-l.count c.len-below.result c.len.result c.loop-l.covered.items c.climb.new.covered.items c.loop-l-test.true
+    c.loop-l.invariant.at c.select_arity_step-step.ensures.step c.loop-l.invariant.so_far c.loop-l.invariant.covered (c.climb.ensures s c.args.indices.now c.args.t c.loop-l._l w c.loop-l-test.true) many fewer in
+    omega (arith, k.1.mul_fits)
 
 pub overflow_sub-count : goal.overflow_sub-count
-overflow_sub-count c = (turned c).1.sub_fits
+overflow_sub-count c =
+    let s = shape_of c.args.arity c.args.dimensions.now in
+    let w : CanQuery s c.args.indices.now c.args.t = record { well_shaped = c.requires.arity; below = c.requires.below; in_tree = c.requires.layer } in
+    let many : c.len-below.result ≡ length c.loop-l.covered.items = omega arith in
+    let fewer : c.len.result ≡ length c.climb.new.covered.items = omega arith in
+    let k = turned s c.args.indices.now c.args.t w c.requires.low c.loop-l._l c.loop-l.x c.select_arity_step-step.result.0 c.loop-l.count c.len-below.result c.len.result c.loop-l.covered.items c.climb.new.covered.items c.loop-l-test.true
+    c.loop-l.invariant.at c.select_arity_step-step.ensures.step c.loop-l.invariant.so_far c.loop-l.invariant.covered (c.climb.ensures s c.args.indices.now c.args.t c.loop-l._l w c.loop-l-test.true) many fewer in
+    k.1.sub_fits
 
 pub overflow_add-count : goal.overflow_add-count
-overflow_add-count c = omega (arith, (turned c).1.add_fits)
+overflow_add-count c =
+    let s = shape_of c.args.arity c.args.dimensions.now in
+    let w : CanQuery s c.args.indices.now c.args.t = record { well_shaped = c.requires.arity; below = c.requires.below; in_tree = c.requires.layer } in
+    let many : c.len-below.result ≡ length c.loop-l.covered.items = omega arith in
+    let fewer : c.len.result ≡ length c.climb.new.covered.items = omega arith in
+    let k = turned s c.args.indices.now c.args.t w c.requires.low c.loop-l._l c.loop-l.x c.select_arity_step-step.result.0 c.loop-l.count c.len-below.result c.len.result c.loop-l.covered.items c.climb.new.covered.items c.loop-l-test.true
+    c.loop-l.invariant.at c.select_arity_step-step.ensures.step c.loop-l.invariant.so_far c.loop-l.invariant.covered (c.climb.ensures s c.args.indices.now c.args.t c.loop-l._l w c.loop-l-test.true) many fewer in
+    omega (arith, k.1.add_fits)
 
 pub loop-l-preserved : goal.loop-l-preserved
 loop-l-preserved c =
     let s = shape_of c.args.arity c.args.dimensions.now in
+    let w : CanQuery s c.args.indices.now c.args.t = record { well_shaped = c.requires.arity; below = c.requires.below; in_tree = c.requires.layer } in
+    let many : c.len-below.result ≡ length c.loop-l.covered.items = omega arith in
+    let fewer : c.len.result ≡ length c.climb.new.covered.items = omega arith in
+    let k = turned s c.args.indices.now c.args.t w c.requires.low c.loop-l._l c.loop-l.x c.select_arity_step-step.result.0 c.loop-l.count c.len-below.result c.len.result c.loop-l.covered.items c.climb.new.covered.items c.loop-l-test.true
+    c.loop-l.invariant.at c.select_arity_step-step.ensures.step c.loop-l.invariant.so_far c.loop-l.invariant.covered (c.climb.ensures s c.args.indices.now c.args.t c.loop-l._l w c.loop-l-test.true) many fewer in
     let step = c.select_arity_step-step in
-    let k = turned c in
     record {
       at = next_at s c.loop-l._l c.loop-l.x step.result.1 c.loop-l.invariant.at step.ensures.next;
       covered = k.0;
