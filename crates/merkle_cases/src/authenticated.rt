@@ -24,5 +24,5 @@ pub fn authenticated<const N: usize>(
         let answer = if is_authenticated { "yes" } else { "no" };
         answers.push(String::from_str(alloc, answer)?)?;
     }
-    Ok(text::joined(alloc, &answers, " ")?)
+    text::joined(alloc, &answers, " ")
 }

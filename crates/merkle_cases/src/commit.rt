@@ -15,7 +15,7 @@ pub fn commit<const N: usize>(alloc: Global, fields: &mut Fields<'_>) -> Result<
 {
     let scheme = fold_scheme::<N>(fields.cap()?);
     let (cap, _) = scheme.commit(alloc, fields.matrices(alloc)?)?;
-    Ok(text::digests(alloc, cap.roots())?)
+    text::digests(alloc, cap.roots())
 }
 
 /// `layers | ARITY | MATRICES | LAYERS`: the layers of the tree, leaves first, with `;` between them.
@@ -29,5 +29,5 @@ pub fn layers<const N: usize>(alloc: Global, fields: &mut Fields<'_>) -> Result<
         layers.push(text::digests(alloc, tree.cap(alloc, below)?.roots())?)?;
     }
     layers.push(text::digests(alloc, &[*tree.root().value()])?)?;
-    Ok(text::joined(alloc, &layers, "; ")?)
+    text::joined(alloc, &layers, "; ")
 }

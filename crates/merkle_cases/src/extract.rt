@@ -21,7 +21,7 @@ fn place_text(alloc: Global, place: &Place) -> Result<String, AllocError> {
 }
 
 /// The place of a collision with both inputs.
-fn collision_text(alloc: Global, collision: &Collision<u32, u32, 1>) -> Result<String, AllocError> {
+fn collision_text(alloc: Global, collision: &Collision<u32, u32, 1>) -> Result<String, Fault> {
     let (place, first, second) = match collision {
         Collision::Words {
             place,
@@ -42,8 +42,7 @@ fn collision_text(alloc: Global, collision: &Collision<u32, u32, 1>) -> Result<S
             text::digests(alloc, second)?,
         ),
     };
-    let place = place_text(alloc, place)?;
-    format!(in alloc; "{place} | {first} | {second}")
+    text::joined(alloc, &[place_text(alloc, place)?, first, second], " | ")
 }
 
 /// `extract | ARITY | CAP | CAP | DIMENSIONS | INDEX | ROWS | SIBLINGS | INDEX | ROWS | SIBLINGS | ANSWER`: what
@@ -67,7 +66,7 @@ pub fn extract<const N: usize>(alloc: Global, fields: &mut Fields<'_>) -> Result
         BatchOpeningRef::from(&second.opening),
     )?;
     match &found {
-        Some(collision) => Ok(collision_text(alloc, collision)?),
+        Some(collision) => collision_text(alloc, collision),
         None => Ok(String::from_str(alloc, "none")?),
     }
 }

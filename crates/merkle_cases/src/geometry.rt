@@ -14,7 +14,7 @@ use std::alloc::Global;
 
 /// `exponent | HEIGHT | EXPONENT`.
 pub fn exponent(alloc: Global, fields: &mut Fields<'_>) -> Result<String, Fault> {
-    Ok(text::numbers(alloc, &[exponent_of(fields.number()?)])?)
+    text::numbers(alloc, &[exponent_of(fields.number()?)])
 }
 
 /// `halving | TALLEST HEIGHT | HEIGHT | EXPECTED HEIGHT, HALVINGS`: the height that is expected in the place of a height,
@@ -26,7 +26,7 @@ pub fn halving(alloc: Global, fields: &mut Fields<'_>) -> Result<String, Fault> 
         return Err(Fault::Unreadable("the height is too great"));
     }
     let expected = expected_height_of(tallest, height);
-    Ok(text::numbers(alloc, &[expected, bits_reduced_of(tallest, height)])?)
+    text::numbers(alloc, &[expected, bits_reduced_of(tallest, height)])
 }
 
 /// The longest layer whose padding is tried.
@@ -44,7 +44,7 @@ pub fn padding<const N: usize>(alloc: Global, fields: &mut Fields<'_>) -> Result
         }
         padded.push(padded_len(*len, N))?;
     }
-    Ok(text::numbers(alloc, &padded)?)
+    text::numbers(alloc, &padded)
 }
 
 /// `step | ARITY | HEIGHTS | EXPONENT | matrix or none, bridge or whole, STEP, NEXT EXPONENT`: whether a matrix has that
@@ -73,7 +73,7 @@ pub fn steps(alloc: Global, fields: &mut Fields<'_>) -> Result<String, Fault> {
     let dimensions = fields.columns(alloc)?;
     let levels = levels_of(&dimensions, arity);
     let steps = schedule_below_of(alloc, &dimensions, arity, levels)?;
-    Ok(text::numbers(alloc, &steps)?)
+    text::numbers(alloc, &steps)
 }
 
 /// `positions | ARITY | HEIGHTS | LAYER | INDEX | POSITIONS`: the places of an index's ancestors below a layer, at any
@@ -84,7 +84,7 @@ pub fn positions(alloc: Global, fields: &mut Fields<'_>) -> Result<String, Fault
     let layer = fields.number()?;
     let index = fields.number()?;
     let positions = positions_below_of(alloc, &dimensions, arity, layer, index)?;
-    Ok(text::numbers(alloc, &positions)?)
+    text::numbers(alloc, &positions)
 }
 
 /// `siblings | ARITY | HEIGHTS | NUMBERS`: how many siblings the levels below each layer have, from the leaves to the
@@ -101,7 +101,7 @@ pub fn siblings<const N: usize>(alloc: Global, fields: &mut Fields<'_>) -> Resul
     for layer in 0..=levels_of(&dimensions, N) {
         siblings.push(siblings_below_of(&dimensions, N, layer))?;
     }
-    Ok(text::numbers(alloc, &siblings)?)
+    text::numbers(alloc, &siblings)
 }
 
 /// `widths | DIMENSIONS | ROWS | ANSWER`: whether rows have the widths of their matrices.

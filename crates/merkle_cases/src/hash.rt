@@ -13,7 +13,7 @@ use std::alloc::Global;
 pub fn hash(alloc: Global, fields: &mut Fields<'_>) -> Result<String, Fault> {
     let words = fields.words(alloc)?;
     let digest = CryptographicHasher::<u32, u32, 1>::hash_slice(&FoldHash::<1>, &words);
-    Ok(text::digests(alloc, &[digest])?)
+    text::digests(alloc, &[digest])
 }
 
 /// `compress | ARITY | DIGESTS | DIGEST`: the digest of a group of as many digests as the arity.
@@ -25,5 +25,5 @@ pub fn compress<const N: usize>(alloc: Global, fields: &mut Fields<'_>) -> Resul
         return Err(Fault::Unreadable("there are too few digests"));
     };
     let digest = PseudoCompressionFunction::<u32, N, 1>::compress(&FoldCompress::<N, 1>, *group);
-    Ok(text::digests(alloc, &[digest])?)
+    text::digests(alloc, &[digest])
 }

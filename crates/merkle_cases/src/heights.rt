@@ -5,7 +5,7 @@ ghost use Rattle.p3_merkle_core.specs.Geometry.{is_arity};
 
 use crate::fields::{Fault, Fields};
 use crate::lists::columns_of;
-use crate::scheme::{FoldOpening, ROOT, fold_scheme, fold_tree, numbered};
+use crate::scheme::{FoldOpening, FoldTree, Numbers, ROOT, fold_scheme, fold_tree, numbered};
 use crate::text;
 use p3_merkle_core::geometry::check_heights;
 use p3_merkle_tree::{BatchOpening, BatchOpeningRef, MerkleCap, MerkleTreeError};
@@ -39,29 +39,32 @@ fn opening_of(alloc: Global, heights: &[usize]) -> Result<FoldOpening, AllocErro
     Ok(BatchOpening::new(rows, Vec::new(alloc)))
 }
 
+/// What checking such an opening answers.
+fn checked(
+    alloc: Global,
+    heights: &[usize],
+    dimensions: &[Dimensions],
+) -> Result<(), MerkleTreeError> {
+    let cap = MerkleCap::new(Vec::new(alloc));
+    let opening = opening_of(alloc, heights)?;
+    fold_scheme::<2>(ROOT).verify_batch(&cap, dimensions, 0, BatchOpeningRef::from(&opening))
+}
+
 /// `heights | HEIGHTS | ERROR`: what each call that takes heights answers, where all answer alike, and else all their
 /// answers: of the test of heights, the commit, the tree, the schedule and the check of an opening.
 pub fn heights(alloc: Global, fields: &mut Fields<'_>) -> Result<String, Fault> {
     let heights = fields.numbers(alloc)?;
     let dimensions = columns_of(alloc, &heights)?;
-    let cap = MerkleCap::new(Vec::new(alloc));
-    let opening = opening_of(alloc, &heights)?;
-    let lent = BatchOpeningRef::from(&opening);
     let answers = [
-        text::verdict(alloc, check_heights(&dimensions))?,
-        text::verdict(alloc, committed(alloc, &heights))?,
-        text::verdict(alloc, build(alloc, &heights))?,
-        text::verdict(alloc, scheduled(alloc, &dimensions))?,
-        text::verdict(
-            alloc,
-            fold_scheme::<2>(ROOT).verify_batch(&cap, &dimensions, 0, lent),
-        )?,
+        check_heights(&dimensions),
+        committed(alloc, &heights),
+        build(alloc, &heights),
+        scheduled(alloc, &dimensions),
+        checked(alloc, &heights, &dimensions),
     ];
-    if answers.iter().all(|answer| *answer == answers[0]) {
-        Ok(answers[0].clone()?)
-    } else {
-        Ok(text::joined(alloc, &answers, " | ")?)
-    }
+    let are_alike = answers.iter().all(|answer| *answer == answers[0]);
+    let shown = if are_alike { 1 } else { answers.len() };
+    text::joined(alloc, &text::verdicts(alloc, &answers[..shown])?, " | ")
 }
 
 /// How many digests at the end of a layer are the default one. The last node of these trees has another.
@@ -77,6 +80,18 @@ fn padding_of(layer: &[[u32; 1]]) -> usize {
     padding
 }
 
+/// Of each layer of a tree, leaves first, how many of its slots are nodes.
+fn lengths_in<const N: usize>(alloc: Global, tree: &FoldTree<Numbers, N>) -> Result<String, Fault> {
+    let mut lengths = Vec::new(alloc);
+    for below in (0..tree.num_layers()).rev() {
+        let layer = tree.cap(alloc, below)?;
+        let slots = layer.num_roots();
+        let nodes = slots.saturating_sub(padding_of(layer.roots()));
+        lengths.push(format!(in alloc; "{nodes}/{slots}")?)?;
+    }
+    text::joined(alloc, &lengths, " ")
+}
+
 /// `shape | ARITY | CAP | HEIGHTS | STEPS | LENGTHS`: the steps from the leaves up to the cap, and of each layer,
 /// leaves first, how many of its slots are nodes.
 pub fn shape<const N: usize>(alloc: Global, fields: &mut Fields<'_>) -> Result<String, Fault>
@@ -87,14 +102,6 @@ pub fn shape<const N: usize>(alloc: Global, fields: &mut Fields<'_>) -> Result<S
     let heights = fields.numbers(alloc)?;
     let steps = scheme.proof_arity_schedule(alloc, &columns_of(alloc, &heights)?)?;
     let (_, tree) = scheme.commit(alloc, numbered(alloc, &heights)?)?;
-    let mut lengths = Vec::new(alloc);
-    for below in (0..tree.num_layers()).rev() {
-        let layer = tree.cap(alloc, below)?;
-        let slots = layer.num_roots();
-        let nodes = slots.saturating_sub(padding_of(layer.roots()));
-        lengths.push(format!(in alloc; "{nodes}/{slots}")?)?;
-    }
     let steps = text::numbers(alloc, &steps)?;
-    let lengths = text::joined(alloc, &lengths, " ")?;
-    Ok(format!(in alloc; "{steps} | {lengths}")?)
+    text::joined(alloc, &[steps, lengths_in(alloc, &tree)?], " | ")
 }

@@ -87,7 +87,7 @@ fn expected(alloc: Global, fields: &Fields<'_>) -> Result<String, Fault> {
     if texts.is_empty() {
         return Err(Fault::Unreadable("the answer is missing"));
     }
-    Ok(text::joined(alloc, &texts, " | ")?)
+    text::joined(alloc, &texts, " | ")
 }
 
 /// What a case is answered under a rule, where that is not what its line says.

@@ -54,7 +54,7 @@ pub fn open<const N: usize>(alloc: Global, fields: &mut Fields<'_>) -> Result<St
     let opening = accepted(alloc, &scheme, &cap, &tree, index)?;
     let rows = text::rows(alloc, &opening.opened_values)?;
     let siblings = text::digests(alloc, &opening.opening_proof)?;
-    Ok(format!(in alloc; "{rows} | {siblings}")?)
+    text::joined(alloc, &[rows, siblings], " | ")
 }
 
 /// `leaves | ARITY | CAP | HEIGHTS | LEAVES accepted`: the opening of each leaf is accepted.

@@ -15,7 +15,7 @@ pub fn schedule<const N: usize>(alloc: Global, fields: &mut Fields<'_>) -> Resul
 {
     let scheme = fold_scheme::<N>(fields.cap()?);
     let steps = scheme.proof_arity_schedule(alloc, &fields.columns(alloc)?)?;
-    Ok(text::numbers(alloc, &steps)?)
+    text::numbers(alloc, &steps)
 }
 
 /// `replay | ARITY | CAP | HEIGHTS | INDEX | NUMBER OF SIBLINGS | STEPS | POSITIONS`: how the path of an
@@ -32,5 +32,5 @@ pub fn replay<const N: usize>(alloc: Global, fields: &mut Fields<'_>) -> Result<
     let copy = path.clone()?;
     let steps = text::numbers(alloc, &copy.arity_schedule)?;
     let positions = text::numbers(alloc, &copy.query_positions)?;
-    Ok(format!(in alloc; "{steps} | {positions}")?)
+    text::joined(alloc, &[steps, positions], " | ")
 }

@@ -1,11 +1,12 @@
 //! How answers are written.
 
+use crate::fields::Fault;
 use p3_merkle_tree::MerkleTreeError;
 use p3_support::matrix::Dimensions;
-use std::alloc::{AllocError, Global};
+use std::alloc::Global;
 
 /// Texts with a text between them; `-` where there are none.
-pub fn joined(alloc: Global, texts: &[String], between: &str) -> Result<String, AllocError> {
+pub fn joined(alloc: Global, texts: &[String], between: &str) -> Result<String, Fault> {
     let mut whole = String::new(alloc);
     for (place, text) in texts.iter().enumerate() {
         if place > 0 {
@@ -20,7 +21,7 @@ pub fn joined(alloc: Global, texts: &[String], between: &str) -> Result<String, 
 }
 
 /// Numbers with blanks between them.
-pub fn numbers(alloc: Global, numbers: &[usize]) -> Result<String, AllocError> {
+pub fn numbers(alloc: Global, numbers: &[usize]) -> Result<String, Fault> {
     let mut each = Vec::new(alloc);
     for number in numbers {
         each.push(format!(in alloc; "{number}")?)?;
@@ -29,7 +30,7 @@ pub fn numbers(alloc: Global, numbers: &[usize]) -> Result<String, AllocError> {
 }
 
 /// Words with blanks between them.
-pub fn words(alloc: Global, words: &[u32]) -> Result<String, AllocError> {
+pub fn words(alloc: Global, words: &[u32]) -> Result<String, Fault> {
     let mut each = Vec::new(alloc);
     for word in words {
         each.push(*word as usize)?;
@@ -38,7 +39,7 @@ pub fn words(alloc: Global, words: &[u32]) -> Result<String, AllocError> {
 }
 
 /// Digests with blanks between them.
-pub fn digests(alloc: Global, digests: &[[u32; 1]]) -> Result<String, AllocError> {
+pub fn digests(alloc: Global, digests: &[[u32; 1]]) -> Result<String, Fault> {
     let mut each = Vec::new(alloc);
     for [word] in digests {
         each.push(*word)?;
@@ -47,7 +48,7 @@ pub fn digests(alloc: Global, digests: &[[u32; 1]]) -> Result<String, AllocError
 }
 
 /// Rows with `;` between them.
-pub fn rows(alloc: Global, rows: &[Vec<u32>]) -> Result<String, AllocError> {
+pub fn rows(alloc: Global, rows: &[Vec<u32>]) -> Result<String, Fault> {
     let mut each = Vec::new(alloc);
     for row in rows {
         each.push(words(alloc, row)?)?;
@@ -56,7 +57,7 @@ pub fn rows(alloc: Global, rows: &[Vec<u32>]) -> Result<String, AllocError> {
 }
 
 /// Dimensions of matrices with blanks between them.
-pub fn dimensions(alloc: Global, dimensions: &[Dimensions]) -> Result<String, AllocError> {
+pub fn dimensions(alloc: Global, dimensions: &[Dimensions]) -> Result<String, Fault> {
     let mut each = Vec::new(alloc);
     for Dimensions { width, height } in dimensions {
         each.push(format!(in alloc; "{width}x{height}")?)?;
@@ -64,10 +65,17 @@ pub fn dimensions(alloc: Global, dimensions: &[Dimensions]) -> Result<String, Al
     joined(alloc, &each, " ")
 }
 
-/// `accepted`, or the text of the error that is answered.
-pub fn verdict(alloc: Global, answer: Result<(), MerkleTreeError>) -> Result<String, AllocError> {
-    match answer {
-        Ok(()) => String::from_str(alloc, "accepted"),
-        Err(error) => format!(in alloc; "{error}"),
+/// Of each answer `accepted`, or the text of its error.
+pub fn verdicts(
+    alloc: Global,
+    answers: &[Result<(), MerkleTreeError>],
+) -> Result<Vec<String>, Fault> {
+    let mut each = Vec::with_capacity(alloc, answers.len())?;
+    for answer in answers {
+        each.push(match answer {
+            Ok(()) => String::from_str(alloc, "accepted")?,
+            Err(error) => format!(in alloc; "{error}")?,
+        })?;
     }
+    Ok(each)
 }
