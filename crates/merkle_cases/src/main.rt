@@ -18,6 +18,7 @@ mod hash;
 mod heights;
 mod lists;
 mod open;
+mod pruned;
 mod replay;
 mod scheme;
 mod text;
@@ -49,6 +50,8 @@ fn answer_at<const N: usize>(
         "open" => open::open::<N>(alloc, fields),
         "leaves" => open::leaves::<N>(alloc, fields),
         "kept" => open::kept::<N>(alloc, fields),
+        "pruned_len" => pruned::pruned_len::<N>(alloc, fields),
+        "pruned" => pruned::pruned::<N>(alloc, fields),
         "verify" => verify::verify::<N>(alloc, fields),
         "schedule" => replay::schedule::<N>(alloc, fields),
         "replay" => replay::replay::<N>(alloc, fields),

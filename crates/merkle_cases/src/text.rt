@@ -56,6 +56,15 @@ pub fn rows(alloc: Global, rows: &[Vec<u32>]) -> Result<String, Fault> {
     joined(alloc, &each, "; ")
 }
 
+/// Row sets with `/` between them.
+pub fn row_sets(alloc: Global, sets: &[Vec<Vec<u32>>]) -> Result<String, Fault> {
+    let mut each = Vec::new(alloc);
+    for set in sets {
+        each.push(rows(alloc, set)?)?;
+    }
+    joined(alloc, &each, " / ")
+}
+
 /// Dimensions of matrices with blanks between them.
 pub fn dimensions(alloc: Global, dimensions: &[Dimensions]) -> Result<String, Fault> {
     let mut each = Vec::new(alloc);
