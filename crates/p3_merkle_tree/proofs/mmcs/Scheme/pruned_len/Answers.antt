@@ -14,3 +14,6 @@ pub returns-clause-least : goal.returns-clause-least
 returns-clause-least g c =
     let s = shape_of g.row.N c.args.dimensions.now in
     boundary_least s c.args.indices.now (proof_layer c.args.self.now s) (record { well_shaped = c.args.self.now.arity; below = rw c.tallest_of.ensures at c.in_ok-check_indices.ensures.below; in_tree = omega arith })
+
+pub returns-clause-count : goal.returns-clause-count
+returns-clause-count g c = rw c.proof_levels-t.ensures at c.in_ok-pruned_len_of.ensures
