@@ -12,6 +12,7 @@ use Rattle.std.proofs.Math.Pow.{pow_mono}
 use Rattle.p3_merkle_core.specs.Geometry.{Shape, is_bridge, step, ancestor, raw_len, layer_len, padded_len, leaves_under, levels, layer_exponent, exponent, tallest, heights, max_height}
 use Rattle.p3_merkle_core.specs.Pruning.{CanQuery, is_covered, is_boundary, covered_at, boundary_at, boundary}
 use Rattle.p3_merkle_core.specs.PrunedCalls.{pruned_len}
+use Rattle.p3_merkle_core.specs.Refusals.{is_queried, slots_below}
 use Rattle.p3_merkle_core.proofs.LeastFacts.{exponent_le}
 use Rattle.p3_merkle_core.proofs.LadderFacts.{levels_le, exact}
 use Rattle.p3_merkle_core.proofs.RawFacts.{children_fit, filled, positive_below}
@@ -76,6 +77,20 @@ leaves_are s indices sorted moved order below =
           (omega (arith, listed_below (tallest (heights s)) indices j below there, raw_start s, padded_ge (raw_len s 0) s.arity), covered_leaf s indices j ∙ there);
       complete = λ j low high c.
           listed_dedup sorted j ∙ sym (list_any-IsPermutation (λ x. eqb x j) indices sorted moved) ∙ sym (covered_leaf s indices j) ∙ c;
+    })
+
+-- they are the slots of the queries
+pub leaves_are_slots : (s : Shape) (indices : List ℕ) → All (λ q. q < tallest (heights s)) indices → slots_below (tallest (heights s)) indices ≡ covered_at s indices 0
+leaves_are_slots s indices below =
+    let m = tallest (heights s) in
+    filter_is (is_covered s indices 0) 0 (layer_len s 0) (slots_below m indices) (record {
+      rising = rising_filter (is_queried indices) 0 m;
+      sound = λ j h.
+          let q = listed_in (is_queried indices) 0 m j h in
+          (omega (arith, q.1, raw_start s, padded_ge (raw_len s 0) s.arity), covered_leaf s indices j ∙ q.2);
+      complete = λ j low high c.
+          let there : is_listed indices j ≡ true = sym (covered_leaf s indices j) ∙ c in
+          listed_there (is_queried indices) 0 m j there (omega arith) (omega (arith, listed_below m indices j below there));
     })
 
 -- ---- from layer to layer
@@ -194,7 +209,6 @@ pruned_few s queries t w (suc l) h =
 -- what the walk counts on a level, and that it fits
 pub record IsCounted (s : Shape) (queries : List ℕ) (l : ℕ) : Type 0 where
   pub counted : length (boundary_at s queries l) + length (covered_at s queries l) ≡ step s l * length (covered_at s queries (suc l))
-  pub wide : 2 ≤ step s l
   pub small : step s l * length (covered_at s queries (suc l)) ≤ 2 ^ 63
   pub few : pruned_len s queries l ≤ 2 ^ 62
 
@@ -223,7 +237,6 @@ counted_at s queries t w low l h =
     let above : step s l * length (covered_at s queries (suc l)) ≤ step s l * raw_len s (suc l) = mul-le-mul_left (step s l) (covered_few s queries t w (suc l) (omega arith)) in
     record {
       counted = covered_count s queries t w l h;
-      wide = step_above_1 s l w.well_shaped.above_1;
       small = omega (arith, children_fit s w.well_shaped some l in_tree, padded_le (raw_len s l) s.arity (let two = w.well_shaped.above_1 in omega arith), w.well_shaped.fits);
       few = omega (arith, pruned_few s queries t w l (omega arith));
     }

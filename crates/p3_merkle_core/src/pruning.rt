@@ -36,8 +36,7 @@ pub struct PrunedRows<T, X> {
 /// crate).
 pub type PrunedBatchOpening<T, W, const D: usize> = PrunedRows<T, [W; D]>;
 
-/// Whether each index is below `max_height`, the tallest height of some matrices: the Rust crate's check of the highest
-/// index.
+/// Whether each index is below `max_height`, the tallest height of some matrices.
 ///
 /// # Errors
 ///
@@ -65,7 +64,8 @@ fn highest_of(indices: &[usize]) -> usize
     highest
 }
 
-/// The leaves that some indices cover: each index once, ascending. Takes memory for all indices, and the time of a sort.
+/// The leaves that some indices cover: each index once, ascending. Takes memory for all indices, and the time of a
+/// sort.
 ///
 /// # Errors
 ///
@@ -92,9 +92,10 @@ pub fn climb(covered: &mut Vec<usize>, step: usize)
     covered.dedup();
 }
 
-/// How many digests a pruned proof of some indices sends under the cap of layer `t`: on each level, the children of covered
-/// nodes that are not covered. `t` is at most the number of levels, the arity a power of two from 2 to 2^62, no height
-/// above [`MAX_HEIGHT`](crate::geometry::MAX_HEIGHT), and each index below the tallest height. Takes memory for all indices.
+/// How many digests a pruned proof of some indices sends under the cap of layer `t`: on each level, the children of
+/// covered nodes that are not covered. `t` is at most the number of levels, the arity a power of two from 2 to 2^62, no
+/// height above [`MAX_HEIGHT`](crate::geometry::MAX_HEIGHT), and each index below the tallest height. Takes memory for
+/// all indices, and beside their sort the time of one step for each index and level.
 ///
 /// # Errors
 ///
