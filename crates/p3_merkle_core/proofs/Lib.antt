@@ -38,3 +38,4 @@ pub mod BridgeFacts
 pub mod GroupFacts
 pub mod RisingFacts
 pub mod CoveredFacts
+pub mod SentFacts

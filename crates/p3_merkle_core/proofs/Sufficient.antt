@@ -90,7 +90,7 @@ boundary_suffices s queries t w j c = boundary_knows s queries t w t j (omega ar
 
 -- ---- nothing else of its size does
 
-abbrev same : ℕ × ℕ → ℕ × ℕ → Bool
+abbrev pub same : ℕ × ℕ → ℕ × ℕ → Bool
 same (m, k) (l, j) = eqb l m && eqb j k
 
 tally_le : {X : Type 0} (p q : X → Bool) → ((x : X) → p x ≡ true → q x ≡ true) → (xs : List X) → tally p xs ≤ tally q xs
@@ -109,7 +109,7 @@ tally_none p [] e = refl
 tally_none p (x ∷ xs) e = let f = or_parts (p x) (list_any p xs) e in let a = f.0 in rw a (omega (arith, tally_none p xs f.1))
 
 -- no node stands twice on the boundary
-listed_once : (s : Shape) (queries : List ℕ) (t : ℕ) (x : ℕ × ℕ) → tally (same x) (boundary s queries t) ≤ 1
+pub listed_once : (s : Shape) (queries : List ℕ) (t : ℕ) (x : ℕ × ℕ) → tally (same x) (boundary s queries t) ≤ 1
 listed_once s queries t (m, k) =
     let le = tally_le (same (m, k)) (above s (m, k))
     (λ (l, j) e.
