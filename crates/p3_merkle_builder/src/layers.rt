@@ -171,6 +171,29 @@ impl<
         }
     }
 
+    /// Writes into each slot the digest of the rows of its number, of the matrices of this height.
+    fn write_leaves(&self, height: usize, slots: &mut [[PW::Value; D]])
+        ensures { slots.new ≡ map (λ j. (if nat_lt j height
+            then H.hash self.now.hash.now (rows_of_height M.height_of M.row_of height j self.now.matrices.now)
+            else replicate D PW.default_value)) (range_with_len 0 (length slots.old)) }
+    {
+        for (j, slot) in slots.iter_mut().enumerate() {
+            *slot = self.rows_digest(height, j);
+        }
+    }
+
+    /// Writes the slots of the layer above a layer.
+    fn write_nodes(&self, level: &Level, below: &[[PW::Value; D]], slots: &mut [[PW::Value; D]])
+        requires { CanRaise N level.now (length below.now) }
+        ensures { let f = functions_of (H.hash self.now.hash.now) (C.compression self.now.compress.now)
+            (replicate D PW.default_value) in
+            slots.new ≡ map (slot_above f N M.height_of M.row_of self.now.matrices.now level.now below.now) (range_with_len 0 (length slots.old)) }
+    {
+        for (j, slot) in slots.iter_mut().enumerate() {
+            *slot = self.slot(level, below, j);
+        }
+    }
+
     /// This builder over some of its matrices alone.
     fn over<'b>(
         &self,
@@ -201,10 +224,8 @@ impl<
     {
         let picked = of_height(alloc, self.matrices, height)?;
         let builder = self.over(&picked);
-        let mut nodes = Vec::with_capacity(alloc, len)?;
-        for j in 0..len {
-            nodes.push(builder.rows_digest(height, j))?;
-        }
+        let mut nodes = vec![in alloc; [PW::Value::default(); D]; len]?;
+        builder.write_leaves(height, &mut nodes);
         Ok(nodes)
     }
 
@@ -222,10 +243,8 @@ impl<
     {
         let picked = of_height(alloc, self.matrices, level.height)?;
         let builder = self.over(&picked);
-        let mut nodes = Vec::with_capacity(alloc, level.layer_len)?;
-        for j in 0..level.layer_len {
-            nodes.push(builder.slot(level, below, j))?;
-        }
+        let mut nodes = vec![in alloc; [PW::Value::default(); D]; level.layer_len]?;
+        builder.write_nodes(level, below, &mut nodes);
         Ok(nodes)
     }
 
