@@ -45,8 +45,8 @@ pub trait Matrix<T> {
         requires column_in { column < width_of self.now }
         ensures { slice_get (row_of self.now row) column ≡ Some result };
 
-    /// The elements of a row, by ascending columns, where the matrix has them in one piece; `None` is
-    /// no claim that it has not. The row is below the height.
+    /// The elements of a row, by ascending columns, where the matrix can lend them in one piece. `None`
+    /// says nothing. The row is below the height.
     fn row_slice(&self, row: usize) -> Option<&[T]>
         requires { row < height_of self.now }
         ensures { IfSome result (λ words. words.now ≡ row_of self.now row) }
