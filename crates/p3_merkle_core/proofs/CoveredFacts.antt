@@ -51,11 +51,11 @@ group_fits s queries t w l h g c =
 
 -- ---- the leaves
 
-covered_leaf : (s : Shape) (queries : List ℕ) (j : ℕ) → is_covered s queries 0 j ≡ is_listed queries j
+pub covered_leaf : (s : Shape) (queries : List ℕ) (j : ℕ) → is_covered s queries 0 j ≡ is_listed queries j
 covered_leaf s [] j = refl
 covered_leaf s (q ∷ queries) j = rw (anc_start s q) (ap (λ b. eqb q j || b) (covered_leaf s queries j))
 
-raw_start : (s : Shape) → raw_len s 0 ≡ tallest (heights s)
+pub raw_start : (s : Shape) → raw_len s 0 ≡ tallest (heights s)
 unfolding raw_len
 raw_start s = refl
 

@@ -39,3 +39,4 @@ pub mod GroupFacts
 pub mod RisingFacts
 pub mod CoveredFacts
 pub mod SentFacts
+pub mod SlotFacts

@@ -35,7 +35,7 @@ pub rising_from : (xs : List ℕ) → IsStrictlyIncreasing xs → IsRising 0 xs
 rising_from xs h = rising_from_pairs 0 xs (AllPairs-from_increasing xs h) (λ k. omega arith)
 
 -- a number in the list is not below its start
-listed_from : (a : ℕ) (xs : List ℕ) (j : ℕ) → IsRising a xs → is_listed xs j ≡ true → a ≤ j
+pub listed_from : (a : ℕ) (xs : List ℕ) (j : ℕ) → IsRising a xs → is_listed xs j ≡ true → a ≤ j
 listed_from a [] j r h = absurd (true≢false (sym h))
 listed_from a (x ∷ xs) j r h =
     elim (or_cases (eqb x j) (is_listed xs j) h) [

@@ -7,6 +7,7 @@ pub mod Groups
 pub mod Pruning
 pub mod Refusals
 pub mod PrunedCalls
+pub mod Agreement
 pub mod Extracting
 pub mod Laws
 pub mod Examples

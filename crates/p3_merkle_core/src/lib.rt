@@ -3,6 +3,7 @@
 //! computes shapes and says why dimensions or rows are refused.
 #![tactic(auto)]
 
+pub mod agreement;
 pub mod cap;
 pub mod error;
 pub mod geometry;
