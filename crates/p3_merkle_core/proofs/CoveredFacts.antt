@@ -194,7 +194,7 @@ leaves_next : (s : Shape) (l : ℕ) → leaves_under s (suc l) ≡ leaves_under 
 unfolding leaves_under
 leaves_next s l = refl
 
-leaves_above_0 : (s : Shape) → 2 ≤ s.arity → (l : ℕ) → 1 ≤ leaves_under s l
+pub leaves_above_0 : (s : Shape) → 2 ≤ s.arity → (l : ℕ) → 1 ≤ leaves_under s l
 unfolding leaves_under
 leaves_above_0 s two zero = omega arith
 leaves_above_0 s two (suc l) =

@@ -40,3 +40,4 @@ pub mod RisingFacts
 pub mod CoveredFacts
 pub mod SentFacts
 pub mod SlotFacts
+pub mod LeadFacts

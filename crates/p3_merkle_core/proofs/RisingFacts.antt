@@ -240,7 +240,7 @@ pub listed_dedup : (xs : List ℕ) (j : ℕ) → is_listed (dedup eqb xs) j ≡ 
 listed_dedup [] j = refl
 listed_dedup (x ∷ xs) j = dedup_lists x xs j
 
-div_mono : (n a b : ℕ) → 0 < n → a ≤ b → a / n ≤ b / n
+pub div_mono : (n a b : ℕ) → 0 < n → a ≤ b → a / n ≤ b / n
 div_mono n a b some h =
     elim (cases_lt (b / n) (a / n)) [
       | inl l ↦

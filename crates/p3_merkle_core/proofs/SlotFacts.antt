@@ -294,7 +294,7 @@ repeat_turn row_eq firsts indices rows total n k f mine theirs differ is e h w i
       | inr t ↦ record { kept = λ d. absurd (true≢false (sym (sym d ∙ told ∙ ap not t))); found = λ d. sym so_far ∙ rw t at next }
     ]
 
-first_place : (indices : List ℕ) (i : ℕ) → is_queried indices i ≡ true → first_query indices i < length indices
+pub first_place : (indices : List ℕ) (i : ℕ) → is_queried indices i ≡ true → first_query indices i < length indices
 first_place [] i c = absurd (true≢false (sym c))
 first_place (q ∷ indices) i c =
     elim (cases_Bool (eqb q i)) [

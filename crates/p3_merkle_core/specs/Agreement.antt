@@ -1,8 +1,13 @@
 -- How a check finds the rows that must agree: the first query of each index, and the lowest slot under each node.
-use Rattle.std.specs.Prelude.{◌≡◌, ℕ, suc, ◌<◌, ◌==◌, if◌then◌else◌, List, [], ◌∷◌, map, length, slice_index}
-use Rattle.p3_merkle_core.specs.Geometry.{tallest}
+use Rattle.std.specs.Prelude.{◌≡◌, ℕ, suc, ◌<◌, ◌≤◌, ◌==◌, Bool, if◌then◌else◌, List, [], ◌∷◌, map, filter, length, slice_index, slice_index_or, Option}
+use Rattle.std.specs.List.{range_with_len}
+use Rattle.std.specs.Cmp.Lexicographic.{pointwise}
+use Rattle.p3_merkle_core.specs.Geometry.{Shape, ancestor, exponent, heights, layer_exponent, tallest}
 use Rattle.p3_merkle_core.specs.Pruning.{PrunedOpening, pruned_of}
-use Rattle.p3_merkle_core.specs.Refusals.{slots_below, slot_of}
+use Rattle.p3_merkle_core.specs.Refusals.{first_of, slots_below, slot_of, unless}
+use Rattle.p3_merkle_core.specs.declared.error.MerkleTreeError.{MerkleTreeError}
+use Rattle.p3_merkle_core.specs.declared.error.MerkleTreeError.TheVariants.{MalformedPrunedProof}
+use Rattle.p3_merkle_core.specs.declared.error.PrunedProofError.TheVariants.{InconsistentGroupOpening}
 use Rattle.p3_merkle_core.specs.declared.agreement.Slots.{Slots}
 
 -- the distinct indices, ascending
@@ -28,3 +33,31 @@ pub record IsSlot (indices : List ℕ) (i k : ℕ) : Type 0 where
   pub slot : k ≡ slot_of indices i
   pub place : k < length (distinct indices)
   pub there : slice_index (distinct indices) k ≡ i
+
+-- the row set of the first query of slot k
+abbrev pub slot_rows : {T : Type 0} → List ℕ → List (List (List T)) → ℕ → List (List T)
+slot_rows firsts sets k = slice_index_or sets (slice_index firsts k) []
+
+-- a row of matrix m that is not the lead's
+abbrev pub row_fault : {T : Type 0} → (T → T → Bool) → ℕ → List (List T) → List (List T) → ℕ → Option MerkleTreeError
+row_fault row_eq k rows lead m =
+    unless (pointwise row_eq (slice_index_or rows m []) (slice_index_or lead m [])) (MalformedPrunedProof (InconsistentGroupOpening k m))
+
+-- the first row of slot k, among the matrices of exponent x, that is not the lead's
+abbrev pub rows_refusal : {T : Type 0} → (T → T → Bool) → List ℕ → ℕ → ℕ → List (List T) → List (List T) → Option MerkleTreeError
+rows_refusal row_eq heights x k rows lead =
+    first_of (row_fault row_eq k rows lead) (filter (λ m. exponent (slice_index heights m) == x) (range_with_len 0 (length heights)))
+
+-- slots ascending, each under its node: the first row that is not that of the lowest slot under the same node
+abbrev pub nodes_refusal : {T : Type 0} → (T → T → Bool) → List ℕ → ℕ → List ℕ → List ℕ → List (List (List T)) → Option MerkleTreeError
+nodes_refusal row_eq heights x nodes firsts sets =
+    first_of (λ k. rows_refusal row_eq heights x k (slot_rows firsts sets k) (slot_rows firsts sets (first_query nodes (slice_index nodes k)))) (range_with_len 0 (length nodes))
+
+-- no number is below one before it
+abbrev pub IsAscending : List ℕ → Type 0
+IsAscending xs = (i j : ℕ) → i ≤ j → j < length xs → slice_index xs i ≤ slice_index xs j
+
+-- layers up to t: the first row that is not that of the lowest slot under the same node
+abbrev pub layers_refusal : {T : Type 0} → (T → T → Bool) → Shape → ℕ → List ℕ → List ℕ → List (List (List T)) → Option MerkleTreeError
+layers_refusal row_eq s t leaves firsts sets =
+    first_of (λ l. nodes_refusal row_eq (heights s) (layer_exponent s l) (map (ancestor s l) leaves) firsts sets) (range_with_len 0 (suc t))

@@ -1,13 +1,18 @@
 //! Whether the rows of a pruned opening agree: queries of one index have one row set, and queries under one node the same
 //! rows of the matrices of its layer. Nothing here hashes.
 
-ghost use Rattle.std.specs.Prelude.{◌≡◌, ℕ, Some, None, List, length, map, IfOk, IsTrue, MatchResult};
-ghost use Rattle.p3_merkle_core.specs.Agreement.{distinct, first_query, opened_of, HasSlots, IsSlot};
+ghost use Rattle.std.specs.Prelude.{◌≡◌, ℕ, ◌-◌, ◌/◌, ◌<◌, ◌≤◌, ◌⊎◌, Some, None, List, [], All, length, map, slice_index, slice_index_or, IfOk, IsTrue, MatchResult};
+ghost use Rattle.p3_merkle_core.specs.Agreement.{distinct, first_query, layers_refusal, nodes_refusal, opened_of, rows_refusal, slot_rows, HasSlots, IsAscending, IsSlot};
+ghost use Rattle.p3_support.specs.Shown.{row_lists};
+ghost use Rattle.p3_merkle_core.specs.Geometry.{heights_of, levels, max_height, shape_of, tallest, IsArity};
+ghost use Rattle.p3_merkle_core.specs.declared.error.MerkleTreeError.TheVariants.{OutOfMemory};
 ghost use Rattle.p3_merkle_core.specs.PrunedCalls.{row_sets};
-ghost use Rattle.p3_merkle_core.specs.Refusals.{is_queried, repeat_refusal};
+ghost use Rattle.p3_merkle_core.specs.Refusals.{first_of, is_queried, repeat_refusal, width_refusal};
 
 use crate::error::{MerkleTreeError, PrunedProofError};
+use crate::geometry::{check_widths, exponent_of, select_arity_step, tallest_of};
 use crate::pruning::covered_leaves;
+use p3_support::matrix::Dimensions;
 use std::alloc::{AllocError, Global};
 
 /// The slots of some queries: a slot for each distinct index, in the order of the indices.
@@ -80,6 +85,158 @@ pub fn check_repeats<T: Eq>(
         if rows[query] != rows[slots.firsts[slot]] {
             return Err(PrunedProofError::InconsistentDuplicateOpenings { slot }.into());
         }
+    }
+    Ok(())
+}
+
+/// Whether the row set of each of some queries has one row for each matrix, each as wide as its matrix.
+///
+/// # Errors
+///
+/// `WrongBatchSize` or `WrongWidth` for the first query whose row set has not, as [`check_widths`] says.
+pub fn check_first_widths<T>(
+    dimensions: &[Dimensions],
+    rows: &[Vec<Vec<T>>],
+    firsts: &[usize],
+) -> Result<(), MerkleTreeError>
+    requires { All (λ query. query < length rows.now) firsts.now }
+    ensures { let refusal = first_of (λ query. width_refusal dimensions.now (slice_index_or (row_sets rows.now) query [])) firsts.now in
+        MatchResult result (λ ok. refusal ≡ None) (λ e. refusal ≡ Some e) }
+{
+    for query in firsts {
+        check_widths(dimensions, &rows[*query])?;
+    }
+    Ok(())
+}
+
+/// Whether a slot has the lead's rows of the matrices of the exponent `x`.
+///
+/// # Errors
+///
+/// `InconsistentGroupOpening` for the first row that is another.
+fn check_same_rows<T: Eq>(
+    dimensions: &[Dimensions],
+    x: usize,
+    slot: usize,
+    rows: &[Vec<T>],
+    lead: &[Vec<T>],
+) -> Result<(), MerkleTreeError>
+    requires rows { length rows.now ≡ length dimensions.now }
+    requires lead { length lead.now ≡ length dimensions.now }
+    ensures { let refusal = rows_refusal T.eq (heights_of dimensions.now) x slot (row_lists rows.now) (row_lists lead.now) in
+        MatchResult result (λ ok. refusal ≡ None) (λ e. refusal ≡ Some e) }
+{
+    for matrix in 0..dimensions.len() {
+        if exponent_of(dimensions[matrix].height) == x && rows[matrix] != lead[matrix] {
+            return Err(PrunedProofError::InconsistentGroupOpening { slot, matrix }.into());
+        }
+    }
+    Ok(())
+}
+
+/// The lowest slot under the node of `slot`, from the lowest one under the node of the slot before it: nodes of slots
+/// ascend.
+fn lead_of(nodes: &[usize], slot: usize, lead: usize) -> usize
+    requires inside { slot < length nodes.now }
+    requires ascending { IsAscending nodes.now }
+    requires before { lead ≡ first_query nodes.now (slice_index nodes.now (slot - 1)) }
+    ensures { result ≡ first_query nodes.now (slice_index nodes.now slot) }
+{
+    if nodes[slot] == nodes[lead] {
+        lead
+    } else {
+        slot
+    }
+}
+
+/// The row set of a slot's first query.
+fn rows_of_slot<'a, T>(rows: &'a [Vec<Vec<T>>], firsts: &[usize], slot: usize) -> &'a [Vec<T>]
+    requires inside { slot < length firsts.now }
+    requires queries { All (λ query. query < length rows.now) firsts.now }
+    ensures { row_lists result.now ≡ slot_rows firsts.now (row_sets rows.now) slot }
+{
+    &rows[firsts[slot]]
+}
+
+/// Whether slots under one node have the same rows of the matrices of the exponent `x`: each slot is compared with the
+/// lowest one under its node. The nodes of the slots ascend.
+///
+/// # Errors
+///
+/// `InconsistentGroupOpening` for the first slot, and its first row, that differs.
+fn check_layer<T: Eq>(
+    dimensions: &[Dimensions],
+    x: usize,
+    nodes: &[usize],
+    firsts: &[usize],
+    rows: &[Vec<Vec<T>>],
+) -> Result<(), MerkleTreeError>
+    requires pairs { length nodes.now ≡ length firsts.now }
+    requires ascending { IsAscending nodes.now }
+    requires queries { All (λ query. query < length rows.now) firsts.now }
+    requires full { (k : ℕ) → k < length firsts.now → length (slot_rows firsts.now (row_sets rows.now) k) ≡ length dimensions.now }
+    ensures { let refusal = nodes_refusal T.eq (heights_of dimensions.now) x nodes.now firsts.now (row_sets rows.now) in
+        MatchResult result (λ ok. refusal ≡ None) (λ e. refusal ≡ Some e) }
+{
+    let mut lead = 0;
+    for slot in 0..nodes.len() {
+        lead = lead_of(nodes, slot, lead);
+        let rows_of_lead = rows_of_slot(rows, firsts, lead);
+        check_same_rows(
+            dimensions,
+            x,
+            slot,
+            rows_of_slot(rows, firsts, slot),
+            rows_of_lead,
+        )?;
+    }
+    Ok(())
+}
+
+/// Turns the nodes of a layer into their parents, which have `step` children each, at least one.
+fn to_parents(nodes: &mut [usize], step: usize)
+    requires { 0 < step }
+    ensures { nodes.new ≡ map (λ j. j / step) nodes.old }
+{
+    for node in nodes.iter_mut() {
+        *node /= step;
+    }
+}
+
+/// Whether slots under one node of a layer up to `t` have the same rows of the matrices of that layer: each is compared
+/// with the lowest slot under its node. Each slot's row set has a row for each matrix, `t` is at most the number of
+/// levels, the arity a power of two from 2 to 2^62, and no height is above
+/// [`MAX_HEIGHT`](crate::geometry::MAX_HEIGHT). Takes memory for a number a slot.
+///
+/// # Errors
+///
+/// `InconsistentGroupOpening` for the first row that differs: layers from the leaves up, slots ascending, matrices in input
+/// order; `OutOfMemory` where there is no memory.
+pub fn check_groups<T: Eq>(
+    alloc: Global,
+    dimensions: &[Dimensions],
+    arity: usize,
+    t: usize,
+    slots: &Slots,
+    rows: &[Vec<Vec<T>>],
+) -> Result<(), MerkleTreeError>
+    requires arity { IsArity arity }
+    requires low { tallest (heights_of dimensions.now) ≤ max_height }
+    requires layer { t ≤ levels (shape_of arity dimensions.now) }
+    requires pairs { length slots.now.leaves.items ≡ length slots.now.firsts.items }
+    requires ascending { IsAscending slots.now.leaves.items }
+    requires queries { All (λ query. query < length rows.now) slots.now.firsts.items }
+    requires full { (k : ℕ) → k < length slots.now.firsts.items → length (slot_rows slots.now.firsts.items (row_sets rows.now) k) ≡ length dimensions.now }
+    ensures { let refusal = layers_refusal T.eq (shape_of arity dimensions.now) t slots.now.leaves.items slots.now.firsts.items (row_sets rows.now) in
+        MatchResult result (λ ok. refusal ≡ None) (λ e. (e ≡ OutOfMemory) ⊎ (refusal ≡ Some e)) }
+{
+    let mut nodes = Vec::from_slice(alloc, &slots.leaves)?;
+    let mut x = exponent_of(tallest_of(dimensions));
+    for _l in 0..t + 1 {
+        check_layer(dimensions, x, &nodes, &slots.firsts, rows)?;
+        let (step, next) = select_arity_step(dimensions, arity, x);
+        to_parents(&mut nodes, step);
+        x = next;
     }
     Ok(())
 }

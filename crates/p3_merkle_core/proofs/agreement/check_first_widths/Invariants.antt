@@ -1,0 +1,10 @@
+use Rattle.std.proofs.Common.{◌≡◌, [], drop, get_or}
+use Rattle.p3_merkle_core.specs.PrunedCalls.{row_sets}
+use Rattle.p3_merkle_core.specs.Refusals.{first_of, width_refusal}
+use Rattle.p3_merkle_core.proofs.agreement.check_first_widths.Given as goal
+
+-- the row sets so far have their widths, so the rest decides
+abbrev pub invariant-loop-query : goal.invariant-loop-query
+invariant-loop-query g l =
+    first_of (λ query. width_refusal l.dimensions (get_or (row_sets l.rows) query [])) (drop l.query-index l.firsts)
+    ≡ first_of (λ query. width_refusal l.dimensions (get_or (row_sets l.rows) query [])) l.firsts

@@ -1,0 +1,17 @@
+use Rattle.std.proofs.Common.{◌≡◌, ◌-◌, length, get_or}
+use Rattle.std.specs.List.{range_with_len}
+use Rattle.p3_merkle_core.specs.Geometry.{heights_of}
+use Rattle.p3_merkle_core.specs.PrunedCalls.{row_sets}
+use Rattle.p3_merkle_core.specs.Agreement.{first_query, nodes_refusal}
+use Rattle.p3_merkle_core.specs.Refusals.{first_of}
+use Rattle.p3_merkle_core.proofs.LeadFacts.{slot_fault}
+use Rattle.p3_merkle_core.proofs.agreement.check_layer.Given as goal
+
+-- the lead of the slot before, and the slots so far have its rows, so the rest decides
+abbrev pub invariant-loop-slot : goal.invariant-loop-slot
+invariant-loop-slot g l = record {
+  is_lead : l.lead ≡ first_query l.nodes (get_or l.nodes (l.slot - 1) 0);
+  so_far :
+      first_of (slot_fault g.T.PartialEq.eq (heights_of l.dimensions) l.x l.nodes l.firsts (row_sets l.rows)) (range_with_len l.slot (length l.nodes - l.slot))
+      ≡ nodes_refusal g.T.PartialEq.eq (heights_of l.dimensions) l.x l.nodes l.firsts (row_sets l.rows);
+}
