@@ -41,3 +41,4 @@ pub mod CoveredFacts
 pub mod SentFacts
 pub mod SlotFacts
 pub mod LeadFacts
+pub mod AgreeFacts

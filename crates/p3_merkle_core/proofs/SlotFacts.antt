@@ -150,7 +150,7 @@ never_missed indices i k low high c =
       | inr h ↦ absurd (omega (arith, high p.0 h p.1, p.2))
     ]
 
-rising_either : (indices : List ℕ) (i j : ℕ) → i ≤ j → j < length (distinct indices) → get_or (distinct indices) i 0 ≤ get_or (distinct indices) j 0
+pub rising_either : (indices : List ℕ) (i j : ℕ) → i ≤ j → j < length (distinct indices) → get_or (distinct indices) i 0 ≤ get_or (distinct indices) j 0
 rising_either indices i j h l =
     elim (cases_lt i j) [
       | inl less ↦ omega (arith, rising_order 0 (distinct indices) (distinct_rising indices) i j less l)
@@ -308,3 +308,7 @@ first_inside firsts indices i k f is c w e =
     let inside : k < length firsts = omega (arith, w.place, ap length is, length-map (distinct indices) (first_query indices)) in
     let there : get_or firsts k 0 ≡ first_query indices i = rw (← is, w.there) at (get_or-map (first_query indices) (distinct indices) k 0 0 w.place) in
     omega (arith, first_place indices i c, there, e ∙ get_or_default firsts k f 0 inside)
+
+pub distinct_queried : (indices : List ℕ) (k : ℕ) → k < length (distinct indices) → is_queried indices (get_or (distinct indices) k 0) ≡ true
+unfolding distinct
+distinct_queried indices k h = (listed_in (is_queried indices) 0 (suc (tallest indices)) (get_or (distinct indices) k 0) (listed_at (distinct indices) k 0 h)).2
