@@ -1,6 +1,6 @@
 //! One level of a check: what it compresses, and where the check stands above it.
 
-ghost use Rattle.std.specs.Prelude.{suc, ◌≡◌, ◌+◌, ◌-◌, ◌%◌, ◌^◌, ◌<◌, length, replicate, zip};
+ghost use Rattle.std.specs.Prelude.{◌≡◌, ◌+◌, ◌-◌, ◌%◌, ◌^◌, ◌<◌, length, replicate, zip};
 ghost use Rattle.p3_merkle_core.specs.Geometry.{exponent, heights_of, shape_of, tallest};
 ghost use Rattle.p3_merkle_core.specs.Groups.{group_around};
 ghost use Rattle.p3_merkle_core.specs.Nodes.{functions_of};
@@ -150,34 +150,6 @@ impl<
     const N: usize,
     const D: usize,
 > Checker<'a, P, PW, H, C, [[PW::Value; D]; N]> {
-    /// The check of an opening one level above the layer where it stands: [`Checker::checked_level`] without what it
-    /// keeps of the level.
-    pub(crate) fn climb(
-        &self,
-        dimensions: &[Dimensions],
-        level: usize,
-        opening: IndexedOpening<'_, P::Value, [PW::Value; D]>,
-        standing: &Standing<[PW::Value; D]>,
-    ) -> Standing<[PW::Value; D]>
-        requires stands { let f = functions_of (H.hash self.now.hash.now) (C.compression self.now.compress.now) (replicate D PW.default_value) in
-            StandsAt f (shape_of N dimensions.now) (opening_in opening) level standing.now }
-        requires climbs { CanClimb (shape_of N dimensions.now) level (length opening.siblings.now) }
-        ensures { let f = functions_of (H.hash self.now.hash.now) (C.compression self.now.compress.now) (replicate D PW.default_value) in
-            StandsAt f (shape_of N dimensions.now) (opening_in opening.entry) (suc level) result }
-    {
-        let (step, exponent) = select_arity_step(dimensions, N, standing.exponent);
-        let default_digest = [PW::Value::default(); D];
-        let group = standing.group::<N>(default_digest, step, opening.siblings);
-        let node = self.compress.compress(group);
-        if has_exponent(dimensions, exponent) {
-            let rows = [rows_digest::<P, PW, H, D>(self.hash, dimensions, opening.rows, exponent)];
-            let pair = group_with::<PW::Value, N, D>(default_digest, node, 0, &rows);
-            standing.above(step, exponent, self.compress.compress(pair))
-        } else {
-            standing.above(step, exponent, node)
-        }
-    }
-
     /// The level above the layer where the check of an opening stands.
     pub(crate) fn checked_level(
         &self,

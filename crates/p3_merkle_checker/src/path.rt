@@ -45,7 +45,9 @@ impl<
         let mut standing = leaf::<P, PW, H, D>(self.hash, dimensions, opening);
         for level in 0..t {
             tell_siblings(dimensions, N, t, level, opening.siblings);
-            standing = self.climb(dimensions, level, opening, &standing);
+            standing = self
+                .checked_level(dimensions, level, opening, &standing)
+                .above;
         }
         (standing.digest, standing.node)
     }

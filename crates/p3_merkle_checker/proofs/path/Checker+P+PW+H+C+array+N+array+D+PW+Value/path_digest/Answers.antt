@@ -12,7 +12,7 @@ loop-level-init g c =
     (opening_in c.args.opening) c.leaf-standing.result c.leaf-standing.ensures.exponent c.leaf-standing.ensures.node c.leaf-standing.ensures.used c.leaf-standing.ensures.digest
 
 pub loop-level-preserved : goal.loop-level-preserved
-loop-level-preserved g c = rw add-one c.climb-standing.ensures
+loop-level-preserved g c = rw add-one c.checked_level.ensures.stands
 
 pub returns-clause-digest : goal.returns-clause-digest
 returns-clause-digest g c = let here : c.loop-level.level ≡ c.args.t = omega arith in rw (← here) c.loop-level.invariant.reached
