@@ -8,6 +8,7 @@ pub mod Pruning
 pub mod Refusals
 pub mod PrunedCalls
 pub mod Agreement
+pub mod Children
 pub mod Extracting
 pub mod Laws
 pub mod Examples

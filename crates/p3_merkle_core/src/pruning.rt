@@ -1,6 +1,7 @@
 //! Which nodes a pruned opening covers, and how many digests it sends: what needs no hash.
 
 ghost use Rattle.std.specs.Prelude.{◌≡◌, ℕ, suc, ◌<◌, ◌≤◌, Some, None, List, All, IfOk, MatchResult};
+ghost use Rattle.p3_merkle_core.specs.Children.{AreChildren, IsFamily};
 ghost use Rattle.p3_merkle_core.specs.Geometry.{heights, heights_of, levels, max_height, shape_of, step as step_in, tallest, IsArity, Shape};
 ghost use Rattle.p3_merkle_core.specs.Pruning.{covered_at, CanQuery};
 ghost use Rattle.p3_merkle_core.specs.PrunedCalls.{pruned_len};
@@ -125,4 +126,37 @@ pub fn pruned_len_of(
         x = next;
     }
     Ok(count)
+}
+
+/// The values of the children of some parents, `step` of each, parent by parent: of a covered child its digest, and of
+/// another the next of those that were sent. The covered nodes, each with its digest, are those of the children, in the same
+/// order. Takes memory and time for all children.
+///
+/// # Errors
+///
+/// `AllocError` where there is no memory.
+pub fn children_of<X: Copy>(
+    alloc: Global,
+    covered: &[usize],
+    digests: &[X],
+    parents: &[usize],
+    step: usize,
+    sent: &[X],
+) -> Result<Vec<X>, AllocError>
+    requires { IsFamily step parents.now covered.now digests.now sent.now }
+    ensures { IfOk result (λ children. AreChildren step parents.now covered.now digests.now sent.now children.items) }
+{
+    let count = step * parents.len();
+    let mut children = Vec::with_capacity(alloc, count)?;
+    let mut known = 0;
+    for place in 0..count {
+        let child = step * parents[place / step] + place % step;
+        if known < covered.len() && covered[known] == child {
+            children.push(digests[known])?;
+            known += 1;
+        } else {
+            children.push(sent[place - known])?;
+        }
+    }
+    Ok(children)
 }
