@@ -42,3 +42,4 @@ pub mod SentFacts
 pub mod SlotFacts
 pub mod LeadFacts
 pub mod AgreeFacts
+pub mod ChildFacts

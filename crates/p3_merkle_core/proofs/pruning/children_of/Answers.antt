@@ -1,33 +1,70 @@
-use Rattle.std.proofs.Common.{rules, ◌≡◌, ℕ, suc, ◌<◌, ◌≤◌, Some, None, List, All, IfOk, MatchResult, ◌+◌, ◌-◌, ◌*◌, length, ◌/◌, ◌%◌, Bool, true, false, nat_eq, nat_lt, [], ◌∷◌, ◌++◌, slice_index_or, slice_set, bit_and, bit_or, Fits, w8, w32, w64, Bor, MutBor}
-use Rattle.p3_merkle_core.specs.Children.{AreChildren, IsFamily}
-use Rattle.p3_merkle_core.specs.Geometry.{heights, heights_of, levels, max_height, shape_of}
-use Rattle.p3_merkle_core.specs.Geometry.{step as step_in}
-use Rattle.p3_merkle_core.specs.Geometry.{tallest, IsArity, Shape}
-use Rattle.p3_merkle_core.specs.Pruning.{covered_at, CanQuery}
-use Rattle.p3_merkle_core.specs.PrunedCalls.{pruned_len}
-use Rattle.p3_merkle_core.specs.Refusals.{queries_refusal}
+-- Each turn is one child: the next covered node, or another.
+use Rattle.std.proofs.Common.{◌-◌, arith}
+use Rattle.std.proofs.lemmas.List.{get_or_read}
+use Rattle.p3_merkle_core.specs.Children.{children_under}
+use Rattle.p3_merkle_core.proofs.ChildFacts.{walk_start, walk_end, known_more, unknown_more, sent_room}
 use Rattle.p3_merkle_core.proofs.pruning.children_of.Goals as goal
+use Rattle.p3_merkle_core.proofs.pruning.children_of.Goals.{then-known-covered+then-covered-known+in_ok-push, else-known-covered+in_ok-push-2, else-known-covered-via-then-known-covered+else-covered-known, else-known-covered-via-else-known-covered}
 
--- src/pruning.rt:151:5
 pub loop-place-init : goal.loop-place-init
-loop-place-init g c = ?
+loop-place-init g c =
+    walk_start c.args.covered.now (children_under c.args.step c.args.parents.now) c.args.digests.now c.args.sent.now c.in_ok-children.children.items c.in_ok-children.ensures.items
 
--- src/pruning.rt:157:32
 pub overflow_sub-place : goal.overflow_sub-place
-overflow_sub-place g c = ?
+overflow_sub-place g c =
+    elim c.else-known-covered.branch [
+      | else-known-covered-via-then-known-covered+else-covered-known w ↦
+          let r = sent_room c.args.step c.args.parents.now c.args.covered.now c.args.digests.now c.args.sent.now c.requires c.loop-place.place c.loop-place.known c.loop-place.children.items c.loop-place-test.true c.loop-place.invariant (λ h e. w.if-covered-known.false e) in
+          r.behind
+      | else-known-covered-via-else-known-covered w ↦
+          let r = sent_room c.args.step c.args.parents.now c.args.covered.now c.args.digests.now c.args.sent.now c.requires c.loop-place.place c.loop-place.known c.loop-place.children.items c.loop-place-test.true c.loop-place.invariant (λ h e. absurd (omega (arith, w.if-known-covered.false))) in
+          r.behind
+    ]
 
--- src/pruning.rt:157:27
 pub offset_bounds-sent-place : goal.offset_bounds-sent-place
-offset_bounds-sent-place g c = ?
+offset_bounds-sent-place g c =
+    elim c.else-known-covered.branch [
+      | else-known-covered-via-then-known-covered+else-covered-known w ↦
+          let r = sent_room c.args.step c.args.parents.now c.args.covered.now c.args.digests.now c.args.sent.now c.requires c.loop-place.place c.loop-place.known c.loop-place.children.items c.loop-place-test.true c.loop-place.invariant (λ h e. w.if-covered-known.false e) in
+          (let room = r.room in omega arith)
+      | else-known-covered-via-else-known-covered w ↦
+          let r = sent_room c.args.step c.args.parents.now c.args.covered.now c.args.digests.now c.args.sent.now c.requires c.loop-place.place c.loop-place.known c.loop-place.children.items c.loop-place-test.true c.loop-place.invariant (λ h e. absurd (omega (arith, w.if-known-covered.false))) in
+          (let room = r.room in omega arith)
+    ]
 
--- src/pruning.rt:157:27
 pub bounds-sent-place : goal.bounds-sent-place
-bounds-sent-place g c = ?
+bounds-sent-place g c =
+    elim c.else-known-covered.branch [
+      | else-known-covered-via-then-known-covered+else-covered-known w ↦
+          let r = sent_room c.args.step c.args.parents.now c.args.covered.now c.args.digests.now c.args.sent.now c.requires c.loop-place.place c.loop-place.known c.loop-place.children.items c.loop-place-test.true c.loop-place.invariant (λ h e. w.if-covered-known.false e) in
+          r.room
+      | else-known-covered-via-else-known-covered w ↦
+          let r = sent_room c.args.step c.args.parents.now c.args.covered.now c.args.digests.now c.args.sent.now c.requires c.loop-place.place c.loop-place.known c.loop-place.children.items c.loop-place-test.true c.loop-place.invariant (λ h e. absurd (omega (arith, w.if-known-covered.false))) in
+          r.room
+    ]
 
--- src/pruning.rt:151:5
 pub loop-place-preserved : goal.loop-place-preserved
-loop-place-preserved g c = ?
+loop-place-preserved g c =
+    elim c.if-known-covered.branch [
+      | then-known-covered+then-covered-known+in_ok-push w ↦
+          let read = get_or_read c.args.digests.now c.loop-place.known w.index-digests-known.result (omega (arith, c.requires.one_each, w.if-known-covered.true)) w.index-digests-known.is w.index-digests-known.result in
+          rw (w.children-is, w.known-is, w.in_ok-push.ensures.items, read)
+          (known_more c.args.step c.args.parents.now c.args.covered.now c.args.digests.now c.args.sent.now c.requires c.loop-place.place c.loop-place.known c.loop-place.children.items c.loop-place-test.true c.loop-place.invariant w.if-known-covered.true w.if-covered-known.true w.index-digests-known.result)
+      | else-known-covered+in_ok-push-2 w ↦
+          elim w.else-known-covered.branch [
+            | else-known-covered-via-then-known-covered+else-covered-known v ↦
+                let r = sent_room c.args.step c.args.parents.now c.args.covered.now c.args.digests.now c.args.sent.now c.requires c.loop-place.place c.loop-place.known c.loop-place.children.items c.loop-place-test.true c.loop-place.invariant (λ h e. v.if-covered-known.false e) in
+                let read = get_or_read c.args.sent.now (c.loop-place.place - c.loop-place.known) w.index-sent-place.result r.room w.index-sent-place.is w.index-sent-place.result in
+                rw (w.children-is, w.known-is, w.in_ok-push-2.ensures.items, read)
+                (unknown_more c.args.step c.args.parents.now c.args.covered.now c.args.digests.now c.args.sent.now c.requires c.loop-place.place c.loop-place.known c.loop-place.children.items c.loop-place-test.true c.loop-place.invariant (λ h e. v.if-covered-known.false e) w.index-sent-place.result)
+            | else-known-covered-via-else-known-covered v ↦
+                let r = sent_room c.args.step c.args.parents.now c.args.covered.now c.args.digests.now c.args.sent.now c.requires c.loop-place.place c.loop-place.known c.loop-place.children.items c.loop-place-test.true c.loop-place.invariant (λ h e. absurd (omega (arith, v.if-known-covered.false))) in
+                let read = get_or_read c.args.sent.now (c.loop-place.place - c.loop-place.known) w.index-sent-place.result r.room w.index-sent-place.is w.index-sent-place.result in
+                rw (w.children-is, w.known-is, w.in_ok-push-2.ensures.items, read)
+                (unknown_more c.args.step c.args.parents.now c.args.covered.now c.args.digests.now c.args.sent.now c.requires c.loop-place.place c.loop-place.known c.loop-place.children.items c.loop-place-test.true c.loop-place.invariant (λ h e. absurd (omega (arith, v.if-known-covered.false))) w.index-sent-place.result)
+          ]
+    ]
 
--- src/pruning.rt:137:1
 pub returns : goal.returns
-returns g c = ?
+returns g c =
+    walk_end c.args.step c.args.parents.now c.args.covered.now c.args.digests.now c.args.sent.now c.requires c.loop-place.place c.loop-place.known c.loop-place.children.items (omega arith) c.loop-place.invariant

@@ -1,12 +1,7 @@
-use Rattle.std.proofs.Common.{◌≡◌, ℕ, suc, ◌<◌, ◌≤◌, Some, None, List, All, IfOk, MatchResult, ◌+◌, ◌-◌, ◌*◌, length}
-use Rattle.p3_merkle_core.specs.Children.{AreChildren, IsFamily}
-use Rattle.p3_merkle_core.specs.Geometry.{heights, heights_of, levels, max_height, shape_of}
-use Rattle.p3_merkle_core.specs.Geometry.{step as step_in}
-use Rattle.p3_merkle_core.specs.Geometry.{tallest, IsArity, Shape}
-use Rattle.p3_merkle_core.specs.Pruning.{covered_at, CanQuery}
-use Rattle.p3_merkle_core.specs.PrunedCalls.{pruned_len}
-use Rattle.p3_merkle_core.specs.Refusals.{queries_refusal}
+use Rattle.p3_merkle_core.specs.Children.{children_under}
+use Rattle.p3_merkle_core.proofs.ChildFacts.{IsWalked}
 use Rattle.p3_merkle_core.proofs.pruning.children_of.Given as goal
 
+-- the values of the children so far, of which `known` are covered
 abbrev pub invariant-loop-place : goal.invariant-loop-place
-invariant-loop-place g l = ?
+invariant-loop-place g l = IsWalked l.covered (children_under l.step l.parents) l.digests l.sent l.place l.known l.children.items
