@@ -1,10 +1,9 @@
 -- The values of the children of covered nodes, as a walk over them takes them.
-use Rattle.std.proofs.Common.{◌≡◌, ℕ, zero, suc, ◌+◌, ◌-◌, ◌*◌, ◌/◌, ◌%◌, ◌<◌, ◌≤◌, Bool, true, false, not, eqb, cond, List, [], ◌∷◌, ◌++◌, map, refl, ap, sym, ◌∙◌, arith, inl, inr, length, filter, get_or, take, drop, zip, append-nil, length-append, eq-eqb}
-use Rattle.std.specs.List.{flat_map, range_with_len, list_any}
-use Rattle.std.proofs.lemmas.Bool.{cases_Bool, cases_eq, cases_lt, true≢false, not-true, not_from_false, false_from_ne_true}
-use Rattle.std.proofs.lemmas.List.{take_more, length-take-le, get_or_default}
+use Rattle.std.proofs.Common.{◌≡◌, ℕ, zero, suc, ◌+◌, ◌-◌, ◌*◌, ◌/◌, ◌%◌, ◌<◌, ◌≤◌, Bool, true, false, not, cond, List, [], ◌∷◌, ◌++◌, refl, ap, sym, ◌∙◌, arith, inl, inr, length, filter, get_or, take, append-nil, length-append}
+use Rattle.std.specs.List.{range_with_len}
+use Rattle.std.proofs.lemmas.Bool.{cases_Bool, cases_eq, not_from_false, false_from_ne_true}
+use Rattle.std.proofs.lemmas.List.{take_more, length-take-le}
 use Rattle.std.proofs.lemmas.List.Concat.{get_or-flat_map}
-use Rattle.std.proofs.lemmas.List.Elements.{filter_more}
 use Rattle.std.proofs.lemmas.List.Filters.{length-filter_both, length-filter_more}
 use Rattle.std.proofs.lemmas.List.FromFn.{length-range_with_len, get_or-range_with_len}
 use Rattle.std.proofs.lemmas.List.{take_all}
@@ -14,7 +13,7 @@ use Rattle.p3_merkle_core.proofs.RisingFacts.{listed_at}
 
 -- ---- the children
 
-children_length : (n : ℕ) (parents : List ℕ) → length (children_under n parents) ≡ n * length parents
+pub children_length : (n : ℕ) (parents : List ℕ) → length (children_under n parents) ≡ n * length parents
 children_length n [] = omega arith
 children_length n (p ∷ parents) =
     omega (arith, length-append (range_with_len (n * p) n) (children_under n parents), length-range_with_len (n * p) n, children_length n parents)

@@ -228,7 +228,7 @@ covered_few s queries t w l h =
     (λ j c. covered_below s queries t w l j h (listed_covered s queries l j c)) in
     omega arith
 
-padded_le : (r n : ℕ) → 0 < n → padded_len r n ≤ r + n
+pub padded_le : (r n : ℕ) → 0 < n → padded_len r n ≤ r + n
 padded_le r n h =
     cond_both (nat_le r 1) r (cond (nat_lt r n) n (next_multiple_of r n)) (λ x. x ≤ r + n) (λ e. omega arith)
     (λ e. cond_both (nat_lt r n) n (next_multiple_of r n) (λ x. x ≤ r + n) (λ e. omega arith) (λ e. omega arith))

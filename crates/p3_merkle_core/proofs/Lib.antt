@@ -43,3 +43,4 @@ pub mod SlotFacts
 pub mod LeadFacts
 pub mod AgreeFacts
 pub mod ChildFacts
+pub mod ValueFacts

@@ -1,5 +1,5 @@
 -- The children of covered nodes, and the values that they take.
-use Rattle.std.specs.Prelude.{◌≡◌, ℕ, ◌+◌, ◌-◌, ◌*◌, ◌^◌, ◌<◌, ◌≤◌, ◌==◌, Bool, not, List, All, drop, filter, flat_map, length, map, take, zip}
+use Rattle.std.specs.Prelude.{◌≡◌, ℕ, ◌+◌, ◌-◌, ◌*◌, ◌^◌, ◌<◌, ◌≤◌, ◌==◌, Bool, not, List, All, filter, flat_map, length, map, take, zip}
 use Rattle.std.specs.List.{list_any, range_with_len}
 
 -- the children of some parents, n of each, parent by parent
