@@ -44,3 +44,4 @@ pub mod LeadFacts
 pub mod AgreeFacts
 pub mod ChildFacts
 pub mod ValueFacts
+pub mod KeptFacts

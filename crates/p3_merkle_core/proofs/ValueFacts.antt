@@ -27,7 +27,7 @@ filter_children : (p : ℕ → Bool) (n : ℕ) (parents : List ℕ) → filter p
 filter_children p n [] = refl
 filter_children p n (g ∷ parents) = filter-append p (range_with_len (n * g) n) (children_under n parents) ∙ ap (λ ys. filter p (range_with_len (n * g) n) ++ ys) (filter_children p n parents)
 
-map_children : {Y : Type 0} (v : ℕ → Y) (n : ℕ) (parents : List ℕ) → map v (children_under n parents) ≡ flat_map (λ g. map v (range_with_len (n * g) n)) parents
+pub map_children : {Y : Type 0} (v : ℕ → Y) (n : ℕ) (parents : List ℕ) → map v (children_under n parents) ≡ flat_map (λ g. map v (range_with_len (n * g) n)) parents
 map_children v n [] = refl
 map_children v n (g ∷ parents) = map-append v (range_with_len (n * g) n) (children_under n parents) ∙ ap (λ ys. map v (range_with_len (n * g) n) ++ ys) (map_children v n parents)
 

@@ -1,7 +1,8 @@
 //! Which nodes a pruned opening covers, and how many digests it sends: what needs no hash.
 
-ghost use Rattle.std.specs.Prelude.{◌≡◌, ℕ, suc, ◌<◌, ◌≤◌, Some, None, List, All, IfOk, MatchResult};
-ghost use Rattle.p3_merkle_core.specs.Children.{AreChildren, IsFamily};
+ghost use Rattle.std.specs.Prelude.{◌≡◌, ℕ, suc, ◌+◌, ◌*◌, ◌/◌, ◌%◌, ◌<◌, ◌≤◌, ◌++◌, Some, None, List, All, IfOk, IsTrue, MatchResult, length, map, remove};
+ghost use Rattle.std.specs.List.Sorted.{IsStrictlyIncreasing};
+ghost use Rattle.p3_merkle_core.specs.Children.{AreChildren, AreLevels, IsFamily, children_at, is_among, kept_path};
 ghost use Rattle.p3_merkle_core.specs.Geometry.{heights, heights_of, levels, max_height, shape_of, step as step_in, tallest, IsArity, Shape};
 ghost use Rattle.p3_merkle_core.specs.Pruning.{covered_at, CanQuery};
 ghost use Rattle.p3_merkle_core.specs.PrunedCalls.{pruned_len};
@@ -38,6 +39,21 @@ pub struct PrunedRows<T, X> {
 pub type PrunedBatchOpening<T, W, const D: usize> = PrunedRows<T, [W; D]>;
 
 /// Whether each index is below `max_height`, the tallest height of some matrices.
+/// A level of a walk over covered nodes, kept so that paths can be read out of it.
+#[derive(Debug, Drop)]
+pub struct KeptLevel<X> {
+    /// The covered nodes of the layer above, ascending.
+    pub parents: Vec<usize>,
+    /// How many children each of them has.
+    pub step: usize,
+    /// The values of their children, parent by parent.
+    pub children: Vec<X>,
+    ghost some: { 0 < step },
+    ghost full: { length children.items ≡ step * length parents.items },
+}
+
+/// Whether each index is below `max_height`, the tallest height of some matrices: the Rust crate's check of the highest
+/// index.
 ///
 /// # Errors
 ///
@@ -159,4 +175,75 @@ pub fn children_of<X: Copy>(
         }
     }
     Ok(children)
+}
+
+/// The level of some parents, with the values of their children as [`children_of`] has them.
+///
+/// # Errors
+///
+/// `AllocError` where there is no memory.
+pub fn keep_level<X: Copy>(
+    alloc: Global,
+    covered: &[usize],
+    digests: &[X],
+    parents: Vec<usize>,
+    step: usize,
+    sent: &[X],
+) -> Result<KeptLevel<X>, AllocError>
+    requires family { IsFamily step parents.items covered.now digests.now sent.now }
+    requires some { 0 < step }
+    ensures children { IfOk result (λ level. AreChildren step parents.items covered.now digests.now sent.now level.children.items) }
+    ensures step { IfOk result (λ level. level.step ≡ step) }
+    ensures parents { IfOk result (λ level. level.parents ≡ parents) }
+{
+    let children = children_of(alloc, covered, digests, &parents, step, sent)?;
+    Ok(KeptLevel {
+        parents,
+        step,
+        children,
+    })
+}
+
+/// The siblings on the path of a leaf, out of the levels that a walk kept, from the leaves on: of each group on the path
+/// all values but the path's own, ascending. The index is one of those that the walk covered; the path of another leaf has
+/// no siblings on the levels where no covered node is above it.
+///
+/// # Errors
+///
+/// `AllocError` where there is no memory.
+pub fn path_out_of<X: Copy>(
+    alloc: Global,
+    levels: &[KeptLevel<X>],
+    index: usize,
+) -> Result<Vec<X>, AllocError>
+    ensures { (s : Shape) (queries : List ℕ) (t : ℕ) → CanQuery s queries t → t ≡ length levels.now → IsTrue (is_among queries index) →
+        AreLevels s queries t (map (λ level. level.step) levels.now) (map (λ level. level.parents.items) levels.now) →
+        IfOk result (λ path. path.items ≡ kept_path s queries (map (λ level. level.children.items) levels.now) t index) }
+{
+    let mut path = Vec::new(alloc);
+    let mut node = index;
+    for level in levels {
+        extend_with_siblings(&mut path, level, node)?;
+        node /= level.step;
+    }
+    Ok(path)
+}
+
+/// Adds the values of the siblings of a node to the end, where its parent is covered.
+fn extend_with_siblings<X: Copy>(
+    path: &mut Vec<X>,
+    level: &KeptLevel<X>,
+    node: usize,
+) -> Result<(), AllocError>
+    ensures { let group = children_at level.now.step level.now.parents.items level.now.children.items (node / level.now.step) in
+        IsStrictlyIncreasing level.now.parents.items → IsTrue (is_among level.now.parents.items (node / level.now.step)) →
+        IfOk result (λ done. path.new.items ≡ path.old.items ++ remove group (node % level.now.step)) }
+{
+    if let Ok(place) = level.parents.binary_search(&(node / level.step)) {
+        let first = level.step * place;
+        let own = first + node % level.step;
+        path.extend_from_slice(&level.children[first..own])?;
+        path.extend_from_slice(&level.children[own + 1..first + level.step])?;
+    }
+    Ok(())
 }
