@@ -38,7 +38,6 @@ pub struct PrunedRows<T, X> {
 /// crate).
 pub type PrunedBatchOpening<T, W, const D: usize> = PrunedRows<T, [W; D]>;
 
-/// Whether each index is below `max_height`, the tallest height of some matrices.
 /// A level of a walk over covered nodes, kept so that paths can be read out of it.
 #[derive(Debug, Drop)]
 pub struct KeptLevel<X> {
@@ -52,8 +51,7 @@ pub struct KeptLevel<X> {
     ghost full: { length children.items ≡ step * length parents.items },
 }
 
-/// Whether each index is below `max_height`, the tallest height of some matrices: the Rust crate's check of the highest
-/// index.
+/// Whether each index is below `max_height`, the tallest height of some matrices.
 ///
 /// # Errors
 ///
