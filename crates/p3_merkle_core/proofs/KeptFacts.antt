@@ -4,23 +4,26 @@ use Rattle.std.specs.List.{flat_map, range_with_len, take-map, drop-map}
 use Rattle.std.specs.List.Sorted.{IsStrictlyIncreasing, IsBinarySearchResult}
 use Rattle.std.specs.Ordering.{nat_cmp}
 use Rattle.std.specs.Prelude.{slice_index_or}
+use Rattle.std.specs.declared.vec.Vec.{Vec}
 use Rattle.std.proofs.lemmas.Bool.{cases_eq, cases_lt, eqb-true, or_cases, or_left, or_right, true≢false, lt-ltb, le-ltb}
 use Rattle.std.proofs.lemmas.List.{map-append, take-take, drop-take, drop-drop, take-append-le, take_all, get_or-map, get_or_default}
+use Rattle.std.proofs.lemmas.List.{map_more}
 use Rattle.std.proofs.lemmas.List.Folds.{Any-from_list_any}
 use Rattle.std.proofs.lemmas.List.FromFn.{length-range_with_len, get_or-map-range_with_len}
 use Rattle.std.proofs.lemmas.List.Kept.{AllPairs-from_increasing}
 use Rattle.std.proofs.lemmas.List.Sorted.{searched}
 use Rattle.std.proofs.Math.Seq.{drop-append-add}
-use Rattle.p3_merkle_core.specs.Children.{AreLevels, children_at, children_under, is_among, kept_group, kept_path, place_among}
+use Rattle.p3_merkle_core.specs.Children.{AreLevels, children_at, children_under, is_among, kept_group, kept_path, kept_paths, place_among, shown_paths}
 use Rattle.p3_merkle_core.specs.Geometry.{Shape, step, ancestor, position_in_group, layer_len}
 use Rattle.p3_merkle_core.specs.Nodes.{Functions}
 use Rattle.p3_merkle_core.specs.Pruning.{CanQuery, PrunedOpening, is_covered, covered_at, value_of, restored_path}
 use Rattle.p3_merkle_core.proofs.CoveredFacts.{covered_listed}
 use Rattle.p3_merkle_core.proofs.ListFacts.{joined, joined_more}
 use Rattle.p3_merkle_core.proofs.PathFacts.{joined_same, group_values, piece}
-use Rattle.p3_merkle_core.proofs.RisingFacts.{IsRising, rising_from, rising_filter, increasing_from}
+use Rattle.p3_merkle_core.proofs.RisingFacts.{listed_at, IsRising, rising_from, rising_filter, increasing_from}
 use Rattle.p3_merkle_core.proofs.StepFacts.{anc_next}
 use Rattle.p3_merkle_core.proofs.ValueFacts.{map_children}
+use Rattle.p3_merkle_core.specs.PrunedCalls.{restored_paths}
 
 -- ---- places
 
@@ -169,3 +172,25 @@ path_restored f s t p w view rows are i q =
     sym (take-map view n (drop (n * k) row)) ∙ ap (take n) (sym (drop-map view (n * k) row)) ∙ ap (λ ys. children_at n parents ys j) (are l h)
     ∙ values_at (value_of f s t p l) n parents j (covered_up_list s p.indices (suc l)) (parent_listed s p.indices t w l i h q) in
     map_remove view (children_at n parents row j) (position_in_group s l i) ∙ ap (λ ys. remove ys (position_in_group s l i)) group)
+
+mapped : {A B C : Type 0} (g : A → B) (h : C → A) (k : C → B) (xs : List C) → ((i : ℕ) → i < length xs → (d : C) → g (h (get_or xs i d)) ≡ k (get_or xs i d)) → map g (map h xs) ≡ map k xs
+mapped g h k [] e = refl
+mapped g h k (x ∷ xs) e = rw (e 0 (omega arith) x, mapped g h k xs (λ i l d. e (suc i) (omega arith) d)) refl
+
+-- and so for all queries
+pub paths_restored : {T W X : Type 0} (f : Functions T W) (s : Shape) (t : ℕ) (p : PrunedOpening T W) → CanQuery s p.indices t → (view : X → List W) (rows : List (List X)) →
+    ((l : ℕ) → l < t → map view (slice_index_or rows l []) ≡ flat_map (λ j. map (value_of f s t p l) (range_with_len (step s l * j) (step s l))) (covered_at s p.indices (suc l))) →
+    map (λ (path : ℕ × List X). (path.0, map view path.1)) (kept_paths s p.indices rows t) ≡ restored_paths f s t p
+paths_restored f s t p w view rows are =
+    mapped (λ (path : ℕ × List _). (path.0, map view path.1)) (λ i. (i, kept_path s p.indices rows t i)) (λ i. (i, restored_path f s t p i)) p.indices
+    (λ k h d. ap (λ path. (get_or p.indices k d, path)) (path_restored f s t p w view rows are (get_or p.indices k d) (listed_at p.indices k d h)))
+
+-- one path more
+pub paths_more : {X A : Type 0} (path : ℕ → List X) (queries : List ℕ) (k : ℕ) (old new : List (ℕ × Vec X A)) (added : Vec X A) → k < length queries →
+    shown_paths old ≡ map {B = ℕ × List X} (λ i. (i, path i)) (take k queries) → new ≡ old ++ (get_or queries k 0, added) ∷ [] → added.items ≡ path (get_or queries k 0) →
+    shown_paths new ≡ map {B = ℕ × List X} (λ i. (i, path i)) (take (k + 1) queries)
+paths_more {X} {A} path queries k old new added h so_far is shown =
+    let q = get_or queries k 0 in
+    let both : ℕ → ℕ × List X = λ i. (i, path i) in
+    ap (λ (ps : List (ℕ × Vec X A)). shown_paths ps) is ∙ map-append (λ (pair : ℕ × Vec X A). (pair.0, pair.1.items)) old ((q, added) ∷ [])
+    ∙ ap (λ (ys : List (ℕ × List X)). ys ++ (q, added.items) ∷ []) so_far ∙ ap (λ (xs : List X). map both (take k queries) ++ (q, xs) ∷ []) shown ∙ sym (map_more both queries k 0 h)

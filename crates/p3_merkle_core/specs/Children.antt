@@ -1,6 +1,7 @@
 -- The children of covered nodes, and the values that they take.
 use Rattle.std.specs.Prelude.{◌≡◌, ℕ, suc, ◌+◌, ◌-◌, ◌*◌, ◌^◌, ◌<◌, ◌≤◌, ◌==◌, Bool, not, nat_lt, List, [], All, drop, filter, flat_map, length, map, remove, slice_index_or, take, zip}
 use Rattle.std.specs.List.{list_any, range_with_len}
+use Rattle.std.specs.declared.vec.Vec.{Vec}
 use Rattle.p3_merkle_core.specs.Geometry.{Shape, ancestor, position_in_group, step}
 use Rattle.p3_merkle_core.specs.Pruning.{covered_at}
 
@@ -52,7 +53,15 @@ kept_group s queries rows i l = remove (children_at (step s l) (covered_at s que
 abbrev pub kept_path : {X : Type 0} → Shape → List ℕ → List (List X) → ℕ → ℕ → List X
 kept_path s queries rows t i = flat_map (kept_group s queries rows i) (range_with_len 0 t)
 
+-- for each query, in order, its index and these siblings
+abbrev pub kept_paths : {X : Type 0} → Shape → List ℕ → List (List X) → ℕ → List (ℕ × List X)
+kept_paths s queries rows t = map (λ i. (i, kept_path s queries rows t i)) queries
+
 -- the steps of the levels from the leaves, and the covered nodes above each
 pub record AreLevels (s : Shape) (queries : List ℕ) (t : ℕ) (steps : List ℕ) (parents : List (List ℕ)) : Type 0 where
   pub steps_are : steps ≡ map (step s) (range_with_len 0 t)
   pub parents_are : parents ≡ map (λ l. covered_at s queries (suc l)) (range_with_len 0 t)
+
+-- the paths, each with its index, that pairs of the code are
+abbrev pub shown_paths : {X A : Type 0} → List (ℕ × Vec X A) → List (ℕ × List X)
+shown_paths paths = map (λ (i, path). (i, path.items)) paths

@@ -2,7 +2,7 @@
 
 ghost use Rattle.std.specs.Prelude.{◌≡◌, ℕ, suc, ◌+◌, ◌*◌, ◌/◌, ◌%◌, ◌<◌, ◌≤◌, ◌++◌, Some, None, List, All, IfOk, IsTrue, MatchResult, length, map, remove};
 ghost use Rattle.std.specs.List.Sorted.{IsStrictlyIncreasing};
-ghost use Rattle.p3_merkle_core.specs.Children.{AreChildren, AreLevels, IsFamily, children_at, is_among, kept_path};
+ghost use Rattle.p3_merkle_core.specs.Children.{AreChildren, AreLevels, IsFamily, children_at, is_among, kept_path, kept_paths, shown_paths};
 ghost use Rattle.p3_merkle_core.specs.Geometry.{heights, heights_of, levels, max_height, shape_of, step as step_in, tallest, IsArity, Shape};
 ghost use Rattle.p3_merkle_core.specs.Pruning.{covered_at, CanQuery};
 ghost use Rattle.p3_merkle_core.specs.PrunedCalls.{pruned_len};
@@ -225,6 +225,28 @@ pub fn path_out_of<X: Copy>(
         node /= level.step;
     }
     Ok(path)
+}
+
+/// For each queried index, in order, the index and the siblings on its path, as [`path_out_of`] has them. The indices are
+/// those that the walk covered.
+///
+/// # Errors
+///
+/// `AllocError` where there is no memory.
+pub fn paths_out_of<X: Copy>(
+    alloc: Global,
+    levels: &[KeptLevel<X>],
+    indices: &[usize],
+) -> Result<Vec<(usize, Vec<X>)>, AllocError>
+    ensures { (s : Shape) (t : ℕ) → CanQuery s indices.now t → t ≡ length levels.now →
+        AreLevels s indices.now t (map (λ level. level.step) levels.now) (map (λ level. level.parents.items) levels.now) →
+        IfOk result (λ paths. shown_paths paths.items ≡ kept_paths s indices.now (map (λ level. level.children.items) levels.now) t) }
+{
+    let mut paths = Vec::with_capacity(alloc, indices.len())?;
+    for index in indices {
+        paths.push((*index, path_out_of(alloc, levels, *index)?))?;
+    }
+    Ok(paths)
 }
 
 /// Adds the values of the siblings of a node to the end, where its parent is covered.
