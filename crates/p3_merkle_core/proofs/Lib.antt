@@ -45,3 +45,4 @@ pub mod AgreeFacts
 pub mod ChildFacts
 pub mod ValueFacts
 pub mod KeptFacts
+pub mod PrunedFacts

@@ -1,10 +1,11 @@
 -- How a check finds the rows that must agree: the first query of each index, and the lowest slot under each node.
-use Rattle.std.specs.Prelude.{◌≡◌, ℕ, suc, ◌<◌, ◌≤◌, ◌==◌, Bool, if◌then◌else◌, List, [], ◌∷◌, map, filter, length, slice_index, slice_index_or, Option}
+use Rattle.std.specs.Prelude.{◌≡◌, ℕ, suc, ◌<◌, ◌≤◌, ◌==◌, Bool, if◌then◌else◌, List, [], ◌∷◌, map, filter, length, replicate, slice_index, slice_index_or, Option}
 use Rattle.std.specs.List.{range_with_len}
 use Rattle.std.specs.Cmp.Lexicographic.{pointwise}
 use Rattle.p3_merkle_core.specs.Geometry.{Shape, ancestor, exponent, heights, layer_exponent, tallest}
+use Rattle.p3_merkle_core.specs.Gate.{gate_refusal}
 use Rattle.p3_merkle_core.specs.Pruning.{PrunedOpening, pruned_of}
-use Rattle.p3_merkle_core.specs.Refusals.{first_of, slots_below, slot_of, unless}
+use Rattle.p3_merkle_core.specs.Refusals.{first_of, first_some, idle_refusal, queries_refusal, size_refusal, slots_below, slot_of, unless, width_refusal}
 use Rattle.p3_merkle_core.specs.declared.error.MerkleTreeError.{MerkleTreeError}
 use Rattle.p3_merkle_core.specs.declared.error.MerkleTreeError.TheVariants.{MalformedPrunedProof}
 use Rattle.p3_merkle_core.specs.declared.error.PrunedProofError.TheVariants.{InconsistentGroupOpening}
@@ -22,6 +23,10 @@ first_query (q ∷ qs) i = if q == i then 0 else suc (first_query qs i)
 -- queries with their row sets
 abbrev pub opened_of : {T : Type 0} → List ℕ → List (List (List T)) → PrunedOpening T ℕ
 opened_of indices sets = pruned_of indices sets []
+
+-- the same with so many digests
+abbrev pub opened_with : {T : Type 0} → List ℕ → List (List (List T)) → ℕ → PrunedOpening T ℕ
+opened_with indices sets n = pruned_of indices sets (replicate n [])
 
 -- the slots of some queries: their distinct indices, ascending, and the first query of each
 pub record HasSlots (slots : Slots) (indices : List ℕ) : Type 0 where
@@ -61,3 +66,13 @@ IsAscending xs = (i j : ℕ) → i ≤ j → j < length xs → slice_index xs i 
 abbrev pub layers_refusal : {T : Type 0} → (T → T → Bool) → Shape → ℕ → List ℕ → List ℕ → List (List (List T)) → Option MerkleTreeError
 layers_refusal row_eq s t leaves firsts sets =
     first_of (λ l. nodes_refusal row_eq (heights s) (layer_exponent s l) (map (ancestor s l) leaves) firsts sets) (range_with_len 0 (suc t))
+
+-- why so many row sets and digests are refused for some indices before slots are made: the first of these reasons
+abbrev pub early_refusal : List ℕ → List ℕ → ℕ → ℕ → Option MerkleTreeError
+early_refusal heights indices sets digests =
+    first_some (gate_refusal heights ∷ size_refusal (length indices) sets ∷ idle_refusal (length indices) digests ∷ queries_refusal (tallest heights) indices ∷ [])
+
+-- why slots with their rows are refused: the widths of their rows, else rows under one node that disagree
+abbrev pub late_refusal : {T : Type 0} → (T → T → Bool) → Shape → ℕ → List ℕ → List ℕ → List (List (List T)) → Option MerkleTreeError
+late_refusal row_eq s t leaves firsts sets =
+    first_some (first_of (λ query. width_refusal s.dimensions (slice_index_or sets query [])) firsts ∷ layers_refusal row_eq s t leaves firsts sets ∷ [])

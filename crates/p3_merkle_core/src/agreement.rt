@@ -2,16 +2,16 @@
 //! rows of the matrices of its layer. Nothing here hashes.
 
 ghost use Rattle.std.specs.Prelude.{◌≡◌, ℕ, ◌-◌, ◌/◌, ◌<◌, ◌≤◌, ◌⊎◌, Some, None, List, [], All, length, map, slice_index, slice_index_or, IfOk, IsTrue, MatchResult};
-ghost use Rattle.p3_merkle_core.specs.Agreement.{distinct, first_query, layers_refusal, nodes_refusal, opened_of, rows_refusal, slot_rows, HasSlots, IsAscending, IsSlot};
+ghost use Rattle.p3_merkle_core.specs.Agreement.{distinct, first_query, layers_refusal, nodes_refusal, opened_of, opened_with, early_refusal, late_refusal, rows_refusal, slot_rows, HasSlots, IsAscending, IsSlot};
 ghost use Rattle.p3_support.specs.Shown.{row_lists};
 ghost use Rattle.p3_merkle_core.specs.Geometry.{heights_of, levels, max_height, shape_of, tallest, IsArity};
 ghost use Rattle.p3_merkle_core.specs.declared.error.MerkleTreeError.TheVariants.{OutOfMemory};
 ghost use Rattle.p3_merkle_core.specs.PrunedCalls.{row_sets};
-ghost use Rattle.p3_merkle_core.specs.Refusals.{first_of, is_queried, repeat_refusal, width_refusal};
+ghost use Rattle.p3_merkle_core.specs.Refusals.{digest_count_refusal, first_of, idle_refusal, is_queried, pruned_refusal, repeat_refusal, width_refusal};
 
 use crate::error::{MerkleTreeError, PrunedProofError};
-use crate::geometry::{check_widths, exponent_of, select_arity_step, tallest_of};
-use crate::pruning::covered_leaves;
+use crate::geometry::{check_heights, check_widths, exponent_of, select_arity_step, tallest_of};
+use crate::pruning::{check_indices, covered_leaves, pruned_len_of};
 use p3_support::matrix::Dimensions;
 use std::alloc::{AllocError, Global};
 
@@ -239,4 +239,113 @@ pub fn check_groups<T: Eq>(
         x = next;
     }
     Ok(())
+}
+
+/// Whether a pruned opening of some indices has the form that its restoration needs, whatever the cap, which is layer `t`:
+/// why it is refused before anything is hashed. Answers the slots of its indices. `t` is at most the number of levels,
+/// and the arity a power of two from 2 to 2^62. Takes memory for all indices, and the time of a sort.
+///
+/// # Errors
+///
+/// In this order: what [`check_heights`] says of the heights; `WrongBatchSize` where there are not as many row sets as
+/// indices; `SiblingCountMismatch` for a digest where there is no index; `IndexOutOfBounds` for the highest index;
+/// `InconsistentDuplicateOpenings`, as [`check_repeats`]; `SiblingCountMismatch` where there are not as many digests as
+/// the indices leave unknown; `WrongBatchSize` or `WrongWidth` for the rows of the first query of an index, ascending;
+/// `InconsistentGroupOpening`, as [`check_groups`]. `OutOfMemory` where there is no memory.
+pub fn check_pruned<T: Eq>(
+    alloc: Global,
+    dimensions: &[Dimensions],
+    arity: usize,
+    t: usize,
+    indices: &[usize],
+    rows: &[Vec<Vec<T>>],
+    num_digests: usize,
+) -> Result<Slots, MerkleTreeError>
+    requires arity { IsArity arity }
+    requires layer { t ≤ levels (shape_of arity dimensions.now) }
+    ensures { let refusal = pruned_refusal T.eq (shape_of arity dimensions.now) t (opened_with indices.now (row_sets rows.now) num_digests) in
+        MatchResult result (λ slots. (refusal ≡ None) × HasSlots slots indices.now) (λ e. (e ≡ OutOfMemory) ⊎ (refusal ≡ Some e)) }
+{
+    check_queries(dimensions, indices, rows.len(), num_digests)?;
+    let slots = slots_of(alloc, indices)?;
+    check_repeats(indices, rows, &slots)?;
+    check_digest_count(
+        pruned_len_of(alloc, dimensions, arity, t, indices)?,
+        num_digests,
+    )?;
+    check_slots(alloc, dimensions, arity, t, &slots, rows)?;
+    Ok(slots)
+}
+
+/// Whether some indices can be queried with so many row sets and digests: what is asked before slots are made.
+///
+/// # Errors
+///
+/// In this order: what [`check_heights`] says of the heights; `WrongBatchSize` where there are not as many row sets as
+/// indices; `SiblingCountMismatch` for a digest where there is no index; `IndexOutOfBounds` for the highest index.
+fn check_queries(
+    dimensions: &[Dimensions],
+    indices: &[usize],
+    num_row_sets: usize,
+    num_digests: usize,
+) -> Result<(), MerkleTreeError>
+    ensures answer { let refusal = early_refusal (heights_of dimensions.now) indices.now num_row_sets num_digests in
+        MatchResult result (λ ok. refusal ≡ None) (λ e. refusal ≡ Some e) }
+    ensures low { IfOk result (λ ok. tallest (heights_of dimensions.now) ≤ max_height) }
+{
+    check_heights(dimensions)?;
+    if num_row_sets != indices.len() {
+        return Err(MerkleTreeError::WrongBatchSize {
+            expected: indices.len(),
+            got: num_row_sets,
+        });
+    }
+    check_idle(indices, num_digests)?;
+    check_indices(tallest_of(dimensions), indices)
+}
+
+/// Whether there is no digest where there is no index.
+fn check_idle(indices: &[usize], num_digests: usize) -> Result<(), MerkleTreeError>
+    ensures { let refusal = idle_refusal (length indices.now) num_digests in
+        MatchResult result (λ ok. refusal ≡ None) (λ e. refusal ≡ Some e) }
+{
+    if indices.is_empty() {
+        check_digest_count(0, num_digests)
+    } else {
+        Ok(())
+    }
+}
+
+/// Whether a proof has as many digests as it should have.
+fn check_digest_count(expected: usize, got: usize) -> Result<(), MerkleTreeError>
+    ensures { MatchResult result (λ ok. digest_count_refusal expected got ≡ None) (λ e. digest_count_refusal expected got ≡ Some e) }
+{
+    if expected == got {
+        Ok(())
+    } else {
+        Err(PrunedProofError::SiblingCountMismatch { expected, got }.into())
+    }
+}
+
+/// Whether the rows of slots have their widths, and those under one node agree: [`check_first_widths`], then
+/// [`check_groups`].
+fn check_slots<T: Eq>(
+    alloc: Global,
+    dimensions: &[Dimensions],
+    arity: usize,
+    t: usize,
+    slots: &Slots,
+    rows: &[Vec<Vec<T>>],
+) -> Result<(), MerkleTreeError>
+    requires arity { IsArity arity }
+    requires low { tallest (heights_of dimensions.now) ≤ max_height }
+    requires layer { t ≤ levels (shape_of arity dimensions.now) }
+    requires pairs { length slots.now.leaves.items ≡ length slots.now.firsts.items }
+    requires ascending { IsAscending slots.now.leaves.items }
+    requires queries { All (λ query. query < length rows.now) slots.now.firsts.items }
+    ensures { let refusal = late_refusal T.eq (shape_of arity dimensions.now) t slots.now.leaves.items slots.now.firsts.items (row_sets rows.now) in
+        MatchResult result (λ ok. refusal ≡ None) (λ e. (e ≡ OutOfMemory) ⊎ (refusal ≡ Some e)) }
+{
+    check_first_widths(dimensions, rows, &slots.firsts)?;
+    check_groups(alloc, dimensions, arity, t, slots, rows)
 }
