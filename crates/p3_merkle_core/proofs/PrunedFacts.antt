@@ -1,5 +1,5 @@
 -- The reasons to refuse a pruned opening, those before there are slots and those after.
-use Rattle.std.proofs.Common.{◌≡◌, ℕ, ◌<◌, Bool, eqb, nat_lt, List, [], ◌∷◌, ◌++◌, map, refl, ap, sym, ◌∙◌, length, get_or, replicate, All, Option, None}
+use Rattle.std.proofs.Common.{◌≡◌, ℕ, ◌<◌, Bool, eqb, nat_lt, List, [], ◌∷◌, ◌++◌, map, refl, ap, sym, ◌∙◌, length, get_or, replicate, All, Option, None, Some}
 use Rattle.std.proofs.lemmas.Bool.{eqb-true, ltb-true}
 use Rattle.std.proofs.lemmas.List.{length-map, length-replicate}
 use Rattle.p3_support.specs.declared.matrix.Dimensions.{Dimensions}
@@ -66,6 +66,10 @@ late_is row_eq s t firsts indices sets is asked =
     let groups = groups_are row_eq s t firsts indices sets is asked.pairs asked.highest in
     ap (λ w. first_some (w ∷ layers_refusal row_eq s t (distinct indices) firsts sets ∷ [])) widths
     ∙ ap (λ g. first_some (first_of (λ i. width_refusal s.dimensions (first_rows (opened_of indices sets) i)) (slots_below (tallest (heights s)) indices) ∷ g ∷ [])) groups
+
+pub late_from : {E : Type 0} (x y a : Option E) → x ≡ None → y ≡ a → first_some (x ∷ y ∷ []) ≡ a
+late_from x y None none is = rw (none, is) refl
+late_from x y (Some e) none is = rw (none, is) refl
 
 -- where nothing else is refused, the answer is the late one
 pub pruned_late : {T : Type 0} (row_eq : T → T → Bool) (s : Shape) (t : ℕ) (leaves firsts indices : List ℕ) (sets : List (List (List T))) (n : ℕ) (answer : Option MerkleTreeError) →
