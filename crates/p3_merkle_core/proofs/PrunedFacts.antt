@@ -1,5 +1,5 @@
 -- The reasons to refuse a pruned opening, those before there are slots and those after.
-use Rattle.std.proofs.Common.{◌≡◌, ℕ, ◌<◌, Bool, eqb, nat_lt, List, [], ◌∷◌, ◌++◌, map, refl, ap, sym, ◌∙◌, length, get_or, replicate, All, Option, None, Some}
+use Rattle.std.proofs.Common.{◌≡◌, ℕ, ◌<◌, Bool, eqb, nat_lt, List, [], ◌∷◌, ◌++◌, map, refl, ap, sym, ◌∙◌, length, get_or, All, Option, None, Some}
 use Rattle.std.proofs.lemmas.Bool.{eqb-true, ltb-true}
 use Rattle.std.proofs.lemmas.List.{length-map, length-replicate}
 use Rattle.p3_support.specs.declared.matrix.Dimensions.{Dimensions}
@@ -15,7 +15,7 @@ use Rattle.p3_merkle_core.proofs.AgreeFacts.{groups_are, widths_are}
 
 -- the digests count by their number alone
 pub digests_counted : {T W : Type 0} (row_eq : T → T → Bool) (s : Shape) (t : ℕ) (p : PrunedOpening T W) → pruned_refusal row_eq s t p ≡ pruned_refusal row_eq s t (opened_with p.indices p.rows (length p.digests))
-digests_counted row_eq s t p = rw (length-replicate (length p.digests) (let z : List ℕ = [] in z)) refl
+digests_counted row_eq s t p = rw (length-replicate {A = List ℕ} (length p.digests) []) refl
 
 -- openings of the same queries with as many digests are refused alike
 pub as_many_digests : {T V W : Type 0} (row_eq : T → T → Bool) (s : Shape) (t : ℕ) (p : PrunedOpening T V) (q : PrunedOpening T W) → p.indices ≡ q.indices → p.rows ≡ q.rows → length p.digests ≡ length q.digests →
@@ -27,14 +27,16 @@ as_many_digests row_eq s t p q indices rows digests =
     ∙ ap (λ n. pruned_refusal row_eq s t (opened_with q.indices q.rows n)) digests
     ∙ sym (digests_counted row_eq s t q)
 
+-- where none of some reasons holds, those after them decide
 past_none : {E : Type 0} (xs ys : List (Option E)) → first_some xs ≡ None → first_some (xs ++ ys) ≡ first_some ys
 past_none [] ys e = refl
 past_none (x ∷ xs) ys e =
     let both = none_parts x (first_some xs) e in
-    rw (both.0) (past_none xs ys both.1)
+    rw both.0 (past_none xs ys both.1)
 
 -- ---- what is known where nothing is refused early
 
+-- as many row sets as indices, all of which are below the tallest height
 pub record Asked (hs indices : List ℕ) (sets : ℕ) : Type 0 where
   pub pairs : length indices ≡ sets
   pub highest : tallest indices < tallest hs
@@ -67,6 +69,7 @@ late_is row_eq s t firsts indices sets is asked =
     ap (λ w. first_some (w ∷ layers_refusal row_eq s t (distinct indices) firsts sets ∷ [])) widths
     ∙ ap (λ g. first_some (first_of (λ i. width_refusal s.dimensions (first_rows (opened_of indices sets) i)) (slots_below (tallest (heights s)) indices) ∷ g ∷ [])) groups
 
+-- where the first of two reasons doesn't hold, the second decides
 pub late_from : {E : Type 0} (x y a : Option E) → x ≡ None → y ≡ a → first_some (x ∷ y ∷ []) ≡ a
 late_from x y None none is = rw (none, is) refl
 late_from x y (Some e) none is = rw (none, is) refl
@@ -83,9 +86,8 @@ pruned_late row_eq s t leaves firsts indices sets n answer listed is early repea
     let number = digest_count_refusal (length (boundary s indices t)) n in
     let counted = repeat_refusal row_eq p ∷ number ∷ rest in
     let firsts_none = past_none (gate_refusal hs ∷ size_refusal (length indices) (length sets) ∷ idle_refusal (length indices) n ∷ queries_refusal (tallest hs) indices ∷ []) counted early in
-    let long : length (replicate {A = List ℕ} n []) ≡ n = length-replicate n [] in
     let then_none : first_some counted ≡ first_some rest = rw (repeats, count) refl in
-    rw long (firsts_none ∙ then_none ∙ sym (late_is row_eq s t firsts indices sets is (asked_from hs indices (length sets) n early)) ∙ ap (λ ls. late_refusal row_eq s t ls firsts sets) (sym listed) ∙ late)
+    rw (length-replicate {A = List ℕ} n []) (firsts_none ∙ then_none ∙ sym (late_is row_eq s t firsts indices sets is (asked_from hs indices (length sets) n early)) ∙ ap (λ ls. late_refusal row_eq s t ls firsts sets) (sym listed) ∙ late)
 
 -- ---- rows of their widths are as many as there are matrices
 

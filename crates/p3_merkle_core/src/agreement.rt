@@ -1,8 +1,8 @@
-//! Whether the rows of a pruned opening agree: queries of one index have one row set, and queries under one node the same
-//! rows of the matrices of its layer. Nothing here hashes.
+//! Why a pruned opening is refused, whatever the cap: by its form, or where its rows disagree. Queries of one index have
+//! one row set, and queries under one node the same rows of the matrices of its layer. Nothing here hashes.
 
 ghost use Rattle.std.specs.Prelude.{◌≡◌, ℕ, ◌-◌, ◌/◌, ◌<◌, ◌≤◌, ◌⊎◌, Some, None, List, [], All, length, map, slice_index, slice_index_or, IfOk, IsTrue, MatchResult};
-ghost use Rattle.p3_merkle_core.specs.Agreement.{distinct, first_query, layers_refusal, nodes_refusal, opened_of, opened_with, early_refusal, late_refusal, rows_refusal, slot_rows, HasSlots, IsAscending, IsSlot};
+ghost use Rattle.p3_merkle_core.specs.Agreement.{distinct, early_refusal, first_query, late_refusal, layers_refusal, nodes_refusal, opened_of, opened_with, rows_refusal, slot_rows, HasSlots, IsAscending, IsSlot};
 ghost use Rattle.p3_support.specs.Shown.{row_lists};
 ghost use Rattle.p3_merkle_core.specs.Geometry.{heights_of, levels, max_height, shape_of, tallest, IsArity};
 ghost use Rattle.p3_merkle_core.specs.declared.error.MerkleTreeError.TheVariants.{OutOfMemory};
@@ -241,9 +241,9 @@ pub fn check_groups<T: Eq>(
     Ok(())
 }
 
-/// Whether a pruned opening of some indices has the form that its restoration needs, whatever the cap, which is layer `t`:
-/// why it is refused before anything is hashed. Answers the slots of its indices. `t` is at most the number of levels,
-/// and the arity a power of two from 2 to 2^62. Takes memory for all indices, and the time of a sort.
+/// Whether a pruned opening of some indices can be restored, whatever the cap, which is layer `t`. Answers the slots of its
+/// indices. `t` is at most the number of levels, and the arity a power of two from 2 to 2^62. Takes memory for all
+/// indices, and beside their sort the time of one step for each index and level, and of the rows' comparison.
 ///
 /// # Errors
 ///
