@@ -5,12 +5,13 @@ use Rattle.std.proofs.lemmas.List.{length-map, length-replicate}
 use Rattle.p3_support.specs.declared.matrix.Dimensions.{Dimensions}
 use Rattle.p3_merkle_core.specs.Geometry.{Shape, heights, tallest}
 use Rattle.p3_merkle_core.specs.Gate.{gate_refusal}
-use Rattle.p3_merkle_core.specs.Pruning.{PrunedOpening, boundary}
+use Rattle.p3_merkle_core.specs.Pruning.{PrunedOpening, boundary, covered_at}
 use Rattle.p3_merkle_core.specs.Refusals.{digest_count_refusal, first_of, first_rows, first_some, group_refusal, idle_refusal, pruned_refusal, queries_refusal, repeat_refusal, size_refusal, slots_below, width_refusal}
 use Rattle.p3_merkle_core.specs.Agreement.{distinct, early_refusal, first_query, late_refusal, layers_refusal, opened_of, opened_with, slot_rows}
 use Rattle.p3_merkle_core.specs.declared.error.MerkleTreeError.{MerkleTreeError}
 use Rattle.p3_merkle_core.specs.declared.error.MerkleTreeError.TheVariants.{IndexOutOfBounds, WrongBatchSize}
-use Rattle.p3_merkle_core.proofs.NoneFacts.{below_from, each_none, fit_from, none_parts, unless_none}
+use Rattle.p3_merkle_core.proofs.NoneFacts.{below_from, each_none, fit_from, none_of_both, none_parts, unless_none}
+use Rattle.p3_merkle_core.proofs.SlotFacts.{distinct_from}
 use Rattle.p3_merkle_core.proofs.AgreeFacts.{groups_are, widths_are}
 
 -- the digests count by their number alone
@@ -97,3 +98,29 @@ full_from dimensions firsts sets e k h =
     let rows = get_or sets (get_or firsts k 0) [] in
     let fit = fit_from dimensions rows (each_none (λ query. width_refusal dimensions (get_or sets query [])) firsts k 0 e h) in
     sym (length-map rows length) ∙ ap length fit ∙ length-map dimensions (λ d. d.width)
+
+-- ---- what the callers ask
+
+-- heights that are refused come before everything else
+pub gate_first : {T W : Type 0} (row_eq : T → T → Bool) (s : Shape) (t : ℕ) (p : PrunedOpening T W) (e : MerkleTreeError) → gate_refusal (heights s) ≡ Some e → pruned_refusal row_eq s t p ≡ Some e
+gate_first row_eq s t p e refused = rw refused refl
+
+front_none : {E : Type 0} (xs ys : List (Option E)) → first_some (xs ++ ys) ≡ None → first_some xs ≡ None
+front_none [] ys e = refl
+front_none (x ∷ xs) ys e =
+    let both = none_parts x (first_some (xs ++ ys)) e in
+    none_of_both x (first_some xs) both.0 (front_none xs ys both.1)
+
+-- what is asked early, where nothing is refused at all
+pub asked_of : {T W : Type 0} (row_eq : T → T → Bool) (s : Shape) (t : ℕ) (p : PrunedOpening T W) → pruned_refusal row_eq s t p ≡ None → Asked (heights s) p.indices (length p.rows)
+asked_of row_eq s t p e =
+    let hs = heights s in
+    let is = p.indices in
+    let early = gate_refusal hs ∷ size_refusal (length is) (length p.rows) ∷ idle_refusal (length is) (length p.digests) ∷ queries_refusal (tallest hs) is ∷ [] in
+    let widths = first_of (λ i. width_refusal s.dimensions (first_rows p i)) (slots_below (tallest hs) is) in
+    let rest = repeat_refusal row_eq p ∷ digest_count_refusal (length (boundary s is t)) (length p.digests) ∷ widths ∷ group_refusal row_eq s t p ∷ [] in
+    asked_from hs is (length p.rows) (length p.digests) (front_none early rest e)
+
+-- the slots' leaves are the covered ones
+pub slots_covered : {T W : Type 0} (row_eq : T → T → Bool) (s : Shape) (t : ℕ) (p : PrunedOpening T W) (leaves : List ℕ) → pruned_refusal row_eq s t p ≡ None → leaves ≡ distinct p.indices → leaves ≡ covered_at s p.indices 0
+slots_covered row_eq s t p leaves e listed = listed ∙ sym (distinct_from s p.indices (asked_of row_eq s t p e).highest)
