@@ -1,10 +1,11 @@
 -- Pruned openings, their refusals and collisions, worked out at the fold functions and digests of one word.
-use Rattle.std.specs.Prelude.{◌≡◌, [], ◌∷◌, map, length, refl, Some, None, Ok, nat_eq}
+use Rattle.std.specs.Prelude.{◌≡◌, ℕ, [], ◌∷◌, map, length, refl, Some, None, Ok, nat_eq}
 use Rattle.p3_support.specs.Fold.{fold_hash, fold_compress}
 use Rattle.p3_merkle_core.specs.Geometry.{exponent, layer_exponent, raw_len, leaves_under}
 use Rattle.p3_merkle_core.specs.Nodes.{node}
 use Rattle.p3_merkle_core.specs.Openings.{siblings_below, path_digest, Group}
 use Rattle.p3_merkle_core.specs.Pruning.{boundary, covered_at, honest_query, restored_node, restored_path}
+use Rattle.p3_merkle_core.specs.Children.{beside, children_under, is_among, kept_path}
 use Rattle.p3_merkle_core.specs.Refusals.{pruned_refusal}
 use Rattle.p3_merkle_core.specs.Extracting.{extraction_multi_under}
 use Rattle.p3_merkle_core.specs.Examples.{batch, column, narrow, pruned, fold_example}
@@ -80,6 +81,16 @@ paths_restored_from_four_queries = refl
 paths_restored_from_a_wrong_digest : map (restored_path (fold_example 1) (narrow 2 (8 ∷ [])) 3 (pruned (5 ∷ 1 ∷ 2 ∷ 1 ∷ []) (((6 ∷ []) ∷ []) ∷ ((2 ∷ []) ∷ []) ∷ ((3 ∷ []) ∷ []) ∷ ((2 ∷ []) ∷ []) ∷ []) ((31 ∷ []) ∷ (35 ∷ []) ∷ (36 ∷ []) ∷ (1218 ∷ []) ∷ []))) (5 ∷ 1 ∷ 2 ∷ []) ≡ ((36 ∷ []) ∷ (1218 ∷ []) ∷ (31936 ∷ []) ∷ []) ∷ ((31 ∷ []) ∷ (1090 ∷ []) ∷ (36993 ∷ []) ∷ []) ∷ ((35 ∷ []) ∷ (995 ∷ []) ∷ (36993 ∷ []) ∷ []) ∷ []
 unfolding exponent layer_exponent raw_len leaves_under restored_node fold_hash fold_compress
 paths_restored_from_a_wrong_digest = refl
+
+children_of_two_parents : children_under 2 (0 ∷ 2 ∷ []) ≡ 0 ∷ 1 ∷ 4 ∷ 5 ∷ []
+children_of_two_parents = refl
+
+values_of_covered_children : beside {X = ℕ} (is_among (1 ∷ 5 ∷ [])) (0 ∷ 1 ∷ 4 ∷ 5 ∷ []) (30 ∷ 31 ∷ 34 ∷ 35 ∷ []) ≡ 31 ∷ 35 ∷ []
+values_of_covered_children = refl
+
+path_out_of_kept_children : kept_path {X = ℕ} (narrow 2 (8 ∷ [])) (5 ∷ 1 ∷ 2 ∷ 1 ∷ []) ((0 ∷ 1 ∷ 2 ∷ 3 ∷ 4 ∷ 5 ∷ []) ∷ (10 ∷ 11 ∷ 12 ∷ 13 ∷ []) ∷ (20 ∷ 21 ∷ []) ∷ []) 3 5 ≡ 4 ∷ 13 ∷ 20 ∷ []
+unfolding exponent layer_exponent raw_len leaves_under
+path_out_of_kept_children = refl
 
 honest_queries_are_not_refused : pruned_refusal nat_eq (narrow 2 (8 ∷ [])) 3 (pruned (5 ∷ 1 ∷ 2 ∷ 1 ∷ []) (((6 ∷ []) ∷ []) ∷ ((2 ∷ []) ∷ []) ∷ ((3 ∷ []) ∷ []) ∷ ((2 ∷ []) ∷ []) ∷ []) ((32 ∷ []) ∷ (35 ∷ []) ∷ (36 ∷ []) ∷ (1218 ∷ []) ∷ [])) ≡ None
 unfolding exponent layer_exponent raw_len leaves_under
