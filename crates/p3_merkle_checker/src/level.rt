@@ -79,7 +79,12 @@ pub struct CheckedLevel<X, G> {
 }
 
 /// The digest of the rows of the matrices of this exponent, one after another.
-fn rows_digest<P: PackedValue, PW: PackedValue, H: CryptographicHasher<P, PW, D>, const D: usize>(
+pub fn rows_digest<
+    P: PackedValue,
+    PW: PackedValue,
+    H: CryptographicHasher<P, PW, D>,
+    const D: usize,
+>(
     hash: &H,
     dimensions: &[Dimensions],
     rows: &[Vec<P::Value>],

@@ -1,0 +1,2 @@
+mod LeadFacts
+mod GroupFacts

@@ -1,0 +1,7 @@
+//! What a verifier restores of a pruned opening: the digests of the covered nodes, layer by layer, out of the rows and the
+//! digests that are sent.
+#![tactic(auto)]
+
+mod groups;
+mod leads;
+mod rows;
