@@ -42,7 +42,7 @@ rows_under_is s (i ∷ indices) (r ∷ rows) l j e c =
     ]
 
 -- the rows of query k stand for each node above it
-rows_agree : {T W : Type 0} (s : Shape) (t : ℕ) (p : PrunedOpening T W) → IsAgreed s t p → (k l : ℕ) → k < length p.indices → l ≤ t →
+pub rows_agree : {T W : Type 0} (s : Shape) (t : ℕ) (p : PrunedOpening T W) → IsAgreed s t p → (k l : ℕ) → k < length p.indices → l ≤ t →
     layer_words s (get_or p.rows k []) l ≡ layer_words s (rows_under s p l (ancestor s l (get_or p.indices k 0))) l
 rows_agree s t p a k l h le =
     let u = rows_under_is s p.indices p.rows l (ancestor s l (get_or p.indices k 0)) a.in_pairs (query_covered s p.indices k l h) in

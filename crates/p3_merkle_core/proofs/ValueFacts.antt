@@ -104,6 +104,26 @@ pub record IsLevel {T W X : Type 0} (f : Functions T W) (s : Shape) (t : ℕ) (p
   pub digests_are : map view digests ≡ map (restored_node f s t p l) (covered_at s p.indices l)
   pub sent_is : map view sent ≡ drop (length (boundary s p.indices l)) p.digests
 
+-- a level can be walked where there is a digest of each covered node, and what is left of those that were sent
+pub family_by_counts : {X : Type 0} (s : Shape) (queries : List ℕ) (t : ℕ) → CanQuery s queries t → tallest (heights s) ≤ max_height → (l : ℕ) → l < t → (n : ℕ) (parents covered : List ℕ) (digests sent : List X) →
+    n ≡ step s l → parents ≡ covered_at s queries (suc l) → covered ≡ covered_at s queries l → length digests ≡ length covered → length sent ≡ length (boundary s queries t) - length (boundary s queries l) →
+    IsFamily n parents covered digests sent
+family_by_counts s queries t w low l h n parents covered digests sent is_step is_above is_here each left =
+    let above = covered_at s queries (suc l) in
+    let all = counted_at s queries t w low l h in
+    let enough = length-joined_le (boundary_at s queries) l t h in
+    let unknown = unknown_at s queries t w l h in
+    let one : length digests ≡ length (covered_at s queries l) = each ∙ ap length is_here in
+    rw (is_step, is_above, is_here) (record {
+      in_order = covered_children s queries t w l h;
+      one_each = one;
+      enough = omega arith;
+      few = omega (arith, all.small);
+      low = λ i d below.
+          let g = get_or above i d in
+          omega (arith, group_fits s queries t w l h g (listed_at above i d below), small_children s queries t w low l h);
+    })
+
 -- such a level can be walked
 pub level_family : {T W X : Type 0} (f : Functions T W) (s : Shape) (t : ℕ) (p : PrunedOpening T W) → CanQuery s p.indices t → tallest (heights s) ≤ max_height → length p.digests ≡ length (boundary s p.indices t) →
     (l : ℕ) → l < t → (view : X → List W) (n : ℕ) (parents covered : List ℕ) (digests sent : List X) → IsLevel f s t p l view n parents covered digests sent → IsFamily n parents covered digests sent

@@ -1,2 +1,4 @@
 mod LeadFacts
 mod GroupFacts
+mod WalkFacts
+mod LayerFacts

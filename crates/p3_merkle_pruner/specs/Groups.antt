@@ -1,5 +1,8 @@
 -- Digests of rows, of groups of children, and of both.
-use Rattle.std.specs.Prelude.{ℕ, ◌-◌, ◌*◌, List, [], ◌∷◌, ◌++◌, length, replicate, take, drop, zip, slice_index_or}
+use Rattle.std.specs.Prelude.{ℕ, ◌-◌, ◌*◌, ◌/◌, ◌==◌, if◌then◌else◌, List, map, [], ◌∷◌, ◌++◌, length, replicate, take, drop, zip, slice_index_or}
+use Rattle.std.specs.List.{list_any, range_with_len}
+use Rattle.p3_merkle_core.specs.Geometry.{exponent}
+use Rattle.p3_merkle_core.specs.Nodes.{Functions}
 use Rattle.p3_merkle_checker.specs.Paths.{rows_with}
 
 -- some digests, followed by default digests up to n
@@ -17,3 +20,9 @@ pair_digest compression n default_digest pair = compression (padded n default_di
 -- the digest of the rows of query k, of the matrices of exponent x
 abbrev pub query_digest : {T W : Type 0} → (List T → List W) → ℕ → List ℕ → List (List (List T)) → ℕ → List W
 query_digest hash x heights sets k = hash (rows_with x (zip heights (slice_index_or sets k [])))
+
+-- the digests of a layer's covered nodes: of the groups of children, each compressed once more with that of its lead's rows where matrices have the exponent x
+abbrev pub layer_digests : {T W : Type 0} → Functions T W → ℕ → ℕ → List ℕ → ℕ → List (List (List T)) → List ℕ → List (List W) → List (List W)
+layer_digests f n step heights x sets leads children =
+    let nodes = map (group_digest f.compression n f.default_digest step children) (range_with_len 0 (length children / step)) in
+    if list_any (λ h. exponent h == x) heights then map (pair_digest f.compression n f.default_digest) (zip nodes (map (query_digest f.hash x heights sets) leads)) else nodes

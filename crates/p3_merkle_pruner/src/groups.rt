@@ -54,7 +54,8 @@ impl<
     ) -> Result<Vec<[PW::Value; D]>, AllocError>
         requires step { 0 < step }
         requires few { step ≤ N }
-        ensures { let digest = group_digest (C.compression self.now.compress.now) N (replicate D PW.default_value) step children.now in
+        ensures count { IfOk result (λ digests. length digests.items ≡ length children.now / step) }
+        ensures digests { let digest = group_digest (C.compression self.now.compress.now) N (replicate D PW.default_value) step children.now in
             IfOk result (λ digests. digests.items ≡ map digest (range_with_len 0 (length children.now / step))) }
     {
         let parents = children.len() / step;

@@ -4,4 +4,7 @@
 
 mod groups;
 mod leads;
+mod level;
+pub mod plan;
+pub mod restored;
 mod rows;

@@ -31,7 +31,8 @@ pub(crate) fn row_digests<
     queries: &[usize],
 ) -> Result<Vec<[PW::Value; D]>, AllocError>
     requires { All (λ k. k < length sets.now) queries.now }
-    ensures { let digest = query_digest (H.hash hash.now) x (heights_of dimensions.now) (row_sets sets.now) in
+    ensures count { IfOk result (λ digests. length digests.items ≡ length queries.now) }
+    ensures digests { let digest = query_digest (H.hash hash.now) x (heights_of dimensions.now) (row_sets sets.now) in
         IfOk result (λ digests. digests.items ≡ map digest queries.now) }
 {
     let mut digests = Vec::with_capacity(alloc, queries.len())?;

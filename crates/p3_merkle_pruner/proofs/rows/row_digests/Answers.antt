@@ -1,6 +1,6 @@
 -- Each turn hashes the rows of one more query.
 use Rattle.std.proofs.Common.{◌∙◌, ◌<◌, arith, ap, sym, length, get_or, zip}
-use Rattle.std.proofs.lemmas.List.{take_all}
+use Rattle.std.proofs.lemmas.List.{length-map, take_all}
 use Rattle.p3_merkle_core.specs.Geometry.{heights_of}
 use Rattle.p3_merkle_core.specs.PrunedCalls.{row_sets}
 use Rattle.p3_merkle_checker.specs.Paths.{rows_with}
@@ -18,7 +18,12 @@ loop-query-preserved g c =
     c.loop-query.digests.items c.push.new.self.items c.rows_digest-digest.result (omega arith) c.loop-query.invariant c.in_ok-push.ensures.items
     (words ∙ ap (λ rows. g.H.CryptographicHasher.hash c.args.hash.now (rows_with c.args.x (zip (heights_of c.args.dimensions.now) rows))) (sym (set_read c.args.sets.now k set.result inside set.is)))
 
-pub returns : goal.returns
-returns g c =
+pub returns-clause-count : goal.returns-clause-count
+returns-clause-count g c =
+    let all = take_all c.loop-query.query-index c.args.queries.now (omega arith) in
+    ap length (rw all at c.loop-query.invariant) ∙ length-map c.args.queries.now (query_digest (g.H.CryptographicHasher.hash c.args.hash.now) c.args.x (heights_of c.args.dimensions.now) (row_sets c.args.sets.now))
+
+pub returns-clause-digests : goal.returns-clause-digests
+returns-clause-digests g c =
     let all = take_all c.loop-query.query-index c.args.queries.now (omega arith) in
     rw all at c.loop-query.invariant

@@ -1,0 +1,105 @@
+//! The walk up: the digests of the covered nodes of the cap's layer.
+
+ghost use Rattle.std.specs.Prelude.{◌≡◌, ◌/◌, ◌<◌, ◌≤◌, All, IfOk, length, map, replicate};
+ghost use Rattle.p3_merkle_core.specs.Geometry.{shape_of};
+ghost use Rattle.p3_merkle_core.specs.Nodes.{functions_of};
+ghost use Rattle.p3_merkle_core.specs.Pruning.{boundary, covered_at, pruned_of, restored_node, IsAgreed};
+ghost use Rattle.p3_merkle_core.specs.PrunedCalls.{row_sets};
+ghost use Rattle.p3_merkle_pruner.specs.Walks.{IsCoveredAt};
+
+use crate::level::node_digests;
+use crate::plan::{Covered, Plan, Rise};
+use crate::rows::row_digests;
+use p3_merkle_checker::level::Checker;
+use p3_support::compress::PseudoCompressionFunction;
+use p3_support::hasher::CryptographicHasher;
+use p3_support::packed::PackedValue;
+use std::alloc::{AllocError, Global};
+
+/// Tells that leads have row sets where each query has one. It does nothing at run time.
+fn tell_leads<T>(indices: &[usize], sets: &[Vec<T>], leads: &[usize])
+    requires pairs { length sets.now ≡ length indices.now }
+    requires among { All (λ k. k < length indices.now) leads.now }
+    ensures { All (λ k. k < length sets.now) leads.now }
+{}
+
+/// Tells what the digests of a level's nodes ask of its leads and children. It does nothing at run time.
+fn tell_level<T, X>(
+    plan: &Plan<'_>,
+    arity: usize,
+    sets: &[Vec<T>],
+    rise: &Rise<X>,
+    leads: &[usize],
+    children: &[X],
+)
+    requires arity { plan.now.arity ≡ arity }
+    requires pairs { length sets.now ≡ length plan.now.indices.now }
+    requires narrow { rise.now.step ≤ plan.now.arity }
+    requires among { All (λ k. k < length plan.now.indices.now) rise.now.above.leads.items }
+    requires groups { length rise.now.above.leads.items ≡ length rise.now.children.items / rise.now.step }
+    requires leads { leads.now ≡ rise.now.above.leads.items }
+    requires children { children.now ≡ rise.now.children.items }
+    ensures room { 2 ≤ arity }
+    ensures narrow { rise.now.step ≤ arity }
+    ensures among { All (λ k. k < length sets.now) leads.now }
+    ensures groups { length leads.now ≡ length children.now / rise.now.step }
+{}
+
+/// The digests of the covered nodes of layer `t`, restored from the rows of the queries and the digests that were sent, with
+/// these nodes. `leaves` are the covered leaves. Each level's children are let go once they are compressed.
+///
+/// # Errors
+///
+/// `AllocError` where there is no memory.
+pub fn restored_cap<
+    P: PackedValue,
+    PW: PackedValue,
+    H: CryptographicHasher<P, PW, D>,
+    C: PseudoCompressionFunction<PW, N, D>,
+    const N: usize,
+    const D: usize,
+>(
+    alloc: Global,
+    checker: &Checker<'_, P, PW, H, C, [[PW::Value; D]; N]>,
+    plan: &Plan<'_>,
+    sets: &[Vec<Vec<P::Value>>],
+    sent: &[[PW::Value; D]],
+    leaves: Covered,
+) -> Result<(Covered, Vec<[PW::Value; D]>), AllocError>
+    requires arity { plan.now.arity ≡ N }
+    requires pairs { length sets.now ≡ length plan.now.indices.now }
+    requires sent { length sent.now ≡ length (boundary (shape_of plan.now.arity plan.now.dimensions.now) plan.now.indices.now plan.now.t) }
+    requires agreed { IsAgreed (shape_of plan.now.arity plan.now.dimensions.now) plan.now.t (pruned_of plan.now.indices.now (row_sets sets.now) sent.now) }
+    requires leaves { IsCoveredAt (shape_of plan.now.arity plan.now.dimensions.now) plan.now.indices.now 0 leaves }
+    ensures covered { IfOk result (λ cap. IsCoveredAt (shape_of plan.now.arity plan.now.dimensions.now) plan.now.indices.now plan.now.t (cap.0)) }
+    ensures digests { let f = functions_of (H.hash checker.now.hash.now) (C.compression checker.now.compress.now) (replicate D PW.default_value) in
+        let s = shape_of plan.now.arity plan.now.dimensions.now in
+        let t = plan.now.t in
+        let p = pruned_of plan.now.indices.now (row_sets sets.now) sent.now in
+        let restored = map (restored_node f s t p t) (covered_at s plan.now.indices.now t) in
+        IfOk result (λ cap. cap.1.items ≡ restored) }
+{
+    let mut covered = leaves;
+    tell_leads(plan.indices, sets, &covered.leads);
+    let (dimensions, x) = (plan.dimensions, covered.exponent);
+    let mut digests = row_digests::<P, PW, H, D>(
+        alloc,
+        checker.hash,
+        dimensions,
+        x,
+        sets,
+        &covered.leads,
+    )?;
+    for level in 0..plan.t {
+        let rise = plan.rise(alloc, level, &covered, &digests, sent)?;
+        let (x, step) = (rise.above.exponent, rise.step);
+        let leads = rise.above.leads.as_slice();
+        let children = rise.children.as_slice();
+        tell_level(plan, N, sets, &rise, leads, children);
+        digests = node_digests::<P, PW, H, C, N, D>(
+            alloc, checker, dimensions, x, sets, leads, step, children,
+        )?;
+        covered = rise.above;
+    }
+    Ok((covered, digests))
+}
