@@ -84,7 +84,7 @@ impl<
 }
 
 /// Whether the entry `node` of some roots is this digest.
-fn is_entry<X: PartialEq>(roots: &[X], node: usize, digest: &X) -> bool
+pub fn is_entry<X: PartialEq>(roots: &[X], node: usize, digest: &X) -> bool
     ensures { let test = option_map (λ root. X.eq root digest.now) (slice_get roots.now node) in
         result ≡ unwrap_or test false }
 {

@@ -2,3 +2,4 @@ mod LeadFacts
 mod GroupFacts
 mod WalkFacts
 mod LayerFacts
+mod RootFacts

@@ -1,5 +1,6 @@
 -- How far a walk over the covered nodes has come.
-use Rattle.std.specs.Prelude.{◌≡◌, ◌/◌, ◌<◌, ◌≤◌, ℕ, suc, List, All, drop, length, map, slice_index}
+use Rattle.std.specs.Prelude.{◌≡◌, ◌/◌, ◌<◌, ◌≤◌, ℕ, suc, List, All, drop, length, map, slice_index, Bool, false, slice_get, unwrap_or}
+use Rattle.std.specs.Option.{option_map}
 use Rattle.p3_merkle_core.specs.Geometry.{Shape, ancestor, layer_exponent, step}
 use Rattle.p3_merkle_core.specs.Children.{AreChildren}
 use Rattle.p3_merkle_core.specs.Pruning.{covered_at, boundary}
@@ -26,3 +27,7 @@ pub record IsRise {X : Type 0} (s : Shape) (indices : List ℕ) (l : ℕ) (cover
   pub stands : IsCoveredAt s indices (suc l) rise.above
   pub in_groups : length rise.above.leads.items ≡ length rise.children.items / rise.step
   pub values : AreChildren rise.step rise.above.nodes.items covered.nodes.items digests (drop covered.used sent) rise.children.items
+
+-- whether a digest is the root of a node's place
+abbrev pub is_root : {X : Type 0} → (X → X → Bool) → List X → ℕ × X → Bool
+is_root eq roots pair = unwrap_or (option_map (λ root. eq root pair.1) (slice_get roots pair.0)) false

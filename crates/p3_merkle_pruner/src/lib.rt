@@ -7,4 +7,5 @@ mod leads;
 mod level;
 pub mod plan;
 pub mod restored;
+mod roots;
 mod rows;

@@ -1,0 +1,20 @@
+//! The comparison of restored digests with the roots of a cap.
+
+ghost use Rattle.std.specs.Prelude.{◌≡◌, length, zip};
+ghost use Rattle.std.specs.List.{list_all};
+ghost use Rattle.p3_merkle_pruner.specs.Walks.{is_root};
+
+use p3_merkle_checker::path::is_entry;
+
+/// Whether the digest of each of some nodes is the root of its place.
+pub(crate) fn are_entries<X: PartialEq>(roots: &[X], nodes: &[usize], digests: &[X]) -> bool
+    requires { length digests.now ≡ length nodes.now }
+    ensures { result ≡ list_all (is_root X.eq roots.now) (zip nodes.now digests.now) }
+{
+    for slot in 0..nodes.len() {
+        if !is_entry(roots, nodes[slot], &digests[slot]) {
+            return false;
+        }
+    }
+    true
+}
