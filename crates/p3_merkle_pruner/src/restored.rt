@@ -1,16 +1,20 @@
 //! The walk up: the digests of the covered nodes of the cap's layer.
 
-ghost use Rattle.std.specs.Prelude.{◌≡◌, ◌/◌, ◌<◌, ◌≤◌, All, IfOk, length, map, replicate};
+ghost use Rattle.std.specs.Prelude.{◌≡◌, ◌/◌, ◌<◌, ◌≤◌, ◌⊎◌, All, IfOk, MatchResult, None, Some, length, map, replicate};
 ghost use Rattle.p3_merkle_core.specs.Geometry.{shape_of};
 ghost use Rattle.p3_merkle_core.specs.Nodes.{functions_of};
 ghost use Rattle.p3_merkle_core.specs.Pruning.{boundary, covered_at, pruned_of, restored_node, IsAgreed};
 ghost use Rattle.p3_merkle_core.specs.PrunedCalls.{row_sets};
+ghost use Rattle.p3_merkle_core.specs.Refusals.{cap_refusal};
+ghost use Rattle.p3_merkle_core.specs.declared.error.MerkleTreeError.TheVariants.{OutOfMemory};
 ghost use Rattle.p3_merkle_pruner.specs.Walks.{IsCoveredAt};
 
 use crate::level::node_digests;
 use crate::plan::{Covered, Plan, Rise};
+use crate::roots::are_entries;
 use crate::rows::row_digests;
 use p3_merkle_checker::level::Checker;
+use p3_merkle_core::error::MerkleTreeError;
 use p3_support::compress::PseudoCompressionFunction;
 use p3_support::hasher::CryptographicHasher;
 use p3_support::packed::PackedValue;
@@ -102,4 +106,45 @@ pub fn restored_cap<
         covered = rise.above;
     }
     Ok((covered, digests))
+}
+
+/// Whether the roots of a cap, which is layer `t`, have the restored digest of each covered node in its place. `leaves` are
+/// the covered leaves.
+///
+/// # Errors
+///
+/// `CapMismatch` where some root is another or is not there; `OutOfMemory` where there is no memory.
+pub fn check_cap<
+    P: PackedValue,
+    PW: PackedValue,
+    H: CryptographicHasher<P, PW, D>,
+    C: PseudoCompressionFunction<PW, N, D>,
+    const N: usize,
+    const D: usize,
+>(
+    alloc: Global,
+    checker: &Checker<'_, P, PW, H, C, [[PW::Value; D]; N]>,
+    roots: &[[PW::Value; D]],
+    plan: &Plan<'_>,
+    sets: &[Vec<Vec<P::Value>>],
+    sent: &[[PW::Value; D]],
+    leaves: Covered,
+) -> Result<(), MerkleTreeError>
+    requires arity { plan.now.arity ≡ N }
+    requires pairs { length sets.now ≡ length plan.now.indices.now }
+    requires sent { length sent.now ≡ length (boundary (shape_of plan.now.arity plan.now.dimensions.now) plan.now.indices.now plan.now.t) }
+    requires agreed { IsAgreed (shape_of plan.now.arity plan.now.dimensions.now) plan.now.t (pruned_of plan.now.indices.now (row_sets sets.now) sent.now) }
+    requires leaves { IsCoveredAt (shape_of plan.now.arity plan.now.dimensions.now) plan.now.indices.now 0 leaves }
+    ensures { let f = functions_of (H.hash checker.now.hash.now) (C.compression checker.now.compress.now) (replicate D PW.default_value) in
+        let p = pruned_of plan.now.indices.now (row_sets sets.now) sent.now in
+        let refusal = cap_refusal PW.Value.eq f (shape_of plan.now.arity plan.now.dimensions.now) plan.now.t roots.now p in
+        MatchResult result (λ ok. refusal ≡ None) (λ e. (e ≡ OutOfMemory) ⊎ (refusal ≡ Some e)) }
+{
+    let restored = restored_cap::<P, PW, H, C, N, D>(alloc, checker, plan, sets, sent, leaves)?;
+    let (covered, digests) = restored;
+    if are_entries(roots, &covered.nodes, &digests) {
+        Ok(())
+    } else {
+        Err(MerkleTreeError::CapMismatch)
+    }
 }

@@ -1,5 +1,5 @@
 -- Each turn compares one digest.
-use Rattle.std.proofs.Common.{◌≡◌, ◌∙◌, arith, length, sym, zip}
+use Rattle.std.proofs.Common.{◌∙◌, arith, sym, zip}
 use Rattle.std.proofs.lemmas.List.{take_all}
 use Rattle.std.proofs.lemmas.Slice.Zip.{length-zip}
 use Rattle.p3_merkle_pruner.specs.Walks.{is_root}
