@@ -3,3 +3,4 @@ mod GroupFacts
 mod WalkFacts
 mod LayerFacts
 mod RootFacts
+pub mod StartFacts

@@ -4,6 +4,7 @@
 
 mod groups;
 mod leads;
+mod leaves;
 mod level;
 pub mod plan;
 pub mod restored;
