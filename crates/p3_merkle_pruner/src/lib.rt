@@ -2,6 +2,7 @@
 //! digests that are sent.
 #![tactic(auto)]
 
+pub mod check;
 mod groups;
 mod leads;
 mod leaves;
