@@ -4,7 +4,8 @@ use Rattle.p3_merkle_core.specs.Extracting.{extraction_under}
 use Rattle.p3_merkle_core.specs.Geometry.{Shape}
 use Rattle.p3_merkle_core.specs.Nodes.{Functions, functions_of}
 use Rattle.p3_merkle_core.specs.Openings.{Opening, opening_of}
-use Rattle.p3_merkle_core.specs.Refusals.{answer_under}
+use Rattle.p3_merkle_core.specs.Pruning.{PrunedOpening}
+use Rattle.p3_merkle_core.specs.Refusals.{answer_under, pruned_refusal_under}
 use Rattle.p3_merkle_checker.specs.Checks.{opening_in}
 use Rattle.p3_merkle_checker.specs.declared.openings.IndexedOpening.{IndexedOpening}
 use Rattle.p3_support.specs.Shown.{row_lists}
@@ -33,3 +34,9 @@ module _ {T W : Type 0} (eq : T → T → Bool) (same : W → W → Bool) (f g :
       ap (λ (z : Functions T W). extraction_under eq same z s t roots o u) a ∙ ap (λ (z : ℕ). extraction_under eq same g s z roots o u) b
       ∙ ap (λ (z : List (List W)). extraction_under eq same g s v z o u) c ∙ ap (λ (z : Opening T W). extraction_under eq same g s v cap z u) d
       ∙ ap (λ (z : Opening T W). extraction_under eq same g s v cap p z) e
+
+  -- the same refusal of a pruned opening
+  pub pruned_alike : (p q : PrunedOpening T W) → f ≡ g → t ≡ v → roots ≡ cap → p ≡ q → pruned_refusal_under eq same f s t roots p ≡ pruned_refusal_under eq same g s v cap q
+  pruned_alike p q a b c d =
+      ap (λ (z : Functions T W). pruned_refusal_under eq same z s t roots p) a ∙ ap (λ (z : ℕ). pruned_refusal_under eq same g s z roots p) b
+      ∙ ap (λ (z : List (List W)). pruned_refusal_under eq same g s v z p) c ∙ ap (λ (z : PrunedOpening T W). pruned_refusal_under eq same g s v cap z) d

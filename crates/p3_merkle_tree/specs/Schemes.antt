@@ -11,6 +11,7 @@ use Rattle.p3_merkle_core.specs.Nodes.{Functions, functions_of}
 use Rattle.p3_merkle_core.specs.Openings.{Opening, opening_of}
 use Rattle.p3_merkle_core.specs.PrunedCalls.{row_sets}
 use Rattle.p3_merkle_core.specs.Pruning.{PrunedOpening, pruned_of}
+use Rattle.p3_merkle_core.specs.declared.pruning.PrunedProof.{PrunedProof}
 use Rattle.p3_merkle_core.specs.declared.pruning.PrunedRows.{PrunedRows}
 use Rattle.p3_support.specs.Shown.{row_lists}
 use Rattle.p3_merkle_tree.specs.declared.mmcs.Scheme.{Scheme}
@@ -53,3 +54,7 @@ opening_lent index opening = opening_of index (row_lists opening.opened_values.n
 -- a pruned opening of some indices, by its row sets and digests
 abbrev pub pruned_made : {T W : Type 0} → List ℕ → PrunedRows T (List W) → PrunedOpening T W
 pruned_made indices opening = pruned_of indices (row_sets opening.opened_values.items) opening.pruned_proof.sibling_hashes.items
+
+-- the same of row sets and a proof that are lent
+abbrev pub pruned_lent : {T W A B : Type 0} → List ℕ → List (Vec (Vec T A) B) → PrunedProof (List W) → PrunedOpening T W
+pruned_lent indices rows proof = pruned_of indices (row_sets rows) proof.sibling_hashes.items

@@ -1,15 +1,17 @@
 //! Pruned openings: the rows of several leaves by one proof, with no digest that the rows give already.
 
-ghost use Rattle.std.specs.Prelude.{◌≡◌, ◌<◌, All, IfErr, IfOk, length, map};
+ghost use Rattle.std.specs.Prelude.{◌≡◌, ◌<◌, All, IfErr, IfOk, IsOk, length, map};
 ghost use Rattle.p3_merkle_core.specs.Geometry.{heights, heights_of, shape_of, tallest};
 ghost use Rattle.p3_merkle_core.specs.Nodes.{layer, layers, shape};
 ghost use Rattle.p3_merkle_core.specs.Openings.{honest_rows, honest_siblings};
 ghost use Rattle.p3_merkle_core.specs.PrunedCalls.{own_digests, pruned_len, pruned_len_refusal, restored_paths, row_sets, IsPrunedAccepted};
 ghost use Rattle.p3_merkle_core.specs.Pruning.{boundary, IsLeast};
+ghost use Rattle.p3_merkle_core.specs.Refusals.{pruned_refusal_under};
 ghost use Rattle.p3_merkle_core.specs.declared.error.MerkleTreeError.TheVariants.{OutOfMemory};
 ghost use Rattle.p3_merkle_builder.specs.Built.{OkUnlessRefused};
 ghost use Rattle.p3_merkle_builder.specs.Parts.{layers_of, tree_batch};
-ghost use Rattle.p3_merkle_tree.specs.Schemes.{proof_layer, pruned_made, scheme_functions};
+ghost use Rattle.p3_merkle_tree.specs.Schemes.{proof_layer, pruned_lent, pruned_made, scheme_functions};
+ghost use Rattle.p3_support.specs.Shown.{roots_of};
 
 use crate::mmcs::{MerkleTreeMmcs, Scheme};
 use p3_merkle_builder::opener::cap_layer_in;
@@ -20,9 +22,11 @@ use p3_merkle_core::geometry::{check_heights, tallest_of};
 use p3_merkle_core::pruning::{
     PrunedBatchOpening, PrunedMerklePaths, PrunedProof, PrunedRows, check_indices, pruned_len_of,
 };
+use p3_merkle_pruner::check::check_opening;
 use p3_support::compress::PseudoCompressionFunction;
 use p3_support::hasher::CryptographicHasher;
 use p3_support::matrix::{Dimensions, Matrix};
+use p3_support::opening::MerkleCap;
 use p3_support::packed::PackedValue;
 use std::alloc::Global;
 
@@ -137,5 +141,105 @@ impl<
             pruned_proof,
         } = self.open_batch_pruned(alloc, indices, tree)?;
         Ok((opened_values, pruned_proof))
+    }
+
+    /// Checks the openings of several leaves by one pruned proof against a cap: whether the rows of the queries and the
+    /// digests of the proof lead to the cap's entries above the leaves. Where it is Ok, each query with its restored path is
+    /// accepted by [`verify_batch`](Self::verify_batch), and the proof has just [`pruned_len`](Self::pruned_len) digests.
+    ///
+    /// There is a row set for each index, with one row for each of `dimensions`, as wide as that says. Queries of one index
+    /// have the same rows, and so have queries under one node, of the matrices of its layer. The dimensions must come from
+    /// who checks.
+    ///
+    /// # Errors
+    ///
+    /// The first of these that holds, where `OutOfMemory` may come at any time:
+    ///
+    /// - `EmptyBatch`, `TooLarge` or `IncompatibleHeights`: [`commit`](Self::commit) refuses such heights;
+    /// - `WrongBatchSize`: there are not as many row sets as indices;
+    /// - `SiblingCountMismatch`: there is a digest, and no index;
+    /// - `IndexOutOfBounds`: the highest index is not below the tallest height;
+    /// - `InconsistentDuplicateOpenings`: a query's rows are not those of the first query of its index;
+    /// - `SiblingCountMismatch`: there are not as many digests as the indices leave unknown;
+    /// - `WrongBatchSize`, `WrongWidth`: by ascending indices, a row set has not one row for each matrix, or a row not the
+    ///   width of its matrix;
+    /// - `InconsistentGroupOpening`: layer by layer, by ascending indices, a row is not that of the lowest index under the
+    ///   same node;
+    /// - `CapMismatch`: the cap has no entry above a leaf, or it is not the digest that the check reaches.
+    ///
+    /// Those of pruned proofs come as `MalformedPrunedProof`.
+    pub fn verify_batch_pruned(
+        &self,
+        alloc: Global,
+        commit: &MerkleCap<P::Value, [PW::Value; D]>,
+        dimensions: &[Dimensions],
+        indices: &[usize],
+        rows: &[Vec<Vec<P::Value>>],
+        proof: &PrunedMerklePaths<PW::Value, D>,
+    ) -> Result<(), MerkleTreeError>
+        ensures answer { let f = scheme_functions H.hash C.compression D self.now in
+            let s = shape_of N dimensions.now in
+            let t = proof_layer self.now s in
+            let p = pruned_lent indices.now rows.now proof.now in
+            OkUnlessRefused result (pruned_refusal_under P.Value.eq PW.Value.eq f s t (roots_of commit.now) p) }
+        ensures accepted { let f = scheme_functions H.hash C.compression D self.now in
+            let s = shape_of N dimensions.now in
+            let t = proof_layer self.now s in
+            IsOk result → IsPrunedAccepted f s t (roots_of commit.now) (pruned_lent indices.now rows.now proof.now) }
+        ensures taken { let f = scheme_functions H.hash C.compression D self.now in
+            let s = shape_of N dimensions.now in
+            let t = proof_layer self.now s in
+            IsPrunedAccepted f s t (roots_of commit.now) (pruned_lent indices.now rows.now proof.now) →
+            IfErr result (λ e. e ≡ OutOfMemory) }
+        ensures count { let s = shape_of N dimensions.now in
+            IsOk result → length proof.now.sibling_hashes.items ≡ pruned_len s indices.now (proof_layer self.now s) }
+    {
+        let t = self.proof_levels(dimensions);
+        let checker = self.checker();
+        let sent = proof.sibling_hashes.as_slice();
+        check_opening::<P, PW, H, C, N, D>(
+            alloc,
+            &checker,
+            commit.roots(),
+            dimensions,
+            t,
+            indices,
+            rows,
+            sent,
+        )
+    }
+
+    /// The same as [`verify_batch_pruned`](Self::verify_batch_pruned).
+    ///
+    /// # Errors
+    ///
+    /// The same.
+    pub fn verify_multi_batch(
+        &self,
+        alloc: Global,
+        commit: &MerkleCap<P::Value, [PW::Value; D]>,
+        dimensions: &[Dimensions],
+        indices: &[usize],
+        rows: &[Vec<Vec<P::Value>>],
+        proof: &PrunedMerklePaths<PW::Value, D>,
+    ) -> Result<(), MerkleTreeError>
+        ensures answer { let f = scheme_functions H.hash C.compression D self.now in
+            let s = shape_of N dimensions.now in
+            let t = proof_layer self.now s in
+            let p = pruned_lent indices.now rows.now proof.now in
+            OkUnlessRefused result (pruned_refusal_under P.Value.eq PW.Value.eq f s t (roots_of commit.now) p) }
+        ensures accepted { let f = scheme_functions H.hash C.compression D self.now in
+            let s = shape_of N dimensions.now in
+            let t = proof_layer self.now s in
+            IsOk result → IsPrunedAccepted f s t (roots_of commit.now) (pruned_lent indices.now rows.now proof.now) }
+        ensures taken { let f = scheme_functions H.hash C.compression D self.now in
+            let s = shape_of N dimensions.now in
+            let t = proof_layer self.now s in
+            IsPrunedAccepted f s t (roots_of commit.now) (pruned_lent indices.now rows.now proof.now) →
+            IfErr result (λ e. e ≡ OutOfMemory) }
+        ensures count { let s = shape_of N dimensions.now in
+            IsOk result → length proof.now.sibling_hashes.items ≡ pruned_len s indices.now (proof_layer self.now s) }
+    {
+        self.verify_batch_pruned(alloc, commit, dimensions, indices, rows, proof)
     }
 }
