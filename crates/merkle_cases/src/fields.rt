@@ -97,6 +97,11 @@ impl<'a> Fields<'a> {
         lists::rows_of(alloc, self.take()?)
     }
 
+    /// The row sets of the next field.
+    pub fn row_sets(&mut self, alloc: Global) -> Result<Vec<Vec<Vec<u32>>>, Fault> {
+        lists::row_sets_of(alloc, self.take()?)
+    }
+
     /// The dimensions of the next field.
     pub fn dimensions(&mut self, alloc: Global) -> Result<Vec<Dimensions>, Fault> {
         lists::dimensions_of(alloc, self.take()?)

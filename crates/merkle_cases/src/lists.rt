@@ -81,6 +81,18 @@ pub fn rows_of(alloc: Global, text: &str) -> Result<Vec<Vec<u32>>, Fault> {
     Ok(rows)
 }
 
+/// The row sets in a text, with `/` between them; `-` where there are none.
+pub fn row_sets_of(alloc: Global, text: &str) -> Result<Vec<Vec<Vec<u32>>>, Fault> {
+    let mut sets = Vec::new(alloc);
+    if text == "-" {
+        return Ok(sets);
+    }
+    for set in text.split('/') {
+        sets.push(rows_of(alloc, set.trim())?)?;
+    }
+    Ok(sets)
+}
+
 /// The dimensions of a matrix, as `WIDTHxHEIGHT`.
 fn matrix_dimensions(alloc: Global, word: &str) -> Result<Dimensions, Fault> {
     let numbers: Vec<&str> = word.split('x').collect(alloc)?;

@@ -52,6 +52,7 @@ fn answer_at<const N: usize>(
         "kept" => open::kept::<N>(alloc, fields),
         "pruned_len" => pruned::pruned_len::<N>(alloc, fields),
         "pruned" => pruned::pruned::<N>(alloc, fields),
+        "verify_pruned" => pruned::verify_pruned::<N>(alloc, fields),
         "verify" => verify::verify::<N>(alloc, fields),
         "schedule" => replay::schedule::<N>(alloc, fields),
         "replay" => replay::replay::<N>(alloc, fields),
