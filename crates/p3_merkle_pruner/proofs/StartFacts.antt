@@ -1,5 +1,5 @@
 -- Each slot's first query is under its leaf.
-use Rattle.std.proofs.Common.{◌≡◌, ◌∙◌, ℕ, zero, suc, ◌<◌, true, List, [], ◌∷◌, arith, length, map, refl, sym, get_or}
+use Rattle.std.proofs.Common.{◌≡◌, ◌∙◌, ℕ, suc, ◌<◌, true, List, [], ◌∷◌, arith, length, map, refl, sym, get_or}
 use Rattle.p3_merkle_core.specs.Agreement.{first_query}
 use Rattle.p3_merkle_core.specs.Geometry.{Shape, ancestor}
 use Rattle.p3_merkle_core.specs.Refusals.{is_queried}
