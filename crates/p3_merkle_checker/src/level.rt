@@ -84,12 +84,7 @@ pub fn rows_digest<
     PW: PackedValue,
     H: CryptographicHasher<P, PW, D>,
     const D: usize,
->(
-    hash: &H,
-    dimensions: &[Dimensions],
-    rows: &[Vec<P::Value>],
-    exponent: usize,
-) -> [PW::Value; D]
+>(hash: &H, dimensions: &[Dimensions], rows: &[Vec<P::Value>], exponent: usize) -> [PW::Value; D]
     ensures { let rows = zip (heights_of dimensions.now) (row_lists rows.now) in
         result ≡ H.hash hash.now (rows_with exponent rows) }
 {
