@@ -42,8 +42,11 @@ pub fn max_height_of<T, M: Matrix<T>>(matrices: &[M]) -> usize
 pub fn min_height_of<T, M: Matrix<T>>(matrices: &[M]) -> usize
     ensures { result ≡ min_height_in M.height_of M.width_of M.row_of matrices.now }
 {
-    let mut shortest = max_height_of(matrices);
-    for matrix in matrices {
+    let Some((first, others)) = matrices.split_first() else {
+        return 0;
+    };
+    let mut shortest = first.height();
+    for matrix in others {
         shortest = shortest.min(matrix.height());
     }
     shortest

@@ -49,8 +49,11 @@ pub fn tallest_of(dimensions: &[Dimensions]) -> usize
 pub fn shortest_of(dimensions: &[Dimensions]) -> usize
     ensures { result ≡ shortest (heights_of dimensions.now) }
 {
-    let mut shortest = tallest_of(dimensions);
-    for matrix in dimensions {
+    let Some((first, others)) = dimensions.split_first() else {
+        return 0;
+    };
+    let mut shortest = first.height;
+    for matrix in others {
         shortest = shortest.min(matrix.height);
     }
     shortest

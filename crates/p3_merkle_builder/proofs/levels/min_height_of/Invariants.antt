@@ -7,5 +7,5 @@ use Rattle.p3_merkle_builder.proofs.levels.min_height_of.Given as goal
 abbrev pub invariant-loop-matrix : goal.invariant-loop-matrix
 invariant-loop-matrix g l =
     let m = tallest (heights_in g.M.Matrix.height_of g.M.Matrix.width_of g.M.Matrix.row_of l.matrices) in
-    let rest = heights_in g.M.Matrix.height_of g.M.Matrix.width_of g.M.Matrix.row_of (drop l.matrix-index l.matrices) in
+    let rest = heights_in g.M.Matrix.height_of g.M.Matrix.width_of g.M.Matrix.row_of (drop l.matrix-index l.others) in
     (l.shortest ≤ m) × (min l.shortest (least_height m rest) ≡ min_height_in g.M.Matrix.height_of g.M.Matrix.width_of g.M.Matrix.row_of l.matrices)

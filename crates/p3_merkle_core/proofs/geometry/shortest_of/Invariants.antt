@@ -6,4 +6,4 @@ use Rattle.p3_merkle_core.proofs.geometry.shortest_of.Given as goal
 abbrev pub invariant-loop-matrix : goal.invariant-loop-matrix
 invariant-loop-matrix l =
     let m = tallest (heights_of l.dimensions) in
-    (l.shortest ≤ m) × (min l.shortest (least_height m (heights_of (drop l.matrix-index l.dimensions))) ≡ shortest (heights_of l.dimensions))
+    (l.shortest ≤ m) × (min l.shortest (least_height m (heights_of (drop l.matrix-index l.others))) ≡ shortest (heights_of l.dimensions))
