@@ -4,7 +4,6 @@ use Rattle.std.specs.List.{flat_map, range_with_len, take-map, drop-map}
 use Rattle.std.specs.List.Sorted.{IsStrictlyIncreasing, IsBinarySearchResult}
 use Rattle.std.specs.Ordering.{nat_cmp}
 use Rattle.std.specs.Prelude.{slice_index_or}
-use Rattle.std.specs.declared.vec.Vec.{Vec}
 use Rattle.std.proofs.lemmas.Bool.{cases_eq, cases_lt, eqb-true, or_cases, or_left, or_right, true≢false, lt-ltb, le-ltb}
 use Rattle.std.proofs.lemmas.List.{map-append, take-take, drop-take, drop-drop, take-append-le, take_all, get_or-map, get_or_default}
 use Rattle.std.proofs.lemmas.List.{get_or_append_left, map_more}
@@ -13,7 +12,8 @@ use Rattle.std.proofs.lemmas.List.FromFn.{map-range_with_len_more, length-range_
 use Rattle.std.proofs.lemmas.List.Kept.{AllPairs-from_increasing}
 use Rattle.std.proofs.lemmas.List.Sorted.{searched}
 use Rattle.std.proofs.Math.Seq.{drop-append-add, get_or-append_seam}
-use Rattle.p3_merkle_core.specs.Children.{AreLevels, children_at, children_under, is_among, kept_group, kept_path, kept_paths, place_among, shown_paths}
+use Rattle.p3_merkle_core.specs.Children.{AreLevels, children_at, children_under, is_among, kept_group, kept_path, kept_paths, place_among, shown_path, shown_paths}
+use Rattle.p3_merkle_core.specs.declared.pruning.AuthPath.{AuthPath}
 use Rattle.p3_merkle_core.specs.Geometry.{Shape, step, ancestor, position_in_group, layer_len}
 use Rattle.p3_merkle_core.specs.Nodes.{Functions}
 use Rattle.p3_merkle_core.specs.Pruning.{CanQuery, PrunedOpening, is_covered, covered_at, value_of, restored_path}
@@ -186,14 +186,14 @@ paths_restored f s t p w view rows are =
     (λ k h d. ap (λ path. (get_or p.indices k d, path)) (path_restored f s t p w view rows are (get_or p.indices k d) (listed_at p.indices k d h)))
 
 -- one path more
-pub paths_more : {X A : Type 0} (path : ℕ → List X) (queries : List ℕ) (k : ℕ) (old new : List (ℕ × Vec X A)) (added : Vec X A) → k < length queries →
-    shown_paths old ≡ map {B = ℕ × List X} (λ i. (i, path i)) (take k queries) → new ≡ old ++ (get_or queries k 0, added) ∷ [] → added.items ≡ path (get_or queries k 0) →
+pub paths_more : {X : Type 0} (path : ℕ → List X) (queries : List ℕ) (k : ℕ) (old new : List (AuthPath X)) (added : AuthPath X) → k < length queries →
+    shown_paths old ≡ map {B = ℕ × List X} (λ i. (i, path i)) (take k queries) → new ≡ old ++ added ∷ [] → added.leaf_index ≡ get_or queries k 0 → added.siblings.items ≡ path (get_or queries k 0) →
     shown_paths new ≡ map {B = ℕ × List X} (λ i. (i, path i)) (take (k + 1) queries)
-paths_more {X} {A} path queries k old new added h so_far is shown =
-    let q = get_or queries k 0 in
+paths_more {X} path queries k old new added h so_far is named shown =
     let both : ℕ → ℕ × List X = λ i. (i, path i) in
-    ap (λ (ps : List (ℕ × Vec X A)). shown_paths ps) is ∙ map-append (λ (pair : ℕ × Vec X A). (pair.0, pair.1.items)) old ((q, added) ∷ [])
-    ∙ ap (λ (ys : List (ℕ × List X)). ys ++ (q, added.items) ∷ []) so_far ∙ ap (λ (xs : List X). map both (take k queries) ++ (q, xs) ∷ []) shown ∙ sym (map_more both queries k 0 h)
+    let last : shown_path added ≡ both (get_or queries k 0) = rw (named, shown) refl in
+    ap (λ (ps : List (AuthPath X)). shown_paths ps) is ∙ map-append shown_path old (added ∷ [])
+    ∙ ap (λ (ys : List (ℕ × List X)). ys ++ shown_path added ∷ []) so_far ∙ ap (λ (one : ℕ × List X). map both (take k queries) ++ one ∷ []) last ∙ sym (map_more both queries k 0 h)
 
 -- ---- keeping levels
 

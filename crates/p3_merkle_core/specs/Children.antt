@@ -1,7 +1,7 @@
 -- The children of covered nodes, and the values that they take.
 use Rattle.std.specs.Prelude.{◌≡◌, ℕ, suc, ◌+◌, ◌-◌, ◌*◌, ◌^◌, ◌<◌, ◌≤◌, ◌==◌, Bool, not, nat_lt, List, [], All, drop, filter, flat_map, length, map, remove, slice_index_or, take, zip}
 use Rattle.std.specs.List.{list_any, range_with_len}
-use Rattle.std.specs.declared.vec.Vec.{Vec}
+use Rattle.p3_merkle_core.specs.declared.pruning.AuthPath.{AuthPath}
 use Rattle.p3_merkle_core.specs.Geometry.{Shape, ancestor, position_in_group, step}
 use Rattle.p3_merkle_core.specs.Pruning.{covered_at}
 
@@ -62,6 +62,10 @@ pub record AreLevels (s : Shape) (queries : List ℕ) (t : ℕ) (steps : List �
   pub steps_are : steps ≡ map (step s) (range_with_len 0 t)
   pub parents_are : parents ≡ map (λ l. covered_at s queries (suc l)) (range_with_len 0 t)
 
--- the paths, each with its index, that pairs of the code are
-abbrev pub shown_paths : {X A : Type 0} → List (ℕ × Vec X A) → List (ℕ × List X)
-shown_paths paths = map (λ (i, path). (i, path.items)) paths
+-- the leaf and the siblings that a path shows
+abbrev pub shown_path : {X : Type 0} → AuthPath X → ℕ × List X
+shown_path path = (path.leaf_index, path.siblings.items)
+
+-- the same of each of some paths
+abbrev pub shown_paths : {X : Type 0} → List (AuthPath X) → List (ℕ × List X)
+shown_paths paths = map shown_path paths

@@ -38,6 +38,18 @@ pub struct PrunedRows<T, X> {
 /// crate).
 pub type PrunedBatchOpening<T, W, const D: usize> = PrunedRows<T, [W; D]>;
 
+/// A leaf and the siblings on its path, as a pruned proof restores them. [`MerkleAuthPath`] is this path at digests of words.
+#[derive(Debug, Clone, PartialEq, Eq, Drop)]
+pub struct AuthPath<X> {
+    /// The leaf.
+    pub leaf_index: usize,
+    /// The siblings from the leaf's up: level by level, and ascending on each level.
+    pub siblings: Vec<X>,
+}
+
+/// A leaf and the siblings on its path, of `D` words each (`MerkleAuthPath` in the Rust crate).
+pub type MerkleAuthPath<W, const D: usize> = AuthPath<[W; D]>;
+
 /// A level of a walk over covered nodes, kept so that paths can be read out of it.
 #[derive(Debug, Drop)]
 pub struct KeptLevel<X> {
@@ -227,8 +239,8 @@ pub fn path_out_of<X: Copy>(
     Ok(path)
 }
 
-/// For each queried index, in order, the index and the siblings on its path, as [`path_out_of`] has them. The indices are
-/// those that the walk covered.
+/// The path of each queried index, in order, with the siblings that [`path_out_of`] has. The indices are those that the walk
+/// covered.
 ///
 /// # Errors
 ///
@@ -237,14 +249,18 @@ pub fn paths_out_of<X: Copy>(
     alloc: Global,
     levels: &[KeptLevel<X>],
     indices: &[usize],
-) -> Result<Vec<(usize, Vec<X>)>, AllocError>
+) -> Result<Vec<AuthPath<X>>, AllocError>
     ensures { (s : Shape) (t : ℕ) → CanQuery s indices.now t → t ≡ length levels.now →
         AreLevels s indices.now t (map (λ level. level.step) levels.now) (map (λ level. level.parents.items) levels.now) →
         IfOk result (λ paths. shown_paths paths.items ≡ kept_paths s indices.now (map (λ level. level.children.items) levels.now) t) }
 {
     let mut paths = Vec::with_capacity(alloc, indices.len())?;
     for index in indices {
-        paths.push((*index, path_out_of(alloc, levels, *index)?))?;
+        let siblings = path_out_of(alloc, levels, *index)?;
+        paths.push(AuthPath {
+            leaf_index: *index,
+            siblings,
+        })?;
     }
     Ok(paths)
 }
