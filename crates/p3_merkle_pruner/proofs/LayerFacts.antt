@@ -12,7 +12,7 @@ use Rattle.p3_merkle_core.proofs.PathFacts.{group_values}
 use Rattle.p3_merkle_core.proofs.ValueFacts.{IsLevel, children_are}
 use Rattle.p3_merkle_pruner.proofs.WalkFacts.{same_map}
 use Rattle.p3_merkle_pruner.specs.Groups.{group_digest, layer_digests, pair_digest, query_digest}
-use Rattle.p3_merkle_pruner.specs.Walks.{IsCoveredAt, IsRise, node_of_query}
+use Rattle.p3_merkle_pruner.specs.Walks.{AreRestored, IsCoveredAt, IsRestoredRise, IsRise, child_values, node_of_query}
 use Rattle.p3_merkle_pruner.specs.declared.plan.Covered.{Covered}
 use Rattle.p3_merkle_pruner.specs.declared.plan.Rise.{Rise}
 
@@ -101,7 +101,7 @@ module _ {T W : Type 0} (f : Functions T W) (s : Shape) (t : ℕ) (p : PrunedOpe
       ]
 
 -- the leaves
-pub leaves_are : {T W : Type 0} (f : Functions T W) (s : Shape) (t : ℕ) (p : PrunedOpening T W) → IsAgreed s t p → (covered : Covered) (digests : List (List W)) → IsCoveredAt s p.indices 0 covered →
+leaves_are : {T W : Type 0} (f : Functions T W) (s : Shape) (t : ℕ) (p : PrunedOpening T W) → IsAgreed s t p → (covered : Covered) (digests : List (List W)) → IsCoveredAt s p.indices 0 covered →
     digests ≡ map (query_digest f.hash covered.exponent (heights s) p.rows) covered.leads.items → digests ≡ map (restored_node f s t p 0) (covered_at s p.indices 0)
 leaves_are f s t p agreed covered digests at e =
     let node = node_of_query s p.indices 0 in
@@ -112,25 +112,47 @@ leaves_are f s t p agreed covered digests at e =
     (λ k h. ap f.hash (rows_agree s t p agreed k 0 h (omega arith)) ∙ sym (restored_leaf f s t p (node k))) leads at.among
     ∙ sym (map_map (restored_node f s t p 0) node leads) ∙ ap (map (restored_node f s t p 0)) (sym are)
 
--- one level up
-pub level_next : {T W : Type 0} (f : Functions T W) (s : Shape) (t : ℕ) (p : PrunedOpening T W) → CanQuery s p.indices t → IsAgreed s t p → length p.digests ≡ length (boundary s p.indices t) → (l : ℕ) → l < t → (n : ℕ) → s.arity ≡ n →
-    (covered : Covered) (rise : Rise (List W)) (digests next : List (List W)) → IsCoveredAt s p.indices l covered → digests ≡ map (restored_node f s t p l) (covered_at s p.indices l) →
-    IsRise s p.indices l covered digests p.digests rise → next ≡ layer_digests f n rise.step (heights s) rise.above.exponent p.rows rise.above.leads.items rise.children.items →
-    next ≡ map (restored_node f s t p (suc l)) (covered_at s p.indices (suc l))
-level_next f s t p w agreed count l h n is_n covered rise digests next at so_far up e =
+-- as many digests as nodes
+digests_long : {X : Type 0} (s : Shape) (queries : List ℕ) (l : ℕ) (covered : Covered) (value : ℕ → X) (digests : List X) → IsCoveredAt s queries l covered → digests ≡ map value (covered_at s queries l) → length digests ≡ length covered.nodes.items
+digests_long s queries l covered value digests at e = ap length e ∙ length-map (covered_at s queries l) value ∙ ap length (sym at.nodes_are)
+
+-- the leaves, with their digests
+pub start_restored : {T W : Type 0} (f : Functions T W) (s : Shape) (t : ℕ) (p : PrunedOpening T W) → IsAgreed s t p → (covered : Covered) (digests : List (List W)) → IsCoveredAt s p.indices 0 covered →
+    digests ≡ map (query_digest f.hash covered.exponent (heights s) p.rows) covered.leads.items → AreRestored f s t p 0 covered digests
+start_restored f s t p agreed covered digests at e =
+    let is = leaves_are f s t p agreed covered digests at e in
+    record { stands = at; each = digests_long s p.indices 0 covered (restored_node f s t p 0) digests at is; restored = is }
+
+-- ---- one level up
+
+-- the children have their values
+level_values : {T W : Type 0} (f : Functions T W) (s : Shape) (t : ℕ) (p : PrunedOpening T W) → CanQuery s p.indices t → length p.digests ≡ length (boundary s p.indices t) → (l : ℕ) → l < t →
+    (covered : Covered) (rise : Rise (List W)) (digests : List (List W)) → AreRestored f s t p l covered digests → IsRise s p.indices l covered digests p.digests rise → rise.children.items ≡ child_values f s t p l
+level_values f s t p w count l h covered rise digests here up =
     let same : IsLevel f s t p l (λ (d : List _). d) rise.step rise.above.nodes.items covered.nodes.items digests (drop covered.used p.digests) =
     record {
       step_is = up.step_is;
       parents_are = up.stands.nodes_are;
-      covered_are = at.nodes_are;
-      digests_are = map-id digests ∙ so_far;
-      sent_is = map-id (drop covered.used p.digests) ∙ ap (λ k. drop k p.digests) at.sent_below;
+      covered_are = here.stands.nodes_are;
+      digests_are = map-id digests ∙ here.restored;
+      sent_is = map-id (drop covered.used p.digests) ∙ ap (λ k. drop k p.digests) here.stands.sent_below;
     } in
-    let values = sym (map-id rise.children.items) ∙ children_are f s t p w count l h (λ (d : List _). d) rise.step rise.above.nodes.items covered.nodes.items digests (drop covered.used p.digests) rise.children.items same up.values in
+    sym (map-id rise.children.items) ∙ children_are f s t p w count l h (λ (d : List _). d) rise.step rise.above.nodes.items covered.nodes.items digests (drop covered.used p.digests) rise.children.items same up.values
+
+-- so the nodes above have their digests
+pub level_restored : {T W : Type 0} (f : Functions T W) (s : Shape) (t : ℕ) (p : PrunedOpening T W) → CanQuery s p.indices t → IsAgreed s t p → length p.digests ≡ length (boundary s p.indices t) → (l : ℕ) → l < t → (n : ℕ) → s.arity ≡ n →
+    (covered : Covered) (rise : Rise (List W)) (digests next : List (List W)) → AreRestored f s t p l covered digests → IsRise s p.indices l covered digests p.digests rise →
+    next ≡ layer_digests f n rise.step (heights s) rise.above.exponent p.rows rise.above.leads.items rise.children.items → IsRestoredRise f s t p l rise next
+level_restored f s t p w agreed count l h n is_n covered rise digests next here up e =
+    let values = level_values f s t p w count l h covered rise digests here up in
     let are = sym up.stands.nodes_are ∙ up.stands.leads_are in
     let long = sym up.in_groups ∙ sym (length-map rise.above.leads.items (node_of_query s p.indices (suc l))) ∙ sym (ap length are) in
-    e ∙ ap (λ a. layer_digests f a rise.step (heights s) rise.above.exponent p.rows rise.above.leads.items rise.children.items) (sym is_n) ∙ layer_next f s t p l agreed (omega arith) rise.step rise.above.exponent rise.above.leads.items rise.children.items up.step_is up.stands.at_exponent are up.stands.among long values
-
--- as many digests as nodes
-pub digests_long : {X : Type 0} (s : Shape) (queries : List ℕ) (l : ℕ) (covered : Covered) (value : ℕ → X) (digests : List X) → IsCoveredAt s queries l covered → digests ≡ map value (covered_at s queries l) → length digests ≡ length covered.nodes.items
-digests_long s queries l covered value digests at e = ap length e ∙ length-map (covered_at s queries l) value ∙ ap length (sym at.nodes_are)
+    let is = e ∙ ap (λ a. layer_digests f a rise.step (heights s) rise.above.exponent p.rows rise.above.leads.items rise.children.items) (sym is_n)
+    ∙ layer_next f s t p l agreed (omega arith) rise.step rise.above.exponent rise.above.leads.items rise.children.items up.step_is up.stands.at_exponent are up.stands.among long values in
+    record {
+      step_is = up.step_is;
+      wide = up.wide;
+      full = up.values.each;
+      values_are = values;
+      above_are = record { stands = up.stands; each = digests_long s p.indices (suc l) rise.above (restored_node f s t p (suc l)) next up.stands is; restored = is };
+    }

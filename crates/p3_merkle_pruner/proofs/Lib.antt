@@ -2,5 +2,6 @@ mod LeadFacts
 mod GroupFacts
 mod WalkFacts
 mod LayerFacts
+mod PathFacts
 mod RootFacts
 pub mod StartFacts

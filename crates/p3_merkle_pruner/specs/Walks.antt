@@ -1,9 +1,12 @@
 -- How far a walk over the covered nodes has come.
-use Rattle.std.specs.Prelude.{◌≡◌, ◌/◌, ◌<◌, ◌≤◌, ℕ, suc, List, All, drop, length, map, slice_index, Bool, false, slice_get, unwrap_or}
+use Rattle.std.specs.Prelude.{◌≡◌, ◌*◌, ◌/◌, ◌<◌, ◌≤◌, ℕ, suc, List, All, drop, flat_map, length, map, slice_index, Bool, false, slice_get, unwrap_or}
+use Rattle.std.specs.List.{range_with_len}
 use Rattle.std.specs.Option.{option_map}
 use Rattle.p3_merkle_core.specs.Geometry.{Shape, ancestor, layer_exponent, step}
-use Rattle.p3_merkle_core.specs.Children.{AreChildren}
-use Rattle.p3_merkle_core.specs.Pruning.{covered_at, boundary}
+use Rattle.p3_merkle_core.specs.Children.{AreChildren, AreLevels}
+use Rattle.p3_merkle_core.specs.Nodes.{Functions}
+use Rattle.p3_merkle_core.specs.Pruning.{PrunedOpening, boundary, covered_at, restored_node, value_of}
+use Rattle.p3_merkle_core.specs.declared.pruning.KeptLevel.{KeptLevel}
 use Rattle.p3_merkle_pruner.specs.declared.plan.Covered.{Covered}
 use Rattle.p3_merkle_pruner.specs.declared.plan.Rise.{Rise}
 
@@ -27,6 +30,30 @@ pub record IsRise {X : Type 0} (s : Shape) (indices : List ℕ) (l : ℕ) (cover
   pub stands : IsCoveredAt s indices (suc l) rise.above
   pub in_groups : length rise.above.leads.items ≡ length rise.children.items / rise.step
   pub values : AreChildren rise.step rise.above.nodes.items covered.nodes.items digests (drop covered.used sent) rise.children.items
+
+-- the covered nodes of layer l, and the digests that are restored of them
+pub record AreRestored {T W : Type 0} (f : Functions T W) (s : Shape) (t : ℕ) (p : PrunedOpening T W) (l : ℕ) (covered : Covered) (digests : List (List W)) : Type 0 where
+  pub stands : IsCoveredAt s p.indices l covered
+  pub each : length digests ≡ length covered.nodes.items
+  pub restored : digests ≡ map (restored_node f s t p l) (covered_at s p.indices l)
+
+-- the values of the children of the covered nodes above layer l, parent by parent
+abbrev pub child_values : {T W : Type 0} → Functions T W → Shape → ℕ → PrunedOpening T W → ℕ → List (List W)
+child_values f s t p l = flat_map (λ j. map (value_of f s t p l) (range_with_len (step s l * j) (step s l))) (covered_at s p.indices (suc l))
+
+-- one level up from layer l: the children have their values, and the nodes above have the digests that are restored of them
+pub record IsRestoredRise {T W : Type 0} (f : Functions T W) (s : Shape) (t : ℕ) (p : PrunedOpening T W) (l : ℕ) (rise : Rise (List W)) (digests : List (List W)) : Type 0 where
+  pub step_is : rise.step ≡ step s l
+  pub wide : 0 < rise.step
+  pub full : length rise.children.items ≡ rise.step * length rise.above.nodes.items
+  pub values_are : rise.children.items ≡ child_values f s t p l
+  pub above_are : AreRestored f s t p (suc l) rise.above digests
+
+-- the levels that a walk kept up to layer l, with the values of their children
+pub record AreKept {T W : Type 0} (f : Functions T W) (s : Shape) (t : ℕ) (p : PrunedOpening T W) (l : ℕ) (levels : List (KeptLevel (List W))) : Type 0 where
+  pub many : length levels ≡ l
+  pub levels_are : AreLevels s p.indices l (map (λ level. level.step) levels) (map (λ level. level.parents.items) levels)
+  pub values_are : map (λ level. level.children.items) levels ≡ map (child_values f s t p) (range_with_len 0 l)
 
 -- whether a digest is the root of a node's place
 abbrev pub is_root : {X : Type 0} → (X → X → Bool) → List X → ℕ × X → Bool

@@ -7,7 +7,7 @@ ghost use Rattle.p3_merkle_core.specs.Pruning.{boundary, covered_at, pruned_of, 
 ghost use Rattle.p3_merkle_core.specs.PrunedCalls.{row_sets};
 ghost use Rattle.p3_merkle_core.specs.Refusals.{cap_refusal};
 ghost use Rattle.p3_merkle_core.specs.declared.error.MerkleTreeError.TheVariants.{OutOfMemory};
-ghost use Rattle.p3_merkle_pruner.specs.Walks.{IsCoveredAt};
+ghost use Rattle.p3_merkle_pruner.specs.Walks.{AreRestored, IsCoveredAt, IsRestoredRise};
 
 use crate::level::node_digests;
 use crate::plan::{Covered, Plan, Rise};
@@ -21,7 +21,7 @@ use p3_support::packed::PackedValue;
 use std::alloc::{AllocError, Global};
 
 /// Tells that leads have row sets where each query has one. It does nothing at run time.
-fn tell_leads<T>(indices: &[usize], sets: &[Vec<T>], leads: &[usize])
+pub(crate) fn tell_leads<T>(indices: &[usize], sets: &[Vec<T>], leads: &[usize])
     requires pairs { length sets.now ≡ length indices.now }
     requires among { All (λ k. k < length indices.now) leads.now }
     ensures { All (λ k. k < length sets.now) leads.now }
@@ -48,6 +48,53 @@ fn tell_level<T, X>(
     ensures among { All (λ k. k < length sets.now) leads.now }
     ensures groups { length leads.now ≡ length children.now / rise.now.step }
 {}
+
+/// One level of the walk: the layer above `level`, which is below layer `t`, with the values of its nodes' children, and the
+/// digests of its nodes. `covered` are the nodes of this layer, and `digests` has the digest of each.
+///
+/// # Errors
+///
+/// `AllocError` where there is no memory.
+pub(crate) fn restored_above<
+    P: PackedValue,
+    PW: PackedValue,
+    H: CryptographicHasher<P, PW, D>,
+    C: PseudoCompressionFunction<PW, N, D>,
+    const N: usize,
+    const D: usize,
+>(
+    alloc: Global,
+    checker: &Checker<'_, P, PW, H, C, [[PW::Value; D]; N]>,
+    plan: &Plan<'_>,
+    sets: &[Vec<Vec<P::Value>>],
+    sent: &[[PW::Value; D]],
+    level: usize,
+    covered: &Covered,
+    digests: &[[PW::Value; D]],
+) -> Result<(Rise<[PW::Value; D]>, Vec<[PW::Value; D]>), AllocError>
+    requires arity { plan.now.arity ≡ N }
+    requires pairs { length sets.now ≡ length plan.now.indices.now }
+    requires sent { length sent.now ≡ length (boundary (shape_of plan.now.arity plan.now.dimensions.now) plan.now.indices.now plan.now.t) }
+    requires agreed { IsAgreed (shape_of plan.now.arity plan.now.dimensions.now) plan.now.t (pruned_of plan.now.indices.now (row_sets sets.now) sent.now) }
+    requires below { level < plan.now.t }
+    requires restored { let f = functions_of (H.hash checker.now.hash.now) (C.compression checker.now.compress.now) (replicate D PW.default_value) in
+        let p = pruned_of plan.now.indices.now (row_sets sets.now) sent.now in
+        AreRestored f (shape_of plan.now.arity plan.now.dimensions.now) plan.now.t p level covered.now digests.now }
+    ensures { let f = functions_of (H.hash checker.now.hash.now) (C.compression checker.now.compress.now) (replicate D PW.default_value) in
+        let s = shape_of plan.now.arity plan.now.dimensions.now in
+        let p = pruned_of plan.now.indices.now (row_sets sets.now) sent.now in
+        IfOk result (λ pair. IsRestoredRise f s plan.now.t p level (pair.0) pair.1.items) }
+{
+    let rise = plan.rise(alloc, level, covered, digests, sent)?;
+    let (dimensions, x, step) = (plan.dimensions, rise.above.exponent, rise.step);
+    let leads = rise.above.leads.as_slice();
+    let children = rise.children.as_slice();
+    tell_level(plan, N, sets, &rise, leads, children);
+    let above = node_digests::<P, PW, H, C, N, D>(
+        alloc, checker, dimensions, x, sets, leads, step, children,
+    )?;
+    Ok((rise, above))
+}
 
 /// The digests of the covered nodes of layer `t`, restored from the rows of the queries and the digests that were sent, with
 /// these nodes. `leaves` are the covered leaves. Each level's children are let go once they are compressed.
@@ -95,15 +142,11 @@ pub fn restored_cap<
         &covered.leads,
     )?;
     for level in 0..plan.t {
-        let rise = plan.rise(alloc, level, &covered, &digests, sent)?;
-        let (x, step) = (rise.above.exponent, rise.step);
-        let leads = rise.above.leads.as_slice();
-        let children = rise.children.as_slice();
-        tell_level(plan, N, sets, &rise, leads, children);
-        digests = node_digests::<P, PW, H, C, N, D>(
-            alloc, checker, dimensions, x, sets, leads, step, children,
+        let (rise, above) = restored_above::<P, PW, H, C, N, D>(
+            alloc, checker, plan, sets, sent, level, &covered, &digests,
         )?;
         covered = rise.above;
+        digests = above;
     }
     Ok((covered, digests))
 }

@@ -1,18 +1,13 @@
-use Rattle.std.proofs.Common.{◌≡◌, length, map, replicate}
+use Rattle.std.proofs.Common.{replicate}
 use Rattle.p3_merkle_core.specs.Geometry.{shape_of}
 use Rattle.p3_merkle_core.specs.Nodes.{functions_of}
-use Rattle.p3_merkle_core.specs.Pruning.{covered_at, pruned_of, restored_node}
+use Rattle.p3_merkle_core.specs.Pruning.{pruned_of}
 use Rattle.p3_merkle_core.specs.PrunedCalls.{row_sets}
-use Rattle.p3_merkle_pruner.specs.Walks.{IsCoveredAt}
+use Rattle.p3_merkle_pruner.specs.Walks.{AreRestored}
 use Rattle.p3_merkle_pruner.proofs.restored.restored_cap.Given as goal
 
 -- the covered nodes of the layer, with a digest of each
 abbrev pub invariant-loop-level : goal.invariant-loop-level
-invariant-loop-level g l = record {
-  stands : IsCoveredAt (shape_of l.plan.arity l.plan.dimensions.now) l.plan.indices.now l.level l.covered;
-  each : length l.digests.items ≡ length l.covered.nodes.items;
-  restored : l.digests.items
-      ≡ map (restored_node (functions_of (g.H.CryptographicHasher.hash l.checker.hash.now) (g.C.PseudoCompressionFunction.compression l.checker.compress.now) (replicate g.row.D g.PW.PackedValue.default_value))
-      (shape_of l.plan.arity l.plan.dimensions.now) l.plan.t (pruned_of l.plan.indices.now (row_sets l.sets) l.sent) l.level)
-      (covered_at (shape_of l.plan.arity l.plan.dimensions.now) l.plan.indices.now l.level);
-}
+invariant-loop-level g l =
+    AreRestored (functions_of (g.H.CryptographicHasher.hash l.checker.hash.now) (g.C.PseudoCompressionFunction.compression l.checker.compress.now) (replicate g.row.D g.PW.PackedValue.default_value))
+    (shape_of l.plan.arity l.plan.dimensions.now) l.plan.t (pruned_of l.plan.indices.now (row_sets l.sets) l.sent) l.level l.covered l.digests.items

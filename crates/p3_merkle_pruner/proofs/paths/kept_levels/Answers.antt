@@ -1,0 +1,36 @@
+-- Each turn keeps one level of the walk.
+use Rattle.std.proofs.Common.{◌≡◌, ◌∙◌, add-one, arith, refl, replicate}
+use Rattle.p3_merkle_core.specs.Geometry.{shape_of}
+use Rattle.p3_merkle_core.specs.Nodes.{functions_of}
+use Rattle.p3_merkle_core.specs.Pruning.{pruned_of}
+use Rattle.p3_merkle_core.specs.PrunedCalls.{row_sets}
+use Rattle.p3_merkle_pruner.proofs.LayerFacts.{start_restored}
+use Rattle.p3_merkle_pruner.proofs.PathFacts.{kept_next, kept_none}
+use Rattle.p3_merkle_pruner.proofs.paths.kept_levels.Goals as goal
+
+pub loop-level-init : goal.loop-level-init
+loop-level-init g c =
+    let plan = c.args.plan.now in
+    let f = functions_of (g.H.CryptographicHasher.hash c.args.checker.now.hash.now) (g.C.PseudoCompressionFunction.compression c.args.checker.now.compress.now) (replicate g.row.D g.PW.PackedValue.default_value) in
+    let s = shape_of plan.arity plan.dimensions.now in
+    let p = pruned_of plan.indices.now (row_sets c.args.sets.now) c.args.sent.now in
+    record {
+      here = start_restored f s plan.t p c.requires.agreed c.args.leaves c.in_ok-digests.digests.items c.requires.leaves (rw c.as_slice-leads.ensures.value at c.in_ok-digests.ensures.digests);
+      kept = kept_none f s plan.t p c.in_ok-levels.levels.items c.in_ok-levels.ensures.items;
+    }
+
+pub loop-level-preserved : goal.loop-level-preserved
+loop-level-preserved g c =
+    let plan = c.args.plan.now in
+    let f = functions_of (g.H.CryptographicHasher.hash c.args.checker.now.hash.now) (g.C.PseudoCompressionFunction.compression c.args.checker.now.compress.now) (replicate g.row.D g.PW.PackedValue.default_value) in
+    let s = shape_of plan.arity plan.dimensions.now in
+    let p = pruned_of plan.indices.now (row_sets c.args.sets.now) c.args.sent.now in
+    let up = c.in_ok-rise in
+    record {
+      here = rw add-one up.ensures.above_are;
+      kept = kept_next f s plan.t p c.loop-level.level c.loop-level.levels.items c.push.new.self.items _ up.rise up.nodes.items c.loop-level.invariant.kept up.ensures c.in_ok-push.ensures.items refl
+          (c.in_ok-parents.ensures.items ∙ c.deref-in-loop-level-2.ensures.value) refl;
+    }
+
+pub returns : goal.returns
+returns g c = let all : c.loop-level.level ≡ c.args.plan.now.t = omega arith in rw all at c.loop-level.invariant.kept
