@@ -1,17 +1,17 @@
 -- The paths that are read out of a walk's kept levels.
-use Rattle.std.proofs.Common.{◌≡◌, ℕ, zero, suc, ◌+◌, ◌-◌, ◌*◌, ◌/◌, ◌%◌, ◌<◌, ◌≤◌, true, eqb, nat_lt, List, [], ◌∷◌, ◌++◌, map, refl, ap, sym, ◌∙◌, arith, add-one, inl, inr, length, filter, get_or, take, drop, remove, eq-eqb, Ok, Err, append_assoc, length-append}
+use Rattle.std.proofs.Common.{◌≡◌, ℕ, zero, suc, ◌+◌, ◌-◌, ◌*◌, ◌/◌, ◌%◌, ◌<◌, ◌≤◌, true, eqb, nat_lt, List, [], ◌∷◌, ◌++◌, map, refl, ap, sym, ◌∙◌, arith, add-one, inl, inr, length, filter, get_or, take, drop, remove, eq-eqb, Ok, Err, append_assoc}
 use Rattle.std.specs.List.{flat_map, range_with_len, take-map, drop-map}
 use Rattle.std.specs.List.Sorted.{IsStrictlyIncreasing, IsBinarySearchResult}
 use Rattle.std.specs.Ordering.{nat_cmp}
 use Rattle.std.specs.Prelude.{slice_index_or}
 use Rattle.std.proofs.lemmas.Bool.{cases_eq, cases_lt, eqb-true, or_cases, or_left, or_right, true≢false, lt-ltb, le-ltb}
 use Rattle.std.proofs.lemmas.List.{map-append, take-take, drop-take, drop-drop, take-append-le, take_all, get_or-map, get_or_default}
-use Rattle.std.proofs.lemmas.List.{get_or_append_left, map_more}
+use Rattle.std.proofs.lemmas.List.{map_more}
 use Rattle.std.proofs.lemmas.List.Folds.{Any-from_list_any}
-use Rattle.std.proofs.lemmas.List.FromFn.{map-range_with_len_more, length-range_with_len, get_or-map-range_with_len}
+use Rattle.std.proofs.lemmas.List.FromFn.{length-range_with_len, get_or-map-range_with_len}
 use Rattle.std.proofs.lemmas.List.Kept.{AllPairs-from_increasing}
 use Rattle.std.proofs.lemmas.List.Sorted.{searched}
-use Rattle.std.proofs.Math.Seq.{drop-append-add, get_or-append_seam}
+use Rattle.std.proofs.Math.Seq.{drop-append-add}
 use Rattle.p3_merkle_core.specs.Children.{AreLevels, children_at, children_under, is_among, kept_group, kept_path, kept_paths, place_among, shown_path, shown_paths}
 use Rattle.p3_merkle_core.specs.declared.pruning.AuthPath.{AuthPath}
 use Rattle.p3_merkle_core.specs.Geometry.{Shape, step, ancestor, position_in_group, layer_len}
@@ -194,38 +194,3 @@ paths_more {X} path queries k old new added h so_far is named shown =
     let last : shown_path added ≡ both (get_or queries k 0) = rw (named, shown) refl in
     ap (λ (ps : List (AuthPath X)). shown_paths ps) is ∙ map-append shown_path old (added ∷ [])
     ∙ ap (λ (ys : List (ℕ × List X)). ys ++ shown_path added ∷ []) so_far ∙ ap (λ (one : ℕ × List X). map both (take k queries) ++ one ∷ []) last ∙ sym (map_more both queries k 0 h)
-
--- ---- keeping levels
-
--- the levels that a walk kept so far: their steps, the covered nodes above each, and the values of the children
-pub record AreKept {T W X : Type 0} (f : Functions T W) (s : Shape) (t : ℕ) (p : PrunedOpening T W) (view : X → List W) (count : ℕ) (steps : List ℕ) (parents : List (List ℕ)) (rows : List (List X)) : Type 0 where
-  pub levels_are : AreLevels s p.indices count steps parents
-  pub many : length rows ≡ count
-  pub rows_are : (l : ℕ) → l < count → map view (slice_index_or rows l []) ≡ flat_map (λ j. map (value_of f s t p l) (range_with_len (step s l * j) (step s l))) (covered_at s p.indices (suc l))
-
-pub kept_start : {T W X : Type 0} (f : Functions T W) (s : Shape) (t : ℕ) (p : PrunedOpening T W) (view : X → List W) → AreKept f s t p view 0 [] [] []
-kept_start f s t p view = record { levels_are = record { steps_are = refl; parents_are = refl }; many = refl; rows_are = λ l h. absurd (omega arith) }
-
--- one level more
-pub kept_more : {T W X V : Type 0} (step_of : V → ℕ) (parents_of : V → List ℕ) (children_of : V → List X) (f : Functions T W) (s : Shape) (t : ℕ) (p : PrunedOpening T W) (view : X → List W) (l : ℕ) (old new : List V) (level : V) →
-    AreKept f s t p view l (map step_of old) (map parents_of old) (map children_of old) → new ≡ old ++ level ∷ [] → step_of level ≡ step s l → parents_of level ≡ covered_at s p.indices (suc l) →
-    map view (children_of level) ≡ flat_map (λ j. map (value_of f s t p l) (range_with_len (step s l * j) (step s l))) (covered_at s p.indices (suc l)) →
-    AreKept f s t p view (l + 1) (map step_of new) (map parents_of new) (map children_of new)
-kept_more step_of parents_of children_of f s t p view l old new level k is is_step is_above is_row =
-    let rows = map children_of old in
-    let row = children_of level in
-    let z : 0 + l ≡ l = omega arith in
-    record {
-      levels_are = record {
-        steps_are = ap (map step_of) is ∙ map-append step_of old (level ∷ []) ∙ rw (k.levels_are.steps_are, is_step) (sym (map-range_with_len_more (step s) 0 l l z));
-        parents_are = ap (map parents_of) is ∙ map-append parents_of old (level ∷ []) ∙ rw (k.levels_are.parents_are, is_above) (sym (map-range_with_len_more (λ l. covered_at s p.indices (suc l)) 0 l l z));
-      };
-      many = ap (λ vs. length (map children_of vs)) is ∙ ap length (map-append children_of old (level ∷ [])) ∙ length-append rows (row ∷ []) ∙ ap (λ n. n + 1) k.many;
-      rows_are = λ i h.
-          let all : map children_of new ≡ rows ++ row ∷ [] = ap (map children_of) is ∙ map-append children_of old (level ∷ []) in
-          let here : get_or (rows ++ row ∷ []) l [] ≡ row = rw k.many at (get_or-append_seam rows row [] []) in
-          elim (cases_eq i l) [
-            | inl e ↦ rw (all, e) (ap (map view) here ∙ is_row)
-            | inr ne ↦ rw all (ap (map view) (get_or_append_left rows (row ∷ []) [] i (omega (arith, k.many))) ∙ k.rows_are i (omega arith))
-          ];
-    }

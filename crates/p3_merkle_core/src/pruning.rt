@@ -187,33 +187,6 @@ pub fn children_of<X: Copy>(
     Ok(children)
 }
 
-/// The level of some parents, with the values of their children as [`children_of`] has them.
-///
-/// # Errors
-///
-/// `AllocError` where there is no memory.
-pub fn keep_level<X: Copy>(
-    alloc: Global,
-    covered: &[usize],
-    digests: &[X],
-    parents: Vec<usize>,
-    step: usize,
-    sent: &[X],
-) -> Result<KeptLevel<X>, AllocError>
-    requires family { IsFamily step parents.items covered.now digests.now sent.now }
-    requires some { 0 < step }
-    ensures children { IfOk result (λ level. AreChildren step parents.items covered.now digests.now sent.now level.children.items) }
-    ensures step { IfOk result (λ level. level.step ≡ step) }
-    ensures parents { IfOk result (λ level. level.parents ≡ parents) }
-{
-    let children = children_of(alloc, covered, digests, &parents, step, sent)?;
-    Ok(KeptLevel {
-        parents,
-        step,
-        children,
-    })
-}
-
 /// The siblings on the path of a leaf, out of the levels that a walk kept, from the leaves on: of each group on the path
 /// all values but the path's own, ascending. The index is one of those that the walk covered; the path of another leaf has
 /// no siblings on the levels where no covered node is above it.
