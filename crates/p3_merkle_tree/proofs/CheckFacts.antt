@@ -4,8 +4,9 @@ use Rattle.p3_merkle_core.specs.Extracting.{extraction_under}
 use Rattle.p3_merkle_core.specs.Geometry.{Shape}
 use Rattle.p3_merkle_core.specs.Nodes.{Functions, functions_of}
 use Rattle.p3_merkle_core.specs.Openings.{Opening, opening_of}
+use Rattle.p3_merkle_core.specs.PrunedCalls.{restored_paths}
 use Rattle.p3_merkle_core.specs.Pruning.{PrunedOpening}
-use Rattle.p3_merkle_core.specs.Refusals.{answer_under, pruned_refusal_under}
+use Rattle.p3_merkle_core.specs.Refusals.{answer_under, pruned_refusal, pruned_refusal_under}
 use Rattle.p3_merkle_checker.specs.Checks.{opening_in}
 use Rattle.p3_merkle_checker.specs.declared.openings.IndexedOpening.{IndexedOpening}
 use Rattle.p3_support.specs.Shown.{row_lists}
@@ -20,6 +21,15 @@ pub opening_is : {T W : Type 0} (v : IndexedOpening T (List W)) (index : ℕ) (r
     opening_in v ≡ opening_of index rows siblings
 opening_is v index rows siblings a b c =
     ap (λ (z : ℕ). opening_of z (row_lists v.rows.now) v.siblings.now) a ∙ ap (λ (z : List (List _)). opening_of index z v.siblings.now) b ∙ ap (λ (z : List (List _)). opening_of index rows z) c
+
+-- the same refusal of a pruned opening, whatever the cap
+pub restoring_alike : {T W : Type 0} (eq : T → T → Bool) (s : Shape) (t v : ℕ) (p q : PrunedOpening T W) → t ≡ v → p ≡ q → pruned_refusal eq s t p ≡ pruned_refusal eq s v q
+restoring_alike eq s t v p q a b = ap (λ (z : ℕ). pruned_refusal eq s z p) a ∙ ap (λ (z : PrunedOpening _ _). pruned_refusal eq s v z) b
+
+-- the same paths
+pub paths_alike : {T W : Type 0} (f g : Functions T W) (s : Shape) (t v : ℕ) (p q : PrunedOpening T W) → f ≡ g → t ≡ v → p ≡ q → restored_paths f s t p ≡ restored_paths g s v q
+paths_alike f g s t v p q a b c =
+    ap (λ (z : Functions _ _). restored_paths z s t p) a ∙ ap (λ (z : ℕ). restored_paths g s z p) b ∙ ap (λ (z : PrunedOpening _ _). restored_paths g s v z) c
 
 module _ {T W : Type 0} (eq : T → T → Bool) (same : W → W → Bool) (f g : Functions T W) (s : Shape) (t v : ℕ) (roots cap : List (List W)) where
   -- the same answer to an opening

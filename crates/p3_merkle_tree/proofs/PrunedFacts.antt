@@ -4,17 +4,19 @@ use Rattle.p3_merkle_core.specs.Geometry.{IsArity, Shape}
 use Rattle.p3_merkle_core.proofs.Verdicts.{pruned_accepted}
 use Rattle.p3_merkle_core.specs.declared.error.MerkleTreeError.TheVariants.{OutOfMemory}
 use Rattle.p3_merkle_core.specs.declared.error.MerkleTreeError.{MerkleTreeError}
-use Rattle.p3_merkle_core.specs.Refusals.{IsEquality, pruned_refusal_under, verdict}
+use Rattle.p3_merkle_core.specs.Refusals.{IsEquality, IsRestorable, pruned_refusal, pruned_refusal_under, verdict}
 use Rattle.p3_merkle_builder.specs.Built.{OkUnlessRefused}
 use Rattle.std.specs.Prelude.{Ok, Err, IfErr, IsOk}
 use Rattle.p3_merkle_core.specs.Nodes.{Batch, Functions, HasFullRows, layer, layers, shape}
 use Rattle.p3_merkle_core.specs.Openings.{honest_rows, honest_siblings}
 use Rattle.p3_merkle_core.specs.PrunedCalls.{IsPrunedAccepted, own_digests, restored_paths}
 use Rattle.p3_merkle_core.specs.Pruning.{IsHonestQuery, PrunedOpening, honest_query, pruned_of}
+use Rattle.p3_merkle_core.proofs.Answered.{restorable}
 use Rattle.p3_merkle_core.proofs.Equivalence.{equivalent}
 use Rattle.p3_merkle_core.proofs.HonestAnswered.{honest_restorable}
 use Rattle.p3_merkle_core.proofs.OwnNodes.{honest_restored_paths, own_digests_are}
 use Rattle.p3_merkle_core.proofs.Restoration.{honest_capped}
+use Rattle.p3_merkle_core.proofs.Unrefused.{unrefused}
 
 module _ {T W : Type 0} (f : Functions T W) (b : Batch T) (own : List (List (List W))) (t : ℕ) (indices : List ℕ) (rows : List (List (List T))) (digests : List (List W)) where
   -- rows and digests of an own tree are those of the honest pruned opening
@@ -61,3 +63,12 @@ module _ {T W : Type 0} (eq : T → T → Bool) (same : W → W → Bool) (f : F
   -- and one that is accepted is answered Ok, unless there is no memory
   pub ok_when_accepted : (r : Result (Unit {0}) MerkleTreeError) → OkUnlessRefused r (pruned_refusal_under eq same f s t cap p) → IsPrunedAccepted f s t cap p → IfErr r (λ e. e ≡ OutOfMemory)
   ok_when_accepted r a accepted = memory_when_unrefused r _ a (unrefused_from _ ((pruned_accepted eq same f s t cap p dec dec_w w).1 accepted))
+
+module _ {T W V : Type 0} (eq : T → T → Bool) (s : Shape) (t : ℕ) (p : PrunedOpening T W) (dec : IsEquality eq) where
+  -- what is not refused restores
+  pub restorable_when_ok : (r : Result V MerkleTreeError) → OkUnlessRefused r (pruned_refusal eq s t p) → IsOk r → IsRestorable s t p
+  restorable_when_ok r a ok = restorable eq s t p dec (ap verdict (unrefused_when_ok r _ a ok))
+
+  -- and what restores is not refused, unless there is no memory
+  pub ok_when_restorable : (r : Result V MerkleTreeError) → OkUnlessRefused r (pruned_refusal eq s t p) → IsRestorable s t p → IfErr r (λ e. e ≡ OutOfMemory)
+  ok_when_restorable r a w = memory_when_unrefused r _ a (unrefused_from _ (unrefused eq s t p dec w))

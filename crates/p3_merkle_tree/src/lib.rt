@@ -15,5 +15,5 @@ pub use p3_merkle_checker::{collision, laws};
 pub use p3_merkle_core::cap::CapRule;
 pub use p3_merkle_core::error::{MerkleTreeError, PrunedProofError};
 pub use p3_merkle_core::geometry::{ArityAndPositions, MAX_HEIGHT};
-pub use p3_merkle_core::pruning::{PrunedBatchOpening, PrunedMerklePaths};
+pub use p3_merkle_core::pruning::{MerkleAuthPath, PrunedBatchOpening, PrunedMerklePaths};
 pub use p3_support::opening::{BatchOpening, BatchOpeningRef, Hash, MerkleCap};

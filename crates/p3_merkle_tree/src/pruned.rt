@@ -1,12 +1,13 @@
 //! Pruned openings: the rows of several leaves by one proof, with no digest that the rows give already.
 
 ghost use Rattle.std.specs.Prelude.{◌≡◌, ◌<◌, All, IfErr, IfOk, IsOk, length, map};
+ghost use Rattle.p3_merkle_core.specs.Children.{shown_paths};
 ghost use Rattle.p3_merkle_core.specs.Geometry.{heights, heights_of, shape_of, tallest};
 ghost use Rattle.p3_merkle_core.specs.Nodes.{layer, layers, shape};
 ghost use Rattle.p3_merkle_core.specs.Openings.{honest_rows, honest_siblings};
 ghost use Rattle.p3_merkle_core.specs.PrunedCalls.{own_digests, pruned_len, pruned_len_refusal, restored_paths, row_sets, IsPrunedAccepted};
 ghost use Rattle.p3_merkle_core.specs.Pruning.{boundary, IsLeast};
-ghost use Rattle.p3_merkle_core.specs.Refusals.{pruned_refusal_under};
+ghost use Rattle.p3_merkle_core.specs.Refusals.{pruned_refusal, pruned_refusal_under, IsRestorable};
 ghost use Rattle.p3_merkle_core.specs.declared.error.MerkleTreeError.TheVariants.{OutOfMemory};
 ghost use Rattle.p3_merkle_builder.specs.Built.{OkUnlessRefused};
 ghost use Rattle.p3_merkle_builder.specs.Parts.{layers_of, tree_batch};
@@ -20,9 +21,11 @@ use p3_merkle_builder::tree::MerkleTree;
 use p3_merkle_core::error::MerkleTreeError;
 use p3_merkle_core::geometry::{check_heights, tallest_of};
 use p3_merkle_core::pruning::{
-    PrunedBatchOpening, PrunedMerklePaths, PrunedProof, PrunedRows, check_indices, pruned_len_of,
+    MerkleAuthPath, PrunedBatchOpening, PrunedMerklePaths, PrunedProof, PrunedRows, check_indices,
+    pruned_len_of,
 };
 use p3_merkle_pruner::check::check_opening;
+use p3_merkle_pruner::paths::restored_paths_of;
 use p3_support::compress::PseudoCompressionFunction;
 use p3_support::hasher::CryptographicHasher;
 use p3_support::matrix::{Dimensions, Matrix};
@@ -241,5 +244,58 @@ impl<
             IsOk result → length proof.now.sibling_hashes.items ≡ pruned_len s indices.now (proof_layer self.now s) }
     {
         self.verify_batch_pruned(alloc, commit, dimensions, indices, rows, proof)
+    }
+
+    /// The path of each query, in query order, with its index: the siblings that [`open_batch`](Self::open_batch) would open,
+    /// restored from the rows of all queries and the digests of a pruned proof. No cap is looked at; under a cap
+    /// [`verify_batch_pruned`](Self::verify_batch_pruned) accepts what restores, exactly where
+    /// [`verify_batch`](Self::verify_batch) accepts each query with its rows and its path.
+    ///
+    /// There is a row set for each index, with one row for each of `dimensions`, as wide as that says, and the proof has
+    /// [`pruned_len`](Self::pruned_len) digests. Queries of one index have the same rows, and so have queries under one node,
+    /// of the matrices of its layer. The dimensions must come from who checks.
+    ///
+    /// # Errors
+    ///
+    /// The first of these that holds, where `OutOfMemory` may come at any time:
+    ///
+    /// - `EmptyBatch`, `TooLarge` or `IncompatibleHeights`: [`commit`](Self::commit) refuses such heights;
+    /// - `WrongBatchSize`: there are not as many row sets as indices;
+    /// - `SiblingCountMismatch`: there is a digest, and no index;
+    /// - `IndexOutOfBounds`: the highest index is not below the tallest height;
+    /// - `InconsistentDuplicateOpenings`: a query's rows are not those of the first query of its index;
+    /// - `SiblingCountMismatch`: there are not as many digests as the indices leave unknown;
+    /// - `WrongBatchSize`, `WrongWidth`: by ascending indices, a row set has not one row for each matrix, or a row not the
+    ///   width of its matrix;
+    /// - `InconsistentGroupOpening`: layer by layer, by ascending indices, a row is not that of the lowest index under the
+    ///   same node.
+    ///
+    /// Those of pruned proofs come as `MalformedPrunedProof`.
+    pub fn restore_and_recompute_paths(
+        &self,
+        alloc: Global,
+        dimensions: &[Dimensions],
+        indices: &[usize],
+        rows: &[Vec<Vec<P::Value>>],
+        proof: &PrunedMerklePaths<PW::Value, D>,
+    ) -> Result<Vec<MerkleAuthPath<PW::Value, D>>, MerkleTreeError>
+        ensures answer { let s = shape_of N dimensions.now in
+            let t = proof_layer self.now s in
+            OkUnlessRefused result (pruned_refusal P.Value.eq s t (pruned_lent indices.now rows.now proof.now)) }
+        ensures restorable { let s = shape_of N dimensions.now in
+            let t = proof_layer self.now s in
+            IsOk result → IsRestorable s t (pruned_lent indices.now rows.now proof.now) }
+        ensures taken { let s = shape_of N dimensions.now in
+            let t = proof_layer self.now s in
+            IsRestorable s t (pruned_lent indices.now rows.now proof.now) → IfErr result (λ e. e ≡ OutOfMemory) }
+        ensures paths { let f = scheme_functions H.hash C.compression D self.now in
+            let s = shape_of N dimensions.now in
+            let t = proof_layer self.now s in
+            IfOk result (λ paths. shown_paths paths.items ≡ restored_paths f s t (pruned_lent indices.now rows.now proof.now)) }
+    {
+        let t = self.proof_levels(dimensions);
+        let checker = self.checker();
+        let sent = proof.sibling_hashes.as_slice();
+        restored_paths_of::<P, PW, H, C, N, D>(alloc, &checker, dimensions, t, indices, rows, sent)
     }
 }
