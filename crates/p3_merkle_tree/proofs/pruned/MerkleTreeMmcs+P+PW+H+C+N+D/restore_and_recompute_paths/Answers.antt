@@ -1,5 +1,5 @@
 -- The paths are those of the checker's walk.
-use Rattle.std.proofs.Common.{ap, map, replicate, subst}
+use Rattle.std.proofs.Common.{ap, replicate, subst}
 use Rattle.std.specs.Prelude.{◌≡◌, IfOk}
 use Rattle.p3_merkle_core.specs.Children.{shown_paths}
 use Rattle.p3_merkle_core.specs.Geometry.{shape_of}
