@@ -1,8 +1,7 @@
 -- What the calls on pruned openings take and answer.
 use Rattle.std.specs.Prelude.{ℕ, List, [], map, length, slice_index_or, Option}
 use Rattle.std.specs.Option.{option_or}
-use Rattle.std.specs.declared.vec.Vec.{Vec}
-use Rattle.p3_support.specs.Shown.{row_lists}
+pub use Rattle.p3_support.specs.Shown.{row_sets}
 use Rattle.p3_merkle_core.specs.Geometry.{Shape, heights, tallest}
 use Rattle.p3_merkle_core.specs.Gate.{gate_refusal}
 use Rattle.p3_merkle_core.specs.Nodes.{Functions}
@@ -39,9 +38,3 @@ restored_paths f s t p = map (λ i. (i, restored_path f s t p i)) p.indices
 -- a pruned opening is accepted under a cap, which is layer t: it is restorable, and each query is accepted with its restored path
 abbrev pub IsPrunedAccepted : {T W : Type 0} → Functions T W → Shape → ℕ → List (List W) → PrunedOpening T W → Type 0
 IsPrunedAccepted f s t cap p = IsRestorable s t p × EachAccepted f s t cap p
-
--- ---- values of the code
-
--- the row sets, one a query, that nested lists of words are
-abbrev pub row_sets : {T A B : Type 0} → List (Vec (Vec T A) B) → List (List (List T))
-row_sets sets = map (λ rows. row_lists rows.items) sets

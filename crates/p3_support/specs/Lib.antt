@@ -1,3 +1,4 @@
+pub mod Batches
 pub mod Fold
 pub mod Lists
 pub mod RowLengths

@@ -15,3 +15,7 @@ roots_of cap = cap.roots.items
 -- the lists of words that rows are
 abbrev pub row_lists : {T A : Type 0} → List (Vec T A) → List (List T)
 row_lists rows = map (λ row. row.items) rows
+
+-- the row sets, one a query, that nested lists of words are
+abbrev pub row_sets : {T A B : Type 0} → List (Vec (Vec T A) B) → List (List (List T))
+row_sets sets = map (λ rows. row_lists rows.items) sets

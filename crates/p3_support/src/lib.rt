@@ -8,6 +8,7 @@ pub mod fold;
 pub mod hasher;
 pub mod lanes;
 pub mod matrix;
+pub mod mmcs;
 pub mod opening;
 pub mod packed;
 pub mod rows;

@@ -1,0 +1,194 @@
+//! Schemes that commit to matrices of different heights.
+ghost use Rattle.std.specs.Prelude.{◌≡◌, ℕ, ◌<◌, All, IfErr, IfOk, IsOk, List, map};
+ghost use Rattle.std.specs.List.{AllZip};
+ghost use Rattle.p3_support.specs.Batches.{dimensions_in, greatest_height, rows_in, IsEquivalence};
+ghost use Rattle.p3_support.specs.Shown.{row_lists, row_sets};
+ghost use Rattle.p3_support.specs.declared.matrix.Dimensions.{Dimensions};
+
+use crate::matrix::{Dimensions, Matrix};
+use crate::opening::{BatchOpening, BatchOpeningRef};
+use std::alloc::Global;
+
+/// A scheme that commits to matrices `M` of words `T` together, opens the rows that belong to an index, and checks what is
+/// opened against the commitment.
+///
+/// An index counts the rows of the tallest matrix, from 0. Who checks has the commitment and the dimensions of the
+/// matrices, and no matrix. A call that takes memory fails where there is none.
+pub trait Mmcs<T, M: Matrix<T>> {
+    /// What the committer keeps, to open from.
+    type ProverData: Drop;
+    /// What the verifier has of the matrices, beside their dimensions.
+    type Commitment: Drop;
+    /// What proves the rows of one index.
+    type Proof: Drop;
+    /// What proves the rows of several indices.
+    type MultiProof: Drop;
+    /// Why something is refused, or fails.
+    type Error: Drop;
+
+    // An error that is for want of memory.
+    ghost is_out_of_memory: { Self.Error → Type 0 };
+
+    // Two schemes are the same in all but what they draw at random: they commit to the same, and accept the same.
+    ghost agrees: { Self → Self → Type 0 };
+
+    // Matrices that such schemes commit to.
+    ghost can_commit: { List M → Type 0 };
+
+    // The matrices that were committed to, in input order.
+    ghost matrices_in: { Self.ProverData → List M };
+
+    // The scheme's commitment to what the committer keeps.
+    ghost commits_to: { Self → Self.Commitment → Self.ProverData → Type 0 };
+
+    // The number of the row that belongs to an index, by the height of the tallest matrix and that of the row's own.
+    ghost row_at: { ℕ → ℕ → ℕ → ℕ };
+
+    // Under a commitment to matrices of these dimensions, these rows are shown to be those of an index.
+    ghost is_shown: { Self → Self.Commitment → List Dimensions → ℕ → List (List T) → Type 0 };
+
+    // A proof shows it.
+    ghost accepts: { Self → Self.Commitment → List Dimensions → ℕ → List (List T) → Self.Proof → Type 0 };
+
+    // One proof shows it of several indices, with a row set for each.
+    ghost accepts_all: { Self → Self.Commitment → List Dimensions → List ℕ → List (List (List T)) → Self.MultiProof → Type 0 };
+
+    /// Commits to matrices. The scheme is changed at most in what it draws at random, so that what it committed to before
+    /// stays so.
+    ///
+    /// # Errors
+    ///
+    /// Why such schemes don't commit to these matrices, or that there is no memory.
+    fn commit(
+        &mut self,
+        alloc: Global,
+        matrices: Vec<M>,
+    ) -> Result<(Self::Commitment, Self::ProverData), Self::Error>
+        ensures agrees { agrees self.old self.new }
+        ensures taken { IfOk result (λ made. can_commit matrices.items) }
+        ensures matrices { IfOk result (λ made. matrices_in made.1 ≡ matrices.items) }
+        ensures commitment { IfOk result (λ made. commits_to self.new made.0 made.1) }
+        ensures memory { can_commit matrices.items → IfErr result is_out_of_memory };
+
+    /// Opens an index, which is below the greatest height: of each matrix, in input order, the row that belongs to it, and
+    /// what proves that. The opening is accepted under the commitment.
+    ///
+    /// # Errors
+    ///
+    /// That there is no memory.
+    fn open_batch(
+        &self,
+        alloc: Global,
+        index: usize,
+        prover_data: &Self::ProverData,
+    ) -> Result<BatchOpening<T, Self::Proof>, Self::Error>
+        requires { index < greatest_height M.height_of (matrices_in prover_data.now) }
+        ensures rows { let ms = matrices_in prover_data.now in
+            IfOk result (λ o. row_lists o.opened_values.items ≡ rows_in M.height_of M.row_of row_at ms index) }
+        ensures accepted { let dimensions = dimensions_in M.height_of M.width_of (matrices_in prover_data.now) in
+            (c : Self.Commitment) → commits_to self.now c prover_data.now →
+            IfOk result (λ o. accepts self.now c dimensions index (row_lists o.opened_values.items) o.opening_proof) }
+        ensures memory { IfErr result is_out_of_memory };
+
+    /// The matrices that were committed to, in input order.
+    ///
+    /// # Errors
+    ///
+    /// That there is no memory.
+    fn get_matrices<'a>(
+        &self,
+        alloc: Global,
+        prover_data: &'a Self::ProverData,
+    ) -> Result<Vec<&'a M>, Self::Error>
+        ensures matrices { IfOk result (λ v. map (λ m. m.now) v.items ≡ matrices_in prover_data.now) }
+        ensures memory { IfErr result is_out_of_memory };
+
+    /// The greatest height of the matrices, in rows.
+    fn get_max_height(&self, prover_data: &Self::ProverData) -> usize
+        ensures { result ≡ greatest_height M.height_of (matrices_in prover_data.now) };
+
+    /// Checks an opening of an index against a commitment: Ok if it is accepted. It has a row for each of `dimensions`,
+    /// which are those of the matrices, and as wide as that says. They must come from who checks.
+    ///
+    /// # Errors
+    ///
+    /// Why it is not accepted, or that there is no memory.
+    fn verify_batch(
+        &self,
+        alloc: Global,
+        commitment: &Self::Commitment,
+        dimensions: &[Dimensions],
+        index: usize,
+        opening: BatchOpeningRef<'_, T, Self::Proof>,
+    ) -> Result<(), Self::Error>
+        ensures accepted { IsOk result → accepts self.now commitment.now dimensions.now index
+            (row_lists opening.entry.opened_values.now) opening.entry.opening_proof.now }
+        ensures memory { accepts self.now commitment.now dimensions.now index
+            (row_lists opening.entry.opened_values.now) opening.entry.opening_proof.now → IfErr result is_out_of_memory };
+
+    /// Opens several indices at once, each below the greatest height, in any order, and again, too: for each index, in
+    /// query order, what [`open_batch`](Self::open_batch) opens of it, and one proof for all of them.
+    ///
+    /// # Errors
+    ///
+    /// That there is no memory.
+    fn open_multi_batch(
+        &self,
+        alloc: Global,
+        indices: &[usize],
+        prover_data: &Self::ProverData,
+    ) -> Result<(Vec<Vec<Vec<T>>>, Self::MultiProof), Self::Error>
+        requires { All (λ index. index < greatest_height M.height_of (matrices_in prover_data.now)) indices.now }
+        ensures rows { let ms = matrices_in prover_data.now in
+            IfOk result (λ o. row_sets o.0.items ≡ map (rows_in M.height_of M.row_of row_at ms) indices.now) }
+        ensures accepted { let dimensions = dimensions_in M.height_of M.width_of (matrices_in prover_data.now) in
+            (c : Self.Commitment) → commits_to self.now c prover_data.now →
+            IfOk result (λ o. accepts_all self.now c dimensions indices.now (row_sets o.0.items) o.1) }
+        ensures memory { IfErr result is_out_of_memory };
+
+    /// Checks the openings of several indices by one proof against a commitment: Ok if they are accepted. There is a row
+    /// set for each index, with a row for each of `dimensions`, as [`verify_batch`](Self::verify_batch) has them.
+    ///
+    /// # Errors
+    ///
+    /// Why they are not accepted, or that there is no memory.
+    fn verify_multi_batch(
+        &self,
+        alloc: Global,
+        commitment: &Self::Commitment,
+        dimensions: &[Dimensions],
+        indices: &[usize],
+        rows: &[Vec<Vec<T>>],
+        proof: &Self::MultiProof,
+    ) -> Result<(), Self::Error>
+        ensures accepted { IsOk result →
+            accepts_all self.now commitment.now dimensions.now indices.now (row_sets rows.now) proof.now }
+        ensures memory { accepts_all self.now commitment.now dimensions.now indices.now (row_sets rows.now) proof.now →
+            IfErr result is_out_of_memory };
+
+    // To an index belongs the row of that number of the tallest matrix.
+    ghost row_of_tallest: { (height index : ℕ) → row_at height height index ≡ index };
+
+    // It belongs to each matrix as one of its rows.
+    ghost row_below: { (d : Self.ProverData) → let tallest = greatest_height M.height_of (matrices_in d) in
+        All (λ m. (index : ℕ) → index < tallest → row_at tallest (M.height_of m) index < M.height_of m) (matrices_in d) };
+
+    // What one proof shows, and what one proof shows of several indices, each is shown.
+    ghost shown_by_one: { (s : Self) (c : Self.Commitment) (ds : List Dimensions) (index : ℕ) (rows : List (List T)) (proof : Self.Proof) →
+        accepts s c ds index rows proof → is_shown s c ds index rows };
+
+    ghost shown_by_all: { (s : Self) (c : Self.Commitment) (ds : List Dimensions) (indices : List ℕ) (sets : List (List (List T))) (proof : Self.MultiProof) →
+        accepts_all s c ds indices sets proof → AllZip (is_shown s c ds) indices sets };
+
+    // Schemes that agree are as good as each other.
+    ghost agreement: { IsEquivalence agrees };
+
+    ghost agreed_commitment: { (s t : Self) (c : Self.Commitment) (d : Self.ProverData) →
+        agrees s t → commits_to s c d → commits_to t c d };
+
+    ghost agreed_proof: { (s t : Self) (c : Self.Commitment) (ds : List Dimensions) (index : ℕ) (rows : List (List T)) (proof : Self.Proof) →
+        agrees s t → accepts s c ds index rows proof → accepts t c ds index rows proof };
+
+    ghost agreed_proof_of_all: { (s t : Self) (c : Self.Commitment) (ds : List Dimensions) (indices : List ℕ) (sets : List (List (List T))) (proof : Self.MultiProof) →
+        agrees s t → accepts_all s c ds indices sets proof → accepts_all t c ds indices sets proof };
+}
