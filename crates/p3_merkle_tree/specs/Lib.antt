@@ -6,3 +6,5 @@ pub use Rattle.p3_merkle_checker.specs.Paths
 pub use Rattle.p3_merkle_checker.specs.Collisions
 pub use Rattle.p3_merkle_checker.specs.Checks
 pub mod Schemes
+pub mod Commitments
+pub mod CommitmentLaws

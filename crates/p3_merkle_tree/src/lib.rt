@@ -6,6 +6,7 @@ mod extract;
 pub mod mmcs;
 mod pruned;
 mod schedule;
+mod scheme_trait;
 
 pub use mmcs::MerkleTreeMmcs;
 pub use p3_merkle_builder::tree;

@@ -1,0 +1,189 @@
+//! The scheme as one of the schemes that commit to matrices.
+
+ghost use Rattle.std.specs.Prelude.{◌≡◌, ◌<◌, All, IfErr, IfOk, IsOk};
+ghost use Rattle.p3_merkle_builder.specs.Parts.{layers_of, matrices_of, tree_batch};
+ghost use Rattle.p3_merkle_builder.specs.Views.{heights_in};
+ghost use Rattle.p3_merkle_core.specs.Geometry.{heights, shape_of, tallest, IsLawful};
+ghost use Rattle.p3_merkle_core.specs.Nodes.{shape};
+ghost use Rattle.p3_merkle_core.specs.Openings.{opening_of, IsAccepted};
+ghost use Rattle.p3_merkle_core.specs.PrunedCalls.{IsPrunedAccepted};
+ghost use Rattle.p3_merkle_core.specs.Pruning.{pruned_of};
+ghost use Rattle.p3_merkle_core.specs.declared.error.MerkleTreeError.TheVariants.{OutOfMemory};
+ghost use Rattle.p3_merkle_tree.specs.CommitmentLaws.{at_same, each_shown, row_in_matrix, same_is_equivalence, tallest_at_index};
+ghost use Rattle.p3_merkle_tree.specs.Commitments.{halved_index, IsCommitment, IsSameScheme, IsShown};
+ghost use Rattle.p3_merkle_tree.specs.Schemes.{opening_lent, proof_layer, scheme_functions};
+ghost use Rattle.p3_support.specs.Batches.{greatest_height};
+ghost use Rattle.p3_support.specs.Shown.{roots_of};
+
+use crate::mmcs::MerkleTreeMmcs;
+use p3_merkle_builder::tree::{MerkleTree, Tree};
+use p3_merkle_core::error::MerkleTreeError;
+use p3_merkle_core::pruning::PrunedMerklePaths;
+use p3_support::compress::PseudoCompressionFunction;
+use p3_support::hasher::CryptographicHasher;
+use p3_support::matrix::{Dimensions, Matrix};
+use p3_support::mmcs::Mmcs;
+use p3_support::opening::{BatchOpening, BatchOpeningRef, MerkleCap};
+use p3_support::packed::PackedValue;
+use std::alloc::Global;
+
+/// The calls of the scheme. What is committed to is a tree, and a commitment is its cap.
+impl<
+    P: PackedValue,
+    PW: PackedValue,
+    H: CryptographicHasher<P, PW, D>,
+    C: PseudoCompressionFunction<PW, N, D>,
+    M: Matrix<P::Value> + Drop,
+    const N: usize,
+    const D: usize,
+> Mmcs<P::Value, M> for MerkleTreeMmcs<P, PW, H, C, N, D> {
+    type ProverData = MerkleTree<P::Value, PW::Value, M, N, D>;
+
+    type Commitment = MerkleCap<P::Value, [PW::Value; D]>;
+
+    type Proof = Vec<[PW::Value; D]>;
+
+    type MultiProof = PrunedMerklePaths<PW::Value, D>;
+
+    type Error = MerkleTreeError;
+
+    ghost is_out_of_memory = { λ e. e ≡ OutOfMemory };
+
+    ghost agrees = { λ s t. IsSameScheme s t };
+
+    ghost can_commit = { λ ms. IsLawful (heights_in M.height_of M.width_of M.row_of ms) };
+
+    ghost matrices_in = { λ tree. matrices_of tree };
+
+    ghost commits_to = { λ s cap tree. let b = tree_batch tree in
+        IsCommitment (scheme_functions H.hash C.compression D s) (proof_layer s (shape b)) (roots_of cap) b (layers_of tree) };
+
+    ghost row_at = { halved_index };
+
+    ghost is_shown = { λ s cap dimensions index rows. let sh = shape_of N dimensions in
+        IsShown (scheme_functions H.hash C.compression D s) sh (proof_layer s sh) (roots_of cap) index rows };
+
+    ghost accepts = { λ s cap dimensions index rows siblings. let sh = shape_of N dimensions in
+        IsAccepted (scheme_functions H.hash C.compression D s) sh (proof_layer s sh) (roots_of cap)
+        (opening_of index rows siblings.items) };
+
+    ghost accepts_all = { λ s cap dimensions indices sets proof. let sh = shape_of N dimensions in
+        IsPrunedAccepted (scheme_functions H.hash C.compression D s) sh (proof_layer s sh) (roots_of cap)
+        (pruned_of indices sets proof.sibling_hashes.items) };
+
+    fn commit(
+        &mut self,
+        alloc: Global,
+        matrices: Vec<M>,
+    ) -> Result<(Self::Commitment, Self::ProverData), Self::Error>
+        ensures agrees { IsSameScheme self.old self.new }
+        ensures taken { IfOk result (λ made. IsLawful (heights_in M.height_of M.width_of M.row_of matrices.items)) }
+        ensures matrices { IfOk result (λ made. matrices_of made.1 ≡ matrices.items) }
+        ensures commitment { let f = scheme_functions H.hash C.compression D self.new in
+            IfOk result (λ made. let b = tree_batch made.1 in
+            IsCommitment f (proof_layer self.new (shape b)) (roots_of made.0) b (layers_of made.1)) }
+        ensures memory { IsLawful (heights_in M.height_of M.width_of M.row_of matrices.items) →
+            IfErr result (λ e. e ≡ OutOfMemory) }
+    {
+        Self::commit(self, alloc, matrices)
+    }
+
+    fn open_batch(
+        &self,
+        alloc: Global,
+        index: usize,
+        prover_data: &Self::ProverData,
+    ) -> Result<BatchOpening<P::Value, Self::Proof>, Self::Error> {
+        tell_index(prover_data, index);
+        self.open_batch(alloc, index, prover_data)
+    }
+
+    fn get_matrices<'a>(
+        &self,
+        alloc: Global,
+        prover_data: &'a Self::ProverData,
+    ) -> Result<Vec<&'a M>, Self::Error> {
+        self.get_matrices(alloc, prover_data)
+    }
+
+    fn get_max_height(&self, prover_data: &Self::ProverData) -> usize {
+        self.get_max_height(prover_data)
+    }
+
+    fn verify_batch(
+        &self,
+        alloc: Global,
+        commitment: &Self::Commitment,
+        dimensions: &[Dimensions],
+        index: usize,
+        opening: BatchOpeningRef<'_, P::Value, Self::Proof>,
+    ) -> Result<(), Self::Error>
+        ensures accepted { let sh = shape_of N dimensions.now in
+            IsOk result → IsAccepted (scheme_functions H.hash C.compression D self.now) sh (proof_layer self.now sh)
+            (roots_of commitment.now) (opening_lent index opening.entry) }
+        ensures memory { let sh = shape_of N dimensions.now in
+            IsAccepted (scheme_functions H.hash C.compression D self.now) sh (proof_layer self.now sh)
+            (roots_of commitment.now) (opening_lent index opening.entry) → IfErr result (λ e. e ≡ OutOfMemory) }
+    {
+        self.verify_batch(commitment, dimensions, index, opening)
+    }
+
+    fn open_multi_batch(
+        &self,
+        alloc: Global,
+        indices: &[usize],
+        prover_data: &Self::ProverData,
+    ) -> Result<(Vec<Vec<Vec<P::Value>>>, Self::MultiProof), Self::Error> {
+        tell_indices(prover_data, indices);
+        let opening = self.open_batch_pruned(alloc, indices, prover_data)?;
+        Ok((opening.opened_values, opening.pruned_proof))
+    }
+
+    fn verify_multi_batch(
+        &self,
+        alloc: Global,
+        commitment: &Self::Commitment,
+        dimensions: &[Dimensions],
+        indices: &[usize],
+        rows: &[Vec<Vec<P::Value>>],
+        proof: &Self::MultiProof,
+    ) -> Result<(), Self::Error> {
+        self.verify_multi_batch(alloc, commitment, dimensions, indices, rows, proof)
+    }
+
+    ghost row_of_tallest = { tallest_at_index };
+
+    ghost row_below = { λ tree. row_in_matrix M.height_of M.width_of M.row_of N (matrices_of tree) tree.lawful };
+
+    ghost shown_by_one = { λ s cap dimensions index rows siblings accepted. (siblings.items, accepted) };
+
+    ghost shown_by_all = { λ s cap dimensions indices sets proof accepted. let sh = shape_of N dimensions in
+        each_shown (scheme_functions H.hash C.compression D s) sh (proof_layer s sh) (roots_of cap)
+        (pruned_of indices sets proof.sibling_hashes.items) accepted };
+
+    ghost agreement = { same_is_equivalence };
+
+    ghost agreed_commitment = { λ s t cap tree. let b = tree_batch tree in
+        at_same H.hash C.compression D (shape b) s t (λ f l. IsCommitment f l (roots_of cap) b (layers_of tree)) };
+
+    ghost agreed_proof = { λ s t cap dimensions index rows siblings. let sh = shape_of N dimensions in
+        at_same H.hash C.compression D sh s t (λ f l. IsAccepted f sh l (roots_of cap) (opening_of index rows siblings.items)) };
+
+    ghost agreed_proof_of_all = { λ s t cap dimensions indices sets proof. let sh = shape_of N dimensions in
+        at_same H.hash C.compression D sh s t (λ f l. IsPrunedAccepted f sh l (roots_of cap) (pruned_of indices sets proof.sibling_hashes.items)) };
+}
+
+/// Tells that an index below the greatest height is below the tallest one of the tree. It does nothing at run time.
+fn tell_index<F, X, G, M: Matrix<F>, const N: usize>(tree: &Tree<F, X, G, M, N>, index: usize)
+    requires { index < greatest_height M.height_of (matrices_of tree.now) }
+    ensures { index < tallest (heights (shape (tree_batch tree.now))) }
+{}
+
+/// The same of several indices.
+fn tell_indices<F, X, G, M: Matrix<F>, const N: usize>(
+    tree: &Tree<F, X, G, M, N>,
+    indices: &[usize],
+)
+    requires { All (λ index. index < greatest_height M.height_of (matrices_of tree.now)) indices.now }
+    ensures { All (λ index. index < tallest (heights (shape (tree_batch tree.now)))) indices.now }
+{}
