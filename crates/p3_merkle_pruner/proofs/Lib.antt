@@ -5,3 +5,6 @@ mod LayerFacts
 mod PathFacts
 mod RootFacts
 pub mod StartFacts
+mod PlaceFacts
+mod PairFacts
+mod QueryFacts

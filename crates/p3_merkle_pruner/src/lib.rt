@@ -7,6 +7,7 @@ mod groups;
 mod leads;
 mod leaves;
 mod level;
+pub mod pairs;
 pub mod paths;
 pub mod plan;
 pub mod restored;
