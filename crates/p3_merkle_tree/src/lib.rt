@@ -3,6 +3,7 @@
 #![tactic(auto)]
 
 mod extract;
+mod extract_multi;
 pub mod mmcs;
 mod pruned;
 mod schedule;
