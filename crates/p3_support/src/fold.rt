@@ -8,6 +8,7 @@ ghost use Rattle.p3_support.specs.Lists.{lane_of};
 ghost use Rattle.p3_support.specs.Fold.{fold_hash, fold_compress, take_in, start as start_of, mix_in, length-fold_hash};
 
 use crate::compress::PseudoCompressionFunction;
+use crate::eights::{compress_all, hash_all};
 use crate::hasher::CryptographicHasher;
 use crate::packed::PackedValue;
 use std::convert::AsSlice;
@@ -46,7 +47,7 @@ fn low_bits(index: usize) -> u32
 }
 
 /// The state before the first word, in each lane.
-fn start<P: FoldLane, const D: usize>() -> [P; D]
+pub(crate) fn start<P: FoldLane, const D: usize>() -> [P; D]
     ensures { (k : ℕ) → k < P.WIDTH → lane_of P.lanes P.default_value k result ≡ fold_hash D [] }
 {
     std::array::from_fn(
@@ -58,7 +59,7 @@ fn start<P: FoldLane, const D: usize>() -> [P; D]
 }
 
 /// The state after one more word, lane by lane.
-fn absorb<P: FoldLane, const D: usize>(state: &mut [P; D], word: P)
+pub(crate) fn absorb<P: FoldLane, const D: usize>(state: &mut [P; D], word: P)
     ensures { (k : ℕ) → k < P.WIDTH →
         lane_of P.lanes P.default_value k state.new
         ≡ map (λ s. take_in s (slice_index_or (P.lanes word) k P.default_value))
@@ -94,7 +95,7 @@ fn hash_lanes<P: FoldLane, I: Iterator<Item = P>, const D: usize>(input: I) -> [
 }
 
 /// The digest of a slice.
-fn hash_words<const D: usize>(words: &[u32]) -> [u32; D]
+pub(crate) fn hash_words<const D: usize>(words: &[u32]) -> [u32; D]
     ensures { result ≡ fold_hash D words.now }
 {
     let mut state = start();
@@ -139,9 +140,7 @@ impl<P: FoldLane, const L: usize, const D: usize> CryptographicHasher<P, P, D> f
             return;
         }
         let width = messages.len() / out.len();
-        for (i, digest) in out.iter_mut().enumerate() {
-            *digest = hash_words(&messages[i * width..(i + 1) * width]);
-        }
+        hash_all(messages, width, out);
     }
 
     fn hash_packed<I: Iterator<Item = P>>(&self, input: I) -> [P; D] {
@@ -166,7 +165,9 @@ fn mix<P: FoldLane, const D: usize>(digest: &mut [P; D], child: &[P; D], place: 
 }
 
 /// The digests of the groups of children that stand in the lanes.
-fn compress_lanes<P: FoldLane, const N: usize, const D: usize>(children: &[[P; D]; N]) -> [P; D]
+pub(crate) fn compress_lanes<P: FoldLane, const N: usize, const D: usize>(
+    children: &[[P; D]; N],
+) -> [P; D]
     ensures { (k : ℕ) → k < P.WIDTH →
         lane_of P.lanes P.default_value k result
         ≡ fold_compress D (map (lane_of P.lanes P.default_value k) children.now) }
@@ -179,7 +180,7 @@ fn compress_lanes<P: FoldLane, const N: usize, const D: usize>(children: &[[P; D
 }
 
 /// The digest of one group.
-fn compress_group<const N: usize, const D: usize>(children: &[[u32; D]; N]) -> [u32; D]
+pub(crate) fn compress_group<const N: usize, const D: usize>(children: &[[u32; D]; N]) -> [u32; D]
     ensures { result ≡ fold_compress D children.now }
 {
     compress_lanes(children)
@@ -204,9 +205,7 @@ impl<P: FoldLane, const N: usize, const L: usize, const D: usize> PseudoCompress
     }
 
     fn compress_many(&self, groups: &[[[u32; D]; N]], out: &mut [[u32; D]]) {
-        for (i, digest) in out.iter_mut().enumerate() {
-            *digest = compress_group(&groups[i]);
-        }
+        compress_all(groups, out);
     }
 
     fn compress_packed(&self, input: [[P; D]; N]) -> [P; D]

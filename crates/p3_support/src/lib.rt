@@ -4,6 +4,7 @@
 
 pub mod batched;
 pub mod compress;
+mod eights;
 pub mod fold;
 pub mod hasher;
 pub mod lanes;

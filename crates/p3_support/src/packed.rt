@@ -1,5 +1,5 @@
 //! Packed values: several values of one type that are worked on together.
-ghost use Rattle.std.specs.Prelude.{◌≡◌, ◌≢◌, ℕ, ◌<◌, List, [], ◌∷◌, length, map, refl, replicate, slice_index_or, slice_set};
+ghost use Rattle.std.specs.Prelude.{◌≡◌, ◌≢◌, ℕ, ◌+◌, ◌<◌, ◌≤◌, List, [], ◌∷◌, length, map, refl, replicate, slice_index_or, slice_set};
 ghost use Rattle.std.specs.Bool.{Decides};
 ghost use Rattle.std.specs.Cmp.{unsigned_Decides};
 ghost use Rattle.std.specs.List.{range_with_len};
@@ -154,6 +154,23 @@ pub fn unpack_into<PW: PackedValue, const D: usize>(packed: &[PW; D], rows: &mut
     for (k, row) in rows.iter_mut().enumerate() {
         *row = lane_values(packed, k);
     }
+}
+
+/// Takes packed values apart into the rows from `first` on, a row for each lane: `rows[first + k][e]`
+/// becomes lane `k` of `packed[e]`. `first + PW::WIDTH` is at most the number of rows.
+pub fn unpack_at<PW: PackedValue, const D: usize>(
+    packed: &[PW; D],
+    rows: &mut [[PW::Value; D]],
+    first: usize,
+)
+    requires { first + PW.WIDTH ≤ length rows.old }
+    ensures long { length rows.new ≡ length rows.old }
+    ensures lanes { (k : ℕ) → k < PW.WIDTH →
+        slice_index_or rows.new (first + k) [] ≡ lane_of PW.lanes PW.default_value k packed.now }
+    ensures before { (j : ℕ) → j < first →
+        slice_index_or rows.new j [] ≡ slice_index_or rows.old j [] }
+{
+    unpack_into(packed, &mut rows[first..first + PW::WIDTH]);
 }
 
 /// Writes a column into lane `k` of the packed values, and leaves the other lanes.

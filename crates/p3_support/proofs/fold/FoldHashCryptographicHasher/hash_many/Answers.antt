@@ -1,5 +1,4 @@
-use Rattle.std.proofs.Common.{arith, rules, ◌≡◌, ◌<◌, ◌/◌, ◌∙◌, sym, ap, length, []}
-use Rattle.std.proofs.lemmas.Grind.{common_steps}
+use Rattle.std.proofs.Common.{rules, ◌≡◌, ◌<◌, ◌/◌, ◌∙◌, sym, ap, length, []}
 use Rattle.std.specs.List.{range_with_len}
 use Rattle.std.proofs.Math.Nat.{mul-div_cancel}
 use Rattle.std.proofs.lemmas.List.FromFn.{fill_by_all}
@@ -15,8 +14,5 @@ returns g c = λ w e.
     let some : 0 < n = search rules in
     let width : length xs / n ≡ w = rw e (mul-div_cancel w some) in
     let hash = fold_hash g.row.D in
-    fill_by_all (λ i. hash (message w xs i)) c.loop-i.out n [] c.loop-i.invariant.0 (λ k h. c.loop-i.invariant.1 k (omega arith) ∙ ap (λ v. hash (message v xs k)) width)
+    fill_by_all (λ i. hash (message w xs i)) c.hash_all.new.out n [] c.hash_all.ensures.long (λ k h. c.hash_all.ensures.filled k h ∙ ap (λ v. hash (message v xs k)) width)
     ∙ sym (map-map hash (message w xs) (range_with_len 0 n))
-
-pub loop-i-preserved : goal.loop-i-preserved
-loop-i-preserved g c = grind (arith, common_steps)
