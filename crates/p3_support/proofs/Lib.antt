@@ -4,3 +4,4 @@ pub mod Fills
 pub mod FoldSteps
 pub mod RowReads
 pub mod LaneReads
+pub mod Turns

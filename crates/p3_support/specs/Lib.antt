@@ -5,3 +5,5 @@ pub mod RowLengths
 pub mod RowMajor
 pub mod Sha
 pub mod Shown
+pub mod Eights
+pub mod Turned

@@ -1,12 +1,16 @@
 //! The fold functions of many messages and of many groups, eight at a time: each of the eight in a
 //! lane of its own.
-ghost use Rattle.std.specs.Prelude.{◌≡◌, ℕ, ◌+◌, ◌*◌, ◌/◌, ◌^◌, ◌<◌, ◌≤◌, [], length, map, slice_index_or};
+ghost use Rattle.std.specs.Prelude.{◌≡◌, ℕ, ◌+◌, ◌*◌, ◌/◌, ◌^◌, ◌<◌, ◌≤◌, [], length, map, slice_index_or, slice_range, take};
 ghost use Rattle.p3_support.specs.Lists.{lane_of, message as message_of};
-ghost use Rattle.p3_support.specs.Fold.{fold_hash, fold_compress};
+ghost use Rattle.std.specs.List.{fold as folded};
+ghost use Rattle.p3_support.specs.Eights.{lanes_of};
+ghost use Rattle.p3_support.specs.Turned.{turned};
+ghost use Rattle.p3_support.specs.Fold.{fold_hash, fold_compress, take_in};
 
 use crate::fold::{FoldLane, absorb, compress_group, compress_lanes, hash_words, start};
-use crate::lanes::U32x8;
+use crate::lanes::{U32x8, turn_four};
 use crate::packed::{pack_columns_fn, unpack_at};
+use std::simd::prelude::*;
 
 /// The word of a message at a column. The messages lie one after another, of `width` words each.
 fn word_at(messages: &[u32], width: usize, message: usize, column: usize) -> u32
@@ -37,18 +41,118 @@ fn column_of<P: FoldLane>(messages: &[u32], width: usize, first: usize, column: 
     )
 }
 
-/// The digests of as many messages as `P` has lanes, from message `first` on.
-fn hash_columns<P: FoldLane, const D: usize>(messages: &[u32], width: usize, first: usize) -> [P; D]
+/// The state after the columns from `from` on, where it is that after those before.
+fn absorb_columns<P: FoldLane, const D: usize>(
+    state: &mut [P; D],
+    messages: &[u32],
+    width: usize,
+    first: usize,
+    from: usize,
+)
     requires full { (n : ℕ) × (first + P.WIDTH ≤ n) × (length messages.now ≡ n * width) }
     requires room { first + P.WIDTH < 2 ^ 64 }
+    requires inside { from ≤ width }
+    requires before { (k : ℕ) → k < P.WIDTH →
+        lane_of P.lanes P.default_value k state.old
+        ≡ fold_hash D (take from (message_of width messages.now (first + k))) }
     ensures { (k : ℕ) → k < P.WIDTH →
-        lane_of P.lanes P.default_value k result
+        lane_of P.lanes P.default_value k state.new
+        ≡ fold_hash D (message_of width messages.now (first + k)) }
+{
+    for column in from..width {
+        absorb(state, column_of(messages, width, first, column));
+    }
+}
+
+/// The state after several packed words.
+fn absorb_words<P: FoldLane, const D: usize>(state: &mut [P; D], words: &[P])
+    ensures { (k : ℕ) → k < P.WIDTH →
+        lane_of P.lanes P.default_value k state.new
+        ≡ map (λ s. folded take_in s (lane_of P.lanes P.default_value k words.now))
+        (lane_of P.lanes P.default_value k state.old) }
+{
+    for word in words {
+        absorb(state, *word);
+    }
+}
+
+/// Four words of a message, from `column` on.
+fn words_at(messages: &[u32], width: usize, message: usize, column: usize) -> &[u32]
+    requires full { (n : ℕ) × (message < n) × (length messages.now ≡ n * width) }
+    requires inside { column + 4 ≤ width }
+    ensures words { result.now
+        ≡ slice_range (message_of width messages.now message) column (column + 4) }
+    ensures long { length result.now ≡ 4 }
+{
+    let words = &messages[message * width..(message + 1) * width];
+    &words[column..column + 4]
+}
+
+/// Four columns of four messages, from message `first` and from `column` on.
+fn four_columns(messages: &[u32], width: usize, first: usize, column: usize) -> [u32x4; 4]
+    requires full { (n : ℕ) × (first + 4 ≤ n) × (length messages.now ≡ n * width) }
+    requires room { first + 4 < 2 ^ 64 }
+    requires inside { column + 4 ≤ width }
+    ensures columns { let row = (λ (k : ℕ). slice_range (message_of width messages.now (first + k)) column (column + 4)) in
+        result ≡ turned (row 0) (row 1) (row 2) (row 3) }
+    ensures long { (k : ℕ) → k < 4 →
+        length (slice_range (message_of width messages.now (first + k)) column (column + 4)) ≡ 4 }
+{
+    turn_four(
+        words_at(messages, width, first, column),
+        words_at(messages, width, first + 1, column),
+        words_at(messages, width, first + 2, column),
+        words_at(messages, width, first + 3, column),
+    )
+}
+
+/// Four columns of eight messages, from message `first` and from `column` on.
+fn columns_of_eight(messages: &[u32], width: usize, first: usize, column: usize) -> [U32x8; 4]
+    requires full { (n : ℕ) × (first + 8 ≤ n) × (length messages.now ≡ n * width) }
+    requires room { first + 8 < 2 ^ 64 }
+    requires inside { column + 4 ≤ width }
+    ensures { (k : ℕ) → k < 8 → lane_of lanes_of 0 k result
+        ≡ slice_range (message_of width messages.now (first + k)) column (column + 4) }
+{
+    let front = four_columns(messages, width, first, column);
+    let back = four_columns(messages, width, first + 4, column);
+    [
+        U32x8::join(front[0], back[0]),
+        U32x8::join(front[1], back[1]),
+        U32x8::join(front[2], back[2]),
+        U32x8::join(front[3], back[3]),
+    ]
+}
+
+/// The state after the words of eight messages, four columns at a time, but for the columns after
+/// the last whole four.
+fn absorb_fours<const D: usize>(
+    state: &mut [U32x8; D],
+    messages: &[u32],
+    width: usize,
+    first: usize,
+)
+    requires full { (n : ℕ) × (first + 8 ≤ n) × (length messages.now ≡ n * width) }
+    requires room { first + 8 < 2 ^ 64 }
+    requires before { (k : ℕ) → k < 8 → lane_of lanes_of 0 k state.old ≡ fold_hash D [] }
+    ensures { (k : ℕ) → k < 8 → lane_of lanes_of 0 k state.new
+        ≡ fold_hash D (take (4 * (width / 4)) (message_of width messages.now (first + k))) }
+{
+    for block in 0..width / 4 {
+        absorb_words(state, &columns_of_eight(messages, width, first, 4 * block));
+    }
+}
+
+/// The digests of eight messages, from message `first` on.
+fn hash_eight<const D: usize>(messages: &[u32], width: usize, first: usize) -> [U32x8; D]
+    requires full { (n : ℕ) × (first + 8 ≤ n) × (length messages.now ≡ n * width) }
+    requires room { first + 8 < 2 ^ 64 }
+    ensures { (k : ℕ) → k < 8 → lane_of lanes_of 0 k result
         ≡ fold_hash D (message_of width messages.now (first + k)) }
 {
     let mut state = start();
-    for column in 0..width {
-        absorb(&mut state, column_of(messages, width, first, column));
-    }
+    absorb_fours(&mut state, messages, width, first);
+    absorb_columns(&mut state, messages, width, first, 4 * (width / 4));
     state
 }
 
@@ -60,7 +164,7 @@ fn hash_eights<const D: usize>(messages: &[u32], width: usize, out: &mut [[u32; 
         slice_index_or out.new j [] ≡ fold_hash D (message_of width messages.now j) }
 {
     for group in 0..out.len() / 8 {
-        let digests: [U32x8; D] = hash_columns(messages, width, 8 * group);
+        let digests: [U32x8; D] = hash_eight(messages, width, 8 * group);
         unpack_at(&digests, out, 8 * group);
     }
 }

@@ -2,6 +2,7 @@
 ghost use Rattle.std.specs.Prelude.{◌≡◌, ℕ, ◌<◌, ◌∷◌, [], length, slice_index_or, refl};
 ghost use Rattle.std.specs.Cmp.{unsigned_Decides};
 ghost use Rattle.p3_support.specs.Fold.{take_in};
+ghost use Rattle.p3_support.specs.Turned.{turned};
 
 use crate::fold::FoldLane;
 use crate::packed::PackedValue;
@@ -83,6 +84,26 @@ pub struct U32x8 {
     ghost long: { length lanes ≡ 8 },
 }
 
+impl U32x8 {
+    ghost use Rattle.std.specs.Prelude.{◌++◌};
+    ghost use Rattle.p3_support.specs.Eights.{lanes_of};
+
+    /// The lanes of one vector of four, then those of another.
+    pub(crate) fn join(front: u32x4, back: u32x4) -> U32x8
+        requires front { length front ≡ 4 }
+        requires back { length back ≡ 4 }
+        ensures { lanes_of result ≡ front ++ back }
+    {
+        let front = front.to_array();
+        let back = back.to_array();
+        U32x8 {
+            lanes: u32x8::from_array([
+                front[0], front[1], front[2], front[3], back[0], back[1], back[2], back[3],
+            ]),
+        }
+    }
+}
+
 impl PackedValue for U32x8 {
     type Value = u32;
 
@@ -132,4 +153,19 @@ impl FoldLane for U32x8 {
             lanes: self.lanes + u32x8::splat(number),
         }
     }
+}
+
+/// Four words of four rows each, turned: value `i` has word `i` of each row.
+pub(crate) fn turn_four(first: &[u32], second: &[u32], third: &[u32], fourth: &[u32]) -> [u32x4; 4]
+    requires first { length first.now ≡ 4 }
+    requires second { length second.now ≡ 4 }
+    requires third { length third.now ≡ 4 }
+    requires fourth { length fourth.now ≡ 4 }
+    ensures { result ≡ turned first.now second.now third.now fourth.now }
+{
+    let (front_odd, back_odd) = u32x4::from_slice(first).interleave(u32x4::from_slice(third));
+    let (front_even, back_even) = u32x4::from_slice(second).interleave(u32x4::from_slice(fourth));
+    let (zeroth, next) = front_odd.interleave(front_even);
+    let (last_but_one, last) = back_odd.interleave(back_even);
+    [zeroth, next, last_but_one, last]
 }

@@ -4,7 +4,7 @@ use Rattle.p3_support.specs.Fold.{fold_hash, take_in}
 use Rattle.p3_support.specs.Lists.{lane_of, message}
 use Rattle.p3_support.specs.RowLengths.{length-message}
 use Rattle.p3_support.proofs.FoldSteps.{fold_hash-append}
-use Rattle.p3_support.proofs.eights.hash_columns.Goals as goal
+use Rattle.p3_support.proofs.eights.absorb_columns.Goals as goal
 
 pub loop-column-preserved : goal.loop-column-preserved
 loop-column-preserved g c = λ k below.

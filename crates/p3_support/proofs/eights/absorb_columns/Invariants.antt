@@ -1,7 +1,7 @@
 use Rattle.std.proofs.Common.{◌≡◌, ℕ, ◌+◌, ◌<◌, take}
 use Rattle.p3_support.specs.Fold.{fold_hash}
 use Rattle.p3_support.specs.Lists.{lane_of, message}
-use Rattle.p3_support.proofs.eights.hash_columns.Given as goal
+use Rattle.p3_support.proofs.eights.absorb_columns.Given as goal
 
 abbrev pub invariant-loop-column : goal.invariant-loop-column
 invariant-loop-column g l = (k : ℕ) → k < g.P.PackedValue.WIDTH
