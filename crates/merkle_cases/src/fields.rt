@@ -1,7 +1,7 @@
 //! The fields of a case: what stands between the bars of its line.
 
-use crate::lists;
 use crate::scheme::Cap;
+use crate::{batches, lists, queries};
 use p3_merkle_tree::{CapRule, MerkleTreeError};
 use p3_support::matrix::{Dimensions, RowMajorMatrix};
 use std::alloc::{AllocError, AllocFailed, Global};
@@ -11,6 +11,8 @@ use std::alloc::{AllocError, AllocFailed, Global};
 pub enum Fault {
     /// A call refuses what it is handed, which is an answer, too.
     Refused(MerkleTreeError),
+    /// What is answered is not as it should be, in this way.
+    Wrong(&'static str),
     /// The line can't be read, for this reason.
     Unreadable(&'static str),
 }
@@ -39,6 +41,7 @@ pub struct Fields<'a> {
     fields: &'a [&'a str],
     next: usize,
     rule: CapRule,
+    is_for_any_rule: bool,
 }
 
 impl<'a> Fields<'a> {
@@ -48,7 +51,13 @@ impl<'a> Fields<'a> {
             fields,
             next: 0,
             rule,
+            is_for_any_rule: false,
         }
+    }
+
+    /// Whether a cap has been read that names no rule, so that the line speaks of each rule.
+    pub fn is_for_any_rule(&self) -> bool {
+        self.is_for_any_rule
     }
 
     /// The next field, without the blanks around it.
@@ -74,12 +83,19 @@ impl<'a> Fields<'a> {
 
     /// The cap that the next field is: its height, and `l` or `f` after it where it has a rule of its own.
     pub fn cap(&mut self) -> Result<Cap, Fault> {
-        lists::cap_of(self.take()?, self.rule)
+        let cap = self.take()?;
+        self.is_for_any_rule = !cap.ends_with('l') && !cap.ends_with('f');
+        lists::cap_of(cap, self.rule)
     }
 
     /// The numbers of the next field.
     pub fn numbers(&mut self, alloc: Global) -> Result<Vec<usize>, Fault> {
         lists::numbers_of(alloc, self.take()?)
+    }
+
+    /// The lists of numbers of the next field.
+    pub fn lists(&mut self, alloc: Global) -> Result<Vec<Vec<usize>>, Fault> {
+        queries::written_lists(alloc, self.take()?)
     }
 
     /// The words of the next field.
@@ -105,6 +121,11 @@ impl<'a> Fields<'a> {
     /// The dimensions of the next field.
     pub fn dimensions(&mut self, alloc: Global) -> Result<Vec<Dimensions>, Fault> {
         lists::dimensions_of(alloc, self.take()?)
+    }
+
+    /// The dimensions of the batches of the next field.
+    pub fn batches(&mut self, alloc: Global) -> Result<Vec<Vec<Dimensions>>, Fault> {
+        batches::batches_of(alloc, self.take()?)
     }
 
     /// The dimensions of columns, whose heights are the next field.

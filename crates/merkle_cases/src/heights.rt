@@ -5,22 +5,22 @@ ghost use Rattle.p3_merkle_core.specs.Geometry.{is_arity};
 
 use crate::fields::{Fault, Fields};
 use crate::lists::columns_of;
-use crate::scheme::{FoldOpening, FoldTree, Numbers, ROOT, fold_scheme, fold_tree, numbered};
+use crate::scheme::{FoldOpening, FoldTree, ROOT, fold_scheme, fold_tree, numbered, tall_columns};
 use crate::text;
 use p3_merkle_core::geometry::check_heights;
 use p3_merkle_tree::{BatchOpening, BatchOpeningRef, MerkleCap, MerkleTreeError};
-use p3_support::matrix::Dimensions;
+use p3_support::matrix::{Dimensions, RowMajorMatrix};
 use std::alloc::{AllocError, Global};
 
 /// What committing to columns of these heights answers.
 fn committed(alloc: Global, heights: &[usize]) -> Result<(), MerkleTreeError> {
-    fold_scheme::<2>(ROOT).commit(alloc, numbered(alloc, heights)?)?;
+    fold_scheme::<2>(ROOT).commit(alloc, tall_columns(alloc, heights)?)?;
     Ok(())
 }
 
 /// What building a tree over them answers.
 fn build(alloc: Global, heights: &[usize]) -> Result<(), MerkleTreeError> {
-    fold_tree::<_, 2>(alloc, numbered(alloc, heights)?)?;
+    fold_tree::<_, 2>(alloc, tall_columns(alloc, heights)?)?;
     Ok(())
 }
 
@@ -81,7 +81,10 @@ fn padding_of(layer: &[[u32; 1]]) -> usize {
 }
 
 /// Of each layer of a tree, leaves first, how many of its slots are nodes.
-fn lengths_in<const N: usize>(alloc: Global, tree: &FoldTree<Numbers, N>) -> Result<String, Fault> {
+fn lengths_in<const N: usize>(
+    alloc: Global,
+    tree: &FoldTree<RowMajorMatrix<u32>, N>,
+) -> Result<String, Fault> {
     let mut lengths = Vec::new(alloc);
     for below in (0..tree.num_layers()).rev() {
         let layer = tree.cap(alloc, below)?;
@@ -99,9 +102,9 @@ pub fn shape<const N: usize>(alloc: Global, fields: &mut Fields<'_>) -> Result<S
     requires few { N ≤ 8 }
 {
     let scheme = fold_scheme::<N>(fields.cap()?);
-    let heights = fields.numbers(alloc)?;
-    let steps = scheme.proof_arity_schedule(alloc, &columns_of(alloc, &heights)?)?;
-    let (_, tree) = scheme.commit(alloc, numbered(alloc, &heights)?)?;
+    let dimensions = fields.columns(alloc)?;
+    let steps = scheme.proof_arity_schedule(alloc, &dimensions)?;
+    let (_, tree) = scheme.commit(alloc, numbered(alloc, &dimensions)?)?;
     let steps = text::numbers(alloc, &steps)?;
     text::joined(alloc, &[steps, lengths_in(alloc, &tree)?], " | ")
 }

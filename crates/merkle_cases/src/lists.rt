@@ -129,6 +129,14 @@ pub fn columns_of(alloc: Global, heights: &[usize]) -> Result<Vec<Dimensions>, F
     Ok(dimensions)
 }
 
+/// The matrix of these values with rows of this width.
+pub fn matrix_from(values: Vec<u32>, width: usize) -> Result<RowMajorMatrix<u32>, Fault> {
+    if width == 0 || values.len() % width != 0 {
+        return Err(Fault::Unreadable("a matrix has no words"));
+    }
+    Ok(RowMajorMatrix::new(values, width))
+}
+
 /// The matrix whose rows stand in a text, with `,` between them, and are all as wide.
 fn matrix_of(alloc: Global, text: &str) -> Result<RowMajorMatrix<u32>, Fault> {
     let mut values: Vec<u32> = Vec::new(alloc);
@@ -141,10 +149,7 @@ fn matrix_of(alloc: Global, text: &str) -> Result<RowMajorMatrix<u32>, Fault> {
         width = words.len();
         values.extend_from_slice(&words)?;
     }
-    if width == 0 || values.len() % width != 0 {
-        return Err(Fault::Unreadable("a matrix has no words"));
-    }
-    Ok(RowMajorMatrix::new(values, width))
+    matrix_from(values, width)
 }
 
 /// The matrices in a text, with `;` between them.

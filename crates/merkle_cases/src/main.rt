@@ -10,17 +10,21 @@ ghost use Rattle.std.specs.Prelude.{◌≤◌, IsTrue};
 ghost use Rattle.p3_merkle_core.specs.Geometry.{is_arity};
 
 mod authenticated;
+mod batches;
 mod commit;
 mod extract;
 mod fields;
 mod geometry;
 mod hash;
 mod heights;
+mod known;
 mod lists;
 mod open;
 mod pruned;
+mod queries;
 mod replay;
 mod scheme;
+mod sweep;
 mod text;
 mod verify;
 
@@ -53,6 +57,7 @@ fn answer_at<const N: usize>(
         "pruned_len" => pruned::pruned_len::<N>(alloc, fields),
         "pruned" => pruned::pruned::<N>(alloc, fields),
         "verify_pruned" => pruned::verify_pruned::<N>(alloc, fields),
+        "sweep" => sweep::sweep::<N>(alloc, fields),
         "verify" => verify::verify::<N>(alloc, fields),
         "schedule" => replay::schedule::<N>(alloc, fields),
         "replay" => replay::replay::<N>(alloc, fields),
@@ -73,6 +78,7 @@ fn answer(alloc: Global, fields: &mut Fields<'_>) -> Result<String, Fault> {
         "positions" => geometry::positions(alloc, fields),
         "widths" => geometry::widths(alloc, fields),
         "heights" => heights::heights(alloc, fields),
+        "known" => known::known(alloc, fields),
         keyword => match fields.take()? {
             "2" => answer_at::<2>(alloc, keyword, fields),
             "4" => answer_at::<4>(alloc, keyword, fields),
@@ -94,28 +100,30 @@ fn expected(alloc: Global, fields: &Fields<'_>) -> Result<String, Fault> {
     text::joined(alloc, &texts, " | ")
 }
 
-/// What a case is answered under a rule, where that is not what its line says.
-fn wrong_under(alloc: Global, line: &str, rule: CapRule) -> Result<Option<String>, Fault> {
-    let pieces: Vec<&str> = line.split('|').collect(alloc)?;
-    let mut fields = Fields::of(&pieces, rule);
-    let got = match answer(alloc, &mut fields) {
+/// What a case is answered, where that is not what its line says.
+fn wrong_text(alloc: Global, fields: &mut Fields<'_>) -> Result<Option<String>, Fault> {
+    let got = match answer(alloc, fields) {
         Ok(text) => text,
         Err(Fault::Refused(error)) => format!(in alloc; "{error}")?,
+        Err(Fault::Wrong(way)) => String::from_str(alloc, way)?,
         Err(Fault::Unreadable(reason)) => return Err(Fault::Unreadable(reason)),
     };
-    if got.as_str() == expected(alloc, &fields)?.as_str() {
+    if got.as_str() == expected(alloc, fields)?.as_str() {
         Ok(None)
     } else {
         Ok(Some(got))
     }
 }
 
-/// The same under both rules: a cap that names no rule is answered alike under each.
+/// The same of a line. Where its cap names no rule, it is answered alike under each.
 fn wrong_answer(alloc: Global, line: &str) -> Result<Option<String>, Fault> {
-    match wrong_under(alloc, line, CapRule::Lowered)? {
-        Some(got) => Ok(Some(got)),
-        None => wrong_under(alloc, line, CapRule::Fixed),
+    let pieces: Vec<&str> = line.split('|').collect(alloc)?;
+    let mut fields = Fields::of(&pieces, CapRule::Lowered);
+    let wrong = wrong_text(alloc, &mut fields)?;
+    if wrong.is_some() || !fields.is_for_any_rule() {
+        return Ok(wrong);
     }
+    wrong_text(alloc, &mut Fields::of(&pieces, CapRule::Fixed))
 }
 
 /// Whether a line is a case, and no comment or blank.
@@ -128,7 +136,7 @@ fn is_right(rt: &HostRuntime, number: usize, line: &str) -> io::Result<bool> {
     match wrong_answer(rt.alloc(), line) {
         Ok(None) => return Ok(true),
         Ok(Some(got)) => println!(rt; "line {number}: {line}\n  is answered: {got}")?,
-        Err(Fault::Unreadable(reason)) => {
+        Err(Fault::Unreadable(reason) | Fault::Wrong(reason)) => {
             println!(rt; "line {number}: {line}\n  can't be read: {reason}")?
         }
         Err(Fault::Refused(error)) => println!(rt; "line {number}: {line}\n  {error}")?,

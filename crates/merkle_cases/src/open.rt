@@ -7,14 +7,17 @@ use crate::fields::{Fault, Fields};
 use crate::scheme::{FoldOpening, FoldScheme, FoldTree, ROOT, fold_scheme, numbered};
 use crate::text;
 use p3_merkle_tree::{BatchOpeningRef, MerkleCap, MerkleTreeError};
-use p3_support::matrix::{Dimensions, Matrix};
+use p3_support::matrix::{Dimensions, Matrix, RowMajorMatrix};
 use std::alloc::Global;
 
+/// The matrices of these cases.
+type Rows = RowMajorMatrix<u32>;
+
 /// The dimensions of the matrices of a tree.
-fn dimensions_in<M: Matrix<u32>, const N: usize>(
+fn dimensions_in<const N: usize>(
     alloc: Global,
     scheme: &FoldScheme<N>,
-    tree: &FoldTree<M, N>,
+    tree: &FoldTree<Rows, N>,
 ) -> Result<Vec<Dimensions>, MerkleTreeError> {
     let matrices = scheme.get_matrices(alloc, tree)?;
     let mut dimensions = Vec::new(alloc);
@@ -25,11 +28,11 @@ fn dimensions_in<M: Matrix<u32>, const N: usize>(
 }
 
 /// The opening of a leaf, where there is such a leaf and its opening is accepted.
-fn accepted<M: Matrix<u32>, const N: usize>(
+pub fn accepted<const N: usize>(
     alloc: Global,
     scheme: &FoldScheme<N>,
     cap: &MerkleCap<u32, [u32; 1]>,
-    tree: &FoldTree<M, N>,
+    tree: &FoldTree<Rows, N>,
     index: usize,
 ) -> Result<FoldOpening, MerkleTreeError> {
     let max_height = scheme.get_max_height(tree);
@@ -63,7 +66,7 @@ pub fn leaves<const N: usize>(alloc: Global, fields: &mut Fields<'_>) -> Result<
     requires few { N ≤ 8 }
 {
     let scheme = fold_scheme::<N>(fields.cap()?);
-    let (cap, tree) = scheme.commit(alloc, numbered(alloc, &fields.numbers(alloc)?)?)?;
+    let (cap, tree) = scheme.commit(alloc, numbered(alloc, &fields.columns(alloc)?)?)?;
     let leaves = scheme.get_max_height(&tree);
     for index in 0..leaves {
         accepted(alloc, &scheme, &cap, &tree, index)?;
@@ -77,7 +80,7 @@ pub fn kept<const N: usize>(alloc: Global, fields: &mut Fields<'_>) -> Result<St
     requires few { N ≤ 8 }
 {
     let scheme = fold_scheme::<N>(ROOT);
-    let (_, tree) = scheme.commit(alloc, numbered(alloc, &fields.numbers(alloc)?)?)?;
+    let (_, tree) = scheme.commit(alloc, numbered(alloc, &fields.columns(alloc)?)?)?;
     let max_height = scheme.get_max_height(&tree);
     let dimensions = text::dimensions(alloc, &dimensions_in(alloc, &scheme, &tree)?)?;
     Ok(format!(in alloc; "{max_height} | {dimensions}")?)

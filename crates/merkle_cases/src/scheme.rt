@@ -1,11 +1,13 @@
 //! Trees and schemes of the fold functions.
 
-ghost use Rattle.std.specs.Prelude.{◌%◌, ◌^◌, ◌≤◌, ◌∷◌, [], refl, IsTrue};
+ghost use Rattle.std.specs.Prelude.{◌%◌, ◌^◌, ◌<◌, ◌≤◌, ◌∷◌, [], refl, IsTrue};
 ghost use Rattle.p3_merkle_core.specs.Geometry.{is_arity};
 
+use crate::fields::Fault;
+use crate::lists::matrix_from;
 use p3_merkle_tree::{BatchOpening, CapRule, MerkleTree, MerkleTreeError, MerkleTreeMmcs};
 use p3_support::fold::{FoldCompress, FoldHash};
-use p3_support::matrix::Matrix;
+use p3_support::matrix::{Dimensions, Matrix, RowMajorMatrix};
 use std::alloc::{AllocError, Global};
 
 /// The scheme of the fold functions with digests of one word.
@@ -63,13 +65,37 @@ pub fn fold_tree<M: Matrix<u32> + Drop, const N: usize>(
     )
 }
 
+/// The numbers of the rows of a matrix of these dimensions, once for each word of a row.
+fn row_numbers(alloc: Global, width: usize, height: usize) -> Result<Vec<u32>, AllocError>
+    requires { 0 < width }
+{
+    let mut values = Vec::new(alloc);
+    for place in 0..width.saturating_mul(height) {
+        values.push((place / width % 4_294_967_296) as u32)?;
+    }
+    Ok(values)
+}
+
+/// Matrices of these dimensions, each word of which is the number of its row, from 0.
+pub fn numbered(
+    alloc: Global,
+    dimensions: &[Dimensions],
+) -> Result<Vec<RowMajorMatrix<u32>>, Fault> {
+    let mut matrices = Vec::new(alloc);
+    for Dimensions { width, height } in dimensions {
+        let values = row_numbers(alloc, (*width).max(1), *height)?;
+        matrices.push(matrix_from(values, *width)?)?;
+    }
+    Ok(matrices)
+}
+
 /// A column whose words are the numbers of its rows, from 0. It takes no memory, whatever its height.
 #[derive(Clone, Copy)]
-pub struct Numbers {
+pub struct Column {
     rows: usize,
 }
 
-impl Matrix<u32> for Numbers {
+impl Matrix<u32> for Column {
     ghost height_of = { λ m. m.rows };
 
     ghost width_of = { λ m. 1 };
@@ -92,10 +118,10 @@ impl Matrix<u32> for Numbers {
 }
 
 /// Such columns of these heights.
-pub fn numbered(alloc: Global, heights: &[usize]) -> Result<Vec<Numbers>, AllocError> {
-    let mut matrices = Vec::with_capacity(alloc, heights.len())?;
+pub fn tall_columns(alloc: Global, heights: &[usize]) -> Result<Vec<Column>, AllocError> {
+    let mut columns = Vec::with_capacity(alloc, heights.len())?;
     for rows in heights {
-        matrices.push(Numbers { rows: *rows })?;
+        columns.push(Column { rows: *rows })?;
     }
-    Ok(matrices)
+    Ok(columns)
 }

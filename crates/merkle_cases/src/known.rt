@@ -1,0 +1,102 @@
+//! Which nodes are known from the leaves of some queries and from other nodes.
+
+ghost use Rattle.std.specs.Prelude.{◌<◌};
+
+use crate::fields::{Fault, Fields};
+use crate::text;
+use p3_merkle_core::geometry::{levels_of, schedule_below_of};
+use std::alloc::{AllocError, Global};
+
+/// A node by its layer, counted from the leaves, and its number there.
+#[derive(Clone, Copy)]
+struct Node {
+    layer: usize,
+    number: usize,
+}
+
+/// The nodes in a text, a layer and a number each, with `;` between them.
+fn nodes_of(alloc: Global, fields: &mut Fields<'_>) -> Result<Vec<Node>, Fault> {
+    let mut nodes = Vec::new(alloc);
+    for node in &fields.lists(alloc)? {
+        match node.as_slice() {
+            [layer, number] => nodes.push(Node {
+                layer: *layer,
+                number: *number,
+            })?,
+            _ => return Err(Fault::Unreadable("a node is not a layer and a number")),
+        }
+    }
+    Ok(nodes)
+}
+
+/// The numbers of the nodes that are given in a layer, but for the one at place `left_out`.
+fn given_in(
+    alloc: Global,
+    nodes: &[Node],
+    left_out: usize,
+    layer: usize,
+) -> Result<Vec<usize>, AllocError> {
+    let mut numbers = Vec::new(alloc);
+    for (place, node) in nodes.iter().enumerate() {
+        if node.layer == layer && place != left_out {
+            numbers.push(node.number)?;
+        }
+    }
+    Ok(numbers)
+}
+
+/// Whether all children of the parent of a node are known.
+fn is_group_known(known: &[usize], step: usize, node: usize) -> bool
+    requires { 0 < step }
+{
+    let first = node - node % step;
+    (0..step).all(|place| known.contains(&first.saturating_add(place)))
+}
+
+/// Adds to the known nodes of a layer the parents of the groups that are known below.
+fn add_parents(above: &mut Vec<usize>, known: &[usize], step: usize) -> Result<(), AllocError>
+    requires { 0 < step }
+{
+    for node in known {
+        if is_group_known(known, step, *node) {
+            above.push(*node / step)?;
+        }
+    }
+    Ok(())
+}
+
+/// Whether the root is known from the queried leaves and from these nodes, but for the one at place `left_out`. A node
+/// is known where it is queried or given, or where all its children are known.
+fn is_root_known(
+    alloc: Global,
+    steps: &[usize],
+    indices: &[usize],
+    nodes: &[Node],
+    left_out: usize,
+) -> Result<bool, AllocError> {
+    let mut known = given_in(alloc, nodes, left_out, 0)?;
+    known.extend_from_slice(indices)?;
+    for (level, step) in steps.iter().enumerate() {
+        let mut above = given_in(alloc, nodes, left_out, level.saturating_add(1))?;
+        add_parents(&mut above, &known, (*step).max(1))?;
+        known = above;
+    }
+    Ok(!known.is_empty())
+}
+
+/// `known | ARITY | HEIGHTS | INDICES | NODES | ANSWERS`: whether the root is known from the leaves of some indices and
+/// from these nodes, without each of the nodes in turn and then with all.
+pub fn known(alloc: Global, fields: &mut Fields<'_>) -> Result<String, Fault> {
+    let arity = fields.number()?.max(2);
+    let dimensions = fields.columns(alloc)?;
+    let indices = fields.numbers(alloc)?;
+    let nodes = nodes_of(alloc, fields)?;
+    let steps = schedule_below_of(alloc, &dimensions, arity, levels_of(&dimensions, arity))?;
+    let mut answers = Vec::new(alloc);
+    for left_out in 0..=nodes.len() {
+        let is_known = is_root_known(alloc, &steps, &indices, &nodes, left_out)?;
+        let answer = if is_known { "yes" } else { "no" };
+        answers.push(String::from_str(alloc, answer)?)?;
+    }
+    text::joined(alloc, &answers, " ")
+}
