@@ -57,6 +57,7 @@ fn answer_at<const N: usize>(
         "pruned_len" => pruned::pruned_len::<N>(alloc, fields),
         "pruned" => pruned::pruned::<N>(alloc, fields),
         "verify_pruned" => pruned::verify_pruned::<N>(alloc, fields),
+        "restore" => pruned::restore::<N>(alloc, fields),
         "sweep" => sweep::sweep::<N>(alloc, fields),
         "verify" => verify::verify::<N>(alloc, fields),
         "schedule" => replay::schedule::<N>(alloc, fields),

@@ -8,20 +8,15 @@ use crate::scheme::{FoldOpening, FoldScheme, FoldTree, ROOT, fold_scheme, number
 use crate::text;
 use p3_merkle_tree::{BatchOpeningRef, MerkleCap, MerkleTreeError};
 use p3_support::matrix::{Dimensions, Matrix, RowMajorMatrix};
-use std::alloc::Global;
+use std::alloc::{AllocError, Global};
 
 /// The matrices of these cases.
 type Rows = RowMajorMatrix<u32>;
 
-/// The dimensions of the matrices of a tree.
-fn dimensions_in<const N: usize>(
-    alloc: Global,
-    scheme: &FoldScheme<N>,
-    tree: &FoldTree<Rows, N>,
-) -> Result<Vec<Dimensions>, MerkleTreeError> {
-    let matrices = scheme.get_matrices(alloc, tree)?;
+/// The dimensions of matrices.
+fn dimensions_of(alloc: Global, matrices: &[&Rows]) -> Result<Vec<Dimensions>, AllocError> {
     let mut dimensions = Vec::new(alloc);
-    for matrix in &matrices {
+    for matrix in matrices {
         dimensions.push(matrix.dimensions())?;
     }
     Ok(dimensions)
@@ -33,6 +28,7 @@ pub fn accepted<const N: usize>(
     scheme: &FoldScheme<N>,
     cap: &MerkleCap<u32, [u32; 1]>,
     tree: &FoldTree<Rows, N>,
+    dimensions: &[Dimensions],
     index: usize,
 ) -> Result<FoldOpening, MerkleTreeError> {
     let max_height = scheme.get_max_height(tree);
@@ -40,8 +36,7 @@ pub fn accepted<const N: usize>(
         return Err(MerkleTreeError::IndexOutOfBounds { max_height, index });
     }
     let opening = scheme.open_batch(alloc, index, tree)?;
-    let dimensions = dimensions_in(alloc, scheme, tree)?;
-    scheme.verify_batch(cap, &dimensions, index, BatchOpeningRef::from(&opening))?;
+    scheme.verify_batch(cap, dimensions, index, BatchOpeningRef::from(&opening))?;
     Ok(opening)
 }
 
@@ -54,7 +49,8 @@ pub fn open<const N: usize>(alloc: Global, fields: &mut Fields<'_>) -> Result<St
     let matrices = fields.matrices(alloc)?;
     let index = fields.number()?;
     let (cap, tree) = scheme.commit(alloc, matrices)?;
-    let opening = accepted(alloc, &scheme, &cap, &tree, index)?;
+    let dimensions = dimensions_of(alloc, &scheme.get_matrices(alloc, &tree)?)?;
+    let opening = accepted(alloc, &scheme, &cap, &tree, &dimensions, index)?;
     let rows = text::rows(alloc, &opening.opened_values)?;
     let siblings = text::digests(alloc, &opening.opening_proof)?;
     text::joined(alloc, &[rows, siblings], " | ")
@@ -66,10 +62,11 @@ pub fn leaves<const N: usize>(alloc: Global, fields: &mut Fields<'_>) -> Result<
     requires few { N ≤ 8 }
 {
     let scheme = fold_scheme::<N>(fields.cap()?);
-    let (cap, tree) = scheme.commit(alloc, numbered(alloc, &fields.columns(alloc)?)?)?;
+    let dimensions = fields.columns(alloc)?;
+    let (cap, tree) = scheme.commit(alloc, numbered(alloc, &dimensions)?)?;
     let leaves = scheme.get_max_height(&tree);
     for index in 0..leaves {
-        accepted(alloc, &scheme, &cap, &tree, index)?;
+        accepted(alloc, &scheme, &cap, &tree, &dimensions, index)?;
     }
     Ok(format!(in alloc; "{leaves} accepted")?)
 }
@@ -82,6 +79,7 @@ pub fn kept<const N: usize>(alloc: Global, fields: &mut Fields<'_>) -> Result<St
     let scheme = fold_scheme::<N>(ROOT);
     let (_, tree) = scheme.commit(alloc, numbered(alloc, &fields.columns(alloc)?)?)?;
     let max_height = scheme.get_max_height(&tree);
-    let dimensions = text::dimensions(alloc, &dimensions_in(alloc, &scheme, &tree)?)?;
+    let dimensions = dimensions_of(alloc, &scheme.get_matrices(alloc, &tree)?)?;
+    let dimensions = text::dimensions(alloc, &dimensions)?;
     Ok(format!(in alloc; "{max_height} | {dimensions}")?)
 }

@@ -4,10 +4,13 @@ ghost use Rattle.std.specs.Prelude.{◌≤◌, IsTrue};
 ghost use Rattle.p3_merkle_core.specs.Geometry.{is_arity};
 
 use crate::fields::{Fault, Fields};
-use crate::scheme::fold_scheme;
+use crate::scheme::{FoldScheme, fold_scheme};
 use crate::text;
 use p3_merkle_core::pruning::{PrunedProof, check_indices};
-use p3_merkle_tree::MerkleCap;
+use p3_merkle_tree::{
+    BatchOpeningRef, MerkleAuthPath, MerkleCap, MerkleTreeError, PrunedMerklePaths,
+};
+use p3_support::matrix::Dimensions;
 use std::alloc::Global;
 
 /// `pruned_len | ARITY | CAP | HEIGHTS | INDICES | DIGESTS`: how many digests a pruned proof of some indices has.
@@ -37,7 +40,63 @@ pub fn pruned<const N: usize>(alloc: Global, fields: &mut Fields<'_>) -> Result<
     Ok(format!(in alloc; "{rows} | {digests}")?)
 }
 
-/// `verify_pruned | ARITY | CAP | ROOTS | DIMENSIONS | INDICES | ROW SETS | DIGESTS | ANSWER`: the check of a pruned opening.
+/// The opening of several leaves: queries with the rows of each, and a proof for all of them.
+#[derive(Drop)]
+pub struct LeavesOpening {
+    pub indices: Vec<usize>,
+    pub rows: Vec<Vec<Vec<u32>>>,
+    pub proof: PrunedMerklePaths<u32, 1>,
+}
+
+impl LeavesOpening {
+    /// The opening of the next three fields: indices, row sets and digests.
+    pub fn of(alloc: Global, fields: &mut Fields<'_>) -> Result<LeavesOpening, Fault> {
+        let indices = fields.numbers(alloc)?;
+        let rows = fields.row_sets(alloc)?;
+        let sibling_hashes = fields.digests(alloc)?;
+        Ok(LeavesOpening {
+            indices,
+            rows,
+            proof: PrunedProof { sibling_hashes },
+        })
+    }
+}
+
+/// What is answered to each query with its restored path, where not all are accepted: the first refusal.
+fn each_verdict<const N: usize>(
+    scheme: &FoldScheme<N>,
+    cap: &MerkleCap<u32, [u32; 1]>,
+    dimensions: &[Dimensions],
+    rows: &[Vec<Vec<u32>>],
+    paths: &[MerkleAuthPath<u32, 1>],
+) -> Result<(), MerkleTreeError> {
+    for (rows, path) in rows.iter().zip(paths) {
+        let opening = BatchOpeningRef::new(rows, &path.siblings);
+        scheme.verify_batch(cap, dimensions, path.leaf_index, opening)?;
+    }
+    Ok(())
+}
+
+/// What the opening of several leaves is answered, query by query: why no paths are restored, or the verdict on each query
+/// with its path.
+fn restored_verdict<const N: usize>(
+    alloc: Global,
+    scheme: &FoldScheme<N>,
+    cap: &MerkleCap<u32, [u32; 1]>,
+    dimensions: &[Dimensions],
+    opening: &LeavesOpening,
+) -> Result<(), MerkleTreeError> {
+    let LeavesOpening {
+        indices,
+        rows,
+        proof,
+    } = opening;
+    let paths = scheme.restore_and_recompute_paths(alloc, dimensions, indices, rows, proof)?;
+    each_verdict(scheme, cap, dimensions, rows, &paths)
+}
+
+/// `verify_pruned | ARITY | CAP | ROOTS | DIMENSIONS | INDICES | ROW SETS | DIGESTS | ANSWER`: the check of a pruned opening,
+/// which answers what the checks of its queries with their restored paths do.
 pub fn verify_pruned<const N: usize>(
     alloc: Global,
     fields: &mut Fields<'_>,
@@ -48,11 +107,32 @@ pub fn verify_pruned<const N: usize>(
     let scheme = fold_scheme::<N>(fields.cap()?);
     let cap = MerkleCap::new(fields.digests(alloc)?);
     let dimensions = fields.dimensions(alloc)?;
-    let indices = fields.numbers(alloc)?;
-    let rows = fields.row_sets(alloc)?;
-    let proof = PrunedProof {
-        sibling_hashes: fields.digests(alloc)?,
-    };
-    scheme.verify_batch_pruned(alloc, &cap, &dimensions, &indices, &rows, &proof)?;
+    let opening = LeavesOpening::of(alloc, fields)?;
+    let LeavesOpening {
+        indices,
+        rows,
+        proof,
+    } = &opening;
+    let verdict = scheme.verify_batch_pruned(alloc, &cap, &dimensions, indices, rows, proof);
+    if verdict != restored_verdict(alloc, &scheme, &cap, &dimensions, &opening) {
+        return Err(Fault::Wrong("the restored paths are answered otherwise"));
+    }
+    verdict?;
     Ok(String::from_str(alloc, "accepted")?)
+}
+
+/// `restore | ARITY | CAP | DIMENSIONS | INDICES | ROW SETS | DIGESTS | PATHS`: the index and the siblings of each query.
+pub fn restore<const N: usize>(alloc: Global, fields: &mut Fields<'_>) -> Result<String, Fault>
+    requires arity { IsTrue (is_arity N) }
+    requires few { N ≤ 8 }
+{
+    let scheme = fold_scheme::<N>(fields.cap()?);
+    let dimensions = fields.dimensions(alloc)?;
+    let LeavesOpening {
+        indices,
+        rows,
+        proof,
+    } = LeavesOpening::of(alloc, fields)?;
+    let paths = scheme.restore_and_recompute_paths(alloc, &dimensions, &indices, &rows, &proof)?;
+    text::paths(alloc, &paths)
 }

@@ -6,10 +6,10 @@ ghost use Rattle.p3_merkle_core.specs.Geometry.{is_arity};
 use crate::fields::{Fault, Fields};
 use crate::queries::lists_of;
 use crate::scheme::{Cap, FoldScheme, FoldTree, fold_scheme, numbered};
-use crate::text;
+use crate::{open, text};
 use p3_merkle_core::geometry::tallest_of;
 use p3_merkle_core::pruning::check_indices;
-use p3_merkle_tree::{MerkleCap, PrunedBatchOpening};
+use p3_merkle_tree::{MerkleAuthPath, MerkleCap};
 use p3_support::matrix::{Dimensions, RowMajorMatrix};
 use std::alloc::Global;
 
@@ -41,45 +41,72 @@ fn commit_to<const N: usize>(
     })
 }
 
-/// The opening of the leaves of some queries, which is accepted, and has as many digests as it should.
-fn accepted<const N: usize>(
+/// How many paths of a list of queries are compared with those that leaf by leaf are opened.
+const MOST_PATHS: usize = 64;
+
+/// Fails where the path of a query is not that of its leaf.
+fn check_paths<const N: usize>(
     alloc: Global,
     held: &HeldTree<'_, N>,
     indices: &[usize],
-) -> Result<PrunedBatchOpening<u32, u32, 1>, Fault> {
-    check_indices(held.scheme.get_max_height(&held.tree), indices)?;
-    let opening = held.scheme.open_batch_pruned(alloc, indices, &held.tree)?;
-    held.scheme.verify_batch_pruned(
-        alloc,
-        &held.cap,
-        held.dimensions,
-        indices,
-        &opening.opened_values,
-        &opening.pruned_proof,
-    )?;
-    Ok(opening)
+    paths: &[MerkleAuthPath<u32, 1>],
+) -> Result<(), Fault> {
+    let HeldTree {
+        scheme,
+        cap,
+        tree,
+        dimensions,
+    } = held;
+    for (index, path) in indices.iter().zip(paths).take(MOST_PATHS) {
+        let opening = open::accepted(alloc, scheme, cap, tree, *dimensions, *index)?;
+        if path.leaf_index != *index || path.siblings != opening.opening_proof {
+            return Err(Fault::Wrong("a path is not that of its leaf"));
+        }
+    }
+    Ok(())
 }
 
-/// Tries these lists of queries, and says how many digests their proofs have.
+/// How many digests the proof for some queries has. Their opening is accepted, and restores a path for each.
 fn digests_for<const N: usize>(
+    alloc: Global,
+    held: &HeldTree<'_, N>,
+    indices: &[usize],
+) -> Result<usize, Fault> {
+    let HeldTree {
+        scheme,
+        cap,
+        tree,
+        dimensions,
+    } = held;
+    check_indices(scheme.get_max_height(tree), indices)?;
+    let opening = scheme.open_batch_pruned(alloc, indices, tree)?;
+    let (rows, proof) = (&opening.opened_values, &opening.pruned_proof);
+    scheme.verify_batch_pruned(alloc, cap, *dimensions, indices, rows, proof)?;
+    let paths = scheme.restore_and_recompute_paths(alloc, *dimensions, indices, rows, proof)?;
+    check_paths(alloc, held, indices, &paths)?;
+    let count = scheme.pruned_len(alloc, *dimensions, indices)?;
+    if count == proof.sibling_hashes.len() && paths.len() == indices.len() {
+        Ok(count)
+    } else {
+        Err(Fault::Wrong("a proof has another number of digests, or of paths"))
+    }
+}
+
+/// How many digests the proofs for these lists of queries have together.
+fn digests_for_all<const N: usize>(
     alloc: Global,
     held: &HeldTree<'_, N>,
     lists: &[Vec<usize>],
 ) -> Result<usize, Fault> {
     let mut digests = 0_usize;
     for indices in lists {
-        let opening = accepted(alloc, held, indices)?;
-        let count = held.scheme.pruned_len(alloc, held.dimensions, indices)?;
-        if count != opening.pruned_proof.sibling_hashes.len() {
-            return Err(Fault::Wrong("a proof has another number of digests"));
-        }
-        digests = digests.saturating_add(count);
+        digests = digests.saturating_add(digests_for(alloc, held, indices)?);
     }
     Ok(digests)
 }
 
 /// `sweep | ARITY | CAP | DIMENSIONS | QUERIES | LISTS DIGESTS`: of each batch of matrices, many lists of queries are
-/// opened and accepted; how many there are, and how many digests their proofs have.
+/// opened, accepted and restored; how many there are, and how many digests their proofs have.
 pub fn sweep<const N: usize>(alloc: Global, fields: &mut Fields<'_>) -> Result<String, Fault>
     requires arity { IsTrue (is_arity N) }
     requires few { N ≤ 8 }
@@ -91,7 +118,7 @@ pub fn sweep<const N: usize>(alloc: Global, fields: &mut Fields<'_>) -> Result<S
     for dimensions in &batches {
         let held = commit_to::<N>(alloc, cap, dimensions)?;
         let lists = lists_of(alloc, queries, tallest_of(dimensions))?;
-        digests = digests.saturating_add(digests_for(alloc, &held, &lists)?);
+        digests = digests.saturating_add(digests_for_all(alloc, &held, &lists)?);
         count = count.saturating_add(lists.len());
     }
     text::numbers(alloc, &[count, digests])

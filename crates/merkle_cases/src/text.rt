@@ -1,7 +1,7 @@
 //! How answers are written.
 
 use crate::fields::Fault;
-use p3_merkle_tree::MerkleTreeError;
+use p3_merkle_tree::{MerkleAuthPath, MerkleTreeError};
 use p3_support::matrix::Dimensions;
 use std::alloc::Global;
 
@@ -63,6 +63,16 @@ pub fn row_sets(alloc: Global, sets: &[Vec<Vec<u32>>]) -> Result<String, Fault> 
         each.push(rows(alloc, set)?)?;
     }
     joined(alloc, &each, " / ")
+}
+
+/// The index and the siblings of paths with `;` between the paths.
+pub fn paths(alloc: Global, paths: &[MerkleAuthPath<u32, 1>]) -> Result<String, Fault> {
+    let mut each = Vec::new(alloc);
+    for path in paths {
+        let siblings = digests(alloc, &path.siblings)?;
+        each.push(format!(in alloc; "{}: {siblings}", path.leaf_index)?)?;
+    }
+    joined(alloc, &each, "; ")
 }
 
 /// Dimensions of matrices with blanks between them.
