@@ -3,8 +3,10 @@
 ghost use Rattle.std.specs.Prelude.{◌≤◌, IsTrue};
 ghost use Rattle.p3_merkle_core.specs.Geometry.{is_arity};
 
+use p3_merkle_core::pruning::{PrunedRows, check_indices};
 use p3_merkle_tree::{
-    BatchOpening, BatchOpeningRef, MerkleCap, MerkleTree, MerkleTreeError, MerkleTreeMmcs,
+    BatchOpening, BatchOpeningRef, MerkleAuthPath, MerkleCap, MerkleTree, MerkleTreeError,
+    MerkleTreeMmcs,
 };
 use p3_support::matrix::{Dimensions, RowMajorMatrix};
 use p3_support::sha::{Sha256Nodes, Sha256Rows};
@@ -43,6 +45,19 @@ const ROOT_AT_FOUR: [u8; 32] = [
     0xcf, 0x86, 0x06, 0x78, 0x1a, 0x48, 0x18, 0x03, 0xf4, 0x18, 0x84, 0x93, 0x6c, 0x9b, 0xa2, 0xbb,
     0x53, 0x62, 0xfb, 0x89, 0xc0, 0xc8, 0xfa, 0xc3, 0x92, 0x5c, 0xff, 0x47, 0xd6, 0xb0, 0x1c, 0x3e,
 ];
+
+/// The digest of the row [3, 4], by python3's hashlib.
+const DIGEST_OF_3_4: [u8; 32] = [
+    0x0c, 0xe3, 0x94, 0x0b, 0xeb, 0xf2, 0xb2, 0x2a, 0x5d, 0x21, 0x08, 0xec, 0xf0, 0xc3, 0x68, 0xa0,
+    0x54, 0x1c, 0x7e, 0x3c, 0x45, 0x70, 0x3f, 0x85, 0x40, 0x92, 0x1b, 0x4e, 0xaf, 0xc8, 0x29, 0x47,
+];
+
+/// What is sent for the leaves 2 and 0 at arity 2: their siblings, of which the second only fills its group. The lower
+/// rows belong to their parents, which are all nodes of that layer.
+static SENT_AT_TWO: [[u8; 32]; 2] = [DIGEST_OF_3_4, [0; 32]];
+
+/// What is sent for them at arity 4: the two that fill the group above, too.
+static SENT_AT_FOUR: [[u8; 32]; 4] = [DIGEST_OF_3_4, [0; 32], [0; 32], [0; 32]];
 
 /// The scheme of SHA-256.
 type ShaScheme<const N: usize> = MerkleTreeMmcs<u8, u8, Sha256Rows, Sha256Nodes<N>, N, 32>;
@@ -132,11 +147,59 @@ fn assert_openings<const N: usize>(
     Ok(())
 }
 
-/// Asserts that the tree of arity `N` over the two matrices has this root, and what its openings are answered.
+/// Asserts that each path is that of its leaf.
+fn assert_paths<const N: usize>(
+    rt: &impl Abort,
+    alloc: Global,
+    scheme: &ShaScheme<N>,
+    tree: &ShaTree<N>,
+    paths: &[MerkleAuthPath<u8, 32>],
+) -> Result<(), MerkleTreeError> {
+    for MerkleAuthPath {
+        leaf_index,
+        siblings,
+    } in paths {
+        assert!(rt; *leaf_index < scheme.get_max_height(tree));
+        assert!(rt; *siblings == scheme.open_batch(alloc, *leaf_index, tree)?.opening_proof);
+    }
+    Ok(())
+}
+
+/// Asserts that the leaves 2, 0 and 2 are opened by one proof of these digests, which is accepted and restores their paths,
+/// and is refused with another first digest.
+fn assert_pruned<const N: usize>(
+    rt: &impl Abort,
+    alloc: Global,
+    scheme: &ShaScheme<N>,
+    cap: &MerkleCap<u8, [u8; 32]>,
+    tree: &ShaTree<N>,
+    sent: &[[u8; 32]],
+) -> Result<(), MerkleTreeError> {
+    let indices = [2, 0, 2];
+    check_indices(scheme.get_max_height(tree), &indices)?;
+    let PrunedRows {
+        opened_values: rows,
+        pruned_proof: mut proof,
+    } = scheme.open_batch_pruned(alloc, &indices, tree)?;
+    assert_eq!(rt; proof.sibling_hashes.as_slice(), sent);
+    scheme.verify_batch_pruned(alloc, cap, &DIMENSIONS, &indices, &rows, &proof)?;
+    let paths = scheme.restore_and_recompute_paths(alloc, &DIMENSIONS, &indices, &rows, &proof)?;
+    assert_eq!(rt; paths.len(), 3);
+    assert_paths(rt, alloc, scheme, tree, &paths)?;
+    assert!(rt; !proof.sibling_hashes.is_empty());
+    proof.sibling_hashes[0] = [1; 32];
+    let refused = scheme.verify_batch_pruned(alloc, cap, &DIMENSIONS, &indices, &rows, &proof);
+    assert_eq!(rt; refused, Err(MerkleTreeError::CapMismatch));
+    Ok(())
+}
+
+/// Asserts that the tree of arity `N` over the two matrices has this root, and what its openings are answered, with these
+/// digests for several leaves.
 fn assert_tree<const N: usize>(
     rt: &impl Abort,
     alloc: Global,
     root: [u8; 32],
+    sent: &[[u8; 32]],
 ) -> Result<(), MerkleTreeError>
     requires arity { IsTrue (is_arity N) }
     requires few { N ≤ 8 }
@@ -144,13 +207,14 @@ fn assert_tree<const N: usize>(
     let scheme = ShaScheme::<N>::new(Sha256Rows, Sha256Nodes::<N>, 0);
     let (cap, tree) = scheme.commit(alloc, matrices(alloc)?)?;
     assert_eq!(rt; cap.roots(), [root].as_slice());
-    assert_openings::<N>(rt, alloc, &scheme, &cap, &tree)
+    assert_openings::<N>(rt, alloc, &scheme, &cap, &tree)?;
+    assert_pruned::<N>(rt, alloc, &scheme, &cap, &tree, sent)
 }
 
 #[test]
 fn two_heights_have_the_root_computed_outside(rt: HostRuntime) -> Result<(), Fail> {
-    assert_tree::<2>(&rt, rt.alloc(), ROOT_AT_TWO)?;
-    assert_tree::<4>(&rt, rt.alloc(), ROOT_AT_FOUR)?;
+    assert_tree::<2>(&rt, rt.alloc(), ROOT_AT_TWO, &SENT_AT_TWO)?;
+    assert_tree::<4>(&rt, rt.alloc(), ROOT_AT_FOUR, &SENT_AT_FOUR)?;
     Ok(())
 }
 
