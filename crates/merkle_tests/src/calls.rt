@@ -1,9 +1,10 @@
 //! Generic calls of schemes and trees.
 
+use crate::fixtures::{column_dimensions, numbered};
 use p3_merkle_tree::{BatchOpeningRef, MerkleCap, MerkleTree, MerkleTreeError, MerkleTreeMmcs};
 use p3_support::compress::PseudoCompressionFunction;
 use p3_support::hasher::CryptographicHasher;
-use p3_support::matrix::{Dimensions, Matrix};
+use p3_support::matrix::Matrix;
 use p3_support::packed::PackedValue;
 use std::alloc::Global;
 
@@ -19,27 +20,23 @@ pub fn layers_in<F: Copy, W: Copy, M: Matrix<F> + Drop, const N: usize, const D:
     Ok(layers)
 }
 
-/// Commits to matrices, opens a leaf and checks the opening: the cap, where there is such a leaf and its opening is
-/// accepted.
+/// Commits to columns of these heights, whose rows are their own numbers, opens a leaf and checks the opening: the cap,
+/// where there is such a leaf and its opening is accepted.
 pub fn accepted_cap<
-    P: PackedValue,
+    P: PackedValue<Value = u32>,
     PW: PackedValue,
     H: CryptographicHasher<P, PW, D>,
     C: PseudoCompressionFunction<PW, N, D>,
-    M: Matrix<P::Value> + Drop,
     const N: usize,
     const D: usize,
 >(
     alloc: Global,
     scheme: &MerkleTreeMmcs<P, PW, H, C, N, D>,
-    matrices: Vec<M>,
+    heights: &[usize],
     index: usize,
-) -> Result<MerkleCap<P::Value, [PW::Value; D]>, MerkleTreeError> {
-    let dimensions: Vec<Dimensions> = matrices
-        .iter()
-        .map(|matrix| matrix.dimensions())
-        .collect(alloc)?;
-    let (cap, tree) = scheme.commit(alloc, matrices)?;
+) -> Result<MerkleCap<u32, [PW::Value; D]>, MerkleTreeError> {
+    let dimensions = column_dimensions(alloc, heights)?;
+    let (cap, tree) = scheme.commit(alloc, numbered(alloc, heights)?)?;
     let max_height = scheme.get_max_height(&tree);
     if index >= max_height {
         return Err(MerkleTreeError::IndexOutOfBounds { max_height, index });

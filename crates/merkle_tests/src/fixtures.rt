@@ -3,7 +3,7 @@
 ghost use Rattle.std.specs.Prelude.{◌%◌, ◌^◌, replicate};
 ghost use Rattle.std.proofs.lemmas.List.{length-replicate};
 
-use p3_support::matrix::{Matrix, RowMajorMatrix};
+use p3_support::matrix::{Dimensions, Matrix, RowMajorMatrix};
 use std::alloc::{AllocError, Global};
 
 /// A matrix whose every word is the number of its row, from 0. It takes no memory, whatever its height.
@@ -45,6 +45,18 @@ pub fn numbered(alloc: Global, heights: &[usize]) -> Result<Vec<Numbers>, AllocE
         })?;
     }
     Ok(matrices)
+}
+
+/// The dimensions of columns of these heights.
+pub fn column_dimensions(alloc: Global, heights: &[usize]) -> Result<Vec<Dimensions>, AllocError> {
+    let mut dimensions = Vec::with_capacity(alloc, heights.len())?;
+    for height in heights {
+        dimensions.push(Dimensions {
+            width: 1,
+            height: *height,
+        })?;
+    }
+    Ok(dimensions)
 }
 
 /// A matrix of one column for each list of rows.

@@ -2,7 +2,6 @@
 //! two words.
 
 use crate::calls::accepted_cap;
-use crate::fixtures::{columns, numbered};
 use p3_merkle_tree::{CapRule, MerkleCap, MerkleTreeError, MerkleTreeMmcs};
 use p3_support::batched::Batched3;
 use p3_support::fold::{FoldCompress, FoldHash};
@@ -25,7 +24,7 @@ fn plain_cap(alloc: Global, cap_height: usize) -> Result<WordCap, MerkleTreeErro
         cap_height,
         CapRule::Fixed,
     );
-    accepted_cap(alloc, &scheme, numbered(alloc, &HEIGHTS)?, 2)
+    accepted_cap(alloc, &scheme, &HEIGHTS, 2)
 }
 
 /// That cap at arity 4, in eight lanes.
@@ -38,7 +37,7 @@ fn cap_by_eight(alloc: Global, cap_height: usize) -> Result<WordCap, MerkleTreeE
         4,
         1,
     >::new_with_rule(FoldHash, FoldCompress, cap_height, CapRule::Fixed);
-    accepted_cap(alloc, &scheme, numbered(alloc, &HEIGHTS)?, 16)
+    accepted_cap(alloc, &scheme, &HEIGHTS, 16)
 }
 
 /// That cap at arity 4, by functions that take three at a time.
@@ -56,7 +55,7 @@ fn cap_by_three(alloc: Global, cap_height: usize) -> Result<WordCap, MerkleTreeE
         cap_height,
         CapRule::Fixed,
     );
-    accepted_cap(alloc, &scheme, numbered(alloc, &HEIGHTS)?, 5)
+    accepted_cap(alloc, &scheme, &HEIGHTS, 5)
 }
 
 /// A cap of digests of two words.
@@ -71,13 +70,13 @@ type LanesScheme = MerkleTreeMmcs<Lanes<u32>, Lanes<u32>, FoldHash<8>, FoldCompr
 /// The cap at arity 2 and digests of two words, in one lane.
 fn pair_cap(alloc: Global, cap_height: usize) -> Result<PairCap, MerkleTreeError> {
     let scheme = PairScheme::new_with_rule(FoldHash, FoldCompress, cap_height, CapRule::Fixed);
-    accepted_cap(alloc, &scheme, numbered(alloc, &HEIGHTS)?, 2)
+    accepted_cap(alloc, &scheme, &HEIGHTS, 2)
 }
 
 /// That cap in two lanes.
 fn pair_cap_by_two(alloc: Global, cap_height: usize) -> Result<PairCap, MerkleTreeError> {
     let scheme = LanesScheme::new_with_rule(FoldHash, FoldCompress, cap_height, CapRule::Fixed);
-    accepted_cap(alloc, &scheme, numbered(alloc, &HEIGHTS)?, 7)
+    accepted_cap(alloc, &scheme, &HEIGHTS, 7)
 }
 
 #[test]
@@ -100,9 +99,9 @@ fn lanes_commit_alike_to_digests_of_two_words(rt: HostRuntime) -> Result<(), Fai
     Ok(())
 }
 
-/// The cap of the rows 1 and 2, where the opening of row 1 is accepted.
+/// The cap of the rows 0 and 1, where the opening of row 1 is accepted.
 fn cap_of_two_rows(alloc: Global, scheme: &PairScheme) -> Result<PairCap, MerkleTreeError> {
-    accepted_cap(alloc, scheme, columns(alloc, &[&[1, 2]])?, 1)
+    accepted_cap(alloc, scheme, &[2], 1)
 }
 
 #[test]
@@ -111,7 +110,7 @@ fn digests_of_two_words_have_the_root_worked_out(rt: HostRuntime) -> Result<(), 
     let copied = scheme;
     for each in [scheme, copied, copied.clone()?] {
         let cap = cap_of_two_rows(rt.alloc(), &each)?;
-        assert_eq!(rt; cap.roots(), [[1026, 2018]].as_slice());
+        assert_eq!(rt; cap.roots(), [[994, 1986]].as_slice());
     }
     Ok(())
 }
