@@ -12,6 +12,14 @@ use crate::lanes::{U32x8, turn_four};
 use crate::packed::{pack_columns_fn, unpack_at};
 use std::simd::prelude::*;
 
+/// The most words of a digest that is hashed together with seven others. A longer one leaves no
+/// registers for the words that are turned.
+const MOST_HASHED: usize = 4;
+
+/// The most words of a digest that is compressed together with seven others. A longer one fills
+/// vectors by itself.
+const MOST_COMPRESSED: usize = 1;
+
 /// The word of a message at a column. The messages lie one after another, of `width` words each.
 fn word_at(messages: &[u32], width: usize, message: usize, column: usize) -> u32
     requires full { (n : ℕ) × (message < n) × (length messages.now ≡ n * width) }
@@ -191,6 +199,10 @@ pub(crate) fn hash_all<const D: usize>(messages: &[u32], width: usize, out: &mut
     ensures filled { (j : ℕ) → j < length out.old →
         slice_index_or out.new j [] ≡ fold_hash D (message_of width messages.now j) }
 {
+    if D > MOST_HASHED {
+        hash_rest(messages, width, 0, out);
+        return;
+    }
     hash_eights(messages, width, out);
     hash_rest(messages, width, 8 * (out.len() / 8), out);
 }
@@ -310,6 +322,10 @@ pub(crate) fn compress_all<const N: usize, const D: usize>(
     ensures filled { (j : ℕ) → j < length out.old →
         slice_index_or out.new j [] ≡ fold_compress D (slice_index_or groups.now j []) }
 {
+    if D > MOST_COMPRESSED {
+        compress_rest(groups, 0, out);
+        return;
+    }
     compress_eights(groups, out);
     compress_rest(groups, 8 * (out.len() / 8), out);
 }
