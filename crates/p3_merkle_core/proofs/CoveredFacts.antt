@@ -59,7 +59,7 @@ pub raw_start : (s : Shape) → raw_len s 0 ≡ tallest (heights s)
 unfolding raw_len
 raw_start s = refl
 
-listed_below : (m : ℕ) (queries : List ℕ) (j : ℕ) → All (λ q. q < m) queries → is_listed queries j ≡ true → j < m
+pub listed_below : (m : ℕ) (queries : List ℕ) (j : ℕ) → All (λ q. q < m) queries → is_listed queries j ≡ true → j < m
 listed_below m [] j below h = absurd (true≢false (sym h))
 listed_below m (q ∷ queries) j below h =
     elim (or_cases (eqb q j) (is_listed queries j) h) [
@@ -96,7 +96,7 @@ leaves_are_slots s indices below =
 -- ---- from layer to layer
 
 -- a covered node has a covered child, since the tree's leaves are those of the queries
-covered_child : (s : Shape) (queries : List ℕ) (l j : ℕ) → is_covered s queries (suc l) j ≡ true → (k : ℕ) × (is_covered s queries l k ≡ true) × (k / step s l ≡ j)
+pub covered_child : (s : Shape) (queries : List ℕ) (l j : ℕ) → is_covered s queries (suc l) j ≡ true → (k : ℕ) × (is_covered s queries l k ≡ true) × (k / step s l ≡ j)
 covered_child s [] l j c = absurd (true≢false (sym c))
 covered_child s (q ∷ queries) l j c =
     elim (or_cases (eqb (ancestor s (suc l) q) j) (is_covered s queries (suc l) j) c) [

@@ -1,9 +1,10 @@
 -- The lowest slot under a node, and the rows that are compared with its rows.
 use Rattle.std.proofs.Common.{◌≡◌, ◌≢◌, ℕ, zero, suc, ◌+◌, ◌-◌, ◌/◌, ◌<◌, ◌≤◌, Bool, true, false, not, eqb, cond, List, [], ◌∷◌, map, refl, ap, sym, ◌∙◌, arith, inl, inr, length, filter, get_or, eq-eqb, Option, None, Some, Vec, drop, drop-cons, add-one}
-use Rattle.std.specs.List.{range_with_len}
+use Rattle.std.specs.List.{list_any, range_with_len}
 use Rattle.std.specs.Option.{option_or}
 use Rattle.std.specs.Cmp.Lexicographic.{pointwise}
-use Rattle.std.proofs.lemmas.Bool.{cases_Bool, eqb-true, eqb-false, ne_eqb, true≢false, cases_lt}
+use Rattle.std.proofs.lemmas.Bool.{cases_Bool, eqb-true, eqb-false, false_from_ne_true, ne_eqb, true≢false, cases_lt}
+use Rattle.std.proofs.lemmas.List.Folds.{list_any_at}
 use Rattle.std.proofs.lemmas.List.{get_or-map, length-map}
 use Rattle.p3_support.specs.Shown.{row_lists}
 use Rattle.p3_merkle_core.specs.Geometry.{Shape, ancestor, exponent, heights, heights_of, is_bridge, layer_exponent, leaves_under, levels, max_height, tallest}
@@ -17,7 +18,7 @@ use Rattle.p3_merkle_core.specs.Agreement.{first_query, row_fault, rows_refusal,
 use Rattle.p3_merkle_core.specs.declared.error.PrunedProofError.TheVariants.{InconsistentGroupOpening}
 use Rattle.p3_merkle_core.specs.declared.error.MerkleTreeError.{MerkleTreeError}
 use Rattle.p3_merkle_core.specs.declared.error.MerkleTreeError.TheVariants.{MalformedPrunedProof}
-use Rattle.p3_merkle_core.proofs.RisingFacts.{div_mono, listed_at}
+use Rattle.p3_merkle_core.proofs.RisingFacts.{div_mono, listed_at, none_kept}
 use Rattle.p3_merkle_core.proofs.SlotFacts.{first_place}
 
 -- ---- the first place of a number
@@ -145,6 +146,17 @@ height_missed dimensions m e x h is other = λ same. other (height_is dimensions
 -- the refusal of slot k
 abbrev pub slot_fault : {T : Type 0} → (T → T → Bool) → List ℕ → ℕ → List ℕ → List ℕ → List (List (List T)) → ℕ → Option MerkleTreeError
 slot_fault row_eq hs x nodes firsts sets k = rows_refusal row_eq hs x k (slot_rows firsts sets k) (slot_rows firsts sets (first_query nodes (get_or nodes k 0)))
+
+none_of : (g : ℕ → Option MerkleTreeError) (xs : List ℕ) → ((k : ℕ) → g k ≡ None) → first_of g xs ≡ None
+none_of g [] none = refl
+none_of g (x ∷ xs) none = rw (none x) (none_of g xs none)
+
+-- nothing is compared where no matrix has the exponent
+pub no_matrix : {T : Type 0} (row_eq : T → T → Bool) (hs : List ℕ) (x : ℕ) (nodes firsts : List ℕ) (sets : List (List (List T))) → list_any (λ h. eqb (exponent h) x) hs ≡ false → nodes_refusal row_eq hs x nodes firsts sets ≡ None
+no_matrix row_eq hs x nodes firsts sets none =
+    let kept = none_kept (λ m. eqb (exponent (get_or hs m 0)) x) 0 (length hs)
+    (λ m low high. false_from_ne_true (eqb (exponent (get_or hs m 0)) x) (λ t. true≢false (sym (list_any_at (λ h. eqb (exponent h) x) hs m 0 (omega (arith, high)) t) ∙ none))) in
+    none_of (slot_fault row_eq hs x nodes firsts sets) (range_with_len 0 (length nodes)) (λ k. rw kept refl)
 
 pub lead_start : (nodes : List ℕ) → 0 ≡ first_query nodes (get_or nodes 0 0)
 lead_start [] = refl

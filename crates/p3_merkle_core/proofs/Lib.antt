@@ -44,5 +44,6 @@ pub mod LeadFacts
 pub mod AgreeFacts
 pub mod ChildFacts
 pub mod ValueFacts
+pub mod LeafFacts
 pub mod KeptFacts
 pub mod PrunedFacts

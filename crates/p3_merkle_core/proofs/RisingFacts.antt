@@ -118,13 +118,33 @@ rising_filter p a (suc n) =
       | inr f ↦ rw f (rising_lower a (a + 1) (filter p (range_with_len (a + 1) n)) (omega arith) rest)
     ]
 
+-- ---- all and nothing of a range
+
+pub none_kept : (p : ℕ → Bool) (a n : ℕ) → ((m : ℕ) → a ≤ m → m < a + n → p m ≡ false) → filter p (range_with_len a n) ≡ []
+none_kept p a zero none = refl
+none_kept p a (suc n) none = rw (none a (omega arith) (omega arith)) (none_kept p (a + 1) n (λ m low high. none m (omega arith) (omega arith)))
+
+pub all_kept : (p : ℕ → Bool) (a n : ℕ) → ((m : ℕ) → a ≤ m → m < a + n → p m ≡ true) → filter p (range_with_len a n) ≡ range_with_len a n
+all_kept p a zero all = refl
+all_kept p a (suc n) all = rw (all a (omega arith) (omega arith)) (ap (λ ys. a ∷ ys) (all_kept p (a + 1) n (λ m low high. all m (omega arith) (omega arith))))
+
+pub range_joined : (a m n : ℕ) → range_with_len a (m + n) ≡ range_with_len a m ++ range_with_len (a + m) n
+range_joined a zero n =
+    let z : a + 0 ≡ a = omega arith in
+    let e : 0 + n ≡ n = omega arith in
+    rw (z, e) refl
+range_joined a (suc m) n =
+    let e : suc m + n ≡ suc (m + n) = omega arith in
+    let next : (a + 1) + m ≡ a + suc m = omega arith in
+    rw e (ap (λ ys. a ∷ ys) (rw next at (range_joined (a + 1) m n)))
+
 -- ---- groups
 
 -- the numbers of the groups of n at these places that pass, group by group
 abbrev pub by_groups : ℕ → (ℕ → Bool) → List ℕ → List ℕ
 by_groups n p places = flat_map (λ g. filter p (range_with_len (n * g) n)) places
 
-place_of : (n g j : ℕ) → n * g ≤ j → j < n * g + n → j / n ≡ g
+pub place_of : (n g j : ℕ) → n * g ≤ j → j < n * g + n → j / n ≡ g
 place_of n g j low high =
     let e : j ≡ g * n + (j - n * g) = omega (arith, mul_comm n g) in
     ap (λ z. z / n) e ∙ div-mul-add g n (j - n * g) (omega arith)

@@ -6,12 +6,14 @@ ghost use Rattle.p3_merkle_core.specs.Agreement.{distinct, early_refusal, first_
 ghost use Rattle.p3_support.specs.Shown.{row_lists};
 ghost use Rattle.p3_merkle_core.specs.Geometry.{heights_of, levels, max_height, shape_of, tallest, IsArity};
 ghost use Rattle.p3_merkle_core.specs.declared.error.MerkleTreeError.TheVariants.{OutOfMemory};
-ghost use Rattle.p3_merkle_core.specs.PrunedCalls.{row_sets};
+ghost use Rattle.p3_merkle_core.specs.PrunedCalls.{pruned_len, row_sets};
 ghost use Rattle.p3_merkle_core.specs.Refusals.{digest_count_refusal, first_of, idle_refusal, is_queried, pruned_refusal, repeat_refusal, width_refusal};
 
 use crate::error::{MerkleTreeError, PrunedProofError};
-use crate::geometry::{check_heights, check_widths, exponent_of, select_arity_step, tallest_of};
-use crate::pruning::{check_indices, covered_leaves, pruned_len_of};
+use crate::geometry::{
+    check_heights, check_widths, exponent_of, has_exponent, select_arity_step, tallest_of,
+};
+use crate::pruning::{boundary_len_of, check_indices, covered_leaves};
 use p3_support::matrix::Dimensions;
 use std::alloc::{AllocError, Global};
 
@@ -159,7 +161,7 @@ fn rows_of_slot<'a, T>(rows: &'a [Vec<Vec<T>>], firsts: &[usize], slot: usize) -
 }
 
 /// Whether slots under one node have the same rows of the matrices of the exponent `x`: each slot is compared with the
-/// lowest one under its node. The nodes of the slots ascend.
+/// lowest one under its node. The nodes of the slots ascend. No slot is looked at where no matrix has the exponent.
 ///
 /// # Errors
 ///
@@ -178,6 +180,9 @@ fn check_layer<T: Eq>(
     ensures { let refusal = nodes_refusal T.eq (heights_of dimensions.now) x nodes.now firsts.now (row_sets rows.now) in
         MatchResult result (λ ok. refusal ≡ None) (λ e. refusal ≡ Some e) }
 {
+    if !has_exponent(dimensions, x) {
+        return Ok(());
+    }
     let mut lead = 0;
     for slot in 0..nodes.len() {
         lead = lead_of(nodes, slot, lead);
@@ -206,7 +211,8 @@ fn to_parents(nodes: &mut [usize], step: usize)
 /// Whether slots under one node of a layer up to `t` have the same rows of the matrices of that layer: each is compared
 /// with the lowest slot under its node. Each slot's row set has a row for each matrix, `t` is at most the number of
 /// levels, the arity a power of two from 2 to 2^62, and no height is above
-/// [`MAX_HEIGHT`](crate::geometry::MAX_HEIGHT). Takes memory for a number a slot.
+/// [`MAX_HEIGHT`](crate::geometry::MAX_HEIGHT). Takes memory for a number a slot, the time of one step for each slot and
+/// layer, and on each layer to which a matrix belongs that of a look at each matrix for each slot.
 ///
 /// # Errors
 ///
@@ -243,7 +249,7 @@ pub fn check_groups<T: Eq>(
 
 /// Whether a pruned opening of some indices can be restored, whatever the cap, which is layer `t`. Answers the slots of its
 /// indices. `t` is at most the number of levels, and the arity a power of two from 2 to 2^62. Takes memory for all
-/// indices, and beside their sort the time of one step for each index and level, and of the rows' comparison.
+/// indices, and beside one sort of them the time of one step for each index and level, and of the rows' comparison.
 ///
 /// # Errors
 ///
@@ -270,11 +276,36 @@ pub fn check_pruned<T: Eq>(
     let slots = slots_of(alloc, indices)?;
     check_repeats(indices, rows, &slots)?;
     check_digest_count(
-        pruned_len_of(alloc, dimensions, arity, t, indices)?,
+        pruned_len_of_slots(alloc, dimensions, arity, t, indices, &slots)?,
         num_digests,
     )?;
     check_slots(alloc, dimensions, arity, t, &slots, rows)?;
     Ok(slots)
+}
+
+/// How many digests a pruned proof of some indices sends under the cap of layer `t`, from their slots, so that they aren't
+/// sorted again.
+///
+/// # Errors
+///
+/// `AllocError` where there is no memory.
+fn pruned_len_of_slots(
+    alloc: Global,
+    dimensions: &[Dimensions],
+    arity: usize,
+    t: usize,
+    indices: &[usize],
+    slots: &Slots,
+) -> Result<usize, AllocError>
+    requires arity { IsArity arity }
+    requires low { tallest (heights_of dimensions.now) ≤ max_height }
+    requires layer { t ≤ levels (shape_of arity dimensions.now) }
+    requires below { tallest indices.now < tallest (heights_of dimensions.now) }
+    requires slots { HasSlots slots.now indices.now }
+    ensures { IfOk result (λ count. count ≡ pruned_len (shape_of arity dimensions.now) indices.now t) }
+{
+    let leaves = Vec::from_slice(alloc, &slots.leaves)?;
+    Ok(boundary_len_of(dimensions, arity, t, leaves))
 }
 
 /// Whether some indices can be queried with so many row sets and digests: what is asked before slots are made.

@@ -140,7 +140,26 @@ pub fn pruned_len_of(
     requires below { All (λ q. q < tallest (heights_of dimensions.now)) indices.now }
     ensures { IfOk result (λ count. count ≡ pruned_len (shape_of arity dimensions.now) indices.now t) }
 {
-    let mut covered = covered_leaves(alloc, indices)?;
+    let leaves = covered_leaves(alloc, indices)?;
+    Ok(boundary_len_of(dimensions, arity, t, leaves))
+}
+
+/// The same as [`pruned_len_of`] from the leaves that the indices cover, each once, ascending, as [`covered_leaves`] has
+/// them. Takes no memory beside theirs, and the time of one step for each leaf and level.
+pub fn boundary_len_of(
+    dimensions: &[Dimensions],
+    arity: usize,
+    t: usize,
+    leaves: Vec<usize>,
+) -> usize
+    requires arity { IsArity arity }
+    requires low { tallest (heights_of dimensions.now) ≤ max_height }
+    requires layer { t ≤ levels (shape_of arity dimensions.now) }
+    requires below { All (λ q. q < tallest (heights_of dimensions.now)) leaves.items }
+    requires ascending { IsStrictlyIncreasing leaves.items }
+    ensures { result ≡ pruned_len (shape_of arity dimensions.now) leaves.items t }
+{
+    let mut covered = leaves;
     let mut x = exponent_of(tallest_of(dimensions));
     let mut count = 0;
     for _l in 0..t {
@@ -151,7 +170,7 @@ pub fn pruned_len_of(
         count += children - below;
         x = next;
     }
-    Ok(count)
+    count
 }
 
 /// The values of the children of some parents, `step` of each, parent by parent: of a covered child its digest, and of

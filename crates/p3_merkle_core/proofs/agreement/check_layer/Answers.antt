@@ -7,7 +7,7 @@ use Rattle.p3_merkle_core.specs.Geometry.{heights_of}
 use Rattle.p3_merkle_core.specs.PrunedCalls.{row_sets}
 use Rattle.p3_merkle_core.specs.Agreement.{nodes_refusal}
 use Rattle.p3_merkle_core.specs.Refusals.{first_of}
-use Rattle.p3_merkle_core.proofs.LeadFacts.{found_or, full_rows, kept_or, lead_place, lead_start, slot_fault, slot_read, slots_next}
+use Rattle.p3_merkle_core.proofs.LeadFacts.{found_or, full_rows, kept_or, lead_place, lead_start, no_matrix, slot_fault, slot_read, slots_next}
 use Rattle.p3_merkle_core.proofs.agreement.check_layer.Goals as goal
 
 pub loop-slot-init : goal.loop-slot-init
@@ -53,3 +53,7 @@ returns-in_err-check_same_rows g c =
     let found = found_or (h k) (first_of h (range_with_len (k + 1) (length nodes - (k + 1)))) total c.in_err-check_same_rows.field-0.0 (slots_next h (length nodes) k total (omega arith) c.loop-slot.invariant.so_far) some in
     let left = err_from_is_err_and c.from_residual.result c.from_residual.ensures.1 in
     rw left.1 (found ∙ ap (λ e. Some e) (sym left.2))
+
+pub returns-then-not-has_exponent : goal.returns-then-not-has_exponent
+returns-then-not-has_exponent g c =
+    no_matrix g.T.PartialEq.eq (heights_of c.args.dimensions.now) c.args.x c.args.nodes.now c.args.firsts.now (row_sets c.args.rows.now) (sym c.has_exponent.ensures ∙ c.if-not-has_exponent.true)
