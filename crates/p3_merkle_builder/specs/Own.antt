@@ -1,5 +1,5 @@
 -- What is opened along the path of one index in a tree, and what is sent for several indices.
-use Rattle.std.specs.Prelude.{◌*◌, ◌==◌, ℕ, suc, not, List, [], drop, filter, flat_map, map, take, remove, slice_index_or}
+use Rattle.std.specs.Prelude.{◌*◌, ◌/◌, ◌==◌, ◌&&◌, ℕ, suc, Bool, not, List, [], drop, filter, flat_map, length, map, take, remove, slice_index_or}
 use Rattle.std.specs.List.{list_any, range_with_len}
 use Rattle.p3_merkle_core.specs.Geometry.{Shape, ancestor, position_in_group, step}
 use Rattle.p3_merkle_core.specs.Pruning.{boundary}
@@ -12,13 +12,13 @@ own_group s layers i l = remove (take (step s l) (drop (step s l * ancestor s (s
 abbrev pub own_siblings : {X : Type 0} → Shape → List (List X) → ℕ → ℕ → List X
 own_siblings s layers t i = flat_map (own_group s layers i) (range_with_len 0 t)
 
--- the n nodes of a layer from first on, but for those that are covered; d stands for a node that the layer has not
-abbrev pub others_in : {X : Type 0} → List X → List ℕ → ℕ → ℕ → X → List X
-others_in layer covered first n d = map (λ j. slice_index_or layer j d) (filter (λ j. not (list_any (λ k. k == j) covered)) (range_with_len first n))
+-- a node is not covered, but another one of its group of n is
+abbrev pub is_beside : List ℕ → ℕ → ℕ → Bool
+is_beside covered n j = list_any (λ k. k / n == j / n) covered && not (list_any (λ k. k == j) covered)
 
--- the same of the n children of each parent, parent by parent
-abbrev pub others_under : {X : Type 0} → List X → List ℕ → ℕ → List ℕ → X → List X
-others_under layer covered n parents d = flat_map (λ p. others_in layer covered (n * p) n d) parents
+-- such nodes of a layer, ascending; d stands for a node that the layer has not
+abbrev pub others_beside : {X : Type 0} → List X → List ℕ → ℕ → X → List X
+others_beside layer covered n d = map (λ j. slice_index_or layer j d) (filter (is_beside covered n) (range_with_len 0 (length layer)))
 
 -- the boundary nodes below layer t, in wire order, in the layers of a tree
 abbrev pub own_boundary : {X : Type 0} → Shape → List (List X) → List ℕ → ℕ → X → List X

@@ -1,19 +1,20 @@
 //! What a tree opens of several leaves at once: their rows, and the digests that these rows leave unknown.
 
-ghost use Rattle.std.specs.Prelude.{◌≡◌, ◌+◌, ◌*◌, ◌^◌, ◌<◌, ◌≤◌, ◌++◌, length, map, All, IfErr, IfOk};
+ghost use Rattle.std.specs.Prelude.{◌≡◌, ◌+◌, ◌-◌, ◌%◌, ◌^◌, ◌<◌, ◌≤◌, ◌++◌, length, map, min, slice_index, All, IfErr, IfOk};
 ghost use Rattle.std.specs.List.Sorted.{IsStrictlyIncreasing};
 ghost use Rattle.p3_merkle_core.specs.Geometry.{heights, levels, tallest};
 ghost use Rattle.p3_merkle_core.specs.Nodes.{shape};
 ghost use Rattle.p3_merkle_core.specs.Openings.{honest_rows};
 ghost use Rattle.p3_merkle_core.specs.PrunedCalls.{row_sets};
 ghost use Rattle.p3_merkle_core.specs.declared.error.MerkleTreeError.TheVariants.{OutOfMemory};
-ghost use Rattle.p3_merkle_builder.specs.Own.{others_in, others_under, own_boundary};
+ghost use Rattle.p3_merkle_builder.specs.Own.{others_beside, own_boundary};
 ghost use Rattle.p3_merkle_builder.specs.Parts.{layers_of, tree_batch};
 
+use crate::levels::dimensions_of;
 use crate::opener::rows_of_index;
 use crate::tree::Tree;
 use p3_merkle_core::error::MerkleTreeError;
-use p3_merkle_core::pruning::{climb, covered_leaves};
+use p3_merkle_core::pruning::{boundary_len_of, climb, covered_leaves};
 use p3_support::matrix::Matrix;
 use std::alloc::Global;
 
@@ -42,7 +43,9 @@ pub fn rows_of_indices<F: Copy, X, G, M: Matrix<F>, const N: usize>(
 
 /// The digests of the boundary of some leaves below layer `t`, in wire order: level by level from the leaves, and
 /// ascending, those of the children of covered nodes that are not covered. Each index is below
-/// [`max_height`](crate::opener::max_height), and `t` at most [`num_levels`](crate::opener::num_levels).
+/// [`max_height`](crate::opener::max_height), and `t` at most [`num_levels`](crate::opener::num_levels). Takes memory for
+/// all indices, and beside their sort the time of one step for each index and level, and of a copy of the digests. These
+/// are allocated once, at their number.
 ///
 /// # Errors
 ///
@@ -60,58 +63,54 @@ pub fn digests_of_boundary<F, X: Copy, G, M: Matrix<F>, const N: usize>(
     ensures memory { IfErr result (λ e. e ≡ OutOfMemory) }
 {
     let mut covered = covered_leaves(alloc, indices)?;
-    let mut digests = Vec::new(alloc);
+    let dimensions = dimensions_of(alloc, &tree.matrices)?;
+    let leaves = Vec::from_slice(alloc, &covered)?;
+    let mut digests = Vec::with_capacity(alloc, boundary_len_of(&dimensions, N, t, leaves))?;
     for level in 0..t {
         let step = tree.arity_schedule[level];
-        let mut parents = Vec::from_slice(alloc, &covered)?;
-        climb(&mut parents, step);
-        extend_with_boundary(&mut digests, &tree.layers[level], &covered, &parents, step)?;
-        covered = parents;
+        extend_with_boundary(&mut digests, &tree.layers[level], &covered, step)?;
+        climb(&mut covered, step);
     }
     Ok(digests)
 }
 
-/// Adds the boundary's digests of one layer to the end, parent by parent: those of its children, `step` of them, that
-/// are not covered.
+/// Adds the boundary's digests of one layer to the end, ascending: those of the nodes that are not covered, but have a
+/// covered one in their group of `step`. The covered nodes ascend. Goes once through these, and copies what lies between
+/// them.
 fn extend_with_boundary<X: Copy>(
     digests: &mut Vec<X>,
     layer: &[X],
     covered: &[usize],
-    parents: &[usize],
     step: usize,
 ) -> Result<(), MerkleTreeError>
+    requires some { 0 < step }
     requires ascending { IsStrictlyIncreasing covered.now }
-    requires groups { All (λ p. step * p + step ≤ length layer.now) parents.now }
+    requires groups { All (λ k. k - k % step + step ≤ length layer.now) covered.now }
     requires len { length layer.now < 2 ^ 64 }
-    ensures digests { (d : X) → let others = others_under layer.now covered.now step parents.now d in
+    ensures digests { (d : X) → let others = others_beside layer.now covered.now step d in
         IfOk result (λ done. digests.new.items ≡ digests.old.items ++ others) }
     ensures memory { IfErr result (λ e. e ≡ OutOfMemory) }
 {
-    for parent in parents {
-        extend_with_uncovered(digests, layer, covered, step * *parent, step)?;
+    let mut next = 0;
+    for place in 0..covered.len() {
+        let node = covered[place];
+        let first = node - node % step;
+        let end = end_before(covered, place + 1, first + step);
+        digests.extend_from_slice(&layer[first.max(next)..node])?;
+        digests.extend_from_slice(&layer[node + 1..end])?;
+        next = end;
     }
     Ok(())
 }
 
-/// Adds the digests of a group to the end, all but those of covered nodes. The group has `step` nodes, from `first` on.
-fn extend_with_uncovered<X: Copy>(
-    digests: &mut Vec<X>,
-    layer: &[X],
-    covered: &[usize],
-    first: usize,
-    step: usize,
-) -> Result<(), MerkleTreeError>
-    requires ascending { IsStrictlyIncreasing covered.now }
-    requires group { first + step ≤ length layer.now }
-    requires len { length layer.now < 2 ^ 64 }
-    ensures digests { (d : X) → let others = others_in layer.now covered.now first step d in
-        IfOk result (λ done. digests.new.items ≡ digests.old.items ++ others) }
-    ensures memory { IfErr result (λ e. e ≡ OutOfMemory) }
+/// The end of a group, or the covered node at a place, if there is one and it comes first.
+fn end_before(covered: &[usize], place: usize, group_end: usize) -> usize
+    ensures next { place < length covered.now → result ≡ min group_end (slice_index covered.now place) }
+    ensures last { length covered.now ≤ place → result ≡ group_end }
 {
-    for child in first..first + step {
-        if covered.binary_search(&child).is_err() {
-            digests.push(layer[child])?;
-        }
+    if place < covered.len() {
+        group_end.min(covered[place])
+    } else {
+        group_end
     }
-    Ok(())
 }

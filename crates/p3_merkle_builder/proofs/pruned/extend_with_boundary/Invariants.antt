@@ -1,7 +1,11 @@
-use Rattle.std.proofs.Common.{◌≡◌, ◌++◌, take}
-use Rattle.p3_merkle_builder.specs.Own.{others_under}
+use Rattle.std.proofs.Common.{◌≡◌, ◌++◌, ◌≤◌, length}
+use Rattle.p3_merkle_builder.proofs.BoundaryFacts.{IsGone, others_below}
 use Rattle.p3_merkle_builder.proofs.pruned.extend_with_boundary.Given as goal
 
--- the digests of the parents' children so far
-abbrev pub invariant-loop-parent : goal.invariant-loop-parent
-invariant-loop-parent g l = (d : g.row.X.Denot) → l.digests.items ≡ l.initial.digests.items ++ others_under l.layer l.covered l.step (take l.parent-index l.parents) d
+-- what lies below `next` is done with, and the digests of the boundary there are added
+abbrev pub invariant-loop-place : goal.invariant-loop-place
+invariant-loop-place g l = record {
+  gone : IsGone l.covered l.step l.place l.next;
+  inside : l.next ≤ length l.layer;
+  so_far : (d : g.row.X.Denot) → l.digests.items ≡ l.initial.digests.items ++ others_below l.layer l.covered l.step l.next d;
+}
