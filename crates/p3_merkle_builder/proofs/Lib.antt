@@ -5,3 +5,4 @@ pub mod TreeFacts
 pub mod OwnFacts
 pub mod RowFacts
 pub mod BoundaryFacts
+pub mod LaneFacts

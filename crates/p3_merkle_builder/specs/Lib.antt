@@ -1,5 +1,6 @@
 pub mod Views
 pub mod Levels
+pub mod Slots
 pub mod Built
 pub mod Parts
 pub mod Own

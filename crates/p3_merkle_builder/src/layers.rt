@@ -3,16 +3,22 @@
 //! Each layer is allocated once, at its length, and filled from the first slot to the last. The matrices of its height
 //! are picked once, and its rows are read from those alone.
 
-ghost use Rattle.std.specs.Prelude.{suc, take, drop, ◌≡◌, ℕ, ◌-◌, ◌*◌, ◌<◌, ◌≤◌, ◌++◌, [], ◌∷◌, IfOk, List, map, filter, length, replicate, if◌then◌else◌, nat_lt, ◌==◌};
+ghost use Rattle.std.specs.Prelude.{suc, take, drop, ◌≡◌, ℕ, ◌+◌, ◌-◌, ◌*◌, ◌<◌, ◌≤◌, ◌++◌, [], ◌∷◌, IfOk, List, map, filter, length, replicate, if◌then◌else◌, nat_lt, true, ◌==◌};
 ghost use Rattle.std.specs.List.{range_with_len};
-ghost use Rattle.p3_support.specs.Lists.{rows_of_height};
+ghost use Rattle.std.specs.Mem.{FitsInMemory};
+ghost use denote.Param.{ArrayAt};
+ghost use Rattle.p3_support.specs.Lists.{lane_of, rows_of_height};
 ghost use Rattle.p3_merkle_core.specs.Geometry.{arity_schedule as schedule_of, layer_len, shape_of};
 ghost use Rattle.p3_merkle_core.specs.Nodes.{functions_of, layer, layers as layers_over, shape};
 ghost use Rattle.p3_merkle_builder.specs.Built.{IsBuilt};
 ghost use Rattle.p3_merkle_builder.specs.Levels.{layer_above, node_above, slot_above, CanBuild, CanRaise, IsLevel};
+ghost use Rattle.p3_merkle_builder.specs.Slots.{leaf_over, IsFilled};
 ghost use Rattle.p3_merkle_builder.specs.Views.{batch_of};
 
 use crate::levels::{Level, level_above};
+use crate::packed::{
+    packed_fold, packed_groups, packed_join, packed_rows_digest, unpack_at, write_packed_leaves,
+};
 use p3_merkle_core::geometry::{exponent_of, padded_len, tallest_of};
 use p3_merkle_core::group::group_with;
 use p3_support::compress::PseudoCompressionFunction;
@@ -171,27 +177,189 @@ impl<
         }
     }
 
-    /// Writes into each slot the digest of the rows of its number, of the matrices of this height.
-    fn write_leaves(&self, height: usize, slots: &mut [[PW::Value; D]])
-        ensures { slots.new ≡ map (λ j. (if nat_lt j height
-            then H.hash self.now.hash.now (rows_of_height M.height_of M.row_of height j self.now.matrices.now)
-            else replicate D PW.default_value)) (range_with_len 0 (length slots.old)) }
+    /// Writes the digests of the rows of the matrices of this height into as many of the first slots as are filled
+    /// several at a time, and says how many these are.
+    fn write_first_leaves(
+        &self,
+        alloc: Global,
+        height: usize,
+        slots: &mut [[PW::Value; D]],
+    ) -> Result<usize, AllocError>
+        requires some { 0 < N }
+        requires lanes { P.WIDTH ≡ PW.WIDTH }
+        ensures { let leaf = leaf_over (H.hash self.now.hash.now) (replicate D PW.default_value) M.height_of M.row_of self.now.matrices.now height in
+            IfOk result (λ done. IsFilled leaf done (length slots.old) slots.new) }
     {
-        for (j, slot) in slots.iter_mut().enumerate() {
-            *slot = self.rows_digest(height, j);
+        let groups = packed_groups::<PW, N, D>(height.min(slots.len()));
+        write_packed_leaves::<P, PW, H, M, D>(
+            alloc,
+            self.hash,
+            self.matrices,
+            height,
+            groups,
+            slots,
+        )?;
+        Ok(groups * PW::WIDTH)
+    }
+
+    /// Writes into each slot from the first `done` on the digest of the rows of its number, of the matrices of this
+    /// height.
+    fn write_other_leaves(&self, height: usize, done: usize, slots: &mut [[PW::Value; D]])
+        requires { let leaf = leaf_over (H.hash self.now.hash.now) (replicate D PW.default_value) M.height_of M.row_of self.now.matrices.now height in
+            IsFilled leaf done (length slots.old) slots.old }
+        ensures { let leaf = leaf_over (H.hash self.now.hash.now) (replicate D PW.default_value) M.height_of M.row_of self.now.matrices.now height in
+            slots.new ≡ map leaf (range_with_len 0 (length slots.old)) }
+    {
+        for j in done..slots.len() {
+            slots[j] = self.rows_digest(height, j);
         }
     }
 
-    /// Writes the slots of the layer above a layer.
-    fn write_nodes(&self, level: &Level, below: &[[PW::Value; D]], slots: &mut [[PW::Value; D]])
-        requires { CanRaise N level.now (length below.now) }
+    /// Writes into each slot the digest of the rows of its number, of the matrices of this height.
+    fn write_leaves(
+        &self,
+        alloc: Global,
+        height: usize,
+        slots: &mut [[PW::Value; D]],
+    ) -> Result<(), AllocError>
+        requires some { 0 < N }
+        requires lanes { P.WIDTH ≡ PW.WIDTH }
+        ensures { let leaf = leaf_over (H.hash self.now.hash.now) (replicate D PW.default_value) M.height_of M.row_of self.now.matrices.now height in
+            IfOk result (λ done. slots.new ≡ map leaf (range_with_len 0 (length slots.old))) }
+    {
+        let done = self.write_first_leaves(alloc, height, slots)?;
+        self.write_other_leaves(height, done, slots);
+        Ok(())
+    }
+
+    /// The digests of the nodes from `first` on of the layer above a layer, lane by lane.
+    fn packed_node(
+        &self,
+        level: &Level,
+        below: &[[PW::Value; D]],
+        first: usize,
+        staged: &mut Vec<P>,
+    ) -> Result<[PW; D], AllocError>
+        requires level { CanRaise N level.now (length below.now) }
+        requires lanes { P.WIDTH ≡ PW.WIDTH }
+        requires group { FitsInMemory (ArrayAt (ArrayAt PW.row D.row) N.row) }
+        requires nodes { first + PW.WIDTH ≤ level.now.raw_len }
+        requires rows { level.now.has_rows ≡ true → first + PW.WIDTH ≤ level.now.height }
+        ensures { let f = functions_of (H.hash self.now.hash.now) (C.compression self.now.compress.now)
+            (replicate D PW.default_value) in
+            IfOk result (λ digests. (k : ℕ) → k < PW.WIDTH → lane_of PW.lanes PW.default_value k digests
+            ≡ slot_above f N M.height_of M.row_of self.now.matrices.now level.now below.now (first + k)) }
+    {
+        let folded = packed_fold::<PW, C, N, D>(self.compress, below, level.step, first);
+        if !level.has_rows {
+            return Ok(folded);
+        }
+        let rows = packed_rows_digest::<P, PW, H, M, D>(
+            self.hash,
+            self.matrices,
+            level.height,
+            first,
+            staged,
+        )?;
+        Ok(packed_join::<PW, C, N, D>(self.compress, folded, rows))
+    }
+
+    /// Writes the nodes of the layer above a layer into the first slots: `groups` groups, each of as many slots as there
+    /// are lanes.
+    fn write_packed_nodes(
+        &self,
+        alloc: Global,
+        level: &Level,
+        below: &[[PW::Value; D]],
+        groups: usize,
+        slots: &mut [[PW::Value; D]],
+    ) -> Result<(), AllocError>
+        requires level { CanRaise N level.now (length below.now) }
+        requires lanes { P.WIDTH ≡ PW.WIDTH }
+        requires digest { 0 < groups → FitsInMemory (ArrayAt PW.row D.row) }
+        requires group { 0 < groups → FitsInMemory (ArrayAt (ArrayAt PW.row D.row) N.row) }
+        requires nodes { groups * PW.WIDTH ≤ level.now.raw_len }
+        requires rows { level.now.has_rows ≡ true → groups * PW.WIDTH ≤ level.now.height }
+        requires room { groups * PW.WIDTH ≤ length slots.old }
+        ensures { let f = functions_of (H.hash self.now.hash.now) (C.compression self.now.compress.now)
+            (replicate D PW.default_value) in
+            let slot = slot_above f N M.height_of M.row_of self.now.matrices.now level.now below.now in
+            IfOk result (λ done. IsFilled slot (groups * PW.WIDTH) (length slots.old) slots.new) }
+    {
+        let mut staged = Vec::new(alloc);
+        for group in 0..groups {
+            let first = group * PW::WIDTH;
+            let digests = self.packed_node(level, below, first, &mut staged)?;
+            unpack_at(&digests, slots, first);
+        }
+        Ok(())
+    }
+
+    /// Writes the layer above a layer into as many of the first slots as are filled several at a time, and says how many
+    /// these are.
+    fn write_first_nodes(
+        &self,
+        alloc: Global,
+        level: &Level,
+        below: &[[PW::Value; D]],
+        slots: &mut [[PW::Value; D]],
+    ) -> Result<usize, AllocError>
+        requires level { CanRaise N level.now (length below.now) }
+        requires lanes { P.WIDTH ≡ PW.WIDTH }
+        ensures { let f = functions_of (H.hash self.now.hash.now) (C.compression self.now.compress.now)
+            (replicate D PW.default_value) in
+            let slot = slot_above f N M.height_of M.row_of self.now.matrices.now level.now below.now in
+            IfOk result (λ done. IsFilled slot done (length slots.old) slots.new) }
+    {
+        let nodes = level.raw_len.min(slots.len());
+        let count = if level.has_rows {
+            nodes.min(level.height)
+        } else {
+            nodes
+        };
+        let groups = packed_groups::<PW, N, D>(count);
+        self.write_packed_nodes(alloc, level, below, groups, slots)?;
+        Ok(groups * PW::WIDTH)
+    }
+
+    /// Writes the slots of the layer above a layer, from the first `done` on.
+    fn write_other_nodes(
+        &self,
+        level: &Level,
+        below: &[[PW::Value; D]],
+        done: usize,
+        slots: &mut [[PW::Value; D]],
+    )
+        requires level { CanRaise N level.now (length below.now) }
+        requires first { let f = functions_of (H.hash self.now.hash.now) (C.compression self.now.compress.now)
+            (replicate D PW.default_value) in
+            IsFilled (slot_above f N M.height_of M.row_of self.now.matrices.now level.now below.now) done (length slots.old) slots.old }
         ensures { let f = functions_of (H.hash self.now.hash.now) (C.compression self.now.compress.now)
             (replicate D PW.default_value) in
             slots.new ≡ map (slot_above f N M.height_of M.row_of self.now.matrices.now level.now below.now) (range_with_len 0 (length slots.old)) }
     {
-        for (j, slot) in slots.iter_mut().enumerate() {
-            *slot = self.slot(level, below, j);
+        for j in done..slots.len() {
+            slots[j] = self.slot(level, below, j);
         }
+    }
+
+    /// Writes the slots of the layer above a layer.
+    fn write_nodes(
+        &self,
+        alloc: Global,
+        level: &Level,
+        below: &[[PW::Value; D]],
+        slots: &mut [[PW::Value; D]],
+    ) -> Result<(), AllocError>
+        requires level { CanRaise N level.now (length below.now) }
+        requires lanes { P.WIDTH ≡ PW.WIDTH }
+        ensures { let f = functions_of (H.hash self.now.hash.now) (C.compression self.now.compress.now)
+            (replicate D PW.default_value) in
+            IfOk result (λ done. slots.new ≡ map (slot_above f N M.height_of M.row_of self.now.matrices.now level.now below.now) (range_with_len 0 (length slots.old))) }
+    {
+        let done = self.write_first_nodes(alloc, level, below, slots)?;
+        self.write_other_nodes(level, below, done, slots);
+        Ok(())
     }
 
     /// This builder over some of its matrices alone.
@@ -218,6 +386,8 @@ impl<
         height: usize,
         len: usize,
     ) -> Result<Vec<[PW::Value; D]>, AllocError>
+        requires some { 0 < N }
+        requires lanes { P.WIDTH ≡ PW.WIDTH }
         ensures { IfOk result (λ v. v.items ≡ map (λ j. (if nat_lt j height
             then H.hash self.now.hash.now (rows_of_height M.height_of M.row_of height j self.now.matrices.now)
             else replicate D PW.default_value)) (range_with_len 0 len)) }
@@ -225,7 +395,7 @@ impl<
         let picked = of_height(alloc, self.matrices, height)?;
         let builder = self.over(&picked);
         let mut nodes = vec![in alloc; [PW::Value::default(); D]; len]?;
-        builder.write_leaves(height, &mut nodes);
+        builder.write_leaves(alloc, height, &mut nodes)?;
         Ok(nodes)
     }
 
@@ -236,7 +406,8 @@ impl<
         level: &Level,
         below: &[[PW::Value; D]],
     ) -> Result<Vec<[PW::Value; D]>, AllocError>
-        requires { CanRaise N level.now (length below.now) }
+        requires level { CanRaise N level.now (length below.now) }
+        requires lanes { P.WIDTH ≡ PW.WIDTH }
         ensures { let f = functions_of (H.hash self.now.hash.now) (C.compression self.now.compress.now)
             (replicate D PW.default_value) in
             IfOk result (λ v. v.items ≡ layer_above f N M.height_of M.row_of self.now.matrices.now level.now below.now) }
@@ -244,7 +415,7 @@ impl<
         let picked = of_height(alloc, self.matrices, level.height)?;
         let builder = self.over(&picked);
         let mut nodes = vec![in alloc; [PW::Value::default(); D]; level.layer_len]?;
-        builder.write_nodes(level, below, &mut nodes);
+        builder.write_nodes(alloc, level, below, &mut nodes)?;
         Ok(nodes)
     }
 
@@ -254,7 +425,8 @@ impl<
         alloc: Global,
         dimensions: &[Dimensions],
     ) -> Result<Stack<[PW::Value; D]>, AllocError>
-        requires { CanBuild (batch_of M.height_of M.width_of M.row_of N self.now.matrices.now) dimensions.now }
+        requires build { CanBuild (batch_of M.height_of M.width_of M.row_of N self.now.matrices.now) dimensions.now }
+        requires lanes { P.WIDTH ≡ PW.WIDTH }
         ensures { let f = functions_of (H.hash self.now.hash.now) (C.compression self.now.compress.now)
             (replicate D PW.default_value) in
             let b = batch_of M.height_of M.width_of M.row_of N self.now.matrices.now in
@@ -287,6 +459,7 @@ impl<
             IsBuilt f b stack.now.exponent stack.now.len
             (map (λ nodes. nodes.items) stack.now.layers.items) stack.now.arity_schedule.items }
         requires more { 0 < stack.now.exponent }
+        requires lanes { P.WIDTH ≡ PW.WIDTH }
         ensures level { IfOk result (λ made. IsLevel (shape (batch_of M.height_of M.width_of M.row_of N self.now.matrices.now)) made.0) }
         ensures below { IfOk result (λ made. made.0.below ≡ length stack.now.arity_schedule.items) }
         ensures nodes { let f = functions_of (H.hash self.now.hash.now) (C.compression self.now.compress.now)
@@ -308,7 +481,8 @@ impl<
         alloc: Global,
         dimensions: &[Dimensions],
     ) -> Result<Stack<[PW::Value; D]>, AllocError>
-        requires { CanBuild (batch_of M.height_of M.width_of M.row_of N self.now.matrices.now) dimensions.now }
+        requires build { CanBuild (batch_of M.height_of M.width_of M.row_of N self.now.matrices.now) dimensions.now }
+        requires lanes { P.WIDTH ≡ PW.WIDTH }
         ensures layers { let f = functions_of (H.hash self.now.hash.now) (C.compression self.now.compress.now)
             (replicate D PW.default_value) in
             let b = batch_of M.height_of M.width_of M.row_of N self.now.matrices.now in

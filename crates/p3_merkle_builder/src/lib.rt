@@ -5,5 +5,6 @@ pub mod copy;
 pub mod layers;
 pub mod levels;
 pub mod opener;
+pub mod packed;
 pub mod pruned;
 pub mod tree;

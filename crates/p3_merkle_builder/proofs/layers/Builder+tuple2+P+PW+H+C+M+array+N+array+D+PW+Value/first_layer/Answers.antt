@@ -19,8 +19,8 @@ returns g c =
     let rows = λ (j : ℕ). rows_picked g.M.Matrix.height_of g.M.Matrix.row_of (λ m. m.now) h j picked all (ap (map (λ m. m.now)) (c.over-builder.ensures.matrices ∙ c.deref.ensures.value) ∙ c.in_ok-picked.ensures) in
     let slots = c.write_leaves.new.slots in
     let long : length c.deref_mut.result.now ≡ c.args.len = omega (arith, c.deref_mut.ensures.len, c.in_ok-nodes.ensures.len) in
-    let size : length slots ≡ c.in_ok-nodes.nodes.len = ap length c.write_leaves.ensures ∙ length-map-range_with_len f 0 (length c.deref_mut.result.now) ∙ c.deref_mut.ensures.len in
+    let size : length slots ≡ c.in_ok-nodes.nodes.len = ap length c.in_ok-write_leaves.ensures ∙ length-map-range_with_len f 0 (length c.deref_mut.result.now) ∙ c.deref_mut.ensures.len in
     take_at slots (drop (length slots) c.in_ok-nodes.nodes.items) c.in_ok-nodes.nodes.len size
-    ∙ c.write_leaves.ensures
+    ∙ c.in_ok-write_leaves.ensures
     ∙ ap (λ n. map f (range_with_len 0 n)) long
     ∙ same_made f wanted c.args.len (λ j below. rw (c.over-builder.ensures.hash, rows j) refl)
