@@ -1,8 +1,8 @@
 -- Slots that are filled in groups, and what each lane of packed digests shows.
-use Rattle.std.proofs.Common.{◌≡◌, ℕ, zero, suc, ◌+◌, ◌-◌, ◌*◌, ◌<◌, ◌≤◌, List, [], ◌∷◌, ◌++◌, length, map, take, drop, get_or, set, replicate, cond, nat_lt, true, false, min, ◌^◌, refl, sym, ap, ◌∙◌, arith, inl, inr, append-nil, length-drop}
+use Rattle.std.proofs.Common.{◌≡◌, ℕ, zero, suc, ◌+◌, ◌-◌, ◌*◌, ◌<◌, ◌≤◌, List, [], ◌∷◌, ◌++◌, length, map, take, drop, get_or, set, replicate, cond, true, false, min, ◌^◌, refl, sym, ap, ◌∙◌, arith, inl, inr, append-nil, length-drop}
 use Rattle.std.specs.Prelude.{◌==◌}
 use Rattle.std.proofs.lemmas.Bool.{cases_lt, cases_eq, eq-eqb, ne_eqb, lt-ltb}
-use Rattle.std.proofs.lemmas.List.{drop_more, take_more, append_assoc, set_at, length-take-le, length-map, map-set, get_or_append_left, get_or-append_right, get_or-take, get_or-drop, get_or-replicate}
+use Rattle.std.proofs.lemmas.List.{drop_more, take_more, append_assoc, set_at, length-take-le, get_or_append_left, get_or-append_right, get_or-take, get_or-drop, get_or-replicate}
 use Rattle.std.proofs.Math.Nat.{mul-le-mul_right, mul-le-mul_left, mul-suc, add-mul, one-mul}
 use Rattle.p3_support.specs.Lists.{lane_of, rows_of_height}
 use borrow.Rule.Slice.PartMut.{put_mid}
@@ -10,6 +10,7 @@ use prog.Memory.{capped}
 use prog.Capped.{capped_is, capped_small}
 use Rattle.p3_merkle_core.specs.Nodes.{Functions, compress}
 use Rattle.p3_merkle_builder.specs.Levels.{slot_above}
+use Rattle.p3_merkle_builder.specs.Slots.{leaf_over}
 use Rattle.p3_merkle_builder.specs.declared.levels.Level.{Level}
 
 -- the end of a group of w is w past its start
@@ -151,3 +152,9 @@ module _ {T W M : Type 0} (f : Functions T W) (n : ℕ) (height : M → ℕ) (ro
       rw (lt-ltb j v.raw_len inside, has, lt-ltb j v.height tall)
       (made ∙ ap (λ c. f.compression (c ∷ rows ∷ replicate (n - 2) f.default_digest)) (folded_is folded is)
       ∙ ap (λ r. f.compression (compress f n (take v.step (drop (v.step * j) below)) ∷ r ∷ replicate (n - 2) f.default_digest)) are_rows)
+
+  -- one that rows belong to, which have this height or are past it
+  pub node_with : (folded joined : List W) → v.has_rows ≡ true → folded ≡ f.compression (children ++ replicate (n - v.step) f.default_digest) →
+      joined ≡ f.compression (folded ∷ leaf_over f.hash f.default_digest height row ms v.height j ∷ replicate (n - 2) f.default_digest) → joined ≡ slot_above f n height row ms v below j
+  node_with folded joined has is made =
+      rw (lt-ltb j v.raw_len inside, has) (made ∙ ap (λ c. f.compression (c ∷ leaf_over f.hash f.default_digest height row ms v.height j ∷ replicate (n - 2) f.default_digest)) (folded_is folded is))

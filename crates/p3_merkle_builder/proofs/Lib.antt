@@ -6,3 +6,4 @@ pub mod OwnFacts
 pub mod RowFacts
 pub mod BoundaryFacts
 pub mod LaneFacts
+pub mod StageFacts

@@ -15,6 +15,7 @@ ghost use Rattle.p3_merkle_builder.specs.Levels.{layer_above, node_above, slot_a
 ghost use Rattle.p3_merkle_builder.specs.Slots.{leaf_over, IsFilled};
 ghost use Rattle.p3_merkle_builder.specs.Views.{batch_of};
 
+use crate::batched::{join_rows, write_batched_folds, write_batched_leaves};
 use crate::levels::{Level, level_above};
 use crate::packed::{
     packed_fold, packed_groups, packed_join, packed_rows_digest, unpack_at, write_packed_leaves,
@@ -190,7 +191,19 @@ impl<
         ensures { let leaf = leaf_over (H.hash self.now.hash.now) (replicate D PW.default_value) M.height_of M.row_of self.now.matrices.now height in
             IfOk result (λ done. IsFilled leaf done (length slots.old) slots.new) }
     {
-        let groups = packed_groups::<PW, N, D>(height.min(slots.len()));
+        let count = height.min(slots.len());
+        if H::LANES > 1 {
+            write_batched_leaves::<P, PW, H, M, D>(
+                alloc,
+                self.hash,
+                self.matrices,
+                height,
+                count,
+                slots,
+            )?;
+            return Ok(count);
+        }
+        let groups = packed_groups::<PW, N, D>(count);
         write_packed_leaves::<P, PW, H, M, D>(
             alloc,
             self.hash,
@@ -230,6 +243,23 @@ impl<
         let done = self.write_first_leaves(alloc, height, slots)?;
         self.write_other_leaves(height, done, slots);
         Ok(())
+    }
+
+    /// The digests of the rows of the matrices of this height, in `len` slots.
+    fn leaves(
+        &self,
+        alloc: Global,
+        height: usize,
+        len: usize,
+    ) -> Result<Vec<[PW::Value; D]>, AllocError>
+        requires some { 0 < N }
+        requires lanes { P.WIDTH ≡ PW.WIDTH }
+        ensures { let leaf = leaf_over (H.hash self.now.hash.now) (replicate D PW.default_value) M.height_of M.row_of self.now.matrices.now height in
+            IfOk result (λ v. v.items ≡ map leaf (range_with_len 0 len)) }
+    {
+        let mut digests = vec![in alloc; [PW::Value::default(); D]; len]?;
+        self.write_leaves(alloc, height, &mut digests)?;
+        Ok(digests)
     }
 
     /// The digests of the nodes from `first` on of the layer above a layer, lane by lane.
@@ -295,6 +325,38 @@ impl<
         Ok(())
     }
 
+    /// Writes the nodes of the layer above a layer, each of which has `N` children, into the first `count` slots: first
+    /// the compressions of their children; then, where matrices belong to the layer, the digests of their rows, and the
+    /// compressions of both.
+    fn write_batched_nodes(
+        &self,
+        alloc: Global,
+        level: &Level,
+        below: &[[PW::Value; D]],
+        count: usize,
+        slots: &mut [[PW::Value; D]],
+    ) -> Result<(), AllocError>
+        requires level { CanRaise N level.now (length below.now) }
+        requires lanes { P.WIDTH ≡ PW.WIDTH }
+        requires whole { level.now.step ≡ N }
+        requires nodes { count ≤ level.now.raw_len }
+        requires room { count ≤ length slots.old }
+        ensures { let f = functions_of (H.hash self.now.hash.now) (C.compression self.now.compress.now)
+            (replicate D PW.default_value) in
+            let slot = slot_above f N M.height_of M.row_of self.now.matrices.now level.now below.now in
+            IfOk result (λ done. IsFilled slot count (length slots.old) slots.new) }
+    {
+        let (groups, _) = below.as_chunks::<N>();
+        write_batched_folds::<PW, C, N, D>(self.compress, groups, count, slots);
+        if !level.has_rows {
+            return Ok(());
+        }
+        let rows = self.leaves(alloc, level.height, count)?;
+        let mut pairs = Vec::new(alloc);
+        join_rows::<PW, C, N, D>(self.compress, &mut pairs, &rows, slots)?;
+        Ok(())
+    }
+
     /// Writes the layer above a layer into as many of the first slots as are filled several at a time, and says how many
     /// these are.
     fn write_first_nodes(
@@ -312,6 +374,10 @@ impl<
             IfOk result (λ done. IsFilled slot done (length slots.old) slots.new) }
     {
         let nodes = level.raw_len.min(slots.len());
+        if level.step == N && C::LANES > 1 && (!level.has_rows || H::LANES > 1) {
+            self.write_batched_nodes(alloc, level, below, nodes, slots)?;
+            return Ok(nodes);
+        }
         let count = if level.has_rows {
             nodes.min(level.height)
         } else {
@@ -394,9 +460,8 @@ impl<
     {
         let picked = of_height(alloc, self.matrices, height)?;
         let builder = self.over(&picked);
-        let mut nodes = vec![in alloc; [PW::Value::default(); D]; len]?;
-        builder.write_leaves(alloc, height, &mut nodes)?;
-        Ok(nodes)
+        let leaves = builder.leaves(alloc, height, len)?;
+        Ok(leaves)
     }
 
     /// The layer above a layer.

@@ -1,5 +1,5 @@
 -- Each turn puts one child into its place.
-use Rattle.std.proofs.Common.{arith, ◌≡◌, ℕ, ◌+◌, ◌*◌, ◌<◌, ◌++◌, ◌∙◌, [], ap, length, take, drop, map, set, sym, List, length-set}
+use Rattle.std.proofs.Common.{arith, ◌≡◌, ◌+◌, ◌*◌, ◌<◌, ◌++◌, ◌∙◌, [], ap, length, take, drop, map, set, sym, List, length-set}
 use Rattle.std.proofs.lemmas.List.{map-set, length-map, take_all}
 use Rattle.p3_support.specs.Lists.{lane_of}
 use Rattle.p3_merkle_builder.proofs.LaneFacts.{put_next, child_at, children_long}

@@ -1,5 +1,5 @@
 -- Each column is a child of one node.
-use Rattle.std.proofs.Common.{rules, arith, ◌≡◌, ℕ, ◌+◌, ◌*◌, ◌<◌, ◌≤◌, ◌∙◌, [], length, sym}
+use Rattle.std.proofs.Common.{rules, arith, ℕ, ◌+◌, ◌*◌, ◌≤◌, ◌∙◌, [], length, sym}
 use Rattle.std.proofs.lemmas.Option.{get_or_from_slice_get}
 use Rattle.p3_merkle_builder.proofs.LaneFacts.{children_inside, below_product}
 use Rattle.p3_merkle_builder.proofs.packed.packed_child.Goals as goal

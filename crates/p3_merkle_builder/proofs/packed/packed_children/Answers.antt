@@ -1,5 +1,5 @@
 -- The places behind the children keep their default digests.
-use Rattle.std.proofs.Common.{◌≡◌, ℕ, ◌+◌, ◌-◌, ◌*◌, ◌++◌, ◌∙◌, ap, take, drop, replicate}
+use Rattle.std.proofs.Common.{◌+◌, ◌*◌, ◌++◌, ◌∙◌, ap, take, drop, replicate}
 use Rattle.std.proofs.lemmas.List.{drop-replicate}
 use Rattle.p3_merkle_builder.proofs.LaneFacts.{default_lanes}
 use Rattle.p3_merkle_builder.proofs.packed.packed_children.Goals as goal

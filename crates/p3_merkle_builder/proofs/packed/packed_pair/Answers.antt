@@ -1,5 +1,5 @@
 -- Two digests, and default digests behind them.
-use Rattle.std.proofs.Common.{◌≡◌, ◌-◌, ◌∷◌, ◌∙◌, ap, map, replicate, List}
+use Rattle.std.proofs.Common.{◌-◌, ◌∷◌, ◌∙◌, ap, map, replicate, List}
 use Rattle.p3_support.specs.Lists.{lane_of}
 use Rattle.p3_merkle_builder.proofs.LaneFacts.{default_lanes}
 use Rattle.p3_merkle_builder.proofs.packed.packed_pair.Goals as goal

@@ -1,5 +1,5 @@
 -- Each lane of the columns is a row.
-use Rattle.std.proofs.Common.{arith, ◌≡◌, ℕ, ◌+◌, ◌<◌, ◌∙◌, ap, length, List}
+use Rattle.std.proofs.Common.{arith, ◌≡◌, ℕ, ◌+◌, ◌<◌, ◌∙◌, ap}
 use Rattle.std.proofs.lemmas.Iterator.Consumers.{YieldsList-from_first}
 use Rattle.p3_support.specs.Lists.{columns, lane_of}
 use Rattle.p3_support.proofs.RowReads.{lane_of_columns}

@@ -1,5 +1,5 @@
 -- Each lane of the columns that are added is a row.
-use Rattle.std.proofs.Common.{arith, ◌≡◌, ℕ, ◌+◌, ◌<◌, ◌++◌, ◌∙◌, ap, List, slice_index_or}
+use Rattle.std.proofs.Common.{arith, ◌+◌, ◌<◌, ◌++◌, ◌∙◌, ap, List, slice_index_or}
 use Rattle.std.proofs.lemmas.List.{map-append}
 use Rattle.std.proofs.lemmas.Iterator.Adapters.{fact_from_extend}
 use Rattle.std.proofs.lemmas.Iterator.Consumers.{YieldsList-from_first}

@@ -1,5 +1,5 @@
 -- Each turn adds the rows of one matrix, if it has the height.
-use Rattle.std.proofs.Common.{arith, ◌≡◌, ℕ, ◌+◌, ◌++◌, ◌∙◌, ap, sym, List}
+use Rattle.std.proofs.Common.{arith, ℕ, ◌+◌, ◌++◌, ◌∙◌, ap, sym, List}
 use Rattle.p3_support.specs.Lists.{lane_of}
 use Rattle.p3_merkle_builder.proofs.LaneFacts.{rows_with, rows_without}
 use Rattle.p3_merkle_builder.proofs.packed.stage_packed_rows.Goals as goal

@@ -1,8 +1,7 @@
-use Rattle.std.proofs.Common.{rules, arith, ◌≡◌, ℕ, ◌≤◌, ◌∙◌, [], length, ap, slice_index_or, map}
-use Rattle.std.specs.List.{range_with_len}
+use Rattle.std.proofs.Common.{arith, ◌≡◌, ℕ, ◌≤◌, ◌∙◌, [], length, ap, slice_index_or}
 use Rattle.std.proofs.lemmas.List.FromFn.{get_or-map-range_with_len, length-map-range_with_len}
 use Rattle.p3_support.specs.Lists.{lane_of}
-use Rattle.p3_merkle_builder.proofs.LaneFacts.{part_written, part_before}
+use Rattle.p3_merkle_builder.proofs.LaneFacts.{part_written}
 use Rattle.p3_merkle_builder.proofs.packed.unpack_at.Goals as goal
 
 pub returns-clause-lanes : goal.returns-clause-lanes

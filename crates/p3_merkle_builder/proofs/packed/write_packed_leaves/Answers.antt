@@ -1,8 +1,8 @@
 -- Each turn writes the slots of one group.
-use Rattle.std.proofs.Common.{rules, arith, ◌≡◌, ℕ, ◌+◌, ◌*◌, ◌≤◌, ◌<◌, ◌∙◌, [], ap, refl, length, replicate, slice_index_or}
+use Rattle.std.proofs.Common.{rules, arith, ◌≡◌, ℕ, ◌+◌, ◌*◌, ◌<◌, ◌∙◌, [], refl, length, replicate, slice_index_or}
 use Rattle.std.proofs.lemmas.Bool.{lt-ltb}
 use Rattle.p3_support.specs.Lists.{lane_of}
-use Rattle.p3_merkle_builder.specs.Slots.{leaf_over, IsFilled}
+use Rattle.p3_merkle_builder.specs.Slots.{leaf_over}
 use Rattle.p3_merkle_builder.proofs.LaneFacts.{group_end, group_more}
 use Rattle.p3_merkle_builder.proofs.packed.write_packed_leaves.Goals as goal
 

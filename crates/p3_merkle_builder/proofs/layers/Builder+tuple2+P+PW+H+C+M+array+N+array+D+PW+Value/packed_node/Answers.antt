@@ -1,5 +1,5 @@
 -- Each lane is a node.
-use Rattle.std.proofs.Common.{rules, arith, ◌≡◌, ℕ, ◌+◌, ◌*◌, ◌<◌, ◌≤◌, refl, take, drop, replicate, length, true, false}
+use Rattle.std.proofs.Common.{rules, arith, ◌≡◌, ◌+◌, ◌*◌, ◌<◌, ◌≤◌, refl, take, drop, replicate, length, true, false}
 use Rattle.std.proofs.Math.Nat.{mul-le-mul_left}
 use Rattle.p3_support.specs.Lists.{lane_of}
 use Rattle.p3_merkle_core.specs.Nodes.{functions_of}

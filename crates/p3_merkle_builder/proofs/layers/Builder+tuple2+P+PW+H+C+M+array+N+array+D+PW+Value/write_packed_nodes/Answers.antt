@@ -1,5 +1,5 @@
 -- Each turn writes the slots of one group.
-use Rattle.std.proofs.Common.{rules, arith, ◌≡◌, ℕ, ◌+◌, ◌*◌, ◌≤◌, ◌<◌, ◌∙◌, [], ap, refl, length, replicate, slice_index_or}
+use Rattle.std.proofs.Common.{rules, arith, ◌≡◌, ℕ, ◌+◌, ◌*◌, ◌<◌, ◌∙◌, [], refl, length, replicate, slice_index_or}
 use Rattle.p3_support.specs.Lists.{lane_of}
 use Rattle.p3_merkle_core.specs.Nodes.{functions_of}
 use Rattle.p3_merkle_builder.specs.Levels.{slot_above}
