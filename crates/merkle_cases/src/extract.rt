@@ -4,6 +4,7 @@ ghost use Rattle.std.specs.Prelude.{◌≤◌, IsTrue};
 ghost use Rattle.p3_merkle_core.specs.Geometry.{is_arity};
 
 use crate::fields::{Fault, Fields};
+use crate::pruned::LeavesOpening;
 use crate::scheme::fold_scheme;
 use crate::text;
 use crate::verify::LeafOpening;
@@ -12,12 +13,13 @@ use std::alloc::{AllocError, Global};
 
 /// A place by its name, and the level that it is on.
 fn place_text(alloc: Global, place: &Place) -> Result<String, AllocError> {
-    match place {
-        Place::Leaf => String::from_str(alloc, "leaf"),
-        Place::Group(level) => format!(in alloc; "group {level}"),
-        Place::Rows(level) => format!(in alloc; "rows {level}"),
-        Place::Pair(level) => format!(in alloc; "pair {level}"),
-    }
+    let (name, level) = match place {
+        Place::Leaf => return String::from_str(alloc, "leaf"),
+        Place::Group(level) => ("group", *level),
+        Place::Rows(level) => ("rows", *level),
+        Place::Pair(level) => ("pair", *level),
+    };
+    format!(in alloc; "{name} {level}")
 }
 
 /// The place of a collision with both inputs.
@@ -43,6 +45,41 @@ fn collision_text(alloc: Global, collision: &Collision<u32, u32, 1>) -> Result<S
         ),
     };
     text::joined(alloc, &[place_text(alloc, place)?, first, second], " | ")
+}
+
+/// `extract_pruned | ARITY | CAP | ROOTS | DIMENSIONS | INDICES | ROW SETS | DIGESTS | INDICES | ROW SETS | DIGESTS | ANSWER`:
+/// what two openings of several leaves lead to, which is `none`, or the places of two queries in their lists, and then a
+/// place with the input of the first and that of the second.
+pub fn extract_pruned<const N: usize>(
+    alloc: Global,
+    fields: &mut Fields<'_>,
+) -> Result<String, Fault>
+    requires arity { IsTrue (is_arity N) }
+    requires few { N ≤ 8 }
+{
+    let scheme = fold_scheme::<N>(fields.cap()?);
+    let cap = MerkleCap::new(fields.digests(alloc)?);
+    let dimensions = fields.dimensions(alloc)?;
+    let first = LeavesOpening::of(alloc, fields)?;
+    let second = LeavesOpening::of(alloc, fields)?;
+    let found = scheme.extract_collision_multi(
+        alloc,
+        &cap,
+        &dimensions,
+        &first.indices,
+        &first.rows,
+        &first.proof,
+        &second.indices,
+        &second.rows,
+        &second.proof,
+    )?;
+    match &found {
+        Some((a, b, collision)) => {
+            let collision = collision_text(alloc, collision)?;
+            Ok(format!(in alloc; "{a} {b} | {collision}")?)
+        }
+        None => Ok(String::from_str(alloc, "none")?),
+    }
 }
 
 /// `extract | ARITY | CAP | CAP | DIMENSIONS | INDEX | ROWS | SIBLINGS | INDEX | ROWS | SIBLINGS | ANSWER`: what

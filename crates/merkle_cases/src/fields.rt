@@ -1,7 +1,7 @@
 //! The fields of a case: what stands between the bars of its line.
 
 use crate::scheme::Cap;
-use crate::{batches, lists, queries};
+use crate::{batches, lists};
 use p3_merkle_tree::{CapRule, MerkleTreeError};
 use p3_support::matrix::{Dimensions, RowMajorMatrix};
 use std::alloc::{AllocError, AllocFailed, Global};
@@ -91,11 +91,6 @@ impl<'a> Fields<'a> {
     /// The numbers of the next field.
     pub fn numbers(&mut self, alloc: Global) -> Result<Vec<usize>, Fault> {
         lists::numbers_of(alloc, self.take()?)
-    }
-
-    /// The lists of numbers of the next field.
-    pub fn lists(&mut self, alloc: Global) -> Result<Vec<Vec<usize>>, Fault> {
-        queries::written_lists(alloc, self.take()?)
     }
 
     /// The words of the next field.

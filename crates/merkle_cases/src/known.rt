@@ -7,39 +7,24 @@ use crate::text;
 use p3_merkle_core::geometry::{levels_of, schedule_below_of};
 use std::alloc::{AllocError, Global};
 
-/// A node by its layer, counted from the leaves, and its number there.
-#[derive(Clone, Copy)]
-struct Node {
-    layer: usize,
-    number: usize,
-}
-
-/// The nodes in a text, a layer and a number each, with `;` between them.
-fn nodes_of(alloc: Global, fields: &mut Fields<'_>) -> Result<Vec<Node>, Fault> {
-    let mut nodes = Vec::new(alloc);
-    for node in &fields.lists(alloc)? {
-        match node.as_slice() {
-            [layer, number] => nodes.push(Node {
-                layer: *layer,
-                number: *number,
-            })?,
-            _ => return Err(Fault::Unreadable("a node is not a layer and a number")),
-        }
-    }
-    Ok(nodes)
+/// Nodes that are given: the layer of each, counted from the leaves, and its number there.
+#[derive(Drop)]
+struct Given {
+    layers: Vec<usize>,
+    numbers: Vec<usize>,
 }
 
 /// The numbers of the nodes that are given in a layer, but for the one at place `left_out`.
 fn given_in(
     alloc: Global,
-    nodes: &[Node],
+    nodes: &Given,
     left_out: usize,
     layer: usize,
 ) -> Result<Vec<usize>, AllocError> {
     let mut numbers = Vec::new(alloc);
-    for (place, node) in nodes.iter().enumerate() {
-        if node.layer == layer && place != left_out {
-            numbers.push(node.number)?;
+    for place in 0..nodes.numbers.len().min(nodes.layers.len()) {
+        if nodes.layers[place] == layer && place != left_out {
+            numbers.push(nodes.numbers[place])?;
         }
     }
     Ok(numbers)
@@ -71,7 +56,7 @@ fn is_root_known(
     alloc: Global,
     steps: &[usize],
     indices: &[usize],
-    nodes: &[Node],
+    nodes: &Given,
     left_out: usize,
 ) -> Result<bool, AllocError> {
     let mut known = given_in(alloc, nodes, left_out, 0)?;
@@ -84,16 +69,19 @@ fn is_root_known(
     Ok(!known.is_empty())
 }
 
-/// `known | ARITY | HEIGHTS | INDICES | NODES | ANSWERS`: whether the root is known from the leaves of some indices and
-/// from these nodes, without each of the nodes in turn and then with all.
+/// `known | ARITY | HEIGHTS | INDICES | LAYERS | NUMBERS | ANSWERS`: whether the root is known from the leaves of some
+/// indices and from nodes of these layers and numbers, without each of the nodes in turn and then with all.
 pub fn known(alloc: Global, fields: &mut Fields<'_>) -> Result<String, Fault> {
     let arity = fields.number()?.max(2);
     let dimensions = fields.columns(alloc)?;
     let indices = fields.numbers(alloc)?;
-    let nodes = nodes_of(alloc, fields)?;
+    let nodes = Given {
+        layers: fields.numbers(alloc)?,
+        numbers: fields.numbers(alloc)?,
+    };
     let steps = schedule_below_of(alloc, &dimensions, arity, levels_of(&dimensions, arity))?;
     let mut answers = Vec::new(alloc);
-    for left_out in 0..=nodes.len() {
+    for left_out in 0..=nodes.numbers.len() {
         let is_known = is_root_known(alloc, &steps, &indices, &nodes, left_out)?;
         let answer = if is_known { "yes" } else { "no" };
         answers.push(String::from_str(alloc, answer)?)?;

@@ -26,6 +26,7 @@ mod replay;
 mod scheme;
 mod sweep;
 mod text;
+mod twin;
 mod verify;
 
 use crate::fields::{Fault, Fields};
@@ -64,6 +65,7 @@ fn answer_at<const N: usize>(
         "replay" => replay::replay::<N>(alloc, fields),
         "authenticated" => authenticated::authenticated::<N>(alloc, fields),
         "extract" => extract::extract::<N>(alloc, fields),
+        "extract_pruned" => extract::extract_pruned::<N>(alloc, fields),
         _ => Err(Fault::Unreadable("there is no such kind of case")),
     }
 }

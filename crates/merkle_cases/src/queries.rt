@@ -7,7 +7,7 @@ use rand_core::{Rng, SeedableRng};
 use std::alloc::Global;
 
 /// The lists in a text, with `;` between them.
-pub fn written_lists(alloc: Global, text: &str) -> Result<Vec<Vec<usize>>, Fault> {
+fn written_lists(alloc: Global, text: &str) -> Result<Vec<Vec<usize>>, Fault> {
     let mut lists = Vec::new(alloc);
     for list in text.split(';') {
         lists.push(numbers_of(alloc, list.trim())?)?;

@@ -6,10 +6,11 @@ ghost use Rattle.p3_merkle_core.specs.Geometry.{is_arity};
 use crate::fields::{Fault, Fields};
 use crate::queries::lists_of;
 use crate::scheme::{Cap, FoldScheme, FoldTree, fold_scheme, numbered};
+use crate::twin::{collides_at, collides_first_at, has_twins, place_of, twin_rows, twin_sets};
 use crate::{open, text};
 use p3_merkle_core::geometry::tallest_of;
 use p3_merkle_core::pruning::check_indices;
-use p3_merkle_tree::{MerkleAuthPath, MerkleCap};
+use p3_merkle_tree::{BatchOpeningRef, MerkleAuthPath, MerkleCap, PrunedBatchOpening};
 use p3_support::matrix::{Dimensions, RowMajorMatrix};
 use std::alloc::Global;
 
@@ -66,6 +67,67 @@ fn check_paths<const N: usize>(
     Ok(())
 }
 
+/// Fails where a leaf whose row of a matrix has a twin collides elsewhere than where this row is hashed.
+fn check_leaf_twins<const N: usize>(
+    alloc: Global,
+    held: &HeldTree<'_, N>,
+    index: usize,
+) -> Result<(), Fault> {
+    let HeldTree {
+        scheme,
+        cap,
+        tree,
+        dimensions,
+    } = held;
+    let opening = open::accepted(alloc, scheme, cap, tree, *dimensions, index)?;
+    let steps = scheme.proof_arity_schedule(alloc, *dimensions)?;
+    for (matrix, Dimensions { height, .. }) in dimensions.iter().enumerate() {
+        let rows = twin_rows(alloc, &opening.opened_values, matrix)?;
+        let twin = BatchOpeningRef::new(&rows, &opening.opening_proof);
+        let honest = BatchOpeningRef::from(&opening);
+        let found = scheme.extract_collision(alloc, cap, *dimensions, index, honest, index, twin)?;
+        if !collides_at(&found, &place_of(*dimensions, &steps, *height)) {
+            return Err(Fault::Wrong("a leaf collides elsewhere with its twin"));
+        }
+    }
+    Ok(())
+}
+
+/// The same of the leaves of some queries, at least one, that are opened by one proof: the first of them collides.
+fn check_twins<const N: usize>(
+    alloc: Global,
+    held: &HeldTree<'_, N>,
+    indices: &[usize],
+    opening: &PrunedBatchOpening<u32, u32, 1>,
+) -> Result<(), Fault> {
+    let HeldTree {
+        scheme,
+        cap,
+        dimensions,
+        ..
+    } = held;
+    let steps = scheme.proof_arity_schedule(alloc, *dimensions)?;
+    let (rows, proof) = (&opening.opened_values, &opening.pruned_proof);
+    for (matrix, Dimensions { height, .. }) in dimensions.iter().enumerate() {
+        let twin = twin_sets(alloc, rows, matrix)?;
+        let found = scheme.extract_collision_multi(
+            alloc,
+            cap,
+            *dimensions,
+            indices,
+            rows,
+            proof,
+            indices,
+            &twin,
+            proof,
+        )?;
+        if !collides_first_at(&found, &place_of(*dimensions, &steps, *height)) {
+            return Err(Fault::Wrong("leaves collide elsewhere with their twins"));
+        }
+    }
+    Ok(())
+}
+
 /// How many digests the proof for some queries has. Their opening is accepted, and restores a path for each.
 fn digests_for<const N: usize>(
     alloc: Global,
@@ -84,6 +146,10 @@ fn digests_for<const N: usize>(
     scheme.verify_batch_pruned(alloc, cap, *dimensions, indices, rows, proof)?;
     let paths = scheme.restore_and_recompute_paths(alloc, *dimensions, indices, rows, proof)?;
     check_paths(alloc, held, indices, &paths)?;
+    if has_twins(*dimensions) && !indices.is_empty() {
+        check_twins(alloc, held, indices, &opening)?;
+        check_leaf_twins(alloc, held, indices[0])?;
+    }
     let count = scheme.pruned_len(alloc, *dimensions, indices)?;
     if count == proof.sibling_hashes.len() && paths.len() == indices.len() {
         Ok(count)
