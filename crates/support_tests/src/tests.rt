@@ -168,6 +168,60 @@ fn hashes_many_messages(rt: HostRuntime) {
     assert_eq!(rt; two, [[1023], [1023]]);
 }
 
+/// Whether many messages of six words have the digests that each has by itself.
+fn hashes_each(words: &[u32; 120], count: usize) -> bool
+    requires { count ≤ 20 }
+{
+    let messages = &words[..6 * count];
+    let mut digests = [[0; 2]; 20];
+    let digests = &mut digests[..count];
+    CryptographicHasher::<u32, u32, 2>::hash_many(&FoldHash::<8>, messages, digests);
+    for (i, digest) in digests.iter().enumerate() {
+        let message = &messages[6 * i..6 * i + 6];
+        let alone: [u32; 2] = CryptographicHasher::<u32, u32, 2>::hash_slice(
+            &FoldHash::<8>,
+            message,
+        );
+        if *digest != alone {
+            return false;
+        }
+    }
+    true
+}
+
+/// Whether many groups have the digests that each has by itself.
+fn compresses_each(groups: &[[[u32; 1]; 3]; 20], count: usize) -> bool
+    requires { count ≤ 20 }
+{
+    let groups = &groups[..count];
+    let mut digests = [[0; 1]; 20];
+    let digests = &mut digests[..count];
+    let compress = FoldCompress::<3, 8>;
+    PseudoCompressionFunction::<u32, 3, 1>::compress_many(&compress, groups, digests);
+    for (digest, group) in digests.iter().zip(groups) {
+        if *digest != PseudoCompressionFunction::<u32, 3, 1>::compress(&compress, *group) {
+            return false;
+        }
+    }
+    true
+}
+
+#[test]
+fn takes_any_number_together(rt: HostRuntime) {
+    let mut words = [0; 120];
+    for (i, word) in words.iter_mut().enumerate() {
+        *word = (37 * i % 101) as u32;
+    }
+    let mut groups = [[[0; 1]; 3]; 20];
+    for (i, group) in groups.iter_mut().enumerate() {
+        *group = [[words[i]], [words[i + 20]], [words[i + 40]]];
+    }
+    for count in 0..21 {
+        assert!(rt; hashes_each(&words, count));
+        assert!(rt; compresses_each(&groups, count));
+    }
+}
+
 #[test]
 fn hashes_slices(rt: HostRuntime) {
     let parts = [[1u32].as_slice(), [31].as_slice()];
