@@ -1,4 +1,4 @@
-use Rattle.std.proofs.Common.{rules, arith, ◌≡◌, ◌+◌, ◌<◌, ◌∙◌, ap, sym, List, [], ◌∷◌, length, map, take, slice_index_or}
+use Rattle.std.proofs.Common.{arith, ◌≡◌, ◌+◌, ◌<◌, ◌∙◌, ap, sym, [], ◌∷◌, length, map, take, slice_index_or}
 use Rattle.std.proofs.lemmas.List.{take_more}
 use Rattle.p3_support.specs.Fold.{fold_hash, take_in}
 use Rattle.p3_support.specs.Lists.{lane_of, message}

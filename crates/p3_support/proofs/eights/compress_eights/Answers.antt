@@ -1,4 +1,4 @@
-use Rattle.std.proofs.Common.{arith, ◌≡◌, ◌*◌, ◌∙◌, ap, [], slice_index_or}
+use Rattle.std.proofs.Common.{arith, ◌*◌, ◌∙◌, ap, [], slice_index_or}
 use Rattle.p3_support.specs.Fold.{fold_compress}
 use Rattle.p3_support.proofs.Fills.{filled_block}
 use Rattle.p3_support.proofs.eights.compress_eights.Goals as goal

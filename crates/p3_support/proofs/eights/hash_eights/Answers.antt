@@ -1,4 +1,4 @@
-use Rattle.std.proofs.Common.{arith, ◌≡◌, ◌*◌, ◌∙◌, []}
+use Rattle.std.proofs.Common.{arith, ◌*◌, ◌∙◌, []}
 use Rattle.p3_support.specs.Fold.{fold_hash}
 use Rattle.p3_support.specs.Lists.{message}
 use Rattle.p3_support.proofs.Fills.{filled_block}

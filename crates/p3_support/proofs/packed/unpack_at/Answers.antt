@@ -1,4 +1,4 @@
-use Rattle.std.proofs.Common.{arith, ℕ, ◌≡◌, ◌≤◌, ◌∙◌, sym, ap, length, slice_index_or, []}
+use Rattle.std.proofs.Common.{arith, ℕ, ◌≡◌, ◌≤◌, ◌∙◌, ap, length, slice_index_or, []}
 use Rattle.std.proofs.lemmas.List.FromFn.{get_or-map-range_with_len, length-map-range_with_len}
 use Rattle.p3_support.specs.Lists.{lane_of}
 use Rattle.p3_support.proofs.Fills.{get_or-put_mid}
