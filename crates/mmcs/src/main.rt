@@ -1,4 +1,5 @@
-//! Commits to the matrices of an input, and checks openings of their tree: `mmcs fold|sha256 2|4|8 CAP commit|check I`.
+//! Commits to the matrices of an input, and opens and checks rows of their tree:
+//! `mmcs fold|sha256 2|4|8 CAP[f] commit|open I..|check I..`.
 #![tactic(auto)]
 
 use mmcs_engine::engine::run;

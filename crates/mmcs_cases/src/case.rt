@@ -29,7 +29,7 @@ fn parts_of(line: &str) -> Option<(&str, &str, &str)> {
     Some((words, input, answer))
 }
 
-/// The text that is written with `\n`, `\r` and `\t` for these bytes.
+/// The text that is written with `\n`, `\r`, `\t` and `\0` for these bytes.
 fn text_of(alloc: Global, written: &str) -> Result<String, AllocError> {
     let mut text = String::new(alloc);
     let mut is_escaped = false;
@@ -42,6 +42,7 @@ fn text_of(alloc: Global, written: &str) -> Result<String, AllocError> {
             (true, 'n') => '\n',
             (true, 'r') => '\r',
             (true, 't') => '\t',
+            (true, '0') => '\0',
             _ => character,
         })?;
         is_escaped = false;

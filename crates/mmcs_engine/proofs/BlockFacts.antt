@@ -1,12 +1,12 @@
 -- Lines that are rows of one matrix.
-use Rattle.std.proofs.Common.{◌≡◌, ◌≢◌, ℕ, ◌<◌, ◌⊎◌, ⊎_elim, false, List, [], ◌∷◌, ◌++◌, length, get_or, map, sym, refl, ap, ◌∙◌, subst, arith, append-nil}
+use Rattle.std.proofs.Common.{◌≡◌, ℕ, ◌<◌, ◌⊎◌, ⊎_elim, false, List, [], ◌∷◌, ◌++◌, length, map, sym, refl, ap, ◌∙◌, subst, arith, append-nil}
 use Rattle.std.specs.Prelude.{All, flat_map}
 use Rattle.std.proofs.lemmas.List.{length_push}
 use Rattle.std.proofs.lemmas.List.Concat.{flat_map-append}
-use Rattle.std.proofs.lemmas.List.Elements.{All-nil, All-cons, All-head, All-tail, All-push, All-map, All-get_or, All-contains, Contains-append_left, Contains-push, Contains-get_or}
+use Rattle.std.proofs.lemmas.List.Elements.{All-nil, All-cons, All-head, All-tail, All-push, All-map}
 use Rattle.mmcs_engine.specs.Numbers.{IsNumberBelow}
 use Rattle.mmcs_engine.specs.Input.{is_blank, numerals_of, numbers_of, IsMatrix}
-use Rattle.mmcs_engine.specs.Blocks.{IsBlock, IsRefused}
+use Rattle.mmcs_engine.specs.Blocks.{IsBlock}
 use Rattle.mmcs_engine.proofs.BlankFacts.{row_has_number}
 
 -- what holds of the images holds of the elements' images
@@ -35,19 +35,6 @@ module _ (limit : ℕ) (lines : List (List ℕ)) (values : List ℕ) (width : �
         none_at_0 = λ none. absurd (omega arith);
         some_above_0 = λ above. omega (arith, length_push lines line);
       }
-
-  -- a line of another width
-  pub width_refused : (line : List ℕ) → 0 < width → length (numbers_of line) ≢ width → IsRefused limit (lines ++ line ∷ [])
-  width_refused line some differs more rows matrix =
-      let w = matrix.one_length.0 in
-      let each : All (λ l. length (numbers_of l) ≡ w) ((lines ++ line ∷ []) ++ more) =
-      all_from_map (λ r. length r ≡ w) numbers_of ((lines ++ line ∷ []) ++ more) (subst (λ (rs : List (List ℕ)). All (λ r. length r ≡ w) rs) matrix.rows_are matrix.one_length.1) in
-      let first = get_or lines 0 line in
-      let first_among = Contains-append_left (lines ++ line ∷ []) more first (Contains-append_left lines (line ∷ []) first (Contains-get_or lines 0 line (block.some_above_0 some))) in
-      let first_width = All-contains (λ l. length (numbers_of l) ≡ w) ((lines ++ line ∷ []) ++ more) first each first_among in
-      let line_width = All-contains (λ l. length (numbers_of l) ≡ w) ((lines ++ line ∷ []) ++ more) line each (Contains-append_left (lines ++ line ∷ []) more line (Contains-push lines line)) in
-      let known = All-get_or (λ l. length (numbers_of l) ≡ width) lines 0 line (block.some_above_0 some) block.widths in
-      differs (line_width ∙ sym first_width ∙ known)
 
   -- the lines, if any, are a matrix
   pub block_is_matrix : IsMatrix limit lines (map numbers_of lines)

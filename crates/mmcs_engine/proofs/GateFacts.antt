@@ -1,34 +1,46 @@
 -- Nothing is refused exactly if all is taken.
-use Rattle.std.proofs.Common.{◌≡◌, ℕ, Bool, true, false, cond, ltb, List, Option, Some, None, refl, ap}
+use Rattle.std.proofs.Common.{◌≡◌, ℕ, ◌<◌, ltb, List, [], ◌∷◌, Option, Some, None, refl, sym, ap, ◌∙◌, arith}
+use Rattle.std.specs.Prelude.{All, length}
 use Rattle.std.specs.Option.{option_or}
-use Rattle.std.proofs.lemmas.Bool.{lt-ltb, ltb-true}
-use Rattle.p3_merkle_core.specs.Geometry.{tallest}
+use Rattle.std.proofs.lemmas.Bool.{lt-ltb}
+use Rattle.std.proofs.lemmas.List.Elements.{All-head, All-tail}
+use Rattle.p3_merkle_core.specs.Geometry.{Shape, heights, tallest, IsLawful}
 use Rattle.p3_merkle_core.specs.Gate.{gate_refusal}
-use Rattle.p3_merkle_core.specs.declared.error.MerkleTreeError.{MerkleTreeError}
+use Rattle.p3_merkle_core.specs.Nodes.{shape}
+use Rattle.p3_merkle_core.specs.PrunedCalls.{pruned_len_refusal}
+use Rattle.p3_merkle_core.specs.Refusals.{queries_refusal}
 use Rattle.p3_merkle_core.specs.declared.error.MerkleTreeError.TheVariants.{IndexOutOfBounds}
 use Rattle.p3_merkle_core.proofs.GateFacts.{gate_lawful}
-use Rattle.mmcs_engine.specs.declared.command.Action.{Action}
-use Rattle.mmcs_engine.specs.declared.command.Action.TheVariants.{Commit, Check}
-use Rattle.mmcs_engine.specs.Program.{tree_refusal, action_index_refusal, IsTaken}
+use Rattle.p3_merkle_core.proofs.NoneFacts.{below_from, none_unless}
+use Rattle.mmcs_engine.specs.Matrices.{batch_of_rows}
+use Rattle.mmcs_engine.specs.Program.{heights_of_rows}
 
 -- where both of two reasons fail
 both_none : {E : Type 0} (x y : Option E) → option_or x y ≡ None → (x ≡ None) × (y ≡ None)
 both_none None y none = (refl, none)
 both_none (Some x) y none = absurd cc
 
--- an index that is not refused is below
-below_from_none : (i m : ℕ) (b : Bool) → ltb i m ≡ b → ◌≡◌ {A = Option MerkleTreeError} (cond b None (Some (IndexOutOfBounds m i))) None → ltb i m ≡ true
-below_from_none i m true is none = is
-below_from_none i m false is none = absurd cc
+-- the greatest of indices below a number is below it
+tallest_below : (m : ℕ) (indices : List ℕ) → 0 < m → All (λ i. i < m) indices → tallest indices < m
+tallest_below m [] some below = some
+tallest_below m (i ∷ indices) some below = let first = All-head (λ j. j < m) i indices below in let rest = tallest_below m indices some (All-tail (λ j. j < m) i indices below) in omega (arith, first, rest)
 
-pub taken_from_none : (action : Action) (hs : List ℕ) → tree_refusal action hs ≡ None → IsTaken action hs
-taken_from_none Commit hs none = (gate_lawful hs).0 (both_none (gate_refusal hs) None none).0
-taken_from_none (Check index) hs none =
-    let parts = both_none (gate_refusal hs) (action_index_refusal (Check index) (tallest hs)) none in
-    ((gate_lawful hs).0 parts.0, ltb-true index (tallest hs) (below_from_none index (tallest hs) (ltb index (tallest hs)) refl parts.1))
+pub taken_from_none : (s : Shape) (indices : List ℕ) → pruned_len_refusal s indices ≡ None → IsLawful (heights s) × All (λ i. i < tallest (heights s)) indices
+taken_from_none s indices none =
+    let parts = both_none (gate_refusal (heights s)) (queries_refusal (tallest (heights s)) indices) none in
+    ((gate_lawful (heights s)).0 parts.0, below_from (tallest (heights s)) indices parts.1)
 
-pub taken_unrefused : (action : Action) (hs : List ℕ) → IsTaken action hs → tree_refusal action hs ≡ None
-taken_unrefused Commit hs taken = ap (λ o. option_or o None) ((gate_lawful hs).1 taken)
-taken_unrefused (Check index) hs taken =
-    let below : ltb index (tallest hs) ≡ true = lt-ltb index (tallest hs) taken.1 in
-    λ i. option_or ((gate_lawful hs).1 taken.0 i) (cond (below i) None (Some (IndexOutOfBounds (tallest hs) index)))
+pub taken_unrefused : (s : Shape) (indices : List ℕ) → IsLawful (heights s) → All (λ i. i < tallest (heights s)) indices → pruned_len_refusal s indices ≡ None
+taken_unrefused s indices lawful below =
+    let m = tallest (heights s) in
+    let index : queries_refusal m indices ≡ None = none_unless (ltb (tallest indices) m) (IndexOutOfBounds m (tallest indices)) (lt-ltb (tallest indices) m (tallest_below m indices lawful.some_above_0 below)) in
+    λ i. option_or ((gate_lawful (heights s)).1 lawful i) (index i)
+
+-- the heights of matrices that are made of rows
+pub heights_are : (matrices : List (List (List ℕ))) (arity : ℕ) → heights (shape (batch_of_rows arity matrices)) ≡ heights_of_rows matrices
+heights_are [] arity = refl
+heights_are (rows ∷ matrices) arity = ap (λ hs. length rows ∷ hs) (heights_are matrices arity)
+
+-- what was taken of a shape is taken of another that is the same
+pub below_of : (s t : Shape) (indices : List ℕ) → t ≡ s → pruned_len_refusal t indices ≡ None → All (λ i. i < tallest (heights s)) indices
+below_of s t indices same none = (taken_from_none s indices (ap (λ u. pruned_len_refusal u indices) (sym same) ∙ none)).1

@@ -5,8 +5,12 @@ use Rattle.std.specs.List.{slice_split, onto_first}
 use Rattle.std.specs.Str.Lines.{strip_carriage_return}
 use Rattle.std.proofs.lemmas.List.{map-append}
 use Rattle.std.proofs.lemmas.List.Elements.{All-head, All-tail, filter-append}
-use Rattle.mmcs_engine.specs.Input.{is_blank, runs_between, pieces_of, blocks_of}
+use Rattle.mmcs_engine.specs.Input.{is_blank, runs_between, pieces_of}
 use Rattle.mmcs_engine.proofs.Runs.{HasFirstPart, first_part, is_run, run_skips}
+
+-- the lines of the matrices
+abbrev pub blocks_of : List ℕ → List (List (List ℕ))
+blocks_of input = runs_between is_blank (pieces_of input)
 
 -- one more element in front, that passes or not
 split_cons : {X : Type 0} (p : X → Bool) (x : X) (xs ys : List X) (y : X) → slice_split p (xs ++ y ∷ ys) ≡ slice_split p xs ++ slice_split p ys → HasFirstPart p xs →
@@ -20,12 +24,12 @@ split_cons p x xs ys y rest r = by_test (p x)
         ∙ ap (λ parts. onto_first x parts ++ slice_split p ys) (sym r.cut)
 
 -- an element that passes cuts a list in two
-split_apart : {X : Type 0} (p : X → Bool) (xs : List X) (y : X) (ys : List X) → p y ≡ true → slice_split p (xs ++ y ∷ ys) ≡ slice_split p xs ++ slice_split p ys
+pub split_apart : {X : Type 0} (p : X → Bool) (xs : List X) (y : X) (ys : List X) → p y ≡ true → slice_split p (xs ++ y ∷ ys) ≡ slice_split p xs ++ slice_split p ys
 split_apart p [] y ys passes = ap (λ b. cond b ([] ∷ slice_split p ys) (onto_first y (slice_split p ys))) passes
 split_apart p (x ∷ xs) y ys passes = split_cons p x xs ys y (split_apart p xs y ys passes) (first_part p xs)
 
 -- and its runs
-runs_apart : {X : Type 0} (p : X → Bool) (xs : List X) (y : X) (ys : List X) → p y ≡ true → runs_between p (xs ++ y ∷ ys) ≡ runs_between p xs ++ runs_between p ys
+pub runs_apart : {X : Type 0} (p : X → Bool) (xs : List X) (y : X) (ys : List X) → p y ≡ true → runs_between p (xs ++ y ∷ ys) ≡ runs_between p xs ++ runs_between p ys
 runs_apart p xs y ys passes = ap (filter is_run) (split_apart p xs y ys passes) ∙ filter-append is_run (slice_split p xs) (slice_split p ys)
 
 -- elements that all pass have no run

@@ -13,7 +13,8 @@ use Rattle.std.proofs.Math.Nat.{mul-div_cancel}
 use Rattle.mmcs_engine.specs.Numbers.{IsNumberBelow}
 use Rattle.mmcs_engine.specs.Input.{numerals_of, numbers_of, StandsFor}
 use Rattle.mmcs_engine.specs.Blocks.{IsBlock}
-use Rattle.mmcs_engine.specs.Matrices.{matrix_of_rows, stored_matrix}
+use Rattle.p3_merkle_core.specs.Nodes.{shape}
+use Rattle.mmcs_engine.specs.Matrices.{matrix_of_rows, stored_batch, stored_matrix}
 use Rattle.mmcs_engine.proofs.RowsCut.{length_of_rows, row_range}
 
 -- a stored matrix has these rows, of words below the limit
@@ -70,3 +71,8 @@ stored_alike m n same_values same_width =
     sym (mul-div_cancel (row_count m) wide) ∙ ap (λ v. v / row_width n) (ap (λ w. row_count m * w) (sym same_width) ∙ sym m.full ∙ ap length same_values ∙ n.full) ∙ mul-div_cancel (row_count n) wide)
     (eqb_tells (row_width n) 0) in
     λ i. record { height = same_height i; width = same_width i; row = λ r. message (same_width i) (same_values i) r }
+
+-- the dimensions of stored matrices
+pub stored_dimensions : (stored : List (RowMajorMatrix ℕ)) (arity : ℕ) → map (λ m. record { width = row_width m; height = row_count m }) stored ≡ (shape (stored_batch arity stored)).dimensions
+stored_dimensions [] arity = refl
+stored_dimensions (m ∷ stored) arity = ap (λ ds. record { width = row_width m; height = row_count m } ∷ ds) (stored_dimensions stored arity)

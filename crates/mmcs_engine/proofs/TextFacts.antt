@@ -1,28 +1,31 @@
--- What formatting writes of a word in hexadecimal.
-use Rattle.std.proofs.Common.{◌≡◌, ℕ, ◌+◌, ◌-◌, ◌<◌, false, List, [], ◌∷◌, ◌++◌, length, get_or, take, Some, sym, ap, ◌∙◌, arith, append_assoc, append-nil}
-use Rattle.std.specs.Prelude.{flat_map, replicate}
-use Rattle.std.specs.Fmt.{AppendsText, styled_digits_output, digits_output, digits, format_spec, padded_integral, char_count}
-use Rattle.std.proofs.lemmas.List.{take_more}
-use Rattle.std.proofs.lemmas.List.Concat.{flat_map-append}
-use Rattle.mmcs_engine.specs.Text.{hex_word}
+-- Lines behind lines.
+use Rattle.std.proofs.Common.{◌≡◌, ℕ, ◌+◌, ◌<◌, List, [], ◌∷◌, ◌++◌, length, get_or, take, map, sym, ap, ◌∙◌, append_assoc}
+use Rattle.std.specs.Prelude.{codes, flat_map}
+use Rattle.std.proofs.lemmas.List.{flat_map_more, get_or-map, map_more, take_more}
+use Rattle.p3_merkle_core.specs.Nodes.{Batch}
+use Rattle.p3_merkle_core.specs.Openings.{honest_rows}
+use Rattle.mmcs_engine.specs.Text.{labelled, query_lines, row_line}
 
--- zeros stand in front, and nothing behind
-zeros_in_front : (width : ℕ) (prefix shown : List ℕ) → padded_integral (format_spec 32 0 4 width 18446744073709551615) false prefix shown ≡ replicate (width - length shown) 48 ++ shown
-unfolding padded_integral char_count
-zeros_in_front width prefix shown =
-    let padding : width - length shown - 0 - 0 ≡ width - length shown = omega arith in
-    λ i. replicate (padding i) 48 ++ append-nil shown i
+-- what is opened of one more index
+pub queries_more : (b : Batch ℕ) (sets : List (List (List ℕ))) (indices : List ℕ) (k index : ℕ) (old before named after : List ℕ) → sets ≡ map (honest_rows b) indices → k < length indices → index ≡ get_or indices k 0 →
+    before ≡ old ++ flat_map (λ i. query_lines i (honest_rows b i)) (take k indices) → named ≡ before ++ labelled (codes "index") index → after ≡ named ++ flat_map row_line (get_or sets k []) →
+    after ≡ old ++ flat_map (λ i. query_lines i (honest_rows b i)) (take (k + 1) indices)
+queries_more b sets indices k index old before named after sets_are within index_is before_is named_is after_is =
+    let F : ℕ → List ℕ = λ i. query_lines i (honest_rows b i) in
+    let own = get_or indices k 0 in
+    let rows : get_or sets k [] ≡ honest_rows b own = ap (λ s. get_or s k []) sets_are ∙ get_or-map (honest_rows b) indices k 0 [] within in
+    after_is
+    ∙ (λ i. (named_is ∙ ap (λ x. before ++ labelled (codes "index") x) index_is) i ++ flat_map row_line (rows i))
+    ∙ append_assoc before (labelled (codes "index") own) (flat_map row_line (honest_rows b own))
+    ∙ ap (λ t. t ++ F own) before_is
+    ∙ flat_map_more F old (take k indices) own
+    ∙ ap (λ xs. old ++ flat_map F xs) (sym (take_more indices k 0 within))
 
--- a word that is written under these options
-pub word_appended : (width : ℕ) (old new : List ℕ) (shown : _) (options : _) (word : ℕ) → digits_output shown ≡ Some (digits 16 false word) →
-    options ≡ format_spec 32 0 4 width 18446744073709551615 → AppendsText old new (styled_digits_output shown options) → new ≡ old ++ hex_word width word
-word_appended width old new shown options word shown_is options_are appended =
-    (rw (shown_is, options_are) at appended) ∙ ap (λ text. old ++ text) (zeros_in_front width _ (digits 16 false word))
-
--- the words of a digest, one more
-pub words_more : (width : ℕ) (words : List ℕ) (i : ℕ) (old text new : List ℕ) → i < length words → text ≡ old ++ flat_map (hex_word width) (take i words) →
-    new ≡ text ++ hex_word width (get_or words i 0) → new ≡ old ++ flat_map (hex_word width) (take (i + 1) words)
-words_more width words i old text new within text_is new_is =
-    let word = get_or words i 0 in
-    let more = ap (flat_map (hex_word width)) (take_more words i 0 within) ∙ flat_map-append (hex_word width) (take i words) (word ∷ []) ∙ ap (λ rest. flat_map (hex_word width) (take i words) ++ rest) (append-nil (hex_word width word)) in
-    new_is ∙ ap (λ t. t ++ hex_word width word) text_is ∙ append_assoc old (flat_map (hex_word width) (take i words)) (hex_word width word) ∙ ap (λ rest. old ++ rest) (sym more)
+-- one more row
+pub rows_more : {R : Type 0} (values : R → List ℕ) (rows : List R) (i : ℕ) (row : R) (old before after : List ℕ) → i < length rows → row ≡ get_or rows i row → before ≡ old ++ flat_map row_line (map values (take i rows)) →
+    after ≡ before ++ row_line (values row) → after ≡ old ++ flat_map row_line (map values (take (i + 1) rows))
+rows_more values rows i row old before after within row_is before_is after_is =
+    after_is
+    ∙ ap (λ t. t ++ row_line (values row)) before_is
+    ∙ flat_map_more row_line old (map values (take i rows)) (values row)
+    ∙ ap (λ xs. old ++ flat_map row_line xs) (sym (map_more values rows i row within ∙ ap (λ r. map values (take i rows) ++ values r ∷ []) (sym row_is)))

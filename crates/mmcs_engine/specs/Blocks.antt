@@ -1,7 +1,7 @@
 -- The rows of a matrix that has not ended.
-use Rattle.std.specs.Prelude.{◌≡◌, ℕ, ◌<◌, false, List, [], ◌++◌, length, flat_map, All}
+use Rattle.std.specs.Prelude.{◌≡◌, ℕ, ◌<◌, false, List, [], length, flat_map, All}
 use Rattle.mmcs_engine.specs.Numbers.{IsNumberBelow}
-use Rattle.mmcs_engine.specs.Input.{is_blank, numerals_of, numbers_of, IsMatrix}
+use Rattle.mmcs_engine.specs.Input.{is_blank, numerals_of, numbers_of}
 
 -- the values of lines that are rows of numbers below the limit, of one width, which is 0 exactly of no lines
 pub record IsBlock (limit : ℕ) (lines : List (List ℕ)) (values : List ℕ) (width : ℕ) : Type 0 where
@@ -11,7 +11,3 @@ pub record IsBlock (limit : ℕ) (lines : List (List ℕ)) (values : List ℕ) (
   pub widths : All (λ line. length (numbers_of line) ≡ width) lines
   pub none_at_0 : width ≡ 0 → lines ≡ []
   pub some_above_0 : 0 < width → 0 < length lines
-
--- lines that no matrix of such numbers begins with
-abbrev pub IsRefused : ℕ → List (List ℕ) → Type 0
-IsRefused limit lines = (more rows : List (List ℕ)) → IsMatrix limit (lines ++ more) rows → ⊥

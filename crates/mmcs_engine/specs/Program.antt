@@ -1,28 +1,29 @@
 -- What the program answers.
-use Rattle.std.specs.Prelude.{◌≡◌, ◌⊎◌, ◌↔◌, ℕ, ◌+◌, ◌<◌, nat_lt, List, [], ◌∷◌, length, map, replicate, flat_map, if◌then◌else◌, Option, Some, None, IfSome, Result, Err}
+use Rattle.std.specs.Prelude.{◌≡◌, ◌⊎◌, ◌↔◌, ℕ, ◌+◌, ◌<◌, List, [], ◌∷◌, ◌++◌, length, map, replicate, flat_map, All, Option, Some, IfSome, IfErr, OnOk, OnErr, Result, Ok, Err}
 use Rattle.std.specs.Io.KnownBytes.{Appends}
-use Rattle.std.specs.Option.{option_or}
 use Rattle.p3_support.specs.Fold.{fold_hash, fold_compress}
 use Rattle.p3_support.specs.Sha.{sha256_rows, sha256_nodes}
-use Rattle.p3_merkle_core.specs.Gate.{gate_refusal}
 use Rattle.p3_merkle_core.specs.Caps.{cap_layer}
-use Rattle.p3_merkle_core.specs.Geometry.{tallest, IsLawful}
-use Rattle.p3_merkle_core.specs.declared.cap.CapRule.TheVariants.{Lowered}
-use Rattle.p3_merkle_core.specs.Nodes.{Batch, Functions, functions_of, layer, shape}
-use Rattle.p3_merkle_core.specs.Openings.{siblings_below}
+use Rattle.p3_merkle_core.specs.Geometry.{Shape, tallest, IsLawful}
+use Rattle.p3_merkle_core.specs.Nodes.{Batch, Functions, functions_of, layer, layers, shape}
+use Rattle.p3_merkle_core.specs.Openings.{honest_rows}
+use Rattle.p3_merkle_core.specs.PrunedCalls.{own_digests, pruned_len, pruned_len_refusal}
 use Rattle.p3_merkle_core.specs.declared.error.MerkleTreeError.{MerkleTreeError}
-use Rattle.p3_merkle_core.specs.declared.error.MerkleTreeError.TheVariants.{IndexOutOfBounds, OutOfMemory}
+use Rattle.p3_merkle_core.specs.declared.error.MerkleTreeError.TheVariants.{OutOfMemory}
 use Rattle.mmcs_engine.specs.declared.command.Action.{Action}
-use Rattle.mmcs_engine.specs.declared.command.Action.TheVariants.{Commit, Check}
+use Rattle.mmcs_engine.specs.declared.command.Action.TheVariants.{Commit, Open, Check}
+use Rattle.mmcs_engine.specs.declared.command.CapChoice.{CapChoice}
 use Rattle.mmcs_engine.specs.declared.command.Command.{Command}
 use Rattle.mmcs_engine.specs.declared.command.HashName.{HashName}
 use Rattle.mmcs_engine.specs.declared.command.HashName.TheVariants.{Fold, Sha256}
 use Rattle.mmcs_engine.specs.declared.fault.Fault.{Fault}
-use Rattle.mmcs_engine.specs.declared.fault.Fault.TheVariants.{Usage, BadInput, Tree}
-use Rattle.mmcs_engine.specs.Input.{StandsFor}
+use Rattle.mmcs_engine.specs.declared.fault.Fault.TheVariants.{Usage, Read, Tree, Write}
+use Rattle.mmcs_engine.specs.Input.{pieces_of, IsFirstFault, StandsFor}
 use Rattle.mmcs_engine.specs.Matrices.{batch_of_rows}
-use Rattle.mmcs_engine.specs.Text.{hex_line, ok_line}
-use Rattle.mmcs_engine.specs.Words.{arity_number, max_word, AreWords}
+use Rattle.mmcs_engine.specs.Text.{digest_lines, hex_lines, ok_line, query_lines}
+use Rattle.mmcs_engine.specs.Words.{arity_number, max_word, AreNoCommand, AreWords}
+
+-- ---- what is printed
 
 -- the hash and the compression of `fold`, with digests of one word
 abbrev pub fold_functions : Functions ℕ ℕ
@@ -42,66 +43,80 @@ abbrev pub hex_digits : HashName → ℕ
 hex_digits Fold = 8
 hex_digits Sha256 = 2
 
+-- the layer that is the cap
+abbrev pub layer_of_cap : CapChoice → Shape → ℕ
+layer_of_cap cap s = cap_layer s cap.rule cap.height
+
+-- what an action prints under a hash of some indices of a batch, whose cap is layer t: for `commit` the cap; for `open` the rows of each index, and the digests that are sent for all of them; for `check` how many digests that are
+abbrev pub text_of : HashName → Action → List ℕ → Batch ℕ → ℕ → List ℕ
+text_of hash Commit indices b t = hex_lines (hex_digits hash) (layer (functions_of_hash hash) b t)
+text_of hash Open indices b t =
+    flat_map (λ i. query_lines i (honest_rows b i)) indices ++ digest_lines (hex_digits hash) (own_digests (shape b) (layers (functions_of_hash hash) b) indices t)
+text_of hash Check indices b t = ok_line (pruned_len (shape b) indices t)
+
+-- the batch of a command and some matrices
+abbrev pub batch_asked : Command → List (List (List ℕ)) → Batch ℕ
+batch_asked command matrices = batch_of_rows (arity_number command.arity) matrices
+
+-- what a command prints of some matrices and indices
+abbrev pub output_of : Command → List ℕ → List (List (List ℕ)) → List ℕ
+output_of command indices matrices = let b = batch_asked command matrices in text_of command.hash command.action indices b (layer_of_cap command.cap (shape b))
+
+-- ---- what is refused
+
 -- the heights of some matrices
 abbrev pub heights_of_rows : List (List (List ℕ)) → List ℕ
 heights_of_rows matrices = map length matrices
 
--- what an action prints under a hash of a batch whose cap is layer t: for `commit` the cap, a line for each digest; for `check` the number of siblings below it
-abbrev pub text_of : HashName → Action → Batch ℕ → ℕ → List ℕ
-text_of hash Commit b t = flat_map (hex_line (hex_digits hash)) (layer (functions_of_hash hash) b t)
-text_of hash (Check index) b t = ok_line (siblings_below (shape b) t)
+-- why the tree refuses what is asked: the heights, else the highest index
+abbrev pub refusal_of : Command → List ℕ → List (List (List ℕ)) → Option MerkleTreeError
+refusal_of command indices matrices = pruned_len_refusal (shape (batch_asked command matrices)) indices
 
--- what a command prints of some matrices
-abbrev pub output_of : Command → List (List (List ℕ)) → List ℕ
-output_of command matrices = let b = batch_of_rows (arity_number command.arity) matrices in text_of command.hash command.action b (cap_layer (shape b) Lowered command.cap_height)
+-- the tree takes what is asked: heights that it can have, and indices below the greatest of them
+abbrev pub AreTaken : List ℕ → List (List (List ℕ)) → Type 0
+AreTaken indices matrices = let hs = heights_of_rows matrices in IsLawful hs × All (λ i. i < tallest hs) indices
 
--- why an index is refused: it is past the greatest height
-abbrev pub action_index_refusal : Action → ℕ → Option MerkleTreeError
-action_index_refusal Commit max_height = None
-action_index_refusal (Check index) max_height = if nat_lt index max_height then None else Some (IndexOutOfBounds max_height index)
+-- ---- the outcome
 
--- why the tree refuses: its heights come before the index
-abbrev pub tree_refusal : Action → List ℕ → Option MerkleTreeError
-tree_refusal action hs = option_or (gate_refusal hs) (action_index_refusal action (tallest hs))
+-- what a command with indices is answered of an input by definition: a text is printed of matrices that the tree takes, what it refuses is told, and so is the first faulty line
+abbrev pub IsReply : Command → List ℕ → List ℕ → Result (List ℕ) Fault → Type 0
+IsReply command indices input (Ok text) = (matrices : List (List (List ℕ))) × StandsFor (max_word command.hash + 1) input matrices × AreTaken indices matrices × (text ≡ output_of command indices matrices)
+IsReply command indices input (Err (Tree e)) = (matrices : List (List (List ℕ))) × StandsFor (max_word command.hash + 1) input matrices × (refusal_of command indices matrices ≡ Some e)
+IsReply command indices input (Err fault) = IsFirstFault (max_word command.hash + 1) (pieces_of input) fault
 
--- heights that a tree can have, and an index below the greatest of them
-abbrev pub IsTaken : Action → List ℕ → Type 0
-IsTaken Commit hs = IsLawful hs
-IsTaken (Check index) hs = IsLawful hs × (index < tallest hs)
+-- what words and an input are answered by definition: the usage of words that are no command
+abbrev pub IsOutcome : List (List ℕ) → List ℕ → Result (List ℕ) Fault → Type 0
+IsOutcome words input (Err Usage) = AreNoCommand words
+IsOutcome words input outcome = (command : Command) × (indices : List ℕ) × AreWords words command indices × IsReply command indices input outcome
 
--- why the tree refuses what a command asks of some matrices
-abbrev pub refusal_of : Command → List (List (List ℕ)) → Option MerkleTreeError
-refusal_of command matrices = tree_refusal command.action (heights_of_rows matrices)
+-- a fault is that of the definition for known bytes of the input, but where it tells of memory, a read or a write
+abbrev pub IsTold : List (List ℕ) → Option (List ℕ) → Fault → Type 0
+IsTold words known Read = Unit {0}
+IsTold words known Write = Unit {0}
+IsTold words known (Tree e) = (e ≡ OutOfMemory) ⊎ IfSome known (λ input. IsOutcome words input (Err (Tree e)))
+IsTold words known fault = IfSome known (λ input. IsOutcome words input (Err fault))
 
--- the tree takes what a command asks of some matrices
-abbrev pub AreTaken : Command → List (List (List ℕ)) → Type 0
-AreTaken command matrices = IsTaken command.action (heights_of_rows matrices)
+-- the outcome by definition for known bytes of the input is a text, of which a fact holds
+abbrev pub Prints : List (List ℕ) → Option (List ℕ) → (List ℕ → Type 0) → Type 0
+Prints words known Holds = IfSome known (λ input. (text : List ℕ) × IsOutcome words input (Ok text) × Holds text)
 
--- the words are a command, and the whole input stands for these matrices of its words
-pub record Asks (words : List (List ℕ)) (input : List ℕ) (command : Command) (matrices : List (List (List ℕ))) : Type 0 where
-  pub words_are : AreWords words command
-  pub input_is : StandsFor (max_word command.hash + 1) input matrices
+-- the outcome by definition is what is answered, unless a read, a write or memory fails
+abbrev pub EndsIn : Result (List ℕ) Fault → Result (Unit {0}) Fault → Type 0
+EndsIn (Ok text) result = (result ≡ Ok tt) ⊎ ((result ≡ Err Read) ⊎ ((result ≡ Err Write) ⊎ (result ≡ Err (Tree OutOfMemory))))
+EndsIn (Err fault) result = (result ≡ Err fault) ⊎ ((result ≡ Err Read) ⊎ (result ≡ Err (Tree OutOfMemory)))
 
--- the same of some command and matrices, of which a fact holds
-abbrev pub AsksFor : List (List ℕ) → List ℕ → (Command → List (List (List ℕ)) → Type 0) → Type 0
-AsksFor words input Holds = (command : Command) × (matrices : List (List (List ℕ))) × Asks words input command matrices × Holds command matrices
-
--- the same, where the bytes of the input are known
-abbrev pub AsksIfKnown : List (List ℕ) → Option (List ℕ) → (Command → List (List (List ℕ)) → Type 0) → Type 0
-AsksIfKnown words known Holds = IfSome known (λ bytes. AsksFor words bytes Holds)
-
--- the usage tells of words that are no command, and of these alone
-abbrev pub TellsUsage : List (List ℕ) → Result (Unit {0}) Fault → Type 0
-TellsUsage words result = (result ≡ Err Usage) ↔ ((command : Command) → AreWords words command → ⊥)
-
--- what is asked is taken, and known bytes of the output grow by what the definition gives for it
-abbrev pub WritesOutput : List (List ℕ) → Option (List ℕ) → Option (List ℕ) → Option (List ℕ) → Type 0
-WritesOutput words known old new = AsksIfKnown words known (λ command matrices. AreTaken command matrices × Appends old new (output_of command matrices))
-
--- a refusal of the tree, but for want of memory, is that of what is asked
-abbrev pub TellsRefusal : List (List ℕ) → Option (List ℕ) → Result (Unit {0}) Fault → Type 0
-TellsRefusal words known result = (e : MerkleTreeError) → result ≡ Err (Tree e) → (e ≡ OutOfMemory) ⊎ AsksIfKnown words known (λ command matrices. refusal_of command matrices ≡ Some e)
-
--- this outcome, unless a read, a write or memory fails
-abbrev pub EndsIn : Result (Unit {0}) Fault → Result (Unit {0}) Fault → Type 0
-EndsIn outcome result = (result ≡ outcome) ⊎ ((result ≡ Err BadInput) ⊎ (result ≡ Err (Tree OutOfMemory)))
+-- what `run` answers to words, with what its reader and its writer were and what they are then, whose bytes are told by `remaining` and `contents`, where they are known
+pub record IsAnswer {S D : Type 0} (remaining : S → Option (List ℕ)) (contents : D → Option (List ℕ)) (words : List (List ℕ)) (input input_left : S) (output output_left : D) (result : Result (Unit {0}) Fault) : Type 0 where
+  -- words that are no command, and only these, are told by the usage, and then nothing is read
+  pub usage : (result ≡ Err Usage) ↔ AreNoCommand words
+  pub unread : result ≡ Err Usage → input_left ≡ input
+  -- no fault but a failed write leaves anything written
+  pub silent : OnErr result ((result ≡ Err Write) ⊎ (output_left ≡ output))
+  -- Ok tells that the outcome by definition is a text, and that it was written and nothing else
+  pub ok : OnOk result (Prints words (remaining input) (λ text. Appends (contents output) (contents output_left) text))
+  -- a write comes last
+  pub last : result ≡ Err Write → Prints words (remaining input) (λ text. Unit {0})
+  -- a fault is that of the definition
+  pub fault : IfErr result (IsTold words (remaining input))
+  -- the outcome by definition is what is answered
+  pub ends : (bytes : List ℕ) (outcome : Result (List ℕ) Fault) → remaining input ≡ Some bytes → IsOutcome words bytes outcome → EndsIn outcome result

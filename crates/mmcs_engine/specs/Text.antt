@@ -1,15 +1,44 @@
 -- The printed text.
-use Rattle.std.specs.Prelude.{ℕ, ◌-◌, false, List, [], ◌∷◌, ◌++◌, length, replicate, flat_map, codes, decimal}
-use Rattle.std.specs.Fmt.{digits}
+use Rattle.std.specs.Prelude.{ℕ, zero, suc, ◌+◌, ◌/◌, ◌%◌, nat_lt, if◌then◌else◌, List, [], ◌∷◌, ◌++◌, length, flat_map, codes, decimal}
 
--- a word in lower case hexadecimal, with zeros in front up to so many digits
+-- a digit in lower case hexadecimal: `0` to `9`, then `a` to `f`
+abbrev pub hex_digit : ℕ → ℕ
+hex_digit d = if nat_lt d 10 then 48 + d else 87 + d
+
+-- so many digits in lower case hexadecimal, the last of which counts ones
 abbrev pub hex_word : ℕ → ℕ → List ℕ
-hex_word width word = let shown = digits 16 false word in replicate (width - length shown) 48 ++ shown
+hex_word zero word = []
+hex_word (suc width) word = hex_word width (word / 16) ++ hex_digit (word % 16) ∷ []
 
 -- a digest in hexadecimal, word after word, and a line feed
 abbrev pub hex_line : ℕ → List ℕ → List ℕ
 hex_line width digest = flat_map (hex_word width) digest ++ 10 ∷ []
 
--- `ok`, a space, the number in decimal, and a line feed
+-- a line for each digest
+abbrev pub hex_lines : ℕ → List (List ℕ) → List ℕ
+hex_lines width digests = flat_map (hex_line width) digests
+
+-- numbers in decimal, with one space between
+abbrev pub spaced : List ℕ → List ℕ
+spaced [] = []
+spaced (word ∷ words) = decimal word ++ flat_map (λ w. 32 ∷ decimal w) words
+
+-- a row of a matrix, and a line feed
+abbrev pub row_line : List ℕ → List ℕ
+row_line row = spaced row ++ 10 ∷ []
+
+-- a word, a space, a number in decimal, and a line feed
+abbrev pub labelled : List ℕ → ℕ → List ℕ
+labelled label number = label ++ (32 ∷ (decimal number ++ 10 ∷ []))
+
+-- what is opened of an index: it, and a line for the row of each matrix
+abbrev pub query_lines : ℕ → List (List ℕ) → List ℕ
+query_lines index rows = labelled (codes "index") index ++ flat_map row_line rows
+
+-- how many digests there are, and a line for each
+abbrev pub digest_lines : ℕ → List (List ℕ) → List ℕ
+digest_lines width digests = labelled (codes "digests") (length digests) ++ hex_lines width digests
+
+-- `ok` and how many digests were sent
 abbrev pub ok_line : ℕ → List ℕ
-ok_line count = codes "ok " ++ (decimal count ++ 10 ∷ [])
+ok_line count = labelled (codes "ok") count

@@ -1,11 +1,14 @@
 -- The words of a command.
-use Rattle.std.specs.Prelude.{◌≡◌, ℕ, ◌-◌, ◌^◌, ◌==◌, ◌||◌, Bool, List, [], ◌∷◌, codes, String, string_bytes, map}
+use Rattle.std.specs.Prelude.{◌≡◌, ℕ, ◌-◌, ◌^◌, ◌==◌, ◌||◌, Bool, List, [], ◌∷◌, ◌++◌, All, codes, String, string_bytes, map}
 use Rattle.std.specs.Str.Parse.{digits_value}
+use Rattle.p3_merkle_core.specs.declared.cap.CapRule.{CapRule}
+use Rattle.p3_merkle_core.specs.declared.cap.CapRule.TheVariants.{Lowered, Fixed}
 use Rattle.mmcs_engine.specs.Numbers.{IsNumberBelow}
 use Rattle.mmcs_engine.specs.declared.command.Action.{Action}
-use Rattle.mmcs_engine.specs.declared.command.Action.TheVariants.{Commit, Check}
+use Rattle.mmcs_engine.specs.declared.command.Action.TheVariants.{Commit, Open, Check}
 use Rattle.mmcs_engine.specs.declared.command.Arity.{Arity}
 use Rattle.mmcs_engine.specs.declared.command.Arity.TheVariants.{Two, Four, Eight}
+use Rattle.mmcs_engine.specs.declared.command.CapChoice.{CapChoice}
 use Rattle.mmcs_engine.specs.declared.command.Command.{Command}
 use Rattle.mmcs_engine.specs.declared.command.HashName.{HashName}
 use Rattle.mmcs_engine.specs.declared.command.HashName.TheVariants.{Fold, Sha256}
@@ -41,18 +44,37 @@ arity_word Four = codes "4"
 arity_word Eight = codes "8"
 
 -- the digits of a number that fits usize
-abbrev pub IsNumberWord : List ℕ → ℕ → Type 0
-IsNumberWord digits number = IsNumberBelow (2 ^ 64) digits × (digits_value 10 digits ≡ number)
+abbrev pub IsNumberWord : List ℕ → Type 0
+IsNumberWord digits = IsNumberBelow (2 ^ 64) digits
 
--- the words of an action: `commit`, or `check` and an index
-abbrev pub AreActionWords : List (List ℕ) → Action → Type 0
-AreActionWords words Commit = words ≡ codes "commit" ∷ []
-AreActionWords words (Check index) = (digits : List ℕ) × (words ≡ codes "check" ∷ digits ∷ []) × IsNumberWord digits index
+-- what stands behind the digits of a cap height: `f` for the fixed rule
+abbrev pub rule_mark : CapRule → List ℕ
+rule_mark Lowered = []
+rule_mark Fixed = codes "f"
 
--- the words of a command: a hash, an arity, a cap height, and the action
-pub record AreWords (words : List (List ℕ)) (command : Command) : Type 0 where
+-- the word of a cap height and a rule
+abbrev pub IsCapWord : List ℕ → CapChoice → Type 0
+IsCapWord word cap = (digits : List ℕ) × (word ≡ digits ++ rule_mark cap.rule) × IsNumberWord digits × (cap.height ≡ digits_value 10 digits)
+
+-- the word of an action
+abbrev pub action_word : Action → List ℕ
+action_word Commit = codes "commit"
+action_word Open = codes "open"
+action_word Check = codes "check"
+
+-- words that may follow an action: those of numbers, and after `commit` none
+abbrev pub MayFollow : Action → List (List ℕ) → Type 0
+MayFollow action places = All IsNumberWord places × (action ≡ Commit → places ≡ [])
+
+-- the words of a command and its indices: a hash, an arity, a cap, an action, and the indices
+pub record AreWords (words : List (List ℕ)) (command : Command) (indices : List ℕ) : Type 0 where
   pub cap : List ℕ
-  pub action : List (List ℕ)
-  pub spelling : words ≡ hash_word command.hash ∷ arity_word command.arity ∷ cap ∷ action
-  pub cap_word : IsNumberWord cap command.cap_height
-  pub action_words : AreActionWords action command.action
+  pub places : List (List ℕ)
+  pub spelling : words ≡ hash_word command.hash ∷ arity_word command.arity ∷ cap ∷ action_word command.action ∷ places
+  pub cap_word : IsCapWord cap command.cap
+  pub may_follow : MayFollow command.action places
+  pub indices_are : indices ≡ map (digits_value 10) places
+
+-- words that are no command
+abbrev pub AreNoCommand : List (List ℕ) → Type 0
+AreNoCommand words = (command : Command) (indices : List ℕ) → AreWords words command indices → ⊥

@@ -1,113 +1,90 @@
 //! From words and an input to an output.
 
-ghost use Rattle.std.specs.Prelude.{◌≡◌, ◌⊎◌, ◌+◌, ◌<◌, ℕ, All, List, map, Some, None, Ok, Err, IfOk, IfErr, IfSome, IsTrue, OnOk, OnErr, string_bytes};
+ghost use Rattle.std.specs.Prelude.{◌≡◌, ◌⊎◌, ℕ, ◌++◌, ◌<◌, ◌↔◌, All, Ok, Err, IfOk, IfErr, IfSome, IsTrue, OnOk, flat_map, length, map};
 ghost use Rattle.std.specs.Io.KnownBytes.{Appends};
-ghost use Rattle.p3_support.specs.RowMajor.{row_width, row_count, values_of};
-ghost use Rattle.p3_merkle_core.specs.Caps.{cap_layer};
-ghost use Rattle.p3_merkle_core.specs.Geometry.{heights};
-ghost use Rattle.p3_merkle_core.specs.declared.cap.CapRule.TheVariants.{Lowered};
-ghost use Rattle.p3_merkle_core.specs.Nodes.{shape};
-ghost use Rattle.p3_merkle_core.specs.declared.error.MerkleTreeError.{MerkleTreeError};
+ghost use Rattle.p3_merkle_core.specs.Geometry.{heights, shape_of, tallest};
+ghost use Rattle.p3_merkle_core.specs.Nodes.{layer, layers, shape, Batch};
+ghost use Rattle.p3_merkle_core.specs.Openings.{honest_rows};
+ghost use Rattle.p3_merkle_core.specs.PrunedCalls.{pruned_len_refusal};
 ghost use Rattle.p3_merkle_core.specs.declared.error.MerkleTreeError.TheVariants.{OutOfMemory};
-ghost use Rattle.mmcs_engine.specs.declared.command.Command.{Command};
-ghost use Rattle.mmcs_engine.specs.declared.command.Action.TheVariants.{Commit, Check};
-ghost use Rattle.mmcs_engine.specs.declared.fault.Fault.TheVariants.{Usage, BadInput, Tree};
-ghost use Rattle.mmcs_engine.specs.Input.{StandsFor};
-ghost use Rattle.mmcs_engine.specs.Matrices.{stored_batch};
-ghost use Rattle.mmcs_engine.specs.Program.{output_of, refusal_of, text_of, tree_refusal, AreTaken, Asks, AsksIfKnown, EndsIn, TellsRefusal, TellsUsage, WritesOutput};
-ghost use Rattle.mmcs_engine.specs.Words.{is_taken_arity, max_word, texts_of};
+ghost use Rattle.p3_merkle_tree.specs.Built.{OkUnlessRefused};
+ghost use Rattle.mmcs_engine.specs.declared.command.Action.TheVariants.{Open, Check};
+ghost use Rattle.mmcs_engine.specs.declared.fault.Fault.TheVariants.{Usage, Read, Tree, Write};
+ghost use Rattle.mmcs_engine.specs.Program.{functions_of_hash, hex_digits, layer_of_cap, text_of, IsAnswer, IsReply, IsTold, Prints};
+ghost use Rattle.mmcs_engine.specs.Text.{hex_lines, query_lines};
+ghost use Rattle.mmcs_engine.specs.Words.{arity_number, is_taken_arity, texts_of, AreNoCommand};
 
-use crate::command::{Action, Arity, Command, HashName};
+use crate::command::{Action, Arity, CapChoice, HashName, Request};
 use crate::fault::Fault;
 use crate::fold::Fold;
-use crate::input::read_matrices;
 use crate::sha256::Sha256;
 use crate::suite::Suite;
-use crate::text::ok_line;
-use p3_merkle_core::geometry::tallest_of;
+use crate::text::push_labelled;
 use p3_merkle_tree::MerkleTreeError;
-use p3_support::matrix::{Dimensions, Matrix, RowMajorMatrix};
+use p3_support::matrix::Dimensions;
 use std::alloc::{AllocError, Global};
-use std::io::{self, ErrorKind, Read, Write};
+use std::io::{ErrorKind, Read, Write};
 
 /// Answers the words after the program's name: reads the whole input, and writes the output once all else has
 /// succeeded.
 ///
-/// The words are a command, as [`Command::from_words`] reads them, and the lines of the input are the rows of
-/// matrices, as [`read_matrices`] reads them. `commit` writes the cap of the matrices' tree, a line for each digest;
-/// `check` opens an index, verifies the opening and writes `ok` and how many siblings it has. A stream is lent, so
-/// that what it has left or holds can be told of.
+/// The words are `HASH ARITY CAP[f] ACTION I..`: a hash (`fold` or `sha256`), an arity (`2`, `4` or `8`), how many levels
+/// below the root the cap is (by the rule `Lowered`, or with an `f` behind it by the rule `Fixed`), an action, and after
+/// `open` and `check` any number of indices. The lines of the input are the rows of matrices: decimal numbers, up to
+/// 4294967295 for `fold` and up to 255 for `sha256`, with spaces or tabs between; blank lines end a matrix.
+///
+/// `commit` writes the cap of the matrices' tree, a line for each digest in hexadecimal. `open` writes for each index a
+/// line `index I` and the rows that belong to it, a line for each matrix, and then `digests K` and the `K` digests of one
+/// pruned proof for all of them. `check` opens the same, verifies it, and writes `ok K`. A stream is lent, so that what it
+/// has left or holds can be told of.
 ///
 /// # Errors
 ///
+/// The first of these that holds, where `Tree(OutOfMemory)` may come at any time:
+///
 /// - `Usage`: the words are no command. Nothing was read.
-/// - `BadInput`: a read (but for want of memory) or a write failed, or the lines are no matrices.
-/// - `Tree`: why the tree refuses the heights; else `IndexOutOfBounds`, for an index that is not below the tallest
-///   height; or `OutOfMemory`, at any time.
+/// - `Read`: a read failed.
+/// - `Number` or `Count`, for the first line that has a part which is no number that the hash takes, or else not as many
+///   numbers as the first row of its matrix.
+/// - `Tree`: why the tree refuses the heights; else `IndexOutOfBounds` for the highest index, where it is not below the
+///   tallest height.
+/// - `Write`: a write failed. No other fault leaves anything written.
 pub fn run<Src: Read, Dst: Write>(
     alloc: Global,
     words: &[String],
     input: &mut Src,
     output: &mut Dst,
 ) -> Result<(), Fault>
-    // Words that are no command, and only these, are told by the usage, before anything is read or written.
-    ensures usage { TellsUsage (texts_of words.now) result }
-    ensures unread { result ≡ Err Fault.Usage → (input.new ≡ input.old) × (output.new ≡ output.old) }
-
-    // Ok tells that all was taken, and that the definition's output was written and nothing else.
-    ensures ok { OnOk result (WritesOutput (texts_of words.now) (Src.remaining input.old)
-        (Dst.contents output.old) (Dst.contents output.new)) }
-    // What is taken ends in Ok, unless a read, a write or memory fails.
-    ensures taken { (bytes : List ℕ) (command : Command) (matrices : List (List (List ℕ))) →
-        Src.remaining input.old ≡ Some bytes → Asks (texts_of words.now) bytes command matrices →
-        AreTaken command matrices → EndsIn (Ok tt) result }
-
-    // What the tree refuses, and how.
-    ensures tree { TellsRefusal (texts_of words.now) (Src.remaining input.old) result }
-    ensures refused { (bytes : List ℕ) (command : Command) (matrices : List (List (List ℕ))) (e : MerkleTreeError) →
-        Src.remaining input.old ≡ Some bytes → Asks (texts_of words.now) bytes command matrices →
-        refusal_of command matrices ≡ Some e → EndsIn (Err (Fault.Tree e)) result }
-
-    // No fault but a failed write leaves anything written, and a write comes last.
-    ensures silent { OnErr result ((output.new ≡ output.old) ⊎ ((result ≡ Err Fault.BadInput) ×
-        AsksIfKnown (texts_of words.now) (Src.remaining input.old) AreTaken)) }
+    ensures { IsAnswer Src.remaining Dst.contents (texts_of words.now) input.old input.new output.old output.new result }
 {
-    run_command(alloc, words, input, output)
+    let text = answer_to(alloc, words, input)?;
+    write_text(output, &text)
 }
 
-/// [`run`], but for its clauses `taken` and `refused`, which follow from the others.
+/// What is written for some words and an input, once all of it was read.
 ///
 /// # Errors
 ///
-/// Those of [`run`].
-fn run_command<Src: Read, Dst: Write>(
-    alloc: Global,
-    words: &[String],
-    input: &mut Src,
-    output: &mut Dst,
-) -> Result<(), Fault>
-    ensures usage { TellsUsage (texts_of words.now) result }
-    ensures unread { result ≡ Err Fault.Usage → (input.new ≡ input.old) × (output.new ≡ output.old) }
-    ensures ok { OnOk result (WritesOutput (texts_of words.now) (Src.remaining input.old)
-        (Dst.contents output.old) (Dst.contents output.new)) }
-    ensures tree { TellsRefusal (texts_of words.now) (Src.remaining input.old) result }
-    ensures silent { OnErr result ((output.new ≡ output.old) ⊎ ((result ≡ Err Fault.BadInput) ×
-        AsksIfKnown (texts_of words.now) (Src.remaining input.old) AreTaken)) }
+/// Those of [`run`] but `Write`.
+fn answer_to<Src: Read>(alloc: Global, words: &[String], input: &mut Src) -> Result<Vec<u8>, Fault>
+    ensures usage { (result ≡ Err Fault.Usage) ↔ AreNoCommand (texts_of words.now) }
+    ensures unread { result ≡ Err Fault.Usage → input.new ≡ input.old }
+    ensures text { IfOk result (λ text. Prints (texts_of words.now) (Src.remaining input.old) (λ t. text.items ≡ t)) }
+    ensures fault { IfErr result (λ fault. (fault ≡ Fault.Write → ⊥) × IsTold (texts_of words.now) (Src.remaining input.old) fault) }
 {
-    let command = Command::from_words(words).ok_or(Fault::Usage)?;
+    let request = Request::from_words(alloc, words)?;
     let bytes = read_all(alloc, input)?;
-    let text = answer(alloc, command, &bytes)?;
-    write_text(output, &text).map_err(|_error| Fault::BadInput)
+    reply(alloc, &request, &bytes)
 }
 
 /// All bytes of an input.
 ///
 /// # Errors
 ///
-/// `BadInput` where a read fails, but `Tree(OutOfMemory)` where that is for want of memory.
+/// `Read` where a read fails, but `Tree(OutOfMemory)` where that is for want of memory.
 fn read_all<Src: Read>(alloc: Global, input: &mut Src) -> Result<Vec<u8>, Fault>
     ensures bytes { IfOk result (λ bytes. IfSome (Src.remaining input.old) (λ all. bytes.items ≡ all)) }
-    ensures fault { IfErr result (λ fault. (fault ≡ Fault.BadInput) ⊎ (fault ≡ Fault.Tree OutOfMemory)) }
+    ensures fault { IfErr result (λ fault. (fault ≡ Fault.Read) ⊎ (fault ≡ Fault.Tree OutOfMemory)) }
 {
     let mut bytes = Vec::new(alloc);
     match input.read_to_end(&mut bytes) {
@@ -115,7 +92,7 @@ fn read_all<Src: Read>(alloc: Global, input: &mut Src) -> Result<Vec<u8>, Fault>
         Err(error) if error.kind() == ErrorKind::OutOfMemory => {
             Err(Fault::Tree(MerkleTreeError::OutOfMemory))
         }
-        Err(_) => Err(Fault::BadInput),
+        Err(_) => Err(Fault::Read),
     }
 }
 
@@ -123,143 +100,178 @@ fn read_all<Src: Read>(alloc: Global, input: &mut Src) -> Result<Vec<u8>, Fault>
 ///
 /// # Errors
 ///
-/// That of the write or flush that fails.
-fn write_text<Dst: Write>(output: &mut Dst, text: &str) -> io::Result<()>
-    ensures { OnOk result (Appends (Dst.contents output.old) (Dst.contents output.new) text.now) }
+/// `Write` where a write or the flush fails.
+fn write_text<Dst: Write>(output: &mut Dst, text: &[u8]) -> Result<(), Fault>
+    ensures text { OnOk result (Appends (Dst.contents output.old) (Dst.contents output.new) text.now) }
+    ensures fault { IfErr result (λ fault. fault ≡ Fault.Write) }
 {
-    output.write_all(text.as_bytes())?;
-    output.flush()
+    if output.write_all(text).is_err() || output.flush().is_err() {
+        return Err(Fault::Write);
+    }
+    Ok(())
 }
 
-/// The text that a command prints of an input.
+/// The text that is printed of an input.
 ///
 /// # Errors
 ///
-/// - `BadInput`: the lines are no matrices.
-/// - `Tree`: why the tree refuses the heights; else `IndexOutOfBounds`, for an index that is not below the tallest
-///   height; or `OutOfMemory`.
-fn answer(alloc: Global, command: Command, input: &[u8]) -> Result<String, Fault>
-    ensures text { IfOk result (λ text.
-        (matrices : List (List (List ℕ))) × StandsFor (max_word command.hash + 1) input.now matrices ×
-        AreTaken command matrices × (string_bytes text ≡ output_of command matrices)) }
+/// `Number` or `Count` for the first faulty line; else `Tree`: why the tree refuses the heights, else `IndexOutOfBounds`
+/// for the highest index; or `Tree(OutOfMemory)`.
+fn reply(alloc: Global, request: &Request, input: &[u8]) -> Result<Vec<u8>, Fault>
+    ensures text { IfOk result (λ text. IsReply request.now.command request.now.indices.items input.now (Ok text.items)) }
     ensures fault { IfErr result (λ fault. (fault ≡ Fault.Tree OutOfMemory) ⊎
-        (((fault ≡ Fault.BadInput) ×
-        ((matrices : List (List (List ℕ))) → StandsFor (max_word command.hash + 1) input.now matrices → ⊥)) ⊎
-        ((matrices : List (List (List ℕ))) × (e : MerkleTreeError) ×
-        StandsFor (max_word command.hash + 1) input.now matrices ×
-        (fault ≡ Fault.Tree e) × (refusal_of command matrices ≡ Some e)))) }
+        IsReply request.now.command request.now.indices.items input.now (Err fault)) }
 {
-    let matrices = read_matrices(alloc, input, command.hash.max_word())?;
-    let (cap_height, action) = (command.cap_height, command.action);
-    match (command.hash, command.arity) {
-        (HashName::Fold, Arity::Two) => act::<Fold, 2>(alloc, cap_height, action, matrices),
-        (HashName::Fold, Arity::Four) => act::<Fold, 4>(alloc, cap_height, action, matrices),
-        (HashName::Fold, Arity::Eight) => act::<Fold, 8>(alloc, cap_height, action, matrices),
-        (HashName::Sha256, Arity::Two) => act::<Sha256, 2>(alloc, cap_height, action, matrices),
-        (HashName::Sha256, Arity::Four) => act::<Sha256, 4>(alloc, cap_height, action, matrices),
-        (HashName::Sha256, Arity::Eight) => act::<Sha256, 8>(alloc, cap_height, action, matrices),
+    match (request.command.hash, request.command.arity) {
+        (HashName::Fold, Arity::Two) => reply_by::<Fold, 2>(alloc, request, input),
+        (HashName::Fold, Arity::Four) => reply_by::<Fold, 4>(alloc, request, input),
+        (HashName::Fold, Arity::Eight) => reply_by::<Fold, 8>(alloc, request, input),
+        (HashName::Sha256, Arity::Two) => reply_by::<Sha256, 2>(alloc, request, input),
+        (HashName::Sha256, Arity::Four) => reply_by::<Sha256, 4>(alloc, request, input),
+        (HashName::Sha256, Arity::Eight) => reply_by::<Sha256, 8>(alloc, request, input),
     }
 }
 
-/// The text that an action prints of some matrices, under an arity and a cap height. The arity is 2, 4 or 8, and no
-/// word is above the greatest that the hash takes.
+/// The same under a hash and an arity, which are those of the command.
 ///
 /// # Errors
 ///
-/// `Tree`: why the tree refuses the heights; else `IndexOutOfBounds`, for an index that is not below the tallest
+/// Those of [`reply`].
+fn reply_by<S: Suite<N>, const N: usize>(
+    alloc: Global,
+    request: &Request,
+    input: &[u8],
+) -> Result<Vec<u8>, Fault>
+    requires hash { S.name ≡ request.now.command.hash }
+    requires arity { N ≡ arity_number request.now.command.arity }
+    ensures text { IfOk result (λ text. IsReply request.now.command request.now.indices.items input.now (Ok text.items)) }
+    ensures fault { IfErr result (λ fault. (fault ≡ Fault.Tree OutOfMemory) ⊎
+        IsReply request.now.command request.now.indices.items input.now (Err fault)) }
+{
+    let matrices = S::read(alloc, input)?;
+    Ok(act::<S, N>(alloc, request, matrices)?)
+}
+
+/// The text that a command prints of some matrices.
+///
+/// # Errors
+///
+/// Why the tree refuses the heights; else `IndexOutOfBounds` for the highest index, where it is not below the tallest
 /// height; or `OutOfMemory`.
 fn act<S: Suite<N>, const N: usize>(
     alloc: Global,
-    cap_height: usize,
-    action: Action,
-    matrices: Vec<RowMajorMatrix<u32>>,
-) -> Result<String, Fault>
-    requires arity { IsTrue (is_taken_arity N) }
-    requires words { All (λ m. All (λ v. v < max_word S.name + 1) (values_of m)) matrices.items }
-    ensures text { let b = stored_batch N matrices.items in
-        IfOk result (λ text. (tree_refusal action (heights (shape b)) ≡ None) ×
-        (string_bytes text ≡ text_of S.name action b (cap_layer (shape b) Lowered cap_height))) }
-    ensures fault { let b = stored_batch N matrices.items in
-        IfErr result (λ fault. (fault ≡ Fault.Tree OutOfMemory) ⊎
-        ((e : MerkleTreeError) × (fault ≡ Fault.Tree e) × (tree_refusal action (heights (shape b)) ≡ Some e))) }
+    request: &Request,
+    matrices: S::Matrices,
+) -> Result<Vec<u8>, MerkleTreeError>
+    requires { IsTrue (is_taken_arity N) }
+    ensures text { let b = S.given matrices in
+        IfOk result (λ text. text.items ≡ text_of S.name request.now.command.action request.now.indices.items b
+        (layer_of_cap request.now.command.cap (shape b))) }
+    ensures answer { OkUnlessRefused result (pruned_len_refusal (shape (S.given matrices)) request.now.indices.items) }
 {
-    match action {
-        Action::Commit => commit_text::<S, N>(alloc, cap_height, matrices),
-        Action::Check(index) => check_text::<S, N>(alloc, cap_height, matrices, index),
+    let cap = request.command.cap;
+    let indices = request.indices.as_slice();
+    let dimensions = S::dimensions(alloc, &matrices)?;
+    S::pruned_len(alloc, cap, &dimensions, indices)?;
+    let (roots, tree) = S::commit(alloc, cap, matrices)?;
+    match request.command.action {
+        Action::Commit => cap_text::<S, N>(alloc, &roots),
+        Action::Open => open_text::<S, N>(alloc, cap, indices, &tree),
+        Action::Check => check_text::<S, N>(alloc, cap, &dimensions, indices, &roots, &tree),
     }
 }
 
-/// A line for each digest of the cap of some matrices, as [`act`] asks for them.
+/// A line for each digest of a cap.
 ///
 /// # Errors
 ///
-/// `Tree`: why the tree refuses the heights, or `OutOfMemory`.
-fn commit_text<S: Suite<N>, const N: usize>(
+/// `OutOfMemory` alone.
+fn cap_text<S: Suite<N>, const N: usize>(
     alloc: Global,
-    cap_height: usize,
-    matrices: Vec<RowMajorMatrix<u32>>,
-) -> Result<String, Fault>
-    requires arity { IsTrue (is_taken_arity N) }
-    requires words { All (λ m. All (λ v. v < max_word S.name + 1) (values_of m)) matrices.items }
-    ensures text { let b = stored_batch N matrices.items in
-        IfOk result (λ text. (tree_refusal Commit (heights (shape b)) ≡ None) ×
-        (string_bytes text ≡ text_of S.name Commit b (cap_layer (shape b) Lowered cap_height))) }
-    ensures fault { let b = stored_batch N matrices.items in
-        IfErr result (λ fault. (fault ≡ Fault.Tree OutOfMemory) ⊎
-        ((e : MerkleTreeError) × (fault ≡ Fault.Tree e) × (tree_refusal Commit (heights (shape b)) ≡ Some e))) }
+    roots: &S::Cap,
+) -> Result<Vec<u8>, MerkleTreeError>
+    ensures text { IfOk result (λ text. text.items ≡ hex_lines (hex_digits S.name) (S.roots roots.now)) }
+    ensures memory { IfErr result (λ e. e ≡ OutOfMemory) }
 {
-    let (cap, _tree) = S::commit(alloc, cap_height, matrices)?;
-    Ok(S::cap_lines(alloc, &cap)?)
+    let mut text = Vec::new(alloc);
+    S::push_cap(&mut text, roots)?;
+    Ok(text)
 }
 
-/// The dimensions of matrices, in their order.
+/// The rows of each index of a tree, and the digests of one pruned proof for all of them.
+///
+/// # Errors
+///
+/// `OutOfMemory` alone.
+fn open_text<S: Suite<N>, const N: usize>(
+    alloc: Global,
+    cap: CapChoice,
+    indices: &[usize],
+    tree: &S::Tree,
+) -> Result<Vec<u8>, MerkleTreeError>
+    requires arity { IsTrue (is_taken_arity N) }
+    requires indices { All (λ i. i < tallest (heights (shape (S.batch tree.now)))) indices.now }
+    requires built { S.nodes tree.now ≡ layers (functions_of_hash S.name) (S.batch tree.now) }
+    ensures text { let b = S.batch tree.now in
+        IfOk result (λ text. text.items ≡ text_of S.name Open indices.now b (layer_of_cap cap (shape b))) }
+    ensures memory { IfErr result (λ e. e ≡ OutOfMemory) }
+{
+    let opening = S::open(alloc, cap, indices, tree)?;
+    let mut text = Vec::new(alloc);
+    push_queries::<S, N>(alloc, &mut text, indices, &opening)?;
+    push_labelled(alloc, &mut text, "digests", S::num_digests(&opening))?;
+    S::push_digests(&mut text, &opening)?;
+    Ok(text)
+}
+
+/// Appends what is opened of each index: the index, and a line for the row of each matrix.
 ///
 /// # Errors
 ///
 /// `AllocError` where there is no memory.
-fn dimensions_of(
+fn push_queries<S: Suite<N>, const N: usize>(
     alloc: Global,
-    matrices: &[RowMajorMatrix<u32>],
-) -> Result<Vec<Dimensions>, AllocError>
-    ensures { IfOk result (λ dimensions.
-        dimensions.items ≡ map (λ m. record { width = row_width m; height = row_count m }) matrices.now) }
+    text: &mut Vec<u8>,
+    indices: &[usize],
+    opening: &S::Opening,
+) -> Result<(), AllocError>
+    requires { length (S.rows opening.now) ≡ length indices.now }
+    ensures { (b : Batch ℕ) → S.rows opening.now ≡ map (honest_rows b) indices.now →
+        OnOk result (text.new.items ≡ text.old.items ++ flat_map (λ i. query_lines i (honest_rows b i)) indices.now) }
 {
-    matrices
-        .iter()
-        .map(|matrix| matrix.dimensions())
-        .collect(alloc)
+    for (place, index) in indices.iter().enumerate() {
+        push_labelled(alloc, text, "index", *index)?;
+        S::push_rows(alloc, text, opening, place)?;
+    }
+    Ok(())
 }
 
-/// Opens an index of the tree over some matrices, as [`act`] asks for them, verifies what is opened, and tells how many
-/// siblings it has.
+/// Opens indices of a tree, verifies what is opened, and tells how many digests were sent.
 ///
 /// # Errors
 ///
-/// `Tree`: why the tree refuses the heights; else `IndexOutOfBounds`, for an index that is not below the tallest
-/// height; or `OutOfMemory`.
+/// `OutOfMemory` alone.
 fn check_text<S: Suite<N>, const N: usize>(
     alloc: Global,
-    cap_height: usize,
-    matrices: Vec<RowMajorMatrix<u32>>,
-    index: usize,
-) -> Result<String, Fault>
+    cap: CapChoice,
+    dimensions: &[Dimensions],
+    indices: &[usize],
+    roots: &S::Cap,
+    tree: &S::Tree,
+) -> Result<Vec<u8>, MerkleTreeError>
     requires arity { IsTrue (is_taken_arity N) }
-    requires words { All (λ m. All (λ v. v < max_word S.name + 1) (values_of m)) matrices.items }
-    ensures text { let b = stored_batch N matrices.items in
-        IfOk result (λ text. (tree_refusal (Check index) (heights (shape b)) ≡ None) ×
-        (string_bytes text ≡ text_of S.name (Check index) b (cap_layer (shape b) Lowered cap_height))) }
-    ensures fault { let b = stored_batch N matrices.items in
-        IfErr result (λ fault. (fault ≡ Fault.Tree OutOfMemory) ⊎
-        ((e : MerkleTreeError) × (fault ≡ Fault.Tree e) × (tree_refusal (Check index) (heights (shape b)) ≡ Some e))) }
+    requires indices { All (λ i. i < tallest (heights (shape (S.batch tree.now)))) indices.now }
+    requires built { S.nodes tree.now ≡ layers (functions_of_hash S.name) (S.batch tree.now) }
+    requires dimensions { shape_of N dimensions.now ≡ shape (S.batch tree.now) }
+    requires roots { let b = S.batch tree.now in
+        S.roots roots.now ≡ layer (functions_of_hash S.name) b (layer_of_cap cap (shape b)) }
+    ensures text { let b = S.batch tree.now in
+        IfOk result (λ text. text.items ≡ text_of S.name Check indices.now b (layer_of_cap cap (shape b))) }
+    ensures memory { IfErr result (λ e. e ≡ OutOfMemory) }
 {
-    let dimensions = dimensions_of(alloc, &matrices)?;
-    let (cap, tree) = S::commit(alloc, cap_height, matrices)?;
-    let max_height = tallest_of(&dimensions);
-    if index >= max_height {
-        return Err(Fault::Tree(MerkleTreeError::IndexOutOfBounds { max_height, index }));
-    }
-    let opening = S::open(alloc, cap_height, index, &tree)?;
-    S::verify(cap_height, &cap, &dimensions, index, &opening)?;
-    let siblings = S::num_siblings(&opening);
-    Ok(ok_line(alloc, siblings)?)
+    let opening = S::open(alloc, cap, indices, tree)?;
+    S::verify(alloc, cap, roots, dimensions, indices, &opening)?;
+    let mut text = Vec::new(alloc);
+    push_labelled(alloc, &mut text, "ok", S::num_digests(&opening))?;
+    Ok(text)
 }

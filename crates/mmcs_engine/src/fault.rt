@@ -13,14 +13,35 @@ use thiserror::Error;
 #[derive(Debug, Drop, Error)]
 pub enum Fault {
     /// The words are no command.
-    #[error("usage: mmcs fold|sha256 2|4|8 CAP commit|open I..|check I..")]
+    #[error("usage: mmcs fold|sha256 2|4|8 CAP[f] commit|open I..|check I..")]
     Usage,
-    /// The lines of the input are no matrices, or it could not be read, or the output could not be written.
-    #[error("bad input")]
-    BadInput,
-    /// The tree refuses the matrices or the index, or memory was refused.
+    /// The input could not be read.
+    #[error("read failed")]
+    Read,
+    /// A line of the input, the first faulty one, has a part that is no number that the hash takes.
+    #[error("line {line}: not a number from 0 to {max}")]
+    Number {
+        /// Which line, counted from 1.
+        line: usize,
+        /// The greatest word of a row.
+        max: usize,
+    },
+    /// A line of the input, the first faulty one, has not as many numbers as the first row of its matrix.
+    #[error("line {line}: expected {expected} numbers, got {got}")]
+    Count {
+        /// Which line, counted from 1.
+        line: usize,
+        /// How many numbers the first row of the matrix has.
+        expected: usize,
+        /// How many this one has.
+        got: usize,
+    },
+    /// The tree refuses the matrices or the indices, or memory was refused.
     #[error("{0}")]
     Tree(MerkleTreeError),
+    /// The output could not be written.
+    #[error("write failed")]
+    Write,
 }
 
 impl Fault {

@@ -2,49 +2,54 @@
 
 ghost use Rattle.std.specs.Prelude.{◌≡◌, IsTrue};
 ghost use Rattle.p3_support.specs.Shown.{roots_of};
-ghost use Rattle.p3_merkle_core.specs.declared.cap.CapRule.TheVariants.{Lowered};
+ghost use Rattle.p3_merkle_core.specs.PrunedCalls.{row_sets};
 ghost use Rattle.p3_merkle_tree.specs.Parts.{layers_of, matrices_of};
-ghost use Rattle.p3_merkle_tree.specs.Schemes.{cap_height_of, cap_rule_of, opening_made, scheme_functions};
+ghost use Rattle.p3_merkle_tree.specs.Schemes.{cap_height_of, cap_rule_of, scheme_functions};
 ghost use Rattle.mmcs_engine.specs.Matrices.{stored_batch};
 ghost use Rattle.mmcs_engine.specs.Program.{fold_functions};
 ghost use Rattle.mmcs_engine.specs.Words.{is_taken_arity};
 ghost use Rattle.mmcs_engine.specs.declared.command.HashName.TheVariants.{Fold as FoldName};
 
+use crate::command::CapChoice;
+use crate::fault::Fault;
+use crate::input::{dimensions_of, read_matrices};
 use crate::suite::Suite;
-use crate::text::hex_lines;
-use p3_merkle_tree::{
-    BatchOpening, BatchOpeningRef, MerkleCap, MerkleTree, MerkleTreeError, MerkleTreeMmcs,
-};
+use crate::text::{push_rows, push_word_digests};
+use p3_merkle_tree::{MerkleCap, MerkleTree, MerkleTreeError, MerkleTreeMmcs, PrunedBatchOpening};
 use p3_support::compress::PseudoCompressionFunction;
 use p3_support::fold::{FoldCompress, FoldHash};
 use p3_support::hasher::CryptographicHasher;
 use p3_support::matrix::{Dimensions, RowMajorMatrix};
 use std::alloc::{AllocError, Global};
 
-/// The scheme of the fold functions, whose cap is so many levels below the root, by the lowered rule. The arity is 2, 4 or 8.
+/// The scheme of the fold functions, under this choice of a cap. The arity is 2, 4 or 8.
 fn fold_scheme<const N: usize>(
-    cap_height: usize,
+    cap: CapChoice,
 ) -> MerkleTreeMmcs<u32, u32, FoldHash<4>, FoldCompress<N, 4>, N, 1>
     requires { IsTrue (is_taken_arity N) }
     ensures functions { scheme_functions ⟦<FoldHash<4> as CryptographicHasher<u32, u32, 1>>⟧.hash
         ⟦<FoldCompress<N, 4> as PseudoCompressionFunction<u32, N, 1>>⟧.compression 1 result ≡ fold_functions }
-    ensures cap_height { cap_height_of result ≡ cap_height }
-    ensures rule { cap_rule_of result ≡ Lowered }
+    ensures cap_height { cap_height_of result ≡ cap.height }
+    ensures rule { cap_rule_of result ≡ cap.rule }
 {
-    MerkleTreeMmcs::new(FoldHash::<4>, FoldCompress::<N, 4>, cap_height)
+    MerkleTreeMmcs::new_with_rule(FoldHash::<4>, FoldCompress::<N, 4>, cap.height, cap.rule)
 }
 
 /// The fold functions.
 pub struct Fold;
 
 impl<const N: usize> Suite<N> for Fold {
+    type Matrices = Vec<RowMajorMatrix<u32>>;
+
     type Cap = MerkleCap<u32, [u32; 1]>;
 
     type Tree = MerkleTree<u32, u32, RowMajorMatrix<u32>, N, 1>;
 
-    type Opening = BatchOpening<u32, Vec<[u32; 1]>>;
+    type Opening = PrunedBatchOpening<u32, u32, 1>;
 
     ghost name = { FoldName };
+
+    ghost given = { λ matrices. stored_batch N matrices.items };
 
     ghost roots = { λ cap. roots_of cap };
 
@@ -52,45 +57,74 @@ impl<const N: usize> Suite<N> for Fold {
 
     ghost nodes = { λ tree. layers_of tree };
 
-    ghost opening_of = { λ index opening. opening_made index opening };
+    ghost rows = { λ opening. row_sets opening.opened_values.items };
+
+    ghost digests = { λ opening. opening.pruned_proof.sibling_hashes.items };
+
+    fn read(alloc: Global, input: &[u8]) -> Result<Self::Matrices, Fault> {
+        read_matrices(alloc, input, u32::MAX)
+    }
+
+    fn dimensions(alloc: Global, matrices: &Self::Matrices) -> Result<Vec<Dimensions>, AllocError> {
+        dimensions_of(alloc, matrices)
+    }
+
+    fn pruned_len(
+        alloc: Global,
+        cap: CapChoice,
+        dimensions: &[Dimensions],
+        indices: &[usize],
+    ) -> Result<usize, MerkleTreeError> {
+        fold_scheme::<N>(cap).pruned_len(alloc, dimensions, indices)
+    }
 
     fn commit(
         alloc: Global,
-        cap_height: usize,
-        matrices: Vec<RowMajorMatrix<u32>>,
+        cap: CapChoice,
+        matrices: Self::Matrices,
     ) -> Result<(Self::Cap, Self::Tree), MerkleTreeError> {
-        fold_scheme::<N>(cap_height).commit(alloc, matrices)
+        fold_scheme::<N>(cap).commit(alloc, matrices)
     }
 
     fn open(
         alloc: Global,
-        cap_height: usize,
-        index: usize,
+        cap: CapChoice,
+        indices: &[usize],
         tree: &Self::Tree,
     ) -> Result<Self::Opening, MerkleTreeError> {
-        fold_scheme::<N>(cap_height).open_batch(alloc, index, tree)
+        fold_scheme::<N>(cap).open_batch_pruned(alloc, indices, tree)
     }
 
     fn verify(
-        cap_height: usize,
-        cap: &Self::Cap,
+        alloc: Global,
+        cap: CapChoice,
+        against: &Self::Cap,
         dimensions: &[Dimensions],
-        index: usize,
+        indices: &[usize],
         opening: &Self::Opening,
     ) -> Result<(), MerkleTreeError> {
-        fold_scheme::<N>(cap_height).verify_batch(
-            cap,
-            dimensions,
-            index,
-            BatchOpeningRef::from(opening),
-        )
+        let (rows, proof) = (&opening.opened_values, &opening.pruned_proof);
+        fold_scheme::<N>(cap).verify_batch_pruned(alloc, against, dimensions, indices, rows, proof)
     }
 
-    fn cap_lines(alloc: Global, cap: &Self::Cap) -> Result<String, AllocError> {
-        hex_lines(alloc, cap.roots())
+    fn push_cap(text: &mut Vec<u8>, cap: &Self::Cap) -> Result<(), AllocError> {
+        push_word_digests(text, cap.roots())
     }
 
-    fn num_siblings(opening: &Self::Opening) -> usize {
-        opening.opening_proof.len()
+    fn push_rows(
+        alloc: Global,
+        text: &mut Vec<u8>,
+        opening: &Self::Opening,
+        place: usize,
+    ) -> Result<(), AllocError> {
+        push_rows(alloc, text, &opening.opened_values[place])
+    }
+
+    fn num_digests(opening: &Self::Opening) -> usize {
+        opening.pruned_proof.sibling_hashes.len()
+    }
+
+    fn push_digests(text: &mut Vec<u8>, opening: &Self::Opening) -> Result<(), AllocError> {
+        push_word_digests(text, &opening.pruned_proof.sibling_hashes)
     }
 }

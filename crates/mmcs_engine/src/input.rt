@@ -1,21 +1,18 @@
 //! Matrices, from the bytes of an input.
 
-ghost use Rattle.std.specs.Prelude.{◌≡◌, ℕ, ◌+◌, ◌*◌, ◌<◌, ◌⊎◌, false, List, [], ◌∷◌, ◌++◌, map, length, All, IfOk, IfErr, IfSome, IfNone, OnOk};
-ghost use Rattle.std.specs.Option.{SomeIff};
+ghost use Rattle.std.specs.Prelude.{◌≡◌, ◌⊎◌, ℕ, ◌+◌, ◌*◌, ◌<◌, false, List, [], ◌∷◌, ◌++◌, map, length, All, IfOk, IfErr, IfSome, IfNone, OnOk};
 ghost use Rattle.std.specs.Str.Lines.{strip_carriage_return};
-ghost use Rattle.std.specs.Str.Parse.{digits_value};
-ghost use Rattle.p3_support.specs.RowMajor.{values_of};
+ghost use Rattle.p3_support.specs.RowMajor.{row_count, row_width, values_of};
 ghost use Rattle.p3_merkle_core.specs.declared.error.MerkleTreeError.TheVariants.{OutOfMemory};
-ghost use Rattle.mmcs_engine.specs.declared.fault.Fault.TheVariants.{BadInput, Tree};
-ghost use Rattle.mmcs_engine.specs.Numbers.{IsNumberBelow};
-ghost use Rattle.mmcs_engine.specs.Input.{is_gap, is_blank, numerals_of, numbers_of, StandsFor};
-ghost use Rattle.mmcs_engine.specs.Blocks.{IsBlock, IsRefused};
+ghost use Rattle.mmcs_engine.specs.declared.fault.Fault.TheVariants.{Tree};
+ghost use Rattle.mmcs_engine.specs.Numbers.{IsNumberBelow, IsRead};
+ghost use Rattle.mmcs_engine.specs.Input.{is_gap, is_blank, numerals_of, numbers_of, pieces_of, IsFirstFault, IsLineFault, StandsFor};
+ghost use Rattle.mmcs_engine.specs.Blocks.{IsBlock};
 ghost use Rattle.mmcs_engine.specs.Matrices.{matrix_of_rows, stored_matrix};
 
 use crate::fault::Fault;
-use crate::number::parse_number;
-use p3_support::matrix::{Matrix, RowMajorMatrix};
-use std::alloc::Global;
+use p3_support::matrix::{Dimensions, Matrix, RowMajorMatrix};
+use std::alloc::{AllocError, Global};
 use std::mem;
 
 /// Whether the byte is a space or a tab.
@@ -39,35 +36,51 @@ fn without_return(line: &[u8]) -> &[u8]
     line.strip_suffix(b"\r").unwrap_or(line)
 }
 
-/// The number that one or more ASCII digits stand for, if it is at most `max`.
-fn parse_word(digits: &[u8], max: u32) -> Option<u32>
-    ensures { SomeIff result (IsNumberBelow (max + 1) digits.now) (digits_value 10 digits.now) }
+/// The number, at most `max`, that a digit makes with those in front of it, of which `before` is the number.
+fn with_digit(before: Option<u32>, digit: u8, max: u32) -> Option<u32>
+    ensures some { IfSome result (λ number. (digits : List ℕ) → IsRead (max + 1) digits before → IsRead (max + 1) (digits ++ digit ∷ []) result) }
+    ensures none { IfNone result ((digits more : List ℕ) → IsRead (max + 1) digits before → ¬ IsNumberBelow (max + 1) ((digits ++ digit ∷ []) ++ more)) }
 {
-    let word = u32::try_from(parse_number(digits)?).ok()?;
-    (word <= max).then_some(word)
+    if !digit.is_ascii_digit() {
+        return None;
+    }
+    let number = u64::from(before.unwrap_or(0)) * 10 + u64::from(digit - b'0');
+    if number <= u64::from(max) {
+        Some(number as u32)
+    } else {
+        None
+    }
 }
 
-/// Appends the numbers of a line, each at most `max`, and says how many there are.
+/// Appends the numbers of a line, each at most `max`, and says how many there are; or nothing, where a part of the line
+/// is no such number.
 ///
 /// # Errors
 ///
-/// `BadInput` where a part of the line is no such number; `Tree(OutOfMemory)` where there is no memory.
-fn append_row(values: &mut Vec<u32>, line: &[u8], max: u32) -> Result<usize, Fault>
-    ensures values { OnOk result (values.new.items ≡ values.old.items ++ numbers_of line.now) }
-    ensures count { IfOk result (λ count. count ≡ length (numbers_of line.now)) }
-    ensures numbers { OnOk result (All (IsNumberBelow (max + 1)) (numerals_of line.now)) }
-    ensures fault { IfErr result (λ fault. (fault ≡ Tree OutOfMemory) ⊎
-        ((fault ≡ BadInput) × ¬ All (IsNumberBelow (max + 1)) (numerals_of line.now))) }
+/// `AllocError` where there is no memory.
+fn append_row(values: &mut Vec<u32>, line: &[u8], max: u32) -> Result<Option<usize>, AllocError>
+    ensures row { IfOk result (λ count. IfSome count (λ n. (values.new.items ≡ values.old.items ++ numbers_of line.now) ×
+        (n ≡ length (numbers_of line.now)) × All (IsNumberBelow (max + 1)) (numerals_of line.now))) }
+    ensures none { IfOk result (λ count. IfNone count (¬ All (IsNumberBelow (max + 1)) (numerals_of line.now))) }
 {
     let len = values.len();
-    for word in line.split(|byte| is_gap(*byte)) {
-        if word.is_empty() {
-            continue;
+    let mut number = None;
+    for byte in line {
+        if is_gap(*byte) {
+            if let Some(word) = number.take() {
+                values.push(word)?;
+            }
+        } else {
+            number = with_digit(number, *byte, max);
+            if number.is_none() {
+                return Ok(None);
+            }
         }
-        let value = parse_word(word, max).ok_or(Fault::BadInput)?;
-        values.push(value)?;
     }
-    Ok(values.len() - len)
+    if let Some(word) = number {
+        values.push(word)?;
+    }
+    Ok(Some(values.len() - len))
 }
 
 /// The rows of a matrix that has not ended.
@@ -90,28 +103,35 @@ impl Block {
         }
     }
 
-    /// Appends a line that is not blank as a row of numbers, each at most `max`.
+    /// Appends a line that is not blank, the one of this number, as a row of numbers, each at most `max`.
     ///
     /// # Errors
     ///
-    /// `BadInput` where a part of the line is no such number, or the row is of another width than the rows before it;
-    /// `Tree(OutOfMemory)` where there is no memory.
-    fn push_row(&mut self, line: &[u8], max: u32) -> Result<(), Fault>
-        requires full { is_blank line.now ≡ false }
+    /// `Number` where a part of the line is no such number, else `Count` where the row is of another width than the rows
+    /// before it; `Tree(OutOfMemory)` where there is no memory.
+    fn push_row(&mut self, text: &[u8], max: u32, line: usize) -> Result<(), Fault>
+        requires full { is_blank text.now ≡ false }
         ensures row { (lines : List (List ℕ)) → IsBlock (max + 1) lines self.old.values.items self.old.width →
-            OnOk result (IsBlock (max + 1) (lines ++ line.now ∷ []) self.new.values.items self.new.width) }
+            OnOk result (IsBlock (max + 1) (lines ++ text.now ∷ []) self.new.values.items self.new.width) }
         ensures fault { (lines : List (List ℕ)) → IsBlock (max + 1) lines self.old.values.items self.old.width →
-            IfErr result (λ fault. (fault ≡ Tree OutOfMemory) ⊎
-            ((fault ≡ BadInput) × IsRefused (max + 1) (lines ++ line.now ∷ []))) }
+            IfErr result (λ fault. (fault ≡ Tree OutOfMemory) ⊎ IsLineFault (max + 1) lines line text.now fault) }
     {
-        let count = append_row(&mut self.values, line, max)?;
+        let Some(got) = append_row(&mut self.values, text, max)? else {
+            let max = max as usize;
+            return Err(Fault::Number { line, max });
+        };
         if self.width == 0 {
-            self.width = count;
+            self.width = got;
         }
-        if count == self.width {
+        let expected = self.width;
+        if got == expected {
             Ok(())
         } else {
-            Err(Fault::BadInput)
+            Err(Fault::Count {
+                line,
+                expected,
+                got,
+            })
         }
     }
 
@@ -146,7 +166,7 @@ impl Block {
 ///
 /// # Errors
 ///
-/// `BadInput` where a line is no row of its matrix; `Tree(OutOfMemory)` where there is no memory.
+/// `Number` or `Count` for the first line that is no row of its matrix; `Tree(OutOfMemory)` where there is no memory.
 pub fn read_matrices(
     alloc: Global,
     input: &[u8],
@@ -156,23 +176,42 @@ pub fn read_matrices(
         (matrices : List (List (List ℕ))) × StandsFor (max + 1) input.now matrices ×
         (map stored_matrix found.items ≡ map matrix_of_rows matrices) ×
         All (λ m. All (λ v. v < max + 1) (values_of m)) found.items) }
-    ensures fault { IfErr result (λ fault. (fault ≡ Tree OutOfMemory) ⊎
-        ((fault ≡ BadInput) × ((matrices : List (List (List ℕ))) → StandsFor (max + 1) input.now matrices → ⊥))) }
+    ensures fault { IfErr result (λ fault. (fault ≡ Tree OutOfMemory) ⊎ IsFirstFault (max + 1) (pieces_of input.now) fault) }
 {
     let mut matrices = Vec::new(alloc);
     let mut block = Block::new(alloc);
+    let mut line = 0;
     for piece in input.split(|byte| *byte == b'\n') {
-        let line = without_return(piece);
-        if is_blank(line) {
+        line += 1;
+        let text = without_return(piece);
+        if is_blank(text) {
             if let Some(matrix) = block.take_matrix(alloc) {
                 matrices.push(matrix)?;
             }
         } else {
-            block.push_row(line, max)?;
+            block.push_row(text, max, line)?;
         }
     }
     if let Some(matrix) = block.take_matrix(alloc) {
         matrices.push(matrix)?;
     }
     Ok(matrices)
+}
+
+/// The dimensions of matrices, in their order.
+///
+/// # Errors
+///
+/// `AllocError` where there is no memory.
+pub fn dimensions_of<T: Copy>(
+    alloc: Global,
+    matrices: &[RowMajorMatrix<T>],
+) -> Result<Vec<Dimensions>, AllocError>
+    ensures { IfOk result (λ dimensions.
+        dimensions.items ≡ map (λ m. record { width = row_width m; height = row_count m }) matrices.now) }
+{
+    matrices
+        .iter()
+        .map(|matrix| matrix.dimensions())
+        .collect(alloc)
 }

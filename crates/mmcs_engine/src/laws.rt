@@ -1,13 +1,19 @@
 //! What follows from the meaning of words and of inputs.
 
-ghost use Rattle.std.specs.Prelude.{◌≡◌, ◌↔◌, ℕ, true, List, ◌∷◌, ◌++◌, All};
+ghost use Rattle.std.specs.Prelude.{◌≡◌, ◌↔◌, ℕ, true, List, ◌∷◌, ◌++◌, All, Result};
 ghost use Rattle.mmcs_engine.specs.declared.command.Command.{Command};
+ghost use Rattle.mmcs_engine.specs.declared.fault.Fault.{Fault};
 ghost use Rattle.mmcs_engine.specs.Input.{is_blank, pieces_of, StandsFor};
+ghost use Rattle.mmcs_engine.specs.Program.{IsOutcome};
 ghost use Rattle.mmcs_engine.specs.Words.{AreWords};
 
-/// Words are of one command, and an input stands for one list of matrices.
+/// Words are of one command with its indices, an input stands for one list of matrices, and there is one outcome by
+/// definition: so a first faulty line is one line, with one fault, and only of an input that stands for no matrices.
 pub fn meanings_are_unique()
-    ensures command { (words : List (List ℕ)) (c d : Command) → AreWords words c → AreWords words d → c ≡ d }
+    ensures command { (words : List (List ℕ)) (c d : Command) (is js : List ℕ) →
+        AreWords words c is → AreWords words d js → (c ≡ d) × (is ≡ js) }
+    ensures outcome { (words : List (List ℕ)) (input : List ℕ) (o p : Result (List ℕ) Fault) →
+        IsOutcome words input o → IsOutcome words input p → o ≡ p }
     ensures matrices { (limit : ℕ) (input : List ℕ) (ms ns : List (List (List ℕ))) →
         StandsFor limit input ms → StandsFor limit input ns → ms ≡ ns }
 {}

@@ -1,38 +1,40 @@
 //! The suite of `sha256`: words of 8 bits, and digests of 32 bytes.
 
-ghost use Rattle.std.specs.Prelude.{◌≡◌, ◌<◌, All, IfOk, IsTrue, map};
+ghost use Rattle.std.specs.Prelude.{◌≡◌, ◌++◌, ◌<◌, All, IfOk, IsTrue, OnOk, flat_map, map};
 ghost use Rattle.p3_support.specs.RowMajor.{values_of};
 ghost use Rattle.p3_support.specs.Shown.{roots_of};
-ghost use Rattle.p3_merkle_core.specs.declared.cap.CapRule.TheVariants.{Lowered};
+ghost use Rattle.p3_merkle_core.specs.PrunedCalls.{row_sets};
 ghost use Rattle.p3_merkle_tree.specs.Parts.{layers_of, matrices_of};
-ghost use Rattle.p3_merkle_tree.specs.Schemes.{cap_height_of, cap_rule_of, opening_made, scheme_functions};
+ghost use Rattle.p3_merkle_tree.specs.Schemes.{cap_height_of, cap_rule_of, scheme_functions};
 ghost use Rattle.mmcs_engine.specs.Matrices.{stored_batch, stored_matrix};
 ghost use Rattle.mmcs_engine.specs.Program.{sha_functions};
+ghost use Rattle.mmcs_engine.specs.Text.{row_line};
 ghost use Rattle.mmcs_engine.specs.Words.{is_taken_arity};
 ghost use Rattle.mmcs_engine.specs.declared.command.HashName.TheVariants.{Sha256 as Sha256Name};
 
+use crate::command::CapChoice;
+use crate::fault::Fault;
+use crate::input::{dimensions_of, read_matrices};
 use crate::suite::Suite;
-use crate::text::byte_lines;
-use p3_merkle_tree::{
-    BatchOpening, BatchOpeningRef, MerkleCap, MerkleTree, MerkleTreeError, MerkleTreeMmcs,
-};
+use crate::text::{push_byte_digests, push_row};
+use p3_merkle_tree::{MerkleCap, MerkleTree, MerkleTreeError, MerkleTreeMmcs, PrunedBatchOpening};
 use p3_support::compress::PseudoCompressionFunction;
 use p3_support::hasher::CryptographicHasher;
 use p3_support::matrix::{Dimensions, Matrix, RowMajorMatrix};
 use p3_support::sha::{Sha256Nodes, Sha256Rows};
 use std::alloc::{AllocError, Global};
 
-/// The scheme of SHA-256, whose cap is so many levels below the root, by the lowered rule. The arity is 2, 4 or 8.
+/// The scheme of SHA-256, under this choice of a cap. The arity is 2, 4 or 8.
 fn sha_scheme<const N: usize>(
-    cap_height: usize,
+    cap: CapChoice,
 ) -> MerkleTreeMmcs<u8, u8, Sha256Rows, Sha256Nodes<N>, N, 32>
     requires { IsTrue (is_taken_arity N) }
     ensures functions { scheme_functions ⟦<Sha256Rows as CryptographicHasher<u8, u8, 32>>⟧.hash
         ⟦<Sha256Nodes<N> as PseudoCompressionFunction<u8, N, 32>>⟧.compression 32 result ≡ sha_functions }
-    ensures cap_height { cap_height_of result ≡ cap_height }
-    ensures rule { cap_rule_of result ≡ Lowered }
+    ensures cap_height { cap_height_of result ≡ cap.height }
+    ensures rule { cap_rule_of result ≡ cap.rule }
 {
-    MerkleTreeMmcs::new(Sha256Rows, Sha256Nodes::<N>, cap_height)
+    MerkleTreeMmcs::new_with_rule(Sha256Rows, Sha256Nodes::<N>, cap.height, cap.rule)
 }
 
 /// The same numbers, each below 256, as bytes.
@@ -45,6 +47,43 @@ fn bytes_of(alloc: Global, words: &[u32]) -> Result<Vec<u8>, AllocError>
     ensures { IfOk result (λ bytes. bytes.items ≡ words.now) }
 {
     words.iter().map(|word| *word as u8).collect(alloc)
+}
+
+/// The same bytes, as words.
+///
+/// # Errors
+///
+/// `AllocError` where there is no memory.
+fn words_of(alloc: Global, bytes: &[u8]) -> Result<Vec<u32>, AllocError>
+    ensures { IfOk result (λ words. words.items ≡ bytes.now) }
+{
+    bytes.iter().map(|byte| u32::from(*byte)).collect(alloc)
+}
+
+/// Appends a line for each row of bytes.
+///
+/// # Errors
+///
+/// `AllocError` where there is no memory.
+fn push_byte_rows(alloc: Global, text: &mut Vec<u8>, rows: &[Vec<u8>]) -> Result<(), AllocError>
+    ensures { OnOk result (text.new.items ≡ text.old.items ++ flat_map row_line (map (λ row. row.items) rows.now)) }
+{
+    for row in rows {
+        push_byte_row(alloc, text, row)?;
+    }
+    Ok(())
+}
+
+/// Appends a line for a row of bytes.
+///
+/// # Errors
+///
+/// `AllocError` where there is no memory.
+fn push_byte_row(alloc: Global, text: &mut Vec<u8>, row: &[u8]) -> Result<(), AllocError>
+    ensures { OnOk result (text.new.items ≡ text.old.items ++ row_line row.now) }
+{
+    let words = words_of(alloc, row)?;
+    push_row(alloc, text, &words)
 }
 
 /// The same matrix, of bytes. Each word is below 256.
@@ -86,13 +125,17 @@ fn byte_matrices(
 pub struct Sha256;
 
 impl<const N: usize> Suite<N> for Sha256 {
+    type Matrices = Vec<RowMajorMatrix<u8>>;
+
     type Cap = MerkleCap<u8, [u8; 32]>;
 
     type Tree = MerkleTree<u8, u8, RowMajorMatrix<u8>, N, 32>;
 
-    type Opening = BatchOpening<u8, Vec<[u8; 32]>>;
+    type Opening = PrunedBatchOpening<u8, u8, 32>;
 
     ghost name = { Sha256Name };
+
+    ghost given = { λ matrices. stored_batch N matrices.items };
 
     ghost roots = { λ cap. roots_of cap };
 
@@ -100,46 +143,75 @@ impl<const N: usize> Suite<N> for Sha256 {
 
     ghost nodes = { λ tree. layers_of tree };
 
-    ghost opening_of = { λ index opening. opening_made index opening };
+    ghost rows = { λ opening. row_sets opening.opened_values.items };
+
+    ghost digests = { λ opening. opening.pruned_proof.sibling_hashes.items };
+
+    fn read(alloc: Global, input: &[u8]) -> Result<Self::Matrices, Fault> {
+        let matrices = read_matrices(alloc, input, u32::from(u8::MAX))?;
+        Ok(byte_matrices(alloc, &matrices)?)
+    }
+
+    fn dimensions(alloc: Global, matrices: &Self::Matrices) -> Result<Vec<Dimensions>, AllocError> {
+        dimensions_of(alloc, matrices)
+    }
+
+    fn pruned_len(
+        alloc: Global,
+        cap: CapChoice,
+        dimensions: &[Dimensions],
+        indices: &[usize],
+    ) -> Result<usize, MerkleTreeError> {
+        sha_scheme::<N>(cap).pruned_len(alloc, dimensions, indices)
+    }
 
     fn commit(
         alloc: Global,
-        cap_height: usize,
-        matrices: Vec<RowMajorMatrix<u32>>,
+        cap: CapChoice,
+        matrices: Self::Matrices,
     ) -> Result<(Self::Cap, Self::Tree), MerkleTreeError> {
-        let matrices = byte_matrices(alloc, &matrices)?;
-        sha_scheme::<N>(cap_height).commit(alloc, matrices)
+        sha_scheme::<N>(cap).commit(alloc, matrices)
     }
 
     fn open(
         alloc: Global,
-        cap_height: usize,
-        index: usize,
+        cap: CapChoice,
+        indices: &[usize],
         tree: &Self::Tree,
     ) -> Result<Self::Opening, MerkleTreeError> {
-        sha_scheme::<N>(cap_height).open_batch(alloc, index, tree)
+        sha_scheme::<N>(cap).open_batch_pruned(alloc, indices, tree)
     }
 
     fn verify(
-        cap_height: usize,
-        cap: &Self::Cap,
+        alloc: Global,
+        cap: CapChoice,
+        against: &Self::Cap,
         dimensions: &[Dimensions],
-        index: usize,
+        indices: &[usize],
         opening: &Self::Opening,
     ) -> Result<(), MerkleTreeError> {
-        sha_scheme::<N>(cap_height).verify_batch(
-            cap,
-            dimensions,
-            index,
-            BatchOpeningRef::from(opening),
-        )
+        let (rows, proof) = (&opening.opened_values, &opening.pruned_proof);
+        sha_scheme::<N>(cap).verify_batch_pruned(alloc, against, dimensions, indices, rows, proof)
     }
 
-    fn cap_lines(alloc: Global, cap: &Self::Cap) -> Result<String, AllocError> {
-        byte_lines(alloc, cap.roots())
+    fn push_cap(text: &mut Vec<u8>, cap: &Self::Cap) -> Result<(), AllocError> {
+        push_byte_digests(text, cap.roots())
     }
 
-    fn num_siblings(opening: &Self::Opening) -> usize {
-        opening.opening_proof.len()
+    fn push_rows(
+        alloc: Global,
+        text: &mut Vec<u8>,
+        opening: &Self::Opening,
+        place: usize,
+    ) -> Result<(), AllocError> {
+        push_byte_rows(alloc, text, &opening.opened_values[place])
+    }
+
+    fn num_digests(opening: &Self::Opening) -> usize {
+        opening.pruned_proof.sibling_hashes.len()
+    }
+
+    fn push_digests(text: &mut Vec<u8>, opening: &Self::Opening) -> Result<(), AllocError> {
+        push_byte_digests(text, &opening.pruned_proof.sibling_hashes)
     }
 }

@@ -1,38 +1,45 @@
 //! What the program asks of a hash.
 
-ghost use Rattle.std.specs.Prelude.{◌≡◌, ℕ, ◌+◌, ◌<◌, All, IfErr, IfOk, IsOk, IsTrue, List, flat_map, length, nat_eq, string_bytes};
-ghost use Rattle.p3_support.specs.RowMajor.{values_of};
+ghost use Rattle.std.specs.Prelude.{◌≡◌, ◌⊎◌, ℕ, ◌+◌, ◌++◌, ◌<◌, All, IfErr, IfOk, IsOk, IsTrue, List, [], OnOk, flat_map, length, map, slice_index_or};
 ghost use Rattle.p3_merkle_core.specs.Gate.{gate_refusal};
-ghost use Rattle.p3_merkle_core.specs.Caps.{cap_layer};
 ghost use Rattle.p3_merkle_core.specs.Geometry.{heights, shape_of, tallest};
-ghost use Rattle.p3_merkle_core.specs.declared.cap.CapRule.TheVariants.{Lowered};
 ghost use Rattle.p3_merkle_core.specs.Nodes.{layer, layers, shape, Batch};
-ghost use Rattle.p3_merkle_core.specs.Openings.{IsAccepted, Opening};
-ghost use Rattle.p3_merkle_core.specs.Refusals.{answer_under};
+ghost use Rattle.p3_merkle_core.specs.Openings.{honest_rows};
+ghost use Rattle.p3_merkle_core.specs.PrunedCalls.{own_digests, pruned_len, pruned_len_refusal, IsPrunedAccepted};
+ghost use Rattle.p3_merkle_core.specs.Pruning.{pruned_of};
 ghost use Rattle.p3_merkle_core.specs.declared.error.MerkleTreeError.TheVariants.{OutOfMemory};
 ghost use Rattle.p3_merkle_tree.specs.Built.{OkUnlessRefused};
-ghost use Rattle.mmcs_engine.specs.Matrices.{stored_batch};
-ghost use Rattle.mmcs_engine.specs.Program.{functions_of_hash, hex_digits};
-ghost use Rattle.mmcs_engine.specs.Text.{hex_line};
+ghost use Rattle.mmcs_engine.specs.Input.{pieces_of, IsFirstFault, StandsFor};
+ghost use Rattle.mmcs_engine.specs.Matrices.{batch_of_rows};
+ghost use Rattle.mmcs_engine.specs.Program.{functions_of_hash, hex_digits, layer_of_cap};
+ghost use Rattle.mmcs_engine.specs.Text.{hex_lines, row_line};
 ghost use Rattle.mmcs_engine.specs.Words.{is_taken_arity, max_word};
 ghost use Rattle.mmcs_engine.specs.declared.command.HashName.{HashName};
+ghost use Rattle.mmcs_engine.specs.declared.fault.Fault.TheVariants.{Tree};
 
+use crate::command::CapChoice;
+use crate::fault::Fault;
 use p3_merkle_tree::MerkleTreeError;
-use p3_support::matrix::{Dimensions, RowMajorMatrix};
+use p3_support::matrix::Dimensions;
 use std::alloc::{AllocError, Global};
 
-/// A hash at the arity `N`: how it commits to matrices, opens an index of their tree, and checks an opening, where `N`
-/// is 2, 4 or 8.
+/// A hash at the arity `N`: how it reads matrices, commits to them, opens indices of their tree, checks an opening, and
+/// prints, where `N` is 2, 4 or 8.
 pub trait Suite<const N: usize> {
+    /// Matrices of the words that the hash takes.
+    type Matrices: Drop;
     /// The digests of a cap.
     type Cap: Drop;
     /// A tree, with its matrices.
     type Tree: Drop;
-    /// The rows that belong to an index, and the siblings on its path.
+    /// The rows that belong to each index, and the digests that are sent for all of them.
     type Opening: Drop;
 
     // Which hash it is.
     ghost name: { HashName };
+
+    // Matrices under the arity.
+    ghost given: { Self.Matrices → Batch ℕ };
 
     // The digests of a cap.
     ghost roots: { Self.Cap → List (List ℕ) };
@@ -43,81 +50,138 @@ pub trait Suite<const N: usize> {
     // The digests of its layers.
     ghost nodes: { Self.Tree → List (List (List ℕ)) };
 
-    // What is opened of an index.
-    ghost opening_of: { ℕ → Self.Opening → Opening ℕ ℕ };
+    // The rows that are opened of each index.
+    ghost rows: { Self.Opening → List (List (List ℕ)) };
 
-    /// The cap of some matrices, and their tree. No word is above the greatest that the hash takes.
+    // The digests that are sent.
+    ghost digests: { Self.Opening → List (List ℕ) };
+
+    /// The matrices that an input stands for.
+    ///
+    /// # Errors
+    ///
+    /// `Number` or `Count` for the first faulty line, or `Tree(OutOfMemory)`.
+    fn read(alloc: Global, input: &[u8]) -> Result<Self::Matrices, Fault>
+        ensures matrices { IfOk result (λ found. (matrices : List (List (List ℕ))) ×
+            StandsFor (max_word name + 1) input.now matrices × (given found ≡ batch_of_rows N matrices)) }
+        ensures fault { IfErr result (λ fault. (fault ≡ Tree OutOfMemory) ⊎
+            IsFirstFault (max_word name + 1) (pieces_of input.now) fault) };
+
+    /// The dimensions of matrices, in their order.
+    ///
+    /// # Errors
+    ///
+    /// `AllocError` where there is no memory.
+    fn dimensions(alloc: Global, matrices: &Self::Matrices) -> Result<Vec<Dimensions>, AllocError>
+        ensures { IfOk result (λ dimensions. shape_of N dimensions.items ≡ shape (given matrices.now)) };
+
+    /// How many digests are sent for some indices of matrices of these dimensions.
+    ///
+    /// # Errors
+    ///
+    /// Why the heights are refused; else `IndexOutOfBounds` for the highest index, where it is not below the tallest
+    /// height; or `OutOfMemory`.
+    fn pruned_len(
+        alloc: Global,
+        cap: CapChoice,
+        dimensions: &[Dimensions],
+        indices: &[usize],
+    ) -> Result<usize, MerkleTreeError>
+        requires { IsTrue (is_taken_arity N) }
+        ensures { OkUnlessRefused result (pruned_len_refusal (shape_of N dimensions.now) indices.now) };
+
+    /// The cap of some matrices, and their tree.
     ///
     /// # Errors
     ///
     /// Why the heights are refused, or `OutOfMemory`.
     fn commit(
         alloc: Global,
-        cap_height: usize,
-        matrices: Vec<RowMajorMatrix<u32>>,
+        cap: CapChoice,
+        matrices: Self::Matrices,
     ) -> Result<(Self::Cap, Self::Tree), MerkleTreeError>
-        requires arity { IsTrue (is_taken_arity N) }
-        requires words { All (λ m. All (λ v. v < max_word name + 1) (values_of m)) matrices.items }
-        ensures answer { let b = stored_batch N matrices.items in
-            OkUnlessRefused result (gate_refusal (heights (shape b))) }
-        ensures cap { let b = stored_batch N matrices.items in
-            IfOk result (λ made. roots made.0 ≡ layer (functions_of_hash name) b (cap_layer (shape b) Lowered cap_height)) }
-        ensures batch { IfOk result (λ made. batch made.1 ≡ stored_batch N matrices.items) }
-        ensures layers { let b = stored_batch N matrices.items in
-            IfOk result (λ made. nodes made.1 ≡ layers (functions_of_hash name) b) };
+        requires { IsTrue (is_taken_arity N) }
+        ensures answer { OkUnlessRefused result (gate_refusal (heights (shape (given matrices)))) }
+        ensures cap { let b = given matrices in
+            IfOk result (λ made. roots made.0 ≡ layer (functions_of_hash name) b (layer_of_cap cap (shape b))) }
+        ensures batch { IfOk result (λ made. batch made.1 ≡ given matrices) }
+        ensures layers { IfOk result (λ made. nodes made.1 ≡ layers (functions_of_hash name) (given matrices)) };
 
-    /// Opens an index below the tallest height of the tree's matrices. Where the tree is built by this hash, the
-    /// opening is accepted under its cap.
+    /// Opens indices below the tallest height of the tree's matrices. Where the tree is built by this hash, the opening
+    /// is accepted under its cap.
     ///
     /// # Errors
     ///
     /// `OutOfMemory` alone.
     fn open(
         alloc: Global,
-        cap_height: usize,
-        index: usize,
+        cap: CapChoice,
+        indices: &[usize],
         tree: &Self::Tree,
     ) -> Result<Self::Opening, MerkleTreeError>
         requires arity { IsTrue (is_taken_arity N) }
-        requires index { index < tallest (heights (shape (batch tree.now))) }
+        requires indices { All (λ i. i < tallest (heights (shape (batch tree.now)))) indices.now }
         ensures memory { IfErr result (λ e. e ≡ OutOfMemory) }
-        ensures accepted { let b = batch tree.now in let t = cap_layer (shape b) Lowered cap_height in
+        ensures rows { IfOk result (λ o. rows o ≡ map (honest_rows (batch tree.now)) indices.now) }
+        ensures digests { let s = shape (batch tree.now) in
+            IfOk result (λ o. digests o ≡ own_digests s (nodes tree.now) indices.now (layer_of_cap cap s)) }
+        ensures accepted { let b = batch tree.now in let t = layer_of_cap cap (shape b) in
             nodes tree.now ≡ layers (functions_of_hash name) b →
-            IfOk result (λ o. IsAccepted (functions_of_hash name) (shape b) t
-            (layer (functions_of_hash name) b t) (opening_of index o)) };
+            IfOk result (λ o. IsPrunedAccepted (functions_of_hash name) (shape b) t
+            (layer (functions_of_hash name) b t) (pruned_of indices.now (rows o) (digests o))) };
 
-    /// Checks an opening of an index against a cap, for matrices of these dimensions: Ok exactly if it is accepted.
+    /// Checks an opening of indices against a cap, for matrices of these dimensions.
     ///
     /// # Errors
     ///
-    /// Why it is refused. No memory is taken.
+    /// Why it is refused; of an opening that is accepted `OutOfMemory` alone.
     fn verify(
-        cap_height: usize,
-        cap: &Self::Cap,
+        alloc: Global,
+        cap: CapChoice,
+        against: &Self::Cap,
         dimensions: &[Dimensions],
-        index: usize,
+        indices: &[usize],
         opening: &Self::Opening,
     ) -> Result<(), MerkleTreeError>
         requires { IsTrue (is_taken_arity N) }
-        ensures answer { let s = shape_of N dimensions.now in
-            result ≡ answer_under nat_eq (functions_of_hash name) s (cap_layer s Lowered cap_height)
-            (roots cap.now) (opening_of index opening.now) }
-        ensures accepted { let s = shape_of N dimensions.now in
-            IsOk result → IsAccepted (functions_of_hash name) s (cap_layer s Lowered cap_height)
-            (roots cap.now) (opening_of index opening.now) }
+        ensures count { let s = shape_of N dimensions.now in
+            IsOk result → length (digests opening.now) ≡ pruned_len s indices.now (layer_of_cap cap s) }
         ensures taken { let s = shape_of N dimensions.now in
-            IsAccepted (functions_of_hash name) s (cap_layer s Lowered cap_height)
-            (roots cap.now) (opening_of index opening.now) → IsOk result };
+            IsPrunedAccepted (functions_of_hash name) s (layer_of_cap cap s) (roots against.now)
+            (pruned_of indices.now (rows opening.now) (digests opening.now)) →
+            IfErr result (λ e. e ≡ OutOfMemory) };
 
-    /// A line for each digest of a cap, in hexadecimal.
+    /// Appends a line for each digest of a cap, in hexadecimal.
     ///
     /// # Errors
     ///
     /// `AllocError` where there is no memory.
-    fn cap_lines(alloc: Global, cap: &Self::Cap) -> Result<String, AllocError>
-        ensures { IfOk result (λ text. string_bytes text ≡ flat_map (hex_line (hex_digits name)) (roots cap.now)) };
+    fn push_cap(text: &mut Vec<u8>, cap: &Self::Cap) -> Result<(), AllocError>
+        ensures { OnOk result (text.new.items ≡ text.old.items ++ hex_lines (hex_digits name) (roots cap.now)) };
 
-    /// How many siblings are opened.
-    fn num_siblings(opening: &Self::Opening) -> usize
-        ensures { (index : ℕ) → result ≡ length (opening_of index opening.now).siblings };
+    /// Appends a line for each row that is opened of the query at this place.
+    ///
+    /// # Errors
+    ///
+    /// `AllocError` where there is no memory.
+    fn push_rows(
+        alloc: Global,
+        text: &mut Vec<u8>,
+        opening: &Self::Opening,
+        place: usize,
+    ) -> Result<(), AllocError>
+        requires { place < length (rows opening.now) }
+        ensures { OnOk result (text.new.items ≡ text.old.items ++ flat_map row_line (slice_index_or (rows opening.now) place [])) };
+
+    /// How many digests are sent.
+    fn num_digests(opening: &Self::Opening) -> usize
+        ensures { result ≡ length (digests opening.now) };
+
+    /// Appends a line for each digest that is sent, in hexadecimal.
+    ///
+    /// # Errors
+    ///
+    /// `AllocError` where there is no memory.
+    fn push_digests(text: &mut Vec<u8>, opening: &Self::Opening) -> Result<(), AllocError>
+        ensures { OnOk result (text.new.items ≡ text.old.items ++ hex_lines (hex_digits name) (digests opening.now)) };
 }

@@ -1,77 +1,181 @@
 //! The printed text.
 
-ghost use Rattle.std.specs.Prelude.{◌≡◌, ◌++◌, IfOk, OnOk, flat_map, string_bytes};
-ghost use Rattle.mmcs_engine.specs.Text.{hex_word, hex_line, ok_line};
+ghost use Rattle.std.specs.Prelude.{◌≡◌, ◌∷◌, ◌++◌, ◌<◌, IfOk, OnOk, decimal, flat_map, map, string_bytes};
+ghost use Rattle.mmcs_engine.specs.Text.{hex_digit, hex_lines, hex_word, labelled, row_line};
 
 use std::alloc::{AllocError, Global};
 
-/// A line for each digest: its words in lower case hexadecimal, eight digits each.
+/// Appends a line for each digest: its words in lower case hexadecimal, eight digits each.
 ///
 /// # Errors
 ///
 /// `AllocError` where there is no memory.
-pub fn hex_lines<const D: usize>(alloc: Global, digests: &[[u32; D]]) -> Result<String, AllocError>
-    ensures { IfOk result (λ text. string_bytes text ≡ flat_map (hex_line 8) digests.now) }
+pub fn push_word_digests<const D: usize>(
+    text: &mut Vec<u8>,
+    digests: &[[u32; D]],
+) -> Result<(), AllocError>
+    ensures { OnOk result (text.new.items ≡ text.old.items ++ hex_lines 8 digests.now) }
 {
-    let mut text = String::new(alloc);
     for digest in digests {
-        push_hex(&mut text, digest)?;
-        text.push('\n')?;
+        push_words(text, digest)?;
+        text.push(b'\n')?;
     }
-    Ok(text)
+    Ok(())
 }
 
-/// Appends the words of a digest in lower case hexadecimal, eight digits each.
+/// Appends words in hexadecimal, eight digits each.
 ///
 /// # Errors
 ///
 /// `AllocError` where there is no memory.
-fn push_hex(text: &mut String, words: &[u32]) -> Result<(), AllocError>
-    ensures { OnOk result (string_bytes text.new ≡ string_bytes text.old ++ flat_map (hex_word 8) words.now) }
+fn push_words(text: &mut Vec<u8>, words: &[u32]) -> Result<(), AllocError>
+    ensures { OnOk result (text.new.items ≡ text.old.items ++ flat_map (hex_word 8) words.now) }
 {
     for word in words {
-        write!(text, "{word:08x}")?;
+        text.extend_from_slice(&digits_of_word(*word))?;
     }
     Ok(())
 }
 
-/// A line for each digest: its bytes in lower case hexadecimal, two digits each.
-///
-/// # Errors
-///
-/// `AllocError` where there is no memory.
-pub fn byte_lines<const D: usize>(alloc: Global, digests: &[[u8; D]]) -> Result<String, AllocError>
-    ensures { IfOk result (λ text. string_bytes text ≡ flat_map (hex_line 2) digests.now) }
+/// The eight digits of a word.
+fn digits_of_word(word: u32) -> [u8; 8]
+    ensures { result ≡ hex_word 8 word }
 {
-    let mut text = String::new(alloc);
-    for digest in digests {
-        push_bytes(&mut text, digest)?;
-        text.push('\n')?;
-    }
-    Ok(text)
+    [
+        hex_digit(word / 0x1000_0000 % 16),
+        hex_digit(word / 0x100_0000 % 16),
+        hex_digit(word / 0x10_0000 % 16),
+        hex_digit(word / 0x1_0000 % 16),
+        hex_digit(word / 0x1000 % 16),
+        hex_digit(word / 0x100 % 16),
+        hex_digit(word / 0x10 % 16),
+        hex_digit(word % 16),
+    ]
 }
 
-/// Appends the bytes of a digest in lower case hexadecimal, two digits each.
+/// Appends a line for each digest: its bytes in lower case hexadecimal, two digits each.
 ///
 /// # Errors
 ///
 /// `AllocError` where there is no memory.
-fn push_bytes(text: &mut String, bytes: &[u8]) -> Result<(), AllocError>
-    ensures { OnOk result (string_bytes text.new ≡ string_bytes text.old ++ flat_map (hex_word 2) bytes.now) }
+pub fn push_byte_digests<const D: usize>(
+    text: &mut Vec<u8>,
+    digests: &[[u8; D]],
+) -> Result<(), AllocError>
+    ensures { OnOk result (text.new.items ≡ text.old.items ++ hex_lines 2 digests.now) }
+{
+    for digest in digests {
+        push_bytes(text, digest)?;
+        text.push(b'\n')?;
+    }
+    Ok(())
+}
+
+/// Appends bytes in hexadecimal, two digits each.
+///
+/// # Errors
+///
+/// `AllocError` where there is no memory.
+fn push_bytes(text: &mut Vec<u8>, bytes: &[u8]) -> Result<(), AllocError>
+    ensures { OnOk result (text.new.items ≡ text.old.items ++ flat_map (hex_word 2) bytes.now) }
 {
     for byte in bytes {
-        write!(text, "{byte:02x}")?;
+        text.extend_from_slice(&digits_of_byte(*byte))?;
     }
     Ok(())
 }
 
-/// The line that tells of an accepted opening with so many siblings.
+/// The two digits of a byte.
+fn digits_of_byte(byte: u8) -> [u8; 2]
+    ensures { result ≡ hex_word 2 byte }
+{
+    let byte = u32::from(byte);
+    [hex_digit(byte / 16), hex_digit(byte % 16)]
+}
+
+/// A digit in lower case hexadecimal, of a number below 16.
+fn hex_digit(digit: u32) -> u8
+    requires { digit < 16 }
+    ensures { result ≡ hex_digit digit }
+{
+    let digit = digit as u8;
+    if digit < 10 {
+        b'0' + digit
+    } else {
+        b'a' + (digit - 10)
+    }
+}
+
+/// Appends a line for each row: its numbers in decimal, with one space between.
 ///
 /// # Errors
 ///
 /// `AllocError` where there is no memory.
-pub fn ok_line(alloc: Global, siblings: usize) -> Result<String, AllocError>
-    ensures { IfOk result (λ text. string_bytes text ≡ ok_line siblings) }
+pub fn push_rows(alloc: Global, text: &mut Vec<u8>, rows: &[Vec<u32>]) -> Result<(), AllocError>
+    ensures { OnOk result (text.new.items ≡ text.old.items ++ flat_map row_line (map (λ row. row.items) rows.now)) }
 {
-    format!(in alloc; "ok {siblings}\n")
+    for row in rows {
+        push_row(alloc, text, row)?;
+    }
+    Ok(())
+}
+
+/// Appends the numbers of a row in decimal, with one space between, and a line feed.
+///
+/// # Errors
+///
+/// `AllocError` where there is no memory.
+pub fn push_row(alloc: Global, text: &mut Vec<u8>, row: &[u32]) -> Result<(), AllocError>
+    ensures { OnOk result (text.new.items ≡ text.old.items ++ row_line row.now) }
+{
+    let line = row_line(alloc, row)?;
+    text.extend_from_slice(line.as_bytes())
+}
+
+/// The numbers of a row in decimal, with one space between, and a line feed.
+///
+/// # Errors
+///
+/// `AllocError` where there is no memory.
+fn row_line(alloc: Global, row: &[u32]) -> Result<String, AllocError>
+    ensures { IfOk result (λ line. string_bytes line ≡ row_line row.now) }
+{
+    let Some((first, rest)) = row.split_first() else {
+        return String::from_str(alloc, "\n");
+    };
+    let mut line = format!(in alloc; "{first}")?;
+    push_spaced(&mut line, rest)?;
+    line.push('\n')?;
+    Ok(line)
+}
+
+/// Appends numbers in decimal, each behind a space.
+///
+/// # Errors
+///
+/// `AllocError` where there is no memory.
+fn push_spaced(line: &mut String, words: &[u32]) -> Result<(), AllocError>
+    ensures { OnOk result (string_bytes line.new ≡ string_bytes line.old ++ flat_map (λ w. 32 ∷ decimal w) words.now) }
+{
+    for word in words {
+        write!(line, " {word}")?;
+    }
+    Ok(())
+}
+
+/// Appends a word, a space, a number in decimal, and a line feed.
+///
+/// # Errors
+///
+/// `AllocError` where there is no memory.
+pub fn push_labelled(
+    alloc: Global,
+    text: &mut Vec<u8>,
+    label: &str,
+    number: usize,
+) -> Result<(), AllocError>
+    ensures { OnOk result (text.new.items ≡ text.old.items ++ labelled label.now number) }
+{
+    let line = format!(in alloc; "{label} {number}\n")?;
+    text.extend_from_slice(line.as_bytes())
 }

@@ -1,12 +1,15 @@
-use Rattle.std.proofs.lemmas.Result.{IfOk-weaker}
-use Rattle.mmcs_engine.proofs.Outcomes.{taken_outcome, refused_outcome, known_refusal}
+use Rattle.std.proofs.Common.{Err, ap, ◌∙◌}
+use Rattle.std.proofs.lemmas.Result.{err_from_is_err_and}
+use Rattle.mmcs_engine.proofs.ReplyFacts.{failed_answer, written_answer}
 use Rattle.mmcs_engine.proofs.engine.run.Goals as goal
 
-pub returns-clause-taken : goal.returns-clause-taken
-returns-clause-taken g c = λ bytes command matrices known asks taken.
-    taken_outcome _ bytes command matrices asks c.run_command.result c.run_command.ensures.usage.0 (known_refusal _ bytes _ c.run_command.result known c.run_command.ensures.tree) taken
+pub returns-in_err-text : goal.returns-in_err-text
+returns-in_err-text g c =
+    let left = err_from_is_err_and c.from_residual.result c.from_residual.ensures.1 in
+    failed_answer g.Src.Read.remaining g.Dst.Write.contents _ c.args.input.now c.answer_to.new.input c.args.output.now c.answer_to.result c.answer_to.ensures.usage c.answer_to.ensures.unread
+    c.from_residual.result _ c.in_err-text.was (left.1 ∙ ap Err left.2) c.answer_to.ensures.fault
 
-pub returns-clause-refused : goal.returns-clause-refused
-returns-clause-refused g c = λ bytes command matrices e known asks refused.
-    refused_outcome _ bytes command matrices asks c.run_command.result c.run_command.ensures.usage.0 (known_refusal _ bytes _ c.run_command.result known c.run_command.ensures.tree) e
-    (IfOk-weaker c.run_command.result _ _ (λ done told. (let there = rw known at told in (there.0, there.1, there.2, there.3.0))) c.run_command.ensures.ok) refused
+pub returns : goal.returns
+returns g c =
+    written_answer g.Src.Read.remaining g.Dst.Write.contents _ c.args.input.now c.answer_to.new.input c.args.output.now c.answer_to.result c.answer_to.ensures.usage c.answer_to.ensures.unread
+    c.write_text.new.output _ c.in_ok-text.text.items c.in_ok-text.was c.in_ok-text.ensures.text c.write_text.result (rw c.deref.ensures.value at c.write_text.ensures.text) c.write_text.ensures.fault

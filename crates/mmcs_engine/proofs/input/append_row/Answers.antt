@@ -1,68 +1,62 @@
-use Rattle.std.proofs.Common.{◌≡◌, ℕ, ◌+◌, ◌<◌, ◌≤◌, length, get_or, sym, ap, ◌∙◌, not, subst, arith, rules, tests, inr, length-append}
-use Rattle.std.specs.List.{slice_split}
-use Rattle.std.proofs.lemmas.Iterator.Consumers.{YieldsList-turn, YieldsList-end, YieldsList-at}
-use Rattle.std.proofs.lemmas.Iterator.Splits.{YieldsList-from_slice_split}
-use Rattle.std.proofs.lemmas.List.{length_push}
-use Rattle.std.proofs.lemmas.Result.{err_from_is_err_and}
-use Rattle.mmcs_engine.specs.Input.{is_gap, numbers_of}
-use Rattle.mmcs_engine.proofs.NumberFacts.{refused_from_ok_or, passed_from_ok_or}
-use Rattle.mmcs_engine.proofs.RowFacts.{RowSoFar, row_same, row_more, row_refused, row_end}
+use Rattle.std.proofs.Common.{◌+◌, ◌≡◌, ◌≤◌, ◌++◌, Option, ℕ, length, sym, refl, ◌∙◌, subst, arith}
+use Rattle.std.specs.Prelude.{All}
+use Rattle.mmcs_engine.specs.Numbers.{IsNumberBelow}
+use Rattle.mmcs_engine.specs.Input.{numbers_of, numerals_of}
+use Rattle.mmcs_engine.proofs.RowFacts.{RowSoFar, none_told, row_start, row_gap, row_ended, row_more, row_refused, row_counted, row_end, row_end_number, some_told}
 use Rattle.mmcs_engine.proofs.input.append_row.Goals as goal
-use Rattle.mmcs_engine.proofs.input.append_row.Goals.{In-Some, In-None}
+use Rattle.mmcs_engine.proofs.input.append_row.Goals.{After-len, then-is_gap+in-Some+in_ok-push, then-is_gap+in_default, else-is_gap+else-is_none, in-Some-number+in_ok-push-2, in_default-number}
 
--- this turn's part is the next one of the line
-turn : (c : In-Some) → (length c.loop-word.yielded < length (slice_split is_gap c.args.line.now)) × (c.in-Some.word.now ≡ get_or (slice_split is_gap c.args.line.now) (length c.loop-word.yielded) c.in-Some.word.now)
-turn c =
-    YieldsList-turn
-    (YieldsList-at c.into_iter-word-iterator.ensures.into_iter_gives (YieldsList-from_slice_split _ is_gap c.args.line.now c.split-word-items.ensures.rest c.split-word-items.ensures.done c.split-word-items.ensures.closure (λ x b q k. search (rules, tests))))
-    c.loop-word.yielded _ c.loop-word.yielded_by _ _ c.in-Some.word c.in-Some.is c.next.ensures.steps
+pub loop-byte-init : goal.loop-byte-init
+loop-byte-init c = row_start (c.args.max + 1) c.args.line.now c.args.values.now.items
 
-pub loop-word-preserved-then-is_empty : goal.loop-word-preserved-then-is_empty
-loop-word-preserved-then-is_empty c =
-    let t = turn (goal.at.loop-word-preserved-then-is_empty c).In-Some in
-    record {
-      can_next = search rules;
-      finite = search rules;
-      row =
-          subst (λ (n : ℕ). RowSoFar (c.args.max + 1) c.args.line.now n c.args.values.now.items c.loop-word.values.items) (sym (length_push c.loop-word.yielded c.in-Some.word))
-          (row_same (c.args.max + 1) c.args.line.now c.args.values.now.items _ c.in-Some.word.now c.loop-word.values.items t.0 t.1 c.loop-word.invariant.row (ap not (sym c.is_empty.ensures ∙ c.if-is_empty.true)));
-    }
+-- a byte that makes no number
+pub returns-then-is_none-clause-none : goal.returns-then-is_none-clause-none
+returns-then-is_none-clause-none c =
+    row_refused (c.args.max + 1) c.args.line.now c.args.values.now.items c.loop-byte.byte-index _ c.loop-byte.values.items c.loop-byte-test.true refl c.loop-byte.number (sym c.if-is_gap.ensures) c.loop-byte.invariant
+    (none_told c.with_digit-number.result _ c.if-is_none.ensures c.with_digit-number.ensures.none)
 
--- a part that is no number is bad input
-pub returns-in_err-value-clause-fault : goal.returns-in_err-value-clause-fault
-returns-in_err-value-clause-fault c =
-    let t = turn (goal.at.returns-in_err-value-clause-fault c).In-Some in
-    let refused = refused_from_ok_or _ _ _ _ _ c.parse_word.ensures (sym c.ok_or.ensures.value ∙ c.in_err-value.was) in
-    let left = err_from_is_err_and c.from_residual.result c.from_residual.ensures.1 in
-    rw (left.1, left.2) (inr (refused.0, row_refused (c.args.max + 1) c.args.line.now c.args.values.now.items _ c.in-Some.word.now c.loop-word.values.items t.0 t.1 c.loop-word.invariant.row (ap not (sym c.is_empty.ensures ∙ c.if-is_empty.false)) refused.1))
+pub loop-byte-preserved : goal.loop-byte-preserved
+loop-byte-preserved c =
+    let limit = c.args.max + 1 in
+    let line = c.args.line.now in
+    let before = c.args.values.now.items in
+    let n = c.loop-byte.byte-index in
+    let values = c.loop-byte.values.items in
+    elim c.if-is_gap.branch [
+      | then-is_gap+in-Some+in_ok-push w ↦
+          rw (w.values-is, w.number-is, w.in_ok-push.ensures.items, w.take.ensures.after)
+          (row_ended limit line before n _ values c.loop-byte-test.true refl w.in-Some.word (sym w.if-is_gap.ensures)
+          (subst (λ (o : Option ℕ). RowSoFar limit line n before values o) (sym w.take.ensures.value ∙ w.in-Some.is) c.loop-byte.invariant))
+      | then-is_gap+in_default w ↦
+          rw (w.values-is, w.number-is, w.take.ensures.after)
+          (row_gap limit line before n _ values c.loop-byte-test.true refl (sym w.if-is_gap.ensures)
+          (subst (λ (o : Option ℕ). RowSoFar limit line n before values o) (sym w.take.ensures.value ∙ w.in_default.is) c.loop-byte.invariant))
+      | else-is_gap+else-is_none w ↦
+          rw (w.values-is, w.number-is)
+          (row_more limit line before n _ values c.loop-byte-test.true refl c.loop-byte.number (sym w.if-is_gap.ensures) c.loop-byte.invariant w.with_digit-number.result
+          (some_told w.with_digit-number.result _ w.if-is_none.ensures w.with_digit-number.ensures.some))
+    ]
 
-pub loop-word-preserved : goal.loop-word-preserved
-loop-word-preserved c =
-    let t = turn (goal.at.loop-word-preserved c).In-Some in
-    let number = passed_from_ok_or _ _ _ _ _ c.parse_word.ensures (sym c.ok_or.ensures.value ∙ c.in_ok-value.was) in
-    record {
-      can_next = search rules;
-      finite = search rules;
-      row =
-          rw (length_push c.loop-word.yielded c.in-Some.word, c.in_ok-push.ensures.items, number.1)
-          (row_more (c.args.max + 1) c.args.line.now c.args.values.now.items _ c.in-Some.word.now c.loop-word.values.items t.0 t.1 c.loop-word.invariant.row (ap not (sym c.is_empty.ensures ∙ c.if-is_empty.false)) number.0);
-    }
+-- the whole line was seen
+whole : (c : After-len) → (c.match-number.values.items ≡ c.args.values.now.items ++ numbers_of c.args.line.now) × All (IsNumberBelow (c.args.max + 1)) (numerals_of c.args.line.now)
+whole c =
+    let limit = c.args.max + 1 in
+    let line = c.args.line.now in
+    let before = c.args.values.now.items in
+    let n = c.loop-byte.byte-index in
+    let values = c.loop-byte.values.items in
+    let ended : length line ≤ n = omega (arith, c.loop-byte-test.false) in
+    elim c.match-number.branch [
+      | in-Some-number+in_ok-push-2 w ↦
+          rw (w.values-is, w.in_ok-push-2.ensures.items)
+          (row_end_number limit line before n values ended w.in-Some-number.word (subst (λ (o : Option ℕ). RowSoFar limit line n before values o) w.in-Some-number.is c.loop-byte.invariant))
+      | in_default-number w ↦
+          rw w.values-is
+          (row_end limit line before n values ended (subst (λ (o : Option ℕ). RowSoFar limit line n before values o) w.in_default-number.is c.loop-byte.invariant))
+    ]
 
--- every part of the line was seen
-ended : (c : In-None) → length (slice_split is_gap c.args.line.now) ≤ length c.loop-word.yielded
-ended c =
-    let e = YieldsList-end
-    (YieldsList-at c.into_iter-word-iterator.ensures.into_iter_gives (YieldsList-from_slice_split _ is_gap c.args.line.now c.split-word-items.ensures.rest c.split-word-items.ensures.done c.split-word-items.ensures.closure (λ x b q k. search (rules, tests))))
-    c.loop-word.yielded _ c.loop-word.yielded_by _ _ c.in-None.is c.next.ensures.steps in
-    omega (arith, e.1)
+pub overflow_sub-result : goal.overflow_sub-result
+overflow_sub-result c = (row_counted (c.args.max + 1) c.args.line.now c.args.values.now.items c.match-number.values.items c.len.result c.len-len.result (omega (arith, c.len.ensures, c.match-number.values.ok.0)) (omega (arith, c.len-len.ensures, c.args.values.now.ok.0)) (whole c)).0
 
-pub returns-clause-values : goal.returns-clause-values
-returns-clause-values c = (row_end (c.args.max + 1) c.args.line.now c.args.values.now.items _ c.loop-word.values.items (ended (goal.at.returns-clause-values c).In-None) c.loop-word.invariant.row).0
-
-pub returns-clause-count : goal.returns-clause-count
-returns-clause-count c =
-    let values = (row_end (c.args.max + 1) c.args.line.now c.args.values.now.items _ c.loop-word.values.items (ended (goal.at.returns-clause-count c).In-None) c.loop-word.invariant.row).0 in
-    omega (arith, c.len.ensures, c.len-len.ensures, c.loop-word.values.ok.0, c.args.values.now.ok.0, ap length values ∙ length-append c.args.values.now.items (numbers_of c.args.line.now))
-
-pub returns-clause-numbers : goal.returns-clause-numbers
-returns-clause-numbers c = (row_end (c.args.max + 1) c.args.line.now c.args.values.now.items _ c.loop-word.values.items (ended (goal.at.returns-clause-numbers c).In-None) c.loop-word.invariant.row).1
+pub returns-clause-row : goal.returns-clause-row
+returns-clause-row c = (row_counted (c.args.max + 1) c.args.line.now c.args.values.now.items c.match-number.values.items c.len.result c.len-len.result (omega (arith, c.len.ensures, c.match-number.values.ok.0)) (omega (arith, c.len-len.ensures, c.args.values.now.ok.0)) (whole (goal.at.returns-clause-row c).After-len)).1

@@ -1,11 +1,12 @@
-use Rattle.std.proofs.Common.{◌≡◌, ◌+◌, ◌==◌, ◌<◌, ◌≤◌, length, get_or, sym, ◌∙◌, arith, rules, tests, of_calls}
+use Rattle.std.proofs.Common.{◌≡◌, ◌+◌, ◌==◌, ◌<◌, ◌≤◌, List, ℕ, length, get_or, sym, refl, ap, ◌∙◌, subst, arith, rules, tests, of_calls}
 use Rattle.std.specs.List.{slice_split}
 use Rattle.std.proofs.lemmas.Iterator.Consumers.{YieldsList-turn, YieldsList-end, YieldsList-at}
 use Rattle.std.proofs.lemmas.Iterator.Splits.{YieldsList-from_slice_split}
 use Rattle.std.proofs.lemmas.List.{length_push}
 use Rattle.std.proofs.lemmas.Result.{err_from_is_err_and}
 use Rattle.std.proofs.iter.Serving.{serving}
-use Rattle.mmcs_engine.proofs.InputFacts.{input_start, input_blank, input_ended, input_row, refused_input, input_end, input_end_block}
+use Rattle.mmcs_engine.specs.Input.{pieces_of}
+use Rattle.mmcs_engine.proofs.InputFacts.{LinesSoFar, lines_start, lines_blank, lines_ended, lines_row, lines_refused, lines_end, lines_end_block, pieces_all, pieces_cut, pieces_more, seen_is}
 use Rattle.mmcs_engine.proofs.MatrixFacts.{Shows, matrices_found}
 use Rattle.mmcs_engine.proofs.input.read_matrices.Goals as goal
 use Rattle.mmcs_engine.proofs.input.read_matrices.Goals.{In-Some, In-None, in-Some-take_matrix-2+in_ok-push-2, in_default-take_matrix}
@@ -21,7 +22,8 @@ pub loop-piece-init : goal.loop-piece-init
 loop-piece-init c = record {
   can_next = grind serving;
   finite = search of_calls;
-  input = rw c.new-matrices.ensures.items (input_start (Shows (c.args.max + 1)) (c.args.max + 1) c.args.input.now c.new-block.result.values.items c.new-block.result.width (c.new-block.ensures (c.args.max + 1)));
+  line = refl;
+  lines = rw c.new-matrices.ensures.items (lines_start (Shows (c.args.max + 1)) (c.args.max + 1) c.new-block.result.values.items c.new-block.result.width (c.new-block.ensures (c.args.max + 1)));
 }
 
 -- a blank line ends the matrix
@@ -32,9 +34,10 @@ loop-piece-preserved-in-Continue-1 c =
     record {
       can_next = search rules;
       finite = search rules;
-      input =
-          rw (length_push c.loop-piece.yielded c.in-Some.piece, c.in_ok-push.ensures.items)
-          (input_ended (Shows (c.args.max + 1)) (c.args.max + 1) c.args.input.now _ c.in-Some.piece.now c.without_return-line.result.now c.loop-piece.matrices.items c.loop-piece.block.values.items c.loop-piece.block.width t.0 t.1 c.without_return-line.ensures c.loop-piece.invariant.input
+      line = ap (λ n. n + 1) c.loop-piece.invariant.line ∙ sym (length_push c.loop-piece.yielded c.in-Some.piece);
+      lines =
+          rw (length_push c.loop-piece.yielded c.in-Some.piece, c.in_ok-push.ensures.items, pieces_more c.args.input.now (length c.loop-piece.yielded) c.in-Some.piece.now c.without_return-text.result.now t.0 t.1 c.without_return-text.ensures)
+          (lines_ended (Shows (c.args.max + 1)) (c.args.max + 1) _ c.loop-piece.matrices.items c.loop-piece.block.values.items c.loop-piece.block.width c.loop-piece.invariant.lines c.without_return-text.result.now
           new.values.items new.width c.in-Some-take_matrix.matrix (sym c.is_blank.ensures ∙ c.if-is_blank.true) c.in-Some-take_matrix.ensures.some (c.take_matrix.ensures.emptied (c.args.max + 1)) (c.in-Some-take_matrix.ensures.matrix (c.args.max + 1)));
     }
 
@@ -46,9 +49,10 @@ loop-piece-preserved-in_default c =
     record {
       can_next = search rules;
       finite = search rules;
-      input =
-          rw (length_push c.loop-piece.yielded c.in-Some.piece)
-          (input_blank (Shows (c.args.max + 1)) (c.args.max + 1) c.args.input.now _ c.in-Some.piece.now c.without_return-line.result.now c.loop-piece.matrices.items c.loop-piece.block.values.items c.loop-piece.block.width t.0 t.1 c.without_return-line.ensures c.loop-piece.invariant.input
+      line = ap (λ n. n + 1) c.loop-piece.invariant.line ∙ sym (length_push c.loop-piece.yielded c.in-Some.piece);
+      lines =
+          rw (length_push c.loop-piece.yielded c.in-Some.piece, pieces_more c.args.input.now (length c.loop-piece.yielded) c.in-Some.piece.now c.without_return-text.result.now t.0 t.1 c.without_return-text.ensures)
+          (lines_blank (Shows (c.args.max + 1)) (c.args.max + 1) _ c.loop-piece.matrices.items c.loop-piece.block.values.items c.loop-piece.block.width c.loop-piece.invariant.lines c.without_return-text.result.now
           new.values.items new.width (sym c.is_blank.ensures ∙ c.if-is_blank.true) c.in_default.ensures.none (c.take_matrix.ensures.emptied (c.args.max + 1)));
     }
 
@@ -60,20 +64,24 @@ loop-piece-preserved c =
     record {
       can_next = search rules;
       finite = search rules;
-      input =
-          rw (length_push c.loop-piece.yielded c.in-Some.piece)
-          (input_row (Shows (c.args.max + 1)) (c.args.max + 1) c.args.input.now _ c.in-Some.piece.now c.without_return-line.result.now c.loop-piece.matrices.items c.loop-piece.block.values.items c.loop-piece.block.width t.0 t.1 c.without_return-line.ensures c.loop-piece.invariant.input
+      line = ap (λ n. n + 1) c.loop-piece.invariant.line ∙ sym (length_push c.loop-piece.yielded c.in-Some.piece);
+      lines =
+          rw (length_push c.loop-piece.yielded c.in-Some.piece, pieces_more c.args.input.now (length c.loop-piece.yielded) c.in-Some.piece.now c.without_return-text.result.now t.0 t.1 c.without_return-text.ensures)
+          (lines_row (Shows (c.args.max + 1)) (c.args.max + 1) _ c.loop-piece.matrices.items c.loop-piece.block.values.items c.loop-piece.block.width c.loop-piece.invariant.lines c.without_return-text.result.now
           new.values.items new.width c.in_ok-push_row.ensures.row);
     }
 
--- a line that is no row of the matrix
+-- the first faulty line
 pub returns-in_err-push_row-clause-fault : goal.returns-in_err-push_row-clause-fault
 returns-in_err-push_row-clause-fault c =
     let t = turn (goal.at.returns-in_err-push_row-clause-fault c).In-Some in
+    let n = length c.loop-piece.yielded in
     let left = err_from_is_err_and c.from_residual-in_err-push_row.result c.from_residual-in_err-push_row.ensures.1 in
+    let seen = seen_is c.args.input.now n c.in-Some.piece.now c.without_return-text.result.now t.0 t.1 c.without_return-text.ensures in
     rw (left.1, left.2)
-    (refused_input (Shows (c.args.max + 1)) (c.args.max + 1) c.args.input.now _ c.in-Some.piece.now c.without_return-line.result.now c.loop-piece.matrices.items c.loop-piece.block.values.items c.loop-piece.block.width t.0 t.1 c.without_return-line.ensures c.loop-piece.invariant.input
-    c.in_err-push_row.field-0.0 (sym c.is_blank.ensures ∙ c.if-is_blank.false) c.in_err-push_row.ensures.fault)
+    (lines_refused (Shows (c.args.max + 1)) (c.args.max + 1) _ c.loop-piece.matrices.items c.loop-piece.block.values.items c.loop-piece.block.width c.loop-piece.invariant.lines c.without_return-text.result.now
+    (pieces_of c.args.input.now) _ _ c.in_err-push_row.field-0.0 (pieces_cut c.args.input.now n c.in-Some.piece.now c.without_return-text.result.now t.0 t.1 c.without_return-text.ensures)
+    (omega (arith, seen, c.loop-piece.invariant.line)) (sym c.is_blank.ensures ∙ c.if-is_blank.false) c.in_err-push_row.ensures.fault)
 
 -- every piece of the input was seen
 ended : (c : In-None) → length (slice_split (λ b. b == 10) c.args.input.now) ≤ length c.loop-piece.yielded
@@ -86,13 +94,15 @@ ended c =
 -- the last matrix may end with the input
 pub returns-clause-matrices : goal.returns-clause-matrices
 returns-clause-matrices c =
-    let over = ended (goal.at.returns-clause-matrices c).In-None in
+    let seen = pieces_all c.args.input.now (length c.loop-piece.yielded) (ended (goal.at.returns-clause-matrices c).In-None) in
+    let limit = c.args.max + 1 in
+    let lines = subst (λ (ls : List (List ℕ)). LinesSoFar (Shows limit) limit ls c.loop-piece.matrices.items c.loop-piece.block.values.items c.loop-piece.block.width) seen c.loop-piece.invariant.lines in
     elim c.match-take_matrix-2.branch [
       | in-Some-take_matrix-2+in_ok-push-2 w ↦
           let m = w.in-Some-take_matrix-2 in
           rw (w.matrices-is, w.in_ok-push-2.ensures.items)
-          (matrices_found (c.args.max + 1) c.args.input.now _ (input_end_block (Shows (c.args.max + 1)) (c.args.max + 1) c.args.input.now _ c.loop-piece.matrices.items c.loop-piece.block.values.items c.loop-piece.block.width over c.loop-piece.invariant.input m.matrix m.ensures.some (m.ensures.matrix (c.args.max + 1))))
+          (matrices_found limit c.args.input.now _ (lines_end_block (Shows limit) limit (pieces_of c.args.input.now) c.loop-piece.matrices.items c.loop-piece.block.values.items c.loop-piece.block.width lines m.matrix m.ensures.some (m.ensures.matrix limit)))
       | in_default-take_matrix w ↦
           rw w.matrices-is
-          (matrices_found (c.args.max + 1) c.args.input.now _ (input_end (Shows (c.args.max + 1)) (c.args.max + 1) c.args.input.now _ c.loop-piece.matrices.items c.loop-piece.block.values.items c.loop-piece.block.width over c.loop-piece.invariant.input w.in_default-take_matrix.ensures.none))
+          (matrices_found limit c.args.input.now _ (lines_end (Shows limit) limit (pieces_of c.args.input.now) c.loop-piece.matrices.items c.loop-piece.block.values.items c.loop-piece.block.width lines w.in_default-take_matrix.ensures.none))
     ]

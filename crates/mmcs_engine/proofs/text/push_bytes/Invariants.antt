@@ -1,7 +1,7 @@
-use Rattle.std.proofs.Common.{◌≡◌, ◌++◌, take, string_bytes}
+use Rattle.std.proofs.Common.{◌≡◌, ◌++◌, take}
 use Rattle.std.specs.Prelude.{flat_map}
 use Rattle.mmcs_engine.specs.Text.{hex_word}
 use Rattle.mmcs_engine.proofs.text.push_bytes.Given as goal
 
 abbrev pub invariant-loop-byte : goal.invariant-loop-byte
-invariant-loop-byte l = string_bytes l.text ≡ string_bytes l.fn.text ++ flat_map (hex_word 2) (take l.byte-index l.bytes)
+invariant-loop-byte l = l.text.items ≡ l.fn.text.items ++ flat_map (hex_word 2) (take l.byte-index l.bytes)

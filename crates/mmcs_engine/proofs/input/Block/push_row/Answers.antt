@@ -1,21 +1,26 @@
-use Rattle.std.proofs.Common.{◌+◌, sym, ap, ◌∙◌, inl, inr, refl, arith}
+use Rattle.std.proofs.Common.{◌≡◌, ◌+◌, [], length, sym, ap, ◌∙◌, inl, inr, refl, arith}
+use Rattle.std.proofs.lemmas.List.Elements.{All-get_or}
+use Rattle.mmcs_engine.specs.Input.{numbers_of}
 use Rattle.mmcs_engine.specs.declared.input.Block.{Block}
-use Rattle.mmcs_engine.proofs.BlockFacts.{block_more, width_refused}
+use Rattle.mmcs_engine.proofs.BlockFacts.{block_more}
 use Rattle.mmcs_engine.proofs.input.Block.push_row.Goals as goal
 use Rattle.mmcs_engine.proofs.input.Block.push_row.Goals.{then-self-eq0, else-self-eq0}
 
-pub returns-then-count-self-clause-row : goal.returns-then-count-self-clause-row
-returns-then-count-self-clause-row c = λ lines block.
-    block_more (c.args.max + 1) lines c.args.self.now.values.items c.args.self.now.width block c.args.line.now c.if-self-eq0.self.values.items c.if-self-eq0.self.width c.requires.full c.in_ok-count.ensures.numbers
-    (elim c.if-self-eq0.branch [ then-self-eq0 w ↦ ap (λ (s : Block). s.values.items) w.self-is ∙ c.in_ok-count.ensures.values | else-self-eq0 w ↦ ap (λ (s : Block). s.values.items) w.self-is ∙ c.in_ok-count.ensures.values ])
-    (sym c.in_ok-count.ensures.count ∙ c.if-count-self.true)
+pub returns-then-got-expected-clause-row : goal.returns-then-got-expected-clause-row
+returns-then-got-expected-clause-row c = λ lines block.
+    let told = rw c.in-Some.is at c.in_ok-got.ensures.row in
+    block_more (c.args.max + 1) lines c.args.self.now.values.items c.args.self.now.width block c.args.text.now c.if-self-eq0.self.values.items c.if-self-eq0.self.width c.requires.full told.2
+    (elim c.if-self-eq0.branch [ then-self-eq0 w ↦ ap (λ (s : Block). s.values.items) w.self-is ∙ told.0 | else-self-eq0 w ↦ ap (λ (s : Block). s.values.items) w.self-is ∙ told.0 ])
+    (sym told.1 ∙ c.if-got-expected.true)
     (elim c.if-self-eq0.branch [ then-self-eq0 w ↦ inl w.if-self-eq0.true | else-self-eq0 w ↦ inr (sym (ap (λ (s : Block). s.width) w.self-is)) ])
 
-pub returns-else-count-self-clause-fault : goal.returns-else-count-self-clause-fault
-returns-else-count-self-clause-fault c = λ lines block.
+-- the rows above have the width of the first
+pub returns-else-got-expected-clause-fault : goal.returns-else-got-expected-clause-fault
+returns-else-got-expected-clause-fault c = λ lines block.
+    let told = rw c.in-Some.is at c.in_ok-got.ensures.row in
     elim c.if-self-eq0.branch [
-      | then-self-eq0 w ↦ absurd (c.if-count-self.false (sym (ap (λ (s : Block). s.width) w.self-is)))
+      | then-self-eq0 w ↦ absurd (c.if-got-expected.false (sym (ap (λ (s : Block). s.width) w.self-is)))
       | else-self-eq0 w ↦
-          let kept = ap (λ (s : Block). s.width) w.self-is in
-          inr (refl, width_refused (c.args.max + 1) lines c.args.self.now.values.items c.args.self.now.width block c.args.line.now (omega (arith, w.if-self-eq0.false)) (λ same. c.if-count-self.false (c.in_ok-count.ensures.count ∙ same ∙ sym kept)))
+          let some = block.some_above_0 (omega (arith, w.if-self-eq0.false)) in
+          inr (refl, some, ap (λ (s : Block). s.width) w.self-is ∙ sym (All-get_or (λ l. length (numbers_of l) ≡ c.args.self.now.width) lines 0 [] some block.widths), told.1, c.if-got-expected.false, told.2)
     ]

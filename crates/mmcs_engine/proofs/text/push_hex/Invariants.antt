@@ -1,7 +1,0 @@
-use Rattle.std.proofs.Common.{◌≡◌, ◌++◌, take, string_bytes}
-use Rattle.std.specs.Prelude.{flat_map}
-use Rattle.mmcs_engine.specs.Text.{hex_word}
-use Rattle.mmcs_engine.proofs.text.push_hex.Given as goal
-
-abbrev pub invariant-loop-word : goal.invariant-loop-word
-invariant-loop-word l = string_bytes l.text ≡ string_bytes l.fn.text ++ flat_map (hex_word 8) (take l.word-index l.words)
