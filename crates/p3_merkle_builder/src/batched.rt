@@ -113,7 +113,11 @@ fn hash_rows<
 }
 
 /// Writes the digests of the rows of the matrices of this height into the first `count` slots, as many rows a call as
-/// [`rows_per_call`] says.
+/// [`rows_per_call`] says. They are no more than there are slots, nor than the height.
+///
+/// # Errors
+///
+/// `AllocError` where there is no memory for one buffer of rows.
 pub fn write_batched_leaves<
     P: PackedValue,
     PW: PackedValue,
@@ -153,7 +157,8 @@ pub fn write_batched_leaves<
     Ok(())
 }
 
-/// Writes the compressions of whole groups of a layer into the first `count` slots: slot `j` is that of group `j`.
+/// Writes the compressions of whole groups of a layer into the first `count` slots: slot `j` is that of group `j`. There
+/// are at least `count` groups, and as many slots.
 pub fn write_batched_folds<
     PW: PackedValue,
     C: PseudoCompressionFunction<PW, N, D>,
@@ -188,8 +193,13 @@ fn stage_pairs<W: Copy, const N: usize, const D: usize>(
     Ok(())
 }
 
-/// Compresses the digests in the first `count` slots once more, each with the digest of its rows, as many a call as
-/// [`rows_per_call`] says.
+/// Compresses digests once more, each with the digest of its rows and default digests behind them: slot `j` with
+/// `rows[j]`, as many a call as [`rows_per_call`] says. There are no more rows than slots, and `pairs` is the buffer that
+/// groups are laid in.
+///
+/// # Errors
+///
+/// `AllocError` where there is no memory for that buffer.
 pub fn join_rows<
     PW: PackedValue,
     C: PseudoCompressionFunction<PW, N, D>,

@@ -1,7 +1,8 @@
 //! The layers of a tree, one above the other.
 //!
-//! Each layer is allocated once, at its length, and filled from the first slot to the last. The matrices of its height
-//! are picked once, and its rows are read from those alone.
+//! Each layer is allocated once, at its length, and filled from the first slot to the last: several slots at a time while
+//! there are enough, by calls that take many messages or lane by lane, and the others one by one. The matrices of its
+//! height are picked once, and its rows are read from those alone.
 
 ghost use Rattle.std.specs.Prelude.{suc, take, drop, ◌≡◌, ℕ, ◌+◌, ◌-◌, ◌*◌, ◌<◌, ◌≤◌, ◌++◌, [], ◌∷◌, IfOk, List, map, filter, length, replicate, if◌then◌else◌, nat_lt, true, ◌==◌};
 ghost use Rattle.std.specs.List.{range_with_len};

@@ -103,7 +103,11 @@ fn packed_row_digest<
 }
 
 /// The digests of rows of the matrices of this height, one matrix after another, from `row` on: lane `k` is that of the
-/// rows `row + k`. The rows of several matrices are staged first.
+/// rows `row + k`. As many rows as there are lanes are below the height. The rows of several matrices are staged first.
+///
+/// # Errors
+///
+/// `AllocError` where there is no memory to stage them.
 pub fn packed_rows_digest<
     P: PackedValue,
     PW: PackedValue,
@@ -134,7 +138,12 @@ pub fn packed_rows_digest<
 }
 
 /// Writes the digests of the rows of the matrices of this height into the first slots: `groups` groups, each of as many
-/// slots as there are lanes.
+/// slots as there are lanes. Both packings have equally many lanes, and these slots are no more than there are, nor than
+/// the height.
+///
+/// # Errors
+///
+/// `AllocError` where there is no memory to stage rows.
 pub fn write_packed_leaves<
     P: PackedValue,
     PW: PackedValue,

@@ -59,7 +59,8 @@ impl<F: Copy, W: Copy, M: Matrix<F> + Drop, const N: usize, const D: usize> Merk
     /// past the end of their matrices, and in slots that only pad a layer.
     ///
     /// `N` is a power of two from 2 to 2^62, and both packings have equally many lanes, at least one. Each layer is
-    /// allocated once.
+    /// allocated once. Where the hash or the compression takes several messages a call (its `LANES` are above 1), they are
+    /// laid side by side for that; else as many are taken together as the packing has lanes. The tree is the same.
     ///
     /// # Errors
     ///
