@@ -20,7 +20,7 @@ use Rattle.p3_merkle_core.proofs.NoneFacts.{none_parts}
 use Rattle.p3_merkle_core.proofs.Verdicts.{pruned_accepted}
 use Rattle.p3_merkle_checker.specs.Collisions.{Shows}
 use Rattle.p3_merkle_checker.specs.declared.collision.InputPair.{InputPair}
-use Rattle.p3_merkle_pruner.specs.Pairs.{difference_of, query_in, AnswersPairUnlessMemory, AreRestored, CanCompare, ShowsPair}
+use Rattle.p3_merkle_pruner.specs.Pairs.{difference_of, query_in, AnswersPairUnlessMemory, AreQueriesOf, CanCompare, ShowsPair}
 use Rattle.p3_merkle_pruner.specs.declared.pairs.RestoredQueries.{RestoredQueries}
 use Rattle.p3_merkle_pruner.proofs.GroupFacts.{set_read}
 use Rattle.p3_merkle_pruner.proofs.PlaceFacts.{pairs_alike}
@@ -54,7 +54,7 @@ module _ {T W : Type 0} (eq : T → T → Bool) (same : W → W → Bool) (f : F
   -- ---- one opening
 
   -- what is restored is read query by query
-  pub restored : (p : PrunedOpening T W) (queries : RestoredQueries T (List W)) → row_sets queries.sets.now ≡ p.rows → shown_paths queries.paths.items ≡ restored_paths f s t p → AreRestored f s t p queries
+  pub restored : (p : PrunedOpening T W) (queries : RestoredQueries T (List W)) → row_sets queries.sets.now ≡ p.rows → shown_paths queries.paths.items ≡ restored_paths f s t p → AreQueriesOf f s t p queries
   restored p queries rows shown =
       let both : ℕ → ℕ × List (List W) = λ i. (i, restored_path f s t p i) in
       record {
@@ -81,7 +81,7 @@ module _ {T W : Type 0} (eq : T → T → Bool) (same : W → W → Bool) (f : F
 
   -- ---- two openings
 
-  differ_alike : (p r : PrunedOpening T W) (first second : RestoredQueries T (List W)) → AreRestored f s t p first → AreRestored f s t r second →
+  differ_alike : (p r : PrunedOpening T W) (first second : RestoredQueries T (List W)) → AreQueriesOf f s t p first → AreQueriesOf f s t r second →
       first_pair (λ a b. difference_of eq same f s t (query_in first a) (query_in second b)) (length first.paths.items) (length second.paths.items)
       ≡ first_pair (difference_at eq same f s t p r) (length p.indices) (length r.indices)
   differ_alike p r first second are are_2 =
@@ -106,7 +106,7 @@ neither_refused x y v a b = rw (a, b) refl
 -- two that are accepted are answered
 pub both_answered : {T W : Type 0} (eq : T → T → Bool) (same : W → W → Bool) (f : Functions T W) (s : Shape) (t : ℕ) (cap : List (List W)) (p r : PrunedOpening T W) (first second : RestoredQueries T (List W))
     (found : Option (ℕ × ℕ × InputPair T (List W))) →
-    pruned_refusal_under eq same f s t cap p ≡ None → pruned_refusal_under eq same f s t cap r ≡ None → AreRestored f s t p first → AreRestored f s t r second →
+    pruned_refusal_under eq same f s t cap p ≡ None → pruned_refusal_under eq same f s t cap r ≡ None → AreQueriesOf f s t p first → AreQueriesOf f s t r second →
     ShowsPair found (first_pair (λ a b. difference_of eq same f s t (query_in first a) (query_in second b)) (length first.paths.items) (length second.paths.items)) →
     AnswersPairUnlessMemory (Ok found) (extraction_multi_under eq same f s t cap p r)
 both_answered eq same f s t cap p r first second found a b are are_2 shown =

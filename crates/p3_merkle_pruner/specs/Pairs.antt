@@ -33,7 +33,7 @@ pub record CanCompare {T W : Type 0} (s : Shape) (t : ℕ) (queries : RestoredQu
   pub reach : (k : ℕ) → k < length queries.paths.items → CanReach s t (length (query_in queries k).siblings)
 
 -- the queries are those of a pruned opening, each with its restored path
-pub record AreRestored {T W : Type 0} (f : Functions T W) (s : Shape) (t : ℕ) (p : PrunedOpening T W) (queries : RestoredQueries T (List W)) : Type 0 where
+pub record AreQueriesOf {T W : Type 0} (f : Functions T W) (s : Shape) (t : ℕ) (p : PrunedOpening T W) (queries : RestoredQueries T (List W)) : Type 0 where
   pub as_many : length queries.paths.items ≡ length p.indices
   pub each : (k : ℕ) → k < length p.indices → query_in queries k ≡ opening_at f s t p k
 

@@ -8,7 +8,7 @@ ghost use Rattle.p3_merkle_core.specs.Refusals.{pruned_refusal_under};
 ghost use Rattle.p3_merkle_core.specs.declared.error.MerkleTreeError.TheVariants.{OutOfMemory};
 ghost use Rattle.p3_merkle_checker.specs.Checks.{opening_in};
 ghost use Rattle.p3_merkle_checker.specs.Paths.{CanCheck, CanReach};
-ghost use Rattle.p3_merkle_pruner.specs.Pairs.{difference_of, first_place, pruned_in, query_in, AnswersPairUnlessMemory, AreRestored, CanCompare, ShowsAt, ShowsPair};
+ghost use Rattle.p3_merkle_pruner.specs.Pairs.{difference_of, first_place, pruned_in, query_in, AnswersPairUnlessMemory, AreQueriesOf, CanCompare, ShowsAt, ShowsPair};
 
 use crate::check::check_opening;
 use crate::paths::restored_paths_of;
@@ -189,7 +189,7 @@ fn checked_queries<
         MatchResult result (λ queries. refusal ≡ None) (λ e. (e ≡ OutOfMemory) ⊎ (refusal ≡ Some e)) }
     ensures comparable { IfOk result (λ queries. CanCompare (shape_of N dimensions.now) t queries) }
     ensures restored { let f = functions_of (H.hash checker.now.hash.now) (C.compression checker.now.compress.now) (replicate D PW.default_value) in
-        IfOk result (λ queries. AreRestored f (shape_of N dimensions.now) t (pruned_in opening.entry) queries) }
+        IfOk result (λ queries. AreQueriesOf f (shape_of N dimensions.now) t (pruned_in opening.entry) queries) }
 {
     let PrunedOpeningRef {
         indices,
