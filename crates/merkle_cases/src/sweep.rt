@@ -5,7 +5,7 @@ ghost use Rattle.p3_merkle_core.specs.Geometry.{is_arity};
 
 use crate::fields::{Fault, Fields};
 use crate::queries::lists_of;
-use crate::scheme::{Cap, FoldScheme, FoldTree, fold_scheme, numbered};
+use crate::scheme::{FoldScheme, FoldTree, fold_scheme, numbered};
 use crate::twin::{collides_at, collides_first_at, has_twins, place_of, twin_rows, twin_sets};
 use crate::{open, text};
 use p3_merkle_core::geometry::tallest_of;
@@ -14,33 +14,8 @@ use p3_merkle_tree::{BatchOpeningRef, MerkleAuthPath, MerkleCap, PrunedBatchOpen
 use p3_support::matrix::{Dimensions, RowMajorMatrix};
 use std::alloc::Global;
 
-/// A tree over matrices with its scheme, and what a verifier has of them.
-#[derive(Drop)]
-struct HeldTree<'a, const N: usize> {
-    scheme: FoldScheme<N>,
-    cap: MerkleCap<u32, [u32; 1]>,
-    tree: FoldTree<RowMajorMatrix<u32>, N>,
-    dimensions: &'a [Dimensions],
-}
-
-/// A commitment to matrices of these dimensions.
-fn commit_to<const N: usize>(
-    alloc: Global,
-    cap: Cap,
-    dimensions: &[Dimensions],
-) -> Result<HeldTree<'_, N>, Fault>
-    requires arity { IsTrue (is_arity N) }
-    requires few { N ≤ 8 }
-{
-    let scheme = fold_scheme::<N>(cap);
-    let (cap, tree) = scheme.commit(alloc, numbered(alloc, dimensions)?)?;
-    Ok(HeldTree {
-        scheme,
-        cap,
-        tree,
-        dimensions,
-    })
-}
+/// The matrices of these trees.
+type Rows = RowMajorMatrix<u32>;
 
 /// How many paths of a list of queries are compared with those that leaf by leaf are opened.
 const MOST_PATHS: usize = 64;
@@ -48,18 +23,15 @@ const MOST_PATHS: usize = 64;
 /// Fails where the path of a query is not that of its leaf.
 fn check_paths<const N: usize>(
     alloc: Global,
-    held: &HeldTree<'_, N>,
+    scheme: &FoldScheme<N>,
+    cap: &MerkleCap<u32, [u32; 1]>,
+    tree: &FoldTree<Rows, N>,
+    dimensions: &[Dimensions],
     indices: &[usize],
     paths: &[MerkleAuthPath<u32, 1>],
 ) -> Result<(), Fault> {
-    let HeldTree {
-        scheme,
-        cap,
-        tree,
-        dimensions,
-    } = held;
     for (index, path) in indices.iter().zip(paths).take(MOST_PATHS) {
-        let opening = open::accepted(alloc, scheme, cap, tree, *dimensions, *index)?;
+        let opening = open::accepted(alloc, scheme, cap, tree, dimensions, *index)?;
         if path.leaf_index != *index || path.siblings != opening.opening_proof {
             return Err(Fault::Wrong("a path is not that of its leaf"));
         }
@@ -70,23 +42,20 @@ fn check_paths<const N: usize>(
 /// Fails where a leaf whose row of a matrix has a twin collides elsewhere than where this row is hashed.
 fn check_leaf_twins<const N: usize>(
     alloc: Global,
-    held: &HeldTree<'_, N>,
+    scheme: &FoldScheme<N>,
+    cap: &MerkleCap<u32, [u32; 1]>,
+    tree: &FoldTree<Rows, N>,
+    dimensions: &[Dimensions],
     index: usize,
 ) -> Result<(), Fault> {
-    let HeldTree {
-        scheme,
-        cap,
-        tree,
-        dimensions,
-    } = held;
-    let opening = open::accepted(alloc, scheme, cap, tree, *dimensions, index)?;
-    let steps = scheme.proof_arity_schedule(alloc, *dimensions)?;
+    let opening = open::accepted(alloc, scheme, cap, tree, dimensions, index)?;
+    let steps = scheme.proof_arity_schedule(alloc, dimensions)?;
     for (matrix, Dimensions { height, .. }) in dimensions.iter().enumerate() {
         let rows = twin_rows(alloc, &opening.opened_values, matrix)?;
         let twin = BatchOpeningRef::new(&rows, &opening.opening_proof);
         let honest = BatchOpeningRef::from(&opening);
-        let found = scheme.extract_collision(alloc, cap, *dimensions, index, honest, index, twin)?;
-        if !collides_at(&found, &place_of(*dimensions, &steps, *height)) {
+        let found = scheme.extract_collision(alloc, cap, dimensions, index, honest, index, twin)?;
+        if !collides_at(&found, &place_of(dimensions, &steps, *height)) {
             return Err(Fault::Wrong("a leaf collides elsewhere with its twin"));
         }
     }
@@ -96,32 +65,20 @@ fn check_leaf_twins<const N: usize>(
 /// The same of the leaves of some queries, at least one, that are opened by one proof: the first of them collides.
 fn check_twins<const N: usize>(
     alloc: Global,
-    held: &HeldTree<'_, N>,
+    scheme: &FoldScheme<N>,
+    cap: &MerkleCap<u32, [u32; 1]>,
+    dimensions: &[Dimensions],
     indices: &[usize],
     opening: &PrunedBatchOpening<u32, u32, 1>,
 ) -> Result<(), Fault> {
-    let HeldTree {
-        scheme,
-        cap,
-        dimensions,
-        ..
-    } = held;
-    let steps = scheme.proof_arity_schedule(alloc, *dimensions)?;
+    let steps = scheme.proof_arity_schedule(alloc, dimensions)?;
     let (rows, proof) = (&opening.opened_values, &opening.pruned_proof);
     for (matrix, Dimensions { height, .. }) in dimensions.iter().enumerate() {
         let twin = twin_sets(alloc, rows, matrix)?;
         let found = scheme.extract_collision_multi(
-            alloc,
-            cap,
-            *dimensions,
-            indices,
-            rows,
-            proof,
-            indices,
-            &twin,
-            proof,
+            alloc, cap, dimensions, indices, rows, proof, indices, &twin, proof,
         )?;
-        if !collides_first_at(&found, &place_of(*dimensions, &steps, *height)) {
+        if !collides_first_at(&found, &place_of(dimensions, &steps, *height)) {
             return Err(Fault::Wrong("leaves collide elsewhere with their twins"));
         }
     }
@@ -131,26 +88,23 @@ fn check_twins<const N: usize>(
 /// How many digests the proof for some queries has. Their opening is accepted, and restores a path for each.
 fn digests_for<const N: usize>(
     alloc: Global,
-    held: &HeldTree<'_, N>,
+    scheme: &FoldScheme<N>,
+    cap: &MerkleCap<u32, [u32; 1]>,
+    tree: &FoldTree<Rows, N>,
+    dimensions: &[Dimensions],
     indices: &[usize],
 ) -> Result<usize, Fault> {
-    let HeldTree {
-        scheme,
-        cap,
-        tree,
-        dimensions,
-    } = held;
     check_indices(scheme.get_max_height(tree), indices)?;
     let opening = scheme.open_batch_pruned(alloc, indices, tree)?;
     let (rows, proof) = (&opening.opened_values, &opening.pruned_proof);
-    scheme.verify_batch_pruned(alloc, cap, *dimensions, indices, rows, proof)?;
-    let paths = scheme.restore_and_recompute_paths(alloc, *dimensions, indices, rows, proof)?;
-    check_paths(alloc, held, indices, &paths)?;
-    if has_twins(*dimensions) && !indices.is_empty() {
-        check_twins(alloc, held, indices, &opening)?;
-        check_leaf_twins(alloc, held, indices[0])?;
+    scheme.verify_batch_pruned(alloc, cap, dimensions, indices, rows, proof)?;
+    let paths = scheme.restore_and_recompute_paths(alloc, dimensions, indices, rows, proof)?;
+    check_paths(alloc, scheme, cap, tree, dimensions, indices, &paths)?;
+    if has_twins(dimensions) && !indices.is_empty() {
+        check_twins(alloc, scheme, cap, dimensions, indices, &opening)?;
+        check_leaf_twins(alloc, scheme, cap, tree, dimensions, indices[0])?;
     }
-    let count = scheme.pruned_len(alloc, *dimensions, indices)?;
+    let count = scheme.pruned_len(alloc, dimensions, indices)?;
     if count == proof.sibling_hashes.len() && paths.len() == indices.len() {
         Ok(count)
     } else {
@@ -161,12 +115,17 @@ fn digests_for<const N: usize>(
 /// How many digests the proofs for these lists of queries have together.
 fn digests_for_all<const N: usize>(
     alloc: Global,
-    held: &HeldTree<'_, N>,
+    scheme: &FoldScheme<N>,
+    cap: &MerkleCap<u32, [u32; 1]>,
+    tree: &FoldTree<Rows, N>,
+    dimensions: &[Dimensions],
     lists: &[Vec<usize>],
 ) -> Result<usize, Fault> {
     let mut digests = 0_usize;
     for indices in lists {
-        digests = digests.saturating_add(digests_for(alloc, held, indices)?);
+        digests = digests.saturating_add(digests_for(
+            alloc, scheme, cap, tree, dimensions, indices,
+        )?);
     }
     Ok(digests)
 }
@@ -181,10 +140,12 @@ pub fn sweep<const N: usize>(alloc: Global, fields: &mut Fields<'_>) -> Result<S
     let batches = fields.batches(alloc)?;
     let queries = fields.take()?;
     let (mut count, mut digests) = (0_usize, 0_usize);
+    let scheme = fold_scheme::<N>(cap);
     for dimensions in &batches {
-        let held = commit_to::<N>(alloc, cap, dimensions)?;
+        let (cap, tree) = scheme.commit(alloc, numbered(alloc, dimensions)?)?;
         let lists = lists_of(alloc, queries, tallest_of(dimensions))?;
-        digests = digests.saturating_add(digests_for_all(alloc, &held, &lists)?);
+        let more = digests_for_all(alloc, &scheme, &cap, &tree, dimensions, &lists)?;
+        digests = digests.saturating_add(more);
         count = count.saturating_add(lists.len());
     }
     text::numbers(alloc, &[count, digests])
