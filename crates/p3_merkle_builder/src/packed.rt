@@ -10,7 +10,7 @@ use p3_merkle_core::group::group_with;
 use p3_support::compress::PseudoCompressionFunction;
 use p3_support::hasher::CryptographicHasher;
 use p3_support::matrix::Matrix;
-use p3_support::packed::{PackedValue, pack_columns_fn, unpack_at};
+use p3_support::packed::{PackedValue, pack_columns_fn, unpack_into};
 use std::alloc::{AllocError, Global};
 
 /// Whether an array of `outer` arrays of `inner` values each has fewer than 2^63 bytes, as each value has that is moved.
@@ -35,6 +35,21 @@ pub fn packed_groups<PW: PackedValue, const N: usize, const D: usize>(count: usi
     } else {
         0
     }
+}
+
+/// Writes the lanes of a packed digest into slots, from `first` on.
+pub fn unpack_at<PW: PackedValue, const D: usize>(
+    packed: &[PW; D],
+    slots: &mut [[PW::Value; D]],
+    first: usize,
+)
+    requires { first + PW.WIDTH ≤ length slots.old }
+    ensures long { length slots.new ≡ length slots.old }
+    ensures lanes { (k : ℕ) → k < PW.WIDTH →
+        slice_index_or slots.new (first + k) [] ≡ lane_of PW.lanes PW.default_value k packed.now }
+    ensures before { (j : ℕ) → j < first → slice_index_or slots.new j [] ≡ slice_index_or slots.old j [] }
+{
+    unpack_into(packed, &mut slots[first..first + PW::WIDTH]);
 }
 
 /// Adds the packed rows of a matrix, from `row` on, to those that are staged.
