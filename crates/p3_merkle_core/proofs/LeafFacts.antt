@@ -1,12 +1,12 @@
 -- The covered leaves of some queries, as queries of their own: they cover the same nodes.
-use Rattle.std.proofs.Common.{◌≡◌, ℕ, zero, suc, ◌/◌, ◌<◌, ◌≤◌, Bool, true, not, eqb, ◌&&◌, List, [], ◌∷◌, map, refl, ap, sym, ◌∙◌, arith, inl, inr, length, filter, get_or, All, eq-eqb}
+use Rattle.std.proofs.Common.{◌≡◌, ℕ, zero, suc, ◌/◌, ◌<◌, Bool, true, eqb, List, [], ◌∷◌, refl, ap, sym, ◌∙◌, arith, inl, inr, get_or, All, eq-eqb}
 use Rattle.std.specs.List.{list_any, range_with_len}
 use Rattle.std.specs.List.Sorted.{IsStrictlyIncreasing}
 use Rattle.std.specs.Cmp.{both_ways}
 use Rattle.std.proofs.lemmas.Bool.{or_cases, or_left, or_right, eqb-true, true≢false}
 use Rattle.std.proofs.lemmas.List.Elements.{filter_agree}
 use Rattle.p3_merkle_core.specs.Geometry.{Shape, IsArity, ancestor, heights, layer_len, raw_len, step, tallest}
-use Rattle.p3_merkle_core.specs.Pruning.{CanQuery, is_covered, is_boundary, covered_at, boundary_at}
+use Rattle.p3_merkle_core.specs.Pruning.{CanQuery, is_covered, is_boundary, covered_at}
 use Rattle.p3_merkle_core.specs.PrunedCalls.{pruned_len}
 use Rattle.p3_merkle_core.proofs.Accepted.{padded_ge}
 use Rattle.p3_merkle_core.proofs.RisingFacts.{is_listed, filter_is, increasing_from, listed_at, rising_filter, rising_from}
