@@ -9,7 +9,7 @@ use p3_merkle_tree::{
     MerkleTreeMmcs,
 };
 use p3_support::matrix::{Dimensions, RowMajorMatrix};
-use p3_support::sha::{Sha256Nodes, Sha256Rows};
+use p3_instances::sha::{Sha256Nodes, Sha256Rows};
 use std::alloc::{AllocError, Global};
 use std::process::Abort;
 use std::test::Fail;

@@ -2,7 +2,7 @@
 use Rattle.std.specs.Prelude.{◌≡◌, ◌⊎◌, ◌↔◌, ℕ, ◌+◌, ◌<◌, List, [], ◌∷◌, ◌++◌, length, map, replicate, flat_map, All, Option, Some, IfSome, IfErr, OnOk, OnErr, Result, Ok, Err}
 use Rattle.std.specs.Io.KnownBytes.{Appends}
 use Rattle.p3_support.specs.Fold.{fold_hash, fold_compress}
-use Rattle.p3_support.specs.Sha.{sha256_rows, sha256_nodes}
+use Rattle.p3_instances.specs.Sha.{sha256_rows, sha256_nodes}
 use Rattle.p3_merkle_core.specs.Caps.{cap_layer}
 use Rattle.p3_merkle_core.specs.Geometry.{Shape, tallest, IsLawful}
 use Rattle.p3_merkle_core.specs.Nodes.{Batch, Functions, functions_of, layer, layers, shape}

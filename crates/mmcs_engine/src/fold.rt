@@ -17,7 +17,7 @@ use crate::suite::Suite;
 use crate::text::{push_rows, push_word_digests};
 use p3_merkle_tree::{MerkleCap, MerkleTree, MerkleTreeError, MerkleTreeMmcs, PrunedBatchOpening};
 use p3_support::compress::PseudoCompressionFunction;
-use p3_support::fold::{FoldCompress, FoldHash};
+use p3_instances::fold::{FoldCompress, FoldHash};
 use p3_support::hasher::CryptographicHasher;
 use p3_support::matrix::{Dimensions, RowMajorMatrix};
 use std::alloc::{AllocError, Global};

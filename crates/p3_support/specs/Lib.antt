@@ -3,7 +3,4 @@ pub mod Fold
 pub mod Lists
 pub mod RowLengths
 pub mod RowMajor
-pub mod Sha
 pub mod Shown
-pub mod Eights
-pub mod Turned

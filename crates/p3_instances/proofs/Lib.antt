@@ -1,0 +1,2 @@
+pub mod FoldSteps
+pub mod Turns

@@ -1,0 +1,3 @@
+pub mod Eights
+pub mod Sha
+pub mod Turned

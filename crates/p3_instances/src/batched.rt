@@ -1,0 +1,80 @@
+//! A hasher or a compression that says it takes three at a time.
+ghost use Rattle.std.specs.Prelude.{◌≡◌, ℕ, ◌<◌, map};
+ghost use Rattle.p3_support.specs.Lists.{lane_of};
+
+use p3_support::compress::PseudoCompressionFunction;
+use p3_support::hasher::CryptographicHasher;
+use p3_support::packed::PackedValue;
+use std::convert::AsSlice;
+
+/// The function of `X`, by the calls of `X`, with `LANES` 3: for tests of staging by a number of
+/// lanes that is no power of two.
+#[derive(Clone, Copy, Debug)]
+pub struct Batched3<X>(pub X);
+
+impl<
+    P: PackedValue,
+    PW: PackedValue,
+    X: CryptographicHasher<P, PW, D>,
+    const D: usize,
+> CryptographicHasher<P, PW, D> for Batched3<X> {
+    const LANES: usize = 3;
+
+    const PREFER_CONTIGUOUS_INPUT: bool = X::PREFER_CONTIGUOUS_INPUT;
+
+    ghost hash = { λ h xs. X.hash h.0 xs };
+
+    fn hash_iter<I: Iterator<Item = P::Value>>(&self, input: I) -> [PW::Value; D] {
+        self.0.hash_iter(input)
+    }
+
+    fn hash_slice(&self, input: &[P::Value]) -> [PW::Value; D] {
+        self.0.hash_slice(input)
+    }
+
+    fn hash_iter_slices<S: AsSlice<P::Value> + Drop, I: Iterator<Item = S>>(
+        &self,
+        input: I,
+    ) -> [PW::Value; D] {
+        self.0.hash_iter_slices(input)
+    }
+
+    fn hash_many(&self, messages: &[P::Value], out: &mut [[PW::Value; D]]) {
+        self.0.hash_many(messages, out)
+    }
+
+    fn hash_packed<I: Iterator<Item = P>>(&self, input: I) -> [PW; D] {
+        self.0.hash_packed(input)
+    }
+
+    ghost digest_length = { λ h xs. X.digest_length h.0 xs };
+}
+
+impl<
+    PW: PackedValue,
+    X: PseudoCompressionFunction<PW, N, D>,
+    const N: usize,
+    const D: usize,
+> PseudoCompressionFunction<PW, N, D> for Batched3<X> {
+    const LANES: usize = 3;
+
+    ghost compression = { λ c xs. X.compression c.0 xs };
+
+    fn compress(&self, input: [[PW::Value; D]; N]) -> [PW::Value; D]
+        ensures { result ≡ X.compression self.now.0 input }
+    {
+        self.0.compress(input)
+    }
+
+    fn compress_many(&self, groups: &[[[PW::Value; D]; N]], out: &mut [[PW::Value; D]]) {
+        self.0.compress_many(groups, out)
+    }
+
+    fn compress_packed(&self, input: [[PW; D]; N]) -> [PW; D]
+        ensures { (k : ℕ) → k < PW.WIDTH →
+            lane_of PW.lanes PW.default_value k result
+            ≡ X.compression self.now.0 (map (lane_of PW.lanes PW.default_value k) input) }
+    {
+        self.0.compress_packed(input)
+    }
+}
