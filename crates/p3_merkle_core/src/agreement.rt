@@ -31,7 +31,7 @@ pub struct Slots {
 /// # Errors
 ///
 /// `AllocError` where there is no memory.
-pub fn slots_of(alloc: Global, indices: &[usize]) -> Result<Slots, AllocError>
+fn slots_of(alloc: Global, indices: &[usize]) -> Result<Slots, AllocError>
     ensures { IfOk result (λ slots. HasSlots slots indices.now) }
 {
     let leaves = covered_leaves(alloc, indices)?;
@@ -72,7 +72,7 @@ fn slot_of_index(leaves: &[usize], index: usize) -> usize
 /// # Errors
 ///
 /// `InconsistentDuplicateOpenings` for the first query whose row set is another, with the slot of its index.
-pub fn check_repeats<T: Eq>(
+fn check_repeats<T: Eq>(
     indices: &[usize],
     rows: &[Vec<Vec<T>>],
     slots: &Slots,
@@ -96,7 +96,7 @@ pub fn check_repeats<T: Eq>(
 /// # Errors
 ///
 /// `WrongBatchSize` or `WrongWidth` for the first query whose row set has not, as [`check_widths`] says.
-pub fn check_first_widths<T>(
+fn check_first_widths<T>(
     dimensions: &[Dimensions],
     rows: &[Vec<Vec<T>>],
     firsts: &[usize],
@@ -218,7 +218,7 @@ fn to_parents(nodes: &mut [usize], step: usize)
 ///
 /// `InconsistentGroupOpening` for the first row that differs: layers from the leaves up, slots ascending, matrices in input
 /// order; `OutOfMemory` where there is no memory.
-pub fn check_groups<T: Eq>(
+fn check_groups<T: Eq>(
     alloc: Global,
     dimensions: &[Dimensions],
     arity: usize,
