@@ -3,4 +3,6 @@ pub mod Fold
 pub mod Lists
 pub mod RowLengths
 pub mod RowMajor
+pub mod Pairs
+pub mod Salts
 pub mod Shown

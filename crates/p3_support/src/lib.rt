@@ -8,4 +8,6 @@ pub mod matrix;
 pub mod mmcs;
 pub mod opening;
 pub mod packed;
+pub mod pair;
 pub mod rows;
+pub mod salts;

@@ -1,0 +1,69 @@
+//! Salts: matrices of values that are made from the words of a random generator.
+ghost use Rattle.std.specs.Prelude.{◌≡◌, ℕ, ◌*◌, ◌%◌, ◌^◌, ◌≤◌, IfOk, IsErr, OnErr, OnOk};
+ghost use Rattle.p3_support.specs.Salts.{after_words, salts};
+
+use crate::matrix::RowMajorMatrix;
+use rand_core::Rng;
+use std::alloc::{AllocError, Global};
+
+/// A value that a random word can make.
+pub trait SaltWord: Copy {
+    // The value that a word makes.
+    ghost of_salt_word: { ℕ → Self };
+
+    /// The value that the word `w` makes. It depends on the word alone.
+    fn from_salt_word(w: u64) -> Self
+        ensures { result ≡ of_salt_word w };
+}
+
+/// The lowest 32 bits of a word.
+impl SaltWord for u32 {
+    ghost of_salt_word = { λ w. w % 2 ^ 32 };
+
+    fn from_salt_word(w: u64) -> u32 {
+        (w & 0xffff_ffff) as u32
+    }
+}
+
+/// The lowest 8 bits of a word.
+impl SaltWord for u8 {
+    ghost of_salt_word = { λ w. w % 2 ^ 8 };
+
+    fn from_salt_word(w: u64) -> u8 {
+        (w & 0xff) as u8
+    }
+}
+
+impl<T: SaltWord> RowMajorMatrix<T> {
+    ghost use Rattle.p3_support.specs.RowMajor.{row_count, row_width, values_of};
+
+    /// A matrix of random values, made from the next `rows * cols` words of a generator: the first row from its first
+    /// column on, then the second, and so on, each value from one call of `next_u64`. With no columns it has no rows, as
+    /// in [`new`](Self::new).
+    ///
+    /// # Errors
+    ///
+    /// `AllocError` where `rows * cols` is no `usize`, or there is no memory for as many values. Then nothing is drawn: the
+    /// generator is as it was.
+    pub fn rand<R: Rng>(
+        alloc: Global,
+        rng: &mut R,
+        rows: usize,
+        cols: usize,
+    ) -> Result<RowMajorMatrix<T>, AllocError>
+        ensures values { IfOk result (λ m. values_of m ≡ salts T.of_salt_word (rows * cols) (R.stream rng.old)) }
+        ensures width { IfOk result (λ m. row_width m ≡ cols) }
+        ensures height { 1 ≤ cols → IfOk result (λ m. row_count m ≡ rows) }
+        ensures no_width { cols ≡ 0 → IfOk result (λ m. row_count m ≡ 0) }
+        ensures rest { OnOk result (R.stream rng.new ≡ after_words (rows * cols) (R.stream rng.old)) }
+        ensures too_large { 2 ^ 64 ≤ rows * cols → IsErr result }
+        ensures untouched { OnErr result (rng.new ≡ rng.old) }
+    {
+        let count = rows.checked_mul(cols).ok_or(AllocError)?;
+        let mut values = Vec::with_capacity(alloc, count)?;
+        for _ in 0..count {
+            values.push(T::from_salt_word(rng.next_u64()))?;
+        }
+        Ok(RowMajorMatrix::new(values, cols))
+    }
+}
