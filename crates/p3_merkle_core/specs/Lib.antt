@@ -2,6 +2,7 @@ pub mod Geometry
 pub mod Caps
 pub mod Gate
 pub mod Nodes
+pub mod Salted
 pub mod Openings
 pub mod Groups
 pub mod Pruning
@@ -14,6 +15,7 @@ pub mod Laws
 pub mod Examples
 pub mod ShapeExamples
 pub mod NodeExamples
+pub mod SaltExamples
 pub mod OpeningExamples
 pub mod PruningExamples
 pub mod PrunedCallExamples

@@ -1,11 +1,12 @@
 -- What is left of a row, of columns and of the rows of several matrices, once one more element is read.
-use Rattle.std.proofs.Common.{◌≡◌, ℕ, ◌+◌, ◌*◌, ◌<◌, List, [], ◌∷◌, length, drop, map, get_or, refl, sym, ap, ◌∙◌, arith, true, add-one}
+use Rattle.std.proofs.Common.{◌≡◌, ℕ, ◌+◌, ◌-◌, ◌*◌, ◌<◌, ◌≤◌, List, [], ◌∷◌, ◌++◌, length, drop, map, get_or, refl, sym, ap, ◌∙◌, arith, true, add-one}
 use Rattle.std.specs.Prelude.{◌==◌, slice_get, slice_index_or, Some}
 use Rattle.std.specs.List.{range_with_len}
 use Rattle.std.proofs.Math.Seq.{drop-cons}
 use Rattle.std.proofs.lemmas.Option.{slice_get_within, slice_get_read, get_or_from_slice_get}
 use Rattle.std.proofs.lemmas.List.Edits.{get_or-between}
-use Rattle.std.proofs.lemmas.List.{drop_all}
+use Rattle.std.proofs.Math.ListN.{get_or-append}
+use Rattle.std.proofs.lemmas.List.{drop_all, get_or-append_right, length-append}
 use Rattle.std.proofs.lemmas.List.FromFn.{fill_by_all, get_or-map-range_with_len, length-map-range_with_len}
 use Rattle.std.proofs.lemmas.Simd.{map-map}
 use Rattle.p3_support.specs.Lists.{message, rows_left, column_of_rows, columns, lane_of}
@@ -48,3 +49,15 @@ lane_of_columns {A} lanes row d r n k w ps packed below long =
     let at : (c : ℕ) → pick (column_of_rows row d r n c) ≡ get_or (row (r + k)) c d = λ c. get_or-map-range_with_len (λ j. get_or (row (r + j)) c d) 0 n k k d below (omega arith) in
     sym (map-map pick lanes ps) ∙ ap (map pick) packed ∙ map-map pick (column_of_rows row d r n) (range_with_len 0 w)
     ∙ sym (fill_by_all (λ c. pick (column_of_rows row d r n c)) (row (r + k)) w d long (λ c h. sym (at c)))
+
+-- an element of the first of two lists, read in the two, one after the other
+pub joined_first : {A : Type 0} (xs ys : List A) (c : ℕ) (x : A) → slice_get xs c ≡ Some x → slice_get (xs ++ ys) c ≡ Some x
+joined_first xs ys c x at =
+    let inside = slice_get_within xs c x at in
+    slice_get_read (xs ++ ys) (length xs + length ys) c x (sym (length-append xs ys)) (omega (arith, inside)) (sym (get_or-append xs ys x c inside ∙ get_or_from_slice_get xs c x x at))
+
+-- the same of the second, where the first has n elements
+pub joined_second : {A : Type 0} (xs ys : List A) (n c : ℕ) (x : A) → length xs ≡ n → n ≤ c → slice_get ys (c - n) ≡ Some x → slice_get (xs ++ ys) c ≡ Some x
+joined_second xs ys n c x long above at =
+    let inside = slice_get_within ys (c - n) x at in
+    slice_get_read (xs ++ ys) (length xs + length ys) c x (sym (length-append xs ys)) (omega (arith, long, above, inside)) (sym (get_or-append_right xs ys n c x long above ∙ get_or_from_slice_get ys (c - n) x x at))
