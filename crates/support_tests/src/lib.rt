@@ -3,4 +3,6 @@
 #![tactic(auto)]
 
 #[cfg(test)]
+mod salts;
+#[cfg(test)]
 mod tests;
