@@ -3,15 +3,15 @@ ghost use Rattle.std.specs.Prelude.{◌≡◌, ℕ, ◌+◌, ◌<◌, ◌≤◌,
 ghost use Rattle.p3_support.specs.Lists.{lane_of, rows_of_height};
 
 use p3_instances::batched::Batched3;
-use p3_support::compress::PseudoCompressionFunction;
 use p3_instances::fold::{FoldCompress, FoldHash};
-use p3_support::hasher::CryptographicHasher;
 use p3_instances::lanes::{Lanes, U32x8};
+use p3_instances::sha::{Sha256Nodes, Sha256Rows};
+use p3_support::compress::PseudoCompressionFunction;
+use p3_support::hasher::CryptographicHasher;
 use p3_support::matrix::{Dimensions, Matrix, RowMajorMatrix};
 use p3_support::opening::{BatchOpening, BatchOpeningRef, Hash, MerkleCap};
 use p3_support::packed::{PackedValue, pack_columns_fn, unpack_into};
 use p3_support::rows::rows_of;
-use p3_instances::sha::{Sha256Nodes, Sha256Rows};
 use std::alloc::{AllocError, Global};
 use std::test::Fail;
 
