@@ -1,11 +1,10 @@
 //! Two matrices side by side.
-ghost use Rattle.std.specs.Prelude.{◌≡◌, ◌+◌, ◌^◌, ◌<◌, ◌++◌};
+ghost use Rattle.std.specs.Prelude.{◌≡◌, ◌+◌, ◌^◌, ◌<◌};
 
 use crate::matrix::Matrix;
 use std::marker::PhantomData;
 
-/// Two matrices of one height, side by side: a row of the left one, followed by the row of the right one. As wide as the
-/// two together.
+/// Two matrices of one height, side by side: each row is the left matrix's, followed by the right one's.
 #[derive(Debug, Drop)]
 pub struct HorizontalPair<T, A: Matrix<T>, B: Matrix<T>> {
     left: A,
