@@ -1,0 +1,2 @@
+pub mod SaltedOpenings
+pub mod SaltRefusals

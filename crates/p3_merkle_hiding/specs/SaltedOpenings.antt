@@ -1,0 +1,79 @@
+-- Rows followed by their salts, and when openings of such rows are accepted.
+use Rattle.std.specs.Prelude.{◌≡◌, ℕ, ◌+◌, ◌<◌, ◌^◌, List, ◌++◌, map, length, zip, take, drop, All}
+use Rattle.std.specs.List.{AllZip}
+use Rattle.p3_support.specs.declared.matrix.Dimensions.{Dimensions}
+use Rattle.p3_merkle_core.specs.Geometry.{shape_of, widths_of}
+use Rattle.p3_merkle_core.specs.Nodes.{Functions}
+use Rattle.p3_merkle_core.specs.Openings.{Opening, IsAccepted, opening_of}
+use Rattle.p3_merkle_core.specs.PrunedCalls.{IsPrunedAccepted}
+use Rattle.p3_merkle_core.specs.Pruning.{PrunedOpening, pruned_of}
+
+-- ---- what is hashed
+
+-- each row followed by its salts
+abbrev pub salted_rows : {T : Type 0} → List (List T) → List (List T) → List (List T)
+salted_rows rows salts = map (λ (row, salt). row ++ salt) (zip rows salts)
+
+-- the same of several queries: a row set and a salt set for each
+abbrev pub salted_sets : {T : Type 0} → List (List (List T)) → List (List (List T)) → List (List (List T))
+salted_sets sets salts = map (λ (rows, salt). salted_rows rows salt) (zip sets salts)
+
+-- the words of rows up to the widths of their matrices without salts
+abbrev pub unsalted_parts : {T : Type 0} → List ℕ → List (List T) → List (List T)
+unsalted_parts widths rows = map (λ (row, w). take w row) (zip rows widths)
+
+-- the words after them
+abbrev pub salt_parts : {T : Type 0} → List ℕ → List (List T) → List (List T)
+salt_parts widths rows = map (λ (row, w). drop w row) (zip rows widths)
+
+-- matrices with e more columns
+abbrev pub widened : ℕ → List Dimensions → List Dimensions
+widened e dimensions = map (λ d. record { width = d.width + e; height = d.height }) dimensions
+
+-- each width with e more columns is a usize
+abbrev pub CanWiden : ℕ → List Dimensions → Type 0
+CanWiden e dimensions = All (λ d. d.width + e < 2 ^ 64) dimensions
+
+-- ---- openings
+
+-- an opening of an index: a row of each matrix, the salts of each row, and the siblings on the path
+pub record SaltedOpening (T W : Type 0) : Type 0 where
+  pub index : ℕ
+  pub rows : List (List T)
+  pub salts : List (List T)
+  pub siblings : List (List W)
+
+-- the plain opening that a check sees: rows followed by salts
+abbrev pub joined : {T W : Type 0} → SaltedOpening T W → Opening T W
+joined o = opening_of o.index (salted_rows o.rows o.salts) o.siblings
+
+-- an opening of several indices by one pruned proof: a row set and a salt set for each index, and the digests that are sent
+pub record SaltedPruned (T W : Type 0) : Type 0 where
+  pub indices : List ℕ
+  pub rows : List (List (List T))
+  pub salts : List (List (List T))
+  pub digests : List (List W)
+
+-- the plain pruned opening that a check sees
+abbrev pub joined_sets : {T W : Type 0} → SaltedPruned T W → PrunedOpening T W
+joined_sets p = pruned_of p.indices (salted_sets p.rows p.salts) p.digests
+
+-- ---- accepted
+
+-- rows have the widths of their matrices, and there are as many salts as rows
+pub record HaveSalts {T : Type 0} (dimensions : List Dimensions) (rows salts : List (List T)) : Type 0 where
+  pub rows_fit : map length rows ≡ widths_of dimensions
+  pub in_pairs : length salts ≡ length rows
+
+-- an opening with e salts a row is accepted under a cap, which is layer t of a tree of arity n: its rows have their widths without the salts, the widths with them are sizes, and rows followed by salts are accepted where each matrix has e more columns
+pub record IsSaltedAccepted {T W : Type 0} (f : Functions T W) (n e : ℕ) (dimensions : List Dimensions) (t : ℕ) (cap : List (List W)) (o : SaltedOpening T W) : Type 0 where
+  pub salted : HaveSalts dimensions o.rows o.salts
+  pub can_widen : CanWiden e dimensions
+  pub accepted : IsAccepted f (shape_of n (widened e dimensions)) t cap (joined o)
+
+-- the same of several indices
+pub record IsSaltedPrunedAccepted {T W : Type 0} (f : Functions T W) (n e : ℕ) (dimensions : List Dimensions) (t : ℕ) (cap : List (List W)) (p : SaltedPruned T W) : Type 0 where
+  pub in_pairs : length p.salts ≡ length p.rows
+  pub salted : AllZip (HaveSalts dimensions) p.rows p.salts
+  pub can_widen : CanWiden e dimensions
+  pub accepted : IsPrunedAccepted f (shape_of n (widened e dimensions)) t cap (joined_sets p)
