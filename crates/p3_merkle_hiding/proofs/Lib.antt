@@ -1,1 +1,2 @@
 mod SaltFacts
+mod SaltedAnswers

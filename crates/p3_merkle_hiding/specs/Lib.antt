@@ -1,2 +1,3 @@
 pub mod SaltedOpenings
 pub mod SaltRefusals
+pub mod HidingSchemes

@@ -2,4 +2,8 @@
 //! tells nothing of a row that could be guessed.
 #![tactic(auto)]
 
+pub mod hiding_mmcs;
 pub mod salts;
+mod verify;
+
+pub use hiding_mmcs::MerkleTreeHidingMmcs;

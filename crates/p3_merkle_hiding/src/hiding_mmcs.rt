@@ -1,0 +1,147 @@
+//! The salted scheme: what it is made of.
+
+ghost use Rattle.std.specs.Prelude.{◌≡◌, ◌≤◌, IsTrue};
+ghost use Rattle.p3_merkle_core.specs.Geometry.{is_arity};
+
+use p3_merkle_core::cap::CapRule;
+use p3_merkle_core::pruning::PrunedMerklePaths;
+use p3_merkle_tree::mmcs::{MerkleTreeMmcs, Scheme};
+use p3_support::compress::PseudoCompressionFunction;
+use p3_support::hasher::CryptographicHasher;
+use p3_support::packed::PackedValue;
+
+/// The salted scheme of a hasher `H` and a compression `C`, with a generator `R` of `SALT_ELEMS` words for each row,
+/// digests `X` and groups `G` of `N` digests, packed in `P` and `PW`. [`MerkleTreeHidingMmcs`] is this scheme at
+/// digests of words.
+///
+/// Every scheme has at least one salt for a row, and what [`Scheme`] has.
+#[derive(Debug, Drop)]
+pub struct HidingScheme<
+    P: PackedValue,
+    PW: PackedValue,
+    H,
+    C,
+    R,
+    X,
+    G,
+    const N: usize,
+    const SALT_ELEMS: usize,
+> {
+    pub(crate) plain: Scheme<P, PW, H, C, X, G, N>,
+    pub(crate) generator: R,
+    ghost some_salt: { 1 ≤ SALT_ELEMS },
+}
+
+/// A scheme that commits to matrices of words `P::Value`, each row followed by `SALT_ELEMS` random words, by digests of
+/// `D` words `PW::Value`, where a node has at most `N` children (`MerkleTreeHidingMmcs` in the Rust crate).
+pub type MerkleTreeHidingMmcs<
+    P: PackedValue,
+    PW: PackedValue,
+    H,
+    C,
+    R,
+    const N: usize,
+    const D: usize,
+    const SALT_ELEMS: usize,
+> = HidingScheme<P, PW, H, C, R, [PW::Value; D], [[PW::Value; D]; N], N, SALT_ELEMS>;
+
+/// What proves the rows of one index: the salts of each row, and the siblings on its path.
+pub type SaltedProof<T, W, const D: usize> = (Vec<Vec<T>>, Vec<[W; D]>);
+
+/// What proves the rows of several indices: for each index the salts of each row, and one pruned proof.
+pub type SaltedMultiProof<T, W, const D: usize> = (Vec<Vec<Vec<T>>>, PrunedMerklePaths<W, D>);
+
+impl<
+    P: PackedValue,
+    PW: PackedValue,
+    H,
+    C,
+    R,
+    X,
+    G,
+    const N: usize,
+    const SALT_ELEMS: usize,
+> HidingScheme<P, PW, H, C, R, X, G, N, SALT_ELEMS> {
+    ghost use Rattle.p3_merkle_tree.specs.Schemes.{cap_height_of, cap_rule_of};
+    ghost use Rattle.p3_merkle_hiding.specs.HidingSchemes.{plain_of};
+
+    /// How many levels below the root the cap is, as it was handed to [`new`](Self::new).
+    pub fn cap_height(&self) -> usize
+        ensures { result ≡ cap_height_of (plain_of self.now) }
+    {
+        self.plain.cap_height()
+    }
+
+    /// By which rule the cap's layer is chosen.
+    pub fn cap_rule(&self) -> CapRule
+        ensures { result ≡ cap_rule_of (plain_of self.now) }
+    {
+        self.plain.cap_rule()
+    }
+}
+
+impl<
+    P: PackedValue,
+    PW: PackedValue,
+    H: CryptographicHasher<P, PW, D>,
+    C: PseudoCompressionFunction<PW, N, D>,
+    R,
+    const N: usize,
+    const D: usize,
+    const SALT_ELEMS: usize,
+> MerkleTreeHidingMmcs<P, PW, H, C, R, N, D, SALT_ELEMS> {
+    ghost use Rattle.p3_merkle_core.specs.declared.cap.CapRule.TheVariants.{Lowered};
+    ghost use Rattle.p3_merkle_tree.specs.Schemes.{cap_height_of, cap_rule_of, compression_of, hash_of};
+    ghost use Rattle.p3_merkle_hiding.specs.HidingSchemes.{generator_of, plain_of};
+
+    /// The salted scheme of a hasher and a compression, whose cap is `cap_height` levels below the root, but never below
+    /// the last layer to which a matrix belongs: the rule [`CapRule::Lowered`], under which a cap fixes every row and
+    /// salt of every matrix. Salts are drawn from `rng`, `SALT_ELEMS` for each row.
+    ///
+    /// There is at least one salt for a row; `N` is a power of two from 2 to 2^62, and both packings have equally many
+    /// lanes, at least one. It takes no memory.
+    pub fn new(
+        hash: H,
+        compress: C,
+        cap_height: usize,
+        rng: R,
+    ) -> MerkleTreeHidingMmcs<P, PW, H, C, R, N, D, SALT_ELEMS>
+        requires arity { IsTrue (is_arity N) }
+        requires lanes { P.WIDTH ≡ PW.WIDTH }
+        requires some_lane { 1 ≤ P.WIDTH }
+        requires some_salt { 1 ≤ SALT_ELEMS }
+        ensures hash { hash_of (plain_of result) ≡ hash }
+        ensures compress { compression_of (plain_of result) ≡ compress }
+        ensures cap_height { cap_height_of (plain_of result) ≡ cap_height }
+        ensures rule { cap_rule_of (plain_of result) ≡ Lowered }
+        ensures generator { generator_of result ≡ rng }
+    {
+        Self::new_with_rule(hash, compress, cap_height, CapRule::Lowered, rng)
+    }
+
+    /// The salted scheme whose cap is `cap_height` levels below the root as far as the rule lets it: see [`CapRule`].
+    ///
+    /// It asks what [`new`](Self::new) asks, and takes no memory.
+    pub fn new_with_rule(
+        hash: H,
+        compress: C,
+        cap_height: usize,
+        rule: CapRule,
+        rng: R,
+    ) -> MerkleTreeHidingMmcs<P, PW, H, C, R, N, D, SALT_ELEMS>
+        requires arity { IsTrue (is_arity N) }
+        requires lanes { P.WIDTH ≡ PW.WIDTH }
+        requires some_lane { 1 ≤ P.WIDTH }
+        requires some_salt { 1 ≤ SALT_ELEMS }
+        ensures hash { hash_of (plain_of result) ≡ hash }
+        ensures compress { compression_of (plain_of result) ≡ compress }
+        ensures cap_height { cap_height_of (plain_of result) ≡ cap_height }
+        ensures rule { cap_rule_of (plain_of result) ≡ rule }
+        ensures generator { generator_of result ≡ rng }
+    {
+        HidingScheme {
+            plain: MerkleTreeMmcs::new_with_rule(hash, compress, cap_height, rule),
+            generator: rng,
+        }
+    }
+}
