@@ -1,2 +1,3 @@
 mod SaltFacts
 mod SaltedAnswers
+mod SplitFacts

@@ -35,3 +35,8 @@ salted_made index opening =
 abbrev pub salted_pruned_lent : {T W A B C D E : Type 0} → List ℕ → List (Vec (Vec T A) B) → Vec (Vec (Vec T C) D) E × PrunedProof (List W) → SaltedPruned T W
 salted_pruned_lent indices rows proof =
     record { indices = indices; rows = row_sets rows; salts = row_sets proof.0.items; digests = proof.1.sibling_hashes.items }
+
+-- the same of row sets and a proof that are made
+abbrev pub salted_pruned_made : {T W A B C D E F : Type 0} → List ℕ → Vec (Vec (Vec T A) B) F → Vec (Vec (Vec T C) D) E × PrunedProof (List W) → SaltedPruned T W
+salted_pruned_made indices rows proof =
+    record { indices = indices; rows = row_sets rows.items; salts = row_sets proof.0.items; digests = proof.1.sibling_hashes.items }

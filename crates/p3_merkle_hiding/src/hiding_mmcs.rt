@@ -3,12 +3,15 @@
 ghost use Rattle.std.specs.Prelude.{◌≡◌, ◌≤◌, IsTrue};
 ghost use Rattle.p3_merkle_core.specs.Geometry.{is_arity};
 
+use p3_merkle_builder::tree::MerkleTree;
 use p3_merkle_core::cap::CapRule;
 use p3_merkle_core::pruning::PrunedMerklePaths;
 use p3_merkle_tree::mmcs::{MerkleTreeMmcs, Scheme};
 use p3_support::compress::PseudoCompressionFunction;
 use p3_support::hasher::CryptographicHasher;
+use p3_support::matrix::RowMajorMatrix;
 use p3_support::packed::PackedValue;
+use p3_support::pair::HorizontalPair;
 
 /// The salted scheme of a hasher `H` and a compression `C`, with a generator `R` of `SALT_ELEMS` words for each row,
 /// digests `X` and groups `G` of `N` digests, packed in `P` and `PW`. [`MerkleTreeHidingMmcs`] is this scheme at
@@ -44,6 +47,15 @@ pub type MerkleTreeHidingMmcs<
     const D: usize,
     const SALT_ELEMS: usize,
 > = HidingScheme<P, PW, H, C, R, [PW::Value; D], [[PW::Value; D]; N], N, SALT_ELEMS>;
+
+/// A tree over matrices `M` of values `T`, each beside its salts, with digests of `D` words `W`.
+pub type SaltedTree<T, W, M, const N: usize, const D: usize> = MerkleTree<
+    T,
+    W,
+    HorizontalPair<T, M, RowMajorMatrix<T>>,
+    N,
+    D,
+>;
 
 /// What proves the rows of one index: the salts of each row, and the siblings on its path.
 pub type SaltedProof<T, W, const D: usize> = (Vec<Vec<T>>, Vec<[W; D]>);

@@ -3,6 +3,8 @@
 #![tactic(auto)]
 
 pub mod hiding_mmcs;
+mod open;
+pub mod pairs;
 pub mod salts;
 mod verify;
 

@@ -1,0 +1,170 @@
+-- Rows of pairs, taken apart where the left matrix ends.
+use Rattle.std.proofs.Common.{◌≡◌, ℕ, zero, suc, ◌+◌, ◌/◌, ◌^◌, ◌<◌, List, [], ◌∷◌, ◌++◌, map, refl, ap, sym, subst, ◌∙◌, arith, length, get_or, take, drop, zip, All}
+use Rattle.std.proofs.lemmas.List.{get_or_default, length-map, take-append-drop}
+use Rattle.std.proofs.lemmas.Simd.{map-map}
+use Rattle.std.proofs.Math.Seq.{drop-append_seam, take-append_seam}
+use Rattle.p3_support.specs.declared.matrix.Matrix.{Ghosts}
+use Rattle.p3_support.specs.declared.matrix.Dimensions.{Dimensions}
+use Rattle.p3_support.specs.declared.pair.HorizontalPair.{HorizontalPair}
+use Rattle.p3_support.specs.Pairs.{left_of, pair_row, right_of}
+use Rattle.p3_merkle_core.specs.Geometry.{IsLawful, Shape, bits_reduced, heights, heights_of, shape_of, tallest, widths_of}
+use Rattle.p3_merkle_core.specs.Nodes.{Batch, Functions, Matrix, dimensions_of, shape}
+use Rattle.p3_merkle_core.specs.Openings.{IsAccepted, honest_rows, opening_of}
+use Rattle.p3_merkle_builder.proofs.RowFacts.{row_inside}
+use Rattle.p3_merkle_builder.specs.Views.{batch_of, matrix_of}
+use Rattle.p3_merkle_hiding.specs.SaltedOpenings.{CanWiden, HaveSalts, IsSaltedAccepted, salt_parts, salted_rows, unsalted_parts, widened}
+use Rattle.p3_merkle_hiding.specs.SaltedTrees.{HaveSaltColumns, left_batch, right_batch}
+
+-- ---- rows that are taken apart
+
+module _ {X T : Type 0} (left right : X → List T) (width : X → ℕ) where
+  -- what stands before are the left rows
+  pub left_parts : (xs : List X) → All (λ x. length (left x) ≡ width x) xs → unsalted_parts (map width xs) (map (λ x. left x ++ right x) xs) ≡ map left xs
+  left_parts [] full = refl
+  left_parts (x ∷ xs) full =
+      let front : take (width x) (left x ++ right x) ≡ left x = ap (λ (n : ℕ). take n (left x ++ right x)) (sym (full 0 x (omega arith))) ∙ take-append_seam (left x) (right x) in
+      rw (front, left_parts xs (λ k d h. full (suc k) d (omega arith))) refl
+
+  -- and what stands after are the right ones
+  pub right_parts : (xs : List X) → All (λ x. length (left x) ≡ width x) xs → salt_parts (map width xs) (map (λ x. left x ++ right x) xs) ≡ map right xs
+  right_parts [] full = refl
+  right_parts (x ∷ xs) full =
+      let back : drop (width x) (left x ++ right x) ≡ right x = ap (λ (n : ℕ). drop n (left x ++ right x)) (sym (full 0 x (omega arith))) ∙ drop-append_seam (left x) (right x) in
+      rw (back, right_parts xs (λ k d h. full (suc k) d (omega arith))) refl
+
+-- both parts together are the rows
+pub parts_joined : {T : Type 0} (widths : List ℕ) (rows : List (List T)) → length widths ≡ length rows → salted_rows (unsalted_parts widths rows) (salt_parts widths rows) ≡ rows
+parts_joined [] [] same = refl
+parts_joined [] (row ∷ rows) same = absurd (omega (arith, same))
+parts_joined (w ∷ widths) [] same = absurd (omega (arith, same))
+parts_joined (w ∷ widths) (row ∷ rows) same = rw (take-append-drop w row, parts_joined widths rows (omega (arith, same))) refl
+
+-- ---- the rows that belong to an index
+
+module _ {X T : Type 0} (side : X → Matrix T) (height : X → ℕ) (same : (x : X) → (side x).height ≡ height x) where
+  heights_are : (xs : List X) → heights_of (dimensions_of (map side xs)) ≡ map height xs
+  heights_are [] = refl
+  heights_are (x ∷ xs) = rw (same x, heights_are xs) refl
+
+  rows_at : (tall i : ℕ) (xs : List X) → map (λ m. m.row (i / 2 ^ bits_reduced tall m.height)) (map side xs) ≡ map (λ x. (side x).row (i / 2 ^ bits_reduced tall (height x))) xs
+  rows_at tall i [] = refl
+  rows_at tall i (x ∷ xs) = rw (same x, rows_at tall i xs) refl
+
+  -- of matrices of these heights, each has the row that its height gives
+  pub side_rows : (n i : ℕ) (xs : List X) → honest_rows (record { arity = n; matrices = map side xs }) i ≡ map (λ x. (side x).row (i / 2 ^ bits_reduced (tallest (map height xs)) (height x))) xs
+  side_rows n i xs =
+      ap (λ (hs : List ℕ). map (λ (m : Matrix T). m.row (i / 2 ^ bits_reduced (tallest hs) m.height)) (map side xs)) (heights_are xs) ∙ rows_at (tallest (map height xs)) i xs
+
+module _ {T A B : Type 0} {a : Ghosts A T} {b : Ghosts B T} where
+  -- a pair, seen as one matrix
+  abbrev pair_matrix : HorizontalPair T A B a b → Matrix T
+  pair_matrix p = record { height = a.height_of (left_of p); width = a.width_of (left_of p) + b.width_of (right_of p); row = pair_row a.row_of b.row_of (left_of p) (right_of p) }
+
+  -- its left matrix, and its right one
+  abbrev left_matrix : HorizontalPair T A B a b → Matrix T
+  left_matrix p = matrix_of a.height_of a.width_of a.row_of (left_of p)
+
+  abbrev right_matrix : HorizontalPair T A B a b → Matrix T
+  right_matrix p = matrix_of b.height_of b.width_of b.row_of (right_of p)
+
+  abbrev height_in : HorizontalPair T A B a b → ℕ
+  height_in p = a.height_of (left_of p)
+
+  abbrev width_in : HorizontalPair T A B a b → ℕ
+  width_in p = a.width_of (left_of p)
+
+  -- pairs, seen as matrices
+  abbrev pair_batch : ℕ → List (HorizontalPair T A B a b) → Batch T
+  pair_batch n pairs = record { arity = n; matrices = map pair_matrix pairs }
+
+  -- with e salts a row, pairs are so much wider than their left matrices
+  pub wide_is : (n e : ℕ) (pairs : List (HorizontalPair T A B a b)) → HaveSaltColumns e pairs → dimensions_of (map pair_matrix pairs) ≡ widened e (dimensions_of (left_batch n pairs).matrices)
+  wide_is n e [] w = refl
+  wide_is n e (p ∷ pairs) w =
+      let same : b.width_of (right_of p) ≡ e = w 0 p (omega arith) in
+      rw (same, wide_is n e pairs (λ k d h. w (suc k) d (omega arith))) refl
+
+  -- and so much wider they can be
+  pub wide_fits : (n e : ℕ) (pairs : List (HorizontalPair T A B a b)) → HaveSaltColumns e pairs → CanWiden e (dimensions_of (left_batch n pairs).matrices)
+  wide_fits n e [] w k d h = absurd (omega arith)
+  wide_fits n e (p ∷ pairs) w zero d h =
+      let same : b.width_of (right_of p) ≡ e = w 0 p (omega arith) in
+      let fits : a.width_of (left_of p) + b.width_of (right_of p) < 2 ^ 64 = p.width_fits in
+      omega (arith, same, fits)
+  wide_fits n e (p ∷ pairs) w (suc k) d h = wide_fits n e pairs (λ k d h. w (suc k) d (omega arith)) k d (omega arith)
+
+  widths_are : (n : ℕ) (pairs : List (HorizontalPair T A B a b)) → widths_of (dimensions_of (left_batch n pairs).matrices) ≡ map width_in pairs
+  widths_are n [] = refl
+  widths_are n (p ∷ pairs) = ap (λ (ws : List ℕ). width_in p ∷ ws) (widths_are n pairs)
+
+  module _ (n : ℕ) (pairs : List (HorizontalPair T A B a b)) (law : (m : A) (r : ℕ) → r < a.height_of m → length (a.row_of m r) ≡ a.width_of m) (lawful : IsLawful (heights (shape (pair_batch n pairs)))) where
+    at : ℕ → HorizontalPair T A B a b → ℕ
+    at i p = i / 2 ^ bits_reduced (tallest (map height_in pairs)) (height_in p)
+
+    pair_rows : (i : ℕ) → honest_rows (pair_batch n pairs) i ≡ map (λ p. a.row_of (left_of p) (at i p) ++ b.row_of (right_of p) (at i p)) pairs
+    unfolding at
+    pair_rows i = side_rows pair_matrix height_in (λ p. refl) n i pairs
+
+    left_rows : (i : ℕ) → honest_rows (left_batch n pairs) i ≡ map (λ p. a.row_of (left_of p) (at i p)) pairs
+    unfolding at
+    left_rows i =
+        ap (λ (ms : List (Matrix T)). honest_rows (record { arity = n; matrices = ms }) i) (map-map (matrix_of a.height_of a.width_of a.row_of) left_of pairs)
+        ∙ side_rows left_matrix height_in (λ p. refl) n i pairs
+
+    right_rows : (i : ℕ) → honest_rows (right_batch n pairs) i ≡ map (λ p. b.row_of (right_of p) (at i p)) pairs
+    unfolding at
+    right_rows i =
+        ap (λ (ms : List (Matrix T)). honest_rows (record { arity = n; matrices = ms }) i) (map-map (matrix_of b.height_of b.width_of b.row_of) right_of pairs)
+        ∙ side_rows right_matrix height_in (λ p. sym p.one_height) n i pairs
+
+    full : (i : ℕ) → i < tallest (heights (shape (pair_batch n pairs))) → All (λ p. length (a.row_of (left_of p) (at i p)) ≡ width_in p) pairs
+    unfolding at
+    full i below k d inside =
+        let p = get_or pairs k d in
+        let here : i / 2 ^ bits_reduced (tallest (heights (shape (pair_batch n pairs)))) (height_in p) < height_in p =
+        row_inside height_in (λ p. width_in p + b.width_of (right_of p)) (λ p. pair_row a.row_of b.row_of (left_of p) (right_of p)) n pairs k i p lawful below inside (get_or_default pairs k d p inside) in
+        law (left_of p) (at i p) (subst (λ (hs : List ℕ). i / 2 ^ bits_reduced (tallest hs) (height_in p) < height_in p) (heights_are pair_matrix height_in (λ p. refl) pairs) here)
+
+    -- what stands before the salts of an honest row is the left matrix's row
+    pub left_is : (i : ℕ) → i < tallest (heights (shape (pair_batch n pairs))) → unsalted_parts (map width_in pairs) (honest_rows (pair_batch n pairs) i) ≡ honest_rows (left_batch n pairs) i
+    left_is i below =
+        ap (unsalted_parts (map width_in pairs)) (pair_rows i) ∙ left_parts (λ p. a.row_of (left_of p) (at i p)) (λ p. b.row_of (right_of p) (at i p)) width_in pairs (full i below) ∙ sym (left_rows i)
+
+    -- and what stands after is the right one's
+    pub right_is : (i : ℕ) → i < tallest (heights (shape (pair_batch n pairs))) → salt_parts (map width_in pairs) (honest_rows (pair_batch n pairs) i) ≡ honest_rows (right_batch n pairs) i
+    right_is i below =
+        ap (salt_parts (map width_in pairs)) (pair_rows i) ∙ right_parts (λ p. a.row_of (left_of p) (at i p)) (λ p. b.row_of (right_of p) (at i p)) width_in pairs (full i below) ∙ sym (right_rows i)
+
+    -- both together are the honest row
+    pub both_are : (i : ℕ) → i < tallest (heights (shape (pair_batch n pairs))) → salted_rows (honest_rows (left_batch n pairs) i) (honest_rows (right_batch n pairs) i) ≡ honest_rows (pair_batch n pairs) i
+    both_are i below =
+        let rows = honest_rows (pair_batch n pairs) i in
+        let long : length (map width_in pairs) ≡ length rows = length-map pairs width_in ∙ sym (ap length (pair_rows i) ∙ length-map pairs (λ p. a.row_of (left_of p) (at i p) ++ b.row_of (right_of p) (at i p))) in
+        (λ j. salted_rows (sym (left_is i below) j) (sym (right_is i below) j)) ∙ parts_joined (map width_in pairs) rows long
+
+    -- each left row is as long as its matrix is wide
+    lengths_are : (g : HorizontalPair T A B a b → List T) (ps : List (HorizontalPair T A B a b)) → All (λ p. length (g p) ≡ width_in p) ps → map length (map g ps) ≡ map width_in ps
+    lengths_are g [] w = refl
+    lengths_are g (p ∷ ps) w = rw (w 0 p (omega arith), lengths_are g ps (λ k d h. w (suc k) d (omega arith))) refl
+
+    -- the honest rows have their widths, and salts
+    pub are_salted : (i : ℕ) → i < tallest (heights (shape (pair_batch n pairs))) → HaveSalts (dimensions_of (left_batch n pairs).matrices) (honest_rows (left_batch n pairs) i) (honest_rows (right_batch n pairs) i)
+    are_salted i below = record {
+      rows_fit = ap (map length) (left_rows i) ∙ lengths_are (λ p. a.row_of (left_of p) (at i p)) pairs (full i below) ∙ sym (widths_are n pairs);
+      in_pairs = ap length (right_rows i) ∙ length-map pairs (λ p. b.row_of (right_of p) (at i p)) ∙ sym (ap length (left_rows i) ∙ length-map pairs (λ p. a.row_of (left_of p) (at i p)));
+    }
+
+    -- an accepted opening of pairs is accepted as its rows and salts
+    pub salted_from : {W : Type 0} (f : Functions T W) (e t i : ℕ) (cap siblings : List (List W)) → i < tallest (heights (shape (pair_batch n pairs))) → HaveSaltColumns e pairs →
+        IsAccepted f (shape (pair_batch n pairs)) t cap (opening_of i (honest_rows (pair_batch n pairs) i) siblings) →
+        IsSaltedAccepted f n e (dimensions_of (left_batch n pairs).matrices) t cap (record { index = i; rows = honest_rows (left_batch n pairs) i; salts = honest_rows (right_batch n pairs) i; siblings = siblings })
+    salted_from {W} f e t i cap siblings below w accepted =
+        let wide : shape (pair_batch n pairs) ≡ shape_of n (widened e (dimensions_of (left_batch n pairs).matrices)) = ap (shape_of n) (wide_is n e pairs w) in
+        let rows = sym (both_are i below) in
+        record {
+          salted = are_salted i below;
+          can_widen = wide_fits n e pairs w;
+          accepted =
+              subst (λ (rs : List (List T)). IsAccepted f (shape_of n (widened e (dimensions_of (left_batch n pairs).matrices))) t cap (opening_of i rs siblings)) rows
+              (subst (λ (s : Shape). IsAccepted f s t cap (opening_of i (honest_rows (pair_batch n pairs) i) siblings)) wide accepted);
+        }

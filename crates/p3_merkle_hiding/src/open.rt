@@ -1,0 +1,105 @@
+//! Salted openings: those of the plain scheme, each row taken apart into the matrix's own words and its salts.
+
+ghost use Rattle.std.specs.Prelude.{◌≡◌, ◌<◌, All, IfErr, IfOk, map};
+ghost use Rattle.p3_merkle_core.specs.Geometry.{heights, tallest};
+ghost use Rattle.p3_merkle_core.specs.Nodes.{dimensions_of, layer, layers, shape};
+ghost use Rattle.p3_merkle_core.specs.Openings.{honest_rows};
+ghost use Rattle.p3_merkle_core.specs.PrunedCalls.{own_digests};
+ghost use Rattle.p3_merkle_core.specs.declared.error.MerkleTreeError.TheVariants.{OutOfMemory};
+ghost use Rattle.p3_merkle_builder.specs.Own.{own_siblings};
+ghost use Rattle.p3_merkle_builder.specs.Parts.{layers_of, matrices_of, tree_batch};
+ghost use Rattle.p3_merkle_tree.specs.Schemes.{proof_layer, scheme_functions};
+ghost use Rattle.p3_support.specs.Pairs.{left_of};
+ghost use Rattle.p3_support.specs.Shown.{row_lists, row_sets};
+ghost use Rattle.p3_merkle_hiding.specs.HidingSchemes.{plain_of, salted_made, salted_pruned_made};
+ghost use Rattle.p3_merkle_hiding.specs.SaltedOpenings.{IsSaltedAccepted, IsSaltedPrunedAccepted};
+ghost use Rattle.p3_merkle_hiding.specs.SaltedTrees.{left_batch, right_batch, HaveSaltColumns};
+
+use crate::hiding_mmcs::{MerkleTreeHidingMmcs, SaltedMultiProof, SaltedProof, SaltedTree};
+use crate::pairs::{left_matrices, left_widths};
+use crate::salts::{split_row_sets, split_rows};
+use p3_merkle_core::error::MerkleTreeError;
+use p3_merkle_core::pruning::PrunedRows;
+use p3_support::compress::PseudoCompressionFunction;
+use p3_support::hasher::CryptographicHasher;
+use p3_support::matrix::Matrix;
+use p3_support::opening::BatchOpening;
+use p3_support::packed::PackedValue;
+use std::alloc::Global;
+
+impl<
+    P: PackedValue,
+    PW: PackedValue,
+    H: CryptographicHasher<P, PW, D>,
+    C: PseudoCompressionFunction<PW, N, D>,
+    R,
+    const N: usize,
+    const D: usize,
+    const SALT_ELEMS: usize,
+> MerkleTreeHidingMmcs<P, PW, H, C, R, N, D, SALT_ELEMS> {
+    /// Opens the leaf `index` of a tree: of each matrix, in input order, the row that belongs to the leaf; and as its proof
+    /// the salts of each row and the siblings on the leaf's path to the cap.
+    ///
+    /// It is the plain scheme's opening, each row taken apart where the matrix ends and its salts begin. The tree may have
+    /// any number of salts a row; where it has `SALT_ELEMS` of them and its layers are those of this scheme's own hasher and
+    /// compression, the opening is accepted under the cap of its tree. The index is below the tallest height.
+    ///
+    /// # Errors
+    ///
+    /// `OutOfMemory` alone.
+    pub fn open_batch<M: Matrix<P::Value>>(
+        &self,
+        alloc: Global,
+        index: usize,
+        tree: &SaltedTree<P::Value, PW::Value, M, N, D>,
+    ) -> Result<BatchOpening<P::Value, SaltedProof<P::Value, PW::Value, D>>, MerkleTreeError>
+        requires { index < tallest (heights (shape (tree_batch tree.now))) }
+        ensures rows { let rows = honest_rows (left_batch N (matrices_of tree.now)) index in
+            IfOk result (λ o. row_lists o.opened_values.items ≡ rows) }
+        ensures salts { let salts = honest_rows (right_batch N (matrices_of tree.now)) index in
+            IfOk result (λ o. row_lists o.opening_proof.0.items ≡ salts) }
+        ensures siblings { let s = shape (tree_batch tree.now) in
+            let t = proof_layer (plain_of self.now) s in
+            IfOk result (λ o. o.opening_proof.1.items ≡ own_siblings s (layers_of tree.now) t index) }
+        ensures accepted { let f = scheme_functions H.hash C.compression D (plain_of self.now) in
+            let b = tree_batch tree.now in
+            let t = proof_layer (plain_of self.now) (shape b) in
+            let ds = dimensions_of (left_batch N (matrices_of tree.now)).matrices in
+            layers_of tree.now ≡ layers f b → HaveSaltColumns SALT_ELEMS (matrices_of tree.now) →
+            IfOk result (λ o. IsSaltedAccepted f N SALT_ELEMS ds t (layer f b t) (salted_made index o)) }
+        ensures memory { IfErr result (λ e. e ≡ OutOfMemory) }
+    {
+        let pairs = self.plain.get_matrices(alloc, tree)?;
+        let widths = left_widths(alloc, &pairs)?;
+        let (joined, siblings) = self.plain.open_batch(alloc, index, tree)?.unpack();
+        let (rows, salts) = split_rows(alloc, &widths, &joined)?;
+        Ok(BatchOpening::new(rows, (salts, siblings)))
+    }
+
+    /// The matrices of a tree without their salts, in input order.
+    ///
+    /// # Errors
+    ///
+    /// `OutOfMemory` alone.
+    pub fn get_matrices<'a, M: Matrix<P::Value>>(
+        &self,
+        alloc: Global,
+        tree: &'a SaltedTree<P::Value, PW::Value, M, N, D>,
+    ) -> Result<Vec<&'a M>, MerkleTreeError>
+        ensures matrices { IfOk result (λ v. map (λ m. m.now) v.items ≡ map left_of (matrices_of tree.now)) }
+        ensures memory { IfErr result (λ e. e ≡ OutOfMemory) }
+    {
+        let pairs = self.plain.get_matrices(alloc, tree)?;
+        Ok(left_matrices(alloc, &pairs)?)
+    }
+
+    /// The height of the tallest matrix of a tree, in rows: one more than the greatest index that can be opened.
+    pub fn get_max_height<M: Matrix<P::Value>>(
+        &self,
+        tree: &SaltedTree<P::Value, PW::Value, M, N, D>,
+    ) -> usize
+        ensures { result ≡ tallest (heights (shape (tree_batch tree.now))) }
+    {
+        self.plain.get_max_height(tree)
+    }
+}
