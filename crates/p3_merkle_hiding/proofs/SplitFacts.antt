@@ -1,5 +1,6 @@
 -- Rows of pairs, taken apart where the left matrix ends.
 use Rattle.std.proofs.Common.{◌≡◌, ℕ, zero, suc, ◌+◌, ◌/◌, ◌^◌, ◌<◌, List, [], ◌∷◌, ◌++◌, map, refl, ap, sym, subst, ◌∙◌, arith, length, get_or, take, drop, zip, All}
+use Rattle.std.specs.List.{AllZip}
 use Rattle.std.proofs.lemmas.List.{get_or_default, length-map, take-append-drop}
 use Rattle.std.proofs.lemmas.Simd.{map-map}
 use Rattle.std.proofs.Math.Seq.{drop-append_seam, take-append_seam}
@@ -9,10 +10,12 @@ use Rattle.p3_support.specs.declared.pair.HorizontalPair.{HorizontalPair}
 use Rattle.p3_support.specs.Pairs.{left_of, pair_row, right_of}
 use Rattle.p3_merkle_core.specs.Geometry.{IsLawful, Shape, bits_reduced, heights, heights_of, shape_of, tallest, widths_of}
 use Rattle.p3_merkle_core.specs.Nodes.{Batch, Functions, Matrix, dimensions_of, shape}
+use Rattle.p3_merkle_core.specs.PrunedCalls.{IsPrunedAccepted}
+use Rattle.p3_merkle_core.specs.Pruning.{pruned_of}
 use Rattle.p3_merkle_core.specs.Openings.{IsAccepted, honest_rows, opening_of}
 use Rattle.p3_merkle_builder.proofs.RowFacts.{row_inside}
 use Rattle.p3_merkle_builder.specs.Views.{batch_of, matrix_of}
-use Rattle.p3_merkle_hiding.specs.SaltedOpenings.{CanWiden, HaveSalts, IsSaltedAccepted, salt_parts, salted_rows, unsalted_parts, widened}
+use Rattle.p3_merkle_hiding.specs.SaltedOpenings.{CanWiden, HaveSalts, IsSaltedAccepted, IsSaltedPrunedAccepted, salt_parts, salted_rows, salted_sets, unsalted_parts, widened}
 use Rattle.p3_merkle_hiding.specs.SaltedTrees.{HaveSaltColumns, left_batch, right_batch}
 
 -- ---- rows that are taken apart
@@ -167,4 +170,38 @@ module _ {T A B : Type 0} {a : Ghosts A T} {b : Ghosts B T} where
           accepted =
               subst (λ (rs : List (List T)). IsAccepted f (shape_of n (widened e (dimensions_of (left_batch n pairs).matrices))) t cap (opening_of i rs siblings)) rows
               (subst (λ (s : Shape). IsAccepted f s t cap (opening_of i (honest_rows (pair_batch n pairs) i) siblings)) wide accepted);
+        }
+
+    -- the same of several indices
+    pub left_sets_are : (is : List ℕ) → All (λ i. i < tallest (heights (shape (pair_batch n pairs)))) is → map (unsalted_parts (map width_in pairs)) (map (honest_rows (pair_batch n pairs)) is) ≡ map (honest_rows (left_batch n pairs)) is
+    left_sets_are [] below = refl
+    left_sets_are (i ∷ is) below = rw (left_is i (below 0 i (omega arith)), left_sets_are is (λ k d h. below (suc k) d (omega arith))) refl
+
+    pub right_sets_are : (is : List ℕ) → All (λ i. i < tallest (heights (shape (pair_batch n pairs)))) is → map (salt_parts (map width_in pairs)) (map (honest_rows (pair_batch n pairs)) is) ≡ map (honest_rows (right_batch n pairs)) is
+    right_sets_are [] below = refl
+    right_sets_are (i ∷ is) below = rw (right_is i (below 0 i (omega arith)), right_sets_are is (λ k d h. below (suc k) d (omega arith))) refl
+
+    both_sets_are : (is : List ℕ) → All (λ i. i < tallest (heights (shape (pair_batch n pairs)))) is →
+        salted_sets (map (honest_rows (left_batch n pairs)) is) (map (honest_rows (right_batch n pairs)) is) ≡ map (honest_rows (pair_batch n pairs)) is
+    both_sets_are [] below = refl
+    both_sets_are (i ∷ is) below = rw (both_are i (below 0 i (omega arith)), both_sets_are is (λ k d h. below (suc k) d (omega arith))) refl
+
+    sets_are_salted : (is : List ℕ) → All (λ i. i < tallest (heights (shape (pair_batch n pairs)))) is →
+        AllZip (HaveSalts (dimensions_of (left_batch n pairs).matrices)) (map (honest_rows (left_batch n pairs)) is) (map (honest_rows (right_batch n pairs)) is)
+    sets_are_salted [] below = tt
+    sets_are_salted (i ∷ is) below = (are_salted i (below 0 i (omega arith)), sets_are_salted is (λ k d h. below (suc k) d (omega arith)))
+
+    pub salted_pruned_from : {W : Type 0} (f : Functions T W) (e t : ℕ) (is : List ℕ) (cap digests : List (List W)) → All (λ i. i < tallest (heights (shape (pair_batch n pairs)))) is → HaveSaltColumns e pairs →
+        IsPrunedAccepted f (shape (pair_batch n pairs)) t cap (pruned_of is (map (honest_rows (pair_batch n pairs)) is) digests) →
+        IsSaltedPrunedAccepted f n e (dimensions_of (left_batch n pairs).matrices) t cap (record { indices = is; rows = map (honest_rows (left_batch n pairs)) is; salts = map (honest_rows (right_batch n pairs)) is; digests = digests })
+    salted_pruned_from {W} f e t is cap digests below w accepted =
+        let wide : shape (pair_batch n pairs) ≡ shape_of n (widened e (dimensions_of (left_batch n pairs).matrices)) = ap (shape_of n) (wide_is n e pairs w) in
+        let rows = sym (both_sets_are is below) in
+        record {
+          in_pairs = length-map is (honest_rows (right_batch n pairs)) ∙ sym (length-map is (honest_rows (left_batch n pairs)));
+          salted = sets_are_salted is below;
+          can_widen = wide_fits n e pairs w;
+          accepted =
+              subst (λ (rs : List (List (List T))). IsPrunedAccepted f (shape_of n (widened e (dimensions_of (left_batch n pairs).matrices))) t cap (pruned_of is rs digests)) rows
+              (subst (λ (s : Shape). IsPrunedAccepted f s t cap (pruned_of is (map (honest_rows (pair_batch n pairs)) is) digests)) wide accepted);
         }

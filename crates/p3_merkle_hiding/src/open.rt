@@ -19,7 +19,6 @@ use crate::hiding_mmcs::{MerkleTreeHidingMmcs, SaltedMultiProof, SaltedProof, Sa
 use crate::pairs::{left_matrices, left_widths};
 use crate::salts::{split_row_sets, split_rows};
 use p3_merkle_core::error::MerkleTreeError;
-use p3_merkle_core::pruning::PrunedRows;
 use p3_support::compress::PseudoCompressionFunction;
 use p3_support::hasher::CryptographicHasher;
 use p3_support::matrix::Matrix;
@@ -74,6 +73,52 @@ impl<
         let (joined, siblings) = self.plain.open_batch(alloc, index, tree)?.unpack();
         let (rows, salts) = split_rows(alloc, &widths, &joined)?;
         Ok(BatchOpening::new(rows, (salts, siblings)))
+    }
+
+    /// Opens several leaves of a tree at once: for each index, in query order, the row of each matrix that belongs to the
+    /// leaf; and as their proof the salts of each row, index by index, and one pruned proof for all of them.
+    ///
+    /// It is the plain scheme's opening, each row taken apart where the matrix ends and its salts begin. The indices count
+    /// rows of the tallest matrix and are below its height; they come in any order, and again, too. Where the tree has
+    /// `SALT_ELEMS` salts a row and its layers are those of this scheme's own hasher and compression, the opening is accepted
+    /// under the cap of its tree.
+    ///
+    /// # Errors
+    ///
+    /// `OutOfMemory` alone.
+    pub fn open_multi_batch<M: Matrix<P::Value>>(
+        &self,
+        alloc: Global,
+        indices: &[usize],
+        tree: &SaltedTree<P::Value, PW::Value, M, N, D>,
+    ) -> Result<
+        (
+            Vec<Vec<Vec<P::Value>>>,
+            SaltedMultiProof<P::Value, PW::Value, D>,
+        ),
+        MerkleTreeError,
+    >
+        requires { All (λ index. index < tallest (heights (shape (tree_batch tree.now)))) indices.now }
+        ensures rows { let rows = map (honest_rows (left_batch N (matrices_of tree.now))) indices.now in
+            IfOk result (λ o. row_sets o.0.items ≡ rows) }
+        ensures salts { let salts = map (honest_rows (right_batch N (matrices_of tree.now))) indices.now in
+            IfOk result (λ o. row_sets o.1.0.items ≡ salts) }
+        ensures digests { let s = shape (tree_batch tree.now) in
+            let t = proof_layer (plain_of self.now) s in
+            IfOk result (λ o. o.1.1.sibling_hashes.items ≡ own_digests s (layers_of tree.now) indices.now t) }
+        ensures accepted { let f = scheme_functions H.hash C.compression D (plain_of self.now) in
+            let b = tree_batch tree.now in
+            let t = proof_layer (plain_of self.now) (shape b) in
+            let ds = dimensions_of (left_batch N (matrices_of tree.now)).matrices in
+            layers_of tree.now ≡ layers f b → HaveSaltColumns SALT_ELEMS (matrices_of tree.now) →
+            IfOk result (λ o. IsSaltedPrunedAccepted f N SALT_ELEMS ds t (layer f b t) (salted_pruned_made indices.now o.0 o.1)) }
+        ensures memory { IfErr result (λ e. e ≡ OutOfMemory) }
+    {
+        let pairs = self.plain.get_matrices(alloc, tree)?;
+        let widths = left_widths(alloc, &pairs)?;
+        let opening = self.plain.open_batch_pruned(alloc, indices, tree)?;
+        let (rows, salts) = split_row_sets(alloc, &widths, &opening.opened_values)?;
+        Ok((rows, (salts, opening.pruned_proof)))
     }
 
     /// The matrices of a tree without their salts, in input order.
