@@ -1,3 +1,4 @@
 mod SaltFacts
 mod SaltedAnswers
 mod SplitFacts
+mod SaltingFacts

@@ -16,7 +16,7 @@ use Rattle.p3_merkle_core.specs.Openings.{IsAccepted, honest_rows, opening_of}
 use Rattle.p3_merkle_builder.proofs.RowFacts.{row_inside}
 use Rattle.p3_merkle_builder.specs.Views.{batch_of, matrix_of}
 use Rattle.p3_merkle_hiding.specs.SaltedOpenings.{CanWiden, HaveSalts, IsSaltedAccepted, IsSaltedPrunedAccepted, salt_parts, salted_rows, salted_sets, unsalted_parts, widened}
-use Rattle.p3_merkle_hiding.specs.SaltedTrees.{HaveSaltColumns, left_batch, right_batch}
+use Rattle.p3_merkle_hiding.specs.SaltedTrees.{HaveSaltColumns, left_batch, pair_matrix, right_batch}
 
 -- ---- rows that are taken apart
 
@@ -59,11 +59,7 @@ module _ {X T : Type 0} (side : X → Matrix T) (height : X → ℕ) (same : (x 
       ap (λ (hs : List ℕ). map (λ (m : Matrix T). m.row (i / 2 ^ bits_reduced (tallest hs) m.height)) (map side xs)) (heights_are xs) ∙ rows_at (tallest (map height xs)) i xs
 
 module _ {T A B : Type 0} {a : Ghosts A T} {b : Ghosts B T} where
-  -- a pair, seen as one matrix
-  abbrev pair_matrix : HorizontalPair T A B a b → Matrix T
-  pair_matrix p = record { height = a.height_of (left_of p); width = a.width_of (left_of p) + b.width_of (right_of p); row = pair_row a.row_of b.row_of (left_of p) (right_of p) }
-
-  -- its left matrix, and its right one
+  -- the left matrix of a pair, and the right one
   abbrev left_matrix : HorizontalPair T A B a b → Matrix T
   left_matrix p = matrix_of a.height_of a.width_of a.row_of (left_of p)
 

@@ -5,6 +5,7 @@
 pub mod hiding_mmcs;
 mod open;
 pub mod pairs;
+pub mod salting;
 pub mod salts;
 mod verify;
 
