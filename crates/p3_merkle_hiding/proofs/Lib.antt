@@ -2,3 +2,4 @@ mod SaltFacts
 mod SaltedAnswers
 mod SplitFacts
 mod SaltingFacts
+mod CommitFacts

@@ -2,6 +2,7 @@
 //! tells nothing of a row that could be guessed.
 #![tactic(auto)]
 
+mod commit;
 pub mod hiding_mmcs;
 mod open;
 pub mod pairs;

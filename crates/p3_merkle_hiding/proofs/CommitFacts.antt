@@ -1,0 +1,49 @@
+-- What the plain commitment to pairs says of the salted matrices.
+use Rattle.std.proofs.Common.{◌≡◌, ◌∙◌, ◌⊎◌, ◌*◌, ℕ, List, [], ◌∷◌, map, ap, refl, sym, subst, inl, inr, None, Option, Result}
+use Rattle.std.specs.Prelude.{Ok, Err, IfErr, IfOk, OnOk}
+use Rattle.std.specs.Option.{option_or}
+use Rattle.rand_core.specs.Stream.{Stream}
+use Rattle.p3_support.specs.Salts.{after_words}
+use Rattle.p3_support.specs.declared.matrix.Dimensions.{Dimensions}
+use Rattle.p3_merkle_builder.specs.Built.{OkUnlessRefused}
+use Rattle.p3_merkle_core.specs.Gate.{gate_refusal}
+use Rattle.p3_merkle_core.specs.Geometry.{heights_of}
+use Rattle.p3_merkle_core.specs.Nodes.{Matrix, dimensions_of}
+use Rattle.p3_merkle_core.specs.Salted.{salted_matrices}
+use Rattle.p3_merkle_core.specs.declared.error.MerkleTreeError.{MerkleTreeError}
+use Rattle.p3_merkle_core.specs.declared.error.MerkleTreeError.TheVariants.{OutOfMemory}
+use Rattle.p3_merkle_core.proofs.NoneFacts.{none_of_both}
+use Rattle.p3_merkle_hiding.specs.SaltRefusals.{salted_commit_refusal, widening_refusal}
+
+-- salted matrices have their heights
+heights_stay : {T : Type 0} (of_word : ℕ → T) (e : ℕ) (ms : List (Matrix T)) (s : Stream) → heights_of (dimensions_of (salted_matrices of_word e ms s)) ≡ heights_of (dimensions_of ms)
+heights_stay of_word e [] s = refl
+heights_stay of_word e (m ∷ ms) s = ap (λ (hs : List ℕ). m.height ∷ hs) (heights_stay of_word e ms (after_words (m.height * e) s))
+
+-- so the gate takes them where it takes the matrices
+pub gate_stays : {T : Type 0} (of_word : ℕ → T) (e : ℕ) (ms pairs : List (Matrix T)) (s : Stream) → pairs ≡ salted_matrices of_word e ms s → gate_refusal (heights_of (dimensions_of ms)) ≡ None → gate_refusal (heights_of (dimensions_of pairs)) ≡ None
+gate_stays of_word e ms pairs s are none = ap (λ (z : List (Matrix _)). gate_refusal (heights_of (dimensions_of z))) are ∙ ap gate_refusal (heights_stay of_word e ms s) ∙ none
+
+module _ {A : Type 0} where
+  -- an error where nothing is refused is for want of memory
+  pub memory_alone : (r : Result A MerkleTreeError) (refusal : Option MerkleTreeError) → OkUnlessRefused r refusal → refusal ≡ None → IfErr r (λ e. e ≡ OutOfMemory)
+  memory_alone (Ok v) refusal a none = tt
+  memory_alone (Err e) refusal (inl m) none = m
+  memory_alone (Err e) refusal (inr some) none = absurd cc
+
+  -- and the other way round
+  pub unrefused : (r : Result A MerkleTreeError) (refusal : Option MerkleTreeError) → IfErr r (λ e. e ≡ OutOfMemory) → refusal ≡ None → OkUnlessRefused r refusal
+  unrefused (Ok v) refusal m none = none
+  unrefused (Err e) refusal m none = inl m
+
+  pub memory_or : (P : Type 0) (r : Result A MerkleTreeError) → IfErr r (λ e. e ≡ OutOfMemory) → IfErr r (λ e. (e ≡ OutOfMemory) ⊎ P)
+  memory_or P (Ok v) m = tt
+  memory_or P (Err e) m = inl m
+
+  pub on_ok : (P : Type 0) (r : Result A MerkleTreeError) → P → OnOk r P
+  on_ok P (Ok v) holds = holds
+  on_ok P (Err e) holds = tt
+
+-- matrices that pass the gate, and can be wider, are not refused
+pub commit_none : (e : ℕ) (ds : List Dimensions) → gate_refusal (heights_of ds) ≡ None → widening_refusal e ds ≡ None → salted_commit_refusal e ds ≡ None
+commit_none e ds gate wide = none_of_both (gate_refusal (heights_of ds)) (widening_refusal e ds) gate wide

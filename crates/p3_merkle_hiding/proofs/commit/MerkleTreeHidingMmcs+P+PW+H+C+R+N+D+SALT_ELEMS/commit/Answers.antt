@@ -1,0 +1,62 @@
+-- The plain commitment to the pairs is that to the salted matrices.
+use Rattle.std.proofs.Common.{◌≡◌, ◌∙◌, List, ap, map, refl, rules, subst, sym}
+use Rattle.std.specs.Prelude.{IfOk}
+use Rattle.std.proofs.lemmas.Result.{IfOk-weaker}
+use Rattle.p3_support.specs.declared.matrix.Dimensions.{Dimensions}
+use Rattle.p3_support.specs.Pairs.{left_of}
+use Rattle.p3_support.specs.Shown.{roots_of}
+use Rattle.p3_merkle_builder.specs.Built.{OkUnlessRefused}
+use Rattle.p3_merkle_builder.specs.Parts.{layers_of, matrices_of}
+use Rattle.p3_merkle_builder.specs.Views.{batch_of, matrix_of}
+use Rattle.p3_merkle_core.specs.Gate.{gate_refusal}
+use Rattle.p3_merkle_core.specs.Geometry.{heights_of}
+use Rattle.p3_merkle_core.specs.Nodes.{Batch, Matrix, dimensions_of, layer, layers, shape}
+use Rattle.p3_merkle_core.specs.Salted.{salted_batch, salted_matrices}
+use Rattle.p3_merkle_tree.specs.Schemes.{proof_layer, scheme_functions}
+use Rattle.p3_merkle_hiding.specs.HidingSchemes.{generator_of, plain_of}
+use Rattle.p3_merkle_hiding.specs.SaltRefusals.{salted_commit_refusal, widening_refusal}
+use Rattle.p3_merkle_hiding.specs.SaltedTrees.{HaveSaltColumns, pair_matrix}
+use Rattle.p3_merkle_hiding.proofs.CommitFacts.{commit_none, gate_stays, memory_alone, memory_or, on_ok, unrefused}
+use Rattle.p3_merkle_hiding.proofs.commit.MerkleTreeHidingMmcs+P+PW+H+C+R+N+D+SALT_ELEMS.commit.Goals as goal
+
+pub returns-in_err-check_heights-clause-answer : goal.returns-in_err-check_heights-clause-answer
+returns-in_err-check_heights-clause-answer g c =
+    let shown = map (matrix_of g.M.Matrix.height_of g.M.Matrix.width_of g.M.Matrix.row_of) in
+    let are = c.deref-2.ensures.value ∙ c.in_ok-dimensions.ensures ∙ ap (λ ms. dimensions_of (shown ms)) c.deref.ensures.value in
+    subst (λ (ds : List Dimensions). OkUnlessRefused c.from_residual-in_err-check_heights.result (salted_commit_refusal g.row.SALT_ELEMS ds)) are (search rules)
+
+pub returns-in_err-check_widening-clause-answer : goal.returns-in_err-check_widening-clause-answer
+returns-in_err-check_widening-clause-answer g c =
+    let shown = map (matrix_of g.M.Matrix.height_of g.M.Matrix.width_of g.M.Matrix.row_of) in
+    let are = c.deref-3.ensures.value ∙ c.in_ok-dimensions.ensures ∙ ap (λ ms. dimensions_of (shown ms)) c.deref.ensures.value in
+    let gate : gate_refusal (heights_of c.deref-3.result.now) ≡ _ = ap (λ (ds : List Dimensions). gate_refusal (heights_of ds)) (c.deref-3.ensures.value ∙ sym c.deref-2.ensures.value) ∙ c.in_ok-check_heights.ensures.answer in
+    subst (λ (ds : List Dimensions). OkUnlessRefused c.from_residual-in_err-check_widening.result (salted_commit_refusal g.row.SALT_ELEMS ds)) are (rw gate (search rules))
+
+pub returns : goal.returns
+returns g c =
+    let shown = map (matrix_of g.M.Matrix.height_of g.M.Matrix.width_of g.M.Matrix.row_of) in
+    let e = g.row.SALT_ELEMS in
+    let of_word = g.P.Value.SaltWord.of_salt_word in
+    let plain = plain_of c.args.self.now in
+    let f = scheme_functions g.H.CryptographicHasher.hash g.C.PseudoCompressionFunction.compression g.row.D plain in
+    let ms = c.args.matrices.items in
+    let drawn = g.R.Rng.stream (generator_of c.args.self.now) in
+    let r = c.commit.result in
+    let are = c.in_ok-dimensions.ensures ∙ ap (λ ms. dimensions_of (shown ms)) c.deref.ensures.value in
+    let gate = ap (λ (ds : List Dimensions). gate_refusal (heights_of ds)) (sym (c.deref-2.ensures.value ∙ are)) ∙ c.in_ok-check_heights.ensures.answer in
+    let wide = ap (widening_refusal e) (sym (c.deref-3.ensures.value ∙ are)) ∙ c.in_ok-check_widening.ensures.answer in
+    let pairs = c.in_ok-pairs.pairs.items in
+    let salted = c.in_ok-pairs.ensures.salted in
+    let over : List (Matrix _) → Batch _ = λ z. record { arity = g.row.N; matrices = z } in
+    let memory = memory_alone r (gate_refusal (heights_of (dimensions_of (map pair_matrix pairs)))) c.commit.ensures.answer (gate_stays of_word e (shown ms) (map pair_matrix pairs) drawn salted gate) in
+    record {
+      answer = unrefused r (salted_commit_refusal e (dimensions_of (shown ms))) memory (commit_none e (dimensions_of (shown ms)) gate wide);
+      matrices = IfOk-weaker r _ _ (λ made is. ap (map left_of) is ∙ c.in_ok-pairs.ensures.matrices) c.commit.ensures.matrices;
+      columns = IfOk-weaker r _ _ (λ made is. subst (λ (z : List _). HaveSaltColumns e z) (sym is) c.in_ok-pairs.ensures.columns) c.commit.ensures.matrices;
+      batch = IfOk-weaker r _ _ (λ made is. ap (λ z. over (map pair_matrix z)) is ∙ ap over salted) c.commit.ensures.matrices;
+      layers = subst (λ (b : Batch _). IfOk r (λ made. layers_of made.1 ≡ layers f b)) (ap over salted) c.commit.ensures.layers;
+      cap = subst (λ (b : Batch _). IfOk r (λ made. roots_of made.0 ≡ layer f b (proof_layer plain (shape b)))) (ap over salted) c.commit.ensures.cap;
+      rest = on_ok _ r c.in_ok-pairs.ensures.rest;
+      untouched = memory_or _ r memory;
+      scheme = refl;
+    }

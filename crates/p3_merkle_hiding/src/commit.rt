@@ -1,0 +1,97 @@
+//! Committing to salted matrices.
+
+ghost use Rattle.std.specs.Prelude.{◌≡◌, ◌⊎◌, IfErr, IfOk, OnOk, map};
+ghost use Rattle.p3_merkle_builder.specs.Built.{OkUnlessRefused};
+ghost use Rattle.p3_merkle_builder.specs.Parts.{layers_of, matrices_of, tree_batch};
+ghost use Rattle.p3_merkle_builder.specs.Views.{batch_of};
+ghost use Rattle.p3_merkle_core.specs.Nodes.{layer, layers, shape};
+ghost use Rattle.p3_merkle_core.specs.Salted.{after_salts, salted_batch};
+ghost use Rattle.p3_merkle_core.specs.declared.error.MerkleTreeError.TheVariants.{OutOfMemory};
+ghost use Rattle.p3_merkle_tree.specs.Schemes.{proof_layer, scheme_functions};
+ghost use Rattle.p3_support.specs.Pairs.{left_of};
+ghost use Rattle.p3_support.specs.Shown.{roots_of};
+ghost use Rattle.p3_merkle_hiding.specs.HidingSchemes.{generator_of, plain_of};
+ghost use Rattle.p3_merkle_hiding.specs.SaltRefusals.{salted_commit_refusal};
+ghost use Rattle.p3_merkle_hiding.specs.SaltedTrees.{HaveSaltColumns};
+
+use crate::hiding_mmcs::{MerkleTreeHidingMmcs, SaltedTree};
+use crate::salting::salted_pairs;
+use crate::salts::check_widening;
+use p3_merkle_builder::levels::dimensions_of;
+use p3_merkle_core::error::MerkleTreeError;
+use p3_merkle_core::geometry::check_heights;
+use p3_support::compress::PseudoCompressionFunction;
+use p3_support::hasher::CryptographicHasher;
+use p3_support::matrix::Matrix;
+use p3_support::opening::MerkleCap;
+use p3_support::packed::PackedValue;
+use p3_support::salts::SaltWord;
+use rand_core::CryptoRng;
+use std::alloc::Global;
+
+impl<
+    P: PackedValue,
+    PW: PackedValue,
+    H: CryptographicHasher<P, PW, D>,
+    C: PseudoCompressionFunction<PW, N, D>,
+    R: CryptoRng,
+    const N: usize,
+    const D: usize,
+    const SALT_ELEMS: usize,
+> MerkleTreeHidingMmcs<P, PW, H, C, R, N, D, SALT_ELEMS>
+where
+    P::Value: SaltWord,
+{
+    /// Commits to matrices, each row followed by its salts: the cap of their tree, and the tree, which keeps the matrices in
+    /// input order, each beside its salts. It is the plain scheme's commitment to the salted matrices.
+    ///
+    /// The salts are drawn from the scheme's generator: for the matrices in input order, for the rows of each ascending,
+    /// `SALT_ELEMS` for each row, each from one call of `next_u64`. Afterwards the generator stands after these draws, so
+    /// that the next commitment has other salts.
+    ///
+    /// # Errors
+    ///
+    /// `EmptyBatch` where no matrix has a row; else `TooLarge` for the first height above 2^62; else
+    /// `IncompatibleHeights` for the first height that is not the tallest one halved and rounded up some number of times;
+    /// else `TooLarge` for the first matrix whose width with its salts passes `usize`, with its width as the size. After
+    /// these the generator is as it was. `OutOfMemory` may come at any time; then the generator may stand further on.
+    pub fn commit<M: Matrix<P::Value> + Drop>(
+        &mut self,
+        alloc: Global,
+        matrices: Vec<M>,
+    ) -> Result<
+        (
+            MerkleCap<P::Value, [PW::Value; D]>,
+            SaltedTree<P::Value, PW::Value, M, N, D>,
+        ),
+        MerkleTreeError,
+    >
+        ensures answer { let b = batch_of M.height_of M.width_of M.row_of N matrices.items in
+            OkUnlessRefused result (salted_commit_refusal SALT_ELEMS (shape b).dimensions) }
+        ensures matrices { IfOk result (λ (cap, tree). map left_of (matrices_of tree) ≡ matrices.items) }
+        ensures columns { IfOk result (λ (cap, tree). HaveSaltColumns SALT_ELEMS (matrices_of tree)) }
+        ensures batch { let b = batch_of M.height_of M.width_of M.row_of N matrices.items in
+            let drawn = R.stream (generator_of self.old) in
+            IfOk result (λ (cap, tree). tree_batch tree ≡ salted_batch P.Value.of_salt_word SALT_ELEMS b drawn) }
+        ensures layers { let f = scheme_functions H.hash C.compression D (plain_of self.old) in
+            let b = batch_of M.height_of M.width_of M.row_of N matrices.items in
+            let drawn = R.stream (generator_of self.old) in
+            IfOk result (λ (cap, tree). layers_of tree ≡ layers f (salted_batch P.Value.of_salt_word SALT_ELEMS b drawn)) }
+        ensures cap { let f = scheme_functions H.hash C.compression D (plain_of self.old) in
+            let b = batch_of M.height_of M.width_of M.row_of N matrices.items in
+            let salted = salted_batch P.Value.of_salt_word SALT_ELEMS b (R.stream (generator_of self.old)) in
+            let t = proof_layer (plain_of self.old) (shape salted) in
+            IfOk result (λ (cap, tree). roots_of cap ≡ layer f salted t) }
+        ensures rest { let b = batch_of M.height_of M.width_of M.row_of N matrices.items in
+            let drawn = R.stream (generator_of self.old) in
+            OnOk result (R.stream (generator_of self.new) ≡ after_salts SALT_ELEMS b.matrices drawn) }
+        ensures untouched { IfErr result (λ e. (e ≡ OutOfMemory) ⊎ (generator_of self.new ≡ generator_of self.old)) }
+        ensures scheme { plain_of self.new ≡ plain_of self.old }
+    {
+        let dimensions = dimensions_of(alloc, &matrices)?;
+        check_heights(&dimensions)?;
+        check_widening(&dimensions, SALT_ELEMS)?;
+        let pairs = salted_pairs(alloc, &mut self.generator, SALT_ELEMS, matrices)?;
+        self.plain.commit(alloc, pairs)
+    }
+}
