@@ -3,6 +3,7 @@
 #![tactic(auto)]
 
 mod commit;
+mod fork;
 pub mod hiding_mmcs;
 mod open;
 pub mod pairs;
