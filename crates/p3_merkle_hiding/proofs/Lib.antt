@@ -3,3 +3,4 @@ mod SaltedAnswers
 mod SplitFacts
 mod SaltingFacts
 mod CommitFacts
+mod ExtractedFacts

@@ -143,7 +143,8 @@ module _ {T W : Type 0} (same : W → W → Bool) (f : Functions T W) (n e : ℕ
 
 -- ---- the answers of the calls
 
-said : (r : Result (Unit {0}) MerkleTreeError) (o : Option MerkleTreeError) → r ≡ verdict o → OkUnlessRefused r o
+-- a verdict is what is refused
+pub said : (r : Result (Unit {0}) MerkleTreeError) (o : Option MerkleTreeError) → r ≡ verdict o → OkUnlessRefused r o
 said (Ok v) None is = refl
 said (Ok v) (Some e) is = absurd cc
 said (Err x) None is = absurd cc

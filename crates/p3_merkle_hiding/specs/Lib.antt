@@ -2,3 +2,4 @@ pub mod SaltedOpenings
 pub mod SaltRefusals
 pub mod HidingSchemes
 pub mod SaltedTrees
+pub mod SaltedExtraction

@@ -3,6 +3,7 @@
 #![tactic(auto)]
 
 mod commit;
+mod extract;
 mod fork;
 pub mod hiding_mmcs;
 mod open;

@@ -1,0 +1,84 @@
+//! Extraction: from two salted openings of one cap that differ to two inputs of one digest.
+
+ghost use Rattle.p3_merkle_tree.specs.Schemes.{cap_rule_of, proof_layer, scheme_functions};
+ghost use Rattle.p3_support.specs.Shown.{roots_of};
+ghost use Rattle.p3_merkle_hiding.specs.HidingSchemes.{plain_of, salted_lent};
+ghost use Rattle.p3_merkle_hiding.specs.SaltedExtraction.{wide_shape, IsSaltedExtraction};
+
+use crate::hiding_mmcs::{MerkleTreeHidingMmcs, SaltedProof};
+use crate::salts::SaltedRows;
+use p3_merkle_core::error::MerkleTreeError;
+use p3_merkle_tree::Collision;
+use p3_support::compress::PseudoCompressionFunction;
+use p3_support::hasher::CryptographicHasher;
+use p3_support::matrix::Dimensions;
+use p3_support::opening::{BatchOpeningRef, MerkleCap};
+use p3_support::packed::PackedValue;
+use std::alloc::Global;
+
+impl<
+    P: PackedValue,
+    PW: PackedValue,
+    H: CryptographicHasher<P, PW, D>,
+    C: PseudoCompressionFunction<PW, N, D>,
+    R,
+    const N: usize,
+    const D: usize,
+    const SALT_ELEMS: usize,
+> MerkleTreeHidingMmcs<P, PW, H, C, R, N, D, SALT_ELEMS> {
+    /// What two openings of one cap lead to: nothing where they agree, and else two different inputs of the hasher or of
+    /// the compression that have one digest.
+    ///
+    /// It is the plain scheme's [`extract_collision`](p3_merkle_tree::mmcs::Scheme::extract_collision) of the rows followed
+    /// by their salts, where both openings are checked as [`verify_batch`](Self::verify_batch) checks them. Two openings of
+    /// one index lead to a collision exactly if their siblings differ, or the rows or the salts of a matrix that is
+    /// authenticated; under the rule `Lowered` that is each.
+    ///
+    /// # Errors
+    ///
+    /// What `verify_batch` answers to the first opening, else what it answers to the second; `OutOfMemory` may come at any
+    /// time.
+    pub fn extract_collision(
+        &self,
+        alloc: Global,
+        commit: &MerkleCap<P::Value, [PW::Value; D]>,
+        dimensions: &[Dimensions],
+        index1: usize,
+        first: BatchOpeningRef<'_, P::Value, SaltedProof<P::Value, PW::Value, D>>,
+        index2: usize,
+        second: BatchOpeningRef<'_, P::Value, SaltedProof<P::Value, PW::Value, D>>,
+    ) -> Result<Option<Collision<P::Value, PW::Value, D>>, MerkleTreeError>
+        ensures { let f = scheme_functions H.hash C.compression D (plain_of self.now) in
+            let t = proof_layer (plain_of self.now) (wide_shape N SALT_ELEMS dimensions.now) in
+            let rule = cap_rule_of (plain_of self.now) in
+            let o = salted_lent index1 first.entry in
+            let u = salted_lent index2 second.entry in
+            IsSaltedExtraction P.Value.eq PW.Value.eq f N SALT_ELEMS dimensions.now rule t (roots_of commit.now) o u result }
+    {
+        let (rows1, (salts1, siblings1)) = first.unpack();
+        let salted1 = SaltedRows::new(alloc, dimensions, SALT_ELEMS, rows1, salts1)?;
+        let joined1 = BatchOpeningRef::new(&salted1.rows, siblings1);
+        let (rows2, (salts2, siblings2)) = second.unpack();
+        match SaltedRows::new(alloc, dimensions, SALT_ELEMS, rows2, salts2) {
+            Ok(salted2) => {
+                let joined2 = BatchOpeningRef::new(&salted2.rows, siblings2);
+                self.plain.extract_collision(
+                    alloc,
+                    commit,
+                    &salted1.dimensions,
+                    index1,
+                    joined1,
+                    index2,
+                    joined2,
+                )
+            }
+            // What the first opening is refused for comes before what the second is.
+            Err(error) => {
+                let checked = self
+                    .plain
+                    .verify_batch(commit, &salted1.dimensions, index1, joined1);
+                Err(checked.err().unwrap_or(error))
+            }
+        }
+    }
+}
