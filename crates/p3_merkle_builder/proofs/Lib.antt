@@ -5,5 +5,4 @@ pub mod TreeFacts
 pub mod OwnFacts
 pub mod RowFacts
 pub mod BoundaryFacts
-pub mod LaneFacts
-pub mod StageFacts
+pub mod NodeFacts

@@ -13,20 +13,20 @@ ghost use Rattle.p3_merkle_core.specs.Geometry.{arity_schedule as schedule_of, l
 ghost use Rattle.p3_merkle_core.specs.Nodes.{functions_of, layer, layers as layers_over, shape};
 ghost use Rattle.p3_merkle_builder.specs.Built.{IsBuilt};
 ghost use Rattle.p3_merkle_builder.specs.Levels.{layer_above, node_above, slot_above, CanBuild, CanRaise, IsLevel};
-ghost use Rattle.p3_merkle_builder.specs.Slots.{leaf_over, IsFilled};
+ghost use Rattle.p3_merkle_lanes.specs.Slots.{leaf_over, IsFilled};
 ghost use Rattle.p3_merkle_builder.specs.Views.{batch_of};
 
-use crate::batched::{join_rows, write_batched_folds, write_batched_leaves};
 use crate::levels::{Level, level_above};
-use crate::packed::{
-    packed_fold, packed_groups, packed_join, packed_rows_digest, unpack_at, write_packed_leaves,
-};
 use p3_merkle_core::geometry::{exponent_of, padded_len, tallest_of};
 use p3_merkle_core::group::group_with;
+use p3_merkle_lanes::batched::{join_rows, write_batched_folds, write_batched_leaves};
+use p3_merkle_lanes::packed::{
+    packed_fold, packed_groups, packed_join, packed_rows_digest, write_packed_leaves,
+};
 use p3_support::compress::PseudoCompressionFunction;
 use p3_support::hasher::CryptographicHasher;
 use p3_support::matrix::{Dimensions, Matrix};
-use p3_support::packed::PackedValue;
+use p3_support::packed::{PackedValue, unpack_at};
 use p3_support::rows::rows_of;
 use std::alloc::{AllocError, Global};
 use std::marker::PhantomData;

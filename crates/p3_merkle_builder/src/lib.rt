@@ -1,11 +1,9 @@
 //! The tree over a batch of matrices: how it is built, and what it opens of one leaf and of several.
 #![tactic(auto)]
 
-pub mod batched;
 pub mod copy;
 pub mod layers;
 pub mod levels;
 pub mod opener;
-pub mod packed;
 pub mod pruned;
 pub mod tree;

@@ -3,7 +3,8 @@ use Rattle.std.proofs.Common.{rules, arith, ◌≡◌, ◌+◌, ◌*◌, ◌<◌
 use Rattle.std.proofs.Math.Nat.{mul-le-mul_left}
 use Rattle.p3_support.specs.Lists.{lane_of}
 use Rattle.p3_merkle_core.specs.Nodes.{functions_of}
-use Rattle.p3_merkle_builder.proofs.LaneFacts.{node_alone, node_joined, children_long}
+use Rattle.p3_merkle_lanes.proofs.LaneFacts.{children_long}
+use Rattle.p3_merkle_builder.proofs.NodeFacts.{node_alone, node_joined}
 use Rattle.p3_merkle_builder.proofs.layers.Builder+tuple2+P+PW+H+C+M+array+N+array+D+PW+Value.packed_node.Goals as goal
 
 pub returns-then-not-level : goal.returns-then-not-level

@@ -1,0 +1,21 @@
+-- What is staged are messages of one length.
+use Rattle.std.proofs.Common.{rules, ℕ, ◌+◌, ◌∙◌, ap, map, length}
+use Rattle.std.specs.List.{range_with_len}
+use Rattle.std.proofs.lemmas.Simd.{map-map}
+use Rattle.p3_support.specs.Lists.{messages, rows_of_height}
+use Rattle.p3_merkle_lanes.proofs.batched.hash_rows.Goals as goal
+
+pub hash_many-requires : goal.hash_many-requires
+hash_many-requires g c =
+    let s = c.in_ok-stage_rows.ensures in
+    (search rules, (s.width, ap length c.deref.ensures.value ∙ s.long))
+
+pub returns : goal.returns
+returns g c =
+    let s = c.in_ok-stage_rows.ensures in
+    let n = length c.args.slots.now in
+    let hash = g.H.CryptographicHasher.hash c.args.hash.now in
+    let rows = λ (j : ℕ). rows_of_height g.M.Matrix.height_of g.M.Matrix.row_of c.args.height (c.args.first + j) c.args.matrices.now in
+    c.hash_many.ensures s.width (ap length c.deref.ensures.value ∙ s.long)
+    ∙ ap (λ ws. map hash (messages s.width n ws)) c.deref.ensures.value
+    ∙ ap (map hash) s.are ∙ map-map hash rows (range_with_len 0 n)

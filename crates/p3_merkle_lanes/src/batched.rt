@@ -1,0 +1,230 @@
+//! The digests of many rows or nodes by calls that take many messages at once.
+
+ghost use Rattle.std.specs.Prelude.{◌≡◌, ℕ, ◌+◌, ◌-◌, ◌<◌, ◌≤◌, ◌++◌, [], ◌∷◌, IfOk, length, map, replicate, slice_index_or};
+ghost use Rattle.std.specs.List.{range_with_len};
+ghost use Rattle.p3_support.specs.Lists.{rows_of_height};
+ghost use Rattle.p3_merkle_lanes.specs.Slots.{leaf_over, rows_per_call as rows_in_call, IsFilled, IsStaged};
+
+use p3_merkle_core::group::group_with;
+use p3_support::compress::PseudoCompressionFunction;
+use p3_support::hasher::CryptographicHasher;
+use p3_support::matrix::Matrix;
+use p3_support::packed::PackedValue;
+use std::alloc::{AllocError, Global};
+
+/// How many messages of `bytes` bytes each are laid side by side for one call, which works on `lanes` of them together:
+/// whole groups of lanes, of 16384 bytes at most where a group is smaller. A number that is 0 is read as 1.
+fn rows_per_call(bytes: usize, lanes: usize) -> usize
+    ensures number { result ≡ rows_in_call bytes lanes }
+    ensures some { 0 < result }
+{
+    let bytes = bytes.max(1);
+    let lanes = lanes.max(1);
+    (16384 / bytes / lanes).max(1) * lanes
+}
+
+/// How many elements the rows of the matrices of this height have together, at most 2^64 - 1.
+fn row_len<T, M: Matrix<T>>(matrices: &[M], height: usize) -> usize {
+    let mut len = 0usize;
+    for matrix in matrices {
+        if matrix.height() == height {
+            len = len.saturating_add(matrix.width());
+        }
+    }
+    len
+}
+
+/// Adds a row of a matrix to the rows that are staged.
+fn stage_row<T: Copy, M: Matrix<T>>(
+    staged: &mut Vec<T>,
+    matrix: &M,
+    row: usize,
+) -> Result<(), AllocError>
+    requires { row < M.height_of matrix.now }
+    ensures { IfOk result (λ done. staged.new.items ≡ staged.old.items ++ M.row_of matrix.now row) }
+{
+    match matrix.row_slice(row) {
+        Some(words) => staged.extend_from_slice(words),
+        None => staged.extend(matrix.row(row)),
+    }
+}
+
+/// Adds the rows `row` of the matrices of this height to the rows that are staged, one matrix after another.
+fn stage_rows_at<T: Copy, M: Matrix<T>>(
+    staged: &mut Vec<T>,
+    matrices: &[M],
+    height: usize,
+    row: usize,
+) -> Result<(), AllocError>
+    requires { row < height }
+    ensures { IfOk result (λ done. staged.new.items
+        ≡ staged.old.items ++ rows_of_height M.height_of M.row_of height row matrices.now) }
+{
+    for matrix in matrices {
+        if matrix.height() == height {
+            stage_row(staged, matrix, row)?;
+        }
+    }
+    Ok(())
+}
+
+/// Lays the rows of the matrices of this height side by side, `count` of them from `first` on, in place of what was
+/// staged.
+fn stage_rows<T: Copy, M: Matrix<T>>(
+    staged: &mut Vec<T>,
+    matrices: &[M],
+    height: usize,
+    first: usize,
+    count: usize,
+) -> Result<(), AllocError>
+    requires { first + count ≤ height }
+    ensures { let rows = λ (j : ℕ). rows_of_height M.height_of M.row_of height (first + j) matrices.now in
+        IfOk result (λ done. IsStaged rows count staged.new.items) }
+{
+    staged.clear();
+    for j in 0..count {
+        stage_rows_at(staged, matrices, height, first + j)?;
+    }
+    Ok(())
+}
+
+/// Writes into slot `j` the digest of the rows `first + j` of the matrices of this height, which are staged for that.
+fn hash_rows<
+    P: PackedValue,
+    PW: PackedValue,
+    H: CryptographicHasher<P, PW, D>,
+    M: Matrix<P::Value>,
+    const D: usize,
+>(
+    hash: &H,
+    matrices: &[M],
+    height: usize,
+    first: usize,
+    staged: &mut Vec<P::Value>,
+    slots: &mut [[PW::Value; D]],
+) -> Result<(), AllocError>
+    requires { first + length slots.old ≤ height }
+    ensures { IfOk result (λ done. slots.new
+        ≡ map (λ j. H.hash hash.now (rows_of_height M.height_of M.row_of height (first + j) matrices.now)) (range_with_len 0 (length slots.old))) }
+{
+    stage_rows(staged, matrices, height, first, slots.len())?;
+    hash.hash_many(staged, slots);
+    Ok(())
+}
+
+/// Writes the digests of the rows of the matrices of this height into the first `count` slots, as many rows a call as
+/// [`rows_per_call`] says. They are no more than there are slots, nor than the height.
+///
+/// # Errors
+///
+/// `AllocError` where there is no memory for one buffer of rows.
+pub fn write_batched_leaves<
+    P: PackedValue,
+    PW: PackedValue,
+    H: CryptographicHasher<P, PW, D>,
+    M: Matrix<P::Value>,
+    const D: usize,
+>(
+    alloc: Global,
+    hash: &H,
+    matrices: &[M],
+    height: usize,
+    count: usize,
+    slots: &mut [[PW::Value; D]],
+) -> Result<(), AllocError>
+    requires rows { count ≤ height }
+    requires room { count ≤ length slots.old }
+    ensures { let leaf = leaf_over (H.hash hash.now) (replicate D PW.default_value) M.height_of M.row_of matrices.now height in
+        IfOk result (λ done. IsFilled leaf count (length slots.old) slots.new) }
+{
+    let len = row_len(matrices, height);
+    let bytes = len.saturating_mul(std::mem::size_of_val(&P::Value::default()));
+    let rows = rows_per_call(bytes, H::LANES);
+    let mut staged = Vec::with_capacity(alloc, rows.min(count).saturating_mul(len))?;
+    let mut first = 0;
+    while first < count {
+        let end = first + rows.min(count - first);
+        hash_rows::<P, PW, H, M, D>(
+            hash,
+            matrices,
+            height,
+            first,
+            &mut staged,
+            &mut slots[first..end],
+        )?;
+        first = end;
+    }
+    Ok(())
+}
+
+/// Writes the compressions of whole groups of a layer into the first `count` slots: slot `j` is that of group `j`. There
+/// are at least `count` groups, and as many slots.
+pub fn write_batched_folds<
+    PW: PackedValue,
+    C: PseudoCompressionFunction<PW, N, D>,
+    const N: usize,
+    const D: usize,
+>(compress: &C, groups: &[[[PW::Value; D]; N]], count: usize, slots: &mut [[PW::Value; D]])
+    requires groups { count ≤ length groups.now }
+    requires room { count ≤ length slots.old }
+    ensures { IsFilled (λ j. C.compression compress.now (slice_index_or groups.now j [])) count (length slots.old) slots.new }
+{
+    compress.compress_many(&groups[..count], &mut slots[..count]);
+}
+
+/// Adds the group of a node's digest and the digest of its rows, with default digests behind them, to the groups that
+/// are staged.
+fn stage_pairs<W: Copy, const N: usize, const D: usize>(
+    pairs: &mut Vec<[[W; D]; N]>,
+    default_digest: [W; D],
+    folded: &[[W; D]],
+    rows: &[[W; D]],
+) -> Result<(), AllocError>
+    requires pair { 2 ≤ N }
+    requires same { length rows.now ≡ length folded.now }
+    ensures { IfOk result (λ done. pairs.new.items
+        ≡ map (λ j. slice_index_or folded.now j [] ∷ slice_index_or rows.now j [] ∷ replicate (N - 2) default_digest) (range_with_len 0 (length folded.now))) }
+{
+    pairs.clear();
+    for (j, digest) in folded.iter().enumerate() {
+        let others = [rows[j]];
+        pairs.push(group_with(default_digest, *digest, 0, &others))?;
+    }
+    Ok(())
+}
+
+/// Compresses digests once more, each with the digest of its rows and default digests behind them: slot `j` with
+/// `rows[j]`, as many a call as [`rows_per_call`] says. There are no more rows than slots, and `pairs` is the buffer that
+/// groups are laid in.
+///
+/// # Errors
+///
+/// `AllocError` where there is no memory for that buffer.
+pub fn join_rows<
+    PW: PackedValue,
+    C: PseudoCompressionFunction<PW, N, D>,
+    const N: usize,
+    const D: usize,
+>(
+    compress: &C,
+    pairs: &mut Vec<[[PW::Value; D]; N]>,
+    rows: &[[PW::Value; D]],
+    slots: &mut [[PW::Value; D]],
+) -> Result<(), AllocError>
+    requires pair { 2 ≤ N }
+    requires rows { length rows.now ≤ length slots.old }
+    ensures { let joined = λ (j : ℕ). C.compression compress.now
+        (slice_index_or slots.old j [] ∷ slice_index_or rows.now j [] ∷ replicate (N - 2) (replicate D PW.default_value)) in
+        IfOk result (λ done. IsFilled joined (length rows.now) (length slots.old) slots.new) }
+{
+    let default_digest = [PW::Value::default(); D];
+    let per_call = rows_per_call(std::mem::size_of_val(&[default_digest; N]), C::LANES);
+    let mut first = 0;
+    while first < rows.len() {
+        let end = first + per_call.min(rows.len() - first);
+        stage_pairs(pairs, default_digest, &slots[first..end], &rows[first..end])?;
+        compress.compress_many(pairs, &mut slots[first..end]);
+        first = end;
+    }
+    Ok(())
+}

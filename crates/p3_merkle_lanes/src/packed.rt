@@ -1,0 +1,283 @@
+//! The digests of as many rows or nodes as a packed value has lanes, each in a lane of its own.
+
+ghost use Rattle.std.specs.Mem.{type_size, FitsInMemory};
+ghost use denote.Param.{ArrayAt};
+ghost use Rattle.std.specs.Prelude.{IsTrue, ◌≡◌, ℕ, ◌+◌, ◌-◌, ◌*◌, ◌^◌, ◌<◌, ◌≤◌, ◌++◌, [], ◌∷◌, IfOk, length, map, take, drop, replicate, slice_get, slice_index_or, Some};
+ghost use Rattle.p3_support.specs.Lists.{lane_of, rows_of_height};
+ghost use Rattle.p3_merkle_lanes.specs.Slots.{leaf_over, IsFilled};
+
+use p3_merkle_core::group::group_with;
+use p3_support::compress::PseudoCompressionFunction;
+use p3_support::hasher::CryptographicHasher;
+use p3_support::matrix::Matrix;
+use p3_support::packed::{PackedValue, pack_columns_fn, unpack_at};
+use std::alloc::{AllocError, Global};
+
+/// Whether an array of `outer` arrays of `inner` values each has fewer than 2^63 bytes, as each value has that is moved.
+fn array_fits<T>(item: &T, outer: usize, inner: usize) -> bool
+    ensures { IsTrue result → outer * (inner * type_size T.row) < 2 ^ 63 }
+{
+    let bytes = outer.saturating_mul(inner.saturating_mul(std::mem::size_of_val(item)));
+    bytes < 0x8000_0000_0000_0000
+}
+
+/// How many groups of as many slots as there are lanes are filled lane by lane, of `count` slots: none where a slot would
+/// be a group, or a packed group of children would be too large for any memory.
+pub fn packed_groups<PW: PackedValue, const N: usize, const D: usize>(count: usize) -> usize
+    requires { 0 < N }
+    ensures count { result * PW.WIDTH ≤ count }
+    ensures digest { 0 < result → FitsInMemory (ArrayAt PW.row D.row) }
+    ensures group { 0 < result → FitsInMemory (ArrayAt (ArrayAt PW.row D.row) N.row) }
+{
+    let value = PW::broadcast(PW::Value::default());
+    if PW::WIDTH > 1 && array_fits(&value, N, D) {
+        count / PW::WIDTH
+    } else {
+        0
+    }
+}
+
+/// Adds the packed rows of a matrix, from `row` on, to those that are staged.
+fn stage_packed_row<P: PackedValue, M: Matrix<P::Value>>(
+    staged: &mut Vec<P>,
+    matrix: &M,
+    row: usize,
+) -> Result<(), AllocError>
+    requires { row + P.WIDTH ≤ M.height_of matrix.now }
+    ensures { IfOk result (λ done. (k : ℕ) → k < P.WIDTH →
+        lane_of P.lanes P.default_value k staged.new.items
+        ≡ lane_of P.lanes P.default_value k staged.old.items ++ M.row_of matrix.now (row + k)) }
+{
+    staged.extend(matrix.vertically_packed_row::<P>(row))
+}
+
+/// Lays the packed rows of the matrices of this height one after another, from `row` on, in place of what was staged.
+fn stage_packed_rows<P: PackedValue, M: Matrix<P::Value>>(
+    staged: &mut Vec<P>,
+    matrices: &[M],
+    height: usize,
+    row: usize,
+) -> Result<(), AllocError>
+    requires { row + P.WIDTH ≤ height }
+    ensures { IfOk result (λ done. (k : ℕ) → k < P.WIDTH →
+        lane_of P.lanes P.default_value k staged.new.items
+        ≡ rows_of_height M.height_of M.row_of height (row + k) matrices.now) }
+{
+    staged.clear();
+    for matrix in matrices {
+        if matrix.height() == height {
+            stage_packed_row(staged, matrix, row)?;
+        }
+    }
+    Ok(())
+}
+
+/// The digests of rows of one matrix, from `row` on: lane `k` is that of row `row + k`.
+fn packed_row_digest<
+    P: PackedValue,
+    PW: PackedValue,
+    H: CryptographicHasher<P, PW, D>,
+    M: Matrix<P::Value>,
+    const D: usize,
+>(hash: &H, matrix: &M, row: usize) -> [PW; D]
+    requires { row + P.WIDTH ≤ M.height_of matrix.now }
+    ensures { (k : ℕ) → k < P.WIDTH →
+        lane_of PW.lanes PW.default_value k result ≡ H.hash hash.now (M.row_of matrix.now (row + k)) }
+{
+    hash.hash_packed(matrix.vertically_packed_row::<P>(row))
+}
+
+/// The digests of rows of the matrices of this height, one matrix after another, from `row` on: lane `k` is that of the
+/// rows `row + k`. As many rows as there are lanes are below the height. The rows of several matrices are staged first.
+///
+/// # Errors
+///
+/// `AllocError` where there is no memory to stage them.
+pub fn packed_rows_digest<
+    P: PackedValue,
+    PW: PackedValue,
+    H: CryptographicHasher<P, PW, D>,
+    M: Matrix<P::Value>,
+    const D: usize,
+>(
+    hash: &H,
+    matrices: &[M],
+    height: usize,
+    row: usize,
+    staged: &mut Vec<P>,
+) -> Result<[PW; D], AllocError>
+    requires { row + P.WIDTH ≤ height }
+    ensures { IfOk result (λ digests. (k : ℕ) → k < P.WIDTH →
+        lane_of PW.lanes PW.default_value k digests
+        ≡ H.hash hash.now (rows_of_height M.height_of M.row_of height (row + k) matrices.now)) }
+{
+    match matrices {
+        [matrix] if matrix.height() == height => {
+            Ok(packed_row_digest::<P, PW, H, M, D>(hash, matrix, row))
+        },
+        _ => {
+            stage_packed_rows(staged, matrices, height, row)?;
+            Ok(hash.hash_packed(staged.iter().copied()))
+        },
+    }
+}
+
+/// Writes the digests of the rows of the matrices of this height into the first slots: `groups` groups, each of as many
+/// slots as there are lanes. Both packings have equally many lanes, and these slots are no more than there are, nor than
+/// the height.
+///
+/// # Errors
+///
+/// `AllocError` where there is no memory to stage rows.
+pub fn write_packed_leaves<
+    P: PackedValue,
+    PW: PackedValue,
+    H: CryptographicHasher<P, PW, D>,
+    M: Matrix<P::Value>,
+    const D: usize,
+>(
+    alloc: Global,
+    hash: &H,
+    matrices: &[M],
+    height: usize,
+    groups: usize,
+    slots: &mut [[PW::Value; D]],
+) -> Result<(), AllocError>
+    requires lanes { P.WIDTH ≡ PW.WIDTH }
+    requires digest { 0 < groups → FitsInMemory (ArrayAt PW.row D.row) }
+    requires rows { groups * PW.WIDTH ≤ height }
+    requires room { groups * PW.WIDTH ≤ length slots.old }
+    ensures { let leaf = leaf_over (H.hash hash.now) (replicate D PW.default_value) M.height_of M.row_of matrices.now height in
+        IfOk result (λ done. IsFilled leaf (groups * PW.WIDTH) (length slots.old) slots.new) }
+{
+    let mut staged = Vec::new(alloc);
+    for group in 0..groups {
+        let first = group * PW::WIDTH;
+        let digests = packed_rows_digest::<P, PW, H, M, D>(
+            hash,
+            matrices,
+            height,
+            first,
+            &mut staged,
+        )?;
+        unpack_at(&digests, slots, first);
+    }
+    Ok(())
+}
+
+/// A digest of a layer.
+fn digest_at<X: Copy, const D: usize>(layer: &[[X; D]], index: usize) -> [X; D]
+    requires { index < length layer.now }
+    ensures { slice_get layer.now index ≡ Some result }
+{
+    layer[index]
+}
+
+/// Lane `k` is child `n` of node `first + k` over a layer, where each node has `step` children.
+fn packed_child<PW: PackedValue, const D: usize>(
+    below: &[[PW::Value; D]],
+    step: usize,
+    first: usize,
+    n: usize,
+) -> [PW; D]
+    requires child { n < step }
+    requires inside { step * (first + PW.WIDTH) ≤ length below.now }
+    ensures { (k : ℕ) → k < PW.WIDTH →
+        lane_of PW.lanes PW.default_value k result ≡ slice_index_or below.now (step * (first + k) + n) [] }
+{
+    // A length is a usize, so that the nodes' numbers are.
+    let _len = below.len();
+    pack_columns_fn(
+        |k| -> [PW::Value; D]
+            requires inside { step * (first + k) + n < length below.now }
+            requires fits { first + k < 2 ^ 64 }
+            ensures child { slice_get below.entry.now (step * (first + k) + n) ≡ Some result }
+            ensures long { length result ≡ D }
+        { digest_at(below, step * (first + k) + n) },
+    )
+}
+
+/// Writes the children of the nodes from `first` on over a layer, packed lane by lane, into the first `step` places.
+fn pack_children<PW: PackedValue, const D: usize>(
+    places: &mut [[PW; D]],
+    below: &[[PW::Value; D]],
+    step: usize,
+    first: usize,
+)
+    requires room { step ≤ length places.old }
+    requires inside { step * (first + PW.WIDTH) ≤ length below.now }
+    ensures { (k : ℕ) → k < PW.WIDTH →
+        map (lane_of PW.lanes PW.default_value k) places.new
+        ≡ take step (drop (step * (first + k)) below.now) ++ drop step (map (lane_of PW.lanes PW.default_value k) places.old) }
+{
+    for n in 0..step {
+        places[n] = packed_child(below, step, first, n);
+    }
+}
+
+/// The children of the nodes from `first` on over a layer, packed lane by lane, with default digests behind them.
+fn packed_children<PW: PackedValue, const N: usize, const D: usize>(
+    below: &[[PW::Value; D]],
+    step: usize,
+    first: usize,
+) -> [[PW; D]; N]
+    requires narrow { step ≤ N }
+    requires inside { step * (first + PW.WIDTH) ≤ length below.now }
+    ensures { (k : ℕ) → k < PW.WIDTH →
+        map (lane_of PW.lanes PW.default_value k) result
+        ≡ take step (drop (step * (first + k)) below.now) ++ replicate (N - step) (replicate D PW.default_value) }
+{
+    let mut group = [[PW::broadcast(PW::Value::default()); D]; N];
+    pack_children(&mut group, below, step, first);
+    group
+}
+
+/// Two packed digests, lane by lane, with default digests behind them.
+fn packed_pair<PW: PackedValue, const N: usize, const D: usize>(
+    left: [PW; D],
+    right: [PW; D],
+) -> [[PW; D]; N]
+    requires { 2 ≤ N }
+    ensures { (k : ℕ) → k < PW.WIDTH →
+        map (lane_of PW.lanes PW.default_value k) result
+        ≡ lane_of PW.lanes PW.default_value k left ∷ lane_of PW.lanes PW.default_value k right
+        ∷ replicate (N - 2) (replicate D PW.default_value) }
+{
+    let others = [right];
+    group_with([PW::broadcast(PW::Value::default()); D], left, 0, &others)
+}
+
+/// The compressions of the children of the nodes from `first` on over a layer, with default digests behind them: lane `k`
+/// is that of node `first + k`.
+pub fn packed_fold<
+    PW: PackedValue,
+    C: PseudoCompressionFunction<PW, N, D>,
+    const N: usize,
+    const D: usize,
+>(compress: &C, below: &[[PW::Value; D]], step: usize, first: usize) -> [PW; D]
+    requires group { FitsInMemory (ArrayAt (ArrayAt PW.row D.row) N.row) }
+    requires narrow { step ≤ N }
+    requires inside { step * (first + PW.WIDTH) ≤ length below.now }
+    ensures { (k : ℕ) → k < PW.WIDTH →
+        lane_of PW.lanes PW.default_value k result
+        ≡ C.compression compress.now (take step (drop (step * (first + k)) below.now) ++ replicate (N - step) (replicate D PW.default_value)) }
+{
+    compress.compress_packed(packed_children::<PW, N, D>(below, step, first))
+}
+
+/// The compressions of two packed digests, lane by lane, with default digests behind them.
+pub fn packed_join<
+    PW: PackedValue,
+    C: PseudoCompressionFunction<PW, N, D>,
+    const N: usize,
+    const D: usize,
+>(compress: &C, left: [PW; D], right: [PW; D]) -> [PW; D]
+    requires group { FitsInMemory (ArrayAt (ArrayAt PW.row D.row) N.row) }
+    requires pair { 2 ≤ N }
+    ensures { (k : ℕ) → k < PW.WIDTH →
+        lane_of PW.lanes PW.default_value k result
+        ≡ C.compression compress.now (lane_of PW.lanes PW.default_value k left ∷ lane_of PW.lanes PW.default_value k right
+        ∷ replicate (N - 2) (replicate D PW.default_value)) }
+{
+    compress.compress_packed(packed_pair::<PW, N, D>(left, right))
+}
