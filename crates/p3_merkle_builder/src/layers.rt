@@ -329,6 +329,7 @@ impl<
     /// Writes the nodes of the layer above a layer, each of which has `N` children, into the first `count` slots: first
     /// the compressions of their children; then, where matrices belong to the layer, the digests of their rows, and the
     /// compressions of both.
+    #[tactic(auto, using(p3_merkle_lanes::proofs::StageFacts::made_long))]
     fn write_batched_nodes(
         &self,
         alloc: Global,

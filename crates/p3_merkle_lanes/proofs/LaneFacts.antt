@@ -67,8 +67,16 @@ pub child_at : {X : Type 0} (below : List X) (step first k n : ℕ) (d : X) → 
 child_at below step first k n d child = get_or-take step (drop (step * (first + k)) below) n d child ∙ get_or-drop (step * (first + k)) below n d
 
 -- a number is not above its product with a step
-pub below_product : (step i m : ℕ) → 0 < step → step * i ≤ m → i ≤ m
+below_product : (step i m : ℕ) → 0 < step → step * i ≤ m → i ≤ m
 below_product step i m some fits = let more : 1 * i ≤ step * i = mul-le-mul_right i (omega arith) in omega (arith, more, fits)
+
+-- so a child is in the layer
+pub child_below : (step first k w n m : ℕ) → n < step → k < w → step * (first + w) ≤ m → step * (first + k) + n < m
+child_below step first k w n m child below fits = omega (arith, children_inside step first k w m below fits, child)
+
+-- and its node is no further than the layer's end
+pub node_below : (step first k w n m : ℕ) → n < step → k < w → step * (first + w) ≤ m → first + k ≤ m
+node_below step first k w n m child below fits = below_product step (first + k) m (omega arith) (omega (arith, children_inside step first k w m below fits))
 
 -- a list of one value, seen through a function
 pub map_replicate : {A B : Type 0} (of : A → B) (n : ℕ) (x : A) → map of (replicate n x) ≡ replicate n (of x)

@@ -71,6 +71,10 @@ module _ {A M : Type 0} (height width : M → ℕ) (row : M → ℕ → List A) 
         | inr other ↦ rw other (omega (arith, rest))
       ]
 
+-- a list made by index has its length
+pub made_long : {X : Type 0} (f : ℕ → X) (n : ℕ) (xs : List X) → xs ≡ map f (range_with_len 0 n) → length xs ≡ n
+made_long f n xs is = ap length is ∙ length-map-range_with_len f 0 n
+
 -- one more part of slots is written
 pub part_more : {X : Type 0} (f : ℕ → X) (xs ys : List X) (a k n : ℕ) (d : X) → length ys ≡ n → ((j : ℕ) → j < n → get_or ys j d ≡ f (a + j)) → a ≤ length xs
     → ((j : ℕ) → j < a → get_or xs j d ≡ f j) → (j : ℕ) → j < a + n → get_or (put_mid a k xs ys) j d ≡ f j

@@ -200,6 +200,7 @@ fn stage_pairs<W: Copy, const N: usize, const D: usize>(
 /// # Errors
 ///
 /// `AllocError` where there is no memory for that buffer.
+#[tactic(auto, using(crate::proofs::StageFacts::made_long))]
 pub fn join_rows<
     PW: PackedValue,
     C: PseudoCompressionFunction<PW, N, D>,

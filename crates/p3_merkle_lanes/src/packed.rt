@@ -129,6 +129,7 @@ pub fn packed_rows_digest<
 /// # Errors
 ///
 /// `AllocError` where there is no memory to stage rows.
+#[tactic(auto, using(crate::proofs::LaneFacts::group_end))]
 pub fn write_packed_leaves<
     P: PackedValue,
     PW: PackedValue,
@@ -174,6 +175,7 @@ fn digest_at<X: Copy, const D: usize>(layer: &[[X; D]], index: usize) -> [X; D]
 }
 
 /// Lane `k` is child `n` of node `first + k` over a layer, where each node has `step` children.
+#[tactic(auto, using(crate::proofs::LaneFacts::child_below, crate::proofs::LaneFacts::node_below))]
 fn packed_child<PW: PackedValue, const D: usize>(
     below: &[[PW::Value; D]],
     step: usize,

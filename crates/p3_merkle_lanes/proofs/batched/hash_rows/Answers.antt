@@ -1,14 +1,9 @@
 -- What is staged are messages of one length.
-use Rattle.std.proofs.Common.{rules, ℕ, ◌+◌, ◌∙◌, ap, map, length}
+use Rattle.std.proofs.Common.{ℕ, ◌+◌, ◌∙◌, ap, map, length}
 use Rattle.std.specs.List.{range_with_len}
 use Rattle.std.proofs.lemmas.Simd.{map-map}
 use Rattle.p3_support.specs.Lists.{messages, rows_of_height}
 use Rattle.p3_merkle_lanes.proofs.batched.hash_rows.Goals as goal
-
-pub hash_many-requires : goal.hash_many-requires
-hash_many-requires g c =
-    let s = c.in_ok-stage_rows.ensures in
-    (search rules, (s.width, ap length c.deref.ensures.value ∙ s.long))
 
 pub returns : goal.returns
 returns g c =

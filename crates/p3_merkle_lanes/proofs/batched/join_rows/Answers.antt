@@ -1,12 +1,8 @@
 -- Each turn compresses the groups of one call.
-use Rattle.std.proofs.Common.{rules, arith, ◌≡◌, ℕ, ◌+◌, ◌-◌, ◌≤◌, List, ◌∷◌, ◌∙◌, [], ap, length, map, take, drop, replicate, slice_index_or}
+use Rattle.std.proofs.Common.{arith, ◌≡◌, ℕ, ◌+◌, ◌-◌, ◌≤◌, List, ◌∷◌, ◌∙◌, [], ap, length, map, take, drop, replicate, slice_index_or}
 use Rattle.std.specs.List.{range_with_len}
-use Rattle.std.proofs.lemmas.List.FromFn.{length-map-range_with_len}
 use Rattle.p3_merkle_lanes.proofs.StageFacts.{join_more}
 use Rattle.p3_merkle_lanes.proofs.batched.join_rows.Goals as goal
-
-pub compress_many-requires : goal.compress_many-requires
-compress_many-requires g c = (search rules, (search rules, ap length (c.deref.ensures.value ∙ c.in_ok-stage_pairs.ensures) ∙ length-map-range_with_len _ 0 _))
 
 pub loop-first-preserved : goal.loop-first-preserved
 loop-first-preserved g c =

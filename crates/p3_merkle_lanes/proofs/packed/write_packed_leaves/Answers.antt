@@ -1,5 +1,5 @@
 -- Each turn writes the slots of one group.
-use Rattle.std.proofs.Common.{rules, arith, ◌≡◌, ℕ, ◌+◌, ◌*◌, ◌<◌, ◌∙◌, [], refl, length, replicate, slice_index_or}
+use Rattle.std.proofs.Common.{arith, ◌≡◌, ℕ, ◌+◌, ◌*◌, ◌<◌, ◌∙◌, [], refl, replicate, slice_index_or}
 use Rattle.std.proofs.lemmas.Bool.{lt-ltb}
 use Rattle.p3_support.specs.Lists.{lane_of}
 use Rattle.p3_merkle_lanes.specs.Slots.{leaf_over}
@@ -8,16 +8,6 @@ use Rattle.p3_merkle_lanes.proofs.packed.write_packed_leaves.Goals as goal
 
 pub loop-group-init : goal.loop-group-init
 loop-group-init g c = record { long = refl; filled = λ j none. absurd (omega (arith, none)) }
-
-pub packed_rows_digest-requires : goal.packed_rows_digest-requires
-packed_rows_digest-requires g c =
-    let end = group_end c.loop-group.group g.PW.PackedValue.WIDTH c.args.groups c.args.height c.loop-group-test.true c.requires.rows in
-    (c.requires.digest (omega arith), rw (c.WIDTH.ensures, c.requires.lanes) end)
-
-pub unpack_at-requires : goal.unpack_at-requires
-unpack_at-requires g c =
-    let end = group_end c.loop-group.group g.PW.PackedValue.WIDTH c.args.groups (length c.args.slots.now) c.loop-group-test.true c.requires.room in
-    (c.requires.digest (omega arith), (search rules, rw (c.WIDTH.ensures, c.loop-group.invariant.long) end))
 
 pub loop-group-preserved : goal.loop-group-preserved
 loop-group-preserved g c =

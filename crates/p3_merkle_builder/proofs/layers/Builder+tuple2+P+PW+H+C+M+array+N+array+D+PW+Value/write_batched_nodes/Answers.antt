@@ -32,12 +32,6 @@ returns-then-not-level g c =
           (length-take-le v.step (drop (v.step * j) below) (omega (arith, length-drop (v.step * j) below, fits))) (slice_index_or slots j []) c.if-not-level.true is;
     }
 
-pub join_rows-requires : goal.join_rows-requires
-join_rows-requires g c =
-    let f = leaf_over (g.H.CryptographicHasher.hash c.args.self.now.hash.now) (replicate g.row.D g.PW.PackedValue.default_value) g.M.Matrix.height_of g.M.Matrix.row_of c.args.self.now.matrices.now c.args.level.now.height in
-    let rows : length c.deref.result.now ≡ c.args.count = ap length (c.deref.ensures.value ∙ c.in_ok-rows.ensures) ∙ length-map-range_with_len f 0 c.args.count in
-    (search rules, (search rules, (omega (arith, c.requires.level.wide, c.requires.level.narrow), omega (arith, rows, c.write_batched_folds.ensures.long, c.requires.room))))
-
 pub returns : goal.returns
 returns g c =
     let v = c.args.level.now in

@@ -30,6 +30,9 @@ returns-clause-answer g c =
     (c.deref-2.ensures.value ∙ c.in_ok-dimensions.ensures ∙ ap (λ ms. dimensions_of (map (matrix_of g.M.Matrix.height_of g.M.Matrix.width_of g.M.Matrix.row_of) ms)) c.deref.ensures.value)
     c.in_ok-check_heights.ensures.answer
 
+pub returns-clause-matrices : goal.returns-clause-matrices
+returns-clause-matrices g c = refl
+
 pub returns-clause-layers : goal.returns-clause-layers
 returns-clause-layers g c =
     let f = functions_of (g.H.CryptographicHasher.hash c.args.hash.now) (g.C.PseudoCompressionFunction.compression c.args.compress.now) (replicate g.row.D g.PW.PackedValue.default_value) in
