@@ -21,8 +21,7 @@ pub fn authenticated<const N: usize>(
     let mut answers = Vec::new(alloc);
     for matrix in 0..dimensions.len() {
         let is_authenticated = scheme.is_authenticated(&dimensions, matrix)?;
-        let answer = if is_authenticated { "yes" } else { "no" };
-        answers.push(String::from_str(alloc, answer)?)?;
+        answers.push(text::yes_or_no(alloc, is_authenticated)?)?;
     }
     text::joined(alloc, &answers, " ")
 }

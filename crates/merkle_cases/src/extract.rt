@@ -5,10 +5,11 @@ ghost use Rattle.p3_merkle_core.specs.Geometry.{is_arity};
 
 use crate::fields::{Fault, Fields};
 use crate::pruned::LeavesOpening;
-use crate::scheme::fold_scheme;
+use crate::scheme::{FoldScheme, fold_scheme};
 use crate::text;
 use crate::verify::LeafOpening;
 use p3_merkle_tree::{BatchOpeningRef, Collision, MerkleCap, Place};
+use p3_support::matrix::Dimensions;
 use std::alloc::{AllocError, Global};
 
 /// A place by its name, and the level that it is on.
@@ -62,10 +63,22 @@ pub fn extract_pruned<const N: usize>(
     let dimensions = fields.dimensions(alloc)?;
     let first = LeavesOpening::of(alloc, fields)?;
     let second = LeavesOpening::of(alloc, fields)?;
+    leaves_text(alloc, &scheme, &cap, &dimensions, &first, &second)
+}
+
+/// What two openings of several leaves lead to.
+fn leaves_text<const N: usize>(
+    alloc: Global,
+    scheme: &FoldScheme<N>,
+    cap: &MerkleCap<u32, [u32; 1]>,
+    dimensions: &[Dimensions],
+    first: &LeavesOpening,
+    second: &LeavesOpening,
+) -> Result<String, Fault> {
     let found = scheme.extract_collision_multi(
         alloc,
-        &cap,
-        &dimensions,
+        cap,
+        dimensions,
         &first.indices,
         &first.rows,
         &first.proof,
@@ -93,10 +106,22 @@ pub fn extract<const N: usize>(alloc: Global, fields: &mut Fields<'_>) -> Result
     let dimensions = fields.dimensions(alloc)?;
     let first = LeafOpening::of(alloc, fields)?;
     let second = LeafOpening::of(alloc, fields)?;
+    leaf_text(alloc, &scheme, &cap, &dimensions, &first, &second)
+}
+
+/// What two openings lead to.
+fn leaf_text<const N: usize>(
+    alloc: Global,
+    scheme: &FoldScheme<N>,
+    cap: &MerkleCap<u32, [u32; 1]>,
+    dimensions: &[Dimensions],
+    first: &LeafOpening,
+    second: &LeafOpening,
+) -> Result<String, Fault> {
     let found = scheme.extract_collision(
         alloc,
-        &cap,
-        &dimensions,
+        cap,
+        dimensions,
         first.index,
         BatchOpeningRef::from(&first.opening),
         second.index,

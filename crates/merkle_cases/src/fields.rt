@@ -17,6 +17,17 @@ pub enum Fault {
     Unreadable(&'static str),
 }
 
+impl Fault {
+    /// The answer of a case that ends so: the text of what is refused or wrong. A line that can't be read has none.
+    pub fn answer(self, alloc: Global) -> Result<String, Fault> {
+        match self {
+            Fault::Refused(error) => Ok(format!(in alloc; "{error}")?),
+            Fault::Wrong(way) => Ok(String::from_str(alloc, way)?),
+            Fault::Unreadable(reason) => Err(Fault::Unreadable(reason)),
+        }
+    }
+}
+
 impl From<MerkleTreeError> for Fault {
     fn from(error: MerkleTreeError) -> Fault {
         Fault::Refused(error)

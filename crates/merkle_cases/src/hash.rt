@@ -4,8 +4,8 @@ ghost use Rattle.std.specs.Prelude.{◌≤◌};
 
 use crate::fields::{Fault, Fields};
 use crate::text;
-use p3_support::compress::PseudoCompressionFunction;
 use p3_instances::fold::{FoldCompress, FoldHash};
+use p3_support::compress::PseudoCompressionFunction;
 use p3_support::hasher::CryptographicHasher;
 use std::alloc::Global;
 

@@ -80,11 +80,20 @@ pub fn known(alloc: Global, fields: &mut Fields<'_>) -> Result<String, Fault> {
         numbers: fields.numbers(alloc)?,
     };
     let steps = schedule_below_of(alloc, &dimensions, arity, levels_of(&dimensions, arity))?;
+    answers_of(alloc, &steps, &indices, &nodes)
+}
+
+/// Whether the root is known without each of the nodes in turn, and then with all.
+fn answers_of(
+    alloc: Global,
+    steps: &[usize],
+    indices: &[usize],
+    nodes: &Given,
+) -> Result<String, Fault> {
     let mut answers = Vec::new(alloc);
     for left_out in 0..=nodes.numbers.len() {
-        let is_known = is_root_known(alloc, &steps, &indices, &nodes, left_out)?;
-        let answer = if is_known { "yes" } else { "no" };
-        answers.push(String::from_str(alloc, answer)?)?;
+        let is_known = is_root_known(alloc, steps, indices, nodes, left_out)?;
+        answers.push(text::yes_or_no(alloc, is_known)?)?;
     }
     text::joined(alloc, &answers, " ")
 }

@@ -103,19 +103,19 @@ fn expected(alloc: Global, fields: &Fields<'_>) -> Result<String, Fault> {
     text::joined(alloc, &texts, " | ")
 }
 
+/// What a case is answered, where a fault that is no answer is none.
+fn answer_or_refusal(alloc: Global, fields: &mut Fields<'_>) -> Result<String, Fault> {
+    match answer(alloc, fields) {
+        Ok(text) => Ok(text),
+        Err(fault) => fault.answer(alloc),
+    }
+}
+
 /// What a case is answered, where that is not what its line says.
 fn wrong_text(alloc: Global, fields: &mut Fields<'_>) -> Result<Option<String>, Fault> {
-    let got = match answer(alloc, fields) {
-        Ok(text) => text,
-        Err(Fault::Refused(error)) => format!(in alloc; "{error}")?,
-        Err(Fault::Wrong(way)) => String::from_str(alloc, way)?,
-        Err(Fault::Unreadable(reason)) => return Err(Fault::Unreadable(reason)),
-    };
-    if got.as_str() == expected(alloc, fields)?.as_str() {
-        Ok(None)
-    } else {
-        Ok(Some(got))
-    }
+    let got = answer_or_refusal(alloc, fields)?;
+    let expected = expected(alloc, fields)?;
+    Ok((got.as_str() != expected.as_str()).then_some(got))
 }
 
 /// The same of a line. Where its cap names no rule, it is answered alike under each.

@@ -22,6 +22,16 @@ fn dimensions_of(alloc: Global, matrices: &[&Rows]) -> Result<Vec<Dimensions>, A
     Ok(dimensions)
 }
 
+/// The dimensions of the matrices that a tree shows.
+fn shown_dimensions<const N: usize>(
+    alloc: Global,
+    scheme: &FoldScheme<N>,
+    tree: &FoldTree<Rows, N>,
+) -> Result<Vec<Dimensions>, MerkleTreeError> {
+    let matrices = scheme.get_matrices(alloc, tree)?;
+    Ok(dimensions_of(alloc, &matrices)?)
+}
+
 /// The opening of a leaf, where there is such a leaf and its opening is accepted.
 pub fn accepted<const N: usize>(
     alloc: Global,
@@ -49,8 +59,13 @@ pub fn open<const N: usize>(alloc: Global, fields: &mut Fields<'_>) -> Result<St
     let matrices = fields.matrices(alloc)?;
     let index = fields.number()?;
     let (cap, tree) = scheme.commit(alloc, matrices)?;
-    let dimensions = dimensions_of(alloc, &scheme.get_matrices(alloc, &tree)?)?;
+    let dimensions = shown_dimensions(alloc, &scheme, &tree)?;
     let opening = accepted(alloc, &scheme, &cap, &tree, &dimensions, index)?;
+    opening_text(alloc, &opening)
+}
+
+/// The rows of an opening, and its siblings.
+fn opening_text(alloc: Global, opening: &FoldOpening) -> Result<String, Fault> {
     let rows = text::rows(alloc, &opening.opened_values)?;
     let siblings = text::digests(alloc, &opening.opening_proof)?;
     text::joined(alloc, &[rows, siblings], " | ")
@@ -79,7 +94,7 @@ pub fn kept<const N: usize>(alloc: Global, fields: &mut Fields<'_>) -> Result<St
     let scheme = fold_scheme::<N>(ROOT);
     let (_, tree) = scheme.commit(alloc, numbered(alloc, &fields.columns(alloc)?)?)?;
     let max_height = scheme.get_max_height(&tree);
-    let dimensions = dimensions_of(alloc, &scheme.get_matrices(alloc, &tree)?)?;
+    let dimensions = shown_dimensions(alloc, &scheme, &tree)?;
     let dimensions = text::dimensions(alloc, &dimensions)?;
     Ok(format!(in alloc; "{max_height} | {dimensions}")?)
 }

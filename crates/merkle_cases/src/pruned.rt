@@ -4,13 +4,13 @@ ghost use Rattle.std.specs.Prelude.{◌≤◌, IsTrue};
 ghost use Rattle.p3_merkle_core.specs.Geometry.{is_arity};
 
 use crate::fields::{Fault, Fields};
-use crate::scheme::{FoldScheme, fold_scheme};
+use crate::scheme::{FoldScheme, FoldTree, fold_scheme};
 use crate::text;
 use p3_merkle_core::pruning::{PrunedProof, check_indices};
 use p3_merkle_tree::{
     BatchOpeningRef, MerkleAuthPath, MerkleCap, MerkleTreeError, PrunedMerklePaths,
 };
-use p3_support::matrix::Dimensions;
+use p3_support::matrix::{Dimensions, RowMajorMatrix};
 use std::alloc::Global;
 
 /// `pruned_len | ARITY | CAP | HEIGHTS | INDICES | DIGESTS`: how many digests a pruned proof of some indices has.
@@ -33,8 +33,18 @@ pub fn pruned<const N: usize>(alloc: Global, fields: &mut Fields<'_>) -> Result<
     let scheme = fold_scheme::<N>(fields.cap()?);
     let (_, tree) = scheme.commit(alloc, fields.matrices(alloc)?)?;
     let indices = fields.numbers(alloc)?;
-    check_indices(scheme.get_max_height(&tree), &indices)?;
-    let opening = scheme.open_batch_pruned(alloc, &indices, &tree)?;
+    opened_text(alloc, &scheme, &tree, &indices)
+}
+
+/// The rows of each of these leaves of a tree, and the digests of the proof for all of them.
+fn opened_text<const N: usize>(
+    alloc: Global,
+    scheme: &FoldScheme<N>,
+    tree: &FoldTree<RowMajorMatrix<u32>, N>,
+    indices: &[usize],
+) -> Result<String, Fault> {
+    check_indices(scheme.get_max_height(tree), indices)?;
+    let opening = scheme.open_batch_pruned(alloc, indices, tree)?;
     let rows = text::row_sets(alloc, &opening.opened_values)?;
     let digests = text::digests(alloc, &opening.pruned_proof.sibling_hashes)?;
     Ok(format!(in alloc; "{rows} | {digests}")?)

@@ -5,8 +5,8 @@ ghost use Rattle.p3_merkle_core.specs.Geometry.{is_arity};
 
 use crate::fields::Fault;
 use crate::lists::matrix_from;
-use p3_merkle_tree::{BatchOpening, CapRule, MerkleTree, MerkleTreeError, MerkleTreeMmcs};
 use p3_instances::fold::{FoldCompress, FoldHash};
+use p3_merkle_tree::{BatchOpening, CapRule, MerkleTree, MerkleTreeError, MerkleTreeMmcs};
 use p3_support::matrix::{Dimensions, Matrix, RowMajorMatrix};
 use std::alloc::{AllocError, Global};
 

@@ -142,11 +142,22 @@ pub fn sweep<const N: usize>(alloc: Global, fields: &mut Fields<'_>) -> Result<S
     let (mut count, mut digests) = (0_usize, 0_usize);
     let scheme = fold_scheme::<N>(cap);
     for dimensions in &batches {
-        let (cap, tree) = scheme.commit(alloc, numbered(alloc, dimensions)?)?;
-        let lists = lists_of(alloc, queries, tallest_of(dimensions))?;
-        let more = digests_for_all(alloc, &scheme, &cap, &tree, dimensions, &lists)?;
-        digests = digests.saturating_add(more);
-        count = count.saturating_add(lists.len());
+        let (more_lists, more_digests) = counts_for(alloc, &scheme, dimensions, queries)?;
+        count = count.saturating_add(more_lists);
+        digests = digests.saturating_add(more_digests);
     }
     text::numbers(alloc, &[count, digests])
+}
+
+/// How many lists of queries there are for a batch of these dimensions, and how many digests their proofs have.
+fn counts_for<const N: usize>(
+    alloc: Global,
+    scheme: &FoldScheme<N>,
+    dimensions: &[Dimensions],
+    queries: &str,
+) -> Result<(usize, usize), Fault> {
+    let (cap, tree) = scheme.commit(alloc, numbered(alloc, dimensions)?)?;
+    let lists = lists_of(alloc, queries, tallest_of(dimensions))?;
+    let digests = digests_for_all(alloc, scheme, &cap, &tree, dimensions, &lists)?;
+    Ok((lists.len(), digests))
 }

@@ -3,7 +3,7 @@
 use crate::fields::Fault;
 use p3_merkle_tree::{MerkleAuthPath, MerkleTreeError};
 use p3_support::matrix::Dimensions;
-use std::alloc::Global;
+use std::alloc::{AllocError, Global};
 
 /// Texts with a text between them; `-` where there are none.
 pub fn joined(alloc: Global, texts: &[String], between: &str) -> Result<String, Fault> {
@@ -18,6 +18,11 @@ pub fn joined(alloc: Global, texts: &[String], between: &str) -> Result<String, 
         whole.push_str("-")?;
     }
     Ok(whole)
+}
+
+/// `yes` or `no`.
+pub fn yes_or_no(alloc: Global, is_so: bool) -> Result<String, AllocError> {
+    String::from_str(alloc, if is_so { "yes" } else { "no" })
 }
 
 /// Numbers with blanks between them.
