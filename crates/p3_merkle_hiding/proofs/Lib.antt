@@ -4,3 +4,4 @@ mod SplitFacts
 mod SaltingFacts
 mod CommitFacts
 mod ExtractedFacts
+mod ExtractedSetsFacts

@@ -2,11 +2,11 @@
 
 ghost use Rattle.p3_merkle_tree.specs.Schemes.{cap_rule_of, proof_layer, scheme_functions};
 ghost use Rattle.p3_support.specs.Shown.{roots_of};
-ghost use Rattle.p3_merkle_hiding.specs.HidingSchemes.{plain_of, salted_lent};
-ghost use Rattle.p3_merkle_hiding.specs.SaltedExtraction.{wide_shape, IsSaltedExtraction};
+ghost use Rattle.p3_merkle_hiding.specs.HidingSchemes.{plain_of, salted_lent, salted_pruned_lent};
+ghost use Rattle.p3_merkle_hiding.specs.SaltedExtraction.{wide_shape, IsSaltedExtraction, IsSaltedMultiExtraction};
 
-use crate::hiding_mmcs::{MerkleTreeHidingMmcs, SaltedProof};
-use crate::salts::SaltedRows;
+use crate::hiding_mmcs::{MerkleTreeHidingMmcs, SaltedMultiProof, SaltedProof};
+use crate::salts::{SaltedRows, SaltedSets};
 use p3_merkle_core::error::MerkleTreeError;
 use p3_merkle_tree::Collision;
 use p3_support::compress::PseudoCompressionFunction;
@@ -77,6 +77,66 @@ impl<
                 let checked = self
                     .plain
                     .verify_batch(commit, &salted1.dimensions, index1, joined1);
+                Err(checked.err().unwrap_or(error))
+            }
+        }
+    }
+
+    /// What two pruned openings of one cap lead to: nothing where all their queries agree, and else a query of each that
+    /// leads to two different inputs of the hasher or of the compression that have one digest.
+    ///
+    /// It is the plain scheme's [`extract_collision_multi`](p3_merkle_tree::mmcs::Scheme::extract_collision_multi) of the
+    /// rows followed by their salts, where both openings are checked as [`verify_multi_batch`](Self::verify_multi_batch)
+    /// checks them: the first pair of queries whose checks differ, by their places in the two lists, from 0, and the
+    /// collision.
+    ///
+    /// # Errors
+    ///
+    /// What `verify_multi_batch` answers to the first opening, else what it answers to the second; `OutOfMemory` may come
+    /// at any time.
+    pub fn extract_collision_multi(
+        &self,
+        alloc: Global,
+        commit: &MerkleCap<P::Value, [PW::Value; D]>,
+        dimensions: &[Dimensions],
+        indices1: &[usize],
+        rows1: &[Vec<Vec<P::Value>>],
+        proof1: &SaltedMultiProof<P::Value, PW::Value, D>,
+        indices2: &[usize],
+        rows2: &[Vec<Vec<P::Value>>],
+        proof2: &SaltedMultiProof<P::Value, PW::Value, D>,
+    ) -> Result<Option<(usize, usize, Collision<P::Value, PW::Value, D>)>, MerkleTreeError>
+        ensures { let f = scheme_functions H.hash C.compression D (plain_of self.now) in
+            let t = proof_layer (plain_of self.now) (wide_shape N SALT_ELEMS dimensions.now) in
+            let p = salted_pruned_lent indices1.now rows1.now proof1.now in
+            let r = salted_pruned_lent indices2.now rows2.now proof2.now in
+            IsSaltedMultiExtraction P.Value.eq PW.Value.eq f N SALT_ELEMS dimensions.now t (roots_of commit.now) p r result }
+    {
+        let (salts1, pruned1) = proof1;
+        let salted1 = SaltedSets::new(alloc, dimensions, SALT_ELEMS, rows1, salts1)?;
+        let (salts2, pruned2) = proof2;
+        match SaltedSets::new(alloc, dimensions, SALT_ELEMS, rows2, salts2) {
+            Ok(salted2) => self.plain.extract_collision_multi(
+                alloc,
+                commit,
+                &salted1.dimensions,
+                indices1,
+                &salted1.sets,
+                pruned1,
+                indices2,
+                &salted2.sets,
+                pruned2,
+            ),
+            // What the first opening is refused for comes before what the second is.
+            Err(error) => {
+                let checked = self.plain.verify_batch_pruned(
+                    alloc,
+                    commit,
+                    &salted1.dimensions,
+                    indices1,
+                    &salted1.sets,
+                    pruned1,
+                );
                 Err(checked.err().unwrap_or(error))
             }
         }

@@ -6,4 +6,4 @@ pub mod CheckFacts
 pub mod LoweredFacts
 pub mod PrunedFacts
 pub mod CommitmentFacts
-mod MultiFacts
+pub mod MultiFacts
