@@ -1,7 +1,6 @@
 -- What the plain commitment to pairs says of the salted matrices.
-use Rattle.std.proofs.Common.{◌≡◌, ◌∙◌, ◌⊎◌, ◌*◌, ℕ, List, [], ◌∷◌, map, ap, refl, sym, subst, inl, inr, None, Option, Result}
-use Rattle.std.specs.Prelude.{Ok, Err, IfErr, IfOk, OnOk}
-use Rattle.std.specs.Option.{option_or}
+use Rattle.std.proofs.Common.{◌≡◌, ◌∙◌, ◌⊎◌, ◌*◌, ℕ, List, [], ◌∷◌, ap, refl, inl, inr, None, Option, Result}
+use Rattle.std.specs.Prelude.{Ok, Err, IfErr, OnOk}
 use Rattle.rand_core.specs.Stream.{Stream}
 use Rattle.p3_support.specs.Salts.{after_words}
 use Rattle.p3_support.specs.declared.matrix.Dimensions.{Dimensions}

@@ -1,32 +1,28 @@
 -- What the answer to two salted openings means.
-use Rattle.std.proofs.Common.{◌≡◌, ◌↔◌, ◌∙◌, ◌++◌, ℕ, Bool, List, [], ◌∷◌, ap, arith, inl, inr, length, map, refl, subst, sym, None, Some, Option, Result, ◌⊎◌}
-use Rattle.std.specs.Prelude.{Ok, Err, IfErr, IfOk, IsErr, IsNone, IsSome}
+use Rattle.std.proofs.Common.{◌≡◌, ◌∙◌, ◌++◌, ℕ, Bool, List, [], ◌∷◌, ap, arith, inl, inr, length, map, refl, subst, sym, None, Some, Option, Result, ◌⊎◌}
+use Rattle.std.specs.Prelude.{Ok, Err, IsErr}
 use Rattle.std.specs.Option.{option_or, unwrap_or}
 use Rattle.std.specs.Result.{result_err}
-use Rattle.std.proofs.lemmas.List.{length-map}
-use Rattle.std.proofs.lemmas.Result.{IfOk-weaker}
-use Rattle.std.proofs.Math.Seq.{drop-append_seam, take-append_seam}
 use Rattle.p3_support.specs.declared.matrix.Dimensions.{Dimensions}
 use Rattle.p3_merkle_builder.specs.Built.{OkUnlessRefused}
 use Rattle.p3_merkle_core.specs.Caps.{cap_layer}
 use Rattle.p3_merkle_core.specs.Extracting.{extraction_under, input_eq, last_difference, ok_unless}
-use Rattle.p3_merkle_core.specs.Geometry.{IsArity, Shape, shape_of, widths_of}
+use Rattle.p3_merkle_core.specs.Geometry.{IsArity, Shape, shape_of}
 use Rattle.p3_merkle_core.specs.Nodes.{Functions}
-use Rattle.p3_merkle_core.specs.Openings.{Input, Opening, opening_of, shared_inputs}
-use Rattle.p3_merkle_core.specs.Refusals.{IsEquality, answer_under, refusal_under, verdict}
+use Rattle.p3_merkle_core.specs.Openings.{Input, Opening, shared_inputs}
+use Rattle.p3_merkle_core.specs.Refusals.{IsEquality, refusal_under}
 use Rattle.p3_merkle_core.specs.declared.cap.CapRule.{CapRule}
-use Rattle.p3_merkle_core.specs.declared.cap.CapRule.TheVariants.{Lowered}
 use Rattle.p3_merkle_core.specs.declared.error.MerkleTreeError.{MerkleTreeError}
 use Rattle.p3_merkle_core.specs.declared.error.MerkleTreeError.TheVariants.{OutOfMemory}
 use Rattle.p3_merkle_core.proofs.NoneFacts.{none_of_both, none_parts}
-use Rattle.p3_merkle_checker.proofs.ExtractFacts.{IsMeant, alike_at_one_index, meant, twice_is_found}
+use Rattle.p3_merkle_checker.proofs.ExtractFacts.{alike_at_one_index, meant, twice_is_found}
 use Rattle.p3_merkle_checker.specs.Collisions.{AnswersUnlessMemory}
 use Rattle.p3_merkle_checker.specs.declared.collision.InputPair.{InputPair}
 use Rattle.p3_merkle_tree.proofs.LoweredFacts.{all_authenticated, any_twice_is_found, same_at_one_index}
 use Rattle.p3_merkle_hiding.proofs.SaltedAnswers.{salted_accepted}
 use Rattle.p3_merkle_hiding.specs.SaltRefusals.{salted_refusal_under, salted_rows_refusal}
 use Rattle.p3_merkle_hiding.specs.SaltedExtraction.{IsSaltedExtraction, salted_extraction_under, wide_shape}
-use Rattle.p3_merkle_hiding.specs.SaltedOpenings.{HaveSalts, IsSaltedAccepted, SaltedOpening, joined, salted_rows, widened}
+use Rattle.p3_merkle_hiding.specs.SaltedOpenings.{SaltedOpening, joined, salted_rows, widened}
 
 -- ---- rows and salts that are joined alike are alike
 

@@ -1,6 +1,6 @@
 -- What the answer to two pruned salted openings means.
 use Rattle.std.proofs.Common.{◌≡◌, ◌∙◌, ◌⊎◌, ℕ, Bool, List, ap, inl, inr, length, refl, subst, sym, None, Some, Option, Result}
-use Rattle.std.specs.Prelude.{Ok, Err, IfOk, IsErr}
+use Rattle.std.specs.Prelude.{Ok, Err, IsErr}
 use Rattle.std.specs.Option.{option_or, unwrap_or}
 use Rattle.std.specs.Result.{result_err}
 use Rattle.p3_support.specs.declared.matrix.Dimensions.{Dimensions}
@@ -18,7 +18,7 @@ use Rattle.p3_merkle_core.specs.declared.error.MerkleTreeError.TheVariants.{OutO
 use Rattle.p3_merkle_core.proofs.NoneFacts.{none_of_both, none_parts}
 use Rattle.p3_merkle_checker.specs.declared.collision.InputPair.{InputPair}
 use Rattle.p3_merkle_pruner.specs.Pairs.{AnswersPairUnlessMemory}
-use Rattle.p3_merkle_tree.proofs.MultiFacts.{IsMultiMeant, multi_meant}
+use Rattle.p3_merkle_tree.proofs.MultiFacts.{multi_meant}
 use Rattle.p3_merkle_hiding.proofs.SaltedAnswers.{salted_pruned_accepted}
 use Rattle.p3_merkle_hiding.specs.SaltRefusals.{salted_pruned_refusal_under, salted_sets_refusal}
 use Rattle.p3_merkle_hiding.specs.SaltedExtraction.{IsSaltedMultiExtraction, salted_extraction_multi_under, wide_shape}

@@ -1,5 +1,5 @@
 -- What is not refused of rows and salts is accepted, and the other way round.
-use Rattle.std.proofs.Common.{◌≡◌, ◌↔◌, ℕ, ◌+◌, ◌<◌, ◌^◌, Bool, false, List, [], ◌∷◌, refl, sym, ap, ◌∙◌, arith, inl, inr, length, get_or, map, zip, None, Some, Option, Result, All, position, nat_le, nat_lt, eqb, subst}
+use Rattle.std.proofs.Common.{◌≡◌, ◌↔◌, ℕ, ◌+◌, ◌<◌, ◌^◌, Bool, false, List, [], ◌∷◌, refl, sym, ap, ◌∙◌, arith, inl, inr, length, get_or, map, zip, None, Some, Option, Result, nat_le, nat_lt, eqb, subst}
 use Rattle.std.specs.Prelude.{Ok, Err, IfErr, IsOk}
 use Rattle.std.specs.List.{AllZip, position_or_len}
 use Rattle.std.specs.Option.{option_map, option_or}
@@ -17,7 +17,7 @@ use Rattle.p3_merkle_core.specs.Nodes.{Functions}
 use Rattle.p3_merkle_core.specs.Refusals.{IsEquality, answer_under, first_of, pruned_refusal_under, refusal_under, row_width_refusal, size_refusal, verdict, width_refusal}
 use Rattle.p3_merkle_core.specs.declared.error.MerkleTreeError.{MerkleTreeError}
 use Rattle.p3_merkle_core.specs.declared.error.MerkleTreeError.TheVariants.{OutOfMemory, TooLarge, WrongBatchSize}
-use Rattle.p3_merkle_core.proofs.NoneFacts.{fit_from, none_of_both, none_parts, unless_none, verdict_ok}
+use Rattle.p3_merkle_core.proofs.NoneFacts.{fit_from, none_of_both, none_parts, unless_none}
 use Rattle.p3_merkle_core.proofs.Unrefused.{each_width, size_none}
 use Rattle.p3_merkle_core.proofs.Verdicts.{accepted_answer, accepted_from, pruned_accepted}
 use Rattle.p3_merkle_hiding.proofs.SaltFacts.{can_widen}

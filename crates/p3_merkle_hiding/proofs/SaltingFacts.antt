@@ -1,17 +1,11 @@
 -- One more matrix gets its salts.
-use Rattle.std.proofs.Common.{◌≡◌, ℕ, suc, ◌+◌, ◌*◌, ◌<◌, ◌^◌, List, [], ◌∷◌, ◌++◌, map, refl, ap, sym, ◌∙◌, arith, append_assoc}
+use Rattle.std.proofs.Common.{◌≡◌, ℕ, suc, ◌+◌, ◌*◌, ◌<◌, ◌^◌, List, [], ◌∷◌, ◌++◌, map, refl, ◌∙◌, arith, append_assoc}
 use Rattle.std.proofs.lemmas.List.{map-append}
 use Rattle.rand_core.specs.Stream.{Stream}
-use Rattle.p3_support.specs.Lists.{message}
 use Rattle.p3_support.specs.Salts.{after_words, salts}
-use Rattle.p3_support.specs.declared.matrix.Matrix.{Ghosts}
-use Rattle.p3_support.specs.declared.pair.HorizontalPair.{HorizontalPair}
-use Rattle.p3_support.specs.Pairs.{left_of, right_of}
-use Rattle.p3_merkle_builder.specs.Views.{matrix_of}
 use Rattle.p3_merkle_core.specs.Nodes.{Matrix, dimensions_of}
 use Rattle.p3_merkle_core.specs.Salted.{after_salts, salted, salted_matrices}
 use Rattle.p3_merkle_hiding.specs.SaltedOpenings.{CanWiden}
-use Rattle.p3_merkle_hiding.specs.SaltedTrees.{HaveSaltColumns, pair_matrix}
 
 -- the first of some matrices that can be wider can be, and so can the others
 pub first_fits : {T : Type 0} (e : ℕ) (m : Matrix T) (ms all : List (Matrix T)) → all ≡ m ∷ ms → CanWiden e (dimensions_of all) → m.width + e < 2 ^ 64

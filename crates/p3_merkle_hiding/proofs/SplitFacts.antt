@@ -1,11 +1,10 @@
 -- Rows of pairs, taken apart where the left matrix ends.
-use Rattle.std.proofs.Common.{◌≡◌, ℕ, zero, suc, ◌+◌, ◌/◌, ◌^◌, ◌<◌, List, [], ◌∷◌, ◌++◌, map, refl, ap, sym, subst, ◌∙◌, arith, length, get_or, take, drop, zip, All}
+use Rattle.std.proofs.Common.{◌≡◌, ℕ, zero, suc, ◌+◌, ◌/◌, ◌^◌, ◌<◌, List, [], ◌∷◌, ◌++◌, map, refl, ap, sym, subst, ◌∙◌, arith, length, get_or, take, drop, All}
 use Rattle.std.specs.List.{AllZip}
 use Rattle.std.proofs.lemmas.List.{get_or_default, length-map, take-append-drop}
 use Rattle.std.proofs.lemmas.Simd.{map-map}
 use Rattle.std.proofs.Math.Seq.{drop-append_seam, take-append_seam}
 use Rattle.p3_support.specs.declared.matrix.Matrix.{Ghosts}
-use Rattle.p3_support.specs.declared.matrix.Dimensions.{Dimensions}
 use Rattle.p3_support.specs.declared.pair.HorizontalPair.{HorizontalPair}
 use Rattle.p3_support.specs.Pairs.{left_of, pair_row, right_of}
 use Rattle.p3_merkle_core.specs.Geometry.{IsLawful, Shape, bits_reduced, heights, heights_of, shape_of, tallest, widths_of}
@@ -14,7 +13,7 @@ use Rattle.p3_merkle_core.specs.PrunedCalls.{IsPrunedAccepted}
 use Rattle.p3_merkle_core.specs.Pruning.{pruned_of}
 use Rattle.p3_merkle_core.specs.Openings.{IsAccepted, honest_rows, opening_of}
 use Rattle.p3_merkle_builder.proofs.RowFacts.{row_inside}
-use Rattle.p3_merkle_builder.specs.Views.{batch_of, matrix_of}
+use Rattle.p3_merkle_builder.specs.Views.{matrix_of}
 use Rattle.p3_merkle_hiding.specs.SaltedOpenings.{CanWiden, HaveSalts, IsSaltedAccepted, IsSaltedPrunedAccepted, salt_parts, salted_rows, salted_sets, unsalted_parts, widened}
 use Rattle.p3_merkle_hiding.specs.SaltedTrees.{HaveSaltColumns, left_batch, pair_matrix, right_batch}
 

@@ -1,5 +1,5 @@
 -- Why an opening with salts is refused: the first reason that holds.
-use Rattle.std.specs.Prelude.{ℕ, ◌+◌, ◌^◌, nat_le, List, length, map, zip, Option, None, Some, Bool, Result, position, option_map, slice_index}
+use Rattle.std.specs.Prelude.{ℕ, ◌+◌, ◌^◌, nat_le, List, length, zip, Option, Bool, position, option_map, slice_index}
 use Rattle.std.specs.Option.{option_or}
 use Rattle.p3_support.specs.declared.matrix.Dimensions.{Dimensions}
 use Rattle.p3_merkle_core.specs.Gate.{gate_refusal}

@@ -1,5 +1,5 @@
 -- Where either slice is at its end, no set is refused.
-use Rattle.std.proofs.Common.{sym, ap, ◌∙◌, arith, length, List}
+use Rattle.std.proofs.Common.{sym, ap, ◌∙◌}
 use Rattle.std.specs.Iterator.Adapters.{zip_first, zip_second}
 use Rattle.std.specs.Slice.Iter.{iter_rest}
 use Rattle.std.proofs.lemmas.List.{length-map}

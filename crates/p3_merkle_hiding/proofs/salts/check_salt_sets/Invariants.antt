@@ -1,4 +1,4 @@
-use Rattle.std.proofs.Common.{◌≡◌, length, zip}
+use Rattle.std.proofs.Common.{◌≡◌, zip}
 use Rattle.std.specs.Iterator.Adapters.{zip_first, zip_second}
 use Rattle.std.specs.Slice.Iter.{iter_rest}
 use Rattle.p3_merkle_core.specs.Refusals.{first_of}

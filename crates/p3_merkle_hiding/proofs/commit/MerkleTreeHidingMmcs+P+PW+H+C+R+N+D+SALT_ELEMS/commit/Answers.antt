@@ -6,12 +6,11 @@ use Rattle.p3_support.specs.declared.matrix.Dimensions.{Dimensions}
 use Rattle.p3_support.specs.Pairs.{left_of}
 use Rattle.p3_support.specs.Shown.{roots_of}
 use Rattle.p3_merkle_builder.specs.Built.{OkUnlessRefused}
-use Rattle.p3_merkle_builder.specs.Parts.{layers_of, matrices_of}
-use Rattle.p3_merkle_builder.specs.Views.{batch_of, matrix_of}
+use Rattle.p3_merkle_builder.specs.Parts.{layers_of}
+use Rattle.p3_merkle_builder.specs.Views.{matrix_of}
 use Rattle.p3_merkle_core.specs.Gate.{gate_refusal}
 use Rattle.p3_merkle_core.specs.Geometry.{heights_of}
 use Rattle.p3_merkle_core.specs.Nodes.{Batch, Matrix, dimensions_of, layer, layers, shape}
-use Rattle.p3_merkle_core.specs.Salted.{salted_batch, salted_matrices}
 use Rattle.p3_merkle_tree.specs.Schemes.{proof_layer, scheme_functions}
 use Rattle.p3_merkle_hiding.specs.HidingSchemes.{generator_of, plain_of}
 use Rattle.p3_merkle_hiding.specs.SaltRefusals.{salted_commit_refusal, widening_refusal}

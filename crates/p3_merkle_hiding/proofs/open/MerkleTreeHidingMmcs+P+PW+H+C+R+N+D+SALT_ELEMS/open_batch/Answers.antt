@@ -1,8 +1,8 @@
 -- Each row is taken apart where its left matrix ends; of an own tree the opening is accepted.
-use Rattle.std.proofs.Common.{◌≡◌, ◌∙◌, List, ap, map, subst, sym}
+use Rattle.std.proofs.Common.{◌∙◌, List, ap, map, subst, sym}
 use Rattle.std.proofs.lemmas.Simd.{map-map}
 use Rattle.p3_merkle_core.specs.Nodes.{dimensions_of, layer, shape}
-use Rattle.p3_merkle_core.specs.Openings.{IsAccepted, honest_rows, opening_of}
+use Rattle.p3_merkle_core.specs.Openings.{IsAccepted, opening_of}
 use Rattle.p3_merkle_builder.specs.Parts.{matrices_of, tree_batch}
 use Rattle.p3_merkle_tree.specs.Schemes.{proof_layer, scheme_functions}
 use Rattle.p3_support.specs.Pairs.{left_of}

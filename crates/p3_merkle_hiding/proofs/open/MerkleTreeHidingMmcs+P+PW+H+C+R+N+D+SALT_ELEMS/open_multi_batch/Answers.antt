@@ -1,8 +1,7 @@
 -- Each row is taken apart where its left matrix ends; of an own tree the opening is accepted.
-use Rattle.std.proofs.Common.{◌≡◌, ◌∙◌, List, ap, map, subst, sym}
+use Rattle.std.proofs.Common.{◌∙◌, List, ap, map, subst, sym}
 use Rattle.std.proofs.lemmas.Simd.{map-map}
 use Rattle.p3_merkle_core.specs.Nodes.{dimensions_of, layer, shape}
-use Rattle.p3_merkle_core.specs.Openings.{honest_rows}
 use Rattle.p3_merkle_core.specs.PrunedCalls.{IsPrunedAccepted}
 use Rattle.p3_merkle_core.specs.Pruning.{pruned_of}
 use Rattle.p3_merkle_builder.specs.Parts.{matrices_of, tree_batch}
