@@ -1,0 +1,22 @@
+//! Tests of the salted scheme over the fold functions, at values that were worked out by hand: what it commits to, what it
+//! opens, each refusal of its verifiers, and what is found where two openings differ.
+#![tactic(auto)]
+
+#[cfg(test)]
+mod answers;
+#[cfg(test)]
+mod collisions;
+#[cfg(test)]
+mod commits;
+#[cfg(test)]
+mod counting;
+#[cfg(test)]
+mod fixtures;
+#[cfg(test)]
+mod opens;
+#[cfg(test)]
+mod pruned_refusals;
+#[cfg(test)]
+mod random;
+#[cfg(test)]
+mod refusals;
