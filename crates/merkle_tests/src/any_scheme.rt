@@ -4,8 +4,8 @@ ghost use Rattle.std.specs.Prelude.{◌≡◌, ◌<◌, ◌↔◌, IfErr, IfOk, 
 ghost use Rattle.p3_support.specs.Batches.{dimensions_in, greatest_height};
 
 use crate::fixtures::numbered;
-use p3_merkle_tree::MerkleTreeMmcs;
 use p3_instances::fold::{FoldCompress, FoldHash};
+use p3_merkle_tree::MerkleTreeMmcs;
 use p3_support::matrix::{Dimensions, Matrix};
 use p3_support::mmcs::Mmcs;
 use p3_support::opening::BatchOpeningRef;

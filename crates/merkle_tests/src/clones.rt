@@ -2,8 +2,8 @@
 
 use crate::calls::layers_in;
 use crate::fixtures::{Numbers, columns};
-use p3_merkle_tree::{MerkleTree, MerkleTreeError, MerkleTreeMmcs};
 use p3_instances::fold::{FoldCompress, FoldHash};
+use p3_merkle_tree::{MerkleTree, MerkleTreeError, MerkleTreeMmcs};
 use p3_support::matrix::{Matrix, RowMajorMatrix};
 use std::alloc::{AllocError, Global};
 use std::process::Abort;

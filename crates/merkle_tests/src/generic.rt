@@ -2,10 +2,10 @@
 //! two words.
 
 use crate::calls::accepted_cap;
-use p3_merkle_tree::{CapRule, MerkleCap, MerkleTreeError, MerkleTreeMmcs};
 use p3_instances::batched::Batched3;
 use p3_instances::fold::{FoldCompress, FoldHash};
 use p3_instances::lanes::{Lanes, U32x8};
+use p3_merkle_tree::{CapRule, MerkleCap, MerkleTreeError, MerkleTreeMmcs};
 use std::alloc::Global;
 use std::test::Fail;
 

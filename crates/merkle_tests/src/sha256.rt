@@ -3,13 +3,13 @@
 ghost use Rattle.std.specs.Prelude.{◌≤◌, IsTrue};
 ghost use Rattle.p3_merkle_core.specs.Geometry.{is_arity};
 
+use p3_instances::sha::{Sha256Nodes, Sha256Rows};
 use p3_merkle_core::pruning::{PrunedRows, check_indices};
 use p3_merkle_tree::{
     BatchOpening, BatchOpeningRef, MerkleAuthPath, MerkleCap, MerkleTree, MerkleTreeError,
     MerkleTreeMmcs,
 };
 use p3_support::matrix::{Dimensions, RowMajorMatrix};
-use p3_instances::sha::{Sha256Nodes, Sha256Rows};
 use std::alloc::{AllocError, Global};
 use std::process::Abort;
 use std::test::Fail;

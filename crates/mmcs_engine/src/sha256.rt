@@ -17,11 +17,11 @@ use crate::fault::Fault;
 use crate::input::{dimensions_of, read_matrices};
 use crate::suite::Suite;
 use crate::text::{push_byte_digests, push_row};
+use p3_instances::sha::{Sha256Nodes, Sha256Rows};
 use p3_merkle_tree::{MerkleCap, MerkleTree, MerkleTreeError, MerkleTreeMmcs, PrunedBatchOpening};
 use p3_support::compress::PseudoCompressionFunction;
 use p3_support::hasher::CryptographicHasher;
 use p3_support::matrix::{Dimensions, Matrix, RowMajorMatrix};
-use p3_instances::sha::{Sha256Nodes, Sha256Rows};
 use std::alloc::{AllocError, Global};
 
 /// The scheme of SHA-256, under this choice of a cap. The arity is 2, 4 or 8.
