@@ -23,6 +23,7 @@ mod open;
 mod pruned;
 mod queries;
 mod replay;
+mod salted;
 mod scheme;
 mod sweep;
 mod text;
@@ -82,6 +83,8 @@ fn answer(alloc: Global, fields: &mut Fields<'_>) -> Result<String, Fault> {
         "widths" => geometry::widths(alloc, fields),
         "heights" => heights::heights(alloc, fields),
         "known" => known::known(alloc, fields),
+        "verify_salted" => salted::verify(alloc, fields),
+        "verify_salted_pruned" => salted::verify_pruned(alloc, fields),
         keyword => match fields.take()? {
             "2" => answer_at::<2>(alloc, keyword, fields),
             "4" => answer_at::<4>(alloc, keyword, fields),
