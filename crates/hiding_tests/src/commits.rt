@@ -53,6 +53,7 @@ fn each_commit_has_salts_of_its_own(rt: HostRuntime) -> Result<(), Fail> {
     for (leaves, root) in [([[1002], [1043]], [32106]), ([[1022], [1063]], [32746])] {
         let (cap, tree) = scheme.commit(alloc, columns(alloc, &[&[1, 2]])?)?;
         assert_eq!(rt; cap.roots(), [root].as_slice());
+        assert!(rt; 1 < tree.num_layers());
         assert_eq!(rt; tree.cap(alloc, 1)?.roots(), leaves.as_slice());
     }
     Ok(())

@@ -1,5 +1,5 @@
 //! Tests of the salted scheme over the fold functions, at values that were worked out by hand: what it commits to, what it
-//! opens, each refusal of its verifiers, and what is found where two openings differ.
+//! opens, and what is found where two openings differ.
 #![tactic(auto)]
 
 #[cfg(test)]
@@ -15,8 +15,4 @@ mod fixtures;
 #[cfg(test)]
 mod opens;
 #[cfg(test)]
-mod pruned_refusals;
-#[cfg(test)]
 mod random;
-#[cfg(test)]
-mod refusals;
