@@ -123,7 +123,7 @@ fn a_cap_is_lowered_to_the_last_matrix_or_fixed(rt: HostRuntime) -> Result<(), F
     let alloc = rt.alloc();
     let sizes = dimensions_of(alloc, &[(1, 2), (1, 1)])?;
     for (rule, roots, siblings) in &RULES {
-        let mut scheme = OneSalt::new_with_rule(FoldHash, FoldCompress, 1, *rule, Counting(0));
+        let mut scheme = OneSalt::new_with_rule(FoldHash, FoldCompress, 1, Counting(0), *rule);
         assert_eq!(rt; scheme.cap_height(), 1);
         assert_eq!(rt; scheme.cap_rule(), *rule);
         let (cap, tree) = scheme.commit(alloc, columns(alloc, &[&[1, 2], &[5]])?)?;

@@ -128,7 +128,7 @@ impl<
         ensures rule { cap_rule_of (plain_of result) ≡ Lowered }
         ensures generator { generator_of result ≡ rng }
     {
-        Self::new_with_rule(hash, compress, cap_height, CapRule::Lowered, rng)
+        Self::new_with_rule(hash, compress, cap_height, rng, CapRule::Lowered)
     }
 
     /// The salted scheme whose cap is `cap_height` levels below the root as far as the rule lets it: see [`CapRule`].
@@ -138,8 +138,8 @@ impl<
         hash: H,
         compress: C,
         cap_height: usize,
-        rule: CapRule,
         rng: R,
+        rule: CapRule,
     ) -> MerkleTreeHidingMmcs<P, PW, H, C, R, N, D, SALT_ELEMS>
         requires arity { IsTrue (is_arity N) }
         requires lanes { P.WIDTH ≡ PW.WIDTH }
