@@ -5,3 +5,4 @@ mod SaltingFacts
 mod CommitFacts
 mod ExtractedFacts
 mod ExtractedSetsFacts
+mod SaltedCommitmentFacts

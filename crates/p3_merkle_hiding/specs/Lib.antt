@@ -3,3 +3,5 @@ pub mod SaltRefusals
 pub mod HidingSchemes
 pub mod SaltedTrees
 pub mod SaltedExtraction
+pub mod SaltedCommitments
+pub mod SaltedCommitmentLaws

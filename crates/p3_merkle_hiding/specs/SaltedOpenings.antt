@@ -43,6 +43,10 @@ pub record SaltedOpening (T W : Type 0) : Type 0 where
   pub salts : List (List T)
   pub siblings : List (List W)
 
+-- the opening of an index, rows, salts and siblings
+abbrev pub salted_of : {T W : Type 0} → ℕ → List (List T) → List (List T) → List (List W) → SaltedOpening T W
+salted_of index rows salts siblings = record { index = index; rows = rows; salts = salts; siblings = siblings }
+
 -- the plain opening that a check sees: rows followed by salts
 abbrev pub joined : {T W : Type 0} → SaltedOpening T W → Opening T W
 joined o = opening_of o.index (salted_rows o.rows o.salts) o.siblings
@@ -53,6 +57,10 @@ pub record SaltedPruned (T W : Type 0) : Type 0 where
   pub rows : List (List (List T))
   pub salts : List (List (List T))
   pub digests : List (List W)
+
+-- the opening of indices, row sets, salt sets and digests
+abbrev pub salted_pruned_of : {T W : Type 0} → List ℕ → List (List (List T)) → List (List (List T)) → List (List W) → SaltedPruned T W
+salted_pruned_of indices rows salts digests = record { indices = indices; rows = rows; salts = salts; digests = digests }
 
 -- the plain pruned opening that a check sees
 abbrev pub joined_sets : {T W : Type 0} → SaltedPruned T W → PrunedOpening T W

@@ -10,6 +10,7 @@ mod open;
 pub mod pairs;
 pub mod salting;
 pub mod salts;
+mod scheme_trait;
 mod verify;
 
 pub use hiding_mmcs::MerkleTreeHidingMmcs;

@@ -1,0 +1,26 @@
+-- What a salted scheme commits to, and what it shows under a commitment.
+use Rattle.std.specs.Prelude.{ℕ, List}
+use Rattle.p3_support.specs.Batches.{dimensions_in}
+use Rattle.p3_support.specs.declared.matrix.Dimensions.{Dimensions}
+use Rattle.p3_support.specs.declared.matrix.Matrix.{Ghosts}
+use Rattle.p3_support.specs.declared.pair.HorizontalPair.{HorizontalPair}
+use Rattle.p3_merkle_builder.specs.Views.{heights_in}
+use Rattle.p3_merkle_core.specs.Geometry.{IsLawful}
+use Rattle.p3_merkle_core.specs.Nodes.{Batch, Functions}
+use Rattle.p3_merkle_tree.specs.Commitments.{IsCommitment}
+use Rattle.p3_merkle_hiding.specs.SaltedOpenings.{CanWiden, IsSaltedAccepted, salted_of}
+use Rattle.p3_merkle_hiding.specs.SaltedTrees.{HaveSaltColumns}
+
+-- matrices that can be committed to with e salts a row: their heights are lawful, and their widths with the salts are sizes
+pub record CanCommitSalted {T M : Type 0} (height width : M → ℕ) (row : M → ℕ → List T) (e : ℕ) (matrices : List M) : Type 0 where
+  pub lawful : IsLawful (heights_in height width row matrices)
+  pub can_widen : CanWiden e (dimensions_in height width matrices)
+
+-- a commitment to a batch, which is that of pairs with e salts a row
+pub record IsSaltedCommitment {T W A B : Type 0} {a : Ghosts A T} {b : Ghosts B T} (f : Functions T W) (t e : ℕ) (cap : List (List W)) (batch : Batch T) (own : List (List (List W))) (pairs : List (HorizontalPair T A B a b)) : Type 0 where
+  pub committed : IsCommitment f t cap batch own
+  pub columns : HaveSaltColumns e pairs
+
+-- with some salts and siblings the rows are accepted at an index under a cap, which is layer t
+abbrev pub IsSaltedShown : {T W : Type 0} → Functions T W → ℕ → ℕ → List Dimensions → ℕ → List (List W) → ℕ → List (List T) → Type 0
+IsSaltedShown {T = T} {W = W} f n e dimensions t cap index rows = (salts : List (List T)) × (siblings : List (List W)) × IsSaltedAccepted f n e dimensions t cap (salted_of index rows salts siblings)
