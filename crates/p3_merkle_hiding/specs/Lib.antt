@@ -5,3 +5,4 @@ pub mod SaltedTrees
 pub mod SaltedExtraction
 pub mod SaltedCommitments
 pub mod SaltedCommitmentLaws
+pub mod SaltedExamples
