@@ -1,5 +1,5 @@
-//! Merkle commitments whose rows are salted: each row is followed by random words before it is hashed, so that a digest
-//! tells nothing of a row that could be guessed.
+//! Merkle commitments whose rows are salted: each row is followed by random words before it is hashed. That this hides a
+//! row is not proved.
 #![tactic(auto)]
 
 mod commit;
