@@ -106,7 +106,7 @@ fn expected(alloc: Global, fields: &Fields<'_>) -> Result<String, Fault> {
     text::joined(alloc, &texts, " | ")
 }
 
-/// What a case is answered, where a fault that is no answer is none.
+/// What a case is answered: an answer, or the text of what is refused or wrong.
 fn answer_or_refusal(alloc: Global, fields: &mut Fields<'_>) -> Result<String, Fault> {
     match answer(alloc, fields) {
         Ok(text) => Ok(text),
