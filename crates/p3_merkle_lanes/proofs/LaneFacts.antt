@@ -7,7 +7,7 @@ use Rattle.std.proofs.Math.Nat.{mul-le-mul_right, mul-le-mul_left, mul-suc, add-
 use Rattle.p3_support.specs.Lists.{lane_of, rows_of_height}
 use borrow.Rule.Slice.PartMut.{put_mid}
 use prog.Memory.{capped}
-use prog.Capped.{capped_is, capped_small}
+use prog.Capped.{capped_fits, capped_is, capped_small}
 
 -- the end of a group of w is w past its start
 pub group_next : (g w : ℕ) → (g + 1) * w ≡ g * w + w
@@ -134,6 +134,21 @@ array_small outer inner s h =
                 omega arith
           ]
     ]
+
+-- a word holds no more of a size than the size
+capped_le : (s : ℕ) → capped s ≤ s
+capped_le s = elim (cases_lt s (2 ^ 64)) [
+  | inl small ↦ let is : capped s ≡ s = capped_is s small in omega (arith, is)
+  | inr large ↦ let fits : capped s < 2 ^ 64 = capped_fits s in omega (arith, fits)
+]
+
+-- and it is small where the array fits
+pub array_fits : (outer inner s : ℕ) → outer * (inner * s) < 2 ^ 63 → min (outer * min (inner * capped s) (2 ^ 64 - 1)) (2 ^ 64 - 1) < 2 ^ 63
+array_fits outer inner s h =
+    let part : ℕ = min (inner * capped s) (2 ^ 64 - 1) in
+    let size : inner * capped s ≤ inner * s = mul-le-mul_left inner (capped_le s) in
+    let less : outer * part ≤ outer * (inner * s) = mul-le-mul_left outer (omega (arith, size)) in
+    omega (arith, less, h)
 
 -- so the inner array fits, where there is one
 pub inner_small : (outer inner s : ℕ) → 0 < outer → outer * (inner * s) < 2 ^ 63 → inner * s < 2 ^ 63

@@ -15,7 +15,8 @@ use std::alloc::{AllocError, Global};
 
 /// Whether an array of `outer` arrays of `inner` values each has fewer than 2^63 bytes, as each value has that is moved.
 fn array_fits<T>(item: &T, outer: usize, inner: usize) -> bool
-    ensures { IsTrue result → outer * (inner * type_size T.row) < 2 ^ 63 }
+    ensures small { IsTrue result → outer * (inner * type_size T.row) < 2 ^ 63 }
+    ensures fits { outer * (inner * type_size T.row) < 2 ^ 63 → IsTrue result }
 {
     let bytes = outer.saturating_mul(inner.saturating_mul(std::mem::size_of_val(item)));
     bytes < 0x8000_0000_0000_0000
@@ -26,6 +27,7 @@ fn array_fits<T>(item: &T, outer: usize, inner: usize) -> bool
 pub fn packed_groups<PW: PackedValue, const N: usize, const D: usize>(count: usize) -> usize
     requires { 0 < N }
     ensures count { result * PW.WIDTH ≤ count }
+    ensures whole { 1 < PW.WIDTH → FitsInMemory (ArrayAt (ArrayAt PW.row D.row) N.row) → count < result * PW.WIDTH + PW.WIDTH }
     ensures digest { 0 < result → FitsInMemory (ArrayAt PW.row D.row) }
     ensures group { 0 < result → FitsInMemory (ArrayAt (ArrayAt PW.row D.row) N.row) }
 {
