@@ -1,6 +1,6 @@
 -- What the plain commitment to pairs says of the salted matrices.
 use Rattle.std.proofs.Common.{◌≡◌, ◌∙◌, ◌⊎◌, ◌*◌, ℕ, List, [], ◌∷◌, ap, refl, inl, inr, None, Option, Result}
-use Rattle.std.specs.Prelude.{Ok, Err, IfErr, OnOk}
+use Rattle.std.specs.Prelude.{Ok, Err, IfErr, IfOk, IsErr, OnOk}
 use Rattle.rand_core.specs.Stream.{Stream}
 use Rattle.p3_support.specs.Salts.{after_words}
 use Rattle.p3_support.specs.declared.matrix.Dimensions.{Dimensions}
@@ -42,6 +42,20 @@ module _ {A : Type 0} where
   pub on_ok : (P : Type 0) (r : Result A MerkleTreeError) → P → OnOk r P
   on_ok P (Ok v) holds = holds
   on_ok P (Err e) holds = tt
+
+  -- an error says nothing of what is made, and nothing of what is drawn
+  pub nothing_made : (P : A → Type 0) (r : Result A MerkleTreeError) → IsErr r → IfOk r P
+  nothing_made P (Ok v) err = absurd cc
+  nothing_made P (Err e) err = tt
+
+  pub nothing_drawn : (P : Type 0) (r : Result A MerkleTreeError) → IsErr r → OnOk r P
+  nothing_drawn P (Ok v) err = absurd cc
+  nothing_drawn P (Err e) err = tt
+
+  -- what holds on every error holds beside the want of memory
+  pub stays : (P : Type 0) (r : Result A MerkleTreeError) → P → IfErr r (λ e. (e ≡ OutOfMemory) ⊎ P)
+  stays P (Ok v) holds = tt
+  stays P (Err e) holds = inr holds
 
 -- matrices that pass the gate, and can be wider, are not refused
 pub commit_none : (e : ℕ) (ds : List Dimensions) → gate_refusal (heights_of ds) ≡ None → widening_refusal e ds ≡ None → salted_commit_refusal e ds ≡ None

@@ -15,21 +15,61 @@ use Rattle.p3_merkle_tree.specs.Schemes.{proof_layer, scheme_functions}
 use Rattle.p3_merkle_hiding.specs.HidingSchemes.{generator_of, plain_of}
 use Rattle.p3_merkle_hiding.specs.SaltRefusals.{salted_commit_refusal, widening_refusal}
 use Rattle.p3_merkle_hiding.specs.SaltedTrees.{HaveSaltColumns, pair_matrix}
-use Rattle.p3_merkle_hiding.proofs.CommitFacts.{commit_none, gate_stays, memory_alone, memory_or, on_ok, unrefused}
+use Rattle.p3_merkle_hiding.proofs.CommitFacts.{commit_none, gate_stays, memory_alone, memory_or, nothing_drawn, nothing_made, on_ok, stays, unrefused}
 use Rattle.p3_merkle_hiding.proofs.commit.MerkleTreeHidingMmcs+P+PW+H+C+R+N+D+SALT_ELEMS.commit.Goals as goal
 
-pub returns-in_err-check_heights-clause-answer : goal.returns-in_err-check_heights-clause-answer
-returns-in_err-check_heights-clause-answer g c =
+pub returns-in_err-dimensions : goal.returns-in_err-dimensions
+returns-in_err-dimensions g c =
+    let r = c.from_residual.result in
+    let err = c.from_residual.ensures.0 in
+    record {
+      answer = search rules;
+      matrices = nothing_made _ r err;
+      columns = nothing_made _ r err;
+      batch = nothing_made _ r err;
+      layers = nothing_made _ r err;
+      cap = nothing_made _ r err;
+      rest = nothing_drawn _ r err;
+      untouched = stays _ r refl;
+      scheme = refl;
+    }
+
+pub returns-in_err-check_heights : goal.returns-in_err-check_heights
+returns-in_err-check_heights g c =
+    let r = c.from_residual-in_err-check_heights.result in
+    let err = c.from_residual-in_err-check_heights.ensures.0 in
     let shown = map (matrix_of g.M.Matrix.height_of g.M.Matrix.width_of g.M.Matrix.row_of) in
     let are = c.deref-2.ensures.value ∙ c.in_ok-dimensions.ensures ∙ ap (λ ms. dimensions_of (shown ms)) c.deref.ensures.value in
-    subst (λ (ds : List Dimensions). OkUnlessRefused c.from_residual-in_err-check_heights.result (salted_commit_refusal g.row.SALT_ELEMS ds)) are (search rules)
+    record {
+      answer = subst (λ (ds : List Dimensions). OkUnlessRefused r (salted_commit_refusal g.row.SALT_ELEMS ds)) are (search rules);
+      matrices = nothing_made _ r err;
+      columns = nothing_made _ r err;
+      batch = nothing_made _ r err;
+      layers = nothing_made _ r err;
+      cap = nothing_made _ r err;
+      rest = nothing_drawn _ r err;
+      untouched = stays _ r refl;
+      scheme = refl;
+    }
 
-pub returns-in_err-check_widening-clause-answer : goal.returns-in_err-check_widening-clause-answer
-returns-in_err-check_widening-clause-answer g c =
+pub returns-in_err-check_widening : goal.returns-in_err-check_widening
+returns-in_err-check_widening g c =
+    let r = c.from_residual-in_err-check_widening.result in
+    let err = c.from_residual-in_err-check_widening.ensures.0 in
     let shown = map (matrix_of g.M.Matrix.height_of g.M.Matrix.width_of g.M.Matrix.row_of) in
     let are = c.deref-3.ensures.value ∙ c.in_ok-dimensions.ensures ∙ ap (λ ms. dimensions_of (shown ms)) c.deref.ensures.value in
     let gate : gate_refusal (heights_of c.deref-3.result.now) ≡ _ = ap (λ (ds : List Dimensions). gate_refusal (heights_of ds)) (c.deref-3.ensures.value ∙ sym c.deref-2.ensures.value) ∙ c.in_ok-check_heights.ensures.answer in
-    subst (λ (ds : List Dimensions). OkUnlessRefused c.from_residual-in_err-check_widening.result (salted_commit_refusal g.row.SALT_ELEMS ds)) are (rw gate (search rules))
+    record {
+      answer = subst (λ (ds : List Dimensions). OkUnlessRefused r (salted_commit_refusal g.row.SALT_ELEMS ds)) are (rw gate (search rules));
+      matrices = nothing_made _ r err;
+      columns = nothing_made _ r err;
+      batch = nothing_made _ r err;
+      layers = nothing_made _ r err;
+      cap = nothing_made _ r err;
+      rest = nothing_drawn _ r err;
+      untouched = stays _ r refl;
+      scheme = refl;
+    }
 
 pub returns : goal.returns
 returns g c =
