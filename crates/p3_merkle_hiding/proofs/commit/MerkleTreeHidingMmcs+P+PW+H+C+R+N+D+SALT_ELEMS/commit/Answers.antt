@@ -71,6 +71,22 @@ returns-in_err-check_widening g c =
       scheme = refl;
     }
 
+pub returns-in_err-pairs : goal.returns-in_err-pairs
+returns-in_err-pairs g c =
+    let r = c.from_residual-in_err-pairs.result in
+    let err = c.from_residual-in_err-pairs.ensures.0 in
+    record {
+      answer = search rules;
+      matrices = nothing_made _ r err;
+      columns = nothing_made _ r err;
+      batch = nothing_made _ r err;
+      layers = nothing_made _ r err;
+      cap = nothing_made _ r err;
+      rest = nothing_drawn _ r err;
+      untouched = search rules;
+      scheme = refl;
+    }
+
 pub returns : goal.returns
 returns g c =
     let shown = map (matrix_of g.M.Matrix.height_of g.M.Matrix.width_of g.M.Matrix.row_of) in
