@@ -2,7 +2,7 @@
 
 ghost use Rattle.std.specs.Mem.{type_size, FitsInMemory};
 ghost use denote.Param.{ArrayAt};
-ghost use Rattle.std.specs.Prelude.{IsTrue, ◌≡◌, ℕ, ◌+◌, ◌-◌, ◌*◌, ◌^◌, ◌<◌, ◌≤◌, ◌++◌, [], ◌∷◌, IfOk, length, map, take, drop, replicate, slice_get, slice_index_or, Some};
+ghost use Rattle.std.specs.Prelude.{IsTrue, ◌≡◌, ℕ, ◌+◌, ◌-◌, ◌*◌, ◌^◌, ◌<◌, ◌≤◌, ◌++◌, [], ◌∷◌, IfOk, length, map, take, drop, replicate, slice_index_or};
 ghost use Rattle.p3_support.specs.Lists.{lane_of, rows_of_height};
 ghost use Rattle.p3_merkle_lanes.specs.Slots.{leaf_over, IsFilled};
 
@@ -10,7 +10,7 @@ use p3_merkle_core::group::group_with;
 use p3_support::compress::PseudoCompressionFunction;
 use p3_support::hasher::CryptographicHasher;
 use p3_support::matrix::Matrix;
-use p3_support::packed::{PackedValue, pack_columns_fn, unpack_at};
+use p3_support::packed::{PackedValue, tell_rows, unpack_at};
 use std::alloc::{AllocError, Global};
 
 /// Whether an array of `outer` arrays of `inner` values each has fewer than 2^63 bytes, as each value has that is moved.
@@ -168,16 +168,45 @@ pub fn write_packed_leaves<
     Ok(())
 }
 
-/// A digest of a layer.
-fn digest_at<X: Copy, const D: usize>(layer: &[[X; D]], index: usize) -> [X; D]
-    requires { index < length layer.now }
-    ensures { slice_get layer.now index ≡ Some result }
+/// An element of a digest of a layer.
+fn element_at<X: Copy, const D: usize>(layer: &[[X; D]], index: usize, e: usize) -> X
+    requires inside { index < length layer.now }
+    requires element { e < D }
+    ensures { (d : _) → result ≡ slice_index_or (slice_index_or layer.now index []) e d }
 {
-    layer[index]
+    layer[index][e]
+}
+
+/// Lane `k` is element `e` of child `n` of node `first + k` over a layer, where each node has `step` children.
+#[tactic(auto, using(crate::proofs::LaneFacts::child_below, crate::proofs::LaneFacts::node_below))]
+fn packed_element<PW: PackedValue, const D: usize>(
+    below: &[[PW::Value; D]],
+    step: usize,
+    first: usize,
+    n: usize,
+    e: usize,
+) -> PW
+    requires child { n < step }
+    requires inside { step * (first + PW.WIDTH) ≤ length below.now }
+    requires element { e < D }
+    ensures { (k : ℕ) → k < PW.WIDTH →
+        slice_index_or (PW.lanes result) k PW.default_value
+        ≡ slice_index_or (slice_index_or below.now (step * (first + k) + n) []) e PW.default_value }
+{
+    // A length is a usize, so that the nodes' numbers are.
+    let _len = below.len();
+    PW::from_fn(
+        |k| -> PW::Value
+            requires inside { step * (first + k) + n < length below.now }
+            requires fits { first + k < 2 ^ 64 }
+            requires element { e < D }
+            ensures { (d : _) → result
+                ≡ slice_index_or (slice_index_or below.entry.now (step * (first + k) + n) []) e d }
+        { element_at(below, step * (first + k) + n, e) },
+    )
 }
 
 /// Lane `k` is child `n` of node `first + k` over a layer, where each node has `step` children.
-#[tactic(auto, using(crate::proofs::LaneFacts::child_below, crate::proofs::LaneFacts::node_below))]
 fn packed_child<PW: PackedValue, const D: usize>(
     below: &[[PW::Value; D]],
     step: usize,
@@ -189,15 +218,16 @@ fn packed_child<PW: PackedValue, const D: usize>(
     ensures { (k : ℕ) → k < PW.WIDTH →
         lane_of PW.lanes PW.default_value k result ≡ slice_index_or below.now (step * (first + k) + n) [] }
 {
-    // A length is a usize, so that the nodes' numbers are.
-    let _len = below.len();
-    pack_columns_fn(
-        |k| -> [PW::Value; D]
-            requires inside { step * (first + k) + n < length below.now }
-            requires fits { first + k < 2 ^ 64 }
-            ensures child { slice_get below.entry.now (step * (first + k) + n) ≡ Some result }
-            ensures long { length result ≡ D }
-        { digest_at(below, step * (first + k) + n) },
+    tell_rows(below);
+    std::array::from_fn(
+        |e| -> PW
+            requires child { n < step }
+            requires inside { step * (first + PW.WIDTH) ≤ length below.now }
+            requires element { e < D }
+            ensures { (k : ℕ) → k < PW.WIDTH →
+                slice_index_or (PW.lanes result) k PW.default_value
+                ≡ slice_index_or (slice_index_or below.entry.now (step * (first + k) + n) []) e PW.default_value }
+        { packed_element(below, step, first, n, e) },
     )
 }
 

@@ -129,19 +129,31 @@ impl PackedValue for u8 {
     ghost default_is_unique = { λ a h. h };
 }
 
-/// Lane `k` of each packed value.
-fn lane_values<PW: PackedValue, const D: usize>(packed: &[PW; D], k: usize) -> [PW::Value; D]
-    requires { k < PW.WIDTH }
-    ensures { result ≡ lane_of PW.lanes PW.default_value k packed.now }
+/// A row has as many elements as its type says.
+fn tell_row<T, const D: usize>(row: &[T; D])
+    ensures { length row.now ≡ D }
+{}
+
+/// Each row of a slice has as many elements as its type says. It tells this alone, and does nothing.
+pub fn tell_rows<T, const D: usize>(rows: &[[T; D]])
+    ensures { (k : ℕ) → k < length rows.now → length (slice_index_or rows.now k []) ≡ D }
 {
-    std::array::from_fn(
-        |e| -> PW::Value
-            requires place { e < D }
-            requires lane { k < PW.WIDTH }
-            ensures { (d : _) → result
-                ≡ slice_index_or (PW.lanes (slice_index_or packed.entry.now e d)) k PW.default_value }
-        { packed[e].lane(k) },
-    )
+    for k in 0..rows.len() {
+        tell_row(&rows[k]);
+    }
+}
+
+/// Writes the lanes of a packed value to element `e` of the rows, lane `k` to row `k`.
+fn put_lanes<PW: PackedValue, const D: usize>(value: PW, e: usize, rows: &mut [[PW::Value; D]])
+    requires inside { e < D }
+    requires rows { length rows.old ≡ PW.WIDTH }
+    ensures long { length rows.new ≡ length rows.old }
+    ensures written { (k : ℕ) → k < PW.WIDTH → slice_index_or rows.new k []
+        ≡ slice_set (slice_index_or rows.old k []) e (slice_index_or (PW.lanes value) k PW.default_value) }
+{
+    for k in 0..PW::WIDTH {
+        rows[k][e] = value.lane(k);
+    }
 }
 
 /// Takes packed values apart: `rows[k][e]` becomes lane `k` of `packed[e]`. There is a row for each
@@ -151,8 +163,10 @@ pub fn unpack_into<PW: PackedValue, const D: usize>(packed: &[PW; D], rows: &mut
     ensures { rows.new
         ≡ map (λ k. lane_of PW.lanes PW.default_value k packed.now) (range_with_len 0 PW.WIDTH) }
 {
-    for (k, row) in rows.iter_mut().enumerate() {
-        *row = lane_values(packed, k);
+    tell_rows(rows);
+    // The lanes are the inner loop, since their number is a constant: no lane's place is looked up.
+    for (e, value) in packed.iter().enumerate() {
+        put_lanes(*value, e, rows);
     }
 }
 
