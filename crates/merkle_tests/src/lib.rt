@@ -16,6 +16,8 @@ mod fixtures;
 #[cfg(test)]
 mod generic;
 #[cfg(test)]
+mod noting;
+#[cfg(test)]
 mod sha256;
 #[cfg(test)]
 mod texts;
