@@ -11,6 +11,7 @@ ghost use Rattle.p3_merkle_core.specs.Geometry.{is_arity};
 
 mod authenticated;
 mod batches;
+mod builders;
 mod commit;
 mod extract;
 mod fields;
@@ -53,6 +54,7 @@ fn answer_at<const N: usize>(
         "shape" => heights::shape::<N>(alloc, fields),
         "commit" => commit::commit::<N>(alloc, fields),
         "layers" => commit::layers::<N>(alloc, fields),
+        "builders" => builders::builders::<N>(alloc, fields),
         "open" => open::open::<N>(alloc, fields),
         "leaves" => open::leaves::<N>(alloc, fields),
         "kept" => open::kept::<N>(alloc, fields),
