@@ -1,10 +1,11 @@
 -- An input that is read line by line.
-use Rattle.std.proofs.Common.{◌≡◌, ℕ, zero, suc, ◌+◌, ◌<◌, ◌≤◌, ◌==◌, ◌⊎◌, ⊎_elim, inl, inr, true, false, List, [], ◌∷◌, ◌++◌, length, get_or, take, drop, map, sym, refl, ap, ◌∙◌, subst, arith, append_assoc, append-nil}
-use Rattle.std.specs.Prelude.{All}
+use Rattle.std.proofs.Common.{◌≡◌, ℕ, zero, suc, ◌+◌, ◌-◌, ◌<◌, ◌≤◌, ◌==◌, ◌⊎◌, ⊎_elim, inl, inr, true, false, List, Option, Some, None, [], ◌∷◌, ◌++◌, length, get_or, take, drop, map, sym, refl, ap, ◌∙◌, subst, arith, append_assoc, append-nil}
+use Rattle.std.specs.Prelude.{All, IfNone, IfSome}
 use Rattle.std.specs.List.{slice_split, AllZip}
 use Rattle.std.specs.Str.Lines.{strip_carriage_return}
-use Rattle.std.proofs.lemmas.List.{take_more, take_all, take-append-drop, drop_more, get_or-map, length-map, length-take-le}
-use Rattle.std.proofs.lemmas.List.Splits.{slice_split_none, length-slice_split}
+use Rattle.std.proofs.lemmas.List.{take_more, take_all, take-append-drop, drop_more, get_or-map, length-drop, length-map, length-take-le}
+use Rattle.std.proofs.lemmas.List.Splits.{slice_split_at, slice_split_none, length-slice_split}
+use Rattle.std.proofs.lemmas.Bool.Decides.{eqb_tells}
 use Rattle.std.proofs.lemmas.List.Sums.{count_by-le-length}
 use Rattle.p3_merkle_core.specs.Openings.{last_of}
 use Rattle.p3_merkle_core.specs.declared.error.MerkleTreeError.TheVariants.{OutOfMemory}
@@ -220,9 +221,40 @@ module _ (input : List ℕ) (n : ℕ) (raw line : List ℕ) (within : n < length
   pub seen_is : length (take n (pieces_of input)) ≡ n
   seen_is = length-take-le n (pieces_of input) (omega (arith, short))
 
-  -- lines are at most one more than bytes
-  pub place_fits : n ≤ length input
-  place_fits = omega (arith, within, length-slice_split (λ b. b == 10) input, count_by-le-length (λ b. b == 10) input)
+-- lines are at most one more than bytes
+pub lines_fit : (input : List ℕ) (n : ℕ) → n < length (slice_split (λ b. b == 10) input) → n ≤ length input
+lines_fit input n within = omega (arith, within, length-slice_split (λ b. b == 10) input, count_by-le-length (λ b. b == 10) input)
+
+-- the first of what is left
+front_cut : {X : Type 0} (xs : List X) (n : ℕ) (x : X) (rest : List X) → drop n xs ≡ x ∷ rest → (n < length xs) × (x ≡ get_or xs n x) × (drop (n + 1) xs ≡ rest)
+front_cut xs n x rest left =
+    let lengths = ap length left in
+    let within : n < length xs = omega (arith, lengths, length-drop n xs) in
+    let both : x ∷ rest ≡ get_or xs n x ∷ drop (n + 1) xs = sym left ∙ drop_more xs n x within in
+    let head : x ≡ get_or xs n x = cc in
+    let tail : drop (n + 1) xs ≡ rest = cc in (within, head, tail)
+
+-- the next piece, and the bytes below it
+pub next_piece : {R : Type 0} (below : Option R) (bytes : R → List ℕ) (pieces : List (List ℕ)) (n : ℕ) (left piece : List ℕ) → drop n pieces ≡ slice_split (λ b. b == 10) left →
+    IfSome below (λ r. slice_split (λ b. b == 10) left ≡ piece ∷ slice_split (λ b. b == 10) (bytes r)) → IfNone below (slice_split (λ b. b == 10) left ≡ piece ∷ []) →
+    (n < length pieces) × (piece ≡ get_or pieces n piece) × IfSome below (λ r. drop (n + 1) pieces ≡ slice_split (λ b. b == 10) (bytes r)) × IfNone below (length pieces ≤ n + 1)
+next_piece None bytes pieces n left piece left_is more last =
+    let first = front_cut pieces n piece [] (left_is ∙ last) in
+    let lengths = ap length first.2 in (first.0, first.1, tt, omega (arith, lengths, length-drop (n + 1) pieces))
+next_piece (Some r) bytes pieces n left piece left_is more last =
+    let first = front_cut pieces n piece (slice_split (λ b. b == 10) (bytes r)) (left_is ∙ more) in (first.0, first.1, first.2, tt)
+
+-- a byte that ends no line
+pub no_line_feed : (b : ℕ) → (b ≡ 10 → ⊥) → (b == 10) ≡ false
+no_line_feed b other = ⊎_elim (λ is. absurd (other is.1)) (λ is. is.0) (eqb_tells b 10)
+
+-- an input is cut at its first line feed
+pub cut_at : (input : List ℕ) (n : ℕ) → n < length input → All (λ b. (b == 10) ≡ false) (take n input) → get_or input n 0 ≡ 10 →
+    slice_split (λ b. b == 10) input ≡ take n input ∷ slice_split (λ b. b == 10) (take (length input - (n + 1)) (drop (n + 1) input))
+cut_at input n within none is =
+    ap (slice_split (λ b. b == 10)) (sym (take-append-drop n input) ∙ ap (λ bs. take n input ++ bs) (drop_more input n 0 within))
+    ∙ slice_split_at (λ b. b == 10) (take n input) (get_or input n 0) (drop (n + 1) input) none (ap (λ b. b == 10) is)
+    ∙ ap (λ bs. take n input ∷ slice_split (λ b. b == 10) bs) (sym (take_all (length input - (n + 1)) (drop (n + 1) input) (omega (arith, length-drop (n + 1) input))))
 
 -- after the last piece
 pub pieces_all : (input : List ℕ) (n : ℕ) → length (slice_split (λ b. b == 10) input) ≤ n → take n (pieces_of input) ≡ pieces_of input

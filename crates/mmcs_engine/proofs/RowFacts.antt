@@ -196,6 +196,14 @@ module _ (limit : ℕ) (line before : List ℕ) where
           rw all at (All-push (IsNumberBelow limit) so_far.done so_far.run so_far.numbers so_far.read.0),
         )
 
+-- a number that was read is below the limit
+pub row_fits : (max : ℕ) (line : List ℕ) (n : ℕ) (before values : List ℕ) (number : ℕ) → RowSoFar (max + 1) line n before values (Some number) → number ≤ max
+row_fits max line n before values number so_far = omega (arith, so_far.read.1, so_far.read.0.below)
+
+-- the numbers of words, and of one more
+pub words_push : {W : Type 0} (value : W → ℕ) (words : List W) (word : W) (number : ℕ) → value word ≡ number → map value (words ++ word ∷ []) ≡ map value words ++ number ∷ []
+words_push value words word number is = map-append value words (word ∷ []) ∙ ap (λ n. map value words ++ n ∷ []) is
+
 -- what was counted
 pub row_counted : (limit : ℕ) (line before values : List ℕ) (now was : ℕ) → now ≡ length values → was ≡ length before → (values ≡ before ++ numbers_of line) × All (IsNumberBelow limit) (numerals_of line) →
     (was ≤ now) × ((values ≡ before ++ numbers_of line) × (now - was ≡ length (numbers_of line)) × All (IsNumberBelow limit) (numerals_of line))

@@ -17,6 +17,10 @@ batch_of_rows arity matrices = record { arity = arity; matrices = map matrix_of_
 abbrev pub stored_matrix : RowMajorMatrix ℕ → Matrix ℕ
 stored_matrix m = record { height = row_count m; width = row_width m; row = λ r. message (row_width m) (values_of m) r }
 
+-- a stored matrix of words, by the numbers that they are
+abbrev pub matrix_of_words : {W : Type 0} → (W → ℕ) → RowMajorMatrix W → Matrix ℕ
+matrix_of_words value m = record { height = row_count m; width = row_width m; row = λ r. message (row_width m) (map value (values_of m)) r }
+
 -- stored matrices under an arity
 abbrev pub stored_batch : ℕ → List (RowMajorMatrix ℕ) → Batch ℕ
 stored_batch arity stored = record { arity = arity; matrices = map stored_matrix stored }

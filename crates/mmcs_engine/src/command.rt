@@ -6,7 +6,7 @@ ghost use Rattle.p3_merkle_core.specs.declared.error.MerkleTreeError.TheVariants
 ghost use Rattle.mmcs_engine.specs.declared.command.CapChoice.{CapChoice};
 ghost use Rattle.mmcs_engine.specs.declared.command.HashName.{HashName};
 ghost use Rattle.mmcs_engine.specs.declared.fault.Fault.TheVariants.{Usage, Tree};
-ghost use Rattle.mmcs_engine.specs.Words.{action_word, arity_word, hash_word, max_word, texts_of, AreNoCommand, AreWords, IsCapWord, IsNumberWord, MayFollow};
+ghost use Rattle.mmcs_engine.specs.Words.{action_word, arity_word, hash_word, texts_of, AreNoCommand, AreWords, IsCapWord, IsNumberWord, MayFollow};
 
 use crate::fault::Fault;
 use crate::number::parse_number;
@@ -170,16 +170,6 @@ impl HashName {
             "fold" => Some(HashName::Fold),
             "sha256" => Some(HashName::Sha256),
             _ => None,
-        }
-    }
-
-    /// The greatest word of a row.
-    pub fn max_word(self) -> u32
-        ensures { result ≡ max_word self }
-    {
-        match self {
-            HashName::Fold => u32::MAX,
-            HashName::Sha256 => u32::from(u8::MAX),
         }
     }
 }

@@ -62,7 +62,7 @@ impl<const N: usize> Suite<N> for Fold {
     ghost digests = { λ opening. opening.pruned_proof.sibling_hashes.items };
 
     fn read(alloc: Global, input: &[u8]) -> Result<Self::Matrices, Fault> {
-        read_matrices(alloc, input, u32::MAX)
+        read_matrices(alloc, input)
     }
 
     fn dimensions(alloc: Global, matrices: &Self::Matrices) -> Result<Vec<Dimensions>, AllocError> {

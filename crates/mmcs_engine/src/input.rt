@@ -1,16 +1,18 @@
 //! Matrices, from the bytes of an input.
 
-ghost use Rattle.std.specs.Prelude.{◌≡◌, ◌⊎◌, ℕ, ◌+◌, ◌*◌, ◌<◌, false, List, [], ◌∷◌, ◌++◌, map, length, All, IfOk, IfErr, IfSome, IfNone, OnOk};
+ghost use Rattle.std.specs.Prelude.{◌≡◌, ◌⊎◌, ℕ, ◌+◌, ◌*◌, ◌<◌, ◌==◌, false, List, [], ◌∷◌, ◌++◌, map, length, All, IfOk, IfErr, IfSome, IfNone, OnOk};
+ghost use Rattle.std.specs.List.{slice_split};
 ghost use Rattle.std.specs.Str.Lines.{strip_carriage_return};
-ghost use Rattle.p3_support.specs.RowMajor.{row_count, row_width, values_of};
+ghost use Rattle.p3_support.specs.RowMajor.{row_count, row_width};
 ghost use Rattle.p3_merkle_core.specs.declared.error.MerkleTreeError.TheVariants.{OutOfMemory};
 ghost use Rattle.mmcs_engine.specs.declared.fault.Fault.TheVariants.{Tree};
 ghost use Rattle.mmcs_engine.specs.Numbers.{IsNumberBelow, IsRead};
 ghost use Rattle.mmcs_engine.specs.Input.{is_gap, is_blank, numerals_of, numbers_of, pieces_of, IsFirstFault, IsLineFault, StandsFor};
 ghost use Rattle.mmcs_engine.specs.Blocks.{IsBlock};
-ghost use Rattle.mmcs_engine.specs.Matrices.{matrix_of_rows, stored_matrix};
+ghost use Rattle.mmcs_engine.specs.Matrices.{matrix_of_rows, matrix_of_words};
 
 use crate::fault::Fault;
+use crate::word::Word;
 use p3_support::matrix::{Dimensions, Matrix, RowMajorMatrix};
 use std::alloc::{AllocError, Global};
 use std::mem;
@@ -20,6 +22,20 @@ fn is_gap(byte: u8) -> bool
     ensures { result ≡ is_gap byte }
 {
     byte == b' ' || byte == b'\t'
+}
+
+/// The bytes in front of the first line feed, and those behind it; or all bytes, where there is none.
+fn cut_line(input: &[u8]) -> (&[u8], Option<&[u8]>)
+    ensures cut { IfSome result.1 (λ rest.
+        slice_split (λ b. b == 10) input.now ≡ result.0.now ∷ slice_split (λ b. b == 10) rest.now) }
+    ensures last { IfNone result.1 (slice_split (λ b. b == 10) input.now ≡ result.0.now ∷ []) }
+{
+    for (at, byte) in input.iter().enumerate() {
+        if *byte == b'\n' {
+            return (&input[..at], Some(&input[at + 1..]));
+        }
+    }
+    (input, None)
 }
 
 /// Whether the line is empty, or has spaces and tabs alone.
@@ -52,50 +68,51 @@ fn with_digit(before: Option<u32>, digit: u8, max: u32) -> Option<u32>
     }
 }
 
-/// Appends the numbers of a line, each at most `max`, and says how many there are; or nothing, where a part of the line
-/// is no such number.
+/// Appends the numbers of a line, each at most `W::MAX`, and says how many there are; or nothing, where a part of the
+/// line is no such number.
 ///
 /// # Errors
 ///
 /// `AllocError` where there is no memory.
-fn append_row(values: &mut Vec<u32>, line: &[u8], max: u32) -> Result<Option<usize>, AllocError>
-    ensures row { IfOk result (λ count. IfSome count (λ n. (values.new.items ≡ values.old.items ++ numbers_of line.now) ×
-        (n ≡ length (numbers_of line.now)) × All (IsNumberBelow (max + 1)) (numerals_of line.now))) }
-    ensures none { IfOk result (λ count. IfNone count (¬ All (IsNumberBelow (max + 1)) (numerals_of line.now))) }
+fn append_row<W: Word>(values: &mut Vec<W>, line: &[u8]) -> Result<Option<usize>, AllocError>
+    ensures row { IfOk result (λ count. IfSome count (λ n.
+        (map W.value values.new.items ≡ map W.value values.old.items ++ numbers_of line.now) ×
+        (n ≡ length (numbers_of line.now)) × All (IsNumberBelow (W.MAX + 1)) (numerals_of line.now))) }
+    ensures none { IfOk result (λ count. IfNone count (¬ All (IsNumberBelow (W.MAX + 1)) (numerals_of line.now))) }
 {
     let len = values.len();
     let mut number = None;
     for byte in line {
         if is_gap(*byte) {
             if let Some(word) = number.take() {
-                values.push(word)?;
+                values.push(W::from_number(word))?;
             }
         } else {
-            number = with_digit(number, *byte, max);
+            number = with_digit(number, *byte, W::MAX);
             if number.is_none() {
                 return Ok(None);
             }
         }
     }
     if let Some(word) = number {
-        values.push(word)?;
+        values.push(W::from_number(word))?;
     }
     Ok(Some(values.len() - len))
 }
 
 /// The rows of a matrix that has not ended.
 #[derive(Drop)]
-struct Block {
+struct Block<W> {
     /// Row after row.
-    values: Vec<u32>,
+    values: Vec<W>,
     /// How many values a row has; 0 before the first row.
     width: usize,
 }
 
-impl Block {
+impl<W: Word> Block<W> {
     /// No rows.
-    fn new(alloc: Global) -> Block
-        ensures { (limit : ℕ) → IsBlock limit [] result.values.items result.width }
+    fn new(alloc: Global) -> Block<W>
+        ensures { (limit : ℕ) → IsBlock limit [] (map W.value result.values.items) result.width }
     {
         Block {
             values: Vec::new(alloc),
@@ -103,21 +120,23 @@ impl Block {
         }
     }
 
-    /// Appends a line that is not blank, the one of this number, as a row of numbers, each at most `max`.
+    /// Appends a line that is not blank, the one of this number, as a row of numbers, each at most `W::MAX`.
     ///
     /// # Errors
     ///
     /// `Number` where a part of the line is no such number, else `Count` where the row is of another width than the rows
     /// before it; `Tree(OutOfMemory)` where there is no memory.
-    fn push_row(&mut self, text: &[u8], max: u32, line: usize) -> Result<(), Fault>
+    fn push_row(&mut self, text: &[u8], line: usize) -> Result<(), Fault>
         requires full { is_blank text.now ≡ false }
-        ensures row { (lines : List (List ℕ)) → IsBlock (max + 1) lines self.old.values.items self.old.width →
-            OnOk result (IsBlock (max + 1) (lines ++ text.now ∷ []) self.new.values.items self.new.width) }
-        ensures fault { (lines : List (List ℕ)) → IsBlock (max + 1) lines self.old.values.items self.old.width →
-            IfErr result (λ fault. (fault ≡ Tree OutOfMemory) ⊎ IsLineFault (max + 1) lines line text.now fault) }
+        ensures row { (lines : List (List ℕ)) →
+            IsBlock (W.MAX + 1) lines (map W.value self.old.values.items) self.old.width →
+            OnOk result (IsBlock (W.MAX + 1) (lines ++ text.now ∷ []) (map W.value self.new.values.items) self.new.width) }
+        ensures fault { (lines : List (List ℕ)) →
+            IsBlock (W.MAX + 1) lines (map W.value self.old.values.items) self.old.width →
+            IfErr result (λ fault. (fault ≡ Tree OutOfMemory) ⊎ IsLineFault (W.MAX + 1) lines line text.now fault) }
     {
-        let Some(got) = append_row(&mut self.values, text, max)? else {
-            let max = max as usize;
+        let Some(got) = append_row(&mut self.values, text)? else {
+            let max = W::MAX as usize;
             return Err(Fault::Number { line, max });
         };
         if self.width == 0 {
@@ -137,14 +156,14 @@ impl Block {
 
     /// The matrix of the rows, if there are any, and no rows are left. The values are those of rows that have `width`
     /// values each.
-    fn take_matrix(&mut self, alloc: Global) -> Option<RowMajorMatrix<u32>>
-        requires { (limit : ℕ) × (lines : List (List ℕ)) × IsBlock limit lines self.old.values.items self.old.width }
-        ensures emptied { (limit : ℕ) → IsBlock limit [] self.new.values.items self.new.width }
+    fn take_matrix(&mut self, alloc: Global) -> Option<RowMajorMatrix<W>>
+        requires { (limit : ℕ) × (lines : List (List ℕ)) ×
+            IsBlock limit lines (map W.value self.old.values.items) self.old.width }
+        ensures emptied { (limit : ℕ) → IsBlock limit [] (map W.value self.new.values.items) self.new.width }
         ensures none { IfNone result (self.old.width ≡ 0) }
         ensures matrix { (limit : ℕ) (lines : List (List ℕ)) →
-            IsBlock limit lines self.old.values.items self.old.width →
-            IfSome result (λ matrix. (stored_matrix matrix ≡ matrix_of_rows (map numbers_of lines)) ×
-            All (λ v. v < limit) (values_of matrix)) }
+            IsBlock limit lines (map W.value self.old.values.items) self.old.width →
+            IfSome result (λ matrix. matrix_of_words W.value matrix ≡ matrix_of_rows (map numbers_of lines)) }
         ensures some { IfSome result (λ matrix. 0 < self.old.width) }
     {
         let values = mem::replace(&mut self.values, Vec::new(alloc));
@@ -161,27 +180,25 @@ impl Block {
 ///
 /// A line feed, with a carriage return before it or not, ends a line, and may be missing at the end. A line of spaces
 /// and tabs alone, or empty, is blank: one or more of these end a matrix, and are ignored before the first and after
-/// the last. Any other line is a row of numbers from 0 to `max` in decimal, with spaces or tabs between them; the
+/// the last. Any other line is a row of numbers from 0 to `W::MAX` in decimal, with spaces or tabs between them; the
 /// rows of a matrix have equally many.
 ///
 /// # Errors
 ///
 /// `Number` or `Count` for the first line that is no row of its matrix; `Tree(OutOfMemory)` where there is no memory.
-pub fn read_matrices(
-    alloc: Global,
-    input: &[u8],
-    max: u32,
-) -> Result<Vec<RowMajorMatrix<u32>>, Fault>
+pub fn read_matrices<W: Word>(alloc: Global, input: &[u8]) -> Result<Vec<RowMajorMatrix<W>>, Fault>
     ensures matrices { IfOk result (λ found.
-        (matrices : List (List (List ℕ))) × StandsFor (max + 1) input.now matrices ×
-        (map stored_matrix found.items ≡ map matrix_of_rows matrices) ×
-        All (λ m. All (λ v. v < max + 1) (values_of m)) found.items) }
-    ensures fault { IfErr result (λ fault. (fault ≡ Tree OutOfMemory) ⊎ IsFirstFault (max + 1) (pieces_of input.now) fault) }
+        (matrices : List (List (List ℕ))) × StandsFor (W.MAX + 1) input.now matrices ×
+        (map (matrix_of_words W.value) found.items ≡ map matrix_of_rows matrices)) }
+    ensures fault { IfErr result (λ fault. (fault ≡ Tree OutOfMemory) ⊎ IsFirstFault (W.MAX + 1) (pieces_of input.now) fault) }
 {
     let mut matrices = Vec::new(alloc);
     let mut block = Block::new(alloc);
     let mut line = 0;
-    for piece in input.split(|byte| *byte == b'\n') {
+    let mut rest = Some(input);
+    while let Some(left) = rest {
+        let (piece, below) = cut_line(left);
+        rest = below;
         line += 1;
         let text = without_return(piece);
         if is_blank(text) {
@@ -189,7 +206,7 @@ pub fn read_matrices(
                 matrices.push(matrix)?;
             }
         } else {
-            block.push_row(text, max, line)?;
+            block.push_row(text, line)?;
         }
     }
     if let Some(matrix) = block.take_matrix(alloc) {

@@ -11,3 +11,4 @@ mod number;
 mod sha256;
 mod suite;
 mod text;
+mod word;

@@ -3,6 +3,7 @@
 ghost use Rattle.std.specs.Prelude.{◌≡◌, ◌∷◌, ◌++◌, ◌<◌, IfOk, OnOk, decimal, flat_map, map, string_bytes};
 ghost use Rattle.mmcs_engine.specs.Text.{hex_digit, hex_lines, hex_word, labelled, row_line};
 
+use crate::word::Word;
 use std::alloc::{AllocError, Global};
 
 /// Appends a line for each digest: its words in lower case hexadecimal, eight digits each.
@@ -111,8 +112,12 @@ fn hex_digit(digit: u32) -> u8
 /// # Errors
 ///
 /// `AllocError` where there is no memory.
-pub fn push_rows(alloc: Global, text: &mut Vec<u8>, rows: &[Vec<u32>]) -> Result<(), AllocError>
-    ensures { OnOk result (text.new.items ≡ text.old.items ++ flat_map row_line (map (λ row. row.items) rows.now)) }
+pub fn push_rows<W: Word>(
+    alloc: Global,
+    text: &mut Vec<u8>,
+    rows: &[Vec<W>],
+) -> Result<(), AllocError>
+    ensures { OnOk result (text.new.items ≡ text.old.items ++ flat_map row_line (map (λ row. map W.value row.items) rows.now)) }
 {
     for row in rows {
         push_row(alloc, text, row)?;
@@ -125,8 +130,8 @@ pub fn push_rows(alloc: Global, text: &mut Vec<u8>, rows: &[Vec<u32>]) -> Result
 /// # Errors
 ///
 /// `AllocError` where there is no memory.
-pub fn push_row(alloc: Global, text: &mut Vec<u8>, row: &[u32]) -> Result<(), AllocError>
-    ensures { OnOk result (text.new.items ≡ text.old.items ++ row_line row.now) }
+fn push_row<W: Word>(alloc: Global, text: &mut Vec<u8>, row: &[W]) -> Result<(), AllocError>
+    ensures { OnOk result (text.new.items ≡ text.old.items ++ row_line (map W.value row.now)) }
 {
     let line = row_line(alloc, row)?;
     text.extend_from_slice(line.as_bytes())
@@ -137,12 +142,13 @@ pub fn push_row(alloc: Global, text: &mut Vec<u8>, row: &[u32]) -> Result<(), Al
 /// # Errors
 ///
 /// `AllocError` where there is no memory.
-fn row_line(alloc: Global, row: &[u32]) -> Result<String, AllocError>
-    ensures { IfOk result (λ line. string_bytes line ≡ row_line row.now) }
+fn row_line<W: Word>(alloc: Global, row: &[W]) -> Result<String, AllocError>
+    ensures { IfOk result (λ line. string_bytes line ≡ row_line (map W.value row.now)) }
 {
     let Some((first, rest)) = row.split_first() else {
         return String::from_str(alloc, "\n");
     };
+    let first = first.to_number();
     let mut line = format!(in alloc; "{first}")?;
     push_spaced(&mut line, rest)?;
     line.push('\n')?;
@@ -154,11 +160,12 @@ fn row_line(alloc: Global, row: &[u32]) -> Result<String, AllocError>
 /// # Errors
 ///
 /// `AllocError` where there is no memory.
-fn push_spaced(line: &mut String, words: &[u32]) -> Result<(), AllocError>
-    ensures { OnOk result (string_bytes line.new ≡ string_bytes line.old ++ flat_map (λ w. 32 ∷ decimal w) words.now) }
+fn push_spaced<W: Word>(line: &mut String, words: &[W]) -> Result<(), AllocError>
+    ensures { OnOk result (string_bytes line.new ≡ string_bytes line.old ++ flat_map (λ w. 32 ∷ decimal w) (map W.value words.now)) }
 {
     for word in words {
-        write!(line, " {word}")?;
+        let number = word.to_number();
+        write!(line, " {number}")?;
     }
     Ok(())
 }
