@@ -5,13 +5,12 @@ use Rattle.std.specs.Io.KnownBytes.{Appends}
 use Rattle.p3_merkle_core.specs.Geometry.{tallest, IsLawful}
 use Rattle.p3_merkle_core.specs.Nodes.{shape, Batch}
 use Rattle.p3_merkle_core.specs.PrunedCalls.{pruned_len_refusal}
-use Rattle.p3_merkle_core.specs.declared.error.MerkleTreeError.{MerkleTreeError}
 use Rattle.p3_merkle_core.specs.declared.error.MerkleTreeError.TheVariants.{OutOfMemory}
 use Rattle.mmcs_engine.specs.declared.command.Command.{Command}
 use Rattle.mmcs_engine.specs.declared.command.HashName.{HashName}
 use Rattle.mmcs_engine.specs.declared.fault.Fault.{Fault}
-use Rattle.mmcs_engine.specs.declared.fault.Fault.TheVariants.{Usage, Read, Number, Count, Tree, Write}
-use Rattle.mmcs_engine.specs.Input.{pieces_of, IsFirstFault, StandsFor}
+use Rattle.mmcs_engine.specs.declared.fault.Fault.TheVariants.{Usage, Tree, Write}
+use Rattle.mmcs_engine.specs.Input.{StandsFor}
 use Rattle.mmcs_engine.specs.Matrices.{batch_of_rows}
 use Rattle.mmcs_engine.specs.Words.{arity_number, max_word, AreNoCommand}
 use Rattle.mmcs_engine.specs.Program.{batch_asked, layer_of_cap, text_of, IsAnswer, IsReply, IsTold, Prints}
