@@ -4,7 +4,7 @@ use Rattle.std.specs.Array.{IsFromFnResult, IsFromFnResultFrom}
 use Rattle.std.specs.Fn.{Mut, Called}
 use Rattle.std.specs.List.{range_with_len}
 use Rattle.std.proofs.Math.Nat.{eq-or-lt_of_le}
-use Rattle.std.proofs.lemmas.List.{ext_get_or, get_or-map, length-map}
+use Rattle.std.proofs.lemmas.List.{get_or-map, length-map}
 use Rattle.std.proofs.lemmas.List.FromFn.{fill_by_all}
 
 module _ {F B : Type 0} (g : Mut F (ℕ × Unit {0}) B) (f : F) (P : ℕ → B → Type 0) (keeps : (k : ℕ) (y : B) (q : F) → Called g f (k, tt) y q → (q ≡ f) × P k y) where
@@ -28,12 +28,3 @@ pub map_made : {A B : Type 0} (of : A → B) (f : ℕ → B) (z : B) (ys : List 
 map_made of f z [] n long at = fill_by_all f (map of []) n z long (λ k h. absurd (omega (arith, long, h)))
 map_made of f z (y ∷ ys) n long at =
     fill_by_all f (map of (y ∷ ys)) n z (length-map (y ∷ ys) of ∙ long) (λ k h. let inside : k < length (y ∷ ys) = rw long h in get_or-map of (y ∷ ys) k y z inside ∙ at k y h)
-
--- an array made index by index from another
-pub made_map : {A B : Type 0} (of : A → B) (xs : List A) (ys : List B) (z : B) → length ys ≡ length xs
-    → ((k : ℕ) (d : A) → k < length xs → get_or ys k z ≡ of (get_or xs k d)) → ys ≡ map of xs
-made_map of [] ys z same at = ext_get_or z ys [] same (λ k h. absurd (omega (arith, h, same)))
-made_map of (x ∷ xs) ys z same at =
-    ext_get_or z ys (map of (x ∷ xs)) (same ∙ sym (length-map (x ∷ xs) of)) (λ k h.
-    let below : k < length (x ∷ xs) = rw (← same) h in
-    at k x below ∙ sym (get_or-map of (x ∷ xs) k x z below))
