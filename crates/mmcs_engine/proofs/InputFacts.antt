@@ -6,6 +6,8 @@ use Rattle.std.specs.Str.Lines.{strip_carriage_return}
 use Rattle.std.proofs.lemmas.List.{take_more, take_all, take-append-drop, drop_more, get_or-map, length-drop, length-map, length-take-le}
 use Rattle.std.proofs.lemmas.List.Splits.{slice_split_at, slice_split_none, length-slice_split}
 use Rattle.std.proofs.lemmas.Bool.Decides.{eqb_tells}
+use Rattle.std.proofs.Math.Bool.{Bool, ◌||◌}
+use borrow.Author.Tests.{clash}
 use Rattle.std.proofs.lemmas.List.Sums.{count_by-le-length}
 use Rattle.p3_merkle_core.specs.Openings.{last_of}
 use Rattle.p3_merkle_core.specs.declared.error.MerkleTreeError.TheVariants.{OutOfMemory}
@@ -247,6 +249,11 @@ next_piece (Some r) bytes pieces n left piece left_is more last =
 -- a byte that ends no line
 pub no_line_feed : (b : ℕ) → (b ≡ 10 → ⊥) → (b == 10) ≡ false
 no_line_feed b other = ⊎_elim (λ is. absurd (other is.1)) (λ is. is.0) (eqb_tells b 10)
+
+-- what was not seen before, nor now
+pub not_seen : (before now : Bool) → (before || now) ≡ false → (before ≡ false) × (now ≡ false)
+not_seen false now none = (refl, none)
+not_seen true now none = absurd (clash (sym none))
 
 -- an input is cut at its first line feed
 pub cut_at : (input : List ℕ) (n : ℕ) → n < length input → All (λ b. (b == 10) ≡ false) (take n input) → get_or input n 0 ≡ 10 →

@@ -1,6 +1,6 @@
 //! Matrices, from the bytes of an input.
 
-ghost use Rattle.std.specs.Prelude.{◌≡◌, ◌⊎◌, ℕ, ◌+◌, ◌*◌, ◌<◌, ◌==◌, false, List, [], ◌∷◌, ◌++◌, map, length, All, IfOk, IfErr, IfSome, IfNone, OnOk};
+ghost use Rattle.std.specs.Prelude.{◌≡◌, ◌⊎◌, ℕ, ◌+◌, ◌*◌, ◌<◌, ◌==◌, false, List, [], ◌∷◌, ◌++◌, map, length, take, ◌≤◌, All, IfOk, IfErr, IfSome, IfNone, OnOk};
 ghost use Rattle.std.specs.List.{slice_split};
 ghost use Rattle.std.specs.Str.Lines.{strip_carriage_return};
 ghost use Rattle.p3_support.specs.RowMajor.{row_count, row_width};
@@ -24,14 +24,40 @@ fn is_gap(byte: u8) -> bool
     byte == b' ' || byte == b'\t'
 }
 
+/// Whether a block has a line feed. All its bytes are looked at, so that a processor looks at them at once.
+fn has_line_feed(block: &[u8; 16]) -> bool
+    ensures { result ≡ false → All (λ b. (b == 10) ≡ false) block.now }
+{
+    let mut found = false;
+    for byte in block {
+        found |= *byte == b'\n';
+    }
+    found
+}
+
+/// How many bytes at the front stand in blocks without a line feed.
+fn skip_blocks(input: &[u8]) -> usize
+    ensures inside { result ≤ length input.now }
+    ensures none { All (λ b. (b == 10) ≡ false) (take result input.now) }
+{
+    let mut at = 0;
+    while let Some(block) = input[at..].first_chunk::<16>() {
+        if has_line_feed(block) {
+            return at;
+        }
+        at += 16;
+    }
+    at
+}
+
 /// The bytes in front of the first line feed, and those behind it; or all bytes, where there is none.
 fn cut_line(input: &[u8]) -> (&[u8], Option<&[u8]>)
     ensures cut { IfSome result.1 (λ rest.
         slice_split (λ b. b == 10) input.now ≡ result.0.now ∷ slice_split (λ b. b == 10) rest.now) }
     ensures last { IfNone result.1 (slice_split (λ b. b == 10) input.now ≡ result.0.now ∷ []) }
 {
-    for (at, byte) in input.iter().enumerate() {
-        if *byte == b'\n' {
+    for at in skip_blocks(input)..input.len() {
+        if input[at] == b'\n' {
             return (&input[..at], Some(&input[at + 1..]));
         }
     }
