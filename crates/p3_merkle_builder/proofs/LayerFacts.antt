@@ -16,12 +16,6 @@ use Rattle.p3_merkle_builder.specs.Views.{batch_of, matrix_of}
 use Rattle.p3_merkle_builder.specs.Levels.{IsLevel, height_at, node_above}
 use Rattle.p3_merkle_builder.specs.declared.levels.Level.{Level}
 
--- a list of one element
-pub one_element : {A : Type 0} (xs : List A) (x : A) → length xs ≡ 1 → x ≡ get_or xs 0 x → xs ≡ x ∷ []
-one_element [] x h is = absurd (omega arith)
-one_element (y ∷ []) x h is = ap (λ z. z ∷ []) (sym is)
-one_element (y ∷ z ∷ ys) x h is = absurd (omega arith)
-
 -- two functions that agree below n make the same list
 pub same_made : {X : Type 0} (f g : ℕ → X) (n : ℕ) → ((k : ℕ) → k < n → f k ≡ g k) → map f (range_with_len 0 n) ≡ map g (range_with_len 0 n)
 same_made f g n h = fill_by_all g (map f (range_with_len 0 n)) n (f 0) (length-map-range_with_len f 0 n) (λ k b. get_or-map-range_with_len f 0 n k k (f 0) b (omega arith) ∙ h k b)
@@ -107,10 +101,6 @@ module _ {T M : Type 0} (height width : M → ℕ) (row : M → ℕ → List T) 
         | inl e ↦ rw (e, tall_same j ms w e, rows_same j ms (exponent_is_there ms w e) w) refl
         | inr e ↦ rw e refl
       ]
-
--- one matrix alone gives its own row
-pub rows_alone : {T M : Type 0} (height : M → ℕ) (row : M → ℕ → List T) (h j : ℕ) (ms : List M) (m : M) → length ms ≡ 1 → m ≡ get_or ms 0 m → height m ≡ h → rows_of_height height row h j ms ≡ row m j
-rows_alone height row h j ms m one is same = rw (one_element ms m one is, eq-eqb (height m) h same) (append-nil (row m j))
 
 -- the rows of the matrices of a height, picked from all and read through references, are those of all
 module _ {T M R : Type 0} (height : M → ℕ) (row : M → ℕ → List T) (now : R → M) (h j : ℕ) where

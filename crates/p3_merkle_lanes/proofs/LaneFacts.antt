@@ -113,6 +113,16 @@ module _ {T M : Type 0} (height : M → ℕ) (row : M → ℕ → List T) (h r :
       rows_of_height height row h r (take (i + 1) ms) ≡ rows_of_height height row h r (take i ms)
   rows_without ms i m inside is other = rows_take_more ms i m inside is ∙ rw (ne_eqb (height m) h other) (append-nil (rows_of_height height row h r (take i ms)))
 
+-- a list of one element
+pub one_element : {A : Type 0} (xs : List A) (x : A) → length xs ≡ 1 → x ≡ get_or xs 0 x → xs ≡ x ∷ []
+one_element [] x h is = absurd (omega arith)
+one_element (y ∷ []) x h is = ap (λ z. z ∷ []) (sym is)
+one_element (y ∷ z ∷ ys) x h is = absurd (omega arith)
+
+-- one matrix alone gives its own row
+pub rows_alone : {T M : Type 0} (height : M → ℕ) (row : M → ℕ → List T) (h j : ℕ) (ms : List M) (m : M) → length ms ≡ 1 → m ≡ get_or ms 0 m → height m ≡ h → rows_of_height height row h j ms ≡ row m j
+rows_alone height row h j ms m one is same = rw (one_element ms m one is, eq-eqb (height m) h same) (append-nil (row m j))
+
 -- an array of arrays of s bytes each fits, where the product of the numbers is small as code has it, which caps what is too large
 pub array_small : (outer inner s : ℕ) → min (outer * min (inner * capped s) (2 ^ 64 - 1)) (2 ^ 64 - 1) < 2 ^ 63 → outer * (inner * s) < 2 ^ 63
 array_small outer inner s h =

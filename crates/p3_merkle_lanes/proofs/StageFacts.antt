@@ -1,17 +1,17 @@
 -- Messages that are laid one after another, and slots that are filled part by part.
-use Rattle.std.proofs.Common.{◌≡◌, ℕ, zero, suc, ◌+◌, ◌-◌, ◌*◌, ◌/◌, ◌<◌, ◌≤◌, List, [], ◌∷◌, ◌++◌, length, map, take, drop, get_or, replicate, cond, refl, sym, ap, ◌∙◌, arith, inl, inr, length-append, length-drop, append-nil}
+use Rattle.std.proofs.Common.{◌≡◌, ℕ, zero, suc, ◌+◌, ◌-◌, ◌*◌, ◌/◌, ◌<◌, ◌≤◌, List, [], ◌∷◌, ◌++◌, length, map, take, drop, get_or, replicate, cond, refl, sym, ap, subst, add-one, ◌∙◌, arith, inl, inr, length-append, length-drop, append-nil}
 use Rattle.std.specs.Prelude.{◌==◌}
-use Rattle.std.specs.List.{range_with_len}
+use Rattle.std.specs.List.{flat_map, range_with_len}
 use Rattle.std.specs.Simd.{first_chunks}
 use Rattle.std.proofs.lemmas.Bool.{cases_lt, cases_eq, cases_Bool, eqb-true}
-use Rattle.std.proofs.lemmas.List.{drop_at, take_all, take-append-le, drop-append-le, get_or-append_right, get_or-drop, get_or-take, drop-drop, length-take-le}
+use Rattle.std.proofs.lemmas.List.{drop_at, take_all, take-append-le, drop-append-le, get_or-append_right, get_or-drop, get_or-take, drop-drop, flat_map_more, length-take-le}
 use Rattle.std.proofs.lemmas.List.FromFn.{fill_by_all, get_or-map-range_with_len, length-map-range_with_len}
 use Rattle.std.proofs.lemmas.Simd.{map-map}
 use Rattle.std.proofs.Math.Nat.{mul-le-mul_left, mul-le-mul_right, mul_comm, mul-suc}
 use Rattle.p3_support.specs.Lists.{message, messages, rows_of_height}
 use Rattle.p3_support.specs.RowLengths.{next_start}
 use Rattle.p3_merkle_lanes.specs.Slots.{IsFilled, IsStaged}
-use Rattle.p3_merkle_lanes.proofs.LaneFacts.{part_written, part_before}
+use Rattle.p3_merkle_lanes.proofs.LaneFacts.{part_written, part_before, rows_alone}
 use borrow.Rule.Slice.PartMut.{put_mid, same_len_mid}
 
 -- messages that are there stay
@@ -55,6 +55,21 @@ staged_all f xs w i n s e =
       are = fill_by_all f (messages w n xs) n [] (length-map-range_with_len (message w xs) 0 n) (λ k h. get_or-map-range_with_len (message w xs) 0 n k k [] h (omega arith) ∙ s.each k (omega arith));
     }
 
+-- one more number at the end
+range_more : (a n : ℕ) → range_with_len a (suc n) ≡ range_with_len a n ++ (a + n) ∷ []
+range_more a zero = ap (λ k. k ∷ []) (omega arith)
+range_more a (suc n) = ap (λ l. a ∷ l) (range_more (a + 1) n ∙ ap (λ k. range_with_len (a + 1) n ++ k ∷ []) (omega arith))
+
+-- rows that stand one after another as they are
+staged_rows : {A : Type 0} (row f : ℕ → List A) (w a n : ℕ) → ((j : ℕ) → j < n → length (row (a + j)) ≡ w) → ((j : ℕ) → j < n → row (a + j) ≡ f j) → IsStagedTo f w n (flat_map row (range_with_len a n))
+staged_rows row f w a zero long are = record { long = omega arith; each = λ j none. absurd (omega (arith, none)) }
+staged_rows row f w a (suc n) long are =
+    let ys = flat_map row (range_with_len a n) in
+    let before = staged_rows row f w a n (λ j h. long j (omega (arith, h))) (λ j h. are j (omega (arith, h))) in
+    let words : flat_map row (range_with_len a (suc n)) ≡ ys ++ row (a + n) = ap (flat_map row) (range_more a n) ∙ sym (flat_map_more row [] (range_with_len a n) (a + n)) in
+    let more : IsStagedTo f w (suc n) (ys ++ row (a + n)) = subst (λ (k : ℕ). IsStagedTo f w k (ys ++ row (a + n))) (add-one n) (staged_more f ys (row (a + n)) w n before (long n (omega arith)) (are n (omega arith))) in
+    rw words more
+
 module _ {A M : Type 0} (height width : M → ℕ) (row : M → ℕ → List A) (h : ℕ) where
   -- the widths of the matrices of height h
   abbrev pub all_widths : List M → ℕ
@@ -70,6 +85,14 @@ module _ {A M : Type 0} (height width : M → ℕ) (row : M → ℕ → List A) 
         | inl same ↦ rw same (omega (arith, length-append (row m r) (rows_of_height height row h r ms), each m r (rw (eqb-true (height m) h same) below), rest))
         | inr other ↦ rw other (omega (arith, rest))
       ]
+
+-- those of a matrix that stands alone
+pub staged_alone : {A M : Type 0} (height width : M → ℕ) (row : M → ℕ → List A) (h a n : ℕ) (ms : List M) (m : M) (xs : List A) → ((m : M) (r : ℕ) → r < height m → length (row m r) ≡ width m)
+    → length ms ≡ 1 → m ≡ get_or ms 0 m → height m ≡ h → a + n ≤ h → xs ≡ flat_map (row m) (range_with_len a n) → IsStaged (λ j. rows_of_height height row h (a + j) ms) n xs
+staged_alone height width row h a n ms m xs each one is same inside words =
+    let f = λ (j : ℕ). rows_of_height height row h (a + j) ms in
+    let staged = staged_rows (row m) f (width m) a n (λ j below. each m (a + j) (omega (arith, same, below, inside))) (λ j below. sym (rows_alone height row h (a + j) ms m one is same)) in
+    rw words (staged_all f (flat_map (row m) (range_with_len a n)) (width m) n n staged refl)
 
 -- a list made by index has its length
 pub made_long : {X : Type 0} (f : ℕ → X) (n : ℕ) (xs : List X) → xs ≡ map f (range_with_len 0 n) → length xs ≡ n

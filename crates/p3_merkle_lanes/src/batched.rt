@@ -1,6 +1,6 @@
 //! The digests of many rows or nodes by calls that take many messages at once.
 
-ghost use Rattle.std.specs.Prelude.{◌≡◌, ℕ, ◌+◌, ◌-◌, ◌<◌, ◌≤◌, ◌++◌, [], ◌∷◌, IfOk, length, map, replicate, slice_index_or};
+ghost use Rattle.std.specs.Prelude.{◌≡◌, ℕ, ◌+◌, ◌-◌, ◌<◌, ◌≤◌, ◌++◌, [], ◌∷◌, IfOk, IfSome, length, map, replicate, slice_index_or};
 ghost use Rattle.std.specs.List.{range_with_len};
 ghost use Rattle.p3_support.specs.Lists.{rows_of_height};
 ghost use Rattle.p3_merkle_lanes.specs.Slots.{leaf_over, rows_per_call as rows_in_call, IsFilled, IsStaged};
@@ -88,7 +88,26 @@ fn stage_rows<T: Copy, M: Matrix<T>>(
     Ok(())
 }
 
-/// Writes into slot `j` the digest of the rows `first + j` of the matrices of this height, which are staged for that.
+/// The rows of the one matrix that there is, `count` of them from `first` on, if it has this height and lends them in one
+/// piece.
+pub(crate) fn lone_rows<T, M: Matrix<T>>(
+    matrices: &[M],
+    height: usize,
+    first: usize,
+    count: usize,
+) -> Option<&[T]>
+    requires { first + count ≤ height }
+    ensures { let rows = λ (j : ℕ). rows_of_height M.height_of M.row_of height (first + j) matrices.now in
+        IfSome result (λ words. IsStaged rows count words.now) }
+{
+    match matrices {
+        [matrix] if matrix.height() == height => matrix.row_chunk(first, count),
+        _ => None,
+    }
+}
+
+/// Writes into slot `j` the digest of the rows `first + j` of the matrices of this height, which are staged for that
+/// where no matrix lends them.
 fn hash_rows<
     P: PackedValue,
     PW: PackedValue,
@@ -107,6 +126,10 @@ fn hash_rows<
     ensures { IfOk result (λ done. slots.new
         ≡ map (λ j. H.hash hash.now (rows_of_height M.height_of M.row_of height (first + j) matrices.now)) (range_with_len 0 (length slots.old))) }
 {
+    if let Some(words) = lone_rows(matrices, height, first, slots.len()) {
+        hash.hash_many(words, slots);
+        return Ok(());
+    }
     stage_rows(staged, matrices, height, first, slots.len())?;
     hash.hash_many(staged, slots);
     Ok(())

@@ -10,7 +10,7 @@ use p3_merkle_core::group::group_with;
 use p3_support::compress::PseudoCompressionFunction;
 use p3_support::hasher::CryptographicHasher;
 use p3_support::matrix::Matrix;
-use p3_support::packed::{PackedValue, tell_rows, unpack_at};
+use p3_support::packed::{PackedValue, tell_row, unpack_at};
 use std::alloc::{AllocError, Global};
 
 /// Whether an array of `outer` arrays of `inner` values each has fewer than 2^63 bytes, as each value has that is moved.
@@ -206,6 +206,26 @@ fn packed_element<PW: PackedValue, const D: usize>(
     )
 }
 
+/// Child `n` of each node `first + k` over a layer, where each node has `step` children, has as many elements as its type
+/// says. It tells this alone, and does nothing.
+#[tactic(auto, using(crate::proofs::LaneFacts::child_below, crate::proofs::LaneFacts::node_below))]
+fn tell_children<PW: PackedValue, const D: usize>(
+    below: &[[PW::Value; D]],
+    step: usize,
+    first: usize,
+    n: usize,
+)
+    requires child { n < step }
+    requires inside { step * (first + PW.WIDTH) ≤ length below.now }
+    ensures { (k : ℕ) → k < PW.WIDTH → length (slice_index_or below.now (step * (first + k) + n) []) ≡ D }
+{
+    // A length is a usize, so that the nodes' numbers are.
+    let _len = below.len();
+    for k in 0..PW::WIDTH {
+        tell_row(&below[step * (first + k) + n]);
+    }
+}
+
 /// Lane `k` is child `n` of node `first + k` over a layer, where each node has `step` children.
 fn packed_child<PW: PackedValue, const D: usize>(
     below: &[[PW::Value; D]],
@@ -218,7 +238,7 @@ fn packed_child<PW: PackedValue, const D: usize>(
     ensures { (k : ℕ) → k < PW.WIDTH →
         lane_of PW.lanes PW.default_value k result ≡ slice_index_or below.now (step * (first + k) + n) [] }
 {
-    tell_rows(below);
+    tell_children::<PW, D>(below, step, first, n);
     std::array::from_fn(
         |e| -> PW
             requires child { n < step }

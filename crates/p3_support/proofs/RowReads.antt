@@ -1,8 +1,10 @@
 -- What is left of a row, of columns and of the rows of several matrices, once one more element is read.
-use Rattle.std.proofs.Common.{◌≡◌, ℕ, ◌+◌, ◌-◌, ◌*◌, ◌<◌, ◌≤◌, List, [], ◌∷◌, ◌++◌, length, drop, map, get_or, refl, sym, ap, ◌∙◌, arith, true, add-one}
-use Rattle.std.specs.Prelude.{◌==◌, slice_get, slice_index_or, Some}
-use Rattle.std.specs.List.{range_with_len}
-use Rattle.std.proofs.Math.Seq.{drop-cons}
+use Rattle.std.proofs.Common.{◌≡◌, ℕ, zero, suc, take, ◌+◌, ◌-◌, ◌*◌, ◌<◌, ◌≤◌, List, [], ◌∷◌, ◌++◌, length, drop, map, get_or, refl, sym, ap, ◌∙◌, arith, true, add-one}
+use Rattle.std.specs.Prelude.{◌==◌, slice_get, slice_index_or, slice_range, Some}
+use Rattle.std.specs.List.{flat_map, range_with_len}
+use Rattle.std.proofs.Math.Nat.{mul-le-mul_right}
+use Rattle.std.proofs.Math.Seq.{drop-cons, take-append-add}
+use Rattle.std.proofs.lemmas.List.Folds.{drop_split}
 use Rattle.std.proofs.lemmas.Option.{slice_get_within, slice_get_read, get_or_from_slice_get}
 use Rattle.std.proofs.lemmas.List.Edits.{get_or-between}
 use Rattle.std.proofs.Math.ListN.{get_or-append}
@@ -34,6 +36,26 @@ message_at xs w h r c x full below inside read =
     let more = next_start r w in
     slice_get_read (message w xs r) w c x (sym (length-message xs w h r full below)) inside
     (read ∙ sym (get_or-between xs (r * w) ((r + 1) * w) c x (omega (arith, more))))
+
+-- rows that stand one after another
+pub chunk_of_rows : {A : Type 0} (xs : List A) (w h a n : ℕ) → length xs ≡ h * w → a + n ≤ h
+    → slice_range xs (a * w) ((a + n) * w) ≡ flat_map (message w xs) (range_with_len a n)
+chunk_of_rows xs w h a zero full fits =
+    let none : a + 0 ≡ a = omega arith in
+    let same : (a + 0) * w ≡ a * w = ap (λ k. k * w) none in
+    let nothing : (a + 0) * w - a * w ≡ 0 = omega (arith, same) in
+    ap (λ k. take k (drop (a * w) xs)) nothing
+chunk_of_rows xs w h a (suc n) full fits =
+    let one = message w xs a in
+    let later = drop ((a + 1) * w) xs in
+    let left : ℕ = (a + 1 + n) * w - (a + 1) * w in
+    let end : a + suc n ≡ a + 1 + n = omega arith in
+    let step = next_start a w in
+    let up : (a + 1) * w ≤ (a + 1 + n) * w = mul-le-mul_right w (omega arith) in
+    let long : length one ≡ w = length-message xs w h a full (omega (arith, fits)) in
+    let whole : (a + suc n) * w - a * w ≡ length one + left = rw end (omega (arith, step, up, long)) in
+    ap (λ k. take k (drop (a * w) xs)) whole ∙ ap (take (length one + left)) (drop_split xs (a * w) ((a + 1) * w) (omega (arith, step)))
+    ∙ take-append-add one later left ∙ ap (λ l. one ++ l) (chunk_of_rows xs w h (a + 1) n full (omega (arith, fits)))
 
 module _ {A M : Type 0} (height : M → ℕ) (row : M → ℕ → List A) (h r : ℕ) where
   -- one more element of the first matrix

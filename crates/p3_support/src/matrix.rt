@@ -1,6 +1,6 @@
 //! Matrices, seen as their height, their width and their rows.
 ghost use Rattle.std.specs.Prelude.{◌≡◌, ℕ, ◌+◌, ◌*◌, ◌<◌, ◌≤◌, ◌^◌, List, length, map, slice_get, slice_index_or, IfSome, Some};
-ghost use Rattle.std.specs.List.{range_with_len};
+ghost use Rattle.std.specs.List.{flat_map, range_with_len};
 ghost use Rattle.std.specs.Iterator.{YieldsFirst, YieldsFirstBy, item_count};
 ghost use Rattle.p3_support.specs.Lists.{message, column_of_rows, columns};
 ghost use Rattle.p3_support.specs.RowLengths.{length-message};
@@ -50,6 +50,16 @@ pub trait Matrix<T> {
     fn row_slice(&self, row: usize) -> Option<&[T]>
         requires { row < height_of self.now }
         ensures { IfSome result (λ words. words.now ≡ row_of self.now row) }
+    {
+        None
+    }
+
+    /// The elements of `count` rows from `first` on, row after row, where the matrix can lend them in
+    /// one piece. `None` says nothing. `first + count` is at most the height.
+    fn row_chunk(&self, first: usize, count: usize) -> Option<&[T]>
+        requires { first + count ≤ height_of self.now }
+        ensures { IfSome result (λ words. words.now
+            ≡ flat_map (row_of self.now) (range_with_len first count)) }
     {
         None
     }
@@ -127,6 +137,10 @@ impl<T, M: Matrix<T>> Matrix<T> for &M {
 
     fn row_slice(&self, row: usize) -> Option<&[T]> {
         (**self).row_slice(row)
+    }
+
+    fn row_chunk(&self, first: usize, count: usize) -> Option<&[T]> {
+        (**self).row_chunk(first, count)
     }
 
     ghost length_row_of = { λ m r h. M.length_row_of m.now r h };
@@ -309,6 +323,10 @@ impl<T: Copy> Matrix<T> for RowMajorMatrix<T> {
 
     fn row_slice(&self, row: usize) -> Option<&[T]> {
         Some(&self.values[row * self.width..(row + 1) * self.width])
+    }
+
+    fn row_chunk(&self, first: usize, count: usize) -> Option<&[T]> {
+        Some(&self.values[first * self.width..(first + count) * self.width])
     }
 
     ghost length_row_of = { λ m r h. length-message m.values.items m.width m.height r m.full h };

@@ -129,8 +129,8 @@ impl PackedValue for u8 {
     ghost default_is_unique = { λ a h. h };
 }
 
-/// A row has as many elements as its type says.
-fn tell_row<T, const D: usize>(row: &[T; D])
+/// A row has as many elements as its type says. It tells this alone, and does nothing.
+pub fn tell_row<T, const D: usize>(row: &[T; D])
     ensures { length row.now ≡ D }
 {}
 

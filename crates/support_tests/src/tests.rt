@@ -80,6 +80,8 @@ fn hashes_rows(rt: HostRuntime) -> Result<(), Fail> {
     );
     assert_eq!(rt; matrix.get(1, 0), 3);
     assert!(rt; matrix.row_slice(1) == Some([3u32, 4].as_slice()));
+    assert!(rt; matrix.row_chunk(0, 2) == Some([1u32, 31, 3, 4].as_slice()));
+    assert!(rt; matrix.row_chunk(1, 1) == Some([3u32, 4].as_slice()));
     assert_eq!(rt; matrix.clone()?.values(), [1u32, 31, 3, 4].as_slice());
     let fold = FoldHash::<8>;
     assert_eq!(rt;

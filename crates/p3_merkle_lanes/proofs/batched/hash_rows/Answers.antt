@@ -1,9 +1,16 @@
--- What is staged are messages of one length.
+-- Rows that are lent in one piece or staged are messages of one length.
 use Rattle.std.proofs.Common.{ℕ, ◌+◌, ◌∙◌, ap, map, length}
 use Rattle.std.specs.List.{range_with_len}
 use Rattle.std.proofs.lemmas.Simd.{map-map}
 use Rattle.p3_support.specs.Lists.{messages, rows_of_height}
 use Rattle.p3_merkle_lanes.proofs.batched.hash_rows.Goals as goal
+
+pub returns-in-Some : goal.returns-in-Some
+returns-in-Some g c =
+    let s = c.in-Some.ensures in
+    let hash = g.H.CryptographicHasher.hash c.args.hash.now in
+    let rows = λ (j : ℕ). rows_of_height g.M.Matrix.height_of g.M.Matrix.row_of c.args.height (c.args.first + j) c.args.matrices.now in
+    c.hash_many.ensures s.width s.long ∙ ap (map hash) s.are ∙ map-map hash rows (range_with_len 0 (length c.args.slots.now))
 
 pub returns : goal.returns
 returns g c =
@@ -11,6 +18,6 @@ returns g c =
     let n = length c.args.slots.now in
     let hash = g.H.CryptographicHasher.hash c.args.hash.now in
     let rows = λ (j : ℕ). rows_of_height g.M.Matrix.height_of g.M.Matrix.row_of c.args.height (c.args.first + j) c.args.matrices.now in
-    c.hash_many.ensures s.width (ap length c.deref.ensures.value ∙ s.long)
+    c.hash_many-2.ensures s.width (ap length c.deref.ensures.value ∙ s.long)
     ∙ ap (λ ws. map hash (messages s.width n ws)) c.deref.ensures.value
     ∙ ap (map hash) s.are ∙ map-map hash rows (range_with_len 0 n)

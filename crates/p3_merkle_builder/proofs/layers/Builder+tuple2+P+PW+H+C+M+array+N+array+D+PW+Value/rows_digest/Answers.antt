@@ -1,7 +1,7 @@
 -- One matrix of the height gives its own row.
 use Rattle.std.proofs.Common.{arith, ◌≡◌, nat_lt, true}
 use Rattle.std.proofs.lemmas.Bool.{lt-ltb}
-use Rattle.p3_merkle_builder.proofs.LayerFacts.{rows_alone}
+use Rattle.p3_merkle_lanes.proofs.LaneFacts.{rows_alone}
 use Rattle.p3_merkle_builder.proofs.layers.Builder+tuple2+P+PW+H+C+M+array+N+array+D+PW+Value.rows_digest.Goals as goal
 
 pub returns-in-len1 : goal.returns-in-len1
