@@ -23,6 +23,7 @@ use p3_merkle_lanes::batched::{join_rows, write_batched_folds, write_batched_lea
 use p3_merkle_lanes::packed::{
     packed_fold, packed_groups, packed_join, packed_rows_digest, write_packed_leaves,
 };
+use p3_merkle_lanes::plain::{write_lent_leaves, write_whole_folds};
 use p3_support::compress::PseudoCompressionFunction;
 use p3_support::hasher::CryptographicHasher;
 use p3_support::matrix::{Dimensions, Matrix};
@@ -224,6 +225,13 @@ impl<
         ensures { let leaf = leaf_over (H.hash self.now.hash.now) (replicate D PW.default_value) M.height_of M.row_of self.now.matrices.now height in
             slots.new ≡ map leaf (range_with_len 0 (length slots.old)) }
     {
+        let done = write_lent_leaves::<P, PW, H, M, D>(
+            self.hash,
+            self.matrices,
+            height,
+            done,
+            slots,
+        );
         for j in done..slots.len() {
             slots[j] = self.rows_digest(height, j);
         }
@@ -390,6 +398,32 @@ impl<
         Ok(groups * PW::WIDTH)
     }
 
+    /// Writes nodes into the slots of their numbers, from slot `done` on, if each has `N` children and no matrices belong to
+    /// the layer. The answer is how many slots are written then, those before `done` among them.
+    fn write_whole_nodes(
+        &self,
+        level: &Level,
+        below: &[[PW::Value; D]],
+        done: usize,
+        slots: &mut [[PW::Value; D]],
+    ) -> usize
+        requires level { CanRaise N level.now (length below.now) }
+        requires first { let f = functions_of (H.hash self.now.hash.now) (C.compression self.now.compress.now)
+            (replicate D PW.default_value) in
+            IsFilled (slot_above f N M.height_of M.row_of self.now.matrices.now level.now below.now) done (length slots.old) slots.old }
+        ensures { let f = functions_of (H.hash self.now.hash.now) (C.compression self.now.compress.now)
+            (replicate D PW.default_value) in
+            IsFilled (slot_above f N M.height_of M.row_of self.now.matrices.now level.now below.now) result (length slots.old) slots.new }
+    {
+        let end = level.raw_len.min(slots.len());
+        if level.step != N || level.has_rows || done >= end {
+            return done;
+        }
+        let (groups, _) = below.as_chunks::<N>();
+        write_whole_folds::<PW, C, N, D>(self.compress, groups, done, end, slots);
+        end
+    }
+
     /// Writes the slots of the layer above a layer, from the first `done` on.
     fn write_other_nodes(
         &self,
@@ -406,6 +440,7 @@ impl<
             (replicate D PW.default_value) in
             slots.new ≡ map (slot_above f N M.height_of M.row_of self.now.matrices.now level.now below.now) (range_with_len 0 (length slots.old)) }
     {
+        let done = self.write_whole_nodes(level, below, done, slots);
         for j in done..slots.len() {
             slots[j] = self.slot(level, below, j);
         }

@@ -1,5 +1,6 @@
-//! The digests of many rows or nodes of a layer at a time: lane by lane, and many messages a call.
+//! The digests of many rows or nodes of a layer: lane by lane, many messages a call, and one by one.
 #![tactic(auto)]
 
 pub mod batched;
 pub mod packed;
+pub mod plain;

@@ -1,0 +1,18 @@
+-- Each slot has the digest of its message.
+use Rattle.std.proofs.Common.{rules, arith, ◌≡◌, ◌<◌, ◌/◌, ◌∙◌, sym, ap, length, []}
+use Rattle.std.specs.List.{range_with_len}
+use Rattle.std.proofs.Math.Nat.{mul-div_cancel}
+use Rattle.std.proofs.lemmas.List.FromFn.{fill_by_all}
+use Rattle.std.proofs.lemmas.Simd.{map-map}
+use Rattle.p3_support.specs.Lists.{message}
+use Rattle.p3_merkle_lanes.proofs.plain.hash_each.Goals as goal
+
+pub returns : goal.returns
+returns g c = λ w e.
+    let xs = c.args.messages.now in
+    let n = length c.args.slots.now in
+    let some : 0 < n = search rules in
+    let width : length xs / n ≡ w = rw e (mul-div_cancel w some) in
+    let hash = g.H.CryptographicHasher.hash c.args.hash.now in
+    fill_by_all (λ i. hash (message w xs i)) c.loop-i.slots n [] c.loop-i.invariant.0 (λ k h. c.loop-i.invariant.1 k (omega arith) ∙ ap (λ v. hash (message v xs k)) width)
+    ∙ sym (map-map hash (message w xs) (range_with_len 0 n))

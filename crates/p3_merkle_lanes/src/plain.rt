@@ -1,0 +1,86 @@
+//! The digests of rows that a matrix lends in one piece, and of whole groups of a layer, one by one.
+
+ghost use Rattle.std.specs.Prelude.{◌≡◌, ℕ, ◌*◌, ◌<◌, ◌≤◌, [], length, map, replicate, slice_index_or};
+ghost use Rattle.p3_support.specs.Lists.{messages as messages_of};
+ghost use Rattle.p3_merkle_lanes.specs.Slots.{leaf_over, IsFilled};
+
+use crate::batched::lone_rows;
+use p3_support::compress::PseudoCompressionFunction;
+use p3_support::hasher::CryptographicHasher;
+use p3_support::matrix::Matrix;
+use p3_support::packed::PackedValue;
+
+/// Writes into `slots[i]` the digest of message `i`. The messages lie one after another, as many as there are slots, of
+/// one length.
+fn hash_each<P: PackedValue, PW: PackedValue, H: CryptographicHasher<P, PW, D>, const D: usize>(
+    hash: &H,
+    messages: &[P::Value],
+    slots: &mut [[PW::Value; D]],
+)
+    requires { (w : ℕ) × (length messages.now ≡ w * length slots.old) }
+    ensures { (w : ℕ) → length messages.now ≡ w * length slots.old →
+        slots.new ≡ map (H.hash hash.now) (messages_of w (length slots.old) messages.now) }
+{
+    if slots.is_empty() {
+        return;
+    }
+    let width = messages.len() / slots.len();
+    for i in 0..slots.len() {
+        slots[i] = hash.hash_slice(&messages[i * width..(i + 1) * width]);
+    }
+}
+
+/// Writes the digests of rows into the slots of their numbers, from slot `first` on, if there is one matrix, it has this
+/// height, and it lends its rows in one piece. The answer is how many slots are written then, those before `first`
+/// among them.
+pub fn write_lent_leaves<
+    P: PackedValue,
+    PW: PackedValue,
+    H: CryptographicHasher<P, PW, D>,
+    M: Matrix<P::Value>,
+    const D: usize,
+>(hash: &H, matrices: &[M], height: usize, first: usize, slots: &mut [[PW::Value; D]]) -> usize
+    requires { let leaf = leaf_over (H.hash hash.now) (replicate D PW.default_value) M.height_of M.row_of matrices.now height in
+        IsFilled leaf first (length slots.old) slots.old }
+    ensures { let leaf = leaf_over (H.hash hash.now) (replicate D PW.default_value) M.height_of M.row_of matrices.now height in
+        IsFilled leaf result (length slots.old) slots.new }
+{
+    let end = height.min(slots.len());
+    if first >= end {
+        return first;
+    }
+    match lone_rows(matrices, height, first, end - first) {
+        Some(words) => {
+            hash_each::<P, PW, H, D>(hash, words, &mut slots[first..end]);
+            end
+        },
+        None => first,
+    }
+}
+
+/// Writes the compressions of whole groups of a layer into the slots from `first` to `end`: slot `j` is that of group
+/// `j`. There are at least `end` groups, and as many slots.
+pub fn write_whole_folds<
+    PW: PackedValue,
+    C: PseudoCompressionFunction<PW, N, D>,
+    const N: usize,
+    const D: usize,
+>(
+    compress: &C,
+    groups: &[[[PW::Value; D]; N]],
+    first: usize,
+    end: usize,
+    slots: &mut [[PW::Value; D]],
+)
+    requires groups { end ≤ length groups.now }
+    requires room { end ≤ length slots.old }
+    requires ends { first ≤ end }
+    ensures long { length slots.new ≡ length slots.old }
+    ensures before { (j : ℕ) → j < first → slice_index_or slots.new j [] ≡ slice_index_or slots.old j [] }
+    ensures filled { (j : ℕ) → first ≤ j → j < end →
+        slice_index_or slots.new j [] ≡ C.compression compress.now (slice_index_or groups.now j []) }
+{
+    for j in first..end {
+        slots[j] = compress.compress(groups[j]);
+    }
+}
