@@ -35,6 +35,7 @@ pub mod FallFacts
 pub mod CapFacts
 pub mod SiblingFacts
 pub mod BridgeFacts
+pub mod RungFacts
 pub mod GroupFacts
 pub mod RisingFacts
 pub mod CoveredFacts

@@ -7,6 +7,7 @@ pub mod Openings
 pub mod Groups
 pub mod Pruning
 pub mod Refusals
+pub mod Rungs
 pub mod PrunedCalls
 pub mod Agreement
 pub mod Children

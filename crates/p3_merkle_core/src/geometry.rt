@@ -3,12 +3,13 @@
 //!
 //! No call here takes memory, but for the two that answer a list.
 
-ghost use Rattle.std.specs.Prelude.{◌≡◌, ℕ, suc, ◌+◌, ◌-◌, ◌*◌, ◌^◌, ◌<◌, ◌≤◌, ◌==◌, ◌↔◌, Some, None, IfOk, IsOk, MatchResult, List, map, if◌then◌else◌};
+ghost use Rattle.std.specs.Prelude.{◌≡◌, ℕ, suc, ◌+◌, ◌-◌, ◌*◌, ◌^◌, ◌<◌, ◌≤◌, ◌==◌, ◌↔◌, Some, None, IfOk, IsOk, MatchResult, List, map, if◌then◌else◌, nat_lt, ◌&&◌};
 ghost use Rattle.std.specs.List.{list_any};
 ghost use Rattle.p3_merkle_core.specs.Geometry.{bits_reduced, expected_height, exponent, grouped_len_of, heights_of, is_bridge, layer_exponent, max_height, padded_len, positions_below, raw_len, schedule_below, shape_of, shortest, tallest, levels, IsArity, IsLawful, Shape};
 ghost use Rattle.p3_merkle_core.specs.Gate.{first_off_ladder, first_too_large, gate_refusal};
 ghost use Rattle.p3_merkle_core.specs.Openings.{siblings_below};
 ghost use Rattle.p3_merkle_core.specs.Refusals.{width_refusal};
+ghost use Rattle.p3_merkle_core.specs.Rungs.{next_below, IsRung};
 
 use crate::error::MerkleTreeError;
 use p3_support::matrix::Dimensions;
@@ -241,6 +242,105 @@ pub fn select_arity_step(dimensions: &[Dimensions], arity: usize, x: usize) -> (
     }
 }
 
+/// The exponent of a layer, and the next one below it: what the steps from there on depend on.
+#[derive(Clone, Copy)]
+pub struct Rung {
+    /// The exponent of the layer.
+    pub exponent: usize,
+    /// One more than the greatest exponent below that one which a matrix has, and 0 where none has one.
+    pub next: usize,
+}
+
+/// This exponent with the next one below it. Each matrix is looked at once.
+pub fn rung_at(dimensions: &[Dimensions], x: usize) -> Rung
+    ensures exponent { result.exponent ≡ x }
+    ensures rung { IsRung (heights_of dimensions.now) result }
+{
+    let mut next = 0;
+    for matrix in dimensions {
+        let e = exponent_of(matrix.height);
+        if e < x {
+            next = next.max(e + 1);
+        }
+    }
+    Rung { exponent: x, next }
+}
+
+/// The exponent of the leaves with the next one below it.
+pub fn leaf_rung(dimensions: &[Dimensions]) -> Rung
+    ensures exponent { result.exponent ≡ exponent (tallest (heights_of dimensions.now)) }
+    ensures rung { IsRung (heights_of dimensions.now) result }
+{
+    rung_at(dimensions, exponent_of(tallest_of(dimensions)))
+}
+
+/// Whether the step from a layer is a bridge step, as [`is_bridge_step`], without a look at the matrices.
+fn is_bridge_from(arity: usize, rung: Rung) -> bool
+    ensures { (hs : List ℕ) → IsRung hs rung → result
+        ≡ list_any (λ h. nat_lt (rung.exponent - exponent arity) (exponent h) && nat_lt (exponent h) rung.exponent) hs }
+{
+    let target = rung.exponent.saturating_sub(exponent_of(arity));
+    rung.next.saturating_sub(target) > 1
+}
+
+/// Whether matrices have this exponent, and the exponent with the next one below it. It is that of the layer above a
+/// rung: at most the rung's, and no matrix has one between them. The matrices are looked at only where one has it.
+fn rung_above(dimensions: &[Dimensions], rung: Rung, x: usize) -> (bool, Rung)
+    requires rung { IsRung (heights_of dimensions.now) rung }
+    requires down { x ≤ rung.exponent }
+    requires between { x < rung.exponent → rung.next ≤ x + 1 }
+    ensures rows { result.0 ≡ list_any (λ h. exponent h == x) (heights_of dimensions.now) }
+    ensures exponent { result.1.exponent ≡ x }
+    ensures above { IsRung (heights_of dimensions.now) result.1 }
+{
+    // No step leads down from exponent 0.
+    if x == rung.exponent {
+        return (has_exponent(dimensions, x), rung);
+    }
+    if rung.next == x + 1 {
+        return (true, rung_at(dimensions, x));
+    }
+    let above = Rung {
+        exponent: x,
+        next: rung.next,
+    };
+    (false, above)
+}
+
+/// A step from one layer to the next.
+#[derive(Clone, Copy)]
+pub struct StepUp {
+    /// How many children a node of the next layer has.
+    pub step: usize,
+    /// Whether matrices belong to the next layer.
+    pub has_rows: bool,
+    /// The exponent of the next layer, with the next one below it.
+    pub above: Rung,
+}
+
+/// The step from a layer, as [`select_arity_step`], and whether matrices belong to the next layer, as [`has_exponent`].
+/// The matrices are looked at only where one belongs to it.
+pub fn step_up(dimensions: &[Dimensions], arity: usize, rung: Rung) -> StepUp
+    requires { IsRung (heights_of dimensions.now) rung }
+    ensures step { result.step ≡ (if is_bridge (shape_of arity dimensions.now) rung.exponent then 2 else arity) }
+    ensures next { result.above.exponent
+        ≡ (if is_bridge (shape_of arity dimensions.now) rung.exponent then rung.exponent - 1 else rung.exponent - exponent arity) }
+    ensures rows { result.has_rows ≡ list_any (λ h. exponent h == result.above.exponent) (heights_of dimensions.now) }
+    ensures rung { IsRung (heights_of dimensions.now) result.above }
+{
+    let (step, exponent) = if is_bridge_from(arity, rung) {
+        (2, rung.exponent.saturating_sub(1))
+    } else {
+        (arity, rung.exponent.saturating_sub(exponent_of(arity)))
+    };
+    let (has_rows, above) = rung_above(dimensions, rung, exponent);
+    StepUp {
+        step,
+        has_rows,
+        above,
+    }
+}
+
 /// The exponent of layer `t`, counted from the leaves.
 pub fn layer_exponent_of(dimensions: &[Dimensions], arity: usize, t: usize) -> usize
     ensures { result ≡ layer_exponent (shape_of arity dimensions.now) t }
@@ -257,11 +357,10 @@ pub fn levels_of(dimensions: &[Dimensions], arity: usize) -> usize
     requires { 2 ≤ arity }
     ensures { result ≡ levels (shape_of arity dimensions.now) }
 {
-    let mut x = exponent_of(tallest_of(dimensions));
+    let mut rung = leaf_rung(dimensions);
     let mut count = 0;
-    while x > 0 {
-        let (_, next) = select_arity_step(dimensions, arity, x);
-        x = next;
+    while rung.exponent > 0 {
+        rung = step_up(dimensions, arity, rung).above;
         count += 1;
     }
     count
@@ -276,12 +375,12 @@ pub fn siblings_below_of(dimensions: &[Dimensions], arity: usize, t: usize) -> u
     requires layer { t ≤ levels (shape_of arity dimensions.now) }
     ensures { result ≡ siblings_below (shape_of arity dimensions.now) t }
 {
-    let mut x = exponent_of(tallest_of(dimensions));
+    let mut rung = leaf_rung(dimensions);
     let mut count = 0;
     for _l in 0..t {
-        let (step, next) = select_arity_step(dimensions, arity, x);
+        let StepUp { step, above, .. } = step_up(dimensions, arity, rung);
         count += step - 1;
-        x = next;
+        rung = above;
     }
     count
 }

@@ -1,0 +1,8 @@
+use Rattle.std.proofs.Common.{◌≡◌, max, drop}
+use Rattle.p3_merkle_core.specs.Geometry.{heights_of}
+use Rattle.p3_merkle_core.specs.Rungs.{next_below}
+use Rattle.p3_merkle_core.proofs.geometry.rung_at.Given as goal
+
+-- the greatest so far and the rest's is the greatest of all
+abbrev pub invariant-loop-matrix : goal.invariant-loop-matrix
+invariant-loop-matrix l = max l.next (next_below l.x (heights_of (drop l.matrix-index l.dimensions))) ≡ next_below l.x (heights_of l.dimensions)
