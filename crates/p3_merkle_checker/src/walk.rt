@@ -73,7 +73,7 @@ impl<
             let mine = self.checked_level(dimensions, level, openings.first, &first);
             let theirs = self.checked_level(dimensions, level, openings.second, &second);
             if mine.above.node == theirs.above.node {
-                let rows = openings.rows_with(mine.above.exponent);
+                let rows = openings.rows_with(mine.above.rung.exponent);
                 let found = differing_level(alloc, &rows, &mine, &theirs)?;
                 last = found.or(last);
             }

@@ -16,8 +16,8 @@ loop-level-init g c =
     let f = functions_of (g.H.CryptographicHasher.hash c.args.self.now.hash.now) (g.C.PseudoCompressionFunction.compression c.args.self.now.compress.now) (replicate g.row.D g.PW.PackedValue.default_value) in
     let s = shape_of g.row.N c.args.openings.now.dimensions.now in
     record {
-      first_stands = stands_first f s (opening_in c.args.openings.now.first) c.leaf-first.result c.leaf-first.ensures.exponent c.leaf-first.ensures.node c.leaf-first.ensures.used c.leaf-first.ensures.digest;
-      second_stands = stands_first f s (opening_in c.args.openings.now.second) c.leaf-second.result c.leaf-second.ensures.exponent c.leaf-second.ensures.node c.leaf-second.ensures.used c.leaf-second.ensures.digest;
+      first_stands = stands_first f s (opening_in c.args.openings.now.first) c.leaf-first.result c.leaf-first.ensures.exponent c.leaf-first.ensures.rung c.leaf-first.ensures.node c.leaf-first.ensures.used c.leaf-first.ensures.digest;
+      second_stands = stands_first f s (opening_in c.args.openings.now.second) c.leaf-second.result c.leaf-second.ensures.exponent c.leaf-second.ensures.rung c.leaf-second.ensures.node c.leaf-second.ensures.used c.leaf-second.ensures.digest;
       found = c.in_ok-last.ensures;
     }
 
