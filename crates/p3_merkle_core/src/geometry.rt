@@ -357,6 +357,9 @@ pub fn levels_of(dimensions: &[Dimensions], arity: usize) -> usize
     requires { 2 ≤ arity }
     ensures { result ≡ levels (shape_of arity dimensions.now) }
 {
+    if arity == 2 {
+        return exponent_of(tallest_of(dimensions));
+    }
     let mut rung = leaf_rung(dimensions);
     let mut count = 0;
     while rung.exponent > 0 {
@@ -375,6 +378,9 @@ pub fn siblings_below_of(dimensions: &[Dimensions], arity: usize, t: usize) -> u
     requires layer { t ≤ levels (shape_of arity dimensions.now) }
     ensures { result ≡ siblings_below (shape_of arity dimensions.now) t }
 {
+    if arity == 2 {
+        return t;
+    }
     let mut rung = leaf_rung(dimensions);
     let mut count = 0;
     for _l in 0..t {

@@ -1,7 +1,8 @@
 -- Each turn is one step of the walk.
-use Rattle.std.proofs.Common.{arith}
-use Rattle.p3_merkle_core.specs.Geometry.{shape_of}
+use Rattle.std.proofs.Common.{arith, ap, ◌∙◌}
+use Rattle.p3_merkle_core.specs.Geometry.{exponent, shape_of}
 use Rattle.p3_merkle_core.proofs.StepFacts.{at_start, at_more, at_end, next_falls}
+use Rattle.p3_merkle_core.proofs.HalvingFacts.{levels_halved}
 use Rattle.p3_merkle_core.proofs.geometry.levels_of.Goals as goal
 
 pub loop-rung-init : goal.loop-rung-init
@@ -16,3 +17,6 @@ loop-rung-preserved c =
 
 pub returns : goal.returns
 returns c = at_end (shape_of c.args.arity c.args.dimensions.now) c.loop-rung.count c.loop-rung.rung.exponent c.loop-rung.invariant.0 (omega arith)
+
+pub returns-then-arity-eq2 : goal.returns-then-arity-eq2
+returns-then-arity-eq2 c = levels_halved (shape_of c.args.arity c.args.dimensions.now) c.exponent_of.result c.if-arity-eq2.true (c.exponent_of.ensures ∙ ap exponent c.tallest_of.ensures)

@@ -4,6 +4,7 @@ use Rattle.p3_merkle_core.specs.Geometry.{shape_of}
 use Rattle.p3_merkle_core.specs.Openings.{siblings_below}
 use Rattle.p3_merkle_core.proofs.StepFacts.{layer_start, step_at, next_at}
 use Rattle.p3_merkle_core.proofs.SiblingFacts.{siblings_start, siblings_next, step_is}
+use Rattle.p3_merkle_core.proofs.HalvingFacts.{siblings_halved}
 use Rattle.p3_merkle_core.proofs.geometry.siblings_below_of.Goals as goal
 
 pub loop-l-init : goal.loop-l-init
@@ -39,3 +40,6 @@ pub returns : goal.returns
 returns c =
     let h : c.loop-l._l ≡ c.args.t = omega arith in
     c.loop-l.invariant.1 ∙ ap (siblings_below (shape_of c.args.arity c.args.dimensions.now)) h
+
+pub returns-then-arity-eq2 : goal.returns-then-arity-eq2
+returns-then-arity-eq2 c = sym (siblings_halved (shape_of c.args.arity c.args.dimensions.now) c.if-arity-eq2.true c.args.t)
