@@ -251,11 +251,17 @@ pub struct Rung {
     pub next: usize,
 }
 
-/// This exponent with the next one below it. Each matrix is looked at once.
+/// This exponent with the next one below it. Each matrix is looked at once, and none for 0.
 pub fn rung_at(dimensions: &[Dimensions], x: usize) -> Rung
     ensures exponent { result.exponent ≡ x }
     ensures rung { IsRung (heights_of dimensions.now) result }
 {
+    if x == 0 {
+        return Rung {
+            exponent: 0,
+            next: 0,
+        };
+    }
     let mut next = 0;
     for matrix in dimensions {
         let e = exponent_of(matrix.height);
