@@ -1,5 +1,5 @@
 -- The values of the children of covered nodes, as a walk over them takes them.
-use Rattle.std.proofs.Common.{◌≡◌, ℕ, zero, suc, ◌+◌, ◌-◌, ◌*◌, ◌/◌, ◌%◌, ◌<◌, ◌≤◌, Bool, true, false, not, cond, List, [], ◌∷◌, ◌++◌, refl, ap, sym, ◌∙◌, arith, inl, inr, length, filter, get_or, take, append-nil, length-append}
+use Rattle.std.proofs.Common.{◌≡◌, ℕ, zero, suc, ◌+◌, ◌-◌, ◌*◌, ◌/◌, ◌%◌, ◌^◌, ◌<◌, ◌≤◌, Bool, true, false, not, cond, List, [], ◌∷◌, ◌++◌, refl, ap, sym, ◌∙◌, arith, inl, inr, length, filter, get_or, take, append-nil, length-append}
 use Rattle.std.specs.List.{range_with_len}
 use Rattle.std.proofs.lemmas.Bool.{cases_Bool, cases_eq, not_from_false, false_from_ne_true}
 use Rattle.std.proofs.lemmas.List.{take_more, length-take-le}
@@ -37,6 +37,30 @@ child_at n parents place h =
           let at = get_or-flat_map group parents i k 0 0 inside (omega (arith, length-range_with_len (n * get_or parents i 0) n)) in
           let place_is : length (children_under n (take i parents)) + k ≡ place = omega (arith, before n parents i (omega arith)) in
           rw place_is at at ∙ get_or-range_with_len (n * get_or parents i 0) n k 0 small
+    ]
+
+-- what holds of the child at a place: that it has a parent, and fits
+pub record IsPlaced (n : ℕ) (parents : List ℕ) (place : ℕ) : Type 0 where
+  pub some : 0 < n
+  pub parent : place / n < length parents
+  pub base : n * get_or parents (place / n) 0 < 2 ^ 64
+  pub child : n * get_or parents (place / n) 0 + place % n < 2 ^ 64
+
+pub is_placed : {X : Type 0} (n : ℕ) (parents covered : List ℕ) (digests sent : List X) → IsFamily n parents covered digests sent → (place : ℕ) → place < n * length parents → IsPlaced n parents place
+is_placed n parents covered digests sent w place h =
+    elim (cases_eq n 0) [
+      | inl z ↦ absurd (let e : n * length parents ≡ 0 = rw z (omega arith) in omega arith)
+      | inr nz ↦
+          let some : 0 < n = omega arith in
+          let inside : place / n < length parents = (div-lt_iff_lt-mul {k = n} some).1 (omega (arith, mul_comm n (length parents))) in
+          let low = w.low (place / n) 0 inside in
+          let small : place % n < n = omega arith in
+          record {
+            some = some;
+            parent = inside;
+            base = omega arith;
+            child = omega arith;
+          }
     ]
 
 -- ---- what stands beside
@@ -111,6 +135,7 @@ unknown_is n parents covered digests sent w =
 pub record IsSent (place known count : ℕ) : Type 0 where
   pub behind : known ≤ place
   pub room : place - known < count
+  pub within : place - known ≤ count
 
 uncovered : {X : Type 0} (n : ℕ) (parents covered : List ℕ) (digests sent : List X) → IsFamily n parents covered digests sent → (place known : ℕ) (values : List X) → place < n * length parents →
     IsWalked covered (children_under n parents) digests sent place known values → (known < length covered → get_or covered known 0 ≡ n * get_or parents (place / n) 0 + place % n → ⊥) →
@@ -126,53 +151,78 @@ sent_room n parents covered digests sent w place known values h k other =
     let f = uncovered n parents covered digests sent w place known values h k other in
     let split = split_at n parents covered digests sent place known values (omega arith) k in
     let room = filter_at (λ j. not (is_among covered j)) js place (omega (arith, children_length n parents)) (not_from_false (is_among covered (get_or js place 0)) f) in
+    let inside : place - known < length sent = omega (arith, room.0, unknown_is n parents covered digests sent w, w.enough) in
     record {
       behind = omega arith;
-      room = omega (arith, room.0, unknown_is n parents covered digests sent w, w.enough);
+      room = inside;
+      within = omega arith;
     }
+
+-- a covered child's digest is there, and there may be one more
+pub record IsCounted (known count : ℕ) : Type 0 where
+  pub inside : known < count
+  pub within : known ≤ count
+  pub more : known + 1 < 2 ^ 64
+
+pub is_counted : {X : Type 0} (n : ℕ) (parents covered : List ℕ) (digests sent : List X) → IsFamily n parents covered digests sent → (place known : ℕ) (values : List X) → place < n * length parents →
+    IsWalked covered (children_under n parents) digests sent place known values → known < length covered → IsCounted known (length digests)
+is_counted n parents covered digests sent w place known values h k below =
+    let split = split_at n parents covered digests sent place known values (omega arith) k in
+    record {
+      inside = omega (arith, w.one_each);
+      within = omega (arith, w.one_each);
+      more = omega (arith, w.few);
+    }
+
+-- there is no next one
+pub none_next : {P : Type 0} (known count : ℕ) → count ≤ known → known < count → P
+none_next known count h k = absurd (omega arith)
 
 -- one value more: of a covered child
 pub known_more : {X : Type 0} (n : ℕ) (parents covered : List ℕ) (digests sent : List X) → IsFamily n parents covered digests sent → (place known : ℕ) (values : List X) → place < n * length parents →
-    IsWalked covered (children_under n parents) digests sent place known values → known < length covered → get_or covered known 0 ≡ n * get_or parents (place / n) 0 + place % n → (d : X) →
-    IsWalked covered (children_under n parents) digests sent (place + 1) (known + 1) (values ++ get_or digests known d ∷ [])
-known_more n parents covered digests sent w place known values h k below is d =
+    IsWalked covered (children_under n parents) digests sent place known values → known < length covered → get_or covered known 0 ≡ n * get_or parents (place / n) 0 + place % n → (x : X) (more_known : ℕ) (more : List X) →
+    x ≡ get_or digests known x → more_known ≡ known + 1 → more ≡ values ++ x ∷ [] → IsWalked covered (children_under n parents) digests sent (place + 1) more_known more
+known_more {X} n parents covered digests sent w place known values h k below is x more_known more read more_is items =
     let js = children_under n parents in
     let long : place < length js = omega (arith, children_length n parents) in
-    let x = get_or digests known d in
     let j = get_or js place 0 in
     let same : get_or covered known 0 ≡ j = is ∙ sym (child_at n parents place h) in
     let t : is_among covered j ≡ true = ap (is_among covered) (sym same) ∙ listed_at covered known 0 below in
     let split = split_at n parents covered digests sent place known values (omega arith) k in
     let z : (place + 1) - (known + 1) ≡ place - known = omega arith in
+    let next : take (known + 1) digests ≡ take known digests ++ x ∷ [] = take_more digests known x (omega (arith, w.one_each)) ∙ ap (λ (y : X). take known digests ++ y ∷ []) (sym read) in
+    rw (more_is, items)
     record {
-      count = let more = length-filter_more (is_among covered) js place 0 long in let m = rw t at more in omega (arith, m, k.count);
+      count = let counted = length-filter_more (is_among covered) js place 0 long in let m = rw t at counted in omega (arith, m, k.count);
       each = omega (arith, length-append values (x ∷ []), k.each);
-      ins = beside_more (is_among covered) js values x (omega (arith, k.each)) ∙ rw (k.each, t, k.ins) (sym (take_more digests known d (omega (arith, w.one_each))));
+      ins = beside_more (is_among covered) js values x (omega (arith, k.each)) ∙ rw (k.each, t, k.ins) (sym next);
       outs = beside_more (λ j. not (is_among covered j)) js values x (omega (arith, k.each)) ∙ rw (k.each, t, k.outs, z) (append-nil (take (place - known) sent));
     }
 
 -- and of another
 pub unknown_more : {X : Type 0} (n : ℕ) (parents covered : List ℕ) (digests sent : List X) → IsFamily n parents covered digests sent → (place known : ℕ) (values : List X) → place < n * length parents →
-    IsWalked covered (children_under n parents) digests sent place known values → (known < length covered → get_or covered known 0 ≡ n * get_or parents (place / n) 0 + place % n → ⊥) → (d : X) →
-    IsWalked covered (children_under n parents) digests sent (place + 1) known (values ++ get_or sent (place - known) d ∷ [])
-unknown_more n parents covered digests sent w place known values h k other d =
+    IsWalked covered (children_under n parents) digests sent place known values → (known < length covered → get_or covered known 0 ≡ n * get_or parents (place / n) 0 + place % n → ⊥) → (x : X) (more_known : ℕ) (more : List X) →
+    x ≡ get_or sent (place - known) x → more_known ≡ known → more ≡ values ++ x ∷ [] → IsWalked covered (children_under n parents) digests sent (place + 1) more_known more
+unknown_more {X} n parents covered digests sent w place known values h k other x more_known more read more_is items =
     let js = children_under n parents in
     let long : place < length js = omega (arith, children_length n parents) in
-    let x = get_or sent (place - known) d in
     let f = uncovered n parents covered digests sent w place known values h k other in
     let room = sent_room n parents covered digests sent w place known values h k other in
     let z : (place + 1) - known ≡ place - known + 1 = omega (arith, room.behind) in
+    let next : take (place - known + 1) sent ≡ take (place - known) sent ++ x ∷ [] = take_more sent (place - known) x room.room ∙ ap (λ (y : X). take (place - known) sent ++ y ∷ []) (sym read) in
+    rw (more_is, items)
     record {
-      count = let more = length-filter_more (is_among covered) js place 0 long in let m = rw f at more in omega (arith, m, k.count);
+      count = let counted = length-filter_more (is_among covered) js place 0 long in let m = rw f at counted in omega (arith, m, k.count);
       each = omega (arith, length-append values (x ∷ []), k.each);
       ins = beside_more (is_among covered) js values x (omega (arith, k.each)) ∙ rw (k.each, f, k.ins) (append-nil (take known digests));
-      outs = beside_more (λ j. not (is_among covered j)) js values x (omega (arith, k.each)) ∙ rw (k.each, f, k.outs, z) (sym (take_more sent (place - known) d room.room));
+      outs = beside_more (λ j. not (is_among covered j)) js values x (omega (arith, k.each)) ∙ rw (k.each, f, k.outs, z) (sym next);
     }
 
 -- the whole walk
-pub walk_end : {X : Type 0} (n : ℕ) (parents covered : List ℕ) (digests sent : List X) → IsFamily n parents covered digests sent → (place known : ℕ) (values : List X) → place ≡ n * length parents →
+pub walk_end : {X : Type 0} (n : ℕ) (parents covered : List ℕ) (digests sent : List X) → IsFamily n parents covered digests sent → (place known : ℕ) (values : List X) → n * length parents ≤ place → place ≤ n * length parents →
     IsWalked covered (children_under n parents) digests sent place known values → AreChildren n parents covered digests sent values
-walk_end n parents covered digests sent w place known values e k =
+walk_end n parents covered digests sent w place known values past inside k =
+    let e : place ≡ n * length parents = omega arith in
     let js = children_under n parents in
     let long : length js ≤ place = omega (arith, children_length n parents) in
     let all : known ≡ length covered = k.count ∙ rw (take_all place js long) (ap length w.in_order) in
