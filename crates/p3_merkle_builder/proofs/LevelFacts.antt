@@ -3,6 +3,7 @@ use Rattle.std.proofs.Common.{◌≡◌, ℕ, zero, suc, ◌+◌, ◌-◌, ◌/�
 use Rattle.std.specs.Int.{next_multiple_of}
 use Rattle.std.specs.List.{list_any}
 use Rattle.std.proofs.lemmas.Bool.{cond_both}
+use Rattle.std.proofs.Math.Nat.{div-le_self}
 use Rattle.std.proofs.Math.Pow.{pow_mono}
 use Rattle.p3_merkle_core.specs.Geometry.{Shape, heights, exponent, tallest, layer_exponent, is_bridge, step, levels, raw_len, grouped_len, padded_len, max_height, IsArity, IsLawful}
 use Rattle.p3_merkle_core.proofs.GateFacts.{tallest_fits, none_large_from_lawful}
@@ -22,6 +23,14 @@ padded_le r n h =
 -- no lawful height is above the limit
 pub low : (s : Shape) → IsLawful (heights s) → tallest (heights s) ≤ max_height
 low s w = tallest_fits (heights s) (none_large_from_lawful (heights s) w)
+
+-- what is halved some number of times fits, and one more
+pub halved_fits : (m a k : ℕ) → m ≤ max_height → a ≡ m - 1 → a / 2 ^ k + 1 < 2 ^ 64
+halved_fits m a k h is = omega (arith, div-le_self a (2 ^ k))
+
+-- the height at an exponent, from its parts
+pub height_at_is : (m x e a k : ℕ) → a ≡ m - 1 → e ≡ exponent m → k ≡ e - x → a / 2 ^ k + 1 ≡ height_at m x
+height_at_is m x e a k is_a is_e is_k = rw (is_a, is_k, is_e) refl
 
 -- no layer's exponent is above the tallest height's
 exponent_low : (s : Shape) (l : ℕ) → layer_exponent s l ≤ exponent (tallest (heights s))
