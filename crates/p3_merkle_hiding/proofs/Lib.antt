@@ -1,3 +1,4 @@
+mod LoopFacts
 mod SaltFacts
 mod SaltedAnswers
 mod SplitFacts

@@ -15,11 +15,8 @@ ghost use Rattle.p3_merkle_hiding.specs.SaltRefusals.{salted_commit_refusal};
 ghost use Rattle.p3_merkle_hiding.specs.SaltedTrees.{HaveSaltColumns};
 
 use crate::hiding_mmcs::{MerkleTreeHidingMmcs, SaltedTree};
-use crate::salting::salted_pairs;
-use crate::salts::check_widening;
-use p3_merkle_builder::levels::dimensions_of;
+use crate::salting::checked_pairs;
 use p3_merkle_core::error::MerkleTreeError;
-use p3_merkle_core::geometry::check_heights;
 use p3_support::compress::PseudoCompressionFunction;
 use p3_support::hasher::CryptographicHasher;
 use p3_support::matrix::Matrix;
@@ -88,10 +85,7 @@ where
         ensures untouched { IfErr result (λ e. (e ≡ OutOfMemory) ⊎ (generator_of self.new ≡ generator_of self.old)) }
         ensures scheme { plain_of self.new ≡ plain_of self.old }
     {
-        let dimensions = dimensions_of(alloc, &matrices)?;
-        check_heights(&dimensions)?;
-        check_widening(&dimensions, SALT_ELEMS)?;
-        let pairs = salted_pairs(alloc, &mut self.generator, SALT_ELEMS, matrices)?;
+        let pairs = checked_pairs(alloc, &mut self.generator, SALT_ELEMS, matrices)?;
         self.plain.commit(alloc, pairs)
     }
 }

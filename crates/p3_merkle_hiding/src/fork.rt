@@ -36,9 +36,10 @@ impl<
         ensures rest { let rest = (fill_bytes R.Seed.len (R.stream (generator_of self.old))).1 in
             R.stream (generator_of self.new) ≡ rest }
     {
+        let generator = R::from_rng(&mut self.generator);
         Ok(HidingScheme {
             plain: self.plain,
-            generator: R::from_rng(&mut self.generator),
+            generator,
         })
     }
 }

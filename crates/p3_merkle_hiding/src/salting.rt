@@ -1,13 +1,20 @@
 //! Matrices that get their salts.
 
-ghost use Rattle.std.specs.Prelude.{◌≡◌, ◌≤◌, IfOk, OnOk, map};
+ghost use Rattle.std.specs.Prelude.{◌≡◌, ◌≤◌, ◌⊎◌, IfErr, IfOk, OnOk, map};
+ghost use Rattle.p3_merkle_builder.specs.Built.{OkUnlessRefused};
 ghost use Rattle.p3_merkle_builder.specs.Views.{matrix_of};
 ghost use Rattle.p3_merkle_core.specs.Nodes.{dimensions_of};
 ghost use Rattle.p3_merkle_core.specs.Salted.{after_salts, salted_matrices};
+ghost use Rattle.p3_merkle_core.specs.declared.error.MerkleTreeError.TheVariants.{OutOfMemory};
 ghost use Rattle.p3_support.specs.Pairs.{left_of};
+ghost use Rattle.p3_merkle_hiding.specs.SaltRefusals.{salted_commit_refusal};
 ghost use Rattle.p3_merkle_hiding.specs.SaltedOpenings.{CanWiden};
 ghost use Rattle.p3_merkle_hiding.specs.SaltedTrees.{pair_matrix, HaveSaltColumns};
 
+use crate::salts::check_widening;
+use p3_merkle_builder::levels::dimensions_of;
+use p3_merkle_core::error::MerkleTreeError;
+use p3_merkle_core::geometry::check_heights;
 use p3_support::matrix::{Matrix, RowMajorMatrix};
 use p3_support::pair::HorizontalPair;
 use p3_support::salts::SaltWord;
@@ -42,5 +49,39 @@ pub fn salted_pairs<T: SaltWord, M: Matrix<T> + Drop, R: Rng>(
         let salts = RowMajorMatrix::rand(alloc, rng, matrix.height(), salt_elems)?;
         pairs.push(HorizontalPair::new(matrix, salts))?;
     }
+    Ok(pairs)
+}
+
+/// Each matrix beside its salts, as [`salted_pairs`] draws them, where the matrices can be committed to with as many salts
+/// a row.
+///
+/// There is at least one salt for a row.
+///
+/// # Errors
+///
+/// `EmptyBatch`, `TooLarge` or `IncompatibleHeights` for the heights of the matrices, as a commitment refuses them; else
+/// `TooLarge` for the first matrix whose width with its salts passes `usize`. After these the generator is as it was.
+/// `OutOfMemory` may come at any time; then the generator may stand further on.
+pub(crate) fn checked_pairs<T: SaltWord, M: Matrix<T> + Drop, R: Rng>(
+    alloc: Global,
+    rng: &mut R,
+    salt_elems: usize,
+    matrices: Vec<M>,
+) -> Result<Vec<HorizontalPair<T, M, RowMajorMatrix<T>>>, MerkleTreeError>
+    requires { 1 ≤ salt_elems }
+    ensures answer { let ms = map (matrix_of M.height_of M.width_of M.row_of) matrices.items in
+        OkUnlessRefused result (salted_commit_refusal salt_elems (dimensions_of ms)) }
+    ensures matrices { IfOk result (λ pairs. map left_of pairs.items ≡ matrices.items) }
+    ensures columns { IfOk result (λ pairs. HaveSaltColumns salt_elems pairs.items) }
+    ensures salted { let ms = map (matrix_of M.height_of M.width_of M.row_of) matrices.items in
+        IfOk result (λ pairs. map pair_matrix pairs.items ≡ salted_matrices T.of_salt_word salt_elems ms (R.stream rng.old)) }
+    ensures rest { let ms = map (matrix_of M.height_of M.width_of M.row_of) matrices.items in
+        OnOk result (R.stream rng.new ≡ after_salts salt_elems ms (R.stream rng.old)) }
+    ensures untouched { IfErr result (λ e. (e ≡ OutOfMemory) ⊎ (rng.new ≡ rng.old)) }
+{
+    let dimensions = dimensions_of(alloc, &matrices)?;
+    check_heights(&dimensions)?;
+    check_widening(&dimensions, salt_elems)?;
+    let pairs = salted_pairs(alloc, rng, salt_elems, matrices)?;
     Ok(pairs)
 }

@@ -104,13 +104,14 @@ pub fn widened_dimensions(
     requires { CanWiden salt_elems dimensions.now }
     ensures { IfOk result (λ v. v.items ≡ widened salt_elems dimensions.now) }
 {
-    dimensions
-        .iter()
-        .map(|matrix| Dimensions {
+    let mut wider = Vec::with_capacity(alloc, dimensions.len())?;
+    for matrix in dimensions {
+        wider.push(Dimensions {
             width: matrix.width + salt_elems,
             height: matrix.height,
-        })
-        .collect(alloc)
+        })?;
+    }
+    Ok(wider)
 }
 
 /// Each row followed by its salts.

@@ -2,10 +2,8 @@
 use Rattle.std.proofs.Common.{◌≡◌, ◌∙◌, List, ap, map, refl, rules, subst, sym}
 use Rattle.std.specs.Prelude.{IfOk}
 use Rattle.std.proofs.lemmas.Result.{IfOk-weaker}
-use Rattle.p3_support.specs.declared.matrix.Dimensions.{Dimensions}
 use Rattle.p3_support.specs.Pairs.{left_of}
 use Rattle.p3_support.specs.Shown.{roots_of}
-use Rattle.p3_merkle_builder.specs.Built.{OkUnlessRefused}
 use Rattle.p3_merkle_builder.specs.Parts.{layers_of}
 use Rattle.p3_merkle_builder.specs.Views.{matrix_of}
 use Rattle.p3_merkle_core.specs.Gate.{gate_refusal}
@@ -15,66 +13,14 @@ use Rattle.p3_merkle_tree.specs.Schemes.{proof_layer, scheme_functions}
 use Rattle.p3_merkle_hiding.specs.HidingSchemes.{generator_of, plain_of}
 use Rattle.p3_merkle_hiding.specs.SaltRefusals.{salted_commit_refusal, widening_refusal}
 use Rattle.p3_merkle_hiding.specs.SaltedTrees.{HaveSaltColumns, pair_matrix}
-use Rattle.p3_merkle_hiding.proofs.CommitFacts.{commit_none, gate_stays, memory_alone, memory_or, nothing_drawn, nothing_made, on_ok, stays, unrefused}
+use Rattle.p3_merkle_core.proofs.NoneFacts.{none_parts}
+use Rattle.p3_merkle_hiding.proofs.CommitFacts.{gate_stays, memory_alone, memory_or, nothing_drawn, nothing_made, on_ok, unrefused}
 use Rattle.p3_merkle_hiding.proofs.commit.MerkleTreeHidingMmcs+P+PW+H+C+R+N+D+SALT_ELEMS.commit.Goals as goal
-
-pub returns-in_err-dimensions : goal.returns-in_err-dimensions
-returns-in_err-dimensions g c =
-    let r = c.from_residual.result in
-    let err = c.from_residual.ensures.0 in
-    record {
-      answer = search rules;
-      matrices = nothing_made _ r err;
-      columns = nothing_made _ r err;
-      batch = nothing_made _ r err;
-      layers = nothing_made _ r err;
-      cap = nothing_made _ r err;
-      rest = nothing_drawn _ r err;
-      untouched = stays _ r refl;
-      scheme = refl;
-    }
-
-pub returns-in_err-check_heights : goal.returns-in_err-check_heights
-returns-in_err-check_heights g c =
-    let r = c.from_residual-in_err-check_heights.result in
-    let err = c.from_residual-in_err-check_heights.ensures.0 in
-    let shown = map (matrix_of g.M.Matrix.height_of g.M.Matrix.width_of g.M.Matrix.row_of) in
-    let are = c.deref-2.ensures.value ∙ c.in_ok-dimensions.ensures ∙ ap (λ ms. dimensions_of (shown ms)) c.deref.ensures.value in
-    record {
-      answer = subst (λ (ds : List Dimensions). OkUnlessRefused r (salted_commit_refusal g.row.SALT_ELEMS ds)) are (search rules);
-      matrices = nothing_made _ r err;
-      columns = nothing_made _ r err;
-      batch = nothing_made _ r err;
-      layers = nothing_made _ r err;
-      cap = nothing_made _ r err;
-      rest = nothing_drawn _ r err;
-      untouched = stays _ r refl;
-      scheme = refl;
-    }
-
-pub returns-in_err-check_widening : goal.returns-in_err-check_widening
-returns-in_err-check_widening g c =
-    let r = c.from_residual-in_err-check_widening.result in
-    let err = c.from_residual-in_err-check_widening.ensures.0 in
-    let shown = map (matrix_of g.M.Matrix.height_of g.M.Matrix.width_of g.M.Matrix.row_of) in
-    let are = c.deref-3.ensures.value ∙ c.in_ok-dimensions.ensures ∙ ap (λ ms. dimensions_of (shown ms)) c.deref.ensures.value in
-    let gate : gate_refusal (heights_of c.deref-3.result.now) ≡ _ = ap (λ (ds : List Dimensions). gate_refusal (heights_of ds)) (c.deref-3.ensures.value ∙ sym c.deref-2.ensures.value) ∙ c.in_ok-check_heights.ensures.answer in
-    record {
-      answer = subst (λ (ds : List Dimensions). OkUnlessRefused r (salted_commit_refusal g.row.SALT_ELEMS ds)) are (rw gate (search rules));
-      matrices = nothing_made _ r err;
-      columns = nothing_made _ r err;
-      batch = nothing_made _ r err;
-      layers = nothing_made _ r err;
-      cap = nothing_made _ r err;
-      rest = nothing_drawn _ r err;
-      untouched = stays _ r refl;
-      scheme = refl;
-    }
 
 pub returns-in_err-pairs : goal.returns-in_err-pairs
 returns-in_err-pairs g c =
-    let r = c.from_residual-in_err-pairs.result in
-    let err = c.from_residual-in_err-pairs.ensures.0 in
+    let r = c.from_residual.result in
+    let err = c.from_residual.ensures.0 in
     record {
       answer = search rules;
       matrices = nothing_made _ r err;
@@ -97,15 +43,14 @@ returns g c =
     let ms = c.args.matrices.items in
     let drawn = g.R.Rng.stream (generator_of c.args.self.now) in
     let r = c.commit.result in
-    let are = c.in_ok-dimensions.ensures ∙ ap (λ ms. dimensions_of (shown ms)) c.deref.ensures.value in
-    let gate = ap (λ (ds : List Dimensions). gate_refusal (heights_of ds)) (sym (c.deref-2.ensures.value ∙ are)) ∙ c.in_ok-check_heights.ensures.answer in
-    let wide = ap (widening_refusal e) (sym (c.deref-3.ensures.value ∙ are)) ∙ c.in_ok-check_widening.ensures.answer in
+    let none = c.in_ok-pairs.ensures.answer in
+    let gate = (none_parts (gate_refusal (heights_of (dimensions_of (shown ms)))) (widening_refusal e (dimensions_of (shown ms))) none).0 in
     let pairs = c.in_ok-pairs.pairs.items in
     let salted = c.in_ok-pairs.ensures.salted in
     let over : List (Matrix _) → Batch _ = λ z. record { arity = g.row.N; matrices = z } in
     let memory = memory_alone r (gate_refusal (heights_of (dimensions_of (map pair_matrix pairs)))) c.commit.ensures.answer (gate_stays of_word e (shown ms) (map pair_matrix pairs) drawn salted gate) in
     record {
-      answer = unrefused r (salted_commit_refusal e (dimensions_of (shown ms))) memory (commit_none e (dimensions_of (shown ms)) gate wide);
+      answer = unrefused r (salted_commit_refusal e (dimensions_of (shown ms))) memory none;
       matrices = IfOk-weaker r _ _ (λ made is. ap (map left_of) is ∙ c.in_ok-pairs.ensures.matrices) c.commit.ensures.matrices;
       columns = IfOk-weaker r _ _ (λ made is. subst (λ (z : List _). HaveSaltColumns e z) (sym is) c.in_ok-pairs.ensures.columns) c.commit.ensures.matrices;
       batch = IfOk-weaker r _ _ (λ made is. ap (λ z. over (map pair_matrix z)) is ∙ ap over salted) c.commit.ensures.matrices;
@@ -115,3 +60,5 @@ returns g c =
       untouched = memory_or _ r memory;
       scheme = refl;
     }
+
+-- x
