@@ -1,6 +1,5 @@
 //! What two openings of one cap lead to.
 
-use crate::answers::Answer;
 use crate::fixtures::{cap_of, dimensions_of, multi_proof, one_salt, opening, sets};
 use p3_merkle_tree::{BatchOpeningRef, Collision, MerkleTreeError, Place};
 use p3_support::matrix::Dimensions;
@@ -50,9 +49,16 @@ fn two_openings_of_a_leaf_lead_to_their_rows_and_salts(rt: HostRuntime) -> Resul
     let bare = opening(alloc, &[&[1, 10]], &[&[]], &[1043])?;
     let (second, third) = (BatchOpeningRef::from(&other), BatchOpeningRef::from(&bare));
     let refused = scheme.extract_collision(alloc, &cap, &TWO, 0, second, 0, third);
-    assert_eq!(rt; refused, Err(Answer::Cap.error()));
+    assert_eq!(rt; refused, Err(MerkleTreeError::CapMismatch));
     let refused = scheme.extract_collision(alloc, &cap, &TWO, 0, first, 0, third);
-    assert_eq!(rt; refused, Err(Answer::Width(0, 1, 2).error()));
+    assert_eq!(rt;
+        refused,
+        Err(MerkleTreeError::WrongWidth {
+            matrix: 0,
+            expected: 1,
+            got: 2,
+        })
+    );
     Ok(())
 }
 

@@ -1,8 +1,8 @@
 //! What is committed to, and what is refused before a salt is drawn.
 
-use crate::answers::Answer;
-use crate::answers::Answer::{Empty, Heights, Large};
+use crate::commits::Answer::{Empty, Heights, Large};
 use crate::fixtures::{columns, numbered, one_salt};
+use p3_merkle_tree::MerkleTreeError;
 use std::test::Fail;
 
 /// The greatest width.
@@ -10,6 +10,35 @@ const MAX: usize = usize::MAX;
 
 /// One more than the greatest height.
 const HIGH: usize = 4_611_686_018_427_387_905;
+
+/// Why a batch is refused, with what the error of this kind tells, in the order of its fields.
+#[derive(Clone, Copy)]
+enum Answer {
+    /// `EmptyBatch`.
+    Empty,
+    /// `IncompatibleHeights`.
+    Heights(usize, usize, usize, usize),
+    /// `TooLarge`.
+    Large(usize, usize),
+}
+
+impl Answer {
+    /// The error.
+    fn error(self) -> MerkleTreeError {
+        match self {
+            Empty => MerkleTreeError::EmptyBatch,
+            Heights(height, max_height, expected_height, bits_reduced) => {
+                MerkleTreeError::IncompatibleHeights {
+                    height,
+                    max_height,
+                    expected_height,
+                    bits_reduced,
+                }
+            }
+            Large(matrix, size) => MerkleTreeError::TooLarge { matrix, size },
+        }
+    }
+}
 
 /// The width and the height of each matrix of a batch, and why it is refused.
 type Claim = (&'static [(usize, usize)], Answer);

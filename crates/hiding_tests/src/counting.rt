@@ -7,7 +7,7 @@ use rand_core::{CryptoRng, Rng, utils};
 use std::marker::Model;
 
 /// A generator whose words go up by `STEP`. It holds the last one.
-#[derive(Debug, Drop)]
+#[derive(Drop)]
 pub struct Counting<const STEP: u64>(pub u64);
 
 impl<const STEP: u64> Model for Counting<STEP> {

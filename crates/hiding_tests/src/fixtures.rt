@@ -31,7 +31,7 @@ pub type OneSalt = Salted<Counting<10>, 1>;
 pub type Cap = MerkleCap<u32, [u32; 1]>;
 
 /// A tree of that scheme.
-pub type Tree<M> = SaltedTree<u32, u32, M, 2, 1>;
+pub type Tree = SaltedTree<u32, u32, RowMajorMatrix<u32>, 2, 1>;
 
 /// An opening of that scheme.
 pub type Opening = BatchOpening<u32, SaltedProof<u32, u32, 1>>;
@@ -45,7 +45,7 @@ pub fn one_salt() -> OneSalt {
 }
 
 /// A matrix whose every word is the number of its row, from 0. It takes no memory, however wide or high it is.
-#[derive(Clone, Copy, Debug)]
+#[derive(Drop)]
 pub struct Numbers {
     pub words: usize,
     pub rows: usize,
@@ -109,6 +109,18 @@ pub fn columns(alloc: Global, lists: &[&[u32]]) -> Result<Vec<RowMajorMatrix<u32
     Ok(matrices)
 }
 
+/// The words of each matrix.
+pub fn values_of<'a>(
+    alloc: Global,
+    matrices: &[&'a RowMajorMatrix<u32>],
+) -> Result<Vec<&'a [u32]>, AllocError> {
+    let mut values = Vec::with_capacity(alloc, matrices.len())?;
+    for matrix in matrices {
+        values.push(matrix.values())?;
+    }
+    Ok(values)
+}
+
 /// A cap of these digests.
 pub fn cap_of(alloc: Global, roots: &[u32]) -> Result<Cap, AllocError> {
     Ok(MerkleCap::new(digests(alloc, roots)?))
@@ -169,11 +181,11 @@ pub fn multi_proof(
 /// # Errors
 ///
 /// `IndexOutOfBounds` where there is no such leaf; else what the scheme answers.
-pub fn opened<M: Matrix<u32>, R, const SALT_ELEMS: usize>(
+pub fn opened<R, const SALT_ELEMS: usize>(
     alloc: Global,
     scheme: &Salted<R, SALT_ELEMS>,
     index: usize,
-    tree: &Tree<M>,
+    tree: &Tree,
 ) -> Result<Opening, MerkleTreeError> {
     let max_height = scheme.get_max_height(tree);
     if index >= max_height {
@@ -187,11 +199,11 @@ pub fn opened<M: Matrix<u32>, R, const SALT_ELEMS: usize>(
 /// # Errors
 ///
 /// `IndexOutOfBounds` where there is no such leaf; else what the scheme answers.
-pub fn opened_together<M: Matrix<u32>, R, const SALT_ELEMS: usize>(
+pub fn opened_together<R, const SALT_ELEMS: usize>(
     alloc: Global,
     scheme: &Salted<R, SALT_ELEMS>,
     indices: &[usize],
-    tree: &Tree<M>,
+    tree: &Tree,
 ) -> Result<(Vec<Vec<Vec<u32>>>, MultiProof), MerkleTreeError> {
     check_indices(scheme.get_max_height(tree), indices)?;
     scheme.open_multi_batch(alloc, indices, tree)

@@ -1,13 +1,12 @@
 //! What is opened, under which cap, and what two openings of one cap lead to.
 
-use crate::answers::Answer;
 use crate::counting::Counting;
 use crate::fixtures::{
     OneSalt, Opening, Salted, cap_of, columns, dimensions_of, one_salt, opened, opened_together,
-    opening, sets,
+    opening, sets, values_of,
 };
 use p3_instances::fold::{FoldCompress, FoldHash};
-use p3_merkle_tree::{BatchOpeningRef, CapRule};
+use p3_merkle_tree::{BatchOpeningRef, CapRule, MerkleTreeError, PrunedProofError};
 use p3_support::matrix::Dimensions;
 use std::alloc::{AllocError, Global};
 use std::process::Abort;
@@ -59,7 +58,14 @@ fn an_opening_is_taken_apart_where_its_salts_begin(rt: HostRuntime) -> Result<()
     let alike = opened(alloc, &other, 1, &tree)?;
     assert_opening(&rt, alloc, &alike, &[&[2]], &[&[20]], &[1002])?;
     let refused = other.verify_batch(alloc, &cap, &TWO, 1, BatchOpeningRef::from(&alike));
-    assert_eq!(rt; refused, Err(Answer::Width(0, 4, 2).error()));
+    assert_eq!(rt;
+        refused,
+        Err(MerkleTreeError::WrongWidth {
+            matrix: 0,
+            expected: 4,
+            got: 2,
+        })
+    );
     Ok(())
 }
 
@@ -90,12 +96,8 @@ fn matrices_get_salts_and_are_opened_in_input_order(rt: HostRuntime) -> Result<(
     assert_eq!(rt; cap.roots(), [[1_006_333]].as_slice());
     assert_eq!(rt; scheme.get_max_height(&tree), 2);
     let matrices = scheme.get_matrices(alloc, &tree)?;
-    let values: Vec<&[u32]> = matrices
-        .iter()
-        .map(|matrix| matrix.values())
-        .collect(alloc)?;
     assert_eq!(rt;
-        values.as_slice(),
+        values_of(alloc, &matrices)?.as_slice(),
         [[5u32].as_slice(), [1, 2].as_slice()].as_slice()
     );
     let found = opened(alloc, &scheme, 1, &tree)?;
@@ -107,7 +109,8 @@ fn matrices_get_salts_and_are_opened_in_input_order(rt: HostRuntime) -> Result<(
     scheme.verify_multi_batch(alloc, &cap, &sizes, &[1, 0], &rows, &proof)?;
     proof.0 = sets(alloc, &[&[&[11], &[30]], &[&[10], &[20]]])?;
     let refused = scheme.verify_multi_batch(alloc, &cap, &sizes, &[1, 0], &rows, &proof);
-    assert_eq!(rt; refused, Err(Answer::Group(1, 0).error()));
+    let group = PrunedProofError::InconsistentGroupOpening { slot: 1, matrix: 0 };
+    assert_eq!(rt; refused, Err(MerkleTreeError::from(group)));
     Ok(())
 }
 

@@ -49,6 +49,15 @@ fn random(alloc: Global, sizes: &[(usize, usize)]) -> Result<Vec<RowMajorMatrix<
     Ok(matrices)
 }
 
+/// The width of each row.
+fn widths_of(alloc: Global, rows: &[Vec<u32>]) -> Result<Vec<usize>, AllocError> {
+    let mut widths = Vec::with_capacity(alloc, rows.len())?;
+    for row in rows {
+        widths.push(row.len())?;
+    }
+    Ok(widths)
+}
+
 #[test]
 fn an_opening_of_ten_widths_is_accepted(rt: HostRuntime) -> Result<(), Fail> {
     let alloc = rt.alloc();
@@ -57,7 +66,7 @@ fn an_opening_of_ten_widths_is_accepted(rt: HostRuntime) -> Result<(), Fail> {
     let found = opened(alloc, &scheme, 17, &tree)?;
     assert_eq!(rt; found.opened_values.len(), 10);
     assert_eq!(rt; found.opening_proof.0.len(), 10);
-    for (row, salts) in found.opened_values.iter().zip(&found.opening_proof.0) {
+    for salts in &found.opening_proof.0 {
         assert_eq!(rt; salts.len(), 4);
     }
     let sizes = dimensions_of(alloc, &TEN)?;
@@ -73,8 +82,10 @@ fn openings_of_several_widths_are_accepted(rt: HostRuntime) -> Result<(), Fail> 
     let (cap, tree) = scheme.commit(alloc, random(alloc, &THREE)?)?;
     let (rows, proof) = opened_together(alloc, &scheme, &indices, &tree)?;
     for set in &rows {
-        let widths: Vec<usize> = set.iter().map(|row| row.len()).collect(alloc)?;
-        assert_eq!(rt; widths.as_slice(), [2usize, 3, 4].as_slice());
+        assert_eq!(rt;
+            widths_of(alloc, set)?.as_slice(),
+            [2usize, 3, 4].as_slice()
+        );
     }
     let sizes = dimensions_of(alloc, &THREE)?;
     scheme.verify_multi_batch(alloc, &cap, &sizes, &indices, &rows, &proof)?;
