@@ -5,23 +5,21 @@ ghost use Rattle.p3_merkle_core.specs.Geometry.{is_arity};
 
 use crate::fields::{Fault, Fields};
 use crate::scheme::fold_scheme;
-use crate::text;
-use std::alloc::Global;
+use crate::text::Answer;
 
 /// `authenticated | ARITY | CAP | HEIGHTS | ANSWERS`: of each matrix `yes` or `no`.
 pub fn authenticated<const N: usize>(
-    alloc: Global,
     fields: &mut Fields<'_>,
-) -> Result<String, Fault>
+    answer: &mut Answer,
+) -> Result<(), Fault>
     requires arity { IsTrue (is_arity N) }
     requires few { N ≤ 8 }
 {
-    let scheme = fold_scheme::<N>(fields.cap()?);
-    let dimensions = fields.columns(alloc)?;
-    let mut answers = Vec::new(alloc);
+    let scheme = fold_scheme::<N>(fields.cap());
+    let dimensions = fields.columns();
     for matrix in 0..dimensions.len() {
-        let is_authenticated = scheme.is_authenticated(&dimensions, matrix)?;
-        answers.push(text::yes_or_no(alloc, is_authenticated)?)?;
+        answer.separate(matrix, " ");
+        answer.yes_or_no(scheme.is_authenticated(&dimensions, matrix)?);
     }
-    text::joined(alloc, &answers, " ")
+    Ok(())
 }

@@ -4,42 +4,26 @@ ghost use Rattle.std.specs.Prelude.{◌≤◌, IsTrue};
 ghost use Rattle.p3_merkle_core.specs.Geometry.{is_arity};
 
 use crate::fields::{Fault, Fields};
-use crate::scheme::{FoldTree, fold_tree, numbered};
-use crate::text;
+use crate::scheme::{FoldTree, Rows, fold_tree};
+use crate::text::Answer;
 use p3_instances::batched::Batched3;
 use p3_instances::fold::{FoldCompress, FoldHash};
 use p3_instances::lanes::U32x8;
-use p3_merkle_tree::MerkleTree;
+use p3_merkle_tree::{MerkleTree, MerkleTreeError};
 use p3_support::compress::PseudoCompressionFunction;
 use p3_support::hasher::CryptographicHasher;
-use p3_support::matrix::{Dimensions, RowMajorMatrix};
 use p3_support::packed::PackedValue;
 use std::alloc::Global;
 
 /// The trees that are compared.
-type Tree<const N: usize> = FoldTree<RowMajorMatrix<u32>, N>;
-
-/// The tree over matrices of these dimensions whose words are the numbers of their rows, by the builders of these
-/// functions and packed values.
-fn built<
-    P: PackedValue<Value = u32>,
-    H: CryptographicHasher<P, P, 1>,
-    C: PseudoCompressionFunction<P, N, 1>,
-    const N: usize,
->(alloc: Global, hash: &H, compress: &C, dimensions: &[Dimensions]) -> Result<Tree<N>, Fault>
-    requires arity { IsTrue (is_arity N) }
-    requires some_lane { 1 ≤ P.WIDTH }
-{
-    let matrices = numbered(alloc, dimensions)?;
-    Ok(MerkleTree::new::<P, P, H, C>(alloc, hash, compress, matrices)?)
-}
+type Tree<const N: usize> = FoldTree<Rows, N>;
 
 /// Whether two trees have the same caps at every cap height.
 fn are_alike<const N: usize>(
     alloc: Global,
     tree: &Tree<N>,
     other: &Tree<N>,
-) -> Result<bool, Fault> {
+) -> Result<bool, MerkleTreeError> {
     if tree.num_layers() != other.num_layers() {
         return Ok(false);
     }
@@ -51,28 +35,45 @@ fn are_alike<const N: usize>(
     Ok(true)
 }
 
+/// Fails where the builders of these functions and packed values make another tree over some matrices than this one.
+fn check_built<
+    P: PackedValue<Value = u32>,
+    H: CryptographicHasher<P, P, 1>,
+    C: PseudoCompressionFunction<P, N, 1>,
+    const N: usize,
+>(alloc: Global, hash: &H, compress: &C, matrices: Vec<Rows>, tree: &Tree<N>) -> Result<(), Fault>
+    requires arity { IsTrue (is_arity N) }
+    requires some_lane { 1 ≤ P.WIDTH }
+{
+    let other = MerkleTree::new::<P, P, H, C>(alloc, hash, compress, matrices)?;
+    if are_alike(alloc, tree, &other)? {
+        Ok(())
+    } else {
+        Err(Fault::Wrong("a builder makes another layer"))
+    }
+}
+
 /// `builders | ARITY | DIMENSIONS | LAYERS ROOT`: the number of layers and the root of the tree that is built one by one,
 /// where it has the same layers once more and by each other builder.
-pub fn builders<const N: usize>(alloc: Global, fields: &mut Fields<'_>) -> Result<String, Fault>
+pub fn builders<const N: usize>(
+    alloc: Global,
+    fields: &mut Fields<'_>,
+    answer: &mut Answer,
+) -> Result<(), Fault>
     requires arity { IsTrue (is_arity N) }
     requires few { N ≤ 8 }
 {
-    let dimensions = fields.dimensions(alloc)?;
+    let dimensions = fields.dimensions();
     let (hash, compress) = (FoldHash::<1>, FoldCompress::<N, 1>);
-    let tree = fold_tree::<_, N>(alloc, numbered(alloc, &dimensions)?)?;
-    let again = built::<u32, _, _, N>(alloc, &hash, &compress, &dimensions)?;
-    let by_lanes = built::<U32x8, _, _, N>(alloc, &hash, &compress, &dimensions)?;
-    let by_eight = built::<u32, _, _, N>(
-        alloc,
-        &FoldHash::<8>,
-        &FoldCompress::<N, 8>,
-        &dimensions,
-    )?;
-    let by_three = built::<u32, _, _, N>(alloc, &Batched3(hash), &Batched3(compress), &dimensions)?;
-    for other in [&again, &by_lanes, &by_eight, &by_three] {
-        if !are_alike(alloc, &tree, other)? {
-            return Err(Fault::Wrong("a builder makes another layer"));
-        }
-    }
-    text::numbers(alloc, &[tree.num_layers(), tree.root().value()[0] as usize])
+    let tree = fold_tree::<_, N>(alloc, fields.reader.numbered(&dimensions))?;
+    let again = fields.reader.numbered(&dimensions);
+    check_built::<u32, _, _, N>(alloc, &hash, &compress, again, &tree)?;
+    let lanes = fields.reader.numbered(&dimensions);
+    check_built::<U32x8, _, _, N>(alloc, &hash, &compress, lanes, &tree)?;
+    let eight = fields.reader.numbered(&dimensions);
+    check_built::<u32, _, _, N>(alloc, &FoldHash::<8>, &FoldCompress::<N, 8>, eight, &tree)?;
+    let three = fields.reader.numbered(&dimensions);
+    check_built::<u32, _, _, N>(alloc, &Batched3(hash), &Batched3(compress), three, &tree)?;
+    answer.numbers(&[tree.num_layers(), tree.root().value()[0] as usize]);
+    Ok(())
 }

@@ -1,10 +1,10 @@
 //! The fields of a case: what stands between the bars of its line.
 
+use crate::reader::Reader;
 use crate::scheme::Cap;
-use crate::{batches, lists};
 use p3_merkle_tree::{CapRule, MerkleTreeError};
 use p3_support::matrix::{Dimensions, RowMajorMatrix};
-use std::alloc::{AllocError, AllocFailed, Global};
+use std::alloc::{AllocError, Global};
 
 /// Why a case has no answer of its own.
 #[derive(Drop)]
@@ -15,17 +15,6 @@ pub enum Fault {
     Wrong(&'static str),
     /// The line can't be read, for this reason.
     Unreadable(&'static str),
-}
-
-impl Fault {
-    /// The answer of a case that ends so: the text of what is refused or wrong. A line that can't be read has none.
-    pub fn answer(self, alloc: Global) -> Result<String, Fault> {
-        match self {
-            Fault::Refused(error) => Ok(format!(in alloc; "{error}")?),
-            Fault::Wrong(way) => Ok(String::from_str(alloc, way)?),
-            Fault::Unreadable(reason) => Err(Fault::Unreadable(reason)),
-        }
-    }
 }
 
 impl From<MerkleTreeError> for Fault {
@@ -40,15 +29,12 @@ impl From<AllocError> for Fault {
     }
 }
 
-impl<T: Drop> From<AllocFailed<T>> for Fault {
-    fn from(_error: AllocFailed<T>) -> Fault {
-        Fault::Refused(MerkleTreeError::OutOfMemory)
-    }
-}
-
-/// The fields of a line, of which the first `next` have been read.
+/// The fields of a line, of which the first `next` have been read. A field that can't be read has an empty value, and
+/// its [`Reader`] keeps the reason.
 #[derive(Drop)]
 pub struct Fields<'a> {
+    /// What reads the fields.
+    pub reader: Reader,
     fields: &'a [&'a str],
     next: usize,
     rule: CapRule,
@@ -57,8 +43,9 @@ pub struct Fields<'a> {
 
 impl<'a> Fields<'a> {
     /// These fields, all unread. A cap that names no rule has this one.
-    pub fn of(fields: &'a [&'a str], rule: CapRule) -> Fields<'a> {
+    pub fn of(alloc: Global, fields: &'a [&'a str], rule: CapRule) -> Fields<'a> {
         Fields {
+            reader: Reader::new(alloc),
             fields,
             next: 0,
             rule,
@@ -71,14 +58,14 @@ impl<'a> Fields<'a> {
         self.is_for_any_rule
     }
 
-    /// The next field, without the blanks around it.
-    pub fn take(&mut self) -> Result<&'a str, Fault> {
+    /// The next field, without the blanks around it; empty where there is none, which no kind of field may be.
+    pub fn take(&mut self) -> &'a str {
         match self.fields.get(self.next) {
             Some(field) => {
                 self.next = self.next.saturating_add(1);
-                Ok(field.trim())
+                field.trim()
             }
-            None => Err(Fault::Unreadable("a field or the answer is missing")),
+            None => "",
         }
     }
 
@@ -88,59 +75,63 @@ impl<'a> Fields<'a> {
     }
 
     /// The number that the next field is.
-    pub fn number(&mut self) -> Result<usize, Fault> {
-        lists::number_of(self.take()?)
+    pub fn number(&mut self) -> usize {
+        let field = self.take();
+        self.reader.number(field)
     }
 
     /// The cap that the next field is: its height, and `l` or `f` after it where it has a rule of its own.
-    pub fn cap(&mut self) -> Result<Cap, Fault> {
-        let cap = self.take()?;
-        self.is_for_any_rule = !cap.ends_with('l') && !cap.ends_with('f');
-        lists::cap_of(cap, self.rule)
+    pub fn cap(&mut self) -> Cap {
+        let field = self.take();
+        self.is_for_any_rule = !field.ends_with('l') && !field.ends_with('f');
+        self.reader.cap(field, self.rule)
     }
 
     /// The numbers of the next field.
-    pub fn numbers(&mut self, alloc: Global) -> Result<Vec<usize>, Fault> {
-        lists::numbers_of(alloc, self.take()?)
+    pub fn numbers(&mut self) -> Vec<usize> {
+        let field = self.take();
+        self.reader.numbers(field)
     }
 
     /// The words of the next field.
-    pub fn words(&mut self, alloc: Global) -> Result<Vec<u32>, Fault> {
-        lists::words_of(alloc, self.take()?)
+    pub fn words(&mut self) -> Vec<u32> {
+        let field = self.take();
+        self.reader.words(field)
     }
 
     /// The digests of the next field.
-    pub fn digests(&mut self, alloc: Global) -> Result<Vec<[u32; 1]>, Fault> {
-        lists::digests_of(alloc, self.take()?)
+    pub fn digests(&mut self) -> Vec<[u32; 1]> {
+        let field = self.take();
+        self.reader.digests(field)
     }
 
     /// The rows of the next field.
-    pub fn rows(&mut self, alloc: Global) -> Result<Vec<Vec<u32>>, Fault> {
-        lists::rows_of(alloc, self.take()?)
+    pub fn rows(&mut self) -> Vec<Vec<u32>> {
+        let field = self.take();
+        self.reader.rows(field)
     }
 
     /// The row sets of the next field.
-    pub fn row_sets(&mut self, alloc: Global) -> Result<Vec<Vec<Vec<u32>>>, Fault> {
-        lists::row_sets_of(alloc, self.take()?)
+    pub fn row_sets(&mut self) -> Vec<Vec<Vec<u32>>> {
+        let field = self.take();
+        self.reader.row_sets(field)
     }
 
     /// The dimensions of the next field.
-    pub fn dimensions(&mut self, alloc: Global) -> Result<Vec<Dimensions>, Fault> {
-        lists::dimensions_of(alloc, self.take()?)
-    }
-
-    /// The dimensions of the batches of the next field.
-    pub fn batches(&mut self, alloc: Global) -> Result<Vec<Vec<Dimensions>>, Fault> {
-        batches::batches_of(alloc, self.take()?)
+    pub fn dimensions(&mut self) -> Vec<Dimensions> {
+        let field = self.take();
+        self.reader.dimensions(field)
     }
 
     /// The dimensions of columns, whose heights are the next field.
-    pub fn columns(&mut self, alloc: Global) -> Result<Vec<Dimensions>, Fault> {
-        lists::columns_of(alloc, &self.numbers(alloc)?)
+    pub fn columns(&mut self) -> Vec<Dimensions> {
+        let heights = self.numbers();
+        self.reader.columns(&heights)
     }
 
     /// The matrices of the next field.
-    pub fn matrices(&mut self, alloc: Global) -> Result<Vec<RowMajorMatrix<u32>>, Fault> {
-        lists::matrices_of(alloc, self.take()?)
+    pub fn matrices(&mut self) -> Vec<RowMajorMatrix<u32>> {
+        let field = self.take();
+        self.reader.matrices(field)
     }
 }

@@ -1,19 +1,21 @@
 //! Heights: what each call answers to them, and the shapes of trees over them.
 
-ghost use Rattle.std.specs.Prelude.{◌≤◌, IsTrue};
+ghost use Rattle.std.specs.Prelude.{◌<◌, ◌≤◌, length, IsTrue};
 ghost use Rattle.p3_merkle_core.specs.Geometry.{is_arity};
+ghost use Rattle.p3_merkle_tree.specs.Parts.{layers_of};
 
 use crate::fields::{Fault, Fields};
-use crate::lists::columns_of;
-use crate::scheme::{FoldOpening, FoldTree, ROOT, fold_scheme, fold_tree, numbered, tall_columns};
-use crate::text;
+use crate::scheme::{
+    FoldOpening, FoldTree, ROOT, Rows, committed, fold_scheme, fold_tree, tall_columns,
+};
+use crate::text::Answer;
 use p3_merkle_core::geometry::check_heights;
 use p3_merkle_tree::{BatchOpening, BatchOpeningRef, MerkleCap, MerkleTreeError};
-use p3_support::matrix::{Dimensions, RowMajorMatrix};
+use p3_support::matrix::Dimensions;
 use std::alloc::{AllocError, Global};
 
 /// What committing to columns of these heights answers.
-fn committed(alloc: Global, heights: &[usize]) -> Result<(), MerkleTreeError> {
+fn commit(alloc: Global, heights: &[usize]) -> Result<(), MerkleTreeError> {
     fold_scheme::<2>(ROOT).commit(alloc, tall_columns(alloc, heights)?)?;
     Ok(())
 }
@@ -50,21 +52,37 @@ fn checked(
     fold_scheme::<2>(ROOT).verify_batch(&cap, dimensions, 0, BatchOpeningRef::from(&opening))
 }
 
+/// Whether all these answers are this one.
+fn are_all(
+    answers: &[Result<(), MerkleTreeError>],
+    expected: &Result<(), MerkleTreeError>,
+) -> bool {
+    for answer in answers {
+        if *answer != *expected {
+            return false;
+        }
+    }
+    true
+}
+
 /// `heights | HEIGHTS | ERROR`: what each call that takes heights answers, where all answer alike, and else all their
 /// answers: of the test of heights, the commit, the tree, the schedule and the check of an opening.
-pub fn heights(alloc: Global, fields: &mut Fields<'_>) -> Result<String, Fault> {
-    let heights = fields.numbers(alloc)?;
-    let dimensions = columns_of(alloc, &heights)?;
+pub fn heights(alloc: Global, fields: &mut Fields<'_>, answer: &mut Answer) -> Result<(), Fault> {
+    let heights = fields.numbers();
+    let dimensions = fields.reader.columns(&heights);
     let answers = [
         check_heights(&dimensions),
-        committed(alloc, &heights),
+        commit(alloc, &heights),
         build(alloc, &heights),
         scheduled(alloc, &dimensions),
         checked(alloc, &heights, &dimensions),
     ];
-    let are_alike = answers.iter().all(|answer| *answer == answers[0]);
-    let shown = if are_alike { 1 } else { answers.len() };
-    text::joined(alloc, &text::verdicts(alloc, &answers[..shown])?, " | ")
+    if are_all(&answers, &answers[0]) {
+        answer.verdict(&answers[0]);
+    } else {
+        answer.verdicts(&answers);
+    }
+    Ok(())
 }
 
 /// How many digests at the end of a layer are the default one. The last node of these trees has another.
@@ -80,31 +98,41 @@ fn padding_of(layer: &[[u32; 1]]) -> usize {
     padding
 }
 
-/// Of each layer of a tree, leaves first, how many of its slots are nodes.
-fn lengths_in<const N: usize>(
+/// Writes how many of the slots of a layer, so many levels below the root, are nodes.
+fn write_len<const N: usize>(
     alloc: Global,
-    tree: &FoldTree<RowMajorMatrix<u32>, N>,
-) -> Result<String, Fault> {
-    let mut lengths = Vec::new(alloc);
-    for below in (0..tree.num_layers()).rev() {
-        let layer = tree.cap(alloc, below)?;
-        let slots = layer.num_roots();
-        let nodes = slots.saturating_sub(padding_of(layer.roots()));
-        lengths.push(format!(in alloc; "{nodes}/{slots}")?)?;
-    }
-    text::joined(alloc, &lengths, " ")
+    tree: &FoldTree<Rows, N>,
+    below: usize,
+    answer: &mut Answer,
+) -> Result<(), MerkleTreeError>
+    requires { below < length (layers_of tree.now) }
+{
+    let layer = tree.cap(alloc, below)?;
+    let slots = layer.num_roots();
+    answer.number(slots.saturating_sub(padding_of(layer.roots())));
+    answer.push("/");
+    answer.number(slots);
+    Ok(())
 }
 
 /// `shape | ARITY | CAP | HEIGHTS | STEPS | LENGTHS`: the steps from the leaves up to the cap, and of each layer,
 /// leaves first, how many of its slots are nodes.
-pub fn shape<const N: usize>(alloc: Global, fields: &mut Fields<'_>) -> Result<String, Fault>
+pub fn shape<const N: usize>(
+    alloc: Global,
+    fields: &mut Fields<'_>,
+    answer: &mut Answer,
+) -> Result<(), Fault>
     requires arity { IsTrue (is_arity N) }
     requires few { N ≤ 8 }
 {
-    let scheme = fold_scheme::<N>(fields.cap()?);
-    let dimensions = fields.columns(alloc)?;
-    let steps = scheme.proof_arity_schedule(alloc, &dimensions)?;
-    let (_, tree) = scheme.commit(alloc, numbered(alloc, &dimensions)?)?;
-    let steps = text::numbers(alloc, &steps)?;
-    text::joined(alloc, &[steps, lengths_in(alloc, &tree)?], " | ")
+    let scheme = fold_scheme::<N>(fields.cap());
+    let dimensions = fields.columns();
+    answer.numbers(&scheme.proof_arity_schedule(alloc, &dimensions)?);
+    let (_, tree) = committed(alloc, &scheme, fields.reader.numbered(&dimensions))?;
+    answer.push(" |");
+    for below in (0..tree.num_layers()).rev() {
+        answer.push(" ");
+        write_len(alloc, &tree, below, answer)?;
+    }
+    Ok(())
 }

@@ -3,7 +3,7 @@
 ghost use Rattle.std.specs.Prelude.{◌<◌};
 
 use crate::fields::{Fault, Fields};
-use crate::text;
+use crate::text::Answer;
 use p3_merkle_core::geometry::{levels_of, schedule_below_of};
 use std::alloc::{AllocError, Global};
 
@@ -35,7 +35,12 @@ fn is_group_known(known: &[usize], step: usize, node: usize) -> bool
     requires { 0 < step }
 {
     let first = node - node % step;
-    (0..step).all(|place| known.contains(&first.saturating_add(place)))
+    for place in 0..step {
+        if !known.contains(&first.saturating_add(place)) {
+            return false;
+        }
+    }
+    true
 }
 
 /// Adds to the known nodes of a layer the parents of the groups that are known below.
@@ -71,29 +76,18 @@ fn is_root_known(
 
 /// `known | ARITY | HEIGHTS | INDICES | LAYERS | NUMBERS | ANSWERS`: whether the root is known from the leaves of some
 /// indices and from nodes of these layers and numbers, without each of the nodes in turn and then with all.
-pub fn known(alloc: Global, fields: &mut Fields<'_>) -> Result<String, Fault> {
-    let arity = fields.number()?.max(2);
-    let dimensions = fields.columns(alloc)?;
-    let indices = fields.numbers(alloc)?;
+pub fn known(alloc: Global, fields: &mut Fields<'_>, answer: &mut Answer) -> Result<(), Fault> {
+    let arity = fields.number().max(2);
+    let dimensions = fields.columns();
+    let indices = fields.numbers();
     let nodes = Given {
-        layers: fields.numbers(alloc)?,
-        numbers: fields.numbers(alloc)?,
+        layers: fields.numbers(),
+        numbers: fields.numbers(),
     };
     let steps = schedule_below_of(alloc, &dimensions, arity, levels_of(&dimensions, arity))?;
-    answers_of(alloc, &steps, &indices, &nodes)
-}
-
-/// Whether the root is known without each of the nodes in turn, and then with all.
-fn answers_of(
-    alloc: Global,
-    steps: &[usize],
-    indices: &[usize],
-    nodes: &Given,
-) -> Result<String, Fault> {
-    let mut answers = Vec::new(alloc);
     for left_out in 0..=nodes.numbers.len() {
-        let is_known = is_root_known(alloc, steps, indices, nodes, left_out)?;
-        answers.push(text::yes_or_no(alloc, is_known)?)?;
+        answer.separate(left_out, " ");
+        answer.yes_or_no(is_root_known(alloc, &steps, &indices, &nodes, left_out)?);
     }
-    text::joined(alloc, &answers, " ")
+    Ok(())
 }

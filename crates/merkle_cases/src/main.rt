@@ -19,10 +19,10 @@ mod geometry;
 mod hash;
 mod heights;
 mod known;
-mod lists;
 mod open;
 mod pruned;
 mod queries;
+mod reader;
 mod replay;
 mod salted;
 mod scheme;
@@ -32,106 +32,120 @@ mod twin;
 mod verify;
 
 use crate::fields::{Fault, Fields};
+use crate::text::Answer;
 use p3_merkle_tree::CapRule;
 use std::alloc::Global;
 use std::io;
 use std::process::ExitCode;
 
-/// What the calls of a kind of case answer at an arity.
+/// Writes what the calls of a kind of case answer at an arity.
 fn answer_at<const N: usize>(
     alloc: Global,
     keyword: &str,
     fields: &mut Fields<'_>,
-) -> Result<String, Fault>
+    answer: &mut Answer,
+) -> Result<(), Fault>
     requires arity { IsTrue (is_arity N) }
     requires several { 2 ≤ N }
     requires few { N ≤ 8 }
 {
     match keyword {
-        "compress" => hash::compress::<N>(alloc, fields),
-        "padding" => geometry::padding::<N>(alloc, fields),
-        "siblings" => geometry::siblings::<N>(alloc, fields),
-        "shape" => heights::shape::<N>(alloc, fields),
-        "commit" => commit::commit::<N>(alloc, fields),
-        "layers" => commit::layers::<N>(alloc, fields),
-        "builders" => builders::builders::<N>(alloc, fields),
-        "open" => open::open::<N>(alloc, fields),
-        "leaves" => open::leaves::<N>(alloc, fields),
-        "kept" => open::kept::<N>(alloc, fields),
-        "pruned_len" => pruned::pruned_len::<N>(alloc, fields),
-        "pruned" => pruned::pruned::<N>(alloc, fields),
-        "verify_pruned" => pruned::verify_pruned::<N>(alloc, fields),
-        "restore" => pruned::restore::<N>(alloc, fields),
-        "sweep" => sweep::sweep::<N>(alloc, fields),
-        "verify" => verify::verify::<N>(alloc, fields),
-        "schedule" => replay::schedule::<N>(alloc, fields),
-        "replay" => replay::replay::<N>(alloc, fields),
-        "authenticated" => authenticated::authenticated::<N>(alloc, fields),
-        "extract" => extract::extract::<N>(alloc, fields),
-        "extract_pruned" => extract::extract_pruned::<N>(alloc, fields),
+        "compress" => hash::compress::<N>(fields, answer),
+        "padding" => geometry::padding::<N>(fields, answer),
+        "siblings" => geometry::siblings::<N>(fields, answer),
+        "shape" => heights::shape::<N>(alloc, fields, answer),
+        "commit" => commit::commit::<N>(alloc, fields, answer),
+        "layers" => commit::layers::<N>(alloc, fields, answer),
+        "builders" => builders::builders::<N>(alloc, fields, answer),
+        "open" => open::open::<N>(alloc, fields, answer),
+        "leaves" => open::leaves::<N>(alloc, fields, answer),
+        "kept" => open::kept::<N>(alloc, fields, answer),
+        "pruned_len" => pruned::pruned_len::<N>(alloc, fields, answer),
+        "pruned" => pruned::pruned::<N>(alloc, fields, answer),
+        "verify_pruned" => pruned::verify_pruned::<N>(alloc, fields, answer),
+        "restore" => pruned::restore::<N>(alloc, fields, answer),
+        "sweep" => sweep::sweep::<N>(alloc, fields, answer),
+        "verify" => verify::verify::<N>(fields, answer),
+        "schedule" => replay::schedule::<N>(alloc, fields, answer),
+        "replay" => replay::replay::<N>(alloc, fields, answer),
+        "authenticated" => authenticated::authenticated::<N>(fields, answer),
+        "extract" => extract::extract::<N>(alloc, fields, answer),
+        "extract_pruned" => extract::extract_pruned::<N>(alloc, fields, answer),
         _ => Err(Fault::Unreadable("there is no such kind of case")),
     }
 }
 
-/// What the calls of a kind of case answer to the fields of a line.
-fn answer(alloc: Global, fields: &mut Fields<'_>) -> Result<String, Fault> {
-    match fields.take()? {
-        "hash" => hash::hash(alloc, fields),
-        "exponent" => geometry::exponent(alloc, fields),
-        "halving" => geometry::halving(alloc, fields),
-        "step" => geometry::step(alloc, fields),
-        "steps" => geometry::steps(alloc, fields),
-        "positions" => geometry::positions(alloc, fields),
-        "widths" => geometry::widths(alloc, fields),
-        "heights" => heights::heights(alloc, fields),
-        "known" => known::known(alloc, fields),
-        "verify_salted" => salted::verify(alloc, fields),
-        "verify_salted_pruned" => salted::verify_pruned(alloc, fields),
-        keyword => match fields.take()? {
-            "2" => answer_at::<2>(alloc, keyword, fields),
-            "4" => answer_at::<4>(alloc, keyword, fields),
-            "8" => answer_at::<8>(alloc, keyword, fields),
+/// Writes what the calls of a kind of case answer to the fields of a line.
+fn answer(alloc: Global, fields: &mut Fields<'_>, answer: &mut Answer) -> Result<(), Fault> {
+    match fields.take() {
+        "hash" => hash::hash(fields, answer),
+        "exponent" => geometry::exponent(fields, answer),
+        "halving" => geometry::halving(fields, answer),
+        "step" => geometry::step(fields, answer),
+        "steps" => geometry::steps(alloc, fields, answer),
+        "positions" => geometry::positions(alloc, fields, answer),
+        "widths" => geometry::widths(fields, answer),
+        "heights" => heights::heights(alloc, fields, answer),
+        "known" => known::known(alloc, fields, answer),
+        "verify_salted" => salted::verify(alloc, fields, answer),
+        "verify_salted_pruned" => salted::verify_pruned(alloc, fields, answer),
+        keyword => match fields.take() {
+            "2" => answer_at::<2>(alloc, keyword, fields, answer),
+            "4" => answer_at::<4>(alloc, keyword, fields, answer),
+            "8" => answer_at::<8>(alloc, keyword, fields, answer),
             _ => Err(Fault::Unreadable("the arity is not 2, 4 or 8")),
         },
     }
 }
 
 /// The answer that a line expects: what is left of its fields.
-fn expected(alloc: Global, fields: &Fields<'_>) -> Result<String, Fault> {
-    let mut texts = Vec::new(alloc);
-    for field in fields.rest() {
-        texts.push(String::from_str(alloc, field.trim())?)?;
+fn expected(alloc: Global, fields: &Fields<'_>) -> Answer {
+    let mut expected = Answer::new(alloc);
+    for (place, field) in fields.rest().iter().enumerate() {
+        expected.separate(place, " | ");
+        expected.push(field.trim());
     }
-    if texts.is_empty() {
-        return Err(Fault::Unreadable("the answer is missing"));
-    }
-    text::joined(alloc, &texts, " | ")
+    expected
 }
 
-/// What a case is answered: an answer, or the text of what is refused or wrong.
-fn answer_or_refusal(alloc: Global, fields: &mut Fields<'_>) -> Result<String, Fault> {
-    match answer(alloc, fields) {
-        Ok(text) => Ok(text),
-        Err(fault) => fault.answer(alloc),
+/// What a case is answered: an answer, or the text of what is refused or wrong. Else why it can't be read.
+fn answered(alloc: Global, fields: &mut Fields<'_>) -> Result<Answer, &'static str> {
+    let mut whole = Answer::new(alloc);
+    let fault = answer(alloc, fields, &mut whole);
+    if let Some(reason) = fields.reader.fault() {
+        return Err(reason);
     }
+    let mut refusal = Answer::new(alloc);
+    match fault {
+        Ok(()) => return Ok(whole),
+        Err(Fault::Refused(error)) => refusal.error(&error),
+        Err(Fault::Wrong(way)) => refusal.push(way),
+        Err(Fault::Unreadable(reason)) => return Err(reason),
+    }
+    Ok(refusal)
 }
 
 /// What a case is answered, where that is not what its line says.
-fn wrong_text(alloc: Global, fields: &mut Fields<'_>) -> Result<Option<String>, Fault> {
-    let got = answer_or_refusal(alloc, fields)?;
-    let expected = expected(alloc, fields)?;
+fn wrong_text(alloc: Global, fields: &mut Fields<'_>) -> Result<Option<Answer>, &'static str> {
+    let got = answered(alloc, fields)?;
+    let expected = expected(alloc, fields);
+    if got.is_cut() || expected.is_cut() {
+        return Err("there is no memory");
+    }
+    if expected.as_str().is_empty() {
+        return Err("the answer is missing");
+    }
     Ok((got.as_str() != expected.as_str()).then_some(got))
 }
 
-/// The same of a line. Where its cap names no rule, it is answered alike under each.
-fn wrong_answer(alloc: Global, line: &str) -> Result<Option<String>, Fault> {
-    let pieces: Vec<&str> = line.split('|').collect(alloc)?;
-    let mut fields = Fields::of(&pieces, CapRule::Lowered);
+/// The same of the pieces of a line. Where its cap names no rule, it is answered alike under each.
+fn wrong_answer(alloc: Global, pieces: &[&str]) -> Result<Option<Answer>, &'static str> {
+    let mut fields = Fields::of(alloc, pieces, CapRule::Lowered);
     let wrong = wrong_text(alloc, &mut fields)?;
     if wrong.is_some() || !fields.is_for_any_rule() {
         return Ok(wrong);
     }
-    wrong_text(alloc, &mut Fields::of(&pieces, CapRule::Fixed))
+    wrong_text(alloc, &mut Fields::of(alloc, pieces, CapRule::Fixed))
 }
 
 /// Whether a line is a case, and no comment or blank.
@@ -141,13 +155,14 @@ fn is_case(line: &str) -> bool {
 
 /// Checks a case, and prints its line where it is wrong or can't be read.
 fn is_right(rt: &HostRuntime, number: usize, line: &str) -> io::Result<bool> {
-    match wrong_answer(rt.alloc(), line) {
+    let pieces: Vec<&str> = line.split('|').collect(rt.alloc())?;
+    match wrong_answer(rt.alloc(), &pieces) {
         Ok(None) => return Ok(true),
-        Ok(Some(got)) => println!(rt; "line {number}: {line}\n  is answered: {got}")?,
-        Err(Fault::Unreadable(reason) | Fault::Wrong(reason)) => {
-            println!(rt; "line {number}: {line}\n  can't be read: {reason}")?
+        Ok(Some(got)) => {
+            let got = got.as_str();
+            println!(rt; "line {number}: {line}\n  is answered: {got}")?
         }
-        Err(Fault::Refused(error)) => println!(rt; "line {number}: {line}\n  {error}")?,
+        Err(reason) => println!(rt; "line {number}: {line}\n  can't be read: {reason}")?,
     }
     Ok(false)
 }

@@ -4,39 +4,34 @@ ghost use Rattle.std.specs.Prelude.{◌≤◌, IsTrue};
 ghost use Rattle.p3_merkle_core.specs.Geometry.{is_arity};
 
 use crate::fields::{Fault, Fields};
-use crate::scheme::{FoldOpening, FoldScheme, FoldTree, ROOT, fold_scheme, numbered};
-use crate::text;
-use p3_merkle_tree::{BatchOpeningRef, MerkleCap, MerkleTreeError};
-use p3_support::matrix::{Dimensions, Matrix, RowMajorMatrix};
-use std::alloc::{AllocError, Global};
-
-/// The matrices of these cases.
-type Rows = RowMajorMatrix<u32>;
-
-/// The dimensions of matrices.
-fn dimensions_of(alloc: Global, matrices: &[&Rows]) -> Result<Vec<Dimensions>, AllocError> {
-    let mut dimensions = Vec::new(alloc);
-    for matrix in matrices {
-        dimensions.push(matrix.dimensions())?;
-    }
-    Ok(dimensions)
-}
+use crate::reader::Reader;
+use crate::scheme::{
+    FoldCap, FoldOpening, FoldScheme, FoldTree, ROOT, Rows, committed, fold_scheme,
+};
+use crate::text::Answer;
+use p3_merkle_tree::{BatchOpeningRef, MerkleTreeError};
+use p3_support::matrix::{Dimensions, Matrix};
+use std::alloc::Global;
 
 /// The dimensions of the matrices that a tree shows.
 fn shown_dimensions<const N: usize>(
     alloc: Global,
+    reader: &mut Reader,
     scheme: &FoldScheme<N>,
     tree: &FoldTree<Rows, N>,
 ) -> Result<Vec<Dimensions>, MerkleTreeError> {
-    let matrices = scheme.get_matrices(alloc, tree)?;
-    Ok(dimensions_of(alloc, &matrices)?)
+    let mut dimensions = reader.none();
+    for matrix in &scheme.get_matrices(alloc, tree)? {
+        reader.push(&mut dimensions, matrix.dimensions());
+    }
+    Ok(dimensions)
 }
 
 /// The opening of a leaf, where there is such a leaf and its opening is accepted.
 pub fn accepted<const N: usize>(
     alloc: Global,
     scheme: &FoldScheme<N>,
-    cap: &MerkleCap<u32, [u32; 1]>,
+    cap: &FoldCap,
     tree: &FoldTree<Rows, N>,
     dimensions: &[Dimensions],
     index: usize,
@@ -51,50 +46,61 @@ pub fn accepted<const N: usize>(
 }
 
 /// `open | ARITY | CAP | MATRICES | INDEX | ROWS | SIBLINGS`: the opening of a leaf, which is accepted.
-pub fn open<const N: usize>(alloc: Global, fields: &mut Fields<'_>) -> Result<String, Fault>
+pub fn open<const N: usize>(
+    alloc: Global,
+    fields: &mut Fields<'_>,
+    answer: &mut Answer,
+) -> Result<(), Fault>
     requires arity { IsTrue (is_arity N) }
     requires few { N ≤ 8 }
 {
-    let scheme = fold_scheme::<N>(fields.cap()?);
-    let matrices = fields.matrices(alloc)?;
-    let index = fields.number()?;
-    let (cap, tree) = scheme.commit(alloc, matrices)?;
-    let dimensions = shown_dimensions(alloc, &scheme, &tree)?;
+    let scheme = fold_scheme::<N>(fields.cap());
+    let matrices = fields.matrices();
+    let index = fields.number();
+    let (cap, tree) = committed(alloc, &scheme, matrices)?;
+    let dimensions = shown_dimensions(alloc, &mut fields.reader, &scheme, &tree)?;
     let opening = accepted(alloc, &scheme, &cap, &tree, &dimensions, index)?;
-    opening_text(alloc, &opening)
-}
-
-/// The rows of an opening, and its siblings.
-fn opening_text(alloc: Global, opening: &FoldOpening) -> Result<String, Fault> {
-    let rows = text::rows(alloc, &opening.opened_values)?;
-    let siblings = text::digests(alloc, &opening.opening_proof)?;
-    text::joined(alloc, &[rows, siblings], " | ")
+    answer.rows(&opening.opened_values);
+    answer.push(" | ");
+    answer.digests(&opening.opening_proof);
+    Ok(())
 }
 
 /// `leaves | ARITY | CAP | HEIGHTS | LEAVES accepted`: the opening of each leaf is accepted.
-pub fn leaves<const N: usize>(alloc: Global, fields: &mut Fields<'_>) -> Result<String, Fault>
+pub fn leaves<const N: usize>(
+    alloc: Global,
+    fields: &mut Fields<'_>,
+    answer: &mut Answer,
+) -> Result<(), Fault>
     requires arity { IsTrue (is_arity N) }
     requires few { N ≤ 8 }
 {
-    let scheme = fold_scheme::<N>(fields.cap()?);
-    let dimensions = fields.columns(alloc)?;
-    let (cap, tree) = scheme.commit(alloc, numbered(alloc, &dimensions)?)?;
+    let scheme = fold_scheme::<N>(fields.cap());
+    let dimensions = fields.columns();
+    let (cap, tree) = committed(alloc, &scheme, fields.reader.numbered(&dimensions))?;
     let leaves = scheme.get_max_height(&tree);
     for index in 0..leaves {
         accepted(alloc, &scheme, &cap, &tree, &dimensions, index)?;
     }
-    Ok(format!(in alloc; "{leaves} accepted")?)
+    answer.number(leaves);
+    answer.push(" accepted");
+    Ok(())
 }
 
 /// `kept | ARITY | HEIGHTS | GREATEST HEIGHT | DIMENSIONS`: what a tree over columns shows of them.
-pub fn kept<const N: usize>(alloc: Global, fields: &mut Fields<'_>) -> Result<String, Fault>
+pub fn kept<const N: usize>(
+    alloc: Global,
+    fields: &mut Fields<'_>,
+    answer: &mut Answer,
+) -> Result<(), Fault>
     requires arity { IsTrue (is_arity N) }
     requires few { N ≤ 8 }
 {
     let scheme = fold_scheme::<N>(ROOT);
-    let (_, tree) = scheme.commit(alloc, numbered(alloc, &fields.columns(alloc)?)?)?;
-    let max_height = scheme.get_max_height(&tree);
-    let dimensions = shown_dimensions(alloc, &scheme, &tree)?;
-    let dimensions = text::dimensions(alloc, &dimensions)?;
-    Ok(format!(in alloc; "{max_height} | {dimensions}")?)
+    let dimensions = fields.columns();
+    let (_, tree) = committed(alloc, &scheme, fields.reader.numbered(&dimensions))?;
+    answer.number(scheme.get_max_height(&tree));
+    answer.push(" | ");
+    answer.dimensions(&shown_dimensions(alloc, &mut fields.reader, &scheme, &tree)?);
+    Ok(())
 }

@@ -1,50 +1,67 @@
 //! Lists of queries: written out, all of one length, or random ones.
 
-use crate::fields::Fault;
-use crate::lists::{number_of, numbers_of};
+use crate::reader::Reader;
 use rand_chacha::ChaCha20Rng;
 use rand_core::{Rng, SeedableRng};
-use std::alloc::Global;
 
 /// The lists in a text, with `;` between them.
-fn written_lists(alloc: Global, text: &str) -> Result<Vec<Vec<usize>>, Fault> {
-    let mut lists = Vec::new(alloc);
+fn written_lists(reader: &mut Reader, text: &str) -> Vec<Vec<usize>> {
+    let mut lists = reader.none();
     for list in text.split(';') {
-        lists.push(numbers_of(alloc, list.trim())?)?;
+        let list = reader.numbers(list.trim());
+        reader.push(&mut lists, list);
     }
-    Ok(lists)
+    lists
+}
+
+/// The list that is one longer than this one.
+fn longer_list(reader: &mut Reader, list: &[usize], last: usize) -> Vec<usize> {
+    let mut longer = reader.none();
+    for leaf in list {
+        reader.push(&mut longer, *leaf);
+    }
+    reader.push(&mut longer, last);
+    longer
+}
+
+/// Adds to some lists those that are one longer than this one, by each of some leaves.
+fn add_longer(reader: &mut Reader, lists: &mut Vec<Vec<usize>>, list: &[usize], leaves: usize) {
+    for leaf in 0..leaves {
+        let longer = longer_list(reader, list, leaf);
+        reader.push(lists, longer);
+    }
 }
 
 /// The lists that are one longer than these, by each of some leaves.
-fn longer_lists(
-    alloc: Global,
-    lists: &[Vec<usize>],
-    leaves: usize,
-) -> Result<Vec<Vec<usize>>, Fault> {
-    let mut longer = Vec::new(alloc);
-    for place in 0..lists.len().saturating_mul(leaves) {
-        let mut list = lists[place / leaves].clone()?;
-        list.push(place % leaves)?;
-        longer.push(list)?;
+fn longer_lists(reader: &mut Reader, lists: &[Vec<usize>], leaves: usize) -> Vec<Vec<usize>> {
+    let mut longer = reader.none();
+    for list in lists {
+        add_longer(reader, &mut longer, list, leaves);
     }
-    Ok(longer)
+    longer
 }
 
 /// Every list of so many of some leaves.
-fn every_list(alloc: Global, leaves: usize, len: usize) -> Result<Vec<Vec<usize>>, Fault> {
-    let mut lists = vec![in alloc; Vec::new(alloc)]?;
+fn every_list(reader: &mut Reader, leaves: usize, len: usize) -> Vec<Vec<usize>> {
+    let mut lists = reader.none();
+    let empty = reader.none();
+    reader.push(&mut lists, empty);
     for _query in 0..len {
-        lists = longer_lists(alloc, &lists, leaves)?;
+        lists = longer_lists(reader, &lists, leaves);
     }
-    Ok(lists)
+    lists
 }
 
 /// The generator of a seed of one byte.
-fn generator_of(seed: &str) -> Result<ChaCha20Rng, Fault> {
-    match u8::try_from(number_of(seed)?) {
-        Ok(byte) => Ok(ChaCha20Rng::from_seed([byte; 32])),
-        Err(_) => Err(Fault::Unreadable("the seed is no byte")),
-    }
+fn generator_of(reader: &mut Reader, seed: usize) -> ChaCha20Rng {
+    let byte = match u8::try_from(seed) {
+        Ok(byte) => byte,
+        Err(_) => {
+            reader.fail("the seed is no byte");
+            0
+        }
+    };
+    ChaCha20Rng::from_seed([byte; 32])
 }
 
 /// A random number below `end`, which is at least 1.
@@ -54,36 +71,50 @@ fn below(rng: &mut ChaCha20Rng, end: usize) -> usize {
 
 /// A random list of `shortest` to `longest` of some leaves.
 fn random_list(
-    alloc: Global,
+    reader: &mut Reader,
     rng: &mut ChaCha20Rng,
     leaves: usize,
     shortest: usize,
     longest: usize,
-) -> Result<Vec<usize>, Fault> {
+) -> Vec<usize> {
     let lengths = longest.saturating_sub(shortest).saturating_add(1);
     let len = shortest.saturating_add(below(rng, lengths));
-    let mut list = Vec::new(alloc);
+    let mut list = reader.none();
     for _query in 0..len {
-        list.push(below(rng, leaves))?;
+        reader.push(&mut list, below(rng, leaves));
     }
-    Ok(list)
+    list
+}
+
+/// Random lists of some leaves, by four numbers: the seed, how many lists, and the least and the greatest length.
+fn random_lists(reader: &mut Reader, leaves: usize, numbers: [usize; 4]) -> Vec<Vec<usize>> {
+    let [seed, count, shortest, longest] = numbers;
+    let mut rng = generator_of(reader, seed);
+    let mut lists = reader.none();
+    for _list in 0..count {
+        let list = random_list(reader, &mut rng, leaves, shortest, longest);
+        reader.push(&mut lists, list);
+    }
+    lists
 }
 
 /// The lists that a text names, over so many leaves: lists with `;` between them; `every LENGTH`; or
 /// `random SEED LISTS SHORTEST LONGEST`, with lengths between these two.
-pub fn lists_of(alloc: Global, text: &str, leaves: usize) -> Result<Vec<Vec<usize>>, Fault> {
-    let words: Vec<&str> = text.split_whitespace().collect(alloc)?;
-    match words.as_slice() {
-        ["every", len] => every_list(alloc, leaves, number_of(*len)?),
-        ["random", seed, count, shortest, longest] => {
-            let mut rng = generator_of(*seed)?;
-            let (shortest, longest) = (number_of(*shortest)?, number_of(*longest)?);
-            let mut lists = Vec::new(alloc);
-            for _list in 0..number_of(*count)? {
-                lists.push(random_list(alloc, &mut rng, leaves, shortest, longest)?)?;
-            }
-            Ok(lists)
+pub fn lists_of(reader: &mut Reader, text: &str, leaves: usize) -> Vec<Vec<usize>> {
+    if let Some(len) = text.strip_prefix("every ") {
+        let len = reader.number(len.trim());
+        return every_list(reader, leaves, len);
+    }
+    let Some(words) = text.strip_prefix("random ") else {
+        return written_lists(reader, text);
+    };
+    match reader.numbers(words).as_slice() {
+        [seed, count, shortest, longest] => {
+            random_lists(reader, leaves, [*seed, *count, *shortest, *longest])
         }
-        _ => written_lists(alloc, text),
+        _ => {
+            reader.fail("random lists are not SEED LISTS SHORTEST LONGEST");
+            reader.none()
+        }
     }
 }

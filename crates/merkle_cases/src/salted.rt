@@ -3,6 +3,7 @@
 ghost use Rattle.std.specs.Prelude.{◌≤◌};
 
 use crate::fields::{Fault, Fields};
+use crate::text::Answer;
 use p3_instances::fold::{FoldCompress, FoldHash};
 use p3_merkle_core::pruning::PrunedProof;
 use p3_merkle_hiding::MerkleTreeHidingMmcs;
@@ -32,55 +33,62 @@ fn verifier<const SALT_ELEMS: usize>() -> SaltedScheme<SALT_ELEMS>
 
 /// `verify_salted | SALTS A ROW | CAP | DIMENSIONS | INDEX | ROWS | SALTS | SIBLINGS | ANSWER`: one salt a row, or the
 /// greatest number of them.
-pub fn verify(alloc: Global, fields: &mut Fields<'_>) -> Result<String, Fault> {
-    match fields.take()? {
-        "1" => verify_with::<1>(alloc, fields),
-        "18446744073709551615" => verify_with::<18_446_744_073_709_551_615>(alloc, fields),
-        _ => Err(Fault::Unreadable("there are no schemes of as many salts")),
+pub fn verify(alloc: Global, fields: &mut Fields<'_>, answer: &mut Answer) -> Result<(), Fault> {
+    match fields.take() {
+        "1" => verify_with::<1>(alloc, fields, answer),
+        "18446744073709551615" => verify_with::<18_446_744_073_709_551_615>(alloc, fields, answer),
+        _ => return Err(Fault::Unreadable("there are no schemes of as many salts")),
     }
+    Ok(())
 }
 
-/// The answer to the opening of a leaf.
-fn verify_with<const SALT_ELEMS: usize>(
-    alloc: Global,
-    fields: &mut Fields<'_>,
-) -> Result<String, Fault>
+/// Writes the answer to the opening of a leaf.
+fn verify_with<const SALT_ELEMS: usize>(alloc: Global, fields: &mut Fields<'_>, answer: &mut Answer)
     requires { 1 ≤ SALT_ELEMS }
 {
-    let cap = MerkleCap::new(fields.digests(alloc)?);
-    let dimensions = fields.dimensions(alloc)?;
-    let index = fields.number()?;
-    let rows = fields.rows(alloc)?;
-    let salts = fields.rows(alloc)?;
-    let opening = BatchOpening::new(rows, (salts, fields.digests(alloc)?));
+    let cap = MerkleCap::new(fields.digests());
+    let dimensions = fields.dimensions();
+    let index = fields.number();
+    let rows = fields.rows();
+    let salts = fields.rows();
+    let opening = BatchOpening::new(rows, (salts, fields.digests()));
     let lent = BatchOpeningRef::from(&opening);
-    verifier::<SALT_ELEMS>().verify_batch(alloc, &cap, &dimensions, index, lent)?;
-    Ok(String::from_str(alloc, "accepted")?)
+    let scheme = verifier::<SALT_ELEMS>();
+    answer.verdict(&scheme.verify_batch(alloc, &cap, &dimensions, index, lent));
 }
 
 /// `verify_salted_pruned | SALTS A ROW | CAP | DIMENSIONS | INDICES | ROW SETS | SALT SETS | DIGESTS | ANSWER`.
-pub fn verify_pruned(alloc: Global, fields: &mut Fields<'_>) -> Result<String, Fault> {
-    match fields.take()? {
-        "1" => verify_pruned_with::<1>(alloc, fields),
-        "18446744073709551615" => verify_pruned_with::<18_446_744_073_709_551_615>(alloc, fields),
-        _ => Err(Fault::Unreadable("there are no schemes of as many salts")),
+pub fn verify_pruned(
+    alloc: Global,
+    fields: &mut Fields<'_>,
+    answer: &mut Answer,
+) -> Result<(), Fault> {
+    match fields.take() {
+        "1" => verify_pruned_with::<1>(alloc, fields, answer),
+        "18446744073709551615" => {
+            verify_pruned_with::<18_446_744_073_709_551_615>(alloc, fields, answer)
+        }
+        _ => return Err(Fault::Unreadable("there are no schemes of as many salts")),
     }
+    Ok(())
 }
 
-/// The answer to the opening of several leaves.
+/// Writes the answer to the opening of several leaves.
 fn verify_pruned_with<const SALT_ELEMS: usize>(
     alloc: Global,
     fields: &mut Fields<'_>,
-) -> Result<String, Fault>
+    answer: &mut Answer,
+)
     requires { 1 ≤ SALT_ELEMS }
 {
-    let cap = MerkleCap::new(fields.digests(alloc)?);
-    let dimensions = fields.dimensions(alloc)?;
-    let indices = fields.numbers(alloc)?;
-    let rows = fields.row_sets(alloc)?;
-    let salts = fields.row_sets(alloc)?;
-    let sibling_hashes = fields.digests(alloc)?;
+    let cap = MerkleCap::new(fields.digests());
+    let dimensions = fields.dimensions();
+    let indices = fields.numbers();
+    let rows = fields.row_sets();
+    let salts = fields.row_sets();
+    let sibling_hashes = fields.digests();
     let proof = (salts, PrunedProof { sibling_hashes });
-    verifier::<SALT_ELEMS>().verify_multi_batch(alloc, &cap, &dimensions, &indices, &rows, &proof)?;
-    Ok(String::from_str(alloc, "accepted")?)
+    let scheme = verifier::<SALT_ELEMS>();
+    let verdict = scheme.verify_multi_batch(alloc, &cap, &dimensions, &indices, &rows, &proof);
+    answer.verdict(&verdict);
 }

@@ -1,13 +1,13 @@
 //! Trees and schemes of the fold functions.
 
-ghost use Rattle.std.specs.Prelude.{◌%◌, ◌^◌, ◌<◌, ◌≤◌, ◌∷◌, [], refl, IsTrue};
+ghost use Rattle.std.specs.Prelude.{◌%◌, ◌^◌, ◌≤◌, ◌∷◌, [], refl, IsTrue};
 ghost use Rattle.p3_merkle_core.specs.Geometry.{is_arity};
 
-use crate::fields::Fault;
-use crate::lists::matrix_from;
 use p3_instances::fold::{FoldCompress, FoldHash};
-use p3_merkle_tree::{BatchOpening, CapRule, MerkleTree, MerkleTreeError, MerkleTreeMmcs};
-use p3_support::matrix::{Dimensions, Matrix, RowMajorMatrix};
+use p3_merkle_tree::{
+    BatchOpening, CapRule, MerkleCap, MerkleTree, MerkleTreeError, MerkleTreeMmcs,
+};
+use p3_support::matrix::{Matrix, RowMajorMatrix};
 use std::alloc::{AllocError, Global};
 
 /// The scheme of the fold functions with digests of one word.
@@ -22,6 +22,12 @@ pub type FoldScheme<const N: usize> = MerkleTreeMmcs<
 
 /// A tree of that scheme.
 pub type FoldTree<M, const N: usize> = MerkleTree<u32, u32, M, N, 1>;
+
+/// A cap of that scheme.
+pub type FoldCap = MerkleCap<u32, [u32; 1]>;
+
+/// The matrices of most cases.
+pub type Rows = RowMajorMatrix<u32>;
 
 /// An opening of that scheme.
 pub type FoldOpening = BatchOpening<u32, Vec<[u32; 1]>>;
@@ -49,6 +55,15 @@ pub fn fold_scheme<const N: usize>(cap: Cap) -> FoldScheme<N>
     MerkleTreeMmcs::new_with_rule(FoldHash::<1>, FoldCompress::<N, 1>, cap.height, cap.rule)
 }
 
+/// What a scheme commits to, and its cap.
+pub fn committed<const N: usize>(
+    alloc: Global,
+    scheme: &FoldScheme<N>,
+    matrices: Vec<Rows>,
+) -> Result<(FoldCap, FoldTree<Rows, N>), MerkleTreeError> {
+    scheme.commit(alloc, matrices)
+}
+
 /// The tree over matrices, built without a scheme.
 pub fn fold_tree<M: Matrix<u32> + Drop, const N: usize>(
     alloc: Global,
@@ -63,30 +78,6 @@ pub fn fold_tree<M: Matrix<u32> + Drop, const N: usize>(
         &FoldCompress::<N, 1>,
         matrices,
     )
-}
-
-/// The numbers of the rows of a matrix of these dimensions, once for each word of a row.
-fn row_numbers(alloc: Global, width: usize, height: usize) -> Result<Vec<u32>, AllocError>
-    requires { 0 < width }
-{
-    let mut values = Vec::new(alloc);
-    for place in 0..width.saturating_mul(height) {
-        values.push((place / width % 4_294_967_296) as u32)?;
-    }
-    Ok(values)
-}
-
-/// Matrices of these dimensions, each word of which is the number of its row, from 0.
-pub fn numbered(
-    alloc: Global,
-    dimensions: &[Dimensions],
-) -> Result<Vec<RowMajorMatrix<u32>>, Fault> {
-    let mut matrices = Vec::new(alloc);
-    for Dimensions { width, height } in dimensions {
-        let values = row_numbers(alloc, (*width).max(1), *height)?;
-        matrices.push(matrix_from(values, *width)?)?;
-    }
-    Ok(matrices)
 }
 
 /// A column whose words are the numbers of its rows, from 0. It takes no memory, whatever its height.

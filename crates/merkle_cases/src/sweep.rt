@@ -3,19 +3,19 @@
 ghost use Rattle.std.specs.Prelude.{◌≤◌, IsTrue};
 ghost use Rattle.p3_merkle_core.specs.Geometry.{is_arity};
 
+use crate::batches::batches_of;
 use crate::fields::{Fault, Fields};
+use crate::open::accepted;
 use crate::queries::lists_of;
-use crate::scheme::{FoldScheme, FoldTree, fold_scheme, numbered};
+use crate::reader::Reader;
+use crate::scheme::{FoldCap, FoldScheme, FoldTree, Rows, committed, fold_scheme};
+use crate::text::Answer;
 use crate::twin::{collides_at, collides_first_at, has_twins, place_of, twin_rows, twin_sets};
-use crate::{open, text};
 use p3_merkle_core::geometry::tallest_of;
 use p3_merkle_core::pruning::check_indices;
-use p3_merkle_tree::{BatchOpeningRef, MerkleAuthPath, MerkleCap, PrunedBatchOpening};
-use p3_support::matrix::{Dimensions, RowMajorMatrix};
+use p3_merkle_tree::{BatchOpeningRef, MerkleAuthPath, PrunedBatchOpening};
+use p3_support::matrix::Dimensions;
 use std::alloc::Global;
-
-/// The matrices of these trees.
-type Rows = RowMajorMatrix<u32>;
 
 /// How many paths of a list of queries are compared with those that leaf by leaf are opened.
 const MOST_PATHS: usize = 64;
@@ -24,14 +24,14 @@ const MOST_PATHS: usize = 64;
 fn check_paths<const N: usize>(
     alloc: Global,
     scheme: &FoldScheme<N>,
-    cap: &MerkleCap<u32, [u32; 1]>,
+    cap: &FoldCap,
     tree: &FoldTree<Rows, N>,
     dimensions: &[Dimensions],
     indices: &[usize],
     paths: &[MerkleAuthPath<u32, 1>],
 ) -> Result<(), Fault> {
     for (index, path) in indices.iter().zip(paths).take(MOST_PATHS) {
-        let opening = open::accepted(alloc, scheme, cap, tree, dimensions, *index)?;
+        let opening = accepted(alloc, scheme, cap, tree, dimensions, *index)?;
         if path.leaf_index != *index || path.siblings != opening.opening_proof {
             return Err(Fault::Wrong("a path is not that of its leaf"));
         }
@@ -43,12 +43,12 @@ fn check_paths<const N: usize>(
 fn check_leaf_twins<const N: usize>(
     alloc: Global,
     scheme: &FoldScheme<N>,
-    cap: &MerkleCap<u32, [u32; 1]>,
+    cap: &FoldCap,
     tree: &FoldTree<Rows, N>,
     dimensions: &[Dimensions],
     index: usize,
 ) -> Result<(), Fault> {
-    let opening = open::accepted(alloc, scheme, cap, tree, dimensions, index)?;
+    let opening = accepted(alloc, scheme, cap, tree, dimensions, index)?;
     let steps = scheme.proof_arity_schedule(alloc, dimensions)?;
     for (matrix, Dimensions { height, .. }) in dimensions.iter().enumerate() {
         let rows = twin_rows(alloc, &opening.opened_values, matrix)?;
@@ -66,7 +66,7 @@ fn check_leaf_twins<const N: usize>(
 fn check_twins<const N: usize>(
     alloc: Global,
     scheme: &FoldScheme<N>,
-    cap: &MerkleCap<u32, [u32; 1]>,
+    cap: &FoldCap,
     dimensions: &[Dimensions],
     indices: &[usize],
     opening: &PrunedBatchOpening<u32, u32, 1>,
@@ -85,79 +85,115 @@ fn check_twins<const N: usize>(
     Ok(())
 }
 
+/// Fails where the twins of the leaves of some queries collide elsewhere, where all rows have twins.
+fn check_all_twins<const N: usize>(
+    alloc: Global,
+    scheme: &FoldScheme<N>,
+    cap: &FoldCap,
+    tree: &FoldTree<Rows, N>,
+    dimensions: &[Dimensions],
+    indices: &[usize],
+    opening: &PrunedBatchOpening<u32, u32, 1>,
+) -> Result<(), Fault> {
+    if !has_twins(dimensions) || indices.is_empty() {
+        return Ok(());
+    }
+    check_twins(alloc, scheme, cap, dimensions, indices, opening)?;
+    check_leaf_twins(alloc, scheme, cap, tree, dimensions, indices[0])
+}
+
+/// Fails where the opening of some queries is not accepted, or restores another path than one for each.
+fn check_opening<const N: usize>(
+    alloc: Global,
+    scheme: &FoldScheme<N>,
+    cap: &FoldCap,
+    tree: &FoldTree<Rows, N>,
+    dimensions: &[Dimensions],
+    indices: &[usize],
+    opening: &PrunedBatchOpening<u32, u32, 1>,
+) -> Result<(), Fault> {
+    let (rows, proof) = (&opening.opened_values, &opening.pruned_proof);
+    scheme.verify_batch_pruned(alloc, cap, dimensions, indices, rows, proof)?;
+    let paths = scheme.restore_and_recompute_paths(alloc, dimensions, indices, rows, proof)?;
+    if paths.len() != indices.len() {
+        return Err(Fault::Wrong("a proof has another number of paths"));
+    }
+    check_paths(alloc, scheme, cap, tree, dimensions, indices, &paths)
+}
+
 /// How many digests the proof for some queries has. Their opening is accepted, and restores a path for each.
 fn digests_for<const N: usize>(
     alloc: Global,
     scheme: &FoldScheme<N>,
-    cap: &MerkleCap<u32, [u32; 1]>,
+    cap: &FoldCap,
     tree: &FoldTree<Rows, N>,
     dimensions: &[Dimensions],
     indices: &[usize],
 ) -> Result<usize, Fault> {
     check_indices(scheme.get_max_height(tree), indices)?;
     let opening = scheme.open_batch_pruned(alloc, indices, tree)?;
-    let (rows, proof) = (&opening.opened_values, &opening.pruned_proof);
-    scheme.verify_batch_pruned(alloc, cap, dimensions, indices, rows, proof)?;
-    let paths = scheme.restore_and_recompute_paths(alloc, dimensions, indices, rows, proof)?;
-    check_paths(alloc, scheme, cap, tree, dimensions, indices, &paths)?;
-    if has_twins(dimensions) && !indices.is_empty() {
-        check_twins(alloc, scheme, cap, dimensions, indices, &opening)?;
-        check_leaf_twins(alloc, scheme, cap, tree, dimensions, indices[0])?;
-    }
+    check_opening(alloc, scheme, cap, tree, dimensions, indices, &opening)?;
+    check_all_twins(alloc, scheme, cap, tree, dimensions, indices, &opening)?;
     let count = scheme.pruned_len(alloc, dimensions, indices)?;
-    if count == proof.sibling_hashes.len() && paths.len() == indices.len() {
+    if count == opening.pruned_proof.sibling_hashes.len() {
         Ok(count)
     } else {
-        Err(Fault::Wrong("a proof has another number of digests, or of paths"))
+        Err(Fault::Wrong("a proof has another number of digests"))
     }
 }
 
-/// How many digests the proofs for these lists of queries have together.
-fn digests_for_all<const N: usize>(
+/// How many lists of queries there are for batches, and how many digests their proofs have.
+#[derive(Clone, Copy)]
+struct Counts {
+    lists: usize,
+    digests: usize,
+}
+
+/// Opens the leaves of each of some lists of queries of a batch of these dimensions, and counts.
+fn count_for<const N: usize>(
     alloc: Global,
+    reader: &mut Reader,
     scheme: &FoldScheme<N>,
-    cap: &MerkleCap<u32, [u32; 1]>,
-    tree: &FoldTree<Rows, N>,
     dimensions: &[Dimensions],
-    lists: &[Vec<usize>],
-) -> Result<usize, Fault> {
-    let mut digests = 0_usize;
-    for indices in lists {
-        digests = digests.saturating_add(digests_for(
-            alloc, scheme, cap, tree, dimensions, indices,
-        )?);
+    queries: &str,
+    counts: &mut Counts,
+) -> Result<(), Fault> {
+    let (cap, tree) = committed(alloc, scheme, reader.numbered(dimensions))?;
+    for indices in &lists_of(reader, queries, tallest_of(dimensions)) {
+        let digests = digests_for(alloc, scheme, &cap, &tree, dimensions, indices)?;
+        counts.lists = counts.lists.saturating_add(1);
+        counts.digests = counts.digests.saturating_add(digests);
     }
-    Ok(digests)
+    Ok(())
 }
 
 /// `sweep | ARITY | CAP | DIMENSIONS | QUERIES | LISTS DIGESTS`: of each batch of matrices, many lists of queries are
 /// opened, accepted and restored; how many there are, and how many digests their proofs have.
-pub fn sweep<const N: usize>(alloc: Global, fields: &mut Fields<'_>) -> Result<String, Fault>
+pub fn sweep<const N: usize>(
+    alloc: Global,
+    fields: &mut Fields<'_>,
+    answer: &mut Answer,
+) -> Result<(), Fault>
     requires arity { IsTrue (is_arity N) }
     requires few { N ≤ 8 }
 {
-    let cap = fields.cap()?;
-    let batches = fields.batches(alloc)?;
-    let queries = fields.take()?;
-    let (mut count, mut digests) = (0_usize, 0_usize);
-    let scheme = fold_scheme::<N>(cap);
-    for dimensions in &batches {
-        let (more_lists, more_digests) = counts_for(alloc, &scheme, dimensions, queries)?;
-        count = count.saturating_add(more_lists);
-        digests = digests.saturating_add(more_digests);
+    let scheme = fold_scheme::<N>(fields.cap());
+    let batches = fields.take();
+    let queries = fields.take();
+    let mut counts = Counts {
+        lists: 0,
+        digests: 0,
+    };
+    for dimensions in &batches_of(&mut fields.reader, batches) {
+        count_for(
+            alloc,
+            &mut fields.reader,
+            &scheme,
+            dimensions,
+            queries,
+            &mut counts,
+        )?;
     }
-    text::numbers(alloc, &[count, digests])
-}
-
-/// How many lists of queries there are for a batch of these dimensions, and how many digests their proofs have.
-fn counts_for<const N: usize>(
-    alloc: Global,
-    scheme: &FoldScheme<N>,
-    dimensions: &[Dimensions],
-    queries: &str,
-) -> Result<(usize, usize), Fault> {
-    let (cap, tree) = scheme.commit(alloc, numbered(alloc, dimensions)?)?;
-    let lists = lists_of(alloc, queries, tallest_of(dimensions))?;
-    let digests = digests_for_all(alloc, scheme, &cap, &tree, dimensions, &lists)?;
-    Ok((lists.len(), digests))
+    answer.numbers(&[counts.lists, counts.digests]);
+    Ok(())
 }

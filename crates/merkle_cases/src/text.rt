@@ -1,105 +1,156 @@
 //! How answers are written.
 
-use crate::fields::Fault;
 use p3_merkle_tree::{MerkleAuthPath, MerkleTreeError};
 use p3_support::matrix::Dimensions;
-use std::alloc::{AllocError, Global};
+use std::alloc::Global;
+use std::fmt::Write;
 
-/// Texts with a text between them; `-` where there are none.
-pub fn joined(alloc: Global, texts: &[String], between: &str) -> Result<String, Fault> {
-    let mut whole = String::new(alloc);
-    for (place, text) in texts.iter().enumerate() {
-        if place > 0 {
-            whole.push_str(between)?;
+/// An answer as far as it has been written. Where there is no memory for a part of it, it is cut off, and says so.
+#[derive(Drop)]
+pub struct Answer {
+    text: String,
+    is_cut: bool,
+}
+
+impl Answer {
+    /// Nothing yet.
+    pub fn new(alloc: Global) -> Answer {
+        Answer {
+            text: String::new(alloc),
+            is_cut: false,
         }
-        whole.push_str(text.as_str())?;
     }
-    if texts.is_empty() {
-        whole.push_str("-")?;
-    }
-    Ok(whole)
-}
 
-/// `yes` or `no`.
-pub fn yes_or_no(alloc: Global, is_so: bool) -> Result<String, AllocError> {
-    String::from_str(alloc, if is_so { "yes" } else { "no" })
-}
-
-/// Numbers with blanks between them.
-pub fn numbers(alloc: Global, numbers: &[usize]) -> Result<String, Fault> {
-    let mut each = Vec::new(alloc);
-    for number in numbers {
-        each.push(format!(in alloc; "{number}")?)?;
+    /// What has been written.
+    pub fn as_str(&self) -> &str {
+        self.text.as_str()
     }
-    joined(alloc, &each, " ")
-}
 
-/// Words with blanks between them.
-pub fn words(alloc: Global, words: &[u32]) -> Result<String, Fault> {
-    let mut each = Vec::new(alloc);
-    for word in words {
-        each.push(*word as usize)?;
+    /// Whether some of it is lost for want of memory.
+    pub fn is_cut(&self) -> bool {
+        self.is_cut
     }
-    numbers(alloc, &each)
-}
 
-/// Digests with blanks between them.
-pub fn digests(alloc: Global, digests: &[[u32; 1]]) -> Result<String, Fault> {
-    let mut each = Vec::new(alloc);
-    for [word] in digests {
-        each.push(*word)?;
+    /// Writes a text.
+    pub fn push(&mut self, text: &str) {
+        if self.text.push_str(text).is_err() {
+            self.is_cut = true;
+        }
     }
-    words(alloc, &each)
-}
 
-/// Rows with `;` between them.
-pub fn rows(alloc: Global, rows: &[Vec<u32>]) -> Result<String, Fault> {
-    let mut each = Vec::new(alloc);
-    for row in rows {
-        each.push(words(alloc, row)?)?;
+    /// Writes what stands before the part at this place: nothing before the first, and a text between two parts.
+    pub fn separate(&mut self, place: usize, between: &str) {
+        if place > 0 {
+            self.push(between);
+        }
     }
-    joined(alloc, &each, "; ")
-}
 
-/// Row sets with `/` between them.
-pub fn row_sets(alloc: Global, sets: &[Vec<Vec<u32>>]) -> Result<String, Fault> {
-    let mut each = Vec::new(alloc);
-    for set in sets {
-        each.push(rows(alloc, set)?)?;
+    /// Writes `-` in the place of an empty list.
+    fn end(&mut self, is_empty: bool) {
+        if is_empty {
+            self.push("-");
+        }
     }
-    joined(alloc, &each, " / ")
-}
 
-/// The index and the siblings of paths with `;` between the paths.
-pub fn paths(alloc: Global, paths: &[MerkleAuthPath<u32, 1>]) -> Result<String, Fault> {
-    let mut each = Vec::new(alloc);
-    for path in paths {
-        let siblings = digests(alloc, &path.siblings)?;
-        each.push(format!(in alloc; "{}: {siblings}", path.leaf_index)?)?;
+    /// Writes a number.
+    pub fn number(&mut self, number: usize) {
+        if write!(self.text, "{number}").is_err() {
+            self.is_cut = true;
+        }
     }
-    joined(alloc, &each, "; ")
-}
 
-/// Dimensions of matrices with blanks between them.
-pub fn dimensions(alloc: Global, dimensions: &[Dimensions]) -> Result<String, Fault> {
-    let mut each = Vec::new(alloc);
-    for Dimensions { width, height } in dimensions {
-        each.push(format!(in alloc; "{width}x{height}")?)?;
+    /// Writes the text of an error.
+    pub fn error(&mut self, error: &MerkleTreeError) {
+        if write!(self.text, "{error}").is_err() {
+            self.is_cut = true;
+        }
     }
-    joined(alloc, &each, " ")
-}
 
-/// Of each answer `accepted`, or the text of its error.
-pub fn verdicts(
-    alloc: Global,
-    answers: &[Result<(), MerkleTreeError>],
-) -> Result<Vec<String>, Fault> {
-    let mut each = Vec::with_capacity(alloc, answers.len())?;
-    for answer in answers {
-        each.push(match answer {
-            Ok(()) => String::from_str(alloc, "accepted")?,
-            Err(error) => format!(in alloc; "{error}")?,
-        })?;
+    /// Writes `accepted`, or the text of the error.
+    pub fn verdict(&mut self, verdict: &Result<(), MerkleTreeError>) {
+        match verdict {
+            Ok(()) => self.push("accepted"),
+            Err(error) => self.error(error),
+        }
     }
-    Ok(each)
+
+    /// Writes verdicts with bars between them.
+    pub fn verdicts(&mut self, verdicts: &[Result<(), MerkleTreeError>]) {
+        for (place, verdict) in verdicts.iter().enumerate() {
+            self.separate(place, " | ");
+            self.verdict(verdict);
+        }
+    }
+
+    /// Writes `yes` or `no`.
+    pub fn yes_or_no(&mut self, is_so: bool) {
+        self.push(if is_so { "yes" } else { "no" });
+    }
+
+    /// Writes numbers with blanks between them.
+    pub fn numbers(&mut self, numbers: &[usize]) {
+        for (place, number) in numbers.iter().enumerate() {
+            self.separate(place, " ");
+            self.number(*number);
+        }
+        self.end(numbers.is_empty());
+    }
+
+    /// Writes words with blanks between them.
+    pub fn words(&mut self, words: &[u32]) {
+        for (place, word) in words.iter().enumerate() {
+            self.separate(place, " ");
+            self.number(*word as usize);
+        }
+        self.end(words.is_empty());
+    }
+
+    /// Writes digests with blanks between them.
+    pub fn digests(&mut self, digests: &[[u32; 1]]) {
+        for (place, digest) in digests.iter().enumerate() {
+            self.separate(place, " ");
+            self.number(digest[0] as usize);
+        }
+        self.end(digests.is_empty());
+    }
+
+    /// Writes rows with `;` between them.
+    pub fn rows(&mut self, rows: &[Vec<u32>]) {
+        for (place, row) in rows.iter().enumerate() {
+            self.separate(place, "; ");
+            self.words(row);
+        }
+        self.end(rows.is_empty());
+    }
+
+    /// Writes row sets with `/` between them.
+    pub fn row_sets(&mut self, sets: &[Vec<Vec<u32>>]) {
+        for (place, rows) in sets.iter().enumerate() {
+            self.separate(place, " / ");
+            self.rows(rows);
+        }
+        self.end(sets.is_empty());
+    }
+
+    /// Writes the index and the siblings of paths with `;` between the paths.
+    pub fn paths(&mut self, paths: &[MerkleAuthPath<u32, 1>]) {
+        for (place, path) in paths.iter().enumerate() {
+            self.separate(place, "; ");
+            self.number(path.leaf_index);
+            self.push(": ");
+            self.digests(&path.siblings);
+        }
+        self.end(paths.is_empty());
+    }
+
+    /// Writes dimensions of matrices with blanks between them.
+    pub fn dimensions(&mut self, dimensions: &[Dimensions]) {
+        for (place, Dimensions { width, height }) in dimensions.iter().enumerate() {
+            self.separate(place, " ");
+            self.number(*width);
+            self.push("x");
+            self.number(*height);
+        }
+        self.end(dimensions.is_empty());
+    }
 }

@@ -7,7 +7,12 @@ use std::alloc::{AllocError, Global};
 
 /// Whether every row of matrices of these dimensions has a twin.
 pub fn has_twins(dimensions: &[Dimensions]) -> bool {
-    dimensions.iter().all(|matrix| matrix.width >= 2)
+    for Dimensions { width, .. } in dimensions {
+        if *width < 2 {
+            return false;
+        }
+    }
+    true
 }
 
 /// A row with its first word one more and its second 31 less, which has the same digest. A row of one word has no twin but

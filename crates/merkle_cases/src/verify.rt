@@ -5,8 +5,8 @@ ghost use Rattle.p3_merkle_core.specs.Geometry.{is_arity};
 
 use crate::fields::{Fault, Fields};
 use crate::scheme::{FoldOpening, fold_scheme};
+use crate::text::Answer;
 use p3_merkle_tree::{BatchOpening, BatchOpeningRef, MerkleCap};
-use std::alloc::Global;
 
 /// An opening of the leaf `index`.
 #[derive(Drop)]
@@ -17,26 +17,27 @@ pub struct LeafOpening {
 
 impl LeafOpening {
     /// The opening of the next three fields: an index, rows and siblings.
-    pub fn of(alloc: Global, fields: &mut Fields<'_>) -> Result<LeafOpening, Fault> {
-        let index = fields.number()?;
-        let rows = fields.rows(alloc)?;
-        let siblings = fields.digests(alloc)?;
-        Ok(LeafOpening {
+    pub fn of(fields: &mut Fields<'_>) -> LeafOpening {
+        let index = fields.number();
+        let rows = fields.rows();
+        let siblings = fields.digests();
+        LeafOpening {
             index,
             opening: BatchOpening::new(rows, siblings),
-        })
+        }
     }
 }
 
 /// `verify | ARITY | CAP | CAP | DIMENSIONS | INDEX | ROWS | SIBLINGS | ANSWER`.
-pub fn verify<const N: usize>(alloc: Global, fields: &mut Fields<'_>) -> Result<String, Fault>
+pub fn verify<const N: usize>(fields: &mut Fields<'_>, answer: &mut Answer) -> Result<(), Fault>
     requires arity { IsTrue (is_arity N) }
     requires few { N ≤ 8 }
 {
-    let scheme = fold_scheme::<N>(fields.cap()?);
-    let cap = MerkleCap::new(fields.digests(alloc)?);
-    let dimensions = fields.dimensions(alloc)?;
-    let LeafOpening { index, opening } = LeafOpening::of(alloc, fields)?;
-    scheme.verify_batch(&cap, &dimensions, index, BatchOpeningRef::from(&opening))?;
-    Ok(String::from_str(alloc, "accepted")?)
+    let scheme = fold_scheme::<N>(fields.cap());
+    let cap = MerkleCap::new(fields.digests());
+    let dimensions = fields.dimensions();
+    let LeafOpening { index, opening } = LeafOpening::of(fields);
+    let verdict = scheme.verify_batch(&cap, &dimensions, index, BatchOpeningRef::from(&opening));
+    answer.verdict(&verdict);
+    Ok(())
 }

@@ -1,0 +1,240 @@
+//! Numbers, rows, dimensions and matrices in a text. An empty list of numbers is written `-`, no rows and no dimensions
+//! at all are written `none`.
+
+ghost use Rattle.std.specs.Prelude.{◌%◌, ◌<◌};
+
+use crate::scheme::Cap;
+use p3_merkle_tree::CapRule;
+use p3_support::matrix::{Dimensions, RowMajorMatrix};
+use std::alloc::Global;
+
+/// Reads values in texts. What can't be read is an empty value or a part of one, and the reason is kept, so that a line
+/// is judged once, when all of it has been read.
+#[derive(Drop)]
+pub struct Reader {
+    alloc: Global,
+    fault: Option<&'static str>,
+}
+
+impl Reader {
+    /// A reader that has met no fault.
+    pub fn new(alloc: Global) -> Reader {
+        Reader { alloc, fault: None }
+    }
+
+    /// Why something could not be read, where that was so: the last reason.
+    pub fn fault(&self) -> Option<&'static str> {
+        self.fault
+    }
+
+    /// Keeps the reason why something can't be read.
+    pub fn fail(&mut self, reason: &'static str) {
+        self.fault = Some(reason);
+    }
+
+    /// No values.
+    pub fn none<T>(&self) -> Vec<T> {
+        Vec::new(self.alloc)
+    }
+
+    /// Adds a value to others.
+    pub fn push<T: Drop>(&mut self, values: &mut Vec<T>, value: T) {
+        if values.push(value).is_err() {
+            self.fail("there is no memory");
+        }
+    }
+
+    /// The number that a word is.
+    pub fn number(&mut self, word: &str) -> usize {
+        match word.parse::<usize>() {
+            Ok(number) => number,
+            Err(_) => {
+                self.fail("a number is wrong or missing");
+                0
+            }
+        }
+    }
+
+    /// The cap that a word is: a height under this rule, or with `l` after it under the lowered rule, with `f` under the
+    /// fixed one.
+    pub fn cap(&mut self, word: &str, rule: CapRule) -> Cap {
+        let (height, rule) = if let Some(height) = word.strip_suffix('l') {
+            (height, CapRule::Lowered)
+        } else if let Some(height) = word.strip_suffix('f') {
+            (height, CapRule::Fixed)
+        } else {
+            (word, rule)
+        };
+        Cap {
+            height: self.number(height),
+            rule,
+        }
+    }
+
+    /// The numbers in a text.
+    pub fn numbers(&mut self, text: &str) -> Vec<usize> {
+        let mut numbers = self.none();
+        if text == "-" {
+            return numbers;
+        }
+        for word in text.split_whitespace() {
+            let number = self.number(word);
+            self.push(&mut numbers, number);
+        }
+        if numbers.is_empty() {
+            self.fail("a number is wrong or missing");
+        }
+        numbers
+    }
+
+    /// The words in a text.
+    pub fn words(&mut self, text: &str) -> Vec<u32> {
+        let mut words = self.none();
+        for number in &self.numbers(text) {
+            match u32::try_from(*number) {
+                Ok(word) => self.push(&mut words, word),
+                Err(_) => self.fail("a number is no word"),
+            }
+        }
+        words
+    }
+
+    /// The digests of one word in a text.
+    pub fn digests(&mut self, text: &str) -> Vec<[u32; 1]> {
+        let mut digests = self.none();
+        for word in &self.words(text) {
+            self.push(&mut digests, [*word]);
+        }
+        digests
+    }
+
+    /// The rows in a text, with `;` between them.
+    pub fn rows(&mut self, text: &str) -> Vec<Vec<u32>> {
+        let mut rows = self.none();
+        if text == "none" {
+            return rows;
+        }
+        for row in text.split(';') {
+            let row = self.words(row.trim());
+            self.push(&mut rows, row);
+        }
+        rows
+    }
+
+    /// The row sets in a text, with `/` between them; `-` where there are none.
+    pub fn row_sets(&mut self, text: &str) -> Vec<Vec<Vec<u32>>> {
+        let mut sets = self.none();
+        if text == "-" {
+            return sets;
+        }
+        for set in text.split('/') {
+            let rows = self.rows(set.trim());
+            self.push(&mut sets, rows);
+        }
+        sets
+    }
+
+    /// The dimensions of a matrix, as `WIDTHxHEIGHT`.
+    fn matrix_dimensions(&mut self, word: &str) -> Dimensions {
+        match word.split_once('x') {
+            Some((width, height)) => Dimensions {
+                width: self.number(width),
+                height: self.number(height),
+            },
+            None => {
+                self.fail("dimensions are not WIDTHxHEIGHT");
+                Dimensions {
+                    width: 0,
+                    height: 0,
+                }
+            }
+        }
+    }
+
+    /// The dimensions in a text, with blanks between those of each matrix.
+    pub fn dimensions(&mut self, text: &str) -> Vec<Dimensions> {
+        let mut dimensions = self.none();
+        if text == "none" {
+            return dimensions;
+        }
+        for word in text.split_whitespace() {
+            let matrix = self.matrix_dimensions(word);
+            self.push(&mut dimensions, matrix);
+        }
+        if dimensions.is_empty() {
+            self.fail("dimensions are missing");
+        }
+        dimensions
+    }
+
+    /// The dimensions of columns of these heights.
+    pub fn columns(&mut self, heights: &[usize]) -> Vec<Dimensions> {
+        let mut dimensions = self.none();
+        for height in heights {
+            let column = Dimensions {
+                width: 1,
+                height: *height,
+            };
+            self.push(&mut dimensions, column);
+        }
+        dimensions
+    }
+
+    /// The matrix of these values with rows of this width.
+    fn matrix_from(&mut self, values: Vec<u32>, width: usize) -> RowMajorMatrix<u32> {
+        if width == 0 || values.len() % width != 0 {
+            self.fail("a matrix has no words");
+            return RowMajorMatrix::new(self.none(), 1);
+        }
+        RowMajorMatrix::new(values, width)
+    }
+
+    /// The matrix whose rows stand in a text, with `,` between them, and are all as wide.
+    fn matrix(&mut self, text: &str) -> RowMajorMatrix<u32> {
+        let mut values = self.none();
+        let mut width = 0;
+        for row in text.split(',') {
+            let words = self.words(row.trim());
+            if width != 0 && words.len() != width {
+                self.fail("rows of a matrix have different widths");
+            }
+            width = words.len();
+            if values.extend_from_slice(&words).is_err() {
+                self.fail("there is no memory");
+            }
+        }
+        self.matrix_from(values, width)
+    }
+
+    /// The matrices in a text, with `;` between them.
+    pub fn matrices(&mut self, text: &str) -> Vec<RowMajorMatrix<u32>> {
+        let mut matrices = self.none();
+        for matrix in text.split(';') {
+            let matrix = self.matrix(matrix.trim());
+            self.push(&mut matrices, matrix);
+        }
+        matrices
+    }
+
+    /// The numbers of the rows of a matrix of these dimensions, once for each word of a row.
+    fn row_numbers(&mut self, width: usize, height: usize) -> Vec<u32>
+        requires { 0 < width }
+    {
+        let mut values = self.none();
+        for place in 0..width.saturating_mul(height) {
+            self.push(&mut values, (place / width % 4_294_967_296) as u32);
+        }
+        values
+    }
+
+    /// Matrices of these dimensions, each word of which is the number of its row, from 0.
+    pub fn numbered(&mut self, dimensions: &[Dimensions]) -> Vec<RowMajorMatrix<u32>> {
+        let mut matrices = self.none();
+        for Dimensions { width, height } in dimensions {
+            let values = self.row_numbers((*width).max(1), *height);
+            let matrix = self.matrix_from(values, *width);
+            self.push(&mut matrices, matrix);
+        }
+        matrices
+    }
+}
