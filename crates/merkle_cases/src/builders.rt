@@ -4,6 +4,7 @@ ghost use Rattle.std.specs.Prelude.{◌≤◌, IsTrue};
 ghost use Rattle.p3_merkle_core.specs.Geometry.{is_arity};
 
 use crate::fields::{Fault, Fields};
+use crate::reader::Reader;
 use crate::scheme::{FoldTree, Rows, fold_tree};
 use crate::text::Answer;
 use p3_instances::batched::Batched3;
@@ -12,6 +13,7 @@ use p3_instances::lanes::U32x8;
 use p3_merkle_tree::{MerkleTree, MerkleTreeError};
 use p3_support::compress::PseudoCompressionFunction;
 use p3_support::hasher::CryptographicHasher;
+use p3_support::matrix::Dimensions;
 use p3_support::packed::PackedValue;
 use std::alloc::Global;
 
@@ -53,6 +55,27 @@ fn check_built<
     }
 }
 
+/// Fails where another builder, or the same once more, makes another tree of such matrices than this one.
+fn check_builders<const N: usize>(
+    alloc: Global,
+    reader: &mut Reader,
+    dimensions: &[Dimensions],
+    tree: &Tree<N>,
+) -> Result<(), Fault>
+    requires arity { IsTrue (is_arity N) }
+    requires few { N ≤ 8 }
+{
+    let (hash, compress) = (FoldHash::<1>, FoldCompress::<N, 1>);
+    let again = reader.numbered(dimensions);
+    check_built::<u32, _, _, N>(alloc, &hash, &compress, again, tree)?;
+    let lanes = reader.numbered(dimensions);
+    check_built::<U32x8, _, _, N>(alloc, &hash, &compress, lanes, tree)?;
+    let eight = reader.numbered(dimensions);
+    check_built::<u32, _, _, N>(alloc, &FoldHash::<8>, &FoldCompress::<N, 8>, eight, tree)?;
+    let three = reader.numbered(dimensions);
+    check_built::<u32, _, _, N>(alloc, &Batched3(hash), &Batched3(compress), three, tree)
+}
+
 /// `builders | ARITY | DIMENSIONS | LAYERS ROOT`: the number of layers and the root of the tree that is built one by one,
 /// where it has the same layers once more and by each other builder.
 pub fn builders<const N: usize>(
@@ -64,16 +87,8 @@ pub fn builders<const N: usize>(
     requires few { N ≤ 8 }
 {
     let dimensions = fields.dimensions();
-    let (hash, compress) = (FoldHash::<1>, FoldCompress::<N, 1>);
     let tree = fold_tree::<_, N>(alloc, fields.reader.numbered(&dimensions))?;
-    let again = fields.reader.numbered(&dimensions);
-    check_built::<u32, _, _, N>(alloc, &hash, &compress, again, &tree)?;
-    let lanes = fields.reader.numbered(&dimensions);
-    check_built::<U32x8, _, _, N>(alloc, &hash, &compress, lanes, &tree)?;
-    let eight = fields.reader.numbered(&dimensions);
-    check_built::<u32, _, _, N>(alloc, &FoldHash::<8>, &FoldCompress::<N, 8>, eight, &tree)?;
-    let three = fields.reader.numbered(&dimensions);
-    check_built::<u32, _, _, N>(alloc, &Batched3(hash), &Batched3(compress), three, &tree)?;
+    check_builders(alloc, &mut fields.reader, &dimensions, &tree)?;
     answer.numbers(&[tree.num_layers(), tree.root().value()[0] as usize]);
     Ok(())
 }

@@ -35,8 +35,18 @@ pub fn layers<const N: usize>(
     requires few { N ≤ 8 }
 {
     let tree = fold_tree::<_, N>(alloc, fields.matrices())?;
+    write_layers(alloc, &tree, answer)?;
+    Ok(())
+}
+
+/// Writes the layers of a tree, leaves first.
+fn write_layers<const N: usize>(
+    alloc: Global,
+    tree: &FoldTree<Rows, N>,
+    answer: &mut Answer,
+) -> Result<(), MerkleTreeError> {
     for below in (1..tree.num_layers()).rev() {
-        write_layer(alloc, &tree, below, answer)?;
+        write_layer(alloc, tree, below, answer)?;
     }
     answer.digests(&[*tree.root().value()]);
     Ok(())

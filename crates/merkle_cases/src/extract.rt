@@ -5,10 +5,11 @@ ghost use Rattle.p3_merkle_core.specs.Geometry.{is_arity};
 
 use crate::fields::{Fault, Fields};
 use crate::pruned::LeavesOpening;
-use crate::scheme::fold_scheme;
+use crate::scheme::{FoldCap, FoldScheme, fold_scheme};
 use crate::text::Answer;
 use crate::verify::LeafOpening;
-use p3_merkle_tree::{BatchOpeningRef, Collision, MerkleCap, Place};
+use p3_merkle_tree::{BatchOpeningRef, Collision, MerkleCap, MerkleTreeError, Place};
+use p3_support::matrix::Dimensions;
 use std::alloc::Global;
 
 /// Writes a place by its name, and the level that it is on.
@@ -104,18 +105,35 @@ pub fn extract<const N: usize>(
     let dimensions = fields.dimensions();
     let first = LeafOpening::of(fields);
     let second = LeafOpening::of(fields);
-    let found = scheme.extract_collision(
+    let found = collision_of(alloc, &scheme, &cap, &dimensions, &first, &second)?;
+    write_found(&found, answer);
+    Ok(())
+}
+
+/// Writes what two openings lead to.
+fn write_found(found: &Option<Collision<u32, u32, 1>>, answer: &mut Answer) {
+    match found {
+        Some(collision) => write_collision(collision, answer),
+        None => answer.push("none"),
+    }
+}
+
+/// What two openings lead to.
+fn collision_of<const N: usize>(
+    alloc: Global,
+    scheme: &FoldScheme<N>,
+    cap: &FoldCap,
+    dimensions: &[Dimensions],
+    first: &LeafOpening,
+    second: &LeafOpening,
+) -> Result<Option<Collision<u32, u32, 1>>, MerkleTreeError> {
+    scheme.extract_collision(
         alloc,
-        &cap,
-        &dimensions,
+        cap,
+        dimensions,
         first.index,
         BatchOpeningRef::from(&first.opening),
         second.index,
         BatchOpeningRef::from(&second.opening),
-    )?;
-    match &found {
-        Some(collision) => write_collision(collision, answer),
-        None => answer.push("none"),
-    }
-    Ok(())
+    )
 }

@@ -5,24 +5,26 @@ ghost use Rattle.p3_merkle_core.specs.Geometry.{is_arity};
 ghost use Rattle.p3_merkle_tree.specs.Parts.{layers_of};
 
 use crate::fields::{Fault, Fields};
+use crate::reader::Reader;
+use crate::replay::write_steps;
 use crate::scheme::{
-    FoldOpening, FoldTree, ROOT, Rows, committed, fold_scheme, fold_tree, tall_columns,
+    Column, FoldOpening, FoldTree, ROOT, Rows, committed, fold_scheme, fold_tree, tall_columns,
 };
 use crate::text::Answer;
 use p3_merkle_core::geometry::check_heights;
 use p3_merkle_tree::{BatchOpening, BatchOpeningRef, MerkleCap, MerkleTreeError};
 use p3_support::matrix::Dimensions;
-use std::alloc::{AllocError, Global};
+use std::alloc::Global;
 
-/// What committing to columns of these heights answers.
-fn commit(alloc: Global, heights: &[usize]) -> Result<(), MerkleTreeError> {
-    fold_scheme::<2>(ROOT).commit(alloc, tall_columns(alloc, heights)?)?;
+/// What committing to columns answers.
+fn commit(alloc: Global, columns: Vec<Column>) -> Result<(), MerkleTreeError> {
+    fold_scheme::<2>(ROOT).commit(alloc, columns)?;
     Ok(())
 }
 
 /// What building a tree over them answers.
-fn build(alloc: Global, heights: &[usize]) -> Result<(), MerkleTreeError> {
-    fold_tree::<_, 2>(alloc, tall_columns(alloc, heights)?)?;
+fn build(alloc: Global, columns: Vec<Column>) -> Result<(), MerkleTreeError> {
+    fold_tree::<_, 2>(alloc, columns)?;
     Ok(())
 }
 
@@ -33,22 +35,24 @@ fn scheduled(alloc: Global, dimensions: &[Dimensions]) -> Result<(), MerkleTreeE
 }
 
 /// An opening of one word of each column, and no siblings.
-fn opening_of(alloc: Global, heights: &[usize]) -> Result<FoldOpening, AllocError> {
-    let mut rows = Vec::new(alloc);
+fn opening_of(reader: &mut Reader, heights: &[usize]) -> FoldOpening {
+    let mut rows = reader.none();
     for _height in heights {
-        rows.push(vec![in alloc; 0u32]?)?;
+        let mut row = reader.none();
+        reader.push(&mut row, 0);
+        reader.push(&mut rows, row);
     }
-    Ok(BatchOpening::new(rows, Vec::new(alloc)))
+    BatchOpening::new(rows, reader.none())
 }
 
 /// What checking such an opening answers.
 fn checked(
-    alloc: Global,
+    reader: &mut Reader,
     heights: &[usize],
     dimensions: &[Dimensions],
 ) -> Result<(), MerkleTreeError> {
-    let cap = MerkleCap::new(Vec::new(alloc));
-    let opening = opening_of(alloc, heights)?;
+    let cap = MerkleCap::new(reader.none());
+    let opening = opening_of(reader, heights);
     fold_scheme::<2>(ROOT).verify_batch(&cap, dimensions, 0, BatchOpeningRef::from(&opening))
 }
 
@@ -69,13 +73,14 @@ fn are_all(
 /// answers: of the test of heights, the commit, the tree, the schedule and the check of an opening.
 pub fn heights(alloc: Global, fields: &mut Fields<'_>, answer: &mut Answer) -> Result<(), Fault> {
     let heights = fields.numbers();
-    let dimensions = fields.reader.columns(&heights);
+    let reader = &mut fields.reader;
+    let dimensions = reader.columns(&heights);
     let answers = [
         check_heights(&dimensions),
-        commit(alloc, &heights),
-        build(alloc, &heights),
+        commit(alloc, tall_columns(reader, &heights)),
+        build(alloc, tall_columns(reader, &heights)),
         scheduled(alloc, &dimensions),
-        checked(alloc, &heights, &dimensions),
+        checked(reader, &heights, &dimensions),
     ];
     if are_all(&answers, &answers[0]) {
         answer.verdict(&answers[0]);
@@ -115,6 +120,20 @@ fn write_len<const N: usize>(
     Ok(())
 }
 
+/// Writes the same of each layer, leaves first.
+fn write_lens<const N: usize>(
+    alloc: Global,
+    tree: &FoldTree<Rows, N>,
+    answer: &mut Answer,
+) -> Result<(), MerkleTreeError> {
+    answer.push(" |");
+    for below in (0..tree.num_layers()).rev() {
+        answer.push(" ");
+        write_len(alloc, tree, below, answer)?;
+    }
+    Ok(())
+}
+
 /// `shape | ARITY | CAP | HEIGHTS | STEPS | LENGTHS`: the steps from the leaves up to the cap, and of each layer,
 /// leaves first, how many of its slots are nodes.
 pub fn shape<const N: usize>(
@@ -127,12 +146,9 @@ pub fn shape<const N: usize>(
 {
     let scheme = fold_scheme::<N>(fields.cap());
     let dimensions = fields.columns();
-    answer.numbers(&scheme.proof_arity_schedule(alloc, &dimensions)?);
-    let (_, tree) = committed(alloc, &scheme, fields.reader.numbered(&dimensions))?;
-    answer.push(" |");
-    for below in (0..tree.num_layers()).rev() {
-        answer.push(" ");
-        write_len(alloc, &tree, below, answer)?;
-    }
+    let matrices = fields.reader.numbered(&dimensions);
+    write_steps(alloc, &scheme, &dimensions, answer)?;
+    let (_, tree) = committed(alloc, &scheme, matrices)?;
+    write_lens(alloc, &tree, answer)?;
     Ok(())
 }

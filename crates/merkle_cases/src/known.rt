@@ -85,9 +85,21 @@ pub fn known(alloc: Global, fields: &mut Fields<'_>, answer: &mut Answer) -> Res
         numbers: fields.numbers(),
     };
     let steps = schedule_below_of(alloc, &dimensions, arity, levels_of(&dimensions, arity))?;
+    write_known(alloc, &steps, &indices, &nodes, answer)?;
+    Ok(())
+}
+
+/// Writes whether the root is known without each of the nodes in turn, and then with all.
+fn write_known(
+    alloc: Global,
+    steps: &[usize],
+    indices: &[usize],
+    nodes: &Given,
+    answer: &mut Answer,
+) -> Result<(), AllocError> {
     for left_out in 0..=nodes.numbers.len() {
         answer.separate(left_out, " ");
-        answer.yes_or_no(is_root_known(alloc, &steps, &indices, &nodes, left_out)?);
+        answer.yes_or_no(is_root_known(alloc, steps, indices, nodes, left_out)?);
     }
     Ok(())
 }

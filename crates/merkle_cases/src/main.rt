@@ -53,6 +53,24 @@ fn answer_at<const N: usize>(
         "compress" => hash::compress::<N>(fields, answer),
         "padding" => geometry::padding::<N>(fields, answer),
         "siblings" => geometry::siblings::<N>(fields, answer),
+        "authenticated" => authenticated::authenticated::<N>(fields, answer),
+        "schedule" => replay::schedule::<N>(alloc, fields, answer),
+        "replay" => replay::replay::<N>(alloc, fields, answer),
+        _ => answer_of_tree::<N>(alloc, keyword, fields, answer),
+    }
+}
+
+/// The same of the kinds that build a tree.
+fn answer_of_tree<const N: usize>(
+    alloc: Global,
+    keyword: &str,
+    fields: &mut Fields<'_>,
+    answer: &mut Answer,
+) -> Result<(), Fault>
+    requires arity { IsTrue (is_arity N) }
+    requires few { N ≤ 8 }
+{
+    match keyword {
         "shape" => heights::shape::<N>(alloc, fields, answer),
         "commit" => commit::commit::<N>(alloc, fields, answer),
         "layers" => commit::layers::<N>(alloc, fields, answer),
@@ -60,15 +78,27 @@ fn answer_at<const N: usize>(
         "open" => open::open::<N>(alloc, fields, answer),
         "leaves" => open::leaves::<N>(alloc, fields, answer),
         "kept" => open::kept::<N>(alloc, fields, answer),
-        "pruned_len" => pruned::pruned_len::<N>(alloc, fields, answer),
         "pruned" => pruned::pruned::<N>(alloc, fields, answer),
+        "sweep" => sweep::sweep::<N>(alloc, fields, answer),
+        _ => answer_to_opening::<N>(alloc, keyword, fields, answer),
+    }
+}
+
+/// The same of the kinds that check openings.
+fn answer_to_opening<const N: usize>(
+    alloc: Global,
+    keyword: &str,
+    fields: &mut Fields<'_>,
+    answer: &mut Answer,
+) -> Result<(), Fault>
+    requires arity { IsTrue (is_arity N) }
+    requires few { N ≤ 8 }
+{
+    match keyword {
+        "pruned_len" => pruned::pruned_len::<N>(alloc, fields, answer),
         "verify_pruned" => pruned::verify_pruned::<N>(alloc, fields, answer),
         "restore" => pruned::restore::<N>(alloc, fields, answer),
-        "sweep" => sweep::sweep::<N>(alloc, fields, answer),
         "verify" => verify::verify::<N>(fields, answer),
-        "schedule" => replay::schedule::<N>(alloc, fields, answer),
-        "replay" => replay::replay::<N>(alloc, fields, answer),
-        "authenticated" => authenticated::authenticated::<N>(fields, answer),
         "extract" => extract::extract::<N>(alloc, fields, answer),
         "extract_pruned" => extract::extract_pruned::<N>(alloc, fields, answer),
         _ => Err(Fault::Unreadable("there is no such kind of case")),
@@ -89,12 +119,22 @@ fn answer(alloc: Global, fields: &mut Fields<'_>, answer: &mut Answer) -> Result
         "known" => known::known(alloc, fields, answer),
         "verify_salted" => salted::verify(alloc, fields, answer),
         "verify_salted_pruned" => salted::verify_pruned(alloc, fields, answer),
-        keyword => match fields.take() {
-            "2" => answer_at::<2>(alloc, keyword, fields, answer),
-            "4" => answer_at::<4>(alloc, keyword, fields, answer),
-            "8" => answer_at::<8>(alloc, keyword, fields, answer),
-            _ => Err(Fault::Unreadable("the arity is not 2, 4 or 8")),
-        },
+        keyword => answer_at_next(alloc, keyword, fields, answer),
+    }
+}
+
+/// Writes what the calls of a kind of case answer at the arity that the next field is.
+fn answer_at_next(
+    alloc: Global,
+    keyword: &str,
+    fields: &mut Fields<'_>,
+    answer: &mut Answer,
+) -> Result<(), Fault> {
+    match fields.take() {
+        "2" => answer_at::<2>(alloc, keyword, fields, answer),
+        "4" => answer_at::<4>(alloc, keyword, fields, answer),
+        "8" => answer_at::<8>(alloc, keyword, fields, answer),
+        _ => Err(Fault::Unreadable("the arity is not 2, 4 or 8")),
     }
 }
 
@@ -125,17 +165,22 @@ fn answered(alloc: Global, fields: &mut Fields<'_>) -> Result<Answer, &'static s
     Ok(refusal)
 }
 
-/// What a case is answered, where that is not what its line says.
-fn wrong_text(alloc: Global, fields: &mut Fields<'_>) -> Result<Option<Answer>, &'static str> {
-    let got = answered(alloc, fields)?;
-    let expected = expected(alloc, fields);
+/// Whether an answer is the one that is expected.
+fn is_expected(got: &Answer, expected: &Answer) -> Result<bool, &'static str> {
     if got.is_cut() || expected.is_cut() {
         return Err("there is no memory");
     }
     if expected.as_str().is_empty() {
         return Err("the answer is missing");
     }
-    Ok((got.as_str() != expected.as_str()).then_some(got))
+    Ok(got.as_str() == expected.as_str())
+}
+
+/// What a case is answered, where that is not what its line says.
+fn wrong_text(alloc: Global, fields: &mut Fields<'_>) -> Result<Option<Answer>, &'static str> {
+    let got = answered(alloc, fields)?;
+    let is_right = is_expected(&got, &expected(alloc, fields))?;
+    Ok(if is_right { None } else { Some(got) })
 }
 
 /// The same of the pieces of a line. Where its cap names no rule, it is answered alike under each.

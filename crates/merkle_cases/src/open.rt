@@ -59,7 +59,21 @@ pub fn open<const N: usize>(
     let index = fields.number();
     let (cap, tree) = committed(alloc, &scheme, matrices)?;
     let dimensions = shown_dimensions(alloc, &mut fields.reader, &scheme, &tree)?;
-    let opening = accepted(alloc, &scheme, &cap, &tree, &dimensions, index)?;
+    write_accepted(alloc, &scheme, &cap, &tree, &dimensions, index, answer)?;
+    Ok(())
+}
+
+/// Writes the opening of a leaf, which is accepted.
+fn write_accepted<const N: usize>(
+    alloc: Global,
+    scheme: &FoldScheme<N>,
+    cap: &FoldCap,
+    tree: &FoldTree<Rows, N>,
+    dimensions: &[Dimensions],
+    index: usize,
+    answer: &mut Answer,
+) -> Result<(), MerkleTreeError> {
+    let opening = accepted(alloc, scheme, cap, tree, dimensions, index)?;
     answer.rows(&opening.opened_values);
     answer.push(" | ");
     answer.digests(&opening.opening_proof);
@@ -78,13 +92,24 @@ pub fn leaves<const N: usize>(
     let scheme = fold_scheme::<N>(fields.cap());
     let dimensions = fields.columns();
     let (cap, tree) = committed(alloc, &scheme, fields.reader.numbered(&dimensions))?;
-    let leaves = scheme.get_max_height(&tree);
-    for index in 0..leaves {
-        accepted(alloc, &scheme, &cap, &tree, &dimensions, index)?;
-    }
-    answer.number(leaves);
+    answer.number(accepted_leaves(alloc, &scheme, &cap, &tree, &dimensions)?);
     answer.push(" accepted");
     Ok(())
+}
+
+/// How many leaves a tree has, where the opening of each is accepted.
+fn accepted_leaves<const N: usize>(
+    alloc: Global,
+    scheme: &FoldScheme<N>,
+    cap: &FoldCap,
+    tree: &FoldTree<Rows, N>,
+    dimensions: &[Dimensions],
+) -> Result<usize, MerkleTreeError> {
+    let leaves = scheme.get_max_height(tree);
+    for index in 0..leaves {
+        accepted(alloc, scheme, cap, tree, dimensions, index)?;
+    }
+    Ok(leaves)
 }
 
 /// `kept | ARITY | HEIGHTS | GREATEST HEIGHT | DIMENSIONS`: what a tree over columns shows of them.
@@ -97,10 +122,11 @@ pub fn kept<const N: usize>(
     requires few { N ≤ 8 }
 {
     let scheme = fold_scheme::<N>(ROOT);
-    let dimensions = fields.columns();
-    let (_, tree) = committed(alloc, &scheme, fields.reader.numbered(&dimensions))?;
+    let columns = fields.columns();
+    let (_, tree) = committed(alloc, &scheme, fields.reader.numbered(&columns))?;
     answer.number(scheme.get_max_height(&tree));
+    let dimensions = shown_dimensions(alloc, &mut fields.reader, &scheme, &tree)?;
     answer.push(" | ");
-    answer.dimensions(&shown_dimensions(alloc, &mut fields.reader, &scheme, &tree)?);
+    answer.dimensions(&dimensions);
     Ok(())
 }

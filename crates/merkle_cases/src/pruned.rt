@@ -4,7 +4,7 @@ ghost use Rattle.std.specs.Prelude.{◌≤◌, IsTrue};
 ghost use Rattle.p3_merkle_core.specs.Geometry.{is_arity};
 
 use crate::fields::{Fault, Fields};
-use crate::scheme::{FoldCap, FoldScheme, committed, fold_scheme};
+use crate::scheme::{FoldCap, FoldScheme, FoldTree, Rows, committed, fold_scheme};
 use crate::text::Answer;
 use p3_merkle_core::pruning::{PrunedProof, check_indices};
 use p3_merkle_tree::{
@@ -43,8 +43,20 @@ pub fn pruned<const N: usize>(
     let matrices = fields.matrices();
     let indices = fields.numbers();
     let (_, tree) = committed(alloc, &scheme, matrices)?;
-    check_indices(scheme.get_max_height(&tree), &indices)?;
-    let opening = scheme.open_batch_pruned(alloc, &indices, &tree)?;
+    write_opened(alloc, &scheme, &tree, &indices, answer)?;
+    Ok(())
+}
+
+/// Writes the rows of each of these leaves of a tree, and the digests of the proof for all of them.
+fn write_opened<const N: usize>(
+    alloc: Global,
+    scheme: &FoldScheme<N>,
+    tree: &FoldTree<Rows, N>,
+    indices: &[usize],
+    answer: &mut Answer,
+) -> Result<(), MerkleTreeError> {
+    check_indices(scheme.get_max_height(tree), indices)?;
+    let opening = scheme.open_batch_pruned(alloc, indices, tree)?;
     answer.row_sets(&opening.opened_values);
     answer.push(" | ");
     answer.digests(&opening.pruned_proof.sibling_hashes);
@@ -128,11 +140,12 @@ pub fn verify_pruned<const N: usize>(
         &opening.rows,
         &opening.proof,
     );
-    if verdict != restored_verdict(alloc, &scheme, &cap, &dimensions, &opening) {
-        return Err(Fault::Wrong("the restored paths are answered otherwise"));
+    if verdict == restored_verdict(alloc, &scheme, &cap, &dimensions, &opening) {
+        answer.verdict(&verdict);
+        Ok(())
+    } else {
+        Err(Fault::Wrong("the restored paths are answered otherwise"))
     }
-    answer.verdict(&verdict);
-    Ok(())
 }
 
 /// `restore | ARITY | CAP | DIMENSIONS | INDICES | ROW SETS | DIGESTS | PATHS`: the index and the siblings of each query.

@@ -32,6 +32,13 @@ impl Reader {
         self.fault = Some(reason);
     }
 
+    /// Keeps the reason why something can't be read, unless it can.
+    pub fn check(&mut self, is_right: bool, reason: &'static str) {
+        if !is_right {
+            self.fail(reason);
+        }
+    }
+
     /// No values.
     pub fn none<T>(&self) -> Vec<T> {
         Vec::new(self.alloc)
@@ -41,6 +48,13 @@ impl Reader {
     pub fn push<T: Drop>(&mut self, values: &mut Vec<T>, value: T) {
         if values.push(value).is_err() {
             self.fail("there is no memory");
+        }
+    }
+
+    /// Adds words to others.
+    fn append(&mut self, values: &mut Vec<u32>, words: &[u32]) {
+        for word in words {
+            self.push(values, *word);
         }
     }
 
@@ -74,15 +88,12 @@ impl Reader {
     /// The numbers in a text.
     pub fn numbers(&mut self, text: &str) -> Vec<usize> {
         let mut numbers = self.none();
-        if text == "-" {
-            return numbers;
-        }
-        for word in text.split_whitespace() {
-            let number = self.number(word);
-            self.push(&mut numbers, number);
-        }
-        if numbers.is_empty() {
-            self.fail("a number is wrong or missing");
+        if text != "-" {
+            for word in text.split_whitespace() {
+                let number = self.number(word);
+                self.push(&mut numbers, number);
+            }
+            self.check(!numbers.is_empty(), "a number is wrong or missing");
         }
         numbers
     }
@@ -111,12 +122,11 @@ impl Reader {
     /// The rows in a text, with `;` between them.
     pub fn rows(&mut self, text: &str) -> Vec<Vec<u32>> {
         let mut rows = self.none();
-        if text == "none" {
-            return rows;
-        }
-        for row in text.split(';') {
-            let row = self.words(row.trim());
-            self.push(&mut rows, row);
+        if text != "none" {
+            for row in text.split(';') {
+                let row = self.words(row.trim());
+                self.push(&mut rows, row);
+            }
         }
         rows
     }
@@ -124,12 +134,11 @@ impl Reader {
     /// The row sets in a text, with `/` between them; `-` where there are none.
     pub fn row_sets(&mut self, text: &str) -> Vec<Vec<Vec<u32>>> {
         let mut sets = self.none();
-        if text == "-" {
-            return sets;
-        }
-        for set in text.split('/') {
-            let rows = self.rows(set.trim());
-            self.push(&mut sets, rows);
+        if text != "-" {
+            for set in text.split('/') {
+                let rows = self.rows(set.trim());
+                self.push(&mut sets, rows);
+            }
         }
         sets
     }
@@ -154,15 +163,12 @@ impl Reader {
     /// The dimensions in a text, with blanks between those of each matrix.
     pub fn dimensions(&mut self, text: &str) -> Vec<Dimensions> {
         let mut dimensions = self.none();
-        if text == "none" {
-            return dimensions;
-        }
-        for word in text.split_whitespace() {
-            let matrix = self.matrix_dimensions(word);
-            self.push(&mut dimensions, matrix);
-        }
-        if dimensions.is_empty() {
-            self.fail("dimensions are missing");
+        if text != "none" {
+            for word in text.split_whitespace() {
+                let matrix = self.matrix_dimensions(word);
+                self.push(&mut dimensions, matrix);
+            }
+            self.check(!dimensions.is_empty(), "dimensions are missing");
         }
         dimensions
     }
@@ -195,13 +201,10 @@ impl Reader {
         let mut width = 0;
         for row in text.split(',') {
             let words = self.words(row.trim());
-            if width != 0 && words.len() != width {
-                self.fail("rows of a matrix have different widths");
-            }
+            let is_as_wide = width == 0 || words.len() == width;
+            self.check(is_as_wide, "rows of a matrix have different widths");
             width = words.len();
-            if values.extend_from_slice(&words).is_err() {
-                self.fail("there is no memory");
-            }
+            self.append(&mut values, &words);
         }
         self.matrix_from(values, width)
     }

@@ -4,8 +4,10 @@ ghost use Rattle.std.specs.Prelude.{◌≤◌, IsTrue};
 ghost use Rattle.p3_merkle_core.specs.Geometry.{is_arity};
 
 use crate::fields::{Fault, Fields};
-use crate::scheme::fold_scheme;
+use crate::scheme::{FoldScheme, fold_scheme};
 use crate::text::Answer;
+use p3_merkle_tree::MerkleTreeError;
+use p3_support::matrix::Dimensions;
 use std::alloc::Global;
 
 /// `schedule | ARITY | CAP | HEIGHTS | STEPS`: the steps from the leaves up to the cap, in children a node.
@@ -19,7 +21,18 @@ pub fn schedule<const N: usize>(
 {
     let scheme = fold_scheme::<N>(fields.cap());
     let dimensions = fields.columns();
-    answer.numbers(&scheme.proof_arity_schedule(alloc, &dimensions)?);
+    write_steps(alloc, &scheme, &dimensions, answer)?;
+    Ok(())
+}
+
+/// Writes the steps from the leaves up to the cap.
+pub fn write_steps<const N: usize>(
+    alloc: Global,
+    scheme: &FoldScheme<N>,
+    dimensions: &[Dimensions],
+    answer: &mut Answer,
+) -> Result<(), MerkleTreeError> {
+    answer.numbers(&scheme.proof_arity_schedule(alloc, dimensions)?);
     Ok(())
 }
 

@@ -3,12 +3,13 @@
 ghost use Rattle.std.specs.Prelude.{◌%◌, ◌^◌, ◌≤◌, ◌∷◌, [], refl, IsTrue};
 ghost use Rattle.p3_merkle_core.specs.Geometry.{is_arity};
 
+use crate::reader::Reader;
 use p3_instances::fold::{FoldCompress, FoldHash};
 use p3_merkle_tree::{
     BatchOpening, CapRule, MerkleCap, MerkleTree, MerkleTreeError, MerkleTreeMmcs,
 };
 use p3_support::matrix::{Matrix, RowMajorMatrix};
-use std::alloc::{AllocError, Global};
+use std::alloc::Global;
 
 /// The scheme of the fold functions with digests of one word.
 pub type FoldScheme<const N: usize> = MerkleTreeMmcs<
@@ -109,10 +110,10 @@ impl Matrix<u32> for Column {
 }
 
 /// Such columns of these heights.
-pub fn tall_columns(alloc: Global, heights: &[usize]) -> Result<Vec<Column>, AllocError> {
-    let mut columns = Vec::with_capacity(alloc, heights.len())?;
+pub fn tall_columns(reader: &mut Reader, heights: &[usize]) -> Vec<Column> {
+    let mut columns = reader.none();
     for rows in heights {
-        columns.push(Column { rows: *rows })?;
+        reader.push(&mut columns, Column { rows: *rows });
     }
-    Ok(columns)
+    columns
 }

@@ -8,14 +8,22 @@ use crate::fields::{Fault, Fields};
 use crate::open::accepted;
 use crate::queries::lists_of;
 use crate::reader::Reader;
-use crate::scheme::{FoldCap, FoldScheme, FoldTree, Rows, committed, fold_scheme};
+use crate::scheme::{FoldCap, FoldOpening, FoldScheme, FoldTree, Rows, committed, fold_scheme};
 use crate::text::Answer;
 use crate::twin::{collides_at, collides_first_at, has_twins, place_of, twin_rows, twin_sets};
+use crate::verify::LeafOpening;
 use p3_merkle_core::geometry::tallest_of;
 use p3_merkle_core::pruning::check_indices;
-use p3_merkle_tree::{BatchOpeningRef, MerkleAuthPath, PrunedBatchOpening};
+use p3_merkle_tree::{BatchOpeningRef, MerkleAuthPath, Place, PrunedBatchOpening};
 use p3_support::matrix::Dimensions;
 use std::alloc::Global;
+
+/// Queries with their opening by one proof.
+#[derive(Clone, Copy)]
+struct Opened<'a> {
+    indices: &'a [usize],
+    opening: &'a PrunedBatchOpening<u32, u32, 1>,
+}
 
 /// How many paths of a list of queries are compared with those that leaf by leaf are opened.
 const MOST_PATHS: usize = 64;
@@ -32,11 +40,22 @@ fn check_paths<const N: usize>(
 ) -> Result<(), Fault> {
     for (index, path) in indices.iter().zip(paths).take(MOST_PATHS) {
         let opening = accepted(alloc, scheme, cap, tree, dimensions, *index)?;
-        if path.leaf_index != *index || path.siblings != opening.opening_proof {
-            return Err(Fault::Wrong("a path is not that of its leaf"));
-        }
+        check_path(*index, path, &opening)?;
     }
     Ok(())
+}
+
+/// Fails where a path is not that of this leaf, as it is opened.
+fn check_path(
+    index: usize,
+    path: &MerkleAuthPath<u32, 1>,
+    opening: &FoldOpening,
+) -> Result<(), Fault> {
+    if path.leaf_index == index && path.siblings == opening.opening_proof {
+        Ok(())
+    } else {
+        Err(Fault::Wrong("a path is not that of its leaf"))
+    }
 }
 
 /// Fails where a leaf whose row of a matrix has a twin collides elsewhere than where this row is hashed.
@@ -49,17 +68,35 @@ fn check_leaf_twins<const N: usize>(
     index: usize,
 ) -> Result<(), Fault> {
     let opening = accepted(alloc, scheme, cap, tree, dimensions, index)?;
+    let leaf = LeafOpening { index, opening };
     let steps = scheme.proof_arity_schedule(alloc, dimensions)?;
     for (matrix, Dimensions { height, .. }) in dimensions.iter().enumerate() {
-        let rows = twin_rows(alloc, &opening.opened_values, matrix)?;
-        let twin = BatchOpeningRef::new(&rows, &opening.opening_proof);
-        let honest = BatchOpeningRef::from(&opening);
-        let found = scheme.extract_collision(alloc, cap, dimensions, index, honest, index, twin)?;
-        if !collides_at(&found, &place_of(dimensions, &steps, *height)) {
-            return Err(Fault::Wrong("a leaf collides elsewhere with its twin"));
-        }
+        let place = place_of(dimensions, &steps, *height);
+        let twin = twin_rows(alloc, &leaf.opening.opened_values, matrix)?;
+        check_leaf_twin(alloc, scheme, cap, dimensions, &leaf, &twin, &place)?;
     }
     Ok(())
+}
+
+/// Fails where a leaf collides elsewhere than at this place with these rows, its twin.
+fn check_leaf_twin<const N: usize>(
+    alloc: Global,
+    scheme: &FoldScheme<N>,
+    cap: &FoldCap,
+    dimensions: &[Dimensions],
+    leaf: &LeafOpening,
+    twin: &[Vec<u32>],
+    place: &Option<Place>,
+) -> Result<(), Fault> {
+    let LeafOpening { index, opening } = leaf;
+    let twin = BatchOpeningRef::new(twin, &opening.opening_proof);
+    let honest = BatchOpeningRef::from(opening);
+    let found = scheme.extract_collision(alloc, cap, dimensions, *index, honest, *index, twin)?;
+    if collides_at(&found, place) {
+        Ok(())
+    } else {
+        Err(Fault::Wrong("a leaf collides elsewhere with its twin"))
+    }
 }
 
 /// The same of the leaves of some queries, at least one, that are opened by one proof: the first of them collides.
@@ -68,21 +105,37 @@ fn check_twins<const N: usize>(
     scheme: &FoldScheme<N>,
     cap: &FoldCap,
     dimensions: &[Dimensions],
-    indices: &[usize],
-    opening: &PrunedBatchOpening<u32, u32, 1>,
+    opened: Opened<'_>,
 ) -> Result<(), Fault> {
     let steps = scheme.proof_arity_schedule(alloc, dimensions)?;
-    let (rows, proof) = (&opening.opened_values, &opening.pruned_proof);
     for (matrix, Dimensions { height, .. }) in dimensions.iter().enumerate() {
-        let twin = twin_sets(alloc, rows, matrix)?;
-        let found = scheme.extract_collision_multi(
-            alloc, cap, dimensions, indices, rows, proof, indices, &twin, proof,
-        )?;
-        if !collides_first_at(&found, &place_of(dimensions, &steps, *height)) {
-            return Err(Fault::Wrong("leaves collide elsewhere with their twins"));
-        }
+        let place = place_of(dimensions, &steps, *height);
+        let twin = twin_sets(alloc, &opened.opening.opened_values, matrix)?;
+        check_twin(alloc, scheme, cap, dimensions, opened, &twin, &place)?;
     }
     Ok(())
+}
+
+/// Fails where leaves collide elsewhere than at this place with these rows, their twins.
+fn check_twin<const N: usize>(
+    alloc: Global,
+    scheme: &FoldScheme<N>,
+    cap: &FoldCap,
+    dimensions: &[Dimensions],
+    opened: Opened<'_>,
+    twin: &[Vec<Vec<u32>>],
+    place: &Option<Place>,
+) -> Result<(), Fault> {
+    let Opened { indices, opening } = opened;
+    let (rows, proof) = (&opening.opened_values, &opening.pruned_proof);
+    let found = scheme.extract_collision_multi(
+        alloc, cap, dimensions, indices, rows, proof, indices, twin, proof,
+    )?;
+    if collides_first_at(&found, place) {
+        Ok(())
+    } else {
+        Err(Fault::Wrong("leaves collide elsewhere with their twins"))
+    }
 }
 
 /// Fails where the twins of the leaves of some queries collide elsewhere, where all rows have twins.
@@ -92,14 +145,13 @@ fn check_all_twins<const N: usize>(
     cap: &FoldCap,
     tree: &FoldTree<Rows, N>,
     dimensions: &[Dimensions],
-    indices: &[usize],
-    opening: &PrunedBatchOpening<u32, u32, 1>,
+    opened: Opened<'_>,
 ) -> Result<(), Fault> {
-    if !has_twins(dimensions) || indices.is_empty() {
+    if !has_twins(dimensions) || opened.indices.is_empty() {
         return Ok(());
     }
-    check_twins(alloc, scheme, cap, dimensions, indices, opening)?;
-    check_leaf_twins(alloc, scheme, cap, tree, dimensions, indices[0])
+    check_twins(alloc, scheme, cap, dimensions, opened)?;
+    check_leaf_twins(alloc, scheme, cap, tree, dimensions, opened.indices[0])
 }
 
 /// Fails where the opening of some queries is not accepted, or restores another path than one for each.
@@ -109,9 +161,9 @@ fn check_opening<const N: usize>(
     cap: &FoldCap,
     tree: &FoldTree<Rows, N>,
     dimensions: &[Dimensions],
-    indices: &[usize],
-    opening: &PrunedBatchOpening<u32, u32, 1>,
+    opened: Opened<'_>,
 ) -> Result<(), Fault> {
+    let Opened { indices, opening } = opened;
     let (rows, proof) = (&opening.opened_values, &opening.pruned_proof);
     scheme.verify_batch_pruned(alloc, cap, dimensions, indices, rows, proof)?;
     let paths = scheme.restore_and_recompute_paths(alloc, dimensions, indices, rows, proof)?;
@@ -132,8 +184,12 @@ fn digests_for<const N: usize>(
 ) -> Result<usize, Fault> {
     check_indices(scheme.get_max_height(tree), indices)?;
     let opening = scheme.open_batch_pruned(alloc, indices, tree)?;
-    check_opening(alloc, scheme, cap, tree, dimensions, indices, &opening)?;
-    check_all_twins(alloc, scheme, cap, tree, dimensions, indices, &opening)?;
+    let opened = Opened {
+        indices,
+        opening: &opening,
+    };
+    check_opening(alloc, scheme, cap, tree, dimensions, opened)?;
+    check_all_twins(alloc, scheme, cap, tree, dimensions, opened)?;
     let count = scheme.pruned_len(alloc, dimensions, indices)?;
     if count == opening.pruned_proof.sibling_hashes.len() {
         Ok(count)
