@@ -209,7 +209,7 @@ fn packed_element<PW: PackedValue, const D: usize>(
 /// Child `n` of each node `first + k` over a layer, where each node has `step` children, has as many elements as its type
 /// says. It tells this alone, and does nothing.
 #[tactic(auto, using(crate::proofs::LaneFacts::child_below, crate::proofs::LaneFacts::node_below))]
-fn tell_children<PW: PackedValue, const D: usize>(
+fn tell_lengths<PW: PackedValue, const D: usize>(
     below: &[[PW::Value; D]],
     step: usize,
     first: usize,
@@ -238,7 +238,7 @@ fn packed_child<PW: PackedValue, const D: usize>(
     ensures { (k : ℕ) → k < PW.WIDTH →
         lane_of PW.lanes PW.default_value k result ≡ slice_index_or below.now (step * (first + k) + n) [] }
 {
-    tell_children::<PW, D>(below, step, first, n);
+    tell_lengths::<PW, D>(below, step, first, n);
     std::array::from_fn(
         |e| -> PW
             requires child { n < step }
