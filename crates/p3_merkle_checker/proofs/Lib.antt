@@ -3,3 +3,4 @@ pub mod LevelFacts
 pub mod SharedFacts
 pub mod WalkFacts
 pub mod ExtractFacts
+mod EntryFacts

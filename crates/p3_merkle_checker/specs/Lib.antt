@@ -1,3 +1,4 @@
 pub mod Paths
 pub mod Collisions
 pub mod Checks
+pub mod Roots

@@ -13,4 +13,5 @@ pub mod level;
 mod opened;
 pub mod openings;
 pub mod path;
+pub mod roots;
 pub mod walk;

@@ -17,7 +17,7 @@ use Rattle.p3_merkle_core.specs.declared.error.MerkleTreeError.{MerkleTreeError}
 use Rattle.p3_merkle_core.specs.declared.error.MerkleTreeError.TheVariants.{OutOfMemory}
 use Rattle.p3_merkle_core.proofs.NoneFacts.{none_of_both, none_parts}
 use Rattle.p3_merkle_checker.specs.declared.collision.InputPair.{InputPair}
-use Rattle.p3_merkle_pruner.specs.Pairs.{AnswersPairUnlessMemory}
+use Rattle.p3_merkle_pairs.specs.Pairs.{AnswersPairUnlessMemory}
 use Rattle.p3_merkle_tree.proofs.MultiFacts.{multi_meant}
 use Rattle.p3_merkle_hiding.proofs.SaltedAnswers.{salted_pruned_accepted}
 use Rattle.p3_merkle_hiding.specs.SaltRefusals.{salted_pruned_refusal_under, salted_sets_refusal}

@@ -12,7 +12,7 @@ use Rattle.p3_merkle_core.specs.declared.error.MerkleTreeError.{MerkleTreeError}
 use Rattle.p3_merkle_core.specs.declared.error.MerkleTreeError.TheVariants.{OutOfMemory}
 use Rattle.p3_merkle_checker.specs.Collisions.{AnswerAlike, AnswerAnyRowTwice, AnswerOneRowTwice, AnswersUnlessMemory, IsCollision}
 use Rattle.p3_merkle_checker.specs.declared.collision.InputPair.{InputPair}
-use Rattle.p3_merkle_pruner.specs.Pairs.{AgreeBefore, AllAgree, AnswersPairUnlessMemory, CollideAt}
+use Rattle.p3_merkle_pairs.specs.Pairs.{AgreeBefore, AllAgree, AnswersPairUnlessMemory, CollideAt}
 use Rattle.p3_merkle_hiding.specs.SaltRefusals.{salted_pruned_refusal_under, salted_refusal_under}
 use Rattle.p3_merkle_hiding.specs.SaltedOpenings.{IsSaltedAccepted, IsSaltedPrunedAccepted, SaltedOpening, SaltedPruned, joined, joined_sets, widened}
 

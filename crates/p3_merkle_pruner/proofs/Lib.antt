@@ -1,10 +1,7 @@
 mod LeadFacts
-mod GroupFacts
+pub mod GroupFacts
 mod WalkFacts
 mod LayerFacts
 mod PathFacts
 mod RootFacts
 pub mod StartFacts
-mod PlaceFacts
-mod PairFacts
-mod QueryFacts

@@ -1,11 +1,9 @@
 -- The cap has the digest of each covered node if it has that of each query's.
-use Rattle.std.proofs.Common.{◌≡◌, ◌∙◌, ℕ, ◌+◌, ◌<◌, ◌&&◌, Bool, true, false, eqb, List, [], ◌∷◌, map, refl, ap, sym, arith, inl, inr, length, get_or, take, zip, eq-eqb}
+use Rattle.std.proofs.Common.{◌≡◌, ◌∙◌, ℕ, ◌&&◌, Bool, true, false, eqb, List, [], ◌∷◌, map, refl, ap, sym, arith, inl, inr, zip, eq-eqb}
 use Rattle.std.specs.List.{list_all}
 use Rattle.std.specs.Cmp.{both_ways}
 use Rattle.std.proofs.lemmas.Bool.{and_from, and_parts, eqb-true, or_cases, or_left, or_right, true≢false}
 use Rattle.std.specs.Cmp.Lexicographic.{pointwise}
-use Rattle.std.proofs.lemmas.List.Folds.{list_all_at, list_all_more}
-use Rattle.std.proofs.lemmas.Slice.Zip.{get_or-zip, length-zip}
 use Rattle.p3_merkle_core.specs.Geometry.{Shape, ancestor}
 use Rattle.p3_merkle_core.specs.Nodes.{Functions}
 use Rattle.p3_merkle_core.specs.Refusals.{cap_refusal, unless}
@@ -13,7 +11,7 @@ use Rattle.p3_merkle_core.specs.declared.error.MerkleTreeError.TheVariants.{CapM
 use Rattle.p3_merkle_core.specs.Pruning.{CanQuery, PrunedOpening, covered_at, is_covered, restored_node}
 use Rattle.p3_merkle_core.proofs.CoveredFacts.{covered_listed, listed_covered}
 use Rattle.p3_merkle_core.proofs.RisingFacts.{is_listed}
-use Rattle.p3_merkle_pruner.specs.Walks.{is_root}
+use Rattle.p3_merkle_checker.specs.Roots.{is_root}
 
 listed_pass : (q : ℕ → Bool) (xs : List ℕ) (j : ℕ) → list_all q xs ≡ true → is_listed xs j ≡ true → q j ≡ true
 listed_pass q [] j a b = absurd (true≢false (sym b))
@@ -56,25 +54,6 @@ all_covered s indices t w q =
 pub all_beside : {X : Type 0} (q : ℕ × X → Bool) (value : ℕ → X) (nodes : List ℕ) → list_all q (zip nodes (map value nodes)) ≡ list_all (λ j. q (j, value j)) nodes
 all_beside q value [] = refl
 all_beside q value (j ∷ nodes) = ap (λ b. q (j, value j) && b) (all_beside q value nodes)
-
--- ---- one after another
-
-module _ {X : Type 0} (test : ℕ × X → Bool) (nodes : List ℕ) (digests : List X) (n : ℕ) (x : X) (in_nodes : n < length nodes) (in_digests : n < length digests) (is : x ≡ get_or digests n x) where
-  read : get_or (zip nodes digests) n (0, x) ≡ (get_or nodes n 0, x)
-  read = get_or-zip nodes digests n (0, x) in_nodes in_digests ∙ ap (λ y. (get_or nodes n 0, y)) (sym is)
-
-  inside : n < length (zip nodes digests)
-  inside = omega (arith, length-zip nodes digests)
-
-  -- one more passes
-  pub passes_more : list_all test (take n (zip nodes digests)) ≡ true → test (get_or nodes n 0, x) ≡ true → list_all test (take (n + 1) (zip nodes digests)) ≡ true
-  passes_more so_far here = list_all_more test (zip nodes digests) n (0, x) inside ∙ and_from (list_all test (take n (zip nodes digests))) (test (get_or (zip nodes digests) n (0, x))) so_far (ap test read ∙ here)
-
-  -- one fails
-  pub fails_here : test (get_or nodes n 0, x) ≡ false → list_all test (zip nodes digests) ≡ false
-  fails_here here = list_all_at test (zip nodes digests) n (0, x) inside (ap test read ∙ here)
-
--- ---- the answer
 
 -- the cap refuses just where some covered node's digest is not its root
 pub cap_settled : {T W : Type 0} (digest_eq : W → W → Bool) (f : Functions T W) (s : Shape) (t : ℕ) (cap : List (List W)) (p : PrunedOpening T W) → CanQuery s p.indices t → (nodes : List ℕ) (digests : List (List W)) (answer : Bool) →

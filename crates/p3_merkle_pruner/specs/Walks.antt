@@ -1,7 +1,6 @@
 -- How far a walk over the covered nodes has come.
-use Rattle.std.specs.Prelude.{◌≡◌, ◌*◌, ◌/◌, ◌<◌, ◌≤◌, ℕ, suc, List, All, drop, flat_map, length, map, slice_index, Bool, false, slice_get, unwrap_or}
+use Rattle.std.specs.Prelude.{◌≡◌, ◌*◌, ◌/◌, ◌<◌, ◌≤◌, ℕ, suc, List, All, drop, flat_map, length, map, slice_index}
 use Rattle.std.specs.List.{range_with_len}
-use Rattle.std.specs.Option.{option_map}
 use Rattle.p3_merkle_core.specs.Geometry.{Shape, ancestor, layer_exponent, step}
 use Rattle.p3_merkle_core.specs.Children.{AreChildren, AreLevels}
 use Rattle.p3_merkle_core.specs.Nodes.{Functions}
@@ -54,7 +53,3 @@ pub record AreKept {T W : Type 0} (f : Functions T W) (s : Shape) (t : ℕ) (p :
   pub many : length levels ≡ l
   pub levels_are : AreLevels s p.indices l (map (λ level. level.step) levels) (map (λ level. level.parents.items) levels)
   pub values_are : map (λ level. level.children.items) levels ≡ map (child_values f s t p) (range_with_len 0 l)
-
--- whether a digest is the root of a node's place
-abbrev pub is_root : {X : Type 0} → (X → X → Bool) → List X → ℕ × X → Bool
-is_root eq roots pair = unwrap_or (option_map (λ root. eq root pair.1) (slice_get roots pair.0)) false

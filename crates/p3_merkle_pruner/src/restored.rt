@@ -11,9 +11,9 @@ ghost use Rattle.p3_merkle_pruner.specs.Walks.{AreRestored, IsCoveredAt, IsResto
 
 use crate::level::node_digests;
 use crate::plan::{Covered, Plan, Rise};
-use crate::roots::are_entries;
 use crate::rows::row_digests;
 use p3_merkle_checker::level::Checker;
+use p3_merkle_checker::roots::are_entries;
 use p3_merkle_core::error::MerkleTreeError;
 use p3_support::compress::PseudoCompressionFunction;
 use p3_support::hasher::CryptographicHasher;

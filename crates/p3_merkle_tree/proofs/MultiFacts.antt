@@ -12,8 +12,8 @@ use Rattle.p3_merkle_core.specs.declared.error.MerkleTreeError.{MerkleTreeError}
 use Rattle.p3_merkle_core.specs.declared.error.MerkleTreeError.TheVariants.{OutOfMemory}
 use Rattle.p3_merkle_core.proofs.ExtractedMulti.{multi_extracted, multi_first, multi_none, multi_some}
 use Rattle.p3_merkle_checker.specs.declared.collision.InputPair.{InputPair}
-use Rattle.p3_merkle_pruner.specs.Pairs.{pruned_in, AgreeBefore, AllAgree, AnswersPairUnlessMemory, CollideAt, ShowsPair}
-use Rattle.p3_merkle_pruner.specs.declared.pairs.PrunedOpeningRef.{PrunedOpeningRef}
+use Rattle.p3_merkle_pairs.specs.Pairs.{pruned_in, AgreeBefore, AllAgree, AnswersPairUnlessMemory, CollideAt, ShowsPair}
+use Rattle.p3_merkle_pairs.specs.declared.pairs.PrunedOpeningRef.{PrunedOpeningRef}
 
 -- what is lent of indices, row sets and digests
 pub pruned_is : {T W : Type 0} (v : PrunedOpeningRef T (List W)) (indices : List ℕ) (sets : List (List (List T))) (sent : List (List W)) → v.indices.now ≡ indices → row_sets v.sets.now ≡ sets → v.sent.now ≡ sent →

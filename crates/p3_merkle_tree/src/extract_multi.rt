@@ -14,7 +14,7 @@ use crate::mmcs::MerkleTreeMmcs;
 use p3_merkle_checker::collision::Collision;
 use p3_merkle_core::error::MerkleTreeError;
 use p3_merkle_core::pruning::PrunedMerklePaths;
-use p3_merkle_pruner::pairs::{PrunedOpeningRef, extraction};
+use p3_merkle_pairs::pairs::{PrunedOpeningRef, extraction};
 use p3_support::compress::PseudoCompressionFunction;
 use p3_support::hasher::CryptographicHasher;
 use p3_support::matrix::Dimensions;

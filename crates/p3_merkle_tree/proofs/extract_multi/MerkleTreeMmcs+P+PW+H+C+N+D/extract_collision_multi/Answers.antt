@@ -4,7 +4,7 @@ use Rattle.std.proofs.lemmas.Result.{IfOk-weaker}
 use Rattle.p3_merkle_core.specs.Geometry.{shape_of}
 use Rattle.p3_merkle_core.specs.Nodes.{functions_of}
 use Rattle.p3_merkle_core.specs.PrunedCalls.{row_sets}
-use Rattle.p3_merkle_pruner.specs.Pairs.{pruned_in, AnswersPairUnlessMemory}
+use Rattle.p3_merkle_pairs.specs.Pairs.{pruned_in, AnswersPairUnlessMemory}
 use Rattle.p3_merkle_tree.specs.Schemes.{compression_of, hash_of, proof_layer, pruned_lent, scheme_functions}
 use Rattle.p3_support.specs.Shown.{roots_of}
 use Rattle.p3_merkle_tree.proofs.CheckFacts.{functions_alike}

@@ -20,10 +20,10 @@ use Rattle.p3_merkle_core.proofs.NoneFacts.{none_parts}
 use Rattle.p3_merkle_core.proofs.Verdicts.{pruned_accepted}
 use Rattle.p3_merkle_checker.specs.Collisions.{Shows}
 use Rattle.p3_merkle_checker.specs.declared.collision.InputPair.{InputPair}
-use Rattle.p3_merkle_pruner.specs.Pairs.{difference_of, query_in, AnswersPairUnlessMemory, AreQueriesOf, CanCompare, ShowsPair}
-use Rattle.p3_merkle_pruner.specs.declared.pairs.RestoredQueries.{RestoredQueries}
+use Rattle.p3_merkle_pairs.specs.Pairs.{difference_of, query_in, AnswersPairUnlessMemory, AreQueriesOf, CanCompare, ShowsPair}
+use Rattle.p3_merkle_pairs.specs.declared.pairs.RestoredQueries.{RestoredQueries}
 use Rattle.p3_merkle_pruner.proofs.GroupFacts.{set_read}
-use Rattle.p3_merkle_pruner.proofs.PlaceFacts.{pairs_alike}
+use Rattle.p3_merkle_pairs.proofs.PlaceFacts.{pairs_alike}
 
 -- a query that is read out of its row set and its path
 pub query_read : {T W A B : Type 0} (sets : List (Vec (Vec T A) B)) (paths : List (AuthPath (List W))) (k : ℕ) (rows : Vec (Vec T A) B) (path : AuthPath (List W)) → k < length sets → k < length paths →

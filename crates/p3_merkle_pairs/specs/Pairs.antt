@@ -14,8 +14,8 @@ use Rattle.p3_merkle_core.specs.declared.error.MerkleTreeError.TheVariants.{OutO
 use Rattle.p3_merkle_checker.specs.Collisions.{inputs_in}
 use Rattle.p3_merkle_checker.specs.Paths.{CanReach}
 use Rattle.p3_merkle_checker.specs.declared.collision.InputPair.{InputPair}
-use Rattle.p3_merkle_pruner.specs.declared.pairs.PrunedOpeningRef.{PrunedOpeningRef}
-use Rattle.p3_merkle_pruner.specs.declared.pairs.RestoredQueries.{RestoredQueries}
+use Rattle.p3_merkle_pairs.specs.declared.pairs.PrunedOpeningRef.{PrunedOpeningRef}
+use Rattle.p3_merkle_pairs.specs.declared.pairs.RestoredQueries.{RestoredQueries}
 
 -- the pruned opening that is lent
 abbrev pub pruned_in : {T W : Type 0} → PrunedOpeningRef T (List W) → PrunedOpening T W

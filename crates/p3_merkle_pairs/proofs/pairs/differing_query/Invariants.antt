@@ -2,8 +2,8 @@ use Rattle.std.proofs.Common.{◌≡◌, ◌<◌, ℕ, None, replicate}
 use Rattle.p3_merkle_core.specs.Geometry.{shape_of}
 use Rattle.p3_merkle_core.specs.Nodes.{functions_of}
 use Rattle.p3_merkle_checker.specs.Checks.{opening_in}
-use Rattle.p3_merkle_pruner.specs.Pairs.{difference_of, query_in}
-use Rattle.p3_merkle_pruner.proofs.pairs.differing_query.Given as goal
+use Rattle.p3_merkle_pairs.specs.Pairs.{difference_of, query_in}
+use Rattle.p3_merkle_pairs.proofs.pairs.differing_query.Given as goal
 
 -- no query so far differs
 abbrev pub invariant-loop-place : goal.invariant-loop-place

@@ -2,12 +2,12 @@
 
 ghost use Rattle.std.specs.Prelude.{◌≡◌, length, zip};
 ghost use Rattle.std.specs.List.{list_all};
-ghost use Rattle.p3_merkle_pruner.specs.Walks.{is_root};
+ghost use Rattle.p3_merkle_checker.specs.Roots.{is_root};
 
-use p3_merkle_checker::path::is_entry;
+use crate::path::is_entry;
 
 /// Whether the digest of each of some nodes is the root of its place.
-pub(crate) fn are_entries<X: PartialEq>(roots: &[X], nodes: &[usize], digests: &[X]) -> bool
+pub fn are_entries<X: PartialEq>(roots: &[X], nodes: &[usize], digests: &[X]) -> bool
     requires { length digests.now ≡ length nodes.now }
     ensures { result ≡ list_all (is_root X.eq roots.now) (zip nodes.now digests.now) }
 {

@@ -1,7 +1,7 @@
 use Rattle.std.proofs.Common.{◌≡◌, true, take, zip}
 use Rattle.std.specs.List.{list_all}
-use Rattle.p3_merkle_pruner.specs.Walks.{is_root}
-use Rattle.p3_merkle_pruner.proofs.roots.are_entries.Given as goal
+use Rattle.p3_merkle_checker.specs.Roots.{is_root}
+use Rattle.p3_merkle_checker.proofs.roots.are_entries.Given as goal
 
 -- all so far are roots
 abbrev pub invariant-loop-slot : goal.invariant-loop-slot

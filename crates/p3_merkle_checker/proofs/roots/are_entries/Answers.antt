@@ -2,9 +2,9 @@
 use Rattle.std.proofs.Common.{◌∙◌, arith, sym, zip}
 use Rattle.std.proofs.lemmas.List.{take_all}
 use Rattle.std.proofs.lemmas.Slice.Zip.{length-zip}
-use Rattle.p3_merkle_pruner.specs.Walks.{is_root}
-use Rattle.p3_merkle_pruner.proofs.RootFacts.{fails_here, passes_more}
-use Rattle.p3_merkle_pruner.proofs.roots.are_entries.Goals as goal
+use Rattle.p3_merkle_checker.specs.Roots.{is_root}
+use Rattle.p3_merkle_checker.proofs.EntryFacts.{fails_here, passes_more}
+use Rattle.p3_merkle_checker.proofs.roots.are_entries.Goals as goal
 
 pub returns-then-not-is_entry : goal.returns-then-not-is_entry
 returns-then-not-is_entry g c =

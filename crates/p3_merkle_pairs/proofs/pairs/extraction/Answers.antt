@@ -2,9 +2,9 @@
 use Rattle.std.proofs.Common.{replicate}
 use Rattle.p3_merkle_core.specs.Geometry.{shape_of}
 use Rattle.p3_merkle_core.specs.Nodes.{functions_of}
-use Rattle.p3_merkle_pruner.specs.Pairs.{pruned_in}
-use Rattle.p3_merkle_pruner.proofs.QueryFacts.{both_answered}
-use Rattle.p3_merkle_pruner.proofs.pairs.extraction.Goals as goal
+use Rattle.p3_merkle_pairs.specs.Pairs.{pruned_in}
+use Rattle.p3_merkle_pairs.proofs.QueryFacts.{both_answered}
+use Rattle.p3_merkle_pairs.proofs.pairs.extraction.Goals as goal
 
 pub returns : goal.returns
 returns g c =

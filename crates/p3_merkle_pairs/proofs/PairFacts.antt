@@ -4,8 +4,8 @@ use Rattle.p3_merkle_core.specs.Extracting.{first_pair}
 use Rattle.p3_merkle_core.specs.Openings.{Input}
 use Rattle.p3_merkle_checker.specs.Collisions.{inputs_in, Shows}
 use Rattle.p3_merkle_checker.specs.declared.collision.InputPair.{InputPair}
-use Rattle.p3_merkle_pruner.specs.Pairs.{first_place, ShowsAt, ShowsPair}
-use Rattle.p3_merkle_pruner.proofs.PlaceFacts.{no_pair, no_place, pair_found, place_found}
+use Rattle.p3_merkle_pairs.specs.Pairs.{first_place, ShowsAt, ShowsPair}
+use Rattle.p3_merkle_pairs.proofs.PlaceFacts.{no_pair, no_place, pair_found, place_found}
 
 module _ {T W : Type 0} where
   shown_some : (c : InputPair T (List W)) (inputs : Option (Input T W × Input T W)) → Shows (Some c) inputs → (pair : Input T W × Input T W) × (inputs ≡ Some pair) × (inputs_in c ≡ Some pair)

@@ -8,15 +8,15 @@ ghost use Rattle.p3_merkle_core.specs.Refusals.{pruned_refusal_under};
 ghost use Rattle.p3_merkle_core.specs.declared.error.MerkleTreeError.TheVariants.{OutOfMemory};
 ghost use Rattle.p3_merkle_checker.specs.Checks.{opening_in};
 ghost use Rattle.p3_merkle_checker.specs.Paths.{CanCheck, CanReach};
-ghost use Rattle.p3_merkle_pruner.specs.Pairs.{difference_of, first_place, pruned_in, query_in, AnswersPairUnlessMemory, AreQueriesOf, CanCompare, ShowsAt, ShowsPair};
+ghost use Rattle.p3_merkle_pairs.specs.Pairs.{difference_of, first_place, pruned_in, query_in, AnswersPairUnlessMemory, AreQueriesOf, CanCompare, ShowsAt, ShowsPair};
 
-use crate::check::check_opening;
-use crate::paths::restored_paths_of;
 use p3_merkle_checker::collision::Collision;
 use p3_merkle_checker::level::Checker;
 use p3_merkle_checker::openings::{IndexedOpening, OpeningPair};
 use p3_merkle_core::error::MerkleTreeError;
 use p3_merkle_core::pruning::{AuthPath, PrunedProof};
+use p3_merkle_pruner::check::check_opening;
+use p3_merkle_pruner::paths::restored_paths_of;
 use p3_support::compress::PseudoCompressionFunction;
 use p3_support::hasher::CryptographicHasher;
 use p3_support::matrix::Dimensions;

@@ -2,9 +2,9 @@
 use Rattle.std.proofs.Common.{refl, replicate}
 use Rattle.p3_merkle_core.specs.Geometry.{shape_of}
 use Rattle.p3_merkle_core.specs.Nodes.{functions_of}
-use Rattle.p3_merkle_pruner.specs.Pairs.{pruned_in}
-use Rattle.p3_merkle_pruner.proofs.QueryFacts.{comparable, restored}
-use Rattle.p3_merkle_pruner.proofs.pairs.checked_queries.Goals as goal
+use Rattle.p3_merkle_pairs.specs.Pairs.{pruned_in}
+use Rattle.p3_merkle_pairs.proofs.QueryFacts.{comparable, restored}
+use Rattle.p3_merkle_pairs.proofs.pairs.checked_queries.Goals as goal
 
 pub returns-clause-comparable : goal.returns-clause-comparable
 returns-clause-comparable g c =

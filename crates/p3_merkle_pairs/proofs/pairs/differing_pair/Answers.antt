@@ -4,9 +4,9 @@ use Rattle.std.proofs.lemmas.Bool.{cases_eq}
 use Rattle.p3_merkle_core.specs.Geometry.{shape_of}
 use Rattle.p3_merkle_core.specs.Nodes.{functions_of}
 use Rattle.p3_merkle_core.specs.Openings.{Opening}
-use Rattle.p3_merkle_pruner.specs.Pairs.{difference_of, first_place, query_in, ShowsAt}
-use Rattle.p3_merkle_pruner.proofs.PairFacts.{found_no_pair, found_pair, shown_nowhere}
-use Rattle.p3_merkle_pruner.proofs.pairs.differing_pair.Goals as goal
+use Rattle.p3_merkle_pairs.specs.Pairs.{difference_of, first_place, query_in, ShowsAt}
+use Rattle.p3_merkle_pairs.proofs.PairFacts.{found_no_pair, found_pair, shown_nowhere}
+use Rattle.p3_merkle_pairs.proofs.pairs.differing_pair.Goals as goal
 
 pub loop-place-preserved : goal.loop-place-preserved
 loop-place-preserved g c =

@@ -4,10 +4,10 @@ use Rattle.std.proofs.lemmas.Bool.{cases_eq}
 use Rattle.p3_merkle_core.specs.Geometry.{shape_of}
 use Rattle.p3_merkle_core.specs.Nodes.{functions_of}
 use Rattle.p3_merkle_checker.specs.Checks.{opening_in}
-use Rattle.p3_merkle_pruner.specs.Pairs.{difference_of, query_in}
-use Rattle.p3_merkle_pruner.proofs.PairFacts.{found_nowhere, found_place, shown_none}
-use Rattle.p3_merkle_pruner.proofs.QueryFacts.{shows_query}
-use Rattle.p3_merkle_pruner.proofs.pairs.differing_query.Goals as goal
+use Rattle.p3_merkle_pairs.specs.Pairs.{difference_of, query_in}
+use Rattle.p3_merkle_pairs.proofs.PairFacts.{found_nowhere, found_place, shown_none}
+use Rattle.p3_merkle_pairs.proofs.QueryFacts.{shows_query}
+use Rattle.p3_merkle_pairs.proofs.pairs.differing_query.Goals as goal
 
 pub loop-place-preserved : goal.loop-place-preserved
 loop-place-preserved g c =

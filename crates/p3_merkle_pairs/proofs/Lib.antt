@@ -1,0 +1,3 @@
+mod PlaceFacts
+mod PairFacts
+mod QueryFacts
