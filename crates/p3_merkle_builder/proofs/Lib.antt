@@ -1,8 +1,4 @@
-pub mod LevelFacts
-pub mod LayerFacts
-pub mod BuildFacts
 pub mod TreeFacts
 pub mod OwnFacts
 pub mod RowFacts
 pub mod BoundaryFacts
-pub mod NodeFacts

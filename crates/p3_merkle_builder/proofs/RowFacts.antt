@@ -6,7 +6,7 @@ use Rattle.p3_merkle_core.specs.Nodes.{shape, HasFullRows}
 use Rattle.p3_merkle_core.specs.Openings.{honest_rows}
 use Rattle.p3_merkle_core.proofs.LadderFacts.{row_below}
 use Rattle.p3_merkle_core.proofs.LeastFacts.{exponent_le}
-use Rattle.p3_merkle_builder.specs.Views.{batch_of, matrix_of}
+use Rattle.p3_merkle_layers.specs.Views.{batch_of, matrix_of}
 use Rattle.p3_merkle_core.proofs.GateFacts.{tallest_fits, none_large_from_lawful}
 
 -- lawful heights are within the limit

@@ -1,5 +1,4 @@
-pub mod Views
-pub mod Levels
+pub use Rattle.p3_merkle_layers.specs.Views
 pub mod Built
 pub mod Parts
 pub mod Own

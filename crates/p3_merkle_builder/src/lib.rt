@@ -2,8 +2,6 @@
 #![tactic(auto)]
 
 pub mod copy;
-pub mod layers;
-pub mod levels;
 pub mod opener;
 pub mod pruned;
 pub mod tree;

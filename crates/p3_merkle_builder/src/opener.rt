@@ -10,11 +10,11 @@ ghost use Rattle.p3_merkle_builder.specs.Own.{own_siblings};
 ghost use Rattle.p3_support.specs.Shown.{row_lists};
 ghost use Rattle.p3_merkle_builder.specs.Parts.{layers_of, matrices_of, tree_batch};
 
-use crate::levels::{max_height_of, min_height_of};
 use crate::tree::Tree;
 use p3_merkle_core::cap::{CapRule, cap_layer_at};
 use p3_merkle_core::error::MerkleTreeError;
 use p3_merkle_core::geometry::bits_reduced_of;
+use p3_merkle_layers::levels::{max_height_of, min_height_of};
 use p3_support::matrix::Matrix;
 use std::alloc::{AllocError, Global};
 

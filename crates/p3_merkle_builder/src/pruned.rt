@@ -10,11 +10,11 @@ ghost use Rattle.p3_merkle_core.specs.declared.error.MerkleTreeError.TheVariants
 ghost use Rattle.p3_merkle_builder.specs.Own.{others_beside, own_boundary};
 ghost use Rattle.p3_merkle_builder.specs.Parts.{layers_of, tree_batch};
 
-use crate::levels::dimensions_of;
 use crate::opener::rows_of_index;
 use crate::tree::Tree;
 use p3_merkle_core::error::MerkleTreeError;
 use p3_merkle_core::pruning::{boundary_len_of, climb, covered_leaves};
+use p3_merkle_layers::levels::dimensions_of;
 use p3_support::matrix::Matrix;
 use std::alloc::Global;
 

@@ -7,12 +7,12 @@ ghost use Rattle.p3_merkle_core.specs.Gate.{gate_refusal};
 ghost use Rattle.p3_merkle_core.specs.Nodes.{functions_of, layers as layers_over, shape};
 ghost use Rattle.p3_merkle_core.specs.declared.error.MerkleTreeError.TheVariants.{OutOfMemory};
 ghost use Rattle.p3_merkle_builder.specs.Built.{OkUnlessRefused};
-ghost use Rattle.p3_merkle_builder.specs.Views.{batch_of};
+ghost use Rattle.p3_merkle_layers.specs.Views.{batch_of};
 
-use crate::layers::{Builder, Stack};
-use crate::levels::dimensions_of;
 use p3_merkle_core::error::MerkleTreeError;
 use p3_merkle_core::geometry::check_heights;
+use p3_merkle_layers::layers::{Builder, Stack};
+use p3_merkle_layers::levels::dimensions_of;
 use p3_support::compress::PseudoCompressionFunction;
 use p3_support::hasher::CryptographicHasher;
 use p3_support::matrix::Matrix;

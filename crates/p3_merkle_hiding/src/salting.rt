@@ -12,9 +12,9 @@ ghost use Rattle.p3_merkle_hiding.specs.SaltedOpenings.{CanWiden};
 ghost use Rattle.p3_merkle_hiding.specs.SaltedTrees.{pair_matrix, HaveSaltColumns};
 
 use crate::salts::check_widening;
-use p3_merkle_builder::levels::dimensions_of;
 use p3_merkle_core::error::MerkleTreeError;
 use p3_merkle_core::geometry::check_heights;
+use p3_merkle_layers::levels::dimensions_of;
 use p3_support::matrix::{Matrix, RowMajorMatrix};
 use p3_support::pair::HorizontalPair;
 use p3_support::salts::SaltWord;

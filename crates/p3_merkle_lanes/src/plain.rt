@@ -1,4 +1,4 @@
-//! The digests of rows that a matrix lends in one piece, and of whole groups of a layer, one by one.
+//! The digests of rows, of those that a matrix lends in one piece, and of whole groups of a layer, one by one.
 
 ghost use Rattle.std.specs.Prelude.{◌≡◌, ℕ, ◌*◌, ◌<◌, ◌≤◌, [], length, map, replicate, slice_index_or};
 ghost use Rattle.p3_support.specs.Lists.{messages as messages_of};
@@ -9,6 +9,45 @@ use p3_support::compress::PseudoCompressionFunction;
 use p3_support::hasher::CryptographicHasher;
 use p3_support::matrix::Matrix;
 use p3_support::packed::PackedValue;
+use p3_support::rows::rows_of;
+
+/// The digest of row `row` of a matrix, which is below its height.
+fn row_digest<
+    P: PackedValue,
+    PW: PackedValue,
+    H: CryptographicHasher<P, PW, D>,
+    M: Matrix<P::Value>,
+    const D: usize,
+>(hash: &H, matrix: &M, row: usize) -> [PW::Value; D]
+    requires { row < M.height_of matrix.now }
+    ensures { result ≡ H.hash hash.now (M.row_of matrix.now row) }
+{
+    match matrix.row_slice(row) {
+        Some(words) => hash.hash_slice(words),
+        None => hash.hash_iter(matrix.row(row)),
+    }
+}
+
+/// The digest of the rows `row` of the matrices of this height, one matrix after another; the default digest past
+/// their end.
+pub fn rows_digest<
+    P: PackedValue,
+    PW: PackedValue,
+    H: CryptographicHasher<P, PW, D>,
+    M: Matrix<P::Value>,
+    const D: usize,
+>(hash: &H, matrices: &[M], height: usize, row: usize) -> [PW::Value; D]
+    ensures { result ≡ leaf_over (H.hash hash.now) (replicate D PW.default_value) M.height_of M.row_of matrices.now height row }
+{
+    if row >= height {
+        return [PW::Value::default(); D];
+    }
+    match matrices {
+        // A row that stands alone is read without a look for the next one after each word.
+        [matrix] if matrix.height() == height => row_digest::<P, PW, H, M, D>(hash, matrix, row),
+        _ => hash.hash_iter(rows_of(matrices, height, row)),
+    }
+}
 
 /// Writes into `slots[i]` the digest of message `i`. The messages lie one after another, as many as there are slots, of
 /// one length.

@@ -11,7 +11,7 @@ use Rattle.p3_merkle_core.proofs.PathFacts.{joined_same}
 use Rattle.p3_merkle_core.proofs.Completeness.{IsHonest}
 use Rattle.p3_merkle_core.proofs.Accepted.{honest_accepted}
 use Rattle.p3_merkle_builder.specs.Own.{own_group, own_siblings}
-use Rattle.p3_merkle_builder.proofs.LayerFacts.{part_made}
+use Rattle.p3_merkle_layers.proofs.LayerFacts.{part_made}
 
 -- the siblings of one level are the honest ones
 group_same : {T W : Type 0} (f : Functions T W) (b : Batch T) (own : List (List (List W))) (t i l : ℕ) → IsHonest b t i → own ≡ layers f b → l < t →

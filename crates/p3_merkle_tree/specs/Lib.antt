@@ -1,4 +1,4 @@
-pub use Rattle.p3_merkle_builder.specs.Views
+pub use Rattle.p3_merkle_layers.specs.Views
 pub use Rattle.p3_merkle_builder.specs.Built
 pub use Rattle.p3_merkle_builder.specs.Parts
 pub use Rattle.p3_merkle_builder.specs.Own

@@ -1,0 +1,4 @@
+pub mod LevelFacts
+pub mod LayerFacts
+pub mod BuildFacts
+pub mod NodeFacts

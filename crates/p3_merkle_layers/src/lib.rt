@@ -1,0 +1,5 @@
+//! The layers of a tree over a batch of matrices, built one above the other.
+#![tactic(auto)]
+
+pub mod layers;
+pub mod levels;
