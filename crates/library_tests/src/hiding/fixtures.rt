@@ -1,0 +1,210 @@
+//! Schemes, matrices, rows and proofs that are tried.
+
+ghost use Rattle.std.specs.Prelude.{◌≤◌, ◌%◌, ◌^◌, replicate};
+ghost use Rattle.std.proofs.lemmas.List.{length-replicate};
+
+use crate::hiding::counting::Counting;
+use p3_instances::fold::{FoldCompress, FoldHash};
+use p3_merkle_core::pruning::check_indices;
+use p3_merkle_hiding::MerkleTreeHidingMmcs;
+use p3_merkle_hiding::hiding_mmcs::{SaltedMultiProof, SaltedProof, SaltedTree};
+use p3_merkle_tree::{BatchOpening, MerkleCap, MerkleTreeError, PrunedMerklePaths};
+use p3_support::matrix::{Dimensions, Matrix, RowMajorMatrix};
+use std::alloc::{AllocError, Global};
+
+/// A salted scheme of two children over the fold functions, with salts out of a generator.
+pub type Salted<R, const SALT_ELEMS: usize> = MerkleTreeHidingMmcs<
+    u32,
+    u32,
+    FoldHash<1>,
+    FoldCompress<2, 1>,
+    R,
+    2,
+    1,
+    SALT_ELEMS,
+>;
+
+/// That scheme with one salt for each row.
+pub type OneSalt = Salted<Counting<10>, 1>;
+
+/// A cap of that scheme.
+pub type Cap = MerkleCap<u32, [u32; 1]>;
+
+/// A tree of that scheme.
+pub type Tree = SaltedTree<u32, u32, RowMajorMatrix<u32>, 2, 1>;
+
+/// An opening of that scheme.
+pub type Opening = BatchOpening<u32, SaltedProof<u32, u32, 1>>;
+
+/// What proves several openings of that scheme.
+pub type MultiProof = SaltedMultiProof<u32, u32, 1>;
+
+/// The scheme with one salt for each row, whose salts are 10, 20, 30 and so on.
+pub fn one_salt() -> OneSalt {
+    OneSalt::new(FoldHash, FoldCompress, 0, Counting(0))
+}
+
+/// A matrix whose every word is the number of its row, from 0. It takes no memory, however wide or high it is.
+#[derive(Drop)]
+pub struct Numbers {
+    pub words: usize,
+    pub rows: usize,
+}
+
+impl Matrix<u32> for Numbers {
+    ghost height_of = { λ m. m.rows };
+
+    ghost width_of = { λ m. m.words };
+
+    ghost row_of = { λ m r. replicate m.words (r % 2 ^ 32) };
+
+    fn height(&self) -> usize {
+        self.rows
+    }
+
+    fn width(&self) -> usize {
+        self.words
+    }
+
+    fn get(&self, row: usize, column: usize) -> u32 {
+        (row % 4_294_967_296) as u32
+    }
+
+    ghost length_row_of = { λ m r h. length-replicate m.words (r % 2 ^ 32) };
+}
+
+/// Matrices of these widths and heights, whose rows are their own numbers.
+pub fn numbered(alloc: Global, sizes: &[(usize, usize)]) -> Result<Vec<Numbers>, AllocError> {
+    let mut matrices = Vec::with_capacity(alloc, sizes.len())?;
+    for (words, rows) in sizes {
+        matrices.push(Numbers {
+            words: *words,
+            rows: *rows,
+        })?;
+    }
+    Ok(matrices)
+}
+
+/// The dimensions of matrices of these widths and heights.
+pub fn dimensions_of(
+    alloc: Global,
+    sizes: &[(usize, usize)],
+) -> Result<Vec<Dimensions>, AllocError> {
+    let mut dimensions = Vec::with_capacity(alloc, sizes.len())?;
+    for (width, height) in sizes {
+        dimensions.push(Dimensions {
+            width: *width,
+            height: *height,
+        })?;
+    }
+    Ok(dimensions)
+}
+
+/// A matrix of one column for each list of rows.
+pub fn columns(alloc: Global, lists: &[&[u32]]) -> Result<Vec<RowMajorMatrix<u32>>, AllocError> {
+    let mut matrices = Vec::with_capacity(alloc, lists.len())?;
+    for rows in lists {
+        matrices.push(RowMajorMatrix::new(Vec::from_slice(alloc, *rows)?, 1))?;
+    }
+    Ok(matrices)
+}
+
+/// The words of each matrix.
+pub fn values_of<'a>(
+    alloc: Global,
+    matrices: &[&'a RowMajorMatrix<u32>],
+) -> Result<Vec<&'a [u32]>, AllocError> {
+    let mut values = Vec::with_capacity(alloc, matrices.len())?;
+    for matrix in matrices {
+        values.push(matrix.values())?;
+    }
+    Ok(values)
+}
+
+/// A cap of these digests.
+pub fn cap_of(alloc: Global, roots: &[u32]) -> Result<Cap, AllocError> {
+    Ok(MerkleCap::new(digests(alloc, roots)?))
+}
+
+/// Digests of one word each.
+pub fn digests(alloc: Global, words: &[u32]) -> Result<Vec<[u32; 1]>, AllocError> {
+    let mut digests = Vec::with_capacity(alloc, words.len())?;
+    for word in words {
+        digests.push([*word])?;
+    }
+    Ok(digests)
+}
+
+/// Rows, or lists of salts.
+pub fn lists(alloc: Global, rows: &[&[u32]]) -> Result<Vec<Vec<u32>>, AllocError> {
+    let mut lists = Vec::with_capacity(alloc, rows.len())?;
+    for row in rows {
+        lists.push(Vec::from_slice(alloc, *row)?)?;
+    }
+    Ok(lists)
+}
+
+/// Row sets, or salt sets.
+pub fn sets(alloc: Global, rows: &[&[&[u32]]]) -> Result<Vec<Vec<Vec<u32>>>, AllocError> {
+    let mut sets = Vec::with_capacity(alloc, rows.len())?;
+    for set in rows {
+        sets.push(lists(alloc, *set)?)?;
+    }
+    Ok(sets)
+}
+
+/// An opening of these rows, salts and siblings.
+pub fn opening(
+    alloc: Global,
+    rows: &[&[u32]],
+    salts: &[&[u32]],
+    siblings: &[u32],
+) -> Result<Opening, AllocError> {
+    let proof = (lists(alloc, salts)?, digests(alloc, siblings)?);
+    Ok(BatchOpening::new(lists(alloc, rows)?, proof))
+}
+
+/// What proves several openings by these salts and digests.
+pub fn multi_proof(
+    alloc: Global,
+    salts: &[&[&[u32]]],
+    sent: &[u32],
+) -> Result<MultiProof, AllocError> {
+    let pruned = PrunedMerklePaths {
+        sibling_hashes: digests(alloc, sent)?,
+    };
+    Ok((sets(alloc, salts)?, pruned))
+}
+
+/// The opening of a leaf.
+///
+/// # Errors
+///
+/// `IndexOutOfBounds` where there is no such leaf; else what the scheme answers.
+pub fn opened<R, const SALT_ELEMS: usize>(
+    alloc: Global,
+    scheme: &Salted<R, SALT_ELEMS>,
+    index: usize,
+    tree: &Tree,
+) -> Result<Opening, MerkleTreeError> {
+    let max_height = scheme.get_max_height(tree);
+    if index >= max_height {
+        return Err(MerkleTreeError::IndexOutOfBounds { max_height, index });
+    }
+    scheme.open_batch(alloc, index, tree)
+}
+
+/// The row sets of several leaves, and what proves them.
+///
+/// # Errors
+///
+/// `IndexOutOfBounds` where there is no such leaf; else what the scheme answers.
+pub fn opened_together<R, const SALT_ELEMS: usize>(
+    alloc: Global,
+    scheme: &Salted<R, SALT_ELEMS>,
+    indices: &[usize],
+    tree: &Tree,
+) -> Result<(Vec<Vec<Vec<u32>>>, MultiProof), MerkleTreeError> {
+    check_indices(scheme.get_max_height(tree), indices)?;
+    scheme.open_multi_batch(alloc, indices, tree)
+}

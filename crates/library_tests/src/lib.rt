@@ -1,0 +1,11 @@
+//! Tests of the libraries that no line of a file of cases can say, and of the program's engine.
+#![tactic(auto)]
+
+#[cfg(test)]
+mod engine;
+#[cfg(test)]
+mod hiding;
+#[cfg(test)]
+mod merkle;
+#[cfg(test)]
+mod support;

@@ -1,0 +1,13 @@
+//! Tests of trees and schemes that no line of a file of cases can say: generic code called at other packings and at
+//! longer digests, a caller that is generic in the scheme, SHA-256, trees over exclusive or, random rows, clones, and the
+//! texts of the errors.
+
+mod any_scheme;
+mod calls;
+mod clones;
+mod exclusive_or;
+mod fixtures;
+mod generic;
+mod noting;
+mod sha256;
+mod texts;

@@ -1,0 +1,47 @@
+//! Generic calls of schemes and trees.
+
+use crate::merkle::fixtures::{column_dimensions, numbered};
+use p3_merkle_tree::{BatchOpeningRef, MerkleCap, MerkleTree, MerkleTreeError, MerkleTreeMmcs};
+use p3_support::compress::PseudoCompressionFunction;
+use p3_support::hasher::CryptographicHasher;
+use p3_support::matrix::Matrix;
+use p3_support::packed::PackedValue;
+use std::alloc::Global;
+
+/// The layers of a tree, leaves first.
+pub fn layers_in<F: Copy, W: Copy, M: Matrix<F> + Drop, const N: usize, const D: usize>(
+    alloc: Global,
+    tree: &MerkleTree<F, W, M, N, D>,
+) -> Result<Vec<MerkleCap<F, [W; D]>>, MerkleTreeError> {
+    let mut layers = Vec::new(alloc);
+    for cap_height in (0..tree.num_layers()).rev() {
+        layers.push(tree.cap(alloc, cap_height)?)?;
+    }
+    Ok(layers)
+}
+
+/// Commits to columns of these heights, whose rows are their own numbers, opens a leaf and checks the opening: the cap,
+/// where there is such a leaf and its opening is accepted.
+pub fn accepted_cap<
+    P: PackedValue<Value = u32>,
+    PW: PackedValue,
+    H: CryptographicHasher<P, PW, D>,
+    C: PseudoCompressionFunction<PW, N, D>,
+    const N: usize,
+    const D: usize,
+>(
+    alloc: Global,
+    scheme: &MerkleTreeMmcs<P, PW, H, C, N, D>,
+    heights: &[usize],
+    index: usize,
+) -> Result<MerkleCap<u32, [PW::Value; D]>, MerkleTreeError> {
+    let dimensions = column_dimensions(alloc, heights)?;
+    let (cap, tree) = scheme.commit(alloc, numbered(alloc, heights)?)?;
+    let max_height = scheme.get_max_height(&tree);
+    if index >= max_height {
+        return Err(MerkleTreeError::IndexOutOfBounds { max_height, index });
+    }
+    let opening = scheme.open_batch(alloc, index, &tree)?;
+    scheme.verify_batch(&cap, &dimensions, index, BatchOpeningRef::from(&opening))?;
+    Ok(cap)
+}

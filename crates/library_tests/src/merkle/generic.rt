@@ -1,0 +1,126 @@
+//! Generic code over the bounds of a scheme, called at packings of one, two and eight lanes and at digests of one and
+//! two words.
+
+use crate::merkle::calls::accepted_cap;
+use p3_instances::batched::Batched3;
+use p3_instances::fold::{FoldCompress, FoldHash};
+use p3_instances::lanes::{Lanes, U32x8};
+use p3_merkle_tree::{CapRule, MerkleCap, MerkleTreeError, MerkleTreeMmcs};
+use std::alloc::Global;
+use std::test::Fail;
+
+/// A cap of digests of one word.
+type WordCap = MerkleCap<u32, [u32; 1]>;
+
+/// The heights of the matrices that are committed to in different ways.
+static HEIGHTS: [usize; 4] = [17, 9, 5, 3];
+
+/// The cap of the fold functions at arity 4 in one lane, each message and each group on its own, where an opening is
+/// accepted.
+fn plain_cap(alloc: Global, cap_height: usize) -> Result<WordCap, MerkleTreeError> {
+    let scheme = MerkleTreeMmcs::<u32, u32, FoldHash<1>, FoldCompress<4, 1>, 4, 1>::new_with_rule(
+        FoldHash,
+        FoldCompress,
+        cap_height,
+        CapRule::Fixed,
+    );
+    accepted_cap(alloc, &scheme, &HEIGHTS, 2)
+}
+
+/// That cap at arity 4, in eight lanes.
+fn cap_by_eight(alloc: Global, cap_height: usize) -> Result<WordCap, MerkleTreeError> {
+    let scheme = MerkleTreeMmcs::<
+        U32x8,
+        U32x8,
+        FoldHash<8>,
+        FoldCompress<4, 8>,
+        4,
+        1,
+    >::new_with_rule(FoldHash, FoldCompress, cap_height, CapRule::Fixed);
+    accepted_cap(alloc, &scheme, &HEIGHTS, 16)
+}
+
+/// That cap at arity 4, by functions that take three at a time.
+fn cap_by_three(alloc: Global, cap_height: usize) -> Result<WordCap, MerkleTreeError> {
+    let scheme = MerkleTreeMmcs::<
+        u32,
+        u32,
+        Batched3<FoldHash<1>>,
+        Batched3<FoldCompress<4, 1>>,
+        4,
+        1,
+    >::new_with_rule(
+        Batched3(FoldHash),
+        Batched3(FoldCompress),
+        cap_height,
+        CapRule::Fixed,
+    );
+    accepted_cap(alloc, &scheme, &HEIGHTS, 5)
+}
+
+/// A cap of digests of two words.
+type PairCap = MerkleCap<u32, [u32; 2]>;
+
+/// The scheme of digests of two words, in one lane.
+type PairScheme = MerkleTreeMmcs<u32, u32, FoldHash<1>, FoldCompress<2, 1>, 2, 2>;
+
+/// That scheme in two lanes.
+type LanesScheme = MerkleTreeMmcs<Lanes<u32>, Lanes<u32>, FoldHash<8>, FoldCompress<2, 8>, 2, 2>;
+
+/// The cap at arity 2 and digests of two words, in one lane.
+fn pair_cap(alloc: Global, cap_height: usize) -> Result<PairCap, MerkleTreeError> {
+    let scheme = PairScheme::new_with_rule(FoldHash, FoldCompress, cap_height, CapRule::Fixed);
+    accepted_cap(alloc, &scheme, &HEIGHTS, 2)
+}
+
+/// That cap in two lanes.
+fn pair_cap_by_two(alloc: Global, cap_height: usize) -> Result<PairCap, MerkleTreeError> {
+    let scheme = LanesScheme::new_with_rule(FoldHash, FoldCompress, cap_height, CapRule::Fixed);
+    accepted_cap(alloc, &scheme, &HEIGHTS, 7)
+}
+
+#[test]
+fn lanes_and_batches_commit_alike(rt: HostRuntime) -> Result<(), Fail> {
+    let alloc = rt.alloc();
+    for cap_height in 0..5 {
+        let plain = plain_cap(alloc, cap_height)?;
+        assert!(rt; plain == cap_by_eight(alloc, cap_height)?);
+        assert!(rt; plain == cap_by_three(alloc, cap_height)?);
+    }
+    Ok(())
+}
+
+#[test]
+fn lanes_commit_alike_to_digests_of_two_words(rt: HostRuntime) -> Result<(), Fail> {
+    for cap_height in 0..5 {
+        let plain = pair_cap(rt.alloc(), cap_height)?;
+        assert!(rt; plain == pair_cap_by_two(rt.alloc(), cap_height)?);
+    }
+    Ok(())
+}
+
+/// The cap of the rows 0 and 1, where the opening of row 1 is accepted.
+fn cap_of_two_rows(alloc: Global, scheme: &PairScheme) -> Result<PairCap, MerkleTreeError> {
+    accepted_cap(alloc, scheme, &[2], 1)
+}
+
+#[test]
+fn digests_of_two_words_have_the_root_worked_out(rt: HostRuntime) -> Result<(), Fail> {
+    let scheme = PairScheme::new(FoldHash, FoldCompress, 0);
+    let copied = scheme;
+    for each in [scheme, copied, copied.clone()?] {
+        let cap = cap_of_two_rows(rt.alloc(), &each)?;
+        assert_eq!(rt; cap.roots(), [[994, 1986]].as_slice());
+    }
+    Ok(())
+}
+
+#[test]
+fn a_scheme_and_its_clone_keep_the_rule(rt: HostRuntime) -> Result<(), Fail> {
+    let lowered = PairScheme::new(FoldHash, FoldCompress, 3);
+    let fixed = PairScheme::new_with_rule(FoldHash, FoldCompress, 4, CapRule::Fixed);
+    assert_eq!(rt; lowered.clone()?.cap_rule(), CapRule::Lowered);
+    assert_eq!(rt; fixed.clone()?.cap_rule(), CapRule::Fixed);
+    assert_eq!(rt; fixed.cap_height(), 4);
+    Ok(())
+}
