@@ -1,10 +1,11 @@
 -- Exponents with the next one below them: what a step from there is, and whether a matrix has the one above.
-use Rattle.std.proofs.Common.{◌≡◌, ℕ, ◌+◌, ◌-◌, ◌<◌, ◌≤◌, ◌&&◌, nat_lt, max, cond, true, false, Bool, List, [], ◌∷◌, refl, ap, sym, ◌∙◌, arith, inl, inr}
+use Rattle.std.proofs.Common.{◌≡◌, ℕ, ◌+◌, ◌-◌, ◌<◌, ◌≤◌, ◌&&◌, nat_lt, max, cond, true, false, Bool, List, [], ◌∷◌, length, map, refl, ap, sym, ◌∙◌, arith, inl, inr}
 use Rattle.std.specs.Prelude.{◌==◌}
 use Rattle.std.specs.List.{list_any}
 use Rattle.std.proofs.lemmas.Bool.{cases_lt, cases_eq, eq-eqb, ne_eqb, lt-ltb, le-ltb, true≢false}
-use Rattle.p3_merkle_core.specs.Geometry.{exponent}
+use Rattle.p3_merkle_core.specs.Geometry.{exponent, tallest}
 use Rattle.p3_merkle_core.specs.Rungs.{next_below}
+use Rattle.p3_merkle_core.proofs.LeastFacts.{exponent_le, exponent_mono}
 
 -- what a height below x counts for, and one from there on
 counted : (x h : ℕ) → exponent h < x → (cond (nat_lt (exponent h) x) (exponent h + 1) 0) ≡ exponent h + 1
@@ -104,3 +105,93 @@ next_stays x y (h ∷ hs) down low =
           omega (arith, own, here, rest)
       | inr above ↦ omega (arith, passed x h above, passed y h (omega (arith, above, down)), rest)
     ]
+
+-- ---- the exponent of the leaves
+
+-- the greater of two heights has the greater exponent
+exponent_max : (a b : ℕ) → exponent (max a b) ≡ max (exponent a) (exponent b)
+exponent_max a b =
+    elim (cases_lt a b) [
+      | inl below ↦
+          let is : max a b ≡ b = omega (arith, below) in
+          ap exponent is ∙ omega (arith, exponent_mono a b (omega (arith, below)))
+      | inr above ↦
+          let is : max a b ≡ a = omega (arith, above) in
+          ap exponent is ∙ omega (arith, exponent_mono b a above)
+    ]
+
+first_taken : (a b c d : ℕ) → a < b → cond (nat_lt a b) c d ≡ c
+first_taken a b c d below = rw (lt-ltb a b below) refl
+
+second_taken : (a b c d : ℕ) → b ≤ a → cond (nat_lt a b) c d ≡ d
+second_taken a b c d above = rw (le-ltb a b above) refl
+
+-- x and n are the exponent of the leaves and the next one, but for what the heights of rest add
+pub record IsTop (hs rest : List ℕ) (x n : ℕ) : Type 0 where
+  pub top_is : max x (exponent (tallest rest)) ≡ exponent (tallest hs)
+  pub next_is : max (cond (nat_lt x (exponent (tallest hs))) (x + 1) n) (next_below (exponent (tallest hs)) rest) ≡ next_below (exponent (tallest hs)) hs
+
+pub top_start : {X : Type 0} (height : X → ℕ) (all rest : List X) (first : X) (x : ℕ) → all ≡ first ∷ rest → x ≡ exponent (height first) → IsTop (map height all) (map height rest) x 0
+top_start height all rest first x is e = rw (is, e) record { top_is = sym (exponent_max (height first) (tallest (map height rest))); next_is = refl }
+
+-- a height of a greater exponent
+pub top_over : (hs rest : List ℕ) (h x n : ℕ) → IsTop hs (h ∷ rest) x n → x < exponent h → IsTop hs rest (exponent h) (x + 1)
+top_over hs rest h x n so_far over =
+    let e : ℕ = exponent h in
+    let top : ℕ = exponent (tallest hs) in
+    let most = exponent_max h (tallest rest) in
+    let is = so_far.top_is in
+    let first = first_taken x top (x + 1) n (omega (arith, over, most, is)) in
+    record {
+      top_is = omega (arith, over, most, is);
+      next_is =
+          elim (cases_lt e top) [
+            | inl below ↦ omega (arith, over, first, first_taken e top (e + 1) 0 below, first_taken e top (e + 1) (x + 1) below, so_far.next_is)
+            | inr above ↦ omega (arith, over, first, second_taken e top (e + 1) 0 above, second_taken e top (e + 1) (x + 1) above, so_far.next_is)
+          ];
+    }
+
+-- one of a lower exponent
+pub top_under : (hs rest : List ℕ) (h x n : ℕ) → IsTop hs (h ∷ rest) x n → exponent h < x → IsTop hs rest x (max n (exponent h + 1))
+top_under hs rest h x n so_far under =
+    let e : ℕ = exponent h in
+    let top : ℕ = exponent (tallest hs) in
+    let most = exponent_max h (tallest rest) in
+    let is = so_far.top_is in
+    let own = first_taken e top (e + 1) 0 (omega (arith, under, most, is)) in
+    record {
+      top_is = omega (arith, under, most, is);
+      next_is =
+          elim (cases_lt x top) [
+            | inl below ↦ omega (arith, under, own, first_taken x top (x + 1) n below, first_taken x top (x + 1) (max n (e + 1)) below, so_far.next_is)
+            | inr above ↦ omega (arith, under, own, second_taken x top (x + 1) n above, second_taken x top (x + 1) (max n (e + 1)) above, so_far.next_is)
+          ];
+    }
+
+-- one of the same
+pub top_same : (hs rest : List ℕ) (h x n : ℕ) → IsTop hs (h ∷ rest) x n → exponent h ≡ x → IsTop hs rest x n
+top_same hs rest h x n so_far same =
+    let e : ℕ = exponent h in
+    let top : ℕ = exponent (tallest hs) in
+    let most = exponent_max h (tallest rest) in
+    let is = so_far.top_is in
+    record {
+      top_is = omega (arith, same, most, is);
+      next_is =
+          elim (cases_lt x top) [
+            | inl below ↦ omega (arith, same, first_taken e top (e + 1) 0 (omega (arith, same, below)), first_taken x top (x + 1) n below, so_far.next_is)
+            | inr above ↦ omega (arith, same, second_taken e top (e + 1) 0 (omega (arith, same, above)), second_taken x top (x + 1) n above, so_far.next_is)
+          ];
+    }
+
+-- no height at all
+pub none_top : {X : Type 0} (height : X → ℕ) (xs : List X) → length xs ≡ 0 → 0 ≡ exponent (tallest (map height xs))
+none_top height [] none = omega (arith, exponent_le 0 0 (omega arith))
+none_top height (x ∷ xs) none = absurd (omega (arith, none))
+
+-- no more heights
+pub top_end : (hs : List ℕ) (x n : ℕ) → IsTop hs [] x n → (x ≡ exponent (tallest hs)) × (n ≡ next_below x hs)
+top_end hs x n so_far =
+    let is : x ≡ exponent (tallest hs) = omega (arith, exponent_le 0 0 (omega arith), so_far.top_is) in
+    let last = second_taken x (exponent (tallest hs)) (x + 1) n (omega (arith, is)) in
+    (is, rw is (omega (arith, last, so_far.next_is)))

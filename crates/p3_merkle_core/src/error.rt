@@ -6,7 +6,7 @@ ghost use Rattle.p3_merkle_core.specs.declared.error.MerkleTreeError.TheVariants
 use std::alloc::{AllocError, AllocFailed};
 use thiserror::Error;
 
-/// Why a pruned proof does not fit the queries and rows that it comes with. No call answers it yet: the definitions do.
+/// Why a pruned proof does not fit the queries and rows that it comes with.
 #[derive(Debug, PartialEq, Eq, Drop, Error)]
 pub enum PrunedProofError {
     /// The proof has not as many digests as its queries leave unknown.

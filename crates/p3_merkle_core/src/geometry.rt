@@ -272,12 +272,29 @@ pub fn rung_at(dimensions: &[Dimensions], x: usize) -> Rung
     Rung { exponent: x, next }
 }
 
-/// The exponent of the leaves with the next one below it.
+/// The exponent of the leaves with the next one below it. Each matrix is looked at once.
 pub fn leaf_rung(dimensions: &[Dimensions]) -> Rung
     ensures exponent { result.exponent ≡ exponent (tallest (heights_of dimensions.now)) }
     ensures rung { IsRung (heights_of dimensions.now) result }
 {
-    rung_at(dimensions, exponent_of(tallest_of(dimensions)))
+    let Some((first, others)) = dimensions.split_first() else {
+        return Rung {
+            exponent: 0,
+            next: 0,
+        };
+    };
+    let mut x = exponent_of(first.height);
+    let mut next = 0;
+    for matrix in others {
+        let e = exponent_of(matrix.height);
+        if e > x {
+            next = x + 1;
+            x = e;
+        } else if e < x {
+            next = next.max(e + 1);
+        }
+    }
+    Rung { exponent: x, next }
 }
 
 /// Whether the step from a layer is a bridge step, as [`is_bridge_step`], without a look at the matrices.
