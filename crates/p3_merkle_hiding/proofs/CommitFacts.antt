@@ -12,7 +12,7 @@ use Rattle.p3_merkle_core.specs.Salted.{salted_matrices}
 use Rattle.p3_merkle_core.specs.declared.error.MerkleTreeError.{MerkleTreeError}
 use Rattle.p3_merkle_core.specs.declared.error.MerkleTreeError.TheVariants.{OutOfMemory}
 use Rattle.p3_merkle_core.proofs.NoneFacts.{none_of_both}
-use Rattle.p3_merkle_hiding.specs.SaltRefusals.{salted_commit_refusal, widening_refusal}
+use Rattle.p3_merkle_salts.specs.SaltRefusals.{salted_commit_refusal, widening_refusal}
 
 -- salted matrices have their heights
 heights_stay : {T : Type 0} (of_word : ℕ → T) (e : ℕ) (ms : List (Matrix T)) (s : Stream) → heights_of (dimensions_of (salted_matrices of_word e ms s)) ≡ heights_of (dimensions_of ms)

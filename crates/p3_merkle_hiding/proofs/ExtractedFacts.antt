@@ -20,9 +20,9 @@ use Rattle.p3_merkle_checker.specs.Collisions.{AnswersUnlessMemory}
 use Rattle.p3_merkle_checker.specs.declared.collision.InputPair.{InputPair}
 use Rattle.p3_merkle_tree.proofs.LoweredFacts.{all_authenticated, any_twice_is_found, same_at_one_index}
 use Rattle.p3_merkle_hiding.proofs.SaltedAnswers.{salted_accepted}
-use Rattle.p3_merkle_hiding.specs.SaltRefusals.{salted_refusal_under, salted_rows_refusal}
+use Rattle.p3_merkle_salts.specs.SaltRefusals.{salted_refusal_under, salted_rows_refusal}
 use Rattle.p3_merkle_hiding.specs.SaltedExtraction.{IsSaltedExtraction, salted_extraction_under, wide_shape}
-use Rattle.p3_merkle_hiding.specs.SaltedOpenings.{SaltedOpening, joined, salted_rows, widened}
+use Rattle.p3_merkle_salts.specs.SaltedOpenings.{SaltedOpening, joined, salted_rows, widened}
 
 -- ---- rows and salts that are joined alike are alike
 

@@ -20,9 +20,9 @@ use Rattle.p3_merkle_checker.specs.declared.collision.InputPair.{InputPair}
 use Rattle.p3_merkle_pairs.specs.Pairs.{AnswersPairUnlessMemory}
 use Rattle.p3_merkle_tree.proofs.MultiFacts.{multi_meant}
 use Rattle.p3_merkle_hiding.proofs.SaltedAnswers.{salted_pruned_accepted}
-use Rattle.p3_merkle_hiding.specs.SaltRefusals.{salted_pruned_refusal_under, salted_sets_refusal}
+use Rattle.p3_merkle_salts.specs.SaltRefusals.{salted_pruned_refusal_under, salted_sets_refusal}
 use Rattle.p3_merkle_hiding.specs.SaltedExtraction.{IsSaltedMultiExtraction, salted_extraction_multi_under, wide_shape}
-use Rattle.p3_merkle_hiding.specs.SaltedOpenings.{SaltedPruned, joined_sets, widened}
+use Rattle.p3_merkle_salts.specs.SaltedOpenings.{SaltedPruned, joined_sets, widened}
 
 module _ {T W : Type 0} where
   -- what is found is found where nothing is refused

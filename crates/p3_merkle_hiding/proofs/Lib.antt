@@ -1,8 +1,5 @@
-mod LoopFacts
-mod SaltFacts
 mod SaltedAnswers
 mod SplitFacts
-mod SaltingFacts
 mod CommitFacts
 mod ExtractedFacts
 mod ExtractedSetsFacts

@@ -20,9 +20,9 @@ use Rattle.p3_merkle_core.specs.declared.error.MerkleTreeError.TheVariants.{OutO
 use Rattle.p3_merkle_core.proofs.NoneFacts.{fit_from, none_of_both, none_parts, unless_none}
 use Rattle.p3_merkle_core.proofs.Unrefused.{each_width, size_none}
 use Rattle.p3_merkle_core.proofs.Verdicts.{accepted_answer, accepted_from, pruned_accepted}
-use Rattle.p3_merkle_hiding.proofs.SaltFacts.{can_widen}
-use Rattle.p3_merkle_hiding.specs.SaltRefusals.{first_too_wide, salt_refusal, salt_sets_refusal, salted_pruned_refusal_under, salted_refusal_under, salted_rows_refusal, salted_sets_refusal, widening_refusal}
-use Rattle.p3_merkle_hiding.specs.SaltedOpenings.{CanWiden, HaveSalts, IsSaltedAccepted, IsSaltedPrunedAccepted, SaltedOpening, SaltedPruned, joined, joined_sets, widened}
+use Rattle.p3_merkle_salts.proofs.SaltFacts.{can_widen}
+use Rattle.p3_merkle_salts.specs.SaltRefusals.{first_too_wide, salt_refusal, salt_sets_refusal, salted_pruned_refusal_under, salted_refusal_under, salted_rows_refusal, salted_sets_refusal, widening_refusal}
+use Rattle.p3_merkle_salts.specs.SaltedOpenings.{CanWiden, HaveSalts, IsSaltedAccepted, IsSaltedPrunedAccepted, SaltedOpening, SaltedPruned, joined, joined_sets, widened}
 
 -- ---- widths
 

@@ -17,11 +17,11 @@ use Rattle.p3_merkle_core.proofs.NoneFacts.{none_of_both, none_parts}
 use Rattle.p3_merkle_tree.specs.CommitmentLaws.{dimensions_are}
 use Rattle.p3_merkle_hiding.proofs.SaltedAnswers.{widening}
 use Rattle.p3_merkle_hiding.proofs.SplitFacts.{wide_is}
-use Rattle.p3_merkle_hiding.specs.SaltRefusals.{salted_commit_refusal, widening_refusal}
+use Rattle.p3_merkle_salts.specs.SaltRefusals.{salted_commit_refusal, widening_refusal}
 use Rattle.p3_merkle_hiding.specs.SaltedCommitments.{CanCommitSalted}
 use Rattle.p3_merkle_hiding.specs.SaltedExtraction.{wide_shape}
-use Rattle.p3_merkle_hiding.specs.SaltedOpenings.{CanWiden}
-use Rattle.p3_merkle_hiding.specs.SaltedTrees.{HaveSaltColumns, pair_matrix}
+use Rattle.p3_merkle_salts.specs.SaltedOpenings.{CanWiden}
+use Rattle.p3_merkle_salts.specs.SaltedTrees.{HaveSaltColumns, pair_matrix}
 
 module _ {T M : Type 0} (height width : M → ℕ) (row : M → ℕ → List T) (e : ℕ) (ms : List M) where
   -- matrices are refused exactly if they can't be committed to

@@ -14,8 +14,8 @@ use Rattle.p3_merkle_core.specs.Pruning.{pruned_of}
 use Rattle.p3_merkle_core.specs.Openings.{IsAccepted, honest_rows, opening_of}
 use Rattle.p3_merkle_builder.proofs.RowFacts.{row_inside}
 use Rattle.p3_merkle_builder.specs.Views.{matrix_of}
-use Rattle.p3_merkle_hiding.specs.SaltedOpenings.{CanWiden, HaveSalts, IsSaltedAccepted, IsSaltedPrunedAccepted, salt_parts, salted_rows, salted_sets, unsalted_parts, widened}
-use Rattle.p3_merkle_hiding.specs.SaltedTrees.{HaveSaltColumns, left_batch, pair_matrix, right_batch}
+use Rattle.p3_merkle_salts.specs.SaltedOpenings.{CanWiden, HaveSalts, IsSaltedAccepted, IsSaltedPrunedAccepted, salt_parts, salted_rows, salted_sets, unsalted_parts, widened}
+use Rattle.p3_merkle_salts.specs.SaltedTrees.{HaveSaltColumns, left_batch, pair_matrix, right_batch}
 
 -- ---- rows that are taken apart
 

@@ -9,7 +9,7 @@ use Rattle.p3_support.specs.declared.opening.BatchOpeningRef.{BatchOpeningRef}
 use Rattle.p3_support.specs.Shown.{row_lists, row_sets}
 use Rattle.p3_merkle_core.specs.declared.pruning.PrunedProof.{PrunedProof}
 use Rattle.p3_merkle_tree.specs.declared.mmcs.Scheme.{Scheme}
-use Rattle.p3_merkle_hiding.specs.SaltedOpenings.{SaltedOpening, SaltedPruned}
+use Rattle.p3_merkle_salts.specs.SaltedOpenings.{SaltedOpening, SaltedPruned}
 use Rattle.p3_merkle_hiding.specs.declared.hiding_mmcs.HidingScheme.{HidingScheme}
 
 module _ {P PW H C R X G V W : Type 0} {N E : ℕ} {p : packed.Ghosts P V} {pd : default.Ghosts V} {pe : equality.Ghosts V} {q : packed.Ghosts PW W} {qd : default.Ghosts W} {qe : equality.Ghosts W} where

@@ -1,7 +1,7 @@
-pub mod SaltedOpenings
-pub mod SaltRefusals
+pub use Rattle.p3_merkle_salts.specs.SaltedOpenings
+pub use Rattle.p3_merkle_salts.specs.SaltRefusals
+pub use Rattle.p3_merkle_salts.specs.SaltedTrees
 pub mod HidingSchemes
-pub mod SaltedTrees
 pub mod SaltedExtraction
 pub mod SaltedCommitments
 pub mod SaltedCommitmentLaws

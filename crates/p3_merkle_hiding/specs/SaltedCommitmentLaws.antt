@@ -19,8 +19,8 @@ use Rattle.p3_merkle_tree.specs.CommitmentLaws.{greatest_is, same_is_equivalence
 use Rattle.p3_merkle_tree.specs.Commitments.{IsSameScheme}
 use Rattle.p3_merkle_hiding.specs.HidingSchemes.{plain_of}
 use Rattle.p3_merkle_hiding.specs.SaltedCommitments.{IsSaltedShown}
-use Rattle.p3_merkle_hiding.specs.SaltedOpenings.{HaveSalts, IsSaltedPrunedAccepted, SaltedPruned, joined_sets, salted_rows, salted_sets, widened}
-use Rattle.p3_merkle_hiding.specs.SaltedTrees.{pair_matrix}
+use Rattle.p3_merkle_salts.specs.SaltedOpenings.{HaveSalts, IsSaltedPrunedAccepted, SaltedPruned, joined_sets, salted_rows, salted_sets, widened}
+use Rattle.p3_merkle_salts.specs.SaltedTrees.{pair_matrix}
 use Rattle.p3_merkle_hiding.specs.declared.hiding_mmcs.HidingScheme.{HidingScheme}
 
 module _ {P PW H C R X G V W : Type 0} {N E : ℕ} {p : packed.Ghosts P V} {pd : default.Ghosts V} {pe : equality.Ghosts V} {q : packed.Ghosts PW W} {qd : default.Ghosts W} {qe : equality.Ghosts W} where

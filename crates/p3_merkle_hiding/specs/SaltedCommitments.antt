@@ -8,8 +8,8 @@ use Rattle.p3_merkle_builder.specs.Views.{heights_in}
 use Rattle.p3_merkle_core.specs.Geometry.{IsLawful}
 use Rattle.p3_merkle_core.specs.Nodes.{Batch, Functions}
 use Rattle.p3_merkle_tree.specs.Commitments.{IsCommitment}
-use Rattle.p3_merkle_hiding.specs.SaltedOpenings.{CanWiden, IsSaltedAccepted, salted_of}
-use Rattle.p3_merkle_hiding.specs.SaltedTrees.{HaveSaltColumns}
+use Rattle.p3_merkle_salts.specs.SaltedOpenings.{CanWiden, IsSaltedAccepted, salted_of}
+use Rattle.p3_merkle_salts.specs.SaltedTrees.{HaveSaltColumns}
 
 -- matrices that can be committed to with e salts a row: their heights are lawful, and their widths with the salts are sizes
 pub record CanCommitSalted {T M : Type 0} (height width : M → ℕ) (row : M → ℕ → List T) (e : ℕ) (matrices : List M) : Type 0 where

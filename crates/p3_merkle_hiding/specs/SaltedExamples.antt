@@ -3,8 +3,8 @@ use Rattle.std.specs.Prelude.{◌≡◌, ◌^◌, ◌-◌, ℕ, List, [], ◌∷
 use Rattle.p3_support.specs.declared.matrix.Dimensions.{Dimensions}
 use Rattle.p3_merkle_core.specs.Geometry.{exponent}
 use Rattle.p3_merkle_core.specs.declared.error.MerkleTreeError.TheVariants.{EmptyBatch, TooLarge, WrongBatchSize, WrongWidth}
-use Rattle.p3_merkle_hiding.specs.SaltRefusals.{salted_commit_refusal, salted_rows_refusal, salted_sets_refusal}
-use Rattle.p3_merkle_hiding.specs.SaltedOpenings.{salt_parts, salted_rows, unsalted_parts, widened}
+use Rattle.p3_merkle_salts.specs.SaltRefusals.{salted_commit_refusal, salted_rows_refusal, salted_sets_refusal}
+use Rattle.p3_merkle_salts.specs.SaltedOpenings.{salt_parts, salted_rows, unsalted_parts, widened}
 
 -- one matrix of this width and height
 abbrev one : ℕ → ℕ → List Dimensions

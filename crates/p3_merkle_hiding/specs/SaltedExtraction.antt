@@ -13,8 +13,8 @@ use Rattle.p3_merkle_core.specs.declared.error.MerkleTreeError.TheVariants.{OutO
 use Rattle.p3_merkle_checker.specs.Collisions.{AnswerAlike, AnswerAnyRowTwice, AnswerOneRowTwice, AnswersUnlessMemory, IsCollision}
 use Rattle.p3_merkle_checker.specs.declared.collision.InputPair.{InputPair}
 use Rattle.p3_merkle_pairs.specs.Pairs.{AgreeBefore, AllAgree, AnswersPairUnlessMemory, CollideAt}
-use Rattle.p3_merkle_hiding.specs.SaltRefusals.{salted_pruned_refusal_under, salted_refusal_under}
-use Rattle.p3_merkle_hiding.specs.SaltedOpenings.{IsSaltedAccepted, IsSaltedPrunedAccepted, SaltedOpening, SaltedPruned, joined, joined_sets, widened}
+use Rattle.p3_merkle_salts.specs.SaltRefusals.{salted_pruned_refusal_under, salted_refusal_under}
+use Rattle.p3_merkle_salts.specs.SaltedOpenings.{IsSaltedAccepted, IsSaltedPrunedAccepted, SaltedOpening, SaltedPruned, joined, joined_sets, widened}
 
 -- the shape of matrices with e more columns
 abbrev pub wide_shape : ℕ → ℕ → List Dimensions → Shape

@@ -11,8 +11,8 @@ ghost use Rattle.p3_merkle_tree.specs.Schemes.{proof_layer, scheme_functions};
 ghost use Rattle.p3_support.specs.Pairs.{left_of};
 ghost use Rattle.p3_support.specs.Shown.{roots_of};
 ghost use Rattle.p3_merkle_hiding.specs.HidingSchemes.{generator_of, plain_of};
-ghost use Rattle.p3_merkle_hiding.specs.SaltRefusals.{salted_commit_refusal};
-ghost use Rattle.p3_merkle_hiding.specs.SaltedTrees.{HaveSaltColumns};
+ghost use Rattle.p3_merkle_salts.specs.SaltRefusals.{salted_commit_refusal};
+ghost use Rattle.p3_merkle_salts.specs.SaltedTrees.{HaveSaltColumns};
 
 use crate::hiding_mmcs::{MerkleTreeHidingMmcs, SaltedTree};
 use crate::salting::checked_pairs;

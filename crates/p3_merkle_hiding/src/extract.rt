@@ -6,7 +6,7 @@ ghost use Rattle.p3_merkle_hiding.specs.HidingSchemes.{plain_of, salted_lent, sa
 ghost use Rattle.p3_merkle_hiding.specs.SaltedExtraction.{wide_shape, IsSaltedExtraction, IsSaltedMultiExtraction};
 
 use crate::hiding_mmcs::{MerkleTreeHidingMmcs, SaltedMultiProof, SaltedProof};
-use crate::salts::{SaltedRows, SaltedSets};
+use crate::salted::{SaltedRows, SaltedSets};
 use p3_merkle_core::error::MerkleTreeError;
 use p3_merkle_tree::Collision;
 use p3_support::compress::PseudoCompressionFunction;

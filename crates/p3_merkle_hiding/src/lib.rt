@@ -7,9 +7,8 @@ mod extract;
 mod fork;
 pub mod hiding_mmcs;
 mod open;
-pub mod pairs;
-pub mod salting;
-pub mod salts;
+pub mod salted;
+mod salting;
 mod scheme_trait;
 mod verify;
 

@@ -12,13 +12,13 @@ ghost use Rattle.p3_merkle_tree.specs.Schemes.{proof_layer, scheme_functions};
 ghost use Rattle.p3_support.specs.Pairs.{left_of};
 ghost use Rattle.p3_support.specs.Shown.{row_lists, row_sets};
 ghost use Rattle.p3_merkle_hiding.specs.HidingSchemes.{plain_of, salted_made, salted_pruned_made};
-ghost use Rattle.p3_merkle_hiding.specs.SaltedOpenings.{IsSaltedAccepted, IsSaltedPrunedAccepted};
-ghost use Rattle.p3_merkle_hiding.specs.SaltedTrees.{left_batch, right_batch, HaveSaltColumns};
+ghost use Rattle.p3_merkle_salts.specs.SaltedOpenings.{IsSaltedAccepted, IsSaltedPrunedAccepted};
+ghost use Rattle.p3_merkle_salts.specs.SaltedTrees.{left_batch, right_batch, HaveSaltColumns};
 
 use crate::hiding_mmcs::{MerkleTreeHidingMmcs, SaltedMultiProof, SaltedProof, SaltedTree};
-use crate::pairs::{left_matrices, left_widths};
-use crate::salts::{split_row_sets, split_rows};
 use p3_merkle_core::error::MerkleTreeError;
+use p3_merkle_salts::pairs::{left_matrices, left_widths};
+use p3_merkle_salts::salts::{split_row_sets, split_rows};
 use p3_support::compress::PseudoCompressionFunction;
 use p3_support::hasher::CryptographicHasher;
 use p3_support::matrix::Matrix;

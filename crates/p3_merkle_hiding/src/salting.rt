@@ -1,4 +1,4 @@
-//! Matrices that get their salts.
+//! Matrices that get their salts, once their heights and widths are checked.
 
 ghost use Rattle.std.specs.Prelude.{◌≡◌, ◌≤◌, ◌⊎◌, IfErr, IfOk, OnOk, map};
 ghost use Rattle.p3_merkle_builder.specs.Built.{OkUnlessRefused};
@@ -7,50 +7,19 @@ ghost use Rattle.p3_merkle_core.specs.Nodes.{dimensions_of};
 ghost use Rattle.p3_merkle_core.specs.Salted.{after_salts, salted_matrices};
 ghost use Rattle.p3_merkle_core.specs.declared.error.MerkleTreeError.TheVariants.{OutOfMemory};
 ghost use Rattle.p3_support.specs.Pairs.{left_of};
-ghost use Rattle.p3_merkle_hiding.specs.SaltRefusals.{salted_commit_refusal};
-ghost use Rattle.p3_merkle_hiding.specs.SaltedOpenings.{CanWiden};
-ghost use Rattle.p3_merkle_hiding.specs.SaltedTrees.{pair_matrix, HaveSaltColumns};
+ghost use Rattle.p3_merkle_salts.specs.SaltRefusals.{salted_commit_refusal};
+ghost use Rattle.p3_merkle_salts.specs.SaltedTrees.{pair_matrix, HaveSaltColumns};
 
-use crate::salts::check_widening;
 use p3_merkle_core::error::MerkleTreeError;
 use p3_merkle_core::geometry::check_heights;
 use p3_merkle_layers::levels::dimensions_of;
+use p3_merkle_salts::salting::salted_pairs;
+use p3_merkle_salts::salts::check_widening;
 use p3_support::matrix::{Matrix, RowMajorMatrix};
 use p3_support::pair::HorizontalPair;
 use p3_support::salts::SaltWord;
 use rand_core::Rng;
 use std::alloc::{AllocError, Global};
-
-/// Each matrix beside its salts, `salt_elems` for each of its rows, drawn from the generator: for the matrices in their
-/// order, for the rows of each ascending, one call of `next_u64` for each salt.
-///
-/// There is at least one salt for a row, and each matrix can have as many more columns.
-///
-/// # Errors
-///
-/// Want of memory. The generator stands after the draws of those matrices that got their salts.
-pub fn salted_pairs<T: SaltWord, M: Matrix<T> + Drop, R: Rng>(
-    alloc: Global,
-    rng: &mut R,
-    salt_elems: usize,
-    matrices: Vec<M>,
-) -> Result<Vec<HorizontalPair<T, M, RowMajorMatrix<T>>>, AllocError>
-    requires some_salt { 1 ≤ salt_elems }
-    requires fits { CanWiden salt_elems (dimensions_of (map (matrix_of M.height_of M.width_of M.row_of) matrices.items)) }
-    ensures matrices { IfOk result (λ pairs. map left_of pairs.items ≡ matrices.items) }
-    ensures columns { IfOk result (λ pairs. HaveSaltColumns salt_elems pairs.items) }
-    ensures salted { let ms = map (matrix_of M.height_of M.width_of M.row_of) matrices.items in
-        IfOk result (λ pairs. map pair_matrix pairs.items ≡ salted_matrices T.of_salt_word salt_elems ms (R.stream rng.old)) }
-    ensures rest { let ms = map (matrix_of M.height_of M.width_of M.row_of) matrices.items in
-        OnOk result (R.stream rng.new ≡ after_salts salt_elems ms (R.stream rng.old)) }
-{
-    let mut pairs = Vec::with_capacity(alloc, matrices.len())?;
-    for matrix in matrices {
-        let salts = RowMajorMatrix::rand(alloc, rng, matrix.height(), salt_elems)?;
-        pairs.push(HorizontalPair::new(matrix, salts))?;
-    }
-    Ok(pairs)
-}
 
 /// Each matrix beside its salts, as [`salted_pairs`] draws them, where the matrices can be committed to with as many salts
 /// a row.

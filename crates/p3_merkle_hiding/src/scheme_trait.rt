@@ -15,7 +15,7 @@ ghost use Rattle.p3_merkle_hiding.specs.HidingSchemes.{plain_of, salted_lent};
 ghost use Rattle.p3_merkle_hiding.specs.SaltedCommitmentLaws.{each_salted_shown, left_lawful, same_plain_is_equivalence};
 ghost use Rattle.p3_merkle_hiding.specs.SaltedCommitments.{CanCommitSalted, IsSaltedCommitment, IsSaltedShown};
 ghost use Rattle.p3_merkle_hiding.specs.SaltedExtraction.{wide_shape};
-ghost use Rattle.p3_merkle_hiding.specs.SaltedOpenings.{salted_of, salted_pruned_of, IsSaltedAccepted, IsSaltedPrunedAccepted};
+ghost use Rattle.p3_merkle_salts.specs.SaltedOpenings.{salted_of, salted_pruned_of, IsSaltedAccepted, IsSaltedPrunedAccepted};
 
 use crate::hiding_mmcs::{MerkleTreeHidingMmcs, SaltedMultiProof, SaltedProof, SaltedTree};
 use p3_merkle_builder::tree::Tree;

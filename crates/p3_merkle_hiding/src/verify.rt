@@ -7,11 +7,11 @@ ghost use Rattle.p3_merkle_builder.specs.Built.{OkUnlessRefused};
 ghost use Rattle.p3_merkle_tree.specs.Schemes.{proof_layer, scheme_functions};
 ghost use Rattle.p3_support.specs.Shown.{roots_of};
 ghost use Rattle.p3_merkle_hiding.specs.HidingSchemes.{plain_of, salted_lent, salted_pruned_lent};
-ghost use Rattle.p3_merkle_hiding.specs.SaltRefusals.{salted_pruned_refusal_under, salted_refusal_under};
-ghost use Rattle.p3_merkle_hiding.specs.SaltedOpenings.{widened, IsSaltedAccepted, IsSaltedPrunedAccepted};
+ghost use Rattle.p3_merkle_salts.specs.SaltRefusals.{salted_pruned_refusal_under, salted_refusal_under};
+ghost use Rattle.p3_merkle_salts.specs.SaltedOpenings.{widened, IsSaltedAccepted, IsSaltedPrunedAccepted};
 
 use crate::hiding_mmcs::{MerkleTreeHidingMmcs, SaltedMultiProof, SaltedProof};
-use crate::salts::{SaltedRows, SaltedSets};
+use crate::salted::{SaltedRows, SaltedSets};
 use p3_merkle_core::error::MerkleTreeError;
 use p3_support::compress::PseudoCompressionFunction;
 use p3_support::hasher::CryptographicHasher;

@@ -6,7 +6,7 @@ use Rattle.p3_merkle_builder.specs.Views.{matrix_of}
 use Rattle.p3_merkle_core.specs.Gate.{gate_refusal}
 use Rattle.p3_merkle_core.specs.Geometry.{heights_of}
 use Rattle.p3_merkle_core.specs.Nodes.{dimensions_of}
-use Rattle.p3_merkle_hiding.specs.SaltRefusals.{salted_commit_refusal, widening_refusal}
+use Rattle.p3_merkle_salts.specs.SaltRefusals.{salted_commit_refusal, widening_refusal}
 use Rattle.p3_merkle_hiding.proofs.CommitFacts.{commit_none, nothing_drawn, nothing_made, stays}
 use Rattle.p3_merkle_hiding.proofs.salting.checked_pairs.Goals as goal
 

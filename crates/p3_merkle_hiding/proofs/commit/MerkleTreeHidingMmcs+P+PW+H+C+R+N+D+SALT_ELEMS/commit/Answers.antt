@@ -11,8 +11,8 @@ use Rattle.p3_merkle_core.specs.Geometry.{heights_of}
 use Rattle.p3_merkle_core.specs.Nodes.{Batch, Matrix, dimensions_of, layer, layers, shape}
 use Rattle.p3_merkle_tree.specs.Schemes.{proof_layer, scheme_functions}
 use Rattle.p3_merkle_hiding.specs.HidingSchemes.{generator_of, plain_of}
-use Rattle.p3_merkle_hiding.specs.SaltRefusals.{salted_commit_refusal, widening_refusal}
-use Rattle.p3_merkle_hiding.specs.SaltedTrees.{HaveSaltColumns, pair_matrix}
+use Rattle.p3_merkle_salts.specs.SaltRefusals.{salted_commit_refusal, widening_refusal}
+use Rattle.p3_merkle_salts.specs.SaltedTrees.{HaveSaltColumns, pair_matrix}
 use Rattle.p3_merkle_core.proofs.NoneFacts.{none_parts}
 use Rattle.p3_merkle_hiding.proofs.CommitFacts.{gate_stays, memory_alone, memory_or, nothing_drawn, nothing_made, on_ok, unrefused}
 use Rattle.p3_merkle_hiding.proofs.commit.MerkleTreeHidingMmcs+P+PW+H+C+R+N+D+SALT_ELEMS.commit.Goals as goal

@@ -8,8 +8,8 @@ use Rattle.p3_merkle_core.specs.declared.error.MerkleTreeError.TheVariants.{OutO
 use Rattle.p3_merkle_tree.specs.Schemes.{cap_height_of, cap_rule_of, opening_lent, scheme_functions}
 use Rattle.p3_support.specs.Shown.{roots_of, row_lists}
 use Rattle.p3_merkle_hiding.specs.HidingSchemes.{plain_of, salted_lent}
-use Rattle.p3_merkle_hiding.specs.SaltRefusals.{salted_rows_refusal}
-use Rattle.p3_merkle_hiding.specs.SaltedOpenings.{salted_rows}
+use Rattle.p3_merkle_salts.specs.SaltRefusals.{salted_rows_refusal}
+use Rattle.p3_merkle_salts.specs.SaltedOpenings.{salted_rows}
 use Rattle.p3_merkle_hiding.proofs.ExtractedFacts.{both_joined, first_refused, second_refused}
 use Rattle.p3_merkle_hiding.proofs.SaltedAnswers.{said}
 use Rattle.p3_merkle_hiding.proofs.extract.MerkleTreeHidingMmcs+P+PW+H+C+R+N+D+SALT_ELEMS.extract_collision.Goals as goal

@@ -9,8 +9,8 @@ use Rattle.p3_support.specs.Pairs.{left_of}
 use Rattle.p3_support.specs.Shown.{row_lists}
 use Rattle.p3_merkle_hiding.proofs.SplitFacts.{left_is, right_is, salted_from}
 use Rattle.p3_merkle_hiding.specs.HidingSchemes.{plain_of}
-use Rattle.p3_merkle_hiding.specs.SaltedOpenings.{IsSaltedAccepted, SaltedOpening, salt_parts, unsalted_parts}
-use Rattle.p3_merkle_hiding.specs.SaltedTrees.{left_batch}
+use Rattle.p3_merkle_salts.specs.SaltedOpenings.{IsSaltedAccepted, SaltedOpening, salt_parts, unsalted_parts}
+use Rattle.p3_merkle_salts.specs.SaltedTrees.{left_batch}
 use Rattle.p3_merkle_hiding.proofs.open.MerkleTreeHidingMmcs+P+PW+H+C+R+N+D+SALT_ELEMS.open_batch.Goals as goal
 
 pub returns-clause-rows : goal.returns-clause-rows

@@ -10,8 +10,8 @@ use Rattle.p3_support.specs.Pairs.{left_of}
 use Rattle.p3_support.specs.Shown.{row_sets}
 use Rattle.p3_merkle_hiding.proofs.SplitFacts.{left_sets_are, right_sets_are, salted_pruned_from}
 use Rattle.p3_merkle_hiding.specs.HidingSchemes.{plain_of}
-use Rattle.p3_merkle_hiding.specs.SaltedOpenings.{IsSaltedPrunedAccepted, SaltedPruned, salt_parts, unsalted_parts}
-use Rattle.p3_merkle_hiding.specs.SaltedTrees.{left_batch}
+use Rattle.p3_merkle_salts.specs.SaltedOpenings.{IsSaltedPrunedAccepted, SaltedPruned, salt_parts, unsalted_parts}
+use Rattle.p3_merkle_salts.specs.SaltedTrees.{left_batch}
 use Rattle.p3_merkle_hiding.proofs.open.MerkleTreeHidingMmcs+P+PW+H+C+R+N+D+SALT_ELEMS.open_multi_batch.Goals as goal
 
 pub returns-clause-rows : goal.returns-clause-rows

@@ -13,8 +13,8 @@ use Rattle.p3_merkle_tree.specs.Schemes.{proof_layer, scheme_functions}
 use Rattle.p3_merkle_hiding.proofs.SaltedCommitmentFacts.{pairs_wide}
 use Rattle.p3_merkle_hiding.specs.HidingSchemes.{plain_of, salted_made}
 use Rattle.p3_merkle_hiding.specs.SaltedExtraction.{wide_shape}
-use Rattle.p3_merkle_hiding.specs.SaltedOpenings.{IsSaltedAccepted}
-use Rattle.p3_merkle_hiding.specs.SaltedTrees.{left_batch}
+use Rattle.p3_merkle_salts.specs.SaltedOpenings.{IsSaltedAccepted}
+use Rattle.p3_merkle_salts.specs.SaltedTrees.{left_batch}
 use Rattle.p3_merkle_hiding.proofs.scheme_trait.MerkleTreeHidingMmcsMmcsValue.open_batch.Goals as goal
 
 pub returns-clause-rows : goal.returns-clause-rows

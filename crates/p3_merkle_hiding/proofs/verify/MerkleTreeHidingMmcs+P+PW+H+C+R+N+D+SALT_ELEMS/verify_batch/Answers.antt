@@ -5,8 +5,8 @@ use Rattle.p3_merkle_core.specs.Openings.{opening_of}
 use Rattle.p3_merkle_tree.specs.Schemes.{cap_height_of, cap_rule_of, opening_lent, proof_layer, scheme_functions}
 use Rattle.p3_support.specs.Shown.{roots_of, row_lists}
 use Rattle.p3_merkle_hiding.specs.HidingSchemes.{plain_of, salted_lent}
-use Rattle.p3_merkle_hiding.specs.SaltRefusals.{salted_rows_refusal}
-use Rattle.p3_merkle_hiding.specs.SaltedOpenings.{salted_rows, widened}
+use Rattle.p3_merkle_salts.specs.SaltRefusals.{salted_rows_refusal}
+use Rattle.p3_merkle_salts.specs.SaltedOpenings.{salted_rows, widened}
 use Rattle.p3_merkle_hiding.proofs.SaltedAnswers.{accepted_when_ok, answered_joined, ok_when_accepted}
 use Rattle.p3_merkle_hiding.proofs.verify.MerkleTreeHidingMmcs+P+PW+H+C+R+N+D+SALT_ELEMS.verify_batch.Goals as goal
 

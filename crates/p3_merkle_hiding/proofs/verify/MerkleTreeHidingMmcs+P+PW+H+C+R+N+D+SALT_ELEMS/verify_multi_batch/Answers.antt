@@ -5,8 +5,8 @@ use Rattle.p3_merkle_core.specs.Pruning.{pruned_of}
 use Rattle.p3_merkle_tree.specs.Schemes.{cap_height_of, cap_rule_of, proof_layer, pruned_lent, scheme_functions}
 use Rattle.p3_support.specs.Shown.{roots_of, row_sets}
 use Rattle.p3_merkle_hiding.specs.HidingSchemes.{plain_of, salted_pruned_lent}
-use Rattle.p3_merkle_hiding.specs.SaltRefusals.{salted_sets_refusal}
-use Rattle.p3_merkle_hiding.specs.SaltedOpenings.{salted_sets, widened}
+use Rattle.p3_merkle_salts.specs.SaltRefusals.{salted_sets_refusal}
+use Rattle.p3_merkle_salts.specs.SaltedOpenings.{salted_sets, widened}
 use Rattle.p3_merkle_hiding.proofs.SaltedAnswers.{all_accepted_when_ok, answered_joined_sets, ok_when_all_accepted}
 use Rattle.p3_merkle_hiding.proofs.verify.MerkleTreeHidingMmcs+P+PW+H+C+R+N+D+SALT_ELEMS.verify_multi_batch.Goals as goal
 

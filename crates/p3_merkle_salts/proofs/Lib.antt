@@ -1,0 +1,3 @@
+mod LoopFacts
+pub mod SaltFacts
+mod SaltingFacts

@@ -1,0 +1,37 @@
+-- One more matrix gets its salts.
+use Rattle.std.proofs.Common.{◌≡◌, ℕ, suc, ◌+◌, ◌*◌, ◌<◌, ◌^◌, List, [], ◌∷◌, ◌++◌, map, refl, ◌∙◌, arith, append_assoc}
+use Rattle.std.proofs.lemmas.List.{map-append}
+use Rattle.rand_core.specs.Stream.{Stream}
+use Rattle.p3_support.specs.Salts.{after_words, salts}
+use Rattle.p3_merkle_core.specs.Nodes.{Matrix, dimensions_of}
+use Rattle.p3_merkle_core.specs.Salted.{after_salts, salted, salted_matrices}
+use Rattle.p3_merkle_salts.specs.SaltedOpenings.{CanWiden}
+
+-- the first of some matrices that can be wider can be, and so can the others
+pub first_fits : {T : Type 0} (e : ℕ) (m : Matrix T) (ms all : List (Matrix T)) → all ≡ m ∷ ms → CanWiden e (dimensions_of all) → m.width + e < 2 ^ 64
+first_fits e m ms all is fits = let here = rw is at fits in here 0 (record { width = 0; height = 0 }) (omega arith)
+
+pub others_fit : {T : Type 0} (e : ℕ) (m : Matrix T) (ms all : List (Matrix T)) → all ≡ m ∷ ms → CanWiden e (dimensions_of all) → CanWiden e (dimensions_of ms)
+others_fit e m ms all is fits = λ k d h. let here = rw is at fits in here (suc k) d (omega arith)
+
+module _ {T A : Type 0} (of_word : ℕ → T) (e : ℕ) (shown : A → Matrix T) where
+  -- the salted matrix joins those before it, and the rest is still to come
+  pub pairs_more : (done more all : List (Matrix T)) (m : A) (left rest : List A) (p : Matrix T) (s t : Stream) → left ≡ m ∷ rest → t ≡ after_words ((shown m).height * e) s →
+      p ≡ salted e (salts of_word ((shown m).height * e) s) (shown m) → more ≡ done ++ p ∷ [] →
+      done ++ salted_matrices of_word e (map shown left) s ≡ all → more ++ salted_matrices of_word e (map shown rest) t ≡ all
+  pairs_more done more all m left rest p s t is after made pushed before =
+      let now : more ++ salted_matrices of_word e (map shown rest) t ≡ done ++ salted_matrices of_word e (map shown left) s = rw (is, pushed, made, after, append_assoc) refl in
+      now ∙ before
+
+  -- the stream is so many words further
+  pub stream_more : (m : A) (left rest : List A) (s t end : Stream) → left ≡ m ∷ rest → t ≡ after_words ((shown m).height * e) s →
+      after_salts e (map shown left) s ≡ end → after_salts e (map shown rest) t ≡ end
+  stream_more m left rest s t end is after before =
+      let now : after_salts e (map shown rest) t ≡ after_salts e (map shown left) s = rw (is, after) refl in
+      now ∙ before
+
+-- what is shown of one more joins what is shown of those before it
+pub same_more : {X A : Type 0} (f : X → A) (done more : List X) (x : X) (m : A) (left rest all : List A) → left ≡ m ∷ rest → f x ≡ m → more ≡ done ++ x ∷ [] → map f done ++ left ≡ all → map f more ++ rest ≡ all
+same_more f done more x m left rest all is shows pushed before =
+    let now : map f more ++ rest ≡ map f done ++ left = rw (is, pushed, map-append, append_assoc, shows) refl in
+    now ∙ before

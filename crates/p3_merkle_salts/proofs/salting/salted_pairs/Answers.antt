@@ -1,0 +1,53 @@
+-- Each turn draws the salts of one more matrix.
+use Rattle.std.proofs.Common.{◌≡◌, ◌∙◌, ◌+◌, ◌*◌, List, [], ◌∷◌, ◌++◌, ap, map, subst, sym}
+use Rattle.std.proofs.lemmas.List.Elements.{All-push}
+use Rattle.std.specs.Vec.Iter.{into_iter_items}
+use Rattle.std.proofs.lemmas.List.{map-append}
+use Rattle.p3_support.specs.Lists.{message}
+use Rattle.p3_support.specs.Pairs.{left_of, right_of}
+use Rattle.p3_support.specs.RowMajor.{row_width, values_of}
+use Rattle.p3_support.specs.Salts.{after_words, salts}
+use Rattle.p3_merkle_layers.specs.Views.{matrix_of}
+use Rattle.p3_merkle_core.specs.Salted.{after_salts, salted, salted_matrices}
+use Rattle.p3_merkle_salts.proofs.SaltingFacts.{first_fits, others_fit, pairs_more, same_more, stream_more}
+use Rattle.p3_merkle_salts.specs.SaltedTrees.{HaveSaltColumns, pair_matrix}
+use Rattle.p3_merkle_salts.proofs.salting.salted_pairs.Goals as goal
+
+pub new-requires-clause-width_fits : goal.new-requires-clause-width_fits
+new-requires-clause-width_fits g c =
+    let shown = matrix_of g.M.Matrix.height_of g.M.Matrix.width_of g.M.Matrix.row_of in
+    let turn = c.in-Some.ensures.steps.0 in
+    let fits = first_fits c.args.salt_elems (shown c.in-Some.matrix) (map shown (into_iter_items c.next.new.self)) (map shown (into_iter_items c.loop-matrix.matrix-iterator)) (ap (map shown) turn) c.loop-matrix.invariant.fits in
+    rw c.in_ok-salts.ensures.width fits
+
+pub loop-matrix-preserved : goal.loop-matrix-preserved
+loop-matrix-preserved g c =
+    let shown = matrix_of g.M.Matrix.height_of g.M.Matrix.width_of g.M.Matrix.row_of in
+    let of_word = g.T.SaltWord.of_salt_word in
+    let e = c.args.salt_elems in
+    let m = c.in-Some.matrix in
+    let left = into_iter_items c.loop-matrix.matrix-iterator in
+    let rest = into_iter_items c.next.new.self in
+    let turn = c.in-Some.ensures.steps.0 in
+    let before = g.R.Rng.stream c.loop-matrix.rng in
+    let start = g.R.Rng.stream c.args.rng.now in
+    let all = map shown c.args.matrices.items in
+    let after = c.in_ok-salts.ensures.rest ∙ ap (λ h. after_words (h * e) before) c.height.ensures in
+    let width = ap row_width c.new.ensures.right ∙ c.in_ok-salts.ensures.width in
+    let values = ap values_of c.new.ensures.right ∙ c.in_ok-salts.ensures.values ∙ ap (λ h. salts of_word (h * e) before) c.height.ensures in
+    let made : pair_matrix c.new.result ≡ salted e (salts of_word (g.M.Matrix.height_of m * e) before) (shown m) =
+    λ i. record {
+      height = g.M.Matrix.height_of (c.new.ensures.left i);
+      width = g.M.Matrix.width_of (c.new.ensures.left i) + width i;
+      row = λ j. g.M.Matrix.row_of (c.new.ensures.left i) j ++ message (width i) (values i) j;
+    } in
+    let pushed = c.in_ok-push.ensures.items in
+    record {
+      fits = others_fit e (shown m) (map shown rest) (map shown left) (ap (map shown) turn) c.loop-matrix.invariant.fits;
+      same = same_more left_of c.loop-matrix.pairs.items c.push.new.self.items c.new.result m left rest c.args.matrices.items turn c.new.ensures.left pushed c.loop-matrix.invariant.same;
+      columns = subst (λ (pairs : List _). HaveSaltColumns e pairs) (sym pushed) (All-push (λ pair. row_width (right_of pair) ≡ e) c.loop-matrix.pairs.items c.new.result c.loop-matrix.invariant.columns width);
+      salted =
+          pairs_more of_word e shown (map pair_matrix c.loop-matrix.pairs.items) (map pair_matrix c.push.new.self.items) (salted_matrices of_word e all start) m left rest (pair_matrix c.new.result) before (g.R.Rng.stream c.rand.new.rng) turn after made
+          (ap (map pair_matrix) pushed ∙ map-append pair_matrix c.loop-matrix.pairs.items (c.new.result ∷ [])) c.loop-matrix.invariant.salted;
+      end = stream_more of_word e shown m left rest before (g.R.Rng.stream c.rand.new.rng) (after_salts e all start) turn after c.loop-matrix.invariant.end;
+    }

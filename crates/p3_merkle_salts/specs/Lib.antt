@@ -1,0 +1,3 @@
+pub mod SaltedOpenings
+pub mod SaltRefusals
+pub mod SaltedTrees

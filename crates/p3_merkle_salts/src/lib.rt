@@ -1,0 +1,6 @@
+//! Rows and their salts, and matrices beside theirs.
+#![tactic(auto)]
+
+pub mod pairs;
+pub mod salting;
+pub mod salts;

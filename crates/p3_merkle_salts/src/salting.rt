@@ -1,0 +1,46 @@
+//! Matrices that get their salts.
+
+ghost use Rattle.std.specs.Prelude.{◌≡◌, ◌≤◌, IfOk, OnOk, map};
+ghost use Rattle.p3_merkle_core.specs.Nodes.{dimensions_of};
+ghost use Rattle.p3_merkle_core.specs.Salted.{after_salts, salted_matrices};
+ghost use Rattle.p3_merkle_layers.specs.Views.{matrix_of};
+ghost use Rattle.p3_support.specs.Pairs.{left_of};
+ghost use Rattle.p3_merkle_salts.specs.SaltedOpenings.{CanWiden};
+ghost use Rattle.p3_merkle_salts.specs.SaltedTrees.{pair_matrix, HaveSaltColumns};
+
+use p3_support::matrix::{Matrix, RowMajorMatrix};
+use p3_support::pair::HorizontalPair;
+use p3_support::salts::SaltWord;
+use rand_core::Rng;
+use std::alloc::{AllocError, Global};
+
+/// Each matrix beside its salts, `salt_elems` for each of its rows, drawn from the generator: for the matrices in their
+/// order, for the rows of each ascending, one call of `next_u64` for each salt.
+///
+/// There is at least one salt for a row, and each matrix can have as many more columns.
+///
+/// # Errors
+///
+/// Want of memory. The generator stands after the draws of those matrices that got their salts.
+pub fn salted_pairs<T: SaltWord, M: Matrix<T> + Drop, R: Rng>(
+    alloc: Global,
+    rng: &mut R,
+    salt_elems: usize,
+    matrices: Vec<M>,
+) -> Result<Vec<HorizontalPair<T, M, RowMajorMatrix<T>>>, AllocError>
+    requires some_salt { 1 ≤ salt_elems }
+    requires fits { CanWiden salt_elems (dimensions_of (map (matrix_of M.height_of M.width_of M.row_of) matrices.items)) }
+    ensures matrices { IfOk result (λ pairs. map left_of pairs.items ≡ matrices.items) }
+    ensures columns { IfOk result (λ pairs. HaveSaltColumns salt_elems pairs.items) }
+    ensures salted { let ms = map (matrix_of M.height_of M.width_of M.row_of) matrices.items in
+        IfOk result (λ pairs. map pair_matrix pairs.items ≡ salted_matrices T.of_salt_word salt_elems ms (R.stream rng.old)) }
+    ensures rest { let ms = map (matrix_of M.height_of M.width_of M.row_of) matrices.items in
+        OnOk result (R.stream rng.new ≡ after_salts salt_elems ms (R.stream rng.old)) }
+{
+    let mut pairs = Vec::with_capacity(alloc, matrices.len())?;
+    for matrix in matrices {
+        let salts = RowMajorMatrix::rand(alloc, rng, matrix.height(), salt_elems)?;
+        pairs.push(HorizontalPair::new(matrix, salts))?;
+    }
+    Ok(pairs)
+}

@@ -1,0 +1,208 @@
+//! Rows and their salts: what is checked of both, and what is hashed. No call here knows a hash.
+
+ghost use Rattle.std.specs.Prelude.{◌≡◌, ◌++◌, map, IfOk, MatchResult, None, Some};
+ghost use Rattle.p3_merkle_core.specs.Geometry.{widths_of};
+ghost use Rattle.p3_merkle_salts.specs.SaltRefusals.{first_too_wide, salt_refusal, salt_sets_refusal, widening_refusal};
+ghost use Rattle.p3_merkle_salts.specs.SaltedOpenings.{salt_parts, salted_rows, salted_sets, unsalted_parts, widened, CanWiden};
+ghost use Rattle.p3_support.specs.Shown.{row_lists, row_sets};
+
+use p3_merkle_core::error::MerkleTreeError;
+use p3_merkle_core::geometry::check_widths;
+use p3_support::matrix::Dimensions;
+use std::alloc::{AllocError, Global};
+
+/// Whether there is one row for each matrix, as wide as its matrix without salts, and one list of salts for each row.
+///
+/// # Errors
+///
+/// `WrongBatchSize` where there are not as many rows as matrices; else `WrongWidth` for the first row whose length is
+/// not its matrix's width; else `WrongBatchSize` where there are not as many lists of salts as rows.
+pub fn check_salts<T>(
+    dimensions: &[Dimensions],
+    rows: &[Vec<T>],
+    salts: &[Vec<T>],
+) -> Result<(), MerkleTreeError>
+    ensures { let refusal = salt_refusal dimensions.now (row_lists rows.now) (row_lists salts.now) in
+        MatchResult result (λ ok. refusal ≡ None) (λ e. refusal ≡ Some e) }
+{
+    check_widths(dimensions, rows)?;
+    if salts.len() != rows.len() {
+        return Err(MerkleTreeError::WrongBatchSize {
+            expected: rows.len(),
+            got: salts.len(),
+        });
+    }
+    Ok(())
+}
+
+/// Whether there are as many salt sets as row sets, and each row set with its salt set passes [`check_salts`].
+///
+/// # Errors
+///
+/// `WrongBatchSize` where there are not as many salt sets as row sets; else what `check_salts` answers to the first
+/// row set that it refuses.
+pub fn check_salt_sets<T>(
+    dimensions: &[Dimensions],
+    sets: &[Vec<Vec<T>>],
+    salts: &[Vec<Vec<T>>],
+) -> Result<(), MerkleTreeError>
+    ensures { let refusal = salt_sets_refusal dimensions.now (row_sets sets.now) (row_sets salts.now) in
+        MatchResult result (λ ok. refusal ≡ None) (λ e. refusal ≡ Some e) }
+{
+    if salts.len() != sets.len() {
+        return Err(MerkleTreeError::WrongBatchSize {
+            expected: sets.len(),
+            got: salts.len(),
+        });
+    }
+    for (rows, salt) in sets.iter().zip(salts) {
+        check_salts(dimensions, rows, salt)?;
+    }
+    Ok(())
+}
+
+/// The place of the first matrix of which the width with `salt_elems` more columns passes `usize`.
+fn first_too_wide_of(dimensions: &[Dimensions], salt_elems: usize) -> Option<usize>
+    ensures { result ≡ first_too_wide salt_elems (widths_of dimensions.now) }
+{
+    dimensions
+        .iter()
+        .map(|matrix| matrix.width)
+        .position(|width| width > usize::MAX - salt_elems)
+}
+
+/// Whether each matrix can have `salt_elems` more columns.
+///
+/// # Errors
+///
+/// `TooLarge` for the first matrix whose width with them passes `usize`; its `size` is the width without them.
+pub fn check_widening(dimensions: &[Dimensions], salt_elems: usize) -> Result<(), MerkleTreeError>
+    ensures answer { let refusal = widening_refusal salt_elems dimensions.now in
+        MatchResult result (λ ok. refusal ≡ None) (λ e. refusal ≡ Some e) }
+    ensures fits { IfOk result (λ ok. CanWiden salt_elems dimensions.now) }
+{
+    if let Some(matrix) = first_too_wide_of(dimensions, salt_elems) {
+        return Err(MerkleTreeError::TooLarge {
+            matrix,
+            size: dimensions[matrix].width,
+        });
+    }
+    Ok(())
+}
+
+/// The dimensions of matrices that have `salt_elems` more columns.
+///
+/// # Errors
+///
+/// Want of memory.
+pub fn widened_dimensions(
+    alloc: Global,
+    dimensions: &[Dimensions],
+    salt_elems: usize,
+) -> Result<Vec<Dimensions>, AllocError>
+    requires { CanWiden salt_elems dimensions.now }
+    ensures { IfOk result (λ v. v.items ≡ widened salt_elems dimensions.now) }
+{
+    let mut wider = Vec::with_capacity(alloc, dimensions.len())?;
+    for matrix in dimensions {
+        wider.push(Dimensions {
+            width: matrix.width + salt_elems,
+            height: matrix.height,
+        })?;
+    }
+    Ok(wider)
+}
+
+/// Each row followed by its salts.
+///
+/// # Errors
+///
+/// Want of memory.
+pub fn joined_rows<T: Copy>(
+    alloc: Global,
+    rows: &[Vec<T>],
+    salts: &[Vec<T>],
+) -> Result<Vec<Vec<T>>, AllocError>
+    ensures { IfOk result (λ v. row_lists v.items ≡ salted_rows (row_lists rows.now) (row_lists salts.now)) }
+{
+    let mut joined = Vec::with_capacity(alloc, rows.len())?;
+    for (row, salt) in rows.iter().zip(salts) {
+        joined.push(joined_row(alloc, row, salt)?)?;
+    }
+    Ok(joined)
+}
+
+/// A row followed by its salts.
+fn joined_row<T: Copy>(alloc: Global, row: &[T], salt: &[T]) -> Result<Vec<T>, AllocError>
+    ensures { IfOk result (λ v. v.items ≡ row.now ++ salt.now) }
+{
+    let mut joined = Vec::with_capacity(alloc, row.len().saturating_add(salt.len()))?;
+    joined.extend_from_slice(row)?;
+    joined.extend_from_slice(salt)?;
+    Ok(joined)
+}
+
+/// The same of several queries: a row set and a salt set for each.
+///
+/// # Errors
+///
+/// Want of memory.
+pub fn joined_row_sets<T: Copy>(
+    alloc: Global,
+    sets: &[Vec<Vec<T>>],
+    salts: &[Vec<Vec<T>>],
+) -> Result<Vec<Vec<Vec<T>>>, AllocError>
+    ensures { IfOk result (λ v. row_sets v.items ≡ salted_sets (row_sets sets.now) (row_sets salts.now)) }
+{
+    let mut joined = Vec::with_capacity(alloc, sets.len())?;
+    for (rows, salt) in sets.iter().zip(salts) {
+        joined.push(joined_rows(alloc, rows, salt)?)?;
+    }
+    Ok(joined)
+}
+
+/// Rows taken apart at these widths: what stands before, and what stands after.
+///
+/// # Errors
+///
+/// Want of memory.
+pub fn split_rows<T: Copy>(
+    alloc: Global,
+    widths: &[usize],
+    rows: &[Vec<T>],
+) -> Result<(Vec<Vec<T>>, Vec<Vec<T>>), AllocError>
+    ensures rows { IfOk result (λ v. row_lists v.0.items ≡ unsalted_parts widths.now (row_lists rows.now)) }
+    ensures salts { IfOk result (λ v. row_lists v.1.items ≡ salt_parts widths.now (row_lists rows.now)) }
+{
+    let mut unsalted = Vec::with_capacity(alloc, rows.len())?;
+    let mut salts = Vec::with_capacity(alloc, rows.len())?;
+    for (row, width) in rows.iter().zip(widths) {
+        let (front, back) = row.split_at(row.len().min(*width));
+        unsalted.push(Vec::from_slice(alloc, front)?)?;
+        salts.push(Vec::from_slice(alloc, back)?)?;
+    }
+    Ok((unsalted, salts))
+}
+
+/// The same of the row sets of several queries.
+///
+/// # Errors
+///
+/// Want of memory.
+pub fn split_row_sets<T: Copy>(
+    alloc: Global,
+    widths: &[usize],
+    sets: &[Vec<Vec<T>>],
+) -> Result<(Vec<Vec<Vec<T>>>, Vec<Vec<Vec<T>>>), AllocError>
+    ensures rows { IfOk result (λ v. row_sets v.0.items ≡ map (unsalted_parts widths.now) (row_sets sets.now)) }
+    ensures salts { IfOk result (λ v. row_sets v.1.items ≡ map (salt_parts widths.now) (row_sets sets.now)) }
+{
+    let mut unsalted = Vec::with_capacity(alloc, sets.len())?;
+    let mut salts = Vec::with_capacity(alloc, sets.len())?;
+    for rows in sets {
+        let (front, back) = split_rows(alloc, widths, rows)?;
+        unsalted.push(front)?;
+        salts.push(back)?;
+    }
+    Ok((unsalted, salts))
+}
