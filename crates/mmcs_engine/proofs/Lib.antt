@@ -1,13 +1,3 @@
-pub mod WordFacts
-pub mod NumberFacts
-pub mod Runs
-pub mod BlankFacts
-pub mod RowsCut
-pub mod BlockFacts
-pub mod MatrixFacts
-pub mod InputLaws
-pub mod InputFacts
-pub mod RowFacts
 pub mod FaultFacts
 pub mod GateFacts
 pub mod TextFacts

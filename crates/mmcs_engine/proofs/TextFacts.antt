@@ -1,10 +1,10 @@
 -- Lines behind lines.
-use Rattle.std.proofs.Common.{◌≡◌, ℕ, ◌+◌, ◌<◌, List, [], ◌∷◌, ◌++◌, length, get_or, take, map, sym, ap, ◌∙◌, append_assoc}
+use Rattle.std.proofs.Common.{◌≡◌, ℕ, ◌+◌, ◌<◌, List, [], ◌++◌, length, get_or, take, map, sym, ap, ◌∙◌, append_assoc}
 use Rattle.std.specs.Prelude.{codes, flat_map}
-use Rattle.std.proofs.lemmas.List.{flat_map_more, get_or-map, map_more, take_more}
+use Rattle.std.proofs.lemmas.List.{flat_map_more, get_or-map, take_more}
 use Rattle.p3_merkle_core.specs.Nodes.{Batch}
 use Rattle.p3_merkle_core.specs.Openings.{honest_rows}
-use Rattle.mmcs_engine.specs.Text.{labelled, query_lines, row_line}
+use Rattle.mmcs_text.specs.Text.{labelled, query_lines, row_line}
 
 -- what is opened of one more index
 pub queries_more : (b : Batch ℕ) (sets : List (List (List ℕ))) (indices : List ℕ) (k index : ℕ) (old before named after : List ℕ) → sets ≡ map (honest_rows b) indices → k < length indices → index ≡ get_or indices k 0 →
@@ -20,12 +20,3 @@ queries_more b sets indices k index old before named after sets_are within index
     ∙ ap (λ t. t ++ F own) before_is
     ∙ flat_map_more F old (take k indices) own
     ∙ ap (λ xs. old ++ flat_map F xs) (sym (take_more indices k 0 within))
-
--- one more row
-pub rows_more : {R : Type 0} (values : R → List ℕ) (rows : List R) (i : ℕ) (row : R) (old before after : List ℕ) → i < length rows → row ≡ get_or rows i row → before ≡ old ++ flat_map row_line (map values (take i rows)) →
-    after ≡ before ++ row_line (values row) → after ≡ old ++ flat_map row_line (map values (take (i + 1) rows))
-rows_more values rows i row old before after within row_is before_is after_is =
-    after_is
-    ∙ ap (λ t. t ++ row_line (values row)) before_is
-    ∙ flat_map_more row_line old (map values (take i rows)) (values row)
-    ∙ ap (λ xs. old ++ flat_map row_line xs) (sym (map_more values rows i row within ∙ ap (λ r. map values (take i rows) ++ values r ∷ []) (sym row_is)))

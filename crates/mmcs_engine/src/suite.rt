@@ -9,16 +9,16 @@ ghost use Rattle.p3_merkle_core.specs.PrunedCalls.{own_digests, pruned_len, prun
 ghost use Rattle.p3_merkle_core.specs.Pruning.{pruned_of};
 ghost use Rattle.p3_merkle_core.specs.declared.error.MerkleTreeError.TheVariants.{OutOfMemory};
 ghost use Rattle.p3_merkle_tree.specs.Built.{OkUnlessRefused};
-ghost use Rattle.mmcs_engine.specs.Input.{pieces_of, IsFirstFault, StandsFor};
-ghost use Rattle.mmcs_engine.specs.Matrices.{batch_of_rows};
+ghost use Rattle.mmcs_text.specs.Input.{pieces_of, IsFirstFault, StandsFor};
+ghost use Rattle.mmcs_text.specs.Matrices.{batch_of_rows};
+ghost use Rattle.mmcs_text.specs.Text.{hex_lines, row_line};
+ghost use Rattle.mmcs_text.specs.Words.{is_taken_arity, max_word};
+ghost use Rattle.mmcs_text.specs.declared.command.HashName.{HashName};
+ghost use Rattle.mmcs_text.specs.declared.fault.Fault.TheVariants.{Tree};
 ghost use Rattle.mmcs_engine.specs.Program.{functions_of_hash, hex_digits, layer_of_cap};
-ghost use Rattle.mmcs_engine.specs.Text.{hex_lines, row_line};
-ghost use Rattle.mmcs_engine.specs.Words.{is_taken_arity, max_word};
-ghost use Rattle.mmcs_engine.specs.declared.command.HashName.{HashName};
-ghost use Rattle.mmcs_engine.specs.declared.fault.Fault.TheVariants.{Tree};
 
-use crate::command::CapChoice;
-use crate::fault::Fault;
+use mmcs_text::command::CapChoice;
+use mmcs_text::fault::Fault;
 use p3_merkle_tree::MerkleTreeError;
 use p3_support::matrix::Dimensions;
 use std::alloc::{AllocError, Global};

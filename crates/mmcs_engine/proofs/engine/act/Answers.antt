@@ -2,8 +2,8 @@ use Rattle.std.proofs.Common.{◌≡◌, ◌∙◌, List, ℕ, sym, ap, subst}
 use Rattle.std.specs.Prelude.{IfOk}
 use Rattle.p3_merkle_core.specs.Geometry.{shape_of}
 use Rattle.p3_merkle_core.specs.Nodes.{shape, Batch}
-use Rattle.mmcs_engine.specs.declared.command.Action.{Action}
-use Rattle.mmcs_engine.specs.declared.command.Action.TheVariants.{Open}
+use Rattle.mmcs_text.specs.declared.command.Action.{Action}
+use Rattle.mmcs_text.specs.declared.command.Action.TheVariants.{Open}
 use Rattle.mmcs_engine.specs.Program.{layer_of_cap, text_of}
 use Rattle.mmcs_engine.proofs.GateFacts.{below_of}
 use Rattle.mmcs_engine.proofs.engine.act.Goals as goal

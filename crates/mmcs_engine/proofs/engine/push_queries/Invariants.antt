@@ -2,7 +2,7 @@ use Rattle.std.proofs.Common.{◌≡◌, ◌++◌, ℕ, take, map}
 use Rattle.std.specs.Prelude.{flat_map}
 use Rattle.p3_merkle_core.specs.Nodes.{Batch}
 use Rattle.p3_merkle_core.specs.Openings.{honest_rows}
-use Rattle.mmcs_engine.specs.Text.{query_lines}
+use Rattle.mmcs_text.specs.Text.{query_lines}
 use Rattle.mmcs_engine.proofs.engine.push_queries.Given as goal
 
 abbrev pub invariant-loop-place : goal.invariant-loop-place

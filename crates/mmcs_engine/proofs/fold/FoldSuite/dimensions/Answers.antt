@@ -2,7 +2,7 @@ use Rattle.std.proofs.Common.{◌∙◌, map, ap}
 use Rattle.std.proofs.lemmas.Result.{IfOk-weaker}
 use Rattle.p3_support.specs.RowMajor.{row_count, row_width}
 use Rattle.p3_merkle_core.specs.Geometry.{shape_of}
-use Rattle.mmcs_engine.proofs.MatrixFacts.{stored_dimensions}
+use Rattle.mmcs_text.proofs.MatrixFacts.{stored_dimensions}
 use Rattle.mmcs_engine.proofs.fold.FoldSuite.dimensions.Goals as goal
 
 pub returns : goal.returns

@@ -2,8 +2,8 @@ use Rattle.std.proofs.Common.{◌≡◌, ◌++◌, ◌<◌, ◌∙◌, ℕ, List
 use Rattle.std.specs.Prelude.{flat_map, slice_index_or, OnOk}
 use Rattle.std.proofs.lemmas.List.{get_or-map, length-map}
 use Rattle.p3_support.specs.Shown.{row_lists, row_sets}
-use Rattle.mmcs_engine.specs.Text.{row_line}
-use Rattle.mmcs_engine.proofs.MatrixFacts.{rows_plain}
+use Rattle.mmcs_text.specs.Text.{row_line}
+use Rattle.mmcs_text.proofs.MatrixFacts.{rows_plain}
 use Rattle.mmcs_engine.proofs.sha256.Sha256Suite.push_rows.Goals as goal
 
 pub returns : goal.returns

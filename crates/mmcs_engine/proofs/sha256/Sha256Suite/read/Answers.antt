@@ -1,6 +1,6 @@
 use Rattle.std.proofs.Common.{◌∙◌, ap}
 use Rattle.std.proofs.lemmas.Result.{IfOk-weaker}
-use Rattle.mmcs_engine.proofs.MatrixFacts.{stored_plain}
+use Rattle.mmcs_text.proofs.MatrixFacts.{stored_plain}
 use Rattle.mmcs_engine.proofs.sha256.Sha256Suite.read.Goals as goal
 
 pub returns-clause-matrices : goal.returns-clause-matrices

@@ -1,0 +1,65 @@
+-- A stored matrix by its rows.
+use Rattle.std.proofs.Common.{◌≡◌, ℕ, ◌*◌, ◌/◌, ◌<◌, List, [], ◌∷◌, length, map, sym, ap, ◌∙◌, refl}
+use Rattle.std.specs.Prelude.{slice_index_or, flat_map}
+use Rattle.std.specs.List.{AllZip}
+use Rattle.std.specs.declared.vec.Vec.{Vec}
+use Rattle.p3_support.specs.declared.matrix.RowMajorMatrix.{RowMajorMatrix}
+use Rattle.p3_support.specs.Lists.{message}
+use Rattle.p3_support.specs.RowMajor.{values_of, row_width, row_count}
+use Rattle.std.proofs.lemmas.List.{length-map, get_or-map, map-id}
+use Rattle.std.proofs.lemmas.List.Elements.{All-get_or}
+use Rattle.std.proofs.Math.Nat.{mul-div_cancel}
+use Rattle.mmcs_text.specs.Input.{numbers_of, StandsFor}
+use Rattle.mmcs_text.specs.Blocks.{IsBlock}
+use Rattle.p3_merkle_core.specs.Nodes.{shape}
+use Rattle.mmcs_text.specs.Matrices.{matrix_of_rows, matrix_of_words, stored_batch, stored_matrix}
+use Rattle.mmcs_text.proofs.RowsCut.{length_of_rows, row_range}
+
+module _ {W : Type 0} (value : W → ℕ) where
+  -- a stored matrix has these rows
+  abbrev pub Shows : RowMajorMatrix W → List (List ℕ) → Type 0
+  Shows m rows = matrix_of_words value m ≡ matrix_of_rows rows
+
+  -- stored matrices, each with its rows
+  pub matrices_shown : (stored : List (RowMajorMatrix W)) (matrices : List (List (List ℕ))) → AllZip Shows stored matrices → map (matrix_of_words value) stored ≡ map matrix_of_rows matrices
+  matrices_shown [] [] each = refl
+  matrices_shown [] (rows ∷ matrices) each = absurd each
+  matrices_shown (m ∷ stored) [] each = absurd each
+  matrices_shown (m ∷ stored) (rows ∷ matrices) each = λ i. each.0 i ∷ matrices_shown stored matrices each.1 i
+
+  -- the values of a block, stored under its width
+  pub block_shown : (limit : ℕ) (matrix : RowMajorMatrix W) (lines : List (List ℕ)) (values : List W) (width : ℕ) → 0 < width → values_of matrix ≡ values → row_width matrix ≡ width →
+      length values ≡ row_count matrix * width → IsBlock limit lines (map value values) width → Shows matrix (map numbers_of lines)
+  block_shown limit matrix lines values width some values_are width_is full block =
+      let numbers_are : map value (values_of matrix) ≡ flat_map numbers_of lines = ap (map value) values_are ∙ block.values_are in
+      let lines_fill : length lines * width ≡ row_count matrix * width =
+      sym (length_of_rows numbers_of width lines block.widths) ∙ ap length (sym block.values_are) ∙ length-map values value ∙ full in
+      let height_is : row_count matrix ≡ length (map numbers_of lines) = sym (mul-div_cancel (row_count matrix) some) ∙ ap (λ v. v / width) (sym lines_fill) ∙ mul-div_cancel (length lines) some ∙ sym (length-map lines numbers_of) in
+      let first_is : width ≡ length (slice_index_or (map numbers_of lines) 0 []) =
+      sym (All-get_or (λ l. length (numbers_of l) ≡ width) lines 0 [] (block.some_above_0 some) block.widths) ∙ ap length (sym (get_or-map numbers_of lines 0 [] [] (block.some_above_0 some))) in
+      let row_is : (r : ℕ) → message (row_width matrix) (map value (values_of matrix)) r ≡ slice_index_or (map numbers_of lines) r [] =
+      λ r. ap (λ w. message w (map value (values_of matrix)) r) width_is ∙ row_range numbers_of width lines (map value (values_of matrix)) r block.widths numbers_are in
+      λ i. record { height = height_is i; width = (width_is ∙ first_is) i; row = λ r. row_is r i }
+
+  -- an input's matrices, as one list
+  pub matrices_found : (limit : ℕ) (input : List ℕ) (stored : List (RowMajorMatrix W)) → (matrices : List (List (List ℕ))) × StandsFor limit input matrices × AllZip Shows stored matrices →
+      (matrices : List (List (List ℕ))) × StandsFor limit input matrices × (map (matrix_of_words value) stored ≡ map matrix_of_rows matrices)
+  matrices_found limit input stored found = (found.0, found.1, matrices_shown stored found.0 found.2)
+
+-- of numbers it is the matrix that was stored
+stored_same : (m : RowMajorMatrix ℕ) → stored_matrix m ≡ matrix_of_words (λ n. n) m
+stored_same m = λ i. record { height = row_count m; width = row_width m; row = λ r. message (row_width m) (sym (map-id (values_of m)) i) r }
+
+pub stored_plain : (stored : List (RowMajorMatrix ℕ)) → map stored_matrix stored ≡ map (matrix_of_words (λ n. n)) stored
+stored_plain [] = refl
+stored_plain (m ∷ stored) = λ i. stored_same m i ∷ stored_plain stored i
+
+-- nor are rows of numbers others than these
+pub rows_plain : {A : Type 0} (rows : List (Vec ℕ A)) → map (λ (row : Vec ℕ A). map (λ n. n) row.items) rows ≡ map (λ (row : Vec ℕ A). row.items) rows
+rows_plain [] = refl
+rows_plain (row ∷ rows) = λ i. map-id row.items i ∷ rows_plain rows i
+
+-- the dimensions of stored matrices
+pub stored_dimensions : (stored : List (RowMajorMatrix ℕ)) (arity : ℕ) → map (λ m. record { width = row_width m; height = row_count m }) stored ≡ (shape (stored_batch arity stored)).dimensions
+stored_dimensions [] arity = refl
+stored_dimensions (m ∷ stored) arity = ap (λ ds. record { width = row_width m; height = row_count m } ∷ ds) (stored_dimensions stored arity)

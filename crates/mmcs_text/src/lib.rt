@@ -1,0 +1,10 @@
+//! What the program `mmcs` reads and writes as text: the words of a command, the matrices of an input, the lines that are
+//! printed, and the fault that ends it. No tree is known of here.
+#![tactic(auto)]
+
+pub mod command;
+pub mod fault;
+pub mod input;
+mod number;
+pub mod text;
+pub mod word;

@@ -1,0 +1,188 @@
+//! The printed text.
+
+ghost use Rattle.std.specs.Prelude.{◌≡◌, ◌∷◌, ◌++◌, ◌<◌, IfOk, OnOk, decimal, flat_map, map, string_bytes};
+ghost use Rattle.mmcs_text.specs.Text.{hex_digit, hex_lines, hex_word, labelled, row_line};
+
+use crate::word::Word;
+use std::alloc::{AllocError, Global};
+
+/// Appends a line for each digest: its words in lower case hexadecimal, eight digits each.
+///
+/// # Errors
+///
+/// `AllocError` where there is no memory.
+pub fn push_word_digests<const D: usize>(
+    text: &mut Vec<u8>,
+    digests: &[[u32; D]],
+) -> Result<(), AllocError>
+    ensures { OnOk result (text.new.items ≡ text.old.items ++ hex_lines 8 digests.now) }
+{
+    for digest in digests {
+        push_words(text, digest)?;
+        text.push(b'\n')?;
+    }
+    Ok(())
+}
+
+/// Appends words in hexadecimal, eight digits each.
+///
+/// # Errors
+///
+/// `AllocError` where there is no memory.
+fn push_words(text: &mut Vec<u8>, words: &[u32]) -> Result<(), AllocError>
+    ensures { OnOk result (text.new.items ≡ text.old.items ++ flat_map (hex_word 8) words.now) }
+{
+    for word in words {
+        text.extend_from_slice(&digits_of_word(*word))?;
+    }
+    Ok(())
+}
+
+/// The eight digits of a word.
+fn digits_of_word(word: u32) -> [u8; 8]
+    ensures { result ≡ hex_word 8 word }
+{
+    [
+        hex_digit(word / 0x1000_0000 % 16),
+        hex_digit(word / 0x100_0000 % 16),
+        hex_digit(word / 0x10_0000 % 16),
+        hex_digit(word / 0x1_0000 % 16),
+        hex_digit(word / 0x1000 % 16),
+        hex_digit(word / 0x100 % 16),
+        hex_digit(word / 0x10 % 16),
+        hex_digit(word % 16),
+    ]
+}
+
+/// Appends a line for each digest: its bytes in lower case hexadecimal, two digits each.
+///
+/// # Errors
+///
+/// `AllocError` where there is no memory.
+pub fn push_byte_digests<const D: usize>(
+    text: &mut Vec<u8>,
+    digests: &[[u8; D]],
+) -> Result<(), AllocError>
+    ensures { OnOk result (text.new.items ≡ text.old.items ++ hex_lines 2 digests.now) }
+{
+    for digest in digests {
+        push_bytes(text, digest)?;
+        text.push(b'\n')?;
+    }
+    Ok(())
+}
+
+/// Appends bytes in hexadecimal, two digits each.
+///
+/// # Errors
+///
+/// `AllocError` where there is no memory.
+fn push_bytes(text: &mut Vec<u8>, bytes: &[u8]) -> Result<(), AllocError>
+    ensures { OnOk result (text.new.items ≡ text.old.items ++ flat_map (hex_word 2) bytes.now) }
+{
+    for byte in bytes {
+        text.extend_from_slice(&digits_of_byte(*byte))?;
+    }
+    Ok(())
+}
+
+/// The two digits of a byte.
+fn digits_of_byte(byte: u8) -> [u8; 2]
+    ensures { result ≡ hex_word 2 byte }
+{
+    let byte = u32::from(byte);
+    [hex_digit(byte / 16), hex_digit(byte % 16)]
+}
+
+/// A digit in lower case hexadecimal, of a number below 16.
+fn hex_digit(digit: u32) -> u8
+    requires { digit < 16 }
+    ensures { result ≡ hex_digit digit }
+{
+    let digit = digit as u8;
+    if digit < 10 {
+        b'0' + digit
+    } else {
+        b'a' + (digit - 10)
+    }
+}
+
+/// Appends a line for each row: its numbers in decimal, with one space between.
+///
+/// # Errors
+///
+/// `AllocError` where there is no memory.
+pub fn push_rows<W: Word>(
+    alloc: Global,
+    text: &mut Vec<u8>,
+    rows: &[Vec<W>],
+) -> Result<(), AllocError>
+    ensures { OnOk result (text.new.items ≡ text.old.items ++ flat_map row_line (map (λ row. map W.value row.items) rows.now)) }
+{
+    for row in rows {
+        push_row(alloc, text, row)?;
+    }
+    Ok(())
+}
+
+/// Appends the numbers of a row in decimal, with one space between, and a line feed.
+///
+/// # Errors
+///
+/// `AllocError` where there is no memory.
+fn push_row<W: Word>(alloc: Global, text: &mut Vec<u8>, row: &[W]) -> Result<(), AllocError>
+    ensures { OnOk result (text.new.items ≡ text.old.items ++ row_line (map W.value row.now)) }
+{
+    let line = row_line(alloc, row)?;
+    text.extend_from_slice(line.as_bytes())
+}
+
+/// The numbers of a row in decimal, with one space between, and a line feed.
+///
+/// # Errors
+///
+/// `AllocError` where there is no memory.
+fn row_line<W: Word>(alloc: Global, row: &[W]) -> Result<String, AllocError>
+    ensures { IfOk result (λ line. string_bytes line ≡ row_line (map W.value row.now)) }
+{
+    let Some((first, rest)) = row.split_first() else {
+        return String::from_str(alloc, "\n");
+    };
+    let first = first.to_number();
+    let mut line = format!(in alloc; "{first}")?;
+    push_spaced(&mut line, rest)?;
+    line.push('\n')?;
+    Ok(line)
+}
+
+/// Appends numbers in decimal, each behind a space.
+///
+/// # Errors
+///
+/// `AllocError` where there is no memory.
+fn push_spaced<W: Word>(line: &mut String, words: &[W]) -> Result<(), AllocError>
+    ensures { OnOk result (string_bytes line.new ≡ string_bytes line.old ++ flat_map (λ w. 32 ∷ decimal w) (map W.value words.now)) }
+{
+    for word in words {
+        let number = word.to_number();
+        write!(line, " {number}")?;
+    }
+    Ok(())
+}
+
+/// Appends a word, a space, a number in decimal, and a line feed.
+///
+/// # Errors
+///
+/// `AllocError` where there is no memory.
+pub fn push_labelled(
+    alloc: Global,
+    text: &mut Vec<u8>,
+    label: &str,
+    number: usize,
+) -> Result<(), AllocError>
+    ensures { OnOk result (text.new.items ≡ text.old.items ++ labelled label.now number) }
+{
+    let line = format!(in alloc; "{label} {number}\n")?;
+    text.extend_from_slice(line.as_bytes())
+}
