@@ -19,7 +19,7 @@ use p3_support::matrix::{Matrix, RowMajorMatrix};
 use p3_support::pair::HorizontalPair;
 use p3_support::salts::SaltWord;
 use rand_core::Rng;
-use std::alloc::{AllocError, Global};
+use std::alloc::Global;
 
 /// Each matrix beside its salts, as [`salted_pairs`] draws them, where the matrices can be committed to with as many salts
 /// a row.
