@@ -2,8 +2,8 @@
 
 use crate::hiding::counting::Counting;
 use crate::hiding::fixtures::{
-    OneSalt, Opening, Salted, cap_of, columns, dimensions_of, one_salt, opened, opened_together,
-    opening, sets, values_of,
+    Cap, OneSalt, Opening, Salted, Tree, cap_of, columns, dimensions_of, one_salt, opened,
+    opened_together, opening, sets, values_of,
 };
 use p3_instances::fold::{FoldCompress, FoldHash};
 use p3_merkle_tree::{BatchOpeningRef, CapRule, MerkleTreeError, PrunedProofError};
@@ -85,33 +85,67 @@ fn several_openings_have_their_salts_and_one_proof(rt: HostRuntime) -> Result<()
     Ok(())
 }
 
+/// Checks what is read out of the tree of the lower row 5 beside the rows 1 and 2.
+fn assert_read_out(
+    rt: &impl Abort,
+    alloc: Global,
+    scheme: &OneSalt,
+    tree: &Tree,
+) -> Result<(), Fail> {
+    assert_eq!(rt; scheme.get_max_height(tree), 2);
+    let matrices = scheme.get_matrices(alloc, tree)?;
+    assert_eq!(rt;
+        values_of(alloc, &matrices)?.as_slice(),
+        [[5u32].as_slice(), [1, 2].as_slice()].as_slice()
+    );
+    Ok(())
+}
+
+/// Opens its leaf 1, and verifies that.
+fn assert_opened_alone(
+    rt: &impl Abort,
+    alloc: Global,
+    scheme: &OneSalt,
+    cap: &Cap,
+    tree: &Tree,
+) -> Result<(), Fail> {
+    let found = opened(alloc, scheme, 1, tree)?;
+    assert_opening(rt, alloc, &found, &[&[5], &[2]], &[&[10], &[30]], &[1012])?;
+    let sizes = dimensions_of(alloc, &[(1, 1), (1, 2)])?;
+    scheme.verify_batch(alloc, cap, &sizes, 1, BatchOpeningRef::from(&found))?;
+    Ok(())
+}
+
+/// Opens both of its leaves at once, the later one first, and verifies that; and with another salt in the first place.
+fn assert_opened_together(
+    rt: &impl Abort,
+    alloc: Global,
+    scheme: &OneSalt,
+    cap: &Cap,
+    tree: &Tree,
+) -> Result<(), Fail> {
+    let (rows, mut proof) = opened_together(alloc, scheme, &[1, 0], tree)?;
+    assert!(rt; proof.1.sibling_hashes.is_empty());
+    let sizes = dimensions_of(alloc, &[(1, 1), (1, 2)])?;
+    scheme.verify_multi_batch(alloc, cap, &sizes, &[1, 0], &rows, &proof)?;
+    proof.0 = sets(alloc, &[&[&[11], &[30]], &[&[10], &[20]]])?;
+    let refused = scheme.verify_multi_batch(alloc, cap, &sizes, &[1, 0], &rows, &proof);
+    let group = PrunedProofError::InconsistentGroupOpening { slot: 1, matrix: 0 };
+    assert_eq!(rt; refused, Err(MerkleTreeError::from(group)));
+    Ok(())
+}
+
 // The row of the lower matrix comes first and has the salt 10. The leaves are 1012, of 1 and 20, and 1053, of 2 and 30; the
 // digest of 5 and 10 is 1126.
 #[test]
 fn matrices_get_salts_and_are_opened_in_input_order(rt: HostRuntime) -> Result<(), Fail> {
     let alloc = rt.alloc();
-    let sizes = dimensions_of(alloc, &[(1, 1), (1, 2)])?;
     let mut scheme = one_salt();
     let (cap, tree) = scheme.commit(alloc, columns(alloc, &[&[5], &[1, 2]])?)?;
     assert_eq!(rt; cap.roots(), [[1_006_333]].as_slice());
-    assert_eq!(rt; scheme.get_max_height(&tree), 2);
-    let matrices = scheme.get_matrices(alloc, &tree)?;
-    assert_eq!(rt;
-        values_of(alloc, &matrices)?.as_slice(),
-        [[5u32].as_slice(), [1, 2].as_slice()].as_slice()
-    );
-    let found = opened(alloc, &scheme, 1, &tree)?;
-    assert_opening(&rt, alloc, &found, &[&[5], &[2]], &[&[10], &[30]], &[1012])?;
-    scheme.verify_batch(alloc, &cap, &sizes, 1, BatchOpeningRef::from(&found))?;
-
-    let (rows, mut proof) = opened_together(alloc, &scheme, &[1, 0], &tree)?;
-    assert!(rt; proof.1.sibling_hashes.is_empty());
-    scheme.verify_multi_batch(alloc, &cap, &sizes, &[1, 0], &rows, &proof)?;
-    proof.0 = sets(alloc, &[&[&[11], &[30]], &[&[10], &[20]]])?;
-    let refused = scheme.verify_multi_batch(alloc, &cap, &sizes, &[1, 0], &rows, &proof);
-    let group = PrunedProofError::InconsistentGroupOpening { slot: 1, matrix: 0 };
-    assert_eq!(rt; refused, Err(MerkleTreeError::from(group)));
-    Ok(())
+    assert_read_out(&rt, alloc, &scheme, &tree)?;
+    assert_opened_alone(&rt, alloc, &scheme, &cap, &tree)?;
+    assert_opened_together(&rt, alloc, &scheme, &cap, &tree)
 }
 
 /// What a cap of height 1 is under a rule, and what proves the leaf 0 under it: the rule, the cap, the siblings.
