@@ -26,4 +26,4 @@ answered_by_entry same f s t roots o digest node entry known form is_digest is_n
 -- what is answered by Ok has its siblings
 pub reach_from : {T W : Type 0} (same : W → W → Bool) (f : Functions T W) (s : Shape) (t : ℕ) (roots : List (List W)) (o : Opening T W) → IsEquality same → CanCheck s t → Ok tt ≡ answer_under same f s t roots o →
     CanReach s t (length o.siblings)
-reach_from same f s t roots o dec w is = let a = accepted_from same f s t roots o dec (sym is) in record { arity = w.arity; all_siblings = a.count }
+reach_from same f s t roots o dec w is = let a = accepted_from same f s t roots o dec (sym is) in record { arity = w.arity; in_tree = w.in_tree; all_siblings = a.count }

@@ -22,7 +22,8 @@ pub record CanCheck (s : Shape) (t : ℕ) : Type 0 where
   pub arity : IsArity s.arity
   pub in_tree : t ≤ levels s
 
--- the path of an opening has its siblings up to layer t
+-- the path of an opening has its siblings up to layer t, which the tree has
 pub record CanReach (s : Shape) (t count : ℕ) : Type 0 where
   pub arity : IsArity s.arity
+  pub in_tree : t ≤ levels s
   pub all_siblings : count ≡ siblings_below s t

@@ -7,7 +7,8 @@ use Rattle.std.proofs.lemmas.List.{get_or-map, length-map}
 use Rattle.p3_support.specs.Shown.{row_lists}
 use Rattle.p3_merkle_core.specs.Children.{shown_path, shown_paths}
 use Rattle.p3_merkle_core.specs.Extracting.{difference_at, extraction_multi_under, first_pair, input_eq, last_difference, ok_unless}
-use Rattle.p3_merkle_core.specs.Geometry.{Shape, IsArity}
+use Rattle.p3_merkle_core.specs.Geometry.{Shape}
+use Rattle.p3_merkle_checker.specs.Paths.{CanCheck}
 use Rattle.p3_merkle_core.specs.Nodes.{Functions}
 use Rattle.p3_merkle_core.specs.Openings.{Input, Opening, opening_of, shared_inputs}
 use Rattle.p3_merkle_core.specs.PrunedCalls.{restored_paths, row_sets}
@@ -67,16 +68,16 @@ module _ {T W : Type 0} (eq : T → T → Bool) (same : W → W → Bool) (f : F
       }
 
   -- so the queries can be compared where the opening is accepted
-  pub comparable : (cap : List (List W)) (p : PrunedOpening T W) (queries : RestoredQueries T (List W)) → IsEquality eq → IsEquality same → IsArity s.arity → pruned_refusal_under eq same f s t cap p ≡ None →
+  pub comparable : (cap : List (List W)) (p : PrunedOpening T W) (queries : RestoredQueries T (List W)) → IsEquality eq → IsEquality same → CanCheck s t → pruned_refusal_under eq same f s t cap p ≡ None →
       row_sets queries.sets.now ≡ p.rows → shown_paths queries.paths.items ≡ restored_paths f s t p → CanCompare s t queries
   comparable cap p queries dec dec_w w none rows shown =
-      let accepted = (pruned_accepted eq same f s t cap p dec dec_w w).0 (ap verdict none) in
+      let accepted = (pruned_accepted eq same f s t cap p dec dec_w w.arity).0 (ap verdict none) in
       let are = restored p queries rows shown in
       record {
         in_pairs = sym (length-map queries.sets.now (λ set. row_lists set.items)) ∙ ap length rows ∙ accepted.0.agreed.in_pairs ∙ sym are.as_many;
         reach = λ k h.
             let inside : k < length p.indices = omega (arith, are.as_many) in
-            record { arity = w; all_siblings = ap (λ (u : Opening T W). length u.siblings) (are.each k inside) ∙ (accepted.1 k inside).count };
+            record { arity = w.arity; in_tree = w.in_tree; all_siblings = ap (λ (u : Opening T W). length u.siblings) (are.each k inside) ∙ (accepted.1 k inside).count };
       }
 
   -- ---- two openings
