@@ -1,8 +1,10 @@
 -- Slots that are filled in groups, and what each lane of packed digests shows.
 use Rattle.std.proofs.Common.{◌≡◌, ℕ, zero, suc, ◌+◌, ◌-◌, ◌*◌, ◌<◌, ◌≤◌, List, [], ◌∷◌, ◌++◌, length, map, take, drop, get_or, set, replicate, cond, min, ◌^◌, refl, sym, ap, ◌∙◌, arith, inl, inr, append-nil, length-drop}
 use Rattle.std.specs.Prelude.{◌==◌}
+use Rattle.std.specs.List.{flat_map}
 use Rattle.std.proofs.lemmas.Bool.{cases_lt, cases_eq, eq-eqb, ne_eqb}
-use Rattle.std.proofs.lemmas.List.{drop_more, take_more, append_assoc, set_at, length-take-le, get_or_append_left, get_or-append_right, get_or-take, get_or-drop, get_or-replicate}
+use Rattle.std.proofs.lemmas.Grind.{flat_map-append}
+use Rattle.std.proofs.lemmas.List.{drop_more, take_more, take_more_set, append_assoc, set_at, length-take-le, get_or_append_left, get_or-append_right, get_or-take, get_or-drop, get_or-replicate}
 use Rattle.std.proofs.Math.Nat.{mul-le-mul_right, mul-le-mul_left, mul-suc, add-mul, one-mul}
 use Rattle.p3_support.specs.Lists.{lane_of, rows_of_height}
 use borrow.Rule.Slice.PartMut.{put_mid}
@@ -112,6 +114,13 @@ module _ {T M : Type 0} (height : M → ℕ) (row : M → ℕ → List T) (h r :
   pub rows_without : (ms : List M) (i : ℕ) (m : M) → i < length ms → m ≡ get_or ms i m → (height m ≡ h → ⊥) →
       rows_of_height height row h r (take (i + 1) ms) ≡ rows_of_height height row h r (take i ms)
   rows_without ms i m inside is other = rows_take_more ms i m inside is ∙ rw (ne_eqb (height m) h other) (append-nil (rows_of_height height row h r (take i ms)))
+
+-- the words of one more piece, written in place i
+pub piece_more : {X A : Type 0} (words : X → List A) (pieces : List X) (i : ℕ) (piece : X) → i < length pieces → flat_map words (take (i + 1) (set pieces i piece)) ≡ flat_map words (take i pieces) ++ words piece
+piece_more words pieces i piece inside =
+    ap (flat_map words) (take_more_set pieces i piece inside)
+    ∙ flat_map-append words (take i pieces) (piece ∷ [])
+    ∙ ap (λ l. flat_map words (take i pieces) ++ l) (append-nil (words piece))
 
 -- a list of one element
 pub one_element : {A : Type 0} (xs : List A) (x : A) → length xs ≡ 1 → x ≡ get_or xs 0 x → xs ≡ x ∷ []

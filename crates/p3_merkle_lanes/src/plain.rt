@@ -1,7 +1,8 @@
 //! The digests of rows, of those that a matrix lends in one piece, and of whole groups of a layer, one by one.
 
-ghost use Rattle.std.specs.Prelude.{◌≡◌, ℕ, ◌*◌, ◌<◌, ◌≤◌, [], length, map, replicate, slice_index_or};
-ghost use Rattle.p3_support.specs.Lists.{messages as messages_of};
+ghost use Rattle.std.specs.Prelude.{◌≡◌, ℕ, ◌*◌, ◌<◌, ◌≤◌, [], length, map, replicate, slice_index_or, take, IfSome};
+ghost use Rattle.std.specs.List.{flat_map};
+ghost use Rattle.p3_support.specs.Lists.{messages as messages_of, rows_of_height};
 ghost use Rattle.p3_merkle_lanes.specs.Slots.{leaf_over, IsFilled};
 
 use crate::batched::lone_rows;
@@ -10,6 +11,9 @@ use p3_support::hasher::CryptographicHasher;
 use p3_support::matrix::Matrix;
 use p3_support::packed::PackedValue;
 use p3_support::rows::rows_of;
+
+/// How many rows are lent side by side at most.
+const MAX_PIECES: usize = 16;
 
 /// The digest of row `row` of a matrix, which is below its height.
 fn row_digest<
@@ -26,6 +30,54 @@ fn row_digest<
         Some(words) => hash.hash_slice(words),
         None => hash.hash_iter(matrix.row(row)),
     }
+}
+
+/// Room for pieces, each empty until a row is lent. A function of its own gives them the lifetime of these rows.
+fn no_pieces<'a, T>() -> [&'a [T]; MAX_PIECES] {
+    [&[]; MAX_PIECES]
+}
+
+/// Fills `pieces` from its start with the rows `row` of the matrices of this height, and answers how many there are, if
+/// `pieces` has room and each matrix lends its row. The row is below the height.
+fn lend_rows<'a, T, M: Matrix<T>>(
+    matrices: &'a [M],
+    height: usize,
+    row: usize,
+    pieces: &mut [&'a [T]; MAX_PIECES],
+) -> Option<usize>
+    requires { row < height }
+    ensures room { IfSome result (λ count. count ≤ length pieces.new) }
+    ensures lent { IfSome result (λ count. flat_map (λ piece. piece.now) (take count pieces.new)
+        ≡ rows_of_height M.height_of M.row_of height row matrices.now) }
+{
+    let mut count = 0;
+    for matrix in matrices {
+        if matrix.height() == height {
+            if count == MAX_PIECES {
+                return None;
+            }
+            pieces[count] = matrix.row_slice(row)?;
+            count += 1;
+        }
+    }
+    Some(count)
+}
+
+/// The digest of the rows `row` of the matrices of this height, one matrix after another, if they are few and each matrix
+/// lends its row. The row is below the height.
+fn pieces_digest<
+    P: PackedValue,
+    PW: PackedValue,
+    H: CryptographicHasher<P, PW, D>,
+    M: Matrix<P::Value>,
+    const D: usize,
+>(hash: &H, matrices: &[M], height: usize, row: usize) -> Option<[PW::Value; D]>
+    requires { row < height }
+    ensures { IfSome result (λ digest. digest ≡ H.hash hash.now (rows_of_height M.height_of M.row_of height row matrices.now)) }
+{
+    let mut pieces = no_pieces();
+    let count = lend_rows(matrices, height, row, &mut pieces)?;
+    Some(hash.hash_iter_slices(pieces[..count].iter().copied()))
 }
 
 /// The digest of the rows `row` of the matrices of this height, one matrix after another; the default digest past
@@ -45,7 +97,11 @@ pub fn rows_digest<
     match matrices {
         // A row that stands alone is read without a look for the next one after each word.
         [matrix] if matrix.height() == height => row_digest::<P, PW, H, M, D>(hash, matrix, row),
-        _ => hash.hash_iter(rows_of(matrices, height, row)),
+        // Whole pieces are hashed without a look for the next word's matrix.
+        _ => match pieces_digest::<P, PW, H, M, D>(hash, matrices, height, row) {
+            Some(digest) => digest,
+            None => hash.hash_iter(rows_of(matrices, height, row)),
+        },
     }
 }
 
@@ -81,8 +137,9 @@ pub fn write_lent_leaves<
 >(hash: &H, matrices: &[M], height: usize, first: usize, slots: &mut [[PW::Value; D]]) -> usize
     requires { let leaf = leaf_over (H.hash hash.now) (replicate D PW.default_value) M.height_of M.row_of matrices.now height in
         IsFilled leaf first (length slots.old) slots.old }
-    ensures { let leaf = leaf_over (H.hash hash.now) (replicate D PW.default_value) M.height_of M.row_of matrices.now height in
+    ensures filled { let leaf = leaf_over (H.hash hash.now) (replicate D PW.default_value) M.height_of M.row_of matrices.now height in
         IsFilled leaf result (length slots.old) slots.new }
+    ensures further { first ≤ result }
 {
     let end = height.min(slots.len());
     if first >= end {

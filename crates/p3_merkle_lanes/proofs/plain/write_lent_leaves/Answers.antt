@@ -10,8 +10,8 @@ use Rattle.p3_merkle_lanes.proofs.StageFacts.{fill_part}
 use borrow.Rule.Slice.PartMut.{put_mid}
 use Rattle.p3_merkle_lanes.proofs.plain.write_lent_leaves.Goals as goal
 
-pub returns-in-Some : goal.returns-in-Some
-returns-in-Some g c =
+pub returns-in-Some-clause-filled : goal.returns-in-Some-clause-filled
+returns-in-Some-clause-filled g c =
     let first = c.args.first in
     let end = c.min-end.result in
     let n : ℕ = end - first in

@@ -1,0 +1,10 @@
+use Rattle.std.proofs.Common.{◌≡◌, length, take, ◌≤◌}
+use Rattle.std.specs.List.{flat_map}
+use Rattle.p3_support.specs.Lists.{rows_of_height}
+use Rattle.p3_merkle_lanes.proofs.plain.lend_rows.Given as goal
+
+-- the pieces so far are the rows of the matrices so far
+abbrev pub invariant-loop-matrix : goal.invariant-loop-matrix
+invariant-loop-matrix g l =
+    (l.count ≤ 16) × (length l.pieces ≡ 16)
+    × (flat_map (λ piece. piece.now) (take l.count l.pieces) ≡ rows_of_height g.M.Matrix.height_of g.M.Matrix.row_of l.height l.row (take l.matrix-index l.matrices))
