@@ -7,9 +7,10 @@ use crate::fields::{Fault, Fields};
 use crate::text::Answer;
 use p3_merkle_core::geometry::{
     MAX_HEIGHT, bits_reduced_of, check_widths, expected_height_of, exponent_of, has_exponent,
-    is_bridge_step, levels_of, padded_len, positions_below_of, schedule_below_of,
-    select_arity_step, siblings_below_of, tallest_of,
+    is_bridge_step, padded_len, positions_below_of, schedule_below_of, select_arity_step,
+    tallest_of,
 };
+use p3_merkle_core::steps::{levels_of, siblings_below_of};
 use std::alloc::Global;
 
 /// `exponent | HEIGHT | EXPONENT`.

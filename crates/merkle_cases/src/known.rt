@@ -4,7 +4,8 @@ ghost use Rattle.std.specs.Prelude.{◌<◌};
 
 use crate::fields::{Fault, Fields};
 use crate::text::Answer;
-use p3_merkle_core::geometry::{levels_of, schedule_below_of};
+use p3_merkle_core::geometry::schedule_below_of;
+use p3_merkle_core::steps::levels_of;
 use std::alloc::{AllocError, Global};
 
 /// Nodes that are given: the layer of each, counted from the leaves, and its number there.

@@ -10,8 +10,6 @@ use Rattle.p3_merkle_core.specs.Openings.{Opening, layer_words, path_digest, sib
 use Rattle.p3_merkle_core.proofs.Completeness.{reached_leaf, reached_next}
 use Rattle.p3_merkle_core.proofs.SiblingFacts.{siblings_next, siblings_start}
 use Rattle.p3_merkle_core.proofs.StepFacts.{anc_next, anc_start, layer_start, next_exponent, step_above_1, step_at}
-use Rattle.p3_merkle_core.specs.Rungs.{IsRung}
-use Rattle.p3_merkle_core.specs.declared.geometry.Rung.{Rung}
 use Rattle.p3_merkle_checker.specs.Checks.{CanStep, IsAbove, IsLevel, StandsAt, step_siblings}
 use Rattle.p3_merkle_checker.specs.Paths.{CanReach, rows_of_exponent, rows_with}
 use Rattle.p3_merkle_checker.specs.declared.level.Standing.{Standing}
@@ -23,13 +21,11 @@ words_read now x pairs rows e =
     sym (flat_map-map (λ row. row) now rows) ∙ ap (flat_map (λ row. row)) e ∙ flat_map-map (λ row. row) (λ (h, row). row) (filter (λ (h, row). eqb (exponent h) x) pairs)
 
 -- a check begins at its leaf
-pub stands_first : {T W : Type 0} (f : Functions T W) (s : Shape) (o : Opening T W) (standing : Standing (List W)) → standing.rung.exponent ≡ exponent (tallest (heights s)) → IsRung (heights s) standing.rung → standing.node ≡ o.index → standing.used ≡ 0 →
-    standing.digest ≡ f.hash (rows_with standing.rung.exponent (zip (heights s) o.rows)) → StandsAt f s o 0 standing
-stands_first f s o standing top rung node used digest =
-    let is : standing.rung.exponent ≡ layer_exponent s 0 = top ∙ sym (layer_start s) in
+pub stands_first : {T W : Type 0} (f : Functions T W) (s : Shape) (o : Opening T W) (standing : Standing (List W)) → standing.exponent ≡ layer_exponent s 0 → standing.node ≡ o.index → standing.used ≡ 0 →
+    standing.digest ≡ f.hash (rows_with standing.exponent (zip (heights s) o.rows)) → StandsAt f s o 0 standing
+stands_first f s o standing is node used digest =
     record {
       at_exponent = is;
-      at_rung = rung;
       at_node = node ∙ sym (anc_start s o.index);
       taken = used ∙ sym (siblings_start s);
       reached = digest ∙ ap (λ y. f.hash (rows_with y (zip (heights s) o.rows))) is ∙ sym (reached_leaf f s o);
@@ -39,10 +35,6 @@ stands_first f s o standing top rung node used digest =
 pub record IsStepFrom (s : Shape) (l n y : ℕ) : Type 0 where
   pub is_step : n ≡ step s l
   pub above : y ≡ layer_exponent s (suc l)
-
-pub step_from : (s : Shape) (l x n y : ℕ) → x ≡ layer_exponent s l → n ≡ cond (is_bridge s x) 2 s.arity → y ≡ cond (is_bridge s x) (x - 1) (x - exponent s.arity) → IsStepFrom s l n y
-step_from s l x n y at e next =
-    record { is_step = step_at s l x n at e; above = next ∙ ap (λ z. cond (is_bridge s z) (z - 1) (z - exponent s.arity)) at ∙ sym (next_exponent s l) }
 
 -- where there are siblings for the level, the step can take its own
 pub can_step : (s : Shape) (l n y used count : ℕ) → IsArity s.arity → IsStepFrom s l n y → used ≡ siblings_below s l → siblings_below s (suc l) ≤ count → CanStep s.arity n used count
@@ -66,50 +58,47 @@ enough_below s t l count w h =
     let more = rw rest at (siblings_mono s (suc l) (t - suc l)) in
     omega (arith, more, w.all_siblings)
 
-module _ {T W : Type 0} (f : Functions T W) (s : Shape) (o : Opening T W) (l n : ℕ) (rung : Rung) (standing above : Standing (List W)) (group : List (List W)) where
+module _ {T W : Type 0} (f : Functions T W) (s : Shape) (o : Opening T W) (l n y : ℕ) (standing above : Standing (List W)) (group : List (List W)) where
   -- the group of the level
-  group_is : IsStepFrom s l n rung.exponent → StandsAt f s o l standing →
+  group_is : IsStepFrom s l n y → StandsAt f s o l standing →
       group ≡ group_around s.arity f.default_digest (step_siblings n o.siblings standing.used) (standing.node % n) standing.digest → group ≡ full_group f s o l
   group_is from at e = e ∙ rw (from.is_step, at.taken, at.at_node, at.reached) refl
 
   -- the check stands at the next layer, if the digest there is the one that the path reaches
-  stands_above : IsStepFrom s l n rung.exponent → IsRung (heights s) rung → StandsAt f s o l standing → {digest : List W} → IsAbove n rung digest standing above → digest ≡ path_digest f s o (suc l) → StandsAt f s o (suc l) above
-  stands_above from next at up reached =
+  stands_above : IsStepFrom s l n y → StandsAt f s o l standing → {digest : List W} → IsAbove n y digest standing above → digest ≡ path_digest f s o (suc l) → StandsAt f s o (suc l) above
+  stands_above from at up reached =
       record {
-        at_exponent = ap (λ r. r.exponent) up.at_rung ∙ from.above;
-        at_rung = rw up.at_rung next;
+        at_exponent = up.at_exponent ∙ from.above;
         at_node = up.at_node ∙ rw (at.at_node, from.is_step) (sym (anc_next s l o.index));
         taken = up.taken ∙ rw (at.taken, from.is_step) (sym (siblings_next s l));
         reached = up.reached ∙ reached;
       }
 
   -- a level with rows above it
-  pub level_with_rows : IsStepFrom s l n rung.exponent → IsRung (heights s) rung → StandsAt f s o l standing →
-      group ≡ group_around s.arity f.default_digest (step_siblings n o.siblings standing.used) (standing.node % n) standing.digest → list_any (λ h. eqb (exponent h) rung.exponent) (heights s) ≡ true →
-      (pair : List (List W)) → pair ≡ padded_group f s.arity (f.compression group ∷ f.hash (rows_with rung.exponent (zip (heights s) o.rows)) ∷ []) → IsAbove n rung (f.compression pair) standing above →
+  pub level_with_rows : IsStepFrom s l n y → StandsAt f s o l standing →
+      group ≡ group_around s.arity f.default_digest (step_siblings n o.siblings standing.used) (standing.node % n) standing.digest → has_rows s (suc l) ≡ true →
+      (pair : List (List W)) → pair ≡ padded_group f s.arity (f.compression group ∷ f.hash (rows_with y (zip (heights s) o.rows)) ∷ []) → IsAbove n y (f.compression pair) standing above →
       IsLevel f s o l (record { level = l; group = group; pair = Some pair; above = above })
-  level_with_rows from lower at e has pair p up =
+  level_with_rows from at e has pair p up =
       let whole = group_is from at e in
-      let some : has_rows s (suc l) ≡ true = rw from.above at has in
       let full : pair ≡ padded_group f s.arity (f.compression (full_group f s o l) ∷ f.hash (layer_words s o.rows (suc l)) ∷ []) = rw (whole, from.above) at p in
-      let next = rw some at (reached_next f s o l) in
+      let next = rw has at (reached_next f s o l) in
       record {
         at_level = refl;
-        inputs_are = rw (whole, full) (sym (inputs_with_rows f s o l some));
-        stands = stands_above from lower at up (ap f.compression full ∙ sym next);
+        inputs_are = rw (whole, full) (sym (inputs_with_rows f s o l has));
+        stands = stands_above from at up (ap f.compression full ∙ sym next);
       }
 
   -- a level without
-  pub level_alone : IsStepFrom s l n rung.exponent → IsRung (heights s) rung → StandsAt f s o l standing →
-      group ≡ group_around s.arity f.default_digest (step_siblings n o.siblings standing.used) (standing.node % n) standing.digest → list_any (λ h. eqb (exponent h) rung.exponent) (heights s) ≡ false →
-      IsAbove n rung (f.compression group) standing above →
+  pub level_alone : IsStepFrom s l n y → StandsAt f s o l standing →
+      group ≡ group_around s.arity f.default_digest (step_siblings n o.siblings standing.used) (standing.node % n) standing.digest → has_rows s (suc l) ≡ false →
+      IsAbove n y (f.compression group) standing above →
       IsLevel f s o l (record { level = l; group = group; pair = None; above = above })
-  level_alone from lower at e has up =
+  level_alone from at e has up =
       let whole = group_is from at e in
-      let none : has_rows s (suc l) ≡ false = rw from.above at has in
-      let next = rw none at (reached_next f s o l) in
+      let next = rw has at (reached_next f s o l) in
       record {
         at_level = refl;
-        inputs_are = rw whole (sym (inputs_alone f s o l none));
-        stands = stands_above from lower at up (ap f.compression whole ∙ sym next);
+        inputs_are = rw whole (sym (inputs_alone f s o l has));
+        stands = stands_above from at up (ap f.compression whole ∙ sym next);
       }

@@ -1,11 +1,9 @@
 -- How far the checks of openings have come.
 use Rattle.std.specs.Prelude.{◌≡◌, ◌+◌, ◌-◌, ◌/◌, ◌≤◌, ◌==◌, ℕ, suc, List, [], ◌∷◌, Bool, Option, None, if◌then◌else◌, drop, take}
 use Rattle.p3_merkle_core.specs.Extracting.{last_difference}
-use Rattle.p3_merkle_core.specs.Geometry.{Shape, IsArity, ancestor, heights, layer_exponent}
+use Rattle.p3_merkle_core.specs.Geometry.{Shape, IsArity, ancestor, layer_exponent}
 use Rattle.p3_merkle_core.specs.Nodes.{Functions}
 use Rattle.p3_merkle_core.specs.Openings.{Input, Opening, Leaf, inputs_at, opening_of, path_digest, layer_words, siblings_below}
-use Rattle.p3_merkle_core.specs.Rungs.{IsRung}
-use Rattle.p3_merkle_core.specs.declared.geometry.Rung.{Rung}
 use Rattle.p3_support.specs.Shown.{row_lists}
 use Rattle.p3_merkle_checker.specs.declared.openings.IndexedOpening.{IndexedOpening}
 use Rattle.p3_merkle_checker.specs.declared.level.CheckedLevel.{CheckedLevel}
@@ -27,16 +25,15 @@ abbrev pub step_siblings : {X : Type 0} → ℕ → List X → ℕ → List X
 step_siblings step siblings used = take (step - 1) (drop used siblings)
 
 -- one step higher, at a layer of this exponent, with this digest
-pub record IsAbove {X : Type 0} (step : ℕ) (rung : Rung) (digest : X) (standing above : Standing X) : Type 0 where
-  pub at_rung : above.rung ≡ rung
+pub record IsAbove {X : Type 0} (step exponent : ℕ) (digest : X) (standing above : Standing X) : Type 0 where
+  pub at_exponent : above.exponent ≡ exponent
   pub at_node : above.node ≡ standing.node / step
   pub taken : above.used ≡ standing.used + (step - 1)
   pub reached : above.digest ≡ digest
 
 -- the check of an opening stands at layer l: at the node above the leaf, whose digest is the one that the path reaches
 pub record StandsAt {T W : Type 0} (f : Functions T W) (s : Shape) (o : Opening T W) (l : ℕ) (standing : Standing (List W)) : Type 0 where
-  pub at_exponent : standing.rung.exponent ≡ layer_exponent s l
-  pub at_rung : IsRung (heights s) standing.rung
+  pub at_exponent : standing.exponent ≡ layer_exponent s l
   pub at_node : standing.node ≡ ancestor s l o.index
   pub taken : standing.used ≡ siblings_below s l
   pub reached : standing.digest ≡ path_digest f s o l

@@ -12,6 +12,7 @@ use crate::collision::Collision;
 use crate::level::Checker;
 use crate::openings::{IndexedOpening, OpeningPair};
 use p3_merkle_core::error::MerkleTreeError;
+use p3_merkle_core::steps::steps_of;
 use p3_support::compress::PseudoCompressionFunction;
 use p3_support::hasher::CryptographicHasher;
 use p3_support::matrix::Dimensions;
@@ -50,8 +51,9 @@ impl<
             let s = shape_of N dimensions.now in
             AnswersUnlessMemory result (extraction_under P.Value.eq PW.Value.eq f s t roots.now (opening_in first.entry) (opening_in second.entry)) }
     {
-        self.check_opening(roots, dimensions, t, first)?;
-        self.check_opening(roots, dimensions, t, second)?;
+        let steps = steps_of(dimensions, N);
+        self.check_opening(roots, &steps, t, first)?;
+        self.check_opening(roots, &steps, t, second)?;
         let openings = OpeningPair::<P::Value, [PW::Value; D], N> {
             dimensions,
             t,

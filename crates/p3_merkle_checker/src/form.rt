@@ -7,11 +7,11 @@ ghost use Rattle.p3_merkle_checker.specs.Paths.{CanCheck};
 ghost use Rattle.p3_support.specs.Shown.{row_lists};
 
 use p3_merkle_core::error::MerkleTreeError;
-use p3_merkle_core::geometry::{check_heights, check_widths, siblings_below_of, tallest_of};
-use p3_support::matrix::Dimensions;
+use p3_merkle_core::geometry::{check_heights, check_widths, tallest_of};
+use p3_merkle_core::steps::Steps;
 
-/// Whether an opening of the leaf `index` has the form that these dimensions give it, where a node has at most `arity`
-/// children: a row for each matrix, and `num_siblings` digests for the levels below layer `t`.
+/// Whether an opening of the leaf `index` has the form that the tree of these steps gives it: a row for each matrix, and
+/// `num_siblings` digests for the levels below layer `t`.
 ///
 /// The arity is a power of two from 2 to 2^62, and `t` is at most the number of levels.
 ///
@@ -22,17 +22,17 @@ use p3_support::matrix::Dimensions;
 /// many siblings as the levels below layer `t` have; `WrongWidth` for the first row that has not the width of its matrix;
 /// `IndexOutOfBounds` where the index is not below the tallest height.
 pub fn check_form<T>(
-    dimensions: &[Dimensions],
-    arity: usize,
+    steps: &Steps<'_>,
     t: usize,
     index: usize,
     rows: &[Vec<T>],
     num_siblings: usize,
 ) -> Result<(), MerkleTreeError>
-    requires { CanCheck (shape_of arity dimensions.now) t }
-    ensures { let refusal = form_refusal (shape_of arity dimensions.now) t index (row_lists rows.now) num_siblings in
+    requires { CanCheck (shape_of steps.now.arity steps.now.dimensions.now) t }
+    ensures { let refusal = form_refusal (shape_of steps.now.arity steps.now.dimensions.now) t index (row_lists rows.now) num_siblings in
         MatchResult result (λ ok. refusal ≡ None) (λ e. refusal ≡ Some e) }
 {
+    let dimensions = steps.dimensions;
     if rows.len() != dimensions.len() {
         return Err(MerkleTreeError::WrongBatchSize {
             expected: dimensions.len(),
@@ -40,7 +40,7 @@ pub fn check_form<T>(
         });
     }
     check_heights(dimensions)?;
-    let expected_proof_len = siblings_below_of(dimensions, arity, t);
+    let expected_proof_len = steps.siblings_below(t);
     if num_siblings != expected_proof_len {
         return Err(MerkleTreeError::WrongHeight {
             expected_proof_len,

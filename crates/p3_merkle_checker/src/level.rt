@@ -1,18 +1,17 @@
 //! One level of a check: what it compresses, and where the check stands above it.
 
 ghost use Rattle.std.specs.Prelude.{◌≡◌, ◌+◌, ◌-◌, ◌%◌, ◌^◌, ◌<◌, length, replicate, zip};
-ghost use Rattle.p3_merkle_core.specs.Geometry.{exponent, heights_of, shape_of, tallest};
+ghost use Rattle.p3_merkle_core.specs.Geometry.{heights_of, layer_exponent, shape_of};
 ghost use Rattle.p3_merkle_core.specs.Groups.{group_around};
 ghost use Rattle.p3_merkle_core.specs.Nodes.{functions_of};
-ghost use Rattle.p3_merkle_core.specs.Rungs.{IsRung};
 ghost use Rattle.p3_merkle_checker.specs.Checks.{opening_in, step_siblings, CanClimb, CanStep, IsAbove, IsLevel, StandsAt};
 ghost use Rattle.p3_merkle_checker.specs.Paths.{rows_with, CanReach};
 ghost use Rattle.p3_support.specs.Shown.{row_lists};
 
 use crate::opened::opened_slices;
 use crate::openings::IndexedOpening;
-use p3_merkle_core::geometry::{Rung, StepUp, leaf_rung, step_up};
 use p3_merkle_core::group::group_with;
+use p3_merkle_core::steps::{StepUp, Steps};
 use p3_support::compress::PseudoCompressionFunction;
 use p3_support::hasher::CryptographicHasher;
 use p3_support::matrix::Dimensions;
@@ -22,8 +21,8 @@ use std::marker::PhantomData;
 /// How far the check of an opening has come.
 #[derive(Clone, Copy)]
 pub struct Standing<X> {
-    /// The exponent of the layer that is reached, with the next one below it.
-    pub rung: Rung,
+    /// The exponent of the layer that is reached.
+    pub exponent: usize,
     /// The node above the leaf in this layer.
     pub node: usize,
     /// How many of the siblings are compressed already.
@@ -52,13 +51,13 @@ impl<W: Copy, const D: usize> Standing<[W; D]> {
 
 impl<X: Copy> Standing<X> {
     /// The same check one step higher, at a layer of this exponent, where this digest is reached.
-    fn above(&self, step: usize, rung: Rung, digest: X) -> Standing<X>
+    fn above(&self, step: usize, exponent: usize, digest: X) -> Standing<X>
         requires step { 0 < step }
         requires fits { self.now.used + (step - 1) < 2 ^ 64 }
-        ensures { IsAbove step rung digest self.now result }
+        ensures { IsAbove step exponent digest self.now result }
     {
         Standing {
-            rung,
+            exponent,
             node: self.node / step,
             used: self.used + (step - 1),
             digest,
@@ -100,22 +99,21 @@ pub(crate) fn leaf<
     const D: usize,
 >(
     hash: &H,
-    dimensions: &[Dimensions],
+    steps: &Steps<'_>,
     opening: IndexedOpening<'_, P::Value, [PW::Value; D]>,
 ) -> Standing<[PW::Value; D]>
-    ensures exponent { result.rung.exponent ≡ exponent (tallest (heights_of dimensions.now)) }
-    ensures rung { IsRung (heights_of dimensions.now) result.rung }
+    ensures exponent { result.exponent ≡ layer_exponent (shape_of steps.now.arity steps.now.dimensions.now) 0 }
     ensures node { result.node ≡ opening.entry.index }
     ensures used { result.used ≡ 0 }
-    ensures digest { let rows = zip (heights_of dimensions.now) (row_lists opening.entry.rows.now) in
-        result.digest ≡ H.hash hash.now (rows_with result.rung.exponent rows) }
+    ensures digest { let rows = zip (heights_of steps.now.dimensions.now) (row_lists opening.entry.rows.now) in
+        result.digest ≡ H.hash hash.now (rows_with result.exponent rows) }
 {
-    let rung = leaf_rung(dimensions);
+    let exponent = steps.exponent;
     Standing {
-        rung,
+        exponent,
         node: opening.index,
         used: 0,
-        digest: rows_digest::<P, PW, H, D>(hash, dimensions, opening.rows, rung.exponent),
+        digest: rows_digest::<P, PW, H, D>(hash, steps.dimensions, opening.rows, exponent),
     }
 }
 
@@ -155,45 +153,47 @@ impl<
     /// The level above the layer where the check of an opening stands.
     pub(crate) fn checked_level(
         &self,
-        dimensions: &[Dimensions],
+        steps: &Steps<'_>,
         level: usize,
         opening: IndexedOpening<'_, P::Value, [PW::Value; D]>,
         standing: &Standing<[PW::Value; D]>,
     ) -> CheckedLevel<[PW::Value; D], [[PW::Value; D]; N]>
+        requires arity { steps.now.arity ≡ N }
+        requires level { level < steps.now.num_levels }
         requires stands { let f = functions_of (H.hash self.now.hash.now) (C.compression self.now.compress.now) (replicate D PW.default_value) in
-            StandsAt f (shape_of N dimensions.now) (opening_in opening) level standing.now }
-        requires climbs { CanClimb (shape_of N dimensions.now) level (length opening.siblings.now) }
+            StandsAt f (shape_of N steps.now.dimensions.now) (opening_in opening) level standing.now }
+        requires climbs { CanClimb (shape_of N steps.now.dimensions.now) level (length opening.siblings.now) }
         ensures { let f = functions_of (H.hash self.now.hash.now) (C.compression self.now.compress.now) (replicate D PW.default_value) in
-            IsLevel f (shape_of N dimensions.now) (opening_in opening.entry) level result }
+            IsLevel f (shape_of N steps.now.dimensions.now) (opening_in opening.entry) level result }
     {
         let StepUp {
             step,
             has_rows,
-            above: rung,
-        } = step_up(dimensions, N, standing.rung);
+            exponent,
+        } = steps.up(N, level, standing.exponent);
         let default_digest = [PW::Value::default(); D];
         let group = standing.group::<N>(default_digest, step, opening.siblings);
         let node = self.compress.compress(group);
         if has_rows {
             let rows = [rows_digest::<P, PW, H, D>(
                 self.hash,
-                dimensions,
+                steps.dimensions,
                 opening.rows,
-                rung.exponent,
+                exponent,
             )];
             let pair = group_with::<PW::Value, N, D>(default_digest, node, 0, &rows);
             CheckedLevel {
                 level,
                 group,
                 pair: Some(pair),
-                above: standing.above(step, rung, self.compress.compress(pair)),
+                above: standing.above(step, exponent, self.compress.compress(pair)),
             }
         } else {
             CheckedLevel {
                 level,
                 group,
                 pair: None,
-                above: standing.above(step, rung, node),
+                above: standing.above(step, exponent, node),
             }
         }
     }

@@ -13,9 +13,9 @@ use crate::form::check_form;
 use crate::level::{Checker, leaf, tell_siblings};
 use crate::openings::IndexedOpening;
 use p3_merkle_core::error::MerkleTreeError;
+use p3_merkle_core::steps::Steps;
 use p3_support::compress::PseudoCompressionFunction;
 use p3_support::hasher::CryptographicHasher;
-use p3_support::matrix::Dimensions;
 use p3_support::packed::PackedValue;
 
 impl<
@@ -31,23 +31,22 @@ impl<
     ///
     /// The opening has its siblings up to layer `t`, `N` is a power of two from 2 to 2^62, and `t` is at most the number
     /// of levels. The call takes no memory.
-    pub fn path_digest(
+    pub(crate) fn path_digest(
         &self,
-        dimensions: &[Dimensions],
+        steps: &Steps<'_>,
         t: usize,
         opening: IndexedOpening<'_, P::Value, [PW::Value; D]>,
     ) -> ([PW::Value; D], usize)
-        requires { CanReach (shape_of N dimensions.now) t (length opening.siblings.now) }
+        requires arity { steps.now.arity ≡ N }
+        requires reach { CanReach (shape_of N steps.now.dimensions.now) t (length opening.siblings.now) }
         ensures digest { let f = functions_of (H.hash self.now.hash.now) (C.compression self.now.compress.now) (replicate D PW.default_value) in
-            result.0 ≡ path_digest f (shape_of N dimensions.now) (opening_in opening.entry) t }
-        ensures node { result.1 ≡ ancestor (shape_of N dimensions.now) t opening.entry.index }
+            result.0 ≡ path_digest f (shape_of N steps.now.dimensions.now) (opening_in opening.entry) t }
+        ensures node { result.1 ≡ ancestor (shape_of N steps.now.dimensions.now) t opening.entry.index }
     {
-        let mut standing = leaf::<P, PW, H, D>(self.hash, dimensions, opening);
+        let mut standing = leaf::<P, PW, H, D>(self.hash, steps, opening);
         for level in 0..t {
-            tell_siblings(dimensions, N, t, level, opening.siblings);
-            standing = self
-                .checked_level(dimensions, level, opening, &standing)
-                .above;
+            tell_siblings(steps.dimensions, N, t, level, opening.siblings);
+            standing = self.checked_level(steps, level, opening, &standing).above;
         }
         (standing.digest, standing.node)
     }
@@ -64,17 +63,18 @@ impl<
     pub fn check_opening(
         &self,
         roots: &[[PW::Value; D]],
-        dimensions: &[Dimensions],
+        steps: &Steps<'_>,
         t: usize,
         opening: IndexedOpening<'_, P::Value, [PW::Value; D]>,
     ) -> Result<(), MerkleTreeError>
-        requires { CanCheck (shape_of N dimensions.now) t }
+        requires arity { steps.now.arity ≡ N }
+        requires check { CanCheck (shape_of N steps.now.dimensions.now) t }
         ensures { let f = functions_of (H.hash self.now.hash.now) (C.compression self.now.compress.now) (replicate D PW.default_value) in
-            result ≡ answer_under PW.Value.eq f (shape_of N dimensions.now) t roots.now (opening_in opening.entry) }
+            result ≡ answer_under PW.Value.eq f (shape_of N steps.now.dimensions.now) t roots.now (opening_in opening.entry) }
     {
         let (index, num_siblings) = (opening.index, opening.siblings.len());
-        check_form(dimensions, N, t, index, opening.rows, num_siblings)?;
-        let (digest, node) = self.path_digest(dimensions, t, opening);
+        check_form(steps, t, index, opening.rows, num_siblings)?;
+        let (digest, node) = self.path_digest(steps, t, opening);
         if is_entry(roots, node, &digest) {
             Ok(())
         } else {

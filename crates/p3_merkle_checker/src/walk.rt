@@ -12,6 +12,7 @@ use crate::collision::{Collision, Place, differing_level, differing_words};
 use crate::level::{Checker, leaf, tell_siblings};
 use crate::openings::OpeningPair;
 use p3_merkle_core::geometry::{exponent_of, tallest_of};
+use p3_merkle_core::steps::steps_of;
 use p3_support::compress::PseudoCompressionFunction;
 use p3_support::hasher::CryptographicHasher;
 use p3_support::packed::PackedValue;
@@ -64,16 +65,17 @@ impl<
             IfOk result (λ found. Shows found (last_difference (input_eq P.Value.eq PW.Value.eq) mine theirs)) }
     {
         let dimensions = openings.dimensions;
-        let mut first = leaf::<P, PW, H, D>(self.hash, dimensions, openings.first);
-        let mut second = leaf::<P, PW, H, D>(self.hash, dimensions, openings.second);
+        let steps = steps_of(dimensions, N);
+        let mut first = leaf::<P, PW, H, D>(self.hash, &steps, openings.first);
+        let mut second = leaf::<P, PW, H, D>(self.hash, &steps, openings.second);
         let mut last = leaf_difference(alloc, openings)?;
         for level in 0..openings.t {
             tell_siblings(dimensions, N, openings.t, level, openings.first.siblings);
             tell_siblings(dimensions, N, openings.t, level, openings.second.siblings);
-            let mine = self.checked_level(dimensions, level, openings.first, &first);
-            let theirs = self.checked_level(dimensions, level, openings.second, &second);
+            let mine = self.checked_level(&steps, level, openings.first, &first);
+            let theirs = self.checked_level(&steps, level, openings.second, &second);
             if mine.above.node == theirs.above.node {
-                let rows = openings.rows_with(mine.above.rung.exponent);
+                let rows = openings.rows_with(mine.above.exponent);
                 let found = differing_level(alloc, &rows, &mine, &theirs)?;
                 last = found.or(last);
             }

@@ -36,6 +36,7 @@ pub mod CapFacts
 pub mod SiblingFacts
 pub mod BridgeFacts
 pub mod RungFacts
+pub mod KeptSteps
 pub mod HalvingFacts
 pub mod GroupFacts
 pub mod RisingFacts

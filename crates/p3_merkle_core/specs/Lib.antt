@@ -8,6 +8,7 @@ pub mod Groups
 pub mod Pruning
 pub mod Refusals
 pub mod Rungs
+pub mod Steps
 pub mod PrunedCalls
 pub mod Agreement
 pub mod Children

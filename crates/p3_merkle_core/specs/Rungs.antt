@@ -1,7 +1,7 @@
 -- Exponents of layers, each with the next one below it that a matrix has.
 use Rattle.std.specs.Prelude.{◌≡◌, ◌+◌, ℕ, List, [], ◌∷◌, max, nat_lt, if◌then◌else◌}
 use Rattle.p3_merkle_core.specs.Geometry.{exponent}
-use Rattle.p3_merkle_core.specs.declared.geometry.Rung.{Rung}
+use Rattle.p3_merkle_core.specs.declared.steps.Rung.{Rung}
 
 -- one more than the greatest exponent below x that a height has, and 0 where none has one
 abbrev pub next_below : ℕ → List ℕ → ℕ

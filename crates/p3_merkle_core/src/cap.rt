@@ -4,7 +4,8 @@ ghost use Rattle.std.specs.Prelude.{◌≡◌};
 ghost use Rattle.p3_merkle_core.specs.Caps.{cap_layer};
 ghost use Rattle.p3_merkle_core.specs.Geometry.{heights, levels, shape_of, shortest, IsArity, Shape};
 
-use crate::geometry::{exponent_of, levels_of, shortest_of};
+use crate::geometry::{exponent_of, shortest_of};
+use crate::steps::{Steps, steps_of};
 use p3_support::matrix::Dimensions;
 
 /// Which layer is the cap of a cap height. The height counts levels below the root.
@@ -18,8 +19,19 @@ pub enum CapRule {
     Fixed,
 }
 
-/// The layer, counted from the leaves, that is the cap of this height over matrices of these dimensions. The arity is a
-/// power of two from 2 to 2^62. It takes no memory.
+impl<'a> Steps<'a> {
+    /// The layer, counted from the leaves, that is the cap of this height over matrices of these dimensions. The arity
+    /// is a power of two from 2 to 2^62. It takes no memory.
+    pub fn cap_layer(&self, rule: CapRule, cap_height: usize) -> usize
+        requires { IsArity self.now.arity }
+        ensures { result ≡ cap_layer (shape_of self.now.arity self.now.dimensions.now) rule cap_height }
+    {
+        let min_height = shortest_of(self.dimensions);
+        cap_layer_at(self.num_levels, min_height, self.arity, rule, cap_height)
+    }
+}
+
+/// As [`Steps::cap_layer`], of dimensions.
 pub fn cap_layer_of(
     dimensions: &[Dimensions],
     arity: usize,
@@ -29,11 +41,10 @@ pub fn cap_layer_of(
     requires { IsArity arity }
     ensures { result ≡ cap_layer (shape_of arity dimensions.now) rule cap_height }
 {
-    let num_levels = levels_of(dimensions, arity);
-    cap_layer_at(num_levels, shortest_of(dimensions), arity, rule, cap_height)
+    steps_of(dimensions, arity).cap_layer(rule, cap_height)
 }
 
-/// The same of a tree of so many levels, whose shortest matrix has `min_height` rows. No step above that matrix's layer
+/// As [`Steps::cap_layer`], of a tree of so many levels, whose shortest matrix has `min_height` rows. No step above that matrix's layer
 /// is a bridge step.
 pub fn cap_layer_at(
     num_levels: usize,

@@ -235,132 +235,19 @@ pub fn select_arity_step(dimensions: &[Dimensions], arity: usize, x: usize) -> (
     ensures step { result.0 ≡ (if is_bridge (shape_of arity dimensions.now) x then 2 else arity) }
     ensures next { result.1 ≡ (if is_bridge (shape_of arity dimensions.now) x then x - 1 else x - exponent arity) }
 {
-    if is_bridge_step(dimensions, arity, x) {
+    step_from(arity, is_bridge_step(dimensions, arity, x), x)
+}
+
+/// The step from a layer of the exponent `x`, in children a node, and the exponent of the next layer: a bridge step, or
+/// one of the whole arity.
+pub(crate) fn step_from(arity: usize, is_bridge: bool, x: usize) -> (usize, usize)
+    ensures step { result.0 ≡ (if is_bridge then 2 else arity) }
+    ensures next { result.1 ≡ (if is_bridge then x - 1 else x - exponent arity) }
+{
+    if is_bridge {
         (2, x.saturating_sub(1))
     } else {
         (arity, x.saturating_sub(exponent_of(arity)))
-    }
-}
-
-/// The exponent of a layer, and the next one below it: what the steps from there on depend on.
-#[derive(Clone, Copy)]
-pub struct Rung {
-    /// The exponent of the layer.
-    pub exponent: usize,
-    /// One more than the greatest exponent below that one which a matrix has, and 0 where none has one.
-    pub next: usize,
-}
-
-/// This exponent with the next one below it. Each matrix is looked at once, and none for 0.
-pub fn rung_at(dimensions: &[Dimensions], x: usize) -> Rung
-    ensures exponent { result.exponent ≡ x }
-    ensures rung { IsRung (heights_of dimensions.now) result }
-{
-    if x == 0 {
-        return Rung {
-            exponent: 0,
-            next: 0,
-        };
-    }
-    let mut next = 0;
-    for matrix in dimensions {
-        let e = exponent_of(matrix.height);
-        if e < x {
-            next = next.max(e + 1);
-        }
-    }
-    Rung { exponent: x, next }
-}
-
-/// The exponent of the leaves with the next one below it. Each matrix is looked at once.
-pub fn leaf_rung(dimensions: &[Dimensions]) -> Rung
-    ensures exponent { result.exponent ≡ exponent (tallest (heights_of dimensions.now)) }
-    ensures rung { IsRung (heights_of dimensions.now) result }
-{
-    let Some((first, others)) = dimensions.split_first() else {
-        return Rung {
-            exponent: 0,
-            next: 0,
-        };
-    };
-    let mut x = exponent_of(first.height);
-    let mut next = 0;
-    for matrix in others {
-        let e = exponent_of(matrix.height);
-        if e > x {
-            next = x + 1;
-            x = e;
-        } else if e < x {
-            next = next.max(e + 1);
-        }
-    }
-    Rung { exponent: x, next }
-}
-
-/// Whether the step from a layer is a bridge step, as [`is_bridge_step`], without a look at the matrices.
-fn is_bridge_from(arity: usize, rung: Rung) -> bool
-    ensures { (hs : List ℕ) → IsRung hs rung → result
-        ≡ list_any (λ h. nat_lt (rung.exponent - exponent arity) (exponent h) && nat_lt (exponent h) rung.exponent) hs }
-{
-    let target = rung.exponent.saturating_sub(exponent_of(arity));
-    rung.next.saturating_sub(target) > 1
-}
-
-/// Whether matrices have this exponent, and the exponent with the next one below it. It is that of the layer above a
-/// rung: at most the rung's, and no matrix has one between them. The matrices are looked at only where one has it.
-fn rung_above(dimensions: &[Dimensions], rung: Rung, x: usize) -> (bool, Rung)
-    requires rung { IsRung (heights_of dimensions.now) rung }
-    requires down { x ≤ rung.exponent }
-    requires between { x < rung.exponent → rung.next ≤ x + 1 }
-    ensures rows { result.0 ≡ list_any (λ h. exponent h == x) (heights_of dimensions.now) }
-    ensures exponent { result.1.exponent ≡ x }
-    ensures above { IsRung (heights_of dimensions.now) result.1 }
-{
-    // No step leads down from exponent 0.
-    if x == rung.exponent {
-        return (has_exponent(dimensions, x), rung);
-    }
-    if rung.next == x + 1 {
-        return (true, rung_at(dimensions, x));
-    }
-    let above = Rung {
-        exponent: x,
-        next: rung.next,
-    };
-    (false, above)
-}
-
-/// A step from one layer to the next.
-#[derive(Clone, Copy)]
-pub struct StepUp {
-    /// How many children a node of the next layer has.
-    pub step: usize,
-    /// Whether matrices belong to the next layer.
-    pub has_rows: bool,
-    /// The exponent of the next layer, with the next one below it.
-    pub above: Rung,
-}
-
-/// The step from a layer, as [`select_arity_step`], and whether matrices belong to the next layer, as [`has_exponent`].
-/// The matrices are looked at only where one belongs to it.
-pub fn step_up(dimensions: &[Dimensions], arity: usize, rung: Rung) -> StepUp
-    requires { IsRung (heights_of dimensions.now) rung }
-    ensures step { result.step ≡ (if is_bridge (shape_of arity dimensions.now) rung.exponent then 2 else arity) }
-    ensures next { result.above.exponent
-        ≡ (if is_bridge (shape_of arity dimensions.now) rung.exponent then rung.exponent - 1 else rung.exponent - exponent arity) }
-    ensures rows { result.has_rows ≡ list_any (λ h. exponent h == result.above.exponent) (heights_of dimensions.now) }
-    ensures rung { IsRung (heights_of dimensions.now) result.above }
-{
-    let (step, exponent) = if is_bridge_from(arity, rung) {
-        (2, rung.exponent.saturating_sub(1))
-    } else {
-        (arity, rung.exponent.saturating_sub(exponent_of(arity)))
-    };
-    let (has_rows, above) = rung_above(dimensions, rung, exponent);
-    StepUp {
-        step,
-        has_rows,
-        above,
     }
 }
 
@@ -373,45 +260,6 @@ pub fn layer_exponent_of(dimensions: &[Dimensions], arity: usize, t: usize) -> u
         x = select_arity_step(dimensions, arity, x).1;
     }
     x
-}
-
-/// How many steps lead from the leaves to the root. They end for all dimensions and every arity of at least 2.
-pub fn levels_of(dimensions: &[Dimensions], arity: usize) -> usize
-    requires { 2 ≤ arity }
-    ensures { result ≡ levels (shape_of arity dimensions.now) }
-{
-    if arity == 2 {
-        return exponent_of(tallest_of(dimensions));
-    }
-    let mut rung = leaf_rung(dimensions);
-    let mut count = 0;
-    while rung.exponent > 0 {
-        rung = step_up(dimensions, arity, rung).above;
-        count += 1;
-    }
-    count
-}
-
-/// How many siblings the levels below layer `t` have, in digests: one less than the step of each
-/// (`total_siblings_for_levels` in the Rust crate). `t` is at most the number of levels, the arity a power of two from 2
-/// to 2^62, and no height is above [`MAX_HEIGHT`].
-pub fn siblings_below_of(dimensions: &[Dimensions], arity: usize, t: usize) -> usize
-    requires arity { IsArity arity }
-    requires low { tallest (heights_of dimensions.now) ≤ max_height }
-    requires layer { t ≤ levels (shape_of arity dimensions.now) }
-    ensures { result ≡ siblings_below (shape_of arity dimensions.now) t }
-{
-    if arity == 2 {
-        return t;
-    }
-    let mut rung = leaf_rung(dimensions);
-    let mut count = 0;
-    for _l in 0..t {
-        let StepUp { step, above, .. } = step_up(dimensions, arity, rung);
-        count += step - 1;
-        rung = above;
-    }
-    count
 }
 
 /// The steps of the levels below layer `t`, from the leaves up, in children a node. Takes memory for `t` numbers.

@@ -10,3 +10,4 @@ pub mod geometry;
 pub mod group;
 pub mod laws;
 pub mod pruning;
+pub mod steps;

@@ -9,6 +9,7 @@ use p3_merkle_checker::level::Checker;
 use p3_merkle_checker::openings::IndexedOpening;
 use p3_merkle_core::cap::{CapRule, cap_layer_of};
 use p3_merkle_core::error::MerkleTreeError;
+use p3_merkle_core::steps::steps_of;
 use p3_support::compress::PseudoCompressionFunction;
 use p3_support::hasher::CryptographicHasher;
 use p3_support::matrix::{Dimensions, Matrix};
@@ -286,10 +287,11 @@ impl<
             IsOk result ↔
             IsAccepted f s t (roots_of commit.now) (opening_lent index opening.entry) }
     {
-        let t = self.proof_levels(dimensions);
+        let steps = steps_of(dimensions, N);
+        let t = steps.cap_layer(self.cap_rule, self.cap_height);
         let opening = IndexedOpening::new(index, opening);
         self.checker()
-            .check_opening(commit.roots(), dimensions, t, opening)
+            .check_opening(commit.roots(), &steps, t, opening)
     }
 }
 

@@ -7,9 +7,9 @@ use p3_merkle_builder::opener::{matrix_refs, max_height};
 use p3_merkle_builder::tree::Tree;
 use p3_merkle_core::error::MerkleTreeError;
 use p3_merkle_core::geometry::{
-    ArityAndPositions, check_heights, positions_below_of, schedule_below_of, siblings_below_of,
-    tallest_of,
+    ArityAndPositions, check_heights, positions_below_of, schedule_below_of, tallest_of,
 };
+use p3_merkle_core::steps::siblings_below_of;
 use p3_support::matrix::{Dimensions, Matrix};
 use p3_support::packed::PackedValue;
 use std::alloc::Global;

@@ -14,20 +14,20 @@ returns-in_err-check_opening-2 g c =
     let s = shape_of g.row.N c.args.dimensions.now in
     let p = err_from_is_err_and c.from_residual-in_err-check_opening-2.result c.from_residual-in_err-check_opening-2.ensures.1 in
     rw (p.1, p.2) (inr (second_refused g.P.Value.PartialEq.eq g.PW.Value.PartialEq.eq f s c.args.t c.args.roots.now
-    (opening_in c.args.first) (opening_in c.args.second) c.in_err-check_opening-2.field-0.0 c.in_ok-check_opening.ensures c.in_err-check_opening-2.ensures))
+    (opening_in c.args.first) (opening_in c.args.second) c.in_err-check_opening-2.field-0.0 (rw c.steps_of-steps.ensures.dimensions at c.in_ok-check_opening.ensures) (rw c.steps_of-steps.ensures.dimensions at c.in_err-check_opening-2.ensures)))
 
 pub returns : goal.returns
 returns g c =
     let f = functions_of (g.H.CryptographicHasher.hash c.args.self.now.hash.now) (g.C.PseudoCompressionFunction.compression c.args.self.now.compress.now) (replicate g.row.D g.PW.PackedValue.default_value) in
     both_answered g.P.Value.PartialEq.eq g.PW.Value.PartialEq.eq f (shape_of g.row.N c.args.dimensions.now) c.args.t c.args.roots.now (opening_in c.args.first) (opening_in c.args.second) c.in_ok-last_difference.field-0
-    c.in_ok-check_opening.ensures c.in_ok-check_opening-2.ensures c.in_ok-last_difference.ensures
+    (rw c.steps_of-steps.ensures.dimensions at c.in_ok-check_opening.ensures) (rw c.steps_of-steps.ensures.dimensions at c.in_ok-check_opening-2.ensures) c.in_ok-last_difference.ensures
 
 pub invariant_of-openings-clause-first_reaches : goal.invariant_of-openings-clause-first_reaches
 invariant_of-openings-clause-first_reaches g c =
     let f = functions_of (g.H.CryptographicHasher.hash c.args.self.now.hash.now) (g.C.PseudoCompressionFunction.compression c.args.self.now.compress.now) (replicate g.row.D g.PW.PackedValue.default_value) in
-    reach_from g.PW.Value.PartialEq.eq f (shape_of g.row.N c.args.dimensions.now) c.args.t c.args.roots.now (opening_in c.args.first) g.met.PW.PackedValue.eq_is_equality c.requires c.in_ok-check_opening.ensures
+    reach_from g.PW.Value.PartialEq.eq f (shape_of g.row.N c.args.dimensions.now) c.args.t c.args.roots.now (opening_in c.args.first) g.met.PW.PackedValue.eq_is_equality c.requires (rw c.steps_of-steps.ensures.dimensions at c.in_ok-check_opening.ensures)
 
 pub invariant_of-openings-clause-second_reaches : goal.invariant_of-openings-clause-second_reaches
 invariant_of-openings-clause-second_reaches g c =
     let f = functions_of (g.H.CryptographicHasher.hash c.args.self.now.hash.now) (g.C.PseudoCompressionFunction.compression c.args.self.now.compress.now) (replicate g.row.D g.PW.PackedValue.default_value) in
-    reach_from g.PW.Value.PartialEq.eq f (shape_of g.row.N c.args.dimensions.now) c.args.t c.args.roots.now (opening_in c.args.second) g.met.PW.PackedValue.eq_is_equality c.requires c.in_ok-check_opening-2.ensures
+    reach_from g.PW.Value.PartialEq.eq f (shape_of g.row.N c.args.dimensions.now) c.args.t c.args.roots.now (opening_in c.args.second) g.met.PW.PackedValue.eq_is_equality c.requires (rw c.steps_of-steps.ensures.dimensions at c.in_ok-check_opening-2.ensures)

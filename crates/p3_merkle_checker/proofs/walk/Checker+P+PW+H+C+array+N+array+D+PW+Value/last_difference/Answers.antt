@@ -16,8 +16,8 @@ loop-level-init g c =
     let f = functions_of (g.H.CryptographicHasher.hash c.args.self.now.hash.now) (g.C.PseudoCompressionFunction.compression c.args.self.now.compress.now) (replicate g.row.D g.PW.PackedValue.default_value) in
     let s = shape_of g.row.N c.args.openings.now.dimensions.now in
     record {
-      first_stands = stands_first f s (opening_in c.args.openings.now.first) c.leaf-first.result c.leaf-first.ensures.exponent c.leaf-first.ensures.rung c.leaf-first.ensures.node c.leaf-first.ensures.used c.leaf-first.ensures.digest;
-      second_stands = stands_first f s (opening_in c.args.openings.now.second) c.leaf-second.result c.leaf-second.ensures.exponent c.leaf-second.ensures.rung c.leaf-second.ensures.node c.leaf-second.ensures.used c.leaf-second.ensures.digest;
+      first_stands = stands_first f s (opening_in c.args.openings.now.first) c.leaf-first.result (rw (c.steps_of-steps.ensures.arity, c.steps_of-steps.ensures.dimensions) at c.leaf-first.ensures.exponent) c.leaf-first.ensures.node c.leaf-first.ensures.used (rw c.steps_of-steps.ensures.dimensions at c.leaf-first.ensures.digest);
+      second_stands = stands_first f s (opening_in c.args.openings.now.second) c.leaf-second.result (rw (c.steps_of-steps.ensures.arity, c.steps_of-steps.ensures.dimensions) at c.leaf-second.ensures.exponent) c.leaf-second.ensures.node c.leaf-second.ensures.used (rw c.steps_of-steps.ensures.dimensions at c.leaf-second.ensures.digest);
       found = c.in_ok-last.ensures;
     }
 
@@ -32,18 +32,20 @@ loop-level-preserved g c =
     let u = opening_in pair.second in
     let mine = c.checked_level-mine in
     let theirs = c.checked_level-theirs in
+    let my_level = rw c.steps_of-steps.ensures.dimensions at mine.ensures in
+    let their_level = rw c.steps_of-steps.ensures.dimensions at theirs.ensures in
     record {
-      first_stands = rw add-one mine.ensures.stands;
-      second_stands = rw add-one theirs.ensures.stands;
-      found = found_next test f s l o u c.loop-level.last c.if-mine-theirs.last mine.result theirs.result mine.ensures theirs.ensures c.loop-level.invariant.found
+      first_stands = rw add-one my_level.stands;
+      second_stands = rw add-one their_level.stands;
+      found = found_next test f s l o u c.loop-level.last c.if-mine-theirs.last mine.result theirs.result my_level their_level c.loop-level.invariant.found
           (elim c.if-mine-theirs.branch [
             | then-mine-theirs+in_ok-found w ↦
                 let rows = w.rows_with-rows.result in
                 let are = w.rows_with-rows.ensures in
-                let at = are.exponent ∙ mine.ensures.stands.at_exponent in
+                let at = are.exponent ∙ my_level.stands.at_exponent in
                 let a = words_alike rows.dimensions.now pair.dimensions.now rows.exponent (layer_exponent s (suc l)) rows.first.now pair.first.rows.now are.dimensions at are.first in
                 let b = words_alike rows.dimensions.now pair.dimensions.now rows.exponent (layer_exponent s (suc l)) rows.second.now pair.second.rows.now are.dimensions at are.second in
-                inl (w.if-mine-theirs.true, (w.in_ok-found.found, found_here test f s l o u w.in_ok-found.found mine.result theirs.result (first_words rows) (second_words rows) mine.ensures theirs.ensures a b w.in_ok-found.ensures, w.last-is ∙ w.or-last.ensures))
+                inl (w.if-mine-theirs.true, (w.in_ok-found.found, found_here test f s l o u w.in_ok-found.found mine.result theirs.result (first_words rows) (second_words rows) my_level their_level a b w.in_ok-found.ensures, w.last-is ∙ w.or-last.ensures))
             | else-mine-theirs w ↦ inr (w.if-mine-theirs.false, w.last-is)
           ]);
     }

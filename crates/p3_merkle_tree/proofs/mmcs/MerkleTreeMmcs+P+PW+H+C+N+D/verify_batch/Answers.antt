@@ -16,9 +16,10 @@ returns-clause-answer g c =
     let f = functions_of (g.H.CryptographicHasher.hash c.checker.result.hash.now) (g.C.PseudoCompressionFunction.compression c.checker.result.compress.now) (replicate g.row.D g.PW.PackedValue.default_value) in
     let same = functions_alike g.H.CryptographicHasher.hash g.C.PseudoCompressionFunction.compression (replicate g.row.D g.PW.PackedValue.default_value) c.checker.result.hash.now (hash_of scheme) c.checker.result.compress.now (compression_of scheme) c.checker.ensures.hash c.checker.ensures.compress in
     let opening = opening_is c.new-opening.result c.args.index (row_lists c.args.opening.opened_values.now) c.args.opening.opening_proof.now.items c.new-opening.ensures.index (ap row_lists c.new-opening.ensures.rows) c.new-opening.ensures.siblings in
-    c.check_opening.ensures
-    ∙ answer_alike g.P.Value.PartialEq.eq g.PW.Value.PartialEq.eq f (scheme_functions g.H.CryptographicHasher.hash g.C.PseudoCompressionFunction.compression g.row.D scheme) s c.proof_levels-t.result (proof_layer scheme s) c.roots.result.now (roots_of c.args.commit.now)
-    (opening_in c.new-opening.result) (opening_lent c.args.index c.args.opening) same c.proof_levels-t.ensures c.roots.ensures opening
+    let at_cap = rw (c.steps_of-steps.ensures.arity, c.steps_of-steps.ensures.dimensions) at c.cap_layer-t.ensures in
+    (rw c.steps_of-steps.ensures.dimensions at c.check_opening.ensures)
+    ∙ answer_alike g.P.Value.PartialEq.eq g.PW.Value.PartialEq.eq f (scheme_functions g.H.CryptographicHasher.hash g.C.PseudoCompressionFunction.compression g.row.D scheme) s c.cap_layer-t.result (proof_layer scheme s) c.roots.result.now (roots_of c.args.commit.now)
+    (opening_in c.new-opening.result) (opening_lent c.args.index c.args.opening) same at_cap c.roots.ensures opening
 
 pub returns-clause-accepted : goal.returns-clause-accepted
 returns-clause-accepted g c =

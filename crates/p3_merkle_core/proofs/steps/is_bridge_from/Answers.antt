@@ -2,7 +2,7 @@
 use Rattle.std.proofs.Common.{◌≡◌, ◌-◌, ◌∙◌, ap, nat_lt, sym}
 use Rattle.p3_merkle_core.specs.Geometry.{exponent}
 use Rattle.p3_merkle_core.proofs.RungFacts.{bridge_told}
-use Rattle.p3_merkle_core.proofs.geometry.is_bridge_from.Goals as goal
+use Rattle.p3_merkle_core.proofs.steps.is_bridge_from.Goals as goal
 
 pub returns : goal.returns
 returns c = λ hs is.

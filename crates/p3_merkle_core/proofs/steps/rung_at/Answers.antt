@@ -2,7 +2,7 @@
 use Rattle.std.proofs.Common.{arith}
 use Rattle.p3_merkle_core.specs.Geometry.{heights_of}
 use Rattle.p3_merkle_core.proofs.RungFacts.{next_low}
-use Rattle.p3_merkle_core.proofs.geometry.rung_at.Goals as goal
+use Rattle.p3_merkle_core.proofs.steps.rung_at.Goals as goal
 
 pub returns-then-x-eq0-clause-rung : goal.returns-then-x-eq0-clause-rung
 returns-then-x-eq0-clause-rung c = record { next_is = omega (arith, next_low 0 (heights_of c.args.dimensions.now)) }

@@ -2,7 +2,7 @@
 use Rattle.std.proofs.Common.{arith, ◌∙◌, sym}
 use Rattle.p3_merkle_core.specs.Geometry.{heights_of}
 use Rattle.p3_merkle_core.proofs.RungFacts.{next_had, next_not_had, next_stays}
-use Rattle.p3_merkle_core.proofs.geometry.rung_above.Goals as goal
+use Rattle.p3_merkle_core.proofs.steps.rung_above.Goals as goal
 
 pub returns-then-rung-x-clause-rows : goal.returns-then-rung-x-clause-rows
 returns-then-rung-x-clause-rows c =

@@ -1,7 +1,7 @@
 use Rattle.std.proofs.Common.{◌≡◌, max, drop}
 use Rattle.p3_merkle_core.specs.Geometry.{heights_of}
 use Rattle.p3_merkle_core.specs.Rungs.{next_below}
-use Rattle.p3_merkle_core.proofs.geometry.rung_at.Given as goal
+use Rattle.p3_merkle_core.proofs.steps.rung_at.Given as goal
 
 -- the greatest so far and the rest's is the greatest of all
 abbrev pub invariant-loop-matrix : goal.invariant-loop-matrix

@@ -1,0 +1,21 @@
+-- No exponent of a matrix lies between where a step starts and where it leads.
+use Rattle.std.proofs.Common.{arith, ◌≡◌, ◌-◌, ◌∙◌, ap, cond, sym, true, false, inl, inr}
+use Rattle.std.proofs.lemmas.Bool.{cases_Bool}
+use Rattle.p3_merkle_core.specs.Geometry.{exponent, heights_of}
+use Rattle.p3_merkle_core.proofs.RungFacts.{next_low, none_skipped}
+use Rattle.p3_merkle_core.proofs.steps.step_up.Goals as goal
+
+pub rung_above-has_rows-requires-clause-between : goal.rung_above-has_rows-requires-clause-between
+rung_above-has_rows-requires-clause-between c = λ down.
+    let hs = heights_of c.args.dimensions.now in
+    let x = c.args.rung.exponent in
+    let next = c.args.rung.next in
+    let bridge = c.is_bridge_from-is_bridge in
+    let to = c.step_from-exponent.ensures.next in
+    elim (cases_Bool bridge.result) [
+      | inl bridging ↦ let one = rw bridging at to in omega (arith, down, one, c.requires.next_is, next_low x hs)
+      | inr none ↦
+          let whole = rw none at to in
+          let low = none_skipped (x - exponent c.args.arity) x next hs c.requires.next_is (sym (bridge.ensures hs c.requires) ∙ none) in
+          omega (arith, whole, low)
+    ]
