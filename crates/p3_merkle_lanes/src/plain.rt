@@ -15,6 +15,9 @@ use p3_support::rows::rows_of;
 /// How many rows are lent side by side at most.
 const MAX_PIECES: usize = 16;
 
+/// From how many words on rows are lent side by side. Shorter ones are read faster word by word.
+const WIDE: usize = 4;
+
 /// The digest of row `row` of a matrix, which is below its height.
 fn row_digest<
     P: PackedValue,
@@ -94,14 +97,20 @@ pub fn rows_digest<
     if row >= height {
         return [PW::Value::default(); D];
     }
-    match matrices {
+    let lent = match matrices {
         // A row that stands alone is read without a look for the next one after each word.
-        [matrix] if matrix.height() == height => row_digest::<P, PW, H, M, D>(hash, matrix, row),
-        // Whole pieces are hashed without a look for the next word's matrix.
-        _ => match pieces_digest::<P, PW, H, M, D>(hash, matrices, height, row) {
-            Some(digest) => digest,
-            None => hash.hash_iter(rows_of(matrices, height, row)),
+        [matrix] if matrix.height() == height => {
+            return row_digest::<P, PW, H, M, D>(hash, matrix, row);
         },
+        // Whole pieces are hashed without a look for the next word's matrix.
+        [first, ..] if first.width() >= WIDE => {
+            pieces_digest::<P, PW, H, M, D>(hash, matrices, height, row)
+        },
+        _ => None,
+    };
+    match lent {
+        Some(digest) => digest,
+        None => hash.hash_iter(rows_of(matrices, height, row)),
     }
 }
 
