@@ -92,12 +92,12 @@ pub enum MerkleTreeError {
     /// A pruned proof does not fit its queries and rows.
     #[error("malformed pruned proof: {0}")]
     MalformedPrunedProof(PrunedProofError),
-    /// A matrix has more rows than the greatest height that is taken, 2^62.
+    /// A height is above 2^62, the greatest that is taken; or, in the salted scheme, a width with its salts passes `usize`.
     #[error("matrix {matrix}: size {size} is too large")]
     TooLarge {
         /// The place of the matrix in input order.
         matrix: usize,
-        /// Its height, in rows.
+        /// Its height in rows, where that is above 2^62; else its width, without the salts.
         size: usize,
     },
     /// There is no memory left.
