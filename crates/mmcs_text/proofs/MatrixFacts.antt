@@ -12,16 +12,16 @@ use Rattle.std.proofs.Math.Nat.{mul-div_cancel}
 use Rattle.mmcs_text.specs.Input.{numbers_of, StandsFor}
 use Rattle.mmcs_text.specs.Blocks.{IsBlock}
 use Rattle.p3_merkle_core.specs.Nodes.{shape}
-use Rattle.mmcs_text.specs.Matrices.{matrix_of_rows, matrix_of_words, stored_batch, stored_matrix}
+use Rattle.mmcs_text.specs.Matrices.{matrix_of_rows, stored_batch, stored_matrix}
 use Rattle.mmcs_text.proofs.RowsCut.{length_of_rows, row_range}
 
 module _ {W : Type 0} (value : W → ℕ) where
   -- a stored matrix has these rows
   abbrev pub Shows : RowMajorMatrix W → List (List ℕ) → Type 0
-  Shows m rows = matrix_of_words value m ≡ matrix_of_rows rows
+  Shows m rows = stored_matrix (map value) m ≡ matrix_of_rows rows
 
   -- stored matrices, each with its rows
-  pub matrices_shown : (stored : List (RowMajorMatrix W)) (matrices : List (List (List ℕ))) → AllZip Shows stored matrices → map (matrix_of_words value) stored ≡ map matrix_of_rows matrices
+  pub matrices_shown : (stored : List (RowMajorMatrix W)) (matrices : List (List (List ℕ))) → AllZip Shows stored matrices → map (stored_matrix (map value)) stored ≡ map matrix_of_rows matrices
   matrices_shown [] [] each = refl
   matrices_shown [] (rows ∷ matrices) each = absurd each
   matrices_shown (m ∷ stored) [] each = absurd each
@@ -43,18 +43,14 @@ module _ {W : Type 0} (value : W → ℕ) where
 
   -- an input's matrices, as one list
   pub matrices_found : (limit : ℕ) (input : List ℕ) (stored : List (RowMajorMatrix W)) → (matrices : List (List (List ℕ))) × StandsFor limit input matrices × AllZip Shows stored matrices →
-      (matrices : List (List (List ℕ))) × StandsFor limit input matrices × (map (matrix_of_words value) stored ≡ map matrix_of_rows matrices)
+      (matrices : List (List (List ℕ))) × StandsFor limit input matrices × (map (stored_matrix (map value)) stored ≡ map matrix_of_rows matrices)
   matrices_found limit input stored found = (found.0, found.1, matrices_shown stored found.0 found.2)
 
--- of numbers it is the matrix that was stored
-stored_same : (m : RowMajorMatrix ℕ) → stored_matrix m ≡ matrix_of_words (λ n. n) m
-stored_same m = λ i. record { height = row_count m; width = row_width m; row = λ r. message (row_width m) (sym (map-id (values_of m)) i) r }
+-- numbers are read as they are
+pub stored_plain : (stored : List (RowMajorMatrix ℕ)) → map (stored_matrix (λ words. words)) stored ≡ map (stored_matrix (map (λ n. n))) stored
+stored_plain stored = λ i. map (stored_matrix (λ words. sym (map-id words) i)) stored
 
-pub stored_plain : (stored : List (RowMajorMatrix ℕ)) → map stored_matrix stored ≡ map (matrix_of_words (λ n. n)) stored
-stored_plain [] = refl
-stored_plain (m ∷ stored) = λ i. stored_same m i ∷ stored_plain stored i
-
--- nor are rows of numbers others than these
+-- and so are rows of numbers
 pub rows_plain : {A : Type 0} (rows : List (Vec ℕ A)) → map (λ (row : Vec ℕ A). map (λ n. n) row.items) rows ≡ map (λ (row : Vec ℕ A). row.items) rows
 rows_plain [] = refl
 rows_plain (row ∷ rows) = λ i. map-id row.items i ∷ rows_plain rows i

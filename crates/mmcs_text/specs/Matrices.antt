@@ -13,14 +13,10 @@ matrix_of_rows rows = record { height = length rows; width = length (slice_index
 abbrev pub batch_of_rows : ℕ → List (List (List ℕ)) → Batch ℕ
 batch_of_rows arity matrices = record { arity = arity; matrices = map matrix_of_rows matrices }
 
--- a stored matrix, by what its type says of it
-abbrev pub stored_matrix : RowMajorMatrix ℕ → Matrix ℕ
-stored_matrix m = record { height = row_count m; width = row_width m; row = λ r. message (row_width m) (values_of m) r }
+-- a stored matrix, by the numbers that its words are
+abbrev pub stored_matrix : {W : Type 0} → (List W → List ℕ) → RowMajorMatrix W → Matrix ℕ
+stored_matrix numbers m = record { height = row_count m; width = row_width m; row = λ r. message (row_width m) (numbers (values_of m)) r }
 
--- a stored matrix of words, by the numbers that they are
-abbrev pub matrix_of_words : {W : Type 0} → (W → ℕ) → RowMajorMatrix W → Matrix ℕ
-matrix_of_words value m = record { height = row_count m; width = row_width m; row = λ r. message (row_width m) (map value (values_of m)) r }
-
--- stored matrices under an arity
+-- stored matrices of numbers, under an arity
 abbrev pub stored_batch : ℕ → List (RowMajorMatrix ℕ) → Batch ℕ
-stored_batch arity stored = record { arity = arity; matrices = map stored_matrix stored }
+stored_batch arity stored = record { arity = arity; matrices = map (stored_matrix (λ words. words)) stored }

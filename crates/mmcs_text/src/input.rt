@@ -9,7 +9,7 @@ ghost use Rattle.mmcs_text.specs.declared.fault.Fault.TheVariants.{Tree};
 ghost use Rattle.mmcs_text.specs.Numbers.{IsNumberBelow, IsRead};
 ghost use Rattle.mmcs_text.specs.Input.{is_gap, is_blank, numerals_of, numbers_of, pieces_of, IsFirstFault, IsLineFault, StandsFor};
 ghost use Rattle.mmcs_text.specs.Blocks.{IsBlock};
-ghost use Rattle.mmcs_text.specs.Matrices.{matrix_of_rows, matrix_of_words};
+ghost use Rattle.mmcs_text.specs.Matrices.{matrix_of_rows, stored_matrix};
 
 use crate::fault::Fault;
 use crate::word::Word;
@@ -189,7 +189,7 @@ impl<W: Word> Block<W> {
         ensures none { IfNone result (self.old.width ≡ 0) }
         ensures matrix { (limit : ℕ) (lines : List (List ℕ)) →
             IsBlock limit lines (map W.value self.old.values.items) self.old.width →
-            IfSome result (λ matrix. matrix_of_words W.value matrix ≡ matrix_of_rows (map numbers_of lines)) }
+            IfSome result (λ matrix. stored_matrix (map W.value) matrix ≡ matrix_of_rows (map numbers_of lines)) }
         ensures some { IfSome result (λ matrix. 0 < self.old.width) }
     {
         let values = mem::replace(&mut self.values, Vec::new(alloc));
@@ -215,7 +215,7 @@ impl<W: Word> Block<W> {
 pub fn read_matrices<W: Word>(alloc: Global, input: &[u8]) -> Result<Vec<RowMajorMatrix<W>>, Fault>
     ensures matrices { IfOk result (λ found.
         (matrices : List (List (List ℕ))) × StandsFor (W.MAX + 1) input.now matrices ×
-        (map (matrix_of_words W.value) found.items ≡ map matrix_of_rows matrices)) }
+        (map (stored_matrix (map W.value)) found.items ≡ map matrix_of_rows matrices)) }
     ensures fault { IfErr result (λ fault. (fault ≡ Tree OutOfMemory) ⊎ IsFirstFault (W.MAX + 1) (pieces_of input.now) fault) }
 {
     let mut matrices = Vec::new(alloc);
