@@ -112,7 +112,7 @@ one_outcome words input o p u v =
 -- ---- and it is what is answered
 
 after_read : (outcome : Result (List ℕ) Fault) → EndsIn outcome (Err Read)
-after_read (Ok text) = inr (inl refl)
+after_read (Ok text) = inr (inr (inl refl))
 after_read (Err fault) = inr (inl refl)
 
 after_memory : (outcome : Result (List ℕ) Fault) → EndsIn outcome (Err (Tree OutOfMemory))
@@ -134,11 +134,11 @@ module _ (words : List (List ℕ)) (known old new : Option (List ℕ)) (input : 
 
   pub ends_in : (result : Result (Unit {0}) Fault) → (result ≡ Err Usage → AreNoCommand words) → OnOk result (Prints words known (λ text. Appends old new text)) →
       (result ≡ Err Write → Prints words known (λ text. Unit {0})) → IfErr result (IsTold words known) → EndsIn outcome result
-  ends_in (Ok tt) usage ok last fault = same_text (λ text. Appends old new text) (Ok tt) ok (λ text. inl refl)
+  ends_in (Ok tt) usage ok last fault = same_text (λ text. Appends old new text) (Ok tt) ok (λ text. inr (inl refl))
   ends_in (Err Usage) usage ok last fault = subst (λ (o : Result (List ℕ) Fault). EndsIn o (Err Usage)) (one_outcome words input (Err Usage) outcome (usage refl) told) (inl refl)
   ends_in (Err Read) usage ok last fault = after_read outcome
   ends_in (Err (Number n m)) usage ok last fault = same_fault (Number n m) fault
   ends_in (Err (Count n e g)) usage ok last fault = same_fault (Count n e g) fault
   ends_in (Err (Tree e)) usage ok last fault =
       ⊎_elim (λ memory. subst (λ (d : MerkleTreeError). EndsIn outcome (Err (Tree d))) (sym memory) (after_memory outcome)) (λ there. same_fault (Tree e) there) fault
-  ends_in (Err Write) usage ok last fault = same_text (λ text. Unit {0}) (Err Write) (last refl) (λ text. inr (inr (inl refl)))
+  ends_in (Err Write) usage ok last fault = same_text (λ text. Unit {0}) (Err Write) (last refl) (λ text. inl refl)

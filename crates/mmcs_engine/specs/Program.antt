@@ -100,10 +100,14 @@ IsTold words known fault = IfSome known (λ input. IsOutcome words input (Err fa
 abbrev pub Prints : List (List ℕ) → Option (List ℕ) → (List ℕ → Type 0) → Type 0
 Prints words known Holds = IfSome known (λ input. (text : List ℕ) × IsOutcome words input (Ok text) × Holds text)
 
--- the outcome by definition is what is answered, unless a read, a write or memory fails
+-- the result is this one, unless a read failed or there was no memory
+abbrev pub IsUnlessFailed : Result (Unit {0}) Fault → Result (Unit {0}) Fault → Type 0
+IsUnlessFailed result due = (result ≡ due) ⊎ ((result ≡ Err Read) ⊎ (result ≡ Err (Tree OutOfMemory)))
+
+-- an outcome by definition ends in this result: a text in Ok, or in a failed write; a fault in itself
 abbrev pub EndsIn : Result (List ℕ) Fault → Result (Unit {0}) Fault → Type 0
-EndsIn (Ok text) result = (result ≡ Ok tt) ⊎ ((result ≡ Err Read) ⊎ ((result ≡ Err Write) ⊎ (result ≡ Err (Tree OutOfMemory))))
-EndsIn (Err fault) result = (result ≡ Err fault) ⊎ ((result ≡ Err Read) ⊎ (result ≡ Err (Tree OutOfMemory)))
+EndsIn (Ok text) result = (result ≡ Err Write) ⊎ IsUnlessFailed result (Ok tt)
+EndsIn (Err fault) result = IsUnlessFailed result (Err fault)
 
 -- what `run` answers to words, with what its reader and its writer were and what they are then, whose bytes are told by `remaining` and `contents`, where they are known
 pub record IsAnswer {S D : Type 0} (remaining : S → Option (List ℕ)) (contents : D → Option (List ℕ)) (words : List (List ℕ)) (input input_left : S) (output output_left : D) (result : Result (Unit {0}) Fault) : Type 0 where
@@ -118,5 +122,5 @@ pub record IsAnswer {S D : Type 0} (remaining : S → Option (List ℕ)) (conten
   pub last : result ≡ Err Write → Prints words (remaining input) (λ text. Unit {0})
   -- a fault is that of the definition
   pub fault : IfErr result (IsTold words (remaining input))
-  -- the outcome by definition is what is answered
+  -- the outcome by definition is what the call ends in
   pub ends : (bytes : List ℕ) (outcome : Result (List ℕ) Fault) → remaining input ≡ Some bytes → IsOutcome words bytes outcome → EndsIn outcome result
