@@ -4,3 +4,6 @@ pub mod TextFacts
 pub mod Outcomes
 pub mod ReplyFacts
 pub mod SchemeFacts
+pub mod WordCases
+pub mod LineCases
+pub mod SomeOutcome

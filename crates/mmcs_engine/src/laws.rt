@@ -18,6 +18,13 @@ pub fn meanings_are_unique()
         StandsFor limit input ms → StandsFor limit input ns → ms ≡ ns }
 {}
 
+/// Any words and any input have an outcome by definition: the usage, the fault of the first faulty line, a refusal of the
+/// tree, or a text. This holds of all lists of numbers, whether they are bytes or not.
+pub fn each_input_has_an_outcome()
+    ensures { (words : List (List ℕ)) (input : List ℕ) →
+        (outcome : Result (List ℕ) Fault) × IsOutcome words input outcome }
+{}
+
 /// Blank lines in front and at the end do not matter, and a blank line between two inputs puts the matrices of the
 /// second behind those of the first. So the last line feed may be missing.
 pub fn blank_lines_part_matrices()

@@ -1,0 +1,55 @@
+-- There is an outcome by definition.
+use Rattle.std.proofs.Common.{◌≡◌, ⊎_elim, ℕ, ◌+◌, List, Option, Some, None, Result, Ok, Err, refl}
+use Rattle.p3_merkle_core.specs.declared.error.MerkleTreeError.{MerkleTreeError}
+use Rattle.mmcs_text.specs.declared.command.Command.{Command}
+use Rattle.mmcs_text.specs.declared.fault.Fault.{Fault}
+use Rattle.mmcs_text.specs.declared.fault.Fault.TheVariants.{Usage, Read, Number, Count, Tree, Write}
+use Rattle.mmcs_text.specs.Input.{pieces_of, IsFirstFault, StandsFor}
+use Rattle.mmcs_text.specs.Words.{arity_number, max_word, AreWords}
+use Rattle.mmcs_engine.specs.Program.{batch_asked, output_of, refusal_of, IsOutcome}
+use Rattle.mmcs_engine.proofs.LineCases.{matrices_or_fault}
+use Rattle.mmcs_engine.proofs.ReplyFacts.{reply_text}
+use Rattle.mmcs_engine.proofs.WordCases.{settled_command}
+
+module _ (words : List (List ℕ)) (input : List ℕ) where
+  -- some outcome is that of the words and the input
+  abbrev HaveOutcome : Type 0
+  HaveOutcome = (outcome : Result (List ℕ) Fault) × IsOutcome words input outcome
+
+  module _ (command : Command) (indices : List ℕ) (are : AreWords words command indices) where
+    -- a text or a refusal, where the input stands for matrices
+    of_matrices : (matrices : List (List (List ℕ))) → StandsFor (max_word command.hash + 1) input matrices →
+        (refusal : Option MerkleTreeError) → refusal_of command indices matrices ≡ refusal → HaveOutcome
+    of_matrices matrices stands None taken = (
+      Ok (output_of command indices matrices),
+      (
+        command,
+        indices,
+        are,
+        reply_text command indices input (batch_asked command matrices) (arity_number command.arity) command.hash refl refl (matrices, stands, refl) (output_of command indices matrices) taken refl,
+      ),
+    )
+    of_matrices matrices stands (Some e) refused = (Err (Tree e), (command, indices, are, (matrices, stands, refused)))
+
+    -- or the fault of a line
+    of_fault : (fault : Fault) → IsFirstFault (max_word command.hash + 1) (pieces_of input) fault → HaveOutcome
+    of_fault (Number line max) found = (Err (Number line max), (command, indices, are, found))
+    of_fault (Count line expected got) found = (Err (Count line expected got), (command, indices, are, found))
+    of_fault Usage found = absurd found.fault_is
+    of_fault Read found = absurd found.fault_is
+    of_fault (Tree e) found = absurd found.fault_is
+    of_fault Write found = absurd found.fault_is
+
+    of_command : HaveOutcome
+    of_command =
+        ⊎_elim
+        (λ good. of_matrices good.0 good.1 (refusal_of command indices good.0) refl)
+        (λ bad. of_fault bad.0 bad.1)
+        (matrices_or_fault (max_word command.hash) (pieces_of input))
+
+  pub some_outcome : HaveOutcome
+  some_outcome =
+      ⊎_elim
+      (λ some. of_command some.0 some.1 some.2)
+      (λ none. (Err Usage, λ command indices are. none (command, indices, are)))
+      (settled_command words)

@@ -1,0 +1,217 @@
+-- Words are a command, or they are none.
+use Rattle.std.proofs.Common.{◌≡◌, ◌<◌, ◌^◌, ◌⊎◌, ⊎_elim, inl, inr, Bool, true, false, Decides, ℕ, List, [], ◌∷◌, ◌++◌, length, map, sym, refl, ap, subst, arith, append-nil}
+use Rattle.std.specs.Prelude.{nat_eq, All}
+use Rattle.std.specs.Str.Parse.{AllDigits, digits_value}
+use Rattle.std.specs.Char.{digit_value}
+use Rattle.std.specs.Cmp.Lexicographic.{bytes_decides, pointwise}
+use Rattle.std.proofs.lemmas.Bool.{cases_eq, cases_lt, false≢true}
+use Rattle.std.proofs.lemmas.List.{length_push}
+use Rattle.std.proofs.lemmas.List.Elements.{All-nil, All-cons, All-head, All-tail}
+use Rattle.p3_merkle_core.specs.declared.cap.CapRule.TheVariants.{Lowered, Fixed}
+use Rattle.mmcs_text.specs.declared.command.Action.{Action}
+use Rattle.mmcs_text.specs.declared.command.Action.TheVariants.{Commit, Open, Check}
+use Rattle.mmcs_text.specs.declared.command.Arity.{Arity}
+use Rattle.mmcs_text.specs.declared.command.Arity.TheVariants.{Two, Four, Eight}
+use Rattle.mmcs_text.specs.declared.command.CapChoice.{CapChoice}
+use Rattle.mmcs_text.specs.declared.command.Command.{Command}
+use Rattle.mmcs_text.specs.declared.command.HashName.{HashName}
+use Rattle.mmcs_text.specs.declared.command.HashName.TheVariants.{Fold, Sha256}
+use Rattle.mmcs_text.specs.Numbers.{IsNumberBelow}
+use Rattle.mmcs_text.specs.Words.{action_word, arity_word, hash_word, AreWords, IsCapWord, IsNumberWord, MayFollow}
+use Rattle.mmcs_text.proofs.WordFacts.{cap_fixed, no_cap_fixed, no_cap_lowered}
+
+-- ---- facts that hold or do not
+
+-- a fact holds or does not
+abbrev pub IsSettled : Type 0 → Type 0
+IsSettled P = P ⊎ (P → ⊥)
+
+-- a fact that holds where another does
+settled_as : {P Q : Type 0} → (P → Q) → (Q → P) → IsSettled P → IsSettled Q
+settled_as there back settled = ⊎_elim (λ p. inl (there p)) (λ no. inr (λ q. no (back q))) settled
+
+-- two facts, one of two, and one of each element
+settled_both : {P Q : Type 0} → IsSettled P → IsSettled Q → IsSettled (P × Q)
+settled_both p q =
+    ⊎_elim
+    (λ first. ⊎_elim (λ second. inl (first, second)) (λ no. inr (λ both. no both.1)) q)
+    (λ no. inr (λ both. no both.0))
+    p
+
+settled_either : {P Q : Type 0} → IsSettled P → IsSettled Q → IsSettled (P ⊎ Q)
+settled_either p q =
+    ⊎_elim
+    (λ first. inl (inl first))
+    (λ no. ⊎_elim (λ second. inl (inr second)) (λ neither. inr (λ either. ⊎_elim no neither either)) q)
+    p
+
+pub settled_each : {X : Type 0} (P : X → Type 0) → ((x : X) → IsSettled (P x)) → (xs : List X) → IsSettled (All P xs)
+settled_each P settled [] = inl (All-nil P)
+settled_each P settled (x ∷ xs) =
+    settled_as (λ both. All-cons P x xs both.0 both.1) (λ each. (All-head P x xs each, All-tail P x xs each))
+    (settled_both (settled x) (settled_each P settled xs))
+
+-- a fact that a test decides
+settled_by : {P : Type 0} (b : Bool) → Decides b P → IsSettled P
+settled_by true test = inl (test.0 refl)
+settled_by false test = inr (λ p. absurd (false≢true (test.1 p)))
+
+-- an order, and an equality
+settled_below : (m n : ℕ) → IsSettled (m < n)
+settled_below m n = ⊎_elim inl (λ above. inr (λ below. absurd (omega (arith, above, below)))) (cases_lt m n)
+
+settled_same : (u v : List ℕ) → IsSettled (u ≡ v)
+settled_same u v = settled_by (pointwise nat_eq u v) (bytes_decides u v)
+
+-- ---- numbers
+
+settled_digits : (ds : List ℕ) → IsSettled (AllDigits 10 ds)
+settled_digits [] = inl tt
+settled_digits (d ∷ ds) = settled_both (settled_below (digit_value d) 10) (settled_digits ds)
+
+pub settled_number : (limit : ℕ) (digits : List ℕ) → IsSettled (IsNumberBelow limit digits)
+settled_number limit digits =
+    settled_as (λ parts. record { numeral = parts.0; below = parts.1 }) (λ number. (number.numeral, number.below))
+    (settled_both (settled_both (settled_below 0 (length digits)) (settled_digits digits)) (settled_below (digits_value 10 digits) limit))
+
+-- ---- the parts of a command
+
+settled_hash : (word : List ℕ) → IsSettled ((hash : HashName) × (word ≡ hash_word hash))
+settled_hash word =
+    settled_as (λ either. ⊎_elim (λ is. (Fold, is)) (λ is. (Sha256, is)) either) (λ some. by_hash some.0 some.1)
+    (settled_either (settled_same word (hash_word Fold)) (settled_same word (hash_word Sha256)))
+  where
+    by_hash : (hash : HashName) → word ≡ hash_word hash → (word ≡ hash_word Fold) ⊎ (word ≡ hash_word Sha256)
+    by_hash Fold is = inl is
+    by_hash Sha256 is = inr is
+
+settled_arity : (word : List ℕ) → IsSettled ((arity : Arity) × (word ≡ arity_word arity))
+settled_arity word =
+    settled_as (λ either. ⊎_elim (λ is. (Two, is)) (λ others. ⊎_elim (λ is. (Four, is)) (λ is. (Eight, is)) others) either) (λ some. by_arity some.0 some.1)
+    (settled_either (settled_same word (arity_word Two)) (settled_either (settled_same word (arity_word Four)) (settled_same word (arity_word Eight))))
+  where
+    by_arity : (arity : Arity) → word ≡ arity_word arity → (word ≡ arity_word Two) ⊎ ((word ≡ arity_word Four) ⊎ (word ≡ arity_word Eight))
+    by_arity Two is = inl is
+    by_arity Four is = inr (inl is)
+    by_arity Eight is = inr (inr is)
+
+-- whether the last byte is the mark of the fixed rule
+settled_mark : (word : List ℕ) → IsSettled ((digits : List ℕ) × (word ≡ digits ++ 102 ∷ []))
+settled_mark [] = inr (λ some. absurd (omega (arith, ap length some.1, length_push some.0 102)))
+settled_mark (b ∷ []) =
+    ⊎_elim (λ is. inl ([], λ i. is i ∷ [])) (λ other. inr (λ some. other (by_front some.0 some.1))) (cases_eq b 102)
+  where
+    by_front : (digits : List ℕ) → b ∷ [] ≡ digits ++ 102 ∷ [] → b ≡ 102
+    by_front [] is = cc
+    by_front (d ∷ digits) is = absurd (omega (arith, ap length is, length_push digits 102))
+settled_mark (b ∷ c ∷ word) =
+    settled_as (λ some. (b ∷ some.0, ap (λ w. b ∷ w) some.1)) (λ some. by_front some.0 some.1) (settled_mark (c ∷ word))
+  where
+    by_front : (digits : List ℕ) → b ∷ c ∷ word ≡ digits ++ 102 ∷ [] → (front : List ℕ) × (c ∷ word ≡ front ++ 102 ∷ [])
+    by_front [] is = absurd (omega (arith, ap length is))
+    by_front (d ∷ digits) is = (digits, cc)
+
+settled_cap : (word : List ℕ) → IsSettled ((cap : CapChoice) × IsCapWord word cap)
+settled_cap word =
+    ⊎_elim
+    (λ marked. ⊎_elim
+    (λ number. inl (record { height = digits_value 10 marked.0; rule = Fixed }, cap_fixed word marked.0 (digits_value 10 marked.0) marked.1 (number, refl)))
+    (λ bad. inr (λ some. no_cap_fixed word marked.0 some.0 marked.1 bad some.1))
+    (settled_number (2 ^ 64) marked.0))
+    (λ unmarked. ⊎_elim
+    (λ number. inl (record { height = digits_value 10 word; rule = Lowered }, (word, sym (append-nil word), number, refl)))
+    (λ bad. inr (λ some. no_cap_lowered word some.0 (λ digits is. unmarked (digits, is)) bad some.1))
+    (settled_number (2 ^ 64) word))
+    (settled_mark word)
+
+settled_follow : (action : Action) (places : List (List ℕ)) → IsSettled (MayFollow action places)
+settled_follow action places = settled_both (settled_each IsNumberWord (settled_number (2 ^ 64)) places) (none_after action places)
+  where
+    none_after : (action : Action) (places : List (List ℕ)) → IsSettled (action ≡ Commit → places ≡ [])
+    none_after action [] = inl (λ is. refl)
+    none_after Commit (place ∷ places) = inr (λ none. absurd (let apart = none refl in cc))
+    none_after Open (place ∷ places) = inl (λ is. absurd cc)
+    none_after Check (place ∷ places) = inl (λ is. absurd cc)
+
+module _ (word : List ℕ) (places : List (List ℕ)) where
+  -- the word of an action, and what may follow it
+  abbrev Asks : Action → Type 0
+  Asks action = (word ≡ action_word action) × MayFollow action places
+
+  settled_asks : (action : Action) → IsSettled (Asks action)
+  settled_asks action = settled_both (settled_same word (action_word action)) (settled_follow action places)
+
+  settled_action : IsSettled ((action : Action) × (word ≡ action_word action) × MayFollow action places)
+  settled_action =
+      settled_as
+      (λ either. ⊎_elim (λ it. (Commit, it.0, it.1)) (λ others. ⊎_elim (λ it. (Open, it.0, it.1)) (λ it. (Check, it.0, it.1)) others) either)
+      (λ some. by_action some.0 (some.1, some.2))
+      (settled_either (settled_asks Commit) (settled_either (settled_asks Open) (settled_asks Check)))
+    where
+      by_action : (action : Action) → Asks action → Asks Commit ⊎ (Asks Open ⊎ Asks Check)
+      by_action Commit it = inl it
+      by_action Open it = inr (inl it)
+      by_action Check it = inr (inr it)
+
+-- ---- commands
+
+-- the words of some command and its indices
+abbrev pub AreSomeCommand : List (List ℕ) → Type 0
+AreSomeCommand words = (command : Command) × (indices : List ℕ) × AreWords words command indices
+
+module _ (hash arity cap action : List ℕ) (places : List (List ℕ)) where
+  -- a part for each word
+  abbrev HaveParts : Type 0
+  HaveParts =
+      ((h : HashName) × (hash ≡ hash_word h))
+      × (((n : Arity) × (arity ≡ arity_word n))
+      × (((c : CapChoice) × IsCapWord cap c)
+      × ((a : Action) × (action ≡ action_word a) × MayFollow a places)))
+
+  command_from : HaveParts → AreSomeCommand (hash ∷ arity ∷ cap ∷ action ∷ places)
+  command_from parts = (
+    record { hash = parts.0.0; arity = parts.1.0.0; cap = parts.1.1.0.0; action = parts.1.1.1.0 },
+    map (digits_value 10) places,
+    record {
+      cap = cap;
+      places = places;
+      spelling = λ i. parts.0.1 i ∷ parts.1.0.1 i ∷ cap ∷ parts.1.1.1.1 i ∷ places;
+      cap_word = parts.1.1.0.1;
+      may_follow = parts.1.1.1.2;
+      indices_are = refl;
+    },
+  )
+
+  parts_of : (command : Command) (indices : List ℕ) → AreWords (hash ∷ arity ∷ cap ∷ action ∷ places) command indices → HaveParts
+  parts_of command indices are =
+      let e = are.spelling in
+      let hash_is : hash ≡ hash_word command.hash = cc in
+      let arity_is : arity ≡ arity_word command.arity = cc in
+      let cap_is : cap ≡ are.cap = cc in
+      let action_is : action ≡ action_word command.action = cc in
+      let places_are : places ≡ are.places = cc in (
+        (command.hash, hash_is),
+        (
+          (command.arity, arity_is),
+          (
+            (command.cap, subst (λ (w : List ℕ). IsCapWord w command.cap) (sym cap_is) are.cap_word),
+            (command.action, action_is, subst (λ (ps : List (List ℕ)). MayFollow command.action ps) (sym places_are) are.may_follow),
+          ),
+        ),
+      )
+
+  settled_words : IsSettled (AreSomeCommand (hash ∷ arity ∷ cap ∷ action ∷ places))
+  settled_words =
+      settled_as command_from (λ some. parts_of some.0 some.1 some.2)
+      (settled_both (settled_hash hash) (settled_both (settled_arity arity) (settled_both (settled_cap cap) (settled_action action places))))
+
+-- a command has at least four words
+no_short : (words : List (List ℕ)) → length words < 4 → AreSomeCommand words → ⊥
+no_short words short some = absurd (let lengths = ap length some.2.spelling in omega (arith, lengths, short))
+
+pub settled_command : (words : List (List ℕ)) → IsSettled (AreSomeCommand words)
+settled_command [] = inr (no_short [] (omega arith))
+settled_command (a ∷ []) = inr (no_short (a ∷ []) (omega arith))
+settled_command (a ∷ b ∷ []) = inr (no_short (a ∷ b ∷ []) (omega arith))
+settled_command (a ∷ b ∷ c ∷ []) = inr (no_short (a ∷ b ∷ c ∷ []) (omega arith))
+settled_command (a ∷ b ∷ c ∷ d ∷ places) = settled_words a b c d places
