@@ -1,5 +1,5 @@
 //! Runs the engine of `mmcs` on cases, one a line of standard input, and names each that is not answered as it is
-//! written.
+//! written, or is no case. Where there is such a line, it ends with status 1.
 //!
 //! A case is `WORDS | "INPUT" | ANSWER`: the words after the program's name, where `""` is an empty word; the input;
 //! and what is printed, with the line and the status of a fault. In the input and the answer `\n`, `\r`, `\t` and
@@ -10,20 +10,26 @@ mod case;
 
 use crate::case::mistake;
 use anyhow::Error;
+use std::process::ExitCode;
 
-fn main(rt: HostRuntime) -> Result<(), Error> {
-    let (mut cases, mut wrong) = (0_u64, 0_u64);
+fn main(rt: HostRuntime) -> Result<ExitCode, Error> {
+    let (mut number, mut cases, mut wrong) = (0_u64, 0_u64, 0_u64);
     for line in rt.lines(rt.alloc()) {
         let line = line?;
+        number = number.saturating_add(1);
         if line.is_empty() || line.starts_with('#') {
             continue;
         }
         cases = cases.saturating_add(1);
         if let Some(what) = mistake(rt.alloc(), line.as_str())? {
             wrong = wrong.saturating_add(1);
-            println!(rt; "{line}\n  {what}")?;
+            println!(rt; "line {number}: {line}\n  {what}")?;
         }
     }
     println!(rt; "{cases} cases, {wrong} wrong")?;
-    Ok(())
+    Ok(if wrong == 0 {
+        ExitCode::SUCCESS
+    } else {
+        ExitCode::FAILURE
+    })
 }
