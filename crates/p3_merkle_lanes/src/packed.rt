@@ -74,7 +74,8 @@ fn stage_packed_rows<P: PackedValue, M: Matrix<P::Value>>(
     Ok(())
 }
 
-/// The digests of rows of one matrix, from `row` on: lane `k` is that of row `row + k`.
+/// The digests of rows of one matrix, from `row` on: lane `k` is that of row `row + k`, for each lane
+/// that both packings have.
 fn packed_row_digest<
     P: PackedValue,
     PW: PackedValue,
@@ -83,14 +84,15 @@ fn packed_row_digest<
     const D: usize,
 >(hash: &H, matrix: &M, row: usize) -> [PW; D]
     requires { row + P.WIDTH ≤ M.height_of matrix.now }
-    ensures { (k : ℕ) → k < P.WIDTH →
+    ensures { (k : ℕ) → k < P.WIDTH → k < PW.WIDTH →
         lane_of PW.lanes PW.default_value k result ≡ H.hash hash.now (M.row_of matrix.now (row + k)) }
 {
     hash.hash_packed(matrix.vertically_packed_row::<P>(row))
 }
 
 /// The digests of rows of the matrices of this height, one matrix after another, from `row` on: lane `k` is that of the
-/// rows `row + k`. As many rows as there are lanes are below the height. The rows of several matrices are staged first.
+/// rows `row + k`, for each lane that both packings have. As many rows as `P` has lanes are below the height. The rows of
+/// several matrices are staged first.
 ///
 /// # Errors
 ///
@@ -109,7 +111,7 @@ pub fn packed_rows_digest<
     staged: &mut Vec<P>,
 ) -> Result<[PW; D], AllocError>
     requires { row + P.WIDTH ≤ height }
-    ensures { IfOk result (λ digests. (k : ℕ) → k < P.WIDTH →
+    ensures { IfOk result (λ digests. (k : ℕ) → k < P.WIDTH → k < PW.WIDTH →
         lane_of PW.lanes PW.default_value k digests
         ≡ H.hash hash.now (rows_of_height M.height_of M.row_of height (row + k) matrices.now)) }
 {

@@ -50,11 +50,12 @@ pub trait CryptographicHasher<P: PackedValue, PW: PackedValue, const D: usize> {
             out.new ≡ map (hash self.now) (messages_of w (length out.old) messages.now) };
 
     /// The digests of `P::WIDTH` messages that are packed word by word: lane `k` of the result is
-    /// the digest of the lanes `k` of the items. `input` can be read to its end.
+    /// the digest of the lanes `k` of the items, for each lane that both packings have. `input` can
+    /// be read to its end.
     fn hash_packed<I: Iterator<Item = P>>(&self, input: I) -> [PW; D]
         requires can { I.can_next input }
         requires ends { IsFinite (I.remaining input) }
-        ensures { WholeRun I.next_gives input (λ p. (k : ℕ) → k < P.WIDTH →
+        ensures { WholeRun I.next_gives input (λ p. (k : ℕ) → k < P.WIDTH → k < PW.WIDTH →
             lane_of PW.lanes PW.default_value k result
             ≡ hash self.now (lane_of P.lanes P.default_value k p.items)) };
 

@@ -21,7 +21,7 @@ loop-group-preserved g c =
     let hashed : (k : ℕ) → k < w → seen k ≡ f (group * w + k) =
     λ k small.
     let row : group * w + k < c.args.height = omega (arith, end, small) in
-    rw (lt-ltb (group * w + k) c.args.height row) ((rw (c.WIDTH.ensures, c.requires.lanes) at c.in_ok-digests.ensures) k small) in
+    rw (lt-ltb (group * w + k) c.args.height row) ((rw (c.WIDTH.ensures, c.requires.lanes) at c.in_ok-digests.ensures) k small small) in
     record {
       long = c.unpack_at.ensures.long ∙ c.loop-group.invariant.long;
       filled = group_more f seen c.loop-group.slots c.unpack_at.new.rows group w [] written hashed kept c.loop-group.invariant.filled;
