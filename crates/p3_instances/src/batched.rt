@@ -46,8 +46,6 @@ impl<
     fn hash_packed<I: Iterator<Item = P>>(&self, input: I) -> [PW; D] {
         self.0.hash_packed(input)
     }
-
-    ghost digest_length = { λ h xs. X.digest_length h.0 xs };
 }
 
 impl<

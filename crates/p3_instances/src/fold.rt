@@ -5,7 +5,7 @@ ghost use Rattle.std.specs.Iterator.{IsFinite};
 ghost use Rattle.std.specs.Iterator.Runs.{WholeRun};
 ghost use Rattle.std.specs.List.{fold as folded};
 ghost use Rattle.p3_support.specs.Lists.{lane_of};
-ghost use Rattle.p3_support.specs.Fold.{fold_hash, fold_compress, take_in, start as start_of, mix_in, length-fold_hash};
+ghost use Rattle.p3_support.specs.Fold.{fold_hash, fold_compress, take_in, start as start_of, mix_in};
 
 use crate::eights::{compress_all, hash_all};
 use p3_support::compress::PseudoCompressionFunction;
@@ -146,8 +146,6 @@ impl<P: FoldLane, const L: usize, const D: usize> CryptographicHasher<P, P, D> f
     fn hash_packed<I: Iterator<Item = P>>(&self, input: I) -> [P; D] {
         hash_lanes(input)
     }
-
-    ghost digest_length = { λ h xs. length-fold_hash D xs };
 }
 
 /// The digest after one more child, the one at `place`, lane by lane.

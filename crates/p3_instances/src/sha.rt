@@ -4,7 +4,7 @@ ghost use Rattle.std.specs.Prelude.{◌≡◌, ℕ, ◌<◌, ◌∷◌, [], map}
 ghost use Rattle.std.specs.Iterator.{IsFinite};
 ghost use Rattle.std.specs.Iterator.Runs.{WholeRun};
 ghost use Rattle.p3_support.specs.Lists.{lane_of};
-ghost use Rattle.p3_instances.specs.Sha.{sha256_rows, sha256_nodes, length-sha256_rows};
+ghost use Rattle.p3_instances.specs.Sha.{sha256_rows, sha256_nodes};
 
 use p3_support::compress::PseudoCompressionFunction;
 use p3_support::hasher::CryptographicHasher;
@@ -76,8 +76,6 @@ impl CryptographicHasher<u8, u8, 32> for Sha256Rows {
     fn hash_packed<I: Iterator<Item = u8>>(&self, input: I) -> [u8; 32] {
         hash_bytes(input)
     }
-
-    ghost digest_length = { λ h bytes. length-sha256_rows bytes };
 }
 
 /// That a digest has `D` bytes, which holds of `Sha256` at 32 alone. `Sha256Nodes` asks for it in

@@ -58,7 +58,4 @@ pub trait CryptographicHasher<P: PackedValue, PW: PackedValue, const D: usize> {
         ensures { WholeRun I.next_gives input (λ p. (k : ℕ) → k < P.WIDTH → k < PW.WIDTH →
             lane_of PW.lanes PW.default_value k result
             ≡ hash self.now (lane_of P.lanes P.default_value k p.items)) };
-
-    // A digest has D values.
-    ghost digest_length: { (h : Self) (xs : List P.Value) → length (hash h xs) ≡ D };
 }

@@ -5,7 +5,6 @@ ghost use Rattle.std.specs.Prelude.{◌≡◌, ℕ, ◌<◌, ◌∷◌, [], bit_
 ghost use Rattle.std.specs.Iterator.{IsFinite};
 ghost use Rattle.std.specs.Iterator.Runs.{WholeRun};
 ghost use Rattle.std.specs.Simd.Lanes.{zip2};
-ghost use Rattle.std.proofs.lemmas.List.{length-replicate};
 ghost use Rattle.p3_support.specs.Lists.{lane_of};
 
 use p3_merkle_tree::{MerkleTreeError, MerkleTreeMmcs};
@@ -72,8 +71,6 @@ impl CryptographicHasher<u8, u8, 32> for RepeatHash {
     fn hash_packed<I: Iterator<Item = u8>>(&self, input: I) -> [u8; 32] {
         [first_byte(input); 32]
     }
-
-    ghost digest_length = { λ h bytes. length-replicate 32 (slice_index_or bytes 0 0) };
 }
 
 /// The exclusive or of two digests, byte by byte.

@@ -97,8 +97,6 @@ impl<
         self.notes.note(ROW_LANES, P::WIDTH);
         self.functions.hash_packed(input)
     }
-
-    ghost digest_length = { λ h xs. X.digest_length h.functions xs };
 }
 
 impl<
