@@ -1,7 +1,6 @@
 -- The fold functions on lists, by the element of the digest.
-use Rattle.std.specs.Prelude.{◌≡◌, ℕ, ◌+◌, ◌*◌, ◌%◌, ◌^◌, List, length, map, slice_index_or}
+use Rattle.std.specs.Prelude.{ℕ, ◌+◌, ◌*◌, ◌%◌, ◌^◌, List, map, slice_index_or}
 use Rattle.std.specs.List.{fold, range_with_len, enumerate_from}
-use Rattle.std.proofs.lemmas.List.FromFn.{length-map-range_with_len}
 
 -- an element that takes in a word
 abbrev pub take_in : ℕ → ℕ → ℕ
@@ -26,8 +25,3 @@ placed_elements e children = enumerate_from 0 (map (λ child. slice_index_or chi
 -- the digest of n elements: each starts at 0 and takes in its like of each child, in the order of the children
 unfoldable pub fold_compress : ℕ → List (List ℕ) → List ℕ
 fold_compress n children = map (λ e. fold mix_in 0 (placed_elements e children)) (range_with_len 0 n)
-
--- a digest has its n elements
-pub length-fold_hash : (n : ℕ) (words : List ℕ) → length (fold_hash n words) ≡ n
-unfolding fold_hash
-length-fold_hash n words = length-map-range_with_len (λ e. fold take_in (start e) words) 0 n
