@@ -7,8 +7,9 @@ use p3_support::hasher::CryptographicHasher;
 use p3_support::packed::PackedValue;
 use std::convert::AsSlice;
 
-/// The function of `X`, by the calls of `X`, with `LANES` 3: for tests of staging by a number of
-/// lanes that is no power of two.
+/// The function of `X`, with `LANES` 3: for tests of staging by a number of lanes that is no power of
+/// two. Of many messages, or many groups, `X` digests one after another by its calls for one, so
+/// that trees by `X` and by this are built by different calls.
 #[derive(Clone, Copy, Debug)]
 pub struct Batched3<X>(pub X);
 
@@ -40,7 +41,13 @@ impl<
     }
 
     fn hash_many(&self, messages: &[P::Value], out: &mut [[PW::Value; D]]) {
-        self.0.hash_many(messages, out)
+        if out.is_empty() {
+            return;
+        }
+        let width = messages.len() / out.len();
+        for (i, digest) in out.iter_mut().enumerate() {
+            *digest = self.0.hash_slice(&messages[i * width..(i + 1) * width]);
+        }
     }
 
     fn hash_packed<I: Iterator<Item = P>>(&self, input: I) -> [PW; D] {
@@ -65,7 +72,9 @@ impl<
     }
 
     fn compress_many(&self, groups: &[[[PW::Value; D]; N]], out: &mut [[PW::Value; D]]) {
-        self.0.compress_many(groups, out)
+        for (i, digest) in out.iter_mut().enumerate() {
+            *digest = self.0.compress(groups[i]);
+        }
     }
 
     fn compress_packed(&self, input: [[PW; D]; N]) -> [PW; D]
