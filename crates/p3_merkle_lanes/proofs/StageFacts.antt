@@ -110,10 +110,6 @@ part_more f xs ys a k n d long made inside before j below =
           ap (λ i. get_or (put_mid a k xs ys) i d) at ∙ part_written xs ys a k n (j - a) d long inside inner ∙ made (j - a) inner ∙ ap f (sym at)
     ]
 
--- a product of numbers above 0 is above 0
-pub some_product : (x y : ℕ) → 1 ≤ x → 1 ≤ y → 0 < x * y
-some_product x y a b = let more : 1 * y ≤ x * y = mul-le-mul_right y a in omega (arith, more)
-
 -- what stands behind a part stays
 pub part_after : {X : Type 0} (xs ys : List X) (a k j : ℕ) (d : X) → length ys ≡ k → a ≤ length xs → a + k ≤ j → get_or (put_mid a k xs ys) j d ≡ get_or xs j d
 part_after xs ys a k j d long inside behind =

@@ -1,9 +1,9 @@
 //! The digests of many rows or nodes by calls that take many messages at once.
 
-ghost use Rattle.std.specs.Prelude.{◌≡◌, ℕ, ◌+◌, ◌-◌, ◌<◌, ◌≤◌, ◌++◌, [], ◌∷◌, IfOk, IfSome, length, map, replicate, slice_index_or};
+ghost use Rattle.std.specs.Prelude.{◌≡◌, ℕ, ◌+◌, ◌-◌, ◌*◌, ◌%◌, ◌^◌, ◌<◌, ◌≤◌, ◌==◌, ◌++◌, [], ◌∷◌, IfOk, IfSome, filter, length, map, max, min, replicate, slice_index_or, sum_by};
 ghost use Rattle.std.specs.List.{range_with_len};
 ghost use Rattle.p3_support.specs.Lists.{rows_of_height};
-ghost use Rattle.p3_merkle_lanes.specs.Slots.{leaf_over, rows_per_call as rows_in_call, IsFilled, IsStaged};
+ghost use Rattle.p3_merkle_lanes.specs.Slots.{leaf_over, IsFilled, IsStaged};
 
 use p3_merkle_core::group::group_with;
 use p3_support::compress::PseudoCompressionFunction;
@@ -13,10 +13,13 @@ use p3_support::packed::PackedValue;
 use std::alloc::{AllocError, Global};
 
 /// How many messages of `bytes` bytes each are laid side by side for one call, which works on `lanes` of them together:
-/// whole groups of lanes, of 16384 bytes at most where a group is smaller. A number that is 0 is read as 1.
+/// the most that are whole groups of lanes and have at most 16384 bytes together, or one group where it has more. A
+/// number that is 0 is read as 1.
 fn rows_per_call(bytes: usize, lanes: usize) -> usize
-    ensures number { result ≡ rows_in_call bytes lanes }
-    ensures some { 0 < result }
+    ensures whole { result % max lanes 1 ≡ 0 }
+    ensures some { max lanes 1 ≤ result }
+    ensures fits { result * max bytes 1 ≤ max 16384 (max lanes 1 * max bytes 1) }
+    ensures most { max 16384 (max lanes 1 * max bytes 1) < (result + max lanes 1) * max bytes 1 }
 {
     let bytes = bytes.max(1);
     let lanes = lanes.max(1);
@@ -24,7 +27,10 @@ fn rows_per_call(bytes: usize, lanes: usize) -> usize
 }
 
 /// How many elements the rows of the matrices of this height have together, at most 2^64 - 1.
-fn row_len<T, M: Matrix<T>>(matrices: &[M], height: usize) -> usize {
+fn row_len<T, M: Matrix<T>>(matrices: &[M], height: usize) -> usize
+    ensures { let widths = sum_by M.width_of (filter (λ m. M.height_of m == height) matrices.now) in
+        result ≡ min widths (2 ^ 64 - 1) }
+{
     let mut len = 0usize;
     for matrix in matrices {
         if matrix.height() == height {
