@@ -1,5 +1,5 @@
--- Slots of a layer that are written from the first on, and how many rows are laid side by side before they are hashed.
-use Rattle.std.specs.Prelude.{◌≡◌, ℕ, ◌*◌, ◌/◌, ◌<◌, List, [], length, map, max, nat_lt, if◌then◌else◌, slice_index_or}
+-- Slots of a layer that are written from the first on, and rows that are laid side by side before they are hashed.
+use Rattle.std.specs.Prelude.{◌≡◌, ℕ, ◌*◌, ◌<◌, List, [], length, map, nat_lt, if◌then◌else◌, slice_index_or}
 use Rattle.std.specs.List.{range_with_len}
 use Rattle.p3_support.specs.Lists.{messages, rows_of_height}
 
@@ -11,10 +11,6 @@ pub record IsFilled {W : Type 0} (digest : ℕ → List W) (n len : ℕ) (slots 
 -- the digest of the rows j of the matrices of the height h, or the default digest d past it
 abbrev pub leaf_over : {T W M : Type 0} → (List T → List W) → List W → (M → ℕ) → (M → ℕ → List T) → List M → ℕ → ℕ → List W
 leaf_over hash d height row ms h j = if nat_lt j h then hash (rows_of_height height row h j ms) else d
-
--- how many messages of so many bytes are laid side by side for a call that takes so many lanes: groups of lanes, as many as 16384 bytes hold, but at least one
-abbrev pub rows_per_call : ℕ → ℕ → ℕ
-rows_per_call bytes lanes = max (16384 / max bytes 1 / max lanes 1) 1 * max lanes 1
 
 -- these words are n messages of one length, one after another
 pub record IsStaged {T : Type 0} (message : ℕ → List T) (n : ℕ) (words : List T) : Type 0 where
