@@ -35,8 +35,8 @@ fn hash_bytes<I: Iterator<Item = u8>>(input: I) -> [u8; 32]
     hasher.finalize()
 }
 
-/// SHA-256 of a row's bytes, one message at a time. A row in several pieces is better laid into one
-/// slice first.
+/// SHA-256 of a row's bytes, one message at a time. A row in one slice is hashed faster than byte by
+/// byte.
 #[derive(Clone, Copy, Debug)]
 pub struct Sha256Rows;
 

@@ -15,7 +15,9 @@ pub trait CryptographicHasher<P: PackedValue, PW: PackedValue, const D: usize> {
     /// multiple of it.
     const LANES: usize;
 
-    /// Whether a message in several pieces is better laid into one slice first.
+    /// Whether a message in several pieces is better laid into one slice first. No builder here reads
+    /// it: packed rows of several matrices are staged for every hasher, and rows that are hashed one by
+    /// one are handed on piece by piece, or word by word.
     const PREFER_CONTIGUOUS_INPUT: bool;
 
     // The digest of a list of words.
