@@ -2,7 +2,6 @@ pub mod Geometry
 pub mod Caps
 pub mod Gate
 pub mod Nodes
-pub mod Salted
 pub mod Openings
 pub mod Groups
 pub mod Pruning
@@ -17,7 +16,6 @@ pub mod Laws
 pub mod Examples
 pub mod ShapeExamples
 pub mod NodeExamples
-pub mod SaltExamples
 pub mod OpeningExamples
 pub mod PruningExamples
 pub mod PrunedCallExamples

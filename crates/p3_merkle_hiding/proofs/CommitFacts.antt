@@ -8,10 +8,10 @@ use Rattle.p3_merkle_builder.specs.Built.{OkUnlessRefused}
 use Rattle.p3_merkle_core.specs.Gate.{gate_refusal}
 use Rattle.p3_merkle_core.specs.Geometry.{heights_of}
 use Rattle.p3_merkle_core.specs.Nodes.{Matrix, dimensions_of}
-use Rattle.p3_merkle_core.specs.Salted.{salted_matrices}
 use Rattle.p3_merkle_core.specs.declared.error.MerkleTreeError.{MerkleTreeError}
 use Rattle.p3_merkle_core.specs.declared.error.MerkleTreeError.TheVariants.{OutOfMemory}
 use Rattle.p3_merkle_core.proofs.NoneFacts.{none_of_both}
+use Rattle.p3_merkle_salts.specs.Salted.{salted_matrices}
 use Rattle.p3_merkle_salts.specs.SaltRefusals.{salted_commit_refusal, widening_refusal}
 
 -- salted matrices have their heights

@@ -1,3 +1,4 @@
+pub use Rattle.p3_merkle_salts.specs.Salted
 pub use Rattle.p3_merkle_salts.specs.SaltedOpenings
 pub use Rattle.p3_merkle_salts.specs.SaltRefusals
 pub use Rattle.p3_merkle_salts.specs.SaltedTrees

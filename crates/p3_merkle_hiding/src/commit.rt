@@ -5,12 +5,12 @@ ghost use Rattle.p3_merkle_builder.specs.Built.{OkUnlessRefused};
 ghost use Rattle.p3_merkle_builder.specs.Parts.{layers_of, matrices_of, tree_batch};
 ghost use Rattle.p3_merkle_builder.specs.Views.{batch_of};
 ghost use Rattle.p3_merkle_core.specs.Nodes.{layer, layers, shape};
-ghost use Rattle.p3_merkle_core.specs.Salted.{after_salts, salted_batch};
 ghost use Rattle.p3_merkle_core.specs.declared.error.MerkleTreeError.TheVariants.{OutOfMemory};
 ghost use Rattle.p3_merkle_tree.specs.Schemes.{proof_layer, scheme_functions};
 ghost use Rattle.p3_support.specs.Pairs.{left_of};
 ghost use Rattle.p3_support.specs.Shown.{roots_of};
 ghost use Rattle.p3_merkle_hiding.specs.HidingSchemes.{generator_of, plain_of};
+ghost use Rattle.p3_merkle_salts.specs.Salted.{after_salts, salted_batch};
 ghost use Rattle.p3_merkle_salts.specs.SaltRefusals.{salted_commit_refusal};
 ghost use Rattle.p3_merkle_salts.specs.SaltedTrees.{HaveSaltColumns};
 

@@ -4,9 +4,9 @@ ghost use Rattle.std.specs.Prelude.{◌≡◌, ◌≤◌, ◌⊎◌, IfErr, IfOk
 ghost use Rattle.p3_merkle_builder.specs.Built.{OkUnlessRefused};
 ghost use Rattle.p3_merkle_builder.specs.Views.{matrix_of};
 ghost use Rattle.p3_merkle_core.specs.Nodes.{dimensions_of};
-ghost use Rattle.p3_merkle_core.specs.Salted.{after_salts, salted_matrices};
 ghost use Rattle.p3_merkle_core.specs.declared.error.MerkleTreeError.TheVariants.{OutOfMemory};
 ghost use Rattle.p3_support.specs.Pairs.{left_of};
+ghost use Rattle.p3_merkle_salts.specs.Salted.{after_salts, salted_matrices};
 ghost use Rattle.p3_merkle_salts.specs.SaltRefusals.{salted_commit_refusal};
 ghost use Rattle.p3_merkle_salts.specs.SaltedTrees.{pair_matrix, HaveSaltColumns};
 

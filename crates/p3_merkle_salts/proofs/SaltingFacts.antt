@@ -4,7 +4,7 @@ use Rattle.std.proofs.lemmas.List.{map-append}
 use Rattle.rand_core.specs.Stream.{Stream}
 use Rattle.p3_support.specs.Salts.{after_words, salts}
 use Rattle.p3_merkle_core.specs.Nodes.{Matrix, dimensions_of}
-use Rattle.p3_merkle_core.specs.Salted.{after_salts, salted, salted_matrices}
+use Rattle.p3_merkle_salts.specs.Salted.{after_salts, salted, salted_matrices}
 use Rattle.p3_merkle_salts.specs.SaltedOpenings.{CanWiden}
 
 -- the first of some matrices that can be wider can be, and so can the others

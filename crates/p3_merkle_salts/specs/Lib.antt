@@ -1,3 +1,5 @@
+pub mod Salted
+pub mod SaltExamples
 pub mod SaltedOpenings
 pub mod SaltRefusals
 pub mod SaltedTrees

@@ -5,8 +5,8 @@ use Rattle.p3_support.specs.Fold.{fold_hash, fold_compress}
 use Rattle.p3_support.specs.Salts.{after_words, salts}
 use Rattle.p3_merkle_core.specs.Geometry.{exponent, layer_exponent, raw_len}
 use Rattle.p3_merkle_core.specs.Nodes.{layer, node}
-use Rattle.p3_merkle_core.specs.Salted.{after_salts, salted_batch}
 use Rattle.p3_merkle_core.specs.Examples.{batch, column, fold_example}
+use Rattle.p3_merkle_salts.specs.Salted.{after_salts, salted_batch}
 
 -- a stream of these words
 abbrev words : List ℕ → Stream
