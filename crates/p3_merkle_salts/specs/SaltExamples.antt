@@ -6,7 +6,7 @@ use Rattle.p3_support.specs.Salts.{after_words, salts}
 use Rattle.p3_merkle_core.specs.Geometry.{exponent, layer_exponent, raw_len}
 use Rattle.p3_merkle_core.specs.Nodes.{layer, node}
 use Rattle.p3_merkle_core.specs.Examples.{batch, column, fold_example}
-use Rattle.p3_merkle_salts.specs.Salted.{after_salts, salted_batch}
+use Rattle.p3_merkle_salts.specs.Salted.{IsAfterSome, after_salts, salted_batch}
 
 -- a stream of these words
 abbrev words : List ℕ → Stream
@@ -48,3 +48,7 @@ root_of_rows_salted_again = refl
 root_of_a_row_with_two_salts : layer (fold_example 1) (salted_batch whole 2 (batch 2 (column (9 ∷ []) ∷ [])) (words (100 ∷ 101 ∷ []))) 0 ≡ (41641 ∷ []) ∷ []
 unfolding next_u64 exponent layer_exponent raw_len node fold_hash fold_compress
 root_of_a_row_with_two_salts = refl
+
+-- two rows with three salts each take six words, and the next matrix has taken none
+after_the_first_of_two : (s : Stream) → IsAfterSome 3 (column (1 ∷ 2 ∷ []) ∷ column (3 ∷ []) ∷ []) s (after_words 6 s)
+after_the_first_of_two s = (1, refl)

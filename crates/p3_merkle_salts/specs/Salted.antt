@@ -1,5 +1,5 @@
 -- Matrices whose rows are followed by salts.
-use Rattle.std.specs.Prelude.{ℕ, ◌+◌, ◌*◌, List, [], ◌∷◌, ◌++◌}
+use Rattle.std.specs.Prelude.{◌≡◌, ℕ, ◌+◌, ◌*◌, List, [], ◌∷◌, ◌++◌, take}
 use Rattle.rand_core.specs.Stream.{Stream}
 use Rattle.p3_support.specs.Lists.{message}
 use Rattle.p3_support.specs.Salts.{after_words, salts}
@@ -23,3 +23,7 @@ module _ {T : Type 0} (of_word : ℕ → T) (n : ℕ) where
 abbrev pub after_salts : {T : Type 0} → ℕ → List (Matrix T) → Stream → Stream
 after_salts n [] s = s
 after_salts n (m ∷ ms) s = after_salts n ms (after_words (m.height * n) s)
+
+-- the new stream is what is left of the old one after the salts of the first k matrices, for some number k
+abbrev pub IsAfterSome : {T : Type 0} → ℕ → List (Matrix T) → Stream → Stream → Type 0
+IsAfterSome n ms old new = (k : ℕ) × (new ≡ after_salts n (take k ms) old)
