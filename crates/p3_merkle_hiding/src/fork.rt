@@ -20,9 +20,10 @@ impl<
     const N: usize,
     const SALT_ELEMS: usize,
 > HidingScheme<P, PW, H, C, R, X, G, N, SALT_ELEMS> {
-    /// The same scheme with a generator of its own, whose seed is drawn from this one's: this generator then stands after
-    /// the seed's bytes. So the two schemes accept the same and draw different salts, as far as the generator makes
-    /// different streams of different seeds. It takes the place of a clone, which would draw the same salts again.
+    /// The same scheme with a generator of its own, whose seed is drawn from this one's. The two schemes accept the same
+    /// openings. The fork draws its salts from the stream of that seed; this scheme goes on in its own stream, after the
+    /// seed's bytes. That the two draw different salts is not proved. A fork takes the place of a clone, which would draw
+    /// the same salts again.
     ///
     /// # Errors
     ///
