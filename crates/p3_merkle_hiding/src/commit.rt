@@ -10,7 +10,7 @@ ghost use Rattle.p3_merkle_tree.specs.Schemes.{proof_layer, scheme_functions};
 ghost use Rattle.p3_support.specs.Pairs.{left_of};
 ghost use Rattle.p3_support.specs.Shown.{roots_of};
 ghost use Rattle.p3_merkle_hiding.specs.HidingSchemes.{generator_of, plain_of};
-ghost use Rattle.p3_merkle_salts.specs.Salted.{after_salts, salted_batch};
+ghost use Rattle.p3_merkle_salts.specs.Salted.{after_salts, salted_batch, IsAfterSome};
 ghost use Rattle.p3_merkle_salts.specs.SaltRefusals.{salted_commit_refusal};
 ghost use Rattle.p3_merkle_salts.specs.SaltedTrees.{HaveSaltColumns};
 
@@ -51,7 +51,8 @@ where
     /// `EmptyBatch` where no matrix has a row; else `TooLarge` for the first height above 2^62; else
     /// `IncompatibleHeights` for the first height that is not the tallest one halved and rounded up some number of times;
     /// else `TooLarge` for the first matrix whose width with its salts passes `usize`, with its width as the size. After
-    /// these the generator is as it was. `OutOfMemory` may come at any time; then the generator may stand further on.
+    /// these the generator is as it was. `OutOfMemory` may come at any time; then the generator stands after the salts of
+    /// the first few matrices, perhaps of none or of all.
     pub fn commit<M: Matrix<P::Value> + Drop>(
         &mut self,
         alloc: Global,
@@ -82,6 +83,9 @@ where
         ensures rest { let b = batch_of M.height_of M.width_of M.row_of N matrices.items in
             let drawn = R.stream (generator_of self.old) in
             OnOk result (R.stream (generator_of self.new) ≡ after_salts SALT_ELEMS b.matrices drawn) }
+        ensures further { let b = batch_of M.height_of M.width_of M.row_of N matrices.items in
+            let drawn = R.stream (generator_of self.old) in
+            IsAfterSome SALT_ELEMS b.matrices drawn (R.stream (generator_of self.new)) }
         ensures untouched { IfErr result (λ e. (e ≡ OutOfMemory) ⊎ (generator_of self.new ≡ generator_of self.old)) }
         ensures scheme { plain_of self.new ≡ plain_of self.old }
     {

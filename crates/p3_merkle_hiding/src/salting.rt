@@ -6,7 +6,7 @@ ghost use Rattle.p3_merkle_builder.specs.Views.{matrix_of};
 ghost use Rattle.p3_merkle_core.specs.Nodes.{dimensions_of};
 ghost use Rattle.p3_merkle_core.specs.declared.error.MerkleTreeError.TheVariants.{OutOfMemory};
 ghost use Rattle.p3_support.specs.Pairs.{left_of};
-ghost use Rattle.p3_merkle_salts.specs.Salted.{after_salts, salted_matrices};
+ghost use Rattle.p3_merkle_salts.specs.Salted.{after_salts, salted_matrices, IsAfterSome};
 ghost use Rattle.p3_merkle_salts.specs.SaltRefusals.{salted_commit_refusal};
 ghost use Rattle.p3_merkle_salts.specs.SaltedTrees.{pair_matrix, HaveSaltColumns};
 
@@ -30,7 +30,8 @@ use std::alloc::Global;
 ///
 /// `EmptyBatch`, `TooLarge` or `IncompatibleHeights` for the heights of the matrices, as a commitment refuses them; else
 /// `TooLarge` for the first matrix whose width with its salts passes `usize`. After these the generator is as it was.
-/// `OutOfMemory` may come at any time; then the generator may stand further on.
+/// `OutOfMemory` may come at any time; then the generator stands after the salts of the first few matrices, perhaps of
+/// none or of all.
 pub(crate) fn checked_pairs<T: SaltWord, M: Matrix<T> + Drop, R: Rng>(
     alloc: Global,
     rng: &mut R,
@@ -46,6 +47,8 @@ pub(crate) fn checked_pairs<T: SaltWord, M: Matrix<T> + Drop, R: Rng>(
         IfOk result (λ pairs. map pair_matrix pairs.items ≡ salted_matrices T.of_salt_word salt_elems ms (R.stream rng.old)) }
     ensures rest { let ms = map (matrix_of M.height_of M.width_of M.row_of) matrices.items in
         OnOk result (R.stream rng.new ≡ after_salts salt_elems ms (R.stream rng.old)) }
+    ensures further { let ms = map (matrix_of M.height_of M.width_of M.row_of) matrices.items in
+        IsAfterSome salt_elems ms (R.stream rng.old) (R.stream rng.new) }
     ensures untouched { IfErr result (λ e. (e ≡ OutOfMemory) ⊎ (rng.new ≡ rng.old)) }
 {
     let dimensions = dimensions_of(alloc, &matrices)?;

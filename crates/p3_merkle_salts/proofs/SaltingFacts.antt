@@ -1,10 +1,11 @@
 -- One more matrix gets its salts.
-use Rattle.std.proofs.Common.{◌≡◌, ℕ, suc, ◌+◌, ◌*◌, ◌<◌, ◌^◌, List, [], ◌∷◌, ◌++◌, map, refl, ◌∙◌, arith, append_assoc}
-use Rattle.std.proofs.lemmas.List.{map-append}
+use Rattle.std.proofs.Common.{◌≡◌, ℕ, suc, ◌+◌, ◌*◌, ◌<◌, ◌^◌, List, [], ◌∷◌, ◌++◌, map, length, take, refl, sym, ap, ◌∙◌, arith, append_assoc}
+use Rattle.std.proofs.lemmas.List.{map-append, take-map}
+use Rattle.std.proofs.Math.Seq.{take-append_seam}
 use Rattle.rand_core.specs.Stream.{Stream}
 use Rattle.p3_support.specs.Salts.{after_words, salts}
 use Rattle.p3_merkle_core.specs.Nodes.{Matrix, dimensions_of}
-use Rattle.p3_merkle_salts.specs.Salted.{after_salts, salted, salted_matrices}
+use Rattle.p3_merkle_salts.specs.Salted.{IsAfterSome, after_salts, salted, salted_matrices}
 use Rattle.p3_merkle_salts.specs.SaltedOpenings.{CanWiden}
 
 -- the first of some matrices that can be wider can be, and so can the others
@@ -35,3 +36,24 @@ pub same_more : {X A : Type 0} (f : X → A) (done more : List X) (x : X) (m : A
 same_more f done more x m left rest all is shows pushed before =
     let now : map f more ++ rest ≡ map f done ++ left = rw (is, pushed, map-append, append_assoc, shows) refl in
     now ∙ before
+
+module _ {T A : Type 0} (e : ℕ) (shown : A → Matrix T) where
+  -- the salts of one more come after those of the others
+  after_one_more : (ms : List A) (m : A) (s : Stream) → after_salts e (map shown (ms ++ m ∷ [])) s ≡ after_words ((shown m).height * e) (after_salts e (map shown ms) s)
+  after_one_more [] m s = refl
+  after_one_more (x ∷ ms) m s = after_one_more ms m (after_words ((shown x).height * e) s)
+
+  -- the stream stands after the salts of those before, and so after those of one more
+  pub drawn_more : (done more : List A) (m : A) (start s t : Stream) → more ≡ done ++ m ∷ [] → t ≡ after_words ((shown m).height * e) s → s ≡ after_salts e (map shown done) start → t ≡ after_salts e (map shown more) start
+  drawn_more done more m start s t pushed after before = rw (pushed, after, before) (sym (after_one_more done m start))
+
+  -- those before are the first of all
+  pub after_some : (done left all : List A) (start s : Stream) → done ++ left ≡ all → s ≡ after_salts e (map shown done) start → IsAfterSome e (map shown all) start s
+  after_some done left all start s is drawn =
+      let first : take (length done) (map shown all) ≡ map shown done = take-map shown (length done) all ∙ ap (map shown) (ap (take (length done)) (sym is) ∙ take-append_seam done left) in
+      (length done, drawn ∙ ap (λ (ms : List (Matrix T)). after_salts e ms start) (sym first))
+
+  -- and so are they with the next one
+  pub after_next : (done left all : List A) (m : A) (rest : List A) (start s t : Stream) → left ≡ m ∷ rest → done ++ left ≡ all → t ≡ after_words ((shown m).height * e) s → s ≡ after_salts e (map shown done) start → IsAfterSome e (map shown all) start t
+  after_next done left all m rest start s t turn is after before =
+      after_some (done ++ m ∷ []) rest all start t (append_assoc done (m ∷ []) rest ∙ ap (λ (z : List A). done ++ z) (sym turn) ∙ is) (drawn_more done (done ++ m ∷ []) m start s t refl after before)

@@ -4,7 +4,7 @@ ghost use Rattle.std.specs.Prelude.{◌≡◌, ◌≤◌, IfOk, OnOk, map};
 ghost use Rattle.p3_merkle_core.specs.Nodes.{dimensions_of};
 ghost use Rattle.p3_merkle_layers.specs.Views.{matrix_of};
 ghost use Rattle.p3_support.specs.Pairs.{left_of};
-ghost use Rattle.p3_merkle_salts.specs.Salted.{after_salts, salted_matrices};
+ghost use Rattle.p3_merkle_salts.specs.Salted.{after_salts, salted_matrices, IsAfterSome};
 ghost use Rattle.p3_merkle_salts.specs.SaltedOpenings.{CanWiden};
 ghost use Rattle.p3_merkle_salts.specs.SaltedTrees.{pair_matrix, HaveSaltColumns};
 
@@ -21,7 +21,7 @@ use std::alloc::{AllocError, Global};
 ///
 /// # Errors
 ///
-/// Want of memory. The generator stands after the draws of those matrices that got their salts.
+/// Want of memory. The generator then stands after the salts of the first few matrices, perhaps of none or of all.
 pub fn salted_pairs<T: SaltWord, M: Matrix<T> + Drop, R: Rng>(
     alloc: Global,
     rng: &mut R,
@@ -36,6 +36,8 @@ pub fn salted_pairs<T: SaltWord, M: Matrix<T> + Drop, R: Rng>(
         IfOk result (λ pairs. map pair_matrix pairs.items ≡ salted_matrices T.of_salt_word salt_elems ms (R.stream rng.old)) }
     ensures rest { let ms = map (matrix_of M.height_of M.width_of M.row_of) matrices.items in
         OnOk result (R.stream rng.new ≡ after_salts salt_elems ms (R.stream rng.old)) }
+    ensures further { let ms = map (matrix_of M.height_of M.width_of M.row_of) matrices.items in
+        IsAfterSome salt_elems ms (R.stream rng.old) (R.stream rng.new) }
 {
     let mut pairs = Vec::with_capacity(alloc, matrices.len())?;
     for matrix in matrices {

@@ -20,6 +20,7 @@ returns-in_err-dimensions g c =
       columns = nothing_made _ r err;
       salted = nothing_made _ r err;
       rest = nothing_drawn _ r err;
+      further = (0, refl);
       untouched = stays _ r refl;
     }
 
@@ -35,6 +36,7 @@ returns-in_err-check_heights g c =
       columns = nothing_made _ r err;
       salted = nothing_made _ r err;
       rest = nothing_drawn _ r err;
+      further = (0, refl);
       untouched = stays _ r refl;
     }
 
@@ -51,6 +53,7 @@ returns-in_err-check_widening g c =
       columns = nothing_made _ r err;
       salted = nothing_made _ r err;
       rest = nothing_drawn _ r err;
+      further = (0, refl);
       untouched = stays _ r refl;
     }
 
@@ -64,6 +67,7 @@ returns-in_err-pairs g c =
       columns = nothing_made _ r err;
       salted = nothing_made _ r err;
       rest = nothing_drawn _ r err;
+      further = c.salted_pairs.ensures.further;
       untouched = search rules;
     }
 
@@ -79,5 +83,6 @@ returns g c =
       columns = c.in_ok-pairs.ensures.columns;
       salted = c.in_ok-pairs.ensures.salted;
       rest = c.in_ok-pairs.ensures.rest;
+      further = c.in_ok-pairs.ensures.further;
       untouched = tt;
     }

@@ -8,7 +8,7 @@ use Rattle.p3_support.specs.Pairs.{left_of, right_of}
 use Rattle.p3_support.specs.RowMajor.{row_width, values_of}
 use Rattle.p3_support.specs.Salts.{after_words, salts}
 use Rattle.p3_merkle_layers.specs.Views.{matrix_of}
-use Rattle.p3_merkle_salts.proofs.SaltingFacts.{first_fits, others_fit, pairs_more, same_more, stream_more}
+use Rattle.p3_merkle_salts.proofs.SaltingFacts.{after_next, after_some, drawn_more, first_fits, others_fit, pairs_more, same_more, stream_more}
 use Rattle.p3_merkle_salts.specs.Salted.{after_salts, salted, salted_matrices}
 use Rattle.p3_merkle_salts.specs.SaltedTrees.{HaveSaltColumns, pair_matrix}
 use Rattle.p3_merkle_salts.proofs.salting.salted_pairs.Goals as goal
@@ -42,6 +42,7 @@ loop-matrix-preserved g c =
       row = λ j. g.M.Matrix.row_of (c.new.ensures.left i) j ++ message (width i) (values i) j;
     } in
     let pushed = c.in_ok-push.ensures.items in
+    let lefts = ap (map left_of) pushed ∙ map-append left_of c.loop-matrix.pairs.items (c.new.result ∷ []) ∙ ap (λ (l : _). map left_of c.loop-matrix.pairs.items ++ l ∷ []) c.new.ensures.left in
     record {
       fits = others_fit e (shown m) (map shown rest) (map shown left) (ap (map shown) turn) c.loop-matrix.invariant.fits;
       same = same_more left_of c.loop-matrix.pairs.items c.push.new.self.items c.new.result m left rest c.args.matrices.items turn c.new.ensures.left pushed c.loop-matrix.invariant.same;
@@ -50,4 +51,26 @@ loop-matrix-preserved g c =
           pairs_more of_word e shown (map pair_matrix c.loop-matrix.pairs.items) (map pair_matrix c.push.new.self.items) (salted_matrices of_word e all start) m left rest (pair_matrix c.new.result) before (g.R.Rng.stream c.rand.new.rng) turn after made
           (ap (map pair_matrix) pushed ∙ map-append pair_matrix c.loop-matrix.pairs.items (c.new.result ∷ [])) c.loop-matrix.invariant.salted;
       end = stream_more of_word e shown m left rest before (g.R.Rng.stream c.rand.new.rng) (after_salts e all start) turn after c.loop-matrix.invariant.end;
+      drawn = drawn_more e shown (map left_of c.loop-matrix.pairs.items) (map left_of c.push.new.self.items) m start before (g.R.Rng.stream c.rand.new.rng) lefts after c.loop-matrix.invariant.drawn;
     }
+
+pub returns-in_err-salts-clause-further : goal.returns-in_err-salts-clause-further
+returns-in_err-salts-clause-further g c =
+    let shown = matrix_of g.M.Matrix.height_of g.M.Matrix.width_of g.M.Matrix.row_of in
+    let done = map left_of c.loop-matrix.pairs.items in
+    let left = into_iter_items c.loop-matrix.matrix-iterator in
+    let start = g.R.Rng.stream c.args.rng.now in
+    let now = ap g.R.Rng.stream c.in_err-salts.ensures.untouched ∙ c.loop-matrix.invariant.drawn in
+    after_some c.args.salt_elems shown done left c.args.matrices.items start (g.R.Rng.stream c.rand.new.rng) c.loop-matrix.invariant.same now
+
+pub returns-in_err-push-clause-further : goal.returns-in_err-push-clause-further
+returns-in_err-push-clause-further g c =
+    let shown = matrix_of g.M.Matrix.height_of g.M.Matrix.width_of g.M.Matrix.row_of in
+    let e = c.args.salt_elems in
+    let done = map left_of c.loop-matrix.pairs.items in
+    let left = into_iter_items c.loop-matrix.matrix-iterator in
+    let rest = into_iter_items c.next.new.self in
+    let start = g.R.Rng.stream c.args.rng.now in
+    let before = g.R.Rng.stream c.loop-matrix.rng in
+    let after = c.in_ok-salts.ensures.rest ∙ ap (λ h. after_words (h * e) before) c.height.ensures in
+    after_next e shown done left c.args.matrices.items c.in-Some.matrix rest start before (g.R.Rng.stream c.rand.new.rng) c.in-Some.ensures.steps.0 c.loop-matrix.invariant.same after c.loop-matrix.invariant.drawn

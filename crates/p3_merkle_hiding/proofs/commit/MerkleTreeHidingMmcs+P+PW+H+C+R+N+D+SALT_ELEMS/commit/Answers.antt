@@ -29,6 +29,7 @@ returns-in_err-pairs g c =
       layers = nothing_made _ r err;
       cap = nothing_made _ r err;
       rest = nothing_drawn _ r err;
+      further = c.checked_pairs.ensures.further;
       untouched = search rules;
       scheme = refl;
     }
@@ -57,6 +58,7 @@ returns g c =
       layers = subst (λ (b : Batch _). IfOk r (λ made. layers_of made.1 ≡ layers f b)) (ap over salted) c.commit.ensures.layers;
       cap = subst (λ (b : Batch _). IfOk r (λ made. roots_of made.0 ≡ layer f b (proof_layer plain (shape b)))) (ap over salted) c.commit.ensures.cap;
       rest = on_ok _ r c.in_ok-pairs.ensures.rest;
+      further = c.in_ok-pairs.ensures.further;
       untouched = memory_or _ r memory;
       scheme = refl;
     }
