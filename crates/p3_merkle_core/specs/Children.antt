@@ -1,6 +1,6 @@
 -- The children of covered nodes, and the values that they take.
-use Rattle.std.specs.Prelude.{◌≡◌, ℕ, suc, ◌+◌, ◌-◌, ◌*◌, ◌^◌, ◌<◌, ◌≤◌, ◌==◌, Bool, not, nat_lt, List, [], All, drop, filter, flat_map, length, map, remove, slice_index_or, take, zip}
-use Rattle.std.specs.List.{list_any, range_with_len}
+use Rattle.std.specs.Prelude.{◌≡◌, ℕ, suc, ◌+◌, ◌-◌, ◌*◌, ◌/◌, ◌%◌, ◌^◌, ◌<◌, ◌≤◌, ◌==◌, Bool, not, nat_lt, if◌then◌else◌, List, [], All, drop, filter, flat_map, fold, length, map, remove, slice_index_or, take, zip}
+use Rattle.std.specs.List.{enumerate_from, list_any, range_with_len}
 use Rattle.p3_merkle_core.specs.declared.pruning.AuthPath.{AuthPath}
 use Rattle.p3_merkle_core.specs.Geometry.{Shape, ancestor, position_in_group, step}
 use Rattle.p3_merkle_core.specs.Pruning.{covered_at}
@@ -44,6 +44,23 @@ place_among xs p = length (filter (λ x. nat_lt x p) xs)
 -- the values of the children of parent p, out of those of all parents, n of each
 abbrev pub children_at : {X : Type 0} → ℕ → List ℕ → List X → ℕ → List X
 children_at n parents values p = take n (drop (n * place_among parents p) values)
+
+-- the siblings of node j out of a kept level, which has some parents, n children of each, and their values: all values of its group but its own, and none where its parent is not among them
+abbrev pub siblings_out_of : {X : Type 0} → List ℕ × ℕ × List X → ℕ → List X
+siblings_out_of (parents, n, values) j = if is_among parents (j / n) then remove (children_at n parents values (j / n)) (j % n) else []
+
+-- the node above leaf i over levels of these steps: the leaf divided by their product
+abbrev pub node_over : List ℕ → ℕ → ℕ
+node_over steps i = i / fold (λ product n. product * n) 1 steps
+
+-- the siblings on the path of leaf i out of kept levels, from the leaves on: in each, those of the node over the steps below it
+abbrev pub path_out_of : {X : Type 0} → List (List ℕ × ℕ × List X) → ℕ → List X
+path_out_of levels i =
+    flat_map (λ (k, level). siblings_out_of level (node_over (map (λ (parents, n, values). n) (take k levels)) i)) (enumerate_from 0 levels)
+
+-- for each of some leaves, in order, its index and these siblings
+abbrev pub paths_out_of : {X : Type 0} → List (List ℕ × ℕ × List X) → List ℕ → List (ℕ × List X)
+paths_out_of levels indices = map (λ i. (i, path_out_of levels i)) indices
 
 -- the siblings, in layer l, of the node above leaf i, out of the values of the children of each level
 abbrev pub kept_group : {X : Type 0} → Shape → List ℕ → List (List X) → ℕ → ℕ → List X
