@@ -2,7 +2,7 @@
 use Rattle.std.specs.Prelude.{◌≡◌, ◌*◌, ◌/◌, ◌<◌, ◌≤◌, ℕ, suc, List, All, drop, flat_map, length, map, slice_index}
 use Rattle.std.specs.List.{range_with_len}
 use Rattle.p3_merkle_core.specs.Geometry.{Shape, ancestor, layer_exponent, step}
-use Rattle.p3_merkle_core.specs.Children.{AreChildren, AreLevels}
+use Rattle.p3_merkle_core.specs.Children.{AreChildren}
 use Rattle.p3_merkle_core.specs.Nodes.{Functions}
 use Rattle.p3_merkle_core.specs.Pruning.{PrunedOpening, boundary, covered_at, restored_node, value_of}
 use Rattle.p3_merkle_core.specs.declared.pruning.KeptLevel.{KeptLevel}
@@ -48,8 +48,7 @@ pub record IsRestoredRise {T W : Type 0} (f : Functions T W) (s : Shape) (t : �
   pub values_are : rise.children.items ≡ child_values f s t p l
   pub above_are : AreRestored f s t p (suc l) rise.above digests
 
--- the levels that a walk kept up to layer l, with the values of their children
+-- the levels that a walk kept up to layer l: the covered nodes above each, its step, and the values of its children
 pub record AreKept {T W : Type 0} (f : Functions T W) (s : Shape) (t : ℕ) (p : PrunedOpening T W) (l : ℕ) (levels : List (KeptLevel (List W))) : Type 0 where
-  pub many : length levels ≡ l
-  pub levels_are : AreLevels s p.indices l (map (λ level. level.step) levels) (map (λ level. level.parents.items) levels)
-  pub values_are : map (λ level. level.children.items) levels ≡ map (child_values f s t p) (range_with_len 0 l)
+  pub levels_are : map (λ level. (level.parents.items, level.step, level.children.items)) levels
+      ≡ map {B = List ℕ × ℕ × List (List W)} (λ l. (covered_at s p.indices (suc l), step s l, child_values f s t p l)) (range_with_len 0 l)
