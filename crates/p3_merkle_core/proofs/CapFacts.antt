@@ -5,9 +5,10 @@ use Rattle.std.specs.Int.{div_ceil}
 use Rattle.std.proofs.lemmas.Bool.{and_right, cases_eq, cases_lt, cond-false, eq-eqb, eqb-true, le-leb, le-ltb, leb-true, ne_eqb}
 use Rattle.std.proofs.lemmas.List.Folds.{Any-from_list_any, list_any_at, list_any_none}
 use Rattle.std.proofs.Math.Nat.{div-add-mod, mod-lt, mul_comm, mul-le-mul_left, mul-suc, suc-mul}
-use Rattle.p3_merkle_core.specs.Caps.{cap_layer, levels_above_rows}
+use Rattle.p3_merkle_core.specs.Caps.{cap_layer, levels_above_rows, room_of}
 use Rattle.p3_merkle_core.specs.Geometry.{Shape, IsArity, exponent, has_rows, heights, is_bridge, layer_below_root, layer_exponent, layer_of, levels, shortest, tallest}
 use Rattle.p3_merkle_core.specs.Openings.{is_authenticated}
+use Rattle.p3_merkle_core.specs.declared.cap.CapRule.{CapRule}
 use Rattle.p3_merkle_core.specs.declared.cap.CapRule.TheVariants.{Lowered, Fixed}
 use Rattle.p3_merkle_core.proofs.LeastFacts.{exponent_le, exponent_mono, least_bound, least_height_below, least_is, least_le, least_passes, shortest_there}
 use Rattle.p3_merkle_core.proofs.StepFacts.{next_exponent, whole_step_falls}
@@ -122,7 +123,7 @@ none_tallest [] e = refl
 none_tallest (h ∷ hs) e = absurd (omega arith)
 
 -- the cap layer under the lowered rule, by the shortest height
-pub lowered_is : (s : Shape) → IsArity s.arity → (c : ℕ) → levels s - min c (div_ceil (exponent (shortest (heights s))) (exponent s.arity)) ≡ cap_layer s Lowered c
+lowered_is : (s : Shape) → IsArity s.arity → (c : ℕ) → levels s - min c (div_ceil (exponent (shortest (heights s))) (exponent s.arity)) ≡ cap_layer s Lowered c
 lowered_is s w c =
     elim (cases_eq (length (heights s)) 0) [
       | inl none ↦
@@ -130,6 +131,11 @@ lowered_is s w c =
           omega (arith, levels_le s)
       | inr some ↦ ap (λ r. levels s - min c r) (above_rows s w (omega arith))
     ]
+
+-- by the number of levels and the shortest height, under either rule
+pub cap_by_numbers : (s : Shape) → IsArity s.arity → (rule : CapRule) (c n h : ℕ) → n ≡ levels s → h ≡ shortest (heights s) → n - min c (room_of n h s.arity rule) ≡ cap_layer s rule c
+cap_by_numbers s w Lowered c n h is_n is_h = rw (is_n, is_h) (lowered_is s w c)
+cap_by_numbers s w Fixed c n h is_n is_h = rw is_n refl
 
 -- under the fixed rule
 pub fixed_is : (s : Shape) (c : ℕ) → cap_layer s Fixed c ≡ layer_below_root s c

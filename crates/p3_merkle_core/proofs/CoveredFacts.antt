@@ -1,18 +1,14 @@
 -- The covered nodes of a layer, ascending: those of the leaves, those of the layer above, and what is left of their groups.
-use Rattle.std.proofs.Common.{◌≡◌, ℕ, zero, suc, ◌+◌, ◌-◌, ◌*◌, ◌/◌, ◌^◌, ◌<◌, ◌≤◌, Bool, true, not, eqb, cond, nat_le, nat_lt, ◌||◌, List, [], ◌∷◌, map, refl, ap, sym, ◌∙◌, arith, add-one, inl, inr, length, filter, get_or, take, drop, All, eq-eqb, IsSorted, IsPermutation}
+use Rattle.std.proofs.Common.{◌≡◌, ℕ, zero, suc, ◌+◌, ◌-◌, ◌*◌, ◌/◌, ◌^◌, ◌<◌, ◌≤◌, Bool, true, not, eqb, cond, nat_le, nat_lt, ◌||◌, List, [], ◌∷◌, map, refl, ap, sym, ◌∙◌, arith, add-one, inl, inr, length, filter, get_or, take, drop, All, eq-eqb}
 use Rattle.std.specs.Int.{next_multiple_of}
 use Rattle.std.specs.List.{dedup, flat_map, range_with_len}
-use Rattle.std.specs.Ordering.{nat_cmp}
 use Rattle.std.proofs.lemmas.Bool.{cases_eq, cond_both, and_parts, and_from, or_cases, or_left, or_right, eqb-true, true≢false, both_ways, not-true, not_from_false, false_from_ne_true}
 use Rattle.std.proofs.lemmas.List.{length-map, length-append}
-use Rattle.std.proofs.lemmas.List.Sorted.{list_any-IsPermutation}
-use Rattle.std.proofs.lemmas.Map.Keys.{IsStrictlyIncreasing-dedup}
 use Rattle.std.proofs.Math.Nat.{mul-le-mul_left}
 use Rattle.std.proofs.Math.Pow.{pow_mono}
 use Rattle.p3_merkle_core.specs.Geometry.{Shape, is_bridge, step, ancestor, raw_len, layer_len, padded_len, leaves_under, levels, layer_exponent, exponent, tallest, heights, max_height}
 use Rattle.p3_merkle_core.specs.Pruning.{CanQuery, is_covered, is_boundary, covered_at, boundary_at, boundary}
 use Rattle.p3_merkle_core.specs.PrunedCalls.{pruned_len}
-use Rattle.p3_merkle_core.specs.Refusals.{is_queried, slots_below}
 use Rattle.p3_merkle_core.proofs.LeastFacts.{exponent_le}
 use Rattle.p3_merkle_core.proofs.LadderFacts.{levels_le, exact}
 use Rattle.p3_merkle_core.proofs.RawFacts.{children_fit, filled, positive_below}
@@ -21,7 +17,7 @@ use Rattle.p3_merkle_core.proofs.ListFacts.{joined_more}
 use Rattle.p3_merkle_core.proofs.Under.{covered_up}
 use Rattle.p3_merkle_core.proofs.Sufficient.{covered_below}
 use Rattle.p3_merkle_core.proofs.Accepted.{padded_ge}
-use Rattle.p3_merkle_core.proofs.RisingFacts.{is_listed, rising_from, rising_filter, filter_is, listed_in, listed_there, by_groups, groups_are, groups_count, listed_dedup, listed_map, map_lists, rising_dedup, rising_length, piece_of}
+use Rattle.p3_merkle_core.proofs.RisingFacts.{is_listed, rising_filter, filter_is, listed_in, listed_there, by_groups, groups_are, groups_count, listed_dedup, listed_map, map_lists, rising_dedup, rising_length, piece_of}
 
 -- ---- which nodes are listed
 
@@ -66,32 +62,6 @@ listed_below m (q ∷ queries) j below h =
       | inl e ↦ let is = eqb-true q j e in omega (arith, below 0 0 (omega arith))
       | inr rest ↦ listed_below m queries j (λ k d l. below (suc k) d (omega arith)) rest
     ]
-
--- indices that are sorted, with repeats dropped
-pub leaves_are : (s : Shape) (indices sorted : List ℕ) → IsPermutation indices sorted → IsSorted nat_cmp sorted → All (λ q. q < tallest (heights s)) indices → dedup eqb sorted ≡ covered_at s indices 0
-leaves_are s indices sorted moved order below =
-    filter_is (is_covered s indices 0) 0 (layer_len s 0) (dedup eqb sorted) (record {
-      rising = rising_from (dedup eqb sorted) (IsStrictlyIncreasing-dedup sorted order);
-      sound = λ j h.
-          let there : is_listed indices j ≡ true = list_any-IsPermutation (λ x. eqb x j) indices sorted moved ∙ sym (listed_dedup sorted j) ∙ h in
-          (omega (arith, listed_below (tallest (heights s)) indices j below there, raw_start s, padded_ge (raw_len s 0) s.arity), covered_leaf s indices j ∙ there);
-      complete = λ j low high c.
-          listed_dedup sorted j ∙ sym (list_any-IsPermutation (λ x. eqb x j) indices sorted moved) ∙ sym (covered_leaf s indices j) ∙ c;
-    })
-
--- they are the slots of the queries
-pub leaves_are_slots : (s : Shape) (indices : List ℕ) → All (λ q. q < tallest (heights s)) indices → slots_below (tallest (heights s)) indices ≡ covered_at s indices 0
-leaves_are_slots s indices below =
-    let m = tallest (heights s) in
-    filter_is (is_covered s indices 0) 0 (layer_len s 0) (slots_below m indices) (record {
-      rising = rising_filter (is_queried indices) 0 m;
-      sound = λ j h.
-          let q = listed_in (is_queried indices) 0 m j h in
-          (omega (arith, q.1, raw_start s, padded_ge (raw_len s 0) s.arity), covered_leaf s indices j ∙ q.2);
-      complete = λ j low high c.
-          let there : is_listed indices j ≡ true = sym (covered_leaf s indices j) ∙ c in
-          listed_there (is_queried indices) 0 m j there (omega arith) (omega (arith, listed_below m indices j below there));
-    })
 
 -- ---- from layer to layer
 

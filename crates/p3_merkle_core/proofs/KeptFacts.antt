@@ -1,25 +1,27 @@
 -- The paths that are read out of a walk's kept levels.
-use Rattle.std.proofs.Common.{◌≡◌, ℕ, zero, suc, ◌+◌, ◌-◌, ◌*◌, ◌/◌, ◌%◌, ◌<◌, ◌≤◌, true, eqb, nat_lt, List, [], ◌∷◌, ◌++◌, map, refl, ap, sym, ◌∙◌, arith, add-one, inl, inr, length, filter, get_or, take, drop, remove, eq-eqb, Ok, Err, append_assoc}
-use Rattle.std.specs.List.{flat_map, range_with_len, take-map, drop-map}
+use Rattle.std.proofs.Common.{◌≡◌, ℕ, zero, suc, ◌+◌, ◌-◌, ◌*◌, ◌/◌, ◌%◌, ◌<◌, ◌≤◌, true, eqb, nat_lt, List, [], ◌∷◌, ◌++◌, map, refl, ap, sym, ◌∙◌, arith, add-one, inl, inr, length, filter, get_or, take, drop, remove, eq-eqb, Ok, Err, append_assoc, append-nil, drop-cons, fold}
+use Rattle.std.specs.List.{enumerate_from, flat_map, range_with_len, take-map, drop-map}
 use Rattle.std.specs.List.Sorted.{IsStrictlyIncreasing, IsBinarySearchResult}
 use Rattle.std.specs.Ordering.{nat_cmp}
-use Rattle.std.specs.Prelude.{slice_index_or}
-use Rattle.std.proofs.lemmas.Bool.{cases_eq, cases_lt, eqb-true, or_cases, or_left, or_right, true≢false, lt-ltb, le-ltb}
-use Rattle.std.proofs.lemmas.List.{map-append, take-take, drop-take, drop-drop, take-append-le, take_all, get_or-map, get_or_default}
+use Rattle.std.proofs.lemmas.Bool.{cases_eq, cases_lt, eqb-true, or_cases, or_left, or_right, true≢false, false_from_ne_true, lt-ltb, le-ltb}
+use Rattle.std.proofs.lemmas.List.{map-append, take-take, drop-take, drop-drop, drop_all, take-append-le, take_all, take_more, get_or-map, get_or_default, length-map}
 use Rattle.std.proofs.lemmas.List.{map_more}
 use Rattle.std.proofs.lemmas.List.Folds.{Any-from_list_any}
-use Rattle.std.proofs.lemmas.List.FromFn.{length-range_with_len, get_or-map-range_with_len}
+use Rattle.std.proofs.lemmas.List.FromFn.{length-range_with_len, map-range_with_len_more, take-map-range_with_len}
+use Rattle.std.proofs.lemmas.List.Sums.{fold-append}
+use Rattle.std.proofs.lemmas.Simd.{map-map}
+use Rattle.std.proofs.Math.Nat.{div-div-eq-div-mul}
 use Rattle.std.proofs.lemmas.List.Kept.{AllPairs-from_increasing}
 use Rattle.std.proofs.lemmas.List.Sorted.{searched}
 use Rattle.std.proofs.Math.Seq.{drop-append-add}
-use Rattle.p3_merkle_core.specs.Children.{AreLevels, children_at, children_under, is_among, kept_group, kept_path, kept_paths, place_among, shown_path, shown_paths}
+use Rattle.p3_merkle_core.specs.Children.{children_at, children_under, is_among, node_over, path_out_of, paths_out_of, place_among, shown_path, shown_paths, siblings_out_of}
 use Rattle.p3_merkle_core.specs.declared.pruning.AuthPath.{AuthPath}
-use Rattle.p3_merkle_core.specs.Geometry.{Shape, step, ancestor, position_in_group, layer_len}
+use Rattle.p3_merkle_core.specs.Geometry.{Shape, step, ancestor, layer_len, leaves_under, schedule_below}
 use Rattle.p3_merkle_core.specs.Nodes.{Functions}
 use Rattle.p3_merkle_core.specs.Pruning.{CanQuery, PrunedOpening, is_covered, covered_at, value_of, restored_path}
 use Rattle.p3_merkle_core.proofs.CoveredFacts.{covered_listed}
-use Rattle.p3_merkle_core.proofs.ListFacts.{joined, joined_more}
-use Rattle.p3_merkle_core.proofs.PathFacts.{joined_same, group_values, piece}
+use Rattle.p3_merkle_core.proofs.ListFacts.{joined}
+use Rattle.p3_merkle_core.proofs.PathFacts.{joined_same, piece}
 use Rattle.p3_merkle_core.proofs.RisingFacts.{listed_at, IsRising, rising_from, rising_filter, increasing_from}
 use Rattle.p3_merkle_core.proofs.StepFacts.{anc_next}
 use Rattle.p3_merkle_core.proofs.ValueFacts.{map_children}
@@ -44,7 +46,7 @@ place_rising a (x ∷ xs) (suc k) r h =
     rw t (ap suc (place_rising (suc x) xs k r.1 (omega arith)))
 
 -- a number of an ascending list stands at its place
-pub placed : (xs : List ℕ) (k p : ℕ) → IsStrictlyIncreasing xs → k < length xs → get_or xs k 0 ≡ p → place_among xs p ≡ k
+placed : (xs : List ℕ) (k p : ℕ) → IsStrictlyIncreasing xs → k < length xs → get_or xs k 0 ≡ p → place_among xs p ≡ k
 placed xs k p up h e = rw (← e) (place_rising 0 xs k (rising_from xs up) h)
 
 -- where a listed number stands
@@ -54,13 +56,13 @@ found_at xs x h =
     (q.0, q.2, get_or_default xs q.0 0 q.1 q.2 ∙ q.3 ∙ eqb-true q.1 x q.4)
 
 -- where a binary search finds a number
-pub found_by : (xs : List ℕ) (x i : ℕ) → IsStrictlyIncreasing xs → IsBinarySearchResult (λ y. nat_cmp y x) xs (Ok i) → (i < length xs) × (get_or xs i 0 ≡ x)
+found_by : (xs : List ℕ) (x i : ℕ) → IsStrictlyIncreasing xs → IsBinarySearchResult (λ y. nat_cmp y x) xs (Ok i) → (i < length xs) × (get_or xs i 0 ≡ x)
 found_by xs x i up hit =
     let order = AllPairs-from_increasing xs up in
     searched xs x (Ok i) hit (λ i j le k. elim (cases_eq i j) [ inl e ↦ rw e (omega arith) | inr ne ↦ let q = order i j 0 (omega arith) k in omega arith ])
 
 -- a binary search does not miss what is listed
-pub not_missed : (xs : List ℕ) (x i : ℕ) → IsStrictlyIncreasing xs → IsBinarySearchResult (λ y. nat_cmp y x) xs (Err i) → is_among xs x ≡ true → ⊥
+not_missed : (xs : List ℕ) (x i : ℕ) → IsStrictlyIncreasing xs → IsBinarySearchResult (λ y. nat_cmp y x) xs (Err i) → is_among xs x ≡ true → ⊥
 not_missed xs x i up miss h =
     let order = AllPairs-from_increasing xs up in
     let said = searched xs x (Err i) miss (λ i j le k. elim (cases_eq i j) [ inl e ↦ rw e (omega arith) | inr ne ↦ let q = order i j 0 (omega arith) k in omega arith ]) in
@@ -71,7 +73,7 @@ not_missed xs x i up miss h =
 -- ---- one group
 
 -- the two slices beside a node of a group
-pub beside_own : {X : Type 0} (old values : List X) (n first p : ℕ) → p < n →
+beside_own : {X : Type 0} (old values : List X) (n first p : ℕ) → p < n →
     (old ++ take (first + p - first) (drop first values)) ++ take (first + n - (first + p + 1)) (drop (first + p + 1) values) ≡ old ++ remove (take n (drop first values)) p
 beside_own old values n first p h =
     let g = drop first values in
@@ -81,6 +83,22 @@ beside_own old values n first p h =
     let whole : suc p + (n - suc p) ≡ n = omega arith in
     let rest : drop (suc p) (take n g) ≡ take (n - suc p) (drop (suc p) g) = rw whole at (drop-take (suc p) (n - suc p) g) in
     rw (a, b, c, take-take p n g (omega arith), rest, drop-drop (suc p) first values) (append_assoc old (take p g) (take (n - suc p) (drop (first + suc p) values)))
+
+-- what a search for a node's parent leads to: its siblings, or nothing
+pub found_siblings : {X : Type 0} (old values : List X) (parents : List ℕ) (n k j : ℕ) → 0 < n → IsStrictlyIncreasing parents → IsBinarySearchResult (λ y. nat_cmp y (j / n)) parents (Ok k) →
+    (old ++ take (n * k + j % n - n * k) (drop (n * k) values)) ++ take (n * k + n - (n * k + j % n + 1)) (drop (n * k + j % n + 1) values) ≡ old ++ siblings_out_of (parents, n, values) j
+found_siblings old values parents n k j some up hit =
+    let small : j % n < n = omega arith in
+    let at = found_by parents (j / n) k up hit in
+    let there : is_among parents (j / n) ≡ true = rw at.1 at (listed_at parents k 0 at.0) in
+    let is = placed parents k (j / n) up at.0 at.1 in
+    rw (there, is) (beside_own old values n (n * k) (j % n) small)
+
+pub missed_siblings : {X : Type 0} (old values : List X) (parents : List ℕ) (n k j : ℕ) → IsStrictlyIncreasing parents → IsBinarySearchResult (λ y. nat_cmp y (j / n)) parents (Err k) →
+    old ≡ old ++ siblings_out_of (parents, n, values) j
+missed_siblings old values parents n k j up miss =
+    let none = false_from_ne_true (is_among parents (j / n)) (not_missed parents (j / n) k up miss) in
+    rw none (sym (append-nil old))
 
 -- the group of the parent at place k
 group_of : (n : ℕ) (parents : List ℕ) (k : ℕ) → k < length parents → take n (drop (n * k) (children_under n parents)) ≡ range_with_len (n * get_or parents k 0) n
@@ -125,65 +143,52 @@ above_among s (q ∷ queries) l i h =
 parent_listed : (s : Shape) (queries : List ℕ) (t : ℕ) → CanQuery s queries t → (l i : ℕ) → l < t → is_among queries i ≡ true → is_among (covered_at s queries (suc l)) (ancestor s (suc l) i) ≡ true
 parent_listed s queries t w l i h q = covered_listed s queries t w (suc l) (ancestor s (suc l) i) h (above_among s queries (suc l) i q)
 
-covered_up_list : (s : Shape) (queries : List ℕ) (l : ℕ) → IsStrictlyIncreasing (covered_at s queries l)
+pub covered_up_list : (s : Shape) (queries : List ℕ) (l : ℕ) → IsStrictlyIncreasing (covered_at s queries l)
 covered_up_list s queries l = increasing_from 0 (covered_at s queries l) (rising_filter (is_covered s queries l) 0 (layer_len s l))
 
--- one level more of a path: from what a level says of a node
-pub path_more : {V X : Type 0} (step_of : V → ℕ) (parents_of : V → List ℕ) (children_of : V → List X) (levels : List V) (s : Shape) (queries : List ℕ) (t : ℕ) → CanQuery s queries t → t ≡ length levels → (i : ℕ) → is_among queries i ≡ true →
-    AreLevels s queries t (map step_of levels) (map parents_of levels) → (l node : ℕ) (level : V) (old new : List X) → l < length levels → level ≡ get_or levels l level →
-    (old ≡ kept_path s queries (map children_of levels) l i) × (node ≡ ancestor s l i) →
-    (IsStrictlyIncreasing (parents_of level) → is_among (parents_of level) (node / step_of level) ≡ true → new ≡ old ++ remove (children_at (step_of level) (parents_of level) (children_of level) (node / step_of level)) (node % step_of level)) →
-    (new ≡ kept_path s queries (map children_of levels) (l + 1) i) × (node / step_of level ≡ ancestor s (l + 1) i)
-path_more step_of parents_of children_of levels s queries t w e i q are l node level old new h is so_far more =
-    let below : l < t = omega arith in
-    let a : step_of level ≡ step s l =
-    ap step_of is ∙ sym (get_or-map step_of levels l level 0 h) ∙ ap (λ xs. get_or xs l 0) are.steps_are ∙ get_or-map-range_with_len (step s) 0 t l l 0 below (omega arith) in
-    let b : parents_of level ≡ covered_at s queries (suc l) =
-    ap parents_of is ∙ sym (get_or-map parents_of levels l level [] h) ∙ ap (λ xs. get_or xs l []) are.parents_are ∙ get_or-map-range_with_len (λ l. covered_at s queries (suc l)) 0 t l l [] below (omega arith) in
-    let c : get_or (map children_of levels) l [] ≡ children_of level = get_or-map children_of levels l level [] h ∙ ap children_of (sym is) in
-    let up : node / step_of level ≡ ancestor s (suc l) i = rw (a, so_far.1) (sym (anc_next s l i)) in
-    let there : is_among (parents_of level) (node / step_of level) ≡ true = rw (b, up) (parent_listed s queries t w l i below q) in
-    let order : IsStrictlyIncreasing (parents_of level) = rw b (covered_up_list s queries (suc l)) in
-    (more order there ∙ rw (add-one, joined_more (kept_group s queries (map children_of levels) i) l, c, up, b, a, so_far.0, so_far.1) refl, rw add-one up)
+-- ---- a walk of a path
 
--- ---- what it restores
+abbrev step_of : {X : Type 0} → List ℕ × ℕ × List X → ℕ
+step_of (parents, n, values) = n
 
-map_remove : {X Y : Type 0} (view : X → Y) (xs : List X) (p : ℕ) → map view (remove xs p) ≡ remove (map view xs) p
-map_remove view xs p = map-append view (take p xs) (drop (suc p) xs) ∙ rw (take-map view p xs, drop-map view (suc p) xs) refl
+-- the steps of the levels below level k
+abbrev steps_below : {X : Type 0} → List (List ℕ × ℕ × List X) → ℕ → List ℕ
+steps_below levels k = map step_of (take k levels)
 
-map_joined : {X Y : Type 0} (view : X → Y) (g : ℕ → List X) (t : ℕ) → map view (joined g t) ≡ joined (λ l. map view (g l)) t
-map_joined view g zero = refl
-map_joined view g (suc t) =
-    ap (map view) (joined_more g t) ∙ map-append view (joined g t) (g t) ∙ ap (λ ys. ys ++ map view (g t)) (map_joined view g t) ∙ sym (joined_more (λ l. map view (g l)) t)
+-- the siblings of the node over the steps below a level
+abbrev kept_siblings : {X : Type 0} → List (List ℕ × ℕ × List X) → ℕ → ℕ × (List ℕ × ℕ × List X) → List X
+kept_siblings levels i = λ (k, level). siblings_out_of level (node_over (steps_below levels k) i)
 
--- out of children that have their values it is the restored path
-pub path_restored : {T W X : Type 0} (f : Functions T W) (s : Shape) (t : ℕ) (p : PrunedOpening T W) → CanQuery s p.indices t → (view : X → List W) (rows : List (List X)) →
-    ((l : ℕ) → l < t → map view (slice_index_or rows l []) ≡ flat_map (λ j. map (value_of f s t p l) (range_with_len (step s l * j) (step s l))) (covered_at s p.indices (suc l))) →
-    (i : ℕ) → is_among p.indices i ≡ true → map view (kept_path s p.indices rows t i) ≡ restored_path f s t p i
-path_restored f s t p w view rows are i q =
-    map_joined view (kept_group s p.indices rows i) t
-    ∙ joined_same (λ l. map view (kept_group s p.indices rows i l)) (piece s (value_of f s t p) i) t (λ l h.
-    let n = step s l in
-    let parents = covered_at s p.indices (suc l) in
-    let j = ancestor s (suc l) i in
-    let row = slice_index_or rows l [] in
-    let k = place_among parents j in
-    let group : map view (children_at n parents row j) ≡ group_values s (value_of f s t p) l j =
-    sym (take-map view n (drop (n * k) row)) ∙ ap (take n) (sym (drop-map view (n * k) row)) ∙ ap (λ ys. children_at n parents ys j) (are l h)
-    ∙ values_at (value_of f s t p l) n parents j (covered_up_list s p.indices (suc l)) (parent_listed s p.indices t w l i h q) in
-    map_remove view (children_at n parents row j) (position_in_group s l i) ∙ ap (λ ys. remove ys (position_in_group s l i)) group)
+-- the siblings on the path of leaf i from level k on
+abbrev pub path_from : {X : Type 0} → List (List ℕ × ℕ × List X) → ℕ → ℕ → List X
+path_from levels i k = flat_map (kept_siblings levels i) (enumerate_from k (drop k levels))
 
-mapped : {A B C : Type 0} (g : A → B) (h : C → A) (k : C → B) (xs : List C) → ((i : ℕ) → i < length xs → (d : C) → g (h (get_or xs i d)) ≡ k (get_or xs i d)) → map g (map h xs) ≡ map k xs
-mapped g h k [] e = refl
-mapped g h k (x ∷ xs) e = rw (e 0 (omega arith) x, mapped g h k xs (λ i l d. e (suc i) (omega arith) d)) refl
+-- a walk of a path has come to level k: its siblings so far, and the node at which it stands
+pub record IsOnPath {X : Type 0} (levels : List (List ℕ × ℕ × List X)) (i k : ℕ) (path : List X) (node : ℕ) : Type 0 where
+  pub so_far : path ++ path_from levels i k ≡ path_out_of levels i
+  pub node_is : node ≡ node_over (steps_below levels k) i
 
--- and so for all queries
-pub paths_restored : {T W X : Type 0} (f : Functions T W) (s : Shape) (t : ℕ) (p : PrunedOpening T W) → CanQuery s p.indices t → (view : X → List W) (rows : List (List X)) →
-    ((l : ℕ) → l < t → map view (slice_index_or rows l []) ≡ flat_map (λ j. map (value_of f s t p l) (range_with_len (step s l * j) (step s l))) (covered_at s p.indices (suc l))) →
-    map (λ (path : ℕ × List X). (path.0, map view path.1)) (kept_paths s p.indices rows t) ≡ restored_paths f s t p
-paths_restored f s t p w view rows are =
-    mapped (λ (path : ℕ × List _). (path.0, map view path.1)) (λ i. (i, kept_path s p.indices rows t i)) (λ i. (i, restored_path f s t p i)) p.indices
-    (λ k h d. ap (λ path. (get_or p.indices k d, path)) (path_restored f s t p w view rows are (get_or p.indices k d) (listed_at p.indices k d h)))
+pub path_start : {X : Type 0} (levels : List (List ℕ × ℕ × List X)) (i : ℕ) (path : List X) → path ≡ [] → IsOnPath levels i 0 path i
+path_start levels i path is = record { so_far = rw is refl; node_is = omega arith }
+
+pub path_more : {V X : Type 0} (view : V → List ℕ × ℕ × List X) (levels : List V) (i k node : ℕ) (level : V) (old new : List X) → k < length levels → level ≡ get_or levels k level → IsOnPath (map view levels) i k old node →
+    new ≡ old ++ siblings_out_of (view level) node → IsOnPath (map view levels) i (k + 1) new (node / (view level).1)
+path_more view levels i k node level old new h is w more =
+    let shown = map view levels in
+    let d = view level in
+    let inside : k < length shown = omega (arith, length-map levels view) in
+    let here : get_or shown k d ≡ d = get_or-map view levels k level d h ∙ ap view (sym is) in
+    let rest : path_from shown i k ≡ siblings_out_of d node ++ path_from shown i (k + 1) = rw (drop-cons shown k d inside, here, add-one, w.node_is) refl in
+    let steps = steps_below shown k in
+    let next : steps_below shown (k + 1) ≡ steps ++ d.1 ∷ [] =
+    ap (map step_of) (take_more shown k d inside) ∙ map-append step_of (take k shown) (get_or shown k d ∷ []) ∙ ap (λ (x : List ℕ × ℕ × List _). steps ++ x.1 ∷ []) here in
+    record {
+      so_far = rw more (append_assoc old (siblings_out_of d node) (path_from shown i (k + 1))) ∙ ap (λ ys. old ++ ys) (sym rest) ∙ w.so_far;
+      node_is = rw (next, fold-append, w.node_is) (div-div-eq-div-mul i (fold (λ product n. product * n) 1 steps) d.1);
+    }
+
+pub path_end : {X : Type 0} (levels : List (List ℕ × ℕ × List X)) (i k : ℕ) (path : List X) (node : ℕ) → length levels ≤ k → IsOnPath levels i k path node → path ≡ path_out_of levels i
+path_end levels i k path node h w = sym (append-nil path) ∙ rw (drop_all k levels h) at w.so_far
 
 -- one path more
 pub paths_more : {X : Type 0} (path : ℕ → List X) (queries : List ℕ) (k : ℕ) (old new : List (AuthPath X)) (added : AuthPath X) → k < length queries →
@@ -194,3 +199,55 @@ paths_more {X} path queries k old new added h so_far is named shown =
     let last : shown_path added ≡ both (get_or queries k 0) = rw (named, shown) refl in
     ap (λ (ps : List (AuthPath X)). shown_paths ps) is ∙ map-append shown_path old (added ∷ [])
     ∙ ap (λ (ys : List (ℕ × List X)). ys ++ shown_path added ∷ []) so_far ∙ ap (λ (one : ℕ × List X). map both (take k queries) ++ one ∷ []) last ∙ sym (map_more both queries k 0 h)
+
+-- ---- what a walk keeps of a tree
+
+-- a level from layer l on: the covered nodes above it, its step, and what the values v of their children are
+abbrev pub level_of : {X : Type 0} → Shape → List ℕ → (ℕ → ℕ → X) → ℕ → List ℕ × ℕ × List X
+level_of s queries v l = (covered_at s queries (suc l), step s l, flat_map (λ j. map (v l) (range_with_len (step s l * j) (step s l))) (covered_at s queries (suc l)))
+
+steps_product : (s : Shape) (l : ℕ) → fold (λ product n. product * n) 1 (schedule_below s l) ≡ leaves_under s l
+unfolding leaves_under
+steps_product s zero = refl
+steps_product s (suc l) =
+    let z : 0 + l ≡ l = omega arith in
+    let more : schedule_below s (suc l) ≡ schedule_below s l ++ step s l ∷ [] = rw add-one at (map-range_with_len_more (step s) 0 l l z) in
+    rw (more, fold-append, steps_product s l) refl
+
+-- the nodes over the steps of a tree are ancestors
+node_over_is : {X : Type 0} (s : Shape) (queries : List ℕ) (v : ℕ → ℕ → X) (t l i : ℕ) → l ≤ t → node_over (steps_below (map (level_of s queries v) (range_with_len 0 t)) l) i ≡ ancestor s l i
+node_over_is s queries v t l i h =
+    let steps : steps_below (map (level_of s queries v) (range_with_len 0 t)) l ≡ schedule_below s l =
+    ap (map step_of) (take-map-range_with_len (level_of s queries v) 0 t l h) ∙ map-map step_of (level_of s queries v) (range_with_len 0 l) in
+    rw (steps, steps_product s l) refl
+
+-- the siblings of an ancestor out of such a level
+siblings_kept : {X : Type 0} (s : Shape) (queries : List ℕ) (t : ℕ) → CanQuery s queries t → (v : ℕ → ℕ → X) (l i : ℕ) → l < t → is_among queries i ≡ true → siblings_out_of (level_of s queries v l) (ancestor s l i) ≡ piece s v i l
+siblings_kept s queries t w v l i h q =
+    let parents = covered_at s queries (suc l) in
+    let there = parent_listed s queries t w l i h q in
+    rw (← anc_next s l i, there, values_at (v l) (step s l) parents (ancestor s (suc l) i) (covered_up_list s queries (suc l)) there) refl
+
+enumerated : {X K : Type 0} (h : ℕ × K → List X) (level : ℕ → K) (a n : ℕ) → flat_map h (enumerate_from a (map level (range_with_len a n))) ≡ flat_map (λ l. h (l, level l)) (range_with_len a n)
+enumerated h level a zero = refl
+enumerated h level a (suc n) = ap (λ ys. h (a, level a) ++ ys) (enumerated h level (a + 1) n)
+
+-- the path of a queried leaf out of such levels
+path_kept : {X : Type 0} (s : Shape) (queries : List ℕ) (t : ℕ) → CanQuery s queries t → (v : ℕ → ℕ → X) (i : ℕ) → is_among queries i ≡ true → path_out_of (map (level_of s queries v) (range_with_len 0 t)) i ≡ joined (piece s v i) t
+path_kept s queries t w v i q =
+    let levels = map (level_of s queries v) (range_with_len 0 t) in
+    enumerated (kept_siblings levels i) (level_of s queries v) 0 t
+    ∙ joined_same (λ l. kept_siblings levels i (l, level_of s queries v l)) (piece s v i) t
+    (λ l h. ap (siblings_out_of (level_of s queries v l)) (node_over_is s queries v t l i (omega arith)) ∙ siblings_kept s queries t w v l i h q)
+
+same_paths : {X : Type 0} (g h : ℕ → X) (queries : List ℕ) → ((i : ℕ) → is_among queries i ≡ true → g i ≡ h i) → map g queries ≡ map h queries
+same_paths g h [] same = refl
+same_paths g h (q ∷ queries) same =
+    rw (same q (or_left (eqb q q) (is_among queries q) (eq-eqb q q refl)), same_paths g h queries (λ i c. same i (or_right (eqb q i) (is_among queries i) c))) refl
+
+-- out of levels whose values are those of a pruned opening, the paths are the restored ones
+pub paths_restored : {T W : Type 0} (f : Functions T W) (s : Shape) (t : ℕ) (p : PrunedOpening T W) → CanQuery s p.indices t → (levels : List (List ℕ × ℕ × List (List W))) → levels ≡ map (level_of s p.indices (value_of f s t p)) (range_with_len 0 t) →
+    paths_out_of levels p.indices ≡ restored_paths f s t p
+paths_restored f s t p w levels are =
+    rw are (same_paths (λ i. (i, path_out_of (map (level_of s p.indices (value_of f s t p)) (range_with_len 0 t)) i)) (λ i. (i, restored_path f s t p i)) p.indices
+    (λ i q. ap (λ path. (i, path)) (path_kept s p.indices t w (value_of f s t p) i q)))

@@ -62,8 +62,9 @@ same_count s queries leaves w is (suc l) =
     let row = filter_agree (is_boundary s leaves l) (is_boundary s queries l) same (range_with_len 0 (layer_len s l)) in
     pruned_next s leaves l ∙ rw (same_count s queries leaves w is l, row) (sym (pruned_next s queries l))
 
-pub leaves_asked : (s : Shape) (queries leaves : List ℕ) (t : ℕ) → IsArity s.arity → All (λ q. q < tallest (heights s)) queries → leaves ≡ covered_at s queries 0 → AreLeaves s queries leaves t
-leaves_asked s queries leaves t arity below is =
+pub leaves_asked : (s : Shape) (queries leaves : List ℕ) (t : ℕ) → IsArity s.arity → All (λ q. q < tallest (heights s)) queries → leaves ≡ distinct queries → AreLeaves s queries leaves t
+leaves_asked s queries leaves t arity below listed =
+    let is : leaves ≡ covered_at s queries 0 = listed ∙ sym (distinct_from s queries below) in
     let w : CanQuery s queries 0 = record { well_shaped = arity; below = below; in_tree = omega arith } in
     record {
       ascending = rw is (increasing_from 0 (covered_at s queries 0) (rising_filter (is_covered s queries 0) 0 (layer_len s 0)));
@@ -75,4 +76,4 @@ leaves_asked s queries leaves t arity below is =
 
 -- the same of the distinct indices
 pub slot_leaves : (s : Shape) (queries leaves : List ℕ) (t : ℕ) → IsArity s.arity → tallest queries < tallest (heights s) → leaves ≡ distinct queries → AreLeaves s queries leaves t
-slot_leaves s queries leaves t arity below is = leaves_asked s queries leaves t arity (all_below (tallest (heights s)) queries below) (is ∙ sym (distinct_from s queries below))
+slot_leaves s queries leaves t arity below is = leaves_asked s queries leaves t arity (all_below (tallest (heights s)) queries below) is

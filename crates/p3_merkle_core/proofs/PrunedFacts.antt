@@ -123,4 +123,4 @@ asked_of row_eq s t p e =
 
 -- the slots' leaves are the covered ones
 pub slots_covered : {T W : Type 0} (row_eq : T → T → Bool) (s : Shape) (t : ℕ) (p : PrunedOpening T W) (leaves : List ℕ) → pruned_refusal row_eq s t p ≡ None → leaves ≡ distinct p.indices → leaves ≡ covered_at s p.indices 0
-slots_covered row_eq s t p leaves e listed = listed ∙ sym (distinct_from s p.indices (asked_of row_eq s t p e).highest)
+slots_covered row_eq s t p leaves e listed = listed ∙ sym (distinct_from s p.indices (asked_of row_eq s t p e).below)

@@ -10,6 +10,7 @@ use Rattle.std.proofs.lemmas.List.Filters.{length-filter_both}
 use Rattle.std.proofs.lemmas.List.FromFn.{length-range_with_len}
 use Rattle.std.proofs.lemmas.List.{take_all, drop_all, take_at, drop_at, drop-drop}
 use Rattle.std.proofs.lemmas.List.Kept.{AllPairs-from_increasing}
+use Rattle.p3_merkle_core.specs.Agreement.{IsAscending}
 
 -- ---- ascending lists
 
@@ -245,6 +246,16 @@ dedup_rising k (x ∷ xs) w =
           let ne = eqb-false x k f in
           rw f (omega arith, rising_lower (suc k) x (dedup_from eqb x xs) (omega (arith, w.0)) (dedup_rising x xs w.1))
     ]
+
+climbing_from : (a : ℕ) (xs : List ℕ) → (0 < length xs → a ≤ get_or xs 0 0) → IsAscending xs → IsClimbing a xs
+climbing_from a [] low up = tt
+climbing_from a (x ∷ xs) low up = (low (omega arith), climbing_from x xs (λ k. up 0 1 (omega arith) (omega arith)) (λ i j h k. up (suc i) (suc j) (omega arith) (omega arith)))
+
+pub rising_once : (xs : List ℕ) → IsAscending xs → IsRising 0 (dedup eqb xs)
+rising_once [] up = tt
+rising_once (x ∷ xs) up =
+    let rest = climbing_from x xs (λ k. up 0 1 (omega arith) (omega arith)) (λ i j h k. up (suc i) (suc j) (omega arith) (omega arith)) in
+    rising_lower 0 x (dedup_from eqb x xs) (omega arith) (dedup_rising x xs rest)
 
 dedup_lists : (k : ℕ) (xs : List ℕ) (j : ℕ) → is_listed (dedup_from eqb k xs) j ≡ is_listed (k ∷ xs) j
 dedup_lists k [] j = refl

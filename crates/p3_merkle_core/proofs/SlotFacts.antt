@@ -1,10 +1,11 @@
 -- The distinct indices, ascending, their places, and the first query of each.
-use Rattle.std.proofs.Common.{◌≡◌, ℕ, zero, suc, ◌+◌, ◌<◌, ◌≤◌, Bool, true, false, eqb, List, [], ◌∷◌, map, refl, ap, sym, ◌∙◌, arith, inl, inr, length, filter, get_or, set, drop, eq-eqb, All, zip, replicate, ◌≢◌, drop-cons, add-one, Option, Some, not, Vec}
+use Rattle.std.proofs.Common.{◌≡◌, ℕ, zero, suc, ◌+◌, ◌/◌, ◌<◌, ◌≤◌, Bool, true, false, eqb, List, [], ◌∷◌, map, refl, ap, sym, ◌∙◌, arith, inl, inr, length, filter, get_or, set, drop, eq-eqb, All, zip, replicate, ◌≢◌, drop-cons, add-one, Option, Some, not, Vec}
 use Rattle.std.specs.Prelude.{Ok, Err}
 use Rattle.std.specs.Ordering.{nat_cmp}
-use Rattle.std.proofs.lemmas.List.Sorted.{searched}
-use Rattle.std.specs.List.Sorted.{IsBinarySearchResult}
-use Rattle.std.specs.List.{range_with_len}
+use Rattle.std.specs.Cmp.{both_ways}
+use Rattle.std.proofs.lemmas.List.Sorted.{IsNonDecreasingBy-from_sort, list_any-IsPermutation, searched}
+use Rattle.std.specs.List.Sorted.{IsBinarySearchResult, IsPermutation, IsSorted}
+use Rattle.std.specs.List.{dedup, range_with_len}
 use Rattle.std.specs.Option.{option_or}
 use Rattle.std.specs.Cmp.Lexicographic.{pointwise}
 use Rattle.std.proofs.lemmas.Bool.{cases_Bool, eqb-true, or_cases, true≢false, ne_eqb, cases_lt}
@@ -12,16 +13,17 @@ use Rattle.std.proofs.lemmas.List.{drop_all, get_or-map, get_or_default, length-
 use Rattle.std.specs.Cmp.Derive.Mapped.{pointwise-map}
 use Rattle.p3_support.specs.Shown.{row_lists}
 use Rattle.p3_merkle_core.specs.PrunedCalls.{row_sets}
-use Rattle.p3_merkle_core.specs.Geometry.{Shape, shape_of, tallest, heights, layer_len, raw_len}
-use Rattle.p3_merkle_core.specs.Pruning.{PrunedOpening, is_covered, covered_at}
+use Rattle.p3_merkle_core.specs.Geometry.{Shape, tallest, heights, layer_len, raw_len, step}
+use Rattle.p3_merkle_core.specs.Pruning.{CanQuery, PrunedOpening, is_covered, covered_at}
 use Rattle.p3_merkle_core.specs.Refusals.{is_queried, slots_below, slot_of, first_rows, first_of, unless}
 use Rattle.p3_merkle_core.specs.declared.error.PrunedProofError.TheVariants.{InconsistentDuplicateOpenings}
 use Rattle.p3_merkle_core.specs.declared.error.MerkleTreeError.{MerkleTreeError}
 use Rattle.p3_merkle_core.specs.declared.error.MerkleTreeError.TheVariants.{MalformedPrunedProof}
-use Rattle.p3_merkle_core.specs.Agreement.{distinct, first_query, opened_of, IsSlot}
+use Rattle.p3_merkle_core.specs.Agreement.{distinct, first_query, opened_of, IsAscending, IsSlot}
 use Rattle.p3_merkle_core.proofs.Accepted.{padded_ge}
-use Rattle.p3_merkle_core.proofs.RisingFacts.{is_listed, IsRising, filter_is, listed_in, listed_from, listed_there, listed_at, rising_filter}
-use Rattle.p3_merkle_core.proofs.CoveredFacts.{covered_leaf, raw_start}
+use Rattle.p3_merkle_core.proofs.RisingFacts.{is_listed, IsRising, div_mono, filter_is, listed_dedup, listed_in, listed_from, listed_there, listed_at, rising_filter, rising_once}
+use Rattle.p3_merkle_core.proofs.CoveredFacts.{covered_above, covered_leaf, listed_below, listed_covered, raw_start}
+use Rattle.p3_merkle_core.proofs.StepFacts.{step_above_1}
 
 -- ---- indices below a bound
 
@@ -43,34 +45,25 @@ all_below m (q ∷ indices) h = tail_below m q indices (omega arith) (all_below 
 
 -- ---- the distinct indices
 
--- a shape with so many leaves
-wide : ℕ → Shape
-wide m = shape_of 2 (record { width = 0; height = m } ∷ [])
-
-pub distinct_from : (s : Shape) (indices : List ℕ) → tallest indices < tallest (heights s) → covered_at s indices 0 ≡ distinct indices
+-- an ascending list of just the numbers of another
+pub distinct_is : (indices xs : List ℕ) → IsRising 0 xs → ((j : ℕ) → is_listed xs j ≡ is_queried indices j) → xs ≡ distinct indices
 unfolding distinct
-distinct_from s indices below =
-    filter_is (is_queried indices) 0 (suc (tallest indices)) (covered_at s indices 0) (record {
-      rising = rising_filter (is_covered s indices 0) 0 (layer_len s 0);
-      sound = λ j h.
-          let c = listed_in (is_covered s indices 0) 0 (layer_len s 0) j h in
-          let there : is_queried indices j ≡ true = sym (covered_leaf s indices j) ∙ c.2 in
-          (omega (arith, highest indices j there), there);
-      complete = λ j low high c.
-          listed_there (is_covered s indices 0) 0 (layer_len s 0) j (covered_leaf s indices j ∙ c) (omega arith)
-          (omega (arith, raw_start s, padded_ge (raw_len s 0) s.arity));
+distinct_is indices xs up same =
+    filter_is (is_queried indices) 0 (suc (tallest indices)) xs (record {
+      rising = up;
+      sound = λ j h. let there : is_queried indices j ≡ true = sym (same j) ∙ h in (omega (arith, highest indices j there), there);
+      complete = λ j low high c. same j ∙ c;
     })
 
-wide_tallest : (m : ℕ) → tallest (heights (wide m)) ≡ m
-unfolding wide
-wide_tallest m = omega arith
-
--- what is covered among enough leaves
-pub distinct_leaves : (leaves indices : List ℕ) → ((s : Shape) → All (λ q. q < tallest (heights s)) indices → leaves ≡ covered_at s indices 0) → leaves ≡ distinct indices
-distinct_leaves leaves indices h =
-    let m = suc (tallest indices) in
-    let t = wide_tallest m in
-    h (wide m) (rw t (all_below m indices (omega arith))) ∙ distinct_from (wide m) indices (omega arith)
+-- where all indices are leaves, they are the covered ones
+pub distinct_from : (s : Shape) (indices : List ℕ) → All (λ q. q < tallest (heights s)) indices → covered_at s indices 0 ≡ distinct indices
+distinct_from s indices below =
+    distinct_is indices (covered_at s indices 0) (rising_filter (is_covered s indices 0) 0 (layer_len s 0)) (λ j.
+    both_ways (is_listed (covered_at s indices 0) j) (is_queried indices j)
+    (λ h. sym (covered_leaf s indices j) ∙ listed_covered s indices 0 j h)
+    (λ c.
+    listed_there (is_covered s indices 0) 0 (layer_len s 0) j (covered_leaf s indices j ∙ c) (omega arith)
+    (omega (arith, listed_below (tallest (heights s)) indices j below c, raw_start s, padded_ge (raw_len s 0) s.arity))))
 
 -- the distinct indices are the slots below each bound of them
 pub distinct_below : (m : ℕ) (indices : List ℕ) → tallest indices < m → distinct indices ≡ slots_below m indices
@@ -85,6 +78,25 @@ distinct_below m indices h =
 pub distinct_rising : (indices : List ℕ) → IsRising 0 (distinct indices)
 unfolding distinct
 distinct_rising indices = rising_filter (is_queried indices) 0 (suc (tallest indices))
+
+distinct_lists : (indices : List ℕ) (j : ℕ) → is_listed (distinct indices) j ≡ is_queried indices j
+unfolding distinct
+distinct_lists indices j =
+    let n = suc (tallest indices) in
+    both_ways (is_listed (distinct indices) j) (is_queried indices j) (λ h. (listed_in (is_queried indices) 0 n j h).2) (λ c. listed_there (is_queried indices) 0 n j c (omega arith) (omega (arith, highest indices j c)))
+
+-- the same indices in another order
+distinct_moved : (indices moved : List ℕ) → IsPermutation indices moved → distinct moved ≡ distinct indices
+distinct_moved indices moved p =
+    distinct_is indices (distinct moved) (distinct_rising moved) (λ j. distinct_lists moved j ∙ sym (list_any-IsPermutation (λ q. eqb q j) indices moved p))
+
+-- ascending, with repeats dropped
+distinct_once : (xs : List ℕ) → IsAscending xs → dedup eqb xs ≡ distinct xs
+distinct_once xs up = distinct_is xs (dedup eqb xs) (rising_once xs up) (listed_dedup xs)
+
+-- what a sort and the dropping of repeats leave
+pub sorted_leaves : (indices sorted : List ℕ) → IsPermutation indices sorted → IsSorted nat_cmp sorted → dedup eqb sorted ≡ distinct indices
+sorted_leaves indices sorted moved up = distinct_once sorted (λ i j h k. IsNonDecreasingBy-from_sort (λ x. x) sorted up i j 0 h k) ∙ distinct_moved indices sorted moved
 
 pub rising_order : (a : ℕ) (xs : List ℕ) → IsRising a xs → (i j : ℕ) → i < j → j < length xs → get_or xs i 0 < get_or xs j 0
 rising_order a [] r i j h l = absurd (omega arith)
@@ -150,12 +162,15 @@ never_missed indices i k low high c =
       | inr h ↦ absurd (omega (arith, high p.0 h p.1, p.2))
     ]
 
-pub rising_either : (indices : List ℕ) (i j : ℕ) → i ≤ j → j < length (distinct indices) → get_or (distinct indices) i 0 ≤ get_or (distinct indices) j 0
-rising_either indices i j h l =
+ascending_from : (xs : List ℕ) → IsRising 0 xs → IsAscending xs
+ascending_from xs up i j h l =
     elim (cases_lt i j) [
-      | inl less ↦ omega (arith, rising_order 0 (distinct indices) (distinct_rising indices) i j less l)
+      | inl less ↦ omega (arith, rising_order 0 xs up i j less l)
       | inr rest ↦ let e : i ≡ j = omega arith in rw e (omega arith)
     ]
+
+pub rising_either : (indices : List ℕ) → IsAscending (distinct indices)
+rising_either indices = ascending_from (distinct indices) (distinct_rising indices)
 
 -- a binary search among the distinct indices finds the slot of each queried index
 pub search_hits : (indices : List ℕ) (i k : ℕ) → IsBinarySearchResult (λ y. nat_cmp y i) (distinct indices) (Ok k) → IsSlot indices i k
@@ -170,6 +185,26 @@ search_misses indices i k h c =
 
 pub queried_at : (indices : List ℕ) (k : ℕ) → k < length indices → is_queried indices (get_or indices k 0) ≡ true
 queried_at indices k h = listed_at indices k 0 h
+
+-- ---- from layer to layer
+
+divided : (xs : List ℕ) (n : ℕ) → 0 < n → IsAscending xs → IsAscending (map (λ j. j / n) xs)
+divided xs n some up i j h k =
+    let low : j < length xs = omega (arith, length-map xs (λ j. j / n)) in
+    let read = get_or-map (λ j. j / n) xs in
+    rw (read i 0 0 (omega arith), read j 0 0 low) (div_mono n (get_or xs i 0) (get_or xs j 0) some (up i j h low))
+
+-- the parents of ascending nodes, with repeats dropped
+pub parents_once : (nodes : List ℕ) (n : ℕ) → 0 < n → IsAscending nodes → dedup eqb (map (λ j. j / n) nodes) ≡ distinct (map (λ j. j / n) nodes)
+parents_once nodes n some up = distinct_once (map (λ j. j / n) nodes) (divided nodes n some up)
+
+-- those of the covered nodes of a layer are the covered nodes of the layer above
+pub climbed : (s : Shape) (queries : List ℕ) (t : ℕ) → CanQuery s queries t → (l n : ℕ) (here up : List ℕ) → l < t → (IsAscending here → up ≡ distinct (map (λ j. j / n) here)) → n ≡ step s l → here ≡ covered_at s queries l →
+    up ≡ covered_at s queries (suc l)
+climbed s queries t w l n here up h climbs is_n is_here =
+    let order = ascending_from (covered_at s queries l) (rising_filter (is_covered s queries l) 0 (layer_len s l)) in
+    let some : 0 < step s l = omega (arith, step_above_1 s l w.well_shaped.above_1) in
+    climbs (rw is_here order) ∙ rw (is_n, is_here) (sym (parents_once (covered_at s queries l) (step s l) some order)) ∙ covered_above s queries t w l h
 
 -- ---- the first query of each
 

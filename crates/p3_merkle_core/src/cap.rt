@@ -1,8 +1,8 @@
 //! Caps: which layer of a tree is handed to verifiers.
 
-ghost use Rattle.std.specs.Prelude.{◌≡◌};
-ghost use Rattle.p3_merkle_core.specs.Caps.{cap_layer};
-ghost use Rattle.p3_merkle_core.specs.Geometry.{heights, levels, shape_of, shortest, IsArity, Shape};
+ghost use Rattle.std.specs.Prelude.{◌≡◌, ◌-◌, min};
+ghost use Rattle.p3_merkle_core.specs.Caps.{cap_layer, room_of};
+ghost use Rattle.p3_merkle_core.specs.Geometry.{shape_of, IsArity};
 
 use crate::geometry::{exponent_of, shortest_of};
 use crate::steps::{Steps, steps_of};
@@ -54,8 +54,7 @@ pub fn cap_layer_at(
     cap_height: usize,
 ) -> usize
     requires { IsArity arity }
-    ensures { (s : Shape) → arity ≡ s.arity → num_levels ≡ levels s → min_height ≡ shortest (heights s) →
-        result ≡ cap_layer s rule cap_height }
+    ensures { result ≡ num_levels - min cap_height (room_of num_levels min_height arity rule) }
 {
     let room = match rule {
         CapRule::Lowered => exponent_of(min_height).div_ceil(exponent_of(arity)),

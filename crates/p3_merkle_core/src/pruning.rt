@@ -1,10 +1,10 @@
 //! Which nodes a pruned opening covers, and how many digests it sends: what needs no hash.
 
-ghost use Rattle.std.specs.Prelude.{◌≡◌, ℕ, suc, ◌+◌, ◌*◌, ◌/◌, ◌%◌, ◌<◌, ◌≤◌, ◌++◌, Some, None, List, All, IfOk, IsTrue, MatchResult, length, map, remove};
+ghost use Rattle.std.specs.Prelude.{◌≡◌, ◌*◌, ◌/◌, ◌<◌, ◌≤◌, ◌++◌, Some, None, All, IfOk, MatchResult, length, map};
 ghost use Rattle.std.specs.List.Sorted.{IsStrictlyIncreasing};
-ghost use Rattle.p3_merkle_core.specs.Children.{AreChildren, AreLevels, IsFamily, children_at, is_among, kept_path, kept_paths, shown_paths};
-ghost use Rattle.p3_merkle_core.specs.Geometry.{heights, heights_of, levels, max_height, shape_of, step as step_in, tallest, IsArity, Shape};
-ghost use Rattle.p3_merkle_core.specs.Pruning.{covered_at, CanQuery};
+ghost use Rattle.p3_merkle_core.specs.Agreement.{distinct, IsAscending};
+ghost use Rattle.p3_merkle_core.specs.Children.{AreChildren, IsFamily, path_out_of, paths_out_of, shown_paths, siblings_out_of};
+ghost use Rattle.p3_merkle_core.specs.Geometry.{heights_of, levels, max_height, shape_of, tallest, IsArity};
 ghost use Rattle.p3_merkle_core.specs.PrunedCalls.{pruned_len};
 ghost use Rattle.p3_merkle_core.specs.Refusals.{queries_refusal};
 
@@ -61,6 +61,7 @@ pub struct KeptLevel<X> {
     pub children: Vec<X>,
     ghost some: { 0 < step },
     ghost full: { length children.items ≡ step * length parents.items },
+    ghost ascending: { IsStrictlyIncreasing parents.items },
 }
 
 /// Whether each index is below `max_height`, the tallest height of some matrices.
@@ -98,7 +99,7 @@ fn highest_of(indices: &[usize]) -> usize
 ///
 /// `AllocError` where there is no memory.
 pub fn covered_leaves(alloc: Global, indices: &[usize]) -> Result<Vec<usize>, AllocError>
-    ensures { IfOk result (λ leaves. (s : Shape) → All (λ q. q < tallest (heights s)) indices.now → leaves.items ≡ covered_at s indices.now 0) }
+    ensures { IfOk result (λ leaves. leaves.items ≡ distinct indices.now) }
 {
     let mut leaves = Vec::from_slice(alloc, indices)?;
     leaves.sort_unstable();
@@ -106,12 +107,11 @@ pub fn covered_leaves(alloc: Global, indices: &[usize]) -> Result<Vec<usize>, Al
     Ok(leaves)
 }
 
-/// Turns the covered nodes of a layer into those of the layer above, in place: each node's parent once, ascending. A
-/// parent has `step` children, at least one.
+/// Turns the covered nodes of a layer, which ascend, into those of the layer above, in place: each node's parent once,
+/// ascending. A parent has `step` children, at least one.
 pub fn climb(covered: &mut Vec<usize>, step: usize)
     requires { 0 < step }
-    ensures { (s : Shape) (queries : List ℕ) (t l : ℕ) → CanQuery s queries t → l < t → step ≡ step_in s l → covered.old.items ≡ covered_at s queries l →
-        covered.new.items ≡ covered_at s queries (suc l) }
+    ensures { IsAscending covered.old.items → covered.new.items ≡ distinct (map (λ j. j / step) covered.old.items) }
 {
     for node in covered.iter_mut() {
         *node /= step;
@@ -207,8 +207,8 @@ pub fn children_of<X: Copy>(
 }
 
 /// The siblings on the path of a leaf, out of the levels that a walk kept, from the leaves on: of each group on the path
-/// all values but the path's own, ascending. The index is one of those that the walk covered; the path of another leaf has
-/// no siblings on the levels where no covered node is above it.
+/// all values but the path's own, ascending. The path of a leaf that the walk did not cover has no siblings on the levels
+/// where no covered node is above it.
 ///
 /// # Errors
 ///
@@ -218,9 +218,8 @@ pub fn path_out_of<X: Copy>(
     levels: &[KeptLevel<X>],
     index: usize,
 ) -> Result<Vec<X>, AllocError>
-    ensures { (s : Shape) (queries : List ℕ) (t : ℕ) → CanQuery s queries t → t ≡ length levels.now → IsTrue (is_among queries index) →
-        AreLevels s queries t (map (λ level. level.step) levels.now) (map (λ level. level.parents.items) levels.now) →
-        IfOk result (λ path. path.items ≡ kept_path s queries (map (λ level. level.children.items) levels.now) t index) }
+    ensures { IfOk result (λ path.
+        path.items ≡ path_out_of (map (λ level. (level.parents.items, level.step, level.children.items)) levels.now) index) }
 {
     let mut path = Vec::new(alloc);
     let mut node = index;
@@ -231,8 +230,7 @@ pub fn path_out_of<X: Copy>(
     Ok(path)
 }
 
-/// The path of each queried index, in order, with the siblings that [`path_out_of`] has. The indices are those that the walk
-/// covered.
+/// The path of each of some indices, in order, with the siblings that [`path_out_of`] has.
 ///
 /// # Errors
 ///
@@ -242,9 +240,8 @@ pub fn paths_out_of<X: Copy>(
     levels: &[KeptLevel<X>],
     indices: &[usize],
 ) -> Result<Vec<AuthPath<X>>, AllocError>
-    ensures { (s : Shape) (t : ℕ) → CanQuery s indices.now t → t ≡ length levels.now →
-        AreLevels s indices.now t (map (λ level. level.step) levels.now) (map (λ level. level.parents.items) levels.now) →
-        IfOk result (λ paths. shown_paths paths.items ≡ kept_paths s indices.now (map (λ level. level.children.items) levels.now) t) }
+    ensures { IfOk result (λ paths.
+        shown_paths paths.items ≡ paths_out_of (map (λ level. (level.parents.items, level.step, level.children.items)) levels.now) indices.now) }
 {
     let mut paths = Vec::with_capacity(alloc, indices.len())?;
     for index in indices {
@@ -263,9 +260,8 @@ fn extend_with_siblings<X: Copy>(
     level: &KeptLevel<X>,
     node: usize,
 ) -> Result<(), AllocError>
-    ensures { let group = children_at level.now.step level.now.parents.items level.now.children.items (node / level.now.step) in
-        IsStrictlyIncreasing level.now.parents.items → IsTrue (is_among level.now.parents.items (node / level.now.step)) →
-        IfOk result (λ done. path.new.items ≡ path.old.items ++ remove group (node % level.now.step)) }
+    ensures { IfOk result (λ done.
+        path.new.items ≡ path.old.items ++ siblings_out_of (level.now.parents.items, level.now.step, level.now.children.items) node) }
 {
     if let Ok(place) = level.parents.binary_search(&(node / level.step)) {
         let first = level.step * place;

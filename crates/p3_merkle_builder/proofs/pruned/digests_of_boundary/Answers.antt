@@ -1,10 +1,11 @@
 -- Each turn is one level.
-use Rattle.std.proofs.Common.{◌≡◌, ◌∙◌, arith, add-one, ap, length}
+use Rattle.std.proofs.Common.{◌≡◌, ◌∙◌, arith, add-one, ap, length, sym}
 use Rattle.p3_merkle_core.specs.Geometry.{heights}
 use Rattle.p3_merkle_core.specs.Nodes.{shape}
 use Rattle.p3_merkle_core.specs.Pruning.{CanQuery}
 use Rattle.p3_merkle_core.proofs.StepFacts.{step_above_1}
 use Rattle.p3_merkle_core.proofs.LeafFacts.{leaves_asked}
+use Rattle.p3_merkle_core.proofs.SlotFacts.{climbed, distinct_from}
 use Rattle.p3_merkle_builder.specs.Parts.{tree_batch}
 use Rattle.p3_merkle_builder.proofs.TreeFacts.{layers_count, layer_long}
 use Rattle.p3_merkle_builder.proofs.RowFacts.{lawful_fits}
@@ -19,17 +20,17 @@ boundary_len_of-requires-clause-low g c =
 pub boundary_len_of-requires-clause-below : goal.boundary_len_of-requires-clause-below
 boundary_len_of-requires-clause-below g c =
     let s = shape (tree_batch c.args.tree.now) in
-    let asked = leaves_asked s c.args.indices.now c.in_ok-covered.covered.items c.args.t c.args.tree.now.arity c.requires.indices (c.in_ok-covered.ensures s c.requires.indices) in
+    let asked = leaves_asked s c.args.indices.now c.in_ok-covered.covered.items c.args.t c.args.tree.now.arity c.requires.indices c.in_ok-covered.ensures in
     rw (c.deref-3.ensures.value ∙ c.in_ok-dimensions.ensures, c.deref.ensures.value, c.in_ok-leaves.ensures.items ∙ c.deref-2.ensures.value) asked.below
 
 pub boundary_len_of-requires-clause-ascending : goal.boundary_len_of-requires-clause-ascending
 boundary_len_of-requires-clause-ascending g c =
     let s = shape (tree_batch c.args.tree.now) in
-    rw (c.in_ok-leaves.ensures.items ∙ c.deref-2.ensures.value) (covered_increasing s c.args.indices.now 0 c.in_ok-covered.covered.items (c.in_ok-covered.ensures s c.requires.indices))
+    rw (c.in_ok-leaves.ensures.items ∙ c.deref-2.ensures.value) (covered_increasing s c.args.indices.now 0 c.in_ok-covered.covered.items (c.in_ok-covered.ensures ∙ sym (distinct_from s c.args.indices.now c.requires.indices)))
 
 pub loop-level-init : goal.loop-level-init
 loop-level-init g c = record {
-  covered = c.in_ok-covered.ensures (shape (tree_batch c.args.tree.now)) c.requires.indices;
+  covered = c.in_ok-covered.ensures ∙ sym (distinct_from (shape (tree_batch c.args.tree.now)) c.args.indices.now c.requires.indices);
   so_far = λ d. c.in_ok-digests.ensures.items;
 }
 
@@ -80,7 +81,7 @@ loop-level-preserved g c =
     let long = layer_long (λ nodes. length nodes.items) tree.layers.items s tree.layer_lengths l c.index.result.now (omega arith) c.index.ensures in
     let count = layers_count (λ nodes. length nodes.items) tree.layers.items s tree.layer_lengths in
     record {
-      covered = rw add-one (c.climb.ensures s c.args.indices.now c.args.t l w c.loop-level-test.true is c.loop-level.invariant.covered);
+      covered = rw add-one (climbed s c.args.indices.now c.args.t w l c.index-step.result.now c.loop-level.covered.items c.climb.new.covered.items c.loop-level-test.true c.climb.ensures is c.loop-level.invariant.covered);
       so_far = λ d.
           boundary_more (λ nodes. nodes.items) tree.layers.items s c.args.indices.now c.args.t w l c.loop-level-test.true c.index-step.result.now c.index.result.now
           c.deref-in-loop-level.result.now c.deref-in-loop-level-2.result.now c.loop-level.digests.items c.extend_with_boundary.new.digests.items d

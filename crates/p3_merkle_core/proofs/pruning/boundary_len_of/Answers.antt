@@ -5,6 +5,7 @@ use Rattle.p3_merkle_core.specs.Pruning.{CanQuery}
 use Rattle.p3_merkle_core.specs.PrunedCalls.{pruned_len}
 use Rattle.p3_merkle_core.proofs.StepFacts.{layer_start, next_at, step_at, step_above_1}
 use Rattle.p3_merkle_core.proofs.CoveredFacts.{turned}
+use Rattle.p3_merkle_core.proofs.SlotFacts.{climbed}
 use Rattle.p3_merkle_core.proofs.LeafFacts.{leaves_alone}
 use Rattle.p3_merkle_core.proofs.pruning.boundary_len_of.Goals as goal
 
@@ -30,7 +31,7 @@ overflow_mul-children c =
     let many : c.len-below.result ≡ length c.loop-l.covered.items = omega arith in
     let fewer : c.len.result ≡ length c.climb.new.covered.items = omega arith in
     let k = turned s c.args.leaves.items c.args.t w c.requires.low c.loop-l._l c.loop-l.x c.select_arity_step-step.result.0 c.loop-l.count c.len-below.result c.len.result c.loop-l.covered.items c.climb.new.covered.items c.loop-l-test.true
-    c.loop-l.invariant.at c.select_arity_step-step.ensures.step c.loop-l.invariant.so_far c.loop-l.invariant.covered (c.climb.ensures s c.args.leaves.items c.args.t c.loop-l._l w c.loop-l-test.true) many fewer in
+    c.loop-l.invariant.at c.select_arity_step-step.ensures.step c.loop-l.invariant.so_far c.loop-l.invariant.covered (climbed s c.args.leaves.items c.args.t w c.loop-l._l c.select_arity_step-step.result.0 c.loop-l.covered.items c.climb.new.covered.items c.loop-l-test.true c.climb.ensures) many fewer in
     omega (arith, k.1.mul_fits)
 
 pub overflow_sub-count : goal.overflow_sub-count
@@ -40,7 +41,7 @@ overflow_sub-count c =
     let many : c.len-below.result ≡ length c.loop-l.covered.items = omega arith in
     let fewer : c.len.result ≡ length c.climb.new.covered.items = omega arith in
     let k = turned s c.args.leaves.items c.args.t w c.requires.low c.loop-l._l c.loop-l.x c.select_arity_step-step.result.0 c.loop-l.count c.len-below.result c.len.result c.loop-l.covered.items c.climb.new.covered.items c.loop-l-test.true
-    c.loop-l.invariant.at c.select_arity_step-step.ensures.step c.loop-l.invariant.so_far c.loop-l.invariant.covered (c.climb.ensures s c.args.leaves.items c.args.t c.loop-l._l w c.loop-l-test.true) many fewer in
+    c.loop-l.invariant.at c.select_arity_step-step.ensures.step c.loop-l.invariant.so_far c.loop-l.invariant.covered (climbed s c.args.leaves.items c.args.t w c.loop-l._l c.select_arity_step-step.result.0 c.loop-l.covered.items c.climb.new.covered.items c.loop-l-test.true c.climb.ensures) many fewer in
     k.1.sub_fits
 
 pub overflow_add-count : goal.overflow_add-count
@@ -50,7 +51,7 @@ overflow_add-count c =
     let many : c.len-below.result ≡ length c.loop-l.covered.items = omega arith in
     let fewer : c.len.result ≡ length c.climb.new.covered.items = omega arith in
     let k = turned s c.args.leaves.items c.args.t w c.requires.low c.loop-l._l c.loop-l.x c.select_arity_step-step.result.0 c.loop-l.count c.len-below.result c.len.result c.loop-l.covered.items c.climb.new.covered.items c.loop-l-test.true
-    c.loop-l.invariant.at c.select_arity_step-step.ensures.step c.loop-l.invariant.so_far c.loop-l.invariant.covered (c.climb.ensures s c.args.leaves.items c.args.t c.loop-l._l w c.loop-l-test.true) many fewer in
+    c.loop-l.invariant.at c.select_arity_step-step.ensures.step c.loop-l.invariant.so_far c.loop-l.invariant.covered (climbed s c.args.leaves.items c.args.t w c.loop-l._l c.select_arity_step-step.result.0 c.loop-l.covered.items c.climb.new.covered.items c.loop-l-test.true c.climb.ensures) many fewer in
     omega (arith, k.1.add_fits)
 
 pub loop-l-preserved : goal.loop-l-preserved
@@ -60,7 +61,7 @@ loop-l-preserved c =
     let many : c.len-below.result ≡ length c.loop-l.covered.items = omega arith in
     let fewer : c.len.result ≡ length c.climb.new.covered.items = omega arith in
     let k = turned s c.args.leaves.items c.args.t w c.requires.low c.loop-l._l c.loop-l.x c.select_arity_step-step.result.0 c.loop-l.count c.len-below.result c.len.result c.loop-l.covered.items c.climb.new.covered.items c.loop-l-test.true
-    c.loop-l.invariant.at c.select_arity_step-step.ensures.step c.loop-l.invariant.so_far c.loop-l.invariant.covered (c.climb.ensures s c.args.leaves.items c.args.t c.loop-l._l w c.loop-l-test.true) many fewer in
+    c.loop-l.invariant.at c.select_arity_step-step.ensures.step c.loop-l.invariant.so_far c.loop-l.invariant.covered (climbed s c.args.leaves.items c.args.t w c.loop-l._l c.select_arity_step-step.result.0 c.loop-l.covered.items c.climb.new.covered.items c.loop-l-test.true c.climb.ensures) many fewer in
     let step = c.select_arity_step-step in
     record {
       at = next_at s c.loop-l._l c.loop-l.x step.result.1 c.loop-l.invariant.at step.ensures.next;

@@ -1,9 +1,10 @@
 -- Each turn keeps one level of the walk.
-use Rattle.std.proofs.Common.{◌≡◌, ◌∙◌, add-one, arith, refl, replicate}
+use Rattle.std.proofs.Common.{◌≡◌, ◌∙◌, add-one, arith, refl, replicate, suc}
 use Rattle.p3_merkle_core.specs.Geometry.{shape_of}
 use Rattle.p3_merkle_core.specs.Nodes.{functions_of}
 use Rattle.p3_merkle_core.specs.Pruning.{pruned_of}
 use Rattle.p3_merkle_core.specs.PrunedCalls.{row_sets}
+use Rattle.p3_merkle_core.proofs.KeptFacts.{covered_up_list}
 use Rattle.p3_merkle_pruner.proofs.LayerFacts.{start_restored}
 use Rattle.p3_merkle_pruner.proofs.PathFacts.{kept_next, kept_none}
 use Rattle.p3_merkle_pruner.proofs.paths.kept_levels.Goals as goal
@@ -18,6 +19,12 @@ loop-level-init g c =
       here = start_restored f s plan.t p c.requires.agreed c.args.leaves c.in_ok-digests.digests.items c.requires.leaves (rw c.as_slice-leads.ensures.value at c.in_ok-digests.ensures.digests);
       kept = kept_none f s plan.t p c.in_ok-levels.levels.items c.in_ok-levels.ensures.items;
     }
+
+pub invariant_of-push-clause-ascending : goal.invariant_of-push-clause-ascending
+invariant_of-push-clause-ascending g c =
+    let plan = c.args.plan.now in
+    let up = c.in_ok-rise.ensures.above_are.stands.nodes_are in
+    rw (c.in_ok-parents.ensures.items ∙ c.deref-in-loop-level-2.ensures.value ∙ up) (covered_up_list (shape_of plan.arity plan.dimensions.now) plan.indices.now (suc c.loop-level.level))
 
 pub loop-level-preserved : goal.loop-level-preserved
 loop-level-preserved g c =

@@ -4,6 +4,7 @@ use Rattle.p3_merkle_core.specs.Geometry.{shape_of, step}
 use Rattle.p3_merkle_core.specs.Pruning.{covered_at}
 use Rattle.p3_merkle_core.proofs.StepFacts.{next_at, step_at}
 use Rattle.p3_merkle_core.proofs.CoveredFacts.{turned}
+use Rattle.p3_merkle_core.proofs.SlotFacts.{climbed}
 use Rattle.p3_merkle_pruner.specs.Walks.{node_of_query}
 use Rattle.p3_merkle_pruner.proofs.WalkFacts.{leads_rise}
 use Rattle.p3_merkle_pruner.proofs.plan.Plan.covered_above.Goals as goal
@@ -16,7 +17,7 @@ overflow_mul-children c =
     let here = c.args.covered.now in
     let stands = c.requires.stands in
     let n = c.select_arity_step-step in
-    let climbs = λ (e : n.result.0 ≡ step s l) (f : here.nodes.items ≡ covered_at s plan.indices.now l). c.climb.ensures s plan.indices.now plan.t l plan.queried c.requires.below e (c.in_ok-nodes.ensures.items ∙ c.deref.ensures.value ∙ f) in
+    let climbs = λ (e : n.result.0 ≡ step s l) (f : here.nodes.items ≡ covered_at s plan.indices.now l). climbed s plan.indices.now plan.t plan.queried l n.result.0 c.in_ok-nodes.nodes.items c.climb.new.covered.items c.requires.below c.climb.ensures e (c.in_ok-nodes.ensures.items ∙ c.deref.ensures.value ∙ f) in
     let k = turned s plan.indices.now plan.t plan.queried plan.low l here.exponent n.result.0 here.used (length here.nodes.items) c.len.result here.nodes.items c.climb.new.covered.items c.requires.below
     stands.at_exponent n.ensures.step stands.sent_below stands.nodes_are climbs refl (omega arith) in
     omega (arith, k.1.mul_fits)
@@ -29,7 +30,7 @@ overflow_sub-used c =
     let here = c.args.covered.now in
     let stands = c.requires.stands in
     let n = c.select_arity_step-step in
-    let climbs = λ (e : n.result.0 ≡ step s l) (f : here.nodes.items ≡ covered_at s plan.indices.now l). c.climb.ensures s plan.indices.now plan.t l plan.queried c.requires.below e (c.in_ok-nodes.ensures.items ∙ c.deref.ensures.value ∙ f) in
+    let climbs = λ (e : n.result.0 ≡ step s l) (f : here.nodes.items ≡ covered_at s plan.indices.now l). climbed s plan.indices.now plan.t plan.queried l n.result.0 c.in_ok-nodes.nodes.items c.climb.new.covered.items c.requires.below c.climb.ensures e (c.in_ok-nodes.ensures.items ∙ c.deref.ensures.value ∙ f) in
     let k = turned s plan.indices.now plan.t plan.queried plan.low l here.exponent n.result.0 here.used (length here.nodes.items) c.len.result here.nodes.items c.climb.new.covered.items c.requires.below
     stands.at_exponent n.ensures.step stands.sent_below stands.nodes_are climbs refl (omega arith) in
     omega (arith, k.1.sub_fits)
@@ -42,7 +43,7 @@ overflow_add-used c =
     let here = c.args.covered.now in
     let stands = c.requires.stands in
     let n = c.select_arity_step-step in
-    let climbs = λ (e : n.result.0 ≡ step s l) (f : here.nodes.items ≡ covered_at s plan.indices.now l). c.climb.ensures s plan.indices.now plan.t l plan.queried c.requires.below e (c.in_ok-nodes.ensures.items ∙ c.deref.ensures.value ∙ f) in
+    let climbs = λ (e : n.result.0 ≡ step s l) (f : here.nodes.items ≡ covered_at s plan.indices.now l). climbed s plan.indices.now plan.t plan.queried l n.result.0 c.in_ok-nodes.nodes.items c.climb.new.covered.items c.requires.below c.climb.ensures e (c.in_ok-nodes.ensures.items ∙ c.deref.ensures.value ∙ f) in
     let k = turned s plan.indices.now plan.t plan.queried plan.low l here.exponent n.result.0 here.used (length here.nodes.items) c.len.result here.nodes.items c.climb.new.covered.items c.requires.below
     stands.at_exponent n.ensures.step stands.sent_below stands.nodes_are climbs refl (omega arith) in
     omega (arith, k.1.add_fits)
@@ -55,7 +56,7 @@ returns-clause-above c =
     let here = c.args.covered.now in
     let stands = c.requires.stands in
     let n = c.select_arity_step-step in
-    let climbs = λ (e : n.result.0 ≡ step s l) (f : here.nodes.items ≡ covered_at s plan.indices.now l). c.climb.ensures s plan.indices.now plan.t l plan.queried c.requires.below e (c.in_ok-nodes.ensures.items ∙ c.deref.ensures.value ∙ f) in
+    let climbs = λ (e : n.result.0 ≡ step s l) (f : here.nodes.items ≡ covered_at s plan.indices.now l). climbed s plan.indices.now plan.t plan.queried l n.result.0 c.in_ok-nodes.nodes.items c.climb.new.covered.items c.requires.below c.climb.ensures e (c.in_ok-nodes.ensures.items ∙ c.deref.ensures.value ∙ f) in
     let k = turned s plan.indices.now plan.t plan.queried plan.low l here.exponent n.result.0 here.used (length here.nodes.items) c.len.result here.nodes.items c.climb.new.covered.items c.requires.below
     stands.at_exponent n.ensures.step stands.sent_below stands.nodes_are climbs refl (omega arith) in
     let is_step = step_at s l here.exponent n.result.0 stands.at_exponent n.ensures.step in
