@@ -1,9 +1,7 @@
 -- The children of covered nodes, and the values that they take.
-use Rattle.std.specs.Prelude.{◌≡◌, ℕ, suc, ◌+◌, ◌-◌, ◌*◌, ◌/◌, ◌%◌, ◌^◌, ◌<◌, ◌≤◌, ◌==◌, Bool, not, nat_lt, if◌then◌else◌, List, [], All, drop, filter, flat_map, fold, length, map, remove, slice_index_or, take, zip}
+use Rattle.std.specs.Prelude.{◌≡◌, ℕ, ◌+◌, ◌-◌, ◌*◌, ◌/◌, ◌%◌, ◌^◌, ◌<◌, ◌≤◌, ◌==◌, Bool, not, nat_lt, if◌then◌else◌, List, [], All, drop, filter, flat_map, fold, length, map, remove, take, zip}
 use Rattle.std.specs.List.{enumerate_from, list_any, range_with_len}
 use Rattle.p3_merkle_core.specs.declared.pruning.AuthPath.{AuthPath}
-use Rattle.p3_merkle_core.specs.Geometry.{Shape, ancestor, position_in_group, step}
-use Rattle.p3_merkle_core.specs.Pruning.{covered_at}
 
 -- the children of some parents, n of each, parent by parent
 abbrev pub children_under : ℕ → List ℕ → List ℕ
@@ -45,7 +43,7 @@ place_among xs p = length (filter (λ x. nat_lt x p) xs)
 abbrev pub children_at : {X : Type 0} → ℕ → List ℕ → List X → ℕ → List X
 children_at n parents values p = take n (drop (n * place_among parents p) values)
 
--- the siblings of node j out of a kept level, which has some parents, n children of each, and their values: all values of its group but its own, and none where its parent is not among them
+-- the siblings of node j out of a level of some parents, n children of each, with their values: those of its group but its own, and none where its parent is not among them
 abbrev pub siblings_out_of : {X : Type 0} → List ℕ × ℕ × List X → ℕ → List X
 siblings_out_of (parents, n, values) j = if is_among parents (j / n) then remove (children_at n parents values (j / n)) (j % n) else []
 
@@ -53,7 +51,7 @@ siblings_out_of (parents, n, values) j = if is_among parents (j / n) then remove
 abbrev pub node_over : List ℕ → ℕ → ℕ
 node_over steps i = i / fold (λ product n. product * n) 1 steps
 
--- the siblings on the path of leaf i out of kept levels, from the leaves on: in each, those of the node over the steps below it
+-- the siblings on the path of leaf i out of such levels, from the leaves on: in each, those of the node over the steps below it
 abbrev pub path_out_of : {X : Type 0} → List (List ℕ × ℕ × List X) → ℕ → List X
 path_out_of levels i =
     flat_map (λ (k, level). siblings_out_of level (node_over (map (λ (parents, n, values). n) (take k levels)) i)) (enumerate_from 0 levels)
@@ -61,23 +59,6 @@ path_out_of levels i =
 -- for each of some leaves, in order, its index and these siblings
 abbrev pub paths_out_of : {X : Type 0} → List (List ℕ × ℕ × List X) → List ℕ → List (ℕ × List X)
 paths_out_of levels indices = map (λ i. (i, path_out_of levels i)) indices
-
--- the siblings, in layer l, of the node above leaf i, out of the values of the children of each level
-abbrev pub kept_group : {X : Type 0} → Shape → List ℕ → List (List X) → ℕ → ℕ → List X
-kept_group s queries rows i l = remove (children_at (step s l) (covered_at s queries (suc l)) (slice_index_or rows l []) (ancestor s (suc l) i)) (position_in_group s l i)
-
--- the siblings on the path of leaf i up to layer t, out of the same
-abbrev pub kept_path : {X : Type 0} → Shape → List ℕ → List (List X) → ℕ → ℕ → List X
-kept_path s queries rows t i = flat_map (kept_group s queries rows i) (range_with_len 0 t)
-
--- for each query, in order, its index and these siblings
-abbrev pub kept_paths : {X : Type 0} → Shape → List ℕ → List (List X) → ℕ → List (ℕ × List X)
-kept_paths s queries rows t = map (λ i. (i, kept_path s queries rows t i)) queries
-
--- the steps of the levels from the leaves, and the covered nodes above each
-pub record AreLevels (s : Shape) (queries : List ℕ) (t : ℕ) (steps : List ℕ) (parents : List (List ℕ)) : Type 0 where
-  pub steps_are : steps ≡ map (step s) (range_with_len 0 t)
-  pub parents_are : parents ≡ map (λ l. covered_at s queries (suc l)) (range_with_len 0 t)
 
 -- the leaf and the siblings that a path shows
 abbrev pub shown_path : {X : Type 0} → AuthPath X → ℕ × List X

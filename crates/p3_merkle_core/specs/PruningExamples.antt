@@ -5,7 +5,7 @@ use Rattle.p3_merkle_core.specs.Geometry.{exponent, layer_exponent, raw_len, lea
 use Rattle.p3_merkle_core.specs.Nodes.{node}
 use Rattle.p3_merkle_core.specs.Openings.{siblings_below, path_digest, Group}
 use Rattle.p3_merkle_core.specs.Pruning.{boundary, covered_at, honest_query, restored_node, restored_path}
-use Rattle.p3_merkle_core.specs.Children.{beside, children_under, is_among, kept_path, path_out_of}
+use Rattle.p3_merkle_core.specs.Children.{beside, children_under, is_among, path_out_of}
 use Rattle.p3_merkle_core.specs.Refusals.{pruned_refusal}
 use Rattle.p3_merkle_core.specs.Extracting.{extraction_multi_under}
 use Rattle.p3_merkle_core.specs.Examples.{batch, column, narrow, pruned, fold_example}
@@ -87,10 +87,6 @@ children_of_two_parents = refl
 
 values_of_covered_children : beside {X = ℕ} (is_among (1 ∷ 5 ∷ [])) (0 ∷ 1 ∷ 4 ∷ 5 ∷ []) (30 ∷ 31 ∷ 34 ∷ 35 ∷ []) ≡ 31 ∷ 35 ∷ []
 values_of_covered_children = refl
-
-path_out_of_kept_children : kept_path {X = ℕ} (narrow 2 (8 ∷ [])) (5 ∷ 1 ∷ 2 ∷ 1 ∷ []) ((0 ∷ 1 ∷ 2 ∷ 3 ∷ 4 ∷ 5 ∷ []) ∷ (10 ∷ 11 ∷ 12 ∷ 13 ∷ []) ∷ (20 ∷ 21 ∷ []) ∷ []) 3 5 ≡ 4 ∷ 13 ∷ 20 ∷ []
-unfolding exponent layer_exponent raw_len leaves_under
-path_out_of_kept_children = refl
 
 path_of_a_kept_leaf : path_out_of {X = ℕ} ((0 ∷ 1 ∷ 2 ∷ [], 2, 0 ∷ 1 ∷ 2 ∷ 3 ∷ 4 ∷ 5 ∷ []) ∷ (0 ∷ 1 ∷ [], 2, 10 ∷ 11 ∷ 12 ∷ 13 ∷ []) ∷ (0 ∷ [], 2, 20 ∷ 21 ∷ []) ∷ []) 5 ≡ 4 ∷ 13 ∷ 20 ∷ []
 path_of_a_kept_leaf = refl
