@@ -1,10 +1,10 @@
 -- What follows of what a scheme commits to, and of what it shows.
-use Rattle.std.specs.Prelude.{◌≡◌, ℕ, suc, ◌<◌, List, [], ◌∷◌, length, map, slice_index, slice_index_or, All}
+use Rattle.std.specs.Prelude.{◌≡◌, ℕ, suc, ◌<◌, max, List, [], ◌∷◌, length, map, slice_index, slice_index_or, All}
 use Rattle.std.specs.List.{AllZip}
 use Rattle.std.proofs.Common.{◌∙◌, ap, arith, refl, subst, sym}
 use Rattle.std.proofs.Math.Nat.{div-one}
 use Rattle.std.proofs.lemmas.List.{get_or_default}
-use Rattle.p3_merkle_core.specs.Geometry.{IsLawful, Shape, bits_reduced, tallest}
+use Rattle.p3_merkle_core.specs.Geometry.{IsLawful, Shape, bits_reduced, heights_of, shape_of, tallest}
 use Rattle.p3_merkle_core.specs.Nodes.{Functions, dimensions_of, functions_of}
 use Rattle.p3_merkle_core.specs.Openings.{honest_rows}
 use Rattle.p3_merkle_core.specs.PrunedCalls.{IsPrunedAccepted}
@@ -12,7 +12,8 @@ use Rattle.p3_merkle_core.specs.Pruning.{PrunedOpening, restored_path}
 use Rattle.p3_merkle_core.specs.Caps.{cap_layer}
 use Rattle.p3_merkle_builder.proofs.RowFacts.{row_inside}
 use Rattle.p3_merkle_builder.specs.Views.{batch_of, heights_in, matrix_of}
-use Rattle.p3_support.specs.Batches.{IsEquivalence, dimensions_in, greatest_height, rows_in}
+use Rattle.p3_support.specs.Batches.{FitDimensions, IsEquivalence, dimensions_in, greatest_height, rows_in}
+use Rattle.p3_support.specs.declared.matrix.Dimensions.{Dimensions}
 use Rattle.p3_support.specs.declared.packed.PackedValue as packed
 use Rattle.std.specs.declared.default.Default as default
 use Rattle.std.specs.declared.cmp.PartialEq as equality
@@ -56,6 +57,16 @@ all_zip holds (x ∷ xs) (y ∷ ys) a b same at = (at 0 (omega arith), all_zip h
 pub each_shown : {T W : Type 0} (f : Functions T W) (s : Shape) (t : ℕ) (cap : List (List W)) (o : PrunedOpening T W) → IsPrunedAccepted f s t cap o → AllZip (IsShown f s t cap) o.indices o.rows
 each_shown f s t cap o (restorable, accepted) =
     all_zip (IsShown f s t cap) o.indices o.rows 0 [] restorable.agreed.in_pairs (λ k inside. (restored_path f s t o (slice_index o.indices k), accepted k inside))
+
+-- the greatest height of dimensions is the tallest of their heights
+pub greatest_of : (ds : List Dimensions) → greatest_height (λ d. d.height) ds ≡ tallest (heights_of ds)
+greatest_of [] = refl
+greatest_of (d ∷ ds) = ap (max d.height) (greatest_of ds)
+
+-- rows that are shown fit the dimensions
+pub shown_rows_fit : {T W : Type 0} (f : Functions T W) (n t : ℕ) (ds : List Dimensions) (cap : List (List W)) (index : ℕ) (rows : List (List T)) → IsShown f (shape_of n ds) t cap index rows → FitDimensions ds index rows
+shown_rows_fit f n t ds cap index rows (siblings, accepted) =
+    record { rows_fit = accepted.rows_fit; in_range = subst (λ height. index < height) (sym (greatest_of ds)) accepted.in_range }
 
 -- ---- the rows that belong to an index
 
