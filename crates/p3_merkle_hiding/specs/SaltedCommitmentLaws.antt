@@ -2,7 +2,7 @@
 use Rattle.std.specs.Prelude.{◌≡◌, ℕ, zero, suc, ◌<◌, List, [], ◌∷◌, length, map, slice_index, slice_index_or}
 use Rattle.std.specs.List.{AllZip}
 use Rattle.std.proofs.Common.{◌∙◌, ap, arith, refl, subst, sym}
-use Rattle.p3_support.specs.Batches.{IsEquivalence, greatest_height}
+use Rattle.p3_support.specs.Batches.{FitDimensions, IsEquivalence, greatest_height}
 use Rattle.p3_support.specs.Pairs.{left_of}
 use Rattle.p3_support.specs.declared.matrix.Dimensions.{Dimensions}
 use Rattle.p3_support.specs.declared.matrix.Matrix.{Ghosts}
@@ -15,7 +15,7 @@ use Rattle.p3_merkle_core.specs.Geometry.{IsLawful, heights_of, shape_of, talles
 use Rattle.p3_merkle_core.specs.Nodes.{Functions, dimensions_of}
 use Rattle.p3_merkle_core.specs.Openings.{IsAccepted, opening_of}
 use Rattle.p3_merkle_core.specs.Pruning.{restored_path}
-use Rattle.p3_merkle_tree.specs.CommitmentLaws.{greatest_is, same_is_equivalence}
+use Rattle.p3_merkle_tree.specs.CommitmentLaws.{greatest_is, greatest_of, same_is_equivalence}
 use Rattle.p3_merkle_tree.specs.Commitments.{IsSameScheme}
 use Rattle.p3_merkle_hiding.specs.HidingSchemes.{plain_of}
 use Rattle.p3_merkle_hiding.specs.SaltedCommitments.{IsSaltedShown}
@@ -87,3 +87,14 @@ each_salted_shown {T} {W} f n e ds t cap o w =
     let path = restored_path f s t (joined_sets o) i in
     let here = subst (λ (rows : List (List T)). IsAccepted f s t cap (opening_of i rows path)) (set_at o.rows o.salts k w.in_pairs (omega (arith, as_many))) (w.accepted.1 k inside) in
     (slice_index_or o.salts k [], path, record { salted = zip_at (HaveSalts ds) o.rows o.salts [] [] k w.salted (omega (arith, as_many)); can_widen = w.can_widen; accepted = here }))
+
+-- more columns leave the heights
+wide_heights : (e : ℕ) (ds : List Dimensions) → heights_of (widened e ds) ≡ heights_of ds
+wide_heights e [] = refl
+wide_heights e (d ∷ ds) = ap (λ (hs : List ℕ). d.height ∷ hs) (wide_heights e ds)
+
+-- rows that are shown fit the dimensions, which are those of the matrices without salts
+pub salted_rows_fit : {T W : Type 0} (f : Functions T W) (n e : ℕ) (ds : List Dimensions) (t : ℕ) (cap : List (List W)) (index : ℕ) (rows : List (List T)) → IsSaltedShown f n e ds t cap index rows → FitDimensions ds index rows
+salted_rows_fit f n e ds t cap index rows (salts, siblings, w) =
+    let tall : tallest (heights_of (widened e ds)) ≡ greatest_height (λ d. d.height) ds = ap tallest (wide_heights e ds) ∙ sym (greatest_of ds) in
+    record { rows_fit = w.salted.rows_fit; in_range = subst (λ height. index < height) tall w.accepted.in_range }
