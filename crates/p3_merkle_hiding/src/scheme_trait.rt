@@ -12,7 +12,7 @@ ghost use Rattle.p3_support.specs.Batches.{greatest_height};
 ghost use Rattle.p3_support.specs.Pairs.{left_of};
 ghost use Rattle.p3_support.specs.Shown.{roots_of, row_lists, row_sets};
 ghost use Rattle.p3_merkle_hiding.specs.HidingSchemes.{plain_of, salted_lent};
-ghost use Rattle.p3_merkle_hiding.specs.SaltedCommitmentLaws.{each_salted_shown, left_lawful, same_plain_is_equivalence};
+ghost use Rattle.p3_merkle_hiding.specs.SaltedCommitmentLaws.{each_salted_shown, left_lawful, salted_rows_fit, same_plain_is_equivalence};
 ghost use Rattle.p3_merkle_hiding.specs.SaltedCommitments.{CanCommitSalted, IsSaltedCommitment, IsSaltedShown};
 ghost use Rattle.p3_merkle_hiding.specs.SaltedExtraction.{wide_shape};
 ghost use Rattle.p3_merkle_salts.specs.SaltedOpenings.{salted_of, salted_pruned_of, IsSaltedAccepted, IsSaltedPrunedAccepted};
@@ -172,6 +172,10 @@ where
         each_salted_shown (scheme_functions H.hash C.compression D (plain_of s)) N SALT_ELEMS dimensions
         (proof_layer (plain_of s) (wide_shape N SALT_ELEMS dimensions)) (roots_of cap)
         (salted_pruned_of indices sets (row_sets proof.0.items) proof.1.sibling_hashes.items) accepted };
+
+    ghost shown_fits = { λ s cap dimensions index rows.
+        salted_rows_fit (scheme_functions H.hash C.compression D (plain_of s)) N SALT_ELEMS dimensions
+        (proof_layer (plain_of s) (wide_shape N SALT_ELEMS dimensions)) (roots_of cap) index rows };
 
     ghost agreement = { same_plain_is_equivalence };
 

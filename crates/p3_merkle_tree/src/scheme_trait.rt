@@ -9,7 +9,7 @@ ghost use Rattle.p3_merkle_core.specs.Openings.{opening_of, IsAccepted};
 ghost use Rattle.p3_merkle_core.specs.PrunedCalls.{IsPrunedAccepted};
 ghost use Rattle.p3_merkle_core.specs.Pruning.{pruned_of};
 ghost use Rattle.p3_merkle_core.specs.declared.error.MerkleTreeError.TheVariants.{OutOfMemory};
-ghost use Rattle.p3_merkle_tree.specs.CommitmentLaws.{at_same, each_shown, row_in_matrix, same_is_equivalence, tallest_at_index};
+ghost use Rattle.p3_merkle_tree.specs.CommitmentLaws.{at_same, each_shown, row_in_matrix, same_is_equivalence, shown_rows_fit, tallest_at_index};
 ghost use Rattle.p3_merkle_tree.specs.Commitments.{halved_index, IsCommitment, IsSameScheme, IsShown};
 ghost use Rattle.p3_merkle_tree.specs.Schemes.{opening_lent, proof_layer, scheme_functions};
 ghost use Rattle.p3_support.specs.Batches.{greatest_height};
@@ -160,6 +160,9 @@ impl<
     ghost shown_by_all = { λ s cap dimensions indices sets proof accepted. let sh = shape_of N dimensions in
         each_shown (scheme_functions H.hash C.compression D s) sh (proof_layer s sh) (roots_of cap)
         (pruned_of indices sets proof.sibling_hashes.items) accepted };
+
+    ghost shown_fits = { λ s cap dimensions index rows.
+        shown_rows_fit (scheme_functions H.hash C.compression D s) N (proof_layer s (shape_of N dimensions)) dimensions (roots_of cap) index rows };
 
     ghost agreement = { same_is_equivalence };
 

@@ -1,7 +1,7 @@
 //! Schemes that commit to matrices of different heights.
 ghost use Rattle.std.specs.Prelude.{◌≡◌, ℕ, ◌<◌, All, IfErr, IfOk, IsOk, List, map};
 ghost use Rattle.std.specs.List.{AllZip};
-ghost use Rattle.p3_support.specs.Batches.{dimensions_in, greatest_height, rows_in, IsEquivalence};
+ghost use Rattle.p3_support.specs.Batches.{dimensions_in, greatest_height, rows_in, FitDimensions, IsEquivalence};
 ghost use Rattle.p3_support.specs.Shown.{row_lists, row_sets};
 ghost use Rattle.p3_support.specs.declared.matrix.Dimensions.{Dimensions};
 
@@ -14,6 +14,11 @@ use std::alloc::Global;
 ///
 /// An index counts the rows of the tallest matrix, from 0. Who checks has the commitment and the dimensions of the
 /// matrices, and no matrix. A call that takes memory fails where there is none.
+///
+/// What is accepted fits the dimensions: its index is below the greatest height, and it has a row for each of them, as wide
+/// as they say. The trait does not promise that a commitment fixes rows: two openings of one index may both be accepted,
+/// and differ. Each scheme says for itself what follows from two such openings, by a call of its own such as
+/// `extract_collision`.
 pub trait Mmcs<T, M: Matrix<T>> {
     /// What the committer keeps, to open from.
     type ProverData: Drop;
@@ -179,6 +184,10 @@ pub trait Mmcs<T, M: Matrix<T>> {
 
     ghost shown_by_all: { (s : Self) (c : Self.Commitment) (ds : List Dimensions) (indices : List ℕ) (sets : List (List (List T))) (proof : Self.MultiProof) →
         accepts_all s c ds indices sets proof → AllZip (is_shown s c ds) indices sets };
+
+    // What is shown fits the dimensions, so that a verifier may index by these what it has verified.
+    ghost shown_fits: { (s : Self) (c : Self.Commitment) (ds : List Dimensions) (index : ℕ) (rows : List (List T)) →
+        is_shown s c ds index rows → FitDimensions ds index rows };
 
     // Schemes that agree are as good as each other.
     ghost agreement: { IsEquivalence agrees };
