@@ -1,5 +1,5 @@
 //! Tests of trees and schemes that no line of a file of cases can say: generic code called at other packings and at
-//! longer digests, a caller that is generic in the scheme, SHA-256, trees over exclusive or, random rows, clones, and the
+//! longer digests, callers that are generic in the scheme, SHA-256, trees over exclusive or, random rows, clones, and the
 //! texts of the errors.
 
 mod any_scheme;
@@ -11,3 +11,4 @@ mod generic;
 mod noting;
 mod sha256;
 mod texts;
+mod verified_words;

@@ -1,0 +1,13 @@
+-- Rows that are accepted are as wide as the dimensions say.
+use Rattle.std.proofs.Common.{◌<◌, refl, subst}
+use Rattle.std.specs.Vec.{vec_len}
+use Rattle.library_tests.proofs.VerifiedRows.{has_column}
+use Rattle.library_tests.proofs.merkle.verified_words.verified_word.Goals as goal
+
+pub index-requires : goal.index-requires
+index-requires g c =
+    let shown = g.met.S.Mmcs.shown_by_one _ _ _ _ _ _ (c.in_ok-verify_batch.ensures.accepted refl) in
+    let fit = g.met.S.Mmcs.shown_fits _ _ _ _ _ shown in
+    let row = c.index-opening-place.result in
+    let is = c.index-opening-place.is in
+    subst (λ r. c.args.place.column < vec_len r) is (has_column c.args.dimensions.now c.args.index c.args.opening.opened_values.now c.args.place.matrix c.args.place.column row fit c.requires.matrix c.requires.column is)

@@ -1,0 +1,179 @@
+//! What a verifier that is generic in the scheme may do with rows that it has verified: read any word that their dimensions
+//! say is there.
+ghost use Rattle.std.specs.Prelude.{◌≡◌, ◌<◌, IfOk, length, map, slice_index};
+ghost use Rattle.p3_support.specs.Batches.{greatest_height};
+
+use p3_instances::fold::{FoldCompress, FoldHash};
+use p3_merkle_hiding::MerkleTreeHidingMmcs;
+use p3_merkle_tree::MerkleTreeMmcs;
+use p3_support::matrix::{Dimensions, Matrix, RowMajorMatrix};
+use p3_support::mmcs::Mmcs;
+use p3_support::opening::BatchOpeningRef;
+use rand_chacha::ChaCha20Rng;
+use rand_core::SeedableRng;
+use std::alloc::{AllocError, Global};
+use std::test::Fail;
+
+/// Where a word stands in the rows of an index.
+#[derive(Clone, Copy)]
+struct Place {
+    /// The matrix of its row.
+    matrix: usize,
+    /// Its number in that row.
+    column: usize,
+}
+
+/// The word at a place in the rows of an index, once these are verified. No length is looked at.
+///
+/// # Errors
+///
+/// Why the opening is not accepted, or that there is no memory.
+fn verified_word<T: Copy, M: Matrix<T>, S: Mmcs<T, M>>(
+    alloc: Global,
+    verifier: &S,
+    commitment: &S::Commitment,
+    dimensions: &[Dimensions],
+    index: usize,
+    opening: BatchOpeningRef<'_, T, S::Proof>,
+    place: Place,
+) -> Result<T, S::Error>
+    requires matrix { place.matrix < length dimensions.now }
+    requires column { place.column < slice_index (map (λ d. d.width) dimensions.now) place.matrix }
+    ensures { IfOk result (λ word. index < greatest_height (λ d. d.height) dimensions.now) }
+{
+    verifier.verify_batch(alloc, commitment, dimensions, index, opening)?;
+    Ok(opening.opened_values[place.matrix][place.column])
+}
+
+/// The same of one of several indices, which are verified together.
+///
+/// # Errors
+///
+/// Why the openings are not accepted, or that there is no memory.
+fn verified_word_of<T: Copy, M: Matrix<T>, S: Mmcs<T, M>>(
+    alloc: Global,
+    verifier: &S,
+    commitment: &S::Commitment,
+    dimensions: &[Dimensions],
+    indices: &[usize],
+    rows: &[Vec<Vec<T>>],
+    proof: &S::MultiProof,
+    query: usize,
+    place: Place,
+) -> Result<T, S::Error>
+    requires query { query < length indices.now }
+    requires matrix { place.matrix < length dimensions.now }
+    requires column { place.column < slice_index (map (λ d. d.width) dimensions.now) place.matrix }
+    ensures { IfOk result (λ word. slice_index indices.now query < greatest_height (λ d. d.height) dimensions.now) }
+{
+    verifier.verify_multi_batch(alloc, commitment, dimensions, indices, rows, proof)?;
+    Ok(rows[query][place.matrix][place.column])
+}
+
+/// Commits to matrices, opens an index alone and behind another one, and reads the word at a place out of both openings
+/// once they are verified: None where the matrices have no such index.
+///
+/// # Errors
+///
+/// What the scheme answers.
+fn words_read<T: Copy, M: Matrix<T> + Drop, S: Mmcs<T, M>>(
+    alloc: Global,
+    scheme: &mut S,
+    dimensions: &[Dimensions],
+    matrices: Vec<M>,
+    index: usize,
+    place: Place,
+) -> Result<Option<(T, T)>, S::Error>
+    requires matrix { place.matrix < length dimensions.now }
+    requires column { place.column < slice_index (map (λ d. d.width) dimensions.now) place.matrix }
+{
+    let (commitment, prover_data) = scheme.commit(alloc, matrices)?;
+    if index >= scheme.get_max_height(&prover_data) {
+        return Ok(None);
+    }
+    let opening = scheme.open_batch(alloc, index, &prover_data)?;
+    let lent = BatchOpeningRef::from(&opening);
+    let alone = verified_word::<T, M, S>(
+        alloc,
+        scheme,
+        &commitment,
+        dimensions,
+        index,
+        lent,
+        place,
+    )?;
+    let indices = [0, index];
+    let (rows, proof) = scheme.open_multi_batch(alloc, &indices, &prover_data)?;
+    let together = verified_word_of::<T, M, S>(
+        alloc,
+        scheme,
+        &commitment,
+        dimensions,
+        &indices,
+        &rows,
+        &proof,
+        1,
+        place,
+    )?;
+    Ok(Some((alone, together)))
+}
+
+/// The dimensions of the matrices.
+const DIMENSIONS: [Dimensions; 2] = [
+    Dimensions {
+        width: 2,
+        height: 2,
+    },
+    Dimensions {
+        width: 1,
+        height: 1,
+    },
+];
+
+/// The plain scheme of two children over the fold functions.
+type Plain = MerkleTreeMmcs<u32, u32, FoldHash<1>, FoldCompress<2, 1>, 2, 1>;
+
+/// The salted scheme of two children over the fold functions, with three salts for each row.
+type Salted = MerkleTreeHidingMmcs<u32, u32, FoldHash<1>, FoldCompress<2, 1>, ChaCha20Rng, 2, 1, 3>;
+
+/// The matrix of the rows 1, 2 and 3, 4, and that of the row 5.
+fn matrices(alloc: Global) -> Result<Vec<RowMajorMatrix<u32>>, AllocError> {
+    let rows = RowMajorMatrix::new(vec![in alloc; 1u32, 2, 3, 4]?, 2);
+    let row = RowMajorMatrix::new(vec![in alloc; 5u32]?, 1);
+    Ok(vec![in alloc; rows, row]?)
+}
+
+/// The last word of the last row of the first matrix.
+const LAST: Place = Place {
+    matrix: 0,
+    column: 1,
+};
+
+/// The one word of the other matrix.
+const OTHER: Place = Place {
+    matrix: 1,
+    column: 0,
+};
+
+#[test]
+fn a_generic_verifier_reads_plain_rows(rt: HostRuntime) -> Result<(), Fail> {
+    let alloc = rt.alloc();
+    let mut scheme = Plain::new(FoldHash, FoldCompress, 0);
+    let last = words_read(alloc, &mut scheme, &DIMENSIONS, matrices(alloc)?, 1, LAST)?;
+    assert_eq!(rt; last, Some((4, 4)));
+    let other = words_read(alloc, &mut scheme, &DIMENSIONS, matrices(alloc)?, 0, OTHER)?;
+    assert_eq!(rt; other, Some((5, 5)));
+    Ok(())
+}
+
+#[test]
+fn a_generic_verifier_reads_salted_rows(rt: HostRuntime) -> Result<(), Fail> {
+    let alloc = rt.alloc();
+    let rng = ChaCha20Rng::from_seed([7; 32]);
+    let mut scheme = Salted::new(FoldHash, FoldCompress, 0, rng);
+    let last = words_read(alloc, &mut scheme, &DIMENSIONS, matrices(alloc)?, 1, LAST)?;
+    assert_eq!(rt; last, Some((4, 4)));
+    let other = words_read(alloc, &mut scheme, &DIMENSIONS, matrices(alloc)?, 0, OTHER)?;
+    assert_eq!(rt; other, Some((5, 5)));
+    Ok(())
+}
