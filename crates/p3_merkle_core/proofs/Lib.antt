@@ -5,6 +5,7 @@ pub mod ArityFacts
 pub mod StepFacts
 pub mod LadderFacts
 pub mod RawFacts
+pub mod LevelFacts
 pub mod ListFacts
 pub mod Completeness
 pub mod CheckFacts

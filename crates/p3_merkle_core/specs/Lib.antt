@@ -8,6 +8,7 @@ pub mod Pruning
 pub mod Refusals
 pub mod Rungs
 pub mod Steps
+pub mod Levels
 pub mod PrunedCalls
 pub mod Agreement
 pub mod Children

@@ -9,5 +9,6 @@ pub mod error;
 pub mod geometry;
 pub mod group;
 pub mod laws;
+pub mod levels;
 pub mod pruning;
 pub mod steps;

@@ -12,11 +12,12 @@ use Rattle.p3_merkle_core.proofs.LadderFacts.{exponent_at_levels}
 use Rattle.p3_merkle_core.proofs.LeastFacts.{least_bound}
 use Rattle.p3_merkle_core.proofs.StepFacts.{layer_start, next_exponent, next_falls}
 use Rattle.p3_merkle_layers.specs.Built.{IsBuilt}
-use Rattle.p3_merkle_layers.specs.Levels.{IsBelowTop, IsLevel, CanBuild}
+use Rattle.p3_merkle_core.specs.Levels.{IsBelowTop, IsLevel}
+use Rattle.p3_merkle_layers.specs.Levels.{CanBuild}
 use Rattle.p3_merkle_layers.specs.Views.{batch_of}
-use Rattle.p3_merkle_layers.specs.declared.levels.Level.{Level}
+use Rattle.p3_merkle_core.specs.declared.levels.Level.{Level}
 use Rattle.p3_merkle_layers.proofs.LayerFacts.{layer_first}
-use Rattle.p3_merkle_layers.proofs.LevelFacts.{low}
+use Rattle.p3_merkle_core.proofs.LevelFacts.{low}
 
 -- the leaves are as many as the rows of the tallest matrices
 raw_start : (s : Shape) → raw_len s 0 ≡ tallest (heights s)

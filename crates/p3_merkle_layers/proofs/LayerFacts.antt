@@ -13,8 +13,9 @@ use Rattle.p3_merkle_core.specs.Nodes.{Functions, Batch, shape, at_layer, joined
 use Rattle.p3_merkle_core.proofs.Completeness.{node_next}
 use Rattle.p3_merkle_core.proofs.StepFacts.{layer_start}
 use Rattle.p3_merkle_layers.specs.Views.{batch_of, matrix_of}
-use Rattle.p3_merkle_layers.specs.Levels.{IsLevel, height_at, node_above}
-use Rattle.p3_merkle_layers.specs.declared.levels.Level.{Level}
+use Rattle.p3_merkle_core.specs.Levels.{IsLevel, height_at}
+use Rattle.p3_merkle_layers.specs.Levels.{node_above}
+use Rattle.p3_merkle_core.specs.declared.levels.Level.{Level}
 
 -- two functions that agree below n make the same list
 pub same_made : {X : Type 0} (f g : ℕ → X) (n : ℕ) → ((k : ℕ) → k < n → f k ≡ g k) → map f (range_with_len 0 n) ≡ map g (range_with_len 0 n)

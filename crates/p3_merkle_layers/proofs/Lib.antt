@@ -1,4 +1,3 @@
-pub mod LevelFacts
 pub mod LayerFacts
 pub mod BuildFacts
 pub mod NodeFacts

@@ -5,7 +5,7 @@ use Rattle.p3_support.specs.Lists.{rows_of_height}
 use Rattle.p3_merkle_core.specs.Nodes.{Functions, compress}
 use Rattle.p3_merkle_lanes.specs.Slots.{leaf_over}
 use Rattle.p3_merkle_layers.specs.Levels.{slot_above}
-use Rattle.p3_merkle_layers.specs.declared.levels.Level.{Level}
+use Rattle.p3_merkle_core.specs.declared.levels.Level.{Level}
 
 module _ {T W M : Type 0} (f : Functions T W) (n : ℕ) (height : M → ℕ) (row : M → ℕ → List T) (ms : List M) (v : Level) (below : List (List W)) (j : ℕ) (children : List (List W))
     (inside : j < v.raw_len) (are : children ≡ take v.step (drop (v.step * j) below)) (long : length children ≡ v.step) where

@@ -10,15 +10,16 @@ ghost use Rattle.std.specs.Mem.{FitsInMemory};
 ghost use denote.Param.{ArrayAt};
 ghost use Rattle.p3_support.specs.Lists.{lane_of, rows_of_height};
 ghost use Rattle.p3_merkle_core.specs.Geometry.{arity_schedule as schedule_of, layer_len, shape_of};
+ghost use Rattle.p3_merkle_core.specs.Levels.{IsLevel};
 ghost use Rattle.p3_merkle_core.specs.Nodes.{functions_of, layer, layers as layers_over, shape};
 ghost use Rattle.p3_merkle_layers.specs.Built.{IsBuilt};
-ghost use Rattle.p3_merkle_layers.specs.Levels.{layer_above, node_above, slot_above, CanBuild, CanRaise, IsLevel};
+ghost use Rattle.p3_merkle_layers.specs.Levels.{layer_above, node_above, slot_above, CanBuild, CanRaise};
 ghost use Rattle.p3_merkle_lanes.specs.Slots.{leaf_over, IsFilled};
 ghost use Rattle.p3_merkle_layers.specs.Views.{batch_of};
 
-use crate::levels::{Level, level_above};
 use p3_merkle_core::geometry::{exponent_of, padded_len, tallest_of};
 use p3_merkle_core::group::group_with;
+use p3_merkle_core::levels::{Level, level_above};
 use p3_merkle_lanes::batched::{join_rows, write_batched_folds, write_batched_leaves};
 use p3_merkle_lanes::packed::{
     packed_fold, packed_groups, packed_join, packed_rows_digest, write_packed_leaves,

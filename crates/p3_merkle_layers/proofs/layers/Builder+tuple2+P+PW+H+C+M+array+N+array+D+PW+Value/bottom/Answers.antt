@@ -1,6 +1,6 @@
 use Rattle.std.proofs.Common.{arith, replicate}
 use Rattle.p3_merkle_core.specs.Nodes.{functions_of}
-use Rattle.p3_merkle_layers.proofs.LevelFacts.{padded_le}
+use Rattle.p3_merkle_core.proofs.CoveredFacts.{padded_le}
 use Rattle.p3_merkle_layers.proofs.BuildFacts.{built_first, tallest_low}
 use Rattle.p3_merkle_layers.proofs.layers.Builder+tuple2+P+PW+H+C+M+array+N+array+D+PW+Value.bottom.Goals as goal
 

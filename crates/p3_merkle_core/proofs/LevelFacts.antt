@@ -1,24 +1,16 @@
 -- What is known of the layer above a layer.
-use Rattle.std.proofs.Common.{◌≡◌, ℕ, zero, suc, ◌+◌, ◌-◌, ◌/◌, ◌^◌, ◌<◌, ◌≤◌, Bool, cond, eqb, nat_lt, nat_le, ◌&&◌, refl, ap, sym, ◌∙◌, arith, inl, inr, add-one}
-use Rattle.std.specs.Int.{next_multiple_of}
+use Rattle.std.proofs.Common.{◌≡◌, ℕ, zero, suc, ◌+◌, ◌-◌, ◌/◌, ◌^◌, ◌<◌, ◌≤◌, Bool, cond, eqb, refl, ap, ◌∙◌, arith, inl, inr, add-one}
 use Rattle.std.specs.List.{list_any}
-use Rattle.std.proofs.lemmas.Bool.{cond_both}
 use Rattle.std.proofs.Math.Nat.{div-le_self}
 use Rattle.std.proofs.Math.Pow.{pow_mono}
-use Rattle.p3_merkle_core.specs.Geometry.{Shape, heights, exponent, tallest, layer_exponent, is_bridge, step, levels, raw_len, grouped_len, padded_len, max_height, IsArity, IsLawful}
+use Rattle.p3_merkle_core.specs.Geometry.{Shape, heights, exponent, tallest, layer_exponent, is_bridge, levels, raw_len, grouped_len_of, padded_len, max_height, IsArity, IsLawful}
 use Rattle.p3_merkle_core.proofs.GateFacts.{tallest_fits, none_large_from_lawful}
 use Rattle.p3_merkle_core.proofs.LeastFacts.{exponent_le}
 use Rattle.p3_merkle_core.proofs.LadderFacts.{step_cases}
-use Rattle.p3_merkle_core.proofs.RawFacts.{filled, children_fit}
+use Rattle.p3_merkle_core.proofs.RawFacts.{filled, children_fit, raw_at}
 use Rattle.p3_merkle_core.proofs.SiblingFacts.{step_is}
 use Rattle.p3_merkle_core.proofs.StepFacts.{layer_start, step_at, next_at}
-use Rattle.p3_merkle_layers.specs.Levels.{IsBelowTop, IsLevel, height_at}
-
--- padding adds no more than the arity
-pub padded_le : (r n : ℕ) → 0 < n → padded_len r n ≤ r + n
-padded_le r n h =
-    cond_both (nat_le r 1) r (cond (nat_lt r n) n (next_multiple_of r n)) (λ x. x ≤ r + n) (λ e. omega arith)
-    (λ e. cond_both (nat_lt r n) n (next_multiple_of r n) (λ x. x ≤ r + n) (λ e. omega arith) (λ e. omega arith))
+use Rattle.p3_merkle_core.specs.Levels.{IsBelowTop, IsLevel, height_at}
 
 -- no lawful height is above the limit
 pub low : (s : Shape) → IsLawful (heights s) → tallest (heights s) ≤ max_height
@@ -55,34 +47,23 @@ small s w lawful l h =
 pub small_at : {s : Shape} {l x r : ℕ} → IsBelowTop s l x r → IsSmall s l
 small_at {s} {l} w = let h = w.in_tree in small s w.arity w.lawful l (omega arith)
 
--- the grouped_len slots, from what is known of the layer below
-grouped_at : {s : Shape} {l x r : ℕ} (g : ℕ) → IsBelowTop s l x r → g ≡ cond (is_bridge s x && nat_lt r s.arity) (2 ^ x) (padded_len r s.arity) → g ≡ grouped_len s l
-grouped_at {s} {l} {x} {r} g w e =
-    e ∙ ap (λ y. cond (is_bridge s y && nat_lt r s.arity) (2 ^ y) (padded_len r s.arity)) w.at_x
-    ∙ ap (λ q. cond (is_bridge s (layer_exponent s l) && nat_lt q s.arity) (2 ^ layer_exponent s l) (padded_len q s.arity)) w.at_raw
-
--- a layer's nodes are the groups below
-raw_next : (s : Shape) (l : ℕ) → raw_len s (suc l) ≡ grouped_len s l / step s l
-unfolding raw_len
-raw_next s l = refl
-
 -- the nodes above
-raw_at : {s : Shape} {l x r : ℕ} (n g : ℕ) → IsBelowTop s l x r → n ≡ cond (is_bridge s x) 2 s.arity → g ≡ cond (is_bridge s x && nat_lt r s.arity) (2 ^ x) (padded_len r s.arity) → g / n ≡ raw_len s (suc l)
-raw_at {s} {l} {x} n g w e d = rw (grouped_at g w d, step_at s l x n w.at_x e) (sym (raw_next s l))
+nodes_above : {s : Shape} {l x r : ℕ} (n g : ℕ) → IsBelowTop s l x r → n ≡ cond (is_bridge s x) 2 s.arity → g ≡ grouped_len_of s x r → g / n ≡ raw_len s (suc l)
+nodes_above {s} {l} {x} {r} n g w e d = raw_at s l x r g n w.at_x w.at_raw d e
 
 -- which are no more than 2 ^ 62
-pub next_small : {s : Shape} {l x r : ℕ} (n g : ℕ) → IsBelowTop s l x r → n ≡ cond (is_bridge s x) 2 s.arity → g ≡ cond (is_bridge s x && nat_lt r s.arity) (2 ^ x) (padded_len r s.arity) → g / n ≤ 2 ^ 62
-next_small {s} {l} n g w e d = let k = small s w.arity w.lawful (suc l) w.in_tree in rw (raw_at n g w e d) k.raw_small
+pub next_small : {s : Shape} {l x r : ℕ} (n g : ℕ) → IsBelowTop s l x r → n ≡ cond (is_bridge s x) 2 s.arity → g ≡ grouped_len_of s x r → g / n ≤ 2 ^ 62
+next_small {s} {l} n g w e d = let k = small s w.arity w.lawful (suc l) w.in_tree in rw (nodes_above n g w e d) k.raw_small
 
 -- what is known of the layer above
 pub level_is : {s : Shape} {l x r : ℕ} (n y g v h : ℕ) (b : Bool) → IsBelowTop s l x r → n ≡ cond (is_bridge s x) 2 s.arity → y ≡ cond (is_bridge s x) (x - 1) (x - exponent s.arity) →
-    g ≡ cond (is_bridge s x && nat_lt r s.arity) (2 ^ x) (padded_len r s.arity) → v ≡ padded_len (g / n) s.arity → h ≡ height_at (tallest (heights s)) y → b ≡ list_any (λ h. eqb (exponent h) y) (heights s) →
+    g ≡ grouped_len_of s x r → v ≡ padded_len (g / n) s.arity → h ≡ height_at (tallest (heights s)) y → b ≡ list_any (λ h. eqb (exponent h) y) (heights s) →
     IsLevel s (record { below = l; step = n; exponent = y; raw_len = g / n; layer_len = v; height = h; has_rows = b })
 level_is {s} {l} {x} n y g v h b w is_n is_y is_g is_v is_h is_b =
     let up = step_at s l x n w.at_x is_n in
     let top = rw add-one at (next_at s l x y w.at_x is_y) in
     let k = step_is s l w.arity (low s w.lawful) w.in_tree in
-    let rest = raw_at n g w is_n is_g in
+    let rest = nodes_above n g w is_n is_g in
     record {
       step_is = up;
       wide = omega (arith, k.wide);
