@@ -3,9 +3,9 @@
 //!
 //! No call here takes memory, but for the two that answer a list.
 
-ghost use Rattle.std.specs.Prelude.{◌≡◌, ℕ, suc, ◌+◌, ◌-◌, ◌*◌, ◌^◌, ◌<◌, ◌≤◌, ◌==◌, ◌↔◌, Some, None, IfOk, IsOk, MatchResult, List, map, if◌then◌else◌, nat_lt, ◌&&◌};
+ghost use Rattle.std.specs.Prelude.{◌≡◌, ◌+◌, ◌-◌, ◌*◌, ◌^◌, ◌<◌, ◌≤◌, ◌==◌, ◌↔◌, Some, None, IfOk, IsOk, MatchResult, List, map, if◌then◌else◌, nat_lt, ◌&&◌};
 ghost use Rattle.std.specs.List.{list_any};
-ghost use Rattle.p3_merkle_core.specs.Geometry.{bits_reduced, expected_height, exponent, grouped_len_of, heights_of, is_bridge, layer_exponent, max_height, padded_len, positions_below, raw_len, schedule_below, shape_of, shortest, tallest, levels, IsArity, IsLawful, Shape};
+ghost use Rattle.p3_merkle_core.specs.Geometry.{bits_reduced, expected_height, exponent, grouped_len_of, heights_of, is_bridge, layer_exponent, max_height, padded_len, positions_below, schedule_below, shape_of, shortest, tallest, levels, IsArity, IsLawful, Shape};
 ghost use Rattle.p3_merkle_core.specs.Gate.{first_off_ladder, first_too_large, gate_refusal};
 ghost use Rattle.p3_merkle_core.specs.Openings.{siblings_below};
 ghost use Rattle.p3_merkle_core.specs.Refusals.{width_refusal};
@@ -188,19 +188,6 @@ pub fn grouped_len(dimensions: &[Dimensions], arity: usize, x: usize, len: usize
     } else {
         padded_len(len, arity)
     }
-}
-
-/// How many nodes the layer above a layer of `len` nodes and the exponent `x` has: one for each group of the layer's
-/// step. The arity is above 0, `x` below 64, and the layer has fewer than 2^64 slots.
-pub fn raw_len_above(dimensions: &[Dimensions], arity: usize, x: usize, len: usize) -> usize
-    requires positive { 0 < arity }
-    requires shift { x < 64 }
-    requires fits { padded_len len arity < 2 ^ 64 }
-    ensures { let s = shape_of arity dimensions.now in
-        (l : ℕ) → x ≡ layer_exponent s l → len ≡ raw_len s l → result ≡ raw_len s (suc l) }
-{
-    let (step, _) = select_arity_step(dimensions, arity, x);
-    grouped_len(dimensions, arity, x, len) / step
 }
 
 /// Whether a matrix has this exponent, so that its rows belong to the layer of that exponent.
