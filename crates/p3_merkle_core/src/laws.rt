@@ -1,10 +1,15 @@
-//! Laws of the definitions, each as the contract of a function that does nothing, and two of errors. They speak of every
-//! hash, every compression, every batch and every opening; the calls of the crates above answer what the definitions say.
+//! Laws of the definitions, each as the contract of a function that does nothing, and laws of equality of errors and of
+//! paths. They speak of every hash, every compression, every batch and every opening; the calls of the crates above answer
+//! what the definitions say.
 
 ghost use Rattle.std.specs.Prelude.{◌≡◌, ◌↔◌, IsTrue};
+ghost use Rattle.p3_merkle_core.specs.Children.{shown_path};
+ghost use Rattle.p3_merkle_core.specs.Refusals.{IsEquality};
 ghost use Rattle.p3_merkle_core.specs.Laws.{AnsweredAsEachPath, BoundaryIsAlone, BoundaryIsLeast, BoundaryIsSmallest, BoundaryNodesAreApart, BoundaryNodesAreHeld, BoundarySuffices, CappedIsEachAccepted, FixedIsBelowRoot, HonestIsAccepted, HonestNodesAreRestored, HonestPathsAreRestored, HonestPathsInOrder, HonestQueryIsAccepted, HonestQueryIsCapped, InputsAreFull, LastDifferenceCollides, LastInputIsReached, LoweredLeavesNoneOut, MatricesHaveLayers, NoPairDiffers, NoneIsAgreement, OkIsAccepted, OkIsCapped, OkIsEachAccepted, OkIsRestorable, OkOrCapMismatch, OneIndexIsBound, OwnDigestsAreHonest, PairCollides, PairIsFirst, PairsBeforeAgree, RefusedUnderEachCap, RootIsAlone, RowsAreAncestors, RowsAreBound, RulesAgree, ScheduleStopsAtCap, SomeIsCollision, UnrefusedIsLawful, WalkEnds};
 
 use crate::error::{MerkleTreeError, PrunedProofError};
+use crate::pruning::{AuthPath, MerkleAuthPath};
+use p3_support::packed::PackedValue;
 
 /// Equality of errors is equality of values. It answers what `==` answers.
 pub fn errors(a: &MerkleTreeError, b: &MerkleTreeError) -> bool
@@ -18,6 +23,23 @@ pub fn pruned_proof_errors(a: &PrunedProofError, b: &PrunedProofError) -> bool
     ensures { IsTrue result ↔ (a.now ≡ b.now) }
 {
     *a == *b
+}
+
+/// Equality of paths is equality of leaves and siblings, where that of digests is equality of values.
+fn auth_paths<X: Eq>(a: &AuthPath<X>, b: &AuthPath<X>) -> bool
+    ensures { IsEquality X.eq → IsTrue result ↔ (shown_path a.now ≡ shown_path b.now) }
+{
+    *a == *b
+}
+
+/// Equality of paths is equality of leaves and siblings.
+pub fn merkle_auth_paths<PW: PackedValue, const D: usize>(
+    a: &MerkleAuthPath<PW::Value, D>,
+    b: &MerkleAuthPath<PW::Value, D>,
+) -> bool
+    ensures { IsTrue result ↔ (shown_path a.now ≡ shown_path b.now) }
+{
+    auth_paths(a, b)
 }
 
 /// The walk over the steps ends for each arity and each list of heights, each matrix has its layer, and the gate takes
