@@ -1,7 +1,7 @@
 -- The covered nodes of a layer, ascending: those of the leaves, those of the layer above, and what is left of their groups.
-use Rattle.std.proofs.Common.{◌≡◌, ℕ, zero, suc, ◌+◌, ◌-◌, ◌*◌, ◌/◌, ◌^◌, ◌<◌, ◌≤◌, Bool, true, not, eqb, cond, nat_le, nat_lt, ◌||◌, List, [], ◌∷◌, map, refl, ap, sym, ◌∙◌, arith, add-one, inl, inr, length, filter, get_or, take, drop, All, eq-eqb}
+use Rattle.std.proofs.Common.{◌≡◌, ℕ, zero, suc, ◌+◌, ◌-◌, ◌*◌, ◌/◌, ◌^◌, ◌<◌, ◌≤◌, Bool, true, not, eqb, cond, nat_le, nat_lt, ◌||◌, List, [], ◌∷◌, map, refl, ap, sym, ◌∙◌, arith, add-one, inl, inr, length, filter, All, eq-eqb}
 use Rattle.std.specs.Int.{next_multiple_of}
-use Rattle.std.specs.List.{dedup, flat_map, range_with_len}
+use Rattle.std.specs.List.{dedup, range_with_len}
 use Rattle.std.proofs.lemmas.Bool.{cases_eq, cond_both, and_parts, and_from, or_cases, or_left, or_right, eqb-true, true≢false, both_ways, not-true, not_from_false, false_from_ne_true}
 use Rattle.std.proofs.lemmas.List.{length-map, length-append}
 use Rattle.std.proofs.Math.Nat.{mul-le-mul_left}
@@ -17,7 +17,7 @@ use Rattle.p3_merkle_core.proofs.ListFacts.{joined_more}
 use Rattle.p3_merkle_core.proofs.Under.{covered_up}
 use Rattle.p3_merkle_core.proofs.Sufficient.{covered_below}
 use Rattle.p3_merkle_core.proofs.Accepted.{padded_ge}
-use Rattle.p3_merkle_core.proofs.RisingFacts.{is_listed, rising_filter, filter_is, listed_in, listed_there, by_groups, groups_are, groups_count, listed_dedup, listed_map, map_lists, rising_dedup, rising_length, piece_of}
+use Rattle.p3_merkle_core.proofs.RisingFacts.{is_listed, rising_filter, filter_is, listed_in, listed_there, by_groups, groups_are, groups_count, listed_dedup, listed_map, map_lists, rising_dedup, rising_length}
 
 -- ---- which nodes are listed
 
@@ -108,16 +108,6 @@ covered_by_groups s queries t w l h =
     groups_are (step s l) (omega arith) (is_covered s queries l) (is_covered s queries l) (covered_at s queries (suc l)) (layer_len s l)
     (rising_filter (is_covered s queries (suc l)) 0 (layer_len s (suc l))) (group_fits s queries t w l h)
     (λ j c. (covered_listed s queries t w (suc l) (j / step s l) (omega arith) (covered_up s queries l j c), c)) (λ j g c. c)
-
--- the covered children of covered node i of the layer above, among the covered nodes of the layer
-pub covered_group : (s : Shape) (queries : List ℕ) (t : ℕ) → CanQuery s queries t → (l : ℕ) → l < t → (i : ℕ) → i < length (covered_at s queries (suc l)) →
-    let parents = covered_at s queries (suc l) in
-    let group = filter (is_covered s queries l) (range_with_len (step s l * get_or parents i 0) (step s l)) in
-    take (length group) (drop (length (by_groups (step s l) (is_covered s queries l) (take i parents))) (covered_at s queries l)) ≡ group
-covered_group s queries t w l h i inside =
-    let parents = covered_at s queries (suc l) in
-    let g = λ (k : ℕ). filter (is_covered s queries l) (range_with_len (step s l * k) (step s l)) in
-    ap (λ (xs : List ℕ). take (length (g (get_or parents i 0))) (drop (length (flat_map g (take i parents))) xs)) (sym (covered_by_groups s queries t w l h)) ∙ (piece_of g parents i inside).0
 
 -- those that are not covered are the boundary nodes
 pub boundary_by_groups : (s : Shape) (queries : List ℕ) (t : ℕ) → CanQuery s queries t → (l : ℕ) → l < t →

@@ -5,28 +5,17 @@ use Rattle.std.proofs.lemmas.List.{length-map, length-replicate}
 use Rattle.p3_support.specs.declared.matrix.Dimensions.{Dimensions}
 use Rattle.p3_merkle_core.specs.Geometry.{Shape, heights, tallest}
 use Rattle.p3_merkle_core.specs.Gate.{gate_refusal}
-use Rattle.p3_merkle_core.specs.Pruning.{PrunedOpening, boundary, covered_at}
+use Rattle.p3_merkle_core.specs.Pruning.{PrunedOpening, boundary}
 use Rattle.p3_merkle_core.specs.Refusals.{digest_count_refusal, first_of, first_rows, first_some, group_refusal, idle_refusal, pruned_refusal, queries_refusal, repeat_refusal, size_refusal, slots_below, width_refusal}
 use Rattle.p3_merkle_core.specs.Agreement.{distinct, early_refusal, first_query, late_refusal, layers_refusal, opened_of, opened_with, slot_rows}
 use Rattle.p3_merkle_core.specs.declared.error.MerkleTreeError.{MerkleTreeError}
 use Rattle.p3_merkle_core.specs.declared.error.MerkleTreeError.TheVariants.{IndexOutOfBounds, WrongBatchSize}
 use Rattle.p3_merkle_core.proofs.NoneFacts.{below_from, each_none, fit_from, none_of_both, none_parts, unless_none}
-use Rattle.p3_merkle_core.proofs.SlotFacts.{distinct_from}
 use Rattle.p3_merkle_core.proofs.AgreeFacts.{groups_are, widths_are}
 
 -- the digests count by their number alone
 pub digests_counted : {T W : Type 0} (row_eq : T → T → Bool) (s : Shape) (t : ℕ) (p : PrunedOpening T W) → pruned_refusal row_eq s t p ≡ pruned_refusal row_eq s t (opened_with p.indices p.rows (length p.digests))
 digests_counted row_eq s t p = rw (length-replicate {A = List ℕ} (length p.digests) []) refl
-
--- openings of the same queries with as many digests are refused alike
-pub as_many_digests : {T V W : Type 0} (row_eq : T → T → Bool) (s : Shape) (t : ℕ) (p : PrunedOpening T V) (q : PrunedOpening T W) → p.indices ≡ q.indices → p.rows ≡ q.rows → length p.digests ≡ length q.digests →
-    pruned_refusal row_eq s t p ≡ pruned_refusal row_eq s t q
-as_many_digests row_eq s t p q indices rows digests =
-    digests_counted row_eq s t p
-    ∙ ap (λ is. pruned_refusal row_eq s t (opened_with is p.rows (length p.digests))) indices
-    ∙ ap (λ sets. pruned_refusal row_eq s t (opened_with q.indices sets (length p.digests))) rows
-    ∙ ap (λ n. pruned_refusal row_eq s t (opened_with q.indices q.rows n)) digests
-    ∙ sym (digests_counted row_eq s t q)
 
 -- where none of some reasons holds, those after them decide
 past_none : {E : Type 0} (xs ys : List (Option E)) → first_some xs ≡ None → first_some (xs ++ ys) ≡ first_some ys
@@ -101,10 +90,6 @@ full_from dimensions firsts sets e k h =
 
 -- ---- what the callers ask
 
--- heights that are refused come before everything else
-pub gate_first : {T W : Type 0} (row_eq : T → T → Bool) (s : Shape) (t : ℕ) (p : PrunedOpening T W) (e : MerkleTreeError) → gate_refusal (heights s) ≡ Some e → pruned_refusal row_eq s t p ≡ Some e
-gate_first row_eq s t p e refused = rw refused refl
-
 front_none : {E : Type 0} (xs ys : List (Option E)) → first_some (xs ++ ys) ≡ None → first_some xs ≡ None
 front_none [] ys e = refl
 front_none (x ∷ xs) ys e =
@@ -120,7 +105,3 @@ asked_of row_eq s t p e =
     let widths = first_of (λ i. width_refusal s.dimensions (first_rows p i)) (slots_below (tallest hs) is) in
     let rest = repeat_refusal row_eq p ∷ digest_count_refusal (length (boundary s is t)) (length p.digests) ∷ widths ∷ group_refusal row_eq s t p ∷ [] in
     asked_from hs is (length p.rows) (length p.digests) (front_none early rest e)
-
--- the slots' leaves are the covered ones
-pub slots_covered : {T W : Type 0} (row_eq : T → T → Bool) (s : Shape) (t : ℕ) (p : PrunedOpening T W) (leaves : List ℕ) → pruned_refusal row_eq s t p ≡ None → leaves ≡ distinct p.indices → leaves ≡ covered_at s p.indices 0
-slots_covered row_eq s t p leaves e listed = listed ∙ sym (distinct_from s p.indices (asked_of row_eq s t p e).below)

@@ -8,7 +8,7 @@ use Rattle.std.proofs.Math.Nat.{mul_comm, mul-le-mul_left}
 use Rattle.std.proofs.lemmas.List.Folds.{list_any-append, list_any_at}
 use Rattle.std.proofs.lemmas.List.Filters.{length-filter_both}
 use Rattle.std.proofs.lemmas.List.FromFn.{length-range_with_len}
-use Rattle.std.proofs.lemmas.List.{take_all, drop_all, take_at, drop_at, drop-drop}
+use Rattle.std.proofs.lemmas.List.{take_all, drop_all}
 use Rattle.std.proofs.lemmas.List.Kept.{AllPairs-from_increasing}
 use Rattle.p3_merkle_core.specs.Agreement.{IsAscending}
 
@@ -215,20 +215,6 @@ groups_count n p (g ∷ places) =
     let here = filter p (range_with_len (n * g) n) in
     let both = length-filter_both p (λ j. not (p j)) (λ j. refl) (range_with_len (n * g) n) in
     omega (arith, both, length-range_with_len (n * g) n, length-append out (by_groups n (λ j. not (p j)) places), length-append here (by_groups n p places), groups_count n p places)
-
--- the piece of the group at place i, and that it is within
-pub piece_of : {A : Type 0} (g : ℕ → List A) (xs : List ℕ) (i : ℕ) → i < length xs →
-    (take (length (g (get_or xs i 0))) (drop (length (flat_map g (take i xs))) (flat_map g xs)) ≡ g (get_or xs i 0)) × (length (flat_map g (take i xs)) + length (g (get_or xs i 0)) ≤ length (flat_map g xs))
-piece_of g [] i h = absurd (omega arith)
-piece_of g (x ∷ xs) zero h = (take_at (g x) (flat_map g xs) (length (g x)) refl, omega (arith, length-append (g x) (flat_map g xs)))
-piece_of g (x ∷ xs) (suc i) h =
-    let rest = piece_of g xs i (omega arith) in
-    let before = flat_map g (take i xs) in
-    let skip : drop (length (g x) + length before) (g x ++ flat_map g xs) ≡ drop (length before) (flat_map g xs) =
-    sym (drop-drop (length before) (length (g x)) (g x ++ flat_map g xs)) ∙ ap (λ ys. drop (length before) ys) (drop_at (g x) (flat_map g xs) (length (g x)) refl) in (
-      rw (length-append (g x) before, skip) rest.0,
-      omega (arith, length-append (g x) before, length-append (g x) (flat_map g xs), rest.1),
-    )
 
 -- ---- repeats that are dropped
 

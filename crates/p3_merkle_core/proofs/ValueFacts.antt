@@ -1,10 +1,10 @@
 -- The children that a walk takes are the values of the definitions.
-use Rattle.std.proofs.Common.{◌≡◌, ℕ, suc, ◌+◌, ◌-◌, ◌*◌, ◌^◌, ◌<◌, ◌≤◌, Bool, not, cond, List, [], ◌∷◌, ◌++◌, map, refl, ap, sym, ◌∙◌, arith, inl, inr, length, filter, get_or, take, drop}
+use Rattle.std.proofs.Common.{◌≡◌, ℕ, suc, ◌-◌, ◌*◌, ◌^◌, ◌<◌, ◌≤◌, Bool, not, cond, List, [], ◌∷◌, ◌++◌, map, refl, ap, sym, ◌∙◌, arith, inl, inr, length, filter, get_or, take, drop}
 use Rattle.std.specs.List.{flat_map, range_with_len}
 use Rattle.std.specs.Cmp.{both_ways}
 use Rattle.std.proofs.lemmas.Bool.{cases_Bool}
-use Rattle.std.specs.List.{take-map, drop-map}
-use Rattle.std.proofs.lemmas.List.{length-map, map-append, length-drop, drop-drop}
+use Rattle.std.specs.List.{take-map}
+use Rattle.std.proofs.lemmas.List.{length-map, map-append}
 use Rattle.std.proofs.lemmas.List.Elements.{filter-append, filter_agree}
 use Rattle.std.proofs.Math.Nat.{mul-le-mul_left}
 use Rattle.std.proofs.Math.Pow.{pow_mono}
@@ -14,7 +14,7 @@ use Rattle.p3_merkle_core.specs.Nodes.{Functions}
 use Rattle.p3_merkle_core.specs.Pruning.{CanQuery, PrunedOpening, is_covered, is_boundary, covered_at, boundary_at, boundary, sent_digest, restored_node, value_of}
 use Rattle.p3_merkle_core.proofs.ListFacts.{length-joined_le}
 use Rattle.p3_merkle_core.proofs.RisingFacts.{by_groups, listed_at}
-use Rattle.p3_merkle_core.proofs.CoveredFacts.{some_leaf, leaves_above_0, padded_le, listed_covered, covered_listed, covered_by_groups, boundary_by_lists, covered_count, group_fits, counted_at, pruned_next}
+use Rattle.p3_merkle_core.proofs.CoveredFacts.{some_leaf, leaves_above_0, padded_le, listed_covered, covered_listed, covered_by_groups, boundary_by_lists, covered_count, group_fits, counted_at}
 use Rattle.p3_merkle_core.proofs.LadderFacts.{exact}
 use Rattle.p3_merkle_core.proofs.LeastFacts.{exponent_le}
 use Rattle.p3_merkle_core.proofs.RawFacts.{filled, positive_below}
@@ -124,28 +124,6 @@ family_by_counts s queries t w low l h n parents covered digests sent is_step is
           omega (arith, group_fits s queries t w l h g (listed_at above i d below), small_children s queries t w low l h);
     })
 
--- such a level can be walked
-pub level_family : {T W X : Type 0} (f : Functions T W) (s : Shape) (t : ℕ) (p : PrunedOpening T W) → CanQuery s p.indices t → tallest (heights s) ≤ max_height → length p.digests ≡ length (boundary s p.indices t) →
-    (l : ℕ) → l < t → (view : X → List W) (n : ℕ) (parents covered : List ℕ) (digests sent : List X) → IsLevel f s t p l view n parents covered digests sent → IsFamily n parents covered digests sent
-level_family f s t p w low count l h view n parents covered digests sent k =
-    let here = covered_at s p.indices l in
-    let above = covered_at s p.indices (suc l) in
-    let all = counted_at s p.indices t w low l h in
-    let left : length sent ≡ length p.digests - length (boundary s p.indices l) =
-    sym (length-map sent view) ∙ ap length k.sent_is ∙ length-drop (length (boundary s p.indices l)) p.digests in
-    let enough = length-joined_le (boundary_at s p.indices) l t h in
-    let unknown = unknown_at s p.indices t w l h in
-    let each : length digests ≡ length here = sym (length-map digests view) ∙ ap length k.digests_are ∙ length-map here (restored_node f s t p l) in
-    rw (k.step_is, k.parents_are, k.covered_are) (record {
-      in_order = covered_children s p.indices t w l h;
-      one_each = each;
-      enough = omega arith;
-      few = omega (arith, all.small);
-      low = λ i d below.
-          let g = get_or above i d in
-          omega (arith, group_fits s p.indices t w l h g (listed_at above i d below), small_children s p.indices t w low l h);
-    })
-
 -- the children's values
 pub children_are : {T W X : Type 0} (f : Functions T W) (s : Shape) (t : ℕ) (p : PrunedOpening T W) → CanQuery s p.indices t → length p.digests ≡ length (boundary s p.indices t) →
     (l : ℕ) → l < t → (view : X → List W) (n : ℕ) (parents covered : List ℕ) (digests sent values : List X) → IsLevel f s t p l view n parents covered digests sent → AreChildren n parents covered digests sent values →
@@ -169,14 +147,3 @@ children_are f s t p w count l h view n parents covered digests sent values k a 
     mixed_is is_here v u js (map view values) long known unknown
     ∙ map_agree (λ j. cond (is_here j) (v j) (u j)) (value_of f s t p l) (λ j. ap (λ b. cond b (v j) (u j)) (among_is s p.indices t w l (omega arith) j)) js
     ∙ map_children (value_of f s t p l) (step s l) above
-
--- and what is left of the digests that were sent
-pub rest_is : {T W X : Type 0} (f : Functions T W) (s : Shape) (t : ℕ) (p : PrunedOpening T W) → CanQuery s p.indices t →
-    (l : ℕ) → l < t → (view : X → List W) (n : ℕ) (parents covered : List ℕ) (digests sent : List X) → IsLevel f s t p l view n parents covered digests sent →
-    map view (drop (unknown_count n parents covered) sent) ≡ drop (length (boundary s p.indices (suc l))) p.digests
-rest_is f s t p w l h view n parents covered digests sent k =
-    let m = length (boundary s p.indices l) in
-    let unknown = unknown_at s p.indices t w l h in
-    let next : length (boundary s p.indices (suc l)) ≡ m + length (boundary_at s p.indices l) = pruned_next s p.indices l in
-    sym (drop-map view (unknown_count n parents covered) sent) ∙ ap (drop (unknown_count n parents covered)) k.sent_is ∙ drop-drop (unknown_count n parents covered) m p.digests
-    ∙ ap (λ c. drop c p.digests) (rw (k.step_is, k.parents_are, k.covered_are, unknown) (sym next))
