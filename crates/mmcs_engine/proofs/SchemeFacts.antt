@@ -17,18 +17,18 @@ caps_alike s r q c d same_rule same_height = λ i. cap_layer s (same_rule i) (sa
 
 -- what it opens
 pub opened_alike : {V E : Type 0} (f g : Functions ℕ ℕ) (b : Batch ℕ) (t u : ℕ) (built : List (List (List ℕ))) (result : Result V E) (opening : V → PrunedOpening ℕ ℕ) → f ≡ g → t ≡ u →
-    (built ≡ layers f b → IfOk result (λ o. IsPrunedAccepted f (shape b) t (layer f b t) (opening o))) → built ≡ layers g b → IfOk result (λ o. IsPrunedAccepted g (shape b) u (layer g b u) (opening o))
+    (built ≡ layers f b → IfOk result (λ o. IsPrunedAccepted (terms f (shape b) t) (layer f b t) (opening o))) → built ≡ layers g b → IfOk result (λ o. IsPrunedAccepted (terms g (shape b) u) (layer g b u) (opening o))
 opened_alike f g b t u built result opening same_functions same_layer accepted =
-    subst (λ (h : Functions ℕ ℕ). built ≡ layers h b → IfOk result (λ o. IsPrunedAccepted h (shape b) u (layer h b u) (opening o))) same_functions
-    (subst (λ (l : ℕ). built ≡ layers f b → IfOk result (λ o. IsPrunedAccepted f (shape b) l (layer f b l) (opening o))) same_layer accepted)
+    subst (λ (h : Functions ℕ ℕ). built ≡ layers h b → IfOk result (λ o. IsPrunedAccepted (terms h (shape b) u) (layer h b u) (opening o))) same_functions
+    (subst (λ (l : ℕ). built ≡ layers f b → IfOk result (λ o. IsPrunedAccepted (terms f (shape b) l) (layer f b l) (opening o))) same_layer accepted)
 
 -- what it takes
 pub taken_alike : {V : Type 0} (f g : Functions ℕ ℕ) (s : Shape) (t u : ℕ) (roots : List (List ℕ)) (o p : PrunedOpening ℕ ℕ) (result : Result V MerkleTreeError) → f ≡ g → t ≡ u → o ≡ p →
-    (IsPrunedAccepted f s t roots o → IfErr result (λ e. e ≡ OutOfMemory)) → IsPrunedAccepted g s u roots p → IfErr result (λ e. e ≡ OutOfMemory)
+    (IsPrunedAccepted (terms f s t) roots o → IfErr result (λ e. e ≡ OutOfMemory)) → IsPrunedAccepted (terms g s u) roots p → IfErr result (λ e. e ≡ OutOfMemory)
 taken_alike f g s t u roots o p result same_functions same_layer same_opening taken =
-    subst (λ (h : Functions ℕ ℕ). IsPrunedAccepted h s u roots p → IfErr result (λ e. e ≡ OutOfMemory)) same_functions
-    (subst (λ (l : ℕ). IsPrunedAccepted f s l roots p → IfErr result (λ e. e ≡ OutOfMemory)) same_layer
-    (subst (λ (q : PrunedOpening ℕ ℕ). IsPrunedAccepted f s t roots q → IfErr result (λ e. e ≡ OutOfMemory)) same_opening taken))
+    subst (λ (h : Functions ℕ ℕ). IsPrunedAccepted (terms h s u) roots p → IfErr result (λ e. e ≡ OutOfMemory)) same_functions
+    (subst (λ (l : ℕ). IsPrunedAccepted (terms f s l) roots p → IfErr result (λ e. e ≡ OutOfMemory)) same_layer
+    (subst (λ (q : PrunedOpening ℕ ℕ). IsPrunedAccepted (terms f s t) roots q → IfErr result (λ e. e ≡ OutOfMemory)) same_opening taken))
 
 -- and what it commits to
 pub capped_alike : {V E : Type 0} (f g : Functions ℕ ℕ) (b : Batch ℕ) (r q : CapRule) (c d : ℕ) (result : Result V E) (roots : V → List (List ℕ)) → f ≡ g → r ≡ q → c ≡ d →

@@ -51,7 +51,7 @@ layer_of_cap cap s = cap_layer s cap.rule cap.height
 abbrev pub text_of : HashName → Action → List ℕ → Batch ℕ → ℕ → List ℕ
 text_of hash Commit indices b t = hex_lines (hex_digits hash) (layer (functions_of_hash hash) b t)
 text_of hash Open indices b t =
-    flat_map (λ i. query_lines i (honest_rows b i)) indices ++ digest_lines (hex_digits hash) (own_digests (shape b) (layers (functions_of_hash hash) b) indices t)
+    flat_map (λ i. query_lines i (honest_rows b i)) indices ++ digest_lines (hex_digits hash) (boundary_by (node_in [] (layers (functions_of_hash hash) b)) (shape b) indices t)
 text_of hash Check indices b t = ok_line (pruned_len (shape b) indices t)
 
 -- the batch of a command and some matrices

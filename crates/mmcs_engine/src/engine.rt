@@ -7,7 +7,7 @@ ghost use Rattle.p3_merkle_core.specs.Nodes.{layer, layers, shape, Batch};
 ghost use Rattle.p3_merkle_core.specs.Openings.{honest_rows};
 ghost use Rattle.p3_merkle_core.specs.PrunedCalls.{pruned_len_refusal};
 ghost use Rattle.p3_merkle_core.specs.declared.error.MerkleTreeError.TheVariants.{OutOfMemory};
-ghost use Rattle.p3_merkle_tree.specs.Built.{OkUnlessRefused};
+ghost use Rattle.p3_merkle_tree.specs.Built.{AnswersUnlessMemory};
 ghost use Rattle.mmcs_text.specs.declared.command.Action.TheVariants.{Open, Check};
 ghost use Rattle.mmcs_text.specs.declared.fault.Fault.TheVariants.{Usage, Read, Tree, Write};
 ghost use Rattle.mmcs_text.specs.Text.{hex_lines, query_lines};
@@ -167,7 +167,7 @@ fn act<S: Suite<N>, const N: usize>(
     ensures text { let b = S.given matrices in
         IfOk result (λ text. text.items ≡ text_of S.name request.now.command.action request.now.indices.items b
         (layer_of_cap request.now.command.cap (shape b))) }
-    ensures answer { OkUnlessRefused result (pruned_len_refusal (shape (S.given matrices)) request.now.indices.items) }
+    ensures answer { AnswersUnlessMemory result (pruned_len_refusal (shape (S.given matrices)) request.now.indices.items) }
 {
     let cap = request.command.cap;
     let indices = request.indices.as_slice();

@@ -12,18 +12,19 @@ use Rattle.std.proofs.lemmas.List.FromFn.{length-range_with_len, get_or-map-rang
 use Rattle.std.proofs.lemmas.List.Kept.{AllPairs-from_increasing}
 use Rattle.std.proofs.lemmas.List.Sorted.{searched}
 use Rattle.std.proofs.Math.Seq.{drop-append-add}
-use Rattle.p3_merkle_core.specs.Children.{AreLevels, children_at, children_under, is_among, kept_group, kept_path, kept_paths, place_among, shown_path, shown_paths}
+use Rattle.p3_merkle_core.specs.Children.{AreLevels, children_at, children_under, is_among, kept_group, kept_path, kept_paths, place_among}
+use Rattle.p3_merkle_core.specs.Views.{shown_path, shown_paths}
 use Rattle.p3_merkle_core.specs.declared.pruning.AuthPath.{AuthPath}
 use Rattle.p3_merkle_core.specs.Geometry.{Shape, step, ancestor, position_in_group, layer_len}
 use Rattle.p3_merkle_core.specs.Nodes.{Functions}
-use Rattle.p3_merkle_core.specs.Pruning.{CanQuery, PrunedOpening, is_covered, covered_at, value_of, restored_path}
+use Rattle.p3_merkle_core.specs.Pruning.{CanQuery, PrunedOpening, is_covered, covered_at, value_of, restored_path, restored_paths}
 use Rattle.p3_merkle_core.proofs.CoveredFacts.{covered_listed}
 use Rattle.p3_merkle_core.proofs.ListFacts.{joined, joined_more}
 use Rattle.p3_merkle_core.proofs.PathFacts.{joined_same, group_values, piece}
 use Rattle.p3_merkle_core.proofs.RisingFacts.{listed_at, IsRising, rising_from, rising_filter, increasing_from}
 use Rattle.p3_merkle_core.proofs.StepFacts.{anc_next}
 use Rattle.p3_merkle_core.proofs.ValueFacts.{map_children}
-use Rattle.p3_merkle_core.specs.PrunedCalls.{restored_paths}
+use Rattle.p3_merkle_core.specs.Checks.{terms}
 
 -- ---- places
 
@@ -158,19 +159,19 @@ map_joined view g (suc t) =
 
 -- out of children that have their values it is the restored path
 pub path_restored : {T W X : Type 0} (f : Functions T W) (s : Shape) (t : ℕ) (p : PrunedOpening T W) → CanQuery s p.indices t → (view : X → List W) (rows : List (List X)) →
-    ((l : ℕ) → l < t → map view (slice_index_or rows l []) ≡ flat_map (λ j. map (value_of f s t p l) (range_with_len (step s l * j) (step s l))) (covered_at s p.indices (suc l))) →
-    (i : ℕ) → is_among p.indices i ≡ true → map view (kept_path s p.indices rows t i) ≡ restored_path f s t p i
+    ((l : ℕ) → l < t → map view (slice_index_or rows l []) ≡ flat_map (λ j. map (value_of (terms f s t) p l) (range_with_len (step s l * j) (step s l))) (covered_at s p.indices (suc l))) →
+    (i : ℕ) → is_among p.indices i ≡ true → map view (kept_path s p.indices rows t i) ≡ restored_path (terms f s t) p i
 path_restored f s t p w view rows are i q =
     map_joined view (kept_group s p.indices rows i) t
-    ∙ joined_same (λ l. map view (kept_group s p.indices rows i l)) (piece s (value_of f s t p) i) t (λ l h.
+    ∙ joined_same (λ l. map view (kept_group s p.indices rows i l)) (piece s (value_of (terms f s t) p) i) t (λ l h.
     let n = step s l in
     let parents = covered_at s p.indices (suc l) in
     let j = ancestor s (suc l) i in
     let row = slice_index_or rows l [] in
     let k = place_among parents j in
-    let group : map view (children_at n parents row j) ≡ group_values s (value_of f s t p) l j =
+    let group : map view (children_at n parents row j) ≡ group_values s (value_of (terms f s t) p) l j =
     sym (take-map view n (drop (n * k) row)) ∙ ap (take n) (sym (drop-map view (n * k) row)) ∙ ap (λ ys. children_at n parents ys j) (are l h)
-    ∙ values_at (value_of f s t p l) n parents j (covered_up_list s p.indices (suc l)) (parent_listed s p.indices t w l i h q) in
+    ∙ values_at (value_of (terms f s t) p l) n parents j (covered_up_list s p.indices (suc l)) (parent_listed s p.indices t w l i h q) in
     map_remove view (children_at n parents row j) (position_in_group s l i) ∙ ap (λ ys. remove ys (position_in_group s l i)) group)
 
 mapped : {A B C : Type 0} (g : A → B) (h : C → A) (k : C → B) (xs : List C) → ((i : ℕ) → i < length xs → (d : C) → g (h (get_or xs i d)) ≡ k (get_or xs i d)) → map g (map h xs) ≡ map k xs
@@ -179,10 +180,10 @@ mapped g h k (x ∷ xs) e = rw (e 0 (omega arith) x, mapped g h k xs (λ i l d. 
 
 -- and so for all queries
 pub paths_restored : {T W X : Type 0} (f : Functions T W) (s : Shape) (t : ℕ) (p : PrunedOpening T W) → CanQuery s p.indices t → (view : X → List W) (rows : List (List X)) →
-    ((l : ℕ) → l < t → map view (slice_index_or rows l []) ≡ flat_map (λ j. map (value_of f s t p l) (range_with_len (step s l * j) (step s l))) (covered_at s p.indices (suc l))) →
-    map (λ (path : ℕ × List X). (path.0, map view path.1)) (kept_paths s p.indices rows t) ≡ restored_paths f s t p
+    ((l : ℕ) → l < t → map view (slice_index_or rows l []) ≡ flat_map (λ j. map (value_of (terms f s t) p l) (range_with_len (step s l * j) (step s l))) (covered_at s p.indices (suc l))) →
+    map (λ (path : ℕ × List X). (path.0, map view path.1)) (kept_paths s p.indices rows t) ≡ restored_paths (terms f s t) p
 paths_restored f s t p w view rows are =
-    mapped (λ (path : ℕ × List _). (path.0, map view path.1)) (λ i. (i, kept_path s p.indices rows t i)) (λ i. (i, restored_path f s t p i)) p.indices
+    mapped (λ (path : ℕ × List _). (path.0, map view path.1)) (λ i. (i, kept_path s p.indices rows t i)) (λ i. (i, restored_path (terms f s t) p i)) p.indices
     (λ k h d. ap (λ path. (get_or p.indices k d, path)) (path_restored f s t p w view rows are (get_or p.indices k d) (listed_at p.indices k d h)))
 
 -- one path more

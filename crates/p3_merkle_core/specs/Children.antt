@@ -1,7 +1,6 @@
 -- The children of covered nodes, and the values that they take.
 use Rattle.std.specs.Prelude.{◌≡◌, ℕ, suc, ◌+◌, ◌-◌, ◌*◌, ◌^◌, ◌<◌, ◌≤◌, ◌==◌, Bool, not, nat_lt, List, [], All, drop, filter, flat_map, length, map, remove, slice_index_or, take, zip}
 use Rattle.std.specs.List.{list_any, range_with_len}
-use Rattle.p3_merkle_core.specs.declared.pruning.AuthPath.{AuthPath}
 use Rattle.p3_merkle_core.specs.Geometry.{Shape, ancestor, position_in_group, step}
 use Rattle.p3_merkle_core.specs.Pruning.{covered_at}
 
@@ -61,11 +60,3 @@ kept_paths s queries rows t = map (λ i. (i, kept_path s queries rows t i)) quer
 pub record AreLevels (s : Shape) (queries : List ℕ) (t : ℕ) (steps : List ℕ) (parents : List (List ℕ)) : Type 0 where
   pub steps_are : steps ≡ map (step s) (range_with_len 0 t)
   pub parents_are : parents ≡ map (λ l. covered_at s queries (suc l)) (range_with_len 0 t)
-
--- the leaf and the siblings that a path shows
-abbrev pub shown_path : {X : Type 0} → AuthPath X → ℕ × List X
-shown_path path = (path.leaf_index, path.siblings.items)
-
--- the same of each of some paths
-abbrev pub shown_paths : {X : Type 0} → List (AuthPath X) → List (ℕ × List X)
-shown_paths paths = map shown_path paths

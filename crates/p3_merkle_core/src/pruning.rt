@@ -2,10 +2,10 @@
 
 ghost use Rattle.std.specs.Prelude.{◌≡◌, ℕ, suc, ◌+◌, ◌*◌, ◌/◌, ◌%◌, ◌<◌, ◌≤◌, ◌++◌, Some, None, List, All, IfOk, IsTrue, MatchResult, length, map, remove};
 ghost use Rattle.std.specs.List.Sorted.{IsStrictlyIncreasing};
-ghost use Rattle.p3_merkle_core.specs.Children.{AreChildren, AreLevels, IsFamily, children_at, is_among, kept_path, kept_paths, shown_paths};
-ghost use Rattle.p3_merkle_core.specs.Geometry.{heights, heights_of, levels, max_height, shape_of, step as step_in, tallest, IsArity, Shape};
-ghost use Rattle.p3_merkle_core.specs.Pruning.{covered_at, CanQuery};
-ghost use Rattle.p3_merkle_core.specs.PrunedCalls.{pruned_len};
+ghost use Rattle.p3_merkle_core.specs.Children.{AreChildren, AreLevels, IsFamily, children_at, is_among, kept_path, kept_paths};
+ghost use Rattle.p3_merkle_core.specs.Views.{shown_paths};
+ghost use Rattle.p3_merkle_core.specs.Geometry.{heights, heights_of, levels, max_height, shape_of, step as step_in, tallest, IsArity, Shape, step};
+ghost use Rattle.p3_merkle_core.specs.Pruning.{covered_at, CanQuery, pruned_len};
 ghost use Rattle.p3_merkle_core.specs.Refusals.{queries_refusal};
 
 use crate::error::MerkleTreeError;

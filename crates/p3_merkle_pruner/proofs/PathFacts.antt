@@ -5,12 +5,12 @@ use Rattle.std.proofs.lemmas.List.FromFn.{get_or-map-range_with_len, map-range_w
 use Rattle.p3_merkle_core.specs.Children.{kept_paths}
 use Rattle.p3_merkle_core.specs.Geometry.{Shape, step}
 use Rattle.p3_merkle_core.specs.Nodes.{Functions}
-use Rattle.p3_merkle_core.specs.PrunedCalls.{restored_paths}
-use Rattle.p3_merkle_core.specs.Pruning.{CanQuery, PrunedOpening, covered_at}
+use Rattle.p3_merkle_core.specs.Pruning.{CanQuery, PrunedOpening, covered_at, restored_paths}
 use Rattle.p3_merkle_core.specs.declared.pruning.KeptLevel.{KeptLevel}
 use Rattle.p3_merkle_core.proofs.KeptFacts.{paths_restored}
 use Rattle.p3_merkle_pruner.specs.Walks.{AreKept, IsRestoredRise, child_values}
 use Rattle.p3_merkle_pruner.specs.declared.plan.Rise.{Rise}
+use Rattle.p3_merkle_core.specs.Checks.{terms}
 
 -- none at first
 pub kept_none : {T W : Type 0} (f : Functions T W) (s : Shape) (t : ℕ) (p : PrunedOpening T W) (levels : List (KeptLevel (List W))) → levels ≡ [] → AreKept f s t p 0 levels
@@ -41,7 +41,7 @@ unviewed (path ∷ paths) = rw (map-id path.1, unviewed paths) refl
 
 -- out of all levels they are the restored ones
 pub kept_restored : {T W : Type 0} (f : Functions T W) (s : Shape) (t : ℕ) (p : PrunedOpening T W) → CanQuery s p.indices t → (levels : List (KeptLevel (List W))) → AreKept f s t p t levels →
-    kept_paths s p.indices (map (λ level. level.children.items) levels) t ≡ restored_paths f s t p
+    kept_paths s p.indices (map (λ level. level.children.items) levels) t ≡ restored_paths (terms f s t) p
 kept_restored f s t p w levels k =
     let rows = map (λ (level : KeptLevel (List _)). level.children.items) levels in
     sym (unviewed (kept_paths s p.indices rows t))

@@ -1,3 +1,4 @@
 pub mod SaltedOpenings
 pub mod SaltRefusals
 pub mod SaltedTrees
+pub mod SaltedPresented

@@ -1,4 +1,4 @@
-use Rattle.p3_merkle_core.specs.Geometry.{shape_of}
+use Rattle.p3_merkle_core.specs.Geometry.{shape_of, step}
 use Rattle.p3_merkle_core.proofs.RawFacts.{raw_at}
 use Rattle.p3_merkle_core.proofs.geometry.raw_len_above.Goals as goal
 

@@ -2,6 +2,7 @@
 use Rattle.std.proofs.Common.{◌<◌, ◌*◌, ◌/◌, ◌%◌, arith}
 use Rattle.p3_merkle_core.proofs.KeptFacts.{beside_own, found_by, not_missed, placed}
 use Rattle.p3_merkle_core.proofs.pruning.extend_with_siblings.Goals as goal
+use Rattle.p3_merkle_core.specs.Geometry.{step}
 
 pub returns-in_ok-extend_from_slice-2 : goal.returns-in_ok-extend_from_slice-2
 returns-in_ok-extend_from_slice-2 g c up there =

@@ -3,6 +3,7 @@ use Rattle.std.proofs.Common.{◌≡◌, arith, sym}
 use Rattle.p3_merkle_core.proofs.KeptFacts.{path_more}
 use Rattle.p3_merkle_core.proofs.StepFacts.{anc_start}
 use Rattle.p3_merkle_core.proofs.pruning.path_out_of.Goals as goal
+use Rattle.p3_merkle_core.specs.Geometry.{step}
 
 pub loop-level-init : goal.loop-level-init
 loop-level-init g c s queries t w e q are = (c.new-path.ensures.items, sym (anc_start s c.args.index))

@@ -1,6 +1,6 @@
 use Rattle.std.proofs.Common.{◌≡◌, ℕ, List, length, map}
 use Rattle.p3_merkle_core.specs.Children.{AreLevels, is_among, kept_path}
-use Rattle.p3_merkle_core.specs.Geometry.{Shape, ancestor}
+use Rattle.p3_merkle_core.specs.Geometry.{Shape, ancestor, step}
 use Rattle.p3_merkle_core.specs.Pruning.{CanQuery}
 use Rattle.std.specs.Prelude.{IsTrue}
 use Rattle.p3_merkle_core.proofs.pruning.path_out_of.Given as goal

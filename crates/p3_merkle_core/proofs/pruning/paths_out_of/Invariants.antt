@@ -1,6 +1,7 @@
 use Rattle.std.proofs.Common.{◌≡◌, ℕ, List, length, map, take}
-use Rattle.p3_merkle_core.specs.Children.{AreLevels, kept_path, shown_paths}
-use Rattle.p3_merkle_core.specs.Geometry.{Shape}
+use Rattle.p3_merkle_core.specs.Children.{AreLevels, kept_path}
+use Rattle.p3_merkle_core.specs.Views.{shown_paths}
+use Rattle.p3_merkle_core.specs.Geometry.{Shape, step}
 use Rattle.p3_merkle_core.specs.Pruning.{CanQuery}
 use Rattle.p3_merkle_core.proofs.pruning.paths_out_of.Given as goal
 

@@ -3,7 +3,7 @@ use Rattle.std.proofs.Common.{◌∙◌, replicate, sym}
 use Rattle.p3_merkle_core.specs.Geometry.{shape_of}
 use Rattle.p3_merkle_core.specs.Nodes.{functions_of}
 use Rattle.p3_merkle_core.specs.Pruning.{pruned_of}
-use Rattle.p3_merkle_core.specs.PrunedCalls.{row_sets}
+use Rattle.p3_support.specs.Shown.{row_sets}
 use Rattle.p3_merkle_pruner.proofs.PathFacts.{kept_restored}
 use Rattle.p3_merkle_pruner.proofs.paths.restored_paths_of.Goals as goal
 
