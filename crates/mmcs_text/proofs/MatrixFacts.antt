@@ -1,14 +1,16 @@
 -- A stored matrix by its rows.
-use Rattle.std.proofs.Common.{◌≡◌, ℕ, ◌*◌, ◌/◌, ◌<◌, List, [], ◌∷◌, length, map, sym, ap, ◌∙◌, refl}
+use Rattle.std.proofs.Common.{◌≡◌, ℕ, ◌+◌, ◌-◌, ◌*◌, ◌/◌, ◌<◌, ◌≤◌, cond, nat_lt, List, [], ◌∷◌, length, map, take, sym, ap, ◌∙◌, refl, arith, inl, inr}
 use Rattle.std.specs.Prelude.{slice_index_or, flat_map}
 use Rattle.std.specs.List.{AllZip}
 use Rattle.std.specs.declared.vec.Vec.{Vec}
 use Rattle.p3_support.specs.declared.matrix.RowMajorMatrix.{RowMajorMatrix}
 use Rattle.p3_support.specs.Lists.{message}
 use Rattle.p3_support.specs.RowMajor.{values_of, row_width, row_count}
-use Rattle.std.proofs.lemmas.List.{length-map, get_or-map, map-id}
+use Rattle.std.proofs.lemmas.Bool.{cases_lt, lt-ltb, le-ltb}
+use Rattle.std.proofs.lemmas.List.{drop_all, length-map, get_or-map, map-id}
 use Rattle.std.proofs.lemmas.List.Elements.{All-get_or}
-use Rattle.std.proofs.Math.Nat.{mul-div_cancel}
+use Rattle.std.proofs.Math.Nat.{mul-div_cancel, mul-le-mul_right}
+use Rattle.std.proofs.Math.Seq.{take-nil}
 use Rattle.mmcs_text.specs.Input.{numbers_of, StandsFor}
 use Rattle.mmcs_text.specs.Blocks.{IsBlock}
 use Rattle.p3_merkle_core.specs.Nodes.{shape}
@@ -46,9 +48,25 @@ module _ {W : Type 0} (value : W → ℕ) where
       (matrices : List (List (List ℕ))) × StandsFor limit input matrices × (map (matrix_of_words value) stored ≡ map matrix_of_rows matrices)
   matrices_found limit input stored found = (found.0, found.1, matrices_shown stored found.0 found.2)
 
+-- past the last row there are no values
+row_past : (m : RowMajorMatrix ℕ) (r : ℕ) → row_count m ≤ r → message (row_width m) (values_of m) r ≡ []
+row_past m r past =
+    let w = row_width m in
+    let far = mul-le-mul_right w past in
+    let full : length (values_of m) ≡ row_count m * w = m.full in
+    ap (take ((r + 1) * w - r * w)) (drop_all (r * w) (values_of m) (omega (arith, full, far))) ∙ take-nil ((r + 1) * w - r * w)
+
+-- so each row is the stored one
+row_whole : (m : RowMajorMatrix ℕ) (r : ℕ) → cond (nat_lt r (row_count m)) (message (row_width m) (values_of m) r) [] ≡ message (row_width m) (values_of m) r
+row_whole m r =
+    elim (cases_lt r (row_count m)) [
+      | inl lt ↦ let there = lt-ltb r (row_count m) lt in rw there refl
+      | inr ge ↦ let none = le-ltb r (row_count m) ge in rw none (sym (row_past m r ge))
+    ]
+
 -- of numbers it is the matrix that was stored
 stored_same : (m : RowMajorMatrix ℕ) → stored_matrix m ≡ matrix_of_words (λ n. n) m
-stored_same m = λ i. record { height = row_count m; width = row_width m; row = λ r. message (row_width m) (sym (map-id (values_of m)) i) r }
+stored_same m = λ i. record { height = row_count m; width = row_width m; row = λ r. (row_whole m r ∙ ap (λ vs. message (row_width m) vs r) (sym (map-id (values_of m)))) i }
 
 pub stored_plain : (stored : List (RowMajorMatrix ℕ)) → map stored_matrix stored ≡ map (matrix_of_words (λ n. n)) stored
 stored_plain [] = refl

@@ -1,5 +1,5 @@
 -- Matrices by their rows.
-use Rattle.std.specs.Prelude.{ℕ, List, [], map, length, slice_index_or}
+use Rattle.std.specs.Prelude.{ℕ, List, [], map, length, nat_lt, slice_index_or, if◌then◌else◌}
 use Rattle.p3_support.specs.declared.matrix.RowMajorMatrix.{RowMajorMatrix}
 use Rattle.p3_support.specs.Lists.{message}
 use Rattle.p3_support.specs.RowMajor.{values_of, row_width, row_count}
@@ -13,9 +13,9 @@ matrix_of_rows rows = record { height = length rows; width = length (slice_index
 abbrev pub batch_of_rows : ℕ → List (List (List ℕ)) → Batch ℕ
 batch_of_rows arity matrices = record { arity = arity; matrices = map matrix_of_rows matrices }
 
--- a stored matrix, by what its type says of it
+-- a stored matrix, by what its type says of it; past its height its rows are empty
 abbrev pub stored_matrix : RowMajorMatrix ℕ → Matrix ℕ
-stored_matrix m = record { height = row_count m; width = row_width m; row = λ r. message (row_width m) (values_of m) r }
+stored_matrix m = record { height = row_count m; width = row_width m; row = λ r. if nat_lt r (row_count m) then message (row_width m) (values_of m) r else [] }
 
 -- a stored matrix of words, by the numbers that they are
 abbrev pub matrix_of_words : {W : Type 0} → (W → ℕ) → RowMajorMatrix W → Matrix ℕ

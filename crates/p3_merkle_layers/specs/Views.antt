@@ -1,12 +1,12 @@
 -- How the values of the code are read by the definitions.
-use Rattle.std.specs.Prelude.{◌≡◌, ℕ, List, map}
+use Rattle.std.specs.Prelude.{◌≡◌, ℕ, List, [], map, nat_lt, if◌then◌else◌}
 use Rattle.p3_merkle_core.specs.Geometry.{heights_of, shortest, tallest}
 use Rattle.p3_merkle_core.specs.Nodes.{Matrix, Batch, dimensions_of}
 
 module _ {T M : Type 0} (height width : M → ℕ) (row : M → ℕ → List T) where
-  -- a matrix, by what its type says of it
+  -- a matrix, by what its type says of it; past its height its rows are empty
   abbrev pub matrix_of : M → Matrix T
-  matrix_of m = record { height = height m; width = width m; row = row m }
+  matrix_of m = record { height = height m; width = width m; row = λ j. if nat_lt j (height m) then row m j else [] }
 
   -- matrices in input order, under an arity
   abbrev pub batch_of : ℕ → List M → Batch T

@@ -14,7 +14,7 @@ use Rattle.p3_merkle_tree.proofs.scheme_trait.MerkleTreeMmcsMmcsValue.open_batch
 pub returns-clause-rows : goal.returns-clause-rows
 returns-clause-rows g c =
     subst (λ (rows : List (List _)). IfOk c.open_batch.result (λ o. row_lists o.opened_values.items ≡ rows))
-    (rows_are g.M.Matrix.height_of g.M.Matrix.width_of g.M.Matrix.row_of g.row.N (matrices_of c.args.prover_data.now) c.args.index) c.open_batch.ensures.rows
+    (rows_are g.M.Matrix.height_of g.M.Matrix.width_of g.M.Matrix.row_of g.row.N (matrices_of c.args.prover_data.now) c.args.index c.args.prover_data.now.lawful c.tell_index.ensures) c.open_batch.ensures.rows
 
 pub returns-clause-accepted : goal.returns-clause-accepted
 returns-clause-accepted g c = λ commitment own.
