@@ -18,8 +18,8 @@ pub fn meanings_are_unique()
         StandsFor limit input ms → StandsFor limit input ns → ms ≡ ns }
 {}
 
-/// Any words and any input have an outcome by definition: the usage, the fault of the first faulty line, a refusal of the
-/// tree, or a text. This holds of all lists of numbers, whether they are bytes or not.
+/// Any words and any input have an outcome by definition: the usage, the fault of the first faulty line, a refusal of
+/// the tree, or a text. This holds of all lists of numbers, whether they are bytes or not.
 pub fn each_input_has_an_outcome()
     ensures { (words : List (List ℕ)) (input : List ℕ) →
         (outcome : Result (List ℕ) Fault) × IsOutcome words input outcome }

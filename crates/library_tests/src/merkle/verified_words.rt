@@ -1,5 +1,5 @@
-//! What a verifier that is generic in the scheme may do with rows that it has verified: read any word that their dimensions
-//! say is there.
+//! What a verifier that is generic in the scheme may do with rows that it has verified: read any word that their
+//! dimensions say is there.
 ghost use Rattle.std.specs.Prelude.{◌≡◌, ◌<◌, IfOk, length, map, slice_index};
 ghost use Rattle.p3_support.specs.Batches.{greatest_height};
 
