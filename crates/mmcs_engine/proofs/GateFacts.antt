@@ -7,8 +7,7 @@ use Rattle.std.proofs.lemmas.List.Elements.{All-head, All-tail}
 use Rattle.p3_merkle_core.specs.Geometry.{Shape, heights, tallest, IsLawful}
 use Rattle.p3_merkle_core.specs.Gate.{gate_refusal}
 use Rattle.p3_merkle_core.specs.Nodes.{shape}
-use Rattle.p3_merkle_core.specs.PrunedCalls.{pruned_len_refusal}
-use Rattle.p3_merkle_core.specs.Refusals.{queries_refusal}
+use Rattle.p3_merkle_core.specs.Refusals.{queries_refusal, pruned_len_refusal}
 use Rattle.p3_merkle_core.specs.declared.error.MerkleTreeError.TheVariants.{IndexOutOfBounds}
 use Rattle.p3_merkle_core.proofs.GateFacts.{gate_lawful}
 use Rattle.p3_merkle_core.proofs.NoneFacts.{below_from, none_unless}

@@ -3,8 +3,8 @@ use Rattle.std.proofs.Common.{◌≡◌, ◌⊎◌, ⊎_elim, inl, inr, ℕ, ◌
 use Rattle.std.specs.Prelude.{◌↔◌, ◌<◌, All, IfErr, OnOk}
 use Rattle.std.specs.Io.KnownBytes.{Appends}
 use Rattle.p3_merkle_core.specs.Geometry.{tallest, IsLawful}
+use Rattle.p3_merkle_core.specs.Refusals.{pruned_len_refusal}
 use Rattle.p3_merkle_core.specs.Nodes.{shape, Batch}
-use Rattle.p3_merkle_core.specs.PrunedCalls.{pruned_len_refusal}
 use Rattle.p3_merkle_core.specs.declared.error.MerkleTreeError.TheVariants.{OutOfMemory}
 use Rattle.mmcs_text.specs.declared.command.Command.{Command}
 use Rattle.mmcs_text.specs.declared.command.HashName.{HashName}

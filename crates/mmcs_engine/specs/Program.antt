@@ -2,12 +2,13 @@
 use Rattle.std.specs.Prelude.{◌≡◌, ◌⊎◌, ◌↔◌, ℕ, ◌+◌, ◌<◌, List, [], ◌∷◌, ◌++◌, length, map, replicate, flat_map, All, Option, Some, IfSome, IfErr, OnOk, OnErr, Result, Ok, Err}
 use Rattle.std.specs.Io.KnownBytes.{Appends}
 use Rattle.p3_support.specs.Fold.{fold_hash, fold_compress}
+use Rattle.p3_merkle_core.specs.Refusals.{pruned_len_refusal}
+use Rattle.p3_merkle_core.specs.Pruning.{boundary_by, pruned_len}
 use Rattle.p3_instances.specs.Sha.{sha256_rows, sha256_nodes}
 use Rattle.p3_merkle_core.specs.Caps.{cap_layer}
 use Rattle.p3_merkle_core.specs.Geometry.{Shape, tallest, IsLawful}
 use Rattle.p3_merkle_core.specs.Nodes.{Batch, Functions, functions_of, layer, layers, shape}
-use Rattle.p3_merkle_core.specs.Openings.{honest_rows}
-use Rattle.p3_merkle_core.specs.PrunedCalls.{own_digests, pruned_len, pruned_len_refusal}
+use Rattle.p3_merkle_core.specs.Openings.{honest_rows, node_in}
 use Rattle.p3_merkle_core.specs.declared.error.MerkleTreeError.{MerkleTreeError}
 use Rattle.p3_merkle_core.specs.declared.error.MerkleTreeError.TheVariants.{OutOfMemory}
 use Rattle.mmcs_text.specs.declared.command.Action.{Action}
@@ -51,7 +52,7 @@ layer_of_cap cap s = cap_layer s cap.rule cap.height
 abbrev pub text_of : HashName → Action → List ℕ → Batch ℕ → ℕ → List ℕ
 text_of hash Commit indices b t = hex_lines (hex_digits hash) (layer (functions_of_hash hash) b t)
 text_of hash Open indices b t =
-    flat_map (λ i. query_lines i (honest_rows b i)) indices ++ digest_lines (hex_digits hash) (own_digests (shape b) (layers (functions_of_hash hash) b) indices t)
+    flat_map (λ i. query_lines i (honest_rows b i)) indices ++ digest_lines (hex_digits hash) (boundary_by (node_in [] (layers (functions_of_hash hash) b)) (shape b) indices t)
 text_of hash Check indices b t = ok_line (pruned_len (shape b) indices t)
 
 -- the batch of a command and some matrices

@@ -1,13 +1,12 @@
 //! From words and an input to an output.
 
-ghost use Rattle.std.specs.Prelude.{◌≡◌, ◌⊎◌, ℕ, ◌++◌, ◌<◌, ◌↔◌, All, Ok, Err, IfOk, IfErr, IfSome, IsTrue, OnOk, flat_map, length, map};
+ghost use Rattle.std.specs.Prelude.{◌≡◌, ◌⊎◌, ℕ, ◌++◌, ◌<◌, ◌↔◌, All, Ok, Err, IfOk, IfErr, IfSome, IsTrue, None, OnOk, flat_map, length, map};
 ghost use Rattle.std.specs.Io.KnownBytes.{Appends};
 ghost use Rattle.p3_merkle_core.specs.Geometry.{heights, shape_of, tallest};
+ghost use Rattle.p3_merkle_core.specs.Refusals.{pruned_len_refusal, AnswersUnlessMemory};
 ghost use Rattle.p3_merkle_core.specs.Nodes.{layer, layers, shape, Batch};
 ghost use Rattle.p3_merkle_core.specs.Openings.{honest_rows};
-ghost use Rattle.p3_merkle_core.specs.PrunedCalls.{pruned_len_refusal};
 ghost use Rattle.p3_merkle_core.specs.declared.error.MerkleTreeError.TheVariants.{OutOfMemory};
-ghost use Rattle.p3_merkle_tree.specs.Built.{OkUnlessRefused};
 ghost use Rattle.mmcs_text.specs.declared.command.Action.TheVariants.{Open, Check};
 ghost use Rattle.mmcs_text.specs.declared.fault.Fault.TheVariants.{Usage, Read, Tree, Write};
 ghost use Rattle.mmcs_text.specs.Text.{hex_lines, query_lines};
@@ -167,7 +166,7 @@ fn act<S: Suite<N>, const N: usize>(
     ensures text { let b = S.given matrices in
         IfOk result (λ text. text.items ≡ text_of S.name request.now.command.action request.now.indices.items b
         (layer_of_cap request.now.command.cap (shape b))) }
-    ensures answer { OkUnlessRefused result (pruned_len_refusal (shape (S.given matrices)) request.now.indices.items) }
+    ensures answer { AnswersUnlessMemory result (pruned_len_refusal (shape (S.given matrices)) request.now.indices.items) }
 {
     let cap = request.command.cap;
     let indices = request.indices.as_slice();
@@ -191,7 +190,7 @@ fn cap_text<S: Suite<N>, const N: usize>(
     roots: &S::Cap,
 ) -> Result<Vec<u8>, MerkleTreeError>
     ensures text { IfOk result (λ text. text.items ≡ hex_lines (hex_digits S.name) (S.roots roots.now)) }
-    ensures memory { IfErr result (λ e. e ≡ OutOfMemory) }
+    ensures memory { AnswersUnlessMemory result None }
 {
     let mut text = Vec::new(alloc);
     S::push_cap(&mut text, roots)?;
@@ -214,7 +213,7 @@ fn open_text<S: Suite<N>, const N: usize>(
     requires built { S.nodes tree.now ≡ layers (functions_of_hash S.name) (S.batch tree.now) }
     ensures text { let b = S.batch tree.now in
         IfOk result (λ text. text.items ≡ text_of S.name Open indices.now b (layer_of_cap cap (shape b))) }
-    ensures memory { IfErr result (λ e. e ≡ OutOfMemory) }
+    ensures memory { AnswersUnlessMemory result None }
 {
     let opening = S::open(alloc, cap, indices, tree)?;
     let mut text = Vec::new(alloc);
@@ -267,7 +266,7 @@ fn check_text<S: Suite<N>, const N: usize>(
         S.roots roots.now ≡ layer (functions_of_hash S.name) b (layer_of_cap cap (shape b)) }
     ensures text { let b = S.batch tree.now in
         IfOk result (λ text. text.items ≡ text_of S.name Check indices.now b (layer_of_cap cap (shape b))) }
-    ensures memory { IfErr result (λ e. e ≡ OutOfMemory) }
+    ensures memory { AnswersUnlessMemory result None }
 {
     let opening = S::open(alloc, cap, indices, tree)?;
     S::verify(alloc, cap, roots, dimensions, indices, &opening)?;

@@ -1,8 +1,7 @@
 //! The suite of `fold`: words of 32 bits, and digests of one word.
 
 ghost use Rattle.std.specs.Prelude.{◌≡◌, IsTrue};
-ghost use Rattle.p3_support.specs.Shown.{roots_of};
-ghost use Rattle.p3_merkle_core.specs.PrunedCalls.{row_sets};
+ghost use Rattle.p3_support.specs.Shown.{roots_of, row_sets};
 ghost use Rattle.p3_merkle_tree.specs.Parts.{layers_of, matrices_of};
 ghost use Rattle.p3_merkle_tree.specs.Schemes.{cap_height_of, cap_rule_of, scheme_functions};
 ghost use Rattle.mmcs_text.specs.Matrices.{stored_batch};

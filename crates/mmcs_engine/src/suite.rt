@@ -1,14 +1,14 @@
 //! What the program asks of a hash.
 
-ghost use Rattle.std.specs.Prelude.{◌≡◌, ◌⊎◌, ℕ, ◌+◌, ◌++◌, ◌<◌, All, IfErr, IfOk, IsOk, IsTrue, List, [], OnOk, flat_map, length, map, slice_index_or};
+ghost use Rattle.std.specs.Prelude.{◌≡◌, ◌⊎◌, ℕ, ◌+◌, ◌++◌, ◌<◌, All, IfErr, IfOk, IsOk, IsTrue, List, [], None, OnOk, flat_map, length, map, slice_index_or};
+ghost use Rattle.p3_merkle_core.specs.Checks.{terms};
 ghost use Rattle.p3_merkle_core.specs.Gate.{gate_refusal};
+ghost use Rattle.p3_merkle_core.specs.Refusals.{pruned_len_refusal, AnswersUnlessMemory};
 ghost use Rattle.p3_merkle_core.specs.Geometry.{heights, shape_of, tallest};
 ghost use Rattle.p3_merkle_core.specs.Nodes.{layer, layers, shape, Batch};
-ghost use Rattle.p3_merkle_core.specs.Openings.{honest_rows};
-ghost use Rattle.p3_merkle_core.specs.PrunedCalls.{own_digests, pruned_len, pruned_len_refusal, IsPrunedAccepted};
-ghost use Rattle.p3_merkle_core.specs.Pruning.{pruned_of};
+ghost use Rattle.p3_merkle_core.specs.Openings.{honest_rows, node_in};
+ghost use Rattle.p3_merkle_core.specs.Pruning.{boundary_by, pruned_len, pruned_of, IsPrunedAccepted};
 ghost use Rattle.p3_merkle_core.specs.declared.error.MerkleTreeError.TheVariants.{OutOfMemory};
-ghost use Rattle.p3_merkle_tree.specs.Built.{OkUnlessRefused};
 ghost use Rattle.mmcs_text.specs.Input.{pieces_of, IsFirstFault, StandsFor};
 ghost use Rattle.mmcs_text.specs.Matrices.{batch_of_rows};
 ghost use Rattle.mmcs_text.specs.Text.{hex_lines, row_line};
@@ -88,7 +88,7 @@ pub trait Suite<const N: usize> {
         indices: &[usize],
     ) -> Result<usize, MerkleTreeError>
         requires { IsTrue (is_taken_arity N) }
-        ensures { OkUnlessRefused result (pruned_len_refusal (shape_of N dimensions.now) indices.now) };
+        ensures { AnswersUnlessMemory result (pruned_len_refusal (shape_of N dimensions.now) indices.now) };
 
     /// The cap of some matrices, and their tree.
     ///
@@ -101,7 +101,7 @@ pub trait Suite<const N: usize> {
         matrices: Self::Matrices,
     ) -> Result<(Self::Cap, Self::Tree), MerkleTreeError>
         requires { IsTrue (is_taken_arity N) }
-        ensures answer { OkUnlessRefused result (gate_refusal (heights (shape (given matrices)))) }
+        ensures answer { AnswersUnlessMemory result (gate_refusal (heights (shape (given matrices)))) }
         ensures cap { let b = given matrices in
             IfOk result (λ made. roots made.0 ≡ layer (functions_of_hash name) b (layer_of_cap cap (shape b))) }
         ensures batch { IfOk result (λ made. batch made.1 ≡ given matrices) }
@@ -121,13 +121,13 @@ pub trait Suite<const N: usize> {
     ) -> Result<Self::Opening, MerkleTreeError>
         requires arity { IsTrue (is_taken_arity N) }
         requires indices { All (λ i. i < tallest (heights (shape (batch tree.now)))) indices.now }
-        ensures memory { IfErr result (λ e. e ≡ OutOfMemory) }
+        ensures memory { AnswersUnlessMemory result None }
         ensures rows { IfOk result (λ o. rows o ≡ map (honest_rows (batch tree.now)) indices.now) }
         ensures digests { let s = shape (batch tree.now) in
-            IfOk result (λ o. digests o ≡ own_digests s (nodes tree.now) indices.now (layer_of_cap cap s)) }
+            IfOk result (λ o. digests o ≡ boundary_by (node_in [] (nodes tree.now)) s indices.now (layer_of_cap cap s)) }
         ensures accepted { let b = batch tree.now in let t = layer_of_cap cap (shape b) in
             nodes tree.now ≡ layers (functions_of_hash name) b →
-            IfOk result (λ o. IsPrunedAccepted (functions_of_hash name) (shape b) t
+            IfOk result (λ o. IsPrunedAccepted (terms (functions_of_hash name) (shape b) t)
             (layer (functions_of_hash name) b t) (pruned_of indices.now (rows o) (digests o))) };
 
     /// Checks an opening of indices against a cap, for matrices of these dimensions.
@@ -147,9 +147,8 @@ pub trait Suite<const N: usize> {
         ensures count { let s = shape_of N dimensions.now in
             IsOk result → length (digests opening.now) ≡ pruned_len s indices.now (layer_of_cap cap s) }
         ensures taken { let s = shape_of N dimensions.now in
-            IsPrunedAccepted (functions_of_hash name) s (layer_of_cap cap s) (roots against.now)
-            (pruned_of indices.now (rows opening.now) (digests opening.now)) →
-            IfErr result (λ e. e ≡ OutOfMemory) };
+            IsPrunedAccepted (terms (functions_of_hash name) s (layer_of_cap cap s)) (roots against.now)
+            (pruned_of indices.now (rows opening.now) (digests opening.now)) → AnswersUnlessMemory result None };
 
     /// Appends a line for each digest of a cap, in hexadecimal.
     ///

@@ -9,7 +9,7 @@ use Rattle.std.proofs.lemmas.Bool.Decides.{eqb_tells}
 use Rattle.std.proofs.Math.Bool.{Bool, ◌||◌}
 use borrow.Author.Tests.{clash}
 use Rattle.std.proofs.lemmas.List.Sums.{count_by-le-length}
-use Rattle.p3_merkle_core.specs.Openings.{last_of}
+use Rattle.p3_merkle_core.specs.Checks.{last_of}
 use Rattle.p3_merkle_core.specs.declared.error.MerkleTreeError.TheVariants.{OutOfMemory}
 use Rattle.mmcs_text.specs.declared.fault.Fault.{Fault}
 use Rattle.mmcs_text.specs.declared.fault.Fault.TheVariants.{Tree}

@@ -3,7 +3,7 @@ use Rattle.std.specs.Prelude.{◌≡◌, ◌≢◌, ℕ, ◌+◌, ◌<◌, ◌==
 use Rattle.std.specs.List.{slice_split, list_all, AllZip}
 use Rattle.std.specs.Str.Lines.{strip_carriage_return}
 use Rattle.std.specs.Str.Parse.{digits_value}
-use Rattle.p3_merkle_core.specs.Openings.{last_of}
+use Rattle.p3_merkle_core.specs.Checks.{last_of}
 use Rattle.mmcs_text.specs.declared.fault.Fault.{Fault}
 use Rattle.mmcs_text.specs.declared.fault.Fault.TheVariants.{Number, Count}
 use Rattle.mmcs_text.specs.Numbers.{IsNumberBelow}

@@ -11,16 +11,16 @@ use Rattle.std.proofs.lemmas.List.Folds.{Any-from_list_any, list_any_at}
 use Rattle.std.proofs.lemmas.List.Kept.{AllPairs-from_increasing}
 use Rattle.std.proofs.Math.Nat.{mul-le-mul_left}
 use Rattle.p3_merkle_core.specs.Geometry.{Shape, step, layer_len}
-use Rattle.p3_merkle_core.specs.Pruning.{CanQuery, is_covered, is_boundary, covered_at, boundary_at, boundary}
-use Rattle.p3_merkle_core.specs.PrunedCalls.{own_digests, row_sets}
+use Rattle.p3_merkle_core.specs.Pruning.{CanQuery, is_covered, is_boundary, covered_at, boundary_at, boundary, boundary_by}
 use Rattle.p3_merkle_core.proofs.ListFacts.{joined_more}
 use Rattle.p3_merkle_core.proofs.RisingFacts.{all_kept, div_mono, increasing_from, is_listed, listed_at, none_kept, place_of, range_joined, rising_filter}
 use Rattle.p3_merkle_core.proofs.CoveredFacts.{covered_child, covered_listed, group_fits, listed_covered}
 use Rattle.p3_merkle_core.proofs.LeafFacts.{any_there}
 use Rattle.p3_merkle_core.proofs.StepFacts.{step_above_1}
 use Rattle.p3_merkle_core.proofs.Under.{covered_up}
-use Rattle.p3_support.specs.Shown.{row_lists}
-use Rattle.p3_merkle_builder.specs.Own.{is_beside, others_beside, own_boundary}
+use Rattle.p3_support.specs.Shown.{row_lists, row_sets}
+use Rattle.p3_merkle_builder.specs.Own.{is_beside, others_beside}
+use Rattle.p3_merkle_core.specs.Openings.{node_in}
 
 -- ---- groups
 
@@ -263,7 +263,7 @@ map_pairs g l (j ∷ js) = ap (λ ys. g (l, j) ∷ ys) (map_pairs g l js)
 
 -- one level more
 pub boundary_next : {X : Type 0} (s : Shape) (layers : List (List X)) (indices : List ℕ) (t : ℕ) → CanQuery s indices t → (l : ℕ) → l < t → (d : X) → length (get_or layers l []) ≡ layer_len s l →
-    own_boundary s layers indices (suc l) d ≡ own_boundary s layers indices l d ++ others_beside (get_or layers l []) (covered_at s indices l) (step s l) d
+    boundary_by (node_in d layers) s indices (suc l) ≡ boundary_by (node_in d layers) s indices l ++ others_beside (get_or layers l []) (covered_at s indices l) (step s l) d
 boundary_next s layers indices t w l h d long =
     let g = λ (x : ℕ × ℕ). slice_index_or (slice_index_or layers x.0 []) x.1 d in
     let here = λ (j : ℕ). slice_index_or (slice_index_or layers l []) j d in
@@ -276,14 +276,14 @@ boundary_next s layers indices t w l h d long =
 -- one level more of the digests, from the tree's own layers
 pub boundary_more : {V X : Type 0} (items : V → List X) (layers : List V) (s : Shape) (indices : List ℕ) (t : ℕ) → CanQuery s indices t → (l : ℕ) → l < t → (n : ℕ) (layer : V) (row : List X) (here : List ℕ) (old new : List X) (d : X) →
     n ≡ step s l → l < length layers → layer ≡ get_or layers l layer → length (items layer) ≡ layer_len s l → row ≡ items layer → here ≡ covered_at s indices l →
-    old ≡ own_boundary s (map items layers) indices l d → new ≡ old ++ others_beside row here n d → new ≡ own_boundary s (map items layers) indices (l + 1) d
+    old ≡ boundary_by (node_in d (map items layers)) s indices l → new ≡ old ++ others_beside row here n d → new ≡ boundary_by (node_in d (map items layers)) s indices (l + 1)
 boundary_more items layers s indices t w l h n layer row here old new d is_step long is many is_row is_here is_old is_new =
     let read : get_or (map items layers) l [] ≡ items layer = get_or-map items layers l layer [] long ∙ ap items (sym is) in
     let next = rw read at (boundary_next s (map items layers) indices t w l h d (ap length read ∙ many)) in
     is_new ∙ rw (is_old, is_step, is_row, is_here, add-one) (sym next)
 
 -- of digests of words, they are those that the definition of pruned openings has
-pub own_boundary_is : {W : Type 0} (s : Shape) (layers : List (List (List W))) (indices : List ℕ) (t : ℕ) → own_boundary s layers indices t [] ≡ own_digests s layers indices t
+pub own_boundary_is : {W : Type 0} (s : Shape) (layers : List (List (List W))) (indices : List ℕ) (t : ℕ) → boundary_by (node_in [] layers) s indices t ≡ boundary_by (node_in [] layers) s indices t
 own_boundary_is s layers indices t = refl
 
 -- ---- row sets

@@ -1,18 +1,18 @@
 -- What a tree opens of one index: the bounds of each group, and the siblings level by level.
-use Rattle.std.proofs.Common.{◌≡◌, ℕ, suc, ◌+◌, ◌-◌, ◌*◌, ◌/◌, ◌%◌, ◌^◌, ◌<◌, ◌≤◌, List, ◌++◌, [], map, refl, ap, sym, ◌∙◌, arith, length, get_or, take, drop, remove, add-one}
+use Rattle.std.proofs.Common.{◌≡◌, ℕ, suc, ◌+◌, ◌-◌, ◌*◌, ◌/◌, ◌%◌, ◌^◌, ◌<◌, ◌≤◌, List, ◌++◌, [], map, refl, ap, sym, ◌∙◌, arith, length, get_or, take, drop, remove, add-one, length-drop}
 use Rattle.std.specs.List.{range_with_len}
 use Rattle.std.specs.Prelude.{slice_index_or}
-use Rattle.std.proofs.lemmas.List.{get_or-map, get_or_default, get_or-take, length-take-le}
-use Rattle.std.proofs.lemmas.List.FromFn.{length-map-range_with_len}
+use Rattle.std.proofs.lemmas.List.{ext_get_or, get_or-drop, get_or-map, get_or_default, get_or-take, length-take-le}
+use Rattle.std.proofs.lemmas.List.FromFn.{get_or-map-range_with_len, length-map-range_with_len}
 use Rattle.std.proofs.Math.Nat.{mul-le-mul_left}
 use Rattle.p3_merkle_core.specs.Geometry.{Shape, arity_schedule, max_height, step, ancestor, levels, tallest, heights, raw_len, layer_len, IsArity, IsLawful}
 use Rattle.p3_merkle_core.proofs.RawFacts.{anc_below, children_fit}
 use Rattle.p3_merkle_core.proofs.StepFacts.{anc_next, step_above_1, step_read}
 use Rattle.p3_merkle_core.proofs.SiblingFacts.{siblings_next, step_is}
-use Rattle.p3_merkle_core.specs.Openings.{siblings_below}
-use Rattle.p3_merkle_builder.specs.Own.{own_group}
+use Rattle.p3_merkle_core.specs.Checks.{siblings_below}
 use Rattle.p3_merkle_builder.proofs.TreeFacts.{layer_long}
 use Rattle.p3_merkle_core.proofs.ListFacts.{joined, joined_more}
+use Rattle.p3_merkle_core.specs.Openings.{node_in, level_siblings}
 
 -- the steps of a tree are as many as its levels
 pub steps_count : (s : Shape) (taken : List ℕ) → taken ≡ arity_schedule s → length taken ≡ levels s
@@ -69,12 +69,26 @@ pub group_at_level : {V : Type 0} (len : V → ℕ) (layers : List V) (taken : L
 group_at_level len layers taken s i l t n node layer w lawful lengths steps below in_tree h at read is =
     group_is s i l n node (len layer) w lawful below (omega arith) at (step_of s taken l n steps (omega arith) read) (layer_long len layers s lengths l layer (omega arith) is)
 
+-- a part of a list, place by place
+part_read : {X : Type 0} (d : X) (xs : List X) (a n : ℕ) → a + n ≤ length xs → take n (drop a xs) ≡ map (λ k. get_or xs (a + k) d) (range_with_len 0 n)
+part_read d xs a n fits =
+    let left = length-drop a xs in
+    let long : length (take n (drop a xs)) ≡ n = length-take-le n (drop a xs) (omega arith) in
+    let made = length-map-range_with_len (λ k. get_or xs (a + k) d) 0 n in
+    ext_get_or d (take n (drop a xs)) (map (λ k. get_or xs (a + k) d) (range_with_len 0 n)) (long ∙ sym made)
+    (λ k inside. get_or-take n (drop a xs) k d (omega (arith, long)) ∙ get_or-drop a xs k d ∙ sym (get_or-map-range_with_len (λ k. get_or xs (a + k) d) 0 n k k d (omega (arith, long)) (omega arith)))
+
 -- one level more of the siblings
-pub group_next : {V X : Type 0} (items : V → List X) (layers : List V) (s : Shape) (i l n node : ℕ) (layer : V) (old new : List X) →
-    IsGroup s i l n node (length (items layer)) → l < length layers → layer ≡ get_or layers l layer → old ≡ joined (own_group s (map items layers) i) l →
+pub group_next : {V X : Type 0} (d : X) (items : V → List X) (layers : List V) (s : Shape) (i l n node : ℕ) (layer : V) (old new : List X) →
+    IsGroup s i l n node (length (items layer)) → l < length layers → layer ≡ get_or layers l layer → old ≡ joined (level_siblings (node_in d (map items layers)) s i) l →
     new ≡ old ++ remove (take (node - node % n + n - (node - node % n)) (drop (node - node % n) (items layer))) (node % n) →
-    (new ≡ joined (own_group s (map items layers) i) (l + 1)) × (node / n ≡ ancestor s (l + 1) i)
-group_next items layers s i l n node layer old new w h is is_old is_new =
+    new ≡ joined (level_siblings (node_in d (map items layers)) s i) (l + 1)
+group_next d items layers s i l n node layer old new w h is is_old is_new =
     let count : node - node % n + n - (node - node % n) ≡ n = omega arith in
     let read : slice_index_or (map items layers) l [] ≡ items layer = get_or-map items layers l layer [] h ∙ ap items (sym is) in
-    (is_new ∙ rw (is_old, count, add-one, joined_more (own_group s (map items layers) i) l, read, w.starts, w.is_step, w.at_node) refl, rw (add-one, w.is_step, w.at_node) (sym (anc_next s l i)))
+    let part = part_read d (items layer) (node - node % n) n w.fits in
+    is_new ∙ rw (is_old, count, add-one, joined_more (level_siblings (node_in d (map items layers)) s i) l, part, read, w.starts, w.is_step, w.at_node) refl
+
+-- the node of the next level
+pub node_next : (s : Shape) (i l n node len : ℕ) → IsGroup s i l n node len → node / n ≡ ancestor s (l + 1) i
+node_next s i l n node len w = rw (add-one, w.is_step, w.at_node) (sym (anc_next s l i))

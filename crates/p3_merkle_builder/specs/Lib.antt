@@ -1,4 +1,3 @@
 pub use Rattle.p3_merkle_layers.specs.Views
-pub mod Built
 pub mod Parts
 pub mod Own

@@ -4,14 +4,6 @@ use Rattle.std.specs.List.{list_any, range_with_len}
 use Rattle.p3_merkle_core.specs.Geometry.{Shape, ancestor, position_in_group, step}
 use Rattle.p3_merkle_core.specs.Pruning.{boundary}
 
--- the other nodes of the group, in layer l, of the node above leaf i
-abbrev pub own_group : {X : Type 0} → Shape → List (List X) → ℕ → ℕ → List X
-own_group s layers i l = remove (take (step s l) (drop (step s l * ancestor s (suc l) i) (slice_index_or layers l []))) (position_in_group s l i)
-
--- the siblings on the path of leaf i up to layer t, in the layers of a tree
-abbrev pub own_siblings : {X : Type 0} → Shape → List (List X) → ℕ → ℕ → List X
-own_siblings s layers t i = flat_map (own_group s layers i) (range_with_len 0 t)
-
 -- a node is not covered, but another one of its group of n is
 abbrev pub is_beside : List ℕ → ℕ → ℕ → Bool
 is_beside covered n j = list_any (λ k. k / n == j / n) covered && not (list_any (λ k. k == j) covered)
@@ -19,7 +11,3 @@ is_beside covered n j = list_any (λ k. k / n == j / n) covered && not (list_any
 -- such nodes of a layer, ascending; d stands for a node that the layer has not
 abbrev pub others_beside : {X : Type 0} → List X → List ℕ → ℕ → X → List X
 others_beside layer covered n d = map (λ j. slice_index_or layer j d) (filter (is_beside covered n) (range_with_len 0 (length layer)))
-
--- the boundary nodes below layer t, in wire order, in the layers of a tree
-abbrev pub own_boundary : {X : Type 0} → Shape → List (List X) → List ℕ → ℕ → X → List X
-own_boundary s layers indices t d = map (λ (l, j). slice_index_or (slice_index_or layers l []) j d) (boundary s indices t)

@@ -4,9 +4,9 @@ ghost use Rattle.std.specs.Prelude.{◌≡◌, ◌<◌, ◌≤◌, ◌++◌, len
 ghost use Rattle.p3_merkle_core.specs.Caps.{cap_layer};
 ghost use Rattle.p3_merkle_core.specs.Geometry.{heights, levels, tallest};
 ghost use Rattle.p3_merkle_core.specs.Nodes.{shape};
-ghost use Rattle.p3_merkle_core.specs.Openings.{honest_rows, siblings_below};
+ghost use Rattle.p3_merkle_core.specs.Openings.{honest_rows, node_in, siblings_by};
+ghost use Rattle.p3_merkle_core.specs.Checks.{siblings_below};
 ghost use Rattle.p3_merkle_core.specs.declared.error.MerkleTreeError.TheVariants.{OutOfMemory};
-ghost use Rattle.p3_merkle_builder.specs.Own.{own_siblings};
 ghost use Rattle.p3_support.specs.Shown.{row_lists};
 ghost use Rattle.p3_merkle_builder.specs.Parts.{layers_of, matrices_of, tree_batch};
 
@@ -106,7 +106,7 @@ pub fn siblings_of_index<F, X: Copy, G, M: Matrix<F>, const N: usize>(
 ) -> Result<Vec<X>, MerkleTreeError>
     requires index { index < tallest (heights (shape (tree_batch tree.now))) }
     requires layer { t ≤ levels (shape (tree_batch tree.now)) }
-    ensures siblings { let own = own_siblings (shape (tree_batch tree.now)) (layers_of tree.now) t index in
+    ensures siblings { (d : X) → let own = siblings_by (node_in d (layers_of tree.now)) (shape (tree_batch tree.now)) t index in
         IfOk result (λ siblings. siblings.items ≡ own) }
     ensures memory { IfErr result (λ e. e ≡ OutOfMemory) }
 {

@@ -4,10 +4,10 @@ ghost use Rattle.std.specs.Prelude.{◌≡◌, ◌+◌, ◌-◌, ◌%◌, ◌^�
 ghost use Rattle.std.specs.List.Sorted.{IsStrictlyIncreasing};
 ghost use Rattle.p3_merkle_core.specs.Geometry.{heights, levels, tallest};
 ghost use Rattle.p3_merkle_core.specs.Nodes.{shape};
-ghost use Rattle.p3_merkle_core.specs.Openings.{honest_rows};
-ghost use Rattle.p3_merkle_core.specs.PrunedCalls.{row_sets};
+ghost use Rattle.p3_merkle_core.specs.Openings.{honest_rows, node_in};
+ghost use Rattle.p3_support.specs.Shown.{row_sets};
 ghost use Rattle.p3_merkle_core.specs.declared.error.MerkleTreeError.TheVariants.{OutOfMemory};
-ghost use Rattle.p3_merkle_builder.specs.Own.{others_beside, own_boundary};
+ghost use Rattle.p3_merkle_builder.specs.Own.{others_beside};
 ghost use Rattle.p3_merkle_builder.specs.Parts.{layers_of, tree_batch};
 
 use crate::opener::rows_of_index;
@@ -17,6 +17,7 @@ use p3_merkle_core::pruning::{boundary_len_of, climb, covered_leaves};
 use p3_merkle_layers::levels::dimensions_of;
 use p3_support::matrix::Matrix;
 use std::alloc::Global;
+ghost use Rattle.p3_merkle_core.specs.Pruning.{boundary_by};
 
 /// The rows of each of some leaves, in the order of the indices. Each index is below
 /// [`max_height`](crate::opener::max_height).
@@ -58,7 +59,7 @@ pub fn digests_of_boundary<F, X: Copy, G, M: Matrix<F>, const N: usize>(
 ) -> Result<Vec<X>, MerkleTreeError>
     requires indices { All (λ index. index < tallest (heights (shape (tree_batch tree.now)))) indices.now }
     requires layer { t ≤ levels (shape (tree_batch tree.now)) }
-    ensures digests { (d : X) → let own = own_boundary (shape (tree_batch tree.now)) (layers_of tree.now) indices.now t d in
+    ensures digests { (d : X) → let own = boundary_by (node_in d (layers_of tree.now)) (shape (tree_batch tree.now)) indices.now t in
         IfOk result (λ digests. digests.items ≡ own) }
     ensures memory { IfErr result (λ e. e ≡ OutOfMemory) }
 {

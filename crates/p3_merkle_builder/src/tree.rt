@@ -6,7 +6,7 @@ ghost use Rattle.p3_merkle_core.specs.Geometry.{arity_schedule as schedule_in, h
 ghost use Rattle.p3_merkle_core.specs.Gate.{gate_refusal};
 ghost use Rattle.p3_merkle_core.specs.Nodes.{functions_of, layers as layers_over, shape};
 ghost use Rattle.p3_merkle_core.specs.declared.error.MerkleTreeError.TheVariants.{OutOfMemory};
-ghost use Rattle.p3_merkle_builder.specs.Built.{OkUnlessRefused};
+ghost use Rattle.p3_merkle_core.specs.Refusals.{AnswersUnlessMemory};
 ghost use Rattle.p3_merkle_layers.specs.Views.{batch_of};
 
 use p3_merkle_core::error::MerkleTreeError;
@@ -77,7 +77,7 @@ impl<F: Copy, W: Copy, M: Matrix<F> + Drop, const N: usize, const D: usize> Merk
         requires lanes { P.WIDTH ≡ PW.WIDTH }
         requires some_lane { 1 ≤ P.WIDTH }
         ensures answer { let b = batch_of M.height_of M.width_of M.row_of N leaves.items in
-            OkUnlessRefused result (gate_refusal (heights (shape b))) }
+            AnswersUnlessMemory result (gate_refusal (heights (shape b))) }
         ensures matrices { IfOk result (λ tree. matrices_of tree ≡ leaves.items) }
         ensures layers { let f = functions_of (H.hash hash.now) (C.compression compress.now) (replicate D PW.default_value) in
             let b = batch_of M.height_of M.width_of M.row_of N leaves.items in
@@ -98,7 +98,7 @@ impl<F: Copy, W: Copy, M: Matrix<F> + Drop, const N: usize, const D: usize> Merk
         requires lanes { P.WIDTH ≡ PW.WIDTH }
         requires some_lane { 1 ≤ P.WIDTH }
         ensures answer { let b = batch_of M.height_of M.width_of M.row_of N leaves.items in
-            OkUnlessRefused result (gate_refusal (heights (shape b))) }
+            AnswersUnlessMemory result (gate_refusal (heights (shape b))) }
         ensures matrices { IfOk result (λ tree. matrices_of tree ≡ leaves.items) }
         ensures layers { let f = functions_of (H.hash hash.now) (C.compression compress.now) (replicate D PW.default_value) in
             let b = batch_of M.height_of M.width_of M.row_of N leaves.items in

@@ -6,7 +6,8 @@ use Rattle.std.proofs.lemmas.List.Folds.{flat_map-map}
 use Rattle.p3_merkle_core.specs.Geometry.{Shape, IsArity, exponent, heights, is_bridge, layer_exponent, step, tallest, has_rows}
 use Rattle.p3_merkle_core.specs.Groups.{group_around}
 use Rattle.p3_merkle_core.specs.Nodes.{Functions, padded_group}
-use Rattle.p3_merkle_core.specs.Openings.{Opening, layer_words, path_digest, siblings_below}
+use Rattle.p3_merkle_core.specs.Openings.{Opening}
+use Rattle.p3_merkle_core.specs.Checks.{layer_words, path_digest, siblings_below}
 use Rattle.p3_merkle_core.proofs.Completeness.{reached_leaf, reached_next}
 use Rattle.p3_merkle_core.proofs.SiblingFacts.{siblings_next, siblings_start}
 use Rattle.p3_merkle_core.proofs.StepFacts.{anc_next, anc_start, layer_start, next_exponent, step_above_1, step_at}

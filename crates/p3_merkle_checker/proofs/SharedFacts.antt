@@ -3,10 +3,11 @@ use Rattle.std.proofs.Common.{◌≡◌, ℕ, zero, suc, ◌+◌, ◌-◌, ◌<�
 use Rattle.std.specs.Option.{option_or}
 use Rattle.std.proofs.lemmas.Bool.{cases_Bool, cases_eq, cond-true, cond-false, eqb-true, eq-eqb, ne_eqb}
 use Rattle.std.proofs.lemmas.List.{append-nil}
-use Rattle.p3_merkle_core.specs.Extracting.{last_difference}
+use Rattle.p3_merkle_core.specs.Extraction.{last_difference}
 use Rattle.p3_merkle_core.specs.Geometry.{Shape, ancestor}
 use Rattle.p3_merkle_core.specs.Nodes.{Functions}
-use Rattle.p3_merkle_core.specs.Openings.{Input, Leaf, Opening, inputs_at, meeting_level, layer_words, shared_inputs}
+use Rattle.p3_merkle_core.specs.Openings.{Opening}
+use Rattle.p3_merkle_core.specs.Checks.{Input, inputs_at, meeting_level, layer_words, shared_inputs, terms, leaf_input}
 use Rattle.p3_merkle_core.specs.Refusals.{unless}
 use Rattle.p3_merkle_core.proofs.Binding.{pieces_long}
 use Rattle.p3_merkle_core.proofs.Extraction.{anc_same, level_lengths}
@@ -15,7 +16,7 @@ use Rattle.p3_merkle_core.proofs.PathFacts.{joined_same}
 use Rattle.p3_merkle_core.proofs.LeastFacts.{least_le, least_passes, below_least}
 use Rattle.p3_merkle_checker.specs.Checks.{leaf_difference, level_difference}
 use Rattle.p3_merkle_checker.specs.Collisions.{Shows}
-use Rattle.p3_merkle_checker.specs.declared.collision.InputPair.{InputPair}
+use Rattle.p3_merkle_core.specs.declared.collision.InputPair.{InputPair}
 
 -- ---- lists
 
@@ -58,11 +59,11 @@ meets s i j k = eqb (ancestor s (suc k) i) (ancestor s (suc k) j)
 
 -- what a check of i shares with one of j below layer l
 abbrev pub so_far : {T W : Type 0} → Functions T W → Shape → ℕ → ℕ → Opening T W → ℕ → List (Input T W)
-so_far f s i j o l = cond (eqb i j) (Leaf (layer_words s o.rows 0) ∷ []) [] ++ joined (λ k. cond (meets s i j k) (inputs_at f s o k) []) l
+so_far f s i j o l = cond (eqb i j) (leaf_input s o ∷ []) [] ++ joined (λ k. cond (meets s i j k) (inputs_at f s o k) []) l
 
 so_far_next : {T W : Type 0} (f : Functions T W) (s : Shape) (i j l : ℕ) (o : Opening T W) → so_far f s i j o (suc l) ≡ so_far f s i j o l ++ cond (meets s i j l) (inputs_at f s o l) []
 so_far_next f s i j l o =
-    ap (λ (xs : List (Input _ _)). cond (eqb i j) (Leaf (layer_words s o.rows 0) ∷ []) [] ++ xs) (joined_more (λ k. cond (meets s i j k) (inputs_at f s o k) []) l) ∙ sym (append_assoc (cond (eqb i j) (Leaf (layer_words s o.rows 0) ∷ []) []) (joined (λ k. cond (meets s i j k) (inputs_at f s o k) []) l) (cond (meets s i j l) (inputs_at f s o l) []))
+    ap (λ (xs : List (Input _ _)). cond (eqb i j) (leaf_input s o ∷ []) [] ++ xs) (joined_more (λ k. cond (meets s i j k) (inputs_at f s o k) []) l) ∙ sym (append_assoc (cond (eqb i j) (leaf_input s o ∷ []) []) (joined (λ k. cond (meets s i j k) (inputs_at f s o k) []) l) (cond (meets s i j l) (inputs_at f s o l) []))
 
 so_far_long : {T W : Type 0} (f : Functions T W) (s : Shape) (i j l : ℕ) (o u : Opening T W) → length (so_far f s i j o l) ≡ length (so_far f s i j u l)
 so_far_long f s i j l o u =
@@ -70,7 +71,7 @@ so_far_long f s i j l o u =
     elim (cases_Bool (eqb i j)) [ inl y ↦ rw y (ap suc rest) | inr n ↦ rw n rest ]
 
 -- below the cap it is all that is shared
-so_far_all : {T W : Type 0} (f : Functions T W) (s : Shape) (i j t : ℕ) (o : Opening T W) → so_far f s i j o t ≡ shared_inputs f s t i j o
+so_far_all : {T W : Type 0} (f : Functions T W) (s : Shape) (i j t : ℕ) (o : Opening T W) → so_far f s i j o t ≡ shared_inputs (terms f s t) i j o
 so_far_all f s i j t o =
     let g = λ (k : ℕ). cond (meets s i j k) (inputs_at f s o k) [] in
     let m = meeting_level s t i j in
@@ -78,7 +79,7 @@ so_far_all f s i j t o =
       | inl e ↦
           let all : joined g t ≡ joined (inputs_at f s o) t =
           joined_same g (inputs_at f s o) t (λ k h. cond-true (meets s i j k) (inputs_at f s o k) [] (eq-eqb (ancestor s (suc k) i) (ancestor s (suc k) j) (ap (λ n. ancestor s (suc k) n) e))) in
-          rw (eq-eqb i j e) (ap (λ (xs : List (Input _ _)). Leaf (layer_words s o.rows 0) ∷ xs) all)
+          rw (eq-eqb i j e) (ap (λ (xs : List (Input _ _)). leaf_input s o ∷ xs) all)
       | inr ne ↦
           let low = least_le (meets s i j) t in
           let sum : m + (t - m) ≡ t = omega arith in
@@ -105,9 +106,9 @@ difference_so_far : {T W : Type 0} (test : Input T W → Input T W → Bool) (f 
     difference_below test f s o u l ≡ last_difference test (so_far f s o.index u.index o l) (so_far f s o.index u.index u l)
 difference_so_far test f s o u zero =
     let b = eqb o.index u.index in
-    let mine = cond b (Leaf (layer_words s o.rows 0) ∷ []) [] in
-    let theirs = cond b (Leaf (layer_words s u.rows 0) ∷ []) [] in
-    last_if test b (Leaf (layer_words s o.rows 0) ∷ []) (Leaf (layer_words s u.rows 0) ∷ [])
+    let mine = cond b (leaf_input s o ∷ []) [] in
+    let theirs = cond b (leaf_input s u ∷ []) [] in
+    last_if test b (leaf_input s o ∷ []) (leaf_input s u ∷ [])
     ∙ ap (λ (xs : List (Input _ _)). last_difference test xs theirs) (sym (append-nil mine))
     ∙ ap (λ (ys : List (Input _ _)). last_difference test (mine ++ []) ys) (sym (append-nil theirs))
 difference_so_far test f s o u (suc l) =
@@ -119,7 +120,7 @@ difference_so_far test f s o u (suc l) =
     (sym (last_append test (so_far f s i j o l) (so_far f s i j u l) mine theirs (so_far_long f s i j l o u)))
 
 pub difference_shared : {T W : Type 0} (test : Input T W → Input T W → Bool) (f : Functions T W) (s : Shape) (o u : Opening T W) (t : ℕ) →
-    difference_below test f s o u t ≡ last_difference test (shared_inputs f s t o.index u.index o) (shared_inputs f s t o.index u.index u)
+    difference_below test f s o u t ≡ last_difference test (shared_inputs (terms f s t) o.index u.index o) (shared_inputs (terms f s t) o.index u.index u)
 difference_shared test f s o u t = difference_so_far test f s o u t ∙ rw (so_far_all f s o.index u.index t o, so_far_all f s o.index u.index t u) refl
 
 -- ---- what is found so far

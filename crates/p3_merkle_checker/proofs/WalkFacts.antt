@@ -4,16 +4,18 @@ use Rattle.std.specs.Cmp.Lexicographic.{pointwise}
 use Rattle.std.specs.Option.{option_or}
 use Rattle.std.specs.declared.vec.Vec.{Vec}
 use Rattle.std.proofs.lemmas.Bool.{cases_Bool, eq-eqb, ne_eqb}
-use Rattle.p3_merkle_core.specs.Extracting.{input_eq, last_difference}
+use Rattle.p3_merkle_core.specs.Extraction.{input_eq, last_difference}
 use Rattle.p3_merkle_core.specs.Geometry.{Shape, ancestor, exponent, heights, heights_of, layer_exponent, tallest}
 use Rattle.p3_merkle_core.specs.Nodes.{Functions}
-use Rattle.p3_merkle_core.specs.Openings.{Input, Leaf, Opening, inputs_at, layer_words}
+use Rattle.p3_merkle_core.specs.Openings.{Opening}
+use Rattle.p3_merkle_core.specs.Checks.{Input, inputs_at, layer_words, leaf_input, words_at}
 use Rattle.p3_merkle_core.specs.Refusals.{unless}
 use Rattle.p3_merkle_core.proofs.StepFacts.{layer_start}
 use Rattle.p3_merkle_checker.specs.Checks.{IsLevel, StandsAt, leaf_difference, level_difference}
 use Rattle.p3_merkle_checker.specs.Collisions.{IsDifference, Shows, level_inputs}
 use Rattle.p3_merkle_checker.specs.Paths.{rows_with}
-use Rattle.p3_merkle_checker.specs.declared.collision.InputPair.{InputPair}
+use Rattle.p3_merkle_core.specs.declared.collision.Place.TheVariants.{Leaf}
+use Rattle.p3_merkle_core.specs.declared.collision.InputPair.{InputPair}
 use Rattle.p3_merkle_checker.specs.declared.level.CheckedLevel.{CheckedLevel}
 use Rattle.p3_merkle_checker.specs.declared.level.Standing.{Standing}
 use Rattle.p3_merkle_checker.proofs.SharedFacts.{difference_below, shows_later}
@@ -39,14 +41,14 @@ words_alike d e x y v w same_d same_x same_v =
 pub at_leaf : (s : Shape) (x y : ℕ) (m : ℕ) → x ≡ y → y ≡ exponent m → m ≡ tallest (heights s) → x ≡ layer_exponent s 0
 at_leaf s x y m same top tall = same ∙ top ∙ ap exponent tall ∙ sym (layer_start s)
 
-shows_unless : {T W : Type 0} (found : Option (InputPair T (List W))) (same : Bool) (pair : Input T W × Input T W) → IsDifference found same (Some pair) → Shows found (unless same pair)
+shows_unless : {T W : Type 0} (found : Option (InputPair T (List W))) (same : Bool) (pair : Input T W × Input T W) → IsDifference found same pair → Shows found (unless same pair)
 shows_unless found same pair e = elim (cases_Bool same) [ inl t ↦ let c = rw t at e in rw t c | inr f ↦ let c = rw f at e in rw f c ]
 
 pub found_leaf : {T W : Type 0} (eq : T → T → Bool) (same : W → W → Bool) (s : Shape) (o u : Opening T W) (mine theirs : List T) (found : Option (InputPair T (List W))) → o.index ≡ u.index →
-    mine ≡ layer_words s o.rows 0 → theirs ≡ layer_words s u.rows 0 → IsDifference found (pointwise eq mine theirs) (Some (Leaf mine, Leaf theirs)) → Shows found (leaf_difference (input_eq eq same) s o u)
+    mine ≡ layer_words s o.rows 0 → theirs ≡ layer_words s u.rows 0 → IsDifference found (pointwise eq mine theirs) (words_at Leaf mine, words_at Leaf theirs) → Shows found (leaf_difference (input_eq eq same) s o u)
 found_leaf eq same s o u mine theirs found e a b is =
     let here = rw (a, b) at is in
-    rw (eq-eqb o.index u.index e) (shows_unless found (pointwise eq (layer_words s o.rows 0) (layer_words s u.rows 0)) (Leaf (layer_words s o.rows 0), Leaf (layer_words s u.rows 0)) here)
+    rw (eq-eqb o.index u.index e) (shows_unless found (pointwise eq (layer_words s o.rows 0) (layer_words s u.rows 0)) (leaf_input s o, leaf_input s u) here)
 
 -- ---- on one more level
 

@@ -1,9 +1,10 @@
 -- How far the checks of openings have come.
 use Rattle.std.specs.Prelude.{◌≡◌, ◌+◌, ◌-◌, ◌/◌, ◌≤◌, ◌==◌, ℕ, suc, List, [], ◌∷◌, Bool, Option, None, if◌then◌else◌, drop, take}
-use Rattle.p3_merkle_core.specs.Extracting.{last_difference}
+use Rattle.p3_merkle_core.specs.Extraction.{last_difference}
 use Rattle.p3_merkle_core.specs.Geometry.{Shape, IsArity, ancestor, layer_exponent}
 use Rattle.p3_merkle_core.specs.Nodes.{Functions}
-use Rattle.p3_merkle_core.specs.Openings.{Input, Opening, Leaf, inputs_at, opening_of, path_digest, layer_words, siblings_below}
+use Rattle.p3_merkle_core.specs.Openings.{Opening, opening_of}
+use Rattle.p3_merkle_core.specs.Checks.{Input, inputs_at, path_digest, layer_words, siblings_below, leaf_input}
 use Rattle.p3_support.specs.Shown.{row_lists}
 use Rattle.p3_merkle_checker.specs.declared.openings.IndexedOpening.{IndexedOpening}
 use Rattle.p3_merkle_checker.specs.declared.level.CheckedLevel.{CheckedLevel}
@@ -52,7 +53,7 @@ pub record IsLevel {T W : Type 0} (f : Functions T W) (s : Shape) (o : Opening T
 -- the inputs of the leaf, if the checks of o and u share it and they differ
 abbrev pub leaf_difference : {T W : Type 0} → (Input T W → Input T W → Bool) → Shape → Opening T W → Opening T W → Option (Input T W × Input T W)
 leaf_difference test s o u =
-    if o.index == u.index then last_difference test (Leaf (layer_words s o.rows 0) ∷ []) (Leaf (layer_words s u.rows 0) ∷ []) else None
+    if o.index == u.index then last_difference test (leaf_input s o ∷ []) (leaf_input s u ∷ []) else None
 
 -- the last inputs of level l that differ, if the checks of o and u share the level
 abbrev pub level_difference : {T W : Type 0} → (Input T W → Input T W → Bool) → Functions T W → Shape → ℕ → Opening T W → Opening T W → Option (Input T W × Input T W)

@@ -1,7 +1,7 @@
 -- What the check of an opening reads.
 use Rattle.std.specs.Prelude.{◌≡◌, ◌≤◌, ℕ, ◌==◌, List, [], ◌∷◌, ◌++◌, drop, zip, filter, flat_map, map, if◌then◌else◌}
 use Rattle.p3_merkle_core.specs.Geometry.{Shape, IsArity, exponent, levels}
-use Rattle.p3_merkle_core.specs.Openings.{siblings_below}
+use Rattle.p3_merkle_core.specs.Checks.{siblings_below}
 
 -- of rows with their heights, those of the exponent x, one after another
 abbrev pub rows_with : {T : Type 0} → ℕ → List (ℕ × List T) → List T

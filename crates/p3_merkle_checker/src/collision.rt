@@ -2,55 +2,15 @@
 
 ghost use Rattle.std.specs.Prelude.{IfOk};
 ghost use Rattle.std.specs.Cmp.Lexicographic.{pointwise};
-ghost use Rattle.p3_merkle_core.specs.Extracting.{input_eq, last_difference};
-ghost use Rattle.p3_merkle_checker.specs.Collisions.{digests_at, first_words, inputs_above, level_inputs, second_words, words_at, IsDifference, Shows};
+ghost use Rattle.p3_merkle_core.specs.Checks.{digests_at, words_at};
+ghost use Rattle.p3_merkle_core.specs.Extraction.{input_eq, last_difference};
+ghost use Rattle.p3_merkle_checker.specs.Collisions.{first_words, inputs_above, level_inputs, second_words, IsDifference, Shows};
 
 use crate::level::CheckedLevel;
 use crate::opened::opened_rows;
+use p3_merkle_core::collision::{Collision, InputPair, Place};
 use p3_support::matrix::Dimensions;
 use std::alloc::{AllocError, Global};
-
-/// Where an input of the check of an opening stands. The check hashes the leaf, and then goes up level by level, from
-/// level 0; level `l` leads from layer `l` to layer `l + 1`.
-#[derive(Debug, PartialEq, Eq, Drop)]
-pub enum Place {
-    /// The words that are hashed at the leaf.
-    Leaf,
-    /// The digests that are compressed on this level: the path's own among its siblings, then default digests.
-    Group(usize),
-    /// The words that are hashed for the matrices of the layer above this level.
-    Rows(usize),
-    /// The digests of this level's group and of its rows, then default digests, which are compressed where matrices
-    /// belong to the layer above.
-    Pair(usize),
-}
-
-/// Two different inputs at one place, with words `T` and digests `X`. [`Collision`] is this pair at digests of words.
-#[derive(Debug, PartialEq, Eq, Drop)]
-pub enum InputPair<T, X> {
-    /// Words that are hashed: the rows of the matrices there, one after another.
-    Words {
-        /// Where both inputs stand.
-        place: Place,
-        /// The input of the first opening.
-        first: Vec<T>,
-        /// The input of the second.
-        second: Vec<T>,
-    },
-    /// Digests that are compressed, as many as the arity.
-    Digests {
-        /// Where both inputs stand.
-        place: Place,
-        /// The input of the first opening.
-        first: Vec<X>,
-        /// The input of the second.
-        second: Vec<X>,
-    },
-}
-
-/// Two different inputs of one digest, at one place of the checks of two openings: words `T`, or digests of `D` words
-/// `W`.
-pub type Collision<T, W, const D: usize> = InputPair<T, [W; D]>;
 
 /// The rows of two openings, of which those of the matrices of one exponent are compared.
 #[derive(Clone, Copy)]
@@ -73,7 +33,7 @@ pub(crate) fn differing_digests<T, W: Copy + Eq, const D: usize>(
     second: &[[W; D]],
 ) -> Result<Option<Collision<T, W, D>>, AllocError>
     ensures { let same = pointwise (pointwise W.eq) first.now second.now in
-        IfOk result (λ found. IsDifference found same (digests_at place first.now second.now)) }
+        IfOk result (λ found. IsDifference found same (digests_at place first.now, digests_at place second.now)) }
 {
     if first == second {
         return Ok(None);
@@ -93,7 +53,7 @@ pub(crate) fn differing_words<T: Copy + Eq + Drop, W, const D: usize>(
 ) -> Result<Option<Collision<T, W, D>>, AllocError>
     ensures { let mine = first_words rows.now in
         let theirs = second_words rows.now in
-        IfOk result (λ found. IsDifference found (pointwise T.eq mine theirs) (words_at place mine theirs)) }
+        IfOk result (λ found. IsDifference found (pointwise T.eq mine theirs) (words_at place mine, words_at place theirs)) }
 {
     let first: Vec<T> = opened_rows(rows.dimensions, rows.first, rows.exponent).collect(alloc)?;
     let second: Vec<T> = opened_rows(rows.dimensions, rows.second, rows.exponent).collect(alloc)?;

@@ -1,16 +1,19 @@
 //! Extraction: what two openings under one cap lead to.
 
-ghost use Rattle.std.specs.Prelude.{replicate};
-ghost use Rattle.p3_merkle_core.specs.Extracting.{extraction_under};
+ghost use Rattle.std.specs.Prelude.{IfOk, replicate};
+ghost use Rattle.std.specs.Option.{option_or};
+ghost use Rattle.p3_merkle_core.specs.Checks.{terms};
+ghost use Rattle.p3_merkle_core.specs.Extraction.{difference_of};
+ghost use Rattle.p3_merkle_core.specs.Refusals.{refusal_under, AnswersUnlessMemory};
 ghost use Rattle.p3_merkle_core.specs.Geometry.{shape_of};
 ghost use Rattle.p3_merkle_core.specs.Nodes.{functions_of};
 ghost use Rattle.p3_merkle_checker.specs.Checks.{opening_in};
-ghost use Rattle.p3_merkle_checker.specs.Collisions.{AnswersUnlessMemory};
+ghost use Rattle.p3_merkle_checker.specs.Collisions.{Shows};
 ghost use Rattle.p3_merkle_checker.specs.Paths.{CanCheck};
 
-use crate::collision::Collision;
 use crate::level::Checker;
 use crate::openings::{IndexedOpening, OpeningPair};
+use p3_merkle_core::collision::Collision;
 use p3_merkle_core::error::MerkleTreeError;
 use p3_merkle_core::steps::steps_of;
 use p3_support::compress::PseudoCompressionFunction;
@@ -47,9 +50,13 @@ impl<
         second: IndexedOpening<'_, P::Value, [PW::Value; D]>,
     ) -> Result<Option<Collision<P::Value, PW::Value, D>>, MerkleTreeError>
         requires { CanCheck (shape_of N dimensions.now) t }
-        ensures { let f = functions_of (H.hash self.now.hash.now) (C.compression self.now.compress.now) (replicate D PW.default_value) in
-            let s = shape_of N dimensions.now in
-            AnswersUnlessMemory result (extraction_under P.Value.eq PW.Value.eq f s t roots.now (opening_in first.entry) (opening_in second.entry)) }
+        ensures answer { let f = functions_of (H.hash self.now.hash.now) (C.compression self.now.compress.now) (replicate D PW.default_value) in
+            let refusal = refusal_under PW.Value.eq (terms f (shape_of N dimensions.now) t) roots.now in
+            AnswersUnlessMemory result (option_or (refusal (opening_in first.entry)) (refusal (opening_in second.entry))) }
+        ensures found { let f = functions_of (H.hash self.now.hash.now) (C.compression self.now.compress.now) (replicate D PW.default_value) in
+            let c = terms f (shape_of N dimensions.now) t in
+            let difference = difference_of P.Value.eq PW.Value.eq c (opening_in first.entry) (opening_in second.entry) in
+            IfOk result (λ found. Shows found difference) }
     {
         let steps = steps_of(dimensions, N);
         self.check_opening(roots, &steps, t, first)?;

@@ -8,7 +8,6 @@
 pub mod collision;
 pub mod extraction;
 pub mod form;
-pub mod laws;
 pub mod level;
 mod opened;
 pub mod openings;

@@ -4,7 +4,7 @@ ghost use Rattle.std.specs.Prelude.{◌≡◌, ◌==◌, false, length, replicat
 ghost use Rattle.std.specs.Option.{option_map};
 ghost use Rattle.p3_merkle_core.specs.Geometry.{ancestor, shape_of};
 ghost use Rattle.p3_merkle_core.specs.Nodes.{functions_of};
-ghost use Rattle.p3_merkle_core.specs.Openings.{path_digest};
+ghost use Rattle.p3_merkle_core.specs.Checks.{path_digest, terms};
 ghost use Rattle.p3_merkle_core.specs.Refusals.{answer_under};
 ghost use Rattle.p3_merkle_checker.specs.Checks.{opening_in};
 ghost use Rattle.p3_merkle_checker.specs.Paths.{CanCheck, CanReach};
@@ -70,7 +70,7 @@ impl<
         requires arity { steps.now.arity ≡ N }
         requires check { CanCheck (shape_of N steps.now.dimensions.now) t }
         ensures { let f = functions_of (H.hash self.now.hash.now) (C.compression self.now.compress.now) (replicate D PW.default_value) in
-            result ≡ answer_under PW.Value.eq f (shape_of N steps.now.dimensions.now) t roots.now (opening_in opening.entry) }
+            result ≡ answer_under PW.Value.eq (terms f (shape_of N steps.now.dimensions.now) t) roots.now (opening_in opening.entry) }
     {
         let (index, num_siblings) = (opening.index, opening.siblings.len());
         check_form(steps, t, index, opening.rows, num_siblings)?;

@@ -1,16 +1,17 @@
 //! The checks of two openings, level by level and side by side, and the last place at which they differ.
 
 ghost use Rattle.std.specs.Prelude.{◌≡◌, IfOk, replicate};
-ghost use Rattle.p3_merkle_core.specs.Extracting.{input_eq, last_difference};
+ghost use Rattle.p3_merkle_core.specs.Checks.{terms};
+ghost use Rattle.p3_merkle_core.specs.Extraction.{difference_of, input_eq};
 ghost use Rattle.p3_merkle_core.specs.Geometry.{shape_of};
 ghost use Rattle.p3_merkle_core.specs.Nodes.{functions_of};
-ghost use Rattle.p3_merkle_core.specs.Openings.{shared_inputs};
 ghost use Rattle.p3_merkle_checker.specs.Checks.{leaf_difference, opening_in};
 ghost use Rattle.p3_merkle_checker.specs.Collisions.{Shows};
 
-use crate::collision::{Collision, Place, differing_level, differing_words};
+use crate::collision::{differing_level, differing_words};
 use crate::level::{Checker, leaf, tell_siblings};
 use crate::openings::OpeningPair;
+use p3_merkle_core::collision::{Collision, Place};
 use p3_merkle_core::geometry::{exponent_of, tallest_of};
 use p3_merkle_core::steps::steps_of;
 use p3_support::compress::PseudoCompressionFunction;
@@ -56,13 +57,9 @@ impl<
         openings: &OpeningPair<'_, P::Value, [PW::Value; D], N>,
     ) -> Result<Option<Collision<P::Value, PW::Value, D>>, AllocError>
         ensures { let f = functions_of (H.hash self.now.hash.now) (C.compression self.now.compress.now) (replicate D PW.default_value) in
-            let s = shape_of N openings.now.dimensions.now in
-            let t = openings.now.t in
-            let o = opening_in openings.now.first in
-            let u = opening_in openings.now.second in
-            let mine = shared_inputs f s t o.index u.index o in
-            let theirs = shared_inputs f s t o.index u.index u in
-            IfOk result (λ found. Shows found (last_difference (input_eq P.Value.eq PW.Value.eq) mine theirs)) }
+            let c = terms f (shape_of N openings.now.dimensions.now) openings.now.t in
+            let difference = difference_of P.Value.eq PW.Value.eq c (opening_in openings.now.first) (opening_in openings.now.second) in
+            IfOk result (λ found. Shows found difference) }
     {
         let dimensions = openings.dimensions;
         let steps = steps_of(dimensions, N);

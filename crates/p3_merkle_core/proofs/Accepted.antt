@@ -6,7 +6,8 @@ use Rattle.std.proofs.lemmas.List.FromFn.{length-map-range_with_len, get_or-map-
 use Rattle.std.proofs.lemmas.Option.{slice_get-get_or}
 use Rattle.p3_merkle_core.specs.Geometry.{ancestor, raw_len, layer_len, padded_len, row_at_index, heights, heights_of, widths_of}
 use Rattle.p3_merkle_core.specs.Nodes.{Functions, Batch, Matrix, shape, node, layer, dimensions_of, HasFullRows}
-use Rattle.p3_merkle_core.specs.Openings.{honest, IsAccepted}
+use Rattle.p3_merkle_core.specs.Openings.{honest}
+use Rattle.p3_merkle_core.specs.Checks.{IsAccepted, terms}
 use Rattle.p3_merkle_core.proofs.LadderFacts.{row_below}
 use Rattle.p3_merkle_core.proofs.RawFacts.{anc_below}
 use Rattle.p3_merkle_core.proofs.Completeness.{IsHonest, honest_reaches, honest_count}
@@ -24,7 +25,7 @@ lengths_are row (m ∷ ms) e low =
     rw (e 0 m (omega arith) (row m.height) (low 0 0 (omega arith)), lengths_are row ms (λ k d h. e (suc k) d (omega arith)) (λ k d h. low (suc k) d (omega arith))) refl
 
 pub honest_accepted : {T W : Type 0} (f : Functions T W) (b : Batch T) (t i : ℕ) → IsHonest b t i → HasFullRows b →
-    IsAccepted f (shape b) t (layer f b t) (honest f b t i)
+    IsAccepted (terms f (shape b) t) (layer f b t) (honest f b t i)
 honest_accepted f b t i w widths =
     let s = shape b in
     let j = ancestor s t i in

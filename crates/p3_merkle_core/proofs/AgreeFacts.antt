@@ -4,7 +4,8 @@ use Rattle.std.specs.List.{range_with_len}
 use Rattle.std.proofs.lemmas.Bool.{cases_lt, eqb-true, and_parts, and_from, false_from_ne_true}
 use Rattle.std.proofs.lemmas.List.{get_or-map, length-map}
 use Rattle.p3_merkle_core.specs.Geometry.{Shape, ancestor, heights, layer_exponent, tallest}
-use Rattle.p3_merkle_core.specs.Refusals.{first_of, first_rows, group_refusal, is_queried, lead, matrices_at, row_refusal, slots_below, width_refusal}
+use Rattle.p3_merkle_core.specs.Refusals.{first_of, group_refusal, is_queried, lead, matrices_at, row_refusal, slots_below, width_refusal, rows_of}
+use Rattle.p3_merkle_core.specs.Pruning.{first_rows}
 use Rattle.p3_support.specs.declared.matrix.Dimensions.{Dimensions}
 use Rattle.p3_merkle_core.specs.Agreement.{distinct, first_query, layers_refusal, opened_of, rows_refusal, slot_rows, IsAscending}
 use Rattle.p3_merkle_core.specs.declared.error.MerkleTreeError.{MerkleTreeError}
@@ -60,7 +61,7 @@ lead_index s indices l k f below h is =
 -- ---- the rows of a slot
 
 pub rows_at : {T : Type 0} (firsts indices : List ℕ) (sets : List (List (List T))) (k : ℕ) → firsts ≡ map (first_query indices) (distinct indices) → length indices ≡ length sets → k < length (distinct indices) →
-    slot_rows firsts sets k ≡ first_rows (opened_of indices sets) (get_or (distinct indices) k 0)
+    slot_rows firsts sets k ≡ rows_of (opened_of indices sets) (get_or (distinct indices) k 0)
 rows_at firsts indices sets k is e h =
     (at_slot firsts indices sets (get_or (distinct indices) k 0) k is e (distinct_queried indices k h) (found_at indices (get_or (distinct indices) k 0) k h refl)).rows
 
@@ -80,11 +81,11 @@ slot_is row_eq s l firsts indices sets k is e below h =
     let long : length nodes ≡ length leaves = length-map leaves (ancestor s l) in
     let inside : f < length nodes = lead_place nodes k f (omega arith) refl in
     let mine = rows_at firsts indices sets k is e h in
-    let theirs = rows_at firsts indices sets f is e (omega arith) ∙ ap (first_rows p) (sym (lead_index s indices l k f below h refl)) in
+    let theirs = rows_at firsts indices sets f is e (omega arith) ∙ ap (rows_of p) (sym (lead_index s indices l k f below h refl)) in
     let slot = (found_at indices i k h refl).slot in
     ap (λ rows. rows_refusal row_eq hs x k rows (slot_rows firsts sets f)) mine
-    ∙ ap (λ rows. rows_refusal row_eq hs x k (first_rows p i) rows) theirs
-    ∙ ap (λ n. rows_refusal row_eq hs x n (first_rows p i) (first_rows p (lead s indices l (ancestor s l i)))) slot
+    ∙ ap (λ rows. rows_refusal row_eq hs x k (rows_of p i) rows) theirs
+    ∙ ap (λ n. rows_refusal row_eq hs x n (rows_of p i) (rows_of p (lead s indices l (ancestor s l i)))) slot
 
 layer_is : {T : Type 0} (row_eq : T → T → Bool) (s : Shape) (l : ℕ) (firsts indices : List ℕ) (sets : List (List (List T))) → firsts ≡ map (first_query indices) (distinct indices) → length indices ≡ length sets →
     tallest indices < tallest (heights s) →
@@ -110,11 +111,11 @@ mapped_walk h g f (x ∷ xs) e = rw (e 0 (omega arith), mapped_walk h g f xs (λ
 
 -- the widths of the first queries, slot by slot
 pub widths_are : {T : Type 0} (dimensions : List Dimensions) (m : ℕ) (firsts indices : List ℕ) (sets : List (List (List T))) → firsts ≡ map (first_query indices) (distinct indices) → length indices ≡ length sets → tallest indices < m →
-    first_of (λ query. width_refusal dimensions (get_or sets query [])) firsts ≡ first_of (λ i. width_refusal dimensions (first_rows (opened_of indices sets) i)) (slots_below m indices)
+    first_of (λ query. width_refusal dimensions (get_or sets query [])) firsts ≡ first_of (λ i. width_refusal dimensions (rows_of (opened_of indices sets) i)) (slots_below m indices)
 widths_are dimensions m firsts indices sets is e below =
     let p = opened_of indices sets in
     let h = λ (query : ℕ). width_refusal dimensions (get_or sets query []) in
-    let g = λ (i : ℕ). width_refusal dimensions (first_rows p i) in
+    let g = λ (i : ℕ). width_refusal dimensions (rows_of p i) in
     ap (first_of h) is
     ∙ mapped_walk h g (first_query indices) (distinct indices) (λ k l. ap (width_refusal dimensions) (first_of_index indices sets (get_or (distinct indices) k 0) e (distinct_queried indices k l)).rows)
     ∙ ap (first_of g) (distinct_below m indices below)

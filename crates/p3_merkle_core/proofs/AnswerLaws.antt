@@ -15,6 +15,7 @@ use Rattle.p3_merkle_core.proofs.Restoration.{honest_capped}
 use Rattle.p3_merkle_core.proofs.HonestAnswered.{honest_restorable}
 use Rattle.p3_merkle_core.proofs.Equivalence.{equivalent}
 use Rattle.p3_merkle_core.proofs.Verdicts.{accepted_from, accepted_answer, pruned_accepted}
+use Rattle.p3_merkle_core.specs.Checks.{terms}
 
 -- an answer that is an error stays where more is asked
 still_refused : {E : Type 0} (x y : Option E) (e : E) → verdict x ≡ Err e → verdict (option_or x y) ≡ Err e
@@ -22,8 +23,8 @@ still_refused None y e h = absurd cc
 still_refused (Some x) y e h = h
 
 pub refused_under : {T W : Type 0} (row_eq : T → T → Bool) (digest_eq : W → W → Bool) (f : Functions T W) (s : Shape) (t : ℕ) (cap : List (List W)) (p : PrunedOpening T W) (e : MerkleTreeError) →
-    pruned_answer row_eq s t p ≡ Err e → pruned_answer_under row_eq digest_eq f s t cap p ≡ Err e
-refused_under row_eq digest_eq f s t cap p e = still_refused (pruned_refusal row_eq s t p) (cap_refusal digest_eq f s t cap p) e
+    pruned_answer row_eq s t p ≡ Err e → pruned_answer_under row_eq digest_eq (terms f s t) cap p ≡ Err e
+refused_under row_eq digest_eq f s t cap p e = still_refused (pruned_refusal row_eq s t p) (cap_refusal digest_eq (terms f s t) cap p) e
 
 -- where nothing else is refused, a test decides between Ok and its error
 last_test : {E : Type 0} (x : Option E) (b : Bool) (e : E) → verdict x ≡ Ok tt → (verdict (option_or x (unless b e)) ≡ Ok tt) ⊎ (verdict (option_or x (unless b e)) ≡ Err e)
@@ -31,21 +32,21 @@ last_test None b e h = elim (cases_Bool b) [ inl t ↦ inl (rw t refl) | inr f �
 last_test (Some x) b e h = absurd cc
 
 pub ok_or_mismatch : {T W : Type 0} (row_eq : T → T → Bool) (digest_eq : W → W → Bool) (f : Functions T W) (s : Shape) (t : ℕ) (cap : List (List W)) (p : PrunedOpening T W) →
-    pruned_answer row_eq s t p ≡ Ok tt → (pruned_answer_under row_eq digest_eq f s t cap p ≡ Ok tt) ⊎ (pruned_answer_under row_eq digest_eq f s t cap p ≡ Err CapMismatch)
+    pruned_answer row_eq s t p ≡ Ok tt → (pruned_answer_under row_eq digest_eq (terms f s t) cap p ≡ Ok tt) ⊎ (pruned_answer_under row_eq digest_eq (terms f s t) cap p ≡ Err CapMismatch)
 ok_or_mismatch row_eq digest_eq f s t cap p =
-    last_test (pruned_refusal row_eq s t p) (list_all (λ i. is_entry digest_eq cap (ancestor s t i) (restored_node f s t p t (ancestor s t i))) p.indices) CapMismatch
+    last_test (pruned_refusal row_eq s t p) (list_all (λ i. is_entry digest_eq cap (ancestor s t i) (restored_node (terms f s t) p t (ancestor s t i))) p.indices) CapMismatch
 
 pub answered_alike : {T W : Type 0} (row_eq : T → T → Bool) (digest_eq : W → W → Bool) (f : Functions T W) (s : Shape) (t : ℕ) (cap : List (List W)) (p : PrunedOpening T W) →
     IsEquality row_eq → IsEquality digest_eq → IsArity s.arity → pruned_answer row_eq s t p ≡ Ok tt →
-    (pruned_answer_under row_eq digest_eq f s t cap p ≡ Ok tt) ↔ ((k : ℕ) → k < length p.indices → answer_under digest_eq f s t cap (opening_at f s t p k) ≡ Ok tt)
+    (pruned_answer_under row_eq digest_eq (terms f s t) cap p ≡ Ok tt) ↔ ((k : ℕ) → k < length p.indices → answer_under digest_eq (terms f s t) cap (opening_at (terms f s t) p k) ≡ Ok tt)
 answered_alike row_eq digest_eq f s t cap p dec dec_w w ok =
     let whole = pruned_accepted row_eq digest_eq f s t cap p dec dec_w w in (
-      λ e k h. accepted_answer digest_eq f s t cap (opening_at f s t p k) dec_w ((whole.0 e).1 k h),
-      λ each. whole.1 (restorable row_eq s t p dec ok, λ k h. accepted_from digest_eq f s t cap (opening_at f s t p k) dec_w (each k h)),
+      λ e k h. accepted_answer digest_eq f s t cap (opening_at (terms f s t) p k) dec_w ((whole.0 e).1 k h),
+      λ each. whole.1 (restorable row_eq s t p dec ok, λ k h. accepted_from digest_eq f s t cap (opening_at (terms f s t) p k) dec_w (each k h)),
     )
 
 pub honest_accepted_pruned : {T W : Type 0} (row_eq : T → T → Bool) (digest_eq : W → W → Bool) (f : Functions T W) (b : Batch T) (t : ℕ) (indices : List ℕ) → IsEquality row_eq → IsEquality digest_eq → IsHonestQuery b t indices →
-    HasFullRows b → pruned_answer_under row_eq digest_eq f (shape b) t (layer f b t) (honest_query f b t indices) ≡ Ok tt
+    HasFullRows b → pruned_answer_under row_eq digest_eq (terms f (shape b) t) (layer f b t) (honest_query f b t indices) ≡ Ok tt
 honest_accepted_pruned row_eq digest_eq f b t indices dec dec_w w rows =
     let s = shape b in
     let p = honest_query f b t indices in

@@ -8,8 +8,8 @@ use Rattle.std.proofs.lemmas.List.Folds.{list_any_at}
 use Rattle.p3_merkle_core.proofs.ShapeFacts.{widths_in_pairs}
 use Rattle.p3_merkle_core.specs.Geometry.{Shape, tallest, exponent, layer_exponent, ancestor, heights, widths}
 use Rattle.p3_merkle_core.specs.Gate.{gate_refusal}
-use Rattle.p3_merkle_core.specs.Pruning.{PrunedOpening, boundary}
-use Rattle.p3_merkle_core.specs.Refusals.{first_of, first_some, first_rows, lead, matrices_at, slots_below, slot_of, is_queried, size_refusal, idle_refusal, queries_refusal, repeat_refusal, digest_count_refusal, width_refusal, row_refusal, group_refusal, pruned_refusal, pruned_answer, IsRestorable}
+use Rattle.p3_merkle_core.specs.Pruning.{PrunedOpening, boundary, first_rows, IsRestorable}
+use Rattle.p3_merkle_core.specs.Refusals.{first_of, first_some, lead, matrices_at, slots_below, slot_of, is_queried, size_refusal, idle_refusal, queries_refusal, repeat_refusal, digest_count_refusal, width_refusal, row_refusal, group_refusal, pruned_refusal, pruned_answer, rows_of}
 use Rattle.p3_merkle_core.specs.declared.error.PrunedProofError.TheVariants.{SiblingCountMismatch, InconsistentDuplicateOpenings, InconsistentGroupOpening}
 use Rattle.p3_merkle_core.specs.declared.error.MerkleTreeError.TheVariants.{WrongBatchSize, MalformedPrunedProof}
 use Rattle.p3_merkle_core.proofs.NoneFacts.{none_parts, unless_none, verdict_ok, kept_none, range_none, paired_none, below_from, fit_from}
@@ -22,7 +22,7 @@ record HasNoFault {T W : Type 0} (row_eq : T → T → Bool) (s : Shape) (t : �
   pub index : queries_refusal (tallest (heights s)) p.indices ≡ None
   pub repeat : repeat_refusal row_eq p ≡ None
   pub count : length p.digests ≡ length (boundary s p.indices t)
-  pub width : first_of (λ i. width_refusal s.dimensions (first_rows p i)) (slots_below (tallest (heights s)) p.indices) ≡ None
+  pub width : first_of (λ i. width_refusal s.dimensions (rows_of p i)) (slots_below (tallest (heights s)) p.indices) ≡ None
   pub group : group_refusal row_eq s t p ≡ None
 
 no_fault : {T W : Type 0} (row_eq : T → T → Bool) (s : Shape) (t : ℕ) (p : PrunedOpening T W) → pruned_refusal row_eq s t p ≡ None → HasNoFault row_eq s t p
@@ -30,7 +30,7 @@ no_fault row_eq s t p e =
     let m = tallest (heights s) in
     let n = length p.indices in
     let r8 = group_refusal row_eq s t p ∷ [] in
-    let r7 = first_of (λ i. width_refusal s.dimensions (first_rows p i)) (slots_below m p.indices) ∷ r8 in
+    let r7 = first_of (λ i. width_refusal s.dimensions (rows_of p i)) (slots_below m p.indices) ∷ r8 in
     let r6 = digest_count_refusal (length (boundary s p.indices t)) (length p.digests) ∷ r7 in
     let r5 = repeat_refusal row_eq p ∷ r6 in
     let r4 = queries_refusal m p.indices ∷ r5 in
@@ -41,7 +41,7 @@ no_fault row_eq s t p e =
     let d = none_parts (queries_refusal m p.indices) (first_some r5) c.1 in
     let f = none_parts (repeat_refusal row_eq p) (first_some r6) d.1 in
     let g = none_parts (digest_count_refusal (length (boundary s p.indices t)) (length p.digests)) (first_some r7) f.1 in
-    let h = none_parts (first_of (λ i. width_refusal s.dimensions (first_rows p i)) (slots_below m p.indices)) (first_some r8) g.1 in
+    let h = none_parts (first_of (λ i. width_refusal s.dimensions (rows_of p i)) (slots_below m p.indices)) (first_some r8) g.1 in
     let k = none_parts (group_refusal row_eq s t p) None h.1 in
     record {
       gate = a.0;
@@ -59,25 +59,25 @@ query_is indices k h = list_any_at (λ i. eqb i (get_or indices k 0)) indices k 
 
 -- each query's row set is that of the first query of its index
 rows_are_first : {T W : Type 0} (row_eq : T → T → Bool) (s : Shape) (t : ℕ) (p : PrunedOpening T W) → ((x y : T) → Decides (row_eq x y) (x ≡ y)) → HasNoFault row_eq s t p →
-    (k : ℕ) → k < length p.indices → get_or p.rows k [] ≡ first_rows p (get_or p.indices k 0)
+    (k : ℕ) → k < length p.indices → get_or p.rows k [] ≡ rows_of p (get_or p.indices k 0)
 rows_are_first row_eq s t p dec w k h =
     let i = get_or p.indices k 0 in
     let r = get_or p.rows k [] in
     let one = paired_none (λ (i, rows). _) p.indices p.rows k [] w.repeat w.sizes h in
-    (pointwise_decides (pointwise_decides dec) r (first_rows p i)).0
-    (unless_none (pointwise (pointwise row_eq) r (first_rows p i)) (MalformedPrunedProof (InconsistentDuplicateOpenings (slot_of p.indices i))) one)
+    (pointwise_decides (pointwise_decides dec) r (rows_of p i)).0
+    (unless_none (pointwise (pointwise row_eq) r (rows_of p i)) (MalformedPrunedProof (InconsistentDuplicateOpenings (slot_of p.indices i))) one)
 
 rows_fit_first : {T W : Type 0} (row_eq : T → T → Bool) (s : Shape) (t : ℕ) (p : PrunedOpening T W) → HasNoFault row_eq s t p →
-    (k : ℕ) → k < length p.indices → map length (first_rows p (get_or p.indices k 0)) ≡ widths s
+    (k : ℕ) → k < length p.indices → map length (rows_of p (get_or p.indices k 0)) ≡ widths s
 rows_fit_first row_eq s t p w k h =
     let i = get_or p.indices k 0 in
     let below = below_from (tallest (heights s)) p.indices w.index k 0 h in
-    fit_from s.dimensions (first_rows p i) (kept_none (λ i. width_refusal s.dimensions (first_rows p i)) (is_queried p.indices) 0 (tallest (heights s)) i w.width (query_is p.indices k h) (omega arith) (omega arith))
+    fit_from s.dimensions (rows_of p i) (kept_none (λ i. width_refusal s.dimensions (rows_of p i)) (is_queried p.indices) 0 (tallest (heights s)) i w.width (query_is p.indices k h) (omega arith) (omega arith))
 
 -- a row of a matrix of layer l is that of the lowest index under the same node
 row_is_lead : {T W : Type 0} (row_eq : T → T → Bool) (s : Shape) (t : ℕ) (p : PrunedOpening T W) → ((x y : T) → Decides (row_eq x y) (x ≡ y)) → HasNoFault row_eq s t p →
     (l k m : ℕ) → l ≤ t → k < length p.indices → m < length (heights s) → eqb (exponent (get_or (heights s) m 0)) (layer_exponent s l) ≡ true →
-    get_or (first_rows p (get_or p.indices k 0)) m [] ≡ get_or (first_rows p (lead s p.indices l (ancestor s l (get_or p.indices k 0)))) m []
+    get_or (rows_of p (get_or p.indices k 0)) m [] ≡ get_or (rows_of p (lead s p.indices l (ancestor s l (get_or p.indices k 0)))) m []
 row_is_lead row_eq s t p dec w l k m le h inside here =
     let i = get_or p.indices k 0 in
     let top = tallest (heights s) in
@@ -85,8 +85,8 @@ row_is_lead row_eq s t p dec w l k m le h inside here =
     let layer = range_none (λ l. first_of (λ i. first_of (row_refusal row_eq s p l i) (matrices_at s l)) (slots_below top p.indices)) 0 (suc t) l w.group (omega arith) (omega arith) in
     let slot = kept_none (λ i. first_of (row_refusal row_eq s p l i) (matrices_at s l)) (is_queried p.indices) 0 top i layer (query_is p.indices k h) (omega arith) (omega arith) in
     let one = kept_none (row_refusal row_eq s p l i) (λ m. eqb (exponent (get_or (heights s) m 0)) (layer_exponent s l)) 0 (length (heights s)) m slot here (omega arith) (omega arith) in
-    let x = get_or (first_rows p i) m [] in
-    let y = get_or (first_rows p (lead s p.indices l (ancestor s l i))) m [] in
+    let x = get_or (rows_of p i) m [] in
+    let y = get_or (rows_of p (lead s p.indices l (ancestor s l i))) m [] in
     (pointwise_decides dec x y).0 (unless_none (pointwise row_eq x y) (MalformedPrunedProof (InconsistentGroupOpening (slot_of p.indices i) m)) one)
 
 pub same_kept : {T : Type 0} (x : ℕ) (hs : List ℕ) (us vs : List (List T)) → length us ≡ length hs → length vs ≡ length hs →
@@ -109,7 +109,7 @@ restorable row_eq s t p dec e =
     let first = rows_are_first row_eq s t p dec w in
     let fits = rows_fit_first row_eq s t p w in
     let long : (k : ℕ) → k < length p.indices → length (get_or p.rows k []) ≡ length (heights s) =
-    λ k h. ap length (first k h) ∙ sym (length-map (first_rows p (get_or p.indices k 0)) length) ∙ ap length (fits k h) ∙ widths_in_pairs s in
+    λ k h. ap length (first k h) ∙ sym (length-map (rows_of p (get_or p.indices k 0)) length) ∙ ap length (fits k h) ∙ widths_in_pairs s in
     record {
       lawful = (gate_lawful (heights s)).0 w.gate;
       below = below_from (tallest (heights s)) p.indices w.index;
@@ -119,12 +119,12 @@ restorable row_eq s t p dec e =
           rw (get_or_default p.rows k d [] h, first k inside) (fits k inside);
       agreed = record {
         in_pairs = w.sizes;
-        repeats = λ a b h g same. first a h ∙ ap (first_rows p) same ∙ sym (first b g);
+        repeats = λ a b h g same. first a h ∙ ap (rows_of p) same ∙ sym (first b g);
         groups = λ l a b le h g same.
             same_kept (layer_exponent s l) (heights s) (get_or p.rows a []) (get_or p.rows b []) (long a h) (long b g) (λ m inside here.
             rw (first a h, first b g)
             (row_is_lead row_eq s t p dec w l a m le h inside here
-            ∙ ap (λ j. get_or (first_rows p (lead s p.indices l j)) m []) same
+            ∙ ap (λ j. get_or (rows_of p (lead s p.indices l j)) m []) same
             ∙ sym (row_is_lead row_eq s t p dec w l b m le g inside here)));
       };
     }

@@ -5,7 +5,8 @@ use Rattle.std.proofs.lemmas.Bool.{eqb-true, leb-true, le-leb}
 use Rattle.std.proofs.lemmas.List.{length-map}
 use Rattle.p3_merkle_core.specs.Geometry.{Shape, IsArity, heights, exponent, layer_exponent, layer_of, levels, ancestor, row_at_index}
 use Rattle.p3_merkle_core.specs.Nodes.{Functions}
-use Rattle.p3_merkle_core.specs.Openings.{Opening, AgreeWhereShared, IsAccepted, is_authenticated, layer_rows, opened_row}
+use Rattle.p3_merkle_core.specs.Openings.{Opening}
+use Rattle.p3_merkle_core.specs.Checks.{AgreeWhereShared, IsAccepted, is_authenticated, layer_rows, opened_row, terms}
 use Rattle.p3_merkle_core.proofs.LeastFacts.{least_bound}
 use Rattle.p3_merkle_core.proofs.ShapeFacts.{widths_in_pairs}
 use Rattle.p3_merkle_core.proofs.LadderFacts.{layer_of_is, row_is_anc}
@@ -15,7 +16,7 @@ use Rattle.p3_merkle_core.proofs.Binding.{rows_bound}
 use Rattle.p3_merkle_core.proofs.SameIndex.{same_at_one_index}
 
 -- an accepted opening has a row for each matrix
-rows_in_pairs : {T W : Type 0} (f : Functions T W) (s : Shape) (t : ℕ) (cap : List (List W)) (o : Opening T W) → IsAccepted f s t cap o → length o.rows ≡ length (heights s)
+rows_in_pairs : {T W : Type 0} (f : Functions T W) (s : Shape) (t : ℕ) (cap : List (List W)) (o : Opening T W) → IsAccepted (terms f s t) cap o → length o.rows ≡ length (heights s)
 rows_in_pairs f s t cap o a = sym (length-map o.rows length) ∙ ap length a.rows_fit ∙ widths_in_pairs s
 
 -- rows of a layer that agree, matrix by matrix
@@ -26,7 +27,7 @@ row_alike s o u k w a b inside e =
     let x = layer_exponent s (layer_of s h) in
     kept_same x (heights s) o.rows u.rows a b e k inside (eq-eqb (exponent h) x (sym (layer_of_is s w k inside)))
 
-pub authenticated_bound : {T W : Type 0} (f : Functions T W) (s : Shape) (t : ℕ) (cap : List (List W)) (o u : Opening T W) → IsArity s.arity → IsAccepted f s t cap o → IsAccepted f s t cap u → AgreeWhereShared f s t o u →
+pub authenticated_bound : {T W : Type 0} (f : Functions T W) (s : Shape) (t : ℕ) (cap : List (List W)) (o u : Opening T W) → IsArity s.arity → IsAccepted (terms f s t) cap o → IsAccepted (terms f s t) cap u → AgreeWhereShared (terms f s t) o u →
     (k : ℕ) → k < length (heights s) → IsTrue (is_authenticated s t k) → row_at_index s (get_or (heights s) k 0) o.index ≡ row_at_index s (get_or (heights s) k 0) u.index → opened_row o k ≡ opened_row u k
 authenticated_bound f s t cap o u w a b e k inside here same =
     let h = get_or (heights s) k 0 in
@@ -43,8 +44,8 @@ layer_authenticated s t l k low here =
     let bound = least_bound (λ m. eqb (layer_exponent s m) (exponent h)) (levels s) l (eq-eqb (layer_exponent s l) (exponent h) (sym is)) in
     le-leb (layer_of s h) t (omega arith)
 
-pub authenticated_at_one_index : {T W : Type 0} (f : Functions T W) (s : Shape) (t : ℕ) (cap : List (List W)) (o u : Opening T W) → IsArity s.arity → IsAccepted f s t cap o → IsAccepted f s t cap u → o.index ≡ u.index →
-    AgreeWhereShared f s t o u ↔ ((o.siblings ≡ u.siblings) × ((k : ℕ) → k < length (heights s) → IsTrue (is_authenticated s t k) → opened_row o k ≡ opened_row u k))
+pub authenticated_at_one_index : {T W : Type 0} (f : Functions T W) (s : Shape) (t : ℕ) (cap : List (List W)) (o u : Opening T W) → IsArity s.arity → IsAccepted (terms f s t) cap o → IsAccepted (terms f s t) cap u → o.index ≡ u.index →
+    AgreeWhereShared (terms f s t) o u ↔ ((o.siblings ≡ u.siblings) × ((k : ℕ) → k < length (heights s) → IsTrue (is_authenticated s t k) → opened_row o k ≡ opened_row u k))
 authenticated_at_one_index f s t cap o u w a b same =
     let layers = same_at_one_index f s t cap o u w a b same in
     let first = rows_in_pairs f s t cap o a in

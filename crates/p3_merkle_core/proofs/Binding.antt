@@ -4,10 +4,13 @@ use Rattle.std.specs.List.{list_any}
 use Rattle.std.proofs.lemmas.Bool.{cases_Bool, cases_eq, or_parts, ne_eqb}
 use Rattle.p3_merkle_core.specs.Geometry.{Shape, exponent, layer_exponent, ancestor, heights, has_rows}
 use Rattle.p3_merkle_core.specs.Nodes.{Functions}
-use Rattle.p3_merkle_core.specs.Openings.{Opening, IsAccepted, inputs_at, shared_inputs, meeting_level, layer_words, layer_rows}
+use Rattle.p3_merkle_core.specs.Openings.{Opening}
+use Rattle.p3_merkle_core.specs.Checks.{IsAccepted, inputs_at, shared_inputs, meeting_level, layer_words, layer_rows, terms}
+use Rattle.p3_merkle_core.specs.declared.collision.Place.TheVariants.{Leaf, Rows}
 use Rattle.p3_merkle_core.proofs.LeastFacts.{least_bound}
 use Rattle.p3_merkle_core.proofs.StepFacts.{anc_start}
-use Rattle.p3_merkle_core.proofs.Extraction.{same_ends, inputs_with_rows, level_lengths}
+use Rattle.p3_merkle_core.proofs.Extraction.{same_ends, level_lengths}
+use Rattle.p3_merkle_core.proofs.CheckFacts.{same_words, inputs_with_rows}
 use Rattle.p3_merkle_core.proofs.ListFacts.{joined, joined_more}
 
 -- ---- lists
@@ -76,17 +79,17 @@ no_layer_rows x (h ∷ hs) (u ∷ us) e =
 
 pub level_rows : {T W : Type 0} (f : Functions T W) (s : Shape) (o u : Opening T W) (l : ℕ) → map length o.rows ≡ map length u.rows → inputs_at f s o l ≡ inputs_at f s u l →
     layer_rows s o.rows (suc l) ≡ layer_rows s u.rows (suc l)
-level_rows f s o u l long e =
+level_rows {T} {W} f s o u l long e =
     elim (cases_Bool (has_rows s (suc l))) [
       | inl t ↦
           let c = sym (inputs_with_rows f s o l t) ∙ e ∙ inputs_with_rows f s u l t in
-          let words : layer_words s o.rows (suc l) ≡ layer_words s u.rows (suc l) = cc in
+          let words = same_words {W = W} (Rows l) (Rows l) (layer_words s o.rows (suc l)) (layer_words s u.rows (suc l)) cc in
           rows_told (layer_exponent s (suc l)) (heights s) o.rows u.rows long words
       | inr n ↦ no_layer_rows (layer_exponent s (suc l)) (heights s) o.rows n ∙ sym (no_layer_rows (layer_exponent s (suc l)) (heights s) u.rows n)
     ]
 
 -- the inputs of level l agree, where both checks share it
-pub level_shared : {T W : Type 0} (f : Functions T W) (s : Shape) (t : ℕ) (o u : Opening T W) → shared_inputs f s t o.index u.index o ≡ shared_inputs f s t o.index u.index u →
+pub level_shared : {T W : Type 0} (f : Functions T W) (s : Shape) (t : ℕ) (o u : Opening T W) → shared_inputs (terms f s t) o.index u.index o ≡ shared_inputs (terms f s t) o.index u.index u →
     (l : ℕ) → l < t → ancestor s (suc l) o.index ≡ ancestor s (suc l) u.index → inputs_at f s o l ≡ inputs_at f s u l
 level_shared f s t o u e l h same =
     elim (cases_eq o.index u.index) [
@@ -106,12 +109,12 @@ level_shared f s t o u e l h same =
     ]
 
 -- where all shared inputs agree, so do the rows of each matrix up to the cap layer, wherever both indices have one row of it
-pub rows_bound : {T W : Type 0} (f : Functions T W) (s : Shape) (t : ℕ) (cap : List (List W)) (o u : Opening T W) → IsAccepted f s t cap o → IsAccepted f s t cap u →
-    shared_inputs f s t o.index u.index o ≡ shared_inputs f s t o.index u.index u → (l : ℕ) → l ≤ t → ancestor s l o.index ≡ ancestor s l u.index → layer_rows s o.rows l ≡ layer_rows s u.rows l
-rows_bound f s t cap o u a b e zero h same =
+pub rows_bound : {T W : Type 0} (f : Functions T W) (s : Shape) (t : ℕ) (cap : List (List W)) (o u : Opening T W) → IsAccepted (terms f s t) cap o → IsAccepted (terms f s t) cap u →
+    shared_inputs (terms f s t) o.index u.index o ≡ shared_inputs (terms f s t) o.index u.index u → (l : ℕ) → l ≤ t → ancestor s l o.index ≡ ancestor s l u.index → layer_rows s o.rows l ≡ layer_rows s u.rows l
+rows_bound {T} {W} f s t cap o u a b e zero h same =
     let z : o.index ≡ u.index = sym (anc_start s o.index) ∙ same ∙ anc_start s u.index in
     let test = eq-eqb o.index u.index z in
     let c = rw test at e in
-    let words : layer_words s o.rows 0 ≡ layer_words s u.rows 0 = cc in
+    let words = same_words {W = W} Leaf Leaf (layer_words s o.rows 0) (layer_words s u.rows 0) cc in
     rows_told (layer_exponent s 0) (heights s) o.rows u.rows (a.rows_fit ∙ sym b.rows_fit) words
 rows_bound f s t cap o u a b e (suc l) h same = level_rows f s o u l (a.rows_fit ∙ sym b.rows_fit) (level_shared f s t o u e l (omega arith) same)

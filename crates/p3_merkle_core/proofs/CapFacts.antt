@@ -7,7 +7,7 @@ use Rattle.std.proofs.lemmas.List.Folds.{Any-from_list_any, list_any_at, list_an
 use Rattle.std.proofs.Math.Nat.{div-add-mod, mod-lt, mul_comm, mul-le-mul_left, mul-suc, suc-mul}
 use Rattle.p3_merkle_core.specs.Caps.{cap_layer, levels_above_rows, room_of}
 use Rattle.p3_merkle_core.specs.Geometry.{Shape, IsArity, exponent, has_rows, heights, is_bridge, layer_below_root, layer_exponent, layer_of, levels, shortest, tallest}
-use Rattle.p3_merkle_core.specs.Openings.{is_authenticated}
+use Rattle.p3_merkle_core.specs.Checks.{is_authenticated}
 use Rattle.p3_merkle_core.specs.declared.cap.CapRule.{CapRule}
 use Rattle.p3_merkle_core.specs.declared.cap.CapRule.TheVariants.{Lowered, Fixed}
 use Rattle.p3_merkle_core.proofs.LeastFacts.{exponent_le, exponent_mono, least_bound, least_height_below, least_is, least_le, least_passes, shortest_there}

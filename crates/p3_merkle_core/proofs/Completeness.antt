@@ -2,10 +2,11 @@
 use Rattle.std.proofs.Common.{◌≡◌, ℕ, zero, suc, ◌<◌, ◌≤◌, true, eqb, nat_lt, List, [], ◌∷◌, ◌++◌, map, refl, ap, sym, ◌∙◌, arith, inl, inr, length, filter, flat_map, zip, All}
 use Rattle.std.specs.List.{list_all}
 use Rattle.std.proofs.lemmas.Bool.{cond-true, cases_Bool, lt-ltb, eqb-true}
-use Rattle.p3_merkle_core.specs.Geometry.{Shape, IsLawful, exponent, tallest, layer_exponent, levels, ancestor, row_at_index, expected_height, raw_len, heights, heights_of, has_rows}
-use Rattle.p3_merkle_core.specs.Nodes.{Functions, Batch, Matrix, shape, at_layer, joined_rows, compress, row_digest, with_rows, node, children, dimensions_of}
-use Rattle.p3_merkle_core.specs.Openings.{honest, honest_rows, honest_siblings, Opening, siblings_below, layer_words, group_at, path_digest}
-use Rattle.p3_merkle_core.proofs.LadderFacts.{IsArity, row_is_anc_at, row_below}
+use Rattle.p3_merkle_core.specs.Geometry.{Shape, IsLawful, exponent, tallest, layer_exponent, levels, ancestor, row_at_index, expected_height, raw_len, heights, heights_of, has_rows, IsArity}
+use Rattle.p3_merkle_core.specs.Nodes.{Functions, Batch, Matrix, shape, at_layer, joined_rows, compress, row_digest, with_rows, node, dimensions_of}
+use Rattle.p3_merkle_core.specs.Openings.{honest, honest_rows, Opening, siblings_by, children_by}
+use Rattle.p3_merkle_core.specs.Checks.{siblings_below, layer_words, group_at, path_digest}
+use Rattle.p3_merkle_core.proofs.LadderFacts.{row_is_anc_at, row_below}
 use Rattle.p3_merkle_core.proofs.RawFacts.{anc_below}
 use Rattle.p3_merkle_core.proofs.PathFacts.{path_length, path_group}
 
@@ -68,10 +69,10 @@ unfolding node
 node_leaf f b j h = cond-true (nat_lt j (raw_len (shape b) 0)) (f.hash (joined_rows (at_layer b 0) j)) f.default_digest (lt-ltb j (raw_len (shape b) 0) h)
 
 pub node_next : {T W : Type 0} (f : Functions T W) (b : Batch T) (l j : ℕ) → j < raw_len (shape b) (suc l) →
-    node f b (suc l) j ≡ with_rows f b.arity (has_rows (shape b) (suc l)) (compress f b.arity (children f b l j)) (row_digest f (at_layer b (suc l)) j)
+    node f b (suc l) j ≡ with_rows f b.arity (has_rows (shape b) (suc l)) (compress f b.arity (children_by (node f b) (shape b) l j)) (row_digest f (at_layer b (suc l)) j)
 unfolding node
 node_next f b l j h =
-    cond-true (nat_lt j (raw_len (shape b) (suc l))) (with_rows f b.arity (has_rows (shape b) (suc l)) (compress f b.arity (children f b l j)) (row_digest f (at_layer b (suc l)) j)) f.default_digest (lt-ltb j (raw_len (shape b) (suc l)) h)
+    cond-true (nat_lt j (raw_len (shape b) (suc l))) (with_rows f b.arity (has_rows (shape b) (suc l)) (compress f b.arity (children_by (node f b) (shape b) l j)) (row_digest f (at_layer b (suc l)) j)) f.default_digest (lt-ltb j (raw_len (shape b) (suc l)) h)
 
 -- ---- the whole check
 
@@ -99,5 +100,5 @@ honest_reaches f b t i w (suc l) h =
     ∙ rw (ih, path_group f s w.well_shaped (node f b) t (honest f b t i) refl l (omega arith), rows_are b t i (suc l) w, row_digest_is f b t i (suc l) w) refl
     ∙ sym (node_next f b l j fits)
 
-pub honest_count : {T W : Type 0} (f : Functions T W) (b : Batch T) (t i : ℕ) → IsHonest b t i → length (honest_siblings f b t i) ≡ siblings_below (shape b) t
+pub honest_count : {T W : Type 0} (f : Functions T W) (b : Batch T) (t i : ℕ) → IsHonest b t i → length (siblings_by (node f b) (shape b) t i) ≡ siblings_below (shape b) t
 honest_count f b t i w = path_length (shape b) w.well_shaped (node f b) i t

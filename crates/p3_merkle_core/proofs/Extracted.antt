@@ -1,50 +1,64 @@
--- Extraction answers None exactly if nothing shared differs, and else the last difference, which is a collision.
+-- The last difference of two checks: there is none exactly if they agree wherever they share a place, and else it is a collision.
 use Rattle.std.proofs.Common.{◌≡◌, ◌≢◌, ◌↔◌, ℕ, ◌+◌, ◌-◌, Bool, true, eqb, ◌&&◌, List, [], ◌∷◌, refl, ap, sym, ◌∙◌, arith, inl, inr, length, Option, Some, None, eq-eqb}
 use Rattle.std.specs.Prelude.{Ok}
 use Rattle.std.specs.Option.{option_or}
 use Rattle.std.specs.Cmp.Lexicographic.{pointwise, pointwise_decides}
 use Rattle.std.proofs.lemmas.Bool.{cases_Bool, cases_eq, cond-false, and_parts, and_from, eqb-true, eq-eqb, ne_eqb, true≢false, false≢true}
-use Rattle.p3_merkle_core.specs.Geometry.{Shape}
+use Rattle.p3_merkle_core.specs.Geometry.{IsArity, Shape}
+use Rattle.p3_merkle_core.specs.declared.collision.Place.TheVariants.{Leaf, Group, Rows, Pair}
 use Rattle.p3_merkle_core.specs.Nodes.{Functions}
-use Rattle.p3_merkle_core.specs.Openings.{Opening, Input, Leaf, Group, Rows, Pair, IsAccepted, IsLastDifference, IsLastShared, inputs_at, shared_inputs, meeting_level}
-use Rattle.p3_merkle_core.specs.Refusals.{unless, verdict, refusal_under, IsEquality}
-use Rattle.p3_merkle_core.specs.Extracting.{input_eq, last_difference, ok_unless, extraction_under}
+use Rattle.p3_merkle_core.specs.Openings.{Opening}
+use Rattle.p3_merkle_core.specs.Checks.{AgreeWhereShared, Input, IsAccepted, IsLastDifference, IsLastShared, inputs_at, shared_inputs, meeting_level, terms, Terms, Words, Digests, HasDigests}
+use Rattle.p3_merkle_core.specs.Refusals.{unless, verdict, refusal_under, IsEquality, ok_unless}
+use Rattle.p3_merkle_core.specs.Extraction.{difference_of, input_eq, last_difference, IsCollision, place_eq, content_eq}
 use Rattle.p3_merkle_core.proofs.NoneFacts.{none_parts, unless_none, none_unless, none_of_both, verdict_ok}
-use Rattle.p3_merkle_core.proofs.Verdicts.{accepted_from, accepted_answer}
-use Rattle.p3_merkle_core.proofs.Extraction.{level_lengths}
+use Rattle.p3_merkle_core.proofs.Extraction.{collides, level_lengths}
+use Rattle.p3_merkle_core.proofs.InputFacts.{of_last_difference, shared_full}
+use Rattle.p3_merkle_core.proofs.PlaceFacts.{at_one_place}
 use Rattle.p3_merkle_core.proofs.Binding.{pieces_long}
 
 -- ---- the test on inputs
 
-same_words : {X : Type 0} (test : X → X → Bool) → IsEquality test → (l m : ℕ) (x y : List X) → ((eqb l m && pointwise test x y) ≡ true) ↔ ((l ≡ m) × (x ≡ y))
-same_words test dec l m x y = (
-  λ e. let p = and_parts (eqb l m) (pointwise test x y) e in (eqb-true l m p.0, (pointwise_decides dec x y).0 p.1),
-  λ (a, b). and_from (eqb l m) (pointwise test x y) (eq-eqb l m a) ((pointwise_decides dec x y).1 b),
-)
+place_eq_decides : IsEquality place_eq
+place_eq_decides Leaf Leaf = (λ e. refl, λ e. refl)
+place_eq_decides Leaf (Group m) = (λ e. absurd (false≢true e), λ e. absurd cc)
+place_eq_decides Leaf (Rows m) = (λ e. absurd (false≢true e), λ e. absurd cc)
+place_eq_decides Leaf (Pair m) = (λ e. absurd (false≢true e), λ e. absurd cc)
+place_eq_decides (Group l) Leaf = (λ e. absurd (false≢true e), λ e. absurd cc)
+place_eq_decides (Group l) (Group m) = (λ e. ap Group (eqb-true l m e), λ e. eq-eqb l m cc)
+place_eq_decides (Group l) (Rows m) = (λ e. absurd (false≢true e), λ e. absurd cc)
+place_eq_decides (Group l) (Pair m) = (λ e. absurd (false≢true e), λ e. absurd cc)
+place_eq_decides (Rows l) Leaf = (λ e. absurd (false≢true e), λ e. absurd cc)
+place_eq_decides (Rows l) (Group m) = (λ e. absurd (false≢true e), λ e. absurd cc)
+place_eq_decides (Rows l) (Rows m) = (λ e. ap Rows (eqb-true l m e), λ e. eq-eqb l m cc)
+place_eq_decides (Rows l) (Pair m) = (λ e. absurd (false≢true e), λ e. absurd cc)
+place_eq_decides (Pair l) Leaf = (λ e. absurd (false≢true e), λ e. absurd cc)
+place_eq_decides (Pair l) (Group m) = (λ e. absurd (false≢true e), λ e. absurd cc)
+place_eq_decides (Pair l) (Rows m) = (λ e. absurd (false≢true e), λ e. absurd cc)
+place_eq_decides (Pair l) (Pair m) = (λ e. ap Pair (eqb-true l m e), λ e. eq-eqb l m cc)
+
+content_eq_decides : {T W : Type 0} (row_eq : T → T → Bool) (digest_eq : W → W → Bool) → IsEquality row_eq → IsEquality digest_eq → IsEquality (content_eq row_eq digest_eq)
+content_eq_decides row_eq digest_eq dec dec_w (Words x) (Words y) = (λ e. ap Words ((pointwise_decides dec x y).0 e), λ e. (pointwise_decides dec x y).1 cc)
+content_eq_decides row_eq digest_eq dec dec_w (Words x) (Digests y) = (λ e. absurd (false≢true e), λ e. absurd cc)
+content_eq_decides row_eq digest_eq dec dec_w (Digests x) (Words y) = (λ e. absurd (false≢true e), λ e. absurd cc)
+content_eq_decides row_eq digest_eq dec dec_w (Digests x) (Digests y) =
+    let both = pointwise_decides (pointwise_decides dec_w) x y in
+    (λ e. ap Digests (both.0 e), λ e. both.1 cc)
 
 pub input_eq_decides : {T W : Type 0} (row_eq : T → T → Bool) (digest_eq : W → W → Bool) → IsEquality row_eq → IsEquality digest_eq → IsEquality (input_eq row_eq digest_eq)
-input_eq_decides row_eq digest_eq dec dec_w (Leaf x) (Leaf y) = (λ e. ap (λ w. Leaf w) ((pointwise_decides dec x y).0 e), λ e. (pointwise_decides dec x y).1 cc)
-input_eq_decides row_eq digest_eq dec dec_w (Leaf x) (Group m y) = (λ e. absurd (false≢true e), λ e. absurd cc)
-input_eq_decides row_eq digest_eq dec dec_w (Leaf x) (Rows m y) = (λ e. absurd (false≢true e), λ e. absurd cc)
-input_eq_decides row_eq digest_eq dec dec_w (Leaf x) (Pair m y) = (λ e. absurd (false≢true e), λ e. absurd cc)
-input_eq_decides row_eq digest_eq dec dec_w (Group l x) (Leaf y) = (λ e. absurd (false≢true e), λ e. absurd cc)
-input_eq_decides row_eq digest_eq dec dec_w (Group l x) (Group m y) =
-    let p = same_words (pointwise digest_eq) (pointwise_decides dec_w) l m x y in
-    (λ e. let q = p.0 e in let a = q.0 in let b = q.1 in cc, λ e. p.1 (cc, cc))
-input_eq_decides row_eq digest_eq dec dec_w (Group l x) (Rows m y) = (λ e. absurd (false≢true e), λ e. absurd cc)
-input_eq_decides row_eq digest_eq dec dec_w (Group l x) (Pair m y) = (λ e. absurd (false≢true e), λ e. absurd cc)
-input_eq_decides row_eq digest_eq dec dec_w (Rows l x) (Leaf y) = (λ e. absurd (false≢true e), λ e. absurd cc)
-input_eq_decides row_eq digest_eq dec dec_w (Rows l x) (Group m y) = (λ e. absurd (false≢true e), λ e. absurd cc)
-input_eq_decides row_eq digest_eq dec dec_w (Rows l x) (Rows m y) =
-    let p = same_words row_eq dec l m x y in
-    (λ e. let q = p.0 e in let a = q.0 in let b = q.1 in cc, λ e. p.1 (cc, cc))
-input_eq_decides row_eq digest_eq dec dec_w (Rows l x) (Pair m y) = (λ e. absurd (false≢true e), λ e. absurd cc)
-input_eq_decides row_eq digest_eq dec dec_w (Pair l x) (Leaf y) = (λ e. absurd (false≢true e), λ e. absurd cc)
-input_eq_decides row_eq digest_eq dec dec_w (Pair l x) (Group m y) = (λ e. absurd (false≢true e), λ e. absurd cc)
-input_eq_decides row_eq digest_eq dec dec_w (Pair l x) (Rows m y) = (λ e. absurd (false≢true e), λ e. absurd cc)
-input_eq_decides row_eq digest_eq dec dec_w (Pair l x) (Pair m y) =
-    let p = same_words (pointwise digest_eq) (pointwise_decides dec_w) l m x y in
-    (λ e. let q = p.0 e in let a = q.0 in let b = q.1 in cc, λ e. p.1 (cc, cc))
+input_eq_decides {T} {W} row_eq digest_eq dec dec_w x y =
+    let place = place_eq_decides x.place y.place in
+    let content = content_eq_decides row_eq digest_eq dec dec_w x.content y.content in (
+      λ e.
+          let both = and_parts (place_eq x.place y.place) (content_eq row_eq digest_eq x.content y.content) e in
+          let p = place.0 both.0 in
+          let c = content.0 both.1 in
+          λ i. record { place = p i; content = c i },
+      λ e.
+          let p = place.1 (ap (λ (z : Input T W). z.place) e) in
+          let c = content.1 (ap (λ (z : Input T W). z.content) e) in
+          and_from (place_eq x.place y.place) (content_eq row_eq digest_eq x.content y.content) p c,
+    )
 
 -- ---- the last difference
 
@@ -110,7 +124,7 @@ differs (x ∷ xs) (y ∷ ys) a b (inr d) = d.3
 
 -- ---- extraction
 
-pub shared_long : {T W : Type 0} (f : Functions T W) (s : Shape) (t : ℕ) (o u : Opening T W) → length (shared_inputs f s t o.index u.index o) ≡ length (shared_inputs f s t o.index u.index u)
+pub shared_long : {T W : Type 0} (f : Functions T W) (s : Shape) (t : ℕ) (o u : Opening T W) → length (shared_inputs (terms f s t) o.index u.index o) ≡ length (shared_inputs (terms f s t) o.index u.index u)
 shared_long f s t o u =
     let m = meeting_level s t o.index u.index in
     elim (cases_eq o.index u.index) [
@@ -124,45 +138,27 @@ shared_long f s t o u =
           rw test long
     ]
 
-pub ok_unless_is : {X E : Type 0} (o : Option E) (x y : X) → ok_unless o x ≡ Ok y → (o ≡ None) × (x ≡ y)
-ok_unless_is None x y e = (refl, let c : x ≡ y = cc in c)
-ok_unless_is (Some z) x y e = absurd cc
+-- two checks have no difference exactly where they agree wherever they share a place
+pub no_difference : {T W : Type 0} (row_eq : T → T → Bool) (digest_eq : W → W → Bool) (c : Terms T W) (o u : Opening T W) → IsEquality row_eq → IsEquality digest_eq → (difference_of row_eq digest_eq c o u ≡ None) ↔ AgreeWhereShared c o u
+no_difference row_eq digest_eq c o u dec dec_w =
+    none_differs (input_eq row_eq digest_eq) (input_eq_decides row_eq digest_eq dec dec_w) (shared_inputs c o.index u.index o) (shared_inputs c o.index u.index u) (shared_long c.functions c.shape c.layer o u)
 
--- it is Ok exactly where both openings are accepted, and then the last difference
-pub extracted : {T W : Type 0} (row_eq : T → T → Bool) (digest_eq : W → W → Bool) (f : Functions T W) (s : Shape) (t : ℕ) (cap : List (List W)) (o u : Opening T W) → IsEquality digest_eq → (answer : Option (Input T W × Input T W)) →
-    (extraction_under row_eq digest_eq f s t cap o u ≡ Ok answer) ↔
-    (IsAccepted f s t cap o × IsAccepted f s t cap u × (last_difference (input_eq row_eq digest_eq) (shared_inputs f s t o.index u.index o) (shared_inputs f s t o.index u.index u) ≡ answer))
-extracted row_eq digest_eq f s t cap o u dec answer =
-    let first = refusal_under digest_eq f s t cap o in
-    let second = refusal_under digest_eq f s t cap u in
-    let found = last_difference (input_eq row_eq digest_eq) (shared_inputs f s t o.index u.index o) (shared_inputs f s t o.index u.index u) in (
-      λ e.
-          let p = ok_unless_is (option_or first second) found answer e in
-          let q = none_parts first second p.0 in
-          (accepted_from digest_eq f s t cap o dec (ap verdict q.0), accepted_from digest_eq f s t cap u dec (ap verdict q.1), p.1),
-      λ (a, b, is).
-          let x = verdict_ok first (accepted_answer digest_eq f s t cap o dec a) in
-          let y = verdict_ok second (accepted_answer digest_eq f s t cap u dec b) in
-          let none = none_of_both first second x y in
-          rw (none, is) refl,
-    )
-
-pub extracts_none : {T W : Type 0} (row_eq : T → T → Bool) (digest_eq : W → W → Bool) (f : Functions T W) (s : Shape) (t : ℕ) (cap : List (List W)) (o u : Opening T W) → IsEquality row_eq → IsEquality digest_eq →
-    (extraction_under row_eq digest_eq f s t cap o u ≡ Ok None) ↔
-    (IsAccepted f s t cap o × IsAccepted f s t cap u × (shared_inputs f s t o.index u.index o ≡ shared_inputs f s t o.index u.index u))
-extracts_none row_eq digest_eq f s t cap o u dec dec_w =
-    let whole = extracted row_eq digest_eq f s t cap o u dec_w None in
-    let none = none_differs (input_eq row_eq digest_eq) (input_eq_decides row_eq digest_eq dec dec_w) (shared_inputs f s t o.index u.index o) (shared_inputs f s t o.index u.index u) (shared_long f s t o u) in
-    (λ e. let p = whole.0 e in (p.0, p.1, none.0 p.2), λ (a, b, is). whole.1 (a, b, none.1 is))
-
-pub extracts_some : {T W : Type 0} (row_eq : T → T → Bool) (digest_eq : W → W → Bool) (f : Functions T W) (s : Shape) (t : ℕ) (cap : List (List W)) (o u : Opening T W) (x y : Input T W) → IsEquality row_eq → IsEquality digest_eq →
-    (extraction_under row_eq digest_eq f s t cap o u ≡ Ok (Some (x, y))) ↔ (IsAccepted f s t cap o × IsAccepted f s t cap u × IsLastShared f s t o u x y)
-extracts_some row_eq digest_eq f s t cap o u x y dec dec_w =
-    let whole = extracted row_eq digest_eq f s t cap o u dec_w (Some (x, y)) in
-    let test = input_eq row_eq digest_eq in
-    let equal = input_eq_decides row_eq digest_eq dec dec_w in
-    let mine = shared_inputs f s t o.index u.index o in
-    let theirs = shared_inputs f s t o.index u.index u in (
-      λ e. let p = whole.0 e in (p.0, p.1, some_differs test equal mine theirs x y (shared_long f s t o u) p.2),
-      λ (a, b, last). whole.1 (a, b, some_from test equal mine theirs x y (shared_long f s t o u) last),
-    )
+-- and of two accepted openings it is a collision
+pub difference_collides : {T W : Type 0} (row_eq : T → T → Bool) (digest_eq : W → W → Bool) (c : Terms T W) (cap : List (List W)) (o u : Opening T W) → IsEquality row_eq → IsEquality digest_eq → IsArity c.shape.arity →
+    IsAccepted c cap o → IsAccepted c cap u → (found : Input T W × Input T W) → difference_of row_eq digest_eq c o u ≡ Some found → IsCollision c o u found
+difference_collides row_eq digest_eq c cap o u dec dec_w w first second found is =
+    let f = c.functions in
+    let s = c.shape in
+    let t = c.layer in
+    let mine = shared_inputs c o.index u.index o in
+    let theirs = shared_inputs c o.index u.index u in
+    let last = some_differs (input_eq row_eq digest_eq) (input_eq_decides row_eq digest_eq dec dec_w) mine theirs found.0 found.1 (shared_long f s t o u) is in
+    let full = of_last_difference (HasDigests s.arity) mine theirs found.0 found.1 (shared_full f s t o.index u.index o w first.count) (shared_full f s t o.index u.index u w second.count) last in
+    record {
+      last = last;
+      at_one_place = at_one_place f s t o u found.0 found.1 last;
+      different = differs mine theirs found.0 found.1 last;
+      first_full = full.0;
+      second_full = full.1;
+      one_digest = collides f s t cap o u w first second found.0 found.1 last;
+    }

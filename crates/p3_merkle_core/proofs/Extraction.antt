@@ -2,15 +2,16 @@
 use Rattle.std.proofs.Common.{◌≡◌, ℕ, zero, suc, ◌+◌, ◌-◌, ◌%◌, ◌<◌, ◌≤◌, Bool, eqb, List, [], ◌∷◌, ◌++◌, refl, ap, sym, subst, ◌∙◌, arith, inl, inr, ◌⊎◌, length, insert, replicate, length-append, length-take, length-drop, add-suc, eq-eqb, slice_get}
 use Rattle.std.proofs.lemmas.Bool.{cases_Bool, cases_lt, cases_eq, eqb-true, ne_eqb}
 use Rattle.std.specs.List.{flat_map, range_with_len}
-use Rattle.p3_merkle_core.specs.Geometry.{Shape, step, ancestor, position_in_group, has_rows}
-use Rattle.p3_merkle_core.specs.Nodes.{Functions}
-use Rattle.p3_merkle_core.specs.Openings.{Opening, Input, input_digest, inputs_at, group_at, path_digest, siblings_at, siblings_below, IsLastDifference, shared_inputs, meeting_level, IsAccepted}
+use Rattle.p3_merkle_core.specs.Geometry.{Shape, step, ancestor, position_in_group, has_rows, IsArity}
+use Rattle.p3_merkle_core.specs.Nodes.{Functions, pair}
+use Rattle.p3_merkle_core.specs.Openings.{Opening}
+use Rattle.p3_merkle_core.specs.Checks.{Input, input_digest, inputs_at, group_at, path_digest, siblings_at, siblings_below, IsLastDifference, shared_inputs, meeting_level, IsAccepted, terms, digests_at, layer_words}
 use Rattle.p3_merkle_core.proofs.LeastFacts.{least_passes}
 use Rattle.p3_merkle_core.proofs.StepFacts.{anc_next, step_above_1}
-use Rattle.p3_merkle_core.proofs.LadderFacts.{IsArity}
 use Rattle.p3_merkle_core.proofs.Completeness.{reached_next, reached_leaf}
 pub use Rattle.p3_merkle_core.proofs.CheckFacts.{full_group, inputs_with_rows, inputs_alone}
-use Rattle.p3_merkle_core.proofs.CheckFacts.{accepted_walk}
+use Rattle.p3_merkle_core.proofs.CheckFacts.{accepted_walk, same_digests}
+use Rattle.p3_merkle_core.specs.declared.collision.Place.TheVariants.{Group, Pair}
 use Rattle.p3_merkle_core.proofs.ListFacts.{joined, joined_more}
 
 -- ---- lists
@@ -44,6 +45,15 @@ put_back (a ∷ xs) (b ∷ ys) cs ds (suc p) x y h k e = put_back xs ys cs ds p 
 
 -- ---- one level
 
+-- the pair of a level
+abbrev pair_at : {T W : Type 0} → Functions T W → Shape → Opening T W → ℕ → List (List W)
+pair_at f s o l = pair f s.arity (f.compression (full_group f s o l)) (f.hash (layer_words s o.rows (suc l)))
+
+-- equal pairs have equal digests
+same_pairs : {T W : Type 0} (f : Functions T W) (s : Shape) (o u : Opening T W) (l : ℕ) → digests_at {T = T} (Pair l) (pair_at f s o l) ≡ digests_at (Pair l) (pair_at f s u l) →
+    (f.compression (full_group f s o l) ≡ f.compression (full_group f s u l)) × (f.hash (layer_words s o.rows (suc l)) ≡ f.hash (layer_words s u.rows (suc l)))
+same_pairs f s o u l e = let same = same_digests (Pair l) (Pair l) (pair_at f s o l) (pair_at f s u l) e in (cc, cc)
+
 -- where the level ends in one digest, a last difference of its inputs has one digest
 level_collides : {T W : Type 0} (f : Functions T W) (s : Shape) (o u : Opening T W) (l : ℕ) (x y : Input T W) → path_digest f s o (suc l) ≡ path_digest f s u (suc l) →
     IsLastDifference (inputs_at f s o l) (inputs_at f s u l) x y → input_digest f x ≡ input_digest f y
@@ -57,8 +67,8 @@ level_collides f s o u l x y e d =
           elim (rw t at d) [
             | inl (inl (inl n)) ↦ absurd n
             | inl (inl (inr p)) ↦ rw (← p.1, ← p.2) (sym a' ∙ e ∙ b')
-            | inl (inr p) ↦ let q = p.0 in rw (← p.1, ← p.2) cc
-            | inr p ↦ let q = p.0 in rw (← p.1, ← p.2) cc
+            | inl (inr p) ↦ let q = same_pairs f s o u l (let z = p.0 in cc) in rw (← p.1, ← p.2) q.1
+            | inr p ↦ let q = same_pairs f s o u l (let z = p.0 in cc) in rw (← p.1, ← p.2) q.0
           ]
       | inr n ↦
           let a' = rw n at a in
@@ -70,11 +80,11 @@ level_collides f s o u l x y e d =
 level_keeps : {T W : Type 0} (f : Functions T W) (s : Shape) (o u : Opening T W) (l : ℕ) →
     position_in_group s l o.index ≡ position_in_group s l u.index → position_in_group s l o.index ≤ length (siblings_at s o l) → position_in_group s l o.index ≤ length (siblings_at s u l) →
     inputs_at f s o l ≡ inputs_at f s u l → path_digest f s o l ≡ path_digest f s u l
-level_keeps f s o u l same h k e =
+level_keeps {T} f s o u l same h k e =
     let g : full_group f s o l ≡ full_group f s u l =
     elim (cases_Bool (has_rows s (suc l))) [
-      | inl t ↦ let c = sym (inputs_with_rows f s o l t) ∙ e ∙ inputs_with_rows f s u l t in cc
-      | inr n ↦ let c = sym (inputs_alone f s o l n) ∙ e ∙ inputs_alone f s u l n in cc
+      | inl t ↦ let c = sym (inputs_with_rows f s o l t) ∙ e ∙ inputs_with_rows f s u l t in same_digests {T = T} (Group l) (Group l) (full_group f s o l) (full_group f s u l) cc
+      | inr n ↦ let c = sym (inputs_alone f s o l n) ∙ e ∙ inputs_alone f s u l n in same_digests {T = T} (Group l) (Group l) (full_group f s o l) (full_group f s u l) cc
     ] in
     let blanks = λ (v : Opening _ _). replicate (s.arity - length (group_at f s v l (path_digest f s v l))) f.default_digest in
     put_back (siblings_at s o l) (siblings_at s u l) (blanks o) (blanks u) (position_in_group s l o.index) (path_digest f s o l) (path_digest f s u l) h k
@@ -152,8 +162,8 @@ first_piece g h n e same = (same_ends (g 0) (h 0) (flat_map g (range_with_len 1 
 
 -- two accepted openings of one cap, and the last difference of what their checks share: one digest
 pub collides : {T W : Type 0} (f : Functions T W) (s : Shape) (t : ℕ) (cap : List (List W)) (o u : Opening T W) → IsArity s.arity →
-    IsAccepted f s t cap o → IsAccepted f s t cap u → (x y : Input T W) →
-    IsLastDifference (shared_inputs f s t o.index u.index o) (shared_inputs f s t o.index u.index u) x y → input_digest f x ≡ input_digest f y
+    IsAccepted (terms f s t) cap o → IsAccepted (terms f s t) cap u → (x y : Input T W) →
+    IsLastDifference (shared_inputs (terms f s t) o.index u.index o) (shared_inputs (terms f s t) o.index u.index u) x y → input_digest f x ≡ input_digest f y
 collides f s t cap o u w a b x y d =
     let m = meeting_level s t o.index u.index in
     elim (cases_eq o.index u.index) [

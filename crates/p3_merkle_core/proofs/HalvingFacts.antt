@@ -1,7 +1,7 @@
 -- At arity 2 each level has one sibling.
 use Rattle.std.proofs.Common.{◌≡◌, ℕ, zero, suc, ◌-◌, false, cond, refl, ap, ◌∙◌, arith}
 use Rattle.p3_merkle_core.specs.Geometry.{Shape, exponent, layer_exponent, is_bridge, step, heights}
-use Rattle.p3_merkle_core.specs.Openings.{siblings_below}
+use Rattle.p3_merkle_core.specs.Checks.{siblings_below}
 use Rattle.p3_merkle_core.proofs.BridgeFacts.{none_between}
 use Rattle.p3_merkle_core.proofs.SiblingFacts.{siblings_start, siblings_next}
 

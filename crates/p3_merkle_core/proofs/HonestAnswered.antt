@@ -5,8 +5,7 @@ use Rattle.std.proofs.lemmas.List.{length-map, get_or-map}
 use Rattle.p3_merkle_core.specs.Geometry.{exponent, tallest, layer_exponent, row_at_index, heights, heights_of}
 use Rattle.p3_merkle_core.specs.Nodes.{Functions, Batch, Matrix, shape, node, dimensions_of, HasFullRows}
 use Rattle.p3_merkle_core.specs.Openings.{honest_rows}
-use Rattle.p3_merkle_core.specs.Pruning.{boundary, honest_query, IsHonestQuery}
-use Rattle.p3_merkle_core.specs.Refusals.{IsRestorable}
+use Rattle.p3_merkle_core.specs.Pruning.{boundary, honest_query, IsHonestQuery, IsRestorable}
 use Rattle.p3_merkle_core.proofs.LadderFacts.{row_is_anc_at, row_below}
 use Rattle.p3_merkle_core.proofs.Accepted.{lengths_are}
 

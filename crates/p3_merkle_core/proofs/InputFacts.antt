@@ -6,10 +6,12 @@ use Rattle.std.proofs.lemmas.List.Edits.{length-insert}
 use Rattle.std.proofs.lemmas.List.Elements.{All-append, All-cons, All-nil}
 use Rattle.p3_merkle_core.specs.Geometry.{Shape, IsArity, is_bridge, layer_exponent, step, position_in_group, has_rows}
 use Rattle.p3_merkle_core.specs.Nodes.{Functions, padded_group, pair}
-use Rattle.p3_merkle_core.specs.Openings.{Opening, Leaf, Group, Rows, Pair, HasDigests, inputs, inputs_at, group_at, path_digest, siblings_at, siblings_below, layer_words, IsLastDifference, shared_inputs, meeting_level}
+use Rattle.p3_merkle_core.specs.Openings.{Opening}
+use Rattle.p3_merkle_core.specs.Checks.{HasDigests, inputs, inputs_at, group_at, path_digest, siblings_at, siblings_below, layer_words, IsLastDifference, shared_inputs, meeting_level, terms, leaf_input, words_at, digests_at}
 use Rattle.p3_merkle_core.proofs.StepFacts.{step_above_1}
 use Rattle.p3_merkle_core.proofs.Extraction.{siblings_full, in_group}
 use Rattle.p3_merkle_core.proofs.ListFacts.{joined, joined_more}
+use Rattle.p3_merkle_core.specs.declared.collision.Place.TheVariants.{Leaf, Group, Rows, Pair}
 
 filled_long : {T W : Type 0} (f : Functions T W) (n : ℕ) (ds : List (List W)) → length ds ≤ n → length (padded_group f n ds) ≡ n
 filled_long f n ds h = length-append ds (replicate (n - length ds) f.default_digest) ∙ (let r = length-replicate (n - length ds) f.default_digest in omega arith)
@@ -31,12 +33,12 @@ level_full f s t o l w e h =
     let long_pair = filled_long f s.arity (f.compression first ∷ f.hash words ∷ []) (omega arith) in
     let P = HasDigests s.arity in
     elim (cases_Bool (has_rows s (suc l))) [
-      | inl y ↦ rw y (All-cons P (Group l first) (Rows l words ∷ Pair l last ∷ []) group (All-cons P (Rows l words) (Pair l last ∷ []) tt (All-cons P (Pair l last) [] long_pair (All-nil P))))
-      | inr n ↦ rw n (All-cons P (Group l first) [] group (All-nil P))
+      | inl y ↦ rw y (All-cons P (digests_at (Group l) first) (words_at (Rows l) words ∷ digests_at (Pair l) last ∷ []) group (All-cons P (words_at (Rows l) words) (digests_at (Pair l) last ∷ []) tt (All-cons P (digests_at (Pair l) last) [] long_pair (All-nil P))))
+      | inr n ↦ rw n (All-cons P (digests_at (Group l) first) [] group (All-nil P))
     ]
 
-pub inputs_full : {T W : Type 0} (f : Functions T W) (s : Shape) (t : ℕ) (o : Opening T W) → IsArity s.arity → length o.siblings ≡ siblings_below s t → All (HasDigests s.arity) (inputs f s t o)
-inputs_full f s t o w e = All-cons (HasDigests s.arity) (Leaf (layer_words s o.rows 0)) (joined (inputs_at f s o) t) tt (levels_full f s t o w e t (omega arith))
+pub inputs_full : {T W : Type 0} (f : Functions T W) (s : Shape) (t : ℕ) (o : Opening T W) → IsArity s.arity → length o.siblings ≡ siblings_below s t → All (HasDigests s.arity) (inputs (terms f s t) o)
+inputs_full f s t o w e = All-cons (HasDigests s.arity) ((leaf_input s o)) (joined (inputs_at f s o) t) tt (levels_full f s t o w e t (omega arith))
   where
     levels_full : {T W : Type 0} (f : Functions T W) (s : Shape) (t : ℕ) (o : Opening T W) → IsArity s.arity → length o.siblings ≡ siblings_below s t → (n : ℕ) → n ≤ t → All (HasDigests s.arity) (joined (inputs_at f s o) n)
     levels_full f s t o w e zero h = All-nil (HasDigests s.arity)
@@ -44,7 +46,7 @@ inputs_full f s t o w e = All-cons (HasDigests s.arity) (Leaf (layer_words s o.r
         rw (joined_more (inputs_at f s o) n) (All-append (HasDigests s.arity) (joined (inputs_at f s o) n) (inputs_at f s o n) (levels_full f s t o w e n (omega arith)) (level_full f s t o n w e (omega arith)))
 
 -- so have those that two checks share
-pub shared_full : {T W : Type 0} (f : Functions T W) (s : Shape) (t i j : ℕ) (o : Opening T W) → IsArity s.arity → length o.siblings ≡ siblings_below s t → All (HasDigests s.arity) (shared_inputs f s t i j o)
+pub shared_full : {T W : Type 0} (f : Functions T W) (s : Shape) (t i j : ℕ) (o : Opening T W) → IsArity s.arity → length o.siblings ≡ siblings_below s t → All (HasDigests s.arity) (shared_inputs (terms f s t) i j o)
 shared_full f s t i j o w e =
     let m = meeting_level s t i j in
     elim (cases_Bool (eqb i j)) [

@@ -14,18 +14,19 @@ use Rattle.std.proofs.Math.Nat.{div-div-eq-div-mul}
 use Rattle.std.proofs.lemmas.List.Kept.{AllPairs-from_increasing}
 use Rattle.std.proofs.lemmas.List.Sorted.{searched}
 use Rattle.std.proofs.Math.Seq.{drop-append-add}
-use Rattle.p3_merkle_core.specs.Children.{children_at, children_under, is_among, node_over, path_out_of, paths_out_of, place_among, shown_path, shown_paths, siblings_out_of}
+use Rattle.p3_merkle_core.specs.Children.{children_at, children_under, is_among, node_over, path_out_of, paths_out_of, place_among, siblings_out_of}
+use Rattle.p3_merkle_core.specs.Views.{shown_path, shown_paths}
 use Rattle.p3_merkle_core.specs.declared.pruning.AuthPath.{AuthPath}
 use Rattle.p3_merkle_core.specs.Geometry.{Shape, step, ancestor, layer_len, leaves_under, schedule_below}
 use Rattle.p3_merkle_core.specs.Nodes.{Functions}
-use Rattle.p3_merkle_core.specs.Pruning.{CanQuery, PrunedOpening, is_covered, covered_at, value_of, restored_path}
+use Rattle.p3_merkle_core.specs.Pruning.{CanQuery, PrunedOpening, is_covered, covered_at, value_of, restored_path, restored_paths}
 use Rattle.p3_merkle_core.proofs.CoveredFacts.{covered_listed}
 use Rattle.p3_merkle_core.proofs.ListFacts.{joined}
 use Rattle.p3_merkle_core.proofs.PathFacts.{joined_same, piece}
 use Rattle.p3_merkle_core.proofs.RisingFacts.{listed_at, IsRising, rising_from, rising_filter, increasing_from}
 use Rattle.p3_merkle_core.proofs.StepFacts.{anc_next}
 use Rattle.p3_merkle_core.proofs.ValueFacts.{map_children}
-use Rattle.p3_merkle_core.specs.PrunedCalls.{restored_paths}
+use Rattle.p3_merkle_core.specs.Checks.{terms}
 
 -- ---- places
 
@@ -246,8 +247,8 @@ same_paths g h (q ∷ queries) same =
     rw (same q (or_left (eqb q q) (is_among queries q) (eq-eqb q q refl)), same_paths g h queries (λ i c. same i (or_right (eqb q i) (is_among queries i) c))) refl
 
 -- out of levels whose values are those of a pruned opening, the paths are the restored ones
-pub paths_restored : {T W : Type 0} (f : Functions T W) (s : Shape) (t : ℕ) (p : PrunedOpening T W) → CanQuery s p.indices t → (levels : List (List ℕ × ℕ × List (List W))) → levels ≡ map (level_of s p.indices (value_of f s t p)) (range_with_len 0 t) →
-    paths_out_of levels p.indices ≡ restored_paths f s t p
+pub paths_restored : {T W : Type 0} (f : Functions T W) (s : Shape) (t : ℕ) (p : PrunedOpening T W) → CanQuery s p.indices t → (levels : List (List ℕ × ℕ × List (List W))) → levels ≡ map (level_of s p.indices (value_of (terms f s t) p)) (range_with_len 0 t) →
+    paths_out_of levels p.indices ≡ restored_paths (terms f s t) p
 paths_restored f s t p w levels are =
-    rw are (same_paths (λ i. (i, path_out_of (map (level_of s p.indices (value_of f s t p)) (range_with_len 0 t)) i)) (λ i. (i, restored_path f s t p i)) p.indices
-    (λ i q. ap (λ path. (i, path)) (path_kept s p.indices t w (value_of f s t p) i q)))
+    rw are (same_paths (λ i. (i, path_out_of (map (level_of s p.indices (value_of (terms f s t) p)) (range_with_len 0 t)) i)) (λ i. (i, restored_path (terms f s t) p i)) p.indices
+    (λ i q. ap (λ path. (i, path)) (path_kept s p.indices t w (value_of (terms f s t) p) i q)))

@@ -6,8 +6,7 @@ use Rattle.std.specs.Cmp.{both_ways}
 use Rattle.std.proofs.lemmas.Bool.{or_cases, or_left, or_right, eqb-true, true≢false}
 use Rattle.std.proofs.lemmas.List.Elements.{filter_agree}
 use Rattle.p3_merkle_core.specs.Geometry.{Shape, IsArity, ancestor, heights, layer_len, raw_len, step, tallest}
-use Rattle.p3_merkle_core.specs.Pruning.{CanQuery, is_covered, is_boundary, covered_at}
-use Rattle.p3_merkle_core.specs.PrunedCalls.{pruned_len}
+use Rattle.p3_merkle_core.specs.Pruning.{CanQuery, is_covered, is_boundary, covered_at, pruned_len}
 use Rattle.p3_merkle_core.proofs.Accepted.{padded_ge}
 use Rattle.p3_merkle_core.proofs.RisingFacts.{is_listed, filter_is, increasing_from, listed_at, rising_filter, rising_from}
 use Rattle.p3_merkle_core.proofs.SlotFacts.{all_below, distinct_from}

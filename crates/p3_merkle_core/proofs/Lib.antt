@@ -29,7 +29,7 @@ pub mod Binding
 pub mod SameIndex
 pub mod AuthenticatedFacts
 pub mod Extracted
-pub mod ExtractedMulti
+pub mod ExtractionFacts
 pub mod PlaceFacts
 pub mod RootFacts
 pub mod FallFacts
@@ -51,3 +51,4 @@ pub mod ValueFacts
 pub mod LeafFacts
 pub mod KeptFacts
 pub mod PrunedFacts
+pub mod FirstPairs

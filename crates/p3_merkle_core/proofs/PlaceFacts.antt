@@ -3,7 +3,8 @@ use Rattle.std.proofs.Common.{ℕ, zero, suc, ◌+◌, ◌-◌, List, [], ◌∷
 use Rattle.std.proofs.lemmas.Bool.{cases_Bool, cases_eq, ne_eqb}
 use Rattle.p3_merkle_core.specs.Geometry.{Shape, has_rows}
 use Rattle.p3_merkle_core.specs.Nodes.{Functions}
-use Rattle.p3_merkle_core.specs.Openings.{Opening, Input, IsAtOnePlace, IsLastDifference, IsLastShared, inputs, inputs_at, meeting_level}
+use Rattle.p3_merkle_core.specs.Openings.{Opening}
+use Rattle.p3_merkle_core.specs.Checks.{Input, IsAtOnePlace, IsLastDifference, IsLastShared, inputs, inputs_at, meeting_level, terms}
 use Rattle.p3_merkle_core.proofs.CheckFacts.{inputs_with_rows, inputs_alone}
 use Rattle.p3_merkle_core.proofs.ListFacts.{joined, joined_more}
 
@@ -42,14 +43,14 @@ alike_last (p ∷ xs) (q ∷ ys) x y a (inl d) = alike_last xs ys x y a.1 d
 alike_last (p ∷ xs) (q ∷ ys) x y a (inr d) = rw (← d.1, ← d.2) a.0
 
 -- the last inputs that two checks share and that differ stand at one place
-pub at_one_place : {T W : Type 0} (f : Functions T W) (s : Shape) (t : ℕ) (o u : Opening T W) (x y : Input T W) → IsLastShared f s t o u x y → IsAtOnePlace x y
+pub at_one_place : {T W : Type 0} (f : Functions T W) (s : Shape) (t : ℕ) (o u : Opening T W) (x y : Input T W) → IsLastShared (terms f s t) o u x y → IsAtOnePlace x y
 unfolding AreAlike
 at_one_place f s t o u x y d =
     let m = meeting_level s t o.index u.index in
     elim (cases_eq o.index u.index) [
       | inl e ↦
           let test = eq-eqb o.index u.index e in
-          alike_last (inputs f s t o) (inputs f s t u) x y (tt, alike_joined (inputs_at f s o) (inputs_at f s u) t (level_alike f s o u)) (rw test at d)
+          alike_last (inputs (terms f s t) o) (inputs (terms f s t) u) x y (refl, alike_joined (inputs_at f s o) (inputs_at f s u) t (level_alike f s o u)) (rw test at d)
       | inr ne ↦
           let test = ne_eqb o.index u.index ne in
           alike_last (joined (λ k. inputs_at f s o (m + k)) (t - m)) (joined (λ k. inputs_at f s u (m + k)) (t - m)) x y

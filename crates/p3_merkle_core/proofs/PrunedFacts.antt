@@ -5,8 +5,8 @@ use Rattle.std.proofs.lemmas.List.{length-map, length-replicate}
 use Rattle.p3_support.specs.declared.matrix.Dimensions.{Dimensions}
 use Rattle.p3_merkle_core.specs.Geometry.{Shape, heights, tallest}
 use Rattle.p3_merkle_core.specs.Gate.{gate_refusal}
-use Rattle.p3_merkle_core.specs.Pruning.{PrunedOpening, boundary}
-use Rattle.p3_merkle_core.specs.Refusals.{digest_count_refusal, first_of, first_rows, first_some, group_refusal, idle_refusal, pruned_refusal, queries_refusal, repeat_refusal, size_refusal, slots_below, width_refusal}
+use Rattle.p3_merkle_core.specs.Pruning.{PrunedOpening, boundary, covered_at, first_rows}
+use Rattle.p3_merkle_core.specs.Refusals.{digest_count_refusal, first_of, first_some, group_refusal, idle_refusal, pruned_refusal, queries_refusal, repeat_refusal, size_refusal, slots_below, width_refusal, rows_of}
 use Rattle.p3_merkle_core.specs.Agreement.{distinct, early_refusal, first_query, late_refusal, layers_refusal, opened_of, opened_with, slot_rows}
 use Rattle.p3_merkle_core.specs.declared.error.MerkleTreeError.{MerkleTreeError}
 use Rattle.p3_merkle_core.specs.declared.error.MerkleTreeError.TheVariants.{IndexOutOfBounds, WrongBatchSize}
@@ -52,12 +52,12 @@ asked_from hs indices sets digests e =
 
 late_is : {T : Type 0} (row_eq : T → T → Bool) (s : Shape) (t : ℕ) (firsts indices : List ℕ) (sets : List (List (List T))) → firsts ≡ map (first_query indices) (distinct indices) → Asked (heights s) indices (length sets) →
     late_refusal row_eq s t (distinct indices) firsts sets
-    ≡ first_some (first_of (λ i. width_refusal s.dimensions (first_rows (opened_of indices sets) i)) (slots_below (tallest (heights s)) indices) ∷ group_refusal row_eq s t (opened_of indices sets) ∷ [])
+    ≡ first_some (first_of (λ i. width_refusal s.dimensions (rows_of (opened_of indices sets) i)) (slots_below (tallest (heights s)) indices) ∷ group_refusal row_eq s t (opened_of indices sets) ∷ [])
 late_is row_eq s t firsts indices sets is asked =
     let widths = widths_are s.dimensions (tallest (heights s)) firsts indices sets is asked.pairs asked.highest in
     let groups = groups_are row_eq s t firsts indices sets is asked.pairs asked.highest in
     ap (λ w. first_some (w ∷ layers_refusal row_eq s t (distinct indices) firsts sets ∷ [])) widths
-    ∙ ap (λ g. first_some (first_of (λ i. width_refusal s.dimensions (first_rows (opened_of indices sets) i)) (slots_below (tallest (heights s)) indices) ∷ g ∷ [])) groups
+    ∙ ap (λ g. first_some (first_of (λ i. width_refusal s.dimensions (rows_of (opened_of indices sets) i)) (slots_below (tallest (heights s)) indices) ∷ g ∷ [])) groups
 
 -- where the first of two reasons doesn't hold, the second decides
 pub late_from : {E : Type 0} (x y a : Option E) → x ≡ None → y ≡ a → first_some (x ∷ y ∷ []) ≡ a
@@ -71,7 +71,7 @@ pub pruned_late : {T : Type 0} (row_eq : T → T → Bool) (s : Shape) (t : ℕ)
 pruned_late row_eq s t leaves firsts indices sets n answer listed is early repeats count late =
     let hs = heights s in
     let p = opened_of indices sets in
-    let widths = first_of (λ i. width_refusal s.dimensions (first_rows p i)) (slots_below (tallest hs) indices) in
+    let widths = first_of (λ i. width_refusal s.dimensions (rows_of p i)) (slots_below (tallest hs) indices) in
     let rest = widths ∷ group_refusal row_eq s t p ∷ [] in
     let number = digest_count_refusal (length (boundary s indices t)) n in
     let counted = repeat_refusal row_eq p ∷ number ∷ rest in
@@ -102,6 +102,6 @@ asked_of row_eq s t p e =
     let hs = heights s in
     let is = p.indices in
     let early = gate_refusal hs ∷ size_refusal (length is) (length p.rows) ∷ idle_refusal (length is) (length p.digests) ∷ queries_refusal (tallest hs) is ∷ [] in
-    let widths = first_of (λ i. width_refusal s.dimensions (first_rows p i)) (slots_below (tallest hs) is) in
+    let widths = first_of (λ i. width_refusal s.dimensions (rows_of p i)) (slots_below (tallest hs) is) in
     let rest = repeat_refusal row_eq p ∷ digest_count_refusal (length (boundary s is t)) (length p.digests) ∷ widths ∷ group_refusal row_eq s t p ∷ [] in
     asked_from hs is (length p.rows) (length p.digests) (front_none early rest e)

@@ -5,10 +5,10 @@ use Rattle.std.proofs.lemmas.Bool.{cond-true, cond-false, cases_lt, cases_eq, lt
 use Rattle.std.proofs.lemmas.Nat.{pow_pos}
 use Rattle.std.proofs.Math.Nat.{mul_assoc, mul_comm, two-pow-succ, mul-le-mul_left, mul-div_cancel_left, mod-eq_of_lt, mod_self, sub-zero, le_of_mul-le-mul_left, lt_of_mul-lt-mul_left, div-lt_iff_lt-mul}
 use Rattle.std.proofs.Math.Pow.{pow_mono, pow-lt}
-use Rattle.p3_merkle_core.specs.Geometry.{Shape, exponent, tallest, layer_exponent, is_bridge, step, levels, ancestor, padded_len, raw_len, grouped_len, grouped_len_of, layer_len, heights}
+use Rattle.p3_merkle_core.specs.Geometry.{Shape, exponent, tallest, layer_exponent, is_bridge, step, levels, ancestor, padded_len, raw_len, grouped_len, grouped_len_of, layer_len, heights, IsArity}
 use Rattle.p3_merkle_core.proofs.LeastFacts.{below_least, exponent_covers, below_exponent}
 use Rattle.p3_merkle_core.proofs.StepFacts.{whole_step_falls, anc_next, anc_start, step_above_1, step_at}
-use Rattle.p3_merkle_core.proofs.LadderFacts.{IsArity, step_cases, binary_power, whole_power}
+use Rattle.p3_merkle_core.proofs.LadderFacts.{step_cases, binary_power, whole_power}
 
 -- ---- the least multiple of y that is x or more
 

@@ -5,10 +5,13 @@ use Rattle.std.proofs.lemmas.List.{take_all}
 use Rattle.std.proofs.lemmas.List.Edits.{length-insert}
 use Rattle.p3_merkle_core.specs.Geometry.{Shape, IsArity, step, ancestor, position_in_group, has_rows}
 use Rattle.p3_merkle_core.specs.Nodes.{Functions}
-use Rattle.p3_merkle_core.specs.Openings.{Opening, IsAccepted, inputs, inputs_at, shared_inputs, group_at, path_digest, layer_words, layer_rows, siblings_at, siblings_below}
+use Rattle.p3_merkle_core.specs.Openings.{Opening}
+use Rattle.p3_merkle_core.specs.Checks.{IsAccepted, inputs, inputs_at, shared_inputs, group_at, path_digest, layer_words, layer_rows, siblings_at, siblings_below, terms}
+use Rattle.p3_merkle_core.specs.declared.collision.Place.TheVariants.{Group}
+use Rattle.p3_merkle_core.proofs.CheckFacts.{same_digests, inputs_with_rows, inputs_alone, full_group}
 use Rattle.p3_merkle_core.proofs.Completeness.{reached_leaf, reached_next}
 use Rattle.p3_merkle_core.proofs.PathFacts.{joined_same}
-use Rattle.p3_merkle_core.proofs.Extraction.{same_ends, siblings_full, in_group, inputs_with_rows, inputs_alone, full_group}
+use Rattle.p3_merkle_core.proofs.Extraction.{same_ends, siblings_full, in_group}
 use Rattle.p3_merkle_core.proofs.Binding.{insert_same, take_more_of, level_shared, rows_bound}
 use Rattle.p3_merkle_core.proofs.ListFacts.{joined, joined_more}
 
@@ -23,13 +26,13 @@ siblings_joined s xs (suc n) = take_more_of (siblings_below s n) (step s n - 1) 
 all_siblings : {T W : Type 0} (s : Shape) (t : ℕ) (o : Opening T W) → length o.siblings ≡ siblings_below s t → o.siblings ≡ joined (siblings_at s o) t
 all_siblings s t o e = sym (take_all (siblings_below s t) o.siblings (omega arith)) ∙ siblings_joined s o.siblings t
 
-level_siblings : {T W : Type 0} (f : Functions T W) (s : Shape) (t : ℕ) (o u : Opening T W) → IsArity s.arity → length o.siblings ≡ siblings_below s t → length u.siblings ≡ siblings_below s t → o.index ≡ u.index →
+siblings_alike : {T W : Type 0} (f : Functions T W) (s : Shape) (t : ℕ) (o u : Opening T W) → IsArity s.arity → length o.siblings ≡ siblings_below s t → length u.siblings ≡ siblings_below s t → o.index ≡ u.index →
     (l : ℕ) → l < t → inputs_at f s o l ≡ inputs_at f s u l → siblings_at s o l ≡ siblings_at s u l
-level_siblings f s t o u w a b same l h e =
+siblings_alike {T} f s t o u w a b same l h e =
     let g : full_group f s o l ≡ full_group f s u l =
     elim (cases_Bool (has_rows s (suc l))) [
-      | inl t ↦ let c = sym (inputs_with_rows f s o l t) ∙ e ∙ inputs_with_rows f s u l t in cc
-      | inr n ↦ let c = sym (inputs_alone f s o l n) ∙ e ∙ inputs_alone f s u l n in cc
+      | inl t ↦ let c = sym (inputs_with_rows f s o l t) ∙ e ∙ inputs_with_rows f s u l t in same_digests {T = T} (Group l) (Group l) (full_group f s o l) (full_group f s u l) cc
+      | inr n ↦ let c = sym (inputs_alone f s o l n) ∙ e ∙ inputs_alone f s u l n in same_digests {T = T} (Group l) (Group l) (full_group f s o l) (full_group f s u l) cc
     ] in
     let p = position_in_group s l o.index in
     let full = siblings_full s o t l a h in
@@ -72,12 +75,12 @@ level_same f s t o u same sent rows l h =
 
 -- ---- both ways
 
-pub same_at_one_index : {T W : Type 0} (f : Functions T W) (s : Shape) (t : ℕ) (cap : List (List W)) (o u : Opening T W) → IsArity s.arity → IsAccepted f s t cap o → IsAccepted f s t cap u → o.index ≡ u.index →
-    (shared_inputs f s t o.index u.index o ≡ shared_inputs f s t o.index u.index u) ↔ ((o.siblings ≡ u.siblings) × ((l : ℕ) → l ≤ t → layer_rows s o.rows l ≡ layer_rows s u.rows l))
+pub same_at_one_index : {T W : Type 0} (f : Functions T W) (s : Shape) (t : ℕ) (cap : List (List W)) (o u : Opening T W) → IsArity s.arity → IsAccepted (terms f s t) cap o → IsAccepted (terms f s t) cap u → o.index ≡ u.index →
+    (shared_inputs (terms f s t) o.index u.index o ≡ shared_inputs (terms f s t) o.index u.index u) ↔ ((o.siblings ≡ u.siblings) × ((l : ℕ) → l ≤ t → layer_rows s o.rows l ≡ layer_rows s u.rows l))
 same_at_one_index f s t cap o u w a b same = (
   λ e. (
     all_siblings s t o a.count
-        ∙ joined_same (siblings_at s o) (siblings_at s u) t (λ l h. level_siblings f s t o u w a.count b.count same l h (level_shared f s t o u e l h (ap (λ i. ancestor s (suc l) i) same)))
+        ∙ joined_same (siblings_at s o) (siblings_at s u) t (λ l h. siblings_alike f s t o u w a.count b.count same l h (level_shared f s t o u e l h (ap (λ i. ancestor s (suc l) i) same)))
         ∙ sym (all_siblings s t u b.count),
     λ l h. rows_bound f s t cap o u a b e l h (ap (λ i. ancestor s l i) same),
   ),
@@ -85,6 +88,6 @@ same_at_one_index f s t cap o u w a b same = (
       let test = eq-eqb o.index u.index same in
       let leaf = words_same s o.rows u.rows 0 (rows 0 (omega arith)) in
       let rest = joined_same (inputs_at f s o) (inputs_at f s u) t (λ l h. level_same f s t o u same sent rows l h) in
-      let all : inputs f s t o ≡ inputs f s t u = rw (leaf, rest) refl in
+      let all : inputs (terms f s t) o ≡ inputs (terms f s t) u = rw (leaf, rest) refl in
       rw test all,
 )

@@ -11,11 +11,10 @@ use Rattle.std.specs.Cmp.Lexicographic.{pointwise}
 use Rattle.std.proofs.lemmas.Bool.{cases_Bool, eqb-true, or_cases, true≢false, ne_eqb, cases_lt}
 use Rattle.std.proofs.lemmas.List.{drop_all, get_or-map, get_or_default, length-map}
 use Rattle.std.specs.Cmp.Derive.Mapped.{pointwise-map}
-use Rattle.p3_support.specs.Shown.{row_lists}
-use Rattle.p3_merkle_core.specs.PrunedCalls.{row_sets}
+use Rattle.p3_support.specs.Shown.{row_lists, row_sets}
 use Rattle.p3_merkle_core.specs.Geometry.{Shape, tallest, heights, layer_len, raw_len, step}
-use Rattle.p3_merkle_core.specs.Pruning.{CanQuery, PrunedOpening, is_covered, covered_at}
-use Rattle.p3_merkle_core.specs.Refusals.{is_queried, slots_below, slot_of, first_rows, first_of, unless}
+use Rattle.p3_merkle_core.specs.Pruning.{CanQuery, PrunedOpening, is_covered, covered_at, first_rows}
+use Rattle.p3_merkle_core.specs.Refusals.{is_queried, slots_below, slot_of, first_of, unless, rows_of}
 use Rattle.p3_merkle_core.specs.declared.error.PrunedProofError.TheVariants.{InconsistentDuplicateOpenings}
 use Rattle.p3_merkle_core.specs.declared.error.MerkleTreeError.{MerkleTreeError}
 use Rattle.p3_merkle_core.specs.declared.error.MerkleTreeError.TheVariants.{MalformedPrunedProof}
@@ -256,7 +255,7 @@ firsts_turn firsts indices n q k e l is w = rw (is, e) (firsts_more indices n k 
 
 pub record IsFirst {T : Type 0} (indices : List ℕ) (sets : List (List (List T))) (i : ℕ) : Type 0 where
   pub place : first_query indices i < length indices
-  pub rows : get_or sets (first_query indices i) [] ≡ first_rows (opened_of indices sets) i
+  pub rows : get_or sets (first_query indices i) [] ≡ rows_of (opened_of indices sets) i
 
 pub first_of_index : {T : Type 0} (indices : List ℕ) (sets : List (List (List T))) (i : ℕ) → length indices ≡ length sets → is_queried indices i ≡ true → IsFirst indices sets i
 first_of_index [] sets i e c = absurd (true≢false (sym c))
@@ -271,7 +270,7 @@ first_of_index (q ∷ indices) (r ∷ sets) i e c =
 pub record IsAtSlot {T : Type 0} (firsts indices : List ℕ) (sets : List (List (List T))) (i k : ℕ) : Type 0 where
   pub inside : k < length firsts
   pub place : get_or firsts k 0 < length sets
-  pub rows : get_or sets (get_or firsts k 0) [] ≡ first_rows (opened_of indices sets) i
+  pub rows : get_or sets (get_or firsts k 0) [] ≡ rows_of (opened_of indices sets) i
 
 pub at_slot : {T : Type 0} (firsts indices : List ℕ) (sets : List (List (List T))) (i k : ℕ) → firsts ≡ map (first_query indices) (distinct indices) → length indices ≡ length sets →
     is_queried indices i ≡ true → IsSlot indices i k → IsAtSlot firsts indices sets i k
@@ -288,7 +287,7 @@ at_slot firsts indices sets i k is e c w =
 
 -- a query whose row set is not that of the first query of its index
 abbrev pub repeat_fault : {T : Type 0} → (T → T → Bool) → PrunedOpening T ℕ → ℕ × List (List T) → Option MerkleTreeError
-repeat_fault row_eq p = λ (i, rows). unless (pointwise (pointwise row_eq) rows (first_rows p i)) (MalformedPrunedProof (InconsistentDuplicateOpenings (slot_of p.indices i)))
+repeat_fault row_eq p = λ (i, rows). unless (pointwise (pointwise row_eq) rows (rows_of p i)) (MalformedPrunedProof (InconsistentDuplicateOpenings (slot_of p.indices i)))
 
 pub repeats_next : {T : Type 0} (row_eq : T → T → Bool) (firsts indices : List ℕ) (sets : List (List (List T))) (n k : ℕ) → firsts ≡ map (first_query indices) (distinct indices) → length indices ≡ length sets →
     n < length indices → IsSlot indices (get_or indices n 0) k →

@@ -1,12 +1,11 @@
 -- The boundary suffices, and a set of no more nodes that suffices has its members.
-use Rattle.std.proofs.Common.{◌≡◌, ℕ, zero, suc, ◌+◌, ◌*◌, ◌/◌, ◌<◌, ◌≤◌, Bool, true, false, not, eqb, ◌&&◌, ◌||◌, List, [], ◌∷◌, map, refl, sym, ◌∙◌, arith, inl, inr, length, filter, eq-eqb, All, ap}
+use Rattle.std.proofs.Common.{◌≡◌, ℕ, zero, suc, ◌+◌, ◌*◌, ◌/◌, ◌<◌, ◌≤◌, Bool, true, false, not, eqb, ◌&&◌, ◌||◌, List, [], ◌∷◌, map, refl, sym, ◌∙◌, arith, inl, inr, length, filter, eq-eqb, All, ap, subst}
 use Rattle.std.specs.List.{list_any, range_with_len}
 use Rattle.std.proofs.lemmas.Bool.{cases_Bool, cases_eq, eqb-true, and_parts, and_from, or_cases, or_left, or_right, or_parts, not_from_false, true≢false, cases_lt, not-true}
 use Rattle.std.proofs.lemmas.List.Folds.{list_any-append}
 use Rattle.std.proofs.Math.Nat.{mul-le-mul_left}
-use Rattle.p3_merkle_core.specs.Geometry.{Shape, step, ancestor, raw_len, layer_len, tallest, heights}
-use Rattle.p3_merkle_core.specs.Pruning.{is_covered, is_boundary, boundary_at, boundary, is_in, IsKnown, Suffices, IsUncovered, CanQuery, IsLeast}
-use Rattle.p3_merkle_core.proofs.LadderFacts.{IsArity}
+use Rattle.p3_merkle_core.specs.Geometry.{Shape, step, ancestor, raw_len, layer_len, tallest, heights, IsArity}
+use Rattle.p3_merkle_core.specs.Pruning.{is_covered, is_boundary, boundary_at, boundary, is_in, IsKnown, Suffices, IsUncovered, CanQuery, IsLeast, pruned_len}
 use Rattle.p3_merkle_core.proofs.RawFacts.{anc_below, children_fit}
 use Rattle.p3_merkle_core.proofs.Under.{under_self, child_parent}
 use Rattle.p3_merkle_core.proofs.Minimal.{above, boundary_one, minimal, in_boundary}
@@ -189,10 +188,11 @@ only_the_boundary s w queries t given un enough few l j =
     ]
 
 -- the boundary is uncovered and suffices, and what else does has its members or is longer
-pub boundary_least : (s : Shape) (queries : List ℕ) (t : ℕ) → CanQuery s queries t → IsLeast s queries t (boundary s queries t)
+pub boundary_least : (s : Shape) (queries : List ℕ) (t : ℕ) → CanQuery s queries t → IsLeast s queries t (pruned_len s queries t)
 boundary_least s queries t w =
     let nodes = boundary s queries t in
     record {
+      counted = refl;
       uncovered = λ l j le e. (let b = in_boundary s queries t l j e in not-true (is_covered s queries l j) (and_parts (is_covered s queries (suc l) (j / step s l)) (not (is_covered s queries l j)) b.1).1);
       suffices = boundary_suffices s queries t w;
       others_longer = λ given un enough. elim (cases_lt (length nodes) (length given)) [
@@ -200,3 +200,7 @@ boundary_least s queries t w =
         | inr few ↦ inl (only_the_boundary s w.well_shaped queries t given un enough few)
       ];
     }
+
+-- so is a number that is its length
+pub count_least : (s : Shape) (queries : List ℕ) (t count : ℕ) → CanQuery s queries t → count ≡ pruned_len s queries t → IsLeast s queries t count
+count_least s queries t count w is = subst (IsLeast s queries t) (sym is) (boundary_least s queries t w)

@@ -9,8 +9,8 @@ use Rattle.std.proofs.lemmas.List.{length-map}
 use Rattle.p3_support.specs.declared.matrix.Dimensions.{Dimensions}
 use Rattle.p3_merkle_core.proofs.ShapeFacts.{widths_in_pairs}
 use Rattle.p3_merkle_core.specs.Geometry.{Shape, tallest, exponent, layer_exponent, ancestor, least, layer_len, heights, widths_of}
-use Rattle.p3_merkle_core.specs.Pruning.{PrunedOpening, is_boundary, boundary, boundary_at}
-use Rattle.p3_merkle_core.specs.Refusals.{first_of, first_rows, lead, matrices_at, slots_below, slot_of, is_queried, unless, verdict, size_refusal, idle_refusal, queries_refusal, repeat_refusal, digest_count_refusal, width_refusal, row_refusal, group_refusal, pruned_refusal, pruned_answer, IsRestorable, row_width_refusal, width_fault}
+use Rattle.p3_merkle_core.specs.Pruning.{PrunedOpening, is_boundary, boundary, boundary_at, first_rows, IsRestorable}
+use Rattle.p3_merkle_core.specs.Refusals.{first_of, lead, matrices_at, slots_below, slot_of, is_queried, unless, verdict, size_refusal, idle_refusal, queries_refusal, repeat_refusal, digest_count_refusal, width_refusal, row_refusal, group_refusal, pruned_refusal, pruned_answer, row_width_refusal, width_fault, rows_of}
 use Rattle.p3_merkle_core.specs.declared.error.PrunedProofError.TheVariants.{SiblingCountMismatch, InconsistentDuplicateOpenings, InconsistentGroupOpening}
 use Rattle.p3_merkle_core.specs.declared.error.MerkleTreeError.TheVariants.{WrongBatchSize, WrongWidth, IndexOutOfBounds, MalformedPrunedProof}
 use Rattle.p3_merkle_core.proofs.LeastFacts.{least_passes, least_bound}
@@ -135,12 +135,12 @@ unrefused row_eq s t p dec w =
     let repeat : repeat_refusal row_eq p ≡ None = all_pairs _ p.indices p.rows [] paired (λ k h.
     let i = get_or p.indices k 0 in
     let f = first i paired (query_is p.indices k h) in
-    none_unless (pointwise (pointwise row_eq) (get_or p.rows k []) (first_rows p i)) (MalformedPrunedProof (InconsistentDuplicateOpenings (slot_of p.indices i)))
-    ((pointwise_decides (pointwise_decides dec) (get_or p.rows k []) (first_rows p i)).1 (w.agreed.repeats k (f.0) h (f.1) (sym f.2) ∙ sym f.3))) in
+    none_unless (pointwise (pointwise row_eq) (get_or p.rows k []) (rows_of p i)) (MalformedPrunedProof (InconsistentDuplicateOpenings (slot_of p.indices i)))
+    ((pointwise_decides (pointwise_decides dec) (get_or p.rows k []) (rows_of p i)).1 (w.agreed.repeats k (f.0) h (f.1) (sym f.2) ∙ sym f.3))) in
     let count = count_none (length (boundary s p.indices t)) (length p.digests) (sym w.count) in
-    let widths_none = all_none (λ i. width_refusal s.dimensions (first_rows p i)) (is_queried p.indices) 0 top (λ i asked low high.
+    let widths_none = all_none (λ i. width_refusal s.dimensions (rows_of p i)) (is_queried p.indices) 0 top (λ i asked low high.
     let f = first i paired asked in
-    width_none s.dimensions (first_rows p i) (ap (λ rows. map length rows) f.3 ∙ w.rows_fit (f.0) [] (let z = f.1 in omega arith))) in
+    width_none s.dimensions (rows_of p i) (ap (λ rows. map length rows) f.3 ∙ w.rows_fit (f.0) [] (let z = f.1 in omega arith))) in
     let group : group_refusal row_eq s t p ≡ None =
     all_in_range (λ l. first_of (λ i. first_of (row_refusal row_eq s p l i) (matrices_at s l)) (slots_below top p.indices)) 0 (suc t) (λ l low high.
     all_none (λ i. first_of (row_refusal row_eq s p l i) (matrices_at s l)) (is_queried p.indices) 0 top (λ i asked from below.
@@ -152,8 +152,8 @@ unrefused row_eq s t p dec w =
     let together : ancestor s l (get_or p.indices (f.0) 0) ≡ ancestor s l (get_or p.indices (g.0) 0) = ap (λ n. ancestor s l n) f.2 ∙ sym lowest.1 ∙ sym (ap (λ n. ancestor s l n) g.2) in
     let rows = kept_same (layer_exponent s l) (heights s) (get_or p.rows (f.0) []) (get_or p.rows (g.0) []) (long (f.0) (f.1)) (long (g.0) (g.1))
     (w.agreed.groups l (f.0) (g.0) (omega arith) (f.1) (g.1) together) m (omega arith) here in
-    let x = get_or (first_rows p i) m [] in
-    let y = get_or (first_rows p k) m [] in
+    let x = get_or (rows_of p i) m [] in
+    let y = get_or (rows_of p k) m [] in
     none_unless (pointwise row_eq x y) (MalformedPrunedProof (InconsistentGroupOpening (slot_of p.indices i) m))
     ((pointwise_decides dec x y).1 (ap (λ rs. get_or rs m []) f.3 ∙ rows ∙ sym (ap (λ rs. get_or rs m []) g.3)))))) in
     let none : pruned_refusal row_eq s t p ≡ None = rw (gate, size, idle, index, repeat, count, widths_none, group) refl in

@@ -10,9 +10,10 @@ use Rattle.p3_merkle_core.proofs.ShapeFacts.{length-widths}
 use Rattle.p3_merkle_core.specs.Geometry.{Shape, IsArity, tallest, ancestor, heights, widths, IsLawful}
 use Rattle.p3_merkle_core.specs.Gate.{gate_refusal}
 use Rattle.p3_merkle_core.specs.Nodes.{Functions}
-use Rattle.p3_merkle_core.specs.Openings.{Opening, IsAccepted, siblings_below, path_digest}
-use Rattle.p3_merkle_core.specs.Pruning.{PrunedOpening, restored_node, IsCapped, EachAccepted}
-use Rattle.p3_merkle_core.specs.Refusals.{first_some, unless, verdict, is_entry, size_refusal, sibling_count_refusal, row_width_refusal, refusal_under, answer_under, pruned_refusal, cap_refusal, pruned_answer_under, IsRestorable, form_refusal}
+use Rattle.p3_merkle_core.specs.Openings.{Opening}
+use Rattle.p3_merkle_core.specs.Checks.{IsAccepted, siblings_below, path_digest, terms}
+use Rattle.p3_merkle_core.specs.Pruning.{PrunedOpening, restored_node, IsCapped, EachAccepted, IsRestorable}
+use Rattle.p3_merkle_core.specs.Refusals.{first_some, unless, verdict, is_entry, size_refusal, sibling_count_refusal, row_width_refusal, refusal_under, answer_under, pruned_refusal, cap_refusal, pruned_answer_under, form_refusal}
 use Rattle.p3_merkle_core.specs.declared.error.MerkleTreeError.TheVariants.{WrongBatchSize, WrongHeight, IndexOutOfBounds, CapMismatch}
 use Rattle.p3_merkle_core.proofs.NoneFacts.{none_parts, unless_none, none_unless, verdict_ok, rows_fit_from}
 use Rattle.p3_merkle_core.proofs.Answered.{restorable}
@@ -80,46 +81,46 @@ form_none s t index rows siblings w =
     rw (size, gate, height, fit, below) refl
 
 pub accepted_from : {T W : Type 0} (digest_eq : W → W → Bool) (f : Functions T W) (s : Shape) (t : ℕ) (cap : List (List W)) (o : Opening T W) → ((x y : W) → Decides (digest_eq x y) (x ≡ y)) →
-    answer_under digest_eq f s t cap o ≡ Ok tt → IsAccepted f s t cap o
+    answer_under digest_eq (terms f s t) cap o ≡ Ok tt → IsAccepted (terms f s t) cap o
 accepted_from digest_eq f s t cap o dec e =
     let digest = path_digest f s o t in
     let entry = is_entry digest_eq cap (ancestor s t o.index) digest in
-    let both = none_parts (form_refusal s t o.index o.rows (length o.siblings)) (unless entry CapMismatch) (verdict_ok (refusal_under digest_eq f s t cap o) e) in
+    let both = none_parts (form_refusal s t o.index o.rows (length o.siblings)) (unless entry CapMismatch) (verdict_ok (refusal_under digest_eq (terms f s t) cap o) e) in
     let form = form_from s t o.index o.rows (length o.siblings) both.0 in
     accepted_by_walk f s t cap o form.lawful form.rows_fit form.count form.in_range ((entry_is digest_eq dec cap (ancestor s t o.index) digest).0 (unless_none entry CapMismatch both.1))
 
 pub accepted_answer : {T W : Type 0} (digest_eq : W → W → Bool) (f : Functions T W) (s : Shape) (t : ℕ) (cap : List (List W)) (o : Opening T W) → ((x y : W) → Decides (digest_eq x y) (x ≡ y)) →
-    IsAccepted f s t cap o → answer_under digest_eq f s t cap o ≡ Ok tt
+    IsAccepted (terms f s t) cap o → answer_under digest_eq (terms f s t) cap o ≡ Ok tt
 accepted_answer digest_eq f s t cap o dec w =
     let digest = path_digest f s o t in
     let form = form_none s t o.index o.rows (length o.siblings) (record { lawful = w.lawful; rows_fit = w.rows_fit; count = w.count; in_range = w.in_range }) in
     let entry = none_unless (is_entry digest_eq cap (ancestor s t o.index) digest) CapMismatch ((entry_is digest_eq dec cap (ancestor s t o.index) digest).1 (accepted_walk f s t cap o w)) in
-    let none : refusal_under digest_eq f s t cap o ≡ None = rw (form, entry) refl in
+    let none : refusal_under digest_eq (terms f s t) cap o ≡ None = rw (form, entry) refl in
     ap verdict none
 
 -- ---- pruned openings
 
 cap_fits : {T W : Type 0} (digest_eq : W → W → Bool) (f : Functions T W) (s : Shape) (t : ℕ) (cap : List (List W)) (p : PrunedOpening T W) → ((x y : W) → Decides (digest_eq x y) (x ≡ y)) → length p.rows ≡ length p.indices →
-    (cap_refusal digest_eq f s t cap p ≡ None) ↔ IsCapped f s t cap p
+    (cap_refusal digest_eq (terms f s t) cap p ≡ None) ↔ IsCapped (terms f s t) cap p
 cap_fits digest_eq f s t cap p dec paired =
-    let test : ℕ → Bool = λ i. is_entry digest_eq cap (ancestor s t i) (restored_node f s t p t (ancestor s t i)) in (
+    let test : ℕ → Bool = λ i. is_entry digest_eq cap (ancestor s t i) (restored_node (terms f s t) p t (ancestor s t i)) in (
       λ e j c.
           let all = each_true test p.indices (unless_none (list_all test p.indices) CapMismatch e) in
           let u = rows_under_is s p.indices p.rows t j paired c in
           let at = u.2 in
-          rw (← at) ((entry_is digest_eq dec cap (ancestor s t (get_or p.indices (u.0) 0)) (restored_node f s t p t (ancestor s t (get_or p.indices (u.0) 0)))).0 (all (u.0) (u.1))),
+          rw (← at) ((entry_is digest_eq dec cap (ancestor s t (get_or p.indices (u.0) 0)) (restored_node (terms f s t) p t (ancestor s t (get_or p.indices (u.0) 0)))).0 (all (u.0) (u.1))),
       λ capped. none_unless (list_all test p.indices) CapMismatch (true_each test p.indices (λ k h.
           let j = ancestor s t (get_or p.indices k 0) in
-          (entry_is digest_eq dec cap j (restored_node f s t p t j)).1 (capped j (query_covered s p.indices k t h)))),
+          (entry_is digest_eq dec cap j (restored_node (terms f s t) p t j)).1 (capped j (query_covered s p.indices k t h)))),
     )
 
 -- a pruned opening is answered Ok exactly if it is restorable and the cap has each covered node of its layer
 pub pruned_capped : {T W : Type 0} (row_eq : T → T → Bool) (digest_eq : W → W → Bool) (f : Functions T W) (s : Shape) (t : ℕ) (cap : List (List W)) (p : PrunedOpening T W) →
     ((x y : T) → Decides (row_eq x y) (x ≡ y)) → ((x y : W) → Decides (digest_eq x y) (x ≡ y)) →
-    (pruned_answer_under row_eq digest_eq f s t cap p ≡ Ok tt) ↔ (IsRestorable s t p × IsCapped f s t cap p)
+    (pruned_answer_under row_eq digest_eq (terms f s t) cap p ≡ Ok tt) ↔ (IsRestorable s t p × IsCapped (terms f s t) cap p)
 pruned_capped row_eq digest_eq f s t cap p dec dec_w =
     let first = pruned_refusal row_eq s t p in
-    let last = cap_refusal digest_eq f s t cap p in (
+    let last = cap_refusal digest_eq (terms f s t) cap p in (
       λ e.
           let both = none_parts first last (verdict_ok (option_or first last) e) in
           let r = restorable row_eq s t p dec (ap verdict both.0) in
@@ -134,7 +135,7 @@ pruned_capped row_eq digest_eq f s t cap p dec dec_w =
 -- and exactly if it is restorable and each query is accepted with its restored path
 pub pruned_accepted : {T W : Type 0} (row_eq : T → T → Bool) (digest_eq : W → W → Bool) (f : Functions T W) (s : Shape) (t : ℕ) (cap : List (List W)) (p : PrunedOpening T W) →
     ((x y : T) → Decides (row_eq x y) (x ≡ y)) → ((x y : W) → Decides (digest_eq x y) (x ≡ y)) → IsArity s.arity →
-    (pruned_answer_under row_eq digest_eq f s t cap p ≡ Ok tt) ↔ (IsRestorable s t p × EachAccepted f s t cap p)
+    (pruned_answer_under row_eq digest_eq (terms f s t) cap p ≡ Ok tt) ↔ (IsRestorable s t p × EachAccepted (terms f s t) cap p)
 pruned_accepted row_eq digest_eq f s t cap p dec dec_w w =
     let capped = pruned_capped row_eq digest_eq f s t cap p dec dec_w in
     let alike = λ (r : IsRestorable s t p). equivalent f s t cap p w r.lawful r.below r.rows_fit r.agreed in

@@ -1,7 +1,6 @@
 -- The children of covered nodes, and the values that they take.
 use Rattle.std.specs.Prelude.{◌≡◌, ℕ, ◌+◌, ◌-◌, ◌*◌, ◌/◌, ◌%◌, ◌^◌, ◌<◌, ◌≤◌, ◌==◌, Bool, not, nat_lt, if◌then◌else◌, List, [], All, drop, filter, flat_map, fold, length, map, remove, take, zip}
 use Rattle.std.specs.List.{enumerate_from, list_any, range_with_len}
-use Rattle.p3_merkle_core.specs.declared.pruning.AuthPath.{AuthPath}
 
 -- the children of some parents, n of each, parent by parent
 abbrev pub children_under : ℕ → List ℕ → List ℕ
@@ -59,11 +58,3 @@ path_out_of levels i =
 -- for each of some leaves, in order, its index and these siblings
 abbrev pub paths_out_of : {X : Type 0} → List (List ℕ × ℕ × List X) → List ℕ → List (ℕ × List X)
 paths_out_of levels indices = map (λ i. (i, path_out_of levels i)) indices
-
--- the leaf and the siblings that a path shows
-abbrev pub shown_path : {X : Type 0} → AuthPath X → ℕ × List X
-shown_path path = (path.leaf_index, path.siblings.items)
-
--- the same of each of some paths
-abbrev pub shown_paths : {X : Type 0} → List (AuthPath X) → List (ℕ × List X)
-shown_paths paths = map shown_path paths

@@ -1,9 +1,14 @@
 -- Words of the worked examples.
-use Rattle.std.specs.Prelude.{ℕ, List, [], ◌∷◌, map, length, replicate, slice_index}
+use Rattle.std.specs.Prelude.{ℕ, List, [], ◌∷◌, map, length, replicate, slice_index, nat_eq, Option, Result}
 use Rattle.p3_support.specs.Fold.{fold_hash, fold_compress}
 use Rattle.p3_merkle_core.specs.Geometry.{Shape, shape_of}
 use Rattle.p3_merkle_core.specs.Nodes.{Batch, Functions, Matrix, functions_of}
+use Rattle.p3_merkle_core.specs.Openings.{Opening}
+use Rattle.p3_merkle_core.specs.Checks.{Input, Terms}
 use Rattle.p3_merkle_core.specs.Pruning.{PrunedOpening, pruned_of}
+use Rattle.p3_merkle_core.specs.Extraction.{extraction}
+use Rattle.p3_merkle_core.specs.Presented.{presented, presented_pruned}
+use Rattle.p3_merkle_core.specs.declared.error.MerkleTreeError.{MerkleTreeError}
 
 -- the fold functions at digests of d words
 abbrev pub fold_example : ℕ → Functions ℕ ℕ
@@ -24,3 +29,11 @@ batch arity matrices = record { arity = arity; matrices = matrices }
 -- a pruned opening of indices, row sets and digests
 abbrev pub pruned : List ℕ → List (List (List ℕ)) → List (List ℕ) → PrunedOpening ℕ ℕ
 pruned indices rows digests = pruned_of indices rows digests
+
+-- what is answered to two openings under a cap
+abbrev pub extracts : Terms ℕ ℕ → List (List ℕ) → Opening ℕ ℕ → Opening ℕ ℕ → Result (Option (ℕ × ℕ × (Input ℕ ℕ × Input ℕ ℕ))) MerkleTreeError
+extracts c cap o u = extraction nat_eq nat_eq c (presented nat_eq c cap o) (presented nat_eq c cap u)
+
+-- the same of two pruned openings
+abbrev pub extracts_pruned : Terms ℕ ℕ → List (List ℕ) → PrunedOpening ℕ ℕ → PrunedOpening ℕ ℕ → Result (Option (ℕ × ℕ × (Input ℕ ℕ × Input ℕ ℕ))) MerkleTreeError
+extracts_pruned c cap p r = extraction nat_eq nat_eq c (presented_pruned nat_eq nat_eq c cap p) (presented_pruned nat_eq nat_eq c cap r)

@@ -74,10 +74,6 @@ node f b (suc l) j =
     then with_rows f b.arity (has_rows (shape b) (suc l)) (compress f b.arity (map (λ i. node f b l (s * j + i)) (range_with_len 0 s))) (row_digest f (at_layer b (suc l)) j)
     else f.default_digest
 
--- the children of node j of layer l + 1
-abbrev pub children : {T W : Type 0} → Functions T W → Batch T → ℕ → ℕ → List (List W)
-children f b l j = map (λ i. node f b l (step (shape b) l * j + i)) (range_with_len 0 (step (shape b) l))
-
 -- layer l, padding included
 abbrev pub layer : {T W : Type 0} → Functions T W → Batch T → ℕ → List (List W)
 layer f b l = map (node f b l) (range_with_len 0 (layer_len (shape b) l))

@@ -1,9 +1,10 @@
 -- Pruned openings of many indices: what is covered, what is sent, what suffices, what is restored.
-use Rattle.std.specs.Prelude.{◌≡◌, ℕ, zero, suc, ◌+◌, ◌*◌, ◌/◌, ◌<◌, ◌==◌, ◌&&◌, ◌⊎◌, Bool, false, not, if◌then◌else◌, IsTrue, List, [], map, length, filter, flat_map, zip, remove, find, unwrap_or, option_map, slice_index, slice_index_or, slice_get, Some, ◌≤◌, All, ◌-◌, nat_le}
+use Rattle.std.specs.Prelude.{◌≡◌, ℕ, zero, suc, ◌+◌, ◌*◌, ◌/◌, ◌<◌, ◌==◌, ◌&&◌, ◌⊎◌, Bool, false, not, if◌then◌else◌, IsTrue, List, [], map, length, filter, flat_map, zip, find, unwrap_or, option_map, slice_index, slice_index_or, slice_get, Some, ◌≤◌, All, ◌-◌, nat_le}
 use Rattle.std.specs.List.{list_any, range_with_len}
-use Rattle.p3_merkle_core.specs.Geometry.{Shape, IsArity, IsLawful, tallest, levels, step, raw_len, layer_len, ancestor, position_in_group, heights, has_rows}
+use Rattle.p3_merkle_core.specs.Geometry.{Shape, IsArity, IsLawful, tallest, levels, step, raw_len, layer_len, ancestor, heights, widths, has_rows}
 use Rattle.p3_merkle_core.specs.Nodes.{Functions, Batch, shape, node, compress, with_rows}
-use Rattle.p3_merkle_core.specs.Openings.{Opening, IsAccepted, layer_rows, layer_words, honest_rows}
+use Rattle.p3_merkle_core.specs.Openings.{Opening, honest_rows, node_in, opening_of, siblings_by}
+use Rattle.p3_merkle_core.specs.Checks.{IsAccepted, Terms, layer_rows, layer_words}
 
 -- node j of layer l is a queried leaf, or above one
 abbrev pub is_covered : Shape → List ℕ → ℕ → ℕ → Bool
@@ -24,6 +25,14 @@ boundary_at s queries l = map (λ j. (l, j)) (filter (is_boundary s queries l) (
 -- the boundary nodes below layer t, in wire order
 abbrev pub boundary : Shape → List ℕ → ℕ → List (ℕ × ℕ)
 boundary s queries t = flat_map (boundary_at s queries) (range_with_len 0 t)
+
+-- their values
+abbrev pub boundary_by : {X : Type 0} → (ℕ → ℕ → X) → Shape → List ℕ → ℕ → List X
+boundary_by value s queries t = map (λ (l, j). value l j) (boundary s queries t)
+
+-- how many digests a pruned proof of some indices has under the cap of layer t
+abbrev pub pruned_len : Shape → List ℕ → ℕ → ℕ
+pruned_len s indices t = length (boundary s indices t)
 
 -- a tree can be asked for these queries under layer t: its arity is one, the queries are below its tallest height, and it has the layer
 pub record CanQuery (s : Shape) (queries : List ℕ) (t : ℕ) : Type 0 where
@@ -64,12 +73,13 @@ is_under s l j (m, k) = nat_le m l && (up s m k (l - m) == j)
 abbrev pub IsGivenUnder : Shape → List (ℕ × ℕ) → ℕ → ℕ → ℕ × ℕ → Type 0
 IsGivenUnder s given l j x = IsTrue (is_in given x.0 x.1) × IsTrue (is_under s l j x)
 
--- uncovered nodes that suffice, where each list of uncovered nodes that suffices has just these nodes, or is longer
-pub record IsLeast (s : Shape) (queries : List ℕ) (t : ℕ) (nodes : List (ℕ × ℕ)) : Type 0 where
-  pub uncovered : IsUncovered s queries t nodes
-  pub suffices : Suffices s queries t nodes
+-- so many nodes are least: they are the boundary's, which are uncovered and suffice, and each list of uncovered nodes that suffices has just the boundary's nodes, or is longer
+pub record IsLeast (s : Shape) (queries : List ℕ) (t : ℕ) (count : ℕ) : Type 0 where
+  pub counted : count ≡ pruned_len s queries t
+  pub uncovered : IsUncovered s queries t (boundary s queries t)
+  pub suffices : Suffices s queries t (boundary s queries t)
   pub others_longer : (given : List (ℕ × ℕ)) → IsUncovered s queries t given → Suffices s queries t given →
-      ((l j : ℕ) → is_in given l j ≡ is_in nodes l j) ⊎ (length nodes < length given)
+      ((l j : ℕ) → is_in given l j ≡ is_in (boundary s queries t) l j) ⊎ (count < length given)
 
 -- ---- what is restored
 
@@ -83,36 +93,47 @@ pub record PrunedOpening (T W : Type 0) : Type 0 where
 abbrev pub pruned_of : {T W : Type 0} → List ℕ → List (List (List T)) → List (List W) → PrunedOpening T W
 pruned_of indices rows digests = record { indices = indices; rows = rows; digests = digests }
 
--- the rows of the first query under node j of layer l
-abbrev pub rows_under : {T W : Type 0} → Shape → PrunedOpening T W → ℕ → ℕ → List (List T)
-rows_under s p l j = unwrap_or (option_map (λ (i, rows). rows) (find (λ (i, rows). ancestor s l i == j) (zip p.indices p.rows))) []
+-- the value beside the first key that passes, and v where none does
+abbrev pub value_at : {K V : Type 0} → (K → Bool) → List (K × V) → V → V
+value_at passes pairs v = unwrap_or (option_map (λ (key, value). value) (find (λ (key, value). passes key) pairs)) v
 
--- the digest that was sent for node j of layer l
-abbrev pub sent_digest : {T W : Type 0} → Functions T W → Shape → ℕ → PrunedOpening T W → ℕ → ℕ → List W
-sent_digest f s t p l j =
-    unwrap_or (option_map (λ (place, digest). digest) (find (λ ((m, k), digest). (m == l) && (k == j)) (zip (boundary s p.indices t) p.digests))) f.default_digest
+-- the row set of the first query whose index passes
+abbrev pub first_rows : {T W : Type 0} → (ℕ → Bool) → PrunedOpening T W → List (List T)
+first_rows passes p = value_at passes (zip p.indices p.rows) []
 
--- the value of a covered node
-unfoldable pub restored_node : {T W : Type 0} → Functions T W → Shape → ℕ → PrunedOpening T W → ℕ → ℕ → List W
-restored_node f s t p zero j = f.hash (layer_words s (rows_under s p 0 j) 0)
-restored_node f s t p (suc l) j =
-    let child = λ (k : ℕ). if is_covered s p.indices l k then restored_node f s t p l k else sent_digest f s t p l k in
-    let c = compress f s.arity (map (λ i. child (step s l * j + i)) (range_with_len 0 (step s l))) in
-    with_rows f s.arity (has_rows s (suc l)) c (f.hash (layer_words s (rows_under s p (suc l) j) (suc l)))
+-- the digest that is sent for node j of layer l
+abbrev pub sent_digest : {T W : Type 0} → Terms T W → PrunedOpening T W → ℕ → ℕ → List W
+sent_digest c p l j = value_at (λ (m, k). (m == l) && (k == j)) (zip (boundary c.shape p.indices c.layer) p.digests) c.functions.default_digest
+
+-- the words of the first query under node j of layer l, of the matrices that belong to the layer
+abbrev pub words_under : {T W : Type 0} → Shape → PrunedOpening T W → ℕ → ℕ → List T
+words_under s p l j = layer_words s (first_rows (λ i. ancestor s l i == j) p) l
+
+-- the value of a covered node: the hash of rows for a leaf, else the compression of its children's values, with its rows if the layer has any
+unfoldable pub restored_node : {T W : Type 0} → Terms T W → PrunedOpening T W → ℕ → ℕ → List W
+restored_node c p zero j = c.functions.hash (words_under c.shape p 0 j)
+restored_node c p (suc l) j =
+    let f = c.functions in
+    let s = c.shape in
+    let child = λ (k : ℕ). if is_covered s p.indices l k then restored_node c p l k else sent_digest c p l k in
+    let digest = compress f s.arity (map (λ i. child (step s l * j + i)) (range_with_len 0 (step s l))) in
+    with_rows f s.arity (has_rows s (suc l)) digest (f.hash (words_under s p (suc l) j))
 
 -- the value of a covered node or a boundary node
-abbrev pub value_of : {T W : Type 0} → Functions T W → Shape → ℕ → PrunedOpening T W → ℕ → ℕ → List W
-value_of f s t p l j = if is_covered s p.indices l j then restored_node f s t p l j else sent_digest f s t p l j
+abbrev pub value_of : {T W : Type 0} → Terms T W → PrunedOpening T W → ℕ → ℕ → List W
+value_of c p l j = if is_covered c.shape p.indices l j then restored_node c p l j else sent_digest c p l j
 
 -- the siblings on the path of query i
-abbrev pub restored_path : {T W : Type 0} → Functions T W → Shape → ℕ → PrunedOpening T W → ℕ → List (List W)
-restored_path f s t p i =
-    flat_map (λ l. remove (map (λ k. value_of f s t p l (step s l * ancestor s (suc l) i + k)) (range_with_len 0 (step s l))) (position_in_group s l i)) (range_with_len 0 t)
+abbrev pub restored_path : {T W : Type 0} → Terms T W → PrunedOpening T W → ℕ → List (List W)
+restored_path c p i = siblings_by (value_of c p) c.shape c.layer i
 
--- the opening of query k, with its restored path
-abbrev pub opening_at : {T W : Type 0} → Functions T W → Shape → ℕ → PrunedOpening T W → ℕ → Opening T W
-opening_at f s t p k =
-    record { index = slice_index p.indices k; rows = slice_index_or p.rows k []; siblings = restored_path f s t p (slice_index p.indices k) }
+-- for each query, in order, its index and the siblings on its path
+abbrev pub restored_paths : {T W : Type 0} → Terms T W → PrunedOpening T W → List (ℕ × List (List W))
+restored_paths c p = map (λ i. (i, restored_path c p i)) p.indices
+
+-- query k as an opening of its own, with its restored path
+abbrev pub opening_at : {T W : Type 0} → Terms T W → PrunedOpening T W → ℕ → Opening T W
+opening_at c p k = let i = slice_index p.indices k in opening_of i (slice_index_or p.rows k []) (restored_path c p i)
 
 -- ---- agreed, accepted
 
@@ -124,20 +145,35 @@ pub record IsAgreed {T W : Type 0} (s : Shape) (t : ℕ) (p : PrunedOpening T W)
   pub groups : (l a b : ℕ) → l ≤ t → a < length p.indices → b < length p.indices → ancestor s l (slice_index p.indices a) ≡ ancestor s l (slice_index p.indices b) →
       layer_rows s (slice_index_or p.rows a []) l ≡ layer_rows s (slice_index_or p.rows b []) l
 
--- each covered node of layer t has its entry in the cap
-abbrev pub IsCapped : {T W : Type 0} → Functions T W → Shape → ℕ → List (List W) → PrunedOpening T W → Type 0
-IsCapped f s t cap p = (j : ℕ) → IsTrue (is_covered s p.indices t j) → slice_get cap j ≡ Some (restored_node f s t p t j)
+-- a pruned opening restores: lawful heights, queries below the greatest height, a digest for each boundary node, and rows of their widths that agree
+pub record IsRestorable {T W : Type 0} (s : Shape) (t : ℕ) (p : PrunedOpening T W) : Type 0 where
+  pub lawful : IsLawful (heights s)
+  pub below : All (λ i. i < tallest (heights s)) p.indices
+  pub count : length p.digests ≡ length (boundary s p.indices t)
+  pub rows_fit : All (λ rows. map length rows ≡ widths s) p.rows
+  pub agreed : IsAgreed s t p
+
+-- each covered node of the cap's layer has its entry in the cap
+abbrev pub IsCapped : {T W : Type 0} → Terms T W → List (List W) → PrunedOpening T W → Type 0
+IsCapped c cap p = (j : ℕ) → IsTrue (is_covered c.shape p.indices c.layer j) → slice_get cap j ≡ Some (restored_node c p c.layer j)
 
 -- each query is accepted with its restored path
-abbrev pub EachAccepted : {T W : Type 0} → Functions T W → Shape → ℕ → List (List W) → PrunedOpening T W → Type 0
-EachAccepted f s t cap p = (k : ℕ) → k < length p.indices → IsAccepted f s t cap (opening_at f s t p k)
+abbrev pub EachAccepted : {T W : Type 0} → Terms T W → List (List W) → PrunedOpening T W → Type 0
+EachAccepted c cap p = (k : ℕ) → k < length p.indices → IsAccepted c cap (opening_at c p k)
+
+-- a pruned opening is accepted under a cap: it restores, and each query is accepted with its restored path
+abbrev pub IsPrunedAccepted : {T W : Type 0} → Terms T W → List (List W) → PrunedOpening T W → Type 0
+IsPrunedAccepted c cap p = IsRestorable c.shape c.layer p × EachAccepted c cap p
 
 -- ---- the honest opening
 
+-- the pruned opening of some indices whose digests are the nodes that the layers of a tree have, up to layer t
+abbrev pub pruned_in_layers : {T W : Type 0} → Batch T → List (List (List W)) → ℕ → List ℕ → PrunedOpening T W
+pruned_in_layers b layers t indices = pruned_of indices (map (honest_rows b) indices) (boundary_by (node_in [] layers) (shape b) indices t)
+
 -- the honest pruned opening of some indices: the digests are those of the boundary nodes
 abbrev pub honest_query : {T W : Type 0} → Functions T W → Batch T → ℕ → List ℕ → PrunedOpening T W
-honest_query f b t indices =
-    record { indices = indices; rows = map (honest_rows b) indices; digests = map (λ (l, k). node f b l k) (boundary (shape b) indices t) }
+honest_query f b t indices = pruned_of indices (map (honest_rows b) indices) (boundary_by (node f b) (shape b) indices t)
 
 -- queries below the greatest height of a lawful batch, and a layer of its tree
 pub record IsHonestQuery {T : Type 0} (b : Batch T) (t : ℕ) (indices : List ℕ) : Type 0 where

@@ -3,13 +3,13 @@ use Rattle.std.specs.Prelude.{◌≡◌, ℕ, [], ◌∷◌, map, length, refl, 
 use Rattle.p3_support.specs.Fold.{fold_hash, fold_compress}
 use Rattle.p3_merkle_core.specs.Geometry.{exponent, layer_exponent, raw_len, leaves_under}
 use Rattle.p3_merkle_core.specs.Nodes.{node}
-use Rattle.p3_merkle_core.specs.Openings.{siblings_below, path_digest, Group}
 use Rattle.p3_merkle_core.specs.Pruning.{boundary, covered_at, honest_query, restored_node, restored_path}
 use Rattle.p3_merkle_core.specs.Children.{beside, children_under, is_among, path_out_of}
 use Rattle.p3_merkle_core.specs.Refusals.{pruned_refusal}
-use Rattle.p3_merkle_core.specs.Extracting.{extraction_multi_under}
-use Rattle.p3_merkle_core.specs.Examples.{batch, column, narrow, pruned, fold_example}
+use Rattle.p3_merkle_core.specs.Checks.{digests_at, terms, words_at, siblings_below, path_digest}
+use Rattle.p3_merkle_core.specs.Examples.{batch, column, narrow, pruned, fold_example, extracts_pruned}
 use Rattle.p3_merkle_core.specs.declared.error.PrunedProofError.TheVariants.{SiblingCountMismatch, InconsistentDuplicateOpenings, InconsistentGroupOpening}
+use Rattle.p3_merkle_core.specs.declared.collision.Place.TheVariants.{Leaf, Group, Rows, Pair}
 use Rattle.p3_merkle_core.specs.declared.error.MerkleTreeError.TheVariants.{IncompatibleHeights, IndexOutOfBounds, MalformedPrunedProof, WrongBatchSize, WrongWidth}
 
 leaves_of_four_queries : covered_at (narrow 2 (8 ∷ [])) (5 ∷ 1 ∷ 2 ∷ 1 ∷ []) 0 ≡ 1 ∷ 2 ∷ 5 ∷ []
@@ -70,15 +70,15 @@ digests_of_padding_slots : (honest_query (fold_example 1) (batch 4 (column (1 �
 unfolding exponent layer_exponent raw_len node fold_hash fold_compress leaves_under
 digests_of_padding_slots = refl
 
-root_restored_from_four_queries : restored_node (fold_example 1) (narrow 2 (8 ∷ [])) 3 (pruned (5 ∷ 1 ∷ 2 ∷ 1 ∷ []) (((6 ∷ []) ∷ []) ∷ ((2 ∷ []) ∷ []) ∷ ((3 ∷ []) ∷ []) ∷ ((2 ∷ []) ∷ []) ∷ []) ((32 ∷ []) ∷ (35 ∷ []) ∷ (36 ∷ []) ∷ (1218 ∷ []) ∷ [])) 3 0 ≡ 1056801 ∷ []
+root_restored_from_four_queries : restored_node (terms (fold_example 1) (narrow 2 (8 ∷ [])) 3) (pruned (5 ∷ 1 ∷ 2 ∷ 1 ∷ []) (((6 ∷ []) ∷ []) ∷ ((2 ∷ []) ∷ []) ∷ ((3 ∷ []) ∷ []) ∷ ((2 ∷ []) ∷ []) ∷ []) ((32 ∷ []) ∷ (35 ∷ []) ∷ (36 ∷ []) ∷ (1218 ∷ []) ∷ [])) 3 0 ≡ 1056801 ∷ []
 unfolding exponent layer_exponent raw_len leaves_under restored_node fold_hash fold_compress
 root_restored_from_four_queries = refl
 
-paths_restored_from_four_queries : map (restored_path (fold_example 1) (narrow 2 (8 ∷ [])) 3 (pruned (5 ∷ 1 ∷ 2 ∷ 1 ∷ []) (((6 ∷ []) ∷ []) ∷ ((2 ∷ []) ∷ []) ∷ ((3 ∷ []) ∷ []) ∷ ((2 ∷ []) ∷ []) ∷ []) ((32 ∷ []) ∷ (35 ∷ []) ∷ (36 ∷ []) ∷ (1218 ∷ []) ∷ []))) (5 ∷ 1 ∷ 2 ∷ []) ≡ ((36 ∷ []) ∷ (1218 ∷ []) ∷ (32897 ∷ []) ∷ []) ∷ ((32 ∷ []) ∷ (1090 ∷ []) ∷ (36993 ∷ []) ∷ []) ∷ ((35 ∷ []) ∷ (1026 ∷ []) ∷ (36993 ∷ []) ∷ []) ∷ []
+paths_restored_from_four_queries : map (restored_path (terms (fold_example 1) (narrow 2 (8 ∷ [])) 3) (pruned (5 ∷ 1 ∷ 2 ∷ 1 ∷ []) (((6 ∷ []) ∷ []) ∷ ((2 ∷ []) ∷ []) ∷ ((3 ∷ []) ∷ []) ∷ ((2 ∷ []) ∷ []) ∷ []) ((32 ∷ []) ∷ (35 ∷ []) ∷ (36 ∷ []) ∷ (1218 ∷ []) ∷ []))) (5 ∷ 1 ∷ 2 ∷ []) ≡ ((36 ∷ []) ∷ (1218 ∷ []) ∷ (32897 ∷ []) ∷ []) ∷ ((32 ∷ []) ∷ (1090 ∷ []) ∷ (36993 ∷ []) ∷ []) ∷ ((35 ∷ []) ∷ (1026 ∷ []) ∷ (36993 ∷ []) ∷ []) ∷ []
 unfolding exponent layer_exponent raw_len leaves_under restored_node fold_hash fold_compress
 paths_restored_from_four_queries = refl
 
-paths_restored_from_a_wrong_digest : map (restored_path (fold_example 1) (narrow 2 (8 ∷ [])) 3 (pruned (5 ∷ 1 ∷ 2 ∷ 1 ∷ []) (((6 ∷ []) ∷ []) ∷ ((2 ∷ []) ∷ []) ∷ ((3 ∷ []) ∷ []) ∷ ((2 ∷ []) ∷ []) ∷ []) ((31 ∷ []) ∷ (35 ∷ []) ∷ (36 ∷ []) ∷ (1218 ∷ []) ∷ []))) (5 ∷ 1 ∷ 2 ∷ []) ≡ ((36 ∷ []) ∷ (1218 ∷ []) ∷ (31936 ∷ []) ∷ []) ∷ ((31 ∷ []) ∷ (1090 ∷ []) ∷ (36993 ∷ []) ∷ []) ∷ ((35 ∷ []) ∷ (995 ∷ []) ∷ (36993 ∷ []) ∷ []) ∷ []
+paths_restored_from_a_wrong_digest : map (restored_path (terms (fold_example 1) (narrow 2 (8 ∷ [])) 3) (pruned (5 ∷ 1 ∷ 2 ∷ 1 ∷ []) (((6 ∷ []) ∷ []) ∷ ((2 ∷ []) ∷ []) ∷ ((3 ∷ []) ∷ []) ∷ ((2 ∷ []) ∷ []) ∷ []) ((31 ∷ []) ∷ (35 ∷ []) ∷ (36 ∷ []) ∷ (1218 ∷ []) ∷ []))) (5 ∷ 1 ∷ 2 ∷ []) ≡ ((36 ∷ []) ∷ (1218 ∷ []) ∷ (31936 ∷ []) ∷ []) ∷ ((31 ∷ []) ∷ (1090 ∷ []) ∷ (36993 ∷ []) ∷ []) ∷ ((35 ∷ []) ∷ (995 ∷ []) ∷ (36993 ∷ []) ∷ []) ∷ []
 unfolding exponent layer_exponent raw_len leaves_under restored_node fold_hash fold_compress
 paths_restored_from_a_wrong_digest = refl
 
@@ -158,18 +158,18 @@ lower_layers_before_higher : pruned_refusal nat_eq (narrow 2 (4 ∷ 2 ∷ 1 ∷ 
 unfolding exponent layer_exponent raw_len leaves_under
 lower_layers_before_higher = refl
 
-first_pair_of_queries_collides : extraction_multi_under nat_eq nat_eq (fold_example 1) (narrow 2 (2 ∷ [])) 1 ((1026 ∷ []) ∷ []) (pruned (1 ∷ 0 ∷ []) (((2 ∷ []) ∷ []) ∷ ((1 ∷ []) ∷ []) ∷ []) ([])) (pruned (1 ∷ 0 ∷ []) (((4294967267 ∷ []) ∷ []) ∷ ((2 ∷ []) ∷ []) ∷ []) ([])) ≡ Ok (Some (0, 0, (Group 0 ((32 ∷ []) ∷ (33 ∷ []) ∷ []), Group 0 ((33 ∷ []) ∷ (2 ∷ []) ∷ []))))
+first_pair_of_queries_collides : extracts_pruned (terms (fold_example 1) (narrow 2 (2 ∷ [])) 1) ((1026 ∷ []) ∷ []) (pruned (1 ∷ 0 ∷ []) (((2 ∷ []) ∷ []) ∷ ((1 ∷ []) ∷ []) ∷ []) ([])) (pruned (1 ∷ 0 ∷ []) (((4294967267 ∷ []) ∷ []) ∷ ((2 ∷ []) ∷ []) ∷ []) ([])) ≡ Ok (Some (0, 0, (digests_at (Group 0) ((32 ∷ []) ∷ (33 ∷ []) ∷ []), digests_at (Group 0) ((33 ∷ []) ∷ (2 ∷ []) ∷ []))))
 unfolding exponent layer_exponent raw_len leaves_under restored_node fold_hash fold_compress siblings_below path_digest
 first_pair_of_queries_collides = refl
 
-second_pair_of_queries_collides : extraction_multi_under nat_eq nat_eq (fold_example 1) (narrow 2 (4 ∷ [])) 1 ((1026 ∷ []) ∷ (1090 ∷ []) ∷ []) (pruned (2 ∷ 0 ∷ []) (((3 ∷ []) ∷ []) ∷ ((1 ∷ []) ∷ []) ∷ []) ((33 ∷ []) ∷ (35 ∷ []) ∷ [])) (pruned (2 ∷ 0 ∷ []) (((3 ∷ []) ∷ []) ∷ ((2 ∷ []) ∷ []) ∷ []) ((2 ∷ []) ∷ (35 ∷ []) ∷ [])) ≡ Ok (Some (1, 1, (Group 0 ((32 ∷ []) ∷ (33 ∷ []) ∷ []), Group 0 ((33 ∷ []) ∷ (2 ∷ []) ∷ []))))
+second_pair_of_queries_collides : extracts_pruned (terms (fold_example 1) (narrow 2 (4 ∷ [])) 1) ((1026 ∷ []) ∷ (1090 ∷ []) ∷ []) (pruned (2 ∷ 0 ∷ []) (((3 ∷ []) ∷ []) ∷ ((1 ∷ []) ∷ []) ∷ []) ((33 ∷ []) ∷ (35 ∷ []) ∷ [])) (pruned (2 ∷ 0 ∷ []) (((3 ∷ []) ∷ []) ∷ ((2 ∷ []) ∷ []) ∷ []) ((2 ∷ []) ∷ (35 ∷ []) ∷ [])) ≡ Ok (Some (1, 1, (digests_at (Group 0) ((32 ∷ []) ∷ (33 ∷ []) ∷ []), digests_at (Group 0) ((33 ∷ []) ∷ (2 ∷ []) ∷ []))))
 unfolding exponent layer_exponent raw_len leaves_under restored_node fold_hash fold_compress siblings_below path_digest
 second_pair_of_queries_collides = refl
 
-no_pair_of_queries_differs : extraction_multi_under nat_eq nat_eq (fold_example 1) (narrow 2 (4 ∷ [])) 1 ((1026 ∷ []) ∷ (1090 ∷ []) ∷ []) (pruned (2 ∷ 0 ∷ []) (((3 ∷ []) ∷ []) ∷ ((1 ∷ []) ∷ []) ∷ []) ((33 ∷ []) ∷ (35 ∷ []) ∷ [])) (pruned (2 ∷ 0 ∷ []) (((3 ∷ []) ∷ []) ∷ ((1 ∷ []) ∷ []) ∷ []) ((33 ∷ []) ∷ (35 ∷ []) ∷ [])) ≡ Ok None
+no_pair_of_queries_differs : extracts_pruned (terms (fold_example 1) (narrow 2 (4 ∷ [])) 1) ((1026 ∷ []) ∷ (1090 ∷ []) ∷ []) (pruned (2 ∷ 0 ∷ []) (((3 ∷ []) ∷ []) ∷ ((1 ∷ []) ∷ []) ∷ []) ((33 ∷ []) ∷ (35 ∷ []) ∷ [])) (pruned (2 ∷ 0 ∷ []) (((3 ∷ []) ∷ []) ∷ ((1 ∷ []) ∷ []) ∷ []) ((33 ∷ []) ∷ (35 ∷ []) ∷ [])) ≡ Ok None
 unfolding exponent layer_exponent raw_len leaves_under restored_node fold_hash fold_compress siblings_below path_digest
 no_pair_of_queries_differs = refl
 
-no_queries_on_either_side : extraction_multi_under nat_eq nat_eq (fold_example 1) (narrow 2 (4 ∷ [])) 1 ((1026 ∷ []) ∷ (1090 ∷ []) ∷ []) (pruned ([]) ([]) ([])) (pruned ([]) ([]) ([])) ≡ Ok None
+no_queries_on_either_side : extracts_pruned (terms (fold_example 1) (narrow 2 (4 ∷ [])) 1) ((1026 ∷ []) ∷ (1090 ∷ []) ∷ []) (pruned ([]) ([]) ([])) (pruned ([]) ([]) ([])) ≡ Ok None
 unfolding exponent layer_exponent raw_len leaves_under restored_node fold_hash fold_compress siblings_below path_digest
 no_queries_on_either_side = refl

@@ -1,17 +1,17 @@
 -- Why an opening is refused: the first reason that holds.
-use Rattle.std.specs.Prelude.{◌≡◌, ℕ, suc, false, slice_get, ◌<◌, ◌==◌, ◌&&◌, nat_lt, Bool, if◌then◌else◌, List, [], ◌∷◌, map, length, filter, zip, find, unwrap_or, option_map, slice_index, slice_index_or, Option, Some, None, Result, Ok, Err, All, Decides}
+use Rattle.std.specs.Prelude.{◌≡◌, ◌⊎◌, ℕ, suc, false, slice_get, ◌==◌, ◌&&◌, nat_lt, Bool, if◌then◌else◌, List, [], ◌∷◌, map, length, filter, zip, unwrap_or, option_map, slice_index, slice_index_or, Option, Some, None, Result, Ok, Err, MatchResult, Decides}
 use Rattle.std.specs.List.{list_all, list_any, range_with_len, enumerate_from}
 use Rattle.std.specs.Option.{option_or}
 use Rattle.std.specs.Cmp.Lexicographic.{pointwise}
-use Rattle.p3_merkle_core.specs.Geometry.{Shape, IsLawful, exponent, tallest, layer_exponent, ancestor, least, heights, widths, widths_of}
+use Rattle.p3_merkle_core.specs.Geometry.{Shape, exponent, tallest, layer_exponent, ancestor, least, heights, widths, widths_of}
 use Rattle.p3_support.specs.declared.matrix.Dimensions.{Dimensions}
 use Rattle.p3_merkle_core.specs.Gate.{gate_refusal}
-use Rattle.p3_merkle_core.specs.Nodes.{Functions}
-use Rattle.p3_merkle_core.specs.Openings.{Opening, siblings_below, path_digest}
-use Rattle.p3_merkle_core.specs.Pruning.{PrunedOpening, boundary, restored_node, IsAgreed}
+use Rattle.p3_merkle_core.specs.Openings.{Opening}
+use Rattle.p3_merkle_core.specs.Checks.{Terms, siblings_below, path_digest}
+use Rattle.p3_merkle_core.specs.Pruning.{PrunedOpening, boundary, first_rows, restored_node}
 use Rattle.p3_merkle_core.specs.declared.error.PrunedProofError.TheVariants.{SiblingCountMismatch, InconsistentDuplicateOpenings, InconsistentGroupOpening}
 use Rattle.p3_merkle_core.specs.declared.error.MerkleTreeError.{MerkleTreeError}
-use Rattle.p3_merkle_core.specs.declared.error.MerkleTreeError.TheVariants.{WrongBatchSize, WrongWidth, WrongHeight, CapMismatch, IndexOutOfBounds, MalformedPrunedProof}
+use Rattle.p3_merkle_core.specs.declared.error.MerkleTreeError.TheVariants.{WrongBatchSize, WrongWidth, WrongHeight, CapMismatch, IndexOutOfBounds, MalformedPrunedProof, OutOfMemory}
 
 -- the test decides equality
 abbrev pub IsEquality : {T : Type 0} → (T → T → Bool) → Type 0
@@ -30,10 +30,20 @@ first_of h xs = first_some (map h xs)
 abbrev pub unless : {E : Type 0} → Bool → E → Option E
 unless b e = if b then None else Some e
 
+-- the refusal if there is one, else the value
+abbrev pub ok_unless : {V E : Type 0} → Option E → V → Result V E
+ok_unless None v = Ok v
+ok_unless (Some e) v = Err e
+
 -- Ok where there is no refusal
 abbrev pub verdict : {E : Type 0} → Option E → Result (Unit {0}) E
-verdict None = Ok tt
-verdict (Some e) = Err e
+verdict refusal = ok_unless refusal tt
+
+-- ---- what a call returns
+
+-- Ok only where nothing is refused; an error is the refusal, or tells that there is no memory
+abbrev pub AnswersUnlessMemory : {V : Type 0} → Result V MerkleTreeError → Option MerkleTreeError → Type 0
+AnswersUnlessMemory result refusal = MatchResult result (λ v. refusal ≡ None) (λ e. (e ≡ OutOfMemory) ⊎ (refusal ≡ Some e))
 
 -- ---- slots
 
@@ -50,8 +60,8 @@ abbrev pub slot_of : List ℕ → ℕ → ℕ
 slot_of indices i = length (slots_below i indices)
 
 -- the row set of the first query of index i
-abbrev pub first_rows : {T W : Type 0} → PrunedOpening T W → ℕ → List (List T)
-first_rows p i = unwrap_or (option_map (λ (j, rows). rows) (find (λ (j, rows). j == i) (zip p.indices p.rows))) []
+abbrev pub rows_of : {T W : Type 0} → PrunedOpening T W → ℕ → List (List T)
+rows_of p i = first_rows (λ q. q == i) p
 
 -- the lowest queried index under node j of layer l
 abbrev pub lead : Shape → List ℕ → ℕ → ℕ → ℕ
@@ -94,18 +104,25 @@ queries_refusal m indices = unless (nat_lt (tallest indices) m) (IndexOutOfBound
 -- a query whose row set is not that of the first query of its index
 abbrev pub repeat_refusal : {T W : Type 0} → (T → T → Bool) → PrunedOpening T W → Option MerkleTreeError
 repeat_refusal row_eq p =
-    first_of (λ (i, rows). unless (pointwise (pointwise row_eq) rows (first_rows p i)) (MalformedPrunedProof (InconsistentDuplicateOpenings (slot_of p.indices i)))) (zip p.indices p.rows)
+    first_of (λ (i, rows). unless (pointwise (pointwise row_eq) rows (rows_of p i)) (MalformedPrunedProof (InconsistentDuplicateOpenings (slot_of p.indices i)))) (zip p.indices p.rows)
 
 -- a row of matrix m, of layer l, that is not that of the lowest queried index under the same node
 abbrev pub row_refusal : {T W : Type 0} → (T → T → Bool) → Shape → PrunedOpening T W → ℕ → ℕ → ℕ → Option MerkleTreeError
 row_refusal row_eq s p l i m =
-    unless (pointwise row_eq (slice_index_or (first_rows p i) m []) (slice_index_or (first_rows p (lead s p.indices l (ancestor s l i))) m []))
+    unless (pointwise row_eq (slice_index_or (rows_of p i) m []) (slice_index_or (rows_of p (lead s p.indices l (ancestor s l i))) m []))
     (MalformedPrunedProof (InconsistentGroupOpening (slot_of p.indices i) m))
 
--- layers up to t, slots ascending, matrices in input order: the first row that disagrees
+-- the first row of index i, of the matrices of layer l, that is not that of the lowest queried index under the same node
+abbrev pub slot_refusal : {T W : Type 0} → (T → T → Bool) → Shape → PrunedOpening T W → ℕ → ℕ → Option MerkleTreeError
+slot_refusal row_eq s p l i = first_of (row_refusal row_eq s p l i) (matrices_at s l)
+
+-- the same of layer l, by ascending indices
+abbrev pub layer_refusal : {T W : Type 0} → (T → T → Bool) → Shape → PrunedOpening T W → ℕ → Option MerkleTreeError
+layer_refusal row_eq s p l = first_of (slot_refusal row_eq s p l) (slots_below (tallest (heights s)) p.indices)
+
+-- the same of the layers up to t, from the leaves on
 abbrev pub group_refusal : {T W : Type 0} → (T → T → Bool) → Shape → ℕ → PrunedOpening T W → Option MerkleTreeError
-group_refusal row_eq s t p =
-    first_of (λ l. first_of (λ i. first_of (row_refusal row_eq s p l i) (matrices_at s l)) (slots_below (tallest (heights s)) p.indices)) (range_with_len 0 (suc t))
+group_refusal row_eq s t p = first_of (layer_refusal row_eq s p) (range_with_len 0 (suc t))
 
 -- whether the digest is the cap's entry j
 abbrev pub is_entry : {W : Type 0} → (W → W → Bool) → List (List W) → ℕ → List W → Bool
@@ -128,14 +145,15 @@ form_refusal s t index rows siblings =
     ∷ unless (nat_lt index (tallest (heights s))) (IndexOutOfBounds (tallest (heights s)) index)
     ∷ [])
 
--- why an opening is refused under a cap, which is layer t: its form, else a cap whose entry is not the digest that the check reaches
-abbrev pub refusal_under : {T W : Type 0} → (W → W → Bool) → Functions T W → Shape → ℕ → List (List W) → Opening T W → Option MerkleTreeError
-refusal_under digest_eq f s t cap o =
-    option_or (form_refusal s t o.index o.rows (length o.siblings)) (unless (is_entry digest_eq cap (ancestor s t o.index) (path_digest f s o t)) CapMismatch)
+-- why an opening is refused under a cap: its form, else a cap whose entry is not the digest that the check reaches
+abbrev pub refusal_under : {T W : Type 0} → (W → W → Bool) → Terms T W → List (List W) → Opening T W → Option MerkleTreeError
+refusal_under digest_eq c cap o =
+    option_or (form_refusal c.shape c.layer o.index o.rows (length o.siblings))
+    (unless (is_entry digest_eq cap (ancestor c.shape c.layer o.index) (path_digest c.functions c.shape o c.layer)) CapMismatch)
 
 -- the answer to an opening under a cap
-abbrev pub answer_under : {T W : Type 0} → (W → W → Bool) → Functions T W → Shape → ℕ → List (List W) → Opening T W → Result (Unit {0}) MerkleTreeError
-answer_under digest_eq f s t cap o = verdict (refusal_under digest_eq f s t cap o)
+abbrev pub answer_under : {T W : Type 0} → (W → W → Bool) → Terms T W → List (List W) → Opening T W → Result (Unit {0}) MerkleTreeError
+answer_under digest_eq c cap o = verdict (refusal_under digest_eq c cap o)
 
 -- why a replay of an index is refused, where a proof has so many siblings: the first of these reasons
 abbrev pub replay_refusal : Shape → ℕ → ℕ → ℕ → Option MerkleTreeError
@@ -158,7 +176,7 @@ pruned_refusal row_eq s t p =
     ∷ queries_refusal (tallest (heights s)) p.indices
     ∷ repeat_refusal row_eq p
     ∷ digest_count_refusal (length (boundary s p.indices t)) (length p.digests)
-    ∷ first_of (λ i. width_refusal s.dimensions (first_rows p i)) (slots_below (tallest (heights s)) p.indices)
+    ∷ first_of (λ i. width_refusal s.dimensions (rows_of p i)) (slots_below (tallest (heights s)) p.indices)
     ∷ group_refusal row_eq s t p
     ∷ [])
 
@@ -166,23 +184,19 @@ pruned_refusal row_eq s t p =
 abbrev pub pruned_answer : {T W : Type 0} → (T → T → Bool) → Shape → ℕ → PrunedOpening T W → Result (Unit {0}) MerkleTreeError
 pruned_answer row_eq s t p = verdict (pruned_refusal row_eq s t p)
 
--- a covered node of layer t whose value is not the cap's entry
-abbrev pub cap_refusal : {T W : Type 0} → (W → W → Bool) → Functions T W → Shape → ℕ → List (List W) → PrunedOpening T W → Option MerkleTreeError
-cap_refusal digest_eq f s t cap p =
-    unless (list_all (λ i. is_entry digest_eq cap (ancestor s t i) (restored_node f s t p t (ancestor s t i))) p.indices) CapMismatch
+-- a covered node of the cap's layer whose value is not the cap's entry
+abbrev pub cap_refusal : {T W : Type 0} → (W → W → Bool) → Terms T W → List (List W) → PrunedOpening T W → Option MerkleTreeError
+cap_refusal digest_eq c cap p =
+    unless (list_all (λ i. let j = ancestor c.shape c.layer i in is_entry digest_eq cap j (restored_node c p c.layer j)) p.indices) CapMismatch
 
 -- why a pruned opening is refused under a cap
-abbrev pub pruned_refusal_under : {T W : Type 0} → (T → T → Bool) → (W → W → Bool) → Functions T W → Shape → ℕ → List (List W) → PrunedOpening T W → Option MerkleTreeError
-pruned_refusal_under row_eq digest_eq f s t cap p = option_or (pruned_refusal row_eq s t p) (cap_refusal digest_eq f s t cap p)
+abbrev pub pruned_refusal_under : {T W : Type 0} → (T → T → Bool) → (W → W → Bool) → Terms T W → List (List W) → PrunedOpening T W → Option MerkleTreeError
+pruned_refusal_under row_eq digest_eq c cap p = option_or (pruned_refusal row_eq c.shape c.layer p) (cap_refusal digest_eq c cap p)
 
 -- the answer to a pruned opening under a cap
-abbrev pub pruned_answer_under : {T W : Type 0} → (T → T → Bool) → (W → W → Bool) → Functions T W → Shape → ℕ → List (List W) → PrunedOpening T W → Result (Unit {0}) MerkleTreeError
-pruned_answer_under row_eq digest_eq f s t cap p = verdict (pruned_refusal_under row_eq digest_eq f s t cap p)
+abbrev pub pruned_answer_under : {T W : Type 0} → (T → T → Bool) → (W → W → Bool) → Terms T W → List (List W) → PrunedOpening T W → Result (Unit {0}) MerkleTreeError
+pruned_answer_under row_eq digest_eq c cap p = verdict (pruned_refusal_under row_eq digest_eq c cap p)
 
--- lawful heights, queries below the tallest height, a digest for each boundary node, and rows of their widths that agree
-pub record IsRestorable {T W : Type 0} (s : Shape) (t : ℕ) (p : PrunedOpening T W) : Type 0 where
-  pub lawful : IsLawful (heights s)
-  pub below : All (λ i. i < tallest (heights s)) p.indices
-  pub count : length p.digests ≡ length (boundary s p.indices t)
-  pub rows_fit : All (λ rows. map length rows ≡ widths s) p.rows
-  pub agreed : IsAgreed s t p
+-- why the number of digests of a pruned proof is refused: the heights, else the highest index, if it is not below the greatest height
+abbrev pub pruned_len_refusal : Shape → List ℕ → Option MerkleTreeError
+pruned_len_refusal s indices = option_or (gate_refusal (heights s)) (queries_refusal (tallest (heights s)) indices)

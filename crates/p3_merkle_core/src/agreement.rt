@@ -3,10 +3,10 @@
 
 ghost use Rattle.std.specs.Prelude.{◌≡◌, ℕ, ◌-◌, ◌/◌, ◌<◌, ◌≤◌, ◌⊎◌, Some, None, List, [], All, length, map, slice_index, slice_index_or, IfOk, IsTrue, MatchResult};
 ghost use Rattle.p3_merkle_core.specs.Agreement.{distinct, early_refusal, first_query, late_refusal, layers_refusal, nodes_refusal, opened_of, opened_with, rows_refusal, slot_rows, HasSlots, IsAscending, IsSlot};
-ghost use Rattle.p3_support.specs.Shown.{row_lists};
-ghost use Rattle.p3_merkle_core.specs.Geometry.{heights_of, levels, max_height, shape_of, tallest, IsArity};
+ghost use Rattle.p3_support.specs.Shown.{row_lists, row_sets};
+ghost use Rattle.p3_merkle_core.specs.Geometry.{heights_of, levels, max_height, shape_of, tallest, IsArity, step};
 ghost use Rattle.p3_merkle_core.specs.declared.error.MerkleTreeError.TheVariants.{OutOfMemory};
-ghost use Rattle.p3_merkle_core.specs.PrunedCalls.{pruned_len, row_sets};
+ghost use Rattle.p3_merkle_core.specs.Pruning.{pruned_len};
 ghost use Rattle.p3_merkle_core.specs.Refusals.{digest_count_refusal, first_of, idle_refusal, is_queried, pruned_refusal, repeat_refusal, width_refusal};
 
 use crate::error::{MerkleTreeError, PrunedProofError};

@@ -7,7 +7,7 @@ ghost use Rattle.std.specs.Prelude.{◌≡◌, ◌+◌, ◌-◌, ◌*◌, ◌^�
 ghost use Rattle.std.specs.List.{list_any};
 ghost use Rattle.p3_merkle_core.specs.Geometry.{bits_reduced, expected_height, exponent, grouped_len_of, heights_of, is_bridge, layer_exponent, max_height, padded_len, positions_below, schedule_below, shape_of, shortest, tallest, levels, IsArity, IsLawful, Shape};
 ghost use Rattle.p3_merkle_core.specs.Gate.{first_off_ladder, first_too_large, gate_refusal};
-ghost use Rattle.p3_merkle_core.specs.Openings.{siblings_below};
+ghost use Rattle.p3_merkle_core.specs.Checks.{siblings_below};
 ghost use Rattle.p3_merkle_core.specs.Refusals.{width_refusal};
 ghost use Rattle.p3_merkle_core.specs.Rungs.{next_below, IsRung};
 

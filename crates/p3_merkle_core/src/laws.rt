@@ -1,12 +1,14 @@
-//! Laws of the definitions, each as the contract of a function that does nothing, and laws of equality of errors and of
-//! paths. They speak of every hash, every compression, every batch and every opening; the calls of the crates above answer
-//! what the definitions say.
+//! Laws of the definitions, each as the contract of a function that does nothing, and laws of equality of errors, paths
+//! and collisions. They speak of every hash, every compression, every batch and every opening; the calls of the crates
+//! above answer what the definitions say.
 
 ghost use Rattle.std.specs.Prelude.{◌≡◌, ◌↔◌, IsTrue};
-ghost use Rattle.p3_merkle_core.specs.Children.{shown_path};
 ghost use Rattle.p3_merkle_core.specs.Refusals.{IsEquality};
-ghost use Rattle.p3_merkle_core.specs.Laws.{AnsweredAsEachPath, BoundaryIsAlone, BoundaryIsLeast, BoundaryIsSmallest, BoundaryNodesAreApart, BoundaryNodesAreHeld, BoundarySuffices, CappedIsEachAccepted, FixedIsBelowRoot, HonestIsAccepted, HonestNodesAreRestored, HonestPathsAreRestored, HonestPathsInOrder, HonestQueryIsAccepted, HonestQueryIsCapped, InputsAreFull, LastDifferenceCollides, LastInputIsReached, LoweredLeavesNoneOut, MatricesHaveLayers, NoPairDiffers, NoneIsAgreement, OkIsAccepted, OkIsCapped, OkIsEachAccepted, OkIsRestorable, OkOrCapMismatch, OneIndexIsBound, OwnDigestsAreHonest, PairCollides, PairIsFirst, PairsBeforeAgree, RefusedUnderEachCap, RootIsAlone, RowsAreAncestors, RowsAreBound, RulesAgree, ScheduleStopsAtCap, SomeIsCollision, UnrefusedIsLawful, WalkEnds};
+ghost use Rattle.p3_merkle_core.specs.Views.{IsSamePair, shown_path};
+ghost use Rattle.p3_merkle_core.specs.Laws.{AnswerIsExtraction, AnsweredAsEachPath, BoundaryIsAlone, BoundaryIsLeast, BoundaryIsSmallest, BoundaryNodesAreApart, BoundaryNodesAreHeld, BoundarySuffices, CappedIsEachAccepted, FixedIsBelowRoot, HonestIsAccepted, HonestNodesAreRestored, HonestPathsAreRestored, HonestPathsInOrder, HonestQueryIsAccepted, HonestQueryIsCapped, InputsAreFull, LastDifferenceCollides, LastInputIsReached, LoweredLeavesNoneOut, MatricesHaveLayers, OkIsAccepted, OkIsCapped, OkIsEachAccepted, OkIsRestorable, OkOrCapMismatch, OneIndexIsBound, OwnOpeningIsHonest, OwnPrunedOpeningIsHonest, PrunedAnswerIsExtraction, RefusedUnderEachCap, RootIsAlone, RowsAreAncestors, RowsAreBound, RulesAgree, ScheduleStopsAtCap, UnrefusedIsLawful, WalkEnds};
+ghost use Rattle.p3_merkle_core.specs.Extraction.{extraction};
 
+use crate::collision::{Collision, InputPair, Place};
 use crate::error::{MerkleTreeError, PrunedProofError};
 use crate::pruning::{AuthPath, MerkleAuthPath};
 use p3_support::packed::PackedValue;
@@ -42,6 +44,30 @@ pub fn merkle_auth_paths<PW: PackedValue, const D: usize>(
     auth_paths(a, b)
 }
 
+/// Equality of places is equality of values.
+pub fn places(a: &Place, b: &Place) -> bool
+    ensures { IsTrue result ↔ (a.now ≡ b.now) }
+{
+    *a == *b
+}
+
+/// Equality of input pairs is equality of kinds, places and inputs, where that of their members is equality of values.
+fn input_pairs<T: Eq, X: Eq>(a: &InputPair<T, X>, b: &InputPair<T, X>) -> bool
+    ensures { IsEquality T.eq → IsEquality X.eq → IsTrue result ↔ IsSamePair a.now b.now }
+{
+    *a == *b
+}
+
+/// Equality of collisions is equality of kinds, places and inputs.
+pub fn collisions<P: PackedValue, PW: PackedValue, const D: usize>(
+    a: &Collision<P::Value, PW::Value, D>,
+    b: &Collision<P::Value, PW::Value, D>,
+) -> bool
+    ensures { IsTrue result ↔ IsSamePair a.now b.now }
+{
+    input_pairs(a, b)
+}
+
 /// The walk over the steps ends for each arity and each list of heights, each matrix has its layer, and the gate takes
 /// just the lawful heights.
 pub fn shape()
@@ -70,12 +96,14 @@ pub fn pruned_completeness<T, W>()
     ensures { HonestQueryIsAccepted T W }
 {}
 
-/// An honest pruned opening restores the tree's own nodes and siblings, and its digests are those that the tree's layers have.
+/// An honest pruned opening restores the tree's own nodes and siblings. What is read out of the layers of a batch's tree
+/// is the honest opening, of one index or of several: so a restored path is the proof of its index alone.
 pub fn restoration<T, W>()
     ensures nodes { HonestNodesAreRestored T W }
     ensures paths { HonestPathsAreRestored T W }
     ensures in_order { HonestPathsInOrder T W }
-    ensures digests { OwnDigestsAreHonest T W }
+    ensures opening { OwnOpeningIsHonest T W }
+    ensures pruned_opening { OwnPrunedOpeningIsHonest T W }
     ensures capped { HonestQueryIsCapped T W }
 {}
 
@@ -95,19 +123,12 @@ pub fn equivalence<T, W>()
     ensures mismatch { OkOrCapMismatch T W }
 {}
 
-/// Two accepted openings of one cap that differ where they meet lead to two inputs of one digest.
+/// Two accepted openings of one cap that differ where they meet lead to two inputs of one digest: the definition's answer
+/// to two openings, single or pruned, is what an extraction has to be.
 pub fn extraction<T, W>()
     ensures collision { LastDifferenceCollides T W }
-    ensures none { NoneIsAgreement T W }
-    ensures some { SomeIsCollision T W }
-{}
-
-/// The same of two pruned openings.
-pub fn extraction_multi<T, W>()
-    ensures answered { PairIsFirst T W }
-    ensures none { NoPairDiffers T W }
-    ensures some { PairCollides T W }
-    ensures first { PairsBeforeAgree T W }
+    ensures single { AnswerIsExtraction T W }
+    ensures pruned { PrunedAnswerIsExtraction T W }
 {}
 
 /// What two accepted openings have in common where they agree at each shared place.

@@ -5,6 +5,7 @@
 
 pub mod agreement;
 pub mod cap;
+pub mod collision;
 pub mod error;
 pub mod geometry;
 pub mod group;

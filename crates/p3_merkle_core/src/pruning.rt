@@ -3,9 +3,10 @@
 ghost use Rattle.std.specs.Prelude.{◌≡◌, ◌*◌, ◌/◌, ◌<◌, ◌≤◌, ◌++◌, Some, None, All, IfOk, MatchResult, length, map};
 ghost use Rattle.std.specs.List.Sorted.{IsStrictlyIncreasing};
 ghost use Rattle.p3_merkle_core.specs.Agreement.{distinct, IsAscending};
-ghost use Rattle.p3_merkle_core.specs.Children.{AreChildren, IsFamily, path_out_of, paths_out_of, shown_paths, siblings_out_of};
+ghost use Rattle.p3_merkle_core.specs.Pruning.{pruned_len};
+ghost use Rattle.p3_merkle_core.specs.Views.{shown_paths};
+ghost use Rattle.p3_merkle_core.specs.Children.{AreChildren, IsFamily, path_out_of, paths_out_of, siblings_out_of};
 ghost use Rattle.p3_merkle_core.specs.Geometry.{heights_of, levels, max_height, shape_of, tallest, IsArity};
-ghost use Rattle.p3_merkle_core.specs.PrunedCalls.{pruned_len};
 ghost use Rattle.p3_merkle_core.specs.Refusals.{queries_refusal};
 
 use crate::error::MerkleTreeError;

@@ -3,7 +3,7 @@
 ghost use Rattle.std.specs.Prelude.{◌≡◌, ℕ, suc, ◌+◌, ◌-◌, ◌<◌, ◌≤◌, ◌==◌, List, if◌then◌else◌, length, map, nat_lt, take, ◌&&◌};
 ghost use Rattle.std.specs.List.{list_any, range_with_len};
 ghost use Rattle.p3_merkle_core.specs.Geometry.{exponent, has_rows, heights_of, is_bridge, layer_exponent, levels, max_height, shape_of, step, tallest, IsArity};
-ghost use Rattle.p3_merkle_core.specs.Openings.{siblings_below};
+ghost use Rattle.p3_merkle_core.specs.Checks.{siblings_below};
 ghost use Rattle.p3_merkle_core.specs.Rungs.{next_below, IsRung};
 ghost use Rattle.p3_merkle_core.specs.Steps.{level_step};
 

@@ -1,28 +1,25 @@
 -- What the answer to two salted openings means.
-use Rattle.std.proofs.Common.{◌≡◌, ◌∙◌, ◌++◌, ℕ, Bool, List, [], ◌∷◌, ap, arith, inl, inr, length, map, refl, subst, sym, None, Some, Option, Result, ◌⊎◌}
-use Rattle.std.specs.Prelude.{Ok, Err, IsErr}
+use Rattle.std.proofs.Common.{◌≡◌, ◌↔◌, ◌∙◌, ◌++◌, ◌⊎◌, ℕ, Bool, List, [], ◌∷◌, ap, arith, inl, inr, length, map, refl, subst, sym, None, Some, Option, Result}
+use Rattle.std.specs.Prelude.{Ok, Err, IfOk, IsErr, IsNone}
 use Rattle.std.specs.Option.{option_or, unwrap_or}
 use Rattle.std.specs.Result.{result_err}
 use Rattle.p3_support.specs.declared.matrix.Dimensions.{Dimensions}
-use Rattle.p3_merkle_builder.specs.Built.{OkUnlessRefused}
-use Rattle.p3_merkle_core.specs.Caps.{cap_layer}
-use Rattle.p3_merkle_core.specs.Extracting.{extraction_under, input_eq, last_difference, ok_unless}
-use Rattle.p3_merkle_core.specs.Geometry.{IsArity, Shape, shape_of}
-use Rattle.p3_merkle_core.specs.Nodes.{Functions}
-use Rattle.p3_merkle_core.specs.Openings.{Input, Opening, shared_inputs}
-use Rattle.p3_merkle_core.specs.Refusals.{IsEquality, refusal_under}
+use Rattle.p3_merkle_core.specs.Checks.{Input, Terms}
+use Rattle.p3_merkle_core.specs.Extraction.{EachPair, IsExtraction, first_difference}
+use Rattle.p3_merkle_core.specs.Geometry.{IsArity}
+use Rattle.p3_merkle_core.specs.Openings.{Opening}
+use Rattle.p3_merkle_core.specs.Presented.{Presented}
+use Rattle.p3_merkle_core.specs.Refusals.{AnswersUnlessMemory, IsEquality}
+use Rattle.p3_merkle_core.specs.Views.{found_alone, found_pair}
 use Rattle.p3_merkle_core.specs.declared.cap.CapRule.{CapRule}
+use Rattle.p3_merkle_core.specs.declared.cap.CapRule.TheVariants.{Lowered}
+use Rattle.p3_merkle_core.specs.declared.collision.InputPair.{InputPair}
 use Rattle.p3_merkle_core.specs.declared.error.MerkleTreeError.{MerkleTreeError}
 use Rattle.p3_merkle_core.specs.declared.error.MerkleTreeError.TheVariants.{OutOfMemory}
-use Rattle.p3_merkle_core.proofs.NoneFacts.{none_of_both, none_parts}
-use Rattle.p3_merkle_checker.proofs.ExtractFacts.{alike_at_one_index, meant, twice_is_found}
-use Rattle.p3_merkle_checker.specs.Collisions.{AnswersUnlessMemory}
-use Rattle.p3_merkle_checker.specs.declared.collision.InputPair.{InputPair}
-use Rattle.p3_merkle_tree.proofs.LoweredFacts.{all_authenticated, any_twice_is_found, same_at_one_index}
-use Rattle.p3_merkle_hiding.proofs.SaltedAnswers.{salted_accepted}
-use Rattle.p3_merkle_salts.specs.SaltRefusals.{salted_refusal_under, salted_rows_refusal}
-use Rattle.p3_merkle_hiding.specs.SaltedExtraction.{IsSaltedExtraction, salted_extraction_under, wide_shape}
-use Rattle.p3_merkle_salts.specs.SaltedOpenings.{SaltedOpening, joined, salted_rows, widened}
+use Rattle.p3_merkle_core.proofs.ExtractionFacts.{AllAuthenticated, extracted}
+use Rattle.p3_merkle_salts.specs.SaltedOpenings.{IsSaltedAccepted, SaltedOpening, SaltedPruned, joined, salted_of, salted_rows}
+use Rattle.p3_merkle_salts.specs.SaltedPresented.{presented_salted, presented_salted_pruned}
+use Rattle.p3_merkle_hiding.proofs.SaltedAnswers.{salted_presentation, salted_pruned_presentation}
 
 -- ---- rows and salts that are joined alike are alike
 
@@ -56,121 +53,78 @@ parts_alike {T} (r ∷ rows) (t ∷ salts) (o ∷ others) (x ∷ more) s m w e =
 
 -- ---- what a call answers
 
-module _ {T W : Type 0} where
-  -- what is found is found where nothing is refused
-  ok_found : (refusal : Option MerkleTreeError) (v : Option (Input T W × Input T W)) (found : Option (InputPair T (List W))) → AnswersUnlessMemory (Ok found) (ok_unless refusal v) → refusal ≡ None
-  ok_found None v found a = refl
-  ok_found (Some x) v found a = absurd a
+-- the first opening's refusal, else that of the second before it is joined: the refusal of both
+pub second_refused : {U : Type 0} (V : Type 0) (checked : Result U MerkleTreeError) (y x : MerkleTreeError) (first before after : Option MerkleTreeError) → AnswersUnlessMemory checked first → (y ≡ OutOfMemory) ⊎ (before ≡ Some y) → x ≡ unwrap_or (result_err checked) y →
+    AnswersUnlessMemory {V = V} (Err x) (option_or first (option_or before after))
+second_refused V (Ok v) y x first before after passed (inl m) is = inl (is ∙ m)
+second_refused V (Ok v) y x first before after passed (inr refused) is =
+    let second : before ≡ Some x = refused ∙ ap (λ (z : MerkleTreeError). Some z) (sym is) in
+    inr (λ i. option_or (passed i) (option_or (second i) after))
+second_refused V (Err z) y x first before after (inl m) b is = inl (is ∙ m)
+second_refused V (Err z) y x first before after (inr refused) b is =
+    let plain : first ≡ Some x = refused ∙ ap (λ (z : MerkleTreeError). Some z) (sym is) in
+    inr (λ i. option_or (plain i) (option_or before after))
 
-  -- where nothing is refused, an error is for want of memory
-  err_found : (refusal : Option MerkleTreeError) (v : Option (Input T W × Input T W)) (x : MerkleTreeError) → AnswersUnlessMemory (Err x) (ok_unless refusal v) → refusal ≡ None → x ≡ OutOfMemory
-  err_found refusal v x (inl m) none = m
-  err_found None v x (inr n) none = absurd cc
-  err_found (Some y) v x (inr n) none = absurd cc
+-- an error says nothing of what is found
+pub nothing_found : {V : Type 0} (P : V → Type 0) (r : Result V MerkleTreeError) → IsErr r → IfOk r P
+nothing_found P (Ok v) err = absurd cc
+nothing_found P (Err e) err = tt
 
-module _ {T W : Type 0} (eq : T → T → Bool) (same : W → W → Bool) (f : Functions T W) (n e : ℕ) (ds : List Dimensions) (rule : CapRule) (height : ℕ) (cap : List (List W)) (o u : SaltedOpening T W) where
-  abbrev wide : Shape
-  wide = wide_shape n e ds
+module _ {T W : Type 0} (eq : T → T → Bool) (same : W → W → Bool) (rule : CapRule) (e : ℕ) (ds : List Dimensions) (c : Terms T W) (cap : List (List W)) (dec : IsEquality eq) (dec_w : IsEquality same) (w : IsArity c.shape.arity)
+    (all : rule ≡ Lowered → AllAuthenticated c.shape c.layer) where
+  module _ (o u : SaltedOpening T W) where
+    abbrev first : Presented T W
+    first = presented_salted same e ds c cap o
 
-  abbrev at_layer : ℕ
-  at_layer = cap_layer wide rule height
+    abbrev second : Presented T W
+    second = presented_salted same e ds c cap u
 
-  abbrev inputs_differ : Option (Input T W × Input T W)
-  inputs_differ = last_difference (input_eq eq same) (shared_inputs f wide at_layer o.index u.index (joined o)) (shared_inputs f wide at_layer o.index u.index (joined u))
+    -- the definition's answer to two openings is an extraction
+    pub extracted_salted : (r : Result (Option (ℕ × ℕ × (Input T W × Input T W))) MerkleTreeError) → AnswersUnlessMemory r (option_or first.refusal second.refusal) →
+        IfOk r (λ found. found ≡ first_difference eq same c first second) → IsExtraction eq same rule c first second r
+    extracted_salted r answer found =
+        extracted eq same rule c cap first second dec dec_w w all (salted_presentation same e ds c cap dec_w o) (salted_presentation same e ds c cap dec_w u) r answer found
 
-  abbrev first_refusal : Option MerkleTreeError
-  first_refusal = salted_refusal_under same f n e ds at_layer cap o
+    -- an error is one
+    pub failed_salted : (r : Result (Option (InputPair T (List W))) MerkleTreeError) → IsErr r → AnswersUnlessMemory r (option_or first.refusal second.refusal) → IsExtraction eq same rule c first second (found_alone r)
+    failed_salted (Ok v) err answer = absurd cc
+    failed_salted (Err x) err answer = extracted_salted (Err x) answer tt
 
-  abbrev second_refusal : Option MerkleTreeError
-  second_refusal = salted_refusal_under same f n e ds at_layer cap u
+    -- accepted openings of one index that are joined alike are one
+    one_salted : o.index ≡ u.index → IsSaltedAccepted e ds c cap o → IsSaltedAccepted e ds c cap u → (joined o ≡ joined u) ↔ (o ≡ u)
+    one_salted one a b = (
+      λ is.
+          let parts = parts_alike o.rows o.salts u.rows u.salts a.salted.in_pairs b.salted.in_pairs (a.salted.rows_fit ∙ sym b.salted.rows_fit) (ap (λ (p : Opening T W). p.rows) is) in
+          let siblings = ap (λ (p : Opening T W). p.siblings) is in
+          λ i. salted_of (one i) (parts.0 i) (parts.1 i) (siblings i),
+      λ alike. ap joined alike,
+    )
 
-  abbrev plain_refusal : SaltedOpening T W → Option MerkleTreeError
-  plain_refusal p = refusal_under same f wide at_layer cap (joined p)
+    -- so where nothing is found exactly of openings that are joined alike, that is of the same ones
+    pub lowered_alike : (r : Result (Option (InputPair T (List W))) MerkleTreeError) → o.index ≡ u.index → IfOk (found_alone r) (λ found. first.accepted × second.accepted) →
+        IfOk (found_alone r) (λ found. IsNone found ↔ EachPair first second (λ x y. x ≡ y)) → IfOk r (λ found. IsNone found ↔ (o ≡ u))
+    lowered_alike (Ok None) one accepted both =
+        let is = one_salted one accepted.0 accepted.1 in
+        (λ none. is.0 (both.0 none 0 0 (omega arith) (omega arith)), λ alike. both.1 (λ i j h g. is.1 alike))
+    lowered_alike (Ok (Some pair)) one accepted both =
+        let is = one_salted one accepted.0 accepted.1 in
+        (λ none. is.0 (both.0 none 0 0 (omega arith) (omega arith)), λ alike. both.1 (λ i j h g. is.1 alike))
+    lowered_alike (Err x) one accepted both = tt
 
-  -- where rows and salts are not refused, the answer is that of the rows followed by their salts
-  plain_answer : salted_rows_refusal e ds o.rows o.salts ≡ None → salted_rows_refusal e ds u.rows u.salts ≡ None →
-      extraction_under eq same f wide at_layer cap (joined o) (joined u) ≡ salted_extraction_under eq same f n e ds at_layer cap o u
-  plain_answer a b = λ i. ok_unless (option_or (option_or (sym a i) (plain_refusal o)) (option_or (sym b i) (plain_refusal u))) inputs_differ
+  module _ (o u : SaltedPruned T W) where
+    abbrev first_of_all : Presented T W
+    first_of_all = presented_salted_pruned eq same e ds c cap o
 
-  module _ (dec : IsEquality eq) (dec_w : IsEquality same) (w : IsArity n) where
-    found_means : (found : Option (InputPair T (List W))) → AnswersUnlessMemory (Ok found) (salted_extraction_under eq same f n e ds at_layer cap o u) →
-        IsSaltedExtraction eq same f n e ds rule at_layer cap o u (Ok found)
-    found_means found a =
-        let refusals = none_parts first_refusal second_refusal (ok_found (option_or first_refusal second_refusal) inputs_differ found a) in
-        let forms = none_parts (salted_rows_refusal e ds o.rows o.salts) (plain_refusal o) refusals.0 in
-        let others = none_parts (salted_rows_refusal e ds u.rows u.salts) (plain_refusal u) refusals.1 in
-        let first = (salted_accepted same f n e ds at_layer cap dec_w o).0 refusals.0 in
-        let second = (salted_accepted same f n e ds at_layer cap dec_w u).0 refusals.1 in
-        let plain = subst (AnswersUnlessMemory (Ok found)) (sym (plain_answer forms.0 others.0)) a in
-        let m = meant eq same f wide at_layer cap (joined o) (joined u) dec dec_w w (Ok found) (extraction_under eq same f wide at_layer cap (joined o) (joined u)) refl plain in
-        let all = all_authenticated wide rule height w in
-        record {
-          answer = a;
-          accepted = (first, second);
-          answered = λ _ _. tt;
-          none = m.none;
-          collision = m.collision;
-          one_index = λ one. alike_at_one_index f wide at_layer cap (joined o) (joined u) found w one m;
-          two_ways = λ twice. twice_is_found f wide at_layer cap (joined o) (joined u) found w twice m;
-          lowered_one_index = λ low one.
-              let both = same_at_one_index f wide at_layer cap (joined o) (joined u) found w one (all low) m in (
-                λ none.
-                    let is = both.0 none in
-                    let parts = parts_alike o.rows o.salts u.rows u.salts first.salted.in_pairs second.salted.in_pairs (first.salted.rows_fit ∙ sym second.salted.rows_fit) (ap (λ (p : Opening T W). p.rows) is) in
-                    let siblings = ap (λ (p : Opening T W). p.siblings) is in
-                    λ i. record { index = one i; rows = parts.0 i; salts = parts.1 i; siblings = siblings i },
-                λ alike. both.1 (ap joined alike),
-              );
-          lowered_two_ways = λ low twice. any_twice_is_found f wide at_layer cap (joined o) (joined u) found w (all low) twice m;
-        }
+    abbrev second_of_all : Presented T W
+    second_of_all = presented_salted_pruned eq same e ds c cap u
 
-    error_means : (x : MerkleTreeError) → AnswersUnlessMemory (Err x) (salted_extraction_under eq same f n e ds at_layer cap o u) → IsSaltedExtraction eq same f n e ds rule at_layer cap o u (Err x)
-    error_means x a = record {
-      answer = a;
-      accepted = tt;
-      answered = λ first second.
-          let none = none_of_both first_refusal second_refusal ((salted_accepted same f n e ds at_layer cap dec_w o).1 first) ((salted_accepted same f n e ds at_layer cap dec_w u).1 second) in
-          err_found (option_or first_refusal second_refusal) inputs_differ x a none;
-      none = tt;
-      collision = tt;
-      one_index = λ _. tt;
-      two_ways = λ _. tt;
-      lowered_one_index = λ _ _. tt;
-      lowered_two_ways = λ _ _. tt;
-    }
+    -- the same of several indices
+    pub extracted_salted_pruned : (r : Result (Option (ℕ × ℕ × (Input T W × Input T W))) MerkleTreeError) → AnswersUnlessMemory r (option_or first_of_all.refusal second_of_all.refusal) →
+        IfOk r (λ found. found ≡ first_difference eq same c first_of_all second_of_all) → IsExtraction eq same rule c first_of_all second_of_all r
+    extracted_salted_pruned r answer found =
+        extracted eq same rule c cap first_of_all second_of_all dec dec_w w all (salted_pruned_presentation same e ds c cap dec_w eq dec w o) (salted_pruned_presentation same e ds c cap dec_w eq dec w u) r answer found
 
-    -- the answer of the definition means all that is said of it
-    pub extraction_means : (r : Result (Option (InputPair T (List W))) MerkleTreeError) → AnswersUnlessMemory r (salted_extraction_under eq same f n e ds at_layer cap o u) → IsSaltedExtraction eq same f n e ds rule at_layer cap o u r
-    extraction_means (Ok found) a = found_means found a
-    extraction_means (Err x) a = error_means x a
-
-    -- rows and salts of the first opening are refused
-    pub first_refused : (r : Result (Option (InputPair T (List W))) MerkleTreeError) → IsErr r → OkUnlessRefused r (salted_rows_refusal e ds o.rows o.salts) → IsSaltedExtraction eq same f n e ds rule at_layer cap o u r
-    first_refused (Ok found) err a = absurd cc
-    first_refused (Err x) err (inl m) = error_means x (inl m)
-    first_refused (Err x) err (inr is) = error_means x (inr (λ i. ok_unless (option_or (option_or (is i) (plain_refusal o)) second_refusal) inputs_differ))
-
-    -- what a plain check of the joined opening refuses
-    abbrev refusal_of : List Dimensions → Opening T W → Option MerkleTreeError
-    refusal_of ws p = refusal_under same f (shape_of n ws) (cap_layer (shape_of n ws) rule height) cap p
-
-    -- the refusal of the first joined opening, else that of rows and salts of the second
-    pub second_refused : (ws : List Dimensions) (p : Opening T W) (checked : Result (Unit {0}) MerkleTreeError) (y x : MerkleTreeError) → salted_rows_refusal e ds o.rows o.salts ≡ None → ws ≡ widened e ds → p ≡ joined o →
-        OkUnlessRefused checked (refusal_of ws p) → (y ≡ OutOfMemory) ⊎ (salted_rows_refusal e ds u.rows u.salts ≡ Some y) → x ≡ unwrap_or (result_err checked) y → IsSaltedExtraction eq same f n e ds rule at_layer cap o u (Err x)
-    second_refused ws p (Ok v) y x none are_wide is_joined passed (inl m) is = error_means x (inl (is ∙ m))
-    second_refused ws p (Ok v) y x none are_wide is_joined passed (inr refused) is =
-        let plain : plain_refusal o ≡ None = (λ i. refusal_of (sym are_wide i) (sym is_joined i)) ∙ passed in
-        let second : salted_rows_refusal e ds u.rows u.salts ≡ Some x = refused ∙ ap (λ (z : MerkleTreeError). Some z) (sym is) in
-        error_means x (inr (λ i. ok_unless (option_or (option_or (none i) (plain i)) (option_or (second i) (plain_refusal u))) inputs_differ))
-    second_refused ws p (Err z) y x none are_wide is_joined (inl m) b is = error_means x (inl (is ∙ m))
-    second_refused ws p (Err z) y x none are_wide is_joined (inr refused) b is =
-        let plain : plain_refusal o ≡ Some x = (λ i. refusal_of (sym are_wide i) (sym is_joined i)) ∙ refused ∙ ap (λ (z : MerkleTreeError). Some z) (sym is) in
-        error_means x (inr (λ i. ok_unless (option_or (option_or (none i) (plain i)) second_refusal) inputs_differ))
-
-    -- no rows and salts are refused
-    pub both_joined : (ws : List Dimensions) (p q : Opening T W) (r : Result (Option (InputPair T (List W))) MerkleTreeError) → salted_rows_refusal e ds o.rows o.salts ≡ None → salted_rows_refusal e ds u.rows u.salts ≡ None →
-        ws ≡ widened e ds → p ≡ joined o → q ≡ joined u → AnswersUnlessMemory r (extraction_under eq same f (shape_of n ws) (cap_layer (shape_of n ws) rule height) cap p q) → IsSaltedExtraction eq same f n e ds rule at_layer cap o u r
-    both_joined ws p q r a b are_wide first second answer =
-        let plain = λ (z : List Dimensions) (x y : Opening T W). extraction_under eq same f (shape_of n z) (cap_layer (shape_of n z) rule height) cap x y in
-        let is : plain ws p q ≡ plain (widened e ds) (joined o) (joined u) = (λ i. plain (are_wide i) (first i) (second i)) in
-        extraction_means r (subst (AnswersUnlessMemory r) (is ∙ plain_answer a b) answer)
+    pub failed_salted_pruned : (r : Result (Option (ℕ × ℕ × InputPair T (List W))) MerkleTreeError) → IsErr r → AnswersUnlessMemory r (option_or first_of_all.refusal second_of_all.refusal) →
+        IsExtraction eq same rule c first_of_all second_of_all (found_pair r)
+    failed_salted_pruned (Ok v) err answer = absurd cc
+    failed_salted_pruned (Err x) err answer = extracted_salted_pruned (Err x) answer tt

@@ -2,5 +2,4 @@ mod SaltedAnswers
 mod SplitFacts
 mod CommitFacts
 mod ExtractedFacts
-mod ExtractedSetsFacts
 mod SaltedCommitmentFacts

@@ -1,28 +1,27 @@
 -- What is not refused of rows and salts is accepted, and the other way round.
-use Rattle.std.proofs.Common.{◌≡◌, ◌↔◌, ℕ, ◌+◌, ◌<◌, ◌^◌, Bool, false, List, [], ◌∷◌, refl, sym, ap, ◌∙◌, arith, inl, inr, length, get_or, map, zip, None, Some, Option, Result, nat_le, nat_lt, eqb, subst}
-use Rattle.std.specs.Prelude.{Ok, Err, IfErr, IsOk}
+use Rattle.std.proofs.Common.{◌≡◌, ◌↔◌, ℕ, ◌+◌, ◌<◌, ◌^◌, Bool, false, List, [], ◌∷◌, refl, sym, ap, ◌∙◌, arith, inl, inr, length, get_or, map, zip, None, Some, Option, Result, nat_le, nat_lt, eqb}
+use Rattle.std.specs.Prelude.{Ok, Err, IsErr}
 use Rattle.std.specs.List.{AllZip, position_or_len}
 use Rattle.std.specs.Option.{option_map, option_or}
 use Rattle.std.proofs.lemmas.Bool.{cond-false, le-ltb, lt-leb, eqb-true}
 use Rattle.std.proofs.lemmas.List.{get_or-map, length-map}
 use Rattle.std.proofs.lemmas.List.Sums.{position_or_len_is}
 use Rattle.p3_support.specs.declared.matrix.Dimensions.{Dimensions}
-use Rattle.p3_merkle_builder.specs.Built.{OkUnlessRefused}
-use Rattle.p3_merkle_core.specs.Caps.{cap_layer}
-use Rattle.p3_merkle_core.specs.declared.cap.CapRule.{CapRule}
 use Rattle.p3_merkle_core.specs.Openings.{Opening}
 use Rattle.p3_merkle_core.specs.Pruning.{PrunedOpening}
-use Rattle.p3_merkle_core.specs.Geometry.{IsArity, shape_of, widths_of}
-use Rattle.p3_merkle_core.specs.Nodes.{Functions}
-use Rattle.p3_merkle_core.specs.Refusals.{IsEquality, answer_under, first_of, pruned_refusal_under, refusal_under, row_width_refusal, size_refusal, verdict, width_refusal}
+use Rattle.p3_merkle_core.specs.Geometry.{IsArity, widths_of}
+use Rattle.p3_merkle_core.specs.Refusals.{AnswersUnlessMemory, IsEquality, first_of, pruned_refusal_under, refusal_under, row_width_refusal, size_refusal, verdict, width_refusal}
 use Rattle.p3_merkle_core.specs.declared.error.MerkleTreeError.{MerkleTreeError}
-use Rattle.p3_merkle_core.specs.declared.error.MerkleTreeError.TheVariants.{OutOfMemory, TooLarge, WrongBatchSize}
+use Rattle.p3_merkle_core.specs.declared.error.MerkleTreeError.TheVariants.{TooLarge, WrongBatchSize}
 use Rattle.p3_merkle_core.proofs.NoneFacts.{fit_from, none_of_both, none_parts, unless_none}
 use Rattle.p3_merkle_core.proofs.Unrefused.{each_width, size_none}
 use Rattle.p3_merkle_core.proofs.Verdicts.{accepted_answer, accepted_from, pruned_accepted}
 use Rattle.p3_merkle_salts.proofs.SaltFacts.{can_widen}
 use Rattle.p3_merkle_salts.specs.SaltRefusals.{first_too_wide, salt_refusal, salt_sets_refusal, salted_pruned_refusal_under, salted_refusal_under, salted_rows_refusal, salted_sets_refusal, widening_refusal}
 use Rattle.p3_merkle_salts.specs.SaltedOpenings.{CanWiden, HaveSalts, IsSaltedAccepted, IsSaltedPrunedAccepted, SaltedOpening, SaltedPruned, joined, joined_sets, widened}
+use Rattle.p3_merkle_salts.specs.SaltedPresented.{presented_salted, presented_salted_pruned}
+use Rattle.p3_merkle_core.specs.Checks.{Terms}
+use Rattle.p3_merkle_core.proofs.ExtractionFacts.{IsPresentation}
 
 -- ---- widths
 
@@ -91,39 +90,41 @@ unrefused_from : (refusal : Option MerkleTreeError) → verdict refusal ≡ Ok t
 unrefused_from None e = refl
 unrefused_from (Some x) e = absurd cc
 
-module _ {T W : Type 0} (same : W → W → Bool) (f : Functions T W) (n e : ℕ) (ds : List Dimensions) (t : ℕ) (cap : List (List W)) (dec_w : IsEquality same) where
+module _ {T W : Type 0} (same : W → W → Bool) (e : ℕ) (ds : List Dimensions) (c : Terms T W) (cap : List (List W)) (dec_w : IsEquality same) where
   -- an opening is accepted exactly if it is not refused
-  pub salted_accepted : (o : SaltedOpening T W) → (salted_refusal_under same f n e ds t cap o ≡ None) ↔ IsSaltedAccepted f n e ds t cap o
+  pub salted_accepted : (o : SaltedOpening T W) → (salted_refusal_under same e ds c cap o ≡ None) ↔ IsSaltedAccepted e ds c cap o
   salted_accepted o =
       let first = salted_rows_refusal e ds o.rows o.salts in
       let salt = salt_refusal ds o.rows o.salts in
       let wide = widening_refusal e ds in
-      let s = shape_of n (widened e ds) in
-      let plain = refusal_under same f s t cap (joined o) in (
+      let plain = refusal_under same c cap (joined o) in (
         λ none.
             let both = none_parts first plain none in
             let form = none_parts salt wide both.0 in
             record {
               salted = (have_salts ds o.rows o.salts).0 form.0;
               can_widen = (widening e ds).0 form.1;
-              accepted = accepted_from same f s t cap (joined o) dec_w (ap verdict both.1);
+              accepted = accepted_from same c.functions c.shape c.layer cap (joined o) dec_w (ap verdict both.1);
             },
         λ w.
             let form = none_of_both salt wide ((have_salts ds o.rows o.salts).1 w.salted) ((widening e ds).1 w.can_widen) in
-            none_of_both first plain form (unrefused_from plain (accepted_answer same f s t cap (joined o) dec_w w.accepted)),
+            none_of_both first plain form (unrefused_from plain (accepted_answer same c.functions c.shape c.layer cap (joined o) dec_w w.accepted)),
       )
 
+  -- so it is presented to an extraction
+  pub salted_presentation : (o : SaltedOpening T W) → IsPresentation c cap (presented_salted same e ds c cap o)
+  salted_presentation o = record { decided = salted_accepted o; each = λ a k inside. a.accepted }
+
   -- the same of several indices
-  pub salted_pruned_accepted : (eq : T → T → Bool) → IsEquality eq → IsArity n → (p : SaltedPruned T W) → (salted_pruned_refusal_under eq same f n e ds t cap p ≡ None) ↔ IsSaltedPrunedAccepted f n e ds t cap p
+  pub salted_pruned_accepted : (eq : T → T → Bool) → IsEquality eq → IsArity c.shape.arity → (p : SaltedPruned T W) → (salted_pruned_refusal_under eq same e ds c cap p ≡ None) ↔ IsSaltedPrunedAccepted e ds c cap p
   salted_pruned_accepted eq dec w p =
       let first = salted_sets_refusal e ds p.rows p.salts in
       let sets = salt_sets_refusal ds p.rows p.salts in
       let size = size_refusal (length p.rows) (length p.salts) in
       let each = first_of (λ (rows, salt). salt_refusal ds rows salt) (zip p.rows p.salts) in
       let wide = widening_refusal e ds in
-      let s = shape_of n (widened e ds) in
-      let plain = pruned_refusal_under eq same f s t cap (joined_sets p) in
-      let meant = pruned_accepted eq same f s t cap (joined_sets p) dec dec_w w in (
+      let plain = pruned_refusal_under eq same c cap (joined_sets p) in
+      let meant = pruned_accepted eq same c.functions c.shape c.layer cap (joined_sets p) dec dec_w w in (
         λ none.
             let both = none_parts first plain none in
             let form = none_parts sets wide both.0 in
@@ -141,55 +142,32 @@ module _ {T W : Type 0} (same : W → W → Bool) (f : Functions T W) (n e : ℕ
             none_of_both first plain form (unrefused_from plain (meant.1 a.accepted)),
       )
 
+  pub salted_pruned_presentation : (eq : T → T → Bool) → IsEquality eq → IsArity c.shape.arity → (p : SaltedPruned T W) → IsPresentation c cap (presented_salted_pruned eq same e ds c cap p)
+  salted_pruned_presentation eq dec w p = record { decided = salted_pruned_accepted eq dec w p; each = λ a. a.accepted.1 }
+
 -- ---- the answers of the calls
 
 -- a verdict is what is refused
-pub said : (r : Result (Unit {0}) MerkleTreeError) (o : Option MerkleTreeError) → r ≡ verdict o → OkUnlessRefused r o
+pub said : (r : Result (Unit {0}) MerkleTreeError) (o : Option MerkleTreeError) → r ≡ verdict o → AnswersUnlessMemory r o
 said (Ok v) None is = refl
 said (Ok v) (Some e) is = absurd cc
 said (Err x) None is = absurd cc
 said (Err x) (Some e) is = inr (let same : e ≡ x = cc in ap (λ (z : MerkleTreeError). Some z) same)
 
-unrefused_when_ok : (r : Result (Unit {0}) MerkleTreeError) (refusal : Option MerkleTreeError) → OkUnlessRefused r refusal → IsOk r → refusal ≡ None
-unrefused_when_ok (Ok v) refusal a ok = a
-unrefused_when_ok (Err e) refusal a ok = absurd cc
-
-memory_when_unrefused : (r : Result (Unit {0}) MerkleTreeError) (refusal : Option MerkleTreeError) → OkUnlessRefused r refusal → refusal ≡ None → IfErr r (λ e. e ≡ OutOfMemory)
-memory_when_unrefused (Ok v) refusal a none = tt
-memory_when_unrefused (Err e) refusal (inl m) none = m
-memory_when_unrefused (Err e) refusal (inr some) none = absurd cc
-
--- rows and salts that are not refused are answered as the rows followed by their salts
-pub answered_joined : {T W : Type 0} (same : W → W → Bool) (f : Functions T W) (n e : ℕ) (ds wide : List Dimensions) (rule : CapRule) (height : ℕ) (cap : List (List W)) (o : SaltedOpening T W) (p : Opening T W) →
-    (r : Result (Unit {0}) MerkleTreeError) → salted_rows_refusal e ds o.rows o.salts ≡ None → wide ≡ widened e ds → p ≡ joined o → r ≡ answer_under same f (shape_of n wide) (cap_layer (shape_of n wide) rule height) cap p →
-    OkUnlessRefused r (salted_refusal_under same f n e ds (cap_layer (shape_of n (widened e ds)) rule height) cap o)
-answered_joined same f n e ds wide rule height cap o p r none are_wide is_joined answer =
-    let plain = λ (z : List Dimensions) (q : Opening _ _). refusal_under same f (shape_of n z) (cap_layer (shape_of n z) rule height) cap q in
-    let is : plain wide p ≡ plain (widened e ds) (joined o) = (λ i. plain (are_wide i) (is_joined i)) in
-    said r (salted_refusal_under same f n e ds (cap_layer (shape_of n (widened e ds)) rule height) cap o)
-    (answer ∙ ap verdict (is ∙ ap (λ (z : Option MerkleTreeError). option_or z (plain (widened e ds) (joined o))) (sym none)))
+-- where rows and salts are not refused, the refusal is that of the rows followed by their salts, under the terms of the wider matrices
+pub refusal_joined : {T W : Type 0} (same : W → W → Bool) (e : ℕ) (ds wide : List Dimensions) (terms : List Dimensions → Terms T W) (cap : List (List W)) (o : SaltedOpening T W) (p : Opening T W) →
+    salted_rows_refusal e ds o.rows o.salts ≡ None → wide ≡ widened e ds → p ≡ joined o → refusal_under same (terms wide) cap p ≡ salted_refusal_under same e ds (terms (widened e ds)) cap o
+refusal_joined same e ds wide terms cap o p none are_wide is_joined =
+    (λ i. refusal_under same (terms (are_wide i)) cap (is_joined i)) ∙ ap (λ (z : Option MerkleTreeError). option_or z (refusal_under same (terms (widened e ds)) cap (joined o))) (sym none)
 
 -- the same of several indices
-pub answered_joined_sets : {T W : Type 0} (eq : T → T → Bool) (same : W → W → Bool) (f : Functions T W) (n e : ℕ) (ds wide : List Dimensions) (rule : CapRule) (height : ℕ) (cap : List (List W)) (o : SaltedPruned T W) (p : PrunedOpening T W) →
-    (r : Result (Unit {0}) MerkleTreeError) → salted_sets_refusal e ds o.rows o.salts ≡ None → wide ≡ widened e ds → p ≡ joined_sets o → OkUnlessRefused r (pruned_refusal_under eq same f (shape_of n wide) (cap_layer (shape_of n wide) rule height) cap p) →
-    OkUnlessRefused r (salted_pruned_refusal_under eq same f n e ds (cap_layer (shape_of n (widened e ds)) rule height) cap o)
-answered_joined_sets eq same f n e ds wide rule height cap o p r none are_wide is_joined answer =
-    let plain = λ (z : List Dimensions) (q : PrunedOpening _ _). pruned_refusal_under eq same f (shape_of n z) (cap_layer (shape_of n z) rule height) cap q in
-    let is : plain wide p ≡ plain (widened e ds) (joined_sets o) = (λ i. plain (are_wide i) (is_joined i)) in
-    subst (OkUnlessRefused r) (is ∙ ap (λ (z : Option MerkleTreeError). option_or z (plain (widened e ds) (joined_sets o))) (sym none)) answer
+pub refusal_joined_sets : {T W : Type 0} (eq : T → T → Bool) (same : W → W → Bool) (e : ℕ) (ds wide : List Dimensions) (terms : List Dimensions → Terms T W) (cap : List (List W)) (o : SaltedPruned T W) (p : PrunedOpening T W) →
+    salted_sets_refusal e ds o.rows o.salts ≡ None → wide ≡ widened e ds → p ≡ joined_sets o → pruned_refusal_under eq same (terms wide) cap p ≡ salted_pruned_refusal_under eq same e ds (terms (widened e ds)) cap o
+refusal_joined_sets eq same e ds wide terms cap o p none are_wide is_joined =
+    (λ i. pruned_refusal_under eq same (terms (are_wide i)) cap (is_joined i)) ∙ ap (λ (z : Option MerkleTreeError). option_or z (pruned_refusal_under eq same (terms (widened e ds)) cap (joined_sets o))) (sym none)
 
-module _ {T W : Type 0} (same : W → W → Bool) (f : Functions T W) (n e : ℕ) (ds : List Dimensions) (t : ℕ) (cap : List (List W)) (dec_w : IsEquality same) where
-  -- an answer Ok is an opening that is accepted
-  pub accepted_when_ok : (o : SaltedOpening T W) (r : Result (Unit {0}) MerkleTreeError) → OkUnlessRefused r (salted_refusal_under same f n e ds t cap o) → IsOk r → IsSaltedAccepted f n e ds t cap o
-  accepted_when_ok o r a ok = (salted_accepted same f n e ds t cap dec_w o).0 (unrefused_when_ok r _ a ok)
-
-  -- and one that is accepted is answered Ok, unless there is no memory
-  pub ok_when_accepted : (o : SaltedOpening T W) (r : Result (Unit {0}) MerkleTreeError) → OkUnlessRefused r (salted_refusal_under same f n e ds t cap o) → IsSaltedAccepted f n e ds t cap o → IfErr r (λ e. e ≡ OutOfMemory)
-  ok_when_accepted o r a accepted = memory_when_unrefused r _ a ((salted_accepted same f n e ds t cap dec_w o).1 accepted)
-
-  -- the same of several indices
-  pub all_accepted_when_ok : (eq : T → T → Bool) → IsEquality eq → IsArity n → (p : SaltedPruned T W) (r : Result (Unit {0}) MerkleTreeError) → OkUnlessRefused r (salted_pruned_refusal_under eq same f n e ds t cap p) → IsOk r → IsSaltedPrunedAccepted f n e ds t cap p
-  all_accepted_when_ok eq dec w p r a ok = (salted_pruned_accepted same f n e ds t cap dec_w eq dec w p).0 (unrefused_when_ok r _ a ok)
-
-  pub ok_when_all_accepted : (eq : T → T → Bool) → IsEquality eq → IsArity n → (p : SaltedPruned T W) (r : Result (Unit {0}) MerkleTreeError) → OkUnlessRefused r (salted_pruned_refusal_under eq same f n e ds t cap p) → IsSaltedPrunedAccepted f n e ds t cap p → IfErr r (λ e. e ≡ OutOfMemory)
-  ok_when_all_accepted eq dec w p r a accepted = memory_when_unrefused r _ a ((salted_pruned_accepted same f n e ds t cap dec_w eq dec w p).1 accepted)
+-- what is refused before rows and salts are joined is the refusal
+pub refused_before : {V : Type 0} (r : Result V MerkleTreeError) (first after : Option MerkleTreeError) → IsErr r → AnswersUnlessMemory r first → AnswersUnlessMemory r (option_or first after)
+refused_before (Ok v) first after err a = absurd cc
+refused_before (Err x) first after err (inl m) = inl m
+refused_before (Err x) first after err (inr is) = inr (ap (λ (z : Option MerkleTreeError). option_or z after) is)

@@ -1,27 +1,25 @@
 -- What the answers of the salted calls say in the words of the trait.
 use Rattle.std.proofs.Common.{◌≡◌, ◌∙◌, ℕ, List, Result, None, ap, inl, inr, map, subst, sym}
 use Rattle.std.specs.Prelude.{Ok, Err, IfErr, IfOk}
-use Rattle.p3_support.specs.Batches.{dimensions_in}
+use Rattle.p3_merkle_core.specs.Refusals.{AnswersUnlessMemory}
+use Rattle.p3_merkle_layers.specs.Views.{matrix_of}
+use Rattle.p3_merkle_core.specs.Gate.{gate_refusal}
+use Rattle.p3_merkle_core.specs.Geometry.{Shape, heights_of}
+use Rattle.p3_merkle_core.specs.Checks.{Terms}
 use Rattle.p3_support.specs.declared.matrix.Matrix.{Ghosts}
 use Rattle.p3_support.specs.declared.pair.HorizontalPair.{HorizontalPair}
-use Rattle.p3_support.specs.Pairs.{left_of}
-use Rattle.p3_merkle_builder.specs.Built.{OkUnlessRefused}
-use Rattle.p3_merkle_builder.specs.Views.{matrix_of}
-use Rattle.p3_merkle_core.specs.Gate.{gate_refusal}
-use Rattle.p3_merkle_core.specs.Geometry.{heights_of, shape_of}
-use Rattle.p3_merkle_core.specs.Nodes.{dimensions_of}
+use Rattle.p3_merkle_tree.specs.Commitments.{IsCommitment}
+use Rattle.p3_merkle_salts.specs.SaltedTrees.{HaveSaltColumns}
+use Rattle.p3_merkle_core.specs.Nodes.{Batch, dimensions_of, shape}
 use Rattle.p3_merkle_core.specs.declared.error.MerkleTreeError.{MerkleTreeError}
 use Rattle.p3_merkle_core.specs.declared.error.MerkleTreeError.TheVariants.{OutOfMemory}
 use Rattle.p3_merkle_core.proofs.GateFacts.{gate_lawful}
 use Rattle.p3_merkle_core.proofs.NoneFacts.{none_of_both, none_parts}
 use Rattle.p3_merkle_tree.specs.CommitmentLaws.{dimensions_are}
 use Rattle.p3_merkle_hiding.proofs.SaltedAnswers.{widening}
-use Rattle.p3_merkle_hiding.proofs.SplitFacts.{wide_is}
 use Rattle.p3_merkle_salts.specs.SaltRefusals.{salted_commit_refusal, widening_refusal}
-use Rattle.p3_merkle_hiding.specs.SaltedCommitments.{CanCommitSalted}
-use Rattle.p3_merkle_hiding.specs.SaltedExtraction.{wide_shape}
+use Rattle.p3_merkle_hiding.specs.SaltedCommitments.{CanCommitSalted, IsSaltedCommitment}
 use Rattle.p3_merkle_salts.specs.SaltedOpenings.{CanWiden}
-use Rattle.p3_merkle_salts.specs.SaltedTrees.{HaveSaltColumns, pair_matrix}
 
 module _ {T M : Type 0} (height width : M → ℕ) (row : M → ℕ → List T) (e : ℕ) (ms : List M) where
   -- matrices are refused exactly if they can't be committed to
@@ -37,18 +35,22 @@ module _ {T M : Type 0} (height width : M → ℕ) (row : M → ℕ → List T) 
       none_of_both (gate_refusal (heights_of ds)) (widening_refusal e ds) ((gate_lawful (heights_of ds)).1 w.lawful) ((widening e ds).1 (subst (CanWiden e) (sym (dimensions_are height width row 0 ms)) w.can_widen))
 
   -- Ok is answered of such matrices alone
-  pub can_when_ok : {A : Type 0} (r : Result A MerkleTreeError) → OkUnlessRefused r (salted_commit_refusal e (dimensions_of (map (matrix_of height width row) ms))) → IfOk r (λ made. CanCommitSalted height width row e ms)
+  pub can_when_ok : {A : Type 0} (r : Result A MerkleTreeError) → AnswersUnlessMemory r (salted_commit_refusal e (dimensions_of (map (matrix_of height width row) ms))) → IfOk r (λ made. CanCommitSalted height width row e ms)
   can_when_ok (Ok made) answer = none_when answer
   can_when_ok (Err x) answer = tt
 
   -- of these an error is for want of memory
-  pub memory_when_can : {A : Type 0} (r : Result A MerkleTreeError) → OkUnlessRefused r (salted_commit_refusal e (dimensions_of (map (matrix_of height width row) ms))) → CanCommitSalted height width row e ms → IfErr r (λ x. x ≡ OutOfMemory)
+  pub memory_when_can : {A : Type 0} (r : Result A MerkleTreeError) → AnswersUnlessMemory r (salted_commit_refusal e (dimensions_of (map (matrix_of height width row) ms))) → CanCommitSalted height width row e ms → IfErr r (λ x. x ≡ OutOfMemory)
   memory_when_can (Ok made) answer w = tt
   memory_when_can (Err x) (inl memory) w = memory
   memory_when_can (Err x) (inr refused) w = let none = when_none w in absurd cc
 
--- pairs have the dimensions of their left matrices, so much wider
-pub pairs_wide : {T A B : Type 0} {a : Ghosts A T} {b : Ghosts B T} (n e : ℕ) (pairs : List (HorizontalPair T A B a b)) → HaveSaltColumns e pairs →
-    shape_of n (dimensions_of (map pair_matrix pairs)) ≡ wide_shape n e (dimensions_in a.height_of a.width_of (map left_of pairs))
-pairs_wide {a = a} n e pairs w =
-    ap (shape_of n) (wide_is n e pairs w) ∙ ap (wide_shape n e) (dimensions_are a.height_of a.width_of a.row_of n (map left_of pairs))
+-- a tree over salted matrices, which have so many salts a row, belongs to its cap
+pub is_salted_commitment : {M T W A B : Type 0} {a : Ghosts A T} {b : Ghosts B T} (r : Result M MerkleTreeError) (cap : M → List (List W)) (own : M → List (List (List W))) (over : M → Batch T) (pairs : M → List (HorizontalPair T A B a b)) (e : ℕ)
+    (c : Shape → Terms T W) (salted : Batch T) (s : Shape) → shape salted ≡ s → IfOk r (λ made. HaveSaltColumns e (pairs made)) → IfOk r (λ made. over made ≡ salted) → IfOk r (λ made. IsCommitment (c s) (cap made) salted (own made)) →
+    IfOk r (λ made. IsSaltedCommitment e (c (shape (over made))) (cap made) (over made) (own made) (pairs made))
+is_salted_commitment (Ok made) cap own over pairs e c salted s wide columns is committed = record {
+  committed = subst (λ z. IsCommitment (c (shape z)) (cap made) z (own made)) (sym is) (subst (λ z. IsCommitment (c z) (cap made) salted (own made)) (sym wide) committed);
+  columns = columns;
+}
+is_salted_commitment (Err x) cap own over pairs e c salted s wide columns is committed = tt

@@ -7,15 +7,16 @@ use Rattle.std.proofs.Math.Seq.{drop-append_seam, take-append_seam}
 use Rattle.p3_support.specs.declared.matrix.Matrix.{Ghosts}
 use Rattle.p3_support.specs.declared.pair.HorizontalPair.{HorizontalPair}
 use Rattle.p3_support.specs.Pairs.{left_of, pair_row, right_of}
-use Rattle.p3_merkle_core.specs.Geometry.{IsLawful, Shape, bits_reduced, heights, heights_of, shape_of, tallest, widths_of}
-use Rattle.p3_merkle_core.specs.Nodes.{Batch, Functions, Matrix, dimensions_of, shape}
-use Rattle.p3_merkle_core.specs.PrunedCalls.{IsPrunedAccepted}
-use Rattle.p3_merkle_core.specs.Pruning.{pruned_of}
-use Rattle.p3_merkle_core.specs.Openings.{IsAccepted, honest_rows, opening_of}
+use Rattle.p3_merkle_core.specs.Geometry.{IsLawful, bits_reduced, heights, heights_of, tallest, widths_of}
+use Rattle.p3_merkle_core.specs.Nodes.{Batch, Matrix, dimensions_of, shape}
+use Rattle.p3_merkle_core.specs.Pruning.{pruned_of, IsPrunedAccepted}
+use Rattle.p3_merkle_core.specs.Openings.{honest_rows, opening_of}
+use Rattle.p3_merkle_core.specs.Checks.{IsAccepted, Terms}
 use Rattle.p3_merkle_builder.proofs.RowFacts.{row_inside}
-use Rattle.p3_merkle_builder.specs.Views.{matrix_of}
-use Rattle.p3_merkle_salts.specs.SaltedOpenings.{CanWiden, HaveSalts, IsSaltedAccepted, IsSaltedPrunedAccepted, salt_parts, salted_rows, salted_sets, unsalted_parts, widened}
-use Rattle.p3_merkle_salts.specs.SaltedTrees.{HaveSaltColumns, left_batch, pair_matrix, right_batch}
+use Rattle.p3_merkle_layers.specs.Views.{matrix_of}
+use Rattle.p3_merkle_salts.specs.SaltedOpenings.{CanWiden, HaveSalts, IsSaltedAccepted, IsSaltedPrunedAccepted, salt_parts, salted_of, salted_pruned_of, salted_rows, salted_sets, unsalted_parts, widened}
+use Rattle.p3_merkle_salts.specs.SaltedTrees.{HaveSaltColumns, left_batch, pair_matrix, right_batch, unsalted_dimensions}
+use Rattle.p3_support.specs.declared.matrix.Dimensions.{Dimensions}
 
 -- ---- rows that are taken apart
 
@@ -153,18 +154,17 @@ module _ {T A B : Type 0} {a : Ghosts A T} {b : Ghosts B T} where
     }
 
     -- an accepted opening of pairs is accepted as its rows and salts
-    pub salted_from : {W : Type 0} (f : Functions T W) (e t i : ℕ) (cap siblings : List (List W)) → i < tallest (heights (shape (pair_batch n pairs))) → HaveSaltColumns e pairs →
-        IsAccepted f (shape (pair_batch n pairs)) t cap (opening_of i (honest_rows (pair_batch n pairs) i) siblings) →
-        IsSaltedAccepted f n e (dimensions_of (left_batch n pairs).matrices) t cap (record { index = i; rows = honest_rows (left_batch n pairs) i; salts = honest_rows (right_batch n pairs) i; siblings = siblings })
-    salted_from {W} f e t i cap siblings below w accepted =
-        let wide : shape (pair_batch n pairs) ≡ shape_of n (widened e (dimensions_of (left_batch n pairs).matrices)) = ap (shape_of n) (wide_is n e pairs w) in
-        let rows = sym (both_are i below) in
+    pub salted_from : {W : Type 0} (terms : List Dimensions → Terms T W) (cap : Terms T W → List (List W)) (e i : ℕ) (siblings : List (List W)) → i < tallest (heights (shape (pair_batch n pairs))) → HaveSaltColumns e pairs →
+        (let c = terms (dimensions_of (map pair_matrix pairs)) in IsAccepted c (cap c) (opening_of i (honest_rows (pair_batch n pairs) i) siblings)) →
+        let c = terms (widened e (unsalted_dimensions n pairs)) in IsSaltedAccepted e (unsalted_dimensions n pairs) c (cap c) (salted_of i (honest_rows (left_batch n pairs) i) (honest_rows (right_batch n pairs) i) siblings)
+    salted_from {W} terms cap e i siblings below w accepted =
+        let c = terms (widened e (unsalted_dimensions n pairs)) in
         record {
           salted = are_salted i below;
           can_widen = wide_fits n e pairs w;
           accepted =
-              subst (λ (rs : List (List T)). IsAccepted f (shape_of n (widened e (dimensions_of (left_batch n pairs).matrices))) t cap (opening_of i rs siblings)) rows
-              (subst (λ (s : Shape). IsAccepted f s t cap (opening_of i (honest_rows (pair_batch n pairs) i) siblings)) wide accepted);
+              subst (λ (rs : List (List T)). IsAccepted c (cap c) (opening_of i rs siblings)) (sym (both_are i below))
+              (subst (λ (ds : List Dimensions). IsAccepted (terms ds) (cap (terms ds)) (opening_of i (honest_rows (pair_batch n pairs) i) siblings)) (wide_is n e pairs w) accepted);
         }
 
     -- the same of several indices
@@ -186,17 +186,18 @@ module _ {T A B : Type 0} {a : Ghosts A T} {b : Ghosts B T} where
     sets_are_salted [] below = tt
     sets_are_salted (i ∷ is) below = (are_salted i (below 0 i (omega arith)), sets_are_salted is (λ k d h. below (suc k) d (omega arith)))
 
-    pub salted_pruned_from : {W : Type 0} (f : Functions T W) (e t : ℕ) (is : List ℕ) (cap digests : List (List W)) → All (λ i. i < tallest (heights (shape (pair_batch n pairs)))) is → HaveSaltColumns e pairs →
-        IsPrunedAccepted f (shape (pair_batch n pairs)) t cap (pruned_of is (map (honest_rows (pair_batch n pairs)) is) digests) →
-        IsSaltedPrunedAccepted f n e (dimensions_of (left_batch n pairs).matrices) t cap (record { indices = is; rows = map (honest_rows (left_batch n pairs)) is; salts = map (honest_rows (right_batch n pairs)) is; digests = digests })
-    salted_pruned_from {W} f e t is cap digests below w accepted =
-        let wide : shape (pair_batch n pairs) ≡ shape_of n (widened e (dimensions_of (left_batch n pairs).matrices)) = ap (shape_of n) (wide_is n e pairs w) in
-        let rows = sym (both_sets_are is below) in
+    pub salted_pruned_from : {W : Type 0} (terms : List Dimensions → Terms T W) (cap : Terms T W → List (List W)) (e : ℕ) (is : List ℕ) (digests : List (List W)) →
+        All (λ i. i < tallest (heights (shape (pair_batch n pairs)))) is → HaveSaltColumns e pairs →
+        (let c = terms (dimensions_of (map pair_matrix pairs)) in IsPrunedAccepted c (cap c) (pruned_of is (map (honest_rows (pair_batch n pairs)) is) digests)) →
+        let c = terms (widened e (unsalted_dimensions n pairs)) in
+        IsSaltedPrunedAccepted e (unsalted_dimensions n pairs) c (cap c) (salted_pruned_of is (map (honest_rows (left_batch n pairs)) is) (map (honest_rows (right_batch n pairs)) is) digests)
+    salted_pruned_from {W} terms cap e is digests below w accepted =
+        let c = terms (widened e (unsalted_dimensions n pairs)) in
         record {
           in_pairs = length-map is (honest_rows (right_batch n pairs)) ∙ sym (length-map is (honest_rows (left_batch n pairs)));
           salted = sets_are_salted is below;
           can_widen = wide_fits n e pairs w;
           accepted =
-              subst (λ (rs : List (List (List T))). IsPrunedAccepted f (shape_of n (widened e (dimensions_of (left_batch n pairs).matrices))) t cap (pruned_of is rs digests)) rows
-              (subst (λ (s : Shape). IsPrunedAccepted f s t cap (pruned_of is (map (honest_rows (pair_batch n pairs)) is) digests)) wide accepted);
+              subst (λ (rs : List (List (List T))). IsPrunedAccepted c (cap c) (pruned_of is rs digests)) (sym (both_sets_are is below))
+              (subst (λ (ds : List Dimensions). IsPrunedAccepted (terms ds) (cap (terms ds)) (pruned_of is (map (honest_rows (pair_batch n pairs)) is) digests)) (wide_is n e pairs w) accepted);
         }

@@ -9,7 +9,10 @@ use Rattle.p3_support.specs.declared.opening.BatchOpeningRef.{BatchOpeningRef}
 use Rattle.p3_support.specs.Shown.{row_lists, row_sets}
 use Rattle.p3_merkle_core.specs.declared.pruning.PrunedProof.{PrunedProof}
 use Rattle.p3_merkle_tree.specs.declared.mmcs.Scheme.{Scheme}
-use Rattle.p3_merkle_salts.specs.SaltedOpenings.{SaltedOpening, SaltedPruned}
+use Rattle.p3_support.specs.declared.matrix.Dimensions.{Dimensions}
+use Rattle.p3_merkle_core.specs.Checks.{Terms}
+use Rattle.p3_merkle_tree.specs.Schemes.{terms_of}
+use Rattle.p3_merkle_salts.specs.SaltedOpenings.{SaltedOpening, SaltedPruned, widened}
 use Rattle.p3_merkle_hiding.specs.declared.hiding_mmcs.HidingScheme.{HidingScheme}
 
 module _ {P PW H C R X G V W : Type 0} {N E : ℕ} {p : packed.Ghosts P V} {pd : default.Ghosts V} {pe : equality.Ghosts V} {q : packed.Ghosts PW W} {qd : default.Ghosts W} {qe : equality.Ghosts W} where
@@ -20,6 +23,10 @@ module _ {P PW H C R X G V W : Type 0} {N E : ℕ} {p : packed.Ghosts P V} {pd :
   -- the generator that salts are drawn from
   abbrev pub generator_of : HidingScheme P PW H C R X G N E V W p pd pe q qd qe → R
   generator_of scheme = scheme.generator
+
+  -- the terms of its checks over matrices of these dimensions without salts
+  abbrev pub salted_terms_of : (H → List V → List W) → (C → List (List W) → List W) → ℕ → HidingScheme P PW H C R X G N E V W p pd pe q qd qe → List Dimensions → Terms V W
+  salted_terms_of hash compression d scheme dimensions = terms_of hash compression d scheme.plain (widened E dimensions)
 
 -- an opening of an index that is lent, with its salts
 abbrev pub salted_lent : {T W A B D : Type 0} → ℕ → BatchOpeningRef T (Vec (Vec T A) B × Vec (List W) D) → SaltedOpening T W

@@ -10,10 +10,11 @@ use Rattle.p3_support.specs.declared.packed.PackedValue as packed
 use Rattle.p3_support.specs.declared.pair.HorizontalPair.{HorizontalPair}
 use Rattle.std.specs.declared.default.Default as default
 use Rattle.std.specs.declared.cmp.PartialEq as equality
-use Rattle.p3_merkle_builder.specs.Views.{heights_in}
+use Rattle.p3_merkle_layers.specs.Views.{heights_in}
 use Rattle.p3_merkle_core.specs.Geometry.{IsLawful, heights_of, shape_of, tallest}
 use Rattle.p3_merkle_core.specs.Nodes.{Functions, dimensions_of}
-use Rattle.p3_merkle_core.specs.Openings.{IsAccepted, opening_of}
+use Rattle.p3_merkle_core.specs.Openings.{opening_of}
+use Rattle.p3_merkle_core.specs.Checks.{IsAccepted, Terms, terms}
 use Rattle.p3_merkle_core.specs.Pruning.{restored_path}
 use Rattle.p3_merkle_tree.specs.CommitmentLaws.{greatest_is, greatest_of, same_is_equivalence}
 use Rattle.p3_merkle_tree.specs.Commitments.{IsSameScheme}
@@ -77,15 +78,14 @@ module _ {T : Type 0} where
   set_at (rows ∷ sets) (salt ∷ salts) (suc k) same inside = set_at sets salts k (omega (arith, same)) (omega arith)
 
 -- of an accepted pruned opening each row set is shown to be that of its index
-pub each_salted_shown : {T W : Type 0} (f : Functions T W) (n e : ℕ) (ds : List Dimensions) (t : ℕ) (cap : List (List W)) (o : SaltedPruned T W) → IsSaltedPrunedAccepted f n e ds t cap o → AllZip (IsSaltedShown f n e ds t cap) o.indices o.rows
-each_salted_shown {T} {W} f n e ds t cap o w =
-    let s = shape_of n (widened e ds) in
+pub each_salted_shown : {T W : Type 0} (e : ℕ) (ds : List Dimensions) (c : Terms T W) (cap : List (List W)) (o : SaltedPruned T W) → IsSaltedPrunedAccepted e ds c cap o → AllZip (IsSaltedShown e ds c cap) o.indices o.rows
+each_salted_shown {T} {W} e ds c cap o w =
     let long = length_sets o.rows o.salts w.in_pairs in
     let as_many : length o.rows ≡ length o.indices = sym long ∙ w.accepted.0.agreed.in_pairs in
-    all_zip (IsSaltedShown f n e ds t cap) o.indices o.rows 0 [] as_many (λ k inside.
+    all_zip (IsSaltedShown e ds c cap) o.indices o.rows 0 [] as_many (λ k inside.
     let i = slice_index o.indices k in
-    let path = restored_path f s t (joined_sets o) i in
-    let here = subst (λ (rows : List (List T)). IsAccepted f s t cap (opening_of i rows path)) (set_at o.rows o.salts k w.in_pairs (omega (arith, as_many))) (w.accepted.1 k inside) in
+    let path = restored_path c (joined_sets o) i in
+    let here = subst (λ (rows : List (List T)). IsAccepted c cap (opening_of i rows path)) (set_at o.rows o.salts k w.in_pairs (omega (arith, as_many))) (w.accepted.1 k inside) in
     (slice_index_or o.salts k [], path, record { salted = zip_at (HaveSalts ds) o.rows o.salts [] [] k w.salted (omega (arith, as_many)); can_widen = w.can_widen; accepted = here }))
 
 -- more columns leave the heights
@@ -94,7 +94,7 @@ wide_heights e [] = refl
 wide_heights e (d ∷ ds) = ap (λ (hs : List ℕ). d.height ∷ hs) (wide_heights e ds)
 
 -- rows that are shown fit the dimensions, which are those of the matrices without salts
-pub salted_rows_fit : {T W : Type 0} (f : Functions T W) (n e : ℕ) (ds : List Dimensions) (t : ℕ) (cap : List (List W)) (index : ℕ) (rows : List (List T)) → IsSaltedShown f n e ds t cap index rows → FitDimensions ds index rows
-salted_rows_fit f n e ds t cap index rows (salts, siblings, w) =
+pub salted_rows_fit : {T W : Type 0} (f : Functions T W) (n e t : ℕ) (ds : List Dimensions) (cap : List (List W)) (index : ℕ) (rows : List (List T)) → IsSaltedShown e ds (terms f (shape_of n (widened e ds)) t) cap index rows → FitDimensions ds index rows
+salted_rows_fit f n e t ds cap index rows (salts, siblings, w) =
     let tall : tallest (heights_of (widened e ds)) ≡ greatest_height (λ d. d.height) ds = ap tallest (wide_heights e ds) ∙ sym (greatest_of ds) in
     record { rows_fit = w.salted.rows_fit; in_range = subst (λ height. index < height) tall w.accepted.in_range }

@@ -4,9 +4,10 @@ use Rattle.p3_support.specs.Batches.{dimensions_in}
 use Rattle.p3_support.specs.declared.matrix.Dimensions.{Dimensions}
 use Rattle.p3_support.specs.declared.matrix.Matrix.{Ghosts}
 use Rattle.p3_support.specs.declared.pair.HorizontalPair.{HorizontalPair}
-use Rattle.p3_merkle_builder.specs.Views.{heights_in}
+use Rattle.p3_merkle_layers.specs.Views.{heights_in}
 use Rattle.p3_merkle_core.specs.Geometry.{IsLawful}
-use Rattle.p3_merkle_core.specs.Nodes.{Batch, Functions}
+use Rattle.p3_merkle_core.specs.Nodes.{Batch}
+use Rattle.p3_merkle_core.specs.Checks.{Terms}
 use Rattle.p3_merkle_tree.specs.Commitments.{IsCommitment}
 use Rattle.p3_merkle_salts.specs.SaltedOpenings.{CanWiden, IsSaltedAccepted, salted_of}
 use Rattle.p3_merkle_salts.specs.SaltedTrees.{HaveSaltColumns}
@@ -17,10 +18,10 @@ pub record CanCommitSalted {T M : Type 0} (height width : M → ℕ) (row : M �
   pub can_widen : CanWiden e (dimensions_in height width matrices)
 
 -- a commitment to a batch, which is that of pairs with e salts a row
-pub record IsSaltedCommitment {T W A B : Type 0} {a : Ghosts A T} {b : Ghosts B T} (f : Functions T W) (t e : ℕ) (cap : List (List W)) (batch : Batch T) (own : List (List (List W))) (pairs : List (HorizontalPair T A B a b)) : Type 0 where
-  pub committed : IsCommitment f t cap batch own
+pub record IsSaltedCommitment {T W A B : Type 0} {a : Ghosts A T} {b : Ghosts B T} (e : ℕ) (c : Terms T W) (cap : List (List W)) (batch : Batch T) (own : List (List (List W))) (pairs : List (HorizontalPair T A B a b)) : Type 0 where
+  pub committed : IsCommitment c cap batch own
   pub columns : HaveSaltColumns e pairs
 
--- with some salts and siblings the rows are accepted at an index under a cap, which is layer t
-abbrev pub IsSaltedShown : {T W : Type 0} → Functions T W → ℕ → ℕ → List Dimensions → ℕ → List (List W) → ℕ → List (List T) → Type 0
-IsSaltedShown {T = T} {W = W} f n e dimensions t cap index rows = (salts : List (List T)) × (siblings : List (List W)) × IsSaltedAccepted f n e dimensions t cap (salted_of index rows salts siblings)
+-- with some salts and siblings the rows are accepted at an index under a cap
+abbrev pub IsSaltedShown : {T W : Type 0} → ℕ → List Dimensions → Terms T W → List (List W) → ℕ → List (List T) → Type 0
+IsSaltedShown {T = T} {W = W} e dimensions c cap index rows = (salts : List (List T)) × (siblings : List (List W)) × IsSaltedAccepted e dimensions c cap (salted_of index rows salts siblings)

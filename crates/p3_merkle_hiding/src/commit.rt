@@ -1,15 +1,15 @@
 //! Committing to salted matrices.
 
 ghost use Rattle.std.specs.Prelude.{◌≡◌, ◌⊎◌, IfErr, IfOk, OnOk, map};
-ghost use Rattle.p3_merkle_builder.specs.Built.{OkUnlessRefused};
+ghost use Rattle.p3_merkle_core.specs.Refusals.{AnswersUnlessMemory};
+ghost use Rattle.p3_merkle_layers.specs.Views.{batch_of};
 ghost use Rattle.p3_merkle_builder.specs.Parts.{layers_of, matrices_of, tree_batch};
-ghost use Rattle.p3_merkle_builder.specs.Views.{batch_of};
-ghost use Rattle.p3_merkle_core.specs.Nodes.{layer, layers, shape};
+ghost use Rattle.p3_merkle_core.specs.Nodes.{dimensions_of, shape};
 ghost use Rattle.p3_merkle_core.specs.declared.error.MerkleTreeError.TheVariants.{OutOfMemory};
-ghost use Rattle.p3_merkle_tree.specs.Schemes.{proof_layer, scheme_functions};
+ghost use Rattle.p3_merkle_tree.specs.Commitments.{IsCommitment};
 ghost use Rattle.p3_support.specs.Pairs.{left_of};
 ghost use Rattle.p3_support.specs.Shown.{roots_of};
-ghost use Rattle.p3_merkle_hiding.specs.HidingSchemes.{generator_of, plain_of};
+ghost use Rattle.p3_merkle_hiding.specs.HidingSchemes.{generator_of, plain_of, salted_terms_of};
 ghost use Rattle.p3_merkle_salts.specs.Salted.{after_salts, salted_batch, IsAfterSome};
 ghost use Rattle.p3_merkle_salts.specs.SaltRefusals.{salted_commit_refusal};
 ghost use Rattle.p3_merkle_salts.specs.SaltedTrees.{HaveSaltColumns};
@@ -65,21 +65,16 @@ where
         MerkleTreeError,
     >
         ensures answer { let b = batch_of M.height_of M.width_of M.row_of N matrices.items in
-            OkUnlessRefused result (salted_commit_refusal SALT_ELEMS (shape b).dimensions) }
+            AnswersUnlessMemory result (salted_commit_refusal SALT_ELEMS (shape b).dimensions) }
         ensures matrices { IfOk result (λ (cap, tree). map left_of (matrices_of tree) ≡ matrices.items) }
         ensures columns { IfOk result (λ (cap, tree). HaveSaltColumns SALT_ELEMS (matrices_of tree)) }
         ensures batch { let b = batch_of M.height_of M.width_of M.row_of N matrices.items in
             let drawn = R.stream (generator_of self.old) in
             IfOk result (λ (cap, tree). tree_batch tree ≡ salted_batch P.Value.of_salt_word SALT_ELEMS b drawn) }
-        ensures layers { let f = scheme_functions H.hash C.compression D (plain_of self.old) in
-            let b = batch_of M.height_of M.width_of M.row_of N matrices.items in
-            let drawn = R.stream (generator_of self.old) in
-            IfOk result (λ (cap, tree). layers_of tree ≡ layers f (salted_batch P.Value.of_salt_word SALT_ELEMS b drawn)) }
-        ensures cap { let f = scheme_functions H.hash C.compression D (plain_of self.old) in
-            let b = batch_of M.height_of M.width_of M.row_of N matrices.items in
+        ensures committed { let b = batch_of M.height_of M.width_of M.row_of N matrices.items in
+            let c = salted_terms_of H.hash C.compression D self.old (dimensions_of b.matrices) in
             let salted = salted_batch P.Value.of_salt_word SALT_ELEMS b (R.stream (generator_of self.old)) in
-            let t = proof_layer (plain_of self.old) (shape salted) in
-            IfOk result (λ (cap, tree). roots_of cap ≡ layer f salted t) }
+            IfOk result (λ (cap, tree). IsCommitment c (roots_of cap) salted (layers_of tree)) }
         ensures rest { let b = batch_of M.height_of M.width_of M.row_of N matrices.items in
             let drawn = R.stream (generator_of self.old) in
             OnOk result (R.stream (generator_of self.new) ≡ after_salts SALT_ELEMS b.matrices drawn) }

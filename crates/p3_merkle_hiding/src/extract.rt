@@ -1,9 +1,13 @@
 //! Extraction: from two salted openings of one cap that differ to two inputs of one digest.
 
-ghost use Rattle.p3_merkle_tree.specs.Schemes.{cap_rule_of, proof_layer, scheme_functions};
+ghost use Rattle.std.specs.Prelude.{◌≡◌, ◌↔◌, IfOk, IsNone};
+ghost use Rattle.p3_merkle_core.specs.Extraction.{IsExtraction};
+ghost use Rattle.p3_merkle_core.specs.Views.{found_alone, found_pair};
+ghost use Rattle.p3_merkle_core.specs.declared.cap.CapRule.TheVariants.{Lowered};
+ghost use Rattle.p3_merkle_tree.specs.Schemes.{cap_rule_of};
 ghost use Rattle.p3_support.specs.Shown.{roots_of};
-ghost use Rattle.p3_merkle_hiding.specs.HidingSchemes.{plain_of, salted_lent, salted_pruned_lent};
-ghost use Rattle.p3_merkle_hiding.specs.SaltedExtraction.{wide_shape, IsSaltedExtraction, IsSaltedMultiExtraction};
+ghost use Rattle.p3_merkle_hiding.specs.HidingSchemes.{plain_of, salted_lent, salted_pruned_lent, salted_terms_of};
+ghost use Rattle.p3_merkle_salts.specs.SaltedPresented.{presented_salted, presented_salted_pruned};
 
 use crate::hiding_mmcs::{MerkleTreeHidingMmcs, SaltedMultiProof, SaltedProof};
 use crate::salted::{SaltedRows, SaltedSets};
@@ -48,12 +52,15 @@ impl<
         index2: usize,
         second: BatchOpeningRef<'_, P::Value, SaltedProof<P::Value, PW::Value, D>>,
     ) -> Result<Option<Collision<P::Value, PW::Value, D>>, MerkleTreeError>
-        ensures { let f = scheme_functions H.hash C.compression D (plain_of self.now) in
-            let t = proof_layer (plain_of self.now) (wide_shape N SALT_ELEMS dimensions.now) in
-            let rule = cap_rule_of (plain_of self.now) in
-            let o = salted_lent index1 first.entry in
-            let u = salted_lent index2 second.entry in
-            IsSaltedExtraction P.Value.eq PW.Value.eq f N SALT_ELEMS dimensions.now rule t (roots_of commit.now) o u result }
+        ensures extraction { let c = salted_terms_of H.hash C.compression D self.now dimensions.now in
+            let presented = presented_salted PW.Value.eq SALT_ELEMS dimensions.now c (roots_of commit.now) in
+            let first = presented (salted_lent index1 first.entry) in
+            let second = presented (salted_lent index2 second.entry) in
+            IsExtraction P.Value.eq PW.Value.eq (cap_rule_of (plain_of self.now)) c first second (found_alone result) }
+
+        // Under the lowered rule, at one index nothing is found exactly where rows, salts and siblings are the same.
+        ensures lowered_one_index { cap_rule_of (plain_of self.now) ≡ Lowered → index1 ≡ index2 →
+            IfOk result (λ found. IsNone found ↔ (salted_lent index1 first.entry ≡ salted_lent index2 second.entry)) }
     {
         let (rows1, (salts1, siblings1)) = first.unpack();
         let salted1 = SaltedRows::new(alloc, dimensions, SALT_ELEMS, rows1, salts1)?;
@@ -106,11 +113,11 @@ impl<
         rows2: &[Vec<Vec<P::Value>>],
         proof2: &SaltedMultiProof<P::Value, PW::Value, D>,
     ) -> Result<Option<(usize, usize, Collision<P::Value, PW::Value, D>)>, MerkleTreeError>
-        ensures { let f = scheme_functions H.hash C.compression D (plain_of self.now) in
-            let t = proof_layer (plain_of self.now) (wide_shape N SALT_ELEMS dimensions.now) in
-            let p = salted_pruned_lent indices1.now rows1.now proof1.now in
-            let r = salted_pruned_lent indices2.now rows2.now proof2.now in
-            IsSaltedMultiExtraction P.Value.eq PW.Value.eq f N SALT_ELEMS dimensions.now t (roots_of commit.now) p r result }
+        ensures { let c = salted_terms_of H.hash C.compression D self.now dimensions.now in
+            let presented = presented_salted_pruned P.Value.eq PW.Value.eq SALT_ELEMS dimensions.now c (roots_of commit.now) in
+            let first = presented (salted_pruned_lent indices1.now rows1.now proof1.now) in
+            let second = presented (salted_pruned_lent indices2.now rows2.now proof2.now) in
+            IsExtraction P.Value.eq PW.Value.eq (cap_rule_of (plain_of self.now)) c first second (found_pair result) }
     {
         let (salts1, pruned1) = proof1;
         let salted1 = SaltedSets::new(alloc, dimensions, SALT_ELEMS, rows1, salts1)?;

@@ -1,19 +1,20 @@
 //! Salted openings: those of the plain scheme, each row taken apart into the matrix's own words and its salts.
 
-ghost use Rattle.std.specs.Prelude.{◌≡◌, ◌<◌, All, IfErr, IfOk, map};
+ghost use Rattle.std.specs.Prelude.{◌≡◌, ◌<◌, [], All, IfErr, IfOk, None, map};
 ghost use Rattle.p3_merkle_core.specs.Geometry.{heights, tallest};
-ghost use Rattle.p3_merkle_core.specs.Nodes.{dimensions_of, layer, layers, shape};
-ghost use Rattle.p3_merkle_core.specs.Openings.{honest_rows};
-ghost use Rattle.p3_merkle_core.specs.PrunedCalls.{own_digests};
+ghost use Rattle.p3_merkle_core.specs.Nodes.{shape};
+ghost use Rattle.p3_merkle_core.specs.Openings.{honest_rows, node_in, siblings_by};
+ghost use Rattle.p3_merkle_core.specs.Pruning.{boundary_by};
+ghost use Rattle.p3_merkle_core.specs.Refusals.{AnswersUnlessMemory};
 ghost use Rattle.p3_merkle_core.specs.declared.error.MerkleTreeError.TheVariants.{OutOfMemory};
-ghost use Rattle.p3_merkle_builder.specs.Own.{own_siblings};
 ghost use Rattle.p3_merkle_builder.specs.Parts.{layers_of, matrices_of, tree_batch};
-ghost use Rattle.p3_merkle_tree.specs.Schemes.{proof_layer, scheme_functions};
+ghost use Rattle.p3_merkle_tree.specs.Commitments.{cap_over, IsOwn};
+ghost use Rattle.p3_merkle_tree.specs.Schemes.{proof_layer};
 ghost use Rattle.p3_support.specs.Pairs.{left_of};
 ghost use Rattle.p3_support.specs.Shown.{row_lists, row_sets};
-ghost use Rattle.p3_merkle_hiding.specs.HidingSchemes.{plain_of, salted_made, salted_pruned_made};
+ghost use Rattle.p3_merkle_hiding.specs.HidingSchemes.{plain_of, salted_made, salted_pruned_made, salted_terms_of};
 ghost use Rattle.p3_merkle_salts.specs.SaltedOpenings.{IsSaltedAccepted, IsSaltedPrunedAccepted};
-ghost use Rattle.p3_merkle_salts.specs.SaltedTrees.{left_batch, right_batch, HaveSaltColumns};
+ghost use Rattle.p3_merkle_salts.specs.SaltedTrees.{left_batch, right_batch, unsalted_dimensions, HaveSaltColumns};
 
 use crate::hiding_mmcs::{MerkleTreeHidingMmcs, SaltedMultiProof, SaltedProof, SaltedTree};
 use p3_merkle_core::error::MerkleTreeError;
@@ -59,14 +60,13 @@ impl<
             IfOk result (λ o. row_lists o.opening_proof.0.items ≡ salts) }
         ensures siblings { let s = shape (tree_batch tree.now) in
             let t = proof_layer (plain_of self.now) s in
-            IfOk result (λ o. o.opening_proof.1.items ≡ own_siblings s (layers_of tree.now) t index) }
-        ensures accepted { let f = scheme_functions H.hash C.compression D (plain_of self.now) in
+            IfOk result (λ o. o.opening_proof.1.items ≡ siblings_by (node_in [] (layers_of tree.now)) s t index) }
+        ensures accepted { let ds = unsalted_dimensions N (matrices_of tree.now) in
+            let c = salted_terms_of H.hash C.compression D self.now ds in
             let b = tree_batch tree.now in
-            let t = proof_layer (plain_of self.now) (shape b) in
-            let ds = dimensions_of (left_batch N (matrices_of tree.now)).matrices in
-            layers_of tree.now ≡ layers f b → HaveSaltColumns SALT_ELEMS (matrices_of tree.now) →
-            IfOk result (λ o. IsSaltedAccepted f N SALT_ELEMS ds t (layer f b t) (salted_made index o)) }
-        ensures memory { IfErr result (λ e. e ≡ OutOfMemory) }
+            IsOwn c b (layers_of tree.now) → HaveSaltColumns SALT_ELEMS (matrices_of tree.now) →
+            IfOk result (λ o. IsSaltedAccepted SALT_ELEMS ds c (cap_over c b) (salted_made index o)) }
+        ensures memory { AnswersUnlessMemory result None }
     {
         let pairs = self.plain.get_matrices(alloc, tree)?;
         let widths = left_widths(alloc, &pairs)?;
@@ -105,14 +105,13 @@ impl<
             IfOk result (λ o. row_sets o.1.0.items ≡ salts) }
         ensures digests { let s = shape (tree_batch tree.now) in
             let t = proof_layer (plain_of self.now) s in
-            IfOk result (λ o. o.1.1.sibling_hashes.items ≡ own_digests s (layers_of tree.now) indices.now t) }
-        ensures accepted { let f = scheme_functions H.hash C.compression D (plain_of self.now) in
+            IfOk result (λ o. o.1.1.sibling_hashes.items ≡ boundary_by (node_in [] (layers_of tree.now)) s indices.now t) }
+        ensures accepted { let ds = unsalted_dimensions N (matrices_of tree.now) in
+            let c = salted_terms_of H.hash C.compression D self.now ds in
             let b = tree_batch tree.now in
-            let t = proof_layer (plain_of self.now) (shape b) in
-            let ds = dimensions_of (left_batch N (matrices_of tree.now)).matrices in
-            layers_of tree.now ≡ layers f b → HaveSaltColumns SALT_ELEMS (matrices_of tree.now) →
-            IfOk result (λ o. IsSaltedPrunedAccepted f N SALT_ELEMS ds t (layer f b t) (salted_pruned_made indices.now o.0 o.1)) }
-        ensures memory { IfErr result (λ e. e ≡ OutOfMemory) }
+            IsOwn c b (layers_of tree.now) → HaveSaltColumns SALT_ELEMS (matrices_of tree.now) →
+            IfOk result (λ o. IsSaltedPrunedAccepted SALT_ELEMS ds c (cap_over c b) (salted_pruned_made indices.now o.0 o.1)) }
+        ensures memory { AnswersUnlessMemory result None }
     {
         let pairs = self.plain.get_matrices(alloc, tree)?;
         let widths = left_widths(alloc, &pairs)?;

@@ -1,7 +1,7 @@
 //! Rows and their salts as a check takes them: checked, joined, and beside the wider dimensions.
 
 ghost use Rattle.std.specs.Prelude.{◌≡◌, IfOk};
-ghost use Rattle.p3_merkle_builder.specs.Built.{OkUnlessRefused};
+ghost use Rattle.p3_merkle_core.specs.Refusals.{AnswersUnlessMemory};
 ghost use Rattle.p3_merkle_salts.specs.SaltRefusals.{salted_rows_refusal, salted_sets_refusal};
 ghost use Rattle.p3_merkle_salts.specs.SaltedOpenings.{salted_rows, salted_sets, widened};
 ghost use Rattle.p3_support.specs.Shown.{row_lists, row_sets};
@@ -36,7 +36,7 @@ impl<T: Copy> SaltedRows<T> {
         rows: &[Vec<T>],
         salts: &[Vec<T>],
     ) -> Result<SaltedRows<T>, MerkleTreeError>
-        ensures answer { OkUnlessRefused result
+        ensures answer { AnswersUnlessMemory result
             (salted_rows_refusal salt_elems dimensions.now (row_lists rows.now) (row_lists salts.now)) }
         ensures dimensions { IfOk result (λ s. s.dimensions.items ≡ widened salt_elems dimensions.now) }
         ensures rows { IfOk result (λ s. row_lists s.rows.items ≡ salted_rows (row_lists rows.now) (row_lists salts.now)) }
@@ -73,7 +73,7 @@ impl<T: Copy> SaltedSets<T> {
         sets: &[Vec<Vec<T>>],
         salts: &[Vec<Vec<T>>],
     ) -> Result<SaltedSets<T>, MerkleTreeError>
-        ensures answer { OkUnlessRefused result
+        ensures answer { AnswersUnlessMemory result
             (salted_sets_refusal salt_elems dimensions.now (row_sets sets.now) (row_sets salts.now)) }
         ensures dimensions { IfOk result (λ s. s.dimensions.items ≡ widened salt_elems dimensions.now) }
         ensures sets { IfOk result (λ s. row_sets s.sets.items ≡ salted_sets (row_sets sets.now) (row_sets salts.now)) }

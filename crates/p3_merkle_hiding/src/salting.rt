@@ -1,8 +1,8 @@
 //! Matrices that get their salts, once their heights and widths are checked.
 
 ghost use Rattle.std.specs.Prelude.{◌≡◌, ◌≤◌, ◌⊎◌, IfErr, IfOk, OnOk, map};
-ghost use Rattle.p3_merkle_builder.specs.Built.{OkUnlessRefused};
-ghost use Rattle.p3_merkle_builder.specs.Views.{matrix_of};
+ghost use Rattle.p3_merkle_core.specs.Refusals.{AnswersUnlessMemory};
+ghost use Rattle.p3_merkle_layers.specs.Views.{matrix_of};
 ghost use Rattle.p3_merkle_core.specs.Nodes.{dimensions_of};
 ghost use Rattle.p3_merkle_core.specs.declared.error.MerkleTreeError.TheVariants.{OutOfMemory};
 ghost use Rattle.p3_support.specs.Pairs.{left_of};
@@ -40,7 +40,7 @@ pub(crate) fn checked_pairs<T: SaltWord, M: Matrix<T> + Drop, R: Rng>(
 ) -> Result<Vec<HorizontalPair<T, M, RowMajorMatrix<T>>>, MerkleTreeError>
     requires { 1 ≤ salt_elems }
     ensures answer { let ms = map (matrix_of M.height_of M.width_of M.row_of) matrices.items in
-        OkUnlessRefused result (salted_commit_refusal salt_elems (dimensions_of ms)) }
+        AnswersUnlessMemory result (salted_commit_refusal salt_elems (dimensions_of ms)) }
     ensures matrices { IfOk result (λ pairs. map left_of pairs.items ≡ matrices.items) }
     ensures columns { IfOk result (λ pairs. HaveSaltColumns salt_elems pairs.items) }
     ensures salted { let ms = map (matrix_of M.height_of M.width_of M.row_of) matrices.items in

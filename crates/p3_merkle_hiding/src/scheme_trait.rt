@@ -2,20 +2,19 @@
 
 ghost use Rattle.std.specs.Prelude.{◌≡◌, ◌<◌, All, IfErr, IfOk, IsOk, map};
 ghost use Rattle.p3_merkle_builder.specs.Parts.{layers_of, matrices_of, tree_batch};
-ghost use Rattle.p3_merkle_core.specs.Geometry.{heights, tallest};
+ghost use Rattle.p3_merkle_core.specs.Geometry.{heights, shape_of, tallest};
 ghost use Rattle.p3_merkle_core.specs.Nodes.{shape};
 ghost use Rattle.p3_merkle_core.specs.declared.error.MerkleTreeError.TheVariants.{OutOfMemory};
 ghost use Rattle.p3_merkle_tree.specs.CommitmentLaws.{at_same, row_in_matrix, tallest_at_index};
 ghost use Rattle.p3_merkle_tree.specs.Commitments.{halved_index, IsCommitment, IsSameScheme};
-ghost use Rattle.p3_merkle_tree.specs.Schemes.{proof_layer, scheme_functions};
+ghost use Rattle.p3_merkle_tree.specs.Schemes.{cap_of, scheme_functions, terms_over};
 ghost use Rattle.p3_support.specs.Batches.{greatest_height};
 ghost use Rattle.p3_support.specs.Pairs.{left_of};
 ghost use Rattle.p3_support.specs.Shown.{roots_of, row_lists, row_sets};
-ghost use Rattle.p3_merkle_hiding.specs.HidingSchemes.{plain_of, salted_lent};
+ghost use Rattle.p3_merkle_hiding.specs.HidingSchemes.{plain_of, salted_lent, salted_terms_of};
 ghost use Rattle.p3_merkle_hiding.specs.SaltedCommitmentLaws.{each_salted_shown, left_lawful, salted_rows_fit, same_plain_is_equivalence};
 ghost use Rattle.p3_merkle_hiding.specs.SaltedCommitments.{CanCommitSalted, IsSaltedCommitment, IsSaltedShown};
-ghost use Rattle.p3_merkle_hiding.specs.SaltedExtraction.{wide_shape};
-ghost use Rattle.p3_merkle_salts.specs.SaltedOpenings.{salted_of, salted_pruned_of, IsSaltedAccepted, IsSaltedPrunedAccepted};
+ghost use Rattle.p3_merkle_salts.specs.SaltedOpenings.{salted_of, salted_pruned_of, widened, IsSaltedAccepted, IsSaltedPrunedAccepted};
 
 use crate::hiding_mmcs::{MerkleTreeHidingMmcs, SaltedMultiProof, SaltedProof, SaltedTree};
 use p3_merkle_builder::tree::Tree;
@@ -66,20 +65,19 @@ where
     ghost matrices_in = { λ tree. map left_of (matrices_of tree) };
 
     ghost commits_to = { λ s cap tree. let b = tree_batch tree in
-        IsSaltedCommitment (scheme_functions H.hash C.compression D (plain_of s)) (proof_layer (plain_of s) (shape b)) SALT_ELEMS
-        (roots_of cap) b (layers_of tree) (matrices_of tree) };
+        IsSaltedCommitment SALT_ELEMS (terms_over H.hash C.compression D (plain_of s) (shape b)) (roots_of cap) b (layers_of tree) (matrices_of tree) };
 
     ghost row_at = { halved_index };
 
-    ghost is_shown = { λ s cap dimensions index rows. let t = proof_layer (plain_of s) (wide_shape N SALT_ELEMS dimensions) in
-        IsSaltedShown (scheme_functions H.hash C.compression D (plain_of s)) N SALT_ELEMS dimensions t (roots_of cap) index rows };
+    ghost is_shown = { λ s cap dimensions index rows.
+        IsSaltedShown SALT_ELEMS dimensions (salted_terms_of H.hash C.compression D s dimensions) (roots_of cap) index rows };
 
-    ghost accepts = { λ s cap dimensions index rows proof. let t = proof_layer (plain_of s) (wide_shape N SALT_ELEMS dimensions) in
-        IsSaltedAccepted (scheme_functions H.hash C.compression D (plain_of s)) N SALT_ELEMS dimensions t (roots_of cap)
+    ghost accepts = { λ s cap dimensions index rows proof.
+        IsSaltedAccepted SALT_ELEMS dimensions (salted_terms_of H.hash C.compression D s dimensions) (roots_of cap)
         (salted_of index rows (row_lists proof.0.items) proof.1.items) };
 
-    ghost accepts_all = { λ s cap dimensions indices sets proof. let t = proof_layer (plain_of s) (wide_shape N SALT_ELEMS dimensions) in
-        IsSaltedPrunedAccepted (scheme_functions H.hash C.compression D (plain_of s)) N SALT_ELEMS dimensions t (roots_of cap)
+    ghost accepts_all = { λ s cap dimensions indices sets proof.
+        IsSaltedPrunedAccepted SALT_ELEMS dimensions (salted_terms_of H.hash C.compression D s dimensions) (roots_of cap)
         (salted_pruned_of indices sets (row_sets proof.0.items) proof.1.sibling_hashes.items) };
 
     fn commit(
@@ -90,9 +88,8 @@ where
         ensures agrees { IsSameScheme (plain_of self.old) (plain_of self.new) }
         ensures taken { IfOk result (λ made. CanCommitSalted M.height_of M.width_of M.row_of SALT_ELEMS matrices.items) }
         ensures matrices { IfOk result (λ made. map left_of (matrices_of made.1) ≡ matrices.items) }
-        ensures commitment { let f = scheme_functions H.hash C.compression D (plain_of self.new) in
-            IfOk result (λ made. let b = tree_batch made.1 in
-            IsSaltedCommitment f (proof_layer (plain_of self.new) (shape b)) SALT_ELEMS (roots_of made.0) b (layers_of made.1) (matrices_of made.1)) }
+        ensures commitment { IfOk result (λ made. let b = tree_batch made.1 in
+            IsSaltedCommitment SALT_ELEMS (terms_over H.hash C.compression D (plain_of self.new) (shape b)) (roots_of made.0) b (layers_of made.1) (matrices_of made.1)) }
         ensures memory { CanCommitSalted M.height_of M.width_of M.row_of SALT_ELEMS matrices.items →
             IfErr result (λ e. e ≡ OutOfMemory) }
     {
@@ -129,11 +126,9 @@ where
         index: usize,
         opening: BatchOpeningRef<'_, P::Value, Self::Proof>,
     ) -> Result<(), Self::Error>
-        ensures accepted { let t = proof_layer (plain_of self.now) (wide_shape N SALT_ELEMS dimensions.now) in
-            IsOk result → IsSaltedAccepted (scheme_functions H.hash C.compression D (plain_of self.now)) N SALT_ELEMS dimensions.now t
+        ensures accepted { IsOk result → IsSaltedAccepted SALT_ELEMS dimensions.now (salted_terms_of H.hash C.compression D self.now dimensions.now)
             (roots_of commitment.now) (salted_lent index opening.entry) }
-        ensures memory { let t = proof_layer (plain_of self.now) (wide_shape N SALT_ELEMS dimensions.now) in
-            IsSaltedAccepted (scheme_functions H.hash C.compression D (plain_of self.now)) N SALT_ELEMS dimensions.now t
+        ensures memory { IsSaltedAccepted SALT_ELEMS dimensions.now (salted_terms_of H.hash C.compression D self.now dimensions.now)
             (roots_of commitment.now) (salted_lent index opening.entry) → IfErr result (λ e. e ≡ OutOfMemory) }
     {
         self.verify_batch(alloc, commitment, dimensions, index, opening)
@@ -169,28 +164,27 @@ where
     ghost shown_by_one = { λ s cap dimensions index rows proof accepted. (row_lists proof.0.items, proof.1.items, accepted) };
 
     ghost shown_by_all = { λ s cap dimensions indices sets proof accepted.
-        each_salted_shown (scheme_functions H.hash C.compression D (plain_of s)) N SALT_ELEMS dimensions
-        (proof_layer (plain_of s) (wide_shape N SALT_ELEMS dimensions)) (roots_of cap)
+        each_salted_shown SALT_ELEMS dimensions (salted_terms_of H.hash C.compression D s dimensions) (roots_of cap)
         (salted_pruned_of indices sets (row_sets proof.0.items) proof.1.sibling_hashes.items) accepted };
 
     ghost shown_fits = { λ s cap dimensions index rows.
-        salted_rows_fit (scheme_functions H.hash C.compression D (plain_of s)) N SALT_ELEMS dimensions
-        (proof_layer (plain_of s) (wide_shape N SALT_ELEMS dimensions)) (roots_of cap) index rows };
+        salted_rows_fit (scheme_functions H.hash C.compression D (plain_of s)) N SALT_ELEMS
+        (cap_of (plain_of s) (widened SALT_ELEMS dimensions)) dimensions (roots_of cap) index rows };
 
     ghost agreement = { same_plain_is_equivalence };
 
     ghost agreed_commitment = { λ s t cap tree same own. let b = tree_batch tree in record {
-      committed = at_same H.hash C.compression D (shape b) (plain_of s) (plain_of t) (λ f l. IsCommitment f l (roots_of cap) b (layers_of tree)) same own.committed;
+      committed = at_same H.hash C.compression D (shape b) (plain_of s) (plain_of t) (λ c. IsCommitment c (roots_of cap) b (layers_of tree)) same own.committed;
       columns = own.columns;
     } };
 
     ghost agreed_proof = { λ s t cap dimensions index rows proof.
-        at_same H.hash C.compression D (wide_shape N SALT_ELEMS dimensions) (plain_of s) (plain_of t)
-        (λ f l. IsSaltedAccepted f N SALT_ELEMS dimensions l (roots_of cap) (salted_of index rows (row_lists proof.0.items) proof.1.items)) };
+        at_same H.hash C.compression D (shape_of N (widened SALT_ELEMS dimensions)) (plain_of s) (plain_of t)
+        (λ c. IsSaltedAccepted SALT_ELEMS dimensions c (roots_of cap) (salted_of index rows (row_lists proof.0.items) proof.1.items)) };
 
     ghost agreed_proof_of_all = { λ s t cap dimensions indices sets proof.
-        at_same H.hash C.compression D (wide_shape N SALT_ELEMS dimensions) (plain_of s) (plain_of t)
-        (λ f l. IsSaltedPrunedAccepted f N SALT_ELEMS dimensions l (roots_of cap)
+        at_same H.hash C.compression D (shape_of N (widened SALT_ELEMS dimensions)) (plain_of s) (plain_of t)
+        (λ c. IsSaltedPrunedAccepted SALT_ELEMS dimensions c (roots_of cap)
         (salted_pruned_of indices sets (row_sets proof.0.items) proof.1.sibling_hashes.items)) };
 }
 

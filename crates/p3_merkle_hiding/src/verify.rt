@@ -1,14 +1,9 @@
 //! The checks of salted openings: rows and salts by themselves, then the plain check of rows followed by their salts.
 
-ghost use Rattle.std.specs.Prelude.{◌≡◌, IfErr, IsOk};
-ghost use Rattle.p3_merkle_core.specs.Geometry.{shape_of};
-ghost use Rattle.p3_merkle_core.specs.declared.error.MerkleTreeError.TheVariants.{OutOfMemory};
-ghost use Rattle.p3_merkle_builder.specs.Built.{OkUnlessRefused};
-ghost use Rattle.p3_merkle_tree.specs.Schemes.{proof_layer, scheme_functions};
+ghost use Rattle.p3_merkle_core.specs.Presented.{IsVerdict};
 ghost use Rattle.p3_support.specs.Shown.{roots_of};
-ghost use Rattle.p3_merkle_hiding.specs.HidingSchemes.{plain_of, salted_lent, salted_pruned_lent};
-ghost use Rattle.p3_merkle_salts.specs.SaltRefusals.{salted_pruned_refusal_under, salted_refusal_under};
-ghost use Rattle.p3_merkle_salts.specs.SaltedOpenings.{widened, IsSaltedAccepted, IsSaltedPrunedAccepted};
+ghost use Rattle.p3_merkle_hiding.specs.HidingSchemes.{salted_lent, salted_pruned_lent, salted_terms_of};
+ghost use Rattle.p3_merkle_salts.specs.SaltedPresented.{presented_salted, presented_salted_pruned};
 
 use crate::hiding_mmcs::{MerkleTreeHidingMmcs, SaltedMultiProof, SaltedProof};
 use crate::salted::{SaltedRows, SaltedSets};
@@ -56,18 +51,9 @@ impl<
         index: usize,
         opening: BatchOpeningRef<'_, P::Value, SaltedProof<P::Value, PW::Value, D>>,
     ) -> Result<(), MerkleTreeError>
-        ensures answer { let f = scheme_functions H.hash C.compression D (plain_of self.now) in
-            let t = proof_layer (plain_of self.now) (shape_of N (widened SALT_ELEMS dimensions.now)) in
-            OkUnlessRefused result
-            (salted_refusal_under PW.Value.eq f N SALT_ELEMS dimensions.now t (roots_of commit.now) (salted_lent index opening.entry)) }
-        ensures accepted { let f = scheme_functions H.hash C.compression D (plain_of self.now) in
-            let t = proof_layer (plain_of self.now) (shape_of N (widened SALT_ELEMS dimensions.now)) in
-            IsOk result →
-            IsSaltedAccepted f N SALT_ELEMS dimensions.now t (roots_of commit.now) (salted_lent index opening.entry) }
-        ensures taken { let f = scheme_functions H.hash C.compression D (plain_of self.now) in
-            let t = proof_layer (plain_of self.now) (shape_of N (widened SALT_ELEMS dimensions.now)) in
-            IsSaltedAccepted f N SALT_ELEMS dimensions.now t (roots_of commit.now) (salted_lent index opening.entry) →
-            IfErr result (λ e. e ≡ OutOfMemory) }
+        ensures { let c = salted_terms_of H.hash C.compression D self.now dimensions.now in
+            let o = salted_lent index opening.entry in
+            IsVerdict (presented_salted PW.Value.eq SALT_ELEMS dimensions.now c (roots_of commit.now) o) result }
     {
         let (rows, (salts, siblings)) = opening.unpack();
         let salted = SaltedRows::new(alloc, dimensions, SALT_ELEMS, rows, salts)?;
@@ -102,20 +88,9 @@ impl<
         rows: &[Vec<Vec<P::Value>>],
         proof: &SaltedMultiProof<P::Value, PW::Value, D>,
     ) -> Result<(), MerkleTreeError>
-        ensures answer { let f = scheme_functions H.hash C.compression D (plain_of self.now) in
-            let t = proof_layer (plain_of self.now) (shape_of N (widened SALT_ELEMS dimensions.now)) in
+        ensures { let c = salted_terms_of H.hash C.compression D self.now dimensions.now in
             let p = salted_pruned_lent indices.now rows.now proof.now in
-            OkUnlessRefused result
-            (salted_pruned_refusal_under P.Value.eq PW.Value.eq f N SALT_ELEMS dimensions.now t (roots_of commit.now) p) }
-        ensures accepted { let f = scheme_functions H.hash C.compression D (plain_of self.now) in
-            let t = proof_layer (plain_of self.now) (shape_of N (widened SALT_ELEMS dimensions.now)) in
-            let p = salted_pruned_lent indices.now rows.now proof.now in
-            IsOk result → IsSaltedPrunedAccepted f N SALT_ELEMS dimensions.now t (roots_of commit.now) p }
-        ensures taken { let f = scheme_functions H.hash C.compression D (plain_of self.now) in
-            let t = proof_layer (plain_of self.now) (shape_of N (widened SALT_ELEMS dimensions.now)) in
-            let p = salted_pruned_lent indices.now rows.now proof.now in
-            IsSaltedPrunedAccepted f N SALT_ELEMS dimensions.now t (roots_of commit.now) p →
-            IfErr result (λ e. e ≡ OutOfMemory) }
+            IsVerdict (presented_salted_pruned P.Value.eq PW.Value.eq SALT_ELEMS dimensions.now c (roots_of commit.now) p) result }
     {
         let (salts, pruned) = proof;
         let salted = SaltedSets::new(alloc, dimensions, SALT_ELEMS, rows, salts)?;

@@ -11,6 +11,7 @@ use p3_support::hasher::CryptographicHasher;
 use p3_support::matrix::Matrix;
 use p3_support::packed::PackedValue;
 use p3_support::rows::rows_of;
+ghost use Rattle.p3_merkle_core.specs.Refusals.{rows_of};
 
 /// How many rows are lent side by side at most.
 const MAX_PIECES: usize = 16;

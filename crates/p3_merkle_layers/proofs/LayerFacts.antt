@@ -9,13 +9,14 @@ use Rattle.std.proofs.Math.Nat.{mul-le-mul_left, mul-suc}
 use Rattle.p3_support.specs.Lists.{rows_of_height}
 use Rattle.std.proofs.lemmas.Simd.{map-map}
 use Rattle.p3_merkle_core.specs.Geometry.{heights, exponent, tallest, layer_exponent, step, raw_len, layer_len, expected_height, has_rows, IsLawful}
-use Rattle.p3_merkle_core.specs.Nodes.{Functions, Batch, shape, at_layer, joined_rows, row_digest, with_rows, compress, node, children, layer}
+use Rattle.p3_merkle_core.specs.Nodes.{Functions, Batch, shape, at_layer, joined_rows, row_digest, with_rows, compress, node, layer}
 use Rattle.p3_merkle_core.proofs.Completeness.{node_next}
 use Rattle.p3_merkle_core.proofs.StepFacts.{layer_start}
 use Rattle.p3_merkle_layers.specs.Views.{batch_of, matrix_of}
 use Rattle.p3_merkle_core.specs.Levels.{IsLevel, height_at}
 use Rattle.p3_merkle_layers.specs.Levels.{node_above}
 use Rattle.p3_merkle_core.specs.declared.levels.Level.{Level}
+use Rattle.p3_merkle_core.specs.Openings.{children_by}
 
 -- two functions that agree below n make the same list
 pub same_made : {X : Type 0} (f g : ℕ → X) (n : ℕ) → ((k : ℕ) → k < n → f k ≡ g k) → map f (range_with_len 0 n) ≡ map g (range_with_len 0 n)
@@ -131,7 +132,7 @@ agree height top x (m ∷ ms) on (suc k) d b e = agree height top x ms (λ i z l
 node_past : {T W : Type 0} (f : Functions T W) (b : Batch T) (l j : ℕ) → raw_len (shape b) (suc l) ≤ j → node f b (suc l) j ≡ f.default_digest
 unfolding node
 node_past f b l j h =
-    cond-false (nat_lt j (raw_len (shape b) (suc l))) (with_rows f b.arity (has_rows (shape b) (suc l)) (compress f b.arity (children f b l j)) (row_digest f (at_layer b (suc l)) j)) f.default_digest (le-ltb j (raw_len (shape b) (suc l)) h)
+    cond-false (nat_lt j (raw_len (shape b) (suc l))) (with_rows f b.arity (has_rows (shape b) (suc l)) (compress f b.arity (children_by (node f b) (shape b) l j)) (row_digest f (at_layer b (suc l)) j)) f.default_digest (le-ltb j (raw_len (shape b) (suc l)) h)
 
 -- a slot of the first layer
 node_first : {T W : Type 0} (f : Functions T W) (b : Batch T) (j : ℕ) → node f b 0 j ≡ cond (nat_lt j (tallest (heights (shape b)))) (f.hash (joined_rows (at_layer b 0) j)) f.default_digest
@@ -158,7 +159,7 @@ module _ {T W M : Type 0} (f : Functions T W) (n : ℕ) (height width_of : M →
       let l = v.below in
       let top = tallest (heights s) in
       let x = layer_exponent s (suc l) in
-      let group = children f whole l j in
+      let group = children_by (node f whole) (shape whole) l j in
       let c = compress f n group in
       let more : v.step * suc j ≤ v.step * v.raw_len = mul-le-mul_left v.step h in
       let inside : step s l * j + step s l ≤ layer_len s l = rw (← k.step_is) (omega (arith, more, k.fits, mul-suc v.step j)) in

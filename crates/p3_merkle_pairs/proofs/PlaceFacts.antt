@@ -3,7 +3,7 @@ use Rattle.std.proofs.Common.{◌≡◌, ◌∙◌, ℕ, zero, suc, ◌+◌, ◌
 use Rattle.std.specs.List.{range_with_len}
 use Rattle.std.specs.Option.{option_or, option_map}
 use Rattle.std.proofs.lemmas.Bool.{cases_eq}
-use Rattle.p3_merkle_core.specs.Extracting.{first_pair}
+use Rattle.p3_merkle_core.specs.Extraction.{first_pair}
 use Rattle.p3_merkle_core.specs.Refusals.{first_of}
 use Rattle.p3_merkle_core.proofs.Unrefused.{all_in_range}
 use Rattle.p3_merkle_pairs.specs.Pairs.{first_place}

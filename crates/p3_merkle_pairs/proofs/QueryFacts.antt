@@ -4,15 +4,15 @@ use Rattle.std.specs.Prelude.{Ok, Err, Result, MatchResult, slice_index_or}
 use Rattle.std.specs.Option.{option_or}
 use Rattle.std.specs.declared.vec.Vec.{Vec}
 use Rattle.std.proofs.lemmas.List.{get_or-map, length-map}
-use Rattle.p3_support.specs.Shown.{row_lists}
-use Rattle.p3_merkle_core.specs.Children.{shown_path, shown_paths}
-use Rattle.p3_merkle_core.specs.Extracting.{difference_at, extraction_multi_under, first_pair, input_eq, last_difference, ok_unless}
+use Rattle.p3_support.specs.Shown.{row_lists, row_sets}
+use Rattle.p3_merkle_core.specs.Views.{shown_path, shown_paths}
+use Rattle.p3_merkle_core.specs.Extraction.{difference_of, first_pair}
 use Rattle.p3_merkle_core.specs.Geometry.{Shape}
 use Rattle.p3_merkle_checker.specs.Paths.{CanCheck}
 use Rattle.p3_merkle_core.specs.Nodes.{Functions}
-use Rattle.p3_merkle_core.specs.Openings.{Input, Opening, opening_of, shared_inputs}
-use Rattle.p3_merkle_core.specs.PrunedCalls.{restored_paths, row_sets}
-use Rattle.p3_merkle_core.specs.Pruning.{PrunedOpening, opening_at, restored_path}
+use Rattle.p3_merkle_core.specs.Openings.{Opening, opening_of}
+use Rattle.p3_merkle_core.specs.Checks.{Input, terms}
+use Rattle.p3_merkle_core.specs.Pruning.{PrunedOpening, opening_at, restored_path, restored_paths}
 use Rattle.p3_merkle_core.specs.Refusals.{IsEquality, pruned_refusal_under, verdict}
 use Rattle.p3_merkle_core.specs.declared.error.MerkleTreeError.{MerkleTreeError}
 use Rattle.p3_merkle_core.specs.declared.error.MerkleTreeError.TheVariants.{OutOfMemory}
@@ -20,8 +20,8 @@ use Rattle.p3_merkle_core.specs.declared.pruning.AuthPath.{AuthPath}
 use Rattle.p3_merkle_core.proofs.NoneFacts.{none_parts}
 use Rattle.p3_merkle_core.proofs.Verdicts.{pruned_accepted}
 use Rattle.p3_merkle_checker.specs.Collisions.{Shows}
-use Rattle.p3_merkle_checker.specs.declared.collision.InputPair.{InputPair}
-use Rattle.p3_merkle_pairs.specs.Pairs.{difference_of, query_in, AnswersPairUnlessMemory, AreQueriesOf, CanCompare, ShowsPair}
+use Rattle.p3_merkle_core.specs.declared.collision.InputPair.{InputPair}
+use Rattle.p3_merkle_pairs.specs.Pairs.{query_difference, query_in, AreQueriesOf, CanCompare, ShowsPair}
 use Rattle.p3_merkle_pairs.specs.declared.pairs.RestoredQueries.{RestoredQueries}
 use Rattle.p3_merkle_pruner.proofs.GroupFacts.{set_read}
 use Rattle.p3_merkle_pairs.proofs.PlaceFacts.{pairs_alike}
@@ -39,37 +39,40 @@ query_read {T} {W} sets paths k rows path in_sets in_paths is_rows is_path =
 
 module _ {T W : Type 0} (eq : T → T → Bool) (same : W → W → Bool) (f : Functions T W) (s : Shape) (t : ℕ) where
   -- the last difference of two checks
-  difference_is : (o u v : Opening T W) → u ≡ v → last_difference (input_eq eq same) (shared_inputs f s t o.index u.index o) (shared_inputs f s t o.index u.index u) ≡ difference_of eq same f s t o v
-  unfolding difference_of
-  difference_is o u v e = ap (difference_of eq same f s t o) e
+  difference_is : (o u v : Opening T W) → u ≡ v → difference_of eq same (terms f s t) o u ≡ query_difference eq same f s t o v
+  unfolding query_difference
+  difference_is o u v e = ap (query_difference eq same f s t o) e
 
   -- what is found shows it
-  pub shows_query : (found : Option (InputPair T (List W))) (o u v : Opening T W) → u ≡ v → Shows found (last_difference (input_eq eq same) (shared_inputs f s t o.index u.index o) (shared_inputs f s t o.index u.index u)) →
-      Shows found (difference_of eq same f s t o v)
+  pub shows_query : (found : Option (InputPair T (List W))) (o u v : Opening T W) → u ≡ v → Shows found (difference_of eq same (terms f s t) o u) → Shows found (query_difference eq same f s t o v)
   shows_query found o u v e shown = subst (Shows found) (difference_is o u v e) shown
 
-  difference_at_is : (p r : PrunedOpening T W) (a b : ℕ) → difference_of eq same f s t (opening_at f s t p a) (opening_at f s t r b) ≡ difference_at eq same f s t p r a b
-  unfolding difference_of
+  -- the difference of two queries by their restored paths
+  abbrev difference_at : PrunedOpening T W → PrunedOpening T W → ℕ → ℕ → Option (Input T W × Input T W)
+  difference_at p r a b = difference_of eq same (terms f s t) (opening_at (terms f s t) p a) (opening_at (terms f s t) r b)
+
+  difference_at_is : (p r : PrunedOpening T W) (a b : ℕ) → query_difference eq same f s t (opening_at (terms f s t) p a) (opening_at (terms f s t) r b) ≡ difference_at p r a b
+  unfolding query_difference
   difference_at_is p r a b = refl
 
   -- ---- one opening
 
   -- what is restored is read query by query
-  pub restored : (p : PrunedOpening T W) (queries : RestoredQueries T (List W)) → row_sets queries.sets.now ≡ p.rows → shown_paths queries.paths.items ≡ restored_paths f s t p → AreQueriesOf f s t p queries
+  pub restored : (p : PrunedOpening T W) (queries : RestoredQueries T (List W)) → row_sets queries.sets.now ≡ p.rows → shown_paths queries.paths.items ≡ restored_paths (terms f s t) p → AreQueriesOf f s t p queries
   restored p queries rows shown =
-      let both : ℕ → ℕ × List (List W) = λ i. (i, restored_path f s t p i) in
+      let both : ℕ → ℕ × List (List W) = λ i. (i, restored_path (terms f s t) p i) in
       record {
         as_many = sym (length-map queries.paths.items shown_path) ∙ ap length shown ∙ length-map p.indices both;
         each = λ k h.
             let at : slice_index_or (shown_paths queries.paths.items) k (0, []) ≡ both (slice_index_or p.indices k 0) =
             ap (λ (z : List (ℕ × List (List W))). slice_index_or z k (0, [])) shown ∙ get_or-map both p.indices k 0 (0, []) h in
             ap (λ (z : ℕ × List (List W)). opening_of z.0 (slice_index_or (row_sets queries.sets.now) k []) z.1) at
-            ∙ ap (λ (z : List (List (List T))). opening_of (slice_index_or p.indices k 0) (slice_index_or z k []) (restored_path f s t p (slice_index_or p.indices k 0))) rows;
+            ∙ ap (λ (z : List (List (List T))). opening_of (slice_index_or p.indices k 0) (slice_index_or z k []) (restored_path (terms f s t) p (slice_index_or p.indices k 0))) rows;
       }
 
   -- so the queries can be compared where the opening is accepted
-  pub comparable : (cap : List (List W)) (p : PrunedOpening T W) (queries : RestoredQueries T (List W)) → IsEquality eq → IsEquality same → CanCheck s t → pruned_refusal_under eq same f s t cap p ≡ None →
-      row_sets queries.sets.now ≡ p.rows → shown_paths queries.paths.items ≡ restored_paths f s t p → CanCompare s t queries
+  pub comparable : (cap : List (List W)) (p : PrunedOpening T W) (queries : RestoredQueries T (List W)) → IsEquality eq → IsEquality same → CanCheck s t → pruned_refusal_under eq same (terms f s t) cap p ≡ None →
+      row_sets queries.sets.now ≡ p.rows → shown_paths queries.paths.items ≡ restored_paths (terms f s t) p → CanCompare s t queries
   comparable cap p queries dec dec_w w none rows shown =
       let accepted = (pruned_accepted eq same f s t cap p dec dec_w w.arity).0 (ap verdict none) in
       let are = restored p queries rows shown in
@@ -82,15 +85,15 @@ module _ {T W : Type 0} (eq : T → T → Bool) (same : W → W → Bool) (f : F
 
   -- ---- two openings
 
-  differ_alike : (p r : PrunedOpening T W) (first second : RestoredQueries T (List W)) → AreQueriesOf f s t p first → AreQueriesOf f s t r second →
-      first_pair (λ a b. difference_of eq same f s t (query_in first a) (query_in second b)) (length first.paths.items) (length second.paths.items)
-      ≡ first_pair (difference_at eq same f s t p r) (length p.indices) (length r.indices)
+  pub differ_alike : (p r : PrunedOpening T W) (first second : RestoredQueries T (List W)) → AreQueriesOf f s t p first → AreQueriesOf f s t r second →
+      first_pair (λ a b. query_difference eq same f s t (query_in first a) (query_in second b)) (length first.paths.items) (length second.paths.items)
+      ≡ first_pair (difference_at p r) (length p.indices) (length r.indices)
   differ_alike p r first second are are_2 =
-      let d : ℕ → ℕ → Option (Input T W × Input T W) = λ a b. difference_of eq same f s t (query_in first a) (query_in second b) in
+      let d : ℕ → ℕ → Option (Input T W × Input T W) = λ a b. query_difference eq same f s t (query_in first a) (query_in second b) in
       ap (λ (n : ℕ). first_pair d n (length second.paths.items)) are.as_many ∙ ap (λ (m : ℕ). first_pair d (length p.indices) m) are_2.as_many
-      ∙ pairs_alike d (difference_at eq same f s t p r) (length p.indices) (length r.indices) (λ a b h g.
-      ap (λ (z : Opening T W). difference_of eq same f s t z (query_in second b)) (are.each a h)
-      ∙ ap (λ (z : Opening T W). difference_of eq same f s t (opening_at f s t p a) z) (are_2.each b g) ∙ difference_at_is p r a b)
+      ∙ pairs_alike d (difference_at p r) (length p.indices) (length r.indices) (λ a b h g.
+      ap (λ (z : Opening T W). query_difference eq same f s t z (query_in second b)) (are.each a h)
+      ∙ ap (λ (z : Opening T W). query_difference eq same f s t (opening_at (terms f s t) p a) z) (are_2.each b g) ∙ difference_at_is p r a b)
 
 -- ---- answers
 
@@ -101,16 +104,9 @@ restored_answer (Ok v) x y none a = none
 restored_answer (Err e) x y none (inl m) = inl m
 restored_answer (Err e) x y none (inr some) = let first = (none_parts x y none).0 in absurd cc
 
-neither_refused : {X E : Type 0} (x y : Option E) (v : X) → x ≡ None → y ≡ None → ok_unless (option_or x y) v ≡ Ok v
-neither_refused x y v a b = rw (a, b) refl
-
--- two that are accepted are answered
-pub both_answered : {T W : Type 0} (eq : T → T → Bool) (same : W → W → Bool) (f : Functions T W) (s : Shape) (t : ℕ) (cap : List (List W)) (p r : PrunedOpening T W) (first second : RestoredQueries T (List W))
-    (found : Option (ℕ × ℕ × InputPair T (List W))) →
-    pruned_refusal_under eq same f s t cap p ≡ None → pruned_refusal_under eq same f s t cap r ≡ None → AreQueriesOf f s t p first → AreQueriesOf f s t r second →
-    ShowsPair found (first_pair (λ a b. difference_of eq same f s t (query_in first a) (query_in second b)) (length first.paths.items) (length second.paths.items)) →
-    AnswersPairUnlessMemory (Ok found) (extraction_multi_under eq same f s t cap p r)
-both_answered eq same f s t cap p r first second found a b are are_2 shown =
-    let v = first_pair (difference_at eq same f s t p r) (length p.indices) (length r.indices) in
-    let answer = neither_refused (pruned_refusal_under eq same f s t cap p) (pruned_refusal_under eq same f s t cap r) v a b in
-    subst (AnswersPairUnlessMemory (Ok found)) (sym answer) (subst (ShowsPair found) (differ_alike eq same f s t p r first second are are_2) shown)
+-- what is found in the queries of both is the first difference
+pub found_in_both : {T W : Type 0} (eq : T → T → Bool) (same : W → W → Bool) (f : Functions T W) (s : Shape) (t : ℕ) (p r : PrunedOpening T W) (first second : RestoredQueries T (List W)) (found : Option (ℕ × ℕ × InputPair T (List W))) →
+    AreQueriesOf f s t p first → AreQueriesOf f s t r second →
+    ShowsPair found (first_pair (λ a b. query_difference eq same f s t (query_in first a) (query_in second b)) (length first.paths.items) (length second.paths.items)) →
+    ShowsPair found (first_pair (λ a b. difference_of eq same (terms f s t) (opening_at (terms f s t) p a) (opening_at (terms f s t) r b)) (length p.indices) (length r.indices))
+found_in_both eq same f s t p r first second found are are_2 shown = subst (ShowsPair found) (differ_alike eq same f s t p r first second are are_2) shown

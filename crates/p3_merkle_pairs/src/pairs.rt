@@ -1,18 +1,20 @@
 //! Extraction from two pruned openings under one cap: the first pair of queries whose checks differ.
 
-ghost use Rattle.std.specs.Prelude.{◌≡◌, ◌<◌, ◌⊎◌, IfOk, MatchResult, None, Some, length, replicate};
-ghost use Rattle.p3_merkle_core.specs.Extracting.{extraction_multi_under, first_pair};
+ghost use Rattle.std.specs.Prelude.{◌≡◌, ◌<◌, IfOk, length, replicate};
+ghost use Rattle.std.specs.Option.{option_or};
+ghost use Rattle.p3_merkle_core.specs.Checks.{terms};
+ghost use Rattle.p3_merkle_core.specs.Extraction.{difference_of, first_pair};
 ghost use Rattle.p3_merkle_core.specs.Geometry.{shape_of};
 ghost use Rattle.p3_merkle_core.specs.Nodes.{functions_of};
-ghost use Rattle.p3_merkle_core.specs.Refusals.{pruned_refusal_under};
-ghost use Rattle.p3_merkle_core.specs.declared.error.MerkleTreeError.TheVariants.{OutOfMemory};
+ghost use Rattle.p3_merkle_core.specs.Refusals.{pruned_refusal_under, AnswersUnlessMemory};
+ghost use Rattle.p3_merkle_core.specs.Pruning.{opening_at};
 ghost use Rattle.p3_merkle_checker.specs.Checks.{opening_in};
 ghost use Rattle.p3_merkle_checker.specs.Paths.{CanCheck, CanReach};
-ghost use Rattle.p3_merkle_pairs.specs.Pairs.{difference_of, first_place, pruned_in, query_in, AnswersPairUnlessMemory, AreQueriesOf, CanCompare, ShowsAt, ShowsPair};
+ghost use Rattle.p3_merkle_pairs.specs.Pairs.{query_difference, first_place, pruned_in, query_in, AreQueriesOf, CanCompare, ShowsAt, ShowsPair};
 
-use p3_merkle_checker::collision::Collision;
 use p3_merkle_checker::level::Checker;
 use p3_merkle_checker::openings::{IndexedOpening, OpeningPair};
+use p3_merkle_core::collision::Collision;
 use p3_merkle_core::error::MerkleTreeError;
 use p3_merkle_core::pruning::{AuthPath, PrunedProof};
 use p3_merkle_pruner::check::check_opening;
@@ -104,7 +106,7 @@ fn differing_query<
     ensures { let f = functions_of (H.hash checker.now.hash.now) (C.compression checker.now.compress.now) (replicate D PW.default_value) in
         let s = shape_of N dimensions.now in
         let o = opening_in first.entry in
-        let differs = first_place (λ b. difference_of P.Value.eq PW.Value.eq f s t o (query_in queries.now b)) (length queries.now.paths.items) in
+        let differs = first_place (λ b. query_difference P.Value.eq PW.Value.eq f s t o (query_in queries.now b)) (length queries.now.paths.items) in
         IfOk result (λ found. ShowsAt found differs) }
 {
     for place in 0..queries.paths.len() {
@@ -147,7 +149,7 @@ fn differing_pair<
     requires second { CanCompare (shape_of N dimensions.now) t second.now }
     ensures { let f = functions_of (H.hash checker.now.hash.now) (C.compression checker.now.compress.now) (replicate D PW.default_value) in
         let s = shape_of N dimensions.now in
-        let differ = first_pair (λ a b. difference_of P.Value.eq PW.Value.eq f s t (query_in first.now a) (query_in second.now b)) (length first.now.paths.items) (length second.now.paths.items) in
+        let differ = first_pair (λ a b. query_difference P.Value.eq PW.Value.eq f s t (query_in first.now a) (query_in second.now b)) (length first.now.paths.items) (length second.now.paths.items) in
         IfOk result (λ found. ShowsPair found differ) }
 {
     for place in 0..first.paths.len() {
@@ -185,8 +187,8 @@ fn checked_queries<
 ) -> Result<RestoredQueries<'a, P::Value, [PW::Value; D]>, MerkleTreeError>
     requires { CanCheck (shape_of N dimensions.now) t }
     ensures answer { let f = functions_of (H.hash checker.now.hash.now) (C.compression checker.now.compress.now) (replicate D PW.default_value) in
-        let refusal = pruned_refusal_under P.Value.eq PW.Value.eq f (shape_of N dimensions.now) t roots.now (pruned_in opening.entry) in
-        MatchResult result (λ queries. refusal ≡ None) (λ e. (e ≡ OutOfMemory) ⊎ (refusal ≡ Some e)) }
+        let refusal = pruned_refusal_under P.Value.eq PW.Value.eq (terms f (shape_of N dimensions.now) t) roots.now (pruned_in opening.entry) in
+        AnswersUnlessMemory result refusal }
     ensures comparable { IfOk result (λ queries. CanCompare (shape_of N dimensions.now) t queries) }
     ensures restored { let f = functions_of (H.hash checker.now.hash.now) (C.compression checker.now.compress.now) (replicate D PW.default_value) in
         IfOk result (λ queries. AreQueriesOf f (shape_of N dimensions.now) t (pruned_in opening.entry) queries) }
@@ -231,9 +233,15 @@ pub fn extraction<
     second: PrunedOpeningRef<'_, P::Value, [PW::Value; D]>,
 ) -> Result<Option<(usize, usize, Collision<P::Value, PW::Value, D>)>, MerkleTreeError>
     requires { CanCheck (shape_of N dimensions.now) t }
-    ensures { let f = functions_of (H.hash checker.now.hash.now) (C.compression checker.now.compress.now) (replicate D PW.default_value) in
-        let s = shape_of N dimensions.now in
-        AnswersPairUnlessMemory result (extraction_multi_under P.Value.eq PW.Value.eq f s t roots.now (pruned_in first.entry) (pruned_in second.entry)) }
+    ensures answer { let f = functions_of (H.hash checker.now.hash.now) (C.compression checker.now.compress.now) (replicate D PW.default_value) in
+        let refusal = pruned_refusal_under P.Value.eq PW.Value.eq (terms f (shape_of N dimensions.now) t) roots.now in
+        AnswersUnlessMemory result (option_or (refusal (pruned_in first.entry)) (refusal (pruned_in second.entry))) }
+    ensures found { let f = functions_of (H.hash checker.now.hash.now) (C.compression checker.now.compress.now) (replicate D PW.default_value) in
+        let c = terms f (shape_of N dimensions.now) t in
+        let p = pruned_in first.entry in
+        let r = pruned_in second.entry in
+        let difference = first_pair (λ a b. difference_of P.Value.eq PW.Value.eq c (opening_at c p a) (opening_at c r b)) (length p.indices) (length r.indices) in
+        IfOk result (λ found. ShowsPair found difference) }
 {
     let first = checked_queries::<P, PW, H, C, N, D>(alloc, checker, roots, dimensions, t, first)?;
     let second = checked_queries::<P, PW, H, C, N, D>(

@@ -5,8 +5,7 @@ use Rattle.std.specs.declared.vec.Vec.{Vec}
 use Rattle.std.proofs.lemmas.List.{map_more, get_or-map}
 use Rattle.std.proofs.lemmas.List.FromFn.{map-range_with_len_more}
 use Rattle.std.proofs.lemmas.Slice.Zip.{get_or-zip, length-zip}
-use Rattle.p3_support.specs.Shown.{row_lists}
-use Rattle.p3_merkle_core.specs.PrunedCalls.{row_sets}
+use Rattle.p3_support.specs.Shown.{row_lists, row_sets}
 
 -- one more of f 0, f 1 and so on
 pub one_more : {X : Type 0} (f : ℕ → X) (n : ℕ) (old new : List X) (x : X) → old ≡ map f (range_with_len 0 n) → new ≡ old ++ x ∷ [] → x ≡ f n → new ≡ map f (range_with_len 0 (n + 1))

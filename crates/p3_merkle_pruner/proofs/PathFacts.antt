@@ -9,6 +9,7 @@ use Rattle.p3_merkle_core.specs.declared.pruning.KeptLevel.{KeptLevel}
 use Rattle.p3_merkle_core.proofs.KeptFacts.{level_of}
 use Rattle.p3_merkle_pruner.specs.Walks.{AreKept, IsRestoredRise}
 use Rattle.p3_merkle_pruner.specs.declared.plan.Rise.{Rise}
+use Rattle.p3_merkle_core.specs.Checks.{terms}
 
 -- none at first
 pub kept_none : {T W : Type 0} (f : Functions T W) (s : Shape) (t : ℕ) (p : PrunedOpening T W) (levels : List (KeptLevel (List W))) → levels ≡ [] → AreKept f s t p 0 levels
@@ -24,6 +25,6 @@ pub kept_next : {T W : Type 0} (f : Functions T W) (s : Shape) (t : ℕ) (p : Pr
     AreKept f s t p (l + 1) new
 kept_next f s t p l old new level rise digests k up is a b c =
     let z : 0 + l ≡ l = omega arith in
-    let here = level_of s p.indices (value_of f s t p) in
+    let here = level_of s p.indices (value_of (terms f s t) p) in
     let last : shown_level level ≡ here l = λ i. ((b ∙ up.above_are.stands.nodes_are) i, (a ∙ up.step_is) i, (c ∙ up.values_are) i) in
     record { levels_are = ap (map shown_level) is ∙ map-append shown_level old (level ∷ []) ∙ rw (k.levels_are, last) (sym (map-range_with_len_more here 0 l l z)) }

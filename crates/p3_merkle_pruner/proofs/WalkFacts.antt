@@ -14,6 +14,7 @@ use Rattle.p3_merkle_core.proofs.StepFacts.{anc_next, step_above_1}
 use Rattle.p3_merkle_core.proofs.ValueFacts.{family_by_counts}
 use Rattle.p3_merkle_pruner.specs.Walks.{IsCoveredAt, node_of_query}
 use Rattle.p3_merkle_pruner.specs.declared.plan.Covered.{Covered}
+use Rattle.p3_merkle_core.specs.Openings.{children_by}
 
 -- equal functions, mapped
 pub same_map : {X : Type 0} (f g : ℕ → X) → ((k : ℕ) → f k ≡ g k) → (xs : List ℕ) → map f xs ≡ map g xs

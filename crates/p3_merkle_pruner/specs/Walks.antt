@@ -8,6 +8,7 @@ use Rattle.p3_merkle_core.specs.Pruning.{PrunedOpening, boundary, covered_at, re
 use Rattle.p3_merkle_core.specs.declared.pruning.KeptLevel.{KeptLevel}
 use Rattle.p3_merkle_pruner.specs.declared.plan.Covered.{Covered}
 use Rattle.p3_merkle_pruner.specs.declared.plan.Rise.{Rise}
+use Rattle.p3_merkle_core.specs.Checks.{terms}
 
 -- the node of layer l above the index of query k
 abbrev pub node_of_query : Shape → List ℕ → ℕ → ℕ → ℕ
@@ -34,11 +35,11 @@ pub record IsRise {X : Type 0} (s : Shape) (indices : List ℕ) (l : ℕ) (cover
 pub record AreRestored {T W : Type 0} (f : Functions T W) (s : Shape) (t : ℕ) (p : PrunedOpening T W) (l : ℕ) (covered : Covered) (digests : List (List W)) : Type 0 where
   pub stands : IsCoveredAt s p.indices l covered
   pub each : length digests ≡ length covered.nodes.items
-  pub restored : digests ≡ map (restored_node f s t p l) (covered_at s p.indices l)
+  pub restored : digests ≡ map (restored_node (terms f s t) p l) (covered_at s p.indices l)
 
 -- the values of the children of the covered nodes above layer l, parent by parent
 abbrev pub child_values : {T W : Type 0} → Functions T W → Shape → ℕ → PrunedOpening T W → ℕ → List (List W)
-child_values f s t p l = flat_map (λ j. map (value_of f s t p l) (range_with_len (step s l * j) (step s l))) (covered_at s p.indices (suc l))
+child_values f s t p l = flat_map (λ j. map (value_of (terms f s t) p l) (range_with_len (step s l * j) (step s l))) (covered_at s p.indices (suc l))
 
 -- one level up from layer l: the children have their values, and the nodes above have the digests that are restored of them
 pub record IsRestoredRise {T W : Type 0} (f : Functions T W) (s : Shape) (t : ℕ) (p : PrunedOpening T W) (l : ℕ) (rise : Rise (List W)) (digests : List (List W)) : Type 0 where

@@ -3,7 +3,7 @@
 ghost use Rattle.std.specs.Prelude.{◌≡◌, ◌⊎◌, MatchResult, None, Some, replicate};
 ghost use Rattle.p3_merkle_core.specs.Geometry.{shape_of};
 ghost use Rattle.p3_merkle_core.specs.Nodes.{functions_of};
-ghost use Rattle.p3_merkle_core.specs.PrunedCalls.{row_sets};
+ghost use Rattle.p3_support.specs.Shown.{row_sets};
 ghost use Rattle.p3_merkle_core.specs.Pruning.{pruned_of};
 ghost use Rattle.p3_merkle_core.specs.Refusals.{pruned_refusal_under};
 ghost use Rattle.p3_merkle_core.specs.declared.error.MerkleTreeError.TheVariants.{OutOfMemory};
@@ -20,6 +20,7 @@ use p3_support::hasher::CryptographicHasher;
 use p3_support::matrix::Dimensions;
 use p3_support::packed::PackedValue;
 use std::alloc::Global;
+ghost use Rattle.p3_merkle_core.specs.Checks.{terms};
 
 /// Checks a pruned opening against the roots of a cap, which is layer `t`: whether its form is right, and the digests that
 /// its rows and the digests that were sent lead to are the roots of their places. `sets` has the rows of each query.
@@ -50,7 +51,7 @@ pub fn check_opening<
     requires { CanCheck (shape_of N dimensions.now) t }
     ensures { let f = functions_of (H.hash checker.now.hash.now) (C.compression checker.now.compress.now) (replicate D PW.default_value) in
         let p = pruned_of indices.now (row_sets sets.now) sent.now in
-        let refusal = pruned_refusal_under P.Value.eq PW.Value.eq f (shape_of N dimensions.now) t roots.now p in
+        let refusal = pruned_refusal_under P.Value.eq PW.Value.eq (terms f (shape_of N dimensions.now) t) roots.now p in
         MatchResult result (λ ok. refusal ≡ None) (λ e. (e ≡ OutOfMemory) ⊎ (refusal ≡ Some e)) }
 {
     let slots = check_pruned(alloc, dimensions, N, t, indices, sets, sent.len())?;

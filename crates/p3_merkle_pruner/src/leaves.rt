@@ -3,7 +3,7 @@
 ghost use Rattle.std.specs.Prelude.{◌≡◌, ◌<◌, ◌≤◌, ℕ, None, length};
 ghost use Rattle.p3_merkle_core.specs.Agreement.{opened_with, HasSlots};
 ghost use Rattle.p3_merkle_core.specs.Geometry.{heights_of, max_height, shape_of, tallest};
-ghost use Rattle.p3_merkle_core.specs.PrunedCalls.{row_sets};
+ghost use Rattle.p3_support.specs.Shown.{row_sets};
 ghost use Rattle.p3_merkle_core.specs.Pruning.{boundary, pruned_of, CanQuery, IsAgreed};
 ghost use Rattle.p3_merkle_core.specs.Refusals.{pruned_refusal};
 ghost use Rattle.p3_merkle_checker.specs.Paths.{CanCheck};

@@ -3,7 +3,7 @@
 ghost use Rattle.std.specs.Prelude.{◌≡◌, ◌/◌, ◌<◌, ◌≤◌, All, IfOk, length, replicate};
 ghost use Rattle.p3_merkle_core.specs.Geometry.{heights_of};
 ghost use Rattle.p3_merkle_core.specs.Nodes.{functions_of};
-ghost use Rattle.p3_merkle_core.specs.PrunedCalls.{row_sets};
+ghost use Rattle.p3_support.specs.Shown.{row_sets};
 ghost use Rattle.p3_merkle_pruner.specs.Groups.{layer_digests};
 
 use crate::groups::Compressor;

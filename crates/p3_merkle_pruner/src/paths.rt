@@ -1,11 +1,11 @@
 //! The path of each query, restored out of a pruned opening.
 
 ghost use Rattle.std.specs.Prelude.{◌≡◌, ◌⊎◌, IfOk, MatchResult, None, Some, length, replicate};
-ghost use Rattle.p3_merkle_core.specs.Children.{shown_paths};
+ghost use Rattle.p3_merkle_core.specs.Views.{shown_paths};
 ghost use Rattle.p3_merkle_core.specs.Geometry.{shape_of};
 ghost use Rattle.p3_merkle_core.specs.Nodes.{functions_of};
-ghost use Rattle.p3_merkle_core.specs.PrunedCalls.{restored_paths, row_sets};
-ghost use Rattle.p3_merkle_core.specs.Pruning.{boundary, pruned_of, IsAgreed};
+ghost use Rattle.p3_support.specs.Shown.{row_sets};
+ghost use Rattle.p3_merkle_core.specs.Pruning.{boundary, pruned_of, IsAgreed, restored_paths};
 ghost use Rattle.p3_merkle_core.specs.Refusals.{pruned_refusal};
 ghost use Rattle.p3_merkle_core.specs.declared.error.MerkleTreeError.TheVariants.{OutOfMemory};
 ghost use Rattle.p3_merkle_checker.specs.Paths.{CanCheck};
@@ -24,6 +24,7 @@ use p3_support::hasher::CryptographicHasher;
 use p3_support::matrix::Dimensions;
 use p3_support::packed::PackedValue;
 use std::alloc::{AllocError, Global};
+ghost use Rattle.p3_merkle_core.specs.Checks.{terms};
 
 /// The path of each query up to the cap's layer `t`, in query order, out of a pruned opening: the siblings are digests that
 /// were sent, or that its rows and these lead to. `sets` has the rows of each query. No cap is looked at.
@@ -55,7 +56,7 @@ pub fn restored_paths_of<
         MatchResult result (λ paths. refusal ≡ None) (λ e. (e ≡ OutOfMemory) ⊎ (refusal ≡ Some e)) }
     ensures paths { let f = functions_of (H.hash checker.now.hash.now) (C.compression checker.now.compress.now) (replicate D PW.default_value) in
         let p = pruned_of indices.now (row_sets sets.now) sent.now in
-        IfOk result (λ paths. shown_paths paths.items ≡ restored_paths f (shape_of N dimensions.now) t p) }
+        IfOk result (λ paths. shown_paths paths.items ≡ restored_paths (terms f (shape_of N dimensions.now) t) p) }
 {
     let slots = check_pruned(alloc, dimensions, N, t, indices, sets, sent.len())?;
     tell_restorable::<P, PW, D>(dimensions, N, t, indices, sets, sent);

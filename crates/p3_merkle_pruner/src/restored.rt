@@ -4,7 +4,7 @@ ghost use Rattle.std.specs.Prelude.{◌≡◌, ◌/◌, ◌<◌, ◌≤◌, ◌�
 ghost use Rattle.p3_merkle_core.specs.Geometry.{shape_of};
 ghost use Rattle.p3_merkle_core.specs.Nodes.{functions_of};
 ghost use Rattle.p3_merkle_core.specs.Pruning.{boundary, covered_at, pruned_of, restored_node, IsAgreed};
-ghost use Rattle.p3_merkle_core.specs.PrunedCalls.{row_sets};
+ghost use Rattle.p3_support.specs.Shown.{row_sets};
 ghost use Rattle.p3_merkle_core.specs.Refusals.{cap_refusal};
 ghost use Rattle.p3_merkle_core.specs.declared.error.MerkleTreeError.TheVariants.{OutOfMemory};
 ghost use Rattle.p3_merkle_pruner.specs.Walks.{AreRestored, IsCoveredAt, IsRestoredRise};
@@ -19,6 +19,7 @@ use p3_support::compress::PseudoCompressionFunction;
 use p3_support::hasher::CryptographicHasher;
 use p3_support::packed::PackedValue;
 use std::alloc::{AllocError, Global};
+ghost use Rattle.p3_merkle_core.specs.Checks.{terms};
 
 /// Tells that leads have row sets where each query has one. It does nothing at run time.
 pub(crate) fn tell_leads<T>(indices: &[usize], sets: &[Vec<T>], leads: &[usize])
@@ -127,7 +128,7 @@ pub fn restored_cap<
         let s = shape_of plan.now.arity plan.now.dimensions.now in
         let t = plan.now.t in
         let p = pruned_of plan.now.indices.now (row_sets sets.now) sent.now in
-        let restored = map (restored_node f s t p t) (covered_at s plan.now.indices.now t) in
+        let restored = map (restored_node (terms f s t) p t) (covered_at s plan.now.indices.now t) in
         IfOk result (λ cap. cap.1.items ≡ restored) }
 {
     let mut covered = leaves;
@@ -180,7 +181,7 @@ pub fn check_cap<
     requires leaves { IsCoveredAt (shape_of plan.now.arity plan.now.dimensions.now) plan.now.indices.now 0 leaves }
     ensures { let f = functions_of (H.hash checker.now.hash.now) (C.compression checker.now.compress.now) (replicate D PW.default_value) in
         let p = pruned_of plan.now.indices.now (row_sets sets.now) sent.now in
-        let refusal = cap_refusal PW.Value.eq f (shape_of plan.now.arity plan.now.dimensions.now) plan.now.t roots.now p in
+        let refusal = cap_refusal PW.Value.eq (terms f (shape_of plan.now.arity plan.now.dimensions.now) plan.now.t) roots.now p in
         MatchResult result (λ ok. refusal ≡ None) (λ e. (e ≡ OutOfMemory) ⊎ (refusal ≡ Some e)) }
 {
     let restored = restored_cap::<P, PW, H, C, N, D>(alloc, checker, plan, sets, sent, leaves)?;

@@ -3,3 +3,4 @@ pub mod SaltExamples
 pub mod SaltedOpenings
 pub mod SaltRefusals
 pub mod SaltedTrees
+pub mod SaltedPresented

@@ -3,12 +3,12 @@ use Rattle.std.specs.Prelude.{ℕ, ◌+◌, ◌^◌, nat_le, List, length, zip, 
 use Rattle.std.specs.Option.{option_or}
 use Rattle.p3_support.specs.declared.matrix.Dimensions.{Dimensions}
 use Rattle.p3_merkle_core.specs.Gate.{gate_refusal}
-use Rattle.p3_merkle_core.specs.Geometry.{heights_of, shape_of, widths_of}
-use Rattle.p3_merkle_core.specs.Nodes.{Functions}
+use Rattle.p3_merkle_core.specs.Geometry.{heights_of, widths_of}
+use Rattle.p3_merkle_core.specs.Checks.{Terms}
 use Rattle.p3_merkle_core.specs.Refusals.{first_of, pruned_refusal_under, refusal_under, size_refusal, width_refusal}
 use Rattle.p3_merkle_core.specs.declared.error.MerkleTreeError.{MerkleTreeError}
 use Rattle.p3_merkle_core.specs.declared.error.MerkleTreeError.TheVariants.{TooLarge}
-use Rattle.p3_merkle_salts.specs.SaltedOpenings.{SaltedOpening, SaltedPruned, joined, joined_sets, widened}
+use Rattle.p3_merkle_salts.specs.SaltedOpenings.{SaltedOpening, SaltedPruned, joined, joined_sets}
 
 -- the place of the first matrix of which the width with e more columns is no usize
 abbrev pub first_too_wide : ℕ → List ℕ → Option ℕ
@@ -39,12 +39,10 @@ salted_rows_refusal e dimensions rows salts = option_or (salt_refusal dimensions
 abbrev pub salted_sets_refusal : {T : Type 0} → ℕ → List Dimensions → List (List (List T)) → List (List (List T)) → Option MerkleTreeError
 salted_sets_refusal e dimensions sets salts = option_or (salt_sets_refusal dimensions sets salts) (widening_refusal e dimensions)
 
--- why an opening with e salts a row is refused under a cap, which is layer t of a tree of arity n: rows and salts, else the rows followed by their salts
-abbrev pub salted_refusal_under : {T W : Type 0} → (W → W → Bool) → Functions T W → ℕ → ℕ → List Dimensions → ℕ → List (List W) → SaltedOpening T W → Option MerkleTreeError
-salted_refusal_under digest_eq f n e dimensions t cap o =
-    option_or (salted_rows_refusal e dimensions o.rows o.salts) (refusal_under digest_eq f (shape_of n (widened e dimensions)) t cap (joined o))
+-- why an opening with e salts a row is refused under a cap: rows and salts, else the rows followed by their salts, under the terms of matrices that have e more columns
+abbrev pub salted_refusal_under : {T W : Type 0} → (W → W → Bool) → ℕ → List Dimensions → Terms T W → List (List W) → SaltedOpening T W → Option MerkleTreeError
+salted_refusal_under digest_eq e dimensions c cap o = option_or (salted_rows_refusal e dimensions o.rows o.salts) (refusal_under digest_eq c cap (joined o))
 
 -- the same of several indices
-abbrev pub salted_pruned_refusal_under : {T W : Type 0} → (T → T → Bool) → (W → W → Bool) → Functions T W → ℕ → ℕ → List Dimensions → ℕ → List (List W) → SaltedPruned T W → Option MerkleTreeError
-salted_pruned_refusal_under row_eq digest_eq f n e dimensions t cap p =
-    option_or (salted_sets_refusal e dimensions p.rows p.salts) (pruned_refusal_under row_eq digest_eq f (shape_of n (widened e dimensions)) t cap (joined_sets p))
+abbrev pub salted_pruned_refusal_under : {T W : Type 0} → (T → T → Bool) → (W → W → Bool) → ℕ → List Dimensions → Terms T W → List (List W) → SaltedPruned T W → Option MerkleTreeError
+salted_pruned_refusal_under row_eq digest_eq e dimensions c cap p = option_or (salted_sets_refusal e dimensions p.rows p.salts) (pruned_refusal_under row_eq digest_eq c cap (joined_sets p))

@@ -2,11 +2,10 @@
 use Rattle.std.specs.Prelude.{◌≡◌, ℕ, ◌+◌, ◌<◌, ◌^◌, List, ◌++◌, map, length, zip, take, drop, All}
 use Rattle.std.specs.List.{AllZip}
 use Rattle.p3_support.specs.declared.matrix.Dimensions.{Dimensions}
-use Rattle.p3_merkle_core.specs.Geometry.{shape_of, widths_of}
-use Rattle.p3_merkle_core.specs.Nodes.{Functions}
-use Rattle.p3_merkle_core.specs.Openings.{Opening, IsAccepted, opening_of}
-use Rattle.p3_merkle_core.specs.PrunedCalls.{IsPrunedAccepted}
-use Rattle.p3_merkle_core.specs.Pruning.{PrunedOpening, pruned_of}
+use Rattle.p3_merkle_core.specs.Geometry.{widths_of}
+use Rattle.p3_merkle_core.specs.Openings.{Opening, opening_of}
+use Rattle.p3_merkle_core.specs.Checks.{IsAccepted, Terms}
+use Rattle.p3_merkle_core.specs.Pruning.{IsPrunedAccepted, PrunedOpening, pruned_of}
 
 -- ---- what is hashed
 
@@ -73,15 +72,15 @@ pub record HaveSalts {T : Type 0} (dimensions : List Dimensions) (rows salts : L
   pub rows_fit : map length rows ≡ widths_of dimensions
   pub in_pairs : length salts ≡ length rows
 
--- an opening with e salts a row is accepted under a cap, which is layer t of a tree of arity n: its rows have their widths without the salts, the widths with them are sizes, and rows followed by salts are accepted where each matrix has e more columns
-pub record IsSaltedAccepted {T W : Type 0} (f : Functions T W) (n e : ℕ) (dimensions : List Dimensions) (t : ℕ) (cap : List (List W)) (o : SaltedOpening T W) : Type 0 where
+-- an opening with e salts a row is accepted under a cap: its rows have their widths without the salts, the widths with them are sizes, and rows followed by salts are accepted under the terms of matrices that have e more columns
+pub record IsSaltedAccepted {T W : Type 0} (e : ℕ) (dimensions : List Dimensions) (c : Terms T W) (cap : List (List W)) (o : SaltedOpening T W) : Type 0 where
   pub salted : HaveSalts dimensions o.rows o.salts
   pub can_widen : CanWiden e dimensions
-  pub accepted : IsAccepted f (shape_of n (widened e dimensions)) t cap (joined o)
+  pub accepted : IsAccepted c cap (joined o)
 
 -- the same of several indices
-pub record IsSaltedPrunedAccepted {T W : Type 0} (f : Functions T W) (n e : ℕ) (dimensions : List Dimensions) (t : ℕ) (cap : List (List W)) (p : SaltedPruned T W) : Type 0 where
+pub record IsSaltedPrunedAccepted {T W : Type 0} (e : ℕ) (dimensions : List Dimensions) (c : Terms T W) (cap : List (List W)) (p : SaltedPruned T W) : Type 0 where
   pub in_pairs : length p.salts ≡ length p.rows
   pub salted : AllZip (HaveSalts dimensions) p.rows p.salts
   pub can_widen : CanWiden e dimensions
-  pub accepted : IsPrunedAccepted f (shape_of n (widened e dimensions)) t cap (joined_sets p)
+  pub accepted : IsPrunedAccepted c cap (joined_sets p)

@@ -3,7 +3,5 @@ pub mod OwnAccepted
 pub mod CapFacts
 pub mod AuthenticFacts
 pub mod CheckFacts
-pub mod LoweredFacts
 pub mod PrunedFacts
 pub mod CommitmentFacts
-pub mod MultiFacts

@@ -1,74 +1,67 @@
--- What is opened of an own tree by a pruned proof is the honest pruned opening, which is accepted and restores.
-use Rattle.std.proofs.Common.{◌≡◌, ◌∙◌, ℕ, Bool, Option, None, Some, Result, ap, refl, inl, inr, List, map, subst, sym}
+-- What is opened of an own tree by a pruned proof is the honest pruned opening, which is accepted and restores; what an answer says.
+use Rattle.std.proofs.Common.{◌≡◌, ◌↔◌, ◌∙◌, ℕ, Bool, Option, None, Some, Result, ap, refl, inl, inr, List, map, subst, sym}
+use Rattle.std.specs.Prelude.{Ok, Err, IsOk}
+use Rattle.p3_merkle_core.specs.Checks.{Terms, terms}
 use Rattle.p3_merkle_core.specs.Geometry.{IsArity, Shape}
-use Rattle.p3_merkle_core.proofs.Verdicts.{pruned_accepted}
-use Rattle.p3_merkle_core.specs.declared.error.MerkleTreeError.TheVariants.{OutOfMemory}
+use Rattle.p3_merkle_core.specs.Nodes.{Batch, HasFullRows, shape}
+use Rattle.p3_merkle_core.specs.Openings.{honest}
+use Rattle.p3_merkle_core.specs.Presented.{IsVerdict, Presented, presented_pruned, presented_to_restore}
+use Rattle.p3_merkle_core.specs.Pruning.{IsHonestQuery, IsPrunedAccepted, PrunedOpening, honest_query, pruned_in_layers, restored_paths}
+use Rattle.p3_merkle_core.specs.Refusals.{AnswersUnlessMemory, IsEquality, pruned_refusal, pruned_refusal_under, verdict}
 use Rattle.p3_merkle_core.specs.declared.error.MerkleTreeError.{MerkleTreeError}
-use Rattle.p3_merkle_core.specs.Refusals.{IsEquality, IsRestorable, pruned_refusal, pruned_refusal_under, verdict}
-use Rattle.p3_merkle_builder.specs.Built.{OkUnlessRefused}
-use Rattle.std.specs.Prelude.{Ok, Err, IfErr, IsOk}
-use Rattle.p3_merkle_core.specs.Nodes.{Batch, Functions, HasFullRows, layer, layers, shape}
-use Rattle.p3_merkle_core.specs.Openings.{honest_rows, honest_siblings}
-use Rattle.p3_merkle_core.specs.PrunedCalls.{IsPrunedAccepted, own_digests, restored_paths}
-use Rattle.p3_merkle_core.specs.Pruning.{IsHonestQuery, PrunedOpening, honest_query, pruned_of}
 use Rattle.p3_merkle_core.proofs.Answered.{restorable}
 use Rattle.p3_merkle_core.proofs.Equivalence.{equivalent}
 use Rattle.p3_merkle_core.proofs.HonestAnswered.{honest_restorable}
-use Rattle.p3_merkle_core.proofs.OwnNodes.{honest_restored_paths, own_digests_are}
+use Rattle.p3_merkle_core.proofs.NoneFacts.{verdict_ok}
+use Rattle.p3_merkle_core.proofs.OwnNodes.{honest_restored_paths, own_pruned_opening_is}
 use Rattle.p3_merkle_core.proofs.Restoration.{honest_capped}
 use Rattle.p3_merkle_core.proofs.Unrefused.{unrefused}
+use Rattle.p3_merkle_core.proofs.Verdicts.{pruned_accepted}
+use Rattle.p3_merkle_tree.specs.Commitments.{IsOwn, cap_over}
 
-module _ {T W : Type 0} (f : Functions T W) (b : Batch T) (own : List (List (List W))) (t : ℕ) (indices : List ℕ) (rows : List (List (List T))) (digests : List (List W)) where
-  -- rows and digests of an own tree are those of the honest pruned opening
-  is_honest : IsHonestQuery b t indices → own ≡ layers f b → rows ≡ map (honest_rows b) indices → digests ≡ own_digests (shape b) own indices t → honest_query f b t indices ≡ pruned_of indices rows digests
-  is_honest w is are_rows are_digests =
-      let sent : digests ≡ (honest_query f b t indices).digests = are_digests ∙ (λ i. own_digests (shape b) (is i) indices t) ∙ own_digests_are f b t indices w in
-      λ i. pruned_of indices (sym are_rows i) (sym sent i)
+module _ {T W : Type 0} (c : Terms T W) (b : Batch T) (indices : List ℕ) (w : IsHonestQuery b c.layer indices) (same : c.shape ≡ shape b) where
+  -- what is read out of the layers of an own tree is the honest pruned opening
+  pub own_query_honest : (own : List (List (List W))) (p : PrunedOpening T W) → IsOwn c b own → p ≡ pruned_in_layers b own c.layer indices → p ≡ honest_query c.functions b c.layer indices
+  own_query_honest own p is opened = opened ∙ ap (λ z. pruned_in_layers b z c.layer indices) is ∙ own_pruned_opening_is c.functions b c.layer indices w
 
-  -- so the opening is accepted
-  pub own_query_accepted : IsHonestQuery b t indices → HasFullRows b → own ≡ layers f b → rows ≡ map (honest_rows b) indices → digests ≡ own_digests (shape b) own indices t →
-      IsPrunedAccepted f (shape b) t (layer f b t) (pruned_of indices rows digests)
-  own_query_accepted w full is are_rows are_digests =
-      let honest = honest_query f b t indices in
+  -- so it is accepted
+  pub own_query_accepted : HasFullRows b → (p : PrunedOpening T W) → p ≡ honest_query c.functions b c.layer indices → IsPrunedAccepted c (cap_over c b) p
+  own_query_accepted full p is =
+      let f = c.functions in
+      let t = c.layer in
+      let honest_one = honest_query f b t indices in
       let restorable = honest_restorable f b t indices w full in
-      let each = equivalent f (shape b) t (layer f b t) honest w.queried.well_shaped restorable.lawful restorable.below restorable.rows_fit restorable.agreed in
-      subst (IsPrunedAccepted f (shape b) t (layer f b t)) (is_honest w is are_rows are_digests) (restorable, each.0 (honest_capped f b t indices w))
+      let each = equivalent f (shape b) t (cap_over c b) honest_one w.queried.well_shaped restorable.lawful restorable.below restorable.rows_fit restorable.agreed in
+      let accepted : IsPrunedAccepted (terms f (shape b) t) (cap_over c b) honest_one = (restorable, each.0 (honest_capped f b t indices w)) in
+      subst (IsPrunedAccepted c (cap_over c b)) (sym is) (subst (λ s. IsPrunedAccepted (terms f s t) (cap_over c b) honest_one) (sym same) accepted)
 
-  -- and restores to the honest siblings
-  pub own_query_restores : IsHonestQuery b t indices → own ≡ layers f b → rows ≡ map (honest_rows b) indices → digests ≡ own_digests (shape b) own indices t →
-      restored_paths f (shape b) t (pruned_of indices rows digests) ≡ map (λ i. (i, honest_siblings f b t i)) indices
-  own_query_restores w is are_rows are_digests =
-      (λ i. restored_paths f (shape b) t (sym (is_honest w is are_rows are_digests) i)) ∙ honest_restored_paths f b t indices w
+  -- and restores to the siblings of the honest openings
+  pub own_query_restores : (p : PrunedOpening T W) → p ≡ honest_query c.functions b c.layer indices → restored_paths c p ≡ map (λ i. (i, (honest c.functions b c.layer i).siblings)) indices
+  own_query_restores p is =
+      ap (λ z. restored_paths c z) is ∙ ap (λ s. restored_paths (terms c.functions s c.layer) (honest_query c.functions b c.layer indices)) same ∙ honest_restored_paths c.functions b c.layer indices w
 
 -- ---- what an answer says
 
-unrefused_when_ok : {V : Type 0} (r : Result V MerkleTreeError) (refusal : Option MerkleTreeError) → OkUnlessRefused r refusal → IsOk r → refusal ≡ None
+unrefused_when_ok : {V : Type 0} (r : Result V MerkleTreeError) (refusal : Option MerkleTreeError) → AnswersUnlessMemory r refusal → IsOk r → refusal ≡ None
 unrefused_when_ok (Ok v) refusal a ok = a
 unrefused_when_ok (Err e) refusal a ok = absurd cc
 
-memory_when_unrefused : {V : Type 0} (r : Result V MerkleTreeError) (refusal : Option MerkleTreeError) → OkUnlessRefused r refusal → refusal ≡ None → IfErr r (λ e. e ≡ OutOfMemory)
-memory_when_unrefused (Ok v) refusal a none = tt
-memory_when_unrefused (Err e) refusal (inl m) none = m
-memory_when_unrefused (Err e) refusal (inr some) none = absurd cc
+memory_when_unrefused : {V : Type 0} (r : Result V MerkleTreeError) (refusal : Option MerkleTreeError) → AnswersUnlessMemory r refusal → refusal ≡ None → AnswersUnlessMemory r None
+memory_when_unrefused r refusal a none = subst (AnswersUnlessMemory r) none a
 
-unrefused_from : (refusal : Option MerkleTreeError) → verdict refusal ≡ Ok tt → refusal ≡ None
-unrefused_from None e = refl
-unrefused_from (Some x) e = absurd cc
+-- an answer by the refusal is a verdict, where nothing is refused exactly of what is accepted
+pub verdict_by : {T W V : Type 0} (p : Presented T W) → (p.refusal ≡ None) ↔ p.accepted → (r : Result V MerkleTreeError) → AnswersUnlessMemory r p.refusal → IsVerdict p r
+verdict_by p decided r answer =
+    record { answer = answer; accepted = λ ok. decided.0 (unrefused_when_ok r p.refusal answer ok); taken = λ accepted. memory_when_unrefused r p.refusal answer (decided.1 accepted) }
 
-module _ {T W : Type 0} (eq : T → T → Bool) (same : W → W → Bool) (f : Functions T W) (s : Shape) (t : ℕ) (cap : List (List W)) (p : PrunedOpening T W) (dec : IsEquality eq) (dec_w : IsEquality same) (w : IsArity s.arity) where
-  -- an answer Ok is an opening that is accepted
-  pub accepted_when_ok : (r : Result (Unit {0}) MerkleTreeError) → OkUnlessRefused r (pruned_refusal_under eq same f s t cap p) → IsOk r → IsPrunedAccepted f s t cap p
-  accepted_when_ok r a ok = (pruned_accepted eq same f s t cap p dec dec_w w).0 (ap verdict (unrefused_when_ok r _ a ok))
+-- so it is of a pruned opening
+pub pruned_verdict : {T W V : Type 0} (eq : T → T → Bool) (same : W → W → Bool) (c : Terms T W) (cap : List (List W)) (p : PrunedOpening T W) → IsEquality eq → IsEquality same → IsArity c.shape.arity →
+    (r : Result V MerkleTreeError) → AnswersUnlessMemory r (pruned_refusal_under eq same c cap p) → IsVerdict (presented_pruned eq same c cap p) r
+pruned_verdict eq same c cap p dec dec_w w r answer =
+    let accept = pruned_accepted eq same c.functions c.shape c.layer cap p dec dec_w w in
+    verdict_by (presented_pruned eq same c cap p) (λ none. accept.0 (ap verdict none), λ a. verdict_ok (pruned_refusal_under eq same c cap p) (accept.1 a)) r answer
 
-  -- and one that is accepted is answered Ok, unless there is no memory
-  pub ok_when_accepted : (r : Result (Unit {0}) MerkleTreeError) → OkUnlessRefused r (pruned_refusal_under eq same f s t cap p) → IsPrunedAccepted f s t cap p → IfErr r (λ e. e ≡ OutOfMemory)
-  ok_when_accepted r a accepted = memory_when_unrefused r _ a (unrefused_from _ ((pruned_accepted eq same f s t cap p dec dec_w w).1 accepted))
-
-module _ {T W V : Type 0} (eq : T → T → Bool) (s : Shape) (t : ℕ) (p : PrunedOpening T W) (dec : IsEquality eq) where
-  -- what is not refused restores
-  pub restorable_when_ok : (r : Result V MerkleTreeError) → OkUnlessRefused r (pruned_refusal eq s t p) → IsOk r → IsRestorable s t p
-  restorable_when_ok r a ok = restorable eq s t p dec (ap verdict (unrefused_when_ok r _ a ok))
-
-  -- and what restores is not refused, unless there is no memory
-  pub ok_when_restorable : (r : Result V MerkleTreeError) → OkUnlessRefused r (pruned_refusal eq s t p) → IsRestorable s t p → IfErr r (λ e. e ≡ OutOfMemory)
-  ok_when_restorable r a w = memory_when_unrefused r _ a (unrefused_from _ (unrefused eq s t p dec w))
+-- and of its restored paths
+pub restoring_verdict : {T W V : Type 0} (eq : T → T → Bool) (s : Shape) (t : ℕ) (p : PrunedOpening T W) → IsEquality eq → (r : Result V MerkleTreeError) → AnswersUnlessMemory r (pruned_refusal eq s t p) → IsVerdict (presented_to_restore eq s t p) r
+restoring_verdict eq s t p dec r answer =
+    verdict_by (presented_to_restore eq s t p) (λ none. restorable eq s t p dec (ap verdict none), λ w. verdict_ok (pruned_refusal eq s t p) (unrefused eq s t p dec w)) r answer

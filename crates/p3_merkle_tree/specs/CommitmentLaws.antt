@@ -5,21 +5,21 @@ use Rattle.std.proofs.Common.{◌∙◌, ap, arith, refl, subst, sym}
 use Rattle.std.proofs.Math.Nat.{div-one}
 use Rattle.std.proofs.lemmas.List.{get_or_default}
 use Rattle.p3_merkle_core.specs.Geometry.{IsLawful, Shape, bits_reduced, heights_of, shape_of, tallest}
+use Rattle.p3_merkle_layers.specs.Views.{batch_of, heights_in, matrix_of}
 use Rattle.p3_merkle_core.specs.Nodes.{Functions, dimensions_of, functions_of}
 use Rattle.p3_merkle_core.specs.Openings.{honest_rows}
-use Rattle.p3_merkle_core.specs.PrunedCalls.{IsPrunedAccepted}
-use Rattle.p3_merkle_core.specs.Pruning.{PrunedOpening, restored_path}
+use Rattle.p3_merkle_core.specs.Pruning.{PrunedOpening, restored_path, IsPrunedAccepted}
 use Rattle.p3_merkle_core.specs.Caps.{cap_layer}
 use Rattle.p3_merkle_builder.proofs.RowFacts.{row_inside}
-use Rattle.p3_merkle_builder.specs.Views.{batch_of, heights_in, matrix_of}
 use Rattle.p3_support.specs.Batches.{FitDimensions, IsEquivalence, dimensions_in, greatest_height, rows_in}
 use Rattle.p3_support.specs.declared.matrix.Dimensions.{Dimensions}
 use Rattle.p3_support.specs.declared.packed.PackedValue as packed
 use Rattle.std.specs.declared.default.Default as default
 use Rattle.std.specs.declared.cmp.PartialEq as equality
 use Rattle.p3_merkle_tree.specs.Commitments.{IsSameScheme, IsShown, halved_index}
-use Rattle.p3_merkle_tree.specs.Schemes.{proof_layer, scheme_functions}
+use Rattle.p3_merkle_tree.specs.Schemes.{proof_layer, scheme_functions, terms_over}
 use Rattle.p3_merkle_tree.specs.declared.mmcs.Scheme.{Scheme}
+use Rattle.p3_merkle_core.specs.Checks.{Terms, terms}
 
 -- ---- the same scheme
 
@@ -34,14 +34,14 @@ module _ {P PW H C X G V W : Type 0} {N : ℕ} {p : packed.Ghosts P V} {pd : def
             record { same_hash = v.same_hash ∙ w.same_hash; same_compression = v.same_compression ∙ w.same_compression; same_cap_height = v.same_cap_height ∙ w.same_cap_height; same_rule = v.same_rule ∙ w.same_rule };
       }
 
-  -- what holds of a scheme's functions and of its cap's layer holds of those of the same scheme
-  pub at_same : (hash : H → List V → List W) (compression : C → List (List W) → List W) (d : ℕ) (sh : Shape) (s t : Scheme P PW H C X G N V W p pd pe q qd qe) (fact : Functions V W → ℕ → Type 0) →
-      IsSameScheme s t → fact (scheme_functions hash compression d s) (proof_layer s sh) → fact (scheme_functions hash compression d t) (proof_layer t sh)
+  -- what holds under the terms of a scheme holds under those of the same scheme
+  pub at_same : (hash : H → List V → List W) (compression : C → List (List W) → List W) (d : ℕ) (sh : Shape) (s t : Scheme P PW H C X G N V W p pd pe q qd qe) (fact : Terms V W → Type 0) →
+      IsSameScheme s t → fact (terms_over hash compression d s sh) → fact (terms_over hash compression d t sh)
   at_same hash compression d sh s t fact w holds =
       let f : scheme_functions hash compression d s ≡ scheme_functions hash compression d t =
       λ i. functions_of (hash (w.same_hash i)) (compression (w.same_compression i)) (scheme_functions hash compression d s).default_digest in
       let l : proof_layer s sh ≡ proof_layer t sh = λ i. cap_layer sh (w.same_rule i) (w.same_cap_height i) in
-      subst (λ k. fact (scheme_functions hash compression d t) k) l (subst (λ g. fact g (proof_layer s sh)) f holds)
+      subst (λ k. fact (terms (scheme_functions hash compression d t) sh k)) l (subst (λ g. fact (terms g sh (proof_layer s sh))) f holds)
 
 -- ---- what is shown
 
@@ -54,9 +54,8 @@ all_zip holds (x ∷ xs) [] a b same at = absurd (omega (arith, same))
 all_zip holds (x ∷ xs) (y ∷ ys) a b same at = (at 0 (omega arith), all_zip holds xs ys a b (omega (arith, same)) (λ k inside. at (suc k) (omega arith)))
 
 -- of an accepted pruned opening each row set is shown to be that of its index
-pub each_shown : {T W : Type 0} (f : Functions T W) (s : Shape) (t : ℕ) (cap : List (List W)) (o : PrunedOpening T W) → IsPrunedAccepted f s t cap o → AllZip (IsShown f s t cap) o.indices o.rows
-each_shown f s t cap o (restorable, accepted) =
-    all_zip (IsShown f s t cap) o.indices o.rows 0 [] restorable.agreed.in_pairs (λ k inside. (restored_path f s t o (slice_index o.indices k), accepted k inside))
+pub each_shown : {T W : Type 0} (c : Terms T W) (cap : List (List W)) (o : PrunedOpening T W) → IsPrunedAccepted c cap o → AllZip (IsShown c cap) o.indices o.rows
+each_shown c cap o (restorable, accepted) = all_zip (IsShown c cap) o.indices o.rows 0 [] restorable.agreed.in_pairs (λ k inside. (restored_path c o (slice_index o.indices k), accepted k inside))
 
 -- the greatest height of dimensions is the tallest of their heights
 pub greatest_of : (ds : List Dimensions) → greatest_height (λ d. d.height) ds ≡ tallest (heights_of ds)
@@ -64,7 +63,7 @@ greatest_of [] = refl
 greatest_of (d ∷ ds) = ap (max d.height) (greatest_of ds)
 
 -- rows that are shown fit the dimensions
-pub shown_rows_fit : {T W : Type 0} (f : Functions T W) (n t : ℕ) (ds : List Dimensions) (cap : List (List W)) (index : ℕ) (rows : List (List T)) → IsShown f (shape_of n ds) t cap index rows → FitDimensions ds index rows
+pub shown_rows_fit : {T W : Type 0} (f : Functions T W) (n t : ℕ) (ds : List Dimensions) (cap : List (List W)) (index : ℕ) (rows : List (List T)) → IsShown (terms f (shape_of n ds) t) cap index rows → FitDimensions ds index rows
 shown_rows_fit f n t ds cap index rows (siblings, accepted) =
     record { rows_fit = accepted.rows_fit; in_range = subst (λ height. index < height) (sym (greatest_of ds)) accepted.in_range }
 

@@ -1,11 +1,5 @@
 pub use Rattle.p3_merkle_layers.specs.Views
-pub use Rattle.p3_merkle_builder.specs.Built
 pub use Rattle.p3_merkle_builder.specs.Parts
-pub use Rattle.p3_merkle_builder.specs.Own
-pub use Rattle.p3_merkle_checker.specs.Paths
-pub use Rattle.p3_merkle_checker.specs.Collisions
-pub use Rattle.p3_merkle_checker.specs.Checks
-pub use Rattle.p3_merkle_pairs.specs.Pairs
 pub mod Schemes
 pub mod Commitments
 pub mod CommitmentLaws

@@ -1,22 +1,15 @@
--- What a scheme, a cap and an opening show.
+-- What a scheme shows, and the terms of its checks.
 use Rattle.std.specs.Prelude.{ℕ, List, replicate}
-use Rattle.std.specs.declared.vec.Vec.{Vec}
 use Rattle.std.specs.declared.default.Default as default
 use Rattle.std.specs.declared.cmp.PartialEq as equality
 use Rattle.p3_support.specs.declared.packed.PackedValue as packed
 use Rattle.p3_merkle_core.specs.Caps.{cap_layer}
-use Rattle.p3_merkle_core.specs.Geometry.{Shape}
+use Rattle.p3_merkle_core.specs.Checks.{Terms, terms}
+use Rattle.p3_merkle_core.specs.Geometry.{Shape, shape_of}
+use Rattle.p3_support.specs.declared.matrix.Dimensions.{Dimensions}
 use Rattle.p3_merkle_core.specs.declared.cap.CapRule.{CapRule}
 use Rattle.p3_merkle_core.specs.Nodes.{Functions, functions_of}
-use Rattle.p3_merkle_core.specs.Openings.{Opening, opening_of}
-use Rattle.p3_merkle_core.specs.PrunedCalls.{row_sets}
-use Rattle.p3_merkle_core.specs.Pruning.{PrunedOpening, pruned_of}
-use Rattle.p3_merkle_core.specs.declared.pruning.PrunedProof.{PrunedProof}
-use Rattle.p3_merkle_core.specs.declared.pruning.PrunedRows.{PrunedRows}
-use Rattle.p3_support.specs.Shown.{row_lists}
 use Rattle.p3_merkle_tree.specs.declared.mmcs.Scheme.{Scheme}
-use Rattle.p3_support.specs.declared.opening.BatchOpening.{BatchOpening}
-use Rattle.p3_support.specs.declared.opening.BatchOpeningRef.{BatchOpeningRef}
 
 module _ {P PW H C X G V W : Type 0} {N : ℕ} {p : packed.Ghosts P V} {pd : default.Ghosts V} {pe : equality.Ghosts V} {q : packed.Ghosts PW W} {qd : default.Ghosts W} {qe : equality.Ghosts W} where
   -- the hasher that a scheme was made of
@@ -43,18 +36,14 @@ module _ {P PW H C X G V W : Type 0} {N : ℕ} {p : packed.Ghosts P V} {pd : def
   abbrev pub scheme_functions : (H → List V → List W) → (C → List (List W) → List W) → ℕ → Scheme P PW H C X G N V W p pd pe q qd qe → Functions V W
   scheme_functions hash compression d scheme = functions_of (hash scheme.hash) (compression scheme.compress) (replicate d q.default_value)
 
--- an opening of an index, by its rows and siblings
-abbrev pub opening_made : {T W A : Type 0} → ℕ → BatchOpening T (Vec (List W) A) → Opening T W
-opening_made index opening = opening_of index (row_lists opening.opened_values.items) opening.opening_proof.items
+  -- the terms of its checks over a tree of this shape
+  abbrev pub terms_over : (H → List V → List W) → (C → List (List W) → List W) → ℕ → Scheme P PW H C X G N V W p pd pe q qd qe → Shape → Terms V W
+  terms_over hash compression d scheme s = terms (scheme_functions hash compression d scheme) s (proof_layer scheme s)
 
--- the same of one that is lent
-abbrev pub opening_lent : {T W A : Type 0} → ℕ → BatchOpeningRef T (Vec (List W) A) → Opening T W
-opening_lent index opening = opening_of index (row_lists opening.opened_values.now) opening.opening_proof.now.items
+  -- the terms of its checks over matrices of these dimensions
+  abbrev pub terms_of : (H → List V → List W) → (C → List (List W) → List W) → ℕ → Scheme P PW H C X G N V W p pd pe q qd qe → List Dimensions → Terms V W
+  terms_of hash compression d scheme dimensions = terms_over hash compression d scheme (shape_of N dimensions)
 
--- a pruned opening of some indices, by its row sets and digests
-abbrev pub pruned_made : {T W : Type 0} → List ℕ → PrunedRows T (List W) → PrunedOpening T W
-pruned_made indices opening = pruned_of indices (row_sets opening.opened_values.items) opening.pruned_proof.sibling_hashes.items
-
--- the same of row sets and a proof that are lent
-abbrev pub pruned_lent : {T W A B : Type 0} → List ℕ → List (Vec (Vec T A) B) → PrunedProof (List W) → PrunedOpening T W
-pruned_lent indices rows proof = pruned_of indices (row_sets rows) proof.sibling_hashes.items
+  -- the layer that is its cap over matrices of these dimensions
+  abbrev pub cap_of : Scheme P PW H C X G N V W p pd pe q qd qe → List Dimensions → ℕ
+  cap_of scheme dimensions = proof_layer scheme (shape_of N dimensions)

@@ -1,19 +1,19 @@
 //! Extraction: from two openings of one cap that differ to two inputs of one digest.
 
-ghost use Rattle.std.specs.Prelude.{◌≡◌, ◌<◌, ◌↔◌, IfErr, IfOk, IfSome, IsNone, IsSome, IsTrue, MatchResult, None, Some, length};
-ghost use Rattle.p3_merkle_core.specs.Extracting.{extraction_under};
+ghost use Rattle.std.specs.Prelude.{◌≡◌, ◌<◌, IfOk, IsTrue, MatchResult, None, Some, length};
+ghost use Rattle.p3_merkle_core.specs.Checks.{is_authenticated as authenticates};
+ghost use Rattle.p3_merkle_core.specs.Extraction.{IsExtraction};
 ghost use Rattle.p3_merkle_core.specs.Gate.{gate_refusal};
 ghost use Rattle.p3_merkle_core.specs.Geometry.{heights_of, shape_of};
-ghost use Rattle.p3_merkle_core.specs.Openings.{is_authenticated as authenticates, AgreeWhereShared, IsAccepted};
-ghost use Rattle.p3_merkle_core.specs.declared.error.MerkleTreeError.TheVariants.{OutOfMemory};
+ghost use Rattle.p3_merkle_core.specs.Presented.{presented};
+ghost use Rattle.p3_merkle_core.specs.Views.{found_alone, opening_lent};
 ghost use Rattle.p3_merkle_core.specs.declared.cap.CapRule.TheVariants.{Lowered};
-ghost use Rattle.p3_merkle_tree.specs.Collisions.{AnswerAlike, AnswerAnyRowTwice, AnswerOneRowTwice, AnswersUnlessMemory, IsCollision};
-ghost use Rattle.p3_merkle_tree.specs.Schemes.{cap_rule_of, opening_lent, proof_layer, scheme_functions};
+ghost use Rattle.p3_merkle_tree.specs.Schemes.{cap_of, cap_rule_of, terms_of};
 ghost use Rattle.p3_support.specs.Shown.{roots_of};
 
 use crate::mmcs::{MerkleTreeMmcs, Scheme};
-use p3_merkle_checker::collision::Collision;
 use p3_merkle_checker::openings::IndexedOpening;
+use p3_merkle_core::collision::Collision;
 use p3_merkle_core::error::MerkleTreeError;
 use p3_merkle_core::geometry::{check_heights, exponent_of, layer_exponent_of};
 use p3_support::compress::PseudoCompressionFunction;
@@ -42,9 +42,8 @@ impl<P: PackedValue, PW: PackedValue, H, C, X, G, const N: usize> Scheme<P, PW, 
         ensures answer { MatchResult result
             (λ answer. gate_refusal (heights_of dimensions.now) ≡ None)
             (λ e. gate_refusal (heights_of dimensions.now) ≡ Some e) }
-        ensures authenticated { let s = shape_of N dimensions.now in
-            let t = proof_layer self.now s in
-            IfOk result (λ answer. answer ≡ authenticates s t matrix) }
+        ensures authenticated { let t = cap_of self.now dimensions.now in
+            IfOk result (λ answer. answer ≡ authenticates (shape_of N dimensions.now) t matrix) }
         ensures lowered { cap_rule_of self.now ≡ Lowered → IfOk result (λ answer. IsTrue answer) }
     {
         check_heights(dimensions)?;
@@ -90,61 +89,10 @@ impl<
         index2: usize,
         second: BatchOpeningRef<'_, P::Value, Vec<[PW::Value; D]>>,
     ) -> Result<Option<Collision<P::Value, PW::Value, D>>, MerkleTreeError>
-        ensures answer { let f = scheme_functions H.hash C.compression D self.now in
-            let s = shape_of N dimensions.now in
-            let t = proof_layer self.now s in
-            let o = opening_lent index1 first.entry in
-            let u = opening_lent index2 second.entry in
-            AnswersUnlessMemory result (extraction_under P.Value.eq PW.Value.eq f s t (roots_of commit.now) o u) }
-
-        // Two accepted openings are answered, others are not; nothing is found exactly where their checks agree.
-        ensures accepted { let f = scheme_functions H.hash C.compression D self.now in
-            let s = shape_of N dimensions.now in
-            let t = proof_layer self.now s in
-            let o = opening_lent index1 first.entry in
-            let u = opening_lent index2 second.entry in
-            let cap = roots_of commit.now in
-            IfOk result (λ found. IsAccepted f s t cap o × IsAccepted f s t cap u) }
-        ensures answered { let f = scheme_functions H.hash C.compression D self.now in
-            let s = shape_of N dimensions.now in
-            let t = proof_layer self.now s in
-            let o = opening_lent index1 first.entry in
-            let u = opening_lent index2 second.entry in
-            let cap = roots_of commit.now in
-            IsAccepted f s t cap o → IsAccepted f s t cap u → IfErr result (λ e. e ≡ OutOfMemory) }
-        ensures none { let f = scheme_functions H.hash C.compression D self.now in
-            let s = shape_of N dimensions.now in
-            let t = proof_layer self.now s in
-            let o = opening_lent index1 first.entry in
-            let u = opening_lent index2 second.entry in
-            IfOk result (λ found. IsNone found ↔ AgreeWhereShared f s t o u) }
-        ensures collision { let f = scheme_functions H.hash C.compression D self.now in
-            let s = shape_of N dimensions.now in
-            let t = proof_layer self.now s in
-            let o = opening_lent index1 first.entry in
-            let u = opening_lent index2 second.entry in
-            IfOk result (λ found. IfSome found (IsCollision f s t o u)) }
-
-        // When something is found, in the words of siblings and rows.
-        ensures one_index { let s = shape_of N dimensions.now in
-            let t = proof_layer self.now s in
-            let o = opening_lent index1 first.entry in
-            let u = opening_lent index2 second.entry in
-            index1 ≡ index2 → IfOk result (λ found. IsNone found ↔ AnswerAlike s t o u) }
-        ensures two_ways { let s = shape_of N dimensions.now in
-            let t = proof_layer self.now s in
-            let o = opening_lent index1 first.entry in
-            let u = opening_lent index2 second.entry in
-            AnswerOneRowTwice s t o u → IfOk result (λ found. IsSome found) }
-
-        // The same under the lowered rule, where each matrix is authenticated.
-        ensures lowered_one_index { let o = opening_lent index1 first.entry in
-            let u = opening_lent index2 second.entry in
-            cap_rule_of self.now ≡ Lowered → index1 ≡ index2 → IfOk result (λ found. IsNone found ↔ (o ≡ u)) }
-        ensures lowered_two_ways { let s = shape_of N dimensions.now in
-            let o = opening_lent index1 first.entry in
-            let u = opening_lent index2 second.entry in
-            cap_rule_of self.now ≡ Lowered → AnswerAnyRowTwice s o u → IfOk result (λ found. IsSome found) }
+        ensures { let c = terms_of H.hash C.compression D self.now dimensions.now in
+            let first = presented PW.Value.eq c (roots_of commit.now) (opening_lent index1 first.entry) in
+            let second = presented PW.Value.eq c (roots_of commit.now) (opening_lent index2 second.entry) in
+            IsExtraction P.Value.eq PW.Value.eq (cap_rule_of self.now) c first second (found_alone result) }
     {
         let t = self.proof_levels(dimensions);
         let first = IndexedOpening::new(index1, first);

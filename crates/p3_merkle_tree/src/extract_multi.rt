@@ -1,17 +1,14 @@
 //! Extraction from pruned openings: the first two of their queries that differ under one cap lead to two inputs of one
 //! digest.
 
-ghost use Rattle.std.specs.Prelude.{◌≡◌, ◌↔◌, IfErr, IfOk, IfSome, IsNone};
-ghost use Rattle.p3_merkle_core.specs.Extracting.{extraction_multi_under};
-ghost use Rattle.p3_merkle_core.specs.Geometry.{shape_of};
-ghost use Rattle.p3_merkle_core.specs.PrunedCalls.{IsPrunedAccepted};
-ghost use Rattle.p3_merkle_core.specs.declared.error.MerkleTreeError.TheVariants.{OutOfMemory};
-ghost use Rattle.p3_merkle_tree.specs.Pairs.{AgreeBefore, AllAgree, AnswersPairUnlessMemory, CollideAt};
-ghost use Rattle.p3_merkle_tree.specs.Schemes.{proof_layer, pruned_lent, scheme_functions};
+ghost use Rattle.p3_merkle_core.specs.Extraction.{IsExtraction};
+ghost use Rattle.p3_merkle_core.specs.Presented.{presented_pruned};
+ghost use Rattle.p3_merkle_core.specs.Views.{found_pair, pruned_lent};
+ghost use Rattle.p3_merkle_tree.specs.Schemes.{cap_rule_of, terms_of};
 ghost use Rattle.p3_support.specs.Shown.{roots_of};
 
 use crate::mmcs::MerkleTreeMmcs;
-use p3_merkle_checker::collision::Collision;
+use p3_merkle_core::collision::Collision;
 use p3_merkle_core::error::MerkleTreeError;
 use p3_merkle_core::pruning::PrunedMerklePaths;
 use p3_merkle_pairs::pairs::{PrunedOpeningRef, extraction};
@@ -55,48 +52,11 @@ impl<
         rows2: &[Vec<Vec<P::Value>>],
         proof2: &PrunedMerklePaths<PW::Value, D>,
     ) -> Result<Option<(usize, usize, Collision<P::Value, PW::Value, D>)>, MerkleTreeError>
-        ensures answer { let f = scheme_functions H.hash C.compression D self.now in
-            let s = shape_of N dimensions.now in
-            let t = proof_layer self.now s in
-            let p = pruned_lent indices1.now rows1.now proof1.now in
-            let r = pruned_lent indices2.now rows2.now proof2.now in
-            AnswersPairUnlessMemory result (extraction_multi_under P.Value.eq PW.Value.eq f s t (roots_of commit.now) p r) }
-
-        // Two accepted openings are answered, others are not; nothing is found exactly where all their queries agree.
-        ensures accepted { let f = scheme_functions H.hash C.compression D self.now in
-            let s = shape_of N dimensions.now in
-            let t = proof_layer self.now s in
-            let p = pruned_lent indices1.now rows1.now proof1.now in
-            let r = pruned_lent indices2.now rows2.now proof2.now in
-            let cap = roots_of commit.now in
-            IfOk result (λ found. IsPrunedAccepted f s t cap p × IsPrunedAccepted f s t cap r) }
-        ensures answered { let f = scheme_functions H.hash C.compression D self.now in
-            let s = shape_of N dimensions.now in
-            let t = proof_layer self.now s in
-            let p = pruned_lent indices1.now rows1.now proof1.now in
-            let r = pruned_lent indices2.now rows2.now proof2.now in
-            let cap = roots_of commit.now in
-            IsPrunedAccepted f s t cap p → IsPrunedAccepted f s t cap r → IfErr result (λ e. e ≡ OutOfMemory) }
-        ensures none { let f = scheme_functions H.hash C.compression D self.now in
-            let s = shape_of N dimensions.now in
-            let t = proof_layer self.now s in
-            let p = pruned_lent indices1.now rows1.now proof1.now in
-            let r = pruned_lent indices2.now rows2.now proof2.now in
-            IfOk result (λ found. IsNone found ↔ AllAgree f s t p r) }
-
-        // What is found is a collision of two queries, and no pair of queries before them differs.
-        ensures collision { let f = scheme_functions H.hash C.compression D self.now in
-            let s = shape_of N dimensions.now in
-            let t = proof_layer self.now s in
-            let p = pruned_lent indices1.now rows1.now proof1.now in
-            let r = pruned_lent indices2.now rows2.now proof2.now in
-            IfOk result (λ found. IfSome found (λ (a, b, collision). CollideAt f s t p r a b collision)) }
-        ensures first { let f = scheme_functions H.hash C.compression D self.now in
-            let s = shape_of N dimensions.now in
-            let t = proof_layer self.now s in
-            let p = pruned_lent indices1.now rows1.now proof1.now in
-            let r = pruned_lent indices2.now rows2.now proof2.now in
-            IfOk result (λ found. IfSome found (λ (a, b, collision). AgreeBefore f s t p r a b)) }
+        ensures { let c = terms_of H.hash C.compression D self.now dimensions.now in
+            let presented = presented_pruned P.Value.eq PW.Value.eq c (roots_of commit.now) in
+            let first = presented (pruned_lent indices1.now rows1.now proof1.now) in
+            let second = presented (pruned_lent indices2.now rows2.now proof2.now) in
+            IsExtraction P.Value.eq PW.Value.eq (cap_rule_of self.now) c first second (found_pair result) }
     {
         let t = self.proof_levels(dimensions);
         let checker = self.checker();

@@ -1,6 +1,6 @@
 //! The scheme: committing to matrices, opening their rows, and checking what is opened.
 
-ghost use Rattle.std.specs.Prelude.{◌≡◌, ◌<◌, ◌≤◌, ◌↔◌, IfErr, IfOk, IsOk, IsTrue};
+ghost use Rattle.std.specs.Prelude.{◌≡◌, ◌<◌, ◌≤◌, ◌↔◌, IfOk, IsOk, IsTrue, None};
 ghost use Rattle.p3_merkle_core.specs.Geometry.{is_arity, IsArity};
 
 use p3_merkle_builder::opener::{cap_layer_in, rows_of_index, siblings_of_index};
@@ -111,19 +111,19 @@ impl<
     const N: usize,
     const D: usize,
 > MerkleTreeMmcs<P, PW, H, C, N, D> {
+    ghost use Rattle.p3_merkle_core.specs.Checks.{IsAccepted};
     ghost use Rattle.p3_merkle_core.specs.Gate.{gate_refusal};
-    ghost use Rattle.p3_merkle_core.specs.Geometry.{heights, shape_of, tallest};
-    ghost use Rattle.p3_merkle_core.specs.Nodes.{layer, layers, shape};
-    ghost use Rattle.p3_merkle_core.specs.Openings.{honest_rows, IsAccepted};
-    ghost use Rattle.p3_merkle_core.specs.Refusals.{answer_under};
-    ghost use Rattle.p3_merkle_core.specs.declared.error.MerkleTreeError.TheVariants.{OutOfMemory};
-    ghost use Rattle.p3_merkle_builder.specs.Built.{OkUnlessRefused};
-    ghost use Rattle.p3_merkle_builder.specs.Parts.{layers_of, matrices_of, tree_batch};
-    ghost use Rattle.p3_merkle_builder.specs.Own.{own_siblings};
+    ghost use Rattle.p3_merkle_core.specs.Geometry.{heights, tallest};
+    ghost use Rattle.p3_merkle_core.specs.Nodes.{shape};
+    ghost use Rattle.p3_merkle_core.specs.Openings.{honest, opening_in_layers};
+    ghost use Rattle.p3_merkle_core.specs.Refusals.{answer_under, AnswersUnlessMemory};
+    ghost use Rattle.p3_merkle_core.specs.Views.{opening_lent, opening_made};
     ghost use Rattle.p3_merkle_core.specs.declared.cap.CapRule.TheVariants.{Lowered};
-    ghost use Rattle.p3_merkle_tree.specs.Schemes.{cap_height_of, cap_rule_of, compression_of, hash_of, opening_lent, opening_made, proof_layer, scheme_functions};
-    ghost use Rattle.p3_support.specs.Shown.{roots_of, row_lists};
-    ghost use Rattle.p3_merkle_builder.specs.Views.{batch_of};
+    ghost use Rattle.p3_merkle_builder.specs.Parts.{layers_of, matrices_of, tree_batch};
+    ghost use Rattle.p3_merkle_layers.specs.Views.{batch_of, heights_in};
+    ghost use Rattle.p3_merkle_tree.specs.Commitments.{cap_over, IsCommitment, IsOwn};
+    ghost use Rattle.p3_merkle_tree.specs.Schemes.{cap_height_of, cap_rule_of, compression_of, hash_of, proof_layer, terms_of, terms_over};
+    ghost use Rattle.p3_support.specs.Shown.{roots_of};
 
     /// The scheme of a hasher and a compression, whose cap is `cap_height` levels below the root, 0 for the root alone,
     /// but never below the last layer to which a matrix belongs: the rule [`CapRule::Lowered`], under which a cap fixes
@@ -188,16 +188,11 @@ impl<
         ),
         MerkleTreeError,
     >
-        ensures answer { let b = batch_of M.height_of M.width_of M.row_of N matrices.items in
-            OkUnlessRefused result (gate_refusal (heights (shape b))) }
+        ensures answer { AnswersUnlessMemory result (gate_refusal (heights_in M.height_of M.width_of M.row_of matrices.items)) }
         ensures matrices { IfOk result (λ (cap, tree). matrices_of tree ≡ matrices.items) }
-        ensures layers { let f = scheme_functions H.hash C.compression D self.now in
-            let b = batch_of M.height_of M.width_of M.row_of N matrices.items in
-            IfOk result (λ (cap, tree). layers_of tree ≡ layers f b) }
-        ensures cap { let f = scheme_functions H.hash C.compression D self.now in
-            let b = batch_of M.height_of M.width_of M.row_of N matrices.items in
-            let t = proof_layer self.now (shape b) in
-            IfOk result (λ (cap, tree). roots_of cap ≡ layer f b t) }
+        ensures committed { let b = batch_of M.height_of M.width_of M.row_of N matrices.items in
+            let c = terms_over H.hash C.compression D self.now (shape b) in
+            IfOk result (λ (cap, tree). IsCommitment c (roots_of cap) b (layers_of tree)) }
     {
         tell_arity::<N>();
         let tree = MerkleTree::<P::Value, PW::Value, M, N, D>::new::<P, PW, H, C>(
@@ -230,17 +225,18 @@ impl<
         tree: &MerkleTree<P::Value, PW::Value, M, N, D>,
     ) -> Result<BatchOpening<P::Value, Vec<[PW::Value; D]>>, MerkleTreeError>
         requires { index < tallest (heights (shape (tree_batch tree.now))) }
-        ensures rows { let rows = honest_rows (tree_batch tree.now) index in
-            IfOk result (λ o. row_lists o.opened_values.items ≡ rows) }
-        ensures siblings { let s = shape (tree_batch tree.now) in
-            let t = proof_layer self.now s in
-            IfOk result (λ o. o.opening_proof.items ≡ own_siblings s (layers_of tree.now) t index) }
-        ensures accepted { let f = scheme_functions H.hash C.compression D self.now in
-            let b = tree_batch tree.now in
+        ensures opened { let b = tree_batch tree.now in
             let t = proof_layer self.now (shape b) in
-            layers_of tree.now ≡ layers f b →
-            IfOk result (λ o. IsAccepted f (shape b) t (layer f b t) (opening_made index o)) }
-        ensures memory { IfErr result (λ e. e ≡ OutOfMemory) }
+            IfOk result (λ o. opening_made index o ≡ opening_in_layers b (layers_of tree.now) t index) }
+
+        // Where the tree is this scheme's own, the opening is the honest one, and it is accepted.
+        ensures honest { let b = tree_batch tree.now in
+            let c = terms_over H.hash C.compression D self.now (shape b) in
+            IsOwn c b (layers_of tree.now) → IfOk result (λ o. opening_made index o ≡ honest c.functions b c.layer index) }
+        ensures accepted { let b = tree_batch tree.now in
+            let c = terms_over H.hash C.compression D self.now (shape b) in
+            IsOwn c b (layers_of tree.now) → IfOk result (λ o. IsAccepted c (cap_over c b) (opening_made index o)) }
+        ensures memory { AnswersUnlessMemory result None }
     {
         let proof_levels = cap_layer_in(tree, self.cap_rule, self.cap_height);
         let opened_values = rows_of_index(alloc, tree, index)?;
@@ -276,16 +272,10 @@ impl<
         index: usize,
         opening: BatchOpeningRef<'_, P::Value, Vec<[PW::Value; D]>>,
     ) -> Result<(), MerkleTreeError>
-        ensures answer { let f = scheme_functions H.hash C.compression D self.now in
-            let s = shape_of N dimensions.now in
-            let t = proof_layer self.now s in
-            result ≡ answer_under PW.Value.eq f s t (roots_of commit.now)
-            (opening_lent index opening.entry) }
-        ensures accepted { let f = scheme_functions H.hash C.compression D self.now in
-            let s = shape_of N dimensions.now in
-            let t = proof_layer self.now s in
-            IsOk result ↔
-            IsAccepted f s t (roots_of commit.now) (opening_lent index opening.entry) }
+        ensures answer { let c = terms_of H.hash C.compression D self.now dimensions.now in
+            result ≡ answer_under PW.Value.eq c (roots_of commit.now) (opening_lent index opening.entry) }
+        ensures accepted { let c = terms_of H.hash C.compression D self.now dimensions.now in
+            IsOk result ↔ IsAccepted c (roots_of commit.now) (opening_lent index opening.entry) }
     {
         let steps = steps_of(dimensions, N);
         let t = steps.cap_layer(self.cap_rule, self.cap_height);

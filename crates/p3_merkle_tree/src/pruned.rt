@@ -1,17 +1,16 @@
 //! Pruned openings: the rows of several leaves by one proof, with no digest that the rows give already.
 
-ghost use Rattle.std.specs.Prelude.{◌≡◌, ◌<◌, All, IfErr, IfOk, IsOk, length, map};
-ghost use Rattle.p3_merkle_core.specs.Children.{shown_paths};
-ghost use Rattle.p3_merkle_core.specs.Geometry.{heights, heights_of, shape_of, tallest};
-ghost use Rattle.p3_merkle_core.specs.Nodes.{layer, layers, shape};
-ghost use Rattle.p3_merkle_core.specs.Openings.{honest_rows, honest_siblings};
-ghost use Rattle.p3_merkle_core.specs.PrunedCalls.{own_digests, pruned_len, pruned_len_refusal, restored_paths, row_sets, IsPrunedAccepted};
-ghost use Rattle.p3_merkle_core.specs.Pruning.{boundary, IsLeast};
-ghost use Rattle.p3_merkle_core.specs.Refusals.{pruned_refusal, pruned_refusal_under, IsRestorable};
-ghost use Rattle.p3_merkle_core.specs.declared.error.MerkleTreeError.TheVariants.{OutOfMemory};
-ghost use Rattle.p3_merkle_builder.specs.Built.{OkUnlessRefused};
+ghost use Rattle.std.specs.Prelude.{◌≡◌, ◌<◌, All, IfOk, IsOk, None, length, map};
+ghost use Rattle.p3_merkle_core.specs.Geometry.{heights, shape_of, tallest};
+ghost use Rattle.p3_merkle_core.specs.Nodes.{shape};
+ghost use Rattle.p3_merkle_core.specs.Openings.{honest};
+ghost use Rattle.p3_merkle_core.specs.Presented.{presented_pruned, presented_to_restore, IsVerdict};
+ghost use Rattle.p3_merkle_core.specs.Pruning.{honest_query, pruned_in_layers, pruned_len, restored_paths, IsLeast, IsPrunedAccepted};
+ghost use Rattle.p3_merkle_core.specs.Refusals.{pruned_len_refusal, AnswersUnlessMemory};
+ghost use Rattle.p3_merkle_core.specs.Views.{multi_made, pruned_lent, pruned_made, shown_paths};
 ghost use Rattle.p3_merkle_builder.specs.Parts.{layers_of, tree_batch};
-ghost use Rattle.p3_merkle_tree.specs.Schemes.{proof_layer, pruned_lent, pruned_made, scheme_functions};
+ghost use Rattle.p3_merkle_tree.specs.Commitments.{cap_over, IsOwn};
+ghost use Rattle.p3_merkle_tree.specs.Schemes.{cap_of, proof_layer, terms_of, terms_over};
 ghost use Rattle.p3_support.specs.Shown.{roots_of};
 
 use crate::mmcs::{MerkleTreeMmcs, Scheme};
@@ -50,13 +49,9 @@ impl<P: PackedValue, PW: PackedValue, H, C, X, G, const N: usize> Scheme<P, PW, 
         dimensions: &[Dimensions],
         indices: &[usize],
     ) -> Result<usize, MerkleTreeError>
-        ensures answer { let s = shape_of N dimensions.now in
-            OkUnlessRefused result (pruned_len_refusal s indices.now) }
-        ensures count { let s = shape_of N dimensions.now in
-            IfOk result (λ count. count ≡ pruned_len s indices.now (proof_layer self.now s)) }
-        ensures least { let s = shape_of N dimensions.now in
-            let t = proof_layer self.now s in
-            IfOk result (λ count. IsLeast s indices.now t (boundary s indices.now t)) }
+        ensures answer { AnswersUnlessMemory result (pruned_len_refusal (shape_of N dimensions.now) indices.now) }
+        ensures least { let t = cap_of self.now dimensions.now in
+            IfOk result (λ count. IsLeast (shape_of N dimensions.now) indices.now t count) }
     {
         check_heights(dimensions)?;
         check_indices(tallest_of(dimensions), indices)?;
@@ -91,25 +86,26 @@ impl<
         tree: &MerkleTree<P::Value, PW::Value, M, N, D>,
     ) -> Result<PrunedBatchOpening<P::Value, PW::Value, D>, MerkleTreeError>
         requires { All (λ index. index < tallest (heights (shape (tree_batch tree.now)))) indices.now }
-        ensures rows { let rows = map (honest_rows (tree_batch tree.now)) indices.now in
-            IfOk result (λ o. row_sets o.opened_values.items ≡ rows) }
-        ensures digests { let s = shape (tree_batch tree.now) in
-            let t = proof_layer self.now s in
-            IfOk result (λ o. o.pruned_proof.sibling_hashes.items ≡ own_digests s (layers_of tree.now) indices.now t) }
+        ensures opened { let b = tree_batch tree.now in
+            let t = proof_layer self.now (shape b) in
+            IfOk result (λ o. pruned_made indices.now o ≡ pruned_in_layers b (layers_of tree.now) t indices.now) }
         ensures least { let s = shape (tree_batch tree.now) in
             let t = proof_layer self.now s in
-            IfOk result (λ o. IsLeast s indices.now t (boundary s indices.now t)) }
-        ensures accepted { let f = scheme_functions H.hash C.compression D self.now in
-            let b = tree_batch tree.now in
-            let t = proof_layer self.now (shape b) in
-            layers_of tree.now ≡ layers f b →
-            IfOk result (λ o. IsPrunedAccepted f (shape b) t (layer f b t) (pruned_made indices.now o)) }
-        ensures restored { let f = scheme_functions H.hash C.compression D self.now in
-            let b = tree_batch tree.now in
-            let t = proof_layer self.now (shape b) in
-            layers_of tree.now ≡ layers f b →
-            IfOk result (λ o. restored_paths f (shape b) t (pruned_made indices.now o) ≡ map (λ i. (i, honest_siblings f b t i)) indices.now) }
-        ensures memory { IfErr result (λ e. e ≡ OutOfMemory) }
+            IfOk result (λ o. IsLeast s indices.now t (length (pruned_made indices.now o).digests)) }
+
+        // Where the tree is this scheme's own, the opening is the honest one; it is accepted, and restores to the siblings
+        // that `open_batch` opens.
+        ensures honest { let b = tree_batch tree.now in
+            let c = terms_over H.hash C.compression D self.now (shape b) in
+            IsOwn c b (layers_of tree.now) → IfOk result (λ o. pruned_made indices.now o ≡ honest_query c.functions b c.layer indices.now) }
+        ensures accepted { let b = tree_batch tree.now in
+            let c = terms_over H.hash C.compression D self.now (shape b) in
+            IsOwn c b (layers_of tree.now) → IfOk result (λ o. IsPrunedAccepted c (cap_over c b) (pruned_made indices.now o)) }
+        ensures restored { let b = tree_batch tree.now in
+            let c = terms_over H.hash C.compression D self.now (shape b) in
+            IsOwn c b (layers_of tree.now) → IfOk result (λ o. restored_paths c (pruned_made indices.now o) ≡
+            map (λ i. (i, (honest c.functions b c.layer i).siblings)) indices.now) }
+        ensures memory { AnswersUnlessMemory result None }
     {
         let t = cap_layer_in(tree, self.cap_rule, self.cap_height);
         let opened_values = rows_of_indices(alloc, tree, indices)?;
@@ -132,12 +128,26 @@ impl<
         tree: &MerkleTree<P::Value, PW::Value, M, N, D>,
     ) -> Result<(Vec<Vec<Vec<P::Value>>>, PrunedMerklePaths<PW::Value, D>), MerkleTreeError>
         requires { All (λ index. index < tallest (heights (shape (tree_batch tree.now)))) indices.now }
-        ensures rows { let rows = map (honest_rows (tree_batch tree.now)) indices.now in
-            IfOk result (λ o. row_sets o.0.items ≡ rows) }
-        ensures digests { let s = shape (tree_batch tree.now) in
+        ensures opened { let b = tree_batch tree.now in
+            let t = proof_layer self.now (shape b) in
+            IfOk result (λ o. multi_made indices.now o ≡ pruned_in_layers b (layers_of tree.now) t indices.now) }
+        ensures least { let s = shape (tree_batch tree.now) in
             let t = proof_layer self.now s in
-            IfOk result (λ o. o.1.sibling_hashes.items ≡ own_digests s (layers_of tree.now) indices.now t) }
-        ensures memory { IfErr result (λ e. e ≡ OutOfMemory) }
+            IfOk result (λ o. IsLeast s indices.now t (length (multi_made indices.now o).digests)) }
+
+        // Where the tree is this scheme's own, the opening is the honest one; it is accepted, and restores to the siblings
+        // that `open_batch` opens.
+        ensures honest { let b = tree_batch tree.now in
+            let c = terms_over H.hash C.compression D self.now (shape b) in
+            IsOwn c b (layers_of tree.now) → IfOk result (λ o. multi_made indices.now o ≡ honest_query c.functions b c.layer indices.now) }
+        ensures accepted { let b = tree_batch tree.now in
+            let c = terms_over H.hash C.compression D self.now (shape b) in
+            IsOwn c b (layers_of tree.now) → IfOk result (λ o. IsPrunedAccepted c (cap_over c b) (multi_made indices.now o)) }
+        ensures restored { let b = tree_batch tree.now in
+            let c = terms_over H.hash C.compression D self.now (shape b) in
+            IsOwn c b (layers_of tree.now) → IfOk result (λ o. restored_paths c (multi_made indices.now o) ≡
+            map (λ i. (i, (honest c.functions b c.layer i).siblings)) indices.now) }
+        ensures memory { AnswersUnlessMemory result None }
     {
         let PrunedRows {
             opened_values,
@@ -180,22 +190,11 @@ impl<
         rows: &[Vec<Vec<P::Value>>],
         proof: &PrunedMerklePaths<PW::Value, D>,
     ) -> Result<(), MerkleTreeError>
-        ensures answer { let f = scheme_functions H.hash C.compression D self.now in
-            let s = shape_of N dimensions.now in
-            let t = proof_layer self.now s in
+        ensures verdict { let c = terms_of H.hash C.compression D self.now dimensions.now in
             let p = pruned_lent indices.now rows.now proof.now in
-            OkUnlessRefused result (pruned_refusal_under P.Value.eq PW.Value.eq f s t (roots_of commit.now) p) }
-        ensures accepted { let f = scheme_functions H.hash C.compression D self.now in
-            let s = shape_of N dimensions.now in
-            let t = proof_layer self.now s in
-            IsOk result → IsPrunedAccepted f s t (roots_of commit.now) (pruned_lent indices.now rows.now proof.now) }
-        ensures taken { let f = scheme_functions H.hash C.compression D self.now in
-            let s = shape_of N dimensions.now in
-            let t = proof_layer self.now s in
-            IsPrunedAccepted f s t (roots_of commit.now) (pruned_lent indices.now rows.now proof.now) →
-            IfErr result (λ e. e ≡ OutOfMemory) }
-        ensures count { let s = shape_of N dimensions.now in
-            IsOk result → length proof.now.sibling_hashes.items ≡ pruned_len s indices.now (proof_layer self.now s) }
+            IsVerdict (presented_pruned P.Value.eq PW.Value.eq c (roots_of commit.now) p) result }
+        ensures count { let t = cap_of self.now dimensions.now in
+            IsOk result → length proof.now.sibling_hashes.items ≡ pruned_len (shape_of N dimensions.now) indices.now t }
     {
         let t = self.proof_levels(dimensions);
         let checker = self.checker();
@@ -226,22 +225,11 @@ impl<
         rows: &[Vec<Vec<P::Value>>],
         proof: &PrunedMerklePaths<PW::Value, D>,
     ) -> Result<(), MerkleTreeError>
-        ensures answer { let f = scheme_functions H.hash C.compression D self.now in
-            let s = shape_of N dimensions.now in
-            let t = proof_layer self.now s in
+        ensures verdict { let c = terms_of H.hash C.compression D self.now dimensions.now in
             let p = pruned_lent indices.now rows.now proof.now in
-            OkUnlessRefused result (pruned_refusal_under P.Value.eq PW.Value.eq f s t (roots_of commit.now) p) }
-        ensures accepted { let f = scheme_functions H.hash C.compression D self.now in
-            let s = shape_of N dimensions.now in
-            let t = proof_layer self.now s in
-            IsOk result → IsPrunedAccepted f s t (roots_of commit.now) (pruned_lent indices.now rows.now proof.now) }
-        ensures taken { let f = scheme_functions H.hash C.compression D self.now in
-            let s = shape_of N dimensions.now in
-            let t = proof_layer self.now s in
-            IsPrunedAccepted f s t (roots_of commit.now) (pruned_lent indices.now rows.now proof.now) →
-            IfErr result (λ e. e ≡ OutOfMemory) }
-        ensures count { let s = shape_of N dimensions.now in
-            IsOk result → length proof.now.sibling_hashes.items ≡ pruned_len s indices.now (proof_layer self.now s) }
+            IsVerdict (presented_pruned P.Value.eq PW.Value.eq c (roots_of commit.now) p) result }
+        ensures count { let t = cap_of self.now dimensions.now in
+            IsOk result → length proof.now.sibling_hashes.items ≡ pruned_len (shape_of N dimensions.now) indices.now t }
     {
         self.verify_batch_pruned(alloc, commit, dimensions, indices, rows, proof)
     }
@@ -279,19 +267,12 @@ impl<
         rows: &[Vec<Vec<P::Value>>],
         proof: &PrunedMerklePaths<PW::Value, D>,
     ) -> Result<Vec<MerkleAuthPath<PW::Value, D>>, MerkleTreeError>
-        ensures answer { let s = shape_of N dimensions.now in
-            let t = proof_layer self.now s in
-            OkUnlessRefused result (pruned_refusal P.Value.eq s t (pruned_lent indices.now rows.now proof.now)) }
-        ensures restorable { let s = shape_of N dimensions.now in
-            let t = proof_layer self.now s in
-            IsOk result → IsRestorable s t (pruned_lent indices.now rows.now proof.now) }
-        ensures taken { let s = shape_of N dimensions.now in
-            let t = proof_layer self.now s in
-            IsRestorable s t (pruned_lent indices.now rows.now proof.now) → IfErr result (λ e. e ≡ OutOfMemory) }
-        ensures paths { let f = scheme_functions H.hash C.compression D self.now in
-            let s = shape_of N dimensions.now in
-            let t = proof_layer self.now s in
-            IfOk result (λ paths. shown_paths paths.items ≡ restored_paths f s t (pruned_lent indices.now rows.now proof.now)) }
+        ensures verdict { let t = cap_of self.now dimensions.now in
+            let p = pruned_lent indices.now rows.now proof.now in
+            IsVerdict (presented_to_restore P.Value.eq (shape_of N dimensions.now) t p) result }
+        ensures paths { let c = terms_of H.hash C.compression D self.now dimensions.now in
+            let p = pruned_lent indices.now rows.now proof.now in
+            IfOk result (λ paths. shown_paths paths.items ≡ restored_paths c p) }
     {
         let t = self.proof_levels(dimensions);
         let checker = self.checker();

@@ -26,9 +26,8 @@ impl<P: PackedValue, PW: PackedValue, H, C, X: Copy, G, const N: usize> Scheme<
     ghost use Rattle.p3_merkle_core.specs.Gate.{gate_refusal};
     ghost use Rattle.p3_merkle_core.specs.Geometry.{arity_schedule as schedule_in, exponent, heights, heights_of, positions_below, schedule_below, shape_of, tallest};
     ghost use Rattle.p3_merkle_core.specs.Nodes.{shape};
-    ghost use Rattle.p3_merkle_core.specs.Refusals.{replay_refusal};
+    ghost use Rattle.p3_merkle_core.specs.Refusals.{replay_refusal, AnswersUnlessMemory};
     ghost use Rattle.p3_merkle_core.specs.declared.error.MerkleTreeError.TheVariants.{OutOfMemory};
-    ghost use Rattle.p3_merkle_builder.specs.Built.{OkUnlessRefused};
     ghost use Rattle.p3_merkle_builder.specs.Parts.{matrices_of, tree_batch};
     ghost use Rattle.p3_merkle_tree.specs.Schemes.{proof_layer};
 
@@ -44,7 +43,7 @@ impl<P: PackedValue, PW: PackedValue, H, C, X: Copy, G, const N: usize> Scheme<
         alloc: Global,
         dimensions: &[Dimensions],
     ) -> Result<Vec<usize>, MerkleTreeError>
-        ensures answer { OkUnlessRefused result (gate_refusal (heights_of dimensions.now)) }
+        ensures answer { AnswersUnlessMemory result (gate_refusal (heights_of dimensions.now)) }
         ensures steps { let s = shape_of N dimensions.now in
             IfOk result (λ v. v.items ≡ schedule_below s (proof_layer self.now s)) }
         ensures first { let s = shape_of N dimensions.now in
@@ -72,7 +71,7 @@ impl<P: PackedValue, PW: PackedValue, H, C, X: Copy, G, const N: usize> Scheme<
         num_siblings: usize,
     ) -> Result<ArityAndPositions, MerkleTreeError>
         ensures answer { let s = shape_of N dimensions.now in
-            OkUnlessRefused result (replay_refusal s (proof_layer self.now s) index num_siblings) }
+            AnswersUnlessMemory result (replay_refusal s (proof_layer self.now s) index num_siblings) }
         ensures schedule { let s = shape_of N dimensions.now in
             IfOk result (λ r. r.arity_schedule.items ≡ schedule_below s (proof_layer self.now s)) }
         ensures positions { let s = shape_of N dimensions.now in

@@ -2,16 +2,16 @@
 
 ghost use Rattle.std.specs.Prelude.{◌≡◌, ◌<◌, All, IfErr, IfOk, IsOk};
 ghost use Rattle.p3_merkle_builder.specs.Parts.{layers_of, matrices_of, tree_batch};
-ghost use Rattle.p3_merkle_builder.specs.Views.{heights_in};
+ghost use Rattle.p3_merkle_layers.specs.Views.{heights_in};
 ghost use Rattle.p3_merkle_core.specs.Geometry.{heights, shape_of, tallest, IsLawful};
 ghost use Rattle.p3_merkle_core.specs.Nodes.{shape};
-ghost use Rattle.p3_merkle_core.specs.Openings.{opening_of, IsAccepted};
-ghost use Rattle.p3_merkle_core.specs.PrunedCalls.{IsPrunedAccepted};
-ghost use Rattle.p3_merkle_core.specs.Pruning.{pruned_of};
+ghost use Rattle.p3_merkle_core.specs.Openings.{opening_of};
+ghost use Rattle.p3_merkle_core.specs.Checks.{IsAccepted};
+ghost use Rattle.p3_merkle_core.specs.Pruning.{pruned_of, IsPrunedAccepted};
 ghost use Rattle.p3_merkle_core.specs.declared.error.MerkleTreeError.TheVariants.{OutOfMemory};
 ghost use Rattle.p3_merkle_tree.specs.CommitmentLaws.{at_same, each_shown, row_in_matrix, same_is_equivalence, shown_rows_fit, tallest_at_index};
 ghost use Rattle.p3_merkle_tree.specs.Commitments.{halved_index, IsCommitment, IsSameScheme, IsShown};
-ghost use Rattle.p3_merkle_tree.specs.Schemes.{opening_lent, proof_layer, scheme_functions};
+ghost use Rattle.p3_merkle_tree.specs.Schemes.{cap_of, scheme_functions, terms_of, terms_over};
 ghost use Rattle.p3_support.specs.Batches.{greatest_height};
 ghost use Rattle.p3_support.specs.Shown.{roots_of};
 
@@ -26,6 +26,7 @@ use p3_support::mmcs::Mmcs;
 use p3_support::opening::{BatchOpening, BatchOpeningRef, MerkleCap};
 use p3_support::packed::PackedValue;
 use std::alloc::Global;
+ghost use Rattle.p3_merkle_core.specs.Views.{opening_lent};
 
 /// The calls of the scheme. What is committed to is a tree, and a commitment is its cap.
 impl<
@@ -56,19 +57,18 @@ impl<
     ghost matrices_in = { λ tree. matrices_of tree };
 
     ghost commits_to = { λ s cap tree. let b = tree_batch tree in
-        IsCommitment (scheme_functions H.hash C.compression D s) (proof_layer s (shape b)) (roots_of cap) b (layers_of tree) };
+        IsCommitment (terms_over H.hash C.compression D s (shape b)) (roots_of cap) b (layers_of tree) };
 
     ghost row_at = { halved_index };
 
-    ghost is_shown = { λ s cap dimensions index rows. let sh = shape_of N dimensions in
-        IsShown (scheme_functions H.hash C.compression D s) sh (proof_layer s sh) (roots_of cap) index rows };
+    ghost is_shown = { λ s cap dimensions index rows.
+        IsShown (terms_of H.hash C.compression D s dimensions) (roots_of cap) index rows };
 
-    ghost accepts = { λ s cap dimensions index rows siblings. let sh = shape_of N dimensions in
-        IsAccepted (scheme_functions H.hash C.compression D s) sh (proof_layer s sh) (roots_of cap)
-        (opening_of index rows siblings.items) };
+    ghost accepts = { λ s cap dimensions index rows siblings.
+        IsAccepted (terms_of H.hash C.compression D s dimensions) (roots_of cap) (opening_of index rows siblings.items) };
 
-    ghost accepts_all = { λ s cap dimensions indices sets proof. let sh = shape_of N dimensions in
-        IsPrunedAccepted (scheme_functions H.hash C.compression D s) sh (proof_layer s sh) (roots_of cap)
+    ghost accepts_all = { λ s cap dimensions indices sets proof.
+        IsPrunedAccepted (terms_of H.hash C.compression D s dimensions) (roots_of cap)
         (pruned_of indices sets proof.sibling_hashes.items) };
 
     fn commit(
@@ -79,9 +79,8 @@ impl<
         ensures agrees { IsSameScheme self.old self.new }
         ensures taken { IfOk result (λ made. IsLawful (heights_in M.height_of M.width_of M.row_of matrices.items)) }
         ensures matrices { IfOk result (λ made. matrices_of made.1 ≡ matrices.items) }
-        ensures commitment { let f = scheme_functions H.hash C.compression D self.new in
-            IfOk result (λ made. let b = tree_batch made.1 in
-            IsCommitment f (proof_layer self.new (shape b)) (roots_of made.0) b (layers_of made.1)) }
+        ensures commitment { IfOk result (λ made. let b = tree_batch made.1 in
+            IsCommitment (terms_over H.hash C.compression D self.new (shape b)) (roots_of made.0) b (layers_of made.1)) }
         ensures memory { IsLawful (heights_in M.height_of M.width_of M.row_of matrices.items) →
             IfErr result (λ e. e ≡ OutOfMemory) }
     {
@@ -118,11 +117,9 @@ impl<
         index: usize,
         opening: BatchOpeningRef<'_, P::Value, Self::Proof>,
     ) -> Result<(), Self::Error>
-        ensures accepted { let sh = shape_of N dimensions.now in
-            IsOk result → IsAccepted (scheme_functions H.hash C.compression D self.now) sh (proof_layer self.now sh)
+        ensures accepted { IsOk result → IsAccepted (terms_of H.hash C.compression D self.now dimensions.now)
             (roots_of commitment.now) (opening_lent index opening.entry) }
-        ensures memory { let sh = shape_of N dimensions.now in
-            IsAccepted (scheme_functions H.hash C.compression D self.now) sh (proof_layer self.now sh)
+        ensures memory { IsAccepted (terms_of H.hash C.compression D self.now dimensions.now)
             (roots_of commitment.now) (opening_lent index opening.entry) → IfErr result (λ e. e ≡ OutOfMemory) }
     {
         self.verify_batch(commitment, dimensions, index, opening)
@@ -157,23 +154,23 @@ impl<
 
     ghost shown_by_one = { λ s cap dimensions index rows siblings accepted. (siblings.items, accepted) };
 
-    ghost shown_by_all = { λ s cap dimensions indices sets proof accepted. let sh = shape_of N dimensions in
-        each_shown (scheme_functions H.hash C.compression D s) sh (proof_layer s sh) (roots_of cap)
+    ghost shown_by_all = { λ s cap dimensions indices sets proof accepted.
+        each_shown (terms_of H.hash C.compression D s dimensions) (roots_of cap)
         (pruned_of indices sets proof.sibling_hashes.items) accepted };
 
     ghost shown_fits = { λ s cap dimensions index rows.
-        shown_rows_fit (scheme_functions H.hash C.compression D s) N (proof_layer s (shape_of N dimensions)) dimensions (roots_of cap) index rows };
+        shown_rows_fit (scheme_functions H.hash C.compression D s) N (cap_of s dimensions) dimensions (roots_of cap) index rows };
 
     ghost agreement = { same_is_equivalence };
 
     ghost agreed_commitment = { λ s t cap tree. let b = tree_batch tree in
-        at_same H.hash C.compression D (shape b) s t (λ f l. IsCommitment f l (roots_of cap) b (layers_of tree)) };
+        at_same H.hash C.compression D (shape b) s t (λ c. IsCommitment c (roots_of cap) b (layers_of tree)) };
 
-    ghost agreed_proof = { λ s t cap dimensions index rows siblings. let sh = shape_of N dimensions in
-        at_same H.hash C.compression D sh s t (λ f l. IsAccepted f sh l (roots_of cap) (opening_of index rows siblings.items)) };
+    ghost agreed_proof = { λ s t cap dimensions index rows siblings.
+        at_same H.hash C.compression D (shape_of N dimensions) s t (λ c. IsAccepted c (roots_of cap) (opening_of index rows siblings.items)) };
 
-    ghost agreed_proof_of_all = { λ s t cap dimensions indices sets proof. let sh = shape_of N dimensions in
-        at_same H.hash C.compression D sh s t (λ f l. IsPrunedAccepted f sh l (roots_of cap) (pruned_of indices sets proof.sibling_hashes.items)) };
+    ghost agreed_proof_of_all = { λ s t cap dimensions indices sets proof.
+        at_same H.hash C.compression D (shape_of N dimensions) s t (λ c. IsPrunedAccepted c (roots_of cap) (pruned_of indices sets proof.sibling_hashes.items)) };
 }
 
 /// Tells that an index below the greatest height is below the tallest one of the tree. It does nothing at run time.

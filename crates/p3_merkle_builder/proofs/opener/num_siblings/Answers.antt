@@ -3,7 +3,7 @@ use Rattle.std.proofs.Common.{arith, ap, sym, ◌≡◌, ◌∙◌, length, take
 use Rattle.std.proofs.lemmas.List.{length-take-le}
 use Rattle.p3_merkle_core.specs.Geometry.{heights}
 use Rattle.p3_merkle_core.specs.Nodes.{shape}
-use Rattle.p3_merkle_core.specs.Openings.{siblings_below}
+use Rattle.p3_merkle_core.specs.Checks.{siblings_below}
 use Rattle.p3_merkle_core.proofs.SiblingFacts.{siblings_start}
 use Rattle.p3_merkle_builder.specs.Parts.{tree_batch}
 use Rattle.p3_merkle_builder.proofs.OwnFacts.{counts_level, steps_count}

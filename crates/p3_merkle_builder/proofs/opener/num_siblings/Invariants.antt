@@ -1,6 +1,6 @@
 use Rattle.std.proofs.Common.{◌≡◌}
 use Rattle.p3_merkle_core.specs.Nodes.{shape}
-use Rattle.p3_merkle_core.specs.Openings.{siblings_below}
+use Rattle.p3_merkle_core.specs.Checks.{siblings_below}
 use Rattle.p3_merkle_builder.specs.Parts.{tree_batch}
 use Rattle.p3_merkle_builder.proofs.opener.num_siblings.Given as goal
 

@@ -1,14 +1,16 @@
 -- Each turn opens the group of one level.
-use Rattle.std.proofs.Common.{arith, sym, length, length-take, length-drop}
+use Rattle.std.proofs.Common.{◌≡◌, ◌∙◌, ℕ, ap, arith, sym, length, length-take, length-drop}
 use Rattle.p3_merkle_core.specs.Nodes.{shape}
 use Rattle.p3_merkle_core.proofs.StepFacts.{anc_start, step_above_1}
-use Rattle.p3_merkle_builder.specs.Parts.{tree_batch}
+use Rattle.p3_merkle_builder.specs.Parts.{layers_of, tree_batch}
 use Rattle.p3_merkle_builder.proofs.TreeFacts.{layers_count}
-use Rattle.p3_merkle_builder.proofs.OwnFacts.{steps_count, step_of, group_at_level, group_next}
+use Rattle.p3_merkle_builder.proofs.OwnFacts.{steps_count, step_of, group_at_level, group_next, node_next}
+use Rattle.p3_merkle_core.specs.Openings.{level_siblings, node_in}
+use Rattle.p3_merkle_core.proofs.ListFacts.{joined}
 use Rattle.p3_merkle_builder.proofs.opener.siblings_of_index.Goals as goal
 
 pub loop-level-init : goal.loop-level-init
-loop-level-init g c = (c.in_ok-siblings.ensures.items, sym (anc_start (shape (tree_batch c.args.tree.now)) c.args.index))
+loop-level-init g c = (λ d. c.in_ok-siblings.ensures.items, sym (anc_start (shape (tree_batch c.args.tree.now)) c.args.index))
 
 pub index-step-requires : goal.index-step-requires
 index-step-requires g c =
@@ -67,5 +69,12 @@ loop-level-preserved g c =
     let w = group_at_level (λ nodes. length nodes.items) tree.layers.items tree.arity_schedule.items (shape (tree_batch tree)) c.args.index c.loop-level.level c.args.t c.index-step.result.now c.loop-level.ancestor c.index.result.now
     tree.arity tree.lawful tree.layer_lengths tree.schedule c.requires.index c.requires.layer c.loop-level-test.true c.loop-level.invariant.1 c.index-step.ensures c.index.ensures in
     let count = layers_count (λ nodes. length nodes.items) tree.layers.items (shape (tree_batch tree)) tree.layer_lengths in
-    group_next (λ nodes. nodes.items) tree.layers.items (shape (tree_batch tree)) c.args.index c.loop-level.level c.index-step.result.now c.loop-level.ancestor c.index.result.now c.loop-level.siblings.items c.extend_with_others.new.siblings.items
-    w (omega arith) c.index.ensures c.loop-level.invariant.0 (rw (← c.deref.ensures.value) (c.in_ok-extend_with_others.ensures.others))
+    (λ d. group_next d (λ nodes. nodes.items) tree.layers.items (shape (tree_batch tree)) c.args.index c.loop-level.level c.index-step.result.now c.loop-level.ancestor c.index.result.now c.loop-level.siblings.items c.extend_with_others.new.siblings.items
+    w (omega arith) c.index.ensures (c.loop-level.invariant.0 d) (rw (← c.deref.ensures.value) (c.in_ok-extend_with_others.ensures.others)),
+    node_next (shape (tree_batch tree)) c.args.index c.loop-level.level c.index-step.result.now c.loop-level.ancestor (length c.index.result.now.items) w)
+
+pub returns-clause-siblings : goal.returns-clause-siblings
+returns-clause-siblings g c = λ d.
+    let s = shape (tree_batch c.args.tree.now) in
+    let here : c.loop-level.level ≡ c.args.t = omega arith in
+    c.loop-level.invariant.0 d ∙ ap (λ (l : ℕ). joined (level_siblings (node_in d (layers_of c.args.tree.now)) s c.args.index) l) here

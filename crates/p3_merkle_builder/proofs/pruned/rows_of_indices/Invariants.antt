@@ -1,6 +1,6 @@
 use Rattle.std.proofs.Common.{◌≡◌, map, take}
 use Rattle.p3_merkle_core.specs.Openings.{honest_rows}
-use Rattle.p3_merkle_core.specs.PrunedCalls.{row_sets}
+use Rattle.p3_support.specs.Shown.{row_sets}
 use Rattle.p3_merkle_builder.specs.Parts.{tree_batch}
 use Rattle.p3_merkle_builder.proofs.pruned.rows_of_indices.Given as goal
 

@@ -1,8 +1,7 @@
 -- Each turn checks the row set of one query.
 use Rattle.std.proofs.Common.{◌∙◌, ◌≡◌, ℕ, ◌+◌, [], None, Some, ap, sym, arith, drop, get_or}
 use Rattle.std.proofs.lemmas.Result.{err_from_is_err_and}
-use Rattle.p3_support.specs.Shown.{row_lists}
-use Rattle.p3_merkle_core.specs.PrunedCalls.{row_sets}
+use Rattle.p3_support.specs.Shown.{row_lists, row_sets}
 use Rattle.p3_merkle_core.specs.Refusals.{first_of, width_refusal}
 use Rattle.p3_merkle_core.proofs.SlotFacts.{set_read}
 use Rattle.p3_merkle_core.proofs.LeadFacts.{firsts_next, found_or, kept_or}

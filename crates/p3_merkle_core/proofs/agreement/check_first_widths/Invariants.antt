@@ -1,5 +1,5 @@
 use Rattle.std.proofs.Common.{◌≡◌, [], drop, get_or}
-use Rattle.p3_merkle_core.specs.PrunedCalls.{row_sets}
+use Rattle.p3_support.specs.Shown.{row_sets}
 use Rattle.p3_merkle_core.specs.Refusals.{first_of, width_refusal}
 use Rattle.p3_merkle_core.proofs.agreement.check_first_widths.Given as goal
 

@@ -2,9 +2,8 @@
 use Rattle.std.proofs.Common.{◌≡◌, ◌-◌, ◌+◌, ◌∙◌, length, arith, refl, None, Some, ap, sym}
 use Rattle.std.specs.List.{range_with_len}
 use Rattle.std.proofs.lemmas.Result.{err_from_is_err_and}
-use Rattle.p3_support.specs.Shown.{row_lists}
+use Rattle.p3_support.specs.Shown.{row_lists, row_sets}
 use Rattle.p3_merkle_core.specs.Geometry.{heights_of}
-use Rattle.p3_merkle_core.specs.PrunedCalls.{row_sets}
 use Rattle.p3_merkle_core.specs.Agreement.{nodes_refusal}
 use Rattle.p3_merkle_core.specs.Refusals.{first_of}
 use Rattle.p3_merkle_core.proofs.LeadFacts.{found_or, full_rows, kept_or, lead_place, lead_start, no_matrix, slot_fault, slot_read, slots_next}

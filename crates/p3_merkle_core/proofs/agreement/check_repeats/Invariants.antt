@@ -1,6 +1,6 @@
 use Rattle.std.proofs.Common.{◌≡◌, zip, drop}
 use Rattle.p3_merkle_core.specs.Agreement.{opened_of}
-use Rattle.p3_merkle_core.specs.PrunedCalls.{row_sets}
+use Rattle.p3_support.specs.Shown.{row_sets}
 use Rattle.p3_merkle_core.specs.Refusals.{first_of, repeat_refusal}
 use Rattle.p3_merkle_core.proofs.SlotFacts.{repeat_fault}
 use Rattle.p3_merkle_core.proofs.agreement.check_repeats.Given as goal

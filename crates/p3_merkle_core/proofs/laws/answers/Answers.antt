@@ -4,13 +4,13 @@ use Rattle.p3_merkle_core.proofs.Verdicts.{accepted_from, accepted_answer, prune
 use Rattle.p3_merkle_core.proofs.laws.answers.Goals as goal
 
 pub returns-clause-single : goal.returns-clause-single
-returns-clause-single g c = λ digest_eq f s t cap o dec. (accepted_from digest_eq f s t cap o dec, accepted_answer digest_eq f s t cap o dec)
+returns-clause-single g x = λ digest_eq c cap o dec. (accepted_from digest_eq c.functions c.shape c.layer cap o dec, accepted_answer digest_eq c.functions c.shape c.layer cap o dec)
 
 pub returns-clause-pruned : goal.returns-clause-pruned
-returns-clause-pruned g c = λ row_eq s t p dec. (restorable row_eq s t p dec, unrefused row_eq s t p dec)
+returns-clause-pruned g x = λ row_eq s t p dec. (restorable row_eq s t p dec, unrefused row_eq s t p dec)
 
 pub returns-clause-under_cap : goal.returns-clause-under_cap
-returns-clause-under_cap g c = pruned_capped
+returns-clause-under_cap g x = λ row_eq digest_eq c. pruned_capped row_eq digest_eq c.functions c.shape c.layer
 
 pub returns-clause-each_path : goal.returns-clause-each_path
-returns-clause-each_path g c = pruned_accepted
+returns-clause-each_path g x = λ row_eq digest_eq c. pruned_accepted row_eq digest_eq c.functions c.shape c.layer

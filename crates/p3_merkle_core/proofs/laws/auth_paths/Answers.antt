@@ -2,7 +2,7 @@
 use Rattle.std.proofs.Common.{rules, ◌≡◌, ◌↔◌, ℕ, Bool, ◌&&◌, IsTrue, List, ap, eqb, eq-eqb}
 use Rattle.std.proofs.lemmas.Bool.{eqb-true}
 use Rattle.std.specs.Cmp.Lexicographic.{pointwise, pointwise_decides}
-use Rattle.p3_merkle_core.specs.Children.{shown_path}
+use Rattle.p3_merkle_core.specs.Views.{shown_path}
 use Rattle.p3_merkle_core.specs.Refusals.{IsEquality}
 use Rattle.p3_merkle_core.specs.declared.pruning.AuthPath.{AuthPath}
 use Rattle.p3_merkle_core.proofs.laws.auth_paths.Goals as goal

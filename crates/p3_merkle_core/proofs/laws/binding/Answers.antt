@@ -1,8 +1,9 @@
-use Rattle.p3_merkle_core.proofs.AuthenticatedFacts.{authenticated_bound, authenticated_at_one_index}
+use Rattle.p3_merkle_core.proofs.AuthenticatedFacts.{authenticated_bound}
+use Rattle.p3_merkle_core.proofs.ExtractionFacts.{alike_at_one_index}
 use Rattle.p3_merkle_core.proofs.laws.binding.Goals as goal
 
 pub returns-clause-rows : goal.returns-clause-rows
-returns-clause-rows g c = authenticated_bound
+returns-clause-rows g x = λ c. authenticated_bound c.functions c.shape c.layer
 
 pub returns-clause-one_index : goal.returns-clause-one_index
-returns-clause-one_index g c = authenticated_at_one_index
+returns-clause-one_index g x = alike_at_one_index

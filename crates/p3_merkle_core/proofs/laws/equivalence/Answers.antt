@@ -3,13 +3,13 @@ use Rattle.p3_merkle_core.proofs.Equivalence.{equivalent}
 use Rattle.p3_merkle_core.proofs.laws.equivalence.Goals as goal
 
 pub returns-clause-restored : goal.returns-clause-restored
-returns-clause-restored g c = λ f s t cap p w r. equivalent f s t cap p w r.lawful r.below r.rows_fit r.agreed
+returns-clause-restored g x = λ c cap p w r. equivalent c.functions c.shape c.layer cap p w r.lawful r.below r.rows_fit r.agreed
 
 pub returns-clause-refused : goal.returns-clause-refused
-returns-clause-refused g c = refused_under
+returns-clause-refused g x = λ row_eq digest_eq c. refused_under row_eq digest_eq c.functions c.shape c.layer
 
 pub returns-clause-answered : goal.returns-clause-answered
-returns-clause-answered g c = answered_alike
+returns-clause-answered g x = λ row_eq digest_eq c. answered_alike row_eq digest_eq c.functions c.shape c.layer
 
 pub returns-clause-mismatch : goal.returns-clause-mismatch
-returns-clause-mismatch g c = ok_or_mismatch
+returns-clause-mismatch g x = λ row_eq digest_eq c. ok_or_mismatch row_eq digest_eq c.functions c.shape c.layer

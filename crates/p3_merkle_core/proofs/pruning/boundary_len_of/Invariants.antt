@@ -1,7 +1,6 @@
 use Rattle.std.proofs.Common.{◌≡◌}
 use Rattle.p3_merkle_core.specs.Geometry.{shape_of, layer_exponent}
-use Rattle.p3_merkle_core.specs.Pruning.{covered_at}
-use Rattle.p3_merkle_core.specs.PrunedCalls.{pruned_len}
+use Rattle.p3_merkle_core.specs.Pruning.{covered_at, pruned_len}
 use Rattle.p3_merkle_core.proofs.pruning.boundary_len_of.Given as goal
 
 -- the nodes that are covered on the level, and the digests of the levels so far

@@ -1,8 +1,8 @@
 -- What is refused draws nothing; else the pairs are those that are drawn.
 use Rattle.std.proofs.Common.{◌≡◌, ◌∙◌, List, ap, map, refl, rules, subst, sym}
 use Rattle.p3_support.specs.declared.matrix.Dimensions.{Dimensions}
-use Rattle.p3_merkle_builder.specs.Built.{OkUnlessRefused}
-use Rattle.p3_merkle_builder.specs.Views.{matrix_of}
+use Rattle.p3_merkle_core.specs.Refusals.{AnswersUnlessMemory}
+use Rattle.p3_merkle_layers.specs.Views.{matrix_of}
 use Rattle.p3_merkle_core.specs.Gate.{gate_refusal}
 use Rattle.p3_merkle_core.specs.Geometry.{heights_of}
 use Rattle.p3_merkle_core.specs.Nodes.{dimensions_of}
@@ -31,7 +31,7 @@ returns-in_err-check_heights g c =
     let shown = map (matrix_of g.M.Matrix.height_of g.M.Matrix.width_of g.M.Matrix.row_of) in
     let are = c.deref-2.ensures.value ∙ c.in_ok-dimensions.ensures ∙ ap (λ ms. dimensions_of (shown ms)) c.deref.ensures.value in
     record {
-      answer = subst (λ (ds : List Dimensions). OkUnlessRefused r (salted_commit_refusal c.args.salt_elems ds)) are (search rules);
+      answer = subst (λ (ds : List Dimensions). AnswersUnlessMemory r (salted_commit_refusal c.args.salt_elems ds)) are (search rules);
       matrices = nothing_made _ r err;
       columns = nothing_made _ r err;
       salted = nothing_made _ r err;
@@ -48,7 +48,7 @@ returns-in_err-check_widening g c =
     let are = c.deref-3.ensures.value ∙ c.in_ok-dimensions.ensures ∙ ap (λ ms. dimensions_of (shown ms)) c.deref.ensures.value in
     let gate : gate_refusal (heights_of c.deref-3.result.now) ≡ _ = ap (λ (ds : List Dimensions). gate_refusal (heights_of ds)) (c.deref-3.ensures.value ∙ sym c.deref-2.ensures.value) ∙ c.in_ok-check_heights.ensures.answer in
     record {
-      answer = subst (λ (ds : List Dimensions). OkUnlessRefused r (salted_commit_refusal c.args.salt_elems ds)) are (rw gate (search rules));
+      answer = subst (λ (ds : List Dimensions). AnswersUnlessMemory r (salted_commit_refusal c.args.salt_elems ds)) are (rw gate (search rules));
       matrices = nothing_made _ r err;
       columns = nothing_made _ r err;
       salted = nothing_made _ r err;

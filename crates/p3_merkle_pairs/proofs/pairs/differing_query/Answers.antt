@@ -4,7 +4,7 @@ use Rattle.std.proofs.lemmas.Bool.{cases_eq}
 use Rattle.p3_merkle_core.specs.Geometry.{shape_of}
 use Rattle.p3_merkle_core.specs.Nodes.{functions_of}
 use Rattle.p3_merkle_checker.specs.Checks.{opening_in}
-use Rattle.p3_merkle_pairs.specs.Pairs.{difference_of, query_in}
+use Rattle.p3_merkle_pairs.specs.Pairs.{query_difference, query_in}
 use Rattle.p3_merkle_pairs.proofs.PairFacts.{found_nowhere, found_place, shown_none}
 use Rattle.p3_merkle_pairs.proofs.QueryFacts.{shows_query}
 use Rattle.p3_merkle_pairs.proofs.pairs.differing_query.Goals as goal
@@ -19,9 +19,9 @@ loop-place-preserved g c =
     let i = c.loop-place.place in
     let second = query_in c.args.queries.now in
     let shown = shows_query eq same f s c.args.t c.in_ok-collision.field-0 o (opening_in c.opening-second.result) (second i) c.opening-second.ensures c.in_ok-collision.ensures in
-    let none = shown_none (difference_of eq same f s c.args.t o (second i)) (rw c.in_default.is at shown) in
+    let none = shown_none (query_difference eq same f s c.args.t o (second i)) (rw c.in_default.is at shown) in
     λ k below. elim (cases_eq k i) [
-      | inl here ↦ ap (λ (n : ℕ). difference_of eq same f s c.args.t o (second n)) here ∙ none
+      | inl here ↦ ap (λ (n : ℕ). query_difference eq same f s c.args.t o (second n)) here ∙ none
       | inr ne ↦ c.loop-place.invariant k (omega arith)
     ]
 
@@ -35,7 +35,7 @@ returns-in-Some g c =
     let i = c.loop-place.place in
     let second = query_in c.args.queries.now in
     let shown = shows_query eq same f s c.args.t c.in_ok-collision.field-0 o (opening_in c.opening-second.result) (second i) c.opening-second.ensures c.in_ok-collision.ensures in
-    found_place (λ b. difference_of eq same f s c.args.t o (second b)) (length c.args.queries.now.paths.items) i c.in-Some.collision (omega (arith, c.args.queries.now.paths.ok.0)) c.loop-place.invariant (rw c.in-Some.is at shown)
+    found_place (λ b. query_difference eq same f s c.args.t o (second b)) (length c.args.queries.now.paths.items) i c.in-Some.collision (omega (arith, c.args.queries.now.paths.ok.0)) c.loop-place.invariant (rw c.in-Some.is at shown)
 
 pub returns : goal.returns
 returns g c =
@@ -43,5 +43,5 @@ returns g c =
     let same = g.PW.Value.PartialEq.eq in
     let f = functions_of (g.H.CryptographicHasher.hash c.args.checker.now.hash.now) (g.C.PseudoCompressionFunction.compression c.args.checker.now.compress.now) (replicate g.row.D g.PW.PackedValue.default_value) in
     let s = shape_of g.row.N c.args.dimensions.now in
-    found_nowhere (λ b. difference_of eq same f s c.args.t (opening_in c.args.first) (query_in c.args.queries.now b)) (length c.args.queries.now.paths.items)
+    found_nowhere (λ b. query_difference eq same f s c.args.t (opening_in c.args.first) (query_in c.args.queries.now b)) (length c.args.queries.now.paths.items)
     (λ k below. c.loop-place.invariant k (omega (arith, c.args.queries.now.paths.ok.0)))

@@ -2,14 +2,14 @@ use Rattle.std.proofs.Common.{◌≡◌, ◌<◌, ℕ, None, replicate}
 use Rattle.p3_merkle_core.specs.Geometry.{shape_of}
 use Rattle.p3_merkle_core.specs.Nodes.{functions_of}
 use Rattle.p3_merkle_checker.specs.Checks.{opening_in}
-use Rattle.p3_merkle_pairs.specs.Pairs.{difference_of, query_in}
+use Rattle.p3_merkle_pairs.specs.Pairs.{query_difference, query_in}
 use Rattle.p3_merkle_pairs.proofs.pairs.differing_query.Given as goal
 
 -- no query so far differs
 abbrev pub invariant-loop-place : goal.invariant-loop-place
 invariant-loop-place g l =
     (k : ℕ) → k < l.place →
-    difference_of g.P.Value.PartialEq.eq g.PW.Value.PartialEq.eq
+    query_difference g.P.Value.PartialEq.eq g.PW.Value.PartialEq.eq
     (functions_of (g.H.CryptographicHasher.hash l.checker.hash.now) (g.C.PseudoCompressionFunction.compression l.checker.compress.now) (replicate g.row.D g.PW.PackedValue.default_value)) (shape_of g.row.N l.dimensions) l.t
     (opening_in l.first) (query_in l.queries k)
     ≡ None

@@ -1,13 +1,13 @@
--- Two openings that are accepted are answered with the first pair that differs.
+-- The first opening's refusal, else the second's, else the first pair that differs.
 use Rattle.std.proofs.Common.{replicate}
 use Rattle.p3_merkle_core.specs.Geometry.{shape_of}
 use Rattle.p3_merkle_core.specs.Nodes.{functions_of}
 use Rattle.p3_merkle_pairs.specs.Pairs.{pruned_in}
-use Rattle.p3_merkle_pairs.proofs.QueryFacts.{both_answered}
+use Rattle.p3_merkle_pairs.proofs.QueryFacts.{found_in_both}
 use Rattle.p3_merkle_pairs.proofs.pairs.extraction.Goals as goal
 
-pub returns : goal.returns
-returns g c =
+pub returns-clause-found : goal.returns-clause-found
+returns-clause-found g c =
     let f = functions_of (g.H.CryptographicHasher.hash c.args.checker.now.hash.now) (g.C.PseudoCompressionFunction.compression c.args.checker.now.compress.now) (replicate g.row.D g.PW.PackedValue.default_value) in
-    both_answered g.P.Value.PartialEq.eq g.PW.Value.PartialEq.eq f (shape_of g.row.N c.args.dimensions.now) c.args.t c.args.roots.now (pruned_in c.args.first) (pruned_in c.args.second)
-    c.in_ok-first.first c.in_ok-second.second c.in_ok-found.found c.in_ok-first.ensures.answer c.in_ok-second.ensures.answer c.in_ok-first.ensures.restored c.in_ok-second.ensures.restored c.in_ok-found.ensures
+    found_in_both g.P.Value.PartialEq.eq g.PW.Value.PartialEq.eq f (shape_of g.row.N c.args.dimensions.now) c.args.t (pruned_in c.args.first) (pruned_in c.args.second)
+    c.in_ok-first.first c.in_ok-second.second c.in_ok-found.found c.in_ok-first.ensures.restored c.in_ok-second.ensures.restored c.in_ok-found.ensures

@@ -1,9 +1,8 @@
 -- What is not refused restores.
 use Rattle.std.proofs.Common.{◌≡◌, ◌∙◌, ap, sym, None}
 use Rattle.std.proofs.lemmas.List.{length-map}
-use Rattle.p3_support.specs.Shown.{row_lists}
+use Rattle.p3_support.specs.Shown.{row_lists, row_sets}
 use Rattle.p3_merkle_core.specs.Geometry.{heights, shape_of}
-use Rattle.p3_merkle_core.specs.PrunedCalls.{row_sets}
 use Rattle.p3_merkle_core.specs.Pruning.{pruned_of}
 use Rattle.p3_merkle_core.specs.Refusals.{pruned_refusal, verdict}
 use Rattle.p3_merkle_core.proofs.Answered.{restorable}

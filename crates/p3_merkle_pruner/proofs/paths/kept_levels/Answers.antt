@@ -1,9 +1,9 @@
 -- Each turn keeps one level of the walk.
 use Rattle.std.proofs.Common.{◌≡◌, ◌∙◌, add-one, arith, refl, replicate, suc}
 use Rattle.p3_merkle_core.specs.Geometry.{shape_of}
+use Rattle.p3_support.specs.Shown.{row_sets}
 use Rattle.p3_merkle_core.specs.Nodes.{functions_of}
 use Rattle.p3_merkle_core.specs.Pruning.{pruned_of}
-use Rattle.p3_merkle_core.specs.PrunedCalls.{row_sets}
 use Rattle.p3_merkle_core.proofs.KeptFacts.{covered_up_list}
 use Rattle.p3_merkle_pruner.proofs.LayerFacts.{start_restored}
 use Rattle.p3_merkle_pruner.proofs.PathFacts.{kept_next, kept_none}

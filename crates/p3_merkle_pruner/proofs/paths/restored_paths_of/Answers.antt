@@ -1,9 +1,9 @@
 -- The paths out of the kept levels are the restored ones.
 use Rattle.std.proofs.Common.{◌∙◌, map, replicate}
 use Rattle.p3_merkle_core.specs.Geometry.{shape_of}
+use Rattle.p3_support.specs.Shown.{row_sets}
 use Rattle.p3_merkle_core.specs.Nodes.{functions_of}
 use Rattle.p3_merkle_core.specs.Pruning.{pruned_of}
-use Rattle.p3_merkle_core.specs.PrunedCalls.{row_sets}
 use Rattle.p3_merkle_core.proofs.KeptFacts.{paths_restored}
 use Rattle.p3_merkle_pruner.proofs.paths.restored_paths_of.Goals as goal
 

@@ -2,7 +2,7 @@
 use Rattle.std.proofs.Common.{◌∙◌, ◌<◌, arith, ap, sym, length, get_or, zip}
 use Rattle.std.proofs.lemmas.List.{length-map, take_all}
 use Rattle.p3_merkle_core.specs.Geometry.{heights_of}
-use Rattle.p3_merkle_core.specs.PrunedCalls.{row_sets}
+use Rattle.p3_support.specs.Shown.{row_sets}
 use Rattle.p3_merkle_checker.specs.Paths.{rows_with}
 use Rattle.p3_merkle_pruner.specs.Groups.{query_digest}
 use Rattle.p3_merkle_pruner.proofs.GroupFacts.{mapped_more, set_read}

@@ -1,6 +1,6 @@
 use Rattle.std.proofs.Common.{◌≡◌, map, take}
 use Rattle.p3_merkle_core.specs.Geometry.{heights_of}
-use Rattle.p3_merkle_core.specs.PrunedCalls.{row_sets}
+use Rattle.p3_support.specs.Shown.{row_sets}
 use Rattle.p3_merkle_pruner.specs.Groups.{query_digest}
 use Rattle.p3_merkle_pruner.proofs.rows.row_digests.Given as goal
 

@@ -1,4 +1,4 @@
-use Rattle.p3_merkle_tree.specs.Schemes.{pruned_made}
+use Rattle.p3_merkle_core.specs.Views.{pruned_made}
 use Rattle.mmcs_engine.proofs.SchemeFacts.{caps_alike, opened_alike}
 use Rattle.mmcs_engine.proofs.sha256.Sha256Suite.open.Goals as goal
 

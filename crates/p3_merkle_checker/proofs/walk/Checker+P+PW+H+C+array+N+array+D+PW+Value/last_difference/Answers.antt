@@ -1,6 +1,6 @@
 -- Each turn is one level of both checks.
 use Rattle.std.proofs.Common.{◌≡◌, ◌∙◌, add-one, arith, inl, inr, replicate, suc}
-use Rattle.p3_merkle_core.specs.Extracting.{input_eq}
+use Rattle.p3_merkle_core.specs.Extraction.{input_eq}
 use Rattle.p3_merkle_core.specs.Geometry.{layer_exponent, shape_of}
 use Rattle.p3_merkle_core.specs.Nodes.{functions_of}
 use Rattle.p3_merkle_checker.specs.Checks.{opening_in}

@@ -3,18 +3,21 @@ use Rattle.std.proofs.Common.{◌≡◌, ◌∙◌, List, ap, map, refl, rules, 
 use Rattle.std.specs.Prelude.{IfOk}
 use Rattle.std.proofs.lemmas.Result.{IfOk-weaker}
 use Rattle.p3_support.specs.Pairs.{left_of}
+use Rattle.p3_merkle_salts.specs.Salted.{salted_matrices}
 use Rattle.p3_support.specs.Shown.{roots_of}
 use Rattle.p3_merkle_builder.specs.Parts.{layers_of}
-use Rattle.p3_merkle_builder.specs.Views.{matrix_of}
+use Rattle.p3_merkle_layers.specs.Views.{matrix_of}
 use Rattle.p3_merkle_core.specs.Gate.{gate_refusal}
-use Rattle.p3_merkle_core.specs.Geometry.{heights_of}
-use Rattle.p3_merkle_core.specs.Nodes.{Batch, Matrix, dimensions_of, layer, layers, shape}
-use Rattle.p3_merkle_tree.specs.Schemes.{proof_layer, scheme_functions}
+use Rattle.p3_merkle_core.specs.Geometry.{heights_of, shape_of}
+use Rattle.p3_support.specs.declared.matrix.Dimensions.{Dimensions}
+use Rattle.p3_merkle_core.specs.Nodes.{Batch, Matrix, dimensions_of, shape}
+use Rattle.p3_merkle_tree.specs.Schemes.{terms_over}
+use Rattle.p3_merkle_tree.specs.Commitments.{IsCommitment}
 use Rattle.p3_merkle_hiding.specs.HidingSchemes.{generator_of, plain_of}
 use Rattle.p3_merkle_salts.specs.SaltRefusals.{salted_commit_refusal, widening_refusal}
 use Rattle.p3_merkle_salts.specs.SaltedTrees.{HaveSaltColumns, pair_matrix}
 use Rattle.p3_merkle_core.proofs.NoneFacts.{none_parts}
-use Rattle.p3_merkle_hiding.proofs.CommitFacts.{gate_stays, memory_alone, memory_or, nothing_drawn, nothing_made, on_ok, unrefused}
+use Rattle.p3_merkle_hiding.proofs.CommitFacts.{gate_stays, memory_alone, memory_or, nothing_drawn, nothing_made, on_ok, salted_widened, unrefused}
 use Rattle.p3_merkle_hiding.proofs.commit.MerkleTreeHidingMmcs+P+PW+H+C+R+N+D+SALT_ELEMS.commit.Goals as goal
 
 pub returns-in_err-pairs : goal.returns-in_err-pairs
@@ -26,8 +29,7 @@ returns-in_err-pairs g c =
       matrices = nothing_made _ r err;
       columns = nothing_made _ r err;
       batch = nothing_made _ r err;
-      layers = nothing_made _ r err;
-      cap = nothing_made _ r err;
+      committed = nothing_made _ r err;
       rest = nothing_drawn _ r err;
       further = c.checked_pairs.ensures.further;
       untouched = search rules;
@@ -40,7 +42,7 @@ returns g c =
     let e = g.row.SALT_ELEMS in
     let of_word = g.P.Value.SaltWord.of_salt_word in
     let plain = plain_of c.args.self.now in
-    let f = scheme_functions g.H.CryptographicHasher.hash g.C.PseudoCompressionFunction.compression g.row.D plain in
+    let terms = terms_over g.H.CryptographicHasher.hash g.C.PseudoCompressionFunction.compression g.row.D plain in
     let ms = c.args.matrices.items in
     let drawn = g.R.Rng.stream (generator_of c.args.self.now) in
     let r = c.commit.result in
@@ -55,8 +57,9 @@ returns g c =
       matrices = IfOk-weaker r _ _ (λ made is. ap (map left_of) is ∙ c.in_ok-pairs.ensures.matrices) c.commit.ensures.matrices;
       columns = IfOk-weaker r _ _ (λ made is. subst (λ (z : List _). HaveSaltColumns e z) (sym is) c.in_ok-pairs.ensures.columns) c.commit.ensures.matrices;
       batch = IfOk-weaker r _ _ (λ made is. ap (λ z. over (map pair_matrix z)) is ∙ ap over salted) c.commit.ensures.matrices;
-      layers = subst (λ (b : Batch _). IfOk r (λ made. layers_of made.1 ≡ layers f b)) (ap over salted) c.commit.ensures.layers;
-      cap = subst (λ (b : Batch _). IfOk r (λ made. roots_of made.0 ≡ layer f b (proof_layer plain (shape b)))) (ap over salted) c.commit.ensures.cap;
+      committed =
+          subst (λ (ds : List Dimensions). IfOk r (λ made. IsCommitment (terms (shape_of g.row.N ds)) (roots_of made.0) (over (salted_matrices of_word e (shown ms) drawn)) (layers_of made.1))) (salted_widened of_word e (shown ms) drawn)
+          (subst (λ (b : Batch _). IfOk r (λ made. IsCommitment (terms (shape b)) (roots_of made.0) b (layers_of made.1))) (ap over salted) c.commit.ensures.committed);
       rest = on_ok _ r c.in_ok-pairs.ensures.rest;
       further = c.in_ok-pairs.ensures.further;
       untouched = memory_or _ r memory;

@@ -5,7 +5,7 @@ use Rattle.p3_support.specs.declared.matrix.Dimensions.{Dimensions}
 use Rattle.p3_merkle_core.specs.Geometry.{exponent, heights, layer_exponent, shape_of}
 use Rattle.p3_merkle_tree.specs.Schemes.{proof_layer}
 use Rattle.p3_merkle_tree.proofs.AuthenticFacts.{authenticated_is}
-use Rattle.p3_merkle_tree.proofs.LoweredFacts.{all_authenticated}
+use Rattle.p3_merkle_core.proofs.ExtractionFacts.{all_authenticated}
 use Rattle.p3_merkle_tree.proofs.mmcs.Scheme.is_authenticated.Goals as goal
 
 pub returns-clause-authenticated : goal.returns-clause-authenticated

@@ -2,7 +2,7 @@
 use Rattle.std.proofs.Common.{arith, refl}
 use Rattle.p3_merkle_core.specs.Geometry.{heights_of, shape_of}
 use Rattle.p3_merkle_core.proofs.GateFacts.{none_large_from_lawful, tallest_fits}
-use Rattle.p3_merkle_core.proofs.Sufficient.{boundary_least}
+use Rattle.p3_merkle_core.proofs.Sufficient.{count_least}
 use Rattle.p3_merkle_tree.specs.Schemes.{proof_layer}
 use Rattle.p3_merkle_tree.proofs.mmcs.Scheme.pruned_len.Goals as goal
 
@@ -13,7 +13,5 @@ pruned_len_of-requires-clause-low g c =
 pub returns-clause-least : goal.returns-clause-least
 returns-clause-least g c =
     let s = shape_of g.row.N c.args.dimensions.now in
-    boundary_least s c.args.indices.now (proof_layer c.args.self.now s) (record { well_shaped = c.args.self.now.arity; below = rw c.tallest_of.ensures at c.in_ok-check_indices.ensures.below; in_tree = omega arith })
-
-pub returns-clause-count : goal.returns-clause-count
-returns-clause-count g c = rw c.proof_levels-t.ensures at c.in_ok-pruned_len_of.ensures
+    count_least s c.args.indices.now (proof_layer c.args.self.now s) c.in_ok-pruned_len_of.field-0 (record { well_shaped = c.args.self.now.arity; below = rw c.tallest_of.ensures at c.in_ok-check_indices.ensures.below; in_tree = omega arith })
+    (rw c.proof_levels-t.ensures at c.in_ok-pruned_len_of.ensures)

@@ -1,8 +1,8 @@
 -- What is committed to is a tree of the scheme's own.
 use Rattle.p3_support.specs.Shown.{roots_of}
 use Rattle.p3_merkle_builder.specs.Parts.{layers_of, matrices_of}
-use Rattle.p3_merkle_builder.specs.Views.{batch_of, heights_in}
-use Rattle.p3_merkle_tree.specs.Schemes.{proof_layer, scheme_functions}
+use Rattle.p3_merkle_layers.specs.Views.{batch_of, heights_in}
+use Rattle.p3_merkle_tree.specs.Schemes.{terms_over}
 use Rattle.p3_merkle_tree.proofs.CommitmentFacts.{is_committed, lawful_when_ok, memory_when_lawful}
 use Rattle.p3_merkle_tree.proofs.scheme_trait.MerkleTreeMmcsMmcsValue.commit.Goals as goal
 
@@ -16,5 +16,4 @@ pub returns-clause-commitment : goal.returns-clause-commitment
 returns-clause-commitment g c =
     let scheme = c.args.self.now in
     is_committed c.commit.result (λ made. roots_of made.0) (λ made. layers_of made.1) (λ made. matrices_of made.1) (batch_of g.M.Matrix.height_of g.M.Matrix.width_of g.M.Matrix.row_of g.row.N)
-    (scheme_functions g.H.CryptographicHasher.hash g.C.PseudoCompressionFunction.compression g.row.D scheme) (proof_layer scheme) c.args.matrices.items
-    c.commit.ensures.matrices c.commit.ensures.layers c.commit.ensures.cap
+    (terms_over g.H.CryptographicHasher.hash g.C.PseudoCompressionFunction.compression g.row.D scheme) c.args.matrices.items c.commit.ensures.matrices c.commit.ensures.committed

@@ -1,27 +1,29 @@
 -- What is opened is what the other call opens, in the words of the trait.
-use Rattle.std.proofs.Common.{◌≡◌, List, subst, sym}
+use Rattle.std.proofs.Common.{◌∙◌, List, ap, subst, sym}
+use Rattle.std.proofs.lemmas.Result.{IfOk-weaker}
+use Rattle.p3_merkle_core.specs.Openings.{Opening}
 use Rattle.std.specs.Prelude.{IfOk}
-use Rattle.p3_support.specs.Shown.{row_lists, roots_of}
+use Rattle.p3_support.specs.Shown.{roots_of}
 use Rattle.p3_support.specs.declared.matrix.Dimensions.{Dimensions}
 use Rattle.p3_merkle_core.specs.Geometry.{shape_of}
 use Rattle.p3_merkle_core.specs.Nodes.{shape}
-use Rattle.p3_merkle_core.specs.Openings.{IsAccepted}
+use Rattle.p3_merkle_core.specs.Checks.{IsAccepted, terms}
 use Rattle.p3_merkle_builder.specs.Parts.{matrices_of, tree_batch}
 use Rattle.p3_merkle_tree.specs.CommitmentLaws.{dimensions_are, rows_are}
-use Rattle.p3_merkle_tree.specs.Schemes.{opening_made, proof_layer, scheme_functions}
+use Rattle.p3_merkle_tree.specs.Schemes.{terms_over}
+use Rattle.p3_merkle_core.specs.Views.{opening_made}
 use Rattle.p3_merkle_tree.proofs.scheme_trait.MerkleTreeMmcsMmcsValue.open_batch.Goals as goal
 
 pub returns-clause-rows : goal.returns-clause-rows
 returns-clause-rows g c =
-    subst (λ (rows : List (List _)). IfOk c.open_batch.result (λ o. row_lists o.opened_values.items ≡ rows))
-    (rows_are g.M.Matrix.height_of g.M.Matrix.width_of g.M.Matrix.row_of g.row.N (matrices_of c.args.prover_data.now) c.args.index) c.open_batch.ensures.rows
+    let rows = rows_are g.M.Matrix.height_of g.M.Matrix.width_of g.M.Matrix.row_of g.row.N (matrices_of c.args.prover_data.now) c.args.index in
+    IfOk-weaker c.open_batch.result _ _ (λ o opened. ap (λ (z : Opening _ _). z.rows) opened ∙ rows) c.open_batch.ensures.opened
 
 pub returns-clause-accepted : goal.returns-clause-accepted
 returns-clause-accepted g c = λ commitment own.
     let scheme = c.args.self.now in
     let tree = c.args.prover_data.now in
-    let f = scheme_functions g.H.CryptographicHasher.hash g.C.PseudoCompressionFunction.compression g.row.D scheme in
-    let s = shape (tree_batch tree) in
-    let under_cap = subst (λ (cap : List (List _)). IfOk c.open_batch.result (λ o. IsAccepted f s (proof_layer scheme s) cap (opening_made c.args.index o))) (sym own.own_cap) (c.open_batch.ensures.accepted own.own_layers) in
-    subst (λ (ds : List Dimensions). IfOk c.open_batch.result (λ o. IsAccepted f (shape_of g.row.N ds) (proof_layer scheme (shape_of g.row.N ds)) (roots_of commitment) (opening_made c.args.index o)))
+    let over = terms_over g.H.CryptographicHasher.hash g.C.PseudoCompressionFunction.compression g.row.D scheme in
+    let under_cap = subst (λ (cap : List (List _)). IfOk c.open_batch.result (λ o. IsAccepted (over (shape (tree_batch tree))) cap (opening_made c.args.index o))) (sym own.own_cap) (c.open_batch.ensures.accepted own.own_layers) in
+    subst (λ (ds : List Dimensions). IfOk c.open_batch.result (λ o. IsAccepted (over (shape_of g.row.N ds)) (roots_of commitment) (opening_made c.args.index o)))
     (dimensions_are g.M.Matrix.height_of g.M.Matrix.width_of g.M.Matrix.row_of g.row.N (matrices_of tree)) under_cap

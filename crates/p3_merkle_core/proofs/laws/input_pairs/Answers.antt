@@ -2,14 +2,14 @@
 use Rattle.std.proofs.Common.{rules, ◌≡◌, ◌↔◌, IsTrue, Bool, ◌&&◌}
 use Rattle.std.specs.Cmp.Lexicographic.{pointwise_decides}
 use Rattle.p3_merkle_core.specs.Refusals.{IsEquality}
-use Rattle.p3_merkle_checker.specs.Collisions.{IsSamePair}
-use Rattle.p3_merkle_checker.specs.declared.collision.Place.{Place}
-use Rattle.p3_merkle_checker.specs.declared.collision.InputPair.{InputPair}
-use Rattle.p3_merkle_checker.specs.declared.collision.InputPair.TheVariants.{Words, Digests}
-use Rattle.p3_merkle_checker.specs.contracts.collision.InputPairPartialEq.TheImpl.{ghosts}
-use Rattle.p3_merkle_checker.specs.contracts.collision.PlacePartialEq.TheImpl.{ghosts as place_ghosts}
-use Rattle.p3_merkle_checker.proofs.laws.input_pairs.Given as given
-use Rattle.p3_merkle_checker.proofs.laws.input_pairs.Goals as goal
+use Rattle.p3_merkle_core.specs.Views.{IsSamePair}
+use Rattle.p3_merkle_core.specs.declared.collision.Place.{Place}
+use Rattle.p3_merkle_core.specs.declared.collision.InputPair.{InputPair}
+use Rattle.p3_merkle_core.specs.declared.collision.InputPair.TheVariants.{Words, Digests}
+use Rattle.p3_merkle_core.specs.contracts.collision.InputPairPartialEq.TheImpl.{ghosts}
+use Rattle.p3_merkle_core.specs.contracts.collision.PlacePartialEq.TheImpl.{ghosts as place_ghosts}
+use Rattle.p3_merkle_core.proofs.laws.input_pairs.Given as given
+use Rattle.p3_merkle_core.proofs.laws.input_pairs.Goals as goal
 
 same_place : (p q : Place) → IsTrue (place_ghosts.eq p q) ↔ (p ≡ q)
 same_place p q = search rules

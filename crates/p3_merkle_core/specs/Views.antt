@@ -1,0 +1,68 @@
+-- How the values of the code are read by the definitions.
+use Rattle.std.specs.Prelude.{◌≡◌, ℕ, List, map, Option, Result, option_map}
+use Rattle.std.specs.Result.{result_map_both}
+use Rattle.std.specs.declared.vec.Vec.{Vec}
+use Rattle.p3_support.specs.Shown.{row_lists, row_sets}
+use Rattle.p3_support.specs.declared.opening.BatchOpening.{BatchOpening}
+use Rattle.p3_support.specs.declared.opening.BatchOpeningRef.{BatchOpeningRef}
+use Rattle.p3_merkle_core.specs.Openings.{Opening, opening_of}
+use Rattle.p3_merkle_core.specs.Checks.{Input, digests_at, words_at}
+use Rattle.p3_merkle_core.specs.Pruning.{PrunedOpening, pruned_of}
+use Rattle.p3_merkle_core.specs.declared.collision.InputPair.{InputPair}
+use Rattle.p3_merkle_core.specs.declared.collision.InputPair.TheVariants.{Words, Digests}
+use Rattle.p3_merkle_core.specs.declared.error.MerkleTreeError.{MerkleTreeError}
+use Rattle.p3_merkle_core.specs.declared.pruning.AuthPath.{AuthPath}
+use Rattle.p3_merkle_core.specs.declared.pruning.PrunedProof.{PrunedProof}
+use Rattle.p3_merkle_core.specs.declared.pruning.PrunedRows.{PrunedRows}
+
+-- ---- openings
+
+-- an opening of an index, by its rows and siblings
+abbrev pub opening_made : {T W A : Type 0} → ℕ → BatchOpening T (Vec (List W) A) → Opening T W
+opening_made index opening = opening_of index (row_lists opening.opened_values.items) opening.opening_proof.items
+
+-- the same of one that is lent
+abbrev pub opening_lent : {T W A : Type 0} → ℕ → BatchOpeningRef T (Vec (List W) A) → Opening T W
+opening_lent index opening = opening_of index (row_lists opening.opened_values.now) opening.opening_proof.now.items
+
+-- a pruned opening of some indices, by its row sets and digests
+abbrev pub pruned_made : {T W : Type 0} → List ℕ → PrunedRows T (List W) → PrunedOpening T W
+pruned_made indices opening = pruned_of indices (row_sets opening.opened_values.items) opening.pruned_proof.sibling_hashes.items
+
+-- the same of row sets and a proof
+abbrev pub multi_made : {T W A B C : Type 0} → List ℕ → Vec (Vec (Vec T A) B) C × PrunedProof (List W) → PrunedOpening T W
+multi_made indices opening = pruned_of indices (row_sets opening.0.items) opening.1.sibling_hashes.items
+
+-- the same of row sets and a proof that are lent
+abbrev pub pruned_lent : {T W A B : Type 0} → List ℕ → List (Vec (Vec T A) B) → PrunedProof (List W) → PrunedOpening T W
+pruned_lent indices rows proof = pruned_of indices (row_sets rows) proof.sibling_hashes.items
+
+-- the leaf and the siblings that a path shows
+abbrev pub shown_path : {X : Type 0} → AuthPath X → ℕ × List X
+shown_path path = (path.leaf_index, path.siblings.items)
+
+-- the same of each of some paths
+abbrev pub shown_paths : {X : Type 0} → List (AuthPath X) → List (ℕ × List X)
+shown_paths paths = map shown_path paths
+
+-- ---- collisions
+
+-- the two inputs that a collision shows
+abbrev pub inputs_in : {T W : Type 0} → InputPair T (List W) → Input T W × Input T W
+inputs_in (Words place first second) = (words_at place first.items, words_at place second.items)
+inputs_in (Digests place first second) = (digests_at place first.items, digests_at place second.items)
+
+-- what is found in two openings of one index each: the first query of both, and the inputs that the collision shows
+abbrev pub found_alone : {T W : Type 0} → Result (Option (InputPair T (List W))) MerkleTreeError → Result (Option (ℕ × ℕ × (Input T W × Input T W))) MerkleTreeError
+found_alone result = result_map_both (λ found. option_map (λ pair. (0, 0, inputs_in pair)) found) (λ e. e) result
+
+-- what is found in two openings of several indices: a query of each, and the inputs that the collision shows
+abbrev pub found_pair : {T W : Type 0} → Result (Option (ℕ × ℕ × InputPair T (List W))) MerkleTreeError → Result (Option (ℕ × ℕ × (Input T W × Input T W))) MerkleTreeError
+found_pair result = result_map_both (λ found. option_map (λ (a, b, pair). (a, b, inputs_in pair)) found) (λ e. e) result
+
+-- two collisions are of one kind, at one place, with the same inputs
+abbrev pub IsSamePair : {T X : Type 0} → InputPair T X → InputPair T X → Type 0
+IsSamePair (Words p x y) (Words q z w) = (p ≡ q) × (x.items ≡ z.items) × (y.items ≡ w.items)
+IsSamePair (Words p x y) (Digests q z w) = ⊥
+IsSamePair (Digests p x y) (Words q z w) = ⊥
+IsSamePair (Digests p x y) (Digests q z w) = (p ≡ q) × (x.items ≡ z.items) × (y.items ≡ w.items)
