@@ -4,7 +4,8 @@ use Rattle.std.specs.Prelude.{All, length}
 use Rattle.std.specs.Option.{option_or}
 use Rattle.std.proofs.lemmas.Bool.{lt-ltb}
 use Rattle.std.proofs.lemmas.List.Elements.{All-head, All-tail}
-use Rattle.p3_merkle_core.specs.Geometry.{Shape, heights, tallest, IsLawful}
+use Rattle.p3_merkle_core.specs.Geometry.{Shape, heights, IsLawful}
+use Rattle.p3_support.specs.Batches.{greatest}
 use Rattle.p3_merkle_core.specs.Gate.{gate_refusal}
 use Rattle.p3_merkle_core.specs.Nodes.{shape}
 use Rattle.p3_merkle_core.specs.Refusals.{queries_refusal, pruned_len_refusal}
@@ -20,19 +21,19 @@ both_none None y none = (refl, none)
 both_none (Some x) y none = absurd cc
 
 -- the greatest of indices below a number is below it
-tallest_below : (m : ℕ) (indices : List ℕ) → 0 < m → All (λ i. i < m) indices → tallest indices < m
+tallest_below : (m : ℕ) (indices : List ℕ) → 0 < m → All (λ i. i < m) indices → greatest indices < m
 tallest_below m [] some below = some
 tallest_below m (i ∷ indices) some below = let first = All-head (λ j. j < m) i indices below in let rest = tallest_below m indices some (All-tail (λ j. j < m) i indices below) in omega (arith, first, rest)
 
-pub taken_from_none : (s : Shape) (indices : List ℕ) → pruned_len_refusal s indices ≡ None → IsLawful (heights s) × All (λ i. i < tallest (heights s)) indices
+pub taken_from_none : (s : Shape) (indices : List ℕ) → pruned_len_refusal s indices ≡ None → IsLawful (heights s) × All (λ i. i < greatest (heights s)) indices
 taken_from_none s indices none =
-    let parts = both_none (gate_refusal (heights s)) (queries_refusal (tallest (heights s)) indices) none in
-    ((gate_lawful (heights s)).0 parts.0, below_from (tallest (heights s)) indices parts.1)
+    let parts = both_none (gate_refusal (heights s)) (queries_refusal (greatest (heights s)) indices) none in
+    ((gate_lawful (heights s)).0 parts.0, below_from (greatest (heights s)) indices parts.1)
 
-pub taken_unrefused : (s : Shape) (indices : List ℕ) → IsLawful (heights s) → All (λ i. i < tallest (heights s)) indices → pruned_len_refusal s indices ≡ None
+pub taken_unrefused : (s : Shape) (indices : List ℕ) → IsLawful (heights s) → All (λ i. i < greatest (heights s)) indices → pruned_len_refusal s indices ≡ None
 taken_unrefused s indices lawful below =
-    let m = tallest (heights s) in
-    let index : queries_refusal m indices ≡ None = none_unless (ltb (tallest indices) m) (IndexOutOfBounds m (tallest indices)) (lt-ltb (tallest indices) m (tallest_below m indices lawful.some_above_0 below)) in
+    let m = greatest (heights s) in
+    let index : queries_refusal m indices ≡ None = none_unless (ltb (greatest indices) m) (IndexOutOfBounds m (greatest indices)) (lt-ltb (greatest indices) m (tallest_below m indices lawful.some_above_0 below)) in
     λ i. option_or ((gate_lawful (heights s)).1 lawful i) (index i)
 
 -- the heights of matrices that are made of rows
@@ -41,5 +42,5 @@ heights_are [] arity = refl
 heights_are (rows ∷ matrices) arity = ap (λ hs. length rows ∷ hs) (heights_are matrices arity)
 
 -- what was taken of a shape is taken of another that is the same
-pub below_of : (s t : Shape) (indices : List ℕ) → t ≡ s → pruned_len_refusal t indices ≡ None → All (λ i. i < tallest (heights s)) indices
+pub below_of : (s t : Shape) (indices : List ℕ) → t ≡ s → pruned_len_refusal t indices ≡ None → All (λ i. i < greatest (heights s)) indices
 below_of s t indices same none = (taken_from_none s indices (ap (λ u. pruned_len_refusal u indices) (sym same) ∙ none)).1

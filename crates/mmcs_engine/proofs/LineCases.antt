@@ -7,7 +7,7 @@ use Rattle.mmcs_text.specs.declared.fault.Fault.{Fault}
 use Rattle.mmcs_text.specs.declared.fault.Fault.TheVariants.{Number, Count}
 use Rattle.mmcs_text.specs.Numbers.{IsNumberBelow}
 use Rattle.mmcs_text.specs.Input.{is_blank, numerals_of, numbers_of, AreLinesOf, IsFirstFault}
-use Rattle.mmcs_text.specs.Blocks.{IsBlock}
+use Rattle.mmcs_text.specs.Inner.Blocks.{IsBlock}
 use Rattle.mmcs_text.proofs.BlockFacts.{block_more}
 use Rattle.mmcs_text.proofs.InputFacts.{LinesSoFar, lines_start, lines_blank, lines_ended, lines_row, lines_fault, lines_end, lines_end_block}
 use Rattle.mmcs_engine.proofs.WordCases.{settled_each, settled_number}

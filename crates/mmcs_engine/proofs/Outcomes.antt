@@ -3,7 +3,8 @@ use Rattle.std.proofs.Common.{◌≡◌, ◌⊎◌, ⊎_elim, inl, inr, ℕ, ◌
 use Rattle.std.specs.Prelude.{◌<◌, All, IfSome, IfErr, OnOk}
 use Rattle.std.specs.Io.KnownBytes.{Appends}
 use Rattle.std.specs.List.{AllZip}
-use Rattle.p3_merkle_core.specs.Geometry.{tallest, IsLawful}
+use Rattle.p3_merkle_core.specs.Geometry.{IsLawful}
+use Rattle.p3_support.specs.Batches.{greatest}
 use Rattle.p3_merkle_core.specs.Nodes.{shape}
 use Rattle.p3_merkle_core.specs.declared.error.MerkleTreeError.{MerkleTreeError}
 use Rattle.p3_merkle_core.specs.declared.error.MerkleTreeError.TheVariants.{OutOfMemory}
@@ -37,7 +38,7 @@ module _ (command : Command) (indices input : List ℕ) where
   -- what is taken is not refused
   pub unrefused : (matrices : List (List (List ℕ))) → AreTaken indices matrices → refusal_of command indices matrices ≡ None
   unrefused matrices taken =
-      let there = subst (λ (hs : List ℕ). IsLawful hs × All (λ i. i < tallest hs) indices) (sym (heights_are matrices (arity_number command.arity))) taken in
+      let there = subst (λ (hs : List ℕ). IsLawful hs × All (λ i. i < greatest hs) indices) (sym (heights_are matrices (arity_number command.arity))) taken in
       taken_unrefused (shape (batch_asked command matrices)) indices there.0 there.1
 
   -- a fault is of the tree, or of a line

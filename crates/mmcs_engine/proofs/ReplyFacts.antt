@@ -2,7 +2,8 @@
 use Rattle.std.proofs.Common.{◌≡◌, ◌⊎◌, ⊎_elim, inl, inr, ℕ, ◌+◌, List, Option, Some, None, Result, Ok, Err, sym, refl, ap, ◌∙◌, subst}
 use Rattle.std.specs.Prelude.{◌↔◌, ◌<◌, All, IfErr, OnOk}
 use Rattle.std.specs.Io.KnownBytes.{Appends}
-use Rattle.p3_merkle_core.specs.Geometry.{tallest, IsLawful}
+use Rattle.p3_merkle_core.specs.Geometry.{IsLawful}
+use Rattle.p3_support.specs.Batches.{greatest}
 use Rattle.p3_merkle_core.specs.Refusals.{pruned_len_refusal}
 use Rattle.p3_merkle_core.specs.Nodes.{shape, Batch}
 use Rattle.p3_merkle_core.specs.declared.error.MerkleTreeError.TheVariants.{OutOfMemory}
@@ -30,7 +31,7 @@ module _ (command : Command) (indices input : List ℕ) (b : Batch ℕ) (n : ℕ
       let there = taken_from_none (shape (batch_asked command found.0)) indices (ap (λ c. pruned_len_refusal (shape c) indices) (sym batch_is) ∙ none) in (
         found.0,
         stands,
-        subst (λ (hs : List ℕ). IsLawful hs × All (λ i. i < tallest hs) indices) (heights_are found.0 (arity_number command.arity)) there,
+        subst (λ (hs : List ℕ). IsLawful hs × All (λ i. i < greatest hs) indices) (heights_are found.0 (arity_number command.arity)) there,
         text_is ∙ (λ i. text_of (hash_is i) command.action indices (batch_is i) (layer_of_cap command.cap (shape (batch_is i)))),
       )
 

@@ -3,6 +3,7 @@ use Rattle.std.proofs.Common.{◌≡◌, ◌∙◌, ℕ, List, None, Result, sub
 use Rattle.std.specs.Prelude.{IfOk}
 use Rattle.std.proofs.lemmas.Result.{IfOk-weaker}
 use Rattle.p3_merkle_core.specs.Caps.{cap_layer}
+use Rattle.p3_merkle_core.specs.Commitments.{IsCommitment}
 use Rattle.p3_merkle_core.specs.Checks.{terms}
 use Rattle.p3_merkle_core.specs.Geometry.{Shape}
 use Rattle.p3_merkle_core.specs.Nodes.{layer, layers, shape, Batch, Functions}
@@ -10,7 +11,6 @@ use Rattle.p3_merkle_core.specs.Pruning.{PrunedOpening, IsPrunedAccepted}
 use Rattle.p3_merkle_core.specs.declared.cap.CapRule.{CapRule}
 use Rattle.p3_merkle_core.specs.declared.error.MerkleTreeError.{MerkleTreeError}
 use Rattle.p3_merkle_core.specs.Refusals.{AnswersUnlessMemory}
-use Rattle.p3_merkle_tree.specs.Commitments.{IsCommitment}
 
 -- equal rules and cap heights
 pub caps_alike : (s : Shape) (r q : CapRule) (c d : ℕ) → r ≡ q → c ≡ d → cap_layer s r c ≡ cap_layer s q d

@@ -2,11 +2,12 @@
 use Rattle.std.specs.Prelude.{◌≡◌, ◌⊎◌, ◌↔◌, ℕ, ◌+◌, ◌<◌, List, [], ◌∷◌, ◌++◌, length, map, replicate, flat_map, All, Option, Some, IfSome, IfErr, OnOk, OnErr, Result, Ok, Err}
 use Rattle.std.specs.Io.KnownBytes.{Appends}
 use Rattle.p3_support.specs.Fold.{fold_hash, fold_compress}
+use Rattle.p3_support.specs.Batches.{greatest}
 use Rattle.p3_merkle_core.specs.Refusals.{pruned_len_refusal}
 use Rattle.p3_merkle_core.specs.Pruning.{boundary_by, pruned_len}
 use Rattle.p3_instances.specs.Sha.{sha256_rows, sha256_nodes}
 use Rattle.p3_merkle_core.specs.Caps.{cap_layer}
-use Rattle.p3_merkle_core.specs.Geometry.{Shape, tallest, IsLawful}
+use Rattle.p3_merkle_core.specs.Geometry.{Shape, IsLawful}
 use Rattle.p3_merkle_core.specs.Nodes.{Batch, Functions, functions_of, layer, layers, shape}
 use Rattle.p3_merkle_core.specs.Openings.{honest_rows, node_in}
 use Rattle.p3_merkle_core.specs.declared.error.MerkleTreeError.{MerkleTreeError}
@@ -75,7 +76,7 @@ refusal_of command indices matrices = pruned_len_refusal (shape (batch_asked com
 
 -- the tree takes what is asked: heights that it can have, and indices below the greatest of them
 abbrev pub AreTaken : List ℕ → List (List (List ℕ)) → Type 0
-AreTaken indices matrices = let hs = heights_of_rows matrices in IsLawful hs × All (λ i. i < tallest hs) indices
+AreTaken indices matrices = let hs = heights_of_rows matrices in IsLawful hs × All (λ i. i < greatest hs) indices
 
 -- ---- the outcome
 

@@ -2,7 +2,8 @@
 
 ghost use Rattle.std.specs.Prelude.{◌≡◌, ◌⊎◌, ℕ, ◌++◌, ◌<◌, ◌↔◌, All, Ok, Err, IfOk, IfErr, IfSome, IsTrue, None, OnOk, flat_map, length, map};
 ghost use Rattle.std.specs.Io.KnownBytes.{Appends};
-ghost use Rattle.p3_merkle_core.specs.Geometry.{heights, shape_of, tallest};
+ghost use Rattle.p3_merkle_core.specs.Geometry.{heights, shape_of};
+ghost use Rattle.p3_support.specs.Batches.{greatest};
 ghost use Rattle.p3_merkle_core.specs.Refusals.{pruned_len_refusal, AnswersUnlessMemory};
 ghost use Rattle.p3_merkle_core.specs.Nodes.{layer, layers, shape, Batch};
 ghost use Rattle.p3_merkle_core.specs.Openings.{honest_rows};
@@ -209,7 +210,7 @@ fn open_text<S: Suite<N>, const N: usize>(
     tree: &S::Tree,
 ) -> Result<Vec<u8>, MerkleTreeError>
     requires arity { IsTrue (is_taken_arity N) }
-    requires indices { All (λ i. i < tallest (heights (shape (S.batch tree.now)))) indices.now }
+    requires indices { All (λ i. i < greatest (heights (shape (S.batch tree.now)))) indices.now }
     requires built { S.nodes tree.now ≡ layers (functions_of_hash S.name) (S.batch tree.now) }
     ensures text { let b = S.batch tree.now in
         IfOk result (λ text. text.items ≡ text_of S.name Open indices.now b (layer_of_cap cap (shape b))) }
@@ -259,7 +260,7 @@ fn check_text<S: Suite<N>, const N: usize>(
     tree: &S::Tree,
 ) -> Result<Vec<u8>, MerkleTreeError>
     requires arity { IsTrue (is_taken_arity N) }
-    requires indices { All (λ i. i < tallest (heights (shape (S.batch tree.now)))) indices.now }
+    requires indices { All (λ i. i < greatest (heights (shape (S.batch tree.now)))) indices.now }
     requires built { S.nodes tree.now ≡ layers (functions_of_hash S.name) (S.batch tree.now) }
     requires dimensions { shape_of N dimensions.now ≡ shape (S.batch tree.now) }
     requires roots { let b = S.batch tree.now in

@@ -2,9 +2,10 @@
 
 ghost use Rattle.std.specs.Prelude.{◌≡◌, ◌⊎◌, ℕ, ◌+◌, ◌++◌, ◌<◌, All, IfErr, IfOk, IsOk, IsTrue, List, [], None, OnOk, flat_map, length, map, slice_index_or};
 ghost use Rattle.p3_merkle_core.specs.Checks.{terms};
+ghost use Rattle.p3_support.specs.Batches.{greatest};
 ghost use Rattle.p3_merkle_core.specs.Gate.{gate_refusal};
 ghost use Rattle.p3_merkle_core.specs.Refusals.{pruned_len_refusal, AnswersUnlessMemory};
-ghost use Rattle.p3_merkle_core.specs.Geometry.{heights, shape_of, tallest};
+ghost use Rattle.p3_merkle_core.specs.Geometry.{heights, shape_of};
 ghost use Rattle.p3_merkle_core.specs.Nodes.{layer, layers, shape, Batch};
 ghost use Rattle.p3_merkle_core.specs.Openings.{honest_rows, node_in};
 ghost use Rattle.p3_merkle_core.specs.Pruning.{boundary_by, pruned_len, pruned_of, IsPrunedAccepted};
@@ -120,7 +121,7 @@ pub trait Suite<const N: usize> {
         tree: &Self::Tree,
     ) -> Result<Self::Opening, MerkleTreeError>
         requires arity { IsTrue (is_taken_arity N) }
-        requires indices { All (λ i. i < tallest (heights (shape (batch tree.now)))) indices.now }
+        requires indices { All (λ i. i < greatest (heights (shape (batch tree.now)))) indices.now }
         ensures memory { AnswersUnlessMemory result None }
         ensures rows { IfOk result (λ o. rows o ≡ map (honest_rows (batch tree.now)) indices.now) }
         ensures digests { let s = shape (batch tree.now) in

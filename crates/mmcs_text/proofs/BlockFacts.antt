@@ -6,7 +6,7 @@ use Rattle.std.proofs.lemmas.List.Concat.{flat_map-append}
 use Rattle.std.proofs.lemmas.List.Elements.{All-nil, All-cons, All-head, All-tail, All-push, All-map}
 use Rattle.mmcs_text.specs.Numbers.{IsNumberBelow}
 use Rattle.mmcs_text.specs.Input.{is_blank, numerals_of, numbers_of, IsMatrix}
-use Rattle.mmcs_text.specs.Blocks.{IsBlock}
+use Rattle.mmcs_text.specs.Inner.Blocks.{IsBlock}
 use Rattle.mmcs_text.proofs.BlankFacts.{row_has_number}
 
 -- what holds of the images holds of the elements' images

@@ -14,7 +14,7 @@ use Rattle.p3_merkle_core.specs.declared.error.MerkleTreeError.TheVariants.{OutO
 use Rattle.mmcs_text.specs.declared.fault.Fault.{Fault}
 use Rattle.mmcs_text.specs.declared.fault.Fault.TheVariants.{Tree}
 use Rattle.mmcs_text.specs.Input.{is_blank, numbers_of, runs_between, pieces_of, rows_at_end, AreLinesOf, IsFirstFault, IsLineFault, IsMatrix}
-use Rattle.mmcs_text.specs.Blocks.{IsBlock}
+use Rattle.mmcs_text.specs.Inner.Blocks.{IsBlock}
 use Rattle.mmcs_text.proofs.Runs.{run_whole}
 use Rattle.mmcs_text.proofs.InputLaws.{runs_apart, split_apart}
 use Rattle.mmcs_text.proofs.BlockFacts.{block_is_matrix}

@@ -10,7 +10,7 @@ use Rattle.std.proofs.lemmas.List.{length-map, get_or-map, map-id}
 use Rattle.std.proofs.lemmas.List.Elements.{All-get_or}
 use Rattle.std.proofs.Math.Nat.{mul-div_cancel}
 use Rattle.mmcs_text.specs.Input.{numbers_of, StandsFor}
-use Rattle.mmcs_text.specs.Blocks.{IsBlock}
+use Rattle.mmcs_text.specs.Inner.Blocks.{IsBlock}
 use Rattle.p3_merkle_core.specs.Nodes.{shape}
 use Rattle.mmcs_text.specs.Matrices.{matrix_of_rows, stored_batch, stored_matrix}
 use Rattle.mmcs_text.proofs.RowsCut.{length_of_rows, row_range}

@@ -1,7 +1,6 @@
 pub mod Numbers
-pub mod Faults
 pub mod Input
 pub mod Words
 pub mod Text
 pub mod Matrices
-pub mod Blocks
+pub mod Inner

@@ -8,7 +8,7 @@ ghost use Rattle.p3_merkle_core.specs.declared.error.MerkleTreeError.TheVariants
 ghost use Rattle.mmcs_text.specs.declared.fault.Fault.TheVariants.{Tree};
 ghost use Rattle.mmcs_text.specs.Numbers.{IsNumberBelow, IsRead};
 ghost use Rattle.mmcs_text.specs.Input.{is_gap, is_blank, numerals_of, numbers_of, pieces_of, IsFirstFault, IsLineFault, StandsFor};
-ghost use Rattle.mmcs_text.specs.Blocks.{IsBlock};
+ghost use Rattle.mmcs_text.specs.Inner.Blocks.{IsBlock};
 ghost use Rattle.mmcs_text.specs.Matrices.{matrix_of_rows, stored_matrix};
 
 use crate::fault::Fault;
@@ -104,7 +104,7 @@ fn append_row<W: Word>(values: &mut Vec<W>, line: &[u8]) -> Result<Option<usize>
     ensures row { IfOk result (λ count. IfSome count (λ n.
         (map W.value values.new.items ≡ map W.value values.old.items ++ numbers_of line.now) ×
         (n ≡ length (numbers_of line.now)) × All (IsNumberBelow (W.MAX + 1)) (numerals_of line.now))) }
-    ensures none { IfOk result (λ count. IfNone count (¬ All (IsNumberBelow (W.MAX + 1)) (numerals_of line.now))) }
+    ensures none { IfOk result (λ count. IfNone count (All (IsNumberBelow (W.MAX + 1)) (numerals_of line.now) → ⊥)) }
 {
     let len = values.len();
     let mut number = None;

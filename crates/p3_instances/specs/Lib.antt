@@ -1,3 +1,2 @@
-pub mod Eights
 pub mod Sha
-pub mod Turned
+pub mod Inner

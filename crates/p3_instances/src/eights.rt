@@ -3,8 +3,8 @@
 ghost use Rattle.std.specs.Prelude.{◌≡◌, ℕ, ◌+◌, ◌*◌, ◌/◌, ◌^◌, ◌<◌, ◌≤◌, [], length, map, slice_index_or, slice_range, take};
 ghost use Rattle.p3_support.specs.Lists.{lane_of, message as message_of};
 ghost use Rattle.std.specs.List.{fold as folded};
-ghost use Rattle.p3_instances.specs.Eights.{lanes_of};
-ghost use Rattle.p3_instances.specs.Turned.{turned};
+ghost use Rattle.p3_instances.specs.Inner.Eights.{lanes_of};
+ghost use Rattle.p3_instances.specs.Inner.Turned.{turned};
 ghost use Rattle.p3_support.specs.Fold.{fold_hash, fold_compress, take_in};
 
 use crate::fold::{FoldLane, absorb, compress_group, compress_lanes, hash_words, start};

@@ -2,7 +2,7 @@
 ghost use Rattle.std.specs.Prelude.{◌≡◌, ℕ, ◌<◌, ◌∷◌, [], length, slice_index_or, refl};
 ghost use Rattle.std.specs.Cmp.{unsigned_Decides};
 ghost use Rattle.p3_support.specs.Fold.{take_in};
-ghost use Rattle.p3_instances.specs.Turned.{turned};
+ghost use Rattle.p3_instances.specs.Inner.Turned.{turned};
 
 use crate::fold::FoldLane;
 use p3_support::packed::PackedValue;
@@ -86,7 +86,7 @@ pub struct U32x8 {
 
 impl U32x8 {
     ghost use Rattle.std.specs.Prelude.{◌++◌};
-    ghost use Rattle.p3_instances.specs.Eights.{lanes_of};
+    ghost use Rattle.p3_instances.specs.Inner.Eights.{lanes_of};
 
     /// The lanes of one vector of four, then those of another.
     pub(crate) fn join(front: u32x4, back: u32x4) -> U32x8

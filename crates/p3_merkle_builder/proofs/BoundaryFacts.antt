@@ -19,7 +19,7 @@ use Rattle.p3_merkle_core.proofs.LeafFacts.{any_there}
 use Rattle.p3_merkle_core.proofs.StepFacts.{step_above_1}
 use Rattle.p3_merkle_core.proofs.Under.{covered_up}
 use Rattle.p3_support.specs.Shown.{row_lists, row_sets}
-use Rattle.p3_merkle_builder.specs.Own.{is_beside, others_beside}
+use Rattle.p3_merkle_builder.specs.Inner.Own.{is_beside, others_beside}
 use Rattle.p3_merkle_core.specs.Openings.{node_in}
 
 -- ---- groups

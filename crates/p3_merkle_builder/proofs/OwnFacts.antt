@@ -5,7 +5,8 @@ use Rattle.std.specs.Prelude.{slice_index_or}
 use Rattle.std.proofs.lemmas.List.{ext_get_or, get_or-drop, get_or-map, get_or_default, get_or-take, length-take-le}
 use Rattle.std.proofs.lemmas.List.FromFn.{get_or-map-range_with_len, length-map-range_with_len}
 use Rattle.std.proofs.Math.Nat.{mul-le-mul_left}
-use Rattle.p3_merkle_core.specs.Geometry.{Shape, arity_schedule, max_height, step, ancestor, levels, tallest, heights, raw_len, layer_len, IsArity, IsLawful}
+use Rattle.p3_merkle_core.specs.Geometry.{Shape, arity_schedule, height_limit, step, ancestor, levels, heights, raw_len, layer_len, IsArity, IsLawful}
+use Rattle.p3_support.specs.Batches.{greatest}
 use Rattle.p3_merkle_core.proofs.RawFacts.{anc_below, children_fit}
 use Rattle.p3_merkle_core.proofs.StepFacts.{anc_next, step_above_1, step_read}
 use Rattle.p3_merkle_core.proofs.SiblingFacts.{siblings_next, step_is}
@@ -31,7 +32,7 @@ pub record CountsLevel (s : Shape) (l step : ℕ) : Type 0 where
   pub few : siblings_below s l < 2 ^ 62
   pub more : siblings_below s l + (step - 1) ≡ siblings_below s (l + 1)
 
-pub counts_level : (s : Shape) (taken : List ℕ) (t l : ℕ) → IsArity s.arity → tallest (heights s) ≤ max_height → taken ≡ arity_schedule s → t ≤ levels s → l < length (take t taken) →
+pub counts_level : (s : Shape) (taken : List ℕ) (t l : ℕ) → IsArity s.arity → greatest (heights s) ≤ height_limit → taken ≡ arity_schedule s → t ≤ levels s → l < length (take t taken) →
     CountsLevel s l (get_or (take t taken) l 0)
 counts_level s taken t l w low e in_tree h =
     let long = steps_count s taken e in
@@ -50,7 +51,7 @@ pub record IsGroup (s : Shape) (i l n node len : ℕ) : Type 0 where
   pub fits : node - node % n + n ≤ len
 
 -- the group lies within its layer
-pub group_is : (s : Shape) (i l n node len : ℕ) → IsArity s.arity → IsLawful (heights s) → i < tallest (heights s) → l < levels s →
+pub group_is : (s : Shape) (i l n node len : ℕ) → IsArity s.arity → IsLawful (heights s) → i < greatest (heights s) → l < levels s →
     node ≡ ancestor s l i → n ≡ step s l → len ≡ layer_len s l → IsGroup s i l n node len
 group_is s i l n node len w lawful below h at is long =
     let two : 2 ≤ n = rw is (step_above_1 s l w.above_1) in
@@ -64,7 +65,7 @@ group_is s i l n node len w lawful below h at is long =
 
 -- the same from the facts of a tree: its layers have their lengths, and its steps are the shape's
 pub group_at_level : {V : Type 0} (len : V → ℕ) (layers : List V) (taken : List ℕ) (s : Shape) (i l t n node : ℕ) (layer : V) → IsArity s.arity → IsLawful (heights s) →
-    map len layers ≡ map (layer_len s) (range_with_len 0 (suc (levels s))) → taken ≡ arity_schedule s → i < tallest (heights s) → t ≤ levels s → l < t →
+    map len layers ≡ map (layer_len s) (range_with_len 0 (suc (levels s))) → taken ≡ arity_schedule s → i < greatest (heights s) → t ≤ levels s → l < t →
     node ≡ ancestor s l i → n ≡ get_or taken l n → layer ≡ get_or layers l layer → IsGroup s i l n node (len layer)
 group_at_level len layers taken s i l t n node layer w lawful lengths steps below in_tree h at read is =
     group_is s i l n node (len layer) w lawful below (omega arith) at (step_of s taken l n steps (omega arith) read) (layer_long len layers s lengths l layer (omega arith) is)

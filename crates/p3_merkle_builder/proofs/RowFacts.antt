@@ -1,21 +1,22 @@
 -- The rows that a tree opens: where they stand, and that they are the honest ones.
 use Rattle.std.proofs.Common.{◌≡◌, ℕ, zero, suc, ◌+◌, ◌<◌, ◌≤◌, List, [], ◌∷◌, ◌++◌, map, refl, ap, sym, ◌∙◌, arith, length, get_or, take}
 use Rattle.std.proofs.lemmas.List.{take_more, map-append, length-map}
-use Rattle.p3_merkle_core.specs.Geometry.{bits_reduced, tallest, heights, row_at_index, max_height, IsLawful}
+use Rattle.p3_merkle_core.specs.Geometry.{bits_reduced, heights, halved_index, height_limit, IsLawful}
+use Rattle.p3_merkle_core.specs.Views.{batch_of, matrix_of}
+use Rattle.p3_support.specs.Batches.{greatest}
 use Rattle.p3_merkle_core.specs.Nodes.{shape, HasFullRows}
 use Rattle.p3_merkle_core.specs.Openings.{honest_rows}
 use Rattle.p3_merkle_core.proofs.LadderFacts.{row_below}
 use Rattle.p3_merkle_core.proofs.LeastFacts.{exponent_le}
-use Rattle.p3_merkle_layers.specs.Views.{batch_of, matrix_of}
 use Rattle.p3_merkle_core.proofs.GateFacts.{tallest_fits, none_large_from_lawful}
 
 -- lawful heights are within the limit
-pub lawful_fits : (hs : List ℕ) → IsLawful hs → tallest hs ≤ max_height
+pub lawful_fits : (hs : List ℕ) → IsLawful hs → greatest hs ≤ height_limit
 lawful_fits hs w = tallest_fits hs (none_large_from_lawful hs w)
 
 -- a lawful height is halved fewer than 64 times
-pub few_halvings : (hs : List ℕ) (h : ℕ) → IsLawful hs → bits_reduced (tallest hs) h < 64
-few_halvings hs h w = omega (arith, exponent_le (tallest hs) 62 (lawful_fits hs w))
+pub few_halvings : (hs : List ℕ) (h : ℕ) → IsLawful hs → bits_reduced (greatest hs) h < 64
+few_halvings hs h w = omega (arith, exponent_le (greatest hs) 62 (lawful_fits hs w))
 
 module _ {T M : Type 0} (height width : M → ℕ) (row : M → ℕ → List T) (n : ℕ) where
   -- the heights of a batch, read in input order
@@ -30,8 +31,8 @@ module _ {T M : Type 0} (height width : M → ℕ) (row : M → ℕ → List T) 
   heights_count (x ∷ ms) = ap suc (heights_count ms)
 
   -- each matrix has the row that belongs to an index
-  pub row_inside : (ms : List M) (k i : ℕ) (m : M) → IsLawful (heights (shape (batch_of height width row n ms))) → i < tallest (heights (shape (batch_of height width row n ms))) →
-      k < length ms → m ≡ get_or ms k m → row_at_index (shape (batch_of height width row n ms)) (height m) i < height m
+  pub row_inside : (ms : List M) (k i : ℕ) (m : M) → IsLawful (heights (shape (batch_of height width row n ms))) → i < greatest (heights (shape (batch_of height width row n ms))) →
+      k < length ms → m ≡ get_or ms k m → halved_index (greatest (heights (shape (batch_of height width row n ms)))) (height m) i < height m
   row_inside ms k i m w below h is =
       let s = shape (batch_of height width row n ms) in
       let same : get_or (heights s) k (height m) ≡ height m = height_read ms k m h ∙ ap height (sym is) in
@@ -47,13 +48,13 @@ module _ {T M : Type 0} (height width : M → ℕ) (row : M → ℕ → List T) 
 
   -- one row more
   pub row_next : {V : Type 0} (items : V → List T) (ms : List M) (k i : ℕ) (m : M) (old new : List V) (v : V) → k < length ms → m ≡ get_or ms k m →
-      map items old ≡ take k (honest_rows (batch_of height width row n ms) i) → new ≡ old ++ v ∷ [] → items v ≡ row m (row_at_index (shape (batch_of height width row n ms)) (height m) i) →
+      map items old ≡ take k (honest_rows (batch_of height width row n ms) i) → new ≡ old ++ v ∷ [] → items v ≡ row m (halved_index (greatest (heights (shape (batch_of height width row n ms)))) (height m) i) →
       map items new ≡ take (k + 1) (honest_rows (batch_of height width row n ms) i)
   row_next items ms k i m old new v h is is_old is_new at =
       let b = batch_of height width row n ms in
-      let pick : ℕ → ℕ = λ x. row_at_index (shape b) x i in
+      let pick : ℕ → ℕ = λ x. halved_index (greatest (heights (shape b))) x i in
       let all = honest_rows b i in
-      let long : length all ≡ length ms = length-map b.matrices (λ x. x.row (row_at_index (shape b) x.height i)) ∙ length-map ms (matrix_of height width row) in
+      let long : length all ≡ length ms = length-map b.matrices (λ x. x.row (halved_index (greatest (heights (shape b))) x.height i)) ∙ length-map ms (matrix_of height width row) in
       let read : get_or all k (row m (pick (height m))) ≡ row m (pick (height m)) = picked_read pick ms k m h ∙ ap (λ x. row x (pick (height x))) (sym is) in
       rw (is_new, map-append, is_old, at) (sym (take_more all k (row m (pick (height m))) (omega arith) ∙ ap (λ (x : List _). take k all ++ x ∷ []) read))
 

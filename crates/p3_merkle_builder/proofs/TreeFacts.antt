@@ -6,8 +6,8 @@ use Rattle.std.proofs.lemmas.Option.{slice_get_read}
 use Rattle.std.proofs.lemmas.List.FromFn.{length-map-range_with_len, get_or-map-range_with_len}
 use Rattle.std.proofs.lemmas.List.{length-map, get_or-map}
 use Rattle.p3_merkle_core.specs.Geometry.{Shape, heights, layer_len, levels, raw_len, padded_len, IsArity, IsLawful}
+use Rattle.p3_merkle_core.specs.Views.{batch_of, matrix_of, ClonesShowTheSame}
 use Rattle.p3_merkle_core.specs.Nodes.{Functions, Batch, Matrix, shape, node, layer, layers}
-use Rattle.p3_merkle_layers.specs.Views.{batch_of, matrix_of, ClonesShowTheSame}
 use Rattle.std.proofs.lemmas.Simd.{map-map}
 use Rattle.p3_merkle_layers.proofs.LayerFacts.{same_made}
 use Rattle.p3_merkle_core.proofs.LadderFacts.{exponent_at_levels}

@@ -1,3 +1,2 @@
-pub use Rattle.p3_merkle_layers.specs.Views
 pub mod Parts
-pub mod Own
+pub mod Inner

@@ -2,7 +2,7 @@
 
 ghost use Rattle.std.specs.Prelude.{◌≡◌, IfOk, map};
 ghost use Rattle.std.specs.List.{AllZip};
-ghost use Rattle.p3_merkle_layers.specs.Views.{ClonesShowTheSame};
+ghost use Rattle.p3_merkle_core.specs.Views.{ClonesShowTheSame};
 
 use crate::tree::{MerkleTree, Tree};
 use p3_support::matrix::Matrix;

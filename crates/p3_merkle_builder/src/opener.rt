@@ -1,14 +1,16 @@
 //! What a tree opens of one leaf: a row of each matrix, and the siblings on the leaf's path.
 
-ghost use Rattle.std.specs.Prelude.{◌≡◌, ◌<◌, ◌≤◌, ◌++◌, length, map, remove, IfErr, IfOk};
+ghost use Rattle.std.specs.Prelude.{◌≡◌, ◌<◌, ◌≤◌, ◌++◌, length, map, remove, IfErr, IfOk, None};
 ghost use Rattle.p3_merkle_core.specs.Caps.{cap_layer};
-ghost use Rattle.p3_merkle_core.specs.Geometry.{heights, levels, tallest};
+ghost use Rattle.p3_support.specs.Batches.{greatest};
+ghost use Rattle.p3_merkle_core.specs.Geometry.{heights, levels};
 ghost use Rattle.p3_merkle_core.specs.Nodes.{shape};
 ghost use Rattle.p3_merkle_core.specs.Openings.{honest_rows, node_in, siblings_by};
 ghost use Rattle.p3_merkle_core.specs.Checks.{siblings_below};
 ghost use Rattle.p3_merkle_core.specs.declared.error.MerkleTreeError.TheVariants.{OutOfMemory};
 ghost use Rattle.p3_support.specs.Shown.{row_lists};
 ghost use Rattle.p3_merkle_builder.specs.Parts.{layers_of, matrices_of, tree_batch};
+ghost use Rattle.p3_merkle_core.specs.Refusals.{AnswersUnlessMemory};
 
 use crate::tree::Tree;
 use p3_merkle_core::cap::{CapRule, cap_layer_at};
@@ -27,7 +29,7 @@ pub fn num_levels<F, X, G, M: Matrix<F>, const N: usize>(tree: &Tree<F, X, G, M,
 
 /// The height of the tallest matrix of a tree, in rows: how many leaves it has, padding aside.
 pub fn max_height<F, X, G, M: Matrix<F>, const N: usize>(tree: &Tree<F, X, G, M, N>) -> usize
-    ensures { result ≡ tallest (heights (shape (tree_batch tree.now))) }
+    ensures { result ≡ greatest (heights (shape (tree_batch tree.now))) }
 {
     max_height_of(&tree.matrices)
 }
@@ -59,10 +61,10 @@ pub fn rows_of_index<F: Copy, X, G, M: Matrix<F>, const N: usize>(
     tree: &Tree<F, X, G, M, N>,
     index: usize,
 ) -> Result<Vec<Vec<F>>, MerkleTreeError>
-    requires { index < tallest (heights (shape (tree_batch tree.now))) }
+    requires { index < greatest (heights (shape (tree_batch tree.now))) }
     ensures rows { let honest = honest_rows (tree_batch tree.now) index in
         IfOk result (λ rows. row_lists rows.items ≡ honest) }
-    ensures memory { IfErr result (λ e. e ≡ OutOfMemory) }
+    ensures memory { AnswersUnlessMemory result None }
 {
     let max_height = max_height(tree);
     let mut rows = Vec::with_capacity(alloc, tree.matrices.len())?;
@@ -83,7 +85,7 @@ pub fn matrix_refs<'a, F, X, G, M: Matrix<F>, const N: usize>(
     tree: &'a Tree<F, X, G, M, N>,
 ) -> Result<Vec<&'a M>, MerkleTreeError>
     ensures matrices { IfOk result (λ v. map (λ m. m.now) v.items ≡ matrices_of tree.now) }
-    ensures memory { IfErr result (λ e. e ≡ OutOfMemory) }
+    ensures memory { AnswersUnlessMemory result None }
 {
     let mut matrices = Vec::with_capacity(alloc, tree.matrices.len())?;
     for matrix in &tree.matrices {
@@ -104,11 +106,11 @@ pub fn siblings_of_index<F, X: Copy, G, M: Matrix<F>, const N: usize>(
     index: usize,
     t: usize,
 ) -> Result<Vec<X>, MerkleTreeError>
-    requires index { index < tallest (heights (shape (tree_batch tree.now))) }
+    requires index { index < greatest (heights (shape (tree_batch tree.now))) }
     requires layer { t ≤ levels (shape (tree_batch tree.now)) }
     ensures siblings { (d : X) → let own = siblings_by (node_in d (layers_of tree.now)) (shape (tree_batch tree.now)) t index in
         IfOk result (λ siblings. siblings.items ≡ own) }
-    ensures memory { IfErr result (λ e. e ≡ OutOfMemory) }
+    ensures memory { AnswersUnlessMemory result None }
 {
     let mut siblings = Vec::with_capacity(alloc, num_siblings(tree, t))?;
     let mut ancestor = index;
@@ -164,7 +166,7 @@ fn extend_with_others<X: Copy>(
     requires { position < length group.now }
     ensures others { let others = remove group.now position in
         IfOk result (λ done. siblings.new.items ≡ siblings.old.items ++ others) }
-    ensures memory { IfErr result (λ e. e ≡ OutOfMemory) }
+    ensures memory { AnswersUnlessMemory result None }
 {
     for (place, digest) in group.iter().enumerate() {
         if place != position {

@@ -1,13 +1,14 @@
 //! What a tree opens of several leaves at once: their rows, and the digests that these rows leave unknown.
 
-ghost use Rattle.std.specs.Prelude.{◌≡◌, ◌+◌, ◌-◌, ◌%◌, ◌^◌, ◌<◌, ◌≤◌, ◌++◌, length, map, min, slice_index, All, IfErr, IfOk};
+ghost use Rattle.std.specs.Prelude.{◌≡◌, ◌+◌, ◌-◌, ◌%◌, ◌^◌, ◌<◌, ◌≤◌, ◌++◌, length, map, min, slice_index, All, IfErr, IfOk, None};
 ghost use Rattle.std.specs.List.Sorted.{IsStrictlyIncreasing};
-ghost use Rattle.p3_merkle_core.specs.Geometry.{heights, levels, tallest};
+ghost use Rattle.p3_merkle_core.specs.Geometry.{heights, levels};
+ghost use Rattle.p3_support.specs.Batches.{greatest};
 ghost use Rattle.p3_merkle_core.specs.Nodes.{shape};
 ghost use Rattle.p3_merkle_core.specs.Openings.{honest_rows, node_in};
 ghost use Rattle.p3_support.specs.Shown.{row_sets};
 ghost use Rattle.p3_merkle_core.specs.declared.error.MerkleTreeError.TheVariants.{OutOfMemory};
-ghost use Rattle.p3_merkle_builder.specs.Own.{others_beside};
+ghost use Rattle.p3_merkle_builder.specs.Inner.Own.{others_beside};
 ghost use Rattle.p3_merkle_builder.specs.Parts.{layers_of, tree_batch};
 
 use crate::opener::rows_of_index;
@@ -18,6 +19,7 @@ use p3_merkle_layers::levels::dimensions_of;
 use p3_support::matrix::Matrix;
 use std::alloc::Global;
 ghost use Rattle.p3_merkle_core.specs.Pruning.{boundary_by};
+ghost use Rattle.p3_merkle_core.specs.Refusals.{AnswersUnlessMemory};
 
 /// The rows of each of some leaves, in the order of the indices. Each index is below
 /// [`max_height`](crate::opener::max_height).
@@ -30,10 +32,10 @@ pub fn rows_of_indices<F: Copy, X, G, M: Matrix<F>, const N: usize>(
     tree: &Tree<F, X, G, M, N>,
     indices: &[usize],
 ) -> Result<Vec<Vec<Vec<F>>>, MerkleTreeError>
-    requires { All (λ index. index < tallest (heights (shape (tree_batch tree.now)))) indices.now }
+    requires { All (λ index. index < greatest (heights (shape (tree_batch tree.now)))) indices.now }
     ensures rows { let honest = map (honest_rows (tree_batch tree.now)) indices.now in
         IfOk result (λ rows. row_sets rows.items ≡ honest) }
-    ensures memory { IfErr result (λ e. e ≡ OutOfMemory) }
+    ensures memory { AnswersUnlessMemory result None }
 {
     let mut rows = Vec::with_capacity(alloc, indices.len())?;
     for index in indices {
@@ -57,11 +59,11 @@ pub fn digests_of_boundary<F, X: Copy, G, M: Matrix<F>, const N: usize>(
     indices: &[usize],
     t: usize,
 ) -> Result<Vec<X>, MerkleTreeError>
-    requires indices { All (λ index. index < tallest (heights (shape (tree_batch tree.now)))) indices.now }
+    requires indices { All (λ index. index < greatest (heights (shape (tree_batch tree.now)))) indices.now }
     requires layer { t ≤ levels (shape (tree_batch tree.now)) }
     ensures digests { (d : X) → let own = boundary_by (node_in d (layers_of tree.now)) (shape (tree_batch tree.now)) indices.now t in
         IfOk result (λ digests. digests.items ≡ own) }
-    ensures memory { IfErr result (λ e. e ≡ OutOfMemory) }
+    ensures memory { AnswersUnlessMemory result None }
 {
     let mut covered = covered_leaves(alloc, indices)?;
     let dimensions = dimensions_of(alloc, &tree.matrices)?;
@@ -90,7 +92,7 @@ fn extend_with_boundary<X: Copy>(
     requires len { length layer.now < 2 ^ 64 }
     ensures digests { (d : X) → let others = others_beside layer.now covered.now step d in
         IfOk result (λ done. digests.new.items ≡ digests.old.items ++ others) }
-    ensures memory { IfErr result (λ e. e ≡ OutOfMemory) }
+    ensures memory { AnswersUnlessMemory result None }
 {
     let mut next = 0;
     for place in 0..covered.len() {

@@ -1,35 +1,35 @@
 -- One level of the check of an opening.
-use Rattle.std.proofs.Common.{◌≡◌, ℕ, zero, suc, ◌+◌, ◌-◌, ◌%◌, ◌<◌, ◌≤◌, add-suc, true, false, cond, eqb, List, [], ◌∷◌, refl, ap, sym, ◌∙◌, arith, map, zip, None, Some}
+use Rattle.std.proofs.Common.{insert, ◌≡◌, ℕ, zero, suc, ◌+◌, ◌-◌, ◌%◌, ◌<◌, ◌≤◌, add-suc, true, false, cond, eqb, List, [], ◌∷◌, refl, ap, sym, ◌∙◌, arith, map, zip, None, Some}
 use Rattle.std.specs.List.{list_any, filter, flat_map}
 use Rattle.std.proofs.lemmas.Bool.{cond_both}
 use Rattle.std.proofs.lemmas.List.Folds.{flat_map-map}
-use Rattle.p3_merkle_core.specs.Geometry.{Shape, IsArity, exponent, heights, is_bridge, layer_exponent, step, tallest, has_rows}
-use Rattle.p3_merkle_core.specs.Groups.{group_around}
-use Rattle.p3_merkle_core.specs.Nodes.{Functions, padded_group}
+use Rattle.p3_merkle_core.specs.Geometry.{Shape, IsArity, exponent, heights, is_bridge, layer_exponent, step, has_rows}
+use Rattle.p3_support.specs.Batches.{greatest}
+use Rattle.p3_merkle_core.specs.Nodes.{Functions, padded}
 use Rattle.p3_merkle_core.specs.Openings.{Opening}
-use Rattle.p3_merkle_core.specs.Checks.{layer_words, path_digest, siblings_below}
+use Rattle.p3_merkle_core.specs.Checks.{layer_words, path_digest, siblings_below, words_of_exponent}
 use Rattle.p3_merkle_core.proofs.Completeness.{reached_leaf, reached_next}
 use Rattle.p3_merkle_core.proofs.SiblingFacts.{siblings_next, siblings_start}
 use Rattle.p3_merkle_core.proofs.StepFacts.{anc_next, anc_start, layer_start, next_exponent, step_above_1, step_at}
-use Rattle.p3_merkle_checker.specs.Checks.{CanStep, IsAbove, IsLevel, StandsAt, step_siblings}
-use Rattle.p3_merkle_checker.specs.Paths.{CanReach, rows_of_exponent, rows_with}
+use Rattle.p3_merkle_checker.specs.Inner.Checks.{CanStep, IsAbove, IsLevel, StandsAt, step_siblings}
+use Rattle.p3_merkle_checker.specs.Inner.Paths.{CanReach, rows_of_exponent}
 use Rattle.p3_merkle_checker.specs.declared.level.Standing.{Standing}
 use Rattle.p3_merkle_core.proofs.CheckFacts.{full_group, inputs_with_rows, inputs_alone}
 
 -- rows that are read whole, one after another, are the words of these rows
-pub words_read : {T R : Type 0} (now : R → List T) (x : ℕ) (pairs : List (ℕ × List T)) (rows : List R) → map now rows ≡ rows_of_exponent x pairs → flat_map now rows ≡ rows_with x pairs
+pub words_read : {T R : Type 0} (now : R → List T) (x : ℕ) (pairs : List (ℕ × List T)) (rows : List R) → map now rows ≡ rows_of_exponent x pairs → flat_map now rows ≡ words_of_exponent x pairs
 words_read now x pairs rows e =
     sym (flat_map-map (λ row. row) now rows) ∙ ap (flat_map (λ row. row)) e ∙ flat_map-map (λ row. row) (λ (h, row). row) (filter (λ (h, row). eqb (exponent h) x) pairs)
 
 -- a check begins at its leaf
 pub stands_first : {T W : Type 0} (f : Functions T W) (s : Shape) (o : Opening T W) (standing : Standing (List W)) → standing.exponent ≡ layer_exponent s 0 → standing.node ≡ o.index → standing.used ≡ 0 →
-    standing.digest ≡ f.hash (rows_with standing.exponent (zip (heights s) o.rows)) → StandsAt f s o 0 standing
+    standing.digest ≡ f.hash (words_of_exponent standing.exponent (zip (heights s) o.rows)) → StandsAt f s o 0 standing
 stands_first f s o standing is node used digest =
     record {
       at_exponent = is;
       at_node = node ∙ sym (anc_start s o.index);
       taken = used ∙ sym (siblings_start s);
-      reached = digest ∙ ap (λ y. f.hash (rows_with y (zip (heights s) o.rows))) is ∙ sym (reached_leaf f s o);
+      reached = digest ∙ ap (λ y. f.hash (words_of_exponent y (zip (heights s) o.rows))) is ∙ sym (reached_leaf f s o);
     }
 
 -- a step from layer l, to the exponent of the next layer
@@ -62,7 +62,7 @@ enough_below s t l count w h =
 module _ {T W : Type 0} (f : Functions T W) (s : Shape) (o : Opening T W) (l n y : ℕ) (standing above : Standing (List W)) (group : List (List W)) where
   -- the group of the level
   group_is : IsStepFrom s l n y → StandsAt f s o l standing →
-      group ≡ group_around s.arity f.default_digest (step_siblings n o.siblings standing.used) (standing.node % n) standing.digest → group ≡ full_group f s o l
+      group ≡ padded s.arity f.default_digest (insert (step_siblings n o.siblings standing.used) (standing.node % n) standing.digest) → group ≡ full_group f s o l
   group_is from at e = e ∙ rw (from.is_step, at.taken, at.at_node, at.reached) refl
 
   -- the check stands at the next layer, if the digest there is the one that the path reaches
@@ -77,12 +77,12 @@ module _ {T W : Type 0} (f : Functions T W) (s : Shape) (o : Opening T W) (l n y
 
   -- a level with rows above it
   pub level_with_rows : IsStepFrom s l n y → StandsAt f s o l standing →
-      group ≡ group_around s.arity f.default_digest (step_siblings n o.siblings standing.used) (standing.node % n) standing.digest → has_rows s (suc l) ≡ true →
-      (pair : List (List W)) → pair ≡ padded_group f s.arity (f.compression group ∷ f.hash (rows_with y (zip (heights s) o.rows)) ∷ []) → IsAbove n y (f.compression pair) standing above →
+      group ≡ padded s.arity f.default_digest (insert (step_siblings n o.siblings standing.used) (standing.node % n) standing.digest) → has_rows s (suc l) ≡ true →
+      (pair : List (List W)) → pair ≡ padded s.arity f.default_digest (f.compression group ∷ f.hash (words_of_exponent y (zip (heights s) o.rows)) ∷ []) → IsAbove n y (f.compression pair) standing above →
       IsLevel f s o l (record { level = l; group = group; pair = Some pair; above = above })
   level_with_rows from at e has pair p up =
       let whole = group_is from at e in
-      let full : pair ≡ padded_group f s.arity (f.compression (full_group f s o l) ∷ f.hash (layer_words s o.rows (suc l)) ∷ []) = rw (whole, from.above) at p in
+      let full : pair ≡ padded s.arity f.default_digest (f.compression (full_group f s o l) ∷ f.hash (layer_words s o.rows (suc l)) ∷ []) = rw (whole, from.above) at p in
       let next = rw has at (reached_next f s o l) in
       record {
         at_level = refl;
@@ -92,7 +92,7 @@ module _ {T W : Type 0} (f : Functions T W) (s : Shape) (o : Opening T W) (l n y
 
   -- a level without
   pub level_alone : IsStepFrom s l n y → StandsAt f s o l standing →
-      group ≡ group_around s.arity f.default_digest (step_siblings n o.siblings standing.used) (standing.node % n) standing.digest → has_rows s (suc l) ≡ false →
+      group ≡ padded s.arity f.default_digest (insert (step_siblings n o.siblings standing.used) (standing.node % n) standing.digest) → has_rows s (suc l) ≡ false →
       IsAbove n y (f.compression group) standing above →
       IsLevel f s o l (record { level = l; group = group; pair = None; above = above })
   level_alone from at e has up =

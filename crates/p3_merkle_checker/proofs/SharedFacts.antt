@@ -14,8 +14,8 @@ use Rattle.p3_merkle_core.proofs.Extraction.{anc_same, level_lengths}
 use Rattle.p3_merkle_core.proofs.ListFacts.{joined, joined_more}
 use Rattle.p3_merkle_core.proofs.PathFacts.{joined_same}
 use Rattle.p3_merkle_core.proofs.LeastFacts.{least_le, least_passes, below_least}
-use Rattle.p3_merkle_checker.specs.Checks.{leaf_difference, level_difference}
-use Rattle.p3_merkle_checker.specs.Collisions.{Shows}
+use Rattle.p3_merkle_checker.specs.Inner.Checks.{leaf_difference, level_difference}
+use Rattle.p3_merkle_checker.specs.Inner.Collisions.{Shows}
 use Rattle.p3_merkle_core.specs.declared.collision.InputPair.{InputPair}
 
 -- ---- lists

@@ -5,15 +5,15 @@ use Rattle.std.specs.Option.{option_or}
 use Rattle.std.specs.declared.vec.Vec.{Vec}
 use Rattle.std.proofs.lemmas.Bool.{cases_Bool, eq-eqb, ne_eqb}
 use Rattle.p3_merkle_core.specs.Extraction.{input_eq, last_difference}
-use Rattle.p3_merkle_core.specs.Geometry.{Shape, ancestor, exponent, heights, heights_of, layer_exponent, tallest}
+use Rattle.p3_support.specs.Batches.{heights_of, greatest}
+use Rattle.p3_merkle_core.specs.Geometry.{Shape, ancestor, exponent, heights, layer_exponent}
 use Rattle.p3_merkle_core.specs.Nodes.{Functions}
 use Rattle.p3_merkle_core.specs.Openings.{Opening}
-use Rattle.p3_merkle_core.specs.Checks.{Input, inputs_at, layer_words, leaf_input, words_at}
+use Rattle.p3_merkle_core.specs.Checks.{Input, inputs_at, layer_words, leaf_input, words_at, words_of_exponent}
 use Rattle.p3_merkle_core.specs.Refusals.{unless}
 use Rattle.p3_merkle_core.proofs.StepFacts.{layer_start}
-use Rattle.p3_merkle_checker.specs.Checks.{IsLevel, StandsAt, leaf_difference, level_difference}
-use Rattle.p3_merkle_checker.specs.Collisions.{IsDifference, Shows, level_inputs}
-use Rattle.p3_merkle_checker.specs.Paths.{rows_with}
+use Rattle.p3_merkle_checker.specs.Inner.Checks.{IsLevel, StandsAt, leaf_difference, level_difference}
+use Rattle.p3_merkle_checker.specs.Inner.Collisions.{IsDifference, Shows, level_inputs}
 use Rattle.p3_merkle_core.specs.declared.collision.Place.TheVariants.{Leaf}
 use Rattle.p3_merkle_core.specs.declared.collision.InputPair.{InputPair}
 use Rattle.p3_merkle_checker.specs.declared.level.CheckedLevel.{CheckedLevel}
@@ -29,16 +29,16 @@ pub record StandTogether {T W : Type 0} (test : Input T W → Input T W → Bool
   pub found : Shows last (difference_below test f s o u l)
 
 -- the same words, by the same dimensions, exponent and rows
-pub words_alike : {T A : Type 0} (d e : List Dimensions) (x y : ℕ) (v w : List (Vec T A)) → d ≡ e → x ≡ y → v ≡ w → rows_with x (zip (heights_of d) (row_lists v)) ≡ rows_with y (zip (heights_of e) (row_lists w))
+pub words_alike : {T A : Type 0} (d e : List Dimensions) (x y : ℕ) (v w : List (Vec T A)) → d ≡ e → x ≡ y → v ≡ w → words_of_exponent x (zip (heights_of d) (row_lists v)) ≡ words_of_exponent y (zip (heights_of e) (row_lists w))
 words_alike d e x y v w same_d same_x same_v =
-    ap (λ (z : List Dimensions). rows_with x (zip (heights_of z) (row_lists v))) same_d
-    ∙ ap (λ (z : ℕ). rows_with z (zip (heights_of e) (row_lists v))) same_x
-    ∙ ap (λ (z : List (Vec _ _)). rows_with y (zip (heights_of e) (row_lists z))) same_v
+    ap (λ (z : List Dimensions). words_of_exponent x (zip (heights_of z) (row_lists v))) same_d
+    ∙ ap (λ (z : ℕ). words_of_exponent z (zip (heights_of e) (row_lists v))) same_x
+    ∙ ap (λ (z : List (Vec _ _)). words_of_exponent y (zip (heights_of e) (row_lists z))) same_v
 
 -- ---- at the leaf
 
 -- the exponent of the leaves
-pub at_leaf : (s : Shape) (x y : ℕ) (m : ℕ) → x ≡ y → y ≡ exponent m → m ≡ tallest (heights s) → x ≡ layer_exponent s 0
+pub at_leaf : (s : Shape) (x y : ℕ) (m : ℕ) → x ≡ y → y ≡ exponent m → m ≡ greatest (heights s) → x ≡ layer_exponent s 0
 at_leaf s x y m same top tall = same ∙ top ∙ ap exponent tall ∙ sym (layer_start s)
 
 shows_unless : {T W : Type 0} (found : Option (InputPair T (List W))) (same : Bool) (pair : Input T W × Input T W) → IsDifference found same pair → Shows found (unless same pair)

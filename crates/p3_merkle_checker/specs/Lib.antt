@@ -1,4 +1,1 @@
-pub mod Paths
-pub mod Collisions
-pub mod Checks
-pub mod Roots
+pub mod Inner

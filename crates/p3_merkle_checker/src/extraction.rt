@@ -7,9 +7,9 @@ ghost use Rattle.p3_merkle_core.specs.Extraction.{difference_of};
 ghost use Rattle.p3_merkle_core.specs.Refusals.{refusal_under, AnswersUnlessMemory};
 ghost use Rattle.p3_merkle_core.specs.Geometry.{shape_of};
 ghost use Rattle.p3_merkle_core.specs.Nodes.{functions_of};
-ghost use Rattle.p3_merkle_checker.specs.Checks.{opening_in};
-ghost use Rattle.p3_merkle_checker.specs.Collisions.{Shows};
-ghost use Rattle.p3_merkle_checker.specs.Paths.{CanCheck};
+ghost use Rattle.p3_merkle_checker.specs.Inner.Checks.{opening_in};
+ghost use Rattle.p3_merkle_checker.specs.Inner.Collisions.{Shows};
+ghost use Rattle.p3_merkle_checker.specs.Inner.Paths.{CanCheck};
 
 use crate::level::Checker;
 use crate::openings::{IndexedOpening, OpeningPair};

@@ -3,7 +3,7 @@
 ghost use Rattle.std.specs.Prelude.{◌≡◌, MatchResult, None, Some};
 ghost use Rattle.p3_merkle_core.specs.Geometry.{shape_of};
 ghost use Rattle.p3_merkle_core.specs.Refusals.{form_refusal};
-ghost use Rattle.p3_merkle_checker.specs.Paths.{CanCheck};
+ghost use Rattle.p3_merkle_checker.specs.Inner.Paths.{CanCheck};
 ghost use Rattle.p3_support.specs.Shown.{row_lists};
 
 use p3_merkle_core::error::MerkleTreeError;
@@ -21,7 +21,7 @@ use p3_merkle_core::steps::Steps;
 /// `TooLarge` or `IncompatibleHeights` where no tree can be built over such heights; `WrongHeight` where there are not as
 /// many siblings as the levels below layer `t` have; `WrongWidth` for the first row that has not the width of its matrix;
 /// `IndexOutOfBounds` where the index is not below the tallest height.
-pub fn check_form<T>(
+pub(crate) fn check_form<T>(
     steps: &Steps<'_>,
     t: usize,
     index: usize,

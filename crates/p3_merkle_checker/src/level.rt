@@ -1,11 +1,12 @@
 //! One level of a check: what it compresses, and where the check stands above it.
 
-ghost use Rattle.std.specs.Prelude.{◌≡◌, ◌+◌, ◌-◌, ◌%◌, ◌^◌, ◌<◌, length, replicate, zip};
-ghost use Rattle.p3_merkle_core.specs.Geometry.{heights_of, layer_exponent, shape_of};
-ghost use Rattle.p3_merkle_core.specs.Groups.{group_around};
-ghost use Rattle.p3_merkle_core.specs.Nodes.{functions_of};
-ghost use Rattle.p3_merkle_checker.specs.Checks.{opening_in, step_siblings, CanClimb, CanStep, IsAbove, IsLevel, StandsAt};
-ghost use Rattle.p3_merkle_checker.specs.Paths.{rows_with, CanReach};
+ghost use Rattle.std.specs.Prelude.{insert, ◌≡◌, ◌+◌, ◌-◌, ◌%◌, ◌^◌, ◌<◌, length, replicate, zip};
+ghost use Rattle.p3_merkle_core.specs.Geometry.{layer_exponent, shape_of};
+ghost use Rattle.p3_merkle_core.specs.Checks.{words_of_exponent};
+ghost use Rattle.p3_support.specs.Batches.{heights_of};
+ghost use Rattle.p3_merkle_core.specs.Nodes.{functions_of, padded};
+ghost use Rattle.p3_merkle_checker.specs.Inner.Checks.{opening_in, step_siblings, CanClimb, CanStep, IsAbove, IsLevel, StandsAt};
+ghost use Rattle.p3_merkle_checker.specs.Inner.Paths.{CanReach};
 ghost use Rattle.p3_support.specs.Shown.{row_lists};
 
 use crate::opened::opened_slices;
@@ -41,7 +42,7 @@ impl<W: Copy, const D: usize> Standing<[W; D]> {
     ) -> [[W; D]; N]
         requires { CanStep N step self.now.used (length siblings.now) }
         ensures { let others = step_siblings step siblings.now self.now.used in
-            result ≡ group_around N default_digest others (self.now.node % step) self.now.digest }
+            result ≡ padded N default_digest (insert others (self.now.node % step) self.now.digest) }
     {
         let end = self.used + (step - 1);
         let others = &siblings[self.used..end];
@@ -86,7 +87,7 @@ pub fn rows_digest<
     const D: usize,
 >(hash: &H, dimensions: &[Dimensions], rows: &[Vec<P::Value>], exponent: usize) -> [PW::Value; D]
     ensures { let rows = zip (heights_of dimensions.now) (row_lists rows.now) in
-        result ≡ H.hash hash.now (rows_with exponent rows) }
+        result ≡ H.hash hash.now (words_of_exponent exponent rows) }
 {
     hash.hash_iter_slices(opened_slices(dimensions, rows, exponent))
 }
@@ -106,7 +107,7 @@ pub(crate) fn leaf<
     ensures node { result.node ≡ opening.entry.index }
     ensures used { result.used ≡ 0 }
     ensures digest { let rows = zip (heights_of steps.now.dimensions.now) (row_lists opening.entry.rows.now) in
-        result.digest ≡ H.hash hash.now (rows_with result.exponent rows) }
+        result.digest ≡ H.hash hash.now (words_of_exponent result.exponent rows) }
 {
     let exponent = steps.exponent;
     Standing {

@@ -2,8 +2,8 @@
 
 ghost use Rattle.std.specs.Prelude.{◌≡◌, zip};
 ghost use Rattle.std.specs.Iterator.{YieldsFirst, YieldsFirstBy, item_count};
-ghost use Rattle.p3_merkle_core.specs.Geometry.{heights_of};
-ghost use Rattle.p3_merkle_checker.specs.Paths.{opened_left, rows_of_exponent};
+ghost use Rattle.p3_support.specs.Batches.{heights_of};
+ghost use Rattle.p3_merkle_checker.specs.Inner.Paths.{opened_left, rows_of_exponent};
 ghost use Rattle.p3_support.specs.Shown.{row_lists};
 
 use p3_merkle_core::geometry::exponent_of;
@@ -19,7 +19,7 @@ pub struct OpenedRows<'a, T> {
 }
 
 /// The words of the rows of the matrices of this exponent; `rows` has the rows of all matrices, in input order.
-pub fn opened_rows<'a, T>(
+pub(crate) fn opened_rows<'a, T>(
     dimensions: &'a [Dimensions],
     rows: &'a [Vec<T>],
     exponent: usize,
@@ -71,7 +71,7 @@ pub struct OpenedSlices<'a, T> {
 }
 
 /// The rows of the matrices of this exponent; `rows` has the rows of all matrices, in input order.
-pub fn opened_slices<'a, T>(
+pub(crate) fn opened_slices<'a, T>(
     dimensions: &'a [Dimensions],
     rows: &'a [Vec<T>],
     exponent: usize,

@@ -2,7 +2,7 @@
 
 ghost use Rattle.std.specs.Prelude.{◌≡◌, length};
 ghost use Rattle.p3_merkle_core.specs.Geometry.{shape_of};
-ghost use Rattle.p3_merkle_checker.specs.Paths.{CanReach};
+ghost use Rattle.p3_merkle_checker.specs.Inner.Paths.{CanReach};
 
 use crate::collision::RowPair;
 use p3_support::matrix::Dimensions;
@@ -52,7 +52,7 @@ pub struct OpeningPair<'a, T, X, const N: usize> {
 
 impl<'a, T, X, const N: usize> OpeningPair<'a, T, X, N> {
     /// The rows of both, of which those of the matrices of this exponent are compared.
-    pub(crate) fn rows_with(&self, exponent: usize) -> RowPair<'a, T>
+    pub(crate) fn rows_of_exponent(&self, exponent: usize) -> RowPair<'a, T>
         ensures dimensions { result.dimensions.now ≡ self.now.dimensions.now }
         ensures exponent { result.exponent ≡ exponent }
         ensures first { result.first.now ≡ self.now.first.rows.now }

@@ -5,9 +5,9 @@ ghost use Rattle.std.specs.Option.{option_map};
 ghost use Rattle.p3_merkle_core.specs.Geometry.{ancestor, shape_of};
 ghost use Rattle.p3_merkle_core.specs.Nodes.{functions_of};
 ghost use Rattle.p3_merkle_core.specs.Checks.{path_digest, terms};
-ghost use Rattle.p3_merkle_core.specs.Refusals.{answer_under};
-ghost use Rattle.p3_merkle_checker.specs.Checks.{opening_in};
-ghost use Rattle.p3_merkle_checker.specs.Paths.{CanCheck, CanReach};
+ghost use Rattle.p3_merkle_core.specs.Refusals.{answer_under, is_entry as is_entry_of};
+ghost use Rattle.p3_merkle_checker.specs.Inner.Checks.{opening_in};
+ghost use Rattle.p3_merkle_checker.specs.Inner.Paths.{CanCheck, CanReach};
 
 use crate::form::check_form;
 use crate::level::{Checker, leaf, tell_siblings};
@@ -84,9 +84,8 @@ impl<
 }
 
 /// Whether the entry `node` of some roots is this digest.
-pub fn is_entry<X: PartialEq>(roots: &[X], node: usize, digest: &X) -> bool
-    ensures { let test = option_map (λ root. X.eq root digest.now) (slice_get roots.now node) in
-        result ≡ unwrap_or test false }
+pub(crate) fn is_entry<X: PartialEq>(roots: &[X], node: usize, digest: &X) -> bool
+    ensures { result ≡ is_entry_of X.eq roots.now node digest.now }
 {
     match roots.get(node) {
         Some(root) => *root == *digest,

@@ -2,14 +2,14 @@
 
 ghost use Rattle.std.specs.Prelude.{◌≡◌, length, zip};
 ghost use Rattle.std.specs.List.{list_all};
-ghost use Rattle.p3_merkle_checker.specs.Roots.{is_root};
+ghost use Rattle.p3_merkle_core.specs.Refusals.{is_entry as is_entry_of};
 
 use crate::path::is_entry;
 
 /// Whether the digest of each of some nodes is the root of its place.
 pub fn are_entries<X: PartialEq>(roots: &[X], nodes: &[usize], digests: &[X]) -> bool
     requires { length digests.now ≡ length nodes.now }
-    ensures { result ≡ list_all (is_root X.eq roots.now) (zip nodes.now digests.now) }
+    ensures { result ≡ list_all (λ (node, digest). is_entry_of X.eq roots.now node digest) (zip nodes.now digests.now) }
 {
     for slot in 0..nodes.len() {
         if !is_entry(roots, nodes[slot], &digests[slot]) {

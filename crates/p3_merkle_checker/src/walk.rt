@@ -5,8 +5,8 @@ ghost use Rattle.p3_merkle_core.specs.Checks.{terms};
 ghost use Rattle.p3_merkle_core.specs.Extraction.{difference_of, input_eq};
 ghost use Rattle.p3_merkle_core.specs.Geometry.{shape_of};
 ghost use Rattle.p3_merkle_core.specs.Nodes.{functions_of};
-ghost use Rattle.p3_merkle_checker.specs.Checks.{leaf_difference, opening_in};
-ghost use Rattle.p3_merkle_checker.specs.Collisions.{Shows};
+ghost use Rattle.p3_merkle_checker.specs.Inner.Checks.{leaf_difference, opening_in};
+ghost use Rattle.p3_merkle_checker.specs.Inner.Collisions.{Shows};
 
 use crate::collision::{differing_level, differing_words};
 use crate::level::{Checker, leaf, tell_siblings};
@@ -33,7 +33,7 @@ fn leaf_difference<T: Copy + Eq + Drop, W: Copy + Eq, const N: usize, const D: u
         return Ok(None);
     }
     let exponent = exponent_of(tallest_of(openings.dimensions));
-    differing_words(alloc, Place::Leaf, &openings.rows_with(exponent))
+    differing_words(alloc, Place::Leaf, &openings.rows_of_exponent(exponent))
 }
 
 impl<
@@ -72,7 +72,7 @@ impl<
             let mine = self.checked_level(&steps, level, openings.first, &first);
             let theirs = self.checked_level(&steps, level, openings.second, &second);
             if mine.above.node == theirs.above.node {
-                let rows = openings.rows_with(mine.above.exponent);
+                let rows = openings.rows_of_exponent(mine.above.exponent);
                 let found = differing_level(alloc, &rows, &mine, &theirs)?;
                 last = found.or(last);
             }

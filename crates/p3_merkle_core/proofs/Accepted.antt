@@ -4,7 +4,8 @@ use Rattle.std.specs.Int.{next_multiple_of}
 use Rattle.std.proofs.lemmas.Bool.{cond_both, ltb-true}
 use Rattle.std.proofs.lemmas.List.FromFn.{length-map-range_with_len, get_or-map-range_with_len}
 use Rattle.std.proofs.lemmas.Option.{slice_get-get_or}
-use Rattle.p3_merkle_core.specs.Geometry.{ancestor, raw_len, layer_len, padded_len, row_at_index, heights, heights_of, widths_of}
+use Rattle.p3_merkle_core.specs.Geometry.{ancestor, raw_len, layer_len, padded_len, halved_index, heights}
+use Rattle.p3_support.specs.Batches.{greatest, heights_of, widths_of}
 use Rattle.p3_merkle_core.specs.Nodes.{Functions, Batch, Matrix, shape, node, layer, dimensions_of, HasFullRows}
 use Rattle.p3_merkle_core.specs.Openings.{honest}
 use Rattle.p3_merkle_core.specs.Checks.{IsAccepted, terms}
@@ -32,7 +33,7 @@ honest_accepted f b t i w widths =
     let below = anc_below s w.well_shaped i w.below t w.in_tree in
     let in_layer : j < layer_len s t = omega (arith, padded_ge (raw_len s t) b.arity) in
     accepted_by_walk f s t (layer f b t) (honest f b t i) w.lawful
-    (lengths_are (λ h. row_at_index s h i) b.matrices widths (λ k d h. row_below s (get_or (heights s) k d) i (w.lawful.on_ladder k d h) w.below))
+    (lengths_are (λ h. halved_index (greatest (heights s)) h i) b.matrices widths (λ k d h. row_below s (get_or (heights s) k d) i (w.lawful.on_ladder k d h) w.below))
     (honest_count f b t i w) w.below
     (slice_get-get_or (layer f b t) j f.default_digest (omega (arith, length-map-range_with_len (node f b t) 0 (layer_len s t)))
     ∙ ap (λ d. Some d) (get_or-map-range_with_len (node f b t) 0 (layer_len s t) j j f.default_digest in_layer (omega arith) ∙ sym (honest_reaches f b t i w t (omega arith))))

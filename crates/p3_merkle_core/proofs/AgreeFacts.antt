@@ -3,11 +3,13 @@ use Rattle.std.proofs.Common.{◌≡◌, ℕ, zero, suc, ◌+◌, ◌<◌, Bool,
 use Rattle.std.specs.List.{range_with_len}
 use Rattle.std.proofs.lemmas.Bool.{cases_lt, eqb-true, and_parts, and_from, false_from_ne_true}
 use Rattle.std.proofs.lemmas.List.{get_or-map, length-map}
-use Rattle.p3_merkle_core.specs.Geometry.{Shape, ancestor, heights, layer_exponent, tallest}
-use Rattle.p3_merkle_core.specs.Refusals.{first_of, group_refusal, is_queried, lead, matrices_at, row_refusal, slots_below, width_refusal, rows_of}
+use Rattle.p3_merkle_core.specs.Geometry.{Shape, ancestor, heights, layer_exponent}
+use Rattle.p3_support.specs.Lists.{is_among}
+use Rattle.p3_support.specs.Batches.{greatest}
+use Rattle.p3_merkle_core.specs.Refusals.{first_of, group_refusal, lead, matrices_at, row_refusal, slots_below, width_refusal, rows_of}
 use Rattle.p3_merkle_core.specs.Pruning.{first_rows}
 use Rattle.p3_support.specs.declared.matrix.Dimensions.{Dimensions}
-use Rattle.p3_merkle_core.specs.Agreement.{distinct, first_query, layers_refusal, opened_of, rows_refusal, slot_rows, IsAscending}
+use Rattle.p3_merkle_core.specs.Inner.Agreement.{distinct, first_query, layers_refusal, opened_of, rows_refusal, slot_rows, IsAscending}
 use Rattle.p3_merkle_core.specs.declared.error.MerkleTreeError.{MerkleTreeError}
 use Rattle.p3_merkle_core.proofs.LeastFacts.{least_is}
 use Rattle.p3_merkle_core.proofs.RisingFacts.{listed_at}
@@ -30,7 +32,7 @@ same_walk g h a (suc n) e = rw (e a, same_walk g h (a + 1) n e) refl
 
 -- ---- the lowest slot under a node
 
-pub lead_index : (s : Shape) (indices : List ℕ) (l k f : ℕ) → tallest indices < tallest (heights s) → k < length (distinct indices) →
+pub lead_index : (s : Shape) (indices : List ℕ) (l k f : ℕ) → greatest indices < greatest (heights s) → k < length (distinct indices) →
     f ≡ first_query (map (ancestor s l) (distinct indices)) (get_or (map (ancestor s l) (distinct indices)) k 0) →
     lead s indices l (ancestor s l (get_or (distinct indices) k 0)) ≡ get_or (distinct indices) f 0
 lead_index s indices l k f below h is =
@@ -43,10 +45,10 @@ lead_index s indices l k f below h is =
     let v = get_or leaves f 0 in
     let there : ancestor s l v ≡ j = sym (get_or-map (ancestor s l) leaves f 0 0 (omega arith)) ∙ ap (λ i. get_or nodes i 0) is ∙ first_there nodes (get_or nodes k 0) (listed_at nodes k 0 (omega arith)) ∙ at in
     let asked = distinct_queried indices f (omega arith) in
-    let p : ℕ → Bool = λ i. is_queried indices i && eqb (ancestor s l i) j in
-    least_is p (tallest (heights s)) v (omega (arith, highest indices v asked))
+    let p : ℕ → Bool = λ i. is_among indices i && eqb (ancestor s l i) j in
+    least_is p (greatest (heights s)) v (omega (arith, highest indices v asked))
     (λ w lower. false_from_ne_true (p w) (λ yes.
-    let both = and_parts (is_queried indices w) (eqb (ancestor s l w) j) yes in
+    let both = and_parts (is_among indices w) (eqb (ancestor s l w) j) yes in
     let q = some_place indices w both.0 in
     let node : get_or nodes q.0 0 ≡ get_or nodes k 0 = get_or-map (ancestor s l) leaves q.0 0 0 q.1 ∙ ap (ancestor s l) q.2 ∙ eqb-true (ancestor s l w) j both.1 ∙ sym at in
     elim (cases_lt q.0 f) [
@@ -56,7 +58,7 @@ lead_index s indices l k f below h is =
         | inr same ↦ let e : q.0 ≡ f = omega arith in absurd (omega (arith, q.2, ap (λ i. get_or leaves i 0) e))
       ]
     ]))
-    (λ low. and_from (is_queried indices v) (eqb (ancestor s l v) j) asked (eq-eqb (ancestor s l v) j there))
+    (λ low. and_from (is_among indices v) (eqb (ancestor s l v) j) asked (eq-eqb (ancestor s l v) j there))
 
 -- ---- the rows of a slot
 
@@ -68,7 +70,7 @@ rows_at firsts indices sets k is e h =
 -- ---- the walks
 
 slot_is : {T : Type 0} (row_eq : T → T → Bool) (s : Shape) (l : ℕ) (firsts indices : List ℕ) (sets : List (List (List T))) (k : ℕ) → firsts ≡ map (first_query indices) (distinct indices) → length indices ≡ length sets →
-    tallest indices < tallest (heights s) → k < length (distinct indices) →
+    greatest indices < greatest (heights s) → k < length (distinct indices) →
     slot_fault row_eq (heights s) (layer_exponent s l) (map (ancestor s l) (distinct indices)) firsts sets k ≡ first_of (row_refusal row_eq s (opened_of indices sets) l (get_or (distinct indices) k 0)) (matrices_at s l)
 slot_is row_eq s l firsts indices sets k is e below h =
     let leaves = distinct indices in
@@ -88,21 +90,21 @@ slot_is row_eq s l firsts indices sets k is e below h =
     ∙ ap (λ n. rows_refusal row_eq hs x n (rows_of p i) (rows_of p (lead s indices l (ancestor s l i)))) slot
 
 layer_is : {T : Type 0} (row_eq : T → T → Bool) (s : Shape) (l : ℕ) (firsts indices : List ℕ) (sets : List (List (List T))) → firsts ≡ map (first_query indices) (distinct indices) → length indices ≡ length sets →
-    tallest indices < tallest (heights s) →
-    layer_fault row_eq s (distinct indices) firsts sets l ≡ first_of (λ i. first_of (row_refusal row_eq s (opened_of indices sets) l i) (matrices_at s l)) (slots_below (tallest (heights s)) indices)
+    greatest indices < greatest (heights s) →
+    layer_fault row_eq s (distinct indices) firsts sets l ≡ first_of (λ i. first_of (row_refusal row_eq s (opened_of indices sets) l i) (matrices_at s l)) (slots_below (greatest (heights s)) indices)
 layer_is row_eq s l firsts indices sets is e below =
     let leaves = distinct indices in
     let g = slot_fault row_eq (heights s) (layer_exponent s l) (map (ancestor s l) leaves) firsts sets in
     let h = λ (i : ℕ). first_of (row_refusal row_eq s (opened_of indices sets) l i) (matrices_at s l) in
     ap (λ n. first_of g (range_with_len 0 n)) (length-map leaves (ancestor s l))
     ∙ by_places g h leaves 0 (λ k low. ap g (let z : 0 + k ≡ k = omega arith in z) ∙ slot_is row_eq s l firsts indices sets k is e below low)
-    ∙ ap (first_of h) (distinct_below (tallest (heights s)) indices below)
+    ∙ ap (first_of h) (distinct_below (greatest (heights s)) indices below)
 
 -- layer by layer and slot by slot, the answer is that of the definition
 pub groups_are : {T : Type 0} (row_eq : T → T → Bool) (s : Shape) (t : ℕ) (firsts indices : List ℕ) (sets : List (List (List T))) → firsts ≡ map (first_query indices) (distinct indices) → length indices ≡ length sets →
-    tallest indices < tallest (heights s) → layers_refusal row_eq s t (distinct indices) firsts sets ≡ group_refusal row_eq s t (opened_of indices sets)
+    greatest indices < greatest (heights s) → layers_refusal row_eq s t (distinct indices) firsts sets ≡ group_refusal row_eq s t (opened_of indices sets)
 groups_are row_eq s t firsts indices sets is e below =
-    same_walk (layer_fault row_eq s (distinct indices) firsts sets) (λ l. first_of (λ i. first_of (row_refusal row_eq s (opened_of indices sets) l i) (matrices_at s l)) (slots_below (tallest (heights s)) indices)) 0 (suc t)
+    same_walk (layer_fault row_eq s (distinct indices) firsts sets) (λ l. first_of (λ i. first_of (row_refusal row_eq s (opened_of indices sets) l i) (matrices_at s l)) (slots_below (greatest (heights s)) indices)) 0 (suc t)
     (λ l. layer_is row_eq s l firsts indices sets is e below)
 
 mapped_walk : (h g : ℕ → Option MerkleTreeError) (f : ℕ → ℕ) (xs : List ℕ) → ((k : ℕ) → k < length xs → h (f (get_or xs k 0)) ≡ g (get_or xs k 0)) → first_of h (map f xs) ≡ first_of g xs
@@ -110,7 +112,7 @@ mapped_walk h g f [] e = refl
 mapped_walk h g f (x ∷ xs) e = rw (e 0 (omega arith), mapped_walk h g f xs (λ k l. e (suc k) (omega arith))) refl
 
 -- the widths of the first queries, slot by slot
-pub widths_are : {T : Type 0} (dimensions : List Dimensions) (m : ℕ) (firsts indices : List ℕ) (sets : List (List (List T))) → firsts ≡ map (first_query indices) (distinct indices) → length indices ≡ length sets → tallest indices < m →
+pub widths_are : {T : Type 0} (dimensions : List Dimensions) (m : ℕ) (firsts indices : List ℕ) (sets : List (List (List T))) → firsts ≡ map (first_query indices) (distinct indices) → length indices ≡ length sets → greatest indices < m →
     first_of (λ query. width_refusal dimensions (get_or sets query [])) firsts ≡ first_of (λ i. width_refusal dimensions (rows_of (opened_of indices sets) i)) (slots_below m indices)
 widths_are dimensions m firsts indices sets is e below =
     let p = opened_of indices sets in

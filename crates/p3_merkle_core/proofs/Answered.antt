@@ -6,10 +6,12 @@ use Rattle.std.proofs.lemmas.Bool.{cases_Bool, eqb-true}
 use Rattle.std.proofs.lemmas.List.{length-map, get_or_default}
 use Rattle.std.proofs.lemmas.List.Folds.{list_any_at}
 use Rattle.p3_merkle_core.proofs.ShapeFacts.{widths_in_pairs}
-use Rattle.p3_merkle_core.specs.Geometry.{Shape, tallest, exponent, layer_exponent, ancestor, heights, widths}
+use Rattle.p3_support.specs.Lists.{is_among}
+use Rattle.p3_support.specs.Batches.{greatest}
+use Rattle.p3_merkle_core.specs.Geometry.{Shape, exponent, layer_exponent, ancestor, heights, widths}
 use Rattle.p3_merkle_core.specs.Gate.{gate_refusal}
 use Rattle.p3_merkle_core.specs.Pruning.{PrunedOpening, boundary, first_rows, IsRestorable}
-use Rattle.p3_merkle_core.specs.Refusals.{first_of, first_some, lead, matrices_at, slots_below, slot_of, is_queried, size_refusal, idle_refusal, queries_refusal, repeat_refusal, digest_count_refusal, width_refusal, row_refusal, group_refusal, pruned_refusal, pruned_answer, rows_of}
+use Rattle.p3_merkle_core.specs.Refusals.{first_of, first_some, lead, matrices_at, slots_below, slot_of, size_refusal, idle_refusal, queries_refusal, repeat_refusal, digest_count_refusal, width_refusal, row_refusal, group_refusal, pruned_refusal, pruned_answer, rows_of}
 use Rattle.p3_merkle_core.specs.declared.error.PrunedProofError.TheVariants.{SiblingCountMismatch, InconsistentDuplicateOpenings, InconsistentGroupOpening}
 use Rattle.p3_merkle_core.specs.declared.error.MerkleTreeError.TheVariants.{WrongBatchSize, MalformedPrunedProof}
 use Rattle.p3_merkle_core.proofs.NoneFacts.{none_parts, unless_none, verdict_ok, kept_none, range_none, paired_none, below_from, fit_from}
@@ -19,15 +21,15 @@ use Rattle.p3_merkle_core.proofs.GateFacts.{gate_lawful}
 record HasNoFault {T W : Type 0} (row_eq : T → T → Bool) (s : Shape) (t : ℕ) (p : PrunedOpening T W) : Type 0 where
   pub gate : gate_refusal (heights s) ≡ None
   pub sizes : length p.rows ≡ length p.indices
-  pub index : queries_refusal (tallest (heights s)) p.indices ≡ None
+  pub index : queries_refusal (greatest (heights s)) p.indices ≡ None
   pub repeat : repeat_refusal row_eq p ≡ None
   pub count : length p.digests ≡ length (boundary s p.indices t)
-  pub width : first_of (λ i. width_refusal s.dimensions (rows_of p i)) (slots_below (tallest (heights s)) p.indices) ≡ None
+  pub width : first_of (λ i. width_refusal s.dimensions (rows_of p i)) (slots_below (greatest (heights s)) p.indices) ≡ None
   pub group : group_refusal row_eq s t p ≡ None
 
 no_fault : {T W : Type 0} (row_eq : T → T → Bool) (s : Shape) (t : ℕ) (p : PrunedOpening T W) → pruned_refusal row_eq s t p ≡ None → HasNoFault row_eq s t p
 no_fault row_eq s t p e =
-    let m = tallest (heights s) in
+    let m = greatest (heights s) in
     let n = length p.indices in
     let r8 = group_refusal row_eq s t p ∷ [] in
     let r7 = first_of (λ i. width_refusal s.dimensions (rows_of p i)) (slots_below m p.indices) ∷ r8 in
@@ -54,7 +56,7 @@ no_fault row_eq s t p e =
       group = k.0;
     }
 
-pub query_is : (indices : List ℕ) (k : ℕ) → k < length indices → is_queried indices (get_or indices k 0) ≡ true
+pub query_is : (indices : List ℕ) (k : ℕ) → k < length indices → is_among indices (get_or indices k 0) ≡ true
 query_is indices k h = list_any_at (λ i. eqb i (get_or indices k 0)) indices k 0 h (eq-eqb (get_or indices k 0) (get_or indices k 0) refl)
 
 -- each query's row set is that of the first query of its index
@@ -71,8 +73,8 @@ rows_fit_first : {T W : Type 0} (row_eq : T → T → Bool) (s : Shape) (t : ℕ
     (k : ℕ) → k < length p.indices → map length (rows_of p (get_or p.indices k 0)) ≡ widths s
 rows_fit_first row_eq s t p w k h =
     let i = get_or p.indices k 0 in
-    let below = below_from (tallest (heights s)) p.indices w.index k 0 h in
-    fit_from s.dimensions (rows_of p i) (kept_none (λ i. width_refusal s.dimensions (rows_of p i)) (is_queried p.indices) 0 (tallest (heights s)) i w.width (query_is p.indices k h) (omega arith) (omega arith))
+    let below = below_from (greatest (heights s)) p.indices w.index k 0 h in
+    fit_from s.dimensions (rows_of p i) (kept_none (λ i. width_refusal s.dimensions (rows_of p i)) (is_among p.indices) 0 (greatest (heights s)) i w.width (query_is p.indices k h) (omega arith) (omega arith))
 
 -- a row of a matrix of layer l is that of the lowest index under the same node
 row_is_lead : {T W : Type 0} (row_eq : T → T → Bool) (s : Shape) (t : ℕ) (p : PrunedOpening T W) → ((x y : T) → Decides (row_eq x y) (x ≡ y)) → HasNoFault row_eq s t p →
@@ -80,10 +82,10 @@ row_is_lead : {T W : Type 0} (row_eq : T → T → Bool) (s : Shape) (t : ℕ) (
     get_or (rows_of p (get_or p.indices k 0)) m [] ≡ get_or (rows_of p (lead s p.indices l (ancestor s l (get_or p.indices k 0)))) m []
 row_is_lead row_eq s t p dec w l k m le h inside here =
     let i = get_or p.indices k 0 in
-    let top = tallest (heights s) in
+    let top = greatest (heights s) in
     let below = below_from top p.indices w.index k 0 h in
     let layer = range_none (λ l. first_of (λ i. first_of (row_refusal row_eq s p l i) (matrices_at s l)) (slots_below top p.indices)) 0 (suc t) l w.group (omega arith) (omega arith) in
-    let slot = kept_none (λ i. first_of (row_refusal row_eq s p l i) (matrices_at s l)) (is_queried p.indices) 0 top i layer (query_is p.indices k h) (omega arith) (omega arith) in
+    let slot = kept_none (λ i. first_of (row_refusal row_eq s p l i) (matrices_at s l)) (is_among p.indices) 0 top i layer (query_is p.indices k h) (omega arith) (omega arith) in
     let one = kept_none (row_refusal row_eq s p l i) (λ m. eqb (exponent (get_or (heights s) m 0)) (layer_exponent s l)) 0 (length (heights s)) m slot here (omega arith) (omega arith) in
     let x = get_or (rows_of p i) m [] in
     let y = get_or (rows_of p (lead s p.indices l (ancestor s l i))) m [] in
@@ -112,7 +114,7 @@ restorable row_eq s t p dec e =
     λ k h. ap length (first k h) ∙ sym (length-map (rows_of p (get_or p.indices k 0)) length) ∙ ap length (fits k h) ∙ widths_in_pairs s in
     record {
       lawful = (gate_lawful (heights s)).0 w.gate;
-      below = below_from (tallest (heights s)) p.indices w.index;
+      below = below_from (greatest (heights s)) p.indices w.index;
       count = w.count;
       rows_fit = λ k d h.
           let inside : k < length p.indices = let z = w.sizes in omega arith in

@@ -3,7 +3,8 @@ use Rattle.std.proofs.Common.{◌≡◌, ◌↔◌, ℕ, ◌<◌, ◌≤◌, tru
 use Rattle.std.specs.Prelude.{IsTrue}
 use Rattle.std.proofs.lemmas.Bool.{eqb-true, leb-true, le-leb}
 use Rattle.std.proofs.lemmas.List.{length-map}
-use Rattle.p3_merkle_core.specs.Geometry.{Shape, IsArity, heights, exponent, layer_exponent, layer_of, levels, ancestor, row_at_index}
+use Rattle.p3_merkle_core.specs.Geometry.{Shape, IsArity, heights, exponent, layer_exponent, layer_of, levels, ancestor, halved_index}
+use Rattle.p3_support.specs.Batches.{greatest}
 use Rattle.p3_merkle_core.specs.Nodes.{Functions}
 use Rattle.p3_merkle_core.specs.Openings.{Opening}
 use Rattle.p3_merkle_core.specs.Checks.{AgreeWhereShared, IsAccepted, is_authenticated, layer_rows, opened_row, terms}
@@ -28,7 +29,7 @@ row_alike s o u k w a b inside e =
     kept_same x (heights s) o.rows u.rows a b e k inside (eq-eqb (exponent h) x (sym (layer_of_is s w k inside)))
 
 pub authenticated_bound : {T W : Type 0} (f : Functions T W) (s : Shape) (t : ℕ) (cap : List (List W)) (o u : Opening T W) → IsArity s.arity → IsAccepted (terms f s t) cap o → IsAccepted (terms f s t) cap u → AgreeWhereShared (terms f s t) o u →
-    (k : ℕ) → k < length (heights s) → IsTrue (is_authenticated s t k) → row_at_index s (get_or (heights s) k 0) o.index ≡ row_at_index s (get_or (heights s) k 0) u.index → opened_row o k ≡ opened_row u k
+    (k : ℕ) → k < length (heights s) → IsTrue (is_authenticated s t k) → halved_index (greatest (heights s)) (get_or (heights s) k 0) o.index ≡ halved_index (greatest (heights s)) (get_or (heights s) k 0) u.index → opened_row o k ≡ opened_row u k
 authenticated_bound f s t cap o u w a b e k inside here same =
     let h = get_or (heights s) k 0 in
     let l = layer_of s h in
@@ -50,7 +51,7 @@ authenticated_at_one_index f s t cap o u w a b same =
     let layers = same_at_one_index f s t cap o u w a b same in
     let first = rows_in_pairs f s t cap o a in
     let second = rows_in_pairs f s t cap u b in (
-      λ e. ((layers.0 e).0, λ k inside here. authenticated_bound f s t cap o u w a b e k inside here (ap (λ i. row_at_index s (get_or (heights s) k 0) i) same)),
+      λ e. ((layers.0 e).0, λ k inside here. authenticated_bound f s t cap o u w a b e k inside here (ap (λ i. halved_index (greatest (heights s)) (get_or (heights s) k 0) i) same)),
       λ (siblings, rows). layers.1 (
         siblings,
         λ l low.

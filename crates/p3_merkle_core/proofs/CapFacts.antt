@@ -6,7 +6,8 @@ use Rattle.std.proofs.lemmas.Bool.{and_right, cases_eq, cases_lt, cond-false, eq
 use Rattle.std.proofs.lemmas.List.Folds.{Any-from_list_any, list_any_at, list_any_none}
 use Rattle.std.proofs.Math.Nat.{div-add-mod, mod-lt, mul_comm, mul-le-mul_left, mul-suc, suc-mul}
 use Rattle.p3_merkle_core.specs.Caps.{cap_layer, levels_above_rows, room_of}
-use Rattle.p3_merkle_core.specs.Geometry.{Shape, IsArity, exponent, has_rows, heights, is_bridge, layer_below_root, layer_exponent, layer_of, levels, shortest, tallest}
+use Rattle.p3_support.specs.Batches.{greatest}
+use Rattle.p3_merkle_core.specs.Geometry.{Shape, IsArity, exponent, has_rows, heights, is_bridge, layer_below_root, layer_exponent, layer_of, levels, shortest}
 use Rattle.p3_merkle_core.specs.Checks.{is_authenticated}
 use Rattle.p3_merkle_core.specs.declared.cap.CapRule.{CapRule}
 use Rattle.p3_merkle_core.specs.declared.cap.CapRule.TheVariants.{Lowered, Fixed}
@@ -71,7 +72,7 @@ module _ (s : Shape) (w : IsArity s.arity) (x : ℕ) (low : All (λ h. x ≤ exp
       let z = div_ceil x a in
       let some : 0 < a = whole_step_falls s.arity w.above_1 in
       let end : layer_exponent s (l + z) ≡ 0 = omega (arith, whole_steps l is z, ceil_covers x a some) in
-      let upper : levels s ≤ l + z = least_bound (λ k. eqb (layer_exponent s k) 0) (exponent (tallest (heights s))) (l + z) (eq-eqb (layer_exponent s (l + z)) 0 end) in
+      let upper : levels s ≤ l + z = least_bound (λ k. eqb (layer_exponent s k) 0) (exponent (greatest (heights s))) (l + z) (eq-eqb (layer_exponent s (l + z)) 0 end) in
       elim (cases_lt (levels s) (l + z)) [
         | inl short ↦
             let k = levels s - l in
@@ -105,7 +106,7 @@ above_rows s w some =
     let a = exponent s.arity in
     let z = div_ceil x a in
     let l = layer_of s (get_or hs i 0) in
-    let low : All (λ h. x ≤ exponent h) hs = λ k d inside. exponent_mono (shortest hs) (get_or hs k d) (least_height_below (tallest hs) hs k d inside) in
+    let low : All (λ h. x ≤ exponent h) hs = λ k d inside. exponent_mono (shortest hs) (get_or hs k d) (least_height_below (greatest hs) hs k d inside) in
     let is : layer_exponent s l ≡ x = layer_of_is s w i there.1 ∙ ap exponent there.2 in
     let top : l ≤ levels s = least_le _ (levels s) in
     let sum : levels s ≡ l + z = levels_from s w x low l top is in
@@ -118,7 +119,7 @@ above_rows s w some =
 
 -- ---- cap layers
 
-none_tallest : (hs : List ℕ) → length hs ≡ 0 → tallest hs ≡ 0
+none_tallest : (hs : List ℕ) → length hs ≡ 0 → greatest hs ≡ 0
 none_tallest [] e = refl
 none_tallest (h ∷ hs) e = absurd (omega arith)
 
@@ -127,7 +128,7 @@ lowered_is : (s : Shape) → IsArity s.arity → (c : ℕ) → levels s - min c 
 lowered_is s w c =
     elim (cases_eq (length (heights s)) 0) [
       | inl none ↦
-          let flat : exponent (tallest (heights s)) ≤ 0 = exponent_le (tallest (heights s)) 0 (omega (arith, none_tallest (heights s) none)) in
+          let flat : exponent (greatest (heights s)) ≤ 0 = exponent_le (greatest (heights s)) 0 (omega (arith, none_tallest (heights s) none)) in
           omega (arith, levels_le s)
       | inr some ↦ ap (λ r. levels s - min c r) (above_rows s w (omega arith))
     ]

@@ -2,8 +2,9 @@
 use Rattle.std.proofs.Common.{◌≡◌, ℕ, zero, suc, ◌<◌, true, false, List, [], ◌∷◌, ◌++◌, map, refl, ap, sym, ◌∙◌, inl, inr, length, Some, slice_get}
 use Rattle.std.proofs.lemmas.Bool.{cases_Bool}
 use Rattle.std.proofs.lemmas.List.{append_assoc}
-use Rattle.p3_merkle_core.specs.Geometry.{Shape, IsLawful, ancestor, has_rows, heights, tallest, widths}
-use Rattle.p3_merkle_core.specs.Nodes.{Functions, padded_group, pair}
+use Rattle.p3_merkle_core.specs.Geometry.{Shape, IsLawful, ancestor, has_rows, heights, widths}
+use Rattle.p3_support.specs.Batches.{greatest}
+use Rattle.p3_merkle_core.specs.Nodes.{Functions, pair, padded}
 use Rattle.p3_merkle_core.specs.Openings.{Opening}
 use Rattle.p3_merkle_core.specs.Checks.{Input, IsAccepted, check_digest, group_at, input_digest, inputs, inputs_at, last_input, last_of, layer_words, path_digest, siblings_below, terms, leaf_input, words_at, digests_at, Content, Words, Digests}
 use Rattle.p3_merkle_core.proofs.ListFacts.{joined_more}
@@ -35,7 +36,7 @@ same_digests {T} {W} p q xs ys e = ap (λ (x : Input T W). content_digests x.con
 
 -- the N digests of level l
 abbrev pub full_group : {T W : Type 0} → Functions T W → Shape → Opening T W → ℕ → List (List W)
-full_group f s o l = padded_group f s.arity (group_at f s o l (path_digest f s o l))
+full_group f s o l = padded s.arity f.default_digest (group_at f s o l (path_digest f s o l))
 
 pub inputs_with_rows : {T W : Type 0} (f : Functions T W) (s : Shape) (o : Opening T W) (l : ℕ) → has_rows s (suc l) ≡ true →
     inputs_at f s o l ≡ digests_at (Group l) (full_group f s o l) ∷ words_at (Rows l) (layer_words s o.rows (suc l)) ∷ digests_at (Pair l) (pair f s.arity (f.compression (full_group f s o l)) (f.hash (layer_words s o.rows (suc l)))) ∷ []
@@ -86,7 +87,7 @@ pub accepted_walk : {T W : Type 0} (f : Functions T W) (s : Shape) (t : ℕ) (ca
 accepted_walk f s t cap o a = a.authentic ∙ ap (λ d. Some d) (sym (walk_reaches f s t o))
 
 -- and where it is, and the rest fits, the opening is accepted
-pub accepted_by_walk : {T W : Type 0} (f : Functions T W) (s : Shape) (t : ℕ) (cap : List (List W)) (o : Opening T W) → IsLawful (heights s) → map length o.rows ≡ widths s → length o.siblings ≡ siblings_below s t → o.index < tallest (heights s) →
+pub accepted_by_walk : {T W : Type 0} (f : Functions T W) (s : Shape) (t : ℕ) (cap : List (List W)) (o : Opening T W) → IsLawful (heights s) → map length o.rows ≡ widths s → length o.siblings ≡ siblings_below s t → o.index < greatest (heights s) →
     slice_get cap (ancestor s t o.index) ≡ Some (path_digest f s o t) → IsAccepted (terms f s t) cap o
 accepted_by_walk f s t cap o lawful rows_fit count in_range entry =
     record { lawful = lawful; rows_fit = rows_fit; count = count; in_range = in_range; authentic = entry ∙ ap (λ d. Some d) (walk_reaches f s t o) }

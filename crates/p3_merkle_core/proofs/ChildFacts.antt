@@ -8,7 +8,8 @@ use Rattle.std.proofs.lemmas.List.Filters.{length-filter_both, length-filter_mor
 use Rattle.std.proofs.lemmas.List.FromFn.{length-range_with_len, get_or-range_with_len}
 use Rattle.std.proofs.lemmas.List.{take_all}
 use Rattle.std.proofs.Math.Nat.{mul_comm, div-lt_iff_lt-mul}
-use Rattle.p3_merkle_core.specs.Children.{AreChildren, IsFamily, beside, children_under, is_among, unknown_count}
+use Rattle.p3_merkle_core.specs.Inner.Children.{AreChildren, IsFamily, beside, children_under, unknown_count}
+use Rattle.p3_support.specs.Lists.{is_among}
 use Rattle.p3_merkle_core.proofs.RisingFacts.{listed_at}
 
 -- ---- the children

@@ -2,7 +2,8 @@
 use Rattle.std.proofs.Common.{◌≡◌, ℕ, zero, suc, ◌<◌, ◌≤◌, true, eqb, nat_lt, List, [], ◌∷◌, ◌++◌, map, refl, ap, sym, ◌∙◌, arith, inl, inr, length, filter, flat_map, zip, All}
 use Rattle.std.specs.List.{list_all}
 use Rattle.std.proofs.lemmas.Bool.{cond-true, cases_Bool, lt-ltb, eqb-true}
-use Rattle.p3_merkle_core.specs.Geometry.{Shape, IsLawful, exponent, tallest, layer_exponent, levels, ancestor, row_at_index, expected_height, raw_len, heights, heights_of, has_rows, IsArity}
+use Rattle.p3_merkle_core.specs.Geometry.{Shape, IsLawful, exponent, layer_exponent, levels, ancestor, halved_index, heights, expected_height, raw_len, has_rows, IsArity}
+use Rattle.p3_support.specs.Batches.{greatest, heights_of}
 use Rattle.p3_merkle_core.specs.Nodes.{Functions, Batch, Matrix, shape, at_layer, joined_rows, compress, row_digest, with_rows, node, dimensions_of}
 use Rattle.p3_merkle_core.specs.Openings.{honest, honest_rows, Opening, siblings_by, children_by}
 use Rattle.p3_merkle_core.specs.Checks.{siblings_below, layer_words, group_at, path_digest}
@@ -14,7 +15,7 @@ use Rattle.p3_merkle_core.proofs.PathFacts.{path_length, path_group}
 pub record IsHonest {T : Type 0} (b : Batch T) (t i : ℕ) : Type 0 where
   pub well_shaped : IsArity b.arity
   pub lawful : IsLawful (heights (shape b))
-  pub below : i < tallest (heights (shape b))
+  pub below : i < greatest (heights (shape b))
   pub in_tree : t ≤ levels (shape b)
 
 -- ---- rows
@@ -22,7 +23,7 @@ pub record IsHonest {T : Type 0} (b : Batch T) (t i : ℕ) : Type 0 where
 abbrev matrix_heights : {T : Type 0} → List (Matrix T) → List ℕ
 matrix_heights ms = heights_of (dimensions_of ms)
 
-rows_join : {T : Type 0} (x top j : ℕ) (row : ℕ → ℕ) → ((h : ℕ) → h ≤ top → exponent h ≡ x → row h ≡ j) → (ms : List (Matrix T)) → tallest (matrix_heights ms) ≤ top →
+rows_join : {T : Type 0} (x top j : ℕ) (row : ℕ → ℕ) → ((h : ℕ) → h ≤ top → exponent h ≡ x → row h ≡ j) → (ms : List (Matrix T)) → greatest (matrix_heights ms) ≤ top →
     flat_map (λ (h, r). r) (filter (λ (h, r). eqb (exponent h) x) (zip (matrix_heights ms) (map (λ m. m.row (row m.height)) ms)))
     ≡ joined_rows (filter (λ m. eqb (exponent m.height) x) ms) j
 rows_join x top j row same [] le = refl
@@ -33,7 +34,7 @@ rows_join x top j row same (m ∷ ms) le =
       | inr f ↦ rw f rest
     ]
 
-all_tall : {T : Type 0} (x top j : ℕ) → ((h : ℕ) → h ≤ top → h ≡ expected_height top h → exponent h ≡ x → j < h) → (ms : List (Matrix T)) → tallest (matrix_heights ms) ≤ top → All (λ h. h ≡ expected_height top h) (matrix_heights ms) →
+all_tall : {T : Type 0} (x top j : ℕ) → ((h : ℕ) → h ≤ top → h ≡ expected_height top h → exponent h ≡ x → j < h) → (ms : List (Matrix T)) → greatest (matrix_heights ms) ≤ top → All (λ h. h ≡ expected_height top h) (matrix_heights ms) →
     list_all (λ m. nat_lt j m.height) (filter (λ m. eqb (exponent m.height) x) ms) ≡ true
 all_tall x top j tall [] le on = refl
 all_tall x top j tall (m ∷ ms) le on =
@@ -50,7 +51,7 @@ all_tall x top j tall (m ∷ ms) le on =
 pub rows_are : {T : Type 0} (b : Batch T) (t i l : ℕ) → IsHonest b t i → layer_words (shape b) (honest_rows b i) l ≡ joined_rows (at_layer b l) (ancestor (shape b) l i)
 rows_are b t i l w =
     let s = shape b in
-    rows_join (layer_exponent s l) (tallest (heights s)) (ancestor s l i) (λ h. row_at_index s h i)
+    rows_join (layer_exponent s l) (greatest (heights s)) (ancestor s l i) (λ h. halved_index (greatest (heights s)) h i)
     (λ h le e. row_is_anc_at s w.well_shaped h i l le w.below (sym e)) b.matrices (omega arith)
 
 -- each matrix of a layer has the row of a leaf's ancestor, so they are hashed
@@ -60,8 +61,8 @@ row_digest_is f b t i l w =
     let s = shape b in
     let x = layer_exponent s l in
     let j = ancestor s l i in
-    let tall = all_tall x (tallest (heights s)) j
-    (λ h le on is. let below : row_at_index s h i < h = row_below s h i on w.below in rw (row_is_anc_at s w.well_shaped h i l le w.below (sym is)) at below) b.matrices (omega arith) w.lawful.on_ladder in
+    let tall = all_tall x (greatest (heights s)) j
+    (λ h le on is. let below : halved_index (greatest (heights s)) h i < h = row_below s h i on w.below in rw (row_is_anc_at s w.well_shaped h i l le w.below (sym is)) at below) b.matrices (omega arith) w.lawful.on_ladder in
     rw tall refl
 
 pub node_leaf : {T W : Type 0} (f : Functions T W) (b : Batch T) (j : ℕ) → j < raw_len (shape b) 0 → node f b 0 j ≡ f.hash (joined_rows (at_layer b 0) j)

@@ -6,9 +6,11 @@ use Rattle.std.proofs.lemmas.Bool.{cases_eq, cond_both, and_parts, and_from, or_
 use Rattle.std.proofs.lemmas.List.{length-map, length-append}
 use Rattle.std.proofs.Math.Nat.{mul-le-mul_left}
 use Rattle.std.proofs.Math.Pow.{pow_mono}
-use Rattle.p3_merkle_core.specs.Geometry.{Shape, is_bridge, step, ancestor, raw_len, layer_len, padded_len, leaves_under, levels, layer_exponent, exponent, tallest, heights, max_height}
+use Rattle.p3_merkle_core.specs.Geometry.{Shape, is_bridge, step, ancestor, raw_len, layer_len, padded_len, leaves_under, levels, layer_exponent, exponent, heights, height_limit}
+use Rattle.p3_support.specs.Lists.{is_among}
+use Rattle.p3_support.specs.Batches.{greatest}
 use Rattle.p3_merkle_core.specs.Pruning.{CanQuery, is_covered, is_boundary, covered_at, boundary_at, boundary, pruned_len}
-use Rattle.p3_merkle_core.specs.Refusals.{is_queried, slots_below}
+use Rattle.p3_merkle_core.specs.Refusals.{slots_below}
 use Rattle.p3_merkle_core.proofs.LeastFacts.{exponent_le}
 use Rattle.p3_merkle_core.proofs.LadderFacts.{levels_le, exact}
 use Rattle.p3_merkle_core.proofs.RawFacts.{children_fit, filled, positive_below}
@@ -22,10 +24,10 @@ use Rattle.p3_merkle_core.proofs.RisingFacts.{is_listed, rising_filter, filter_i
 -- ---- which nodes are listed
 
 -- a tree with levels has leaves
-pub some_leaf : (s : Shape) (l : ℕ) → l < levels s → 0 < tallest (heights s)
+pub some_leaf : (s : Shape) (l : ℕ) → l < levels s → 0 < greatest (heights s)
 some_leaf s l h =
-    elim (cases_eq (tallest (heights s)) 0) [
-      | inl z ↦ absurd (omega (arith, levels_le s, exponent_le (tallest (heights s)) 0 (omega arith)))
+    elim (cases_eq (greatest (heights s)) 0) [
+      | inl z ↦ absurd (omega (arith, levels_le s, exponent_le (greatest (heights s)) 0 (omega arith)))
       | inr nz ↦ omega arith
     ]
 
@@ -51,7 +53,7 @@ pub covered_leaf : (s : Shape) (queries : List ℕ) (j : ℕ) → is_covered s q
 covered_leaf s [] j = refl
 covered_leaf s (q ∷ queries) j = rw (anc_start s q) (ap (λ b. eqb q j || b) (covered_leaf s queries j))
 
-pub raw_start : (s : Shape) → raw_len s 0 ≡ tallest (heights s)
+pub raw_start : (s : Shape) → raw_len s 0 ≡ greatest (heights s)
 unfolding raw_len
 raw_start s = refl
 
@@ -193,14 +195,14 @@ padded_le r n h =
     cond_both (nat_le r 1) r (cond (nat_lt r n) n (next_multiple_of r n)) (λ x. x ≤ r + n) (λ e. omega arith)
     (λ e. cond_both (nat_lt r n) n (next_multiple_of r n) (λ x. x ≤ r + n) (λ e. omega arith) (λ e. omega arith))
 
-pub counted_at : (s : Shape) (queries : List ℕ) (t : ℕ) → CanQuery s queries t → tallest (heights s) ≤ max_height → (l : ℕ) → l < t → IsCounted s queries l
+pub counted_at : (s : Shape) (queries : List ℕ) (t : ℕ) → CanQuery s queries t → greatest (heights s) ≤ height_limit → (l : ℕ) → l < t → IsCounted s queries l
 counted_at s queries t w low l h =
     let in_tree : l < levels s = omega (arith, w.in_tree) in
     let some = some_leaf s l in_tree in
     let under = leaves_under s l in
     let x = layer_exponent s l in
     let whole = exact s w.well_shaped l (positive_below s l in_tree) in
-    let top : 2 ^ exponent (tallest (heights s)) ≤ 2 ^ 62 = pow_mono {i = exponent (tallest (heights s))} {j = 62} (exponent_le (tallest (heights s)) 62 low) in
+    let top : 2 ^ exponent (greatest (heights s)) ≤ 2 ^ 62 = pow_mono {i = exponent (greatest (heights s))} {j = 62} (exponent_le (greatest (heights s)) 62 low) in
     let fits = (filled s w.well_shaped some l (omega arith)).fits in
     let covered : under * length (covered_at s queries l) ≤ under * 2 ^ x = mul-le-mul_left under (omega (arith, covered_few s queries t w l (omega arith))) in
     let one : 2 ^ x * 1 ≤ 2 ^ x * under = mul-le-mul_left (2 ^ x) (leaves_above_0 s w.well_shaped.above_1 l) in
@@ -220,7 +222,7 @@ pub record IsTurn (s : Shape) (queries : List ℕ) (l n count below above : ℕ)
   pub add_fits : count + (n * above - below) < 2 ^ 64
   pub next : count + (n * above - below) ≡ pruned_len s queries (l + 1)
 
-pub turn_at : (s : Shape) (queries : List ℕ) (t : ℕ) → CanQuery s queries t → tallest (heights s) ≤ max_height → (l n count below above : ℕ) → l < t →
+pub turn_at : (s : Shape) (queries : List ℕ) (t : ℕ) → CanQuery s queries t → greatest (heights s) ≤ height_limit → (l n count below above : ℕ) → l < t →
     n ≡ step s l → count ≡ pruned_len s queries l → below ≡ length (covered_at s queries l) → above ≡ length (covered_at s queries (suc l)) → IsTurn s queries l n count below above
 turn_at s queries t w low l n count below above h is_step is_count is_below is_above =
     let k = counted_at s queries t w low l h in
@@ -236,7 +238,7 @@ turn_at s queries t w low l n count below above h is_step is_count is_below is_a
     }
 
 -- the same from what is known of the step, of the climb and of the two lengths; `up` is covered above
-pub turned : (s : Shape) (queries : List ℕ) (t : ℕ) → CanQuery s queries t → tallest (heights s) ≤ max_height → (l x n count below above : ℕ) (here up : List ℕ) → l < t →
+pub turned : (s : Shape) (queries : List ℕ) (t : ℕ) → CanQuery s queries t → greatest (heights s) ≤ height_limit → (l x n count below above : ℕ) (here up : List ℕ) → l < t →
     x ≡ layer_exponent s l → n ≡ cond (is_bridge s x) 2 s.arity → count ≡ pruned_len s queries l → here ≡ covered_at s queries l → (n ≡ step s l → here ≡ covered_at s queries l → up ≡ covered_at s queries (suc l)) →
     below ≡ length here → above ≡ length up → (up ≡ covered_at s queries (l + 1)) × IsTurn s queries l n count below above
 turned s queries t w low l x n count below above here up h at is_n is_count is_here climbs many fewer =

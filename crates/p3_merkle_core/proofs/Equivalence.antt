@@ -4,7 +4,8 @@ use Rattle.std.specs.List.{find}
 use Rattle.std.specs.Option.{unwrap_or, option_map}
 use Rattle.std.proofs.lemmas.Bool.{cases_Bool, cond-true, eqb-true, true≢false}
 use Rattle.std.proofs.lemmas.List.Folds.{list_any_at}
-use Rattle.p3_merkle_core.specs.Geometry.{Shape, IsLawful, ancestor, tallest, heights, widths, has_rows, IsArity}
+use Rattle.p3_merkle_core.specs.Geometry.{Shape, IsLawful, ancestor, heights, widths, has_rows, IsArity}
+use Rattle.p3_support.specs.Batches.{greatest}
 use Rattle.p3_merkle_core.specs.Nodes.{Functions, compress, with_rows}
 use Rattle.p3_merkle_core.specs.Checks.{path_digest, layer_words, group_at, terms}
 use Rattle.p3_merkle_core.specs.Pruning.{PrunedOpening, is_covered, restored_node, value_of, opening_at, IsAgreed, IsCapped, EachAccepted, first_rows}
@@ -64,7 +65,7 @@ path_reaches f s t p w a k h (suc l) le =
     reached_next f s o l ∙ rw (group, rows_agree s t p a k (suc l) h le) (sym (restored_next f s t p l (ancestor s (suc l) i)))
 
 pub equivalent : {T W : Type 0} (f : Functions T W) (s : Shape) (t : ℕ) (cap : List (List W)) (p : PrunedOpening T W) → IsArity s.arity → IsLawful (heights s) →
-    All (λ i. i < tallest (heights s)) p.indices → All (λ rows. map length rows ≡ widths s) p.rows → IsAgreed s t p → IsCapped (terms f s t) cap p ↔ EachAccepted (terms f s t) cap p
+    All (λ i. i < greatest (heights s)) p.indices → All (λ rows. map length rows ≡ widths s) p.rows → IsAgreed s t p → IsCapped (terms f s t) cap p ↔ EachAccepted (terms f s t) cap p
 equivalent f s t cap p w lawful below fit a = (
   λ capped k h.
       let i = get_or p.indices k 0 in

@@ -10,7 +10,7 @@ use Rattle.p3_merkle_core.specs.Nodes.{Functions}
 use Rattle.p3_merkle_core.specs.Openings.{Opening}
 use Rattle.p3_merkle_core.specs.Checks.{AgreeWhereShared, Input, IsAccepted, Terms, is_authenticated, opened_row, shared_inputs, terms}
 use Rattle.p3_merkle_core.specs.Pruning.{PrunedOpening, opening_at}
-use Rattle.p3_merkle_core.specs.Refusals.{AnswersUnlessMemory, IsEquality, ok_unless, pruned_refusal_under, refusal_under, verdict}
+use Rattle.p3_merkle_core.specs.Refusals.{AnswersUnlessMemory, IsEquality, ok_unless, pruned_refusal_under, refusal_under}
 use Rattle.p3_merkle_core.specs.Extraction.{AnswerAlike, AnswerAnyRowTwice, AnswerOneRowTwice, EachPair, IsExtraction, IsFirstCollision, SomePair, difference_of, extraction, first_difference, first_pair}
 use Rattle.p3_merkle_core.specs.Presented.{Presented, presented, presented_pruned}
 use Rattle.p3_merkle_core.specs.Views.{found_alone, found_pair, inputs_in}
@@ -36,7 +36,7 @@ pub record IsPresentation {T W : Type 0} (c : Terms T W) (cap : List (List W)) (
 pub single_presented : {T W : Type 0} (digest_eq : W → W → Bool) (c : Terms T W) (cap : List (List W)) (o : Opening T W) → IsEquality digest_eq → IsPresentation c cap (presented digest_eq c cap o)
 single_presented digest_eq c cap o dec =
     record {
-      decided = (λ none. accepted_from digest_eq c.functions c.shape c.layer cap o dec (ap verdict none), λ a. verdict_ok (refusal_under digest_eq c cap o) (accepted_answer digest_eq c.functions c.shape c.layer cap o dec a));
+      decided = (λ none. accepted_from digest_eq c.functions c.shape c.layer cap o dec (ap (λ refusal. ok_unless refusal (tt {0})) none), λ a. verdict_ok (refusal_under digest_eq c cap o) (accepted_answer digest_eq c.functions c.shape c.layer cap o dec a));
       each = λ a k inside. a;
     }
 
@@ -45,7 +45,7 @@ pub pruned_presented : {T W : Type 0} (row_eq : T → T → Bool) (digest_eq : W
 pruned_presented row_eq digest_eq c cap p dec dec_w w =
     let accept = pruned_accepted row_eq digest_eq c.functions c.shape c.layer cap p dec dec_w w in
     record {
-      decided = (λ none. accept.0 (ap verdict none), λ a. verdict_ok (pruned_refusal_under row_eq digest_eq c cap p) (accept.1 a));
+      decided = (λ none. accept.0 (ap (λ refusal. ok_unless refusal (tt {0})) none), λ a. verdict_ok (pruned_refusal_under row_eq digest_eq c cap p) (accept.1 a));
       each = λ a. a.1;
     }
 

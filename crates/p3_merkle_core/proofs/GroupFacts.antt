@@ -3,7 +3,7 @@ use Rattle.std.proofs.Common.{◌≡◌, ℕ, ◌+◌, ◌<◌, ◌≤◌, List,
 use Rattle.std.proofs.lemmas.Bool.{cases_lt, lt-ltb, le-ltb}
 use Rattle.std.proofs.lemmas.List.{drop_more, take_more, take_all, append_assoc, set_at, drop-set-lt, length-take-le, drop-replicate}
 use Rattle.std.proofs.lemmas.List.Edits.{get_or-insert_at, get_or-insert_below, get_or-insert_above}
-use Rattle.p3_merkle_core.specs.Groups.{group_around}
+use Rattle.p3_merkle_core.specs.Nodes.{padded}
 
 -- where the element k of the others stands beside a value at p
 abbrev pub slot_of : ℕ → ℕ → ℕ
@@ -64,7 +64,7 @@ module _ {X : Type 0} (slots others : List X) (p : ℕ) (v : X) (h : p ≤ lengt
       rw (le-ltb (length others) p h, take_all (length others + 1) (insert others p v) (omega (arith, whole_long)), drop-set-lt (length others + 1) slots p v (omega arith)) refl
 
 -- what all writes leave of default digests
-pub group_around_is : {X : Type 0} (n : ℕ) (default_element v : X) (others : List X) (p : ℕ) → p ≤ length others → insert others p v ++ drop (length others + 1) (replicate n default_element) ≡ group_around n default_element others p v
+pub group_around_is : {X : Type 0} (n : ℕ) (default_element v : X) (others : List X) (p : ℕ) → p ≤ length others → insert others p v ++ drop (length others + 1) (replicate n default_element) ≡ padded n default_element (insert others p v)
 group_around_is n default_element v others p h =
     let size : length (insert others p v) ≡ length others + 1 = simp (length-append, length-take, length-drop) (omega arith) in
     rw (size, drop-replicate (length others + 1) n default_element) refl

@@ -5,7 +5,7 @@ use Rattle.std.proofs.lemmas.List.{length-replicate}
 use Rattle.std.proofs.lemmas.List.Edits.{length-insert}
 use Rattle.std.proofs.lemmas.List.Elements.{All-append, All-cons, All-nil}
 use Rattle.p3_merkle_core.specs.Geometry.{Shape, IsArity, is_bridge, layer_exponent, step, position_in_group, has_rows}
-use Rattle.p3_merkle_core.specs.Nodes.{Functions, padded_group, pair}
+use Rattle.p3_merkle_core.specs.Nodes.{Functions, pair, padded}
 use Rattle.p3_merkle_core.specs.Openings.{Opening}
 use Rattle.p3_merkle_core.specs.Checks.{HasDigests, inputs, inputs_at, group_at, path_digest, siblings_at, siblings_below, layer_words, IsLastDifference, shared_inputs, meeting_level, terms, leaf_input, words_at, digests_at}
 use Rattle.p3_merkle_core.proofs.StepFacts.{step_above_1}
@@ -13,7 +13,7 @@ use Rattle.p3_merkle_core.proofs.Extraction.{siblings_full, in_group}
 use Rattle.p3_merkle_core.proofs.ListFacts.{joined, joined_more}
 use Rattle.p3_merkle_core.specs.declared.collision.Place.TheVariants.{Leaf, Group, Rows, Pair}
 
-filled_long : {T W : Type 0} (f : Functions T W) (n : ℕ) (ds : List (List W)) → length ds ≤ n → length (padded_group f n ds) ≡ n
+filled_long : {T W : Type 0} (f : Functions T W) (n : ℕ) (ds : List (List W)) → length ds ≤ n → length (padded n f.default_digest ds) ≡ n
 filled_long f n ds h = length-append ds (replicate (n - length ds) f.default_digest) ∙ (let r = length-replicate (n - length ds) f.default_digest in omega arith)
 
 step_le : (s : Shape) (l : ℕ) → IsArity s.arity → step s l ≤ s.arity
@@ -28,7 +28,7 @@ level_full f s t o l w e h =
     let long = length-insert (siblings_at s o l) (position_in_group s l o.index) (path_digest f s o l) (omega arith) in
     let group = filled_long f s.arity (group_at f s o l (path_digest f s o l)) (omega (arith, step_le s l w)) in
     let words = layer_words s o.rows (suc l) in
-    let first = padded_group f s.arity (group_at f s o l (path_digest f s o l)) in
+    let first = padded s.arity f.default_digest (group_at f s o l (path_digest f s o l)) in
     let last = pair f s.arity (f.compression first) (f.hash words) in
     let long_pair = filled_long f s.arity (f.compression first ∷ f.hash words ∷ []) (omega arith) in
     let P = HasDigests s.arity in

@@ -14,7 +14,8 @@ use Rattle.std.proofs.Math.Nat.{div-div-eq-div-mul}
 use Rattle.std.proofs.lemmas.List.Kept.{AllPairs-from_increasing}
 use Rattle.std.proofs.lemmas.List.Sorted.{searched}
 use Rattle.std.proofs.Math.Seq.{drop-append-add}
-use Rattle.p3_merkle_core.specs.Children.{children_at, children_under, is_among, node_over, path_out_of, paths_out_of, place_among, siblings_out_of}
+use Rattle.p3_merkle_core.specs.Inner.Children.{children_at, children_under, node_over, path_out_of, paths_out_of, place_among, siblings_out_of}
+use Rattle.p3_support.specs.Lists.{is_among}
 use Rattle.p3_merkle_core.specs.Views.{shown_path, shown_paths}
 use Rattle.p3_merkle_core.specs.declared.pruning.AuthPath.{AuthPath}
 use Rattle.p3_merkle_core.specs.Geometry.{Shape, step, ancestor, layer_len, leaves_under, schedule_below}

@@ -6,7 +6,8 @@ use Rattle.std.proofs.lemmas.Nat.{pow-add, pow_pos}
 use Rattle.std.proofs.Math.Nat.{mul_assoc, two-pow-succ, mul-le-mul_left, mul-div_cancel, div-eq_of_lt, le-div_iff_mul-le, div-mul-le_self, sub-zero}
 use Rattle.std.proofs.Math.Pow.{pow_mono}
 pub use Rattle.p3_merkle_core.specs.Geometry.{IsArity, heights}
-use Rattle.p3_merkle_core.specs.Geometry.{Shape, exponent, tallest, layer_exponent, is_bridge, step, levels, leaves_under, ancestor, row_at_index, layer_of, bits_reduced, expected_height}
+pub use Rattle.p3_support.specs.Batches.{greatest}
+use Rattle.p3_merkle_core.specs.Geometry.{Shape, exponent, layer_exponent, is_bridge, step, levels, leaves_under, ancestor, halved_index, layer_of, bits_reduced, expected_height}
 use Rattle.p3_merkle_core.proofs.LeastFacts.{least_le, least_passes, least_bound, exponent_covers, exponent_mono, le_tallest}
 use Rattle.p3_merkle_core.proofs.StepFacts.{next_exponent, whole_step_falls}
 
@@ -21,7 +22,7 @@ step_cases s l =
       | inr f ↦ inr (f, next_exponent s l ∙ cond-false (is_bridge s x) (x - 1) (x - exponent s.arity) f, cond-false (is_bridge s x) 2 s.arity f)
     ]
 
-falls : (s : Shape) → IsArity s.arity → (l : ℕ) → (layer_exponent s l ≡ 0) ⊎ (layer_exponent s l + l ≤ exponent (tallest (heights s)))
+falls : (s : Shape) → IsArity s.arity → (l : ℕ) → (layer_exponent s l ≡ 0) ⊎ (layer_exponent s l + l ≤ exponent (greatest (heights s)))
 unfolding layer_exponent
 falls s w zero = inr (omega arith)
 falls s w (suc l) =
@@ -35,14 +36,14 @@ falls s w (suc l) =
     ]
 
 -- the walk ends at the exponent 0, after at most as many steps as the tallest exponent
-pub levels_le : (s : Shape) → levels s ≤ exponent (tallest (heights s))
-levels_le s = least_le (λ l. eqb (layer_exponent s l) 0) (exponent (tallest (heights s)))
+pub levels_le : (s : Shape) → levels s ≤ exponent (greatest (heights s))
+levels_le s = least_le (λ l. eqb (layer_exponent s l) 0) (exponent (greatest (heights s)))
 
 pub exponent_at_levels : (s : Shape) → IsArity s.arity → layer_exponent s (levels s) ≡ 0
 exponent_at_levels s w =
     let p : ℕ → Bool = λ l. eqb (layer_exponent s l) 0 in
-    elim (cases_lt (levels s) (exponent (tallest (heights s)))) [
-      | inl l ↦ eqb-true (layer_exponent s (levels s)) 0 (least_passes p (exponent (tallest (heights s))) l)
+    elim (cases_lt (levels s) (exponent (greatest (heights s)))) [
+      | inl l ↦ eqb-true (layer_exponent s (levels s)) 0 (least_passes p (exponent (greatest (heights s))) l)
       | inr g ↦ elim (falls s w (levels s)) [ inl z ↦ z | inr h ↦ omega arith ]
     ]
 
@@ -71,14 +72,14 @@ step_exact s w l h =
       | inr b ↦ let g : exponent s.arity + (x - exponent s.arity) ≡ x = omega (arith, b.1) in rw (b.1, b.2) (whole_power s w x ∙ ap (λ n. 2 ^ n) g)
     ]
 
-covers : (s : Shape) → IsArity s.arity → (l : ℕ) → 2 ^ exponent (tallest (heights s)) ≤ leaves_under s l * 2 ^ layer_exponent s l
+covers : (s : Shape) → IsArity s.arity → (l : ℕ) → 2 ^ exponent (greatest (heights s)) ≤ leaves_under s l * 2 ^ layer_exponent s l
 unfolding leaves_under layer_exponent
 covers s w zero = omega arith
 covers s w (suc l) =
     rw mul_assoc (omega (arith, covers s w l, mul-le-mul_left (leaves_under s l) (step_covers s w l)))
 
 -- above the last layer, a node has just 2 ^ (e(M) - x) leaves under it
-pub exact : (s : Shape) → IsArity s.arity → (l : ℕ) → 0 < layer_exponent s l → leaves_under s l * 2 ^ layer_exponent s l ≡ 2 ^ exponent (tallest (heights s))
+pub exact : (s : Shape) → IsArity s.arity → (l : ℕ) → 0 < layer_exponent s l → leaves_under s l * 2 ^ layer_exponent s l ≡ 2 ^ exponent (greatest (heights s))
 unfolding leaves_under layer_exponent
 exact s w zero h = omega arith
 exact s w (suc l) h =
@@ -104,9 +105,9 @@ reached_or_below : (s : Shape) (i : ℕ) → i < length (heights s) → (l : ℕ
     ((k : ℕ) × (k ≤ l) × (layer_exponent s k ≡ exponent (get_or (heights s) i 0))) ⊎ (exponent (get_or (heights s) i 0) < layer_exponent s l)
 unfolding layer_exponent
 reached_or_below s i h zero =
-    elim (cases_eq (exponent (tallest (heights s))) (exponent (get_or (heights s) i 0))) [
+    elim (cases_eq (exponent (greatest (heights s))) (exponent (get_or (heights s) i 0))) [
       | inl e ↦ inl (0, omega arith, e)
-      | inr ne ↦ inr (omega (arith, exponent_mono (get_or (heights s) i 0) (tallest (heights s)) (le_tallest (heights s) i)))
+      | inr ne ↦ inr (omega (arith, exponent_mono (get_or (heights s) i 0) (greatest (heights s)) (le_tallest (heights s) i)))
     ]
 reached_or_below s i h (suc l) =
     elim (reached_or_below s i h l) [
@@ -135,39 +136,39 @@ layer_of_is s w i h =
           ]
     ]
 
-pub leaves_under_is : (s : Shape) → IsArity s.arity → (l : ℕ) → 0 < layer_exponent s l → layer_exponent s l ≤ exponent (tallest (heights s)) →
-    leaves_under s l ≡ 2 ^ (exponent (tallest (heights s)) - layer_exponent s l)
+pub leaves_under_is : (s : Shape) → IsArity s.arity → (l : ℕ) → 0 < layer_exponent s l → layer_exponent s l ≤ exponent (greatest (heights s)) →
+    leaves_under s l ≡ 2 ^ (exponent (greatest (heights s)) - layer_exponent s l)
 leaves_under_is s w l h le =
     let x = layer_exponent s l in
-    let e = exponent (tallest (heights s)) in
+    let e = exponent (greatest (heights s)) in
     let sum : e - x + x ≡ e = omega arith in
     sym (mul-div_cancel (leaves_under s l) (pow_pos x)) ∙ ap (λ n. n / 2 ^ x) (exact s w l h ∙ sym (ap (λ n. 2 ^ n) sum) ∙ pow-add 2 (e - x) x) ∙ mul-div_cancel (2 ^ (e - x)) (pow_pos x)
 
 -- the row of a matrix that belongs to an index is the index's ancestor at the layer of the matrix's exponent
-pub row_is_anc_at : (s : Shape) → IsArity s.arity → (height index l : ℕ) → height ≤ tallest (heights s) → index < tallest (heights s) → layer_exponent s l ≡ exponent height →
-    row_at_index s height index ≡ ancestor s l index
+pub row_is_anc_at : (s : Shape) → IsArity s.arity → (height index l : ℕ) → height ≤ greatest (heights s) → index < greatest (heights s) → layer_exponent s l ≡ exponent height →
+    halved_index (greatest (heights s)) height index ≡ ancestor s l index
 row_is_anc_at s w height index l in_reach below is =
-    let top = exponent_covers (tallest (heights s)) in
-    let le = exponent_mono height (tallest (heights s)) in_reach in
+    let top = exponent_covers (greatest (heights s)) in
+    let le = exponent_mono height (greatest (heights s)) in_reach in
     elim (cases_eq (exponent height) 0) [
       | inl z ↦
           let c = rw (is ∙ z) at (covers s w l) in
-          let first : index < 2 ^ (exponent (tallest (heights s)) - exponent height) = rw (z, sub-zero) (omega arith) in
+          let first : index < 2 ^ (exponent (greatest (heights s)) - exponent height) = rw (z, sub-zero) (omega arith) in
           let second : index < leaves_under s l = omega arith in
           div-eq_of_lt first ∙ sym (div-eq_of_lt second)
       | inr nz ↦
-          ap (λ n. index / n) (ap (λ x. 2 ^ (exponent (tallest (heights s)) - x)) (sym is) ∙ sym (leaves_under_is s w l (omega arith) (omega arith)))
+          ap (λ n. index / n) (ap (λ x. 2 ^ (exponent (greatest (heights s)) - x)) (sym is) ∙ sym (leaves_under_is s w l (omega arith) (omega arith)))
     ]
 
-pub row_is_anc : (s : Shape) → IsArity s.arity → (i index : ℕ) → i < length (heights s) → index < tallest (heights s) →
-    row_at_index s (get_or (heights s) i 0) index ≡ ancestor s (layer_of s (get_or (heights s) i 0)) index
+pub row_is_anc : (s : Shape) → IsArity s.arity → (i index : ℕ) → i < length (heights s) → index < greatest (heights s) →
+    halved_index (greatest (heights s)) (get_or (heights s) i 0) index ≡ ancestor s (layer_of s (get_or (heights s) i 0)) index
 row_is_anc s w i index h below =
     row_is_anc_at s w (get_or (heights s) i 0) index (layer_of s (get_or (heights s) i 0)) (le_tallest (heights s) i) below (layer_of_is s w i h)
 
 -- and the matrix has it
-pub row_below : (s : Shape) (h index : ℕ) → h ≡ expected_height (tallest (heights s)) h → index < tallest (heights s) → row_at_index s h index < h
+pub row_below : (s : Shape) (h index : ℕ) → h ≡ expected_height (greatest (heights s)) h → index < greatest (heights s) → halved_index (greatest (heights s)) h index < h
 row_below s h index e below =
-    let k = 2 ^ bits_reduced (tallest (heights s)) h in
+    let k = 2 ^ bits_reduced (greatest (heights s)) h in
     let m = div-mul-le_self index k in
-    let le : index / k ≤ (tallest (heights s) - 1) / k = (le-div_iff_mul-le (pow_pos (bits_reduced (tallest (heights s)) h))).1 (omega arith) in
+    let le : index / k ≤ (greatest (heights s) - 1) / k = (le-div_iff_mul-le (pow_pos (bits_reduced (greatest (heights s)) h))).1 (omega arith) in
     omega arith

@@ -7,14 +7,16 @@ use Rattle.std.proofs.lemmas.Bool.{cases_Bool, eqb-true, eqb-false, false_from_n
 use Rattle.std.proofs.lemmas.List.Folds.{list_any_at}
 use Rattle.std.proofs.lemmas.List.{get_or-map, length-map}
 use Rattle.p3_support.specs.Shown.{row_lists}
-use Rattle.p3_merkle_core.specs.Geometry.{Shape, ancestor, exponent, heights, heights_of, is_bridge, layer_exponent, leaves_under, levels, max_height, tallest}
+use Rattle.p3_support.specs.Lists.{is_among}
+use Rattle.p3_support.specs.Batches.{heights_of, greatest}
+use Rattle.p3_merkle_core.specs.Geometry.{Shape, ancestor, exponent, heights, is_bridge, layer_exponent, leaves_under, levels, height_limit}
 use Rattle.p3_merkle_core.proofs.LadderFacts.{levels_le}
 use Rattle.p3_merkle_core.proofs.LeastFacts.{exponent_le}
 use Rattle.p3_merkle_core.proofs.CoveredFacts.{leaves_above_0}
 use Rattle.p3_merkle_core.proofs.StepFacts.{anc_start, ancestor_more}
 use Rattle.p3_support.specs.declared.matrix.Dimensions.{Dimensions}
-use Rattle.p3_merkle_core.specs.Refusals.{first_of, is_queried}
-use Rattle.p3_merkle_core.specs.Agreement.{first_query, row_fault, rows_refusal, slot_rows, nodes_refusal, IsAscending}
+use Rattle.p3_merkle_core.specs.Refusals.{first_of}
+use Rattle.p3_merkle_core.specs.Inner.Agreement.{first_query, row_fault, rows_refusal, slot_rows, nodes_refusal, IsAscending}
 use Rattle.p3_merkle_core.specs.declared.error.PrunedProofError.TheVariants.{InconsistentGroupOpening}
 use Rattle.p3_merkle_core.specs.declared.error.MerkleTreeError.{MerkleTreeError}
 use Rattle.p3_merkle_core.specs.declared.error.MerkleTreeError.TheVariants.{MalformedPrunedProof}
@@ -23,7 +25,7 @@ use Rattle.p3_merkle_core.proofs.SlotFacts.{first_place}
 
 -- ---- the first place of a number
 
-pub first_there : (xs : List ℕ) (v : ℕ) → is_queried xs v ≡ true → get_or xs (first_query xs v) 0 ≡ v
+pub first_there : (xs : List ℕ) (v : ℕ) → is_among xs v ≡ true → get_or xs (first_query xs v) 0 ≡ v
 first_there [] v c = absurd (true≢false (sym c))
 first_there (x ∷ xs) v c =
     elim (cases_Bool (eqb x v)) [
@@ -47,7 +49,7 @@ first_before (x ∷ xs) v (suc j) h =
 -- two places that are first are one
 pub first_unique : (xs : List ℕ) (v k : ℕ) → k < length xs → get_or xs k 0 ≡ v → ((j : ℕ) → j < k → get_or xs j 0 ≢ v) → k ≡ first_query xs v
 first_unique xs v k l e none =
-    let c : is_queried xs v ≡ true = rw e at (listed_at xs k 0 l) in
+    let c : is_among xs v ≡ true = rw e at (listed_at xs k 0 l) in
     let q = first_query xs v in
     elim (cases_lt q k) [
       | inl less ↦ absurd (none q less (first_there xs v c))
@@ -205,5 +207,5 @@ ascending_above s l leaves nodes two is up i j h k =
     let read = get_or-map (ancestor s l) leaves in
     rw (is, read i 0 0 (omega arith), read j 0 0 low) (div_mono (leaves_under s l) (get_or leaves i 0) (get_or leaves j 0) (omega (arith, leaves_above_0 s two l)) (up i j h low))
 
-pub few_layers : (s : Shape) (t : ℕ) → tallest (heights s) ≤ max_height → t ≤ levels s → t ≤ 62
-few_layers s t low h = omega (arith, levels_le s, exponent_le (tallest (heights s)) 62 low)
+pub few_layers : (s : Shape) (t : ℕ) → greatest (heights s) ≤ height_limit → t ≤ levels s → t ≤ 62
+few_layers s t low h = omega (arith, levels_le s, exponent_le (greatest (heights s)) 62 low)

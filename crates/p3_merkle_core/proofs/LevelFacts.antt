@@ -3,21 +3,22 @@ use Rattle.std.proofs.Common.{◌≡◌, ℕ, zero, suc, ◌+◌, ◌-◌, ◌/�
 use Rattle.std.specs.List.{list_any}
 use Rattle.std.proofs.Math.Nat.{div-le_self}
 use Rattle.std.proofs.Math.Pow.{pow_mono}
-use Rattle.p3_merkle_core.specs.Geometry.{Shape, heights, exponent, tallest, layer_exponent, is_bridge, levels, raw_len, grouped_len_of, padded_len, max_height, IsArity, IsLawful}
+use Rattle.p3_merkle_core.specs.Geometry.{Shape, heights, exponent, layer_exponent, is_bridge, levels, raw_len, grouped_len_of, padded_len, height_limit, IsArity, IsLawful, height_at}
+use Rattle.p3_support.specs.Batches.{greatest}
 use Rattle.p3_merkle_core.proofs.GateFacts.{tallest_fits, none_large_from_lawful}
 use Rattle.p3_merkle_core.proofs.LeastFacts.{exponent_le}
 use Rattle.p3_merkle_core.proofs.LadderFacts.{step_cases}
 use Rattle.p3_merkle_core.proofs.RawFacts.{filled, children_fit, raw_at}
 use Rattle.p3_merkle_core.proofs.SiblingFacts.{step_is}
 use Rattle.p3_merkle_core.proofs.StepFacts.{layer_start, step_at, next_at}
-use Rattle.p3_merkle_core.specs.Levels.{IsBelowTop, IsLevel, height_at}
+use Rattle.p3_merkle_core.specs.Inner.Levels.{IsBelowTop, IsLevel}
 
 -- no lawful height is above the limit
-pub low : (s : Shape) → IsLawful (heights s) → tallest (heights s) ≤ max_height
+pub low : (s : Shape) → IsLawful (heights s) → greatest (heights s) ≤ height_limit
 low s w = tallest_fits (heights s) (none_large_from_lawful (heights s) w)
 
 -- what is halved some number of times fits, and one more
-pub halved_fits : (m a k : ℕ) → m ≤ max_height → a ≡ m - 1 → a / 2 ^ k + 1 < 2 ^ 64
+pub halved_fits : (m a k : ℕ) → m ≤ height_limit → a ≡ m - 1 → a / 2 ^ k + 1 < 2 ^ 64
 halved_fits m a k h is = omega (arith, div-le_self a (2 ^ k))
 
 -- the height at an exponent, from its parts
@@ -25,7 +26,7 @@ pub height_at_is : (m x e a k : ℕ) → a ≡ m - 1 → e ≡ exponent m → k 
 height_at_is m x e a k is_a is_e is_k = rw (is_a, is_k, is_e) refl
 
 -- no layer's exponent is above the tallest height's
-exponent_low : (s : Shape) (l : ℕ) → layer_exponent s l ≤ exponent (tallest (heights s))
+exponent_low : (s : Shape) (l : ℕ) → layer_exponent s l ≤ exponent (greatest (heights s))
 exponent_low s zero = omega (arith, layer_start s)
 exponent_low s (suc l) = elim (step_cases s l) [ inl k ↦ omega (arith, k.1, exponent_low s l) | inr k ↦ omega (arith, k.1, exponent_low s l) ]
 
@@ -38,7 +39,7 @@ pub record IsSmall (s : Shape) (l : ℕ) : Type 0 where
 pub small : (s : Shape) → IsArity s.arity → IsLawful (heights s) → (l : ℕ) → l ≤ levels s → IsSmall s l
 small s w lawful l h =
     let f = filled s w lawful.some_above_0 l h in
-    let x : layer_exponent s l ≤ 62 = omega (arith, exponent_low s l, exponent_le (tallest (heights s)) 62 (low s lawful)) in
+    let x : layer_exponent s l ≤ 62 = omega (arith, exponent_low s l, exponent_le (greatest (heights s)) 62 (low s lawful)) in
     record { raw_small = omega (arith, f.fits, pow_mono {i = layer_exponent s l} {j = 62} x); exponent_small = x }
 
 -- ---- the layer above
@@ -57,7 +58,7 @@ next_small {s} {l} n g w e d = let k = small s w.arity w.lawful (suc l) w.in_tre
 
 -- what is known of the layer above
 pub level_is : {s : Shape} {l x r : ℕ} (n y g v h : ℕ) (b : Bool) → IsBelowTop s l x r → n ≡ cond (is_bridge s x) 2 s.arity → y ≡ cond (is_bridge s x) (x - 1) (x - exponent s.arity) →
-    g ≡ grouped_len_of s x r → v ≡ padded_len (g / n) s.arity → h ≡ height_at (tallest (heights s)) y → b ≡ list_any (λ h. eqb (exponent h) y) (heights s) →
+    g ≡ grouped_len_of s x r → v ≡ padded_len (g / n) s.arity → h ≡ height_at (greatest (heights s)) y → b ≡ list_any (λ h. eqb (exponent h) y) (heights s) →
     IsLevel s (record { below = l; step = n; exponent = y; raw_len = g / n; layer_len = v; height = h; has_rows = b })
 level_is {s} {l} {x} n y g v h b w is_n is_y is_g is_v is_h is_b =
     let up = step_at s l x n w.at_x is_n in
@@ -71,7 +72,7 @@ level_is {s} {l} {x} n y g v h b w is_n is_y is_g is_v is_h is_b =
       exponent_is = top;
       raw_is = rest;
       layer_len_is = is_v ∙ ap (λ q. padded_len q s.arity) rest;
-      height_is = is_h ∙ ap (λ q. height_at (tallest (heights s)) q) top;
+      height_is = is_h ∙ ap (λ q. height_at (greatest (heights s)) q) top;
       rows_are = is_b ∙ ap (λ q. list_any (λ h. eqb (exponent h) q) (heights s)) top;
       fits = rw (rest, up) (children_fit s w.arity w.lawful.some_above_0 l w.in_tree);
     }

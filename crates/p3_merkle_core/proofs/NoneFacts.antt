@@ -6,8 +6,8 @@ use Rattle.std.specs.Option.{option_or}
 use Rattle.std.proofs.lemmas.Bool.{cases_Bool, cases_eq, cond-true, cond-false, eqb-true, ltb-true, true≢false}
 use Rattle.std.proofs.lemmas.List.{get_or_default, length-map}
 use Rattle.p3_support.specs.declared.matrix.Dimensions.{Dimensions}
-use Rattle.p3_merkle_core.specs.Geometry.{tallest, widths_of}
-use Rattle.p3_merkle_core.specs.Refusals.{first_of, unless, verdict, width_refusal, row_width_refusal, size_refusal, queries_refusal, width_fault}
+use Rattle.p3_support.specs.Batches.{greatest, widths_of}
+use Rattle.p3_merkle_core.specs.Refusals.{first_of, unless, width_refusal, row_width_refusal, size_refusal, queries_refusal, width_fault, ok_unless}
 use Rattle.p3_merkle_core.specs.declared.error.MerkleTreeError.TheVariants.{WrongBatchSize, WrongWidth, IndexOutOfBounds}
 use Rattle.p3_merkle_core.proofs.LeastFacts.{le_tallest}
 
@@ -26,7 +26,7 @@ unless_none b e h = elim (cases_Bool b) [ inl t ↦ t | inr f ↦ let s = cond-f
 pub none_unless : {E : Type 0} (b : Bool) (e : E) → b ≡ true → unless b e ≡ None
 none_unless b e t = cond-true b None (Some e) t
 
-pub verdict_ok : {E : Type 0} (o : Option E) → verdict o ≡ Ok tt → o ≡ None
+pub verdict_ok : {E : Type 0} (o : Option E) → ok_unless o (tt {0}) ≡ Ok tt → o ≡ None
 verdict_ok None e = refl
 verdict_ok (Some x) e = absurd cc
 
@@ -67,7 +67,7 @@ paired_none h (i ∷ is) (x ∷ xs) (suc k) d e same l = paired_none h is xs k d
 
 pub below_from : (m : ℕ) (indices : List ℕ) → queries_refusal m indices ≡ None → All (λ i. i < m) indices
 below_from m indices e k d h =
-    let top = ltb-true (tallest indices) m (unless_none (nat_lt (tallest indices) m) (IndexOutOfBounds m (tallest indices)) e) in
+    let top = ltb-true (greatest indices) m (unless_none (nat_lt (greatest indices) m) (IndexOutOfBounds m (greatest indices)) e) in
     omega (arith, le_tallest indices k, get_or_default indices k d 0 h)
 
 each_fits : {T : Type 0} (n : ℕ) (widths : List ℕ) (rows : List (List T)) → length widths ≡ length rows → first_of width_fault (enumerate_from n (zip widths rows)) ≡ None → map length rows ≡ widths

@@ -3,11 +3,12 @@ use Rattle.std.proofs.Common.{◌≡◌, ℕ, ◌<◌, Bool, eqb, nat_lt, List, 
 use Rattle.std.proofs.lemmas.Bool.{eqb-true, ltb-true}
 use Rattle.std.proofs.lemmas.List.{length-map, length-replicate}
 use Rattle.p3_support.specs.declared.matrix.Dimensions.{Dimensions}
-use Rattle.p3_merkle_core.specs.Geometry.{Shape, heights, tallest}
+use Rattle.p3_merkle_core.specs.Geometry.{Shape, heights}
+use Rattle.p3_support.specs.Batches.{greatest}
 use Rattle.p3_merkle_core.specs.Gate.{gate_refusal}
 use Rattle.p3_merkle_core.specs.Pruning.{PrunedOpening, boundary, covered_at, first_rows}
 use Rattle.p3_merkle_core.specs.Refusals.{digest_count_refusal, first_of, first_some, group_refusal, idle_refusal, pruned_refusal, queries_refusal, repeat_refusal, size_refusal, slots_below, width_refusal, rows_of}
-use Rattle.p3_merkle_core.specs.Agreement.{distinct, early_refusal, first_query, late_refusal, layers_refusal, opened_of, opened_with, slot_rows}
+use Rattle.p3_merkle_core.specs.Inner.Agreement.{distinct, early_refusal, first_query, late_refusal, layers_refusal, opened_of, opened_with, slot_rows}
 use Rattle.p3_merkle_core.specs.declared.error.MerkleTreeError.{MerkleTreeError}
 use Rattle.p3_merkle_core.specs.declared.error.MerkleTreeError.TheVariants.{IndexOutOfBounds, WrongBatchSize}
 use Rattle.p3_merkle_core.proofs.NoneFacts.{below_from, each_none, fit_from, none_of_both, none_parts, unless_none}
@@ -29,12 +30,12 @@ past_none (x ∷ xs) ys e =
 -- as many row sets as indices, all of which are below the tallest height
 pub record Asked (hs indices : List ℕ) (sets : ℕ) : Type 0 where
   pub pairs : length indices ≡ sets
-  pub highest : tallest indices < tallest hs
-  pub below : All (λ i. i < tallest hs) indices
+  pub highest : greatest indices < greatest hs
+  pub below : All (λ i. i < greatest hs) indices
 
 pub asked_from : (hs indices : List ℕ) (sets digests : ℕ) → early_refusal hs indices sets digests ≡ None → Asked hs indices sets
 asked_from hs indices sets digests e =
-    let m = tallest hs in
+    let m = greatest hs in
     let n = length indices in
     let queries = queries_refusal m indices in
     let idle = idle_refusal n digests in
@@ -44,7 +45,7 @@ asked_from hs indices sets digests e =
     let d = none_parts queries None c.1 in
     record {
       pairs = eqb-true n sets (unless_none (eqb n sets) (WrongBatchSize n sets) b.0);
-      highest = ltb-true (tallest indices) m (unless_none (nat_lt (tallest indices) m) (IndexOutOfBounds m (tallest indices)) d.0);
+      highest = ltb-true (greatest indices) m (unless_none (nat_lt (greatest indices) m) (IndexOutOfBounds m (greatest indices)) d.0);
       below = below_from m indices d.0;
     }
 
@@ -52,12 +53,12 @@ asked_from hs indices sets digests e =
 
 late_is : {T : Type 0} (row_eq : T → T → Bool) (s : Shape) (t : ℕ) (firsts indices : List ℕ) (sets : List (List (List T))) → firsts ≡ map (first_query indices) (distinct indices) → Asked (heights s) indices (length sets) →
     late_refusal row_eq s t (distinct indices) firsts sets
-    ≡ first_some (first_of (λ i. width_refusal s.dimensions (rows_of (opened_of indices sets) i)) (slots_below (tallest (heights s)) indices) ∷ group_refusal row_eq s t (opened_of indices sets) ∷ [])
+    ≡ first_some (first_of (λ i. width_refusal s.dimensions (rows_of (opened_of indices sets) i)) (slots_below (greatest (heights s)) indices) ∷ group_refusal row_eq s t (opened_of indices sets) ∷ [])
 late_is row_eq s t firsts indices sets is asked =
-    let widths = widths_are s.dimensions (tallest (heights s)) firsts indices sets is asked.pairs asked.highest in
+    let widths = widths_are s.dimensions (greatest (heights s)) firsts indices sets is asked.pairs asked.highest in
     let groups = groups_are row_eq s t firsts indices sets is asked.pairs asked.highest in
     ap (λ w. first_some (w ∷ layers_refusal row_eq s t (distinct indices) firsts sets ∷ [])) widths
-    ∙ ap (λ g. first_some (first_of (λ i. width_refusal s.dimensions (rows_of (opened_of indices sets) i)) (slots_below (tallest (heights s)) indices) ∷ g ∷ [])) groups
+    ∙ ap (λ g. first_some (first_of (λ i. width_refusal s.dimensions (rows_of (opened_of indices sets) i)) (slots_below (greatest (heights s)) indices) ∷ g ∷ [])) groups
 
 -- where the first of two reasons doesn't hold, the second decides
 pub late_from : {E : Type 0} (x y a : Option E) → x ≡ None → y ≡ a → first_some (x ∷ y ∷ []) ≡ a
@@ -71,11 +72,11 @@ pub pruned_late : {T : Type 0} (row_eq : T → T → Bool) (s : Shape) (t : ℕ)
 pruned_late row_eq s t leaves firsts indices sets n answer listed is early repeats count late =
     let hs = heights s in
     let p = opened_of indices sets in
-    let widths = first_of (λ i. width_refusal s.dimensions (rows_of p i)) (slots_below (tallest hs) indices) in
+    let widths = first_of (λ i. width_refusal s.dimensions (rows_of p i)) (slots_below (greatest hs) indices) in
     let rest = widths ∷ group_refusal row_eq s t p ∷ [] in
     let number = digest_count_refusal (length (boundary s indices t)) n in
     let counted = repeat_refusal row_eq p ∷ number ∷ rest in
-    let firsts_none = past_none (gate_refusal hs ∷ size_refusal (length indices) (length sets) ∷ idle_refusal (length indices) n ∷ queries_refusal (tallest hs) indices ∷ []) counted early in
+    let firsts_none = past_none (gate_refusal hs ∷ size_refusal (length indices) (length sets) ∷ idle_refusal (length indices) n ∷ queries_refusal (greatest hs) indices ∷ []) counted early in
     let then_none : first_some counted ≡ first_some rest = rw (repeats, count) refl in
     rw (length-replicate {A = List ℕ} n []) (firsts_none ∙ then_none ∙ sym (late_is row_eq s t firsts indices sets is (asked_from hs indices (length sets) n early)) ∙ ap (λ ls. late_refusal row_eq s t ls firsts sets) (sym listed) ∙ late)
 
@@ -101,7 +102,7 @@ pub asked_of : {T W : Type 0} (row_eq : T → T → Bool) (s : Shape) (t : ℕ) 
 asked_of row_eq s t p e =
     let hs = heights s in
     let is = p.indices in
-    let early = gate_refusal hs ∷ size_refusal (length is) (length p.rows) ∷ idle_refusal (length is) (length p.digests) ∷ queries_refusal (tallest hs) is ∷ [] in
-    let widths = first_of (λ i. width_refusal s.dimensions (rows_of p i)) (slots_below (tallest hs) is) in
+    let early = gate_refusal hs ∷ size_refusal (length is) (length p.rows) ∷ idle_refusal (length is) (length p.digests) ∷ queries_refusal (greatest hs) is ∷ [] in
+    let widths = first_of (λ i. width_refusal s.dimensions (rows_of p i)) (slots_below (greatest hs) is) in
     let rest = repeat_refusal row_eq p ∷ digest_count_refusal (length (boundary s is t)) (length p.digests) ∷ widths ∷ group_refusal row_eq s t p ∷ [] in
     asked_from hs is (length p.rows) (length p.digests) (front_none early rest e)

@@ -5,7 +5,8 @@ use Rattle.std.proofs.lemmas.Bool.{cond-true, cond-false, cases_lt, cases_eq, lt
 use Rattle.std.proofs.lemmas.Nat.{pow_pos}
 use Rattle.std.proofs.Math.Nat.{mul_assoc, mul_comm, two-pow-succ, mul-le-mul_left, mul-div_cancel_left, mod-eq_of_lt, mod_self, sub-zero, le_of_mul-le-mul_left, lt_of_mul-lt-mul_left, div-lt_iff_lt-mul}
 use Rattle.std.proofs.Math.Pow.{pow_mono, pow-lt}
-use Rattle.p3_merkle_core.specs.Geometry.{Shape, exponent, tallest, layer_exponent, is_bridge, step, levels, ancestor, padded_len, raw_len, grouped_len, grouped_len_of, layer_len, heights, IsArity}
+use Rattle.p3_merkle_core.specs.Geometry.{Shape, exponent, layer_exponent, is_bridge, step, levels, ancestor, padded_len, raw_len, grouped_len, grouped_len_of, layer_len, heights, IsArity}
+use Rattle.p3_support.specs.Batches.{greatest}
 use Rattle.p3_merkle_core.proofs.LeastFacts.{below_least, exponent_covers, below_exponent}
 use Rattle.p3_merkle_core.proofs.StepFacts.{whole_step_falls, anc_next, anc_start, step_above_1, step_at}
 use Rattle.p3_merkle_core.proofs.LadderFacts.{step_cases, binary_power, whole_power}
@@ -166,19 +167,19 @@ raw_at s l x r g n at_x at_raw is_g is_n =
 -- above the layers below the last, the exponent is positive
 pub positive_below : (s : Shape) (l : ℕ) → l < levels s → 0 < layer_exponent s l
 positive_below s l h =
-    let e = below_least (λ l. eqb (layer_exponent s l) 0) (exponent (tallest (heights s))) l h in
+    let e = below_least (λ l. eqb (layer_exponent s l) 0) (exponent (greatest (heights s))) l h in
     let ne = eqb-false (layer_exponent s l) 0 e in
     elim (cases_eq (layer_exponent s l) 0) [ inl z ↦ absurd (ne z) | inr nz ↦ omega arith ]
 
-pub filled : (s : Shape) → IsArity s.arity → 0 < tallest (heights s) → (l : ℕ) → l ≤ levels s → IsFilled (layer_exponent s l) (raw_len s l)
+pub filled : (s : Shape) → IsArity s.arity → 0 < greatest (heights s) → (l : ℕ) → l ≤ levels s → IsFilled (layer_exponent s l) (raw_len s l)
 unfolding raw_len layer_exponent
 filled s w some zero h =
-    let e = exponent (tallest (heights s)) in
+    let e = exponent (greatest (heights s)) in
     record {
-      fits = exponent_covers (tallest (heights s));
+      fits = exponent_covers (greatest (heights s));
       above_half = elim (cases_eq e 0) [
         | inl z ↦ rw z (omega arith)
-        | inr nz ↦ omega (arith, below_exponent (tallest (heights s)) (e - 1) (omega arith), binary_power e (omega arith))
+        | inr nz ↦ omega (arith, below_exponent (greatest (heights s)) (e - 1) (omega arith), binary_power e (omega arith))
       ];
     }
 filled s w some (suc l) h =
@@ -186,14 +187,14 @@ filled s w some (suc l) h =
     let e : raw_len s (suc l) ≡ g.0 = raw_next s l ∙ ap (λ n. n / step s l) g.1.in_groups ∙ mul-div_cancel_left g.0 (let a = step_above_1 s l w.above_1 in omega arith) in
     rw e g.1.filled
 
-pub raw_fits : (s : Shape) → IsArity s.arity → 0 < tallest (heights s) → (l : ℕ) → l < levels s → raw_len s l ≤ step s l * raw_len s (suc l)
+pub raw_fits : (s : Shape) → IsArity s.arity → 0 < greatest (heights s) → (l : ℕ) → l < levels s → raw_len s l ≤ step s l * raw_len s (suc l)
 raw_fits s w some l h =
     let g = grouped_is s w l (positive_below s l h) (filled s w some l (omega arith)) in
     let e : raw_len s (suc l) ≡ g.0 = raw_next s l ∙ ap (λ n. n / step s l) g.1.in_groups ∙ mul-div_cancel_left g.0 (let a = step_above_1 s l w.above_1 in omega arith) in
     rw e (omega (arith, g.1.covers, g.1.in_groups))
 
 -- the children of nodes that are no padding are slots of the layer below
-pub children_fit : (s : Shape) → IsArity s.arity → 0 < tallest (heights s) → (l : ℕ) → l < levels s → step s l * raw_len s (suc l) ≤ layer_len s l
+pub children_fit : (s : Shape) → IsArity s.arity → 0 < greatest (heights s) → (l : ℕ) → l < levels s → step s l * raw_len s (suc l) ≤ layer_len s l
 children_fit s w some l h =
     let x = layer_exponent s l in
     let r = raw_len s l in
@@ -211,7 +212,7 @@ children_fit s w some l h =
     (λ long. omega arith))
 
 -- an index's ancestor is a node, and no padding
-pub anc_below : (s : Shape) → IsArity s.arity → (i : ℕ) → i < tallest (heights s) → (l : ℕ) → l ≤ levels s → ancestor s l i < raw_len s l
+pub anc_below : (s : Shape) → IsArity s.arity → (i : ℕ) → i < greatest (heights s) → (l : ℕ) → l ≤ levels s → ancestor s l i < raw_len s l
 unfolding raw_len
 anc_below s w i below zero h = rw anc_start below
 anc_below s w i below (suc l) h =

@@ -10,7 +10,7 @@ use Rattle.std.proofs.lemmas.List.Filters.{length-filter_both}
 use Rattle.std.proofs.lemmas.List.FromFn.{length-range_with_len}
 use Rattle.std.proofs.lemmas.List.{take_all, drop_all}
 use Rattle.std.proofs.lemmas.List.Kept.{AllPairs-from_increasing}
-use Rattle.p3_merkle_core.specs.Agreement.{IsAscending}
+use Rattle.p3_merkle_core.specs.Inner.Agreement.{IsAscending}
 
 -- ---- ascending lists
 

@@ -2,7 +2,8 @@
 use Rattle.std.proofs.Common.{◌≡◌, ℕ, zero, suc, ◌-◌, ◌<◌, false, nat_lt, ◌&&◌, List, [], ◌∷◌, refl, sym, ◌∙◌, arith, inl, inr}
 use Rattle.std.specs.List.{list_any}
 use Rattle.std.proofs.lemmas.Bool.{le-ltb, and_left, and_right, false≢true}
-use Rattle.p3_merkle_core.specs.Geometry.{Shape, IsArity, heights, tallest, exponent, layer_exponent, step, levels, raw_len, layer_len}
+use Rattle.p3_merkle_core.specs.Geometry.{Shape, IsArity, heights, exponent, layer_exponent, step, levels, raw_len, layer_len}
+use Rattle.p3_support.specs.Batches.{greatest}
 use Rattle.p3_merkle_core.proofs.LadderFacts.{exponent_at_levels, step_cases}
 use Rattle.p3_merkle_core.proofs.RawFacts.{filled, positive_below}
 
@@ -15,7 +16,7 @@ no_bridge : (a : ℕ) (hs : List ℕ) → list_any (λ h. nat_lt a (exponent h) 
 no_bridge a [] = refl
 no_bridge a (h ∷ hs) = rw (none_between a (exponent h)) (no_bridge a hs)
 
-pub root_alone : (s : Shape) → IsArity s.arity → 0 < tallest (heights s) → layer_len s (levels s) ≡ 1
+pub root_alone : (s : Shape) → IsArity s.arity → 0 < greatest (heights s) → layer_len s (levels s) ≡ 1
 root_alone s w some =
     let f = rw (exponent_at_levels s w) at (filled s w some (levels s) (omega arith)) in
     let one : raw_len s (levels s) ≡ 1 = omega (arith, f.fits, f.above_half) in

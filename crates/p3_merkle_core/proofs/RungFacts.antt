@@ -3,8 +3,9 @@ use Rattle.std.proofs.Common.{◌≡◌, ℕ, ◌+◌, ◌-◌, ◌<◌, ◌≤�
 use Rattle.std.specs.Prelude.{◌==◌}
 use Rattle.std.specs.List.{list_any}
 use Rattle.std.proofs.lemmas.Bool.{cases_lt, cases_eq, eq-eqb, ne_eqb, lt-ltb, le-ltb, true≢false}
-use Rattle.p3_merkle_core.specs.Geometry.{exponent, tallest}
-use Rattle.p3_merkle_core.specs.Rungs.{next_below}
+use Rattle.p3_merkle_core.specs.Geometry.{exponent}
+use Rattle.p3_support.specs.Batches.{greatest}
+use Rattle.p3_merkle_core.specs.Inner.Rungs.{next_below}
 use Rattle.p3_merkle_core.proofs.LeastFacts.{exponent_le, exponent_mono}
 
 -- what a height below x counts for, and one from there on
@@ -128,18 +129,18 @@ second_taken a b c d above = rw (le-ltb a b above) refl
 
 -- x and n are the exponent of the leaves and the next one, but for what the heights of rest add
 pub record IsTop (hs rest : List ℕ) (x n : ℕ) : Type 0 where
-  pub top_is : max x (exponent (tallest rest)) ≡ exponent (tallest hs)
-  pub next_is : max (cond (nat_lt x (exponent (tallest hs))) (x + 1) n) (next_below (exponent (tallest hs)) rest) ≡ next_below (exponent (tallest hs)) hs
+  pub top_is : max x (exponent (greatest rest)) ≡ exponent (greatest hs)
+  pub next_is : max (cond (nat_lt x (exponent (greatest hs))) (x + 1) n) (next_below (exponent (greatest hs)) rest) ≡ next_below (exponent (greatest hs)) hs
 
 pub top_start : {X : Type 0} (height : X → ℕ) (all rest : List X) (first : X) (x : ℕ) → all ≡ first ∷ rest → x ≡ exponent (height first) → IsTop (map height all) (map height rest) x 0
-top_start height all rest first x is e = rw (is, e) record { top_is = sym (exponent_max (height first) (tallest (map height rest))); next_is = refl }
+top_start height all rest first x is e = rw (is, e) record { top_is = sym (exponent_max (height first) (greatest (map height rest))); next_is = refl }
 
 -- a height of a greater exponent
 pub top_over : (hs rest : List ℕ) (h x n : ℕ) → IsTop hs (h ∷ rest) x n → x < exponent h → IsTop hs rest (exponent h) (x + 1)
 top_over hs rest h x n so_far over =
     let e : ℕ = exponent h in
-    let top : ℕ = exponent (tallest hs) in
-    let most = exponent_max h (tallest rest) in
+    let top : ℕ = exponent (greatest hs) in
+    let most = exponent_max h (greatest rest) in
     let is = so_far.top_is in
     let first = first_taken x top (x + 1) n (omega (arith, over, most, is)) in
     record {
@@ -155,8 +156,8 @@ top_over hs rest h x n so_far over =
 pub top_under : (hs rest : List ℕ) (h x n : ℕ) → IsTop hs (h ∷ rest) x n → exponent h < x → IsTop hs rest x (max n (exponent h + 1))
 top_under hs rest h x n so_far under =
     let e : ℕ = exponent h in
-    let top : ℕ = exponent (tallest hs) in
-    let most = exponent_max h (tallest rest) in
+    let top : ℕ = exponent (greatest hs) in
+    let most = exponent_max h (greatest rest) in
     let is = so_far.top_is in
     let own = first_taken e top (e + 1) 0 (omega (arith, under, most, is)) in
     record {
@@ -172,8 +173,8 @@ top_under hs rest h x n so_far under =
 pub top_same : (hs rest : List ℕ) (h x n : ℕ) → IsTop hs (h ∷ rest) x n → exponent h ≡ x → IsTop hs rest x n
 top_same hs rest h x n so_far same =
     let e : ℕ = exponent h in
-    let top : ℕ = exponent (tallest hs) in
-    let most = exponent_max h (tallest rest) in
+    let top : ℕ = exponent (greatest hs) in
+    let most = exponent_max h (greatest rest) in
     let is = so_far.top_is in
     record {
       top_is = omega (arith, same, most, is);
@@ -185,13 +186,13 @@ top_same hs rest h x n so_far same =
     }
 
 -- no height at all
-pub none_top : {X : Type 0} (height : X → ℕ) (xs : List X) → length xs ≡ 0 → 0 ≡ exponent (tallest (map height xs))
+pub none_top : {X : Type 0} (height : X → ℕ) (xs : List X) → length xs ≡ 0 → 0 ≡ exponent (greatest (map height xs))
 none_top height [] none = omega (arith, exponent_le 0 0 (omega arith))
 none_top height (x ∷ xs) none = absurd (omega (arith, none))
 
 -- no more heights
-pub top_end : (hs : List ℕ) (x n : ℕ) → IsTop hs [] x n → (x ≡ exponent (tallest hs)) × (n ≡ next_below x hs)
+pub top_end : (hs : List ℕ) (x n : ℕ) → IsTop hs [] x n → (x ≡ exponent (greatest hs)) × (n ≡ next_below x hs)
 top_end hs x n so_far =
-    let is : x ≡ exponent (tallest hs) = omega (arith, exponent_le 0 0 (omega arith), so_far.top_is) in
-    let last = second_taken x (exponent (tallest hs)) (x + 1) n (omega (arith, is)) in
+    let is : x ≡ exponent (greatest hs) = omega (arith, exponent_le 0 0 (omega arith), so_far.top_is) in
+    let last = second_taken x (exponent (greatest hs)) (x + 1) n (omega (arith, is)) in
     (is, rw is (omega (arith, last, so_far.next_is)))

@@ -4,7 +4,8 @@ use Rattle.std.proofs.lemmas.Bool.{cond_both}
 use Rattle.std.proofs.lemmas.Nat.{pow_pos}
 use Rattle.std.proofs.Math.Nat.{mul-le-mul_left, suc-mul}
 use Rattle.std.proofs.Math.Pow.{pow_mono}
-use Rattle.p3_merkle_core.specs.Geometry.{Shape, heights, exponent, tallest, layer_exponent, is_bridge, step, levels, leaves_under, max_height, IsArity}
+use Rattle.p3_merkle_core.specs.Geometry.{Shape, heights, exponent, layer_exponent, is_bridge, step, levels, leaves_under, height_limit, IsArity}
+use Rattle.p3_support.specs.Batches.{greatest}
 use Rattle.p3_merkle_core.specs.Checks.{siblings_below}
 use Rattle.p3_merkle_core.proofs.LeastFacts.{exponent_le}
 use Rattle.p3_merkle_core.proofs.StepFacts.{step_above_1}
@@ -36,10 +37,10 @@ pub record IsStep (s : Shape) (l : ℕ) : Type 0 where
   pub narrow : step s l ≤ s.arity
   pub few : siblings_below s l < 2 ^ 62
 
-pub step_is : (s : Shape) (l : ℕ) → IsArity s.arity → tallest (heights s) ≤ max_height → l < levels s → IsStep s l
+pub step_is : (s : Shape) (l : ℕ) → IsArity s.arity → greatest (heights s) ≤ height_limit → l < levels s → IsStep s l
 step_is s l w low h =
     let e = exact s w l (positive_below s l h) in
-    let top : 2 ^ exponent (tallest (heights s)) ≤ 2 ^ 62 = pow_mono {i = exponent (tallest (heights s))} {j = 62} (exponent_le (tallest (heights s)) 62 low) in
+    let top : 2 ^ exponent (greatest (heights s)) ≤ 2 ^ 62 = pow_mono {i = exponent (greatest (heights s))} {j = 62} (exponent_le (greatest (heights s)) 62 low) in
     let m : leaves_under s l * 1 ≤ leaves_under s l * 2 ^ layer_exponent s l = mul-le-mul_left (leaves_under s l) (pow_pos (layer_exponent s l)) in
     record {
       wide = step_above_1 s l w.above_1;

@@ -12,13 +12,15 @@ use Rattle.std.proofs.lemmas.Bool.{cases_Bool, eqb-true, or_cases, true≢false,
 use Rattle.std.proofs.lemmas.List.{drop_all, get_or-map, get_or_default, length-map}
 use Rattle.std.specs.Cmp.Derive.Mapped.{pointwise-map}
 use Rattle.p3_support.specs.Shown.{row_lists, row_sets}
-use Rattle.p3_merkle_core.specs.Geometry.{Shape, tallest, heights, layer_len, raw_len, step}
+use Rattle.p3_support.specs.Lists.{is_among}
+use Rattle.p3_support.specs.Batches.{greatest}
+use Rattle.p3_merkle_core.specs.Geometry.{Shape, heights, layer_len, raw_len, step}
 use Rattle.p3_merkle_core.specs.Pruning.{CanQuery, PrunedOpening, is_covered, covered_at, first_rows}
-use Rattle.p3_merkle_core.specs.Refusals.{is_queried, slots_below, slot_of, first_of, unless, rows_of}
+use Rattle.p3_merkle_core.specs.Refusals.{slots_below, slot_of, first_of, unless, rows_of}
 use Rattle.p3_merkle_core.specs.declared.error.PrunedProofError.TheVariants.{InconsistentDuplicateOpenings}
 use Rattle.p3_merkle_core.specs.declared.error.MerkleTreeError.{MerkleTreeError}
 use Rattle.p3_merkle_core.specs.declared.error.MerkleTreeError.TheVariants.{MalformedPrunedProof}
-use Rattle.p3_merkle_core.specs.Agreement.{distinct, first_query, opened_of, IsAscending, IsSlot}
+use Rattle.p3_merkle_core.specs.Inner.Agreement.{distinct, first_query, opened_of, IsAscending, IsSlot}
 use Rattle.p3_merkle_core.proofs.Accepted.{padded_ge}
 use Rattle.p3_merkle_core.proofs.RisingFacts.{is_listed, IsRising, div_mono, filter_is, listed_dedup, listed_in, listed_from, listed_there, listed_at, rising_filter, rising_once}
 use Rattle.p3_merkle_core.proofs.CoveredFacts.{covered_above, covered_leaf, listed_below, listed_covered, raw_start}
@@ -26,10 +28,10 @@ use Rattle.p3_merkle_core.proofs.StepFacts.{step_above_1}
 
 -- ---- indices below a bound
 
-pub highest : (indices : List ℕ) (i : ℕ) → is_queried indices i ≡ true → i ≤ tallest indices
+pub highest : (indices : List ℕ) (i : ℕ) → is_among indices i ≡ true → i ≤ greatest indices
 highest [] i h = absurd (true≢false (sym h))
 highest (q ∷ indices) i h =
-    elim (or_cases (eqb q i) (is_queried indices i) h) [
+    elim (or_cases (eqb q i) (is_among indices i) h) [
       | inl e ↦ let is = eqb-true q i e in omega arith
       | inr rest ↦ let below = highest indices i rest in omega arith
     ]
@@ -38,51 +40,51 @@ tail_below : (m q : ℕ) (indices : List ℕ) → q < m → All (λ q. q < m) in
 tail_below m q indices h rest zero d l = h
 tail_below m q indices h rest (suc k) d l = rest k d (omega arith)
 
-pub all_below : (m : ℕ) (indices : List ℕ) → tallest indices < m → All (λ q. q < m) indices
+pub all_below : (m : ℕ) (indices : List ℕ) → greatest indices < m → All (λ q. q < m) indices
 all_below m [] h = λ k d l. absurd (omega arith)
 all_below m (q ∷ indices) h = tail_below m q indices (omega arith) (all_below m indices (omega arith))
 
 -- ---- the distinct indices
 
 -- an ascending list of just the numbers of another
-pub distinct_is : (indices xs : List ℕ) → IsRising 0 xs → ((j : ℕ) → is_listed xs j ≡ is_queried indices j) → xs ≡ distinct indices
+pub distinct_is : (indices xs : List ℕ) → IsRising 0 xs → ((j : ℕ) → is_listed xs j ≡ is_among indices j) → xs ≡ distinct indices
 unfolding distinct
 distinct_is indices xs up same =
-    filter_is (is_queried indices) 0 (suc (tallest indices)) xs (record {
+    filter_is (is_among indices) 0 (suc (greatest indices)) xs (record {
       rising = up;
-      sound = λ j h. let there : is_queried indices j ≡ true = sym (same j) ∙ h in (omega (arith, highest indices j there), there);
+      sound = λ j h. let there : is_among indices j ≡ true = sym (same j) ∙ h in (omega (arith, highest indices j there), there);
       complete = λ j low high c. same j ∙ c;
     })
 
 -- where all indices are leaves, they are the covered ones
-pub distinct_from : (s : Shape) (indices : List ℕ) → All (λ q. q < tallest (heights s)) indices → covered_at s indices 0 ≡ distinct indices
+pub distinct_from : (s : Shape) (indices : List ℕ) → All (λ q. q < greatest (heights s)) indices → covered_at s indices 0 ≡ distinct indices
 distinct_from s indices below =
     distinct_is indices (covered_at s indices 0) (rising_filter (is_covered s indices 0) 0 (layer_len s 0)) (λ j.
-    both_ways (is_listed (covered_at s indices 0) j) (is_queried indices j)
+    both_ways (is_listed (covered_at s indices 0) j) (is_among indices j)
     (λ h. sym (covered_leaf s indices j) ∙ listed_covered s indices 0 j h)
     (λ c.
     listed_there (is_covered s indices 0) 0 (layer_len s 0) j (covered_leaf s indices j ∙ c) (omega arith)
-    (omega (arith, listed_below (tallest (heights s)) indices j below c, raw_start s, padded_ge (raw_len s 0) s.arity))))
+    (omega (arith, listed_below (greatest (heights s)) indices j below c, raw_start s, padded_ge (raw_len s 0) s.arity))))
 
 -- the distinct indices are the slots below each bound of them
-pub distinct_below : (m : ℕ) (indices : List ℕ) → tallest indices < m → distinct indices ≡ slots_below m indices
+pub distinct_below : (m : ℕ) (indices : List ℕ) → greatest indices < m → distinct indices ≡ slots_below m indices
 unfolding distinct
 distinct_below m indices h =
-    filter_is (is_queried indices) 0 m (distinct indices) (record {
-      rising = rising_filter (is_queried indices) 0 (suc (tallest indices));
-      sound = λ j is. let c = listed_in (is_queried indices) 0 (suc (tallest indices)) j is in (omega (arith, c.1), c.2);
-      complete = λ j low high c. listed_there (is_queried indices) 0 (suc (tallest indices)) j c (omega arith) (omega (arith, highest indices j c));
+    filter_is (is_among indices) 0 m (distinct indices) (record {
+      rising = rising_filter (is_among indices) 0 (suc (greatest indices));
+      sound = λ j is. let c = listed_in (is_among indices) 0 (suc (greatest indices)) j is in (omega (arith, c.1), c.2);
+      complete = λ j low high c. listed_there (is_among indices) 0 (suc (greatest indices)) j c (omega arith) (omega (arith, highest indices j c));
     })
 
 pub distinct_rising : (indices : List ℕ) → IsRising 0 (distinct indices)
 unfolding distinct
-distinct_rising indices = rising_filter (is_queried indices) 0 (suc (tallest indices))
+distinct_rising indices = rising_filter (is_among indices) 0 (suc (greatest indices))
 
-distinct_lists : (indices : List ℕ) (j : ℕ) → is_listed (distinct indices) j ≡ is_queried indices j
+distinct_lists : (indices : List ℕ) (j : ℕ) → is_listed (distinct indices) j ≡ is_among indices j
 unfolding distinct
 distinct_lists indices j =
-    let n = suc (tallest indices) in
-    both_ways (is_listed (distinct indices) j) (is_queried indices j) (λ h. (listed_in (is_queried indices) 0 n j h).2) (λ c. listed_there (is_queried indices) 0 n j c (omega arith) (omega (arith, highest indices j c)))
+    let n = suc (greatest indices) in
+    both_ways (is_listed (distinct indices) j) (is_among indices j) (λ h. (listed_in (is_among indices) 0 n j h).2) (λ c. listed_there (is_among indices) 0 n j c (omega arith) (omega (arith, highest indices j c)))
 
 -- the same indices in another order
 distinct_moved : (indices moved : List ℕ) → IsPermutation indices moved → distinct moved ≡ distinct indices
@@ -144,16 +146,16 @@ place_is p a (suc n) =
 
 pub found_at : (indices : List ℕ) (i k : ℕ) → k < length (distinct indices) → get_or (distinct indices) k 0 ≡ i → IsSlot indices i k
 unfolding distinct
-found_at indices i k l e = record { slot = sym (place_is (is_queried indices) 0 (suc (tallest indices)) k i l (omega arith)); place = l; there = e }
+found_at indices i k l e = record { slot = sym (place_is (is_among indices) 0 (suc (greatest indices)) k i l (omega arith)); place = l; there = e }
 
 -- an index that is queried has a slot
-pub some_place : (indices : List ℕ) (i : ℕ) → is_queried indices i ≡ true → (k : ℕ) × (k < length (distinct indices)) × (get_or (distinct indices) k 0 ≡ i)
+pub some_place : (indices : List ℕ) (i : ℕ) → is_among indices i ≡ true → (k : ℕ) × (k < length (distinct indices)) × (get_or (distinct indices) k 0 ≡ i)
 unfolding distinct
-some_place indices i c = listed_place (distinct indices) i (listed_there (is_queried indices) 0 (suc (tallest indices)) i c (omega arith) (omega (arith, highest indices i c)))
+some_place indices i c = listed_place (distinct indices) i (listed_there (is_among indices) 0 (suc (greatest indices)) i c (omega arith) (omega (arith, highest indices i c)))
 
 -- a search that finds nothing is of no queried index
 pub never_missed : (indices : List ℕ) (i k : ℕ) → ((j : ℕ) → j < k → get_or (distinct indices) j 0 < i) → ((j : ℕ) → k ≤ j → j < length (distinct indices) → i < get_or (distinct indices) j 0) →
-    is_queried indices i ≡ true → IsSlot indices i k
+    is_among indices i ≡ true → IsSlot indices i k
 never_missed indices i k low high c =
     let p = some_place indices i c in
     elim (cases_lt p.0 k) [
@@ -177,12 +179,12 @@ search_hits indices i k h =
     let found = searched (distinct indices) i (Ok k) h (rising_either indices) in
     found_at indices i k found.0 found.1
 
-pub search_misses : (indices : List ℕ) (i k : ℕ) → IsBinarySearchResult (λ y. nat_cmp y i) (distinct indices) (Err k) → is_queried indices i ≡ true → IsSlot indices i k
+pub search_misses : (indices : List ℕ) (i k : ℕ) → IsBinarySearchResult (λ y. nat_cmp y i) (distinct indices) (Err k) → is_among indices i ≡ true → IsSlot indices i k
 search_misses indices i k h c =
     let missed = searched (distinct indices) i (Err k) h (rising_either indices) in
     never_missed indices i k missed.1 missed.2 c
 
-pub queried_at : (indices : List ℕ) (k : ℕ) → k < length indices → is_queried indices (get_or indices k 0) ≡ true
+pub queried_at : (indices : List ℕ) (k : ℕ) → k < length indices → is_among indices (get_or indices k 0) ≡ true
 queried_at indices k h = listed_at indices k 0 h
 
 -- ---- from layer to layer
@@ -257,7 +259,7 @@ pub record IsFirst {T : Type 0} (indices : List ℕ) (sets : List (List (List T)
   pub place : first_query indices i < length indices
   pub rows : get_or sets (first_query indices i) [] ≡ rows_of (opened_of indices sets) i
 
-pub first_of_index : {T : Type 0} (indices : List ℕ) (sets : List (List (List T))) (i : ℕ) → length indices ≡ length sets → is_queried indices i ≡ true → IsFirst indices sets i
+pub first_of_index : {T : Type 0} (indices : List ℕ) (sets : List (List (List T))) (i : ℕ) → length indices ≡ length sets → is_among indices i ≡ true → IsFirst indices sets i
 first_of_index [] sets i e c = absurd (true≢false (sym c))
 first_of_index (q ∷ indices) [] i e c = absurd (omega arith)
 first_of_index (q ∷ indices) (r ∷ sets) i e c =
@@ -273,7 +275,7 @@ pub record IsAtSlot {T : Type 0} (firsts indices : List ℕ) (sets : List (List 
   pub rows : get_or sets (get_or firsts k 0) [] ≡ rows_of (opened_of indices sets) i
 
 pub at_slot : {T : Type 0} (firsts indices : List ℕ) (sets : List (List (List T))) (i k : ℕ) → firsts ≡ map (first_query indices) (distinct indices) → length indices ≡ length sets →
-    is_queried indices i ≡ true → IsSlot indices i k → IsAtSlot firsts indices sets i k
+    is_among indices i ≡ true → IsSlot indices i k → IsAtSlot firsts indices sets i k
 at_slot firsts indices sets i k is e c w =
     let f = first_of_index indices sets i e c in
     let there : get_or firsts k 0 ≡ first_query indices i = rw (← is, w.there) at (get_or-map (first_query indices) (distinct indices) k 0 0 w.place) in
@@ -328,7 +330,7 @@ repeat_turn row_eq firsts indices rows total n k f mine theirs differ is e h w i
       | inr t ↦ record { kept = λ d. absurd (true≢false (sym (sym d ∙ told ∙ ap not t))); found = λ d. sym so_far ∙ rw t at next }
     ]
 
-pub first_place : (indices : List ℕ) (i : ℕ) → is_queried indices i ≡ true → first_query indices i < length indices
+pub first_place : (indices : List ℕ) (i : ℕ) → is_among indices i ≡ true → first_query indices i < length indices
 first_place [] i c = absurd (true≢false (sym c))
 first_place (q ∷ indices) i c =
     elim (cases_Bool (eqb q i)) [
@@ -337,12 +339,12 @@ first_place (q ∷ indices) i c =
     ]
 
 -- the first query of a slot, as the code reads it, is a query
-pub first_inside : (firsts indices : List ℕ) (i k f : ℕ) → firsts ≡ map (first_query indices) (distinct indices) → is_queried indices i ≡ true → IsSlot indices i k → f ≡ get_or firsts k f → f < length indices
+pub first_inside : (firsts indices : List ℕ) (i k f : ℕ) → firsts ≡ map (first_query indices) (distinct indices) → is_among indices i ≡ true → IsSlot indices i k → f ≡ get_or firsts k f → f < length indices
 first_inside firsts indices i k f is c w e =
     let inside : k < length firsts = omega (arith, w.place, ap length is, length-map (distinct indices) (first_query indices)) in
     let there : get_or firsts k 0 ≡ first_query indices i = rw (← is, w.there) at (get_or-map (first_query indices) (distinct indices) k 0 0 w.place) in
     omega (arith, first_place indices i c, there, e ∙ get_or_default firsts k f 0 inside)
 
-pub distinct_queried : (indices : List ℕ) (k : ℕ) → k < length (distinct indices) → is_queried indices (get_or (distinct indices) k 0) ≡ true
+pub distinct_queried : (indices : List ℕ) (k : ℕ) → k < length (distinct indices) → is_among indices (get_or (distinct indices) k 0) ≡ true
 unfolding distinct
-distinct_queried indices k h = (listed_in (is_queried indices) 0 (suc (tallest indices)) (get_or (distinct indices) k 0) (listed_at (distinct indices) k 0 h)).2
+distinct_queried indices k h = (listed_in (is_among indices) 0 (suc (greatest indices)) (get_or (distinct indices) k 0) (listed_at (distinct indices) k 0 h)).2

@@ -3,10 +3,11 @@ use Rattle.std.proofs.Common.{◌≡◌, ℕ, suc, ◌+◌, ◌-◌, ◌/◌, �
 use Rattle.std.proofs.lemmas.Bool.{cond_both, ne_eqb, cases_eq}
 use Rattle.std.proofs.lemmas.List.FromFn.{map-range_with_len_more, get_or-map-range_with_len, length-map-range_with_len}
 use Rattle.std.proofs.Math.Nat.{div-div-eq-div-mul}
-use Rattle.p3_merkle_core.specs.Geometry.{Shape, exponent, tallest, layer_exponent, is_bridge, step, levels, leaves_under, ancestor, heights, position_in_group, schedule_below, positions_below, arity_schedule}
+use Rattle.p3_merkle_core.specs.Geometry.{Shape, exponent, layer_exponent, is_bridge, step, levels, leaves_under, ancestor, heights, position_in_group, schedule_below, positions_below, arity_schedule}
+use Rattle.p3_support.specs.Batches.{greatest}
 use Rattle.p3_merkle_core.proofs.LeastFacts.{least_is, exponent_covers}
 
-pub layer_start : (s : Shape) → layer_exponent s 0 ≡ exponent (tallest (heights s))
+pub layer_start : (s : Shape) → layer_exponent s 0 ≡ exponent (greatest (heights s))
 unfolding layer_exponent
 layer_start s = refl
 
@@ -23,10 +24,10 @@ whole_step_falls n h = elim (cases_eq (exponent n) 0) [ inl e ↦ let c = rw e a
 -- after l steps the walk is at the exponent x, and no layer before was at 0
 pub record IsAt (s : Shape) (l x : ℕ) : Type 0 where
   pub at_x : x ≡ layer_exponent s l
-  pub room : x + l ≤ exponent (tallest (heights s))
+  pub room : x + l ≤ exponent (greatest (heights s))
   pub before : (k : ℕ) → k < l → eqb (layer_exponent s k) 0 ≡ false
 
-pub at_start : (s : Shape) (x : ℕ) → x ≡ exponent (tallest (heights s)) → IsAt s 0 x
+pub at_start : (s : Shape) (x : ℕ) → x ≡ exponent (greatest (heights s)) → IsAt s 0 x
 at_start s x e = record { at_x = e ∙ sym (layer_start s); room = omega arith; before = λ k h. absurd (omega arith) }
 
 -- each step goes down
@@ -57,7 +58,7 @@ at_more s l x y two w h e =
 -- the walk ends at the exponent 0
 pub at_end : (s : Shape) (l x : ℕ) → IsAt s l x → x ≡ 0 → l ≡ levels s
 at_end s l x w z =
-    sym (least_is (λ l. eqb (layer_exponent s l) 0) (exponent (tallest (heights s))) l (omega (arith, w.room)) w.before (λ h. rw (← w.at_x, z) refl))
+    sym (least_is (λ l. eqb (layer_exponent s l) 0) (exponent (greatest (heights s))) l (omega (arith, w.room)) w.before (λ h. rw (← w.at_x, z) refl))
 
 -- one more step of the schedule
 pub schedule_more : (s : Shape) (l x n : ℕ) (so_far : List ℕ) → so_far ≡ schedule_below s l → x ≡ layer_exponent s l → n ≡ cond (is_bridge s x) 2 s.arity → so_far ++ n ∷ [] ≡ schedule_below s (l + 1)

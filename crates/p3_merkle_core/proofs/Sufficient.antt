@@ -4,7 +4,8 @@ use Rattle.std.specs.List.{list_any, range_with_len}
 use Rattle.std.proofs.lemmas.Bool.{cases_Bool, cases_eq, eqb-true, and_parts, and_from, or_cases, or_left, or_right, or_parts, not_from_false, true≢false, cases_lt, not-true}
 use Rattle.std.proofs.lemmas.List.Folds.{list_any-append}
 use Rattle.std.proofs.Math.Nat.{mul-le-mul_left}
-use Rattle.p3_merkle_core.specs.Geometry.{Shape, step, ancestor, raw_len, layer_len, tallest, heights, IsArity}
+use Rattle.p3_merkle_core.specs.Geometry.{Shape, step, ancestor, raw_len, layer_len, heights, IsArity}
+use Rattle.p3_support.specs.Batches.{greatest}
 use Rattle.p3_merkle_core.specs.Pruning.{is_covered, is_boundary, boundary_at, boundary, is_in, IsKnown, Suffices, IsUncovered, CanQuery, IsLeast, pruned_len}
 use Rattle.p3_merkle_core.proofs.RawFacts.{anc_below, children_fit}
 use Rattle.p3_merkle_core.proofs.Under.{under_self, child_parent}
@@ -13,8 +14,8 @@ use Rattle.p3_merkle_core.proofs.ListFacts.{tally, joined_more}
 
 -- ---- a covered node
 
-pub covered_query : (s : Shape) (queries : List ℕ) (l j : ℕ) → All (λ q. q < tallest (heights s)) queries → is_covered s queries l j ≡ true →
-    (q : ℕ) × (q < tallest (heights s)) × (ancestor s l q ≡ j)
+pub covered_query : (s : Shape) (queries : List ℕ) (l j : ℕ) → All (λ q. q < greatest (heights s)) queries → is_covered s queries l j ≡ true →
+    (q : ℕ) × (q < greatest (heights s)) × (ancestor s l q ≡ j)
 covered_query s [] l j below c = absurd (true≢false (sym c))
 covered_query s (q ∷ queries) l j below c =
     elim (or_cases (eqb (ancestor s l q) j) (is_covered s queries l j) c) [

@@ -8,9 +8,11 @@ use Rattle.std.proofs.lemmas.Bool.{cases_Bool, cond-false, eqb-true, lt-ltb, ne_
 use Rattle.std.proofs.lemmas.List.{length-map}
 use Rattle.p3_support.specs.declared.matrix.Dimensions.{Dimensions}
 use Rattle.p3_merkle_core.proofs.ShapeFacts.{widths_in_pairs}
-use Rattle.p3_merkle_core.specs.Geometry.{Shape, tallest, exponent, layer_exponent, ancestor, least, layer_len, heights, widths_of}
+use Rattle.p3_support.specs.Lists.{is_among}
+use Rattle.p3_support.specs.Batches.{greatest, widths_of}
+use Rattle.p3_merkle_core.specs.Geometry.{Shape, exponent, layer_exponent, ancestor, least, layer_len, heights}
 use Rattle.p3_merkle_core.specs.Pruning.{PrunedOpening, is_boundary, boundary, boundary_at, first_rows, IsRestorable}
-use Rattle.p3_merkle_core.specs.Refusals.{first_of, lead, matrices_at, slots_below, slot_of, is_queried, unless, verdict, size_refusal, idle_refusal, queries_refusal, repeat_refusal, digest_count_refusal, width_refusal, row_refusal, group_refusal, pruned_refusal, pruned_answer, row_width_refusal, width_fault, rows_of}
+use Rattle.p3_merkle_core.specs.Refusals.{first_of, lead, matrices_at, slots_below, slot_of, unless, size_refusal, idle_refusal, queries_refusal, repeat_refusal, digest_count_refusal, width_refusal, row_refusal, group_refusal, pruned_refusal, pruned_answer, row_width_refusal, width_fault, rows_of, ok_unless}
 use Rattle.p3_merkle_core.specs.declared.error.PrunedProofError.TheVariants.{SiblingCountMismatch, InconsistentDuplicateOpenings, InconsistentGroupOpening}
 use Rattle.p3_merkle_core.specs.declared.error.MerkleTreeError.TheVariants.{WrongBatchSize, WrongWidth, IndexOutOfBounds, MalformedPrunedProof}
 use Rattle.p3_merkle_core.proofs.LeastFacts.{least_passes, least_bound}
@@ -62,12 +64,12 @@ idle_none : (s : Shape) (t : ℕ) (indices : List ℕ) (digests : ℕ) → diges
 idle_none s t [] digests e = count_none 0 digests (let z = ap length (idle_boundary s t) in omega arith)
 idle_none s t (i ∷ indices) digests e = cond-false (eqb (suc (length indices)) 0) (digest_count_refusal 0 digests) None (ne_eqb (suc (length indices)) 0 (λ z. omega arith))
 
-tallest_below : (m : ℕ) (indices : List ℕ) → 0 < m → All (λ i. i < m) indices → tallest indices < m
+tallest_below : (m : ℕ) (indices : List ℕ) → 0 < m → All (λ i. i < m) indices → greatest indices < m
 tallest_below m [] some below = some
 tallest_below m (i ∷ indices) some below = omega (arith, below 0 0 (omega arith), tallest_below m indices some (λ k d h. below (suc k) d (omega arith)))
 
 index_none : (m : ℕ) (indices : List ℕ) → 0 < m → All (λ i. i < m) indices → queries_refusal m indices ≡ None
-index_none m indices some below = none_unless (nat_lt (tallest indices) m) (IndexOutOfBounds m (tallest indices)) (lt-ltb (tallest indices) m (tallest_below m indices some below))
+index_none m indices some below = none_unless (nat_lt (greatest indices) m) (IndexOutOfBounds m (greatest indices)) (lt-ltb (greatest indices) m (tallest_below m indices some below))
 
 pub each_width : {T : Type 0} (n : ℕ) (rows : List (List T)) → first_of width_fault (enumerate_from n (zip (map length rows) rows)) ≡ None
 each_width n [] = refl
@@ -84,7 +86,7 @@ width_none dimensions rows e =
 -- ---- queries
 
 -- the first row set of a queried index is that of a query of it
-first_is : {T : Type 0} (indices : List ℕ) (rows : List (List (List T))) (i : ℕ) → length rows ≡ length indices → is_queried indices i ≡ true →
+first_is : {T : Type 0} (indices : List ℕ) (rows : List (List (List T))) (i : ℕ) → length rows ≡ length indices → is_among indices i ≡ true →
     (k : ℕ) × (k < length indices) × (get_or indices k 0 ≡ i) × (unwrap_or (option_map (λ (j, r). r) (find (λ (j, r). eqb j i) (zip indices rows))) [] ≡ get_or rows k [])
 first_is [] rows i e c = absurd (true≢false (sym c))
 first_is (j ∷ indices) [] i e c = absurd (omega arith)
@@ -95,15 +97,15 @@ first_is (j ∷ indices) (r ∷ rows) i e c =
     ]
 
 -- the lowest index under a node is a query under it
-lead_is : (s : Shape) (indices : List ℕ) (l i : ℕ) → is_queried indices i ≡ true → i < tallest (heights s) →
-    (is_queried indices (lead s indices l (ancestor s l i)) ≡ true) × (ancestor s l (lead s indices l (ancestor s l i)) ≡ ancestor s l i)
+lead_is : (s : Shape) (indices : List ℕ) (l i : ℕ) → is_among indices i ≡ true → i < greatest (heights s) →
+    (is_among indices (lead s indices l (ancestor s l i)) ≡ true) × (ancestor s l (lead s indices l (ancestor s l i)) ≡ ancestor s l i)
 lead_is s indices l i asked below =
     let j = ancestor s l i in
-    let p : ℕ → Bool = λ k. is_queried indices k && eqb (ancestor s l k) j in
-    let here : p i ≡ true = and_from (is_queried indices i) (eqb (ancestor s l i) j) asked (eq-eqb (ancestor s l i) j refl) in
-    let first = least p (tallest (heights s)) in
-    let low = least_bound p (tallest (heights s)) i here in
-    let both = and_parts (is_queried indices first) (eqb (ancestor s l first) j) (least_passes p (tallest (heights s)) (omega arith)) in
+    let p : ℕ → Bool = λ k. is_among indices k && eqb (ancestor s l k) j in
+    let here : p i ≡ true = and_from (is_among indices i) (eqb (ancestor s l i) j) asked (eq-eqb (ancestor s l i) j refl) in
+    let first = least p (greatest (heights s)) in
+    let low = least_bound p (greatest (heights s)) i here in
+    let both = and_parts (is_among indices first) (eqb (ancestor s l first) j) (least_passes p (greatest (heights s)) (omega arith)) in
     (both.0, eqb-true (ancestor s l first) j both.1)
 
 pub kept_same : {T : Type 0} (x : ℕ) (hs : List ℕ) (us vs : List (List T)) → length us ≡ length hs → length vs ≡ length hs →
@@ -122,7 +124,7 @@ kept_same x (h ∷ hs) (u ∷ us) (v ∷ vs) a b e (suc m) l t =
 pub unrefused : {T W : Type 0} (row_eq : T → T → Bool) (s : Shape) (t : ℕ) (p : PrunedOpening T W) → ((x y : T) → Decides (row_eq x y) (x ≡ y)) →
     IsRestorable s t p → pruned_answer row_eq s t p ≡ Ok tt
 unrefused row_eq s t p dec w =
-    let top = tallest (heights s) in
+    let top = greatest (heights s) in
     let some = w.lawful.some_above_0 in
     let paired = w.agreed.in_pairs in
     let first = first_is p.indices p.rows in
@@ -138,12 +140,12 @@ unrefused row_eq s t p dec w =
     none_unless (pointwise (pointwise row_eq) (get_or p.rows k []) (rows_of p i)) (MalformedPrunedProof (InconsistentDuplicateOpenings (slot_of p.indices i)))
     ((pointwise_decides (pointwise_decides dec) (get_or p.rows k []) (rows_of p i)).1 (w.agreed.repeats k (f.0) h (f.1) (sym f.2) ∙ sym f.3))) in
     let count = count_none (length (boundary s p.indices t)) (length p.digests) (sym w.count) in
-    let widths_none = all_none (λ i. width_refusal s.dimensions (rows_of p i)) (is_queried p.indices) 0 top (λ i asked low high.
+    let widths_none = all_none (λ i. width_refusal s.dimensions (rows_of p i)) (is_among p.indices) 0 top (λ i asked low high.
     let f = first i paired asked in
     width_none s.dimensions (rows_of p i) (ap (λ rows. map length rows) f.3 ∙ w.rows_fit (f.0) [] (let z = f.1 in omega arith))) in
     let group : group_refusal row_eq s t p ≡ None =
     all_in_range (λ l. first_of (λ i. first_of (row_refusal row_eq s p l i) (matrices_at s l)) (slots_below top p.indices)) 0 (suc t) (λ l low high.
-    all_none (λ i. first_of (row_refusal row_eq s p l i) (matrices_at s l)) (is_queried p.indices) 0 top (λ i asked from below.
+    all_none (λ i. first_of (row_refusal row_eq s p l i) (matrices_at s l)) (is_among p.indices) 0 top (λ i asked from below.
     all_none (row_refusal row_eq s p l i) (λ m. eqb (exponent (get_or (heights s) m 0)) (layer_exponent s l)) 0 (length (heights s)) (λ m here start inside.
     let k = lead s p.indices l (ancestor s l i) in
     let lowest = lead_is s p.indices l i asked (omega arith) in
@@ -157,4 +159,4 @@ unrefused row_eq s t p dec w =
     none_unless (pointwise row_eq x y) (MalformedPrunedProof (InconsistentGroupOpening (slot_of p.indices i) m))
     ((pointwise_decides dec x y).1 (ap (λ rs. get_or rs m []) f.3 ∙ rows ∙ sym (ap (λ rs. get_or rs m []) g.3)))))) in
     let none : pruned_refusal row_eq s t p ≡ None = rw (gate, size, idle, index, repeat, count, widths_none, group) refl in
-    ap verdict none
+    ap (λ refusal. ok_unless refusal (tt {0})) none

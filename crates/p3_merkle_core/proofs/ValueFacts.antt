@@ -8,8 +8,10 @@ use Rattle.std.proofs.lemmas.List.{length-map, map-append}
 use Rattle.std.proofs.lemmas.List.Elements.{filter-append, filter_agree}
 use Rattle.std.proofs.Math.Nat.{mul-le-mul_left}
 use Rattle.std.proofs.Math.Pow.{pow_mono}
-use Rattle.p3_merkle_core.specs.Children.{AreChildren, IsFamily, beside, children_under, is_among, unknown_count}
-use Rattle.p3_merkle_core.specs.Geometry.{Shape, step, raw_len, layer_len, leaves_under, levels, layer_exponent, exponent, tallest, heights, max_height}
+use Rattle.p3_merkle_core.specs.Inner.Children.{AreChildren, IsFamily, beside, children_under, unknown_count}
+use Rattle.p3_support.specs.Batches.{greatest}
+use Rattle.p3_support.specs.Lists.{is_among}
+use Rattle.p3_merkle_core.specs.Geometry.{Shape, step, raw_len, layer_len, leaves_under, levels, layer_exponent, exponent, heights, height_limit}
 use Rattle.p3_merkle_core.specs.Nodes.{Functions}
 use Rattle.p3_merkle_core.specs.Pruning.{CanQuery, PrunedOpening, is_covered, is_boundary, covered_at, boundary_at, boundary, sent_digest, restored_node, value_of}
 use Rattle.p3_merkle_core.proofs.ListFacts.{length-joined_le}
@@ -83,14 +85,14 @@ unknown_at : (s : Shape) (queries : List ℕ) (t : ℕ) → CanQuery s queries t
 unknown_at s queries t w l h = let c = covered_count s queries t w l h in omega arith
 
 -- the numbers of a level's children fit
-small_children : (s : Shape) (queries : List ℕ) (t : ℕ) → CanQuery s queries t → tallest (heights s) ≤ max_height → (l : ℕ) → l < t → layer_len s l < 2 ^ 64
+small_children : (s : Shape) (queries : List ℕ) (t : ℕ) → CanQuery s queries t → greatest (heights s) ≤ height_limit → (l : ℕ) → l < t → layer_len s l < 2 ^ 64
 small_children s queries t w low l h =
     let in_tree : l < levels s = omega (arith, w.in_tree) in
     let some = some_leaf s l in_tree in
     let under = leaves_under s l in
     let x = layer_exponent s l in
     let whole = exact s w.well_shaped l (positive_below s l in_tree) in
-    let top : 2 ^ exponent (tallest (heights s)) ≤ 2 ^ 62 = pow_mono {i = exponent (tallest (heights s))} {j = 62} (exponent_le (tallest (heights s)) 62 low) in
+    let top : 2 ^ exponent (greatest (heights s)) ≤ 2 ^ 62 = pow_mono {i = exponent (greatest (heights s))} {j = 62} (exponent_le (greatest (heights s)) 62 low) in
     let fits = (filled s w.well_shaped some l (omega arith)).fits in
     let one : 2 ^ x * 1 ≤ 2 ^ x * under = mul-le-mul_left (2 ^ x) (leaves_above_0 s w.well_shaped.above_1 l) in
     omega (arith, padded_le (raw_len s l) s.arity (let two = w.well_shaped.above_1 in omega arith), w.well_shaped.fits)
@@ -106,7 +108,7 @@ pub record IsLevel {T W X : Type 0} (f : Functions T W) (s : Shape) (t : ℕ) (p
   pub sent_is : map view sent ≡ drop (length (boundary s p.indices l)) p.digests
 
 -- a level can be walked where there is a digest of each covered node, and what is left of those that were sent
-pub family_by_counts : {X : Type 0} (s : Shape) (queries : List ℕ) (t : ℕ) → CanQuery s queries t → tallest (heights s) ≤ max_height → (l : ℕ) → l < t → (n : ℕ) (parents covered : List ℕ) (digests sent : List X) →
+pub family_by_counts : {X : Type 0} (s : Shape) (queries : List ℕ) (t : ℕ) → CanQuery s queries t → greatest (heights s) ≤ height_limit → (l : ℕ) → l < t → (n : ℕ) (parents covered : List ℕ) (digests sent : List X) →
     n ≡ step s l → parents ≡ covered_at s queries (suc l) → covered ≡ covered_at s queries l → length digests ≡ length covered → length sent ≡ length (boundary s queries t) - length (boundary s queries l) →
     IsFamily n parents covered digests sent
 family_by_counts s queries t w low l h n parents covered digests sent is_step is_above is_here each left =

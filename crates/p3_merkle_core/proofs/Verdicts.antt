@@ -7,13 +7,14 @@ use Rattle.std.specs.Option.{unwrap_or, option_map, option_or}
 use Rattle.std.proofs.lemmas.Bool.{and_parts, and_from, eqb-true, ltb-true, lt-ltb, true≢false}
 use Rattle.std.proofs.lemmas.List.{length-map}
 use Rattle.p3_merkle_core.proofs.ShapeFacts.{length-widths}
-use Rattle.p3_merkle_core.specs.Geometry.{Shape, IsArity, tallest, ancestor, heights, widths, IsLawful}
+use Rattle.p3_support.specs.Batches.{greatest}
+use Rattle.p3_merkle_core.specs.Geometry.{Shape, IsArity, ancestor, heights, widths, IsLawful}
 use Rattle.p3_merkle_core.specs.Gate.{gate_refusal}
 use Rattle.p3_merkle_core.specs.Nodes.{Functions}
 use Rattle.p3_merkle_core.specs.Openings.{Opening}
 use Rattle.p3_merkle_core.specs.Checks.{IsAccepted, siblings_below, path_digest, terms}
 use Rattle.p3_merkle_core.specs.Pruning.{PrunedOpening, restored_node, IsCapped, EachAccepted, IsRestorable}
-use Rattle.p3_merkle_core.specs.Refusals.{first_some, unless, verdict, is_entry, size_refusal, sibling_count_refusal, row_width_refusal, refusal_under, answer_under, pruned_refusal, cap_refusal, pruned_answer_under, form_refusal}
+use Rattle.p3_merkle_core.specs.Refusals.{first_some, unless, is_entry, size_refusal, sibling_count_refusal, row_width_refusal, refusal_under, answer_under, pruned_refusal, cap_refusal, pruned_answer_under, form_refusal, ok_unless}
 use Rattle.p3_merkle_core.specs.declared.error.MerkleTreeError.TheVariants.{WrongBatchSize, WrongHeight, IndexOutOfBounds, CapMismatch}
 use Rattle.p3_merkle_core.proofs.NoneFacts.{none_parts, unless_none, none_unless, verdict_ok, rows_fit_from}
 use Rattle.p3_merkle_core.proofs.Answered.{restorable}
@@ -30,7 +31,7 @@ some_is digest_eq dec None d = (λ e. absurd (true≢false (sym e)), λ e. absur
 some_is digest_eq dec (Some x) d =
     (λ e. ap (λ y. Some y) ((pointwise_decides dec x d).0 e), λ e. (pointwise_decides dec x d).1 (let c : x ≡ d = cc in c))
 
-pub entry_is : {W : Type 0} (digest_eq : W → W → Bool) → ((x y : W) → Decides (digest_eq x y) (x ≡ y)) → (cap : List (List W)) (j : ℕ) (d : List W) → (is_entry digest_eq cap j d ≡ true) ↔ (slice_get cap j ≡ Some d)
+pub entry_is : {W : Type 0} (digest_eq : W → W → Bool) → ((x y : W) → Decides (digest_eq x y) (x ≡ y)) → (cap : List (List W)) (j : ℕ) (d : List W) → (is_entry (pointwise digest_eq) cap j d ≡ true) ↔ (slice_get cap j ≡ Some d)
 entry_is digest_eq dec cap j d = some_is digest_eq dec (slice_get cap j) d
 
 each_true : (p : ℕ → Bool) (xs : List ℕ) → list_all p xs ≡ true → (k : ℕ) → k < length xs → p (get_or xs k 0) ≡ true
@@ -49,11 +50,11 @@ pub record HasForm {T : Type 0} (s : Shape) (t index : ℕ) (rows : List (List T
   pub lawful : IsLawful (heights s)
   pub rows_fit : map length rows ≡ widths s
   pub count : siblings ≡ siblings_below s t
-  pub in_range : index < tallest (heights s)
+  pub in_range : index < greatest (heights s)
 
 pub form_from : {T : Type 0} (s : Shape) (t index : ℕ) (rows : List (List T)) (siblings : ℕ) → form_refusal s t index rows siblings ≡ None → HasForm s t index rows siblings
 form_from s t index rows siblings e =
-    let m = tallest (heights s) in
+    let m = greatest (heights s) in
     let r5 = unless (nat_lt index m) (IndexOutOfBounds m index) ∷ [] in
     let r4 = row_width_refusal (widths s) rows ∷ r5 in
     let r3 = sibling_count_refusal (siblings_below s t) siblings ∷ r4 in
@@ -72,7 +73,7 @@ form_from s t index rows siblings e =
 
 pub form_none : {T : Type 0} (s : Shape) (t index : ℕ) (rows : List (List T)) (siblings : ℕ) → HasForm s t index rows siblings → form_refusal s t index rows siblings ≡ None
 form_none s t index rows siblings w =
-    let m = tallest (heights s) in
+    let m = greatest (heights s) in
     let size = size_none (length s.dimensions) (length rows) (sym (length-widths s) ∙ sym (ap length w.rows_fit) ∙ length-map rows length) in
     let gate = (gate_lawful (heights s)).1 w.lawful in
     let height = none_unless (eqb (siblings_below s t) siblings) (WrongHeight (siblings_below s t) siblings) (eq-eqb (siblings_below s t) siblings (sym w.count)) in
@@ -84,7 +85,7 @@ pub accepted_from : {T W : Type 0} (digest_eq : W → W → Bool) (f : Functions
     answer_under digest_eq (terms f s t) cap o ≡ Ok tt → IsAccepted (terms f s t) cap o
 accepted_from digest_eq f s t cap o dec e =
     let digest = path_digest f s o t in
-    let entry = is_entry digest_eq cap (ancestor s t o.index) digest in
+    let entry = is_entry (pointwise digest_eq) cap (ancestor s t o.index) digest in
     let both = none_parts (form_refusal s t o.index o.rows (length o.siblings)) (unless entry CapMismatch) (verdict_ok (refusal_under digest_eq (terms f s t) cap o) e) in
     let form = form_from s t o.index o.rows (length o.siblings) both.0 in
     accepted_by_walk f s t cap o form.lawful form.rows_fit form.count form.in_range ((entry_is digest_eq dec cap (ancestor s t o.index) digest).0 (unless_none entry CapMismatch both.1))
@@ -94,16 +95,16 @@ pub accepted_answer : {T W : Type 0} (digest_eq : W → W → Bool) (f : Functio
 accepted_answer digest_eq f s t cap o dec w =
     let digest = path_digest f s o t in
     let form = form_none s t o.index o.rows (length o.siblings) (record { lawful = w.lawful; rows_fit = w.rows_fit; count = w.count; in_range = w.in_range }) in
-    let entry = none_unless (is_entry digest_eq cap (ancestor s t o.index) digest) CapMismatch ((entry_is digest_eq dec cap (ancestor s t o.index) digest).1 (accepted_walk f s t cap o w)) in
+    let entry = none_unless (is_entry (pointwise digest_eq) cap (ancestor s t o.index) digest) CapMismatch ((entry_is digest_eq dec cap (ancestor s t o.index) digest).1 (accepted_walk f s t cap o w)) in
     let none : refusal_under digest_eq (terms f s t) cap o ≡ None = rw (form, entry) refl in
-    ap verdict none
+    ap (λ refusal. ok_unless refusal (tt {0})) none
 
 -- ---- pruned openings
 
 cap_fits : {T W : Type 0} (digest_eq : W → W → Bool) (f : Functions T W) (s : Shape) (t : ℕ) (cap : List (List W)) (p : PrunedOpening T W) → ((x y : W) → Decides (digest_eq x y) (x ≡ y)) → length p.rows ≡ length p.indices →
     (cap_refusal digest_eq (terms f s t) cap p ≡ None) ↔ IsCapped (terms f s t) cap p
 cap_fits digest_eq f s t cap p dec paired =
-    let test : ℕ → Bool = λ i. is_entry digest_eq cap (ancestor s t i) (restored_node (terms f s t) p t (ancestor s t i)) in (
+    let test : ℕ → Bool = λ i. is_entry (pointwise digest_eq) cap (ancestor s t i) (restored_node (terms f s t) p t (ancestor s t i)) in (
       λ e j c.
           let all = each_true test p.indices (unless_none (list_all test p.indices) CapMismatch e) in
           let u = rows_under_is s p.indices p.rows t j paired c in
@@ -123,13 +124,13 @@ pruned_capped row_eq digest_eq f s t cap p dec dec_w =
     let last = cap_refusal digest_eq (terms f s t) cap p in (
       λ e.
           let both = none_parts first last (verdict_ok (option_or first last) e) in
-          let r = restorable row_eq s t p dec (ap verdict both.0) in
+          let r = restorable row_eq s t p dec (ap (λ refusal. ok_unless refusal (tt {0})) both.0) in
           (r, (cap_fits digest_eq f s t cap p dec_w r.agreed.in_pairs).0 both.1),
       λ (r, capped).
           let a = verdict_ok first (unrefused row_eq s t p dec r) in
           let b = (cap_fits digest_eq f s t cap p dec_w r.agreed.in_pairs).1 capped in
           let none : option_or first last ≡ None = rw (a, b) refl in
-          ap verdict none,
+          ap (λ refusal. ok_unless refusal (tt {0})) none,
     )
 
 -- and exactly if it is restorable and each query is accepted with its restored path

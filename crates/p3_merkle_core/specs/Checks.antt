@@ -1,8 +1,9 @@
 -- The check of an opening: its inputs with their places, when it is accepted, where two checks meet.
 use Rattle.std.specs.Prelude.{◌≡◌, ◌≢◌, ◌⊎◌, ℕ, zero, suc, ◌+◌, ◌-◌, ◌<◌, ◌==◌, Bool, if◌then◌else◌, List, [], ◌∷◌, map, length, take, drop, filter, flat_map, zip, insert, Some, slice_get, slice_index, slice_index_or, nat_le}
 use Rattle.std.specs.List.{range_with_len}
-use Rattle.p3_merkle_core.specs.Geometry.{Shape, IsLawful, least, exponent, tallest, layer_exponent, layer_of, step, ancestor, position_in_group, heights, widths, has_rows}
-use Rattle.p3_merkle_core.specs.Nodes.{Functions, padded_group, compress, pair, with_rows}
+use Rattle.p3_merkle_core.specs.Geometry.{Shape, IsLawful, least, exponent, layer_exponent, layer_of, step, ancestor, position_in_group, heights, widths, has_rows}
+use Rattle.p3_support.specs.Batches.{greatest}
+use Rattle.p3_merkle_core.specs.Nodes.{Functions, compress, pair, with_rows, padded}
 use Rattle.p3_merkle_core.specs.Openings.{Opening}
 use Rattle.p3_merkle_core.specs.declared.collision.Place.{Place}
 use Rattle.p3_merkle_core.specs.declared.collision.Place.TheVariants.{Leaf, Group, Rows, Pair}
@@ -32,9 +33,13 @@ siblings_at s o l = take (step s l - 1) (drop (siblings_below s l) o.siblings)
 abbrev pub layer_rows : {T : Type 0} → Shape → List (List T) → ℕ → List (ℕ × List T)
 layer_rows s rows l = filter (λ (h, row). exponent h == layer_exponent s l) (zip (heights s) rows)
 
--- these rows one after another
+-- of rows with their heights, those of the exponent x, one after another
+abbrev pub words_of_exponent : {T : Type 0} → ℕ → List (ℕ × List T) → List T
+words_of_exponent x pairs = flat_map (λ (h, row). row) (filter (λ (h, row). exponent h == x) pairs)
+
+-- the rows of the matrices of layer l, one after another
 abbrev pub layer_words : {T : Type 0} → Shape → List (List T) → ℕ → List T
-layer_words s rows l = flat_map (λ (h, row). row) (layer_rows s rows l)
+layer_words s rows l = words_of_exponent (layer_exponent s l) (zip (heights s) rows)
 
 -- a digest at its place among the siblings of level l
 abbrev pub group_at : {T W : Type 0} → Functions T W → Shape → Opening T W → ℕ → List W → List (List W)
@@ -90,7 +95,7 @@ leaf_input s o = words_at Leaf (layer_words s o.rows 0)
 -- the inputs of level l: the group, and where matrices belong to the layer above it, their rows and the pair of both digests
 abbrev pub inputs_at : {T W : Type 0} → Functions T W → Shape → Opening T W → ℕ → List (Input T W)
 inputs_at f s o l =
-    let group = padded_group f s.arity (group_at f s o l (path_digest f s o l)) in
+    let group = padded s.arity f.default_digest (group_at f s o l (path_digest f s o l)) in
     let words = layer_words s o.rows (suc l) in
     if has_rows s (suc l)
     then digests_at (Group l) group ∷ words_at (Rows l) words ∷ digests_at (Pair l) (pair f s.arity (f.compression group) (f.hash words)) ∷ []
@@ -124,7 +129,7 @@ pub record IsAccepted {T W : Type 0} (c : Terms T W) (cap : List (List W)) (o : 
   pub lawful : IsLawful (heights c.shape)
   pub rows_fit : map length o.rows ≡ widths c.shape
   pub count : length o.siblings ≡ siblings_below c.shape c.layer
-  pub in_range : o.index < tallest (heights c.shape)
+  pub in_range : o.index < greatest (heights c.shape)
   pub authentic : slice_get cap (ancestor c.shape c.layer o.index) ≡ Some (check_digest c o)
 
 -- ---- authenticated

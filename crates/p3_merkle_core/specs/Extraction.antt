@@ -3,7 +3,8 @@ use Rattle.std.specs.Prelude.{◌≡◌, ◌≢◌, ◌⊎◌, ◌↔◌, ◌<�
 use Rattle.std.specs.List.{range_with_len}
 use Rattle.std.specs.Option.{option_or}
 use Rattle.std.specs.Cmp.Lexicographic.{pointwise}
-use Rattle.p3_merkle_core.specs.Geometry.{Shape, heights, row_at_index}
+use Rattle.p3_merkle_core.specs.Geometry.{Shape, heights, halved_index}
+use Rattle.p3_support.specs.Batches.{greatest}
 use Rattle.p3_merkle_core.specs.Openings.{Opening}
 use Rattle.p3_merkle_core.specs.Checks.{AgreeWhereShared, Content, Digests, HasDigests, Input, IsAtOnePlace, IsLastShared, Terms, Words, input_digest, is_authenticated, opened_row, shared_inputs}
 use Rattle.p3_merkle_core.specs.Presented.{Presented}
@@ -63,7 +64,7 @@ pub record AnswerAlike {T W : Type 0} (c : Terms T W) (o u : Opening T W) : Type
 -- two openings answer one row of matrix k in two ways
 pub record AnswerRowTwice {T W : Type 0} (s : Shape) (o u : Opening T W) (k : ℕ) : Type 0 where
   pub exists : k < length (heights s)
-  pub one_row : row_at_index s (slice_index (heights s) k) o.index ≡ row_at_index s (slice_index (heights s) k) u.index
+  pub one_row : halved_index (greatest (heights s)) (slice_index (heights s) k) o.index ≡ halved_index (greatest (heights s)) (slice_index (heights s) k) u.index
   pub two_ways : opened_row o k ≢ opened_row u k
 
 -- two openings answer one row of an authenticated matrix in two ways

@@ -1,12 +1,13 @@
 -- Which heights are refused, and how.
 use Rattle.std.specs.Prelude.{ℕ, ◌==◌, nat_lt, not, if◌then◌else◌, List, Option, Some, None, find, position, slice_index}
-use Rattle.p3_merkle_core.specs.Geometry.{tallest, max_height, expected_height, bits_reduced}
+use Rattle.p3_merkle_core.specs.Geometry.{height_limit, expected_height, bits_reduced}
+use Rattle.p3_support.specs.Batches.{greatest}
 use Rattle.p3_merkle_core.specs.declared.error.MerkleTreeError.{MerkleTreeError}
 use Rattle.p3_merkle_core.specs.declared.error.MerkleTreeError.TheVariants.{EmptyBatch, TooLarge, IncompatibleHeights}
 
 -- the place of the first height above the limit
 abbrev pub first_too_large : List ℕ → Option ℕ
-first_too_large hs = position (λ h. nat_lt max_height h) hs
+first_too_large hs = position (λ h. nat_lt height_limit h) hs
 
 -- the first height that is not the expected one, where m is the greatest
 abbrev pub first_off_ladder : ℕ → List ℕ → Option ℕ
@@ -21,5 +22,5 @@ height_refusal_of m hs None None = None
 -- why the heights are refused, if they are: no height above 0, else the first height that is too large, else the first off the ladder
 abbrev pub gate_refusal : List ℕ → Option MerkleTreeError
 gate_refusal hs =
-    let m = tallest hs in
+    let m = greatest hs in
     if m == 0 then Some EmptyBatch else height_refusal_of m hs (first_too_large hs) (first_off_ladder m hs)

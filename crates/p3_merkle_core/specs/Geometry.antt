@@ -1,8 +1,9 @@
 -- The shape of a tree: exponents of heights, the ladder of lawful heights, steps, lengths, ancestors.
-use Rattle.std.specs.Prelude.{◌≡◌, ℕ, zero, suc, ◌+◌, ◌-◌, ◌*◌, ◌/◌, ◌%◌, ◌^◌, ◌<◌, ◌≤◌, max, min, Bool, true, false, ◌&&◌, ◌==◌, nat_lt, nat_le, if◌then◌else◌, List, [], ◌∷◌, map, All}
+use Rattle.std.specs.Prelude.{◌≡◌, ℕ, zero, suc, ◌+◌, ◌-◌, ◌*◌, ◌/◌, ◌%◌, ◌^◌, ◌<◌, ◌≤◌, min, Bool, true, false, ◌&&◌, ◌==◌, nat_lt, nat_le, if◌then◌else◌, List, [], ◌∷◌, map, All}
 use Rattle.std.specs.List.{list_any, range_with_len}
 use Rattle.std.specs.Int.{next_multiple_of}
 use Rattle.p3_support.specs.declared.matrix.Dimensions.{Dimensions}
+use Rattle.p3_support.specs.Batches.{greatest, heights_of, widths_of}
 
 -- the least k below the bound that passes, else the bound
 abbrev pub least : (ℕ → Bool) → ℕ → ℕ
@@ -15,11 +16,6 @@ least p (suc bound) = elim (p 0) [ true ↦ 0 | false ↦ suc (least (λ k. p (s
 unfoldable pub exponent : ℕ → ℕ
 exponent h = least (λ k. nat_le h (2 ^ k)) h
 
--- the greatest height, and 0 of none
-abbrev pub tallest : List ℕ → ℕ
-tallest [] = 0
-tallest (h ∷ hs) = max h (tallest hs)
-
 -- the least of m and some heights
 abbrev pub least_height : ℕ → List ℕ → ℕ
 least_height m [] = m
@@ -27,7 +23,15 @@ least_height m (h ∷ hs) = min h (least_height m hs)
 
 -- the least height, and 0 of none
 abbrev pub shortest : List ℕ → ℕ
-shortest hs = least_height (tallest hs) hs
+shortest hs = least_height (greatest hs) hs
+
+-- the greatest height that is taken
+abbrev pub height_limit : ℕ
+height_limit = 2 ^ 62
+
+-- the height of the matrices of exponent x, where m is the greatest height
+abbrev pub height_at : ℕ → ℕ → ℕ
+height_at m x = (m - 1) / 2 ^ (exponent m - x) + 1
 
 -- how many halvings lead from the greatest height m down to the height h
 abbrev pub bits_reduced : ℕ → ℕ → ℕ
@@ -35,17 +39,13 @@ bits_reduced m h = exponent m - exponent h
 
 -- the one lawful height with the exponent of h, where m is the greatest
 abbrev pub expected_height : ℕ → ℕ → ℕ
-expected_height m h = (m - 1) / 2 ^ bits_reduced m h + 1
-
--- the greatest height, and the greatest arity, that is taken
-abbrev pub max_height : ℕ
-max_height = 2 ^ 62
+expected_height m h = height_at m (exponent h)
 
 -- some height is above 0, none is too large, and each is the expected one of its exponent
 pub record IsLawful (heights : List ℕ) : Type 0 where
-  pub some_above_0 : 0 < tallest heights
-  pub none_too_large : All (λ h. h ≤ max_height) heights
-  pub on_ladder : All (λ h. h ≡ expected_height (tallest heights) h) heights
+  pub some_above_0 : 0 < greatest heights
+  pub none_too_large : All (λ h. h ≤ height_limit) heights
+  pub on_ladder : All (λ h. h ≡ expected_height (greatest heights) h) heights
 
 -- ---- shapes
 
@@ -53,9 +53,9 @@ pub record IsLawful (heights : List ℕ) : Type 0 where
 pub record IsArity (n : ℕ) : Type 0 where
   pub power : n ≡ 2 ^ exponent n
   pub above_1 : 2 ≤ n
-  pub fits : n ≤ max_height
+  pub fits : n ≤ 2 ^ 62
 
--- whether a number is an arity: one of 2, 4, 8 and so on up to 2 ^ 62
+-- the test of arities: one of 2, 4, 8 and so on up to 2 ^ 62
 abbrev pub is_arity : ℕ → Bool
 is_arity n = list_any (λ k. n == 2 ^ suc k) (range_with_len 0 62)
 
@@ -68,17 +68,9 @@ pub record Shape : Type 0 where
 abbrev pub shape_of : ℕ → List Dimensions → Shape
 shape_of arity dimensions = record { arity = arity; dimensions = dimensions }
 
--- the heights of matrices, in rows
-abbrev pub heights_of : List Dimensions → List ℕ
-heights_of dimensions = map (λ d. d.height) dimensions
-
 -- the heights of a shape's matrices
 abbrev pub heights : Shape → List ℕ
 heights s = heights_of s.dimensions
-
--- the widths of their rows, in words
-abbrev pub widths_of : List Dimensions → List ℕ
-widths_of dimensions = map (λ d. d.width) dimensions
 
 -- the widths of a shape's matrices
 abbrev pub widths : Shape → List ℕ
@@ -92,7 +84,7 @@ is_bridge s x = list_any (λ h. nat_lt (x - exponent s.arity) (exponent h) && na
 
 -- the exponent of layer l: that of the greatest height at first; a bridge step takes 1, any other log2 of the arity, and none goes below 0
 unfoldable pub layer_exponent : Shape → ℕ → ℕ
-layer_exponent s zero = exponent (tallest (heights s))
+layer_exponent s zero = exponent (greatest (heights s))
 layer_exponent s (suc l) = let x = layer_exponent s l in if is_bridge s x then x - 1 else x - exponent s.arity
 
 -- how many children a node of layer l + 1 has in layer l
@@ -101,7 +93,7 @@ step s l = if is_bridge s (layer_exponent s l) then 2 else s.arity
 
 -- how many steps lead from the leaves to the root: the first layer whose exponent is 0
 abbrev pub levels : Shape → ℕ
-levels s = least (λ l. layer_exponent s l == 0) (exponent (tallest (heights s)))
+levels s = least (λ l. layer_exponent s l == 0) (exponent (greatest (heights s)))
 
 -- the steps of the levels below layer t
 abbrev pub schedule_below : Shape → ℕ → List ℕ
@@ -135,7 +127,7 @@ grouped_len_of s x r = if is_bridge s x && nat_lt r s.arity then 2 ^ x else padd
 
 -- how many slots of layer l are nodes, and no padding
 unfoldable pub raw_len : Shape → ℕ → ℕ
-raw_len s zero = tallest (heights s)
+raw_len s zero = greatest (heights s)
 raw_len s (suc l) = grouped_len_of s (layer_exponent s l) (raw_len s l) / step s l
 
 -- how many slots of layer l are grouped into nodes of layer l + 1
@@ -165,6 +157,6 @@ position_in_group s l i = ancestor s l i % step s l
 abbrev pub positions_below : Shape → ℕ → ℕ → List ℕ
 positions_below s t i = map (λ l. position_in_group s l i) (range_with_len 0 t)
 
--- the row of a matrix of height h that belongs to leaf i
-abbrev pub row_at_index : Shape → ℕ → ℕ → ℕ
-row_at_index s h i = i / 2 ^ bits_reduced (tallest (heights s)) h
+-- the row that belongs to leaf i in a matrix of height h, where m is the greatest height: the leaf, halved as often as leads from m down to h
+abbrev pub halved_index : ℕ → ℕ → ℕ → ℕ
+halved_index m h i = i / 2 ^ bits_reduced m h

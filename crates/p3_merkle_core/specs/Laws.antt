@@ -1,7 +1,8 @@
 -- What holds of the definitions, whatever the hash, the compression, the batch, the openings and the cap.
 use Rattle.std.specs.Prelude.{◌≡◌, ◌≢◌, ◌↔◌, ◌⊎◌, ℕ, suc, ◌<◌, ◌≤◌, true, Bool, IsTrue, List, [], ◌∷◌, ◌++◌, Option, None, Some, Ok, Err, length, take, slice_index, All, map}
 use Rattle.std.specs.List.{count_by}
-use Rattle.p3_merkle_core.specs.Geometry.{Shape, heights, tallest, levels, layer_exponent, exponent, layer_of, layer_len, row_at_index, step, ancestor, arity_schedule, schedule_below, layer_below_root, IsArity, IsLawful}
+use Rattle.p3_merkle_core.specs.Geometry.{Shape, heights, levels, layer_exponent, exponent, layer_of, layer_len, halved_index, step, ancestor, arity_schedule, schedule_below, layer_below_root, is_arity, IsArity, IsLawful}
+use Rattle.p3_support.specs.Batches.{greatest}
 use Rattle.p3_merkle_core.specs.Caps.{cap_layer}
 use Rattle.p3_merkle_core.specs.Nodes.{Functions, Batch, HasFullRows, shape, node, layer, layers}
 use Rattle.p3_merkle_core.specs.Openings.{Opening, honest, siblings_by, opening_in_layers}
@@ -18,23 +19,27 @@ use Rattle.p3_merkle_core.specs.declared.cap.CapRule.TheVariants.{Lowered, Fixed
 
 -- ---- shapes
 
+-- a number passes the test of arities exactly if it is an arity
+abbrev pub TestedIsArity : Type 0
+TestedIsArity = (n : ℕ) → IsTrue (is_arity n) ↔ IsArity n
+
 -- the walk from the leaves ends at the exponent 0, after at most as many steps as the tallest height has halvings, and the schedule has one step a level
 abbrev pub WalkEnds : Type 0
 WalkEnds =
     (s : Shape) → IsArity s.arity →
-    (layer_exponent s (levels s) ≡ 0) × (length (arity_schedule s) ≡ levels s) × (levels s ≤ exponent (tallest (heights s)))
+    (layer_exponent s (levels s) ≡ 0) × (length (arity_schedule s) ≡ levels s) × (levels s ≤ exponent (greatest (heights s)))
 
 -- the steps below the cap are the first of the schedule, and at most as many as the tallest height has halvings
 abbrev pub ScheduleStopsAtCap : Type 0
 ScheduleStopsAtCap =
     (s : Shape) (rule : CapRule) (cap_height : ℕ) →
     (schedule_below s (cap_layer s rule cap_height) ≡ take (cap_layer s rule cap_height) (arity_schedule s))
-    × (length (schedule_below s (cap_layer s rule cap_height)) ≤ exponent (tallest (heights s)))
+    × (length (schedule_below s (cap_layer s rule cap_height)) ≤ exponent (greatest (heights s)))
 
 -- the last layer is one node, and the last step is of the whole arity
 abbrev pub RootIsAlone : Type 0
 RootIsAlone =
-    (s : Shape) → IsArity s.arity → 0 < tallest (heights s) →
+    (s : Shape) → IsArity s.arity → 0 < greatest (heights s) →
     (layer_len s (levels s) ≡ 1) × ((l : ℕ) → levels s ≡ suc l → step s l ≡ s.arity)
 
 -- each matrix has a layer of its exponent
@@ -46,9 +51,9 @@ MatricesHaveLayers =
 -- the row of a matrix that belongs to an index is below its height, and is the index's ancestor at the matrix's layer
 abbrev pub RowsAreAncestors : Type 0
 RowsAreAncestors =
-    (s : Shape) (k i : ℕ) → IsArity s.arity → IsLawful (heights s) → k < length (heights s) → i < tallest (heights s) →
+    (s : Shape) (k i : ℕ) → IsArity s.arity → IsLawful (heights s) → k < length (heights s) → i < greatest (heights s) →
     let h = slice_index (heights s) k in
-    (row_at_index s h i < h) × (row_at_index s h i ≡ ancestor s (layer_of s h) i)
+    (halved_index (greatest (heights s)) h i < h) × (halved_index (greatest (heights s)) h i ≡ ancestor s (layer_of s h) i)
 
 -- the gate refuses nothing exactly if the heights are lawful
 abbrev pub UnrefusedIsLawful : Type 0
@@ -111,7 +116,7 @@ module _ (T W : Type 0) where
   -- the honest opening of each index of a lawful batch is accepted under each cap layer
   abbrev pub HonestIsAccepted : Type 0
   HonestIsAccepted =
-      (f : Functions T W) (b : Batch T) (t i : ℕ) → IsArity b.arity → IsLawful (heights (shape b)) → i < tallest (heights (shape b)) → t ≤ levels (shape b) → HasFullRows b →
+      (f : Functions T W) (b : Batch T) (t i : ℕ) → IsArity b.arity → IsLawful (heights (shape b)) → i < greatest (heights (shape b)) → t ≤ levels (shape b) → HasFullRows b →
       IsAccepted (terms f (shape b) t) (layer f b t) (honest f b t i)
 
   -- the honest pruned opening of each list of indices is answered Ok
@@ -141,7 +146,7 @@ module _ (T W : Type 0) where
   -- the opening of an index whose siblings are read out of the layers of a batch's tree is the honest one
   abbrev pub OwnOpeningIsHonest : Type 0
   OwnOpeningIsHonest =
-      (f : Functions T W) (b : Batch T) (t i : ℕ) → IsArity b.arity → IsLawful (heights (shape b)) → i < tallest (heights (shape b)) → t ≤ levels (shape b) →
+      (f : Functions T W) (b : Batch T) (t i : ℕ) → IsArity b.arity → IsLawful (heights (shape b)) → i < greatest (heights (shape b)) → t ≤ levels (shape b) →
       opening_in_layers b (layers f b) t i ≡ honest f b t i
 
   -- so is the pruned opening of some indices
@@ -224,7 +229,7 @@ module _ (T W : Type 0) where
       AgreeWhereShared c o u →
       (k : ℕ) → k < length (heights c.shape) → IsTrue (is_authenticated c.shape c.layer k) →
       let h = slice_index (heights c.shape) k in
-      row_at_index c.shape h o.index ≡ row_at_index c.shape h u.index → opened_row o k ≡ opened_row u k
+      halved_index (greatest (heights c.shape)) h o.index ≡ halved_index (greatest (heights c.shape)) h u.index → opened_row o k ≡ opened_row u k
 
   -- two accepted openings of one index agree wherever they share a place exactly if their siblings do, and their rows of each authenticated matrix
   abbrev pub OneIndexIsBound : Type 0

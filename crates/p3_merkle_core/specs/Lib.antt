@@ -4,17 +4,12 @@ pub mod Gate
 pub mod Nodes
 pub mod Openings
 pub mod Checks
-pub mod Groups
 pub mod Pruning
 pub mod Refusals
-pub mod Rungs
-pub mod Steps
-pub mod Levels
-pub mod Agreement
-pub mod Children
 pub mod Presented
 pub mod Extraction
 pub mod Views
+pub mod Commitments
 pub mod Laws
 pub mod Examples
 pub mod ShapeExamples
@@ -22,3 +17,4 @@ pub mod NodeExamples
 pub mod OpeningExamples
 pub mod PruningExamples
 pub mod PrunedCallExamples
+pub mod Inner

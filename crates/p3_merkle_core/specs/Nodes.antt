@@ -45,13 +45,13 @@ at_layer b l = filter (λ m. exponent m.height == layer_exponent (shape b) l) b.
 abbrev pub joined_rows : {T : Type 0} → List (Matrix T) → ℕ → List T
 joined_rows ms j = flat_map (λ m. m.row j) ms
 
--- some digests, followed by default digests up to n
-abbrev pub padded_group : {T W : Type 0} → Functions T W → ℕ → List (List W) → List (List W)
-padded_group f n ds = ds ++ replicate (n - length ds) f.default_digest
+-- some elements, followed by default elements up to n
+abbrev pub padded : {X : Type 0} → ℕ → X → List X → List X
+padded n default_element xs = xs ++ replicate (n - length xs) default_element
 
--- their compression
+-- the compression of some digests, padded by default digests
 abbrev pub compress : {T W : Type 0} → Functions T W → ℕ → List (List W) → List W
-compress f n ds = f.compression (padded_group f n ds)
+compress f n ds = f.compression (padded n f.default_digest ds)
 
 -- the digest of the rows j of the matrices, or the default digest past their end
 abbrev pub row_digest : {T W : Type 0} → Functions T W → List (Matrix T) → ℕ → List W
@@ -59,7 +59,7 @@ row_digest f ms j = if list_all (λ m. nat_lt j m.height) ms then f.hash (joined
 
 -- the digest of a node's children beside that of rows, followed by default digests: what is compressed where a node has rows
 abbrev pub pair : {T W : Type 0} → Functions T W → ℕ → List W → List W → List (List W)
-pair f n c r = padded_group f n (c ∷ r ∷ [])
+pair f n c r = padded n f.default_digest (c ∷ r ∷ [])
 
 -- the digest c of a node's children, compressed once more with the digest r of rows if the node has rows
 abbrev pub with_rows : {T W : Type 0} → Functions T W → ℕ → Bool → List W → List W → List W

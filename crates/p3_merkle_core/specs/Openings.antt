@@ -1,7 +1,8 @@
 -- Openings of one index: the rows and the siblings that a tree's nodes give.
 use Rattle.std.specs.Prelude.{ℕ, suc, ◌+◌, ◌*◌, List, [], map, flat_map, remove, slice_index_or}
 use Rattle.std.specs.List.{range_with_len}
-use Rattle.p3_merkle_core.specs.Geometry.{Shape, step, ancestor, position_in_group, row_at_index}
+use Rattle.p3_merkle_core.specs.Geometry.{Shape, step, ancestor, position_in_group, halved_index, heights}
+use Rattle.p3_support.specs.Batches.{greatest, rows_in}
 use Rattle.p3_merkle_core.specs.Nodes.{Functions, Batch, shape, node}
 
 -- an opening: the index of a leaf, a row of each matrix, and the siblings on the leaf's path
@@ -36,7 +37,7 @@ node_in x layers l j = slice_index_or (slice_index_or layers l []) j x
 
 -- the row of each matrix that belongs to leaf i
 abbrev pub honest_rows : {T : Type 0} → Batch T → ℕ → List (List T)
-honest_rows b i = map (λ m. m.row (row_at_index (shape b) m.height i)) b.matrices
+honest_rows b i = rows_in (λ m. m.height) (λ m. m.row) halved_index (greatest (heights (shape b))) b.matrices i
 
 -- the opening of leaf i whose siblings are the nodes that the layers of a tree have, up to layer t
 abbrev pub opening_in_layers : {T W : Type 0} → Batch T → List (List (List W)) → ℕ → ℕ → Opening T W

@@ -1,7 +1,8 @@
 -- Pruned openings of many indices: what is covered, what is sent, what suffices, what is restored.
 use Rattle.std.specs.Prelude.{◌≡◌, ℕ, zero, suc, ◌+◌, ◌*◌, ◌/◌, ◌<◌, ◌==◌, ◌&&◌, ◌⊎◌, Bool, false, not, if◌then◌else◌, IsTrue, List, [], map, length, filter, flat_map, zip, find, unwrap_or, option_map, slice_index, slice_index_or, slice_get, Some, ◌≤◌, All, ◌-◌, nat_le}
 use Rattle.std.specs.List.{list_any, range_with_len}
-use Rattle.p3_merkle_core.specs.Geometry.{Shape, IsArity, IsLawful, tallest, levels, step, raw_len, layer_len, ancestor, heights, widths, has_rows}
+use Rattle.p3_merkle_core.specs.Geometry.{Shape, IsArity, IsLawful, levels, step, raw_len, layer_len, ancestor, heights, widths, has_rows}
+use Rattle.p3_support.specs.Batches.{greatest}
 use Rattle.p3_merkle_core.specs.Nodes.{Functions, Batch, shape, node, compress, with_rows}
 use Rattle.p3_merkle_core.specs.Openings.{Opening, honest_rows, node_in, opening_of, siblings_by}
 use Rattle.p3_merkle_core.specs.Checks.{IsAccepted, Terms, layer_rows, layer_words}
@@ -37,7 +38,7 @@ pruned_len s indices t = length (boundary s indices t)
 -- a tree can be asked for these queries under layer t: its arity is one, the queries are below its tallest height, and it has the layer
 pub record CanQuery (s : Shape) (queries : List ℕ) (t : ℕ) : Type 0 where
   pub well_shaped : IsArity s.arity
-  pub below : All (λ q. q < tallest (heights s)) queries
+  pub below : All (λ q. q < greatest (heights s)) queries
   pub in_tree : t ≤ levels s
 
 -- ---- what suffices
@@ -148,7 +149,7 @@ pub record IsAgreed {T W : Type 0} (s : Shape) (t : ℕ) (p : PrunedOpening T W)
 -- a pruned opening restores: lawful heights, queries below the greatest height, a digest for each boundary node, and rows of their widths that agree
 pub record IsRestorable {T W : Type 0} (s : Shape) (t : ℕ) (p : PrunedOpening T W) : Type 0 where
   pub lawful : IsLawful (heights s)
-  pub below : All (λ i. i < tallest (heights s)) p.indices
+  pub below : All (λ i. i < greatest (heights s)) p.indices
   pub count : length p.digests ≡ length (boundary s p.indices t)
   pub rows_fit : All (λ rows. map length rows ≡ widths s) p.rows
   pub agreed : IsAgreed s t p

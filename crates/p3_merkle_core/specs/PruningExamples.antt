@@ -1,10 +1,11 @@
 -- Pruned openings, their refusals and collisions, worked out at the fold functions and digests of one word.
 use Rattle.std.specs.Prelude.{◌≡◌, ℕ, [], ◌∷◌, map, length, refl, Some, None, Ok, nat_eq}
 use Rattle.p3_support.specs.Fold.{fold_hash, fold_compress}
+use Rattle.p3_support.specs.Lists.{is_among}
 use Rattle.p3_merkle_core.specs.Geometry.{exponent, layer_exponent, raw_len, leaves_under}
 use Rattle.p3_merkle_core.specs.Nodes.{node}
 use Rattle.p3_merkle_core.specs.Pruning.{boundary, covered_at, honest_query, restored_node, restored_path}
-use Rattle.p3_merkle_core.specs.Children.{beside, children_under, is_among, path_out_of}
+use Rattle.p3_merkle_core.specs.Inner.Children.{beside, children_under, path_out_of}
 use Rattle.p3_merkle_core.specs.Refusals.{pruned_refusal}
 use Rattle.p3_merkle_core.specs.Checks.{digests_at, terms, words_at, siblings_below, path_digest}
 use Rattle.p3_merkle_core.specs.Examples.{batch, column, narrow, pruned, fold_example, extracts_pruned}

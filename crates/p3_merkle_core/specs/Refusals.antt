@@ -3,7 +3,8 @@ use Rattle.std.specs.Prelude.{◌≡◌, ◌⊎◌, ℕ, suc, false, slice_get, 
 use Rattle.std.specs.List.{list_all, list_any, range_with_len, enumerate_from}
 use Rattle.std.specs.Option.{option_or}
 use Rattle.std.specs.Cmp.Lexicographic.{pointwise}
-use Rattle.p3_merkle_core.specs.Geometry.{Shape, exponent, tallest, layer_exponent, ancestor, least, heights, widths, widths_of}
+use Rattle.p3_merkle_core.specs.Geometry.{Shape, exponent, layer_exponent, ancestor, least, heights, widths}
+use Rattle.p3_support.specs.Batches.{greatest, widths_of}
 use Rattle.p3_support.specs.declared.matrix.Dimensions.{Dimensions}
 use Rattle.p3_merkle_core.specs.Gate.{gate_refusal}
 use Rattle.p3_merkle_core.specs.Openings.{Opening}
@@ -12,6 +13,7 @@ use Rattle.p3_merkle_core.specs.Pruning.{PrunedOpening, boundary, first_rows, re
 use Rattle.p3_merkle_core.specs.declared.error.PrunedProofError.TheVariants.{SiblingCountMismatch, InconsistentDuplicateOpenings, InconsistentGroupOpening}
 use Rattle.p3_merkle_core.specs.declared.error.MerkleTreeError.{MerkleTreeError}
 use Rattle.p3_merkle_core.specs.declared.error.MerkleTreeError.TheVariants.{WrongBatchSize, WrongWidth, WrongHeight, CapMismatch, IndexOutOfBounds, MalformedPrunedProof, OutOfMemory}
+use Rattle.p3_support.specs.Lists.{is_among}
 
 -- the test decides equality
 abbrev pub IsEquality : {T : Type 0} → (T → T → Bool) → Type 0
@@ -35,10 +37,6 @@ abbrev pub ok_unless : {V E : Type 0} → Option E → V → Result V E
 ok_unless None v = Ok v
 ok_unless (Some e) v = Err e
 
--- Ok where there is no refusal
-abbrev pub verdict : {E : Type 0} → Option E → Result (Unit {0}) E
-verdict refusal = ok_unless refusal tt
-
 -- ---- what a call returns
 
 -- Ok only where nothing is refused; an error is the refusal, or tells that there is no memory
@@ -47,13 +45,9 @@ AnswersUnlessMemory result refusal = MatchResult result (λ v. refusal ≡ None)
 
 -- ---- slots
 
--- whether an index is queried
-abbrev pub is_queried : List ℕ → ℕ → Bool
-is_queried indices i = list_any (λ q. q == i) indices
-
 -- the distinct indices below m, ascending
 abbrev pub slots_below : ℕ → List ℕ → List ℕ
-slots_below m indices = filter (is_queried indices) (range_with_len 0 m)
+slots_below m indices = filter (is_among indices) (range_with_len 0 m)
 
 -- the place of an index among them
 abbrev pub slot_of : List ℕ → ℕ → ℕ
@@ -65,7 +59,7 @@ rows_of p i = first_rows (λ q. q == i) p
 
 -- the lowest queried index under node j of layer l
 abbrev pub lead : Shape → List ℕ → ℕ → ℕ → ℕ
-lead s indices l j = least (λ i. is_queried indices i && (ancestor s l i == j)) (tallest (heights s))
+lead s indices l j = least (λ i. is_among indices i && (ancestor s l i == j)) (greatest (heights s))
 
 -- the places in input order of the matrices of layer l
 abbrev pub matrices_at : Shape → ℕ → List ℕ
@@ -99,7 +93,7 @@ idle_refusal queries digests = if queries == 0 then digest_count_refusal 0 diges
 
 -- indices of which the highest is not below the tallest height m
 abbrev pub queries_refusal : ℕ → List ℕ → Option MerkleTreeError
-queries_refusal m indices = unless (nat_lt (tallest indices) m) (IndexOutOfBounds m (tallest indices))
+queries_refusal m indices = unless (nat_lt (greatest indices) m) (IndexOutOfBounds m (greatest indices))
 
 -- a query whose row set is not that of the first query of its index
 abbrev pub repeat_refusal : {T W : Type 0} → (T → T → Bool) → PrunedOpening T W → Option MerkleTreeError
@@ -118,15 +112,15 @@ slot_refusal row_eq s p l i = first_of (row_refusal row_eq s p l i) (matrices_at
 
 -- the same of layer l, by ascending indices
 abbrev pub layer_refusal : {T W : Type 0} → (T → T → Bool) → Shape → PrunedOpening T W → ℕ → Option MerkleTreeError
-layer_refusal row_eq s p l = first_of (slot_refusal row_eq s p l) (slots_below (tallest (heights s)) p.indices)
+layer_refusal row_eq s p l = first_of (slot_refusal row_eq s p l) (slots_below (greatest (heights s)) p.indices)
 
 -- the same of the layers up to t, from the leaves on
 abbrev pub group_refusal : {T W : Type 0} → (T → T → Bool) → Shape → ℕ → PrunedOpening T W → Option MerkleTreeError
 group_refusal row_eq s t p = first_of (layer_refusal row_eq s p) (range_with_len 0 (suc t))
 
 -- whether the digest is the cap's entry j
-abbrev pub is_entry : {W : Type 0} → (W → W → Bool) → List (List W) → ℕ → List W → Bool
-is_entry digest_eq cap j digest = unwrap_or (option_map (λ entry. pointwise digest_eq entry digest) (slice_get cap j)) false
+abbrev pub is_entry : {X : Type 0} → (X → X → Bool) → List X → ℕ → X → Bool
+is_entry eq cap j digest = unwrap_or (option_map (λ entry. eq entry digest) (slice_get cap j)) false
 
 -- ---- single openings
 
@@ -142,25 +136,25 @@ form_refusal s t index rows siblings =
     ∷ gate_refusal (heights s)
     ∷ sibling_count_refusal (siblings_below s t) siblings
     ∷ row_width_refusal (widths s) rows
-    ∷ unless (nat_lt index (tallest (heights s))) (IndexOutOfBounds (tallest (heights s)) index)
+    ∷ unless (nat_lt index (greatest (heights s))) (IndexOutOfBounds (greatest (heights s)) index)
     ∷ [])
 
 -- why an opening is refused under a cap: its form, else a cap whose entry is not the digest that the check reaches
 abbrev pub refusal_under : {T W : Type 0} → (W → W → Bool) → Terms T W → List (List W) → Opening T W → Option MerkleTreeError
 refusal_under digest_eq c cap o =
     option_or (form_refusal c.shape c.layer o.index o.rows (length o.siblings))
-    (unless (is_entry digest_eq cap (ancestor c.shape c.layer o.index) (path_digest c.functions c.shape o c.layer)) CapMismatch)
+    (unless (is_entry (pointwise digest_eq) cap (ancestor c.shape c.layer o.index) (path_digest c.functions c.shape o c.layer)) CapMismatch)
 
 -- the answer to an opening under a cap
 abbrev pub answer_under : {T W : Type 0} → (W → W → Bool) → Terms T W → List (List W) → Opening T W → Result (Unit {0}) MerkleTreeError
-answer_under digest_eq c cap o = verdict (refusal_under digest_eq c cap o)
+answer_under digest_eq c cap o = ok_unless (refusal_under digest_eq c cap o) tt
 
 -- why a replay of an index is refused, where a proof has so many siblings: the first of these reasons
 abbrev pub replay_refusal : Shape → ℕ → ℕ → ℕ → Option MerkleTreeError
 replay_refusal s t index siblings =
     first_some (
     gate_refusal (heights s)
-    ∷ unless (nat_lt index (tallest (heights s))) (IndexOutOfBounds (tallest (heights s)) index)
+    ∷ unless (nat_lt index (greatest (heights s))) (IndexOutOfBounds (greatest (heights s)) index)
     ∷ sibling_count_refusal (siblings_below s t) siblings
     ∷ [])
 
@@ -173,21 +167,21 @@ pruned_refusal row_eq s t p =
     gate_refusal (heights s)
     ∷ size_refusal (length p.indices) (length p.rows)
     ∷ idle_refusal (length p.indices) (length p.digests)
-    ∷ queries_refusal (tallest (heights s)) p.indices
+    ∷ queries_refusal (greatest (heights s)) p.indices
     ∷ repeat_refusal row_eq p
     ∷ digest_count_refusal (length (boundary s p.indices t)) (length p.digests)
-    ∷ first_of (λ i. width_refusal s.dimensions (rows_of p i)) (slots_below (tallest (heights s)) p.indices)
+    ∷ first_of (λ i. width_refusal s.dimensions (rows_of p i)) (slots_below (greatest (heights s)) p.indices)
     ∷ group_refusal row_eq s t p
     ∷ [])
 
 -- the answer to a pruned opening, whatever the cap
 abbrev pub pruned_answer : {T W : Type 0} → (T → T → Bool) → Shape → ℕ → PrunedOpening T W → Result (Unit {0}) MerkleTreeError
-pruned_answer row_eq s t p = verdict (pruned_refusal row_eq s t p)
+pruned_answer row_eq s t p = ok_unless (pruned_refusal row_eq s t p) tt
 
 -- a covered node of the cap's layer whose value is not the cap's entry
 abbrev pub cap_refusal : {T W : Type 0} → (W → W → Bool) → Terms T W → List (List W) → PrunedOpening T W → Option MerkleTreeError
 cap_refusal digest_eq c cap p =
-    unless (list_all (λ i. let j = ancestor c.shape c.layer i in is_entry digest_eq cap j (restored_node c p c.layer j)) p.indices) CapMismatch
+    unless (list_all (λ i. let j = ancestor c.shape c.layer i in is_entry (pointwise digest_eq) cap j (restored_node c p c.layer j)) p.indices) CapMismatch
 
 -- why a pruned opening is refused under a cap
 abbrev pub pruned_refusal_under : {T W : Type 0} → (T → T → Bool) → (W → W → Bool) → Terms T W → List (List W) → PrunedOpening T W → Option MerkleTreeError
@@ -195,8 +189,8 @@ pruned_refusal_under row_eq digest_eq c cap p = option_or (pruned_refusal row_eq
 
 -- the answer to a pruned opening under a cap
 abbrev pub pruned_answer_under : {T W : Type 0} → (T → T → Bool) → (W → W → Bool) → Terms T W → List (List W) → PrunedOpening T W → Result (Unit {0}) MerkleTreeError
-pruned_answer_under row_eq digest_eq c cap p = verdict (pruned_refusal_under row_eq digest_eq c cap p)
+pruned_answer_under row_eq digest_eq c cap p = ok_unless (pruned_refusal_under row_eq digest_eq c cap p) tt
 
 -- why the number of digests of a pruned proof is refused: the heights, else the highest index, if it is not below the greatest height
 abbrev pub pruned_len_refusal : Shape → List ℕ → Option MerkleTreeError
-pruned_len_refusal s indices = option_or (gate_refusal (heights s)) (queries_refusal (tallest (heights s)) indices)
+pruned_len_refusal s indices = option_or (gate_refusal (heights s)) (queries_refusal (greatest (heights s)) indices)

@@ -1,6 +1,7 @@
 -- Shapes and gates, worked out.
 use Rattle.std.specs.Prelude.{◌≡◌, ◌+◌, ◌^◌, [], ◌∷◌, map, refl, Some, None}
-use Rattle.p3_merkle_core.specs.Geometry.{exponent, layer_exponent, arity_schedule, padded_len, raw_len, layer_len, row_at_index, leaves_under, position_in_group}
+use Rattle.p3_merkle_core.specs.Geometry.{exponent, layer_exponent, arity_schedule, padded_len, raw_len, layer_len, halved_index, heights, leaves_under, position_in_group}
+use Rattle.p3_support.specs.Batches.{greatest}
 use Rattle.p3_merkle_core.specs.Caps.{cap_layer}
 use Rattle.p3_merkle_core.specs.Gate.{gate_refusal}
 use Rattle.p3_merkle_core.specs.Examples.{narrow}
@@ -126,7 +127,7 @@ cap_layers_of_17_to_3_at_4 : map (cap_layer (narrow 4 (17 ∷ 9 ∷ 5 ∷ 3 ∷ 
 unfolding exponent layer_exponent
 cap_layers_of_17_to_3_at_4 = refl
 
-rows_of_index_6 : map (λ h. row_at_index (narrow 2 (7 ∷ 4 ∷ 2 ∷ 1 ∷ [])) h 6) (7 ∷ 4 ∷ 2 ∷ 1 ∷ []) ≡ 6 ∷ 3 ∷ 1 ∷ 0 ∷ []
+rows_of_index_6 : map (λ h. halved_index (greatest (heights (narrow 2 (7 ∷ 4 ∷ 2 ∷ 1 ∷ [])))) h 6) (7 ∷ 4 ∷ 2 ∷ 1 ∷ []) ≡ 6 ∷ 3 ∷ 1 ∷ 0 ∷ []
 unfolding exponent
 rows_of_index_6 = refl
 

@@ -5,6 +5,8 @@ use Rattle.std.specs.declared.vec.Vec.{Vec}
 use Rattle.p3_support.specs.Shown.{row_lists, row_sets}
 use Rattle.p3_support.specs.declared.opening.BatchOpening.{BatchOpening}
 use Rattle.p3_support.specs.declared.opening.BatchOpeningRef.{BatchOpeningRef}
+use Rattle.p3_merkle_core.specs.Nodes.{Batch, Matrix, dimensions_of}
+use Rattle.p3_support.specs.Batches.{heights_of}
 use Rattle.p3_merkle_core.specs.Openings.{Opening, opening_of}
 use Rattle.p3_merkle_core.specs.Checks.{Input, digests_at, words_at}
 use Rattle.p3_merkle_core.specs.Pruning.{PrunedOpening, pruned_of}
@@ -14,6 +16,25 @@ use Rattle.p3_merkle_core.specs.declared.error.MerkleTreeError.{MerkleTreeError}
 use Rattle.p3_merkle_core.specs.declared.pruning.AuthPath.{AuthPath}
 use Rattle.p3_merkle_core.specs.declared.pruning.PrunedProof.{PrunedProof}
 use Rattle.p3_merkle_core.specs.declared.pruning.PrunedRows.{PrunedRows}
+
+-- ---- matrices
+
+module _ {T M : Type 0} (height width : M → ℕ) (row : M → ℕ → List T) where
+  -- a matrix, by what its type says of it
+  abbrev pub matrix_of : M → Matrix T
+  matrix_of m = record { height = height m; width = width m; row = row m }
+
+  -- matrices in input order, under an arity
+  abbrev pub batch_of : ℕ → List M → Batch T
+  batch_of arity ms = record { arity = arity; matrices = map matrix_of ms }
+
+  -- the heights of some matrices
+  abbrev pub heights_in : List M → List ℕ
+  heights_in ms = heights_of (dimensions_of (map matrix_of ms))
+
+  -- a clone of a matrix has its height, its width and its rows
+  abbrev pub ClonesShowTheSame : (M → M → Type 0) → Type 0
+  ClonesShowTheSame is_clone = (matrix clone : M) → is_clone matrix clone → matrix_of clone ≡ matrix_of matrix
 
 -- ---- openings
 

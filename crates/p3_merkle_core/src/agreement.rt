@@ -2,12 +2,14 @@
 //! one row set, and queries under one node the same rows of the matrices of its layer. Nothing here hashes.
 
 ghost use Rattle.std.specs.Prelude.{◌≡◌, ℕ, ◌-◌, ◌/◌, ◌<◌, ◌≤◌, ◌⊎◌, Some, None, List, [], All, length, map, slice_index, slice_index_or, IfOk, IsTrue, MatchResult};
-ghost use Rattle.p3_merkle_core.specs.Agreement.{distinct, early_refusal, first_query, late_refusal, layers_refusal, nodes_refusal, opened_of, opened_with, rows_refusal, slot_rows, HasSlots, IsAscending, IsSlot};
+ghost use Rattle.p3_merkle_core.specs.Inner.Agreement.{distinct, early_refusal, first_query, late_refusal, layers_refusal, nodes_refusal, opened_of, opened_with, rows_refusal, slot_rows, HasSlots, IsAscending, IsSlot};
+ghost use Rattle.p3_support.specs.Lists.{is_among};
+ghost use Rattle.p3_support.specs.Batches.{heights_of, greatest};
 ghost use Rattle.p3_support.specs.Shown.{row_lists, row_sets};
-ghost use Rattle.p3_merkle_core.specs.Geometry.{heights_of, levels, max_height, shape_of, tallest, IsArity, step};
+ghost use Rattle.p3_merkle_core.specs.Geometry.{levels, height_limit, shape_of, IsArity, step};
 ghost use Rattle.p3_merkle_core.specs.declared.error.MerkleTreeError.TheVariants.{OutOfMemory};
 ghost use Rattle.p3_merkle_core.specs.Pruning.{pruned_len};
-ghost use Rattle.p3_merkle_core.specs.Refusals.{digest_count_refusal, first_of, idle_refusal, is_queried, pruned_refusal, repeat_refusal, width_refusal};
+ghost use Rattle.p3_merkle_core.specs.Refusals.{digest_count_refusal, first_of, idle_refusal, pruned_refusal, repeat_refusal, width_refusal, AnswersUnlessMemory};
 
 use crate::error::{MerkleTreeError, PrunedProofError};
 use crate::geometry::{
@@ -59,7 +61,7 @@ fn first_queries(
 
 /// The slot of an index that is queried: its place among the distinct indices, ascending.
 fn slot_of_index(leaves: &[usize], index: usize) -> usize
-    ensures { (indices : List ℕ) → leaves.now ≡ distinct indices → IsTrue (is_queried indices index) → IsSlot indices index result }
+    ensures { (indices : List ℕ) → leaves.now ≡ distinct indices → IsTrue (is_among indices index) → IsSlot indices index result }
 {
     match leaves.binary_search(&index) {
         Ok(slot) => slot,
@@ -227,14 +229,14 @@ fn check_groups<T: Eq>(
     rows: &[Vec<Vec<T>>],
 ) -> Result<(), MerkleTreeError>
     requires arity { IsArity arity }
-    requires low { tallest (heights_of dimensions.now) ≤ max_height }
+    requires low { greatest (heights_of dimensions.now) ≤ height_limit }
     requires layer { t ≤ levels (shape_of arity dimensions.now) }
     requires pairs { length slots.now.leaves.items ≡ length slots.now.firsts.items }
     requires ascending { IsAscending slots.now.leaves.items }
     requires queries { All (λ query. query < length rows.now) slots.now.firsts.items }
     requires full { (k : ℕ) → k < length slots.now.firsts.items → length (slot_rows slots.now.firsts.items (row_sets rows.now) k) ≡ length dimensions.now }
     ensures { let refusal = layers_refusal T.eq (shape_of arity dimensions.now) t slots.now.leaves.items slots.now.firsts.items (row_sets rows.now) in
-        MatchResult result (λ ok. refusal ≡ None) (λ e. (e ≡ OutOfMemory) ⊎ (refusal ≡ Some e)) }
+        AnswersUnlessMemory result refusal }
 {
     let mut nodes = Vec::from_slice(alloc, &slots.leaves)?;
     let mut x = exponent_of(tallest_of(dimensions));
@@ -298,9 +300,9 @@ fn pruned_len_of_slots(
     slots: &Slots,
 ) -> Result<usize, AllocError>
     requires arity { IsArity arity }
-    requires low { tallest (heights_of dimensions.now) ≤ max_height }
+    requires low { greatest (heights_of dimensions.now) ≤ height_limit }
     requires layer { t ≤ levels (shape_of arity dimensions.now) }
-    requires below { tallest indices.now < tallest (heights_of dimensions.now) }
+    requires below { greatest indices.now < greatest (heights_of dimensions.now) }
     requires slots { HasSlots slots.now indices.now }
     ensures { IfOk result (λ count. count ≡ pruned_len (shape_of arity dimensions.now) indices.now t) }
 {
@@ -322,7 +324,7 @@ fn check_queries(
 ) -> Result<(), MerkleTreeError>
     ensures answer { let refusal = early_refusal (heights_of dimensions.now) indices.now num_row_sets num_digests in
         MatchResult result (λ ok. refusal ≡ None) (λ e. refusal ≡ Some e) }
-    ensures low { IfOk result (λ ok. tallest (heights_of dimensions.now) ≤ max_height) }
+    ensures low { IfOk result (λ ok. greatest (heights_of dimensions.now) ≤ height_limit) }
 {
     check_heights(dimensions)?;
     if num_row_sets != indices.len() {
@@ -369,13 +371,13 @@ fn check_slots<T: Eq>(
     rows: &[Vec<Vec<T>>],
 ) -> Result<(), MerkleTreeError>
     requires arity { IsArity arity }
-    requires low { tallest (heights_of dimensions.now) ≤ max_height }
+    requires low { greatest (heights_of dimensions.now) ≤ height_limit }
     requires layer { t ≤ levels (shape_of arity dimensions.now) }
     requires pairs { length slots.now.leaves.items ≡ length slots.now.firsts.items }
     requires ascending { IsAscending slots.now.leaves.items }
     requires queries { All (λ query. query < length rows.now) slots.now.firsts.items }
     ensures { let refusal = late_refusal T.eq (shape_of arity dimensions.now) t slots.now.leaves.items slots.now.firsts.items (row_sets rows.now) in
-        MatchResult result (λ ok. refusal ≡ None) (λ e. (e ≡ OutOfMemory) ⊎ (refusal ≡ Some e)) }
+        AnswersUnlessMemory result refusal }
 {
     check_first_widths(dimensions, rows, &slots.firsts)?;
     check_groups(alloc, dimensions, arity, t, slots, rows)

@@ -5,11 +5,12 @@
 
 ghost use Rattle.std.specs.Prelude.{◌≡◌, ◌+◌, ◌-◌, ◌*◌, ◌^◌, ◌<◌, ◌≤◌, ◌==◌, ◌↔◌, Some, None, IfOk, IsOk, MatchResult, List, map, if◌then◌else◌, nat_lt, ◌&&◌};
 ghost use Rattle.std.specs.List.{list_any};
-ghost use Rattle.p3_merkle_core.specs.Geometry.{bits_reduced, expected_height, exponent, grouped_len_of, heights_of, is_bridge, layer_exponent, max_height, padded_len, positions_below, schedule_below, shape_of, shortest, tallest, levels, IsArity, IsLawful, Shape};
+ghost use Rattle.p3_merkle_core.specs.Geometry.{bits_reduced, expected_height, exponent, grouped_len_of, is_bridge, layer_exponent, height_limit, padded_len, positions_below, schedule_below, shape_of, shortest, levels, IsArity, IsLawful, Shape};
+ghost use Rattle.p3_support.specs.Batches.{heights_of, greatest};
 ghost use Rattle.p3_merkle_core.specs.Gate.{first_off_ladder, first_too_large, gate_refusal};
 ghost use Rattle.p3_merkle_core.specs.Checks.{siblings_below};
 ghost use Rattle.p3_merkle_core.specs.Refusals.{width_refusal};
-ghost use Rattle.p3_merkle_core.specs.Rungs.{next_below, IsRung};
+ghost use Rattle.p3_merkle_core.specs.Inner.Rungs.{next_below, IsRung};
 
 use crate::error::MerkleTreeError;
 use p3_support::matrix::Dimensions;
@@ -37,7 +38,7 @@ pub fn exponent_of(height: usize) -> usize
 
 /// The greatest height of the matrices, in rows, and 0 of none.
 pub fn tallest_of(dimensions: &[Dimensions]) -> usize
-    ensures { result ≡ tallest (heights_of dimensions.now) }
+    ensures { result ≡ greatest (heights_of dimensions.now) }
 {
     let mut tallest = 0;
     for matrix in dimensions {
@@ -47,7 +48,7 @@ pub fn tallest_of(dimensions: &[Dimensions]) -> usize
 }
 
 /// The least height of the matrices, in rows, and 0 of none.
-pub fn shortest_of(dimensions: &[Dimensions]) -> usize
+pub(crate) fn shortest_of(dimensions: &[Dimensions]) -> usize
     ensures { result ≡ shortest (heights_of dimensions.now) }
 {
     let Some((first, others)) = dimensions.split_first() else {
@@ -70,7 +71,7 @@ pub fn bits_reduced_of(tallest: usize, height: usize) -> usize
 /// The one lawful height with the exponent of `height`: the tallest height, at most [`MAX_HEIGHT`], halved and rounded
 /// up so many times; 1 where the tallest height is 0.
 pub fn expected_height_of(tallest: usize, height: usize) -> usize
-    requires { tallest ≤ max_height }
+    requires { tallest ≤ height_limit }
     ensures { result ≡ expected_height tallest height }
 {
     (tallest.saturating_sub(1) >> bits_reduced_of(tallest, height)) + 1
@@ -88,7 +89,7 @@ fn first_too_large_of(dimensions: &[Dimensions]) -> Option<usize>
 
 /// The first height that is not the expected one.
 fn first_off_ladder_of(dimensions: &[Dimensions], tallest: usize) -> Option<usize>
-    requires { tallest ≤ max_height }
+    requires { tallest ≤ height_limit }
     ensures { result ≡ first_off_ladder tallest (heights_of dimensions.now) }
 {
     dimensions
@@ -177,7 +178,7 @@ pub fn padded_len(len: usize, arity: usize) -> usize
 /// How many slots of a layer of `len` nodes and the exponent `x` are grouped into nodes of the layer above: `2^x` where
 /// a bridge step starts from fewer nodes than the arity, since the slots that pad such a layer have no pair above; else
 /// all its slots. The arity is above 0, `x` below 64, and the layer has fewer than 2^64 slots.
-pub fn grouped_len(dimensions: &[Dimensions], arity: usize, x: usize, len: usize) -> usize
+pub(crate) fn grouped_len(dimensions: &[Dimensions], arity: usize, x: usize, len: usize) -> usize
     requires positive { 0 < arity }
     requires shift { x < 64 }
     requires fits { padded_len len arity < 2 ^ 64 }

@@ -1,7 +1,7 @@
 //! Groups of digests, as a compression takes them.
 
 ghost use Rattle.std.specs.Prelude.{◌≡◌, ◌+◌, ◌<◌, ◌≤◌, ◌++◌, length, drop, insert};
-ghost use Rattle.p3_merkle_core.specs.Groups.{group_around};
+ghost use Rattle.p3_merkle_core.specs.Nodes.{padded};
 
 /// Writes a value at its place among others into the first slots.
 pub fn place<X: Copy>(slots: &mut [X], position: usize, value: X, others: &[X])
@@ -27,7 +27,7 @@ pub fn group_with<W: Copy, const N: usize, const D: usize>(
 ) -> [[W; D]; N]
     requires placed { position ≤ length siblings.now }
     requires room { length siblings.now < N }
-    ensures { result ≡ group_around N default_digest siblings.now position digest }
+    ensures { result ≡ padded N default_digest (insert siblings.now position digest) }
 {
     let mut group = [default_digest; N];
     place(&mut group, position, digest, siblings);

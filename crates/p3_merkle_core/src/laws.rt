@@ -5,7 +5,7 @@
 ghost use Rattle.std.specs.Prelude.{◌≡◌, ◌↔◌, IsTrue};
 ghost use Rattle.p3_merkle_core.specs.Refusals.{IsEquality};
 ghost use Rattle.p3_merkle_core.specs.Views.{IsSamePair, shown_path};
-ghost use Rattle.p3_merkle_core.specs.Laws.{AnswerIsExtraction, AnsweredAsEachPath, BoundaryIsAlone, BoundaryIsLeast, BoundaryIsSmallest, BoundaryNodesAreApart, BoundaryNodesAreHeld, BoundarySuffices, CappedIsEachAccepted, FixedIsBelowRoot, HonestIsAccepted, HonestNodesAreRestored, HonestPathsAreRestored, HonestPathsInOrder, HonestQueryIsAccepted, HonestQueryIsCapped, InputsAreFull, LastDifferenceCollides, LastInputIsReached, LoweredLeavesNoneOut, MatricesHaveLayers, OkIsAccepted, OkIsCapped, OkIsEachAccepted, OkIsRestorable, OkOrCapMismatch, OneIndexIsBound, OwnOpeningIsHonest, OwnPrunedOpeningIsHonest, PrunedAnswerIsExtraction, RefusedUnderEachCap, RootIsAlone, RowsAreAncestors, RowsAreBound, RulesAgree, ScheduleStopsAtCap, UnrefusedIsLawful, WalkEnds};
+ghost use Rattle.p3_merkle_core.specs.Laws.{AnswerIsExtraction, AnsweredAsEachPath, BoundaryIsAlone, BoundaryIsLeast, BoundaryIsSmallest, BoundaryNodesAreApart, BoundaryNodesAreHeld, BoundarySuffices, CappedIsEachAccepted, FixedIsBelowRoot, HonestIsAccepted, HonestNodesAreRestored, HonestPathsAreRestored, HonestPathsInOrder, HonestQueryIsAccepted, HonestQueryIsCapped, InputsAreFull, LastDifferenceCollides, LastInputIsReached, LoweredLeavesNoneOut, MatricesHaveLayers, OkIsAccepted, OkIsCapped, OkIsEachAccepted, OkIsRestorable, OkOrCapMismatch, OneIndexIsBound, OwnOpeningIsHonest, OwnPrunedOpeningIsHonest, PrunedAnswerIsExtraction, RefusedUnderEachCap, RootIsAlone, RowsAreAncestors, RowsAreBound, RulesAgree, ScheduleStopsAtCap, TestedIsArity, UnrefusedIsLawful, WalkEnds};
 ghost use Rattle.p3_merkle_core.specs.Extraction.{extraction};
 
 use crate::collision::{Collision, InputPair, Place};
@@ -67,6 +67,11 @@ pub fn collisions<P: PackedValue, PW: PackedValue, const D: usize>(
 {
     input_pairs(a, b)
 }
+
+/// A number passes the test of arities exactly if it is an arity: a power of two from 2 to 2^62.
+pub fn arities()
+    ensures { TestedIsArity }
+{}
 
 /// The walk over the steps ends for each arity and each list of heights, each matrix has its layer, and the gate takes
 /// just the lawful heights.

@@ -1,8 +1,8 @@
 //! What is known of a layer before it is built: how many nodes and slots it has, and whose rows it takes in.
 
 ghost use Rattle.std.specs.Prelude.{◌≡◌, ◌≤◌};
-ghost use Rattle.p3_merkle_core.specs.Geometry.{max_height, shape_of};
-ghost use Rattle.p3_merkle_core.specs.Levels.{height_at, IsBelowTop, IsLevel};
+ghost use Rattle.p3_merkle_core.specs.Geometry.{height_limit, shape_of, height_at};
+ghost use Rattle.p3_merkle_core.specs.Inner.Levels.{IsBelowTop, IsLevel};
 
 use crate::geometry::{
     exponent_of, grouped_len, has_exponent, padded_len, select_arity_step, tallest_of,
@@ -30,7 +30,7 @@ pub struct Level {
 
 /// The one lawful height with the exponent `x`: the tallest height halved and rounded up.
 fn height_at_of(tallest: usize, x: usize) -> usize
-    requires { tallest ≤ max_height }
+    requires { tallest ≤ height_limit }
     ensures { result ≡ height_at tallest x }
 {
     (tallest.saturating_sub(1) >> exponent_of(tallest).saturating_sub(x)) + 1

@@ -2,11 +2,12 @@
 
 ghost use Rattle.std.specs.Prelude.{◌≡◌, ◌*◌, ◌/◌, ◌<◌, ◌≤◌, ◌++◌, Some, None, All, IfOk, MatchResult, length, map};
 ghost use Rattle.std.specs.List.Sorted.{IsStrictlyIncreasing};
-ghost use Rattle.p3_merkle_core.specs.Agreement.{distinct, IsAscending};
+ghost use Rattle.p3_merkle_core.specs.Inner.Agreement.{distinct, IsAscending};
+ghost use Rattle.p3_support.specs.Batches.{heights_of, greatest};
 ghost use Rattle.p3_merkle_core.specs.Pruning.{pruned_len};
 ghost use Rattle.p3_merkle_core.specs.Views.{shown_paths};
-ghost use Rattle.p3_merkle_core.specs.Children.{AreChildren, IsFamily, path_out_of, paths_out_of, siblings_out_of};
-ghost use Rattle.p3_merkle_core.specs.Geometry.{heights_of, levels, max_height, shape_of, tallest, IsArity};
+ghost use Rattle.p3_merkle_core.specs.Inner.Children.{AreChildren, IsFamily, path_out_of, paths_out_of, siblings_out_of};
+ghost use Rattle.p3_merkle_core.specs.Geometry.{levels, height_limit, shape_of, IsArity};
 ghost use Rattle.p3_merkle_core.specs.Refusals.{queries_refusal};
 
 use crate::error::MerkleTreeError;
@@ -84,7 +85,7 @@ pub fn check_indices(max_height: usize, indices: &[usize]) -> Result<(), MerkleT
 
 /// The highest index, and 0 of none.
 fn highest_of(indices: &[usize]) -> usize
-    ensures { result ≡ tallest indices.now }
+    ensures { result ≡ greatest indices.now }
 {
     let mut highest = 0;
     for index in indices {
@@ -136,9 +137,9 @@ pub fn pruned_len_of(
     indices: &[usize],
 ) -> Result<usize, AllocError>
     requires arity { IsArity arity }
-    requires low { tallest (heights_of dimensions.now) ≤ max_height }
+    requires low { greatest (heights_of dimensions.now) ≤ height_limit }
     requires layer { t ≤ levels (shape_of arity dimensions.now) }
-    requires below { All (λ q. q < tallest (heights_of dimensions.now)) indices.now }
+    requires below { All (λ q. q < greatest (heights_of dimensions.now)) indices.now }
     ensures { IfOk result (λ count. count ≡ pruned_len (shape_of arity dimensions.now) indices.now t) }
 {
     let leaves = covered_leaves(alloc, indices)?;
@@ -154,9 +155,9 @@ pub fn boundary_len_of(
     leaves: Vec<usize>,
 ) -> usize
     requires arity { IsArity arity }
-    requires low { tallest (heights_of dimensions.now) ≤ max_height }
+    requires low { greatest (heights_of dimensions.now) ≤ height_limit }
     requires layer { t ≤ levels (shape_of arity dimensions.now) }
-    requires below { All (λ q. q < tallest (heights_of dimensions.now)) leaves.items }
+    requires below { All (λ q. q < greatest (heights_of dimensions.now)) leaves.items }
     requires ascending { IsStrictlyIncreasing leaves.items }
     ensures { result ≡ pruned_len (shape_of arity dimensions.now) leaves.items t }
 {
@@ -214,7 +215,7 @@ pub fn children_of<X: Copy>(
 /// # Errors
 ///
 /// `AllocError` where there is no memory.
-pub fn path_out_of<X: Copy>(
+pub(crate) fn path_out_of<X: Copy>(
     alloc: Global,
     levels: &[KeptLevel<X>],
     index: usize,

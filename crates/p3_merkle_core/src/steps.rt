@@ -2,10 +2,11 @@
 
 ghost use Rattle.std.specs.Prelude.{◌≡◌, ℕ, suc, ◌+◌, ◌-◌, ◌<◌, ◌≤◌, ◌==◌, List, if◌then◌else◌, length, map, nat_lt, take, ◌&&◌};
 ghost use Rattle.std.specs.List.{list_any, range_with_len};
-ghost use Rattle.p3_merkle_core.specs.Geometry.{exponent, has_rows, heights_of, is_bridge, layer_exponent, levels, max_height, shape_of, step, tallest, IsArity};
+ghost use Rattle.p3_merkle_core.specs.Geometry.{exponent, has_rows, is_bridge, layer_exponent, levels, height_limit, shape_of, step, IsArity};
+ghost use Rattle.p3_support.specs.Batches.{heights_of, greatest};
 ghost use Rattle.p3_merkle_core.specs.Checks.{siblings_below};
-ghost use Rattle.p3_merkle_core.specs.Rungs.{next_below, IsRung};
-ghost use Rattle.p3_merkle_core.specs.Steps.{level_step};
+ghost use Rattle.p3_merkle_core.specs.Inner.Rungs.{next_below, IsRung};
+ghost use Rattle.p3_merkle_core.specs.Inner.Steps.{level_step};
 
 use crate::geometry::{exponent_of, has_exponent, step_from};
 use p3_support::matrix::Dimensions;
@@ -23,7 +24,7 @@ pub struct Rung {
 }
 
 /// This exponent with the next one below it. Each matrix is looked at once, and none for 0.
-pub fn rung_at(dimensions: &[Dimensions], x: usize) -> Rung
+pub(crate) fn rung_at(dimensions: &[Dimensions], x: usize) -> Rung
     ensures exponent { result.exponent ≡ x }
     ensures rung { IsRung (heights_of dimensions.now) result }
 {
@@ -49,8 +50,8 @@ fn tell_exponent(height: usize)
 {}
 
 /// The exponent of the leaves with the next one below it. Each matrix is looked at once.
-pub fn leaf_rung(dimensions: &[Dimensions]) -> Rung
-    ensures exponent { result.exponent ≡ exponent (tallest (heights_of dimensions.now)) }
+pub(crate) fn leaf_rung(dimensions: &[Dimensions]) -> Rung
+    ensures exponent { result.exponent ≡ exponent (greatest (heights_of dimensions.now)) }
     ensures few { result.exponent ≤ 64 }
     ensures rung { IsRung (heights_of dimensions.now) result }
 {
@@ -239,7 +240,7 @@ impl<'a> Steps<'a> {
     /// from 2 to 2^62, and no height is above [`MAX_HEIGHT`](crate::geometry::MAX_HEIGHT).
     pub fn siblings_below(&self, t: usize) -> usize
         requires arity { IsArity self.now.arity }
-        requires low { tallest (heights_of self.now.dimensions.now) ≤ max_height }
+        requires low { greatest (heights_of self.now.dimensions.now) ≤ height_limit }
         requires layer { t ≤ self.now.num_levels }
         ensures { result ≡ siblings_below (shape_of self.now.arity self.now.dimensions.now) t }
     {
@@ -265,7 +266,7 @@ pub fn levels_of(dimensions: &[Dimensions], arity: usize) -> usize
 /// As [`Steps::siblings_below`], of dimensions.
 pub fn siblings_below_of(dimensions: &[Dimensions], arity: usize, t: usize) -> usize
     requires arity { IsArity arity }
-    requires low { tallest (heights_of dimensions.now) ≤ max_height }
+    requires low { greatest (heights_of dimensions.now) ≤ height_limit }
     requires layer { t ≤ levels (shape_of arity dimensions.now) }
     ensures { result ≡ siblings_below (shape_of arity dimensions.now) t }
 {

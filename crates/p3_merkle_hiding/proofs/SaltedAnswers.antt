@@ -8,9 +8,10 @@ use Rattle.std.proofs.lemmas.List.{get_or-map, length-map}
 use Rattle.std.proofs.lemmas.List.Sums.{position_or_len_is}
 use Rattle.p3_support.specs.declared.matrix.Dimensions.{Dimensions}
 use Rattle.p3_merkle_core.specs.Openings.{Opening}
+use Rattle.p3_support.specs.Batches.{widths_of}
 use Rattle.p3_merkle_core.specs.Pruning.{PrunedOpening}
-use Rattle.p3_merkle_core.specs.Geometry.{IsArity, widths_of}
-use Rattle.p3_merkle_core.specs.Refusals.{AnswersUnlessMemory, IsEquality, first_of, pruned_refusal_under, refusal_under, row_width_refusal, size_refusal, verdict, width_refusal}
+use Rattle.p3_merkle_core.specs.Geometry.{IsArity}
+use Rattle.p3_merkle_core.specs.Refusals.{AnswersUnlessMemory, IsEquality, first_of, pruned_refusal_under, refusal_under, row_width_refusal, size_refusal, width_refusal, ok_unless}
 use Rattle.p3_merkle_core.specs.declared.error.MerkleTreeError.{MerkleTreeError}
 use Rattle.p3_merkle_core.specs.declared.error.MerkleTreeError.TheVariants.{TooLarge, WrongBatchSize}
 use Rattle.p3_merkle_core.proofs.NoneFacts.{fit_from, none_of_both, none_parts, unless_none}
@@ -86,7 +87,7 @@ module _ {T : Type 0} (ds : List Dimensions) where
 
 -- ---- answers
 
-unrefused_from : (refusal : Option MerkleTreeError) → verdict refusal ≡ Ok tt → refusal ≡ None
+unrefused_from : (refusal : Option MerkleTreeError) → ok_unless refusal (tt {0}) ≡ Ok tt → refusal ≡ None
 unrefused_from None e = refl
 unrefused_from (Some x) e = absurd cc
 
@@ -104,7 +105,7 @@ module _ {T W : Type 0} (same : W → W → Bool) (e : ℕ) (ds : List Dimension
             record {
               salted = (have_salts ds o.rows o.salts).0 form.0;
               can_widen = (widening e ds).0 form.1;
-              accepted = accepted_from same c.functions c.shape c.layer cap (joined o) dec_w (ap verdict both.1);
+              accepted = accepted_from same c.functions c.shape c.layer cap (joined o) dec_w (ap (λ refusal. ok_unless refusal (tt {0})) both.1);
             },
         λ w.
             let form = none_of_both salt wide ((have_salts ds o.rows o.salts).1 w.salted) ((widening e ds).1 w.can_widen) in
@@ -134,7 +135,7 @@ module _ {T W : Type 0} (same : W → W → Bool) (e : ℕ) (ds : List Dimension
               in_pairs = paired;
               salted = each_from ds p.rows p.salts paired salts.1;
               can_widen = (widening e ds).0 form.1;
-              accepted = meant.0 (ap verdict both.1);
+              accepted = meant.0 (ap (λ refusal. ok_unless refusal (tt {0})) both.1);
             },
         λ a.
             let salts = none_of_both size each (size_none (length p.rows) (length p.salts) (sym a.in_pairs)) (each_passes ds p.rows p.salts a.salted) in
@@ -148,7 +149,7 @@ module _ {T W : Type 0} (same : W → W → Bool) (e : ℕ) (ds : List Dimension
 -- ---- the answers of the calls
 
 -- a verdict is what is refused
-pub said : (r : Result (Unit {0}) MerkleTreeError) (o : Option MerkleTreeError) → r ≡ verdict o → AnswersUnlessMemory r o
+pub said : (r : Result (Unit {0}) MerkleTreeError) (o : Option MerkleTreeError) → r ≡ ok_unless o (tt {0}) → AnswersUnlessMemory r o
 said (Ok v) None is = refl
 said (Ok v) (Some e) is = absurd cc
 said (Err x) None is = absurd cc

@@ -7,13 +7,14 @@ use Rattle.std.proofs.Math.Seq.{drop-append_seam, take-append_seam}
 use Rattle.p3_support.specs.declared.matrix.Matrix.{Ghosts}
 use Rattle.p3_support.specs.declared.pair.HorizontalPair.{HorizontalPair}
 use Rattle.p3_support.specs.Pairs.{left_of, pair_row, right_of}
-use Rattle.p3_merkle_core.specs.Geometry.{IsLawful, bits_reduced, heights, heights_of, tallest, widths_of}
+use Rattle.p3_merkle_core.specs.Views.{matrix_of}
+use Rattle.p3_support.specs.Batches.{heights_of, greatest, widths_of}
+use Rattle.p3_merkle_core.specs.Geometry.{IsLawful, bits_reduced, heights}
 use Rattle.p3_merkle_core.specs.Nodes.{Batch, Matrix, dimensions_of, shape}
 use Rattle.p3_merkle_core.specs.Pruning.{pruned_of, IsPrunedAccepted}
 use Rattle.p3_merkle_core.specs.Openings.{honest_rows, opening_of}
 use Rattle.p3_merkle_core.specs.Checks.{IsAccepted, Terms}
 use Rattle.p3_merkle_builder.proofs.RowFacts.{row_inside}
-use Rattle.p3_merkle_layers.specs.Views.{matrix_of}
 use Rattle.p3_merkle_salts.specs.SaltedOpenings.{CanWiden, HaveSalts, IsSaltedAccepted, IsSaltedPrunedAccepted, salt_parts, salted_of, salted_pruned_of, salted_rows, salted_sets, unsalted_parts, widened}
 use Rattle.p3_merkle_salts.specs.SaltedTrees.{HaveSaltColumns, left_batch, pair_matrix, right_batch, unsalted_dimensions}
 use Rattle.p3_support.specs.declared.matrix.Dimensions.{Dimensions}
@@ -54,9 +55,9 @@ module _ {X T : Type 0} (side : X → Matrix T) (height : X → ℕ) (same : (x 
   rows_at tall i (x ∷ xs) = rw (same x, rows_at tall i xs) refl
 
   -- of matrices of these heights, each has the row that its height gives
-  pub side_rows : (n i : ℕ) (xs : List X) → honest_rows (record { arity = n; matrices = map side xs }) i ≡ map (λ x. (side x).row (i / 2 ^ bits_reduced (tallest (map height xs)) (height x))) xs
+  pub side_rows : (n i : ℕ) (xs : List X) → honest_rows (record { arity = n; matrices = map side xs }) i ≡ map (λ x. (side x).row (i / 2 ^ bits_reduced (greatest (map height xs)) (height x))) xs
   side_rows n i xs =
-      ap (λ (hs : List ℕ). map (λ (m : Matrix T). m.row (i / 2 ^ bits_reduced (tallest hs) m.height)) (map side xs)) (heights_are xs) ∙ rows_at (tallest (map height xs)) i xs
+      ap (λ (hs : List ℕ). map (λ (m : Matrix T). m.row (i / 2 ^ bits_reduced (greatest hs) m.height)) (map side xs)) (heights_are xs) ∙ rows_at (greatest (map height xs)) i xs
 
 module _ {T A B : Type 0} {a : Ghosts A T} {b : Ghosts B T} where
   -- the left matrix of a pair, and the right one
@@ -98,7 +99,7 @@ module _ {T A B : Type 0} {a : Ghosts A T} {b : Ghosts B T} where
 
   module _ (n : ℕ) (pairs : List (HorizontalPair T A B a b)) (law : (m : A) (r : ℕ) → r < a.height_of m → length (a.row_of m r) ≡ a.width_of m) (lawful : IsLawful (heights (shape (pair_batch n pairs)))) where
     at : ℕ → HorizontalPair T A B a b → ℕ
-    at i p = i / 2 ^ bits_reduced (tallest (map height_in pairs)) (height_in p)
+    at i p = i / 2 ^ bits_reduced (greatest (map height_in pairs)) (height_in p)
 
     pair_rows : (i : ℕ) → honest_rows (pair_batch n pairs) i ≡ map (λ p. a.row_of (left_of p) (at i p) ++ b.row_of (right_of p) (at i p)) pairs
     unfolding at
@@ -116,26 +117,26 @@ module _ {T A B : Type 0} {a : Ghosts A T} {b : Ghosts B T} where
         ap (λ (ms : List (Matrix T)). honest_rows (record { arity = n; matrices = ms }) i) (map-map (matrix_of b.height_of b.width_of b.row_of) right_of pairs)
         ∙ side_rows right_matrix height_in (λ p. sym p.one_height) n i pairs
 
-    full : (i : ℕ) → i < tallest (heights (shape (pair_batch n pairs))) → All (λ p. length (a.row_of (left_of p) (at i p)) ≡ width_in p) pairs
+    full : (i : ℕ) → i < greatest (heights (shape (pair_batch n pairs))) → All (λ p. length (a.row_of (left_of p) (at i p)) ≡ width_in p) pairs
     unfolding at
     full i below k d inside =
         let p = get_or pairs k d in
-        let here : i / 2 ^ bits_reduced (tallest (heights (shape (pair_batch n pairs)))) (height_in p) < height_in p =
+        let here : i / 2 ^ bits_reduced (greatest (heights (shape (pair_batch n pairs)))) (height_in p) < height_in p =
         row_inside height_in (λ p. width_in p + b.width_of (right_of p)) (λ p. pair_row a.row_of b.row_of (left_of p) (right_of p)) n pairs k i p lawful below inside (get_or_default pairs k d p inside) in
-        law (left_of p) (at i p) (subst (λ (hs : List ℕ). i / 2 ^ bits_reduced (tallest hs) (height_in p) < height_in p) (heights_are pair_matrix height_in (λ p. refl) pairs) here)
+        law (left_of p) (at i p) (subst (λ (hs : List ℕ). i / 2 ^ bits_reduced (greatest hs) (height_in p) < height_in p) (heights_are pair_matrix height_in (λ p. refl) pairs) here)
 
     -- what stands before the salts of an honest row is the left matrix's row
-    pub left_is : (i : ℕ) → i < tallest (heights (shape (pair_batch n pairs))) → unsalted_parts (map width_in pairs) (honest_rows (pair_batch n pairs) i) ≡ honest_rows (left_batch n pairs) i
+    pub left_is : (i : ℕ) → i < greatest (heights (shape (pair_batch n pairs))) → unsalted_parts (map width_in pairs) (honest_rows (pair_batch n pairs) i) ≡ honest_rows (left_batch n pairs) i
     left_is i below =
         ap (unsalted_parts (map width_in pairs)) (pair_rows i) ∙ left_parts (λ p. a.row_of (left_of p) (at i p)) (λ p. b.row_of (right_of p) (at i p)) width_in pairs (full i below) ∙ sym (left_rows i)
 
     -- and what stands after is the right one's
-    pub right_is : (i : ℕ) → i < tallest (heights (shape (pair_batch n pairs))) → salt_parts (map width_in pairs) (honest_rows (pair_batch n pairs) i) ≡ honest_rows (right_batch n pairs) i
+    pub right_is : (i : ℕ) → i < greatest (heights (shape (pair_batch n pairs))) → salt_parts (map width_in pairs) (honest_rows (pair_batch n pairs) i) ≡ honest_rows (right_batch n pairs) i
     right_is i below =
         ap (salt_parts (map width_in pairs)) (pair_rows i) ∙ right_parts (λ p. a.row_of (left_of p) (at i p)) (λ p. b.row_of (right_of p) (at i p)) width_in pairs (full i below) ∙ sym (right_rows i)
 
     -- both together are the honest row
-    pub both_are : (i : ℕ) → i < tallest (heights (shape (pair_batch n pairs))) → salted_rows (honest_rows (left_batch n pairs) i) (honest_rows (right_batch n pairs) i) ≡ honest_rows (pair_batch n pairs) i
+    pub both_are : (i : ℕ) → i < greatest (heights (shape (pair_batch n pairs))) → salted_rows (honest_rows (left_batch n pairs) i) (honest_rows (right_batch n pairs) i) ≡ honest_rows (pair_batch n pairs) i
     both_are i below =
         let rows = honest_rows (pair_batch n pairs) i in
         let long : length (map width_in pairs) ≡ length rows = length-map pairs width_in ∙ sym (ap length (pair_rows i) ∙ length-map pairs (λ p. a.row_of (left_of p) (at i p) ++ b.row_of (right_of p) (at i p))) in
@@ -147,14 +148,14 @@ module _ {T A B : Type 0} {a : Ghosts A T} {b : Ghosts B T} where
     lengths_are g (p ∷ ps) w = rw (w 0 p (omega arith), lengths_are g ps (λ k d h. w (suc k) d (omega arith))) refl
 
     -- the honest rows have their widths, and salts
-    pub are_salted : (i : ℕ) → i < tallest (heights (shape (pair_batch n pairs))) → HaveSalts (dimensions_of (left_batch n pairs).matrices) (honest_rows (left_batch n pairs) i) (honest_rows (right_batch n pairs) i)
+    pub are_salted : (i : ℕ) → i < greatest (heights (shape (pair_batch n pairs))) → HaveSalts (dimensions_of (left_batch n pairs).matrices) (honest_rows (left_batch n pairs) i) (honest_rows (right_batch n pairs) i)
     are_salted i below = record {
       rows_fit = ap (map length) (left_rows i) ∙ lengths_are (λ p. a.row_of (left_of p) (at i p)) pairs (full i below) ∙ sym (widths_are n pairs);
       in_pairs = ap length (right_rows i) ∙ length-map pairs (λ p. b.row_of (right_of p) (at i p)) ∙ sym (ap length (left_rows i) ∙ length-map pairs (λ p. a.row_of (left_of p) (at i p)));
     }
 
     -- an accepted opening of pairs is accepted as its rows and salts
-    pub salted_from : {W : Type 0} (terms : List Dimensions → Terms T W) (cap : Terms T W → List (List W)) (e i : ℕ) (siblings : List (List W)) → i < tallest (heights (shape (pair_batch n pairs))) → HaveSaltColumns e pairs →
+    pub salted_from : {W : Type 0} (terms : List Dimensions → Terms T W) (cap : Terms T W → List (List W)) (e i : ℕ) (siblings : List (List W)) → i < greatest (heights (shape (pair_batch n pairs))) → HaveSaltColumns e pairs →
         (let c = terms (dimensions_of (map pair_matrix pairs)) in IsAccepted c (cap c) (opening_of i (honest_rows (pair_batch n pairs) i) siblings)) →
         let c = terms (widened e (unsalted_dimensions n pairs)) in IsSaltedAccepted e (unsalted_dimensions n pairs) c (cap c) (salted_of i (honest_rows (left_batch n pairs) i) (honest_rows (right_batch n pairs) i) siblings)
     salted_from {W} terms cap e i siblings below w accepted =
@@ -168,26 +169,26 @@ module _ {T A B : Type 0} {a : Ghosts A T} {b : Ghosts B T} where
         }
 
     -- the same of several indices
-    pub left_sets_are : (is : List ℕ) → All (λ i. i < tallest (heights (shape (pair_batch n pairs)))) is → map (unsalted_parts (map width_in pairs)) (map (honest_rows (pair_batch n pairs)) is) ≡ map (honest_rows (left_batch n pairs)) is
+    pub left_sets_are : (is : List ℕ) → All (λ i. i < greatest (heights (shape (pair_batch n pairs)))) is → map (unsalted_parts (map width_in pairs)) (map (honest_rows (pair_batch n pairs)) is) ≡ map (honest_rows (left_batch n pairs)) is
     left_sets_are [] below = refl
     left_sets_are (i ∷ is) below = rw (left_is i (below 0 i (omega arith)), left_sets_are is (λ k d h. below (suc k) d (omega arith))) refl
 
-    pub right_sets_are : (is : List ℕ) → All (λ i. i < tallest (heights (shape (pair_batch n pairs)))) is → map (salt_parts (map width_in pairs)) (map (honest_rows (pair_batch n pairs)) is) ≡ map (honest_rows (right_batch n pairs)) is
+    pub right_sets_are : (is : List ℕ) → All (λ i. i < greatest (heights (shape (pair_batch n pairs)))) is → map (salt_parts (map width_in pairs)) (map (honest_rows (pair_batch n pairs)) is) ≡ map (honest_rows (right_batch n pairs)) is
     right_sets_are [] below = refl
     right_sets_are (i ∷ is) below = rw (right_is i (below 0 i (omega arith)), right_sets_are is (λ k d h. below (suc k) d (omega arith))) refl
 
-    both_sets_are : (is : List ℕ) → All (λ i. i < tallest (heights (shape (pair_batch n pairs)))) is →
+    both_sets_are : (is : List ℕ) → All (λ i. i < greatest (heights (shape (pair_batch n pairs)))) is →
         salted_sets (map (honest_rows (left_batch n pairs)) is) (map (honest_rows (right_batch n pairs)) is) ≡ map (honest_rows (pair_batch n pairs)) is
     both_sets_are [] below = refl
     both_sets_are (i ∷ is) below = rw (both_are i (below 0 i (omega arith)), both_sets_are is (λ k d h. below (suc k) d (omega arith))) refl
 
-    sets_are_salted : (is : List ℕ) → All (λ i. i < tallest (heights (shape (pair_batch n pairs)))) is →
+    sets_are_salted : (is : List ℕ) → All (λ i. i < greatest (heights (shape (pair_batch n pairs)))) is →
         AllZip (HaveSalts (dimensions_of (left_batch n pairs).matrices)) (map (honest_rows (left_batch n pairs)) is) (map (honest_rows (right_batch n pairs)) is)
     sets_are_salted [] below = tt
     sets_are_salted (i ∷ is) below = (are_salted i (below 0 i (omega arith)), sets_are_salted is (λ k d h. below (suc k) d (omega arith)))
 
     pub salted_pruned_from : {W : Type 0} (terms : List Dimensions → Terms T W) (cap : Terms T W → List (List W)) (e : ℕ) (is : List ℕ) (digests : List (List W)) →
-        All (λ i. i < tallest (heights (shape (pair_batch n pairs)))) is → HaveSaltColumns e pairs →
+        All (λ i. i < greatest (heights (shape (pair_batch n pairs)))) is → HaveSaltColumns e pairs →
         (let c = terms (dimensions_of (map pair_matrix pairs)) in IsPrunedAccepted c (cap c) (pruned_of is (map (honest_rows (pair_batch n pairs)) is) digests)) →
         let c = terms (widened e (unsalted_dimensions n pairs)) in
         IsSaltedPrunedAccepted e (unsalted_dimensions n pairs) c (cap c) (salted_pruned_of is (map (honest_rows (left_batch n pairs)) is) (map (honest_rows (right_batch n pairs)) is) digests)

@@ -5,5 +5,5 @@ pub use Rattle.p3_merkle_salts.specs.SaltedTrees
 pub use Rattle.p3_merkle_salts.specs.SaltedPresented
 pub mod HidingSchemes
 pub mod SaltedCommitments
-pub mod SaltedCommitmentLaws
 pub mod SaltedExamples
+pub mod Inner

@@ -1,14 +1,14 @@
 -- What a salted scheme commits to, and what it shows under a commitment.
 use Rattle.std.specs.Prelude.{ℕ, List}
 use Rattle.p3_support.specs.Batches.{dimensions_in}
+use Rattle.p3_merkle_core.specs.Commitments.{IsCommitment}
+use Rattle.p3_merkle_core.specs.Views.{heights_in}
 use Rattle.p3_support.specs.declared.matrix.Dimensions.{Dimensions}
 use Rattle.p3_support.specs.declared.matrix.Matrix.{Ghosts}
 use Rattle.p3_support.specs.declared.pair.HorizontalPair.{HorizontalPair}
-use Rattle.p3_merkle_layers.specs.Views.{heights_in}
 use Rattle.p3_merkle_core.specs.Geometry.{IsLawful}
 use Rattle.p3_merkle_core.specs.Nodes.{Batch}
 use Rattle.p3_merkle_core.specs.Checks.{Terms}
-use Rattle.p3_merkle_tree.specs.Commitments.{IsCommitment}
 use Rattle.p3_merkle_salts.specs.SaltedOpenings.{CanWiden, IsSaltedAccepted, salted_of}
 use Rattle.p3_merkle_salts.specs.SaltedTrees.{HaveSaltColumns}
 

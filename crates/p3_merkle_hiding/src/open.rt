@@ -1,14 +1,15 @@
 //! Salted openings: those of the plain scheme, each row taken apart into the matrix's own words and its salts.
 
 ghost use Rattle.std.specs.Prelude.{◌≡◌, ◌<◌, [], All, IfErr, IfOk, None, map};
-ghost use Rattle.p3_merkle_core.specs.Geometry.{heights, tallest};
+ghost use Rattle.p3_merkle_core.specs.Geometry.{heights};
+ghost use Rattle.p3_merkle_core.specs.Commitments.{cap_over, IsOwn};
+ghost use Rattle.p3_support.specs.Batches.{greatest};
 ghost use Rattle.p3_merkle_core.specs.Nodes.{shape};
 ghost use Rattle.p3_merkle_core.specs.Openings.{honest_rows, node_in, siblings_by};
 ghost use Rattle.p3_merkle_core.specs.Pruning.{boundary_by};
 ghost use Rattle.p3_merkle_core.specs.Refusals.{AnswersUnlessMemory};
 ghost use Rattle.p3_merkle_core.specs.declared.error.MerkleTreeError.TheVariants.{OutOfMemory};
 ghost use Rattle.p3_merkle_builder.specs.Parts.{layers_of, matrices_of, tree_batch};
-ghost use Rattle.p3_merkle_tree.specs.Commitments.{cap_over, IsOwn};
 ghost use Rattle.p3_merkle_tree.specs.Schemes.{proof_layer};
 ghost use Rattle.p3_support.specs.Pairs.{left_of};
 ghost use Rattle.p3_support.specs.Shown.{row_lists, row_sets};
@@ -53,7 +54,7 @@ impl<
         index: usize,
         tree: &SaltedTree<P::Value, PW::Value, M, N, D>,
     ) -> Result<BatchOpening<P::Value, SaltedProof<P::Value, PW::Value, D>>, MerkleTreeError>
-        requires { index < tallest (heights (shape (tree_batch tree.now))) }
+        requires { index < greatest (heights (shape (tree_batch tree.now))) }
         ensures rows { let rows = honest_rows (left_batch N (matrices_of tree.now)) index in
             IfOk result (λ o. row_lists o.opened_values.items ≡ rows) }
         ensures salts { let salts = honest_rows (right_batch N (matrices_of tree.now)) index in
@@ -98,7 +99,7 @@ impl<
         ),
         MerkleTreeError,
     >
-        requires { All (λ index. index < tallest (heights (shape (tree_batch tree.now)))) indices.now }
+        requires { All (λ index. index < greatest (heights (shape (tree_batch tree.now)))) indices.now }
         ensures rows { let rows = map (honest_rows (left_batch N (matrices_of tree.now))) indices.now in
             IfOk result (λ o. row_sets o.0.items ≡ rows) }
         ensures salts { let salts = map (honest_rows (right_batch N (matrices_of tree.now))) indices.now in
@@ -131,7 +132,7 @@ impl<
         tree: &'a SaltedTree<P::Value, PW::Value, M, N, D>,
     ) -> Result<Vec<&'a M>, MerkleTreeError>
         ensures matrices { IfOk result (λ v. map (λ m. m.now) v.items ≡ map left_of (matrices_of tree.now)) }
-        ensures memory { IfErr result (λ e. e ≡ OutOfMemory) }
+        ensures memory { AnswersUnlessMemory result None }
     {
         let pairs = self.plain.get_matrices(alloc, tree)?;
         Ok(left_matrices(alloc, &pairs)?)
@@ -142,7 +143,7 @@ impl<
         &self,
         tree: &SaltedTree<P::Value, PW::Value, M, N, D>,
     ) -> usize
-        ensures { result ≡ tallest (heights (shape (tree_batch tree.now))) }
+        ensures { result ≡ greatest (heights (shape (tree_batch tree.now))) }
     {
         self.plain.get_max_height(tree)
     }

@@ -2,7 +2,7 @@
 
 ghost use Rattle.std.specs.Prelude.{◌≡◌, ◌≤◌, ◌⊎◌, IfErr, IfOk, OnOk, map};
 ghost use Rattle.p3_merkle_core.specs.Refusals.{AnswersUnlessMemory};
-ghost use Rattle.p3_merkle_layers.specs.Views.{matrix_of};
+ghost use Rattle.p3_merkle_core.specs.Views.{matrix_of};
 ghost use Rattle.p3_merkle_core.specs.Nodes.{dimensions_of};
 ghost use Rattle.p3_merkle_core.specs.declared.error.MerkleTreeError.TheVariants.{OutOfMemory};
 ghost use Rattle.p3_support.specs.Pairs.{left_of};

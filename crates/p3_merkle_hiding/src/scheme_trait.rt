@@ -2,17 +2,17 @@
 
 ghost use Rattle.std.specs.Prelude.{◌≡◌, ◌<◌, All, IfErr, IfOk, IsOk, map};
 ghost use Rattle.p3_merkle_builder.specs.Parts.{layers_of, matrices_of, tree_batch};
-ghost use Rattle.p3_merkle_core.specs.Geometry.{heights, shape_of, tallest};
+ghost use Rattle.p3_merkle_core.specs.Commitments.{IsCommitment};
+ghost use Rattle.p3_merkle_core.specs.Geometry.{heights, shape_of, halved_index};
 ghost use Rattle.p3_merkle_core.specs.Nodes.{shape};
 ghost use Rattle.p3_merkle_core.specs.declared.error.MerkleTreeError.TheVariants.{OutOfMemory};
-ghost use Rattle.p3_merkle_tree.specs.CommitmentLaws.{at_same, row_in_matrix, tallest_at_index};
-ghost use Rattle.p3_merkle_tree.specs.Commitments.{halved_index, IsCommitment, IsSameScheme};
-ghost use Rattle.p3_merkle_tree.specs.Schemes.{cap_of, scheme_functions, terms_over};
-ghost use Rattle.p3_support.specs.Batches.{greatest_height};
+ghost use Rattle.p3_merkle_tree.specs.Inner.CommitmentLaws.{at_same, row_in_matrix, tallest_at_index};
+ghost use Rattle.p3_merkle_tree.specs.Schemes.{cap_of, scheme_functions, terms_over, IsSameScheme};
+ghost use Rattle.p3_support.specs.Batches.{greatest};
 ghost use Rattle.p3_support.specs.Pairs.{left_of};
 ghost use Rattle.p3_support.specs.Shown.{roots_of, row_lists, row_sets};
 ghost use Rattle.p3_merkle_hiding.specs.HidingSchemes.{plain_of, salted_lent, salted_terms_of};
-ghost use Rattle.p3_merkle_hiding.specs.SaltedCommitmentLaws.{each_salted_shown, left_lawful, salted_rows_fit, same_plain_is_equivalence};
+ghost use Rattle.p3_merkle_hiding.specs.Inner.SaltedCommitmentLaws.{each_salted_shown, left_lawful, salted_rows_fit, same_plain_is_equivalence};
 ghost use Rattle.p3_merkle_hiding.specs.SaltedCommitments.{CanCommitSalted, IsSaltedCommitment, IsSaltedShown};
 ghost use Rattle.p3_merkle_salts.specs.SaltedOpenings.{salted_of, salted_pruned_of, widened, IsSaltedAccepted, IsSaltedPrunedAccepted};
 
@@ -193,8 +193,8 @@ fn tell_index<F, X, G, A: Matrix<F>, B: Matrix<F>, const N: usize>(
     tree: &Tree<F, X, G, HorizontalPair<F, A, B>, N>,
     index: usize,
 )
-    requires { index < greatest_height A.height_of (map left_of (matrices_of tree.now)) }
-    ensures { index < tallest (heights (shape (tree_batch tree.now))) }
+    requires { index < greatest (map A.height_of (map left_of (matrices_of tree.now))) }
+    ensures { index < greatest (heights (shape (tree_batch tree.now))) }
 {}
 
 /// The same of several indices.
@@ -202,6 +202,6 @@ fn tell_indices<F, X, G, A: Matrix<F>, B: Matrix<F>, const N: usize>(
     tree: &Tree<F, X, G, HorizontalPair<F, A, B>, N>,
     indices: &[usize],
 )
-    requires { All (λ index. index < greatest_height A.height_of (map left_of (matrices_of tree.now))) indices.now }
-    ensures { All (λ index. index < tallest (heights (shape (tree_batch tree.now)))) indices.now }
+    requires { All (λ index. index < greatest (map A.height_of (map left_of (matrices_of tree.now)))) indices.now }
+    ensures { All (λ index. index < greatest (heights (shape (tree_batch tree.now)))) indices.now }
 {}

@@ -106,14 +106,14 @@ module _ {T M : Type 0} (height : M → ℕ) (row : M → ℕ → List T) (h r :
       ∙ ap (λ l. rows_of_height height row h r (take i ms) ++ l) (append-nil (cond (height m == h) (row m r) []))
 
   -- where it has the height
-  pub rows_with : (ms : List M) (i : ℕ) (m : M) → i < length ms → m ≡ get_or ms i m → height m ≡ h →
+  pub row_taken : (ms : List M) (i : ℕ) (m : M) → i < length ms → m ≡ get_or ms i m → height m ≡ h →
       rows_of_height height row h r (take (i + 1) ms) ≡ rows_of_height height row h r (take i ms) ++ row m r
-  rows_with ms i m inside is same = rows_take_more ms i m inside is ∙ rw (eq-eqb (height m) h same) refl
+  row_taken ms i m inside is same = rows_take_more ms i m inside is ∙ rw (eq-eqb (height m) h same) refl
 
   -- and where it has not
-  pub rows_without : (ms : List M) (i : ℕ) (m : M) → i < length ms → m ≡ get_or ms i m → (height m ≡ h → ⊥) →
+  pub row_passed : (ms : List M) (i : ℕ) (m : M) → i < length ms → m ≡ get_or ms i m → (height m ≡ h → ⊥) →
       rows_of_height height row h r (take (i + 1) ms) ≡ rows_of_height height row h r (take i ms)
-  rows_without ms i m inside is other = rows_take_more ms i m inside is ∙ rw (ne_eqb (height m) h other) (append-nil (rows_of_height height row h r (take i ms)))
+  row_passed ms i m inside is other = rows_take_more ms i m inside is ∙ rw (ne_eqb (height m) h other) (append-nil (rows_of_height height row h r (take i ms)))
 
 -- the words of one more piece, written in place i
 pub piece_more : {X A : Type 0} (words : X → List A) (pieces : List X) (i : ℕ) (piece : X) → i < length pieces → flat_map words (take (i + 1) (set pieces i piece)) ≡ flat_map words (take i pieces) ++ words piece

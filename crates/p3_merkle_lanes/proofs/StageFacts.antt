@@ -9,8 +9,8 @@ use Rattle.std.proofs.lemmas.List.FromFn.{fill_by_all, get_or-map-range_with_len
 use Rattle.std.proofs.lemmas.Simd.{map-map}
 use Rattle.std.proofs.Math.Nat.{mul-le-mul_left, mul-le-mul_right, mul_comm, mul-suc}
 use Rattle.p3_support.specs.Lists.{message, messages, rows_of_height}
-use Rattle.p3_support.specs.RowLengths.{next_start}
-use Rattle.p3_merkle_lanes.specs.Slots.{IsFilled, IsStaged}
+use Rattle.p3_support.specs.Inner.RowLengths.{next_start}
+use Rattle.p3_merkle_lanes.specs.Inner.Slots.{IsFilled, IsStaged}
 use Rattle.p3_merkle_lanes.proofs.LaneFacts.{part_written, part_before, rows_alone}
 use borrow.Rule.Slice.PartMut.{put_mid, same_len_mid}
 

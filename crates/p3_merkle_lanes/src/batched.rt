@@ -3,7 +3,7 @@
 ghost use Rattle.std.specs.Prelude.{◌≡◌, ℕ, ◌+◌, ◌-◌, ◌*◌, ◌%◌, ◌^◌, ◌<◌, ◌≤◌, ◌==◌, ◌++◌, [], ◌∷◌, IfOk, IfSome, filter, length, map, max, min, replicate, slice_index_or, sum_by};
 ghost use Rattle.std.specs.List.{range_with_len};
 ghost use Rattle.p3_support.specs.Lists.{rows_of_height};
-ghost use Rattle.p3_merkle_lanes.specs.Slots.{leaf_over, IsFilled, IsStaged};
+ghost use Rattle.p3_merkle_lanes.specs.Inner.Slots.{leaf_over, IsFilled, IsStaged};
 
 use p3_merkle_core::group::group_with;
 use p3_support::compress::PseudoCompressionFunction;

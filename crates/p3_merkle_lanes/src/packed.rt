@@ -4,7 +4,7 @@ ghost use Rattle.std.specs.Mem.{type_size, FitsInMemory};
 ghost use denote.Param.{ArrayAt};
 ghost use Rattle.std.specs.Prelude.{IsTrue, ◌≡◌, ℕ, ◌+◌, ◌-◌, ◌*◌, ◌^◌, ◌<◌, ◌≤◌, ◌++◌, [], ◌∷◌, IfOk, length, map, take, drop, replicate, slice_index_or};
 ghost use Rattle.p3_support.specs.Lists.{lane_of, rows_of_height};
-ghost use Rattle.p3_merkle_lanes.specs.Slots.{leaf_over, IsFilled};
+ghost use Rattle.p3_merkle_lanes.specs.Inner.Slots.{leaf_over, IsFilled};
 
 use p3_merkle_core::group::group_with;
 use p3_support::compress::PseudoCompressionFunction;

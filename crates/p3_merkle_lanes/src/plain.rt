@@ -3,7 +3,7 @@
 ghost use Rattle.std.specs.Prelude.{◌≡◌, ℕ, ◌*◌, ◌<◌, ◌≤◌, [], length, map, replicate, slice_index_or, take, IfSome};
 ghost use Rattle.std.specs.List.{flat_map};
 ghost use Rattle.p3_support.specs.Lists.{messages as messages_of, rows_of_height};
-ghost use Rattle.p3_merkle_lanes.specs.Slots.{leaf_over, IsFilled};
+ghost use Rattle.p3_merkle_lanes.specs.Inner.Slots.{leaf_over, IsFilled};
 
 use crate::batched::lone_rows;
 use p3_support::compress::PseudoCompressionFunction;

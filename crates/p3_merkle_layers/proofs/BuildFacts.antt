@@ -5,22 +5,23 @@ use Rattle.std.proofs.lemmas.Bool.{cases_eq, eq-eqb}
 use Rattle.std.proofs.lemmas.List.FromFn.{map-range_with_len_more, length-map-range_with_len, get_or-map-range_with_len}
 use Rattle.std.proofs.lemmas.List.{length_push, length-map, get_or-map}
 use Rattle.p3_support.specs.Lists.{rows_of_height}
+use Rattle.p3_merkle_core.specs.Views.{batch_of}
+use Rattle.p3_support.specs.Batches.{heights_of, greatest}
 use Rattle.p3_support.specs.declared.matrix.Dimensions.{Dimensions}
-use Rattle.p3_merkle_core.specs.Geometry.{Shape, shape_of, heights, heights_of, exponent, tallest, layer_exponent, is_bridge, step, arity_schedule, levels, raw_len, layer_len, padded_len, max_height}
+use Rattle.p3_merkle_core.specs.Geometry.{Shape, shape_of, heights, exponent, layer_exponent, is_bridge, step, arity_schedule, levels, raw_len, layer_len, padded_len, height_limit}
 use Rattle.p3_merkle_core.specs.Nodes.{Functions, Batch, shape, layer, layers, node}
 use Rattle.p3_merkle_core.proofs.LadderFacts.{exponent_at_levels}
 use Rattle.p3_merkle_core.proofs.LeastFacts.{least_bound}
 use Rattle.p3_merkle_core.proofs.StepFacts.{layer_start, next_exponent, next_falls}
-use Rattle.p3_merkle_layers.specs.Built.{IsBuilt}
-use Rattle.p3_merkle_core.specs.Levels.{IsBelowTop, IsLevel}
-use Rattle.p3_merkle_layers.specs.Levels.{CanBuild}
-use Rattle.p3_merkle_layers.specs.Views.{batch_of}
+use Rattle.p3_merkle_layers.specs.Inner.Built.{IsBuilt}
+use Rattle.p3_merkle_core.specs.Inner.Levels.{IsBelowTop, IsLevel}
+use Rattle.p3_merkle_layers.specs.Inner.Levels.{CanBuild}
 use Rattle.p3_merkle_core.specs.declared.levels.Level.{Level}
 use Rattle.p3_merkle_layers.proofs.LayerFacts.{layer_first}
 use Rattle.p3_merkle_core.proofs.LevelFacts.{low}
 
 -- the leaves are as many as the rows of the tallest matrices
-raw_start : (s : Shape) → raw_len s 0 ≡ tallest (heights s)
+raw_start : (s : Shape) → raw_len s 0 ≡ greatest (heights s)
 unfolding raw_len
 raw_start s = refl
 
@@ -37,16 +38,16 @@ pub slots_are : {T W : Type 0} (f : Functions T W) {b : Batch T} {ds : List Dime
 slots_are f {b} w l nodes e = ap length e ∙ length-map-range_with_len (node f b l) 0 (layer_len (shape b) l) ∙ ap (λ (s : Shape). layer_len s l) (sym (same_shape w))
 
 -- none of them is above the limit
-pub tallest_low : {T : Type 0} {b : Batch T} {ds : List Dimensions} → CanBuild b ds → tallest (heights_of ds) ≤ max_height
-tallest_low {T} {b} w = subst (λ (z : Shape). tallest (heights z) ≤ max_height) (sym (same_shape w)) (low (shape b) w.lawful)
+pub tallest_low : {T : Type 0} {b : Batch T} {ds : List Dimensions} → CanBuild b ds → greatest (heights_of ds) ≤ height_limit
+tallest_low {T} {b} w = subst (λ (z : Shape). greatest (heights z) ≤ height_limit) (sym (same_shape w)) (low (shape b) w.lawful)
 
 -- the first layer alone
 pub built_first : {T W M : Type 0} (f : Functions T W) (n : ℕ) (height width : M → ℕ) (row : M → ℕ → List T) (ms : List M) {ds : List Dimensions} → CanBuild (batch_of height width row n ms) ds →
-    (x top slots : ℕ) (nodes : List (List W)) → x ≡ exponent top → top ≡ tallest (heights_of ds) → slots ≡ padded_len top n →
+    (x top slots : ℕ) (nodes : List (List W)) → x ≡ exponent top → top ≡ greatest (heights_of ds) → slots ≡ padded_len top n →
     nodes ≡ map (λ j. cond (nat_lt j top) (f.hash (rows_of_height height row top j ms)) f.default_digest) (range_with_len 0 slots) → IsBuilt f (batch_of height width row n ms) x top (nodes ∷ []) []
 built_first f n height width row ms w x top slots nodes e t p d =
     let b = batch_of height width row n ms in
-    let is : top ≡ tallest (heights (shape b)) = t ∙ ap (λ (s : Shape). tallest (heights s)) (same_shape w) in
+    let is : top ≡ greatest (heights (shape b)) = t ∙ ap (λ (s : Shape). greatest (heights s)) (same_shape w) in
     let r : top ≡ raw_len (shape b) 0 = is ∙ sym (raw_start (shape b)) in
     let first = layer_first f n height width row ms top slots is (p ∙ ap (λ q. padded_len q n) r) w.lawful in
     record {
@@ -69,7 +70,7 @@ module _ {T W : Type 0} {f : Functions T W} {b : Batch T} {x len : ℕ} {so_far 
   -- and at 0 there is none
   at_levels : {made : List (List (List W))} → IsBuilt f b x len made so_far → x ≡ 0 → (length so_far) ≡ levels (shape b)
   at_levels k z =
-      let most = least_bound (λ q. eqb (layer_exponent (shape b) q) 0) (exponent (tallest (heights (shape b)))) (length so_far) (eq-eqb (layer_exponent (shape b) (length so_far)) 0 (sym k.at_x ∙ z)) in
+      let most = least_bound (λ q. eqb (layer_exponent (shape b) q) 0) (exponent (greatest (heights (shape b)))) (length so_far) (eq-eqb (layer_exponent (shape b) (length so_far)) 0 (sym k.at_x ∙ z)) in
       let i = k.in_tree in
       omega arith
 

@@ -7,14 +7,15 @@ use Rattle.std.proofs.lemmas.List.{length-take-le, get_or-take, get_or-drop}
 use Rattle.std.proofs.Common.{length-drop}
 use Rattle.std.proofs.Math.Nat.{mul-le-mul_left, mul-suc}
 use Rattle.p3_support.specs.Lists.{rows_of_height}
+use Rattle.p3_merkle_core.specs.Views.{batch_of, matrix_of}
+use Rattle.p3_support.specs.Batches.{greatest}
 use Rattle.std.proofs.lemmas.Simd.{map-map}
-use Rattle.p3_merkle_core.specs.Geometry.{heights, exponent, tallest, layer_exponent, step, raw_len, layer_len, expected_height, has_rows, IsLawful}
+use Rattle.p3_merkle_core.specs.Geometry.{heights, exponent, layer_exponent, step, raw_len, layer_len, expected_height, has_rows, IsLawful, height_at}
 use Rattle.p3_merkle_core.specs.Nodes.{Functions, Batch, shape, at_layer, joined_rows, row_digest, with_rows, compress, node, layer}
 use Rattle.p3_merkle_core.proofs.Completeness.{node_next}
 use Rattle.p3_merkle_core.proofs.StepFacts.{layer_start}
-use Rattle.p3_merkle_layers.specs.Views.{batch_of, matrix_of}
-use Rattle.p3_merkle_core.specs.Levels.{IsLevel, height_at}
-use Rattle.p3_merkle_layers.specs.Levels.{node_above}
+use Rattle.p3_merkle_core.specs.Inner.Levels.{IsLevel}
+use Rattle.p3_merkle_layers.specs.Inner.Levels.{node_above}
 use Rattle.p3_merkle_core.specs.declared.levels.Level.{Level}
 use Rattle.p3_merkle_core.specs.Openings.{children_by}
 
@@ -135,7 +136,7 @@ node_past f b l j h =
     cond-false (nat_lt j (raw_len (shape b) (suc l))) (with_rows f b.arity (has_rows (shape b) (suc l)) (compress f b.arity (children_by (node f b) (shape b) l j)) (row_digest f (at_layer b (suc l)) j)) f.default_digest (le-ltb j (raw_len (shape b) (suc l)) h)
 
 -- a slot of the first layer
-node_first : {T W : Type 0} (f : Functions T W) (b : Batch T) (j : ℕ) → node f b 0 j ≡ cond (nat_lt j (tallest (heights (shape b)))) (f.hash (joined_rows (at_layer b 0) j)) f.default_digest
+node_first : {T W : Type 0} (f : Functions T W) (b : Batch T) (j : ℕ) → node f b 0 j ≡ cond (nat_lt j (greatest (heights (shape b)))) (f.hash (joined_rows (at_layer b 0) j)) f.default_digest
 unfolding node raw_len
 node_first f b j = refl
 
@@ -148,8 +149,8 @@ module _ {T W M : Type 0} (f : Functions T W) (n : ℕ) (height width_of : M →
   heights_are = ap (λ ds. map (λ d. d.height) ds) (map-map (λ m. record { width = m.width; height = m.height }) (matrix_of height width_of row) ms) ∙ map-map (λ d. d.height) (λ m. record { width = width_of m; height = height m }) ms
 
   -- which are lawful
-  on_ladder : IsLawful (heights (shape whole)) → All (λ y. y ≡ expected_height (tallest (heights (shape whole))) y) (map height ms)
-  on_ladder w = subst (λ (hs : List ℕ). All (λ y. y ≡ expected_height (tallest (heights (shape whole))) y) hs) heights_are w.on_ladder
+  on_ladder : IsLawful (heights (shape whole)) → All (λ y. y ≡ expected_height (greatest (heights (shape whole))) y) (map height ms)
+  on_ladder w = subst (λ (hs : List ℕ). All (λ y. y ≡ expected_height (greatest (heights (shape whole))) y) hs) heights_are w.on_ladder
 
   -- a node is built as it is defined
   built_is : (v : Level) (below : List (List W)) (j : ℕ) → IsLevel (shape whole) v → IsLawful (heights (shape whole)) → below ≡ layer f whole v.below → j < v.raw_len →
@@ -157,7 +158,7 @@ module _ {T W M : Type 0} (f : Functions T W) (n : ℕ) (height width_of : M →
   built_is v below j k w e h =
       let s = shape whole in
       let l = v.below in
-      let top = tallest (heights s) in
+      let top = greatest (heights s) in
       let x = layer_exponent s (suc l) in
       let group = children_by (node f whole) (shape whole) l j in
       let c = compress f n group in
@@ -183,7 +184,7 @@ module _ {T W M : Type 0} (f : Functions T W) (n : ℕ) (height width_of : M →
       ]))
 
   -- and so is the first layer
-  pub layer_first : (top slots : ℕ) → top ≡ tallest (heights (shape whole)) → slots ≡ layer_len (shape whole) 0 → IsLawful (heights (shape whole)) →
+  pub layer_first : (top slots : ℕ) → top ≡ greatest (heights (shape whole)) → slots ≡ layer_len (shape whole) 0 → IsLawful (heights (shape whole)) →
       map (λ j. cond (nat_lt j top) (f.hash (rows_of_height height row top j ms)) f.default_digest) (range_with_len 0 slots) ≡ layer f whole 0
   layer_first top slots is wide w =
       let some = w.some_above_0 in

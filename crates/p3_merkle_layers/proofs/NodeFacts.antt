@@ -3,8 +3,8 @@ use Rattle.std.proofs.Common.{◌≡◌, ℕ, ◌-◌, ◌*◌, ◌<◌, List, �
 use Rattle.std.proofs.lemmas.Bool.{lt-ltb}
 use Rattle.p3_support.specs.Lists.{rows_of_height}
 use Rattle.p3_merkle_core.specs.Nodes.{Functions, compress}
-use Rattle.p3_merkle_lanes.specs.Slots.{leaf_over}
-use Rattle.p3_merkle_layers.specs.Levels.{slot_above}
+use Rattle.p3_merkle_lanes.specs.Inner.Slots.{leaf_over}
+use Rattle.p3_merkle_layers.specs.Inner.Levels.{slot_above}
 use Rattle.p3_merkle_core.specs.declared.levels.Level.{Level}
 
 module _ {T W M : Type 0} (f : Functions T W) (n : ℕ) (height : M → ℕ) (row : M → ℕ → List T) (ms : List M) (v : Level) (below : List (List W)) (j : ℕ) (children : List (List W))

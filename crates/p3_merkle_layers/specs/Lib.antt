@@ -1,3 +1,1 @@
-pub mod Views
-pub mod Levels
-pub mod Built
+pub mod Inner

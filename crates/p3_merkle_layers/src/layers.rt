@@ -9,13 +9,13 @@ ghost use Rattle.std.specs.List.{range_with_len};
 ghost use Rattle.std.specs.Mem.{FitsInMemory};
 ghost use denote.Param.{ArrayAt};
 ghost use Rattle.p3_support.specs.Lists.{lane_of, rows_of_height};
+ghost use Rattle.p3_merkle_core.specs.Views.{batch_of};
 ghost use Rattle.p3_merkle_core.specs.Geometry.{arity_schedule as schedule_of, layer_len, shape_of};
-ghost use Rattle.p3_merkle_core.specs.Levels.{IsLevel};
+ghost use Rattle.p3_merkle_core.specs.Inner.Levels.{IsLevel};
 ghost use Rattle.p3_merkle_core.specs.Nodes.{functions_of, layer, layers as layers_over, shape};
-ghost use Rattle.p3_merkle_layers.specs.Built.{IsBuilt};
-ghost use Rattle.p3_merkle_layers.specs.Levels.{layer_above, node_above, slot_above, CanBuild, CanRaise};
-ghost use Rattle.p3_merkle_lanes.specs.Slots.{leaf_over, IsFilled};
-ghost use Rattle.p3_merkle_layers.specs.Views.{batch_of};
+ghost use Rattle.p3_merkle_layers.specs.Inner.Built.{IsBuilt};
+ghost use Rattle.p3_merkle_layers.specs.Inner.Levels.{layer_above, node_above, slot_above, CanBuild, CanRaise};
+ghost use Rattle.p3_merkle_lanes.specs.Inner.Slots.{leaf_over, IsFilled};
 
 use p3_merkle_core::geometry::{exponent_of, padded_len, tallest_of};
 use p3_merkle_core::group::group_with;

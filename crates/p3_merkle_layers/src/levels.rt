@@ -2,7 +2,9 @@
 
 ghost use Rattle.std.specs.Prelude.{◌≡◌, IfOk, map};
 ghost use Rattle.p3_merkle_core.specs.Nodes.{dimensions_of as dimensions_in};
-ghost use Rattle.p3_merkle_layers.specs.Views.{matrix_of, max_height_in, min_height_in};
+ghost use Rattle.p3_merkle_core.specs.Views.{matrix_of, heights_in};
+ghost use Rattle.p3_support.specs.Batches.{greatest};
+ghost use Rattle.p3_merkle_core.specs.Geometry.{shortest};
 
 use p3_support::matrix::{Dimensions, Matrix};
 use std::alloc::{AllocError, Global};
@@ -24,7 +26,7 @@ pub fn dimensions_of<T, M: Matrix<T>>(
 
 /// The height of the tallest matrix, in rows, and 0 of none.
 pub fn max_height_of<T, M: Matrix<T>>(matrices: &[M]) -> usize
-    ensures { result ≡ max_height_in M.height_of M.width_of M.row_of matrices.now }
+    ensures { result ≡ greatest (heights_in M.height_of M.width_of M.row_of matrices.now) }
 {
     let mut tallest = 0;
     for matrix in matrices {
@@ -35,7 +37,7 @@ pub fn max_height_of<T, M: Matrix<T>>(matrices: &[M]) -> usize
 
 /// The height of the shortest matrix, in rows, and 0 of none.
 pub fn min_height_of<T, M: Matrix<T>>(matrices: &[M]) -> usize
-    ensures { result ≡ min_height_in M.height_of M.width_of M.row_of matrices.now }
+    ensures { result ≡ shortest (heights_in M.height_of M.width_of M.row_of matrices.now) }
 {
     let Some((first, others)) = matrices.split_first() else {
         return 0;

@@ -4,8 +4,8 @@ use Rattle.p3_merkle_core.specs.Extraction.{first_pair}
 use Rattle.p3_merkle_core.specs.Checks.{Input}
 use Rattle.p3_merkle_core.specs.Views.{inputs_in}
 use Rattle.p3_merkle_core.specs.declared.collision.InputPair.{InputPair}
-use Rattle.p3_merkle_checker.specs.Collisions.{Shows}
-use Rattle.p3_merkle_pairs.specs.Pairs.{first_place, ShowsAt, ShowsPair}
+use Rattle.p3_merkle_checker.specs.Inner.Collisions.{Shows}
+use Rattle.p3_merkle_pairs.specs.Inner.Pairs.{first_place, ShowsAt, ShowsPair}
 use Rattle.p3_merkle_pairs.proofs.PlaceFacts.{no_pair, no_place, pair_found, place_found}
 
 module _ {T W : Type 0} where

@@ -8,20 +8,20 @@ use Rattle.p3_support.specs.Shown.{row_lists, row_sets}
 use Rattle.p3_merkle_core.specs.Views.{shown_path, shown_paths}
 use Rattle.p3_merkle_core.specs.Extraction.{difference_of, first_pair}
 use Rattle.p3_merkle_core.specs.Geometry.{Shape}
-use Rattle.p3_merkle_checker.specs.Paths.{CanCheck}
+use Rattle.p3_merkle_checker.specs.Inner.Paths.{CanCheck}
 use Rattle.p3_merkle_core.specs.Nodes.{Functions}
 use Rattle.p3_merkle_core.specs.Openings.{Opening, opening_of}
 use Rattle.p3_merkle_core.specs.Checks.{Input, terms}
 use Rattle.p3_merkle_core.specs.Pruning.{PrunedOpening, opening_at, restored_path, restored_paths}
-use Rattle.p3_merkle_core.specs.Refusals.{IsEquality, pruned_refusal_under, verdict}
+use Rattle.p3_merkle_core.specs.Refusals.{IsEquality, pruned_refusal_under, ok_unless}
 use Rattle.p3_merkle_core.specs.declared.error.MerkleTreeError.{MerkleTreeError}
 use Rattle.p3_merkle_core.specs.declared.error.MerkleTreeError.TheVariants.{OutOfMemory}
 use Rattle.p3_merkle_core.specs.declared.pruning.AuthPath.{AuthPath}
 use Rattle.p3_merkle_core.proofs.NoneFacts.{none_parts}
 use Rattle.p3_merkle_core.proofs.Verdicts.{pruned_accepted}
-use Rattle.p3_merkle_checker.specs.Collisions.{Shows}
+use Rattle.p3_merkle_checker.specs.Inner.Collisions.{Shows}
 use Rattle.p3_merkle_core.specs.declared.collision.InputPair.{InputPair}
-use Rattle.p3_merkle_pairs.specs.Pairs.{query_difference, query_in, AreQueriesOf, CanCompare, ShowsPair}
+use Rattle.p3_merkle_pairs.specs.Inner.Pairs.{query_difference, query_in, AreQueriesOf, CanCompare, ShowsPair}
 use Rattle.p3_merkle_pairs.specs.declared.pairs.RestoredQueries.{RestoredQueries}
 use Rattle.p3_merkle_pruner.proofs.GroupFacts.{set_read}
 use Rattle.p3_merkle_pairs.proofs.PlaceFacts.{pairs_alike}
@@ -48,12 +48,12 @@ module _ {T W : Type 0} (eq : T → T → Bool) (same : W → W → Bool) (f : F
   shows_query found o u v e shown = subst (Shows found) (difference_is o u v e) shown
 
   -- the difference of two queries by their restored paths
-  abbrev difference_at : PrunedOpening T W → PrunedOpening T W → ℕ → ℕ → Option (Input T W × Input T W)
-  difference_at p r a b = difference_of eq same (terms f s t) (opening_at (terms f s t) p a) (opening_at (terms f s t) r b)
+  abbrev pair_difference : PrunedOpening T W → PrunedOpening T W → ℕ → ℕ → Option (Input T W × Input T W)
+  pair_difference p r a b = difference_of eq same (terms f s t) (opening_at (terms f s t) p a) (opening_at (terms f s t) r b)
 
-  difference_at_is : (p r : PrunedOpening T W) (a b : ℕ) → query_difference eq same f s t (opening_at (terms f s t) p a) (opening_at (terms f s t) r b) ≡ difference_at p r a b
+  pair_difference_is : (p r : PrunedOpening T W) (a b : ℕ) → query_difference eq same f s t (opening_at (terms f s t) p a) (opening_at (terms f s t) r b) ≡ pair_difference p r a b
   unfolding query_difference
-  difference_at_is p r a b = refl
+  pair_difference_is p r a b = refl
 
   -- ---- one opening
 
@@ -74,7 +74,7 @@ module _ {T W : Type 0} (eq : T → T → Bool) (same : W → W → Bool) (f : F
   pub comparable : (cap : List (List W)) (p : PrunedOpening T W) (queries : RestoredQueries T (List W)) → IsEquality eq → IsEquality same → CanCheck s t → pruned_refusal_under eq same (terms f s t) cap p ≡ None →
       row_sets queries.sets.now ≡ p.rows → shown_paths queries.paths.items ≡ restored_paths (terms f s t) p → CanCompare s t queries
   comparable cap p queries dec dec_w w none rows shown =
-      let accepted = (pruned_accepted eq same f s t cap p dec dec_w w.arity).0 (ap verdict none) in
+      let accepted = (pruned_accepted eq same f s t cap p dec dec_w w.arity).0 (ap (λ refusal. ok_unless refusal (tt {0})) none) in
       let are = restored p queries rows shown in
       record {
         in_pairs = sym (length-map queries.sets.now (λ set. row_lists set.items)) ∙ ap length rows ∙ accepted.0.agreed.in_pairs ∙ sym are.as_many;
@@ -87,13 +87,13 @@ module _ {T W : Type 0} (eq : T → T → Bool) (same : W → W → Bool) (f : F
 
   pub differ_alike : (p r : PrunedOpening T W) (first second : RestoredQueries T (List W)) → AreQueriesOf f s t p first → AreQueriesOf f s t r second →
       first_pair (λ a b. query_difference eq same f s t (query_in first a) (query_in second b)) (length first.paths.items) (length second.paths.items)
-      ≡ first_pair (difference_at p r) (length p.indices) (length r.indices)
+      ≡ first_pair (pair_difference p r) (length p.indices) (length r.indices)
   differ_alike p r first second are are_2 =
       let d : ℕ → ℕ → Option (Input T W × Input T W) = λ a b. query_difference eq same f s t (query_in first a) (query_in second b) in
       ap (λ (n : ℕ). first_pair d n (length second.paths.items)) are.as_many ∙ ap (λ (m : ℕ). first_pair d (length p.indices) m) are_2.as_many
-      ∙ pairs_alike d (difference_at p r) (length p.indices) (length r.indices) (λ a b h g.
+      ∙ pairs_alike d (pair_difference p r) (length p.indices) (length r.indices) (λ a b h g.
       ap (λ (z : Opening T W). query_difference eq same f s t z (query_in second b)) (are.each a h)
-      ∙ ap (λ (z : Opening T W). query_difference eq same f s t (opening_at (terms f s t) p a) z) (are_2.each b g) ∙ difference_at_is p r a b)
+      ∙ ap (λ (z : Opening T W). query_difference eq same f s t (opening_at (terms f s t) p a) z) (are_2.each b g) ∙ pair_difference_is p r a b)
 
 -- ---- answers
 

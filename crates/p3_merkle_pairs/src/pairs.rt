@@ -8,9 +8,9 @@ ghost use Rattle.p3_merkle_core.specs.Geometry.{shape_of};
 ghost use Rattle.p3_merkle_core.specs.Nodes.{functions_of};
 ghost use Rattle.p3_merkle_core.specs.Refusals.{pruned_refusal_under, AnswersUnlessMemory};
 ghost use Rattle.p3_merkle_core.specs.Pruning.{opening_at};
-ghost use Rattle.p3_merkle_checker.specs.Checks.{opening_in};
-ghost use Rattle.p3_merkle_checker.specs.Paths.{CanCheck, CanReach};
-ghost use Rattle.p3_merkle_pairs.specs.Pairs.{query_difference, first_place, pruned_in, query_in, AreQueriesOf, CanCompare, ShowsAt, ShowsPair};
+ghost use Rattle.p3_merkle_checker.specs.Inner.Checks.{opening_in};
+ghost use Rattle.p3_merkle_checker.specs.Inner.Paths.{CanCheck, CanReach};
+ghost use Rattle.p3_merkle_pairs.specs.Inner.Pairs.{query_difference, first_place, pruned_in, query_in, AreQueriesOf, CanCompare, ShowsAt, ShowsPair};
 
 use p3_merkle_checker::level::Checker;
 use p3_merkle_checker::openings::{IndexedOpening, OpeningPair};

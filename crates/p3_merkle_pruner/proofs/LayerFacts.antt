@@ -11,8 +11,8 @@ use Rattle.p3_merkle_core.proofs.Equivalence.{restored_leaf, restored_next, rows
 use Rattle.p3_merkle_core.proofs.PathFacts.{group_values}
 use Rattle.p3_merkle_core.proofs.ValueFacts.{IsLevel, children_are}
 use Rattle.p3_merkle_pruner.proofs.WalkFacts.{same_map}
-use Rattle.p3_merkle_pruner.specs.Groups.{group_digest, layer_digests, pair_digest, query_digest}
-use Rattle.p3_merkle_pruner.specs.Walks.{AreRestored, IsCoveredAt, IsRestoredRise, IsRise, child_values, node_of_query}
+use Rattle.p3_merkle_pruner.specs.Inner.Groups.{group_digest, layer_digests, pair_digest, query_digest}
+use Rattle.p3_merkle_pruner.specs.Inner.Walks.{AreRestored, IsCoveredAt, IsRestoredRise, IsRise, child_values, node_of_query}
 use Rattle.p3_merkle_pruner.specs.declared.plan.Covered.{Covered}
 use Rattle.p3_merkle_pruner.specs.declared.plan.Rise.{Rise}
 use Rattle.p3_merkle_core.specs.Openings.{children_by}

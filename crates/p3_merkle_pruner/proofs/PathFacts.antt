@@ -7,7 +7,7 @@ use Rattle.p3_merkle_core.specs.Nodes.{Functions}
 use Rattle.p3_merkle_core.specs.Pruning.{PrunedOpening, value_of}
 use Rattle.p3_merkle_core.specs.declared.pruning.KeptLevel.{KeptLevel}
 use Rattle.p3_merkle_core.proofs.KeptFacts.{level_of}
-use Rattle.p3_merkle_pruner.specs.Walks.{AreKept, IsRestoredRise}
+use Rattle.p3_merkle_pruner.specs.Inner.Walks.{AreKept, IsRestoredRise}
 use Rattle.p3_merkle_pruner.specs.declared.plan.Rise.{Rise}
 use Rattle.p3_merkle_core.specs.Checks.{terms}
 

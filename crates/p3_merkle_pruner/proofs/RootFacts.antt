@@ -11,7 +11,7 @@ use Rattle.p3_merkle_core.specs.declared.error.MerkleTreeError.TheVariants.{CapM
 use Rattle.p3_merkle_core.specs.Pruning.{CanQuery, PrunedOpening, covered_at, is_covered, restored_node}
 use Rattle.p3_merkle_core.proofs.CoveredFacts.{covered_listed, listed_covered}
 use Rattle.p3_merkle_core.proofs.RisingFacts.{is_listed}
-use Rattle.p3_merkle_checker.specs.Roots.{is_root}
+use Rattle.p3_merkle_core.specs.Refusals.{is_entry}
 use Rattle.p3_merkle_core.specs.Checks.{terms}
 
 listed_pass : (q : ℕ → Bool) (xs : List ℕ) (j : ℕ) → list_all q xs ≡ true → is_listed xs j ≡ true → q j ≡ true
@@ -58,10 +58,10 @@ all_beside q value (j ∷ nodes) = ap (λ b. q (j, value j) && b) (all_beside q 
 
 -- the cap refuses just where some covered node's digest is not its root
 pub cap_settled : {T W : Type 0} (digest_eq : W → W → Bool) (f : Functions T W) (s : Shape) (t : ℕ) (cap : List (List W)) (p : PrunedOpening T W) → CanQuery s p.indices t → (nodes : List ℕ) (digests : List (List W)) (answer : Bool) →
-    nodes ≡ covered_at s p.indices t → digests ≡ map (restored_node (terms f s t) p t) (covered_at s p.indices t) → answer ≡ list_all (is_root (pointwise digest_eq) cap) (zip nodes digests) →
+    nodes ≡ covered_at s p.indices t → digests ≡ map (restored_node (terms f s t) p t) (covered_at s p.indices t) → answer ≡ list_all (λ (node, digest). is_entry (pointwise digest_eq) cap node digest) (zip nodes digests) →
     cap_refusal digest_eq (terms f s t) cap p ≡ unless answer CapMismatch
 cap_settled digest_eq f s t cap p w nodes digests answer is_nodes is_digests e =
     let value = restored_node (terms f s t) p t in
-    let q = λ (j : ℕ). is_root (pointwise digest_eq) cap (j, value j) in
-    let all : answer ≡ list_all (λ i. q (ancestor s t i)) p.indices = e ∙ rw (is_nodes, is_digests) (all_beside (is_root (pointwise digest_eq) cap) value (covered_at s p.indices t)) ∙ all_covered s p.indices t w q in
+    let q = λ (j : ℕ). is_entry (pointwise digest_eq) cap j (value j) in
+    let all : answer ≡ list_all (λ i. q (ancestor s t i)) p.indices = e ∙ rw (is_nodes, is_digests) (all_beside (λ (node, digest). is_entry (pointwise digest_eq) cap node digest) value (covered_at s p.indices t)) ∙ all_covered s p.indices t w q in
     ap (λ b. unless b CapMismatch) (sym all)

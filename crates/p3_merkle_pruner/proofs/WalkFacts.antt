@@ -5,14 +5,15 @@ use Rattle.std.specs.declared.vec.Vec.{Vec}
 use Rattle.std.proofs.lemmas.Bool.{cond_both}
 use Rattle.std.proofs.lemmas.List.{length-map}
 use Rattle.std.proofs.Math.Nat.{mul-div_cancel_left}
-use Rattle.p3_merkle_core.specs.Children.{AreChildren, IsFamily}
-use Rattle.p3_merkle_core.specs.Geometry.{Shape, heights, is_bridge, layer_exponent, max_height, step, tallest}
+use Rattle.p3_merkle_core.specs.Inner.Children.{AreChildren, IsFamily}
+use Rattle.p3_support.specs.Batches.{greatest}
+use Rattle.p3_merkle_core.specs.Geometry.{Shape, heights, is_bridge, layer_exponent, height_limit, step}
 use Rattle.p3_merkle_core.specs.Pruning.{CanQuery, boundary, boundary_at, covered_at}
 use Rattle.p3_merkle_core.proofs.CoveredFacts.{covered_above}
 use Rattle.p3_merkle_core.proofs.ListFacts.{length-joined_le}
 use Rattle.p3_merkle_core.proofs.StepFacts.{anc_next, step_above_1}
 use Rattle.p3_merkle_core.proofs.ValueFacts.{family_by_counts}
-use Rattle.p3_merkle_pruner.specs.Walks.{IsCoveredAt, node_of_query}
+use Rattle.p3_merkle_pruner.specs.Inner.Walks.{IsCoveredAt, node_of_query}
 use Rattle.p3_merkle_pruner.specs.declared.plan.Covered.{Covered}
 use Rattle.p3_merkle_core.specs.Openings.{children_by}
 
@@ -35,7 +36,7 @@ pub record IsLeft {X : Type 0} (n : ℕ) (parents covered : List ℕ) (digests s
   pub fits : used ≤ length sent
   pub rest : left ≡ drop used sent → IsFamily n parents covered digests left
 
-pub left_family : {X : Type 0} (s : Shape) (queries : List ℕ) (t : ℕ) → CanQuery s queries t → tallest (heights s) ≤ max_height → (l : ℕ) → l < t → (n : ℕ) (parents covered : List ℕ) (digests sent left : List X) (used : ℕ) →
+pub left_family : {X : Type 0} (s : Shape) (queries : List ℕ) (t : ℕ) → CanQuery s queries t → greatest (heights s) ≤ height_limit → (l : ℕ) → l < t → (n : ℕ) (parents covered : List ℕ) (digests sent left : List X) (used : ℕ) →
     n ≡ step s l → parents ≡ covered_at s queries (suc l) → covered ≡ covered_at s queries l → length digests ≡ length covered → length sent ≡ length (boundary s queries t) → used ≡ length (boundary s queries l) →
     IsLeft n parents covered digests sent left used
 left_family s queries t w low l h n parents covered digests sent left used is_step is_above is_here each all below =

@@ -5,9 +5,9 @@ ghost use Rattle.p3_merkle_core.specs.Geometry.{shape_of};
 ghost use Rattle.p3_merkle_core.specs.Nodes.{functions_of};
 ghost use Rattle.p3_support.specs.Shown.{row_sets};
 ghost use Rattle.p3_merkle_core.specs.Pruning.{pruned_of};
-ghost use Rattle.p3_merkle_core.specs.Refusals.{pruned_refusal_under};
+ghost use Rattle.p3_merkle_core.specs.Refusals.{pruned_refusal_under, AnswersUnlessMemory};
 ghost use Rattle.p3_merkle_core.specs.declared.error.MerkleTreeError.TheVariants.{OutOfMemory};
-ghost use Rattle.p3_merkle_checker.specs.Paths.{CanCheck};
+ghost use Rattle.p3_merkle_checker.specs.Inner.Paths.{CanCheck};
 
 use crate::leaves::{leaves_of, tell_restorable};
 use crate::plan::Plan;
@@ -52,7 +52,7 @@ pub fn check_opening<
     ensures { let f = functions_of (H.hash checker.now.hash.now) (C.compression checker.now.compress.now) (replicate D PW.default_value) in
         let p = pruned_of indices.now (row_sets sets.now) sent.now in
         let refusal = pruned_refusal_under P.Value.eq PW.Value.eq (terms f (shape_of N dimensions.now) t) roots.now p in
-        MatchResult result (λ ok. refusal ≡ None) (λ e. (e ≡ OutOfMemory) ⊎ (refusal ≡ Some e)) }
+        AnswersUnlessMemory result refusal }
 {
     let slots = check_pruned(alloc, dimensions, N, t, indices, sets, sent.len())?;
     tell_restorable::<P, PW, D>(dimensions, N, t, indices, sets, sent);

@@ -2,7 +2,8 @@
 
 ghost use Rattle.std.specs.Prelude.{◌≡◌, ◌*◌, ◌/◌, ◌<◌, ◌≤◌, IfOk, drop, length, map, replicate, take, zip};
 ghost use Rattle.std.specs.List.{range_with_len};
-ghost use Rattle.p3_merkle_pruner.specs.Groups.{group_digest, padded, pair_digest};
+ghost use Rattle.p3_merkle_pruner.specs.Inner.Groups.{group_digest, pair_digest};
+ghost use Rattle.p3_merkle_core.specs.Nodes.{padded};
 
 use p3_merkle_core::group::group_with;
 use p3_support::compress::PseudoCompressionFunction;

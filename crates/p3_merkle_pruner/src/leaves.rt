@@ -1,13 +1,14 @@
 //! Where a walk begins: the covered leaves of a pruned opening that restores.
 
 ghost use Rattle.std.specs.Prelude.{◌≡◌, ◌<◌, ◌≤◌, ℕ, None, length};
-ghost use Rattle.p3_merkle_core.specs.Agreement.{opened_with, HasSlots};
-ghost use Rattle.p3_merkle_core.specs.Geometry.{heights_of, max_height, shape_of, tallest};
+ghost use Rattle.p3_merkle_core.specs.Inner.Agreement.{opened_with, HasSlots};
+ghost use Rattle.p3_support.specs.Batches.{heights_of, greatest};
+ghost use Rattle.p3_merkle_core.specs.Geometry.{height_limit, shape_of};
 ghost use Rattle.p3_support.specs.Shown.{row_sets};
 ghost use Rattle.p3_merkle_core.specs.Pruning.{boundary, pruned_of, CanQuery, IsAgreed};
 ghost use Rattle.p3_merkle_core.specs.Refusals.{pruned_refusal};
-ghost use Rattle.p3_merkle_checker.specs.Paths.{CanCheck};
-ghost use Rattle.p3_merkle_pruner.specs.Walks.{IsCoveredAt};
+ghost use Rattle.p3_merkle_checker.specs.Inner.Paths.{CanCheck};
+ghost use Rattle.p3_merkle_pruner.specs.Inner.Walks.{IsCoveredAt};
 
 use crate::plan::Covered;
 use p3_merkle_core::agreement::Slots;
@@ -23,7 +24,7 @@ pub(crate) fn leaves_of(
     slots: Slots,
 ) -> Covered
     requires slots { HasSlots slots indices.now }
-    requires below { tallest indices.now < tallest (heights_of dimensions.now) }
+    requires below { greatest indices.now < greatest (heights_of dimensions.now) }
     ensures { IsCoveredAt (shape_of arity dimensions.now) indices.now 0 result }
 {
     let Slots { leaves, firsts } = slots;
@@ -47,8 +48,8 @@ pub(crate) fn tell_restorable<P: PackedValue, PW: PackedValue, const D: usize>(
     requires checked { CanCheck (shape_of arity dimensions.now) t }
     requires unrefused { pruned_refusal P.Value.eq (shape_of arity dimensions.now) t (opened_with indices.now (row_sets sets.now) (length sent.now)) ≡ None }
     ensures queried { CanQuery (shape_of arity dimensions.now) indices.now t }
-    ensures low { tallest (heights_of dimensions.now) ≤ max_height }
-    ensures below { tallest indices.now < tallest (heights_of dimensions.now) }
+    ensures low { greatest (heights_of dimensions.now) ≤ height_limit }
+    ensures below { greatest indices.now < greatest (heights_of dimensions.now) }
     ensures pairs { length sets.now ≡ length indices.now }
     ensures sent { length sent.now ≡ length (boundary (shape_of arity dimensions.now) indices.now t) }
     ensures agreed { IsAgreed (shape_of arity dimensions.now) t (pruned_of indices.now (row_sets sets.now) sent.now) }

@@ -1,10 +1,10 @@
 //! One level: from the children of covered nodes to the digests of these.
 
 ghost use Rattle.std.specs.Prelude.{◌≡◌, ◌/◌, ◌<◌, ◌≤◌, All, IfOk, length, replicate};
-ghost use Rattle.p3_merkle_core.specs.Geometry.{heights_of};
+ghost use Rattle.p3_support.specs.Batches.{heights_of};
 ghost use Rattle.p3_merkle_core.specs.Nodes.{functions_of};
 ghost use Rattle.p3_support.specs.Shown.{row_sets};
-ghost use Rattle.p3_merkle_pruner.specs.Groups.{layer_digests};
+ghost use Rattle.p3_merkle_pruner.specs.Inner.Groups.{layer_digests};
 
 use crate::groups::Compressor;
 use crate::rows::row_digests;

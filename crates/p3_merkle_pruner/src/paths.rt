@@ -6,10 +6,10 @@ ghost use Rattle.p3_merkle_core.specs.Geometry.{shape_of};
 ghost use Rattle.p3_merkle_core.specs.Nodes.{functions_of};
 ghost use Rattle.p3_support.specs.Shown.{row_sets};
 ghost use Rattle.p3_merkle_core.specs.Pruning.{boundary, pruned_of, IsAgreed, restored_paths};
-ghost use Rattle.p3_merkle_core.specs.Refusals.{pruned_refusal};
+ghost use Rattle.p3_merkle_core.specs.Refusals.{pruned_refusal, AnswersUnlessMemory};
 ghost use Rattle.p3_merkle_core.specs.declared.error.MerkleTreeError.TheVariants.{OutOfMemory};
-ghost use Rattle.p3_merkle_checker.specs.Paths.{CanCheck};
-ghost use Rattle.p3_merkle_pruner.specs.Walks.{AreKept, IsCoveredAt};
+ghost use Rattle.p3_merkle_checker.specs.Inner.Paths.{CanCheck};
+ghost use Rattle.p3_merkle_pruner.specs.Inner.Walks.{AreKept, IsCoveredAt};
 
 use crate::leaves::{leaves_of, tell_restorable};
 use crate::plan::{Covered, Plan, Rise};
@@ -53,7 +53,7 @@ pub fn restored_paths_of<
     requires { CanCheck (shape_of N dimensions.now) t }
     ensures answer { let p = pruned_of indices.now (row_sets sets.now) sent.now in
         let refusal = pruned_refusal P.Value.eq (shape_of N dimensions.now) t p in
-        MatchResult result (λ paths. refusal ≡ None) (λ e. (e ≡ OutOfMemory) ⊎ (refusal ≡ Some e)) }
+        AnswersUnlessMemory result refusal }
     ensures paths { let f = functions_of (H.hash checker.now.hash.now) (C.compression checker.now.compress.now) (replicate D PW.default_value) in
         let p = pruned_of indices.now (row_sets sets.now) sent.now in
         IfOk result (λ paths. shown_paths paths.items ≡ restored_paths (terms f (shape_of N dimensions.now) t) p) }

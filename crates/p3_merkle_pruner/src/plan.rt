@@ -1,10 +1,11 @@
 //! The covered nodes of each layer, from the leaves up: what needs no hash.
 
 ghost use Rattle.std.specs.Prelude.{◌≡◌, suc, ◌/◌, ◌<◌, ◌≤◌, All, IfOk, drop, length, map};
-ghost use Rattle.p3_merkle_core.specs.Children.{AreChildren};
-ghost use Rattle.p3_merkle_core.specs.Geometry.{heights_of, max_height, shape_of, step as step_in, tallest};
+ghost use Rattle.p3_merkle_core.specs.Inner.Children.{AreChildren};
+ghost use Rattle.p3_support.specs.Batches.{heights_of, greatest};
+ghost use Rattle.p3_merkle_core.specs.Geometry.{height_limit, shape_of, step as step_in};
 ghost use Rattle.p3_merkle_core.specs.Pruning.{boundary, CanQuery};
-ghost use Rattle.p3_merkle_pruner.specs.Walks.{IsCoveredAt, IsRise};
+ghost use Rattle.p3_merkle_pruner.specs.Inner.Walks.{IsCoveredAt, IsRise};
 
 use crate::leads::leads_above;
 use p3_merkle_core::geometry::select_arity_step;
@@ -24,7 +25,7 @@ pub struct Plan<'a> {
     /// The index of each query.
     pub indices: &'a [usize],
     ghost queried: { CanQuery (shape_of arity dimensions.now) indices.now t },
-    ghost low: { tallest (heights_of dimensions.now) ≤ max_height },
+    ghost low: { greatest (heights_of dimensions.now) ≤ height_limit },
 }
 
 /// The covered nodes of a layer.

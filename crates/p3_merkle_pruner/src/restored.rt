@@ -5,9 +5,9 @@ ghost use Rattle.p3_merkle_core.specs.Geometry.{shape_of};
 ghost use Rattle.p3_merkle_core.specs.Nodes.{functions_of};
 ghost use Rattle.p3_merkle_core.specs.Pruning.{boundary, covered_at, pruned_of, restored_node, IsAgreed};
 ghost use Rattle.p3_support.specs.Shown.{row_sets};
-ghost use Rattle.p3_merkle_core.specs.Refusals.{cap_refusal};
+ghost use Rattle.p3_merkle_core.specs.Refusals.{cap_refusal, AnswersUnlessMemory};
 ghost use Rattle.p3_merkle_core.specs.declared.error.MerkleTreeError.TheVariants.{OutOfMemory};
-ghost use Rattle.p3_merkle_pruner.specs.Walks.{AreRestored, IsCoveredAt, IsRestoredRise};
+ghost use Rattle.p3_merkle_pruner.specs.Inner.Walks.{AreRestored, IsCoveredAt, IsRestoredRise};
 
 use crate::level::node_digests;
 use crate::plan::{Covered, Plan, Rise};
@@ -103,7 +103,7 @@ pub(crate) fn restored_above<
 /// # Errors
 ///
 /// `AllocError` where there is no memory.
-pub fn restored_cap<
+pub(crate) fn restored_cap<
     P: PackedValue,
     PW: PackedValue,
     H: CryptographicHasher<P, PW, D>,
@@ -158,7 +158,7 @@ pub fn restored_cap<
 /// # Errors
 ///
 /// `CapMismatch` where some root is another or is not there; `OutOfMemory` where there is no memory.
-pub fn check_cap<
+pub(crate) fn check_cap<
     P: PackedValue,
     PW: PackedValue,
     H: CryptographicHasher<P, PW, D>,
@@ -182,7 +182,7 @@ pub fn check_cap<
     ensures { let f = functions_of (H.hash checker.now.hash.now) (C.compression checker.now.compress.now) (replicate D PW.default_value) in
         let p = pruned_of plan.now.indices.now (row_sets sets.now) sent.now in
         let refusal = cap_refusal PW.Value.eq (terms f (shape_of plan.now.arity plan.now.dimensions.now) plan.now.t) roots.now p in
-        MatchResult result (λ ok. refusal ≡ None) (λ e. (e ≡ OutOfMemory) ⊎ (refusal ≡ Some e)) }
+        AnswersUnlessMemory result refusal }
 {
     let restored = restored_cap::<P, PW, H, C, N, D>(alloc, checker, plan, sets, sent, leaves)?;
     let (covered, digests) = restored;

@@ -1,9 +1,9 @@
 //! The digests of rows.
 
 ghost use Rattle.std.specs.Prelude.{◌≡◌, ◌<◌, All, IfOk, length, map};
-ghost use Rattle.p3_merkle_core.specs.Geometry.{heights_of};
+ghost use Rattle.p3_support.specs.Batches.{heights_of};
 ghost use Rattle.p3_support.specs.Shown.{row_sets};
-ghost use Rattle.p3_merkle_pruner.specs.Groups.{query_digest};
+ghost use Rattle.p3_merkle_pruner.specs.Inner.Groups.{query_digest};
 
 use p3_merkle_checker::level::rows_digest;
 use p3_support::hasher::CryptographicHasher;

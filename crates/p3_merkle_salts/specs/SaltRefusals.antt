@@ -3,7 +3,7 @@ use Rattle.std.specs.Prelude.{ℕ, ◌+◌, ◌^◌, nat_le, List, length, zip, 
 use Rattle.std.specs.Option.{option_or}
 use Rattle.p3_support.specs.declared.matrix.Dimensions.{Dimensions}
 use Rattle.p3_merkle_core.specs.Gate.{gate_refusal}
-use Rattle.p3_merkle_core.specs.Geometry.{heights_of, widths_of}
+use Rattle.p3_support.specs.Batches.{heights_of, widths_of}
 use Rattle.p3_merkle_core.specs.Checks.{Terms}
 use Rattle.p3_merkle_core.specs.Refusals.{first_of, pruned_refusal_under, refusal_under, size_refusal, width_refusal}
 use Rattle.p3_merkle_core.specs.declared.error.MerkleTreeError.{MerkleTreeError}

@@ -2,7 +2,7 @@
 
 ghost use Rattle.std.specs.Prelude.{◌≡◌, ◌≤◌, IfOk, OnOk, map};
 ghost use Rattle.p3_merkle_core.specs.Nodes.{dimensions_of};
-ghost use Rattle.p3_merkle_layers.specs.Views.{matrix_of};
+ghost use Rattle.p3_merkle_core.specs.Views.{matrix_of};
 ghost use Rattle.p3_support.specs.Pairs.{left_of};
 ghost use Rattle.p3_merkle_salts.specs.Salted.{after_salts, salted_matrices, IsAfterSome};
 ghost use Rattle.p3_merkle_salts.specs.SaltedOpenings.{CanWiden};

@@ -1,7 +1,7 @@
 //! Rows and their salts: what is checked of both, and what is hashed. No call here knows a hash.
 
 ghost use Rattle.std.specs.Prelude.{◌≡◌, ◌++◌, map, IfOk, MatchResult, None, Some};
-ghost use Rattle.p3_merkle_core.specs.Geometry.{widths_of};
+ghost use Rattle.p3_support.specs.Batches.{widths_of};
 ghost use Rattle.p3_merkle_salts.specs.SaltRefusals.{first_too_wide, salt_refusal, salt_sets_refusal, widening_refusal};
 ghost use Rattle.p3_merkle_salts.specs.SaltedOpenings.{salt_parts, salted_rows, salted_sets, unsalted_parts, widened, CanWiden};
 ghost use Rattle.p3_support.specs.Shown.{row_lists, row_sets};

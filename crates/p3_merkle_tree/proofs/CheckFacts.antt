@@ -6,9 +6,9 @@ use Rattle.p3_merkle_core.specs.Geometry.{Shape}
 use Rattle.p3_merkle_core.specs.Nodes.{functions_of}
 use Rattle.p3_merkle_core.specs.Openings.{opening_of}
 use Rattle.p3_merkle_core.specs.Pruning.{pruned_of}
-use Rattle.p3_merkle_checker.specs.Checks.{opening_in}
+use Rattle.p3_merkle_checker.specs.Inner.Checks.{opening_in}
 use Rattle.p3_merkle_checker.specs.declared.openings.IndexedOpening.{IndexedOpening}
-use Rattle.p3_merkle_pairs.specs.Pairs.{pruned_in}
+use Rattle.p3_merkle_pairs.specs.Inner.Pairs.{pruned_in}
 use Rattle.p3_merkle_pairs.specs.declared.pairs.PrunedOpeningRef.{PrunedOpeningRef}
 
 -- the same terms, of the same hash, compression and layer

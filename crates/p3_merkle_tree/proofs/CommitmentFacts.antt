@@ -2,13 +2,13 @@
 use Rattle.std.proofs.Common.{◌≡◌, ℕ, List, Result, inl, inr, subst, sym}
 use Rattle.std.specs.Prelude.{Ok, Err, IfErr, IfOk, IsOk}
 use Rattle.p3_merkle_core.specs.Gate.{gate_refusal}
+use Rattle.p3_merkle_core.specs.Commitments.{IsCommitment}
 use Rattle.p3_merkle_core.specs.Geometry.{IsLawful, Shape}
 use Rattle.p3_merkle_core.specs.Nodes.{Batch, Functions, layer, layers, shape}
 use Rattle.p3_merkle_core.specs.declared.error.MerkleTreeError.TheVariants.{OutOfMemory}
 use Rattle.p3_merkle_core.specs.declared.error.MerkleTreeError.{MerkleTreeError}
 use Rattle.p3_merkle_core.proofs.GateFacts.{gate_lawful}
 use Rattle.p3_merkle_core.specs.Refusals.{AnswersUnlessMemory}
-use Rattle.p3_merkle_tree.specs.Commitments.{IsCommitment}
 use Rattle.p3_merkle_core.specs.Checks.{Terms}
 
 -- Ok is answered of lawful heights alone

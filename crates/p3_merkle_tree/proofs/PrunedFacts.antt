@@ -2,12 +2,13 @@
 use Rattle.std.proofs.Common.{◌≡◌, ◌↔◌, ◌∙◌, ℕ, Bool, Option, None, Some, Result, ap, refl, inl, inr, List, map, subst, sym}
 use Rattle.std.specs.Prelude.{Ok, Err, IsOk}
 use Rattle.p3_merkle_core.specs.Checks.{Terms, terms}
+use Rattle.p3_merkle_core.specs.Commitments.{IsOwn, cap_over}
 use Rattle.p3_merkle_core.specs.Geometry.{IsArity, Shape}
 use Rattle.p3_merkle_core.specs.Nodes.{Batch, HasFullRows, shape}
 use Rattle.p3_merkle_core.specs.Openings.{honest}
 use Rattle.p3_merkle_core.specs.Presented.{IsVerdict, Presented, presented_pruned, presented_to_restore}
 use Rattle.p3_merkle_core.specs.Pruning.{IsHonestQuery, IsPrunedAccepted, PrunedOpening, honest_query, pruned_in_layers, restored_paths}
-use Rattle.p3_merkle_core.specs.Refusals.{AnswersUnlessMemory, IsEquality, pruned_refusal, pruned_refusal_under, verdict}
+use Rattle.p3_merkle_core.specs.Refusals.{AnswersUnlessMemory, IsEquality, pruned_refusal, pruned_refusal_under, ok_unless}
 use Rattle.p3_merkle_core.specs.declared.error.MerkleTreeError.{MerkleTreeError}
 use Rattle.p3_merkle_core.proofs.Answered.{restorable}
 use Rattle.p3_merkle_core.proofs.Equivalence.{equivalent}
@@ -17,7 +18,6 @@ use Rattle.p3_merkle_core.proofs.OwnNodes.{honest_restored_paths, own_pruned_ope
 use Rattle.p3_merkle_core.proofs.Restoration.{honest_capped}
 use Rattle.p3_merkle_core.proofs.Unrefused.{unrefused}
 use Rattle.p3_merkle_core.proofs.Verdicts.{pruned_accepted}
-use Rattle.p3_merkle_tree.specs.Commitments.{IsOwn, cap_over}
 
 module _ {T W : Type 0} (c : Terms T W) (b : Batch T) (indices : List ℕ) (w : IsHonestQuery b c.layer indices) (same : c.shape ≡ shape b) where
   -- what is read out of the layers of an own tree is the honest pruned opening
@@ -59,9 +59,9 @@ pub pruned_verdict : {T W V : Type 0} (eq : T → T → Bool) (same : W → W �
     (r : Result V MerkleTreeError) → AnswersUnlessMemory r (pruned_refusal_under eq same c cap p) → IsVerdict (presented_pruned eq same c cap p) r
 pruned_verdict eq same c cap p dec dec_w w r answer =
     let accept = pruned_accepted eq same c.functions c.shape c.layer cap p dec dec_w w in
-    verdict_by (presented_pruned eq same c cap p) (λ none. accept.0 (ap verdict none), λ a. verdict_ok (pruned_refusal_under eq same c cap p) (accept.1 a)) r answer
+    verdict_by (presented_pruned eq same c cap p) (λ none. accept.0 (ap (λ refusal. ok_unless refusal (tt {0})) none), λ a. verdict_ok (pruned_refusal_under eq same c cap p) (accept.1 a)) r answer
 
 -- and of its restored paths
 pub restoring_verdict : {T W V : Type 0} (eq : T → T → Bool) (s : Shape) (t : ℕ) (p : PrunedOpening T W) → IsEquality eq → (r : Result V MerkleTreeError) → AnswersUnlessMemory r (pruned_refusal eq s t p) → IsVerdict (presented_to_restore eq s t p) r
 restoring_verdict eq s t p dec r answer =
-    verdict_by (presented_to_restore eq s t p) (λ none. restorable eq s t p dec (ap verdict none), λ w. verdict_ok (pruned_refusal eq s t p) (unrefused eq s t p dec w)) r answer
+    verdict_by (presented_to_restore eq s t p) (λ none. restorable eq s t p dec (ap (λ refusal. ok_unless refusal (tt {0})) none), λ w. verdict_ok (pruned_refusal eq s t p) (unrefused eq s t p dec w)) r answer

@@ -1,5 +1,5 @@
 -- What a scheme shows, and the terms of its checks.
-use Rattle.std.specs.Prelude.{ℕ, List, replicate}
+use Rattle.std.specs.Prelude.{◌≡◌, ℕ, List, replicate}
 use Rattle.std.specs.declared.default.Default as default
 use Rattle.std.specs.declared.cmp.PartialEq as equality
 use Rattle.p3_support.specs.declared.packed.PackedValue as packed
@@ -47,3 +47,11 @@ module _ {P PW H C X G V W : Type 0} {N : ℕ} {p : packed.Ghosts P V} {pd : def
   -- the layer that is its cap over matrices of these dimensions
   abbrev pub cap_of : Scheme P PW H C X G N V W p pd pe q qd qe → List Dimensions → ℕ
   cap_of scheme dimensions = proof_layer scheme (shape_of N dimensions)
+
+-- two schemes have one hasher, one compression, one cap height and one rule
+pub record IsSameScheme {P PW H C X G V W : Type 0} {N : ℕ} {p : packed.Ghosts P V} {pd : default.Ghosts V} {pe : equality.Ghosts V} {q : packed.Ghosts PW W} {qd : default.Ghosts W} {qe : equality.Ghosts W}
+    (s t : Scheme P PW H C X G N V W p pd pe q qd qe) : Type 0 where
+  pub same_hash : hash_of s ≡ hash_of t
+  pub same_compression : compression_of s ≡ compression_of t
+  pub same_cap_height : cap_height_of s ≡ cap_height_of t
+  pub same_rule : cap_rule_of s ≡ cap_rule_of t

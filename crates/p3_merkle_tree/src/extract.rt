@@ -2,9 +2,10 @@
 
 ghost use Rattle.std.specs.Prelude.{◌≡◌, ◌<◌, IfOk, IsTrue, MatchResult, None, Some, length};
 ghost use Rattle.p3_merkle_core.specs.Checks.{is_authenticated as authenticates};
+ghost use Rattle.p3_support.specs.Batches.{heights_of};
 ghost use Rattle.p3_merkle_core.specs.Extraction.{IsExtraction};
 ghost use Rattle.p3_merkle_core.specs.Gate.{gate_refusal};
-ghost use Rattle.p3_merkle_core.specs.Geometry.{heights_of, shape_of};
+ghost use Rattle.p3_merkle_core.specs.Geometry.{shape_of};
 ghost use Rattle.p3_merkle_core.specs.Presented.{presented};
 ghost use Rattle.p3_merkle_core.specs.Views.{found_alone, opening_lent};
 ghost use Rattle.p3_merkle_core.specs.declared.cap.CapRule.TheVariants.{Lowered};

@@ -2,6 +2,8 @@
 
 ghost use Rattle.std.specs.Prelude.{◌≡◌, ◌<◌, ◌≤◌, ◌↔◌, IfOk, IsOk, IsTrue, None};
 ghost use Rattle.p3_merkle_core.specs.Geometry.{is_arity, IsArity};
+ghost use Rattle.p3_merkle_core.specs.Commitments.{cap_over, IsCommitment, IsOwn};
+ghost use Rattle.p3_support.specs.Batches.{greatest};
 
 use p3_merkle_builder::opener::{cap_layer_in, rows_of_index, siblings_of_index};
 use p3_merkle_builder::tree::MerkleTree;
@@ -113,15 +115,13 @@ impl<
 > MerkleTreeMmcs<P, PW, H, C, N, D> {
     ghost use Rattle.p3_merkle_core.specs.Checks.{IsAccepted};
     ghost use Rattle.p3_merkle_core.specs.Gate.{gate_refusal};
-    ghost use Rattle.p3_merkle_core.specs.Geometry.{heights, tallest};
+    ghost use Rattle.p3_merkle_core.specs.Geometry.{heights};
     ghost use Rattle.p3_merkle_core.specs.Nodes.{shape};
     ghost use Rattle.p3_merkle_core.specs.Openings.{honest, opening_in_layers};
     ghost use Rattle.p3_merkle_core.specs.Refusals.{answer_under, AnswersUnlessMemory};
-    ghost use Rattle.p3_merkle_core.specs.Views.{opening_lent, opening_made};
+    ghost use Rattle.p3_merkle_core.specs.Views.{opening_lent, opening_made, batch_of, heights_in};
     ghost use Rattle.p3_merkle_core.specs.declared.cap.CapRule.TheVariants.{Lowered};
     ghost use Rattle.p3_merkle_builder.specs.Parts.{layers_of, matrices_of, tree_batch};
-    ghost use Rattle.p3_merkle_layers.specs.Views.{batch_of, heights_in};
-    ghost use Rattle.p3_merkle_tree.specs.Commitments.{cap_over, IsCommitment, IsOwn};
     ghost use Rattle.p3_merkle_tree.specs.Schemes.{cap_height_of, cap_rule_of, compression_of, hash_of, proof_layer, terms_of, terms_over};
     ghost use Rattle.p3_support.specs.Shown.{roots_of};
 
@@ -224,7 +224,7 @@ impl<
         index: usize,
         tree: &MerkleTree<P::Value, PW::Value, M, N, D>,
     ) -> Result<BatchOpening<P::Value, Vec<[PW::Value; D]>>, MerkleTreeError>
-        requires { index < tallest (heights (shape (tree_batch tree.now))) }
+        requires { index < greatest (heights (shape (tree_batch tree.now))) }
         ensures opened { let b = tree_batch tree.now in
             let t = proof_layer self.now (shape b) in
             IfOk result (λ o. opening_made index o ≡ opening_in_layers b (layers_of tree.now) t index) }

@@ -1,7 +1,9 @@
 //! Pruned openings: the rows of several leaves by one proof, with no digest that the rows give already.
 
 ghost use Rattle.std.specs.Prelude.{◌≡◌, ◌<◌, All, IfOk, IsOk, None, length, map};
-ghost use Rattle.p3_merkle_core.specs.Geometry.{heights, shape_of, tallest};
+ghost use Rattle.p3_merkle_core.specs.Geometry.{heights, shape_of};
+ghost use Rattle.p3_merkle_core.specs.Commitments.{cap_over, IsOwn};
+ghost use Rattle.p3_support.specs.Batches.{greatest};
 ghost use Rattle.p3_merkle_core.specs.Nodes.{shape};
 ghost use Rattle.p3_merkle_core.specs.Openings.{honest};
 ghost use Rattle.p3_merkle_core.specs.Presented.{presented_pruned, presented_to_restore, IsVerdict};
@@ -9,7 +11,6 @@ ghost use Rattle.p3_merkle_core.specs.Pruning.{honest_query, pruned_in_layers, p
 ghost use Rattle.p3_merkle_core.specs.Refusals.{pruned_len_refusal, AnswersUnlessMemory};
 ghost use Rattle.p3_merkle_core.specs.Views.{multi_made, pruned_lent, pruned_made, shown_paths};
 ghost use Rattle.p3_merkle_builder.specs.Parts.{layers_of, tree_batch};
-ghost use Rattle.p3_merkle_tree.specs.Commitments.{cap_over, IsOwn};
 ghost use Rattle.p3_merkle_tree.specs.Schemes.{cap_of, proof_layer, terms_of, terms_over};
 ghost use Rattle.p3_support.specs.Shown.{roots_of};
 
@@ -85,7 +86,7 @@ impl<
         indices: &[usize],
         tree: &MerkleTree<P::Value, PW::Value, M, N, D>,
     ) -> Result<PrunedBatchOpening<P::Value, PW::Value, D>, MerkleTreeError>
-        requires { All (λ index. index < tallest (heights (shape (tree_batch tree.now)))) indices.now }
+        requires { All (λ index. index < greatest (heights (shape (tree_batch tree.now)))) indices.now }
         ensures opened { let b = tree_batch tree.now in
             let t = proof_layer self.now (shape b) in
             IfOk result (λ o. pruned_made indices.now o ≡ pruned_in_layers b (layers_of tree.now) t indices.now) }
@@ -127,7 +128,7 @@ impl<
         indices: &[usize],
         tree: &MerkleTree<P::Value, PW::Value, M, N, D>,
     ) -> Result<(Vec<Vec<Vec<P::Value>>>, PrunedMerklePaths<PW::Value, D>), MerkleTreeError>
-        requires { All (λ index. index < tallest (heights (shape (tree_batch tree.now)))) indices.now }
+        requires { All (λ index. index < greatest (heights (shape (tree_batch tree.now)))) indices.now }
         ensures opened { let b = tree_batch tree.now in
             let t = proof_layer self.now (shape b) in
             IfOk result (λ o. multi_made indices.now o ≡ pruned_in_layers b (layers_of tree.now) t indices.now) }

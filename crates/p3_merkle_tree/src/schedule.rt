@@ -1,6 +1,7 @@
 //! How the paths of a scheme go: steps and positions level by level, and what a tree shows of its matrices.
 
-ghost use Rattle.std.specs.Prelude.{◌≡◌, ◌≤◌, IfErr, IfOk, map, take, vec_len};
+ghost use Rattle.std.specs.Prelude.{◌≡◌, ◌≤◌, IfErr, IfOk, map, take, vec_len, None};
+ghost use Rattle.p3_merkle_core.specs.Refusals.{AnswersUnlessMemory};
 
 use crate::mmcs::Scheme;
 use p3_merkle_builder::opener::{matrix_refs, max_height};
@@ -24,7 +25,8 @@ impl<P: PackedValue, PW: PackedValue, H, C, X: Copy, G, const N: usize> Scheme<
     N,
 > {
     ghost use Rattle.p3_merkle_core.specs.Gate.{gate_refusal};
-    ghost use Rattle.p3_merkle_core.specs.Geometry.{arity_schedule as schedule_in, exponent, heights, heights_of, positions_below, schedule_below, shape_of, tallest};
+    ghost use Rattle.p3_support.specs.Batches.{heights_of, greatest};
+    ghost use Rattle.p3_merkle_core.specs.Geometry.{arity_schedule as schedule_in, exponent, heights, positions_below, schedule_below, shape_of};
     ghost use Rattle.p3_merkle_core.specs.Nodes.{shape};
     ghost use Rattle.p3_merkle_core.specs.Refusals.{replay_refusal, AnswersUnlessMemory};
     ghost use Rattle.p3_merkle_core.specs.declared.error.MerkleTreeError.TheVariants.{OutOfMemory};
@@ -48,7 +50,7 @@ impl<P: PackedValue, PW: PackedValue, H, C, X: Copy, G, const N: usize> Scheme<
             IfOk result (λ v. v.items ≡ schedule_below s (proof_layer self.now s)) }
         ensures first { let s = shape_of N dimensions.now in
             IfOk result (λ v. v.items ≡ take (proof_layer self.now s) (schedule_in s)) }
-        ensures few { IfOk result (λ v. vec_len v ≤ exponent (tallest (heights_of dimensions.now))) }
+        ensures few { IfOk result (λ v. vec_len v ≤ exponent (greatest (heights_of dimensions.now))) }
     {
         check_heights(dimensions)?;
         Ok(schedule_below_of(alloc, dimensions, N, self.proof_levels(dimensions))?)
@@ -107,14 +109,14 @@ impl<P: PackedValue, PW: PackedValue, H, C, X: Copy, G, const N: usize> Scheme<
         tree: &'a Tree<P::Value, X, G, M, N>,
     ) -> Result<Vec<&'a M>, MerkleTreeError>
         ensures matrices { IfOk result (λ v. map (λ m. m.now) v.items ≡ matrices_of tree.now) }
-        ensures memory { IfErr result (λ e. e ≡ OutOfMemory) }
+        ensures memory { AnswersUnlessMemory result None }
     {
         matrix_refs(alloc, tree)
     }
 
     /// The height of the tallest matrix of a tree, in rows: one more than the greatest index that can be opened.
     pub fn get_max_height<M: Matrix<P::Value>>(&self, tree: &Tree<P::Value, X, G, M, N>) -> usize
-        ensures { result ≡ tallest (heights (shape (tree_batch tree.now))) }
+        ensures { result ≡ greatest (heights (shape (tree_batch tree.now))) }
     {
         max_height(tree)
     }

@@ -2,17 +2,16 @@
 
 ghost use Rattle.std.specs.Prelude.{◌≡◌, ◌<◌, All, IfErr, IfOk, IsOk};
 ghost use Rattle.p3_merkle_builder.specs.Parts.{layers_of, matrices_of, tree_batch};
-ghost use Rattle.p3_merkle_layers.specs.Views.{heights_in};
-ghost use Rattle.p3_merkle_core.specs.Geometry.{heights, shape_of, tallest, IsLawful};
+ghost use Rattle.p3_merkle_core.specs.Commitments.{IsCommitment, IsShown};
+ghost use Rattle.p3_merkle_core.specs.Geometry.{heights, shape_of, IsLawful, halved_index};
 ghost use Rattle.p3_merkle_core.specs.Nodes.{shape};
 ghost use Rattle.p3_merkle_core.specs.Openings.{opening_of};
 ghost use Rattle.p3_merkle_core.specs.Checks.{IsAccepted};
 ghost use Rattle.p3_merkle_core.specs.Pruning.{pruned_of, IsPrunedAccepted};
 ghost use Rattle.p3_merkle_core.specs.declared.error.MerkleTreeError.TheVariants.{OutOfMemory};
-ghost use Rattle.p3_merkle_tree.specs.CommitmentLaws.{at_same, each_shown, row_in_matrix, same_is_equivalence, shown_rows_fit, tallest_at_index};
-ghost use Rattle.p3_merkle_tree.specs.Commitments.{halved_index, IsCommitment, IsSameScheme, IsShown};
-ghost use Rattle.p3_merkle_tree.specs.Schemes.{cap_of, scheme_functions, terms_of, terms_over};
-ghost use Rattle.p3_support.specs.Batches.{greatest_height};
+ghost use Rattle.p3_merkle_tree.specs.Inner.CommitmentLaws.{at_same, each_shown, row_in_matrix, same_is_equivalence, shown_rows_fit, tallest_at_index};
+ghost use Rattle.p3_merkle_tree.specs.Schemes.{cap_of, scheme_functions, terms_of, terms_over, IsSameScheme};
+ghost use Rattle.p3_support.specs.Batches.{greatest};
 ghost use Rattle.p3_support.specs.Shown.{roots_of};
 
 use crate::mmcs::MerkleTreeMmcs;
@@ -26,7 +25,7 @@ use p3_support::mmcs::Mmcs;
 use p3_support::opening::{BatchOpening, BatchOpeningRef, MerkleCap};
 use p3_support::packed::PackedValue;
 use std::alloc::Global;
-ghost use Rattle.p3_merkle_core.specs.Views.{opening_lent};
+ghost use Rattle.p3_merkle_core.specs.Views.{opening_lent, heights_in};
 
 /// The calls of the scheme. What is committed to is a tree, and a commitment is its cap.
 impl<
@@ -175,8 +174,8 @@ impl<
 
 /// Tells that an index below the greatest height is below the tallest one of the tree. It does nothing at run time.
 fn tell_index<F, X, G, M: Matrix<F>, const N: usize>(tree: &Tree<F, X, G, M, N>, index: usize)
-    requires { index < greatest_height M.height_of (matrices_of tree.now) }
-    ensures { index < tallest (heights (shape (tree_batch tree.now))) }
+    requires { index < greatest (map M.height_of (matrices_of tree.now)) }
+    ensures { index < greatest (heights (shape (tree_batch tree.now))) }
 {}
 
 /// The same of several indices.
@@ -184,6 +183,6 @@ fn tell_indices<F, X, G, M: Matrix<F>, const N: usize>(
     tree: &Tree<F, X, G, M, N>,
     indices: &[usize],
 )
-    requires { All (λ index. index < greatest_height M.height_of (matrices_of tree.now)) indices.now }
-    ensures { All (λ index. index < tallest (heights (shape (tree_batch tree.now)))) indices.now }
+    requires { All (λ index. index < greatest (map M.height_of (matrices_of tree.now))) indices.now }
+    ensures { All (λ index. index < greatest (heights (shape (tree_batch tree.now)))) indices.now }
 {}

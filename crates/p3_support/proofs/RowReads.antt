@@ -12,7 +12,7 @@ use Rattle.std.proofs.lemmas.List.{drop_all, get_or-append_right, length-append}
 use Rattle.std.proofs.lemmas.List.FromFn.{fill_by_all, get_or-map-range_with_len, length-map-range_with_len}
 use Rattle.std.proofs.lemmas.Simd.{map-map}
 use Rattle.p3_support.specs.Lists.{message, rows_left, column_of_rows, columns, lane_of}
-use Rattle.p3_support.specs.RowLengths.{next_start, length-message}
+use Rattle.p3_support.specs.Inner.RowLengths.{next_start, length-message}
 
 -- what is left from an element on
 pub drop_at : {A : Type 0} (xs : List A) (c : ℕ) (x : A) → slice_get xs c ≡ Some x → drop c xs ≡ x ∷ drop (c + 1) xs

@@ -1,8 +1,8 @@
 pub mod Batches
 pub mod Fold
 pub mod Lists
-pub mod RowLengths
 pub mod RowMajor
 pub mod Pairs
 pub mod Salts
 pub mod Shown
+pub mod Inner

@@ -1,6 +1,10 @@
 -- Parts of lists: messages, lanes, rows and columns.
-use Rattle.std.specs.Prelude.{ℕ, ◌==◌, cond, ◌++◌, drop, ◌+◌, ◌*◌, List, [], ◌∷◌, map, slice_range, slice_index_or}
-use Rattle.std.specs.List.{range_with_len}
+use Rattle.std.specs.Prelude.{Bool, ℕ, ◌==◌, cond, ◌++◌, drop, ◌+◌, ◌*◌, List, [], ◌∷◌, map, slice_range, slice_index_or}
+use Rattle.std.specs.List.{list_any, range_with_len}
+
+-- whether a number is in a list
+abbrev pub is_among : List ℕ → ℕ → Bool
+is_among ns n = list_any (λ m. m == n) ns
 
 -- message i, where messages of w words lie one after another in xs
 abbrev pub message : {A : Type 0} → ℕ → List A → ℕ → List A

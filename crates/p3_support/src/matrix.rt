@@ -3,7 +3,7 @@ ghost use Rattle.std.specs.Prelude.{◌≡◌, ℕ, ◌+◌, ◌*◌, ◌<◌, �
 ghost use Rattle.std.specs.List.{flat_map, range_with_len};
 ghost use Rattle.std.specs.Iterator.{YieldsFirst, YieldsFirstBy, item_count};
 ghost use Rattle.p3_support.specs.Lists.{message, column_of_rows, columns};
-ghost use Rattle.p3_support.specs.RowLengths.{length-message};
+ghost use Rattle.p3_support.specs.Inner.RowLengths.{length-message};
 
 use crate::packed::PackedValue;
 use std::alloc::AllocError;

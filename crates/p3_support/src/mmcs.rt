@@ -1,7 +1,7 @@
 //! Schemes that commit to matrices of different heights.
 ghost use Rattle.std.specs.Prelude.{◌≡◌, ℕ, ◌<◌, All, IfErr, IfOk, IsOk, List, map};
 ghost use Rattle.std.specs.List.{AllZip};
-ghost use Rattle.p3_support.specs.Batches.{dimensions_in, greatest_height, rows_in, FitDimensions, IsEquivalence};
+ghost use Rattle.p3_support.specs.Batches.{dimensions_in, greatest, rows_in, FitDimensions, IsEquivalence};
 ghost use Rattle.p3_support.specs.Shown.{row_lists, row_sets};
 ghost use Rattle.p3_support.specs.declared.matrix.Dimensions.{Dimensions};
 
@@ -87,9 +87,9 @@ pub trait Mmcs<T, M: Matrix<T>> {
         index: usize,
         prover_data: &Self::ProverData,
     ) -> Result<BatchOpening<T, Self::Proof>, Self::Error>
-        requires { index < greatest_height M.height_of (matrices_in prover_data.now) }
+        requires { index < greatest (map M.height_of (matrices_in prover_data.now)) }
         ensures rows { let ms = matrices_in prover_data.now in
-            IfOk result (λ o. row_lists o.opened_values.items ≡ rows_in M.height_of M.row_of row_at ms index) }
+            IfOk result (λ o. row_lists o.opened_values.items ≡ rows_in M.height_of M.row_of row_at (greatest (map M.height_of ms)) ms index) }
         ensures accepted { let dimensions = dimensions_in M.height_of M.width_of (matrices_in prover_data.now) in
             (c : Self.Commitment) → commits_to self.now c prover_data.now →
             IfOk result (λ o. accepts self.now c dimensions index (row_lists o.opened_values.items) o.opening_proof) }
@@ -110,7 +110,7 @@ pub trait Mmcs<T, M: Matrix<T>> {
 
     /// The greatest height of the matrices, in rows.
     fn get_max_height(&self, prover_data: &Self::ProverData) -> usize
-        ensures { result ≡ greatest_height M.height_of (matrices_in prover_data.now) };
+        ensures { result ≡ greatest (map M.height_of (matrices_in prover_data.now)) };
 
     /// Checks an opening of an index against a commitment: Ok if it is accepted. It has a row for each of `dimensions`,
     /// which are those of the matrices, and as wide as that says. They must come from who checks.
@@ -143,9 +143,9 @@ pub trait Mmcs<T, M: Matrix<T>> {
         indices: &[usize],
         prover_data: &Self::ProverData,
     ) -> Result<(Vec<Vec<Vec<T>>>, Self::MultiProof), Self::Error>
-        requires { All (λ index. index < greatest_height M.height_of (matrices_in prover_data.now)) indices.now }
+        requires { All (λ index. index < greatest (map M.height_of (matrices_in prover_data.now))) indices.now }
         ensures rows { let ms = matrices_in prover_data.now in
-            IfOk result (λ o. row_sets o.0.items ≡ map (rows_in M.height_of M.row_of row_at ms) indices.now) }
+            IfOk result (λ o. row_sets o.0.items ≡ map (rows_in M.height_of M.row_of row_at (greatest (map M.height_of ms)) ms) indices.now) }
         ensures accepted { let dimensions = dimensions_in M.height_of M.width_of (matrices_in prover_data.now) in
             (c : Self.Commitment) → commits_to self.now c prover_data.now →
             IfOk result (λ o. accepts_all self.now c dimensions indices.now (row_sets o.0.items) o.1) }
@@ -175,7 +175,7 @@ pub trait Mmcs<T, M: Matrix<T>> {
     ghost row_of_tallest: { (height index : ℕ) → row_at height height index ≡ index };
 
     // It belongs to each matrix as one of its rows.
-    ghost row_below: { (d : Self.ProverData) → let tallest = greatest_height M.height_of (matrices_in d) in
+    ghost row_below: { (d : Self.ProverData) → let tallest = greatest (map M.height_of (matrices_in d)) in
         All (λ m. (index : ℕ) → index < tallest → row_at tallest (M.height_of m) index < M.height_of m) (matrices_in d) };
 
     // What one proof shows, and what one proof shows of several indices, each is shown.

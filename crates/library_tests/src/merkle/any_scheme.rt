@@ -1,7 +1,7 @@
 //! What a caller that is generic in the scheme can prove: what the scheme opens is refused for want of memory alone.
 
 ghost use Rattle.std.specs.Prelude.{◌≡◌, ◌<◌, ◌↔◌, IfErr, IfOk, IsTrue};
-ghost use Rattle.p3_support.specs.Batches.{dimensions_in, greatest_height};
+ghost use Rattle.p3_support.specs.Batches.{dimensions_in, greatest};
 
 use crate::merkle::fixtures::numbered;
 use p3_instances::fold::{FoldCompress, FoldHash};
@@ -42,7 +42,7 @@ fn is_opened<T: Copy, M: Matrix<T> + Drop, S: Mmcs<T, M>>(
 ) -> Result<bool, S::Error>
     requires agrees { S.agrees prover.old verifier.now }
     requires dimensions { dimensions.now ≡ dimensions_in M.height_of M.width_of matrices.items }
-    ensures answer { IfOk result (λ opened. IsTrue opened ↔ (index < greatest_height M.height_of matrices.items)) }
+    ensures answer { IfOk result (λ opened. IsTrue opened ↔ (index < greatest (map M.height_of matrices.items))) }
     ensures memory { S.can_commit matrices.items → IfErr result S.is_out_of_memory }
 {
     let (commitment, prover_data) = prover.commit(alloc, matrices)?;

@@ -1,7 +1,7 @@
 //! What a verifier that is generic in the scheme may do with rows that it has verified: read any word that their
 //! dimensions say is there.
 ghost use Rattle.std.specs.Prelude.{◌≡◌, ◌<◌, IfOk, length, map, slice_index};
-ghost use Rattle.p3_support.specs.Batches.{greatest_height};
+ghost use Rattle.p3_support.specs.Batches.{greatest, heights_of};
 
 use p3_instances::fold::{FoldCompress, FoldHash};
 use p3_merkle_hiding::MerkleTreeHidingMmcs;
@@ -39,7 +39,7 @@ fn verified_word<T: Copy, M: Matrix<T>, S: Mmcs<T, M>>(
 ) -> Result<T, S::Error>
     requires matrix { place.matrix < length dimensions.now }
     requires column { place.column < slice_index (map (λ d. d.width) dimensions.now) place.matrix }
-    ensures { IfOk result (λ word. index < greatest_height (λ d. d.height) dimensions.now) }
+    ensures { IfOk result (λ word. index < greatest (heights_of dimensions.now)) }
 {
     verifier.verify_batch(alloc, commitment, dimensions, index, opening)?;
     Ok(opening.opened_values[place.matrix][place.column])
@@ -64,7 +64,7 @@ fn verified_word_of<T: Copy, M: Matrix<T>, S: Mmcs<T, M>>(
     requires query { query < length indices.now }
     requires matrix { place.matrix < length dimensions.now }
     requires column { place.column < slice_index (map (λ d. d.width) dimensions.now) place.matrix }
-    ensures { IfOk result (λ word. slice_index indices.now query < greatest_height (λ d. d.height) dimensions.now) }
+    ensures { IfOk result (λ word. slice_index indices.now query < greatest (heights_of dimensions.now)) }
 {
     verifier.verify_multi_batch(alloc, commitment, dimensions, indices, rows, proof)?;
     Ok(rows[query][place.matrix][place.column])

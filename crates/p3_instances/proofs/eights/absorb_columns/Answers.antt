@@ -2,7 +2,7 @@ use Rattle.std.proofs.Common.{arith, ◌≡◌, ◌+◌, ◌<◌, ◌∙◌, ap,
 use Rattle.std.proofs.lemmas.List.{take_more}
 use Rattle.p3_support.specs.Fold.{fold_hash, take_in}
 use Rattle.p3_support.specs.Lists.{lane_of, message}
-use Rattle.p3_support.specs.RowLengths.{length-message}
+use Rattle.p3_support.specs.Inner.RowLengths.{length-message}
 use Rattle.p3_instances.proofs.FoldSteps.{fold_hash-append}
 use Rattle.p3_instances.proofs.eights.absorb_columns.Goals as goal
 

@@ -1,5 +1,5 @@
 use Rattle.std.proofs.Common.{◌≡◌, ℕ, ◌+◌, ◌*◌, ◌<◌, take}
-use Rattle.p3_instances.specs.Eights.{lanes_of}
+use Rattle.p3_instances.specs.Inner.Eights.{lanes_of}
 use Rattle.p3_support.specs.Fold.{fold_hash}
 use Rattle.p3_support.specs.Lists.{lane_of, message}
 use Rattle.p3_instances.proofs.eights.absorb_fours.Given as goal

@@ -1,6 +1,6 @@
 use Rattle.std.proofs.Common.{arith, ℕ, ◌≡◌, ◌+◌, ◌++◌, ◌∙◌, ap, refl, List, [], ◌∷◌, slice_range, get_or}
 use Rattle.p3_support.specs.Lists.{message}
-use Rattle.p3_instances.specs.Turned.{turned}
+use Rattle.p3_instances.specs.Inner.Turned.{turned}
 use Rattle.p3_instances.proofs.Turns.{lane_cases, turned_lanes}
 use Rattle.p3_instances.proofs.eights.columns_of_eight.Goals as goal
 

@@ -8,7 +8,7 @@ use Rattle.std.proofs.lemmas.Result.{IfOk-weaker}
 use Rattle.p3_merkle_core.specs.Extraction.{last_difference, input_eq}
 use Rattle.p3_merkle_core.specs.Checks.{Input, digests_at}
 use Rattle.p3_merkle_core.specs.Refusals.{unless}
-use Rattle.p3_merkle_checker.specs.Collisions.{Shows, IsDifference, first_words, second_words, inputs_above}
+use Rattle.p3_merkle_checker.specs.Inner.Collisions.{Shows, IsDifference, first_words, second_words, inputs_above}
 use Rattle.p3_merkle_core.specs.declared.collision.Place.TheVariants.{Group}
 use Rattle.p3_merkle_core.specs.declared.collision.InputPair.{InputPair}
 use Rattle.p3_merkle_checker.proofs.collision.differing_level.Goals as goal

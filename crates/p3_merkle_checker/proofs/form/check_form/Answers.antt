@@ -1,6 +1,6 @@
 -- Lawful heights are within the limit.
 use Rattle.std.proofs.Common.{refl, rules}
-use Rattle.p3_merkle_core.specs.Geometry.{heights_of}
+use Rattle.p3_support.specs.Batches.{heights_of}
 use Rattle.p3_merkle_core.proofs.GateFacts.{none_large_from_lawful, tallest_fits}
 use Rattle.p3_merkle_checker.proofs.form.check_form.Goals as goal
 

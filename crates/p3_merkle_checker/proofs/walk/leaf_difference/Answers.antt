@@ -1,8 +1,8 @@
 -- The words of the leaf are compared.
 use Rattle.std.proofs.lemmas.Result.{IfOk-weaker}
 use Rattle.p3_merkle_core.specs.Geometry.{layer_exponent, shape_of}
-use Rattle.p3_merkle_checker.specs.Checks.{opening_in}
-use Rattle.p3_merkle_checker.specs.Collisions.{first_words, second_words}
+use Rattle.p3_merkle_checker.specs.Inner.Checks.{opening_in}
+use Rattle.p3_merkle_checker.specs.Inner.Collisions.{first_words, second_words}
 use Rattle.p3_merkle_checker.proofs.WalkFacts.{at_leaf, found_leaf, words_alike}
 use Rattle.p3_merkle_checker.proofs.walk.leaf_difference.Goals as goal
 
@@ -10,8 +10,8 @@ pub returns : goal.returns
 returns g c =
     let pair = c.args.openings.now in
     let s = shape_of g.row.N pair.dimensions.now in
-    let rows = c.rows_with.result in
-    let are = c.rows_with.ensures in
+    let rows = c.rows_of_exponent.result in
+    let are = c.rows_of_exponent.ensures in
     let top = at_leaf s rows.exponent c.exponent_of-exponent.result c.tallest_of.result are.exponent c.exponent_of-exponent.ensures c.tallest_of.ensures in
     let mine = words_alike rows.dimensions.now pair.dimensions.now rows.exponent (layer_exponent s 0) rows.first.now pair.first.rows.now are.dimensions top are.first in
     let theirs = words_alike rows.dimensions.now pair.dimensions.now rows.exponent (layer_exponent s 0) rows.second.now pair.second.rows.now are.dimensions top are.second in

@@ -5,7 +5,7 @@ use Rattle.std.proofs.lemmas.List.{length-map, with_items_is}
 use Rattle.std.proofs.lemmas.Result.{err_from_is_err_and}
 use Rattle.p3_merkle_core.specs.Geometry.{ancestor, exponent, shape_of, step}
 use Rattle.p3_support.specs.Shown.{row_sets}
-use Rattle.p3_merkle_core.specs.Agreement.{layers_refusal}
+use Rattle.p3_merkle_core.specs.Inner.Agreement.{layers_refusal}
 use Rattle.p3_merkle_core.specs.Refusals.{first_of}
 use Rattle.p3_merkle_core.proofs.StepFacts.{layer_start, next_at}
 use Rattle.p3_merkle_core.proofs.LeadFacts.{ascending_above, few_layers, found_or, kept_or, layer_fault, layer_read, nodes_more, nodes_start, slots_next}

@@ -3,8 +3,8 @@ use Rattle.std.proofs.Common.{◌≡◌, ◌-◌, ◌+◌, ◌∙◌, length, ar
 use Rattle.std.specs.List.{range_with_len}
 use Rattle.std.proofs.lemmas.Result.{err_from_is_err_and}
 use Rattle.p3_support.specs.Shown.{row_lists, row_sets}
-use Rattle.p3_merkle_core.specs.Geometry.{heights_of}
-use Rattle.p3_merkle_core.specs.Agreement.{nodes_refusal}
+use Rattle.p3_support.specs.Batches.{heights_of}
+use Rattle.p3_merkle_core.specs.Inner.Agreement.{nodes_refusal}
 use Rattle.p3_merkle_core.specs.Refusals.{first_of}
 use Rattle.p3_merkle_core.proofs.LeadFacts.{found_or, full_rows, kept_or, lead_place, lead_start, no_matrix, slot_fault, slot_read, slots_next}
 use Rattle.p3_merkle_core.proofs.agreement.check_layer.Goals as goal

@@ -1,8 +1,8 @@
 use Rattle.std.proofs.Common.{◌≡◌, ◌-◌, length, get_or}
 use Rattle.std.specs.List.{range_with_len}
-use Rattle.p3_merkle_core.specs.Geometry.{heights_of}
+use Rattle.p3_support.specs.Batches.{heights_of}
 use Rattle.p3_support.specs.Shown.{row_sets}
-use Rattle.p3_merkle_core.specs.Agreement.{first_query, nodes_refusal}
+use Rattle.p3_merkle_core.specs.Inner.Agreement.{first_query, nodes_refusal}
 use Rattle.p3_merkle_core.specs.Refusals.{first_of}
 use Rattle.p3_merkle_core.proofs.LeadFacts.{slot_fault}
 use Rattle.p3_merkle_core.proofs.agreement.check_layer.Given as goal

@@ -3,7 +3,8 @@ use Rattle.std.proofs.Common.{◌∙◌, ap, sym, inl, inr, length, None, Some}
 use Rattle.std.proofs.lemmas.List.{length-map}
 use Rattle.std.proofs.lemmas.Result.{err_from_is_err_and}
 use Rattle.p3_support.specs.Shown.{row_lists, row_sets}
-use Rattle.p3_merkle_core.specs.Geometry.{heights_of, shape_of}
+use Rattle.p3_support.specs.Batches.{heights_of}
+use Rattle.p3_merkle_core.specs.Geometry.{shape_of}
 use Rattle.p3_merkle_core.proofs.AgreeFacts.{distinct_ascending, firsts_inside}
 use Rattle.p3_merkle_core.proofs.PrunedFacts.{asked_from, pruned_late}
 use Rattle.p3_merkle_core.proofs.agreement.check_pruned.Goals as goal

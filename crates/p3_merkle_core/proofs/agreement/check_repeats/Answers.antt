@@ -1,7 +1,7 @@
 -- Each turn compares a query with the first one of its index.
 use Rattle.std.proofs.Common.{◌∙◌, Some, refl, ap, sym, arith}
 use Rattle.p3_merkle_core.specs.Refusals.{repeat_refusal}
-use Rattle.p3_merkle_core.specs.Agreement.{opened_of}
+use Rattle.p3_merkle_core.specs.Inner.Agreement.{opened_of}
 use Rattle.p3_support.specs.Shown.{row_sets}
 use Rattle.p3_merkle_core.proofs.SlotFacts.{first_inside, repeat_turn, queried_at}
 use Rattle.p3_merkle_core.proofs.agreement.check_repeats.Goals as goal

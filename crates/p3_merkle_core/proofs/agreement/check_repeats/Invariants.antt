@@ -1,5 +1,5 @@
 use Rattle.std.proofs.Common.{◌≡◌, zip, drop}
-use Rattle.p3_merkle_core.specs.Agreement.{opened_of}
+use Rattle.p3_merkle_core.specs.Inner.Agreement.{opened_of}
 use Rattle.p3_support.specs.Shown.{row_sets}
 use Rattle.p3_merkle_core.specs.Refusals.{first_of, repeat_refusal}
 use Rattle.p3_merkle_core.proofs.SlotFacts.{repeat_fault}

@@ -1,8 +1,8 @@
 -- Each turn compares the rows of one matrix.
 use Rattle.std.proofs.Common.{◌∙◌, ap, sym, arith, length, Some}
 use Rattle.p3_support.specs.Shown.{row_lists}
-use Rattle.p3_merkle_core.specs.Geometry.{heights_of}
-use Rattle.p3_merkle_core.specs.Agreement.{rows_refusal}
+use Rattle.p3_support.specs.Batches.{heights_of}
+use Rattle.p3_merkle_core.specs.Inner.Agreement.{rows_refusal}
 use Rattle.p3_merkle_core.proofs.LeadFacts.{false_of_not, height_missed, height_read, row_differs, row_turn, true_of_not}
 use Rattle.p3_merkle_core.proofs.agreement.check_same_rows.Goals.{else-exponent_of-x-via-then-exponent_of-x+else-ne, else-exponent_of-x-via-else-exponent_of-x}
 use Rattle.p3_merkle_core.proofs.agreement.check_same_rows.Goals as goal

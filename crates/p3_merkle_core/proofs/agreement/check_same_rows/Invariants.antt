@@ -1,8 +1,9 @@
 use Rattle.std.proofs.Common.{◌≡◌, ◌-◌, filter, length, get_or, eqb}
 use Rattle.std.specs.List.{range_with_len}
 use Rattle.p3_support.specs.Shown.{row_lists}
-use Rattle.p3_merkle_core.specs.Geometry.{exponent, heights_of}
-use Rattle.p3_merkle_core.specs.Agreement.{row_fault, rows_refusal}
+use Rattle.p3_support.specs.Batches.{heights_of}
+use Rattle.p3_merkle_core.specs.Geometry.{exponent}
+use Rattle.p3_merkle_core.specs.Inner.Agreement.{row_fault, rows_refusal}
 use Rattle.p3_merkle_core.specs.Refusals.{first_of}
 use Rattle.p3_merkle_core.proofs.agreement.check_same_rows.Given as goal
 

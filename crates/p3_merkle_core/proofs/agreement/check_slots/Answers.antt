@@ -5,7 +5,7 @@ use Rattle.std.proofs.lemmas.Result.{MatchResult-weaker}
 use Rattle.p3_merkle_core.specs.Geometry.{shape_of}
 use Rattle.p3_support.specs.Shown.{row_sets}
 use Rattle.p3_merkle_core.specs.Refusals.{first_of, width_refusal}
-use Rattle.p3_merkle_core.specs.Agreement.{late_refusal, layers_refusal}
+use Rattle.p3_merkle_core.specs.Inner.Agreement.{late_refusal, layers_refusal}
 use Rattle.p3_merkle_core.specs.declared.error.MerkleTreeError.TheVariants.{OutOfMemory}
 use Rattle.p3_merkle_core.proofs.PrunedFacts.{full_from, late_from}
 use Rattle.p3_merkle_core.proofs.agreement.check_slots.Goals as goal

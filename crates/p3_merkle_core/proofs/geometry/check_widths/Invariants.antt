@@ -1,6 +1,6 @@
 use Rattle.std.proofs.Common.{◌≡◌, map, drop, zip}
 use Rattle.std.specs.List.{enumerate_from}
-use Rattle.p3_merkle_core.specs.Geometry.{widths_of}
+use Rattle.p3_support.specs.Batches.{widths_of}
 use Rattle.p3_merkle_core.specs.Refusals.{first_of, row_width_refusal, width_fault}
 use Rattle.p3_merkle_core.proofs.geometry.check_widths.Given as goal
 

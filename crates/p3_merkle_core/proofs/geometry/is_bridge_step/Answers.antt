@@ -3,7 +3,8 @@ use Rattle.std.proofs.Common.{◌-◌, ◌&&◌, nat_lt, rules, tests, arith, sy
 use Rattle.std.proofs.lemmas.Iterator.{YieldsList-from_map, YieldsList-from_slice}
 use Rattle.std.proofs.lemmas.Iterator.Search.{any_from_yields_List}
 use Rattle.p3_support.specs.declared.matrix.Dimensions.{Dimensions}
-use Rattle.p3_merkle_core.specs.Geometry.{exponent, heights_of}
+use Rattle.p3_merkle_core.specs.Geometry.{exponent}
+use Rattle.p3_support.specs.Batches.{heights_of}
 use Rattle.p3_merkle_core.proofs.BridgeFacts.{none_between}
 use Rattle.p3_merkle_core.proofs.geometry.is_bridge_step.Goals as goal
 

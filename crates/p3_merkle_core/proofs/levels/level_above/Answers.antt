@@ -1,6 +1,5 @@
 use Rattle.std.proofs.Common.{arith, ap, ◌∙◌, ◌/◌}
-use Rattle.p3_merkle_core.specs.Geometry.{shape_of}
-use Rattle.p3_merkle_core.specs.Levels.{height_at}
+use Rattle.p3_merkle_core.specs.Geometry.{shape_of, height_at}
 use Rattle.p3_merkle_core.proofs.LevelFacts.{small_at, level_is, low, next_small}
 use Rattle.p3_merkle_core.proofs.CoveredFacts.{padded_le}
 use Rattle.p3_merkle_core.proofs.levels.level_above.Goals as goal

@@ -2,7 +2,7 @@
 use Rattle.std.proofs.Common.{◌≡◌, false, nat_lt, refl, arith}
 use Rattle.std.proofs.lemmas.Bool.{le-ltb}
 use Rattle.std.proofs.lemmas.List.{get_or_default}
-use Rattle.p3_merkle_core.specs.Geometry.{tallest}
+use Rattle.p3_support.specs.Batches.{greatest}
 use Rattle.p3_merkle_core.proofs.LeastFacts.{le_tallest}
 use Rattle.p3_merkle_core.proofs.pruning.check_indices.Goals as goal
 
@@ -12,5 +12,5 @@ returns-then-index-max_height-clause-below c k d h = omega (arith, get_or_defaul
 pub returns-else-index-max_height-clause-answer : goal.returns-else-index-max_height-clause-answer
 returns-else-index-max_height-clause-answer c =
     let e = c.highest_of-index.ensures in
-    let f : nat_lt (tallest c.args.indices.now) c.args.max_height ≡ false = le-ltb (tallest c.args.indices.now) c.args.max_height (omega arith) in
+    let f : nat_lt (greatest c.args.indices.now) c.args.max_height ≡ false = le-ltb (greatest c.args.indices.now) c.args.max_height (omega arith) in
     rw (f, e) refl

@@ -1,6 +1,6 @@
 -- Each turn is one child: the next covered node, or another.
 use Rattle.std.proofs.Common.{◌≡◌, ◌+◌, ◌*◌, ◌/◌, ◌%◌, ◌<◌, ◌∙◌, ap, get_or, length}
-use Rattle.p3_merkle_core.specs.Children.{children_under}
+use Rattle.p3_merkle_core.specs.Inner.Children.{children_under}
 use Rattle.p3_merkle_core.proofs.ChildFacts.{IsSent, walk_start, walk_end, known_more, unknown_more, sent_room, none_next, is_placed, is_counted}
 use Rattle.p3_merkle_core.proofs.pruning.children_of.Given.{Over}
 use Rattle.p3_merkle_core.proofs.pruning.children_of.Goals as goal

@@ -1,4 +1,4 @@
-use Rattle.p3_merkle_core.specs.Children.{children_under}
+use Rattle.p3_merkle_core.specs.Inner.Children.{children_under}
 use Rattle.p3_merkle_core.proofs.ChildFacts.{IsWalked}
 use Rattle.p3_merkle_core.proofs.pruning.children_of.Given as goal
 use Rattle.p3_merkle_core.specs.Geometry.{step}

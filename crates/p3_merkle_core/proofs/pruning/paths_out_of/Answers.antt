@@ -1,7 +1,7 @@
 -- Each turn reads one more path.
 use Rattle.std.proofs.Common.{arith, get_or, map, refl}
 use Rattle.std.proofs.lemmas.List.{take_all}
-use Rattle.p3_merkle_core.specs.Children.{path_out_of}
+use Rattle.p3_merkle_core.specs.Inner.Children.{path_out_of}
 use Rattle.p3_merkle_core.proofs.KeptFacts.{paths_more}
 use Rattle.p3_merkle_core.proofs.pruning.paths_out_of.Goals as goal
 

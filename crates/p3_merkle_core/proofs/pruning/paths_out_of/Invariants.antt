@@ -1,5 +1,5 @@
 use Rattle.std.proofs.Common.{◌≡◌, map, take}
-use Rattle.p3_merkle_core.specs.Children.{paths_out_of}
+use Rattle.p3_merkle_core.specs.Inner.Children.{paths_out_of}
 use Rattle.p3_merkle_core.specs.Views.{shown_paths}
 use Rattle.p3_merkle_core.proofs.pruning.paths_out_of.Given as goal
 

@@ -2,7 +2,7 @@
 use Rattle.std.proofs.Common.{◌≡◌, ◌+◌, ◌∷◌, drop, length, List, ℕ, sym, ◌∙◌, arith, slice_index_or}
 use Rattle.std.proofs.lemmas.List.{drop_all, drop_more}
 use Rattle.p3_support.specs.declared.matrix.Dimensions.{Dimensions}
-use Rattle.p3_merkle_core.specs.Geometry.{heights_of}
+use Rattle.p3_support.specs.Batches.{heights_of}
 use Rattle.p3_merkle_core.proofs.RungFacts.{none_top, top_end, top_over, top_same, top_start, top_under}
 use Rattle.p3_merkle_core.proofs.steps.leaf_rung.Goals as goal
 use Rattle.p3_merkle_core.proofs.steps.leaf_rung.Goals.{then-e-x, else-e-x+then-e-x-2, else-e-x+else-e-x-2}

@@ -1,5 +1,5 @@
 use Rattle.std.proofs.Common.{drop, ◌≤◌}
-use Rattle.p3_merkle_core.specs.Geometry.{heights_of}
+use Rattle.p3_support.specs.Batches.{heights_of}
 use Rattle.p3_merkle_core.proofs.RungFacts.{IsTop}
 use Rattle.p3_merkle_core.proofs.steps.leaf_rung.Given as goal
 

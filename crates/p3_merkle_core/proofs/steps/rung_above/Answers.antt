@@ -1,6 +1,6 @@
 -- The next exponent tells whether a matrix has the one above.
 use Rattle.std.proofs.Common.{arith, ◌∙◌, sym}
-use Rattle.p3_merkle_core.specs.Geometry.{heights_of}
+use Rattle.p3_support.specs.Batches.{heights_of}
 use Rattle.p3_merkle_core.proofs.RungFacts.{next_had, next_not_had, next_stays}
 use Rattle.p3_merkle_core.proofs.steps.rung_above.Goals as goal
 

@@ -1,6 +1,6 @@
 -- Nothing is below 0.
 use Rattle.std.proofs.Common.{arith}
-use Rattle.p3_merkle_core.specs.Geometry.{heights_of}
+use Rattle.p3_support.specs.Batches.{heights_of}
 use Rattle.p3_merkle_core.proofs.RungFacts.{next_low}
 use Rattle.p3_merkle_core.proofs.steps.rung_at.Goals as goal
 

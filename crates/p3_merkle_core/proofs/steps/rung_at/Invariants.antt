@@ -1,6 +1,6 @@
 use Rattle.std.proofs.Common.{◌≡◌, max, drop}
-use Rattle.p3_merkle_core.specs.Geometry.{heights_of}
-use Rattle.p3_merkle_core.specs.Rungs.{next_below}
+use Rattle.p3_support.specs.Batches.{heights_of}
+use Rattle.p3_merkle_core.specs.Inner.Rungs.{next_below}
 use Rattle.p3_merkle_core.proofs.steps.rung_at.Given as goal
 
 -- the greatest so far and the rest's is the greatest of all

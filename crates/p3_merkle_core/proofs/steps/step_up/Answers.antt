@@ -1,7 +1,8 @@
 -- No exponent of a matrix lies between where a step starts and where it leads.
 use Rattle.std.proofs.Common.{arith, ◌≡◌, ◌-◌, ◌∙◌, ap, cond, sym, true, false, inl, inr}
 use Rattle.std.proofs.lemmas.Bool.{cases_Bool}
-use Rattle.p3_merkle_core.specs.Geometry.{exponent, heights_of}
+use Rattle.p3_merkle_core.specs.Geometry.{exponent}
+use Rattle.p3_support.specs.Batches.{heights_of}
 use Rattle.p3_merkle_core.proofs.RungFacts.{next_low, none_skipped}
 use Rattle.p3_merkle_core.proofs.steps.step_up.Goals as goal
 

@@ -1,8 +1,9 @@
 use Rattle.std.proofs.Common.{◌≡◌, length, map, take}
 use Rattle.std.specs.List.{range_with_len}
-use Rattle.p3_merkle_core.specs.Geometry.{heights_of, layer_exponent, shape_of}
-use Rattle.p3_merkle_core.specs.Rungs.{IsRung}
-use Rattle.p3_merkle_core.specs.Steps.{level_step}
+use Rattle.p3_merkle_core.specs.Geometry.{layer_exponent, shape_of}
+use Rattle.p3_support.specs.Batches.{heights_of}
+use Rattle.p3_merkle_core.specs.Inner.Rungs.{IsRung}
+use Rattle.p3_merkle_core.specs.Inner.Steps.{level_step}
 use Rattle.p3_merkle_core.proofs.StepFacts.{IsAt}
 use Rattle.p3_merkle_core.proofs.steps.steps_of.Given as goal
 

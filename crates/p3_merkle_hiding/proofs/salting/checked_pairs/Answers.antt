@@ -2,9 +2,9 @@
 use Rattle.std.proofs.Common.{◌≡◌, ◌∙◌, List, ap, map, refl, rules, subst, sym}
 use Rattle.p3_support.specs.declared.matrix.Dimensions.{Dimensions}
 use Rattle.p3_merkle_core.specs.Refusals.{AnswersUnlessMemory}
-use Rattle.p3_merkle_layers.specs.Views.{matrix_of}
+use Rattle.p3_support.specs.Batches.{heights_of}
+use Rattle.p3_merkle_core.specs.Views.{matrix_of}
 use Rattle.p3_merkle_core.specs.Gate.{gate_refusal}
-use Rattle.p3_merkle_core.specs.Geometry.{heights_of}
 use Rattle.p3_merkle_core.specs.Nodes.{dimensions_of}
 use Rattle.p3_merkle_salts.specs.SaltRefusals.{salted_commit_refusal, widening_refusal}
 use Rattle.p3_merkle_hiding.proofs.CommitFacts.{commit_none, nothing_drawn, nothing_made, stays}

@@ -2,7 +2,7 @@
 use Rattle.std.proofs.Common.{ℕ, ◌<◌, subst}
 use Rattle.std.specs.Prelude.{All}
 use Rattle.p3_merkle_builder.specs.Parts.{matrices_of}
-use Rattle.p3_merkle_hiding.specs.SaltedCommitmentLaws.{left_greatest}
+use Rattle.p3_merkle_hiding.specs.Inner.SaltedCommitmentLaws.{left_greatest}
 use Rattle.p3_merkle_hiding.proofs.scheme_trait.tell_indices.Goals as goal
 
 pub returns : goal.returns

@@ -2,7 +2,7 @@
 use Rattle.std.proofs.Common.{arith, ◌++◌, ◌∙◌, ap, sym, take}
 use Rattle.std.proofs.lemmas.List.{append_assoc}
 use Rattle.p3_support.specs.Lists.{rows_of_height}
-use Rattle.p3_merkle_lanes.proofs.LaneFacts.{rows_with, rows_without}
+use Rattle.p3_merkle_lanes.proofs.LaneFacts.{row_taken, row_passed}
 use Rattle.p3_merkle_lanes.proofs.batched.stage_rows_at.Goals as goal
 use Rattle.p3_merkle_lanes.proofs.batched.stage_rows_at.Goals.{then-height+in_ok-stage_row, else-height}
 
@@ -15,8 +15,8 @@ loop-matrix-preserved g c =
     elim c.if-height.branch [
       | then-height+in_ok-stage_row w ↦
           ap (λ v. v.items) w.staged-is ∙ w.in_ok-stage_row.ensures ∙ ap (λ l. l ++ row) c.loop-matrix.invariant ∙ append_assoc old so_far row
-          ∙ ap (λ l. old ++ l) (sym (rows_with g.M.Matrix.height_of g.M.Matrix.row_of c.args.height c.args.row c.args.matrices.now c.loop-matrix.matrix-index m c.loop-matrix-test.true c.matrix-item.is (omega (arith, c.height.ensures, w.if-height.true))))
+          ∙ ap (λ l. old ++ l) (sym (row_taken g.M.Matrix.height_of g.M.Matrix.row_of c.args.height c.args.row c.args.matrices.now c.loop-matrix.matrix-index m c.loop-matrix-test.true c.matrix-item.is (omega (arith, c.height.ensures, w.if-height.true))))
       | else-height w ↦
           ap (λ v. v.items) w.staged-is ∙ c.loop-matrix.invariant
-          ∙ ap (λ l. old ++ l) (sym (rows_without g.M.Matrix.height_of g.M.Matrix.row_of c.args.height c.args.row c.args.matrices.now c.loop-matrix.matrix-index m c.loop-matrix-test.true c.matrix-item.is (λ same. w.if-height.false (c.height.ensures ∙ same))))
+          ∙ ap (λ l. old ++ l) (sym (row_passed g.M.Matrix.height_of g.M.Matrix.row_of c.args.height c.args.row c.args.matrices.now c.loop-matrix.matrix-index m c.loop-matrix-test.true c.matrix-item.is (λ same. w.if-height.false (c.height.ensures ∙ same))))
     ]

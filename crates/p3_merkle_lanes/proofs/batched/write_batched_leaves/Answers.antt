@@ -2,7 +2,7 @@
 use Rattle.std.proofs.Common.{arith, ◌≡◌, ℕ, ◌+◌, ◌-◌, ◌<◌, ◌≤◌, length, refl, replicate}
 use Rattle.std.proofs.lemmas.Bool.{lt-ltb}
 use Rattle.p3_support.specs.Lists.{rows_of_height}
-use Rattle.p3_merkle_lanes.specs.Slots.{leaf_over}
+use Rattle.p3_merkle_lanes.specs.Inner.Slots.{leaf_over}
 use Rattle.p3_merkle_lanes.proofs.StageFacts.{fill_part}
 use Rattle.p3_merkle_lanes.proofs.batched.write_batched_leaves.Goals as goal
 

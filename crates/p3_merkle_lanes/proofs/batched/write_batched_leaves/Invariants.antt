@@ -1,5 +1,5 @@
 use Rattle.std.proofs.Common.{◌≤◌, ◌-◌, length, replicate}
-use Rattle.p3_merkle_lanes.specs.Slots.{leaf_over, IsFilled}
+use Rattle.p3_merkle_lanes.specs.Inner.Slots.{leaf_over, IsFilled}
 use Rattle.p3_merkle_lanes.proofs.batched.write_batched_leaves.Given as goal
 
 -- the slots so far are written

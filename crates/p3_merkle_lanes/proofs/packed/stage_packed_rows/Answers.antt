@@ -1,7 +1,7 @@
 -- Each turn adds the rows of one matrix, if it has the height.
 use Rattle.std.proofs.Common.{arith, ℕ, ◌+◌, ◌++◌, ◌∙◌, ap, sym, List}
 use Rattle.p3_support.specs.Lists.{lane_of}
-use Rattle.p3_merkle_lanes.proofs.LaneFacts.{rows_with, rows_without}
+use Rattle.p3_merkle_lanes.proofs.LaneFacts.{row_taken, row_passed}
 use Rattle.p3_merkle_lanes.proofs.packed.stage_packed_rows.Goals as goal
 use Rattle.p3_merkle_lanes.proofs.packed.stage_packed_rows.Goals.{then-height+in_ok-stage_packed_row, else-height}
 
@@ -14,8 +14,8 @@ loop-matrix-preserved g c = λ k small.
     elim c.if-height.branch [
       | then-height+in_ok-stage_packed_row w ↦
           ap (λ v. lane v.items) w.staged-is ∙ w.in_ok-stage_packed_row.ensures k small ∙ ap (λ l. l ++ g.M.Matrix.row_of m r) so_far
-          ∙ sym (rows_with g.M.Matrix.height_of g.M.Matrix.row_of c.args.height r c.args.matrices.now c.loop-matrix.matrix-index m c.loop-matrix-test.true c.matrix-item.is (omega (arith, c.height.ensures, w.if-height.true)))
+          ∙ sym (row_taken g.M.Matrix.height_of g.M.Matrix.row_of c.args.height r c.args.matrices.now c.loop-matrix.matrix-index m c.loop-matrix-test.true c.matrix-item.is (omega (arith, c.height.ensures, w.if-height.true)))
       | else-height w ↦
           ap (λ v. lane v.items) w.staged-is ∙ so_far
-          ∙ sym (rows_without g.M.Matrix.height_of g.M.Matrix.row_of c.args.height r c.args.matrices.now c.loop-matrix.matrix-index m c.loop-matrix-test.true c.matrix-item.is (λ same. w.if-height.false (c.height.ensures ∙ same)))
+          ∙ sym (row_passed g.M.Matrix.height_of g.M.Matrix.row_of c.args.height r c.args.matrices.now c.loop-matrix.matrix-index m c.loop-matrix-test.true c.matrix-item.is (λ same. w.if-height.false (c.height.ensures ∙ same)))
     ]

@@ -2,7 +2,7 @@
 use Rattle.std.proofs.Common.{arith, ◌≡◌, ℕ, ◌+◌, ◌*◌, ◌<◌, ◌∙◌, [], refl, replicate, slice_index_or}
 use Rattle.std.proofs.lemmas.Bool.{lt-ltb}
 use Rattle.p3_support.specs.Lists.{lane_of}
-use Rattle.p3_merkle_lanes.specs.Slots.{leaf_over}
+use Rattle.p3_merkle_lanes.specs.Inner.Slots.{leaf_over}
 use Rattle.p3_merkle_lanes.proofs.LaneFacts.{group_end, group_more}
 use Rattle.p3_merkle_lanes.proofs.packed.write_packed_leaves.Goals as goal
 

@@ -1,5 +1,5 @@
 use Rattle.std.proofs.Common.{◌*◌, length, replicate}
-use Rattle.p3_merkle_lanes.specs.Slots.{leaf_over, IsFilled}
+use Rattle.p3_merkle_lanes.specs.Inner.Slots.{leaf_over, IsFilled}
 use Rattle.p3_merkle_lanes.proofs.packed.write_packed_leaves.Given as goal
 
 -- the groups so far are written

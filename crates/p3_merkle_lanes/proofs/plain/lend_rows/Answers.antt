@@ -1,6 +1,6 @@
 -- Each turn lends the row of one matrix, if it has the height.
 use Rattle.std.proofs.Common.{arith, sym, length-set}
-use Rattle.p3_merkle_lanes.proofs.LaneFacts.{piece_more, rows_with, rows_without}
+use Rattle.p3_merkle_lanes.proofs.LaneFacts.{piece_more, row_taken, row_passed}
 use Rattle.p3_merkle_lanes.proofs.plain.lend_rows.Goals as goal
 use Rattle.p3_merkle_lanes.proofs.plain.lend_rows.Goals.{then-height+else-count-eq-MAX_PIECES+in_ok-pieces, else-height}
 
@@ -17,12 +17,12 @@ loop-matrix-preserved g c =
             omega (arith, w.count-is, before.0, w.if-count-eq-MAX_PIECES.false),
             rw (w.pieces-is, length-set pieces count piece) before.1,
             rw (w.pieces-is, w.count-is, more, before.2, w.in_ok-pieces.ensures)
-                (sym (rows_with g.M.Matrix.height_of g.M.Matrix.row_of c.args.height c.args.row c.args.matrices.now c.loop-matrix.matrix-index m c.loop-matrix-test.true c.matrix-item.is (omega (arith, c.height.ensures, w.if-height.true)))),
+                (sym (row_taken g.M.Matrix.height_of g.M.Matrix.row_of c.args.height c.args.row c.args.matrices.now c.loop-matrix.matrix-index m c.loop-matrix-test.true c.matrix-item.is (omega (arith, c.height.ensures, w.if-height.true)))),
           )
       | else-height w ↦ (
         rw w.count-is before.0,
         rw w.pieces-is before.1,
         rw (w.pieces-is, w.count-is, before.2)
-            (sym (rows_without g.M.Matrix.height_of g.M.Matrix.row_of c.args.height c.args.row c.args.matrices.now c.loop-matrix.matrix-index m c.loop-matrix-test.true c.matrix-item.is (λ same. w.if-height.false (omega (arith, c.height.ensures, same))))),
+            (sym (row_passed g.M.Matrix.height_of g.M.Matrix.row_of c.args.height c.args.row c.args.matrices.now c.loop-matrix.matrix-index m c.loop-matrix-test.true c.matrix-item.is (λ same. w.if-height.false (omega (arith, c.height.ensures, same))))),
       )
     ]

@@ -5,7 +5,7 @@ use Rattle.std.proofs.lemmas.Bool.{lt-ltb}
 use Rattle.std.proofs.lemmas.List.{length-take-le}
 use Rattle.std.proofs.lemmas.Simd.{map-map}
 use Rattle.p3_support.specs.Lists.{messages, rows_of_height}
-use Rattle.p3_merkle_lanes.specs.Slots.{leaf_over, IsFilled}
+use Rattle.p3_merkle_lanes.specs.Inner.Slots.{leaf_over, IsFilled}
 use Rattle.p3_merkle_lanes.proofs.StageFacts.{fill_part}
 use borrow.Rule.Slice.PartMut.{put_mid}
 use Rattle.p3_merkle_lanes.proofs.plain.write_lent_leaves.Goals as goal

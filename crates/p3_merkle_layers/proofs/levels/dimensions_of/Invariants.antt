@@ -1,6 +1,6 @@
 use Rattle.std.proofs.Common.{◌≡◌, map, take}
 use Rattle.p3_merkle_core.specs.Nodes.{dimensions_of}
-use Rattle.p3_merkle_layers.specs.Views.{matrix_of}
+use Rattle.p3_merkle_core.specs.Views.{matrix_of}
 use Rattle.p3_merkle_layers.proofs.levels.dimensions_of.Given as goal
 
 abbrev pub invariant-loop-matrix : goal.invariant-loop-matrix

@@ -2,7 +2,7 @@
 use Rattle.std.proofs.Common.{refl, replicate}
 use Rattle.p3_merkle_core.specs.Geometry.{shape_of}
 use Rattle.p3_merkle_core.specs.Nodes.{functions_of}
-use Rattle.p3_merkle_pairs.specs.Pairs.{pruned_in}
+use Rattle.p3_merkle_pairs.specs.Inner.Pairs.{pruned_in}
 use Rattle.p3_merkle_pairs.proofs.QueryFacts.{comparable, restored}
 use Rattle.p3_merkle_pairs.proofs.pairs.checked_queries.Goals as goal
 

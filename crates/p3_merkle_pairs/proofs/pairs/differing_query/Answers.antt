@@ -3,8 +3,8 @@ use Rattle.std.proofs.Common.{◌∙◌, ℕ, ap, arith, inl, inr, length, repli
 use Rattle.std.proofs.lemmas.Bool.{cases_eq}
 use Rattle.p3_merkle_core.specs.Geometry.{shape_of}
 use Rattle.p3_merkle_core.specs.Nodes.{functions_of}
-use Rattle.p3_merkle_checker.specs.Checks.{opening_in}
-use Rattle.p3_merkle_pairs.specs.Pairs.{query_difference, query_in}
+use Rattle.p3_merkle_checker.specs.Inner.Checks.{opening_in}
+use Rattle.p3_merkle_pairs.specs.Inner.Pairs.{query_difference, query_in}
 use Rattle.p3_merkle_pairs.proofs.PairFacts.{found_nowhere, found_place, shown_none}
 use Rattle.p3_merkle_pairs.proofs.QueryFacts.{shows_query}
 use Rattle.p3_merkle_pairs.proofs.pairs.differing_query.Goals as goal

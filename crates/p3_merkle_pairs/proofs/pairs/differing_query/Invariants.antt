@@ -1,8 +1,8 @@
 use Rattle.std.proofs.Common.{◌≡◌, ◌<◌, ℕ, None, replicate}
 use Rattle.p3_merkle_core.specs.Geometry.{shape_of}
 use Rattle.p3_merkle_core.specs.Nodes.{functions_of}
-use Rattle.p3_merkle_checker.specs.Checks.{opening_in}
-use Rattle.p3_merkle_pairs.specs.Pairs.{query_difference, query_in}
+use Rattle.p3_merkle_checker.specs.Inner.Checks.{opening_in}
+use Rattle.p3_merkle_pairs.specs.Inner.Pairs.{query_difference, query_in}
 use Rattle.p3_merkle_pairs.proofs.pairs.differing_query.Given as goal
 
 -- no query so far differs

@@ -1,11 +1,12 @@
 -- The slots are the covered leaves.
 use Rattle.std.proofs.Common.{◌∙◌, ap, map, refl, sym}
-use Rattle.p3_merkle_core.specs.Agreement.{distinct}
-use Rattle.p3_merkle_core.specs.Geometry.{exponent, heights, shape_of, tallest}
+use Rattle.p3_merkle_core.specs.Inner.Agreement.{distinct}
+use Rattle.p3_support.specs.Batches.{greatest}
+use Rattle.p3_merkle_core.specs.Geometry.{exponent, heights, shape_of}
 use Rattle.p3_merkle_core.proofs.AgreeFacts.{firsts_inside}
 use Rattle.p3_merkle_core.proofs.SlotFacts.{all_below, distinct_from, distinct_queried}
 use Rattle.p3_merkle_core.proofs.StepFacts.{layer_start}
-use Rattle.p3_merkle_pruner.specs.Walks.{node_of_query}
+use Rattle.p3_merkle_pruner.specs.Inner.Walks.{node_of_query}
 use Rattle.p3_merkle_pruner.proofs.StartFacts.{led_by_firsts}
 use Rattle.p3_merkle_pruner.proofs.leaves.leaves_of.Goals as goal
 
@@ -15,7 +16,7 @@ returns c =
     let indices = c.args.indices.now in
     let slots = c.requires.slots in
     record {
-      nodes_are = slots.leaves ∙ sym (distinct_from s indices (all_below (tallest (heights s)) indices c.requires.below));
+      nodes_are = slots.leaves ∙ sym (distinct_from s indices (all_below (greatest (heights s)) indices c.requires.below));
       leads_are = slots.leaves ∙ led_by_firsts s indices (distinct indices) (distinct_queried indices) ∙ ap (map (node_of_query s indices 0)) (sym slots.firsts);
       among = firsts_inside c.args.slots.firsts.items indices slots.firsts;
       at_exponent = c.exponent_of.ensures ∙ ap exponent c.tallest_of.ensures ∙ sym (layer_start s);

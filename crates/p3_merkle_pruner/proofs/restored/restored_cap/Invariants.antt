@@ -3,7 +3,7 @@ use Rattle.p3_merkle_core.specs.Geometry.{shape_of}
 use Rattle.p3_merkle_core.specs.Nodes.{functions_of}
 use Rattle.p3_merkle_core.specs.Pruning.{pruned_of}
 use Rattle.p3_support.specs.Shown.{row_sets}
-use Rattle.p3_merkle_pruner.specs.Walks.{AreRestored}
+use Rattle.p3_merkle_pruner.specs.Inner.Walks.{AreRestored}
 use Rattle.p3_merkle_pruner.proofs.restored.restored_cap.Given as goal
 
 -- the covered nodes of the layer, with a digest of each

@@ -1,10 +1,10 @@
 -- Each turn hashes the rows of one more query.
 use Rattle.std.proofs.Common.{◌∙◌, ◌<◌, arith, ap, sym, length, get_or, zip}
 use Rattle.std.proofs.lemmas.List.{length-map, take_all}
-use Rattle.p3_merkle_core.specs.Geometry.{heights_of}
+use Rattle.p3_merkle_core.specs.Checks.{words_of_exponent}
+use Rattle.p3_support.specs.Batches.{heights_of}
 use Rattle.p3_support.specs.Shown.{row_sets}
-use Rattle.p3_merkle_checker.specs.Paths.{rows_with}
-use Rattle.p3_merkle_pruner.specs.Groups.{query_digest}
+use Rattle.p3_merkle_pruner.specs.Inner.Groups.{query_digest}
 use Rattle.p3_merkle_pruner.proofs.GroupFacts.{mapped_more, set_read}
 use Rattle.p3_merkle_pruner.proofs.rows.row_digests.Goals as goal
 
@@ -16,7 +16,7 @@ loop-query-preserved g c =
     let words = rw c.deref.ensures.value at c.rows_digest-digest.ensures in
     mapped_more (query_digest (g.H.CryptographicHasher.hash c.args.hash.now) c.args.x (heights_of c.args.dimensions.now) (row_sets c.args.sets.now)) c.args.queries.now c.loop-query.query-index 0
     c.loop-query.digests.items c.push.new.self.items c.rows_digest-digest.result (omega arith) c.loop-query.invariant c.in_ok-push.ensures.items
-    (words ∙ ap (λ rows. g.H.CryptographicHasher.hash c.args.hash.now (rows_with c.args.x (zip (heights_of c.args.dimensions.now) rows))) (sym (set_read c.args.sets.now k set.result inside set.is)))
+    (words ∙ ap (λ rows. g.H.CryptographicHasher.hash c.args.hash.now (words_of_exponent c.args.x (zip (heights_of c.args.dimensions.now) rows))) (sym (set_read c.args.sets.now k set.result inside set.is)))
 
 pub returns-clause-count : goal.returns-clause-count
 returns-clause-count g c =

@@ -1,7 +1,7 @@
 use Rattle.std.proofs.Common.{◌≡◌, map, take}
-use Rattle.p3_merkle_core.specs.Geometry.{heights_of}
+use Rattle.p3_support.specs.Batches.{heights_of}
 use Rattle.p3_support.specs.Shown.{row_sets}
-use Rattle.p3_merkle_pruner.specs.Groups.{query_digest}
+use Rattle.p3_merkle_pruner.specs.Inner.Groups.{query_digest}
 use Rattle.p3_merkle_pruner.proofs.rows.row_digests.Given as goal
 
 -- the digests of the queries so far

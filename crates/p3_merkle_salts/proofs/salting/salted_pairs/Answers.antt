@@ -4,10 +4,10 @@ use Rattle.std.proofs.lemmas.List.Elements.{All-push}
 use Rattle.std.specs.Vec.Iter.{into_iter_items}
 use Rattle.std.proofs.lemmas.List.{map-append}
 use Rattle.p3_support.specs.Lists.{message}
+use Rattle.p3_merkle_core.specs.Views.{matrix_of}
 use Rattle.p3_support.specs.Pairs.{left_of, right_of}
 use Rattle.p3_support.specs.RowMajor.{row_width, values_of}
 use Rattle.p3_support.specs.Salts.{after_words, salts}
-use Rattle.p3_merkle_layers.specs.Views.{matrix_of}
 use Rattle.p3_merkle_salts.proofs.SaltingFacts.{after_next, after_some, drawn_more, first_fits, others_fit, pairs_more, same_more, stream_more}
 use Rattle.p3_merkle_salts.specs.Salted.{after_salts, salted, salted_matrices}
 use Rattle.p3_merkle_salts.specs.SaltedTrees.{HaveSaltColumns, pair_matrix}

@@ -1,6 +1,6 @@
 use Rattle.std.proofs.Common.{◌≡◌, ◌++◌, map}
 use Rattle.std.specs.Vec.Iter.{into_iter_items}
-use Rattle.p3_merkle_layers.specs.Views.{matrix_of}
+use Rattle.p3_merkle_core.specs.Views.{matrix_of}
 use Rattle.p3_merkle_core.specs.Nodes.{dimensions_of}
 use Rattle.p3_support.specs.Pairs.{left_of}
 use Rattle.p3_merkle_salts.specs.Salted.{after_salts, salted_matrices}

@@ -2,7 +2,7 @@
 use Rattle.std.proofs.Common.{ℕ, ◌<◌, subst}
 use Rattle.std.specs.Prelude.{All}
 use Rattle.p3_merkle_builder.specs.Parts.{matrices_of}
-use Rattle.p3_merkle_tree.specs.CommitmentLaws.{greatest_is}
+use Rattle.p3_merkle_tree.specs.Inner.CommitmentLaws.{greatest_is}
 use Rattle.p3_merkle_tree.proofs.scheme_trait.tell_indices.Goals as goal
 
 pub returns : goal.returns

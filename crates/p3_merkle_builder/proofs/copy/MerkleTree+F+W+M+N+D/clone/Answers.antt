@@ -1,9 +1,9 @@
 -- The copy has the facts of the tree.
 use Rattle.std.proofs.Common.{ap, subst, sym, ◌∙◌, map}
 use Rattle.p3_merkle_core.specs.Geometry.{arity_schedule, heights, IsLawful}
+use Rattle.p3_merkle_core.specs.Views.{batch_of}
 use Rattle.p3_merkle_core.specs.Nodes.{Batch, shape}
 use Rattle.p3_merkle_builder.specs.Parts.{tree_batch}
-use Rattle.p3_merkle_layers.specs.Views.{batch_of}
 use Rattle.p3_merkle_builder.proofs.TreeFacts.{same_batch, same_lengths}
 use Rattle.p3_merkle_builder.proofs.copy.MerkleTree+F+W+M+N+D.clone.Goals as goal
 

@@ -1,10 +1,11 @@
 -- The facts of the tree that is made.
 use Rattle.std.proofs.Common.{◌≡◌, replicate, refl, ap, ◌∙◌, subst, map, List, None}
 use Rattle.p3_support.specs.declared.matrix.Dimensions.{Dimensions}
-use Rattle.p3_merkle_core.specs.Geometry.{heights_of, arity_schedule, IsLawful}
+use Rattle.p3_merkle_core.specs.Geometry.{arity_schedule, IsLawful}
+use Rattle.p3_merkle_core.specs.Views.{batch_of, matrix_of}
+use Rattle.p3_support.specs.Batches.{heights_of}
 use Rattle.p3_merkle_core.specs.Gate.{gate_refusal}
 use Rattle.p3_merkle_core.specs.Nodes.{functions_of, dimensions_of, layers, shape}
-use Rattle.p3_merkle_layers.specs.Views.{batch_of, matrix_of}
 use Rattle.p3_merkle_builder.proofs.TreeFacts.{lengths_from}
 use Rattle.p3_merkle_builder.proofs.tree.MerkleTree+F+W+M+N+D.build.Goals as goal
 

@@ -3,7 +3,7 @@ use Rattle.std.proofs.Common.{inr, replicate}
 use Rattle.std.proofs.lemmas.Result.{err_from_is_err_and}
 use Rattle.p3_merkle_core.specs.Geometry.{shape_of}
 use Rattle.p3_merkle_core.specs.Nodes.{functions_of}
-use Rattle.p3_merkle_checker.specs.Checks.{opening_in}
+use Rattle.p3_merkle_checker.specs.Inner.Checks.{opening_in}
 use Rattle.p3_merkle_checker.proofs.ExtractFacts.{both_taken, first_refused, second_refused}
 use Rattle.p3_merkle_checker.proofs.FormFacts.{reach_from}
 use Rattle.p3_merkle_checker.proofs.extraction.Checker+P+PW+H+C+array+N+array+D+PW+Value.extraction.Goals as goal

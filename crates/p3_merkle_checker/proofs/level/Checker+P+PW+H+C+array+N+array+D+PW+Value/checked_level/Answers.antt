@@ -2,7 +2,7 @@
 use Rattle.std.proofs.Common.{arith, length, replicate, sym, ◌∙◌}
 use Rattle.p3_merkle_core.specs.Geometry.{shape_of}
 use Rattle.p3_merkle_core.specs.Nodes.{functions_of}
-use Rattle.p3_merkle_checker.specs.Checks.{opening_in}
+use Rattle.p3_merkle_checker.specs.Inner.Checks.{opening_in}
 use Rattle.p3_merkle_checker.proofs.LevelFacts.{can_step, level_alone, level_with_rows}
 use Rattle.p3_merkle_checker.proofs.level.Checker+P+PW+H+C+array+N+array+D+PW+Value.checked_level.Goals as goal
 

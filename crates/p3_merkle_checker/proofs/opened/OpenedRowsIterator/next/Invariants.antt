@@ -1,6 +1,6 @@
 use Rattle.std.proofs.Common.{◌≡◌, length, map}
-use Rattle.p3_merkle_core.specs.Geometry.{heights_of}
-use Rattle.p3_merkle_checker.specs.Paths.{opened_left}
+use Rattle.p3_support.specs.Batches.{heights_of}
+use Rattle.p3_merkle_checker.specs.Inner.Paths.{opened_left}
 use Rattle.p3_merkle_checker.proofs.opened.OpenedRowsIterator.next.Given as goal
 
 abbrev pub invariant-loop-matrix : goal.invariant-loop-matrix

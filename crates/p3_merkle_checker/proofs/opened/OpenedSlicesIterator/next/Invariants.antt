@@ -1,6 +1,6 @@
 use Rattle.std.proofs.Common.{◌≡◌, length, map, zip}
-use Rattle.p3_merkle_core.specs.Geometry.{heights_of}
-use Rattle.p3_merkle_checker.specs.Paths.{rows_of_exponent}
+use Rattle.p3_support.specs.Batches.{heights_of}
+use Rattle.p3_merkle_checker.specs.Inner.Paths.{rows_of_exponent}
 use Rattle.p3_merkle_checker.proofs.opened.OpenedSlicesIterator.next.Given as goal
 
 abbrev pub invariant-loop-matrix : goal.invariant-loop-matrix

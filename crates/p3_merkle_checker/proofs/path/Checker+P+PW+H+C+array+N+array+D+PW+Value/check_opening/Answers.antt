@@ -2,7 +2,7 @@
 use Rattle.std.proofs.Common.{replicate, false, true}
 use Rattle.p3_merkle_core.specs.Geometry.{shape_of}
 use Rattle.p3_merkle_core.specs.Nodes.{functions_of}
-use Rattle.p3_merkle_checker.specs.Checks.{opening_in}
+use Rattle.p3_merkle_checker.specs.Inner.Checks.{opening_in}
 use Rattle.p3_merkle_checker.proofs.FormFacts.{answered_by_entry}
 use Rattle.p3_merkle_checker.proofs.path.Checker+P+PW+H+C+array+N+array+D+PW+Value.check_opening.Goals as goal
 

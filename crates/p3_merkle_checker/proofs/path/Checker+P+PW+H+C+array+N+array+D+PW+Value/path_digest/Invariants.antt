@@ -1,7 +1,7 @@
 use Rattle.std.proofs.Common.{replicate}
 use Rattle.p3_merkle_core.specs.Geometry.{shape_of}
 use Rattle.p3_merkle_core.specs.Nodes.{functions_of}
-use Rattle.p3_merkle_checker.specs.Checks.{StandsAt, opening_in}
+use Rattle.p3_merkle_checker.specs.Inner.Checks.{StandsAt, opening_in}
 use Rattle.p3_merkle_checker.proofs.path.Checker+P+PW+H+C+array+N+array+D+PW+Value.path_digest.Given as goal
 
 abbrev pub invariant-loop-level : goal.invariant-loop-level

@@ -3,8 +3,8 @@ use Rattle.std.proofs.Common.{◌≡◌, ◌∙◌, add-one, arith, inl, inr, re
 use Rattle.p3_merkle_core.specs.Extraction.{input_eq}
 use Rattle.p3_merkle_core.specs.Geometry.{layer_exponent, shape_of}
 use Rattle.p3_merkle_core.specs.Nodes.{functions_of}
-use Rattle.p3_merkle_checker.specs.Checks.{opening_in}
-use Rattle.p3_merkle_checker.specs.Collisions.{first_words, second_words}
+use Rattle.p3_merkle_checker.specs.Inner.Checks.{opening_in}
+use Rattle.p3_merkle_checker.specs.Inner.Collisions.{first_words, second_words}
 use Rattle.p3_merkle_checker.proofs.LevelFacts.{stands_first}
 use Rattle.p3_merkle_checker.proofs.SharedFacts.{difference_shared}
 use Rattle.p3_merkle_checker.proofs.WalkFacts.{found_here, found_next, words_alike}
@@ -40,8 +40,8 @@ loop-level-preserved g c =
       found = found_next test f s l o u c.loop-level.last c.if-mine-theirs.last mine.result theirs.result my_level their_level c.loop-level.invariant.found
           (elim c.if-mine-theirs.branch [
             | then-mine-theirs+in_ok-found w ↦
-                let rows = w.rows_with-rows.result in
-                let are = w.rows_with-rows.ensures in
+                let rows = w.rows_of_exponent-rows.result in
+                let are = w.rows_of_exponent-rows.ensures in
                 let at = are.exponent ∙ my_level.stands.at_exponent in
                 let a = words_alike rows.dimensions.now pair.dimensions.now rows.exponent (layer_exponent s (suc l)) rows.first.now pair.first.rows.now are.dimensions at are.first in
                 let b = words_alike rows.dimensions.now pair.dimensions.now rows.exponent (layer_exponent s (suc l)) rows.second.now pair.second.rows.now are.dimensions at are.second in

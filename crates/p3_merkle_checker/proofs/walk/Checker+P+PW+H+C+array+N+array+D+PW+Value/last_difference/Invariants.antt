@@ -2,7 +2,7 @@ use Rattle.std.proofs.Common.{replicate}
 use Rattle.p3_merkle_core.specs.Extraction.{input_eq}
 use Rattle.p3_merkle_core.specs.Geometry.{shape_of}
 use Rattle.p3_merkle_core.specs.Nodes.{functions_of}
-use Rattle.p3_merkle_checker.specs.Checks.{opening_in}
+use Rattle.p3_merkle_checker.specs.Inner.Checks.{opening_in}
 use Rattle.p3_merkle_checker.proofs.WalkFacts.{StandTogether}
 use Rattle.p3_merkle_checker.proofs.walk.Checker+P+PW+H+C+array+N+array+D+PW+Value.last_difference.Given as goal
 

@@ -3,16 +3,17 @@ use Rattle.std.proofs.Common.{◌≡◌, ◌∙◌, List, ap, map, refl, rules, 
 use Rattle.std.specs.Prelude.{IfOk}
 use Rattle.std.proofs.lemmas.Result.{IfOk-weaker}
 use Rattle.p3_support.specs.Pairs.{left_of}
+use Rattle.p3_merkle_core.specs.Commitments.{IsCommitment}
+use Rattle.p3_support.specs.Batches.{heights_of}
+use Rattle.p3_merkle_core.specs.Views.{matrix_of}
 use Rattle.p3_merkle_salts.specs.Salted.{salted_matrices}
 use Rattle.p3_support.specs.Shown.{roots_of}
 use Rattle.p3_merkle_builder.specs.Parts.{layers_of}
-use Rattle.p3_merkle_layers.specs.Views.{matrix_of}
 use Rattle.p3_merkle_core.specs.Gate.{gate_refusal}
-use Rattle.p3_merkle_core.specs.Geometry.{heights_of, shape_of}
+use Rattle.p3_merkle_core.specs.Geometry.{shape_of}
 use Rattle.p3_support.specs.declared.matrix.Dimensions.{Dimensions}
 use Rattle.p3_merkle_core.specs.Nodes.{Batch, Matrix, dimensions_of, shape}
 use Rattle.p3_merkle_tree.specs.Schemes.{terms_over}
-use Rattle.p3_merkle_tree.specs.Commitments.{IsCommitment}
 use Rattle.p3_merkle_hiding.specs.HidingSchemes.{generator_of, plain_of}
 use Rattle.p3_merkle_salts.specs.SaltRefusals.{salted_commit_refusal, widening_refusal}
 use Rattle.p3_merkle_salts.specs.SaltedTrees.{HaveSaltColumns, pair_matrix}

@@ -2,11 +2,11 @@
 use Rattle.std.proofs.Common.{ap, subst, sym}
 use Rattle.std.specs.Prelude.{IfOk}
 use Rattle.p3_support.specs.Shown.{roots_of}
+use Rattle.p3_merkle_core.specs.Views.{batch_of}
 use Rattle.p3_merkle_salts.specs.Salted.{salted_batch}
 use Rattle.p3_merkle_builder.specs.Parts.{layers_of, matrices_of, tree_batch}
 use Rattle.p3_merkle_core.specs.Geometry.{shape_of}
 use Rattle.p3_merkle_core.specs.Nodes.{dimensions_of, shape}
-use Rattle.p3_merkle_layers.specs.Views.{batch_of}
 use Rattle.p3_merkle_tree.specs.Schemes.{terms_over}
 use Rattle.p3_merkle_hiding.specs.HidingSchemes.{generator_of, plain_of}
 use Rattle.p3_merkle_hiding.specs.SaltedCommitments.{IsSaltedCommitment}

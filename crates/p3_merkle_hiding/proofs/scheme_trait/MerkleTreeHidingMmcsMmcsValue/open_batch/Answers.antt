@@ -2,12 +2,12 @@
 use Rattle.std.proofs.Common.{◌∙◌, List, ap, map, subst, sym}
 use Rattle.std.specs.Prelude.{◌≡◌, IfOk}
 use Rattle.p3_support.specs.Pairs.{left_of}
+use Rattle.p3_merkle_core.specs.Commitments.{cap_over}
 use Rattle.p3_support.specs.Shown.{roots_of, row_lists}
 use Rattle.p3_support.specs.declared.matrix.Dimensions.{Dimensions}
 use Rattle.p3_merkle_builder.specs.Parts.{matrices_of, tree_batch}
-use Rattle.p3_merkle_tree.specs.CommitmentLaws.{dimensions_are, rows_are}
+use Rattle.p3_merkle_tree.specs.Inner.CommitmentLaws.{dimensions_are, rows_are}
 use Rattle.p3_merkle_tree.specs.Schemes.{terms_of}
-use Rattle.p3_merkle_tree.specs.Commitments.{cap_over}
 use Rattle.p3_merkle_hiding.proofs.SplitFacts.{wide_is}
 use Rattle.p3_merkle_hiding.specs.HidingSchemes.{plain_of, salted_made}
 use Rattle.p3_merkle_salts.specs.SaltedOpenings.{IsSaltedAccepted, widened}

@@ -1,6 +1,6 @@
 -- The leaves are over the matrices of the height alone.
 use Rattle.std.proofs.Common.{◌∙◌, ℕ, refl, ap, map, replicate}
-use Rattle.p3_merkle_lanes.specs.Slots.{leaf_over}
+use Rattle.p3_merkle_lanes.specs.Inner.Slots.{leaf_over}
 use Rattle.p3_merkle_layers.proofs.LayerFacts.{rows_picked, same_made}
 use Rattle.p3_merkle_layers.proofs.layers.Builder+tuple2+P+PW+H+C+M+array+N+array+D+PW+Value.first_layer.Goals as goal
 

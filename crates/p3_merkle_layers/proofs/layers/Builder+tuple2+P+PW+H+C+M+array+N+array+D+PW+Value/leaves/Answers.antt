@@ -3,7 +3,7 @@ use Rattle.std.proofs.Common.{arith, ◌≡◌, ◌∙◌, ap, length, drop, map
 use Rattle.std.specs.List.{range_with_len}
 use Rattle.std.proofs.lemmas.List.{take_at}
 use Rattle.std.proofs.lemmas.List.FromFn.{length-map-range_with_len}
-use Rattle.p3_merkle_lanes.specs.Slots.{leaf_over}
+use Rattle.p3_merkle_lanes.specs.Inner.Slots.{leaf_over}
 use Rattle.p3_merkle_layers.proofs.layers.Builder+tuple2+P+PW+H+C+M+array+N+array+D+PW+Value.leaves.Goals as goal
 
 pub returns : goal.returns

@@ -4,7 +4,7 @@ use Rattle.std.specs.List.{range_with_len}
 use Rattle.std.proofs.lemmas.List.{take_at}
 use Rattle.std.proofs.lemmas.List.FromFn.{length-map-range_with_len}
 use Rattle.p3_merkle_core.specs.Nodes.{functions_of}
-use Rattle.p3_merkle_layers.specs.Levels.{slot_above}
+use Rattle.p3_merkle_layers.specs.Inner.Levels.{slot_above}
 use Rattle.p3_merkle_layers.proofs.LayerFacts.{rows_picked, same_made}
 use Rattle.p3_merkle_layers.proofs.layers.Builder+tuple2+P+PW+H+C+M+array+N+array+D+PW+Value.next_layer.Goals as goal
 

@@ -2,7 +2,7 @@
 use Rattle.std.proofs.Common.{rules, arith, ◌≡◌, ℕ, ◌+◌, ◌*◌, ◌<◌, ◌∙◌, [], refl, length, replicate, slice_index_or}
 use Rattle.p3_support.specs.Lists.{lane_of}
 use Rattle.p3_merkle_core.specs.Nodes.{functions_of}
-use Rattle.p3_merkle_layers.specs.Levels.{slot_above}
+use Rattle.p3_merkle_layers.specs.Inner.Levels.{slot_above}
 use Rattle.p3_merkle_lanes.proofs.LaneFacts.{group_end, group_more}
 use Rattle.p3_merkle_layers.proofs.layers.Builder+tuple2+P+PW+H+C+M+array+N+array+D+PW+Value.write_packed_nodes.Goals as goal
 

@@ -1,7 +1,7 @@
 use Rattle.std.proofs.Common.{◌*◌, length, replicate}
 use Rattle.p3_merkle_core.specs.Nodes.{functions_of}
-use Rattle.p3_merkle_layers.specs.Levels.{slot_above}
-use Rattle.p3_merkle_lanes.specs.Slots.{IsFilled}
+use Rattle.p3_merkle_layers.specs.Inner.Levels.{slot_above}
+use Rattle.p3_merkle_lanes.specs.Inner.Slots.{IsFilled}
 use Rattle.p3_merkle_layers.proofs.layers.Builder+tuple2+P+PW+H+C+M+array+N+array+D+PW+Value.write_packed_nodes.Given as goal
 
 -- the groups so far are written

@@ -1,7 +1,7 @@
 -- Each turn compresses one more group.
 use Rattle.std.proofs.Common.{◌≡◌, ◌∙◌, ◌/◌, ap, arith, length, replicate}
 use Rattle.std.proofs.lemmas.List.FromFn.{length-map-range_with_len}
-use Rattle.p3_merkle_pruner.specs.Groups.{group_digest}
+use Rattle.p3_merkle_pruner.specs.Inner.Groups.{group_digest}
 use Rattle.p3_merkle_pruner.proofs.GroupFacts.{one_more}
 use Rattle.p3_merkle_pruner.proofs.groups.Compressor+PW+C+array+N+array+D+PW+Value.group_digests.Goals as goal
 

@@ -1,6 +1,6 @@
 use Rattle.std.proofs.Common.{◌≡◌, map, replicate}
 use Rattle.std.specs.List.{range_with_len}
-use Rattle.p3_merkle_pruner.specs.Groups.{group_digest}
+use Rattle.p3_merkle_pruner.specs.Inner.Groups.{group_digest}
 use Rattle.p3_merkle_pruner.proofs.groups.Compressor+PW+C+array+N+array+D+PW+Value.group_digests.Given as goal
 
 -- the digests of the groups so far

@@ -1,7 +1,7 @@
 -- Each turn compresses one more pair.
 use Rattle.std.proofs.Common.{arith, replicate, zip}
 use Rattle.std.proofs.lemmas.List.{take_all}
-use Rattle.p3_merkle_pruner.specs.Groups.{pair_digest}
+use Rattle.p3_merkle_pruner.specs.Inner.Groups.{pair_digest}
 use Rattle.p3_merkle_pruner.proofs.GroupFacts.{pairs_more, pairs_long}
 use Rattle.p3_merkle_pruner.proofs.groups.Compressor+PW+C+array+N+array+D+PW+Value.pair_digests.Goals as goal
 

@@ -1,5 +1,5 @@
 use Rattle.std.proofs.Common.{◌≡◌, map, replicate, take, zip}
-use Rattle.p3_merkle_pruner.specs.Groups.{pair_digest}
+use Rattle.p3_merkle_pruner.specs.Inner.Groups.{pair_digest}
 use Rattle.p3_merkle_pruner.proofs.groups.Compressor+PW+C+array+N+array+D+PW+Value.pair_digests.Given as goal
 
 -- the digests of the nodes so far

@@ -5,7 +5,7 @@ use Rattle.p3_merkle_core.specs.Pruning.{covered_at}
 use Rattle.p3_merkle_core.proofs.StepFacts.{next_at, step_at}
 use Rattle.p3_merkle_core.proofs.CoveredFacts.{turned}
 use Rattle.p3_merkle_core.proofs.SlotFacts.{climbed}
-use Rattle.p3_merkle_pruner.specs.Walks.{node_of_query}
+use Rattle.p3_merkle_pruner.specs.Inner.Walks.{node_of_query}
 use Rattle.p3_merkle_pruner.proofs.WalkFacts.{leads_rise}
 use Rattle.p3_merkle_pruner.proofs.plan.Plan.covered_above.Goals as goal
 

@@ -1,9 +1,9 @@
 -- The cap is the tree's own layer.
 use Rattle.std.proofs.Common.{ap}
 use Rattle.p3_merkle_builder.specs.Parts.{layers_of, tree_batch}
+use Rattle.p3_merkle_core.specs.Views.{batch_of}
 use Rattle.p3_merkle_tree.specs.Schemes.{cap_height_of, cap_rule_of, scheme_functions}
 use Rattle.p3_support.specs.Shown.{roots_of}
-use Rattle.p3_merkle_layers.specs.Views.{batch_of}
 use Rattle.p3_merkle_tree.proofs.CapFacts.{cap_is}
 use Rattle.p3_merkle_tree.proofs.mmcs.MerkleTreeMmcs+P+PW+H+C+N+D.commit.Goals as goal
 

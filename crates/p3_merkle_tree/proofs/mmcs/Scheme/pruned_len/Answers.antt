@@ -1,6 +1,7 @@
 -- The boundary is counted, which is least.
 use Rattle.std.proofs.Common.{arith, refl}
-use Rattle.p3_merkle_core.specs.Geometry.{heights_of, shape_of}
+use Rattle.p3_merkle_core.specs.Geometry.{shape_of}
+use Rattle.p3_support.specs.Batches.{heights_of}
 use Rattle.p3_merkle_core.proofs.GateFacts.{none_large_from_lawful, tallest_fits}
 use Rattle.p3_merkle_core.proofs.Sufficient.{count_least}
 use Rattle.p3_merkle_tree.specs.Schemes.{proof_layer}

@@ -1,6 +1,6 @@
 -- Lawful heights are within the limit.
 use Rattle.std.proofs.Common.{refl, rules}
-use Rattle.p3_merkle_core.specs.Geometry.{heights_of}
+use Rattle.p3_support.specs.Batches.{heights_of}
 use Rattle.p3_merkle_core.proofs.GateFacts.{tallest_fits, none_large_from_lawful}
 use Rattle.p3_merkle_tree.proofs.mmcs.Scheme.replay_arity_and_positions.Goals as goal
 

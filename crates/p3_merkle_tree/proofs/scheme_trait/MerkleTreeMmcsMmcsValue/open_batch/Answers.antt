@@ -9,7 +9,7 @@ use Rattle.p3_merkle_core.specs.Geometry.{shape_of}
 use Rattle.p3_merkle_core.specs.Nodes.{shape}
 use Rattle.p3_merkle_core.specs.Checks.{IsAccepted, terms}
 use Rattle.p3_merkle_builder.specs.Parts.{matrices_of, tree_batch}
-use Rattle.p3_merkle_tree.specs.CommitmentLaws.{dimensions_are, rows_are}
+use Rattle.p3_merkle_tree.specs.Inner.CommitmentLaws.{dimensions_are, rows_are}
 use Rattle.p3_merkle_tree.specs.Schemes.{terms_over}
 use Rattle.p3_merkle_core.specs.Views.{opening_made}
 use Rattle.p3_merkle_tree.proofs.scheme_trait.MerkleTreeMmcsMmcsValue.open_batch.Goals as goal

@@ -6,7 +6,7 @@ use Rattle.p3_merkle_core.specs.Geometry.{shape_of}
 use Rattle.p3_merkle_core.specs.Nodes.{shape}
 use Rattle.p3_merkle_core.specs.Pruning.{IsPrunedAccepted, PrunedOpening}
 use Rattle.p3_merkle_builder.specs.Parts.{matrices_of, tree_batch}
-use Rattle.p3_merkle_tree.specs.CommitmentLaws.{dimensions_are, rows_are}
+use Rattle.p3_merkle_tree.specs.Inner.CommitmentLaws.{dimensions_are, rows_are}
 use Rattle.p3_merkle_tree.specs.Schemes.{terms_over}
 use Rattle.p3_merkle_core.specs.Views.{pruned_made}
 use Rattle.p3_merkle_core.specs.Checks.{terms}

@@ -12,7 +12,7 @@ use Rattle.p3_merkle_core.specs.Pruning.{PrunedOpening, opening_at, pruned_of}
 use Rattle.p3_merkle_core.specs.Refusals.{first_of}
 use Rattle.p3_merkle_core.specs.declared.error.MerkleTreeError.{MerkleTreeError}
 use Rattle.p3_merkle_core.specs.declared.error.MerkleTreeError.TheVariants.{OutOfMemory}
-use Rattle.p3_merkle_checker.specs.Paths.{CanReach}
+use Rattle.p3_merkle_checker.specs.Inner.Paths.{CanReach}
 use Rattle.p3_merkle_core.specs.declared.collision.InputPair.{InputPair}
 use Rattle.p3_merkle_pairs.specs.declared.pairs.PrunedOpeningRef.{PrunedOpeningRef}
 use Rattle.p3_merkle_pairs.specs.declared.pairs.RestoredQueries.{RestoredQueries}

@@ -4,20 +4,20 @@ use Rattle.std.specs.List.{AllZip}
 use Rattle.std.proofs.Common.{◌∙◌, ap, arith, refl, subst, sym}
 use Rattle.std.proofs.Math.Nat.{div-one}
 use Rattle.std.proofs.lemmas.List.{get_or_default}
-use Rattle.p3_merkle_core.specs.Geometry.{IsLawful, Shape, bits_reduced, heights_of, shape_of, tallest}
-use Rattle.p3_merkle_layers.specs.Views.{batch_of, heights_in, matrix_of}
+use Rattle.p3_merkle_core.specs.Geometry.{IsLawful, Shape, bits_reduced, shape_of, halved_index}
+use Rattle.p3_merkle_core.specs.Commitments.{IsShown}
+use Rattle.p3_merkle_core.specs.Views.{batch_of, heights_in, matrix_of}
 use Rattle.p3_merkle_core.specs.Nodes.{Functions, dimensions_of, functions_of}
 use Rattle.p3_merkle_core.specs.Openings.{honest_rows}
 use Rattle.p3_merkle_core.specs.Pruning.{PrunedOpening, restored_path, IsPrunedAccepted}
 use Rattle.p3_merkle_core.specs.Caps.{cap_layer}
 use Rattle.p3_merkle_builder.proofs.RowFacts.{row_inside}
-use Rattle.p3_support.specs.Batches.{FitDimensions, IsEquivalence, dimensions_in, greatest_height, rows_in}
+use Rattle.p3_support.specs.Batches.{FitDimensions, IsEquivalence, dimensions_in, rows_in, heights_of, greatest}
 use Rattle.p3_support.specs.declared.matrix.Dimensions.{Dimensions}
 use Rattle.p3_support.specs.declared.packed.PackedValue as packed
 use Rattle.std.specs.declared.default.Default as default
 use Rattle.std.specs.declared.cmp.PartialEq as equality
-use Rattle.p3_merkle_tree.specs.Commitments.{IsSameScheme, IsShown, halved_index}
-use Rattle.p3_merkle_tree.specs.Schemes.{proof_layer, scheme_functions, terms_over}
+use Rattle.p3_merkle_tree.specs.Schemes.{proof_layer, scheme_functions, terms_over, IsSameScheme}
 use Rattle.p3_merkle_tree.specs.declared.mmcs.Scheme.{Scheme}
 use Rattle.p3_merkle_core.specs.Checks.{Terms, terms}
 
@@ -46,7 +46,7 @@ module _ {P PW H C X G V W : Type 0} {N : ℕ} {p : packed.Ghosts P V} {pd : def
 -- ---- what is shown
 
 -- what holds at each place holds of each pair
-all_zip : {A B : Type 0} (holds : A → B → Type 0) (xs : List A) (ys : List B) (a : A) (b : B) → length ys ≡ length xs →
+pub all_zip : {A B : Type 0} (holds : A → B → Type 0) (xs : List A) (ys : List B) (a : A) (b : B) → length ys ≡ length xs →
     ((k : ℕ) → k < length xs → holds (slice_index_or xs k a) (slice_index_or ys k b)) → AllZip holds xs ys
 all_zip holds [] [] a b same at = tt
 all_zip holds [] (y ∷ ys) a b same at = absurd (omega (arith, same))
@@ -57,15 +57,10 @@ all_zip holds (x ∷ xs) (y ∷ ys) a b same at = (at 0 (omega arith), all_zip h
 pub each_shown : {T W : Type 0} (c : Terms T W) (cap : List (List W)) (o : PrunedOpening T W) → IsPrunedAccepted c cap o → AllZip (IsShown c cap) o.indices o.rows
 each_shown c cap o (restorable, accepted) = all_zip (IsShown c cap) o.indices o.rows 0 [] restorable.agreed.in_pairs (λ k inside. (restored_path c o (slice_index o.indices k), accepted k inside))
 
--- the greatest height of dimensions is the tallest of their heights
-pub greatest_of : (ds : List Dimensions) → greatest_height (λ d. d.height) ds ≡ tallest (heights_of ds)
-greatest_of [] = refl
-greatest_of (d ∷ ds) = ap (max d.height) (greatest_of ds)
-
 -- rows that are shown fit the dimensions
 pub shown_rows_fit : {T W : Type 0} (f : Functions T W) (n t : ℕ) (ds : List Dimensions) (cap : List (List W)) (index : ℕ) (rows : List (List T)) → IsShown (terms f (shape_of n ds) t) cap index rows → FitDimensions ds index rows
 shown_rows_fit f n t ds cap index rows (siblings, accepted) =
-    record { rows_fit = accepted.rows_fit; in_range = subst (λ height. index < height) (sym (greatest_of ds)) accepted.in_range }
+    record { rows_fit = accepted.rows_fit; in_range = accepted.in_range }
 
 -- ---- the rows that belong to an index
 
@@ -77,7 +72,7 @@ tallest_at_index height index =
 
 module _ {T M : Type 0} (height width : M → ℕ) (row : M → ℕ → List T) (n : ℕ) where
   -- the greatest height is that of the heights
-  pub greatest_is : (ms : List M) → greatest_height height ms ≡ tallest (heights_in height width row ms)
+  pub greatest_is : (ms : List M) → greatest (map height ms) ≡ greatest (heights_in height width row ms)
   greatest_is [] = refl
   greatest_is (m ∷ ms) = rw (greatest_is ms) refl
 
@@ -92,16 +87,16 @@ module _ {T M : Type 0} (height width : M → ℕ) (row : M → ℕ → List T) 
   rows_beside tall index (m ∷ ms) = ap (λ rows. row m (halved_index tall (height m) index) ∷ rows) (rows_beside tall index ms)
 
   -- the honest rows are those that belong to the index
-  pub rows_are : (ms : List M) (index : ℕ) → honest_rows (batch_of height width row n ms) index ≡ rows_in height row halved_index ms index
+  pub rows_are : (ms : List M) (index : ℕ) → honest_rows (batch_of height width row n ms) index ≡ rows_in height row halved_index (greatest (map height ms)) ms index
   rows_are ms index =
-      rows_beside (tallest (heights_in height width row ms)) index ms
+      rows_beside (greatest (heights_in height width row ms)) index ms
       ∙ ap (λ (tall : ℕ). map (λ m. row m (halved_index tall (height m) index)) ms) (sym (greatest_is ms))
 
   -- each matrix has the row that belongs to an index
   pub row_in_matrix : (ms : List M) → IsLawful (heights_in height width row ms) →
-      All (λ m. (index : ℕ) → index < greatest_height height ms → halved_index (greatest_height height ms) (height m) index < height m) ms
+      All (λ m. (index : ℕ) → index < greatest (map height ms) → halved_index (greatest (map height ms)) (height m) index < height m) ms
   row_in_matrix ms w = λ k d inside index below.
       let m = slice_index_or ms k d in
-      let inner : halved_index (tallest (heights_in height width row ms)) (height m) index < height m =
+      let inner : halved_index (greatest (heights_in height width row ms)) (height m) index < height m =
       row_inside height width row n ms k index m w (rw (greatest_is ms) at below) inside (get_or_default ms k d m inside) in
       rw (greatest_is ms) inner

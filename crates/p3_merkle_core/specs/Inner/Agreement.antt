@@ -2,7 +2,8 @@
 use Rattle.std.specs.Prelude.{◌≡◌, ℕ, suc, ◌<◌, ◌≤◌, ◌==◌, Bool, if◌then◌else◌, List, [], ◌∷◌, map, filter, length, replicate, slice_index, slice_index_or, Option}
 use Rattle.std.specs.List.{range_with_len}
 use Rattle.std.specs.Cmp.Lexicographic.{pointwise}
-use Rattle.p3_merkle_core.specs.Geometry.{Shape, ancestor, exponent, heights, layer_exponent, tallest}
+use Rattle.p3_merkle_core.specs.Geometry.{Shape, ancestor, exponent, heights, layer_exponent}
+use Rattle.p3_support.specs.Batches.{greatest}
 use Rattle.p3_merkle_core.specs.Gate.{gate_refusal}
 use Rattle.p3_merkle_core.specs.Pruning.{PrunedOpening, pruned_of}
 use Rattle.p3_merkle_core.specs.Refusals.{first_of, first_some, idle_refusal, queries_refusal, size_refusal, slots_below, slot_of, unless, width_refusal}
@@ -13,7 +14,7 @@ use Rattle.p3_merkle_core.specs.declared.agreement.Slots.{Slots}
 
 -- the distinct indices, ascending
 unfoldable pub distinct : List ℕ → List ℕ
-distinct indices = slots_below (suc (tallest indices)) indices
+distinct indices = slots_below (suc (greatest indices)) indices
 
 -- the place of the first query of index i
 abbrev pub first_query : List ℕ → ℕ → ℕ
@@ -70,7 +71,7 @@ layers_refusal row_eq s t leaves firsts sets =
 -- why so many row sets and digests are refused for some indices before slots are made: the first of these reasons
 abbrev pub early_refusal : List ℕ → List ℕ → ℕ → ℕ → Option MerkleTreeError
 early_refusal heights indices sets digests =
-    first_some (gate_refusal heights ∷ size_refusal (length indices) sets ∷ idle_refusal (length indices) digests ∷ queries_refusal (tallest heights) indices ∷ [])
+    first_some (gate_refusal heights ∷ size_refusal (length indices) sets ∷ idle_refusal (length indices) digests ∷ queries_refusal (greatest heights) indices ∷ [])
 
 -- why slots with their rows are refused: the widths of their rows, else rows under one node that disagree
 abbrev pub late_refusal : {T : Type 0} → (T → T → Bool) → Shape → ℕ → List ℕ → List ℕ → List (List (List T)) → Option MerkleTreeError

@@ -2,12 +2,8 @@
 use Rattle.std.specs.Prelude.{ℕ, ◌-◌, ◌*◌, ◌/◌, ◌==◌, if◌then◌else◌, List, map, [], ◌∷◌, ◌++◌, length, replicate, take, drop, zip, slice_index_or}
 use Rattle.std.specs.List.{list_any, range_with_len}
 use Rattle.p3_merkle_core.specs.Geometry.{exponent}
-use Rattle.p3_merkle_core.specs.Nodes.{Functions}
-use Rattle.p3_merkle_checker.specs.Paths.{rows_with}
-
--- some digests, followed by default digests up to n
-abbrev pub padded : {X : Type 0} → ℕ → X → List X → List X
-padded n default_element xs = xs ++ replicate (n - length xs) default_element
+use Rattle.p3_merkle_core.specs.Checks.{words_of_exponent}
+use Rattle.p3_merkle_core.specs.Nodes.{Functions, padded}
 
 -- the digest of the group k of some children, where a group has so many of them
 abbrev pub group_digest : {W : Type 0} → (List (List W) → List W) → ℕ → List W → ℕ → List (List W) → ℕ → List W
@@ -19,7 +15,7 @@ pair_digest compression n default_digest pair = compression (padded n default_di
 
 -- the digest of the rows of query k, of the matrices of exponent x
 abbrev pub query_digest : {T W : Type 0} → (List T → List W) → ℕ → List ℕ → List (List (List T)) → ℕ → List W
-query_digest hash x heights sets k = hash (rows_with x (zip heights (slice_index_or sets k [])))
+query_digest hash x heights sets k = hash (words_of_exponent x (zip heights (slice_index_or sets k [])))
 
 -- the digests of a layer's covered nodes: of the groups of children, each compressed once more with that of its lead's rows where matrices have the exponent x
 abbrev pub layer_digests : {T W : Type 0} → Functions T W → ℕ → ℕ → List ℕ → ℕ → List (List (List T)) → List ℕ → List (List W) → List (List W)

@@ -9,7 +9,7 @@ use Rattle.p3_support.specs.Shown.{row_lists}
 use Rattle.p3_merkle_checker.specs.declared.openings.IndexedOpening.{IndexedOpening}
 use Rattle.p3_merkle_checker.specs.declared.level.CheckedLevel.{CheckedLevel}
 use Rattle.p3_merkle_checker.specs.declared.level.Standing.{Standing}
-use Rattle.p3_merkle_checker.specs.Collisions.{level_inputs}
+use Rattle.p3_merkle_checker.specs.Inner.Collisions.{level_inputs}
 
 -- an opening that is lent with its index
 abbrev pub opening_in : {T W : Type 0} → IndexedOpening T (List W) → Opening T W

@@ -2,7 +2,7 @@
 use Rattle.std.specs.Prelude.{◌≡◌, ◌*◌, ◌/◌, ◌<◌, ◌≤◌, ℕ, suc, List, All, drop, flat_map, length, map, slice_index}
 use Rattle.std.specs.List.{range_with_len}
 use Rattle.p3_merkle_core.specs.Geometry.{Shape, ancestor, layer_exponent, step}
-use Rattle.p3_merkle_core.specs.Children.{AreChildren}
+use Rattle.p3_merkle_core.specs.Inner.Children.{AreChildren}
 use Rattle.p3_merkle_core.specs.Nodes.{Functions}
 use Rattle.p3_merkle_core.specs.Pruning.{PrunedOpening, boundary, covered_at, restored_node, value_of}
 use Rattle.p3_merkle_core.specs.declared.pruning.KeptLevel.{KeptLevel}

@@ -1,11 +1,7 @@
 -- What the check of an opening reads.
 use Rattle.std.specs.Prelude.{◌≡◌, ◌≤◌, ℕ, ◌==◌, List, [], ◌∷◌, ◌++◌, drop, zip, filter, flat_map, map, if◌then◌else◌}
 use Rattle.p3_merkle_core.specs.Geometry.{Shape, IsArity, exponent, levels}
-use Rattle.p3_merkle_core.specs.Checks.{siblings_below}
-
--- of rows with their heights, those of the exponent x, one after another
-abbrev pub rows_with : {T : Type 0} → ℕ → List (ℕ × List T) → List T
-rows_with x pairs = flat_map (λ (h, row). row) (filter (λ (h, row). exponent h == x) pairs)
+use Rattle.p3_merkle_core.specs.Checks.{siblings_below, words_of_exponent}
 
 -- the same, each whole
 abbrev pub rows_of_exponent : {T : Type 0} → ℕ → List (ℕ × List T) → List (List T)
@@ -15,7 +11,7 @@ rows_of_exponent x pairs = map (λ (h, row). row) (filter (λ (h, row). exponent
 abbrev pub opened_left : {T : Type 0} → ℕ → List ℕ → List (List T) → ℕ → List T
 opened_left x [] rs c = []
 opened_left x (h ∷ hs) [] c = []
-opened_left x (h ∷ hs) (r ∷ rs) c = (if exponent h == x then drop c r else []) ++ rows_with x (zip hs rs)
+opened_left x (h ∷ hs) (r ∷ rs) c = (if exponent h == x then drop c r else []) ++ words_of_exponent x (zip hs rs)
 
 -- openings are checked up to layer t of a shape
 pub record CanCheck (s : Shape) (t : ℕ) : Type 0 where

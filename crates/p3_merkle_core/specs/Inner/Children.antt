@@ -1,14 +1,11 @@
 -- The children of covered nodes, and the values that they take.
 use Rattle.std.specs.Prelude.{◌≡◌, ℕ, ◌+◌, ◌-◌, ◌*◌, ◌/◌, ◌%◌, ◌^◌, ◌<◌, ◌≤◌, ◌==◌, Bool, not, nat_lt, if◌then◌else◌, List, [], All, drop, filter, flat_map, fold, length, map, remove, take, zip}
 use Rattle.std.specs.List.{enumerate_from, list_any, range_with_len}
+use Rattle.p3_support.specs.Lists.{is_among}
 
 -- the children of some parents, n of each, parent by parent
 abbrev pub children_under : ℕ → List ℕ → List ℕ
 children_under n parents = flat_map (λ p. range_with_len (n * p) n) parents
-
--- whether a number is in a list
-abbrev pub is_among : List ℕ → ℕ → Bool
-is_among xs j = list_any (λ x. x == j) xs
 
 -- the values that stand beside the numbers that pass a test
 abbrev pub beside : {X : Type 0} → (ℕ → Bool) → List ℕ → List X → List X

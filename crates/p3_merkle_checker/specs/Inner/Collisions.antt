@@ -1,11 +1,10 @@
 -- The inputs of a level as an extraction compares them.
 use Rattle.std.specs.Prelude.{◌≡◌, ℕ, List, [], ◌∷◌, Bool, Option, None, Some, if◌then◌else◌, option_map, zip}
-use Rattle.p3_merkle_core.specs.Checks.{Input, digests_at, words_at}
-use Rattle.p3_merkle_core.specs.Geometry.{heights_of}
+use Rattle.p3_merkle_core.specs.Checks.{Input, digests_at, words_at, words_of_exponent}
+use Rattle.p3_support.specs.Batches.{heights_of}
 use Rattle.p3_merkle_core.specs.Views.{inputs_in}
 use Rattle.p3_merkle_core.specs.declared.collision.InputPair.{InputPair}
 use Rattle.p3_merkle_core.specs.declared.collision.Place.TheVariants.{Group, Rows, Pair}
-use Rattle.p3_merkle_checker.specs.Paths.{rows_with}
 use Rattle.p3_support.specs.Shown.{row_lists}
 use Rattle.p3_merkle_checker.specs.declared.collision.RowPair.{RowPair}
 use Rattle.p3_merkle_checker.specs.declared.level.CheckedLevel.{CheckedLevel}
@@ -21,11 +20,11 @@ module _ {T W : Type 0} where
 
 -- the words that the first of two openings has for the matrices of an exponent, row after row
 abbrev pub first_words : {T : Type 0} → RowPair T → List T
-first_words rows = rows_with rows.exponent (zip (heights_of rows.dimensions.now) (row_lists rows.first.now))
+first_words rows = words_of_exponent rows.exponent (zip (heights_of rows.dimensions.now) (row_lists rows.first.now))
 
 -- the same of the second
 abbrev pub second_words : {T : Type 0} → RowPair T → List T
-second_words rows = rows_with rows.exponent (zip (heights_of rows.dimensions.now) (row_lists rows.second.now))
+second_words rows = words_of_exponent rows.exponent (zip (heights_of rows.dimensions.now) (row_lists rows.second.now))
 
 -- the inputs of a level above its group: words and a pair, if there is one
 abbrev pub inputs_above : {T W : Type 0} → ℕ → List T → Option (List (List W)) → List (Input T W)

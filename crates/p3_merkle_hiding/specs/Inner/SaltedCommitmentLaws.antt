@@ -2,7 +2,9 @@
 use Rattle.std.specs.Prelude.{◌≡◌, ℕ, zero, suc, ◌<◌, List, [], ◌∷◌, length, map, slice_index, slice_index_or}
 use Rattle.std.specs.List.{AllZip}
 use Rattle.std.proofs.Common.{◌∙◌, ap, arith, refl, subst, sym}
-use Rattle.p3_support.specs.Batches.{FitDimensions, IsEquivalence, greatest_height}
+use Rattle.p3_support.specs.Batches.{FitDimensions, IsEquivalence, heights_of, greatest}
+use Rattle.p3_merkle_tree.specs.Schemes.{IsSameScheme}
+use Rattle.p3_merkle_core.specs.Views.{heights_in}
 use Rattle.p3_support.specs.Pairs.{left_of}
 use Rattle.p3_support.specs.declared.matrix.Dimensions.{Dimensions}
 use Rattle.p3_support.specs.declared.matrix.Matrix.{Ghosts}
@@ -10,14 +12,12 @@ use Rattle.p3_support.specs.declared.packed.PackedValue as packed
 use Rattle.p3_support.specs.declared.pair.HorizontalPair.{HorizontalPair}
 use Rattle.std.specs.declared.default.Default as default
 use Rattle.std.specs.declared.cmp.PartialEq as equality
-use Rattle.p3_merkle_layers.specs.Views.{heights_in}
-use Rattle.p3_merkle_core.specs.Geometry.{IsLawful, heights_of, shape_of, tallest}
+use Rattle.p3_merkle_core.specs.Geometry.{IsLawful, shape_of}
 use Rattle.p3_merkle_core.specs.Nodes.{Functions, dimensions_of}
 use Rattle.p3_merkle_core.specs.Openings.{opening_of}
 use Rattle.p3_merkle_core.specs.Checks.{IsAccepted, Terms, terms}
 use Rattle.p3_merkle_core.specs.Pruning.{restored_path}
-use Rattle.p3_merkle_tree.specs.CommitmentLaws.{greatest_is, greatest_of, same_is_equivalence}
-use Rattle.p3_merkle_tree.specs.Commitments.{IsSameScheme}
+use Rattle.p3_merkle_tree.specs.Inner.CommitmentLaws.{all_zip, greatest_is, same_is_equivalence}
 use Rattle.p3_merkle_hiding.specs.HidingSchemes.{plain_of}
 use Rattle.p3_merkle_hiding.specs.SaltedCommitments.{IsSaltedShown}
 use Rattle.p3_merkle_salts.specs.SaltedOpenings.{HaveSalts, IsSaltedPrunedAccepted, SaltedPruned, joined_sets, salted_rows, salted_sets, widened}
@@ -47,17 +47,10 @@ module _ {T A B : Type 0} {a : Ghosts A T} {b : Ghosts B T} where
   left_lawful pairs w = subst IsLawful (left_heights pairs) w
 
   -- and the greatest of them is the tallest of the pairs
-  pub left_greatest : (n : ℕ) (pairs : List (HorizontalPair T A B a b)) → greatest_height a.height_of (map left_of pairs) ≡ tallest (heights_of (dimensions_of (map pair_matrix pairs)))
-  left_greatest n pairs = greatest_is a.height_of a.width_of a.row_of n (map left_of pairs) ∙ ap tallest (sym (left_heights pairs))
+  pub left_greatest : (n : ℕ) (pairs : List (HorizontalPair T A B a b)) → greatest (map a.height_of (map left_of pairs)) ≡ greatest (heights_of (dimensions_of (map pair_matrix pairs)))
+  left_greatest n pairs = greatest_is a.height_of a.width_of a.row_of n (map left_of pairs) ∙ ap greatest (sym (left_heights pairs))
 
 -- ---- what is shown
-
-all_zip : {A B : Type 0} (holds : A → B → Type 0) (xs : List A) (ys : List B) (a : A) (b : B) → length ys ≡ length xs →
-    ((k : ℕ) → k < length xs → holds (slice_index_or xs k a) (slice_index_or ys k b)) → AllZip holds xs ys
-all_zip holds [] [] a b same at = tt
-all_zip holds [] (y ∷ ys) a b same at = absurd (omega (arith, same))
-all_zip holds (x ∷ xs) [] a b same at = absurd (omega (arith, same))
-all_zip holds (x ∷ xs) (y ∷ ys) a b same at = (at 0 (omega arith), all_zip holds xs ys a b (omega (arith, same)) (λ k inside. at (suc k) (omega arith)))
 
 zip_at : {A B : Type 0} (holds : A → B → Type 0) (xs : List A) (ys : List B) (a : A) (b : B) (k : ℕ) → AllZip holds xs ys → k < length xs → holds (slice_index_or xs k a) (slice_index_or ys k b)
 zip_at holds [] ys a b k w inside = absurd (omega arith)
@@ -96,5 +89,5 @@ wide_heights e (d ∷ ds) = ap (λ (hs : List ℕ). d.height ∷ hs) (wide_heigh
 -- rows that are shown fit the dimensions, which are those of the matrices without salts
 pub salted_rows_fit : {T W : Type 0} (f : Functions T W) (n e t : ℕ) (ds : List Dimensions) (cap : List (List W)) (index : ℕ) (rows : List (List T)) → IsSaltedShown e ds (terms f (shape_of n (widened e ds)) t) cap index rows → FitDimensions ds index rows
 salted_rows_fit f n e t ds cap index rows (salts, siblings, w) =
-    let tall : tallest (heights_of (widened e ds)) ≡ greatest_height (λ d. d.height) ds = ap tallest (wide_heights e ds) ∙ sym (greatest_of ds) in
+    let tall : greatest (heights_of (widened e ds)) ≡ greatest (heights_of ds) = ap greatest (wide_heights e ds) in
     record { rows_fit = w.salted.rows_fit; in_range = subst (λ height. index < height) tall w.accepted.in_range }

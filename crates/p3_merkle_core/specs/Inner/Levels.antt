@@ -1,11 +1,8 @@
 -- What is known of a layer before it is built.
 use Rattle.std.specs.Prelude.{◌≡◌, ℕ, suc, ◌+◌, ◌-◌, ◌*◌, ◌/◌, ◌^◌, ◌<◌, ◌≤◌}
-use Rattle.p3_merkle_core.specs.Geometry.{Shape, exponent, heights, tallest, layer_exponent, step, raw_len, layer_len, levels, IsArity, IsLawful, has_rows}
+use Rattle.p3_merkle_core.specs.Geometry.{Shape, exponent, heights, layer_exponent, step, raw_len, layer_len, levels, IsArity, IsLawful, has_rows, height_at}
+use Rattle.p3_support.specs.Batches.{greatest}
 use Rattle.p3_merkle_core.specs.declared.levels.Level.{Level}
-
--- the height of the matrices of exponent x, where m is the greatest height
-abbrev pub height_at : ℕ → ℕ → ℕ
-height_at m x = (m - 1) / 2 ^ (exponent m - x) + 1
 
 -- layer l is below the top, with the exponent x and r nodes
 pub record IsBelowTop (s : Shape) (l x r : ℕ) : Type 0 where
@@ -23,6 +20,6 @@ pub record IsLevel (s : Shape) (v : Level) : Type 0 where
   pub exponent_is : v.exponent ≡ layer_exponent s (suc v.below)
   pub raw_is : v.raw_len ≡ raw_len s (suc v.below)
   pub layer_len_is : v.layer_len ≡ layer_len s (suc v.below)
-  pub height_is : v.height ≡ height_at (tallest (heights s)) (layer_exponent s (suc v.below))
+  pub height_is : v.height ≡ height_at (greatest (heights s)) (layer_exponent s (suc v.below))
   pub rows_are : v.has_rows ≡ has_rows s (suc v.below)
   pub fits : v.step * v.raw_len ≤ layer_len s v.below

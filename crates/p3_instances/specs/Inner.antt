@@ -1,0 +1,3 @@
+-- What only proofs, and calls that no public contract speaks of, cite.
+pub mod Eights
+pub mod Turned
