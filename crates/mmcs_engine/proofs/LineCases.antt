@@ -54,7 +54,7 @@ module _ (max : ℕ) (lines : List (List ℕ)) where
         )
 
     module _ (line : List ℕ) (below : List (List ℕ)) (cut : lines ≡ seen ++ line ∷ below) (full : is_blank line ≡ false) where
-      no_number : ¬ All (IsNumberBelow (max + 1)) (numerals_of line) → HaveFault
+      no_number : (All (IsNumberBelow (max + 1)) (numerals_of line) → ⊥) → HaveFault
       no_number bad =
           let at = length seen + 1 in
           (Number at max, lines_fault Shows (max + 1) seen found values width so_far line lines below at (Number at max) cut refl full (refl, refl, bad))

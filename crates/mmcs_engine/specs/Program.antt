@@ -49,11 +49,14 @@ hex_digits Sha256 = 2
 abbrev pub layer_of_cap : CapChoice → Shape → ℕ
 layer_of_cap cap s = cap_layer s cap.rule cap.height
 
--- what an action prints under a hash of some indices of a batch, whose cap is layer t: for `commit` the cap; for `open` the rows of each index, and the digests that are sent for all of them; for `check` how many digests that are
+-- what an action prints under a hash of some indices of a batch, whose cap is layer t: for `commit` the cap; for
+-- `open` the rows of each index, and the digests that are sent for all of them; for `check` how many digests that are
 abbrev pub text_of : HashName → Action → List ℕ → Batch ℕ → ℕ → List ℕ
 text_of hash Commit indices b t = hex_lines (hex_digits hash) (layer (functions_of_hash hash) b t)
 text_of hash Open indices b t =
-    flat_map (λ i. query_lines i (honest_rows b i)) indices ++ digest_lines (hex_digits hash) (boundary_by (node_in [] (layers (functions_of_hash hash) b)) (shape b) indices t)
+    flat_map (λ i. query_lines i (honest_rows b i)) indices
+    ++ digest_lines (hex_digits hash)
+    (boundary_by (node_in [] (layers (functions_of_hash hash) b)) (shape b) indices t)
 text_of hash Check indices b t = ok_line (pruned_len (shape b) indices t)
 
 -- the batch of a command and some matrices
@@ -62,7 +65,9 @@ batch_asked command matrices = batch_of_rows (arity_number command.arity) matric
 
 -- what a command prints of some matrices and indices
 abbrev pub output_of : Command → List ℕ → List (List (List ℕ)) → List ℕ
-output_of command indices matrices = let b = batch_asked command matrices in text_of command.hash command.action indices b (layer_of_cap command.cap (shape b))
+output_of command indices matrices =
+    let b = batch_asked command matrices in
+    text_of command.hash command.action indices b (layer_of_cap command.cap (shape b))
 
 -- ---- what is refused
 
@@ -80,16 +85,22 @@ AreTaken indices matrices = let hs = heights_of_rows matrices in IsLawful hs × 
 
 -- ---- the outcome
 
--- what a command with indices is answered of an input by definition: a text is printed of matrices that the tree takes, what it refuses is told, and so is the first faulty line
+-- what a command with indices is answered of an input by definition: a text is printed of matrices that the tree
+-- takes, what it refuses is told, and so is the first faulty line
 abbrev pub IsReply : Command → List ℕ → List ℕ → Result (List ℕ) Fault → Type 0
-IsReply command indices input (Ok text) = (matrices : List (List (List ℕ))) × StandsFor (max_word command.hash + 1) input matrices × AreTaken indices matrices × (text ≡ output_of command indices matrices)
-IsReply command indices input (Err (Tree e)) = (matrices : List (List (List ℕ))) × StandsFor (max_word command.hash + 1) input matrices × (refusal_of command indices matrices ≡ Some e)
+IsReply command indices input (Ok text) =
+    (matrices : List (List (List ℕ))) × StandsFor (max_word command.hash + 1) input matrices ×
+    AreTaken indices matrices × (text ≡ output_of command indices matrices)
+IsReply command indices input (Err (Tree e)) =
+    (matrices : List (List (List ℕ))) × StandsFor (max_word command.hash + 1) input matrices ×
+    (refusal_of command indices matrices ≡ Some e)
 IsReply command indices input (Err fault) = IsFirstFault (max_word command.hash + 1) (pieces_of input) fault
 
 -- what words and an input are answered by definition: the usage of words that are no command
 abbrev pub IsOutcome : List (List ℕ) → List ℕ → Result (List ℕ) Fault → Type 0
 IsOutcome words input (Err Usage) = AreNoCommand words
-IsOutcome words input outcome = (command : Command) × (indices : List ℕ) × AreWords words command indices × IsReply command indices input outcome
+IsOutcome words input outcome =
+    (command : Command) × (indices : List ℕ) × AreWords words command indices × IsReply command indices input outcome
 
 -- a fault is that of the definition for known bytes of the input, but where it tells of memory, a read or a write
 abbrev pub IsTold : List (List ℕ) → Option (List ℕ) → Fault → Type 0
@@ -111,8 +122,11 @@ abbrev pub EndsIn : Result (List ℕ) Fault → Result (Unit {0}) Fault → Type
 EndsIn (Ok text) result = (result ≡ Err Write) ⊎ IsUnlessFailed result (Ok tt)
 EndsIn (Err fault) result = IsUnlessFailed result (Err fault)
 
--- what `run` answers to words, with what its reader and its writer were and what they are then, whose bytes are told by `remaining` and `contents`, where they are known
-pub record IsAnswer {S D : Type 0} (remaining : S → Option (List ℕ)) (contents : D → Option (List ℕ)) (words : List (List ℕ)) (input input_left : S) (output output_left : D) (result : Result (Unit {0}) Fault) : Type 0 where
+-- what `run` answers to words, with what its reader and its writer were and what they are then, whose bytes are told
+-- by `remaining` and `contents`, where they are known
+pub record IsAnswer {S D : Type 0} (remaining : S → Option (List ℕ)) (contents : D → Option (List ℕ))
+    (words : List (List ℕ)) (input input_left : S) (output output_left : D)
+    (result : Result (Unit {0}) Fault) : Type 0 where
   -- words that are no command, and only these, are told by the usage, and then nothing is read
   pub usage : (result ≡ Err Usage) ↔ AreNoCommand words
   pub unread : result ≡ Err Usage → input_left ≡ input
@@ -125,4 +139,5 @@ pub record IsAnswer {S D : Type 0} (remaining : S → Option (List ℕ)) (conten
   -- a fault is that of the definition
   pub fault : IfErr result (IsTold words (remaining input))
   -- the outcome by definition is what the call ends in
-  pub ends : (bytes : List ℕ) (outcome : Result (List ℕ) Fault) → remaining input ≡ Some bytes → IsOutcome words bytes outcome → EndsIn outcome result
+  pub ends : (bytes : List ℕ) (outcome : Result (List ℕ) Fault) → remaining input ≡ Some bytes →
+      IsOutcome words bytes outcome → EndsIn outcome result

@@ -79,11 +79,11 @@ module _ (limit : ℕ) (digits : List ℕ) (before : Option ℕ) (digit : ℕ) (
       )
 
   -- one more byte that is no digit
-  pub no_digit : (more : List ℕ) → (IsInRange 48 57 digit → ⊥) → ¬ IsNumberBelow limit ((digits ++ digit ∷ []) ++ more)
+  pub no_digit : (more : List ℕ) → (IsInRange 48 57 digit → ⊥) → (IsNumberBelow limit ((digits ++ digit ∷ []) ++ more) → ⊥)
   no_digit more bad number = bad (digit_from_value digit (digit_inside digits digit more number.numeral.1))
 
   -- one more digit, of a number that is too large
-  pub too_large : (more : List ℕ) → IsInRange 48 57 digit → limit ≤ unwrap_or before 0 * 10 + (digit - 48) → ¬ IsNumberBelow limit ((digits ++ digit ∷ []) ++ more)
+  pub too_large : (more : List ℕ) → IsInRange 48 57 digit → limit ≤ unwrap_or before 0 * 10 + (digit - 48) → (IsNumberBelow limit ((digits ++ digit ∷ []) ++ more) → ⊥)
   too_large more range large number =
       let value = value_is range in
       let behind = value_behind 0 (digits ++ digit ∷ []) more in
@@ -170,7 +170,7 @@ module _ (limit : ℕ) (line before : List ℕ) where
       }
 
       -- a byte of no number, and then the line is no row
-      pub row_refused : ((digits more : List ℕ) → IsRead limit digits number → ¬ IsNumberBelow limit ((digits ++ byte ∷ []) ++ more)) → ¬ All (IsNumberBelow limit) (numerals_of line)
+      pub row_refused : ((digits more : List ℕ) → IsRead limit digits number → (IsNumberBelow limit ((digits ++ byte ∷ []) ++ more) → ⊥)) → (All (IsNumberBelow limit) (numerals_of line) → ⊥)
       row_refused bad each =
           let run = first_run is_gap (so_far.run ++ byte ∷ []) (drop (n + 1) line) no_gap_more (omega (arith, length_push so_far.run byte)) in
           let numeral = (so_far.run ++ byte ∷ []) ++ run.more in

@@ -139,7 +139,7 @@ pub cap_fixed : (word digits : List ℕ) (height : ℕ) → word ≡ digits ++ 1
 cap_fixed word digits height is number = (digits, is, number.0, number.1)
 
 -- no cap, where what stands in front of the mark is no number
-pub no_cap_fixed : (word digits : List ℕ) (cap : CapChoice) → word ≡ digits ++ 102 ∷ [] → ¬ IsNumberWord digits → IsCapWord word cap → ⊥
+pub no_cap_fixed : (word digits : List ℕ) (cap : CapChoice) → word ≡ digits ++ 102 ∷ [] → (IsNumberWord digits → ⊥) → IsCapWord word cap → ⊥
 no_cap_fixed word digits cap is bad spelled = by_rule cap.rule refl
   where
     by_rule : (r : CapRule) → cap.rule ≡ r → ⊥
@@ -152,7 +152,7 @@ no_cap_fixed word digits cap is bad spelled = by_rule cap.rule refl
         no_mark Fixed 102 [] refl (last_digit digits 102 all)
 
 -- no cap, where a word without the mark is no number
-pub no_cap_lowered : (word : List ℕ) (cap : CapChoice) → ((digits : List ℕ) → word ≡ digits ++ 102 ∷ [] → ⊥) → ¬ IsNumberWord word → IsCapWord word cap → ⊥
+pub no_cap_lowered : (word : List ℕ) (cap : CapChoice) → ((digits : List ℕ) → word ≡ digits ++ 102 ∷ [] → ⊥) → (IsNumberWord word → ⊥) → IsCapWord word cap → ⊥
 no_cap_lowered word cap unmarked bad spelled = by_rule cap.rule refl
   where
     by_rule : (r : CapRule) → cap.rule ≡ r → ⊥
@@ -219,7 +219,7 @@ each_number : {A : Type 0} (words : List (String A)) → All IsNumberWord (texts
 each_number words each = all_from_map IsNumberWord string_bytes words each
 
 pub numbers_decided : {A : Type 0} (r : Bool) (words : List (String A)) →
-    MatchBool r (AllWithin (λ w. IsNumberWord (string_bytes w)) words 0 (length words)) ((k : ℕ) × (k < length words) × HoldsAt (λ w. ¬ IsNumberWord (string_bytes w)) words k) → Decides r (All IsNumberWord (texts_of words))
+    MatchBool r (AllWithin (λ w. IsNumberWord (string_bytes w)) words 0 (length words)) ((k : ℕ) × (k < length words) × HoldsAt (λ w. (IsNumberWord (string_bytes w) → ⊥)) words k) → Decides r (All IsNumberWord (texts_of words))
 numbers_decided true words said = (λ is. All-map IsNumberWord string_bytes words (All-from_all_within (λ w. IsNumberWord (string_bytes w)) words said), λ each. refl)
 numbers_decided false [] said = absurd (omega (arith, said.1))
 numbers_decided false (w ∷ words) said = (

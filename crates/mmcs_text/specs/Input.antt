@@ -50,14 +50,18 @@ StandsFor limit input matrices = AreLinesOf limit (pieces_of input) matrices
 abbrev pub rows_at_end : List (List ℕ) → List (List ℕ)
 rows_at_end lines = last_of [] (slice_split is_blank lines)
 
--- why a line does not go on with the rows above it: a part of it is no number below the limit, or else it has another count of numbers than the first of these rows
+-- why a line does not go on with the rows above it: a part of it is no number below the limit, or else it has another
+-- count of numbers than the first of these rows
 abbrev pub IsLineFault : ℕ → List (List ℕ) → ℕ → List ℕ → Fault → Type 0
-IsLineFault limit rows at line (Number number max) = (number ≡ at) × (max + 1 ≡ limit) × ¬ All (IsNumberBelow limit) (numerals_of line)
+IsLineFault limit rows at line (Number number max) =
+    (number ≡ at) × (max + 1 ≡ limit) × (All (IsNumberBelow limit) (numerals_of line) → ⊥)
 IsLineFault limit rows at line (Count number expected got) =
-    (number ≡ at) × (0 < length rows) × (expected ≡ length (numbers_of (slice_index_or rows 0 []))) × (got ≡ length (numbers_of line)) × (got ≢ expected) × All (IsNumberBelow limit) (numerals_of line)
+    (number ≡ at) × (0 < length rows) × (expected ≡ length (numbers_of (slice_index_or rows 0 []))) ×
+    (got ≡ length (numbers_of line)) × (got ≢ expected) × All (IsNumberBelow limit) (numerals_of line)
 IsLineFault limit rows at line fault = ⊥
 
--- the fault of the first faulty line, numbered from 1: the lines above it stand for matrices, and it does not go on with the rows that they end with
+-- the fault of the first faulty line, numbered from 1: the lines above it stand for matrices, and it does not go on
+-- with the rows that they end with
 pub record IsFirstFault (limit : ℕ) (lines : List (List ℕ)) (fault : Fault) : Type 0 where
   pub above : List (List ℕ)
   pub line : List ℕ

@@ -7,7 +7,8 @@ use Rattle.p3_merkle_core.specs.Nodes.{Matrix, Batch}
 
 -- the matrix of some rows, as wide as the first of them
 abbrev pub matrix_of_rows : List (List ℕ) → Matrix ℕ
-matrix_of_rows rows = record { height = length rows; width = length (slice_index_or rows 0 []); row = λ r. slice_index_or rows r [] }
+matrix_of_rows rows =
+    record { height = length rows; width = length (slice_index_or rows 0 []); row = λ r. slice_index_or rows r [] }
 
 -- the matrices of a batch, each by its rows, under an arity
 abbrev pub batch_of_rows : ℕ → List (List (List ℕ)) → Batch ℕ
@@ -15,7 +16,8 @@ batch_of_rows arity matrices = record { arity = arity; matrices = map matrix_of_
 
 -- a stored matrix, by the numbers that its words are
 abbrev pub stored_matrix : {W : Type 0} → (List W → List ℕ) → RowMajorMatrix W → Matrix ℕ
-stored_matrix numbers m = record { height = row_count m; width = row_width m; row = λ r. message (row_width m) (numbers (values_of m)) r }
+stored_matrix numbers m =
+    record { height = row_count m; width = row_width m; row = λ r. message (row_width m) (numbers (values_of m)) r }
 
 -- stored matrices of numbers, under an arity
 abbrev pub stored_batch : ℕ → List (RowMajorMatrix ℕ) → Batch ℕ

@@ -54,7 +54,9 @@ rule_mark Fixed = codes "f"
 
 -- the word of a cap height and a rule
 abbrev pub IsCapWord : List ℕ → CapChoice → Type 0
-IsCapWord word cap = (digits : List ℕ) × (word ≡ digits ++ rule_mark cap.rule) × IsNumberWord digits × (cap.height ≡ digits_value 10 digits)
+IsCapWord word cap =
+    (digits : List ℕ) × (word ≡ digits ++ rule_mark cap.rule) × IsNumberWord digits ×
+    (cap.height ≡ digits_value 10 digits)
 
 -- the word of an action
 abbrev pub action_word : Action → List ℕ

@@ -81,7 +81,7 @@ fn without_return(line: &[u8]) -> &[u8]
 /// The number, at most `max`, that a digit makes with those in front of it, of which `before` is the number.
 fn with_digit(before: Option<u32>, digit: u8, max: u32) -> Option<u32>
     ensures some { IfSome result (λ number. (digits : List ℕ) → IsRead (max + 1) digits before → IsRead (max + 1) (digits ++ digit ∷ []) result) }
-    ensures none { IfNone result ((digits more : List ℕ) → IsRead (max + 1) digits before → ¬ IsNumberBelow (max + 1) ((digits ++ digit ∷ []) ++ more)) }
+    ensures none { IfNone result ((digits more : List ℕ) → IsRead (max + 1) digits before → (IsNumberBelow (max + 1) ((digits ++ digit ∷ []) ++ more) → ⊥)) }
 {
     if !digit.is_ascii_digit() {
         return None;

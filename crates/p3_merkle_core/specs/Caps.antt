@@ -9,7 +9,8 @@ use Rattle.p3_merkle_core.specs.declared.cap.CapRule.TheVariants.{Lowered, Fixed
 abbrev pub levels_above_rows : Shape → ℕ
 levels_above_rows s = least (λ k. has_rows s (layer_below_root s k)) (levels s)
 
--- how many levels below the root a cap may be: under the rule Fixed all there are, under Lowered those above the last layer to which a matrix belongs
+-- how many levels below the root a cap may be: under the rule Fixed all there are, under Lowered those above the last
+-- layer to which a matrix belongs
 abbrev pub room : Shape → CapRule → ℕ
 room s Lowered = levels_above_rows s
 room s Fixed = levels s

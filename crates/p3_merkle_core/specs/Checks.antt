@@ -48,7 +48,9 @@ group_at f s o l digest = insert (siblings_at s o l) (position_in_group s l o.in
 -- the digest that the check of an opening reaches at layer l
 unfoldable pub path_digest : {T W : Type 0} → Functions T W → Shape → Opening T W → ℕ → List W
 path_digest f s o zero = f.hash (layer_words s o.rows 0)
-path_digest f s o (suc l) = with_rows f s.arity (has_rows s (suc l)) (compress f s.arity (group_at f s o l (path_digest f s o l))) (f.hash (layer_words s o.rows (suc l)))
+path_digest f s o (suc l) =
+    with_rows f s.arity (has_rows s (suc l)) (compress f s.arity (group_at f s o l (path_digest f s o l)))
+    (f.hash (layer_words s o.rows (suc l)))
 
 -- ---- the inputs of a check
 
@@ -92,13 +94,15 @@ HasDigests n x = IsFull n x.content
 abbrev pub leaf_input : {T W : Type 0} → Shape → Opening T W → Input T W
 leaf_input s o = words_at Leaf (layer_words s o.rows 0)
 
--- the inputs of level l: the group, and where matrices belong to the layer above it, their rows and the pair of both digests
+-- the inputs of level l: the group, and where matrices belong to the layer above it, their rows and the pair of both
+-- digests
 abbrev pub inputs_at : {T W : Type 0} → Functions T W → Shape → Opening T W → ℕ → List (Input T W)
 inputs_at f s o l =
     let group = padded s.arity f.default_digest (group_at f s o l (path_digest f s o l)) in
     let words = layer_words s o.rows (suc l) in
     if has_rows s (suc l)
-    then digests_at (Group l) group ∷ words_at (Rows l) words ∷ digests_at (Pair l) (pair f s.arity (f.compression group) (f.hash words)) ∷ []
+    then digests_at (Group l) group ∷ words_at (Rows l) words ∷
+    digests_at (Pair l) (pair f s.arity (f.compression group) (f.hash words)) ∷ []
     else (digests_at (Group l) group ∷ [])
 
 -- two inputs stand at one place
@@ -124,7 +128,9 @@ check_digest c o = input_digest c.functions (last_input c o)
 
 -- ---- accepted
 
--- an opening is accepted under a cap: lawful heights, rows of their widths, as many siblings as the levels below the cap have, an index below the greatest height, and the cap's entry at its ancestor is the digest in which the check ends
+-- an opening is accepted under a cap: lawful heights, rows of their widths, as many siblings as the levels below the
+-- cap have, an index below the greatest height, and the cap's entry at its ancestor is the digest in which the check
+-- ends
 pub record IsAccepted {T W : Type 0} (c : Terms T W) (cap : List (List W)) (o : Opening T W) : Type 0 where
   pub lawful : IsLawful (heights c.shape)
   pub rows_fit : map length o.rows ≡ widths c.shape
@@ -152,7 +158,8 @@ meeting_level s t i j = least (λ l. ancestor s (suc l) i == ancestor s (suc l) 
 abbrev pub shared_inputs : {T W : Type 0} → Terms T W → ℕ → ℕ → Opening T W → List (Input T W)
 shared_inputs c i j o =
     let m = meeting_level c.shape c.layer i j in
-    if i == j then inputs c o else flat_map (λ k. inputs_at c.functions c.shape o (m + k)) (range_with_len 0 (c.layer - m))
+    if i == j then inputs c o
+    else flat_map (λ k. inputs_at c.functions c.shape o (m + k)) (range_with_len 0 (c.layer - m))
 
 -- the two checks agree wherever they share a place
 abbrev pub AgreeWhereShared : {T W : Type 0} → Terms T W → Opening T W → Opening T W → Type 0

@@ -13,7 +13,8 @@ abbrev pub cap_over : {T W : Type 0} → Terms T W → Batch T → List (List W)
 cap_over c b = layer c.functions b c.layer
 
 -- a tree is built over a batch, and this is its cap
-pub record IsCommitment {T W : Type 0} (c : Terms T W) (cap : List (List W)) (b : Batch T) (own : List (List (List W))) : Type 0 where
+pub record IsCommitment {T W : Type 0} (c : Terms T W) (cap : List (List W)) (b : Batch T)
+    (own : List (List (List W))) : Type 0 where
   pub own_layers : IsOwn c b own
   pub own_cap : cap ≡ cap_over c b
 

@@ -42,10 +42,14 @@ last_difference test (x ∷ xs) [] = None
 last_difference test (x ∷ xs) (y ∷ ys) = option_or (last_difference test xs ys) (unless (test x y) (x, y))
 
 -- the last inputs that the checks of o and u share and that differ
-abbrev pub difference_of : {T W : Type 0} → (T → T → Bool) → (W → W → Bool) → Terms T W → Opening T W → Opening T W → Option (Input T W × Input T W)
-difference_of row_eq digest_eq c o u = last_difference (input_eq row_eq digest_eq) (shared_inputs c o.index u.index o) (shared_inputs c o.index u.index u)
+abbrev pub difference_of : {T W : Type 0} → (T → T → Bool) → (W → W → Bool) → Terms T W → Opening T W → Opening T W →
+    Option (Input T W × Input T W)
+difference_of row_eq digest_eq c o u =
+    last_difference (input_eq row_eq digest_eq) (shared_inputs c o.index u.index o)
+    (shared_inputs c o.index u.index u)
 
--- a collision of two openings: the last inputs that their checks share and that differ; they stand at one place, have as many digests as the arity if they are made of digests, and have one digest
+-- a collision of two openings: the last inputs that their checks share and that differ; they stand at one place, have
+-- as many digests as the arity if they are made of digests, and have one digest
 pub record IsCollision {T W : Type 0} (c : Terms T W) (o u : Opening T W) (found : Input T W × Input T W) : Type 0 where
   pub last : IsLastShared c o u found.0 found.1
   pub at_one_place : IsAtOnePlace found.0 found.1
@@ -59,12 +63,14 @@ pub record IsCollision {T W : Type 0} (c : Terms T W) (o u : Opening T W) (found
 -- two openings have the same siblings, and the same row of each authenticated matrix
 pub record AnswerAlike {T W : Type 0} (c : Terms T W) (o u : Opening T W) : Type 0 where
   pub siblings : o.siblings ≡ u.siblings
-  pub rows : (k : ℕ) → k < length (heights c.shape) → IsTrue (is_authenticated c.shape c.layer k) → opened_row o k ≡ opened_row u k
+  pub rows : (k : ℕ) → k < length (heights c.shape) → IsTrue (is_authenticated c.shape c.layer k) →
+      opened_row o k ≡ opened_row u k
 
 -- two openings answer one row of matrix k in two ways
 pub record AnswerRowTwice {T W : Type 0} (s : Shape) (o u : Opening T W) (k : ℕ) : Type 0 where
   pub exists : k < length (heights s)
-  pub one_row : halved_index (greatest (heights s)) (slice_index (heights s) k) o.index ≡ halved_index (greatest (heights s)) (slice_index (heights s) k) u.index
+  pub one_row : halved_index (greatest (heights s)) (slice_index (heights s) k) o.index ≡
+      halved_index (greatest (heights s)) (slice_index (heights s) k) u.index
   pub two_ways : opened_row o k ≢ opened_row u k
 
 -- two openings answer one row of an authenticated matrix in two ways
@@ -79,18 +85,23 @@ AnswerAnyRowTwice c o u = (k : ℕ) × AnswerRowTwice c.shape o u k
 
 -- each query of the one and each of the other
 abbrev pub EachPair : {T W : Type 0} → Presented T W → Presented T W → (Opening T W → Opening T W → Type 0) → Type 0
-EachPair first second Holds = (a b : ℕ) → a < first.queries → b < second.queries → Holds (first.query a) (second.query b)
+EachPair first second Holds =
+    (a b : ℕ) → a < first.queries → b < second.queries → Holds (first.query a) (second.query b)
 
 -- some query of the one and some of the other
 abbrev pub SomePair : {T W : Type 0} → Presented T W → Presented T W → (Opening T W → Opening T W → Type 0) → Type 0
-SomePair first second Holds = (a : ℕ) × (b : ℕ) × (a < first.queries) × (b < second.queries) × Holds (first.query a) (second.query b)
+SomePair first second Holds =
+    (a : ℕ) × (b : ℕ) × (a < first.queries) × (b < second.queries) × Holds (first.query a) (second.query b)
 
 -- each pair of queries before the pair (a, b), by the first list, then by the second
-abbrev pub EachPairBefore : {T W : Type 0} → Presented T W → Presented T W → ℕ → ℕ → (Opening T W → Opening T W → Type 0) → Type 0
-EachPairBefore first second a b Holds = (i j : ℕ) → (i < a) ⊎ ((i ≡ a) × (j < b)) → j < second.queries → Holds (first.query i) (second.query j)
+abbrev pub EachPairBefore : {T W : Type 0} → Presented T W → Presented T W → ℕ → ℕ →
+    (Opening T W → Opening T W → Type 0) → Type 0
+EachPairBefore first second a b Holds =
+    (i j : ℕ) → (i < a) ⊎ ((i ≡ a) × (j < b)) → j < second.queries → Holds (first.query i) (second.query j)
 
 -- two queries collide, and each pair of queries before them agrees wherever their checks share a place
-pub record IsFirstCollision {T W : Type 0} (c : Terms T W) (first second : Presented T W) (found : ℕ × ℕ × (Input T W × Input T W)) : Type 0 where
+pub record IsFirstCollision {T W : Type 0} (c : Terms T W) (first second : Presented T W)
+    (found : ℕ × ℕ × (Input T W × Input T W)) : Type 0 where
   pub first_query : found.0 < first.queries
   pub second_query : found.1 < second.queries
   pub collision : IsCollision c (first.query found.0) (second.query found.1) found.2
@@ -100,18 +111,25 @@ pub record IsFirstCollision {T W : Type 0} (c : Terms T W) (first second : Prese
 
 -- the first pair of places at which d answers, by the first place, then by the second
 abbrev pub first_pair : {X : Type 0} → (ℕ → ℕ → Option X) → ℕ → ℕ → Option (ℕ × ℕ × X)
-first_pair d n m = first_of (λ a. first_of (λ b. option_map (λ x. (a, b, x)) (d a b)) (range_with_len 0 m)) (range_with_len 0 n)
+first_pair d n m =
+    first_of (λ a. first_of (λ b. option_map (λ x. (a, b, x)) (d a b)) (range_with_len 0 m)) (range_with_len 0 n)
 
 -- the first two queries whose checks differ, with their last difference
-abbrev pub first_difference : {T W : Type 0} → (T → T → Bool) → (W → W → Bool) → Terms T W → Presented T W → Presented T W → Option (ℕ × ℕ × (Input T W × Input T W))
-first_difference row_eq digest_eq c first second = first_pair (λ a b. difference_of row_eq digest_eq c (first.query a) (second.query b)) first.queries second.queries
+abbrev pub first_difference : {T W : Type 0} → (T → T → Bool) → (W → W → Bool) → Terms T W → Presented T W →
+    Presented T W → Option (ℕ × ℕ × (Input T W × Input T W))
+first_difference row_eq digest_eq c first second =
+    first_pair (λ a b. difference_of row_eq digest_eq c (first.query a) (second.query b)) first.queries second.queries
 
--- what is answered to two openings under one cap: the refusal of the first, else of the second, else the first difference
-abbrev pub extraction : {T W : Type 0} → (T → T → Bool) → (W → W → Bool) → Terms T W → Presented T W → Presented T W → Result (Option (ℕ × ℕ × (Input T W × Input T W))) MerkleTreeError
-extraction row_eq digest_eq c first second = ok_unless (option_or first.refusal second.refusal) (first_difference row_eq digest_eq c first second)
+-- what is answered to two openings under one cap: the refusal of the first, else of the second, else the first
+-- difference
+abbrev pub extraction : {T W : Type 0} → (T → T → Bool) → (W → W → Bool) → Terms T W → Presented T W →
+    Presented T W → Result (Option (ℕ × ℕ × (Input T W × Input T W))) MerkleTreeError
+extraction row_eq digest_eq c first second =
+    ok_unless (option_or first.refusal second.refusal) (first_difference row_eq digest_eq c first second)
 
 -- what a call answers to two openings under a cap of a rule: the definition's answer, and what it means
-pub record IsExtraction {T W : Type 0} (row_eq : T → T → Bool) (digest_eq : W → W → Bool) (rule : CapRule) (c : Terms T W) (first second : Presented T W)
+pub record IsExtraction {T W : Type 0} (row_eq : T → T → Bool) (digest_eq : W → W → Bool) (rule : CapRule)
+    (c : Terms T W) (first second : Presented T W)
     (result : Result (Option (ℕ × ℕ × (Input T W × Input T W))) MerkleTreeError) : Type 0 where
   -- the first opening's refusal comes before the second's, and where there is none, the first difference is answered
   pub answer : AnswersUnlessMemory result (option_or first.refusal second.refusal)
@@ -122,9 +140,13 @@ pub record IsExtraction {T W : Type 0} (row_eq : T → T → Bool) (digest_eq : 
   -- nothing is found exactly where all checks agree; else the first two queries that differ are found, with a collision
   pub none : IfOk result (λ found. IsNone found ↔ EachPair first second (AgreeWhereShared c))
   pub collision : IfOk result (λ found. IfSome found (IsFirstCollision c first second))
-  -- of openings of one index nothing is found exactly where siblings and authenticated rows agree; something is wherever one authenticated row is answered in two ways
-  pub one_index : EachPair first second (λ o u. o.index ≡ u.index) → IfOk result (λ found. IsNone found ↔ EachPair first second (AnswerAlike c))
+  -- of openings of one index nothing is found exactly where siblings and authenticated rows agree; something is
+  -- wherever one authenticated row is answered in two ways
+  pub one_index : EachPair first second (λ o u. o.index ≡ u.index) →
+      IfOk result (λ found. IsNone found ↔ EachPair first second (AnswerAlike c))
   pub two_ways : SomePair first second (AnswerOneRowTwice c) → IfOk result (λ found. IsSome found)
   -- the same under the lowered rule, where each row is authenticated
-  pub lowered_one_index : rule ≡ Lowered → EachPair first second (λ o u. o.index ≡ u.index) → IfOk result (λ found. IsNone found ↔ EachPair first second (λ o u. o ≡ u))
-  pub lowered_two_ways : rule ≡ Lowered → SomePair first second (AnswerAnyRowTwice c) → IfOk result (λ found. IsSome found)
+  pub lowered_one_index : rule ≡ Lowered → EachPair first second (λ o u. o.index ≡ u.index) →
+      IfOk result (λ found. IsNone found ↔ EachPair first second (λ o u. o ≡ u))
+  pub lowered_two_ways : rule ≡ Lowered → SomePair first second (AnswerAnyRowTwice c) →
+      IfOk result (λ found. IsSome found)

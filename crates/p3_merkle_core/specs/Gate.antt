@@ -19,7 +19,8 @@ height_refusal_of m hs (Some i) o = Some (TooLarge i (slice_index hs i))
 height_refusal_of m hs None (Some h) = Some (IncompatibleHeights h m (expected_height m h) (bits_reduced m h))
 height_refusal_of m hs None None = None
 
--- why the heights are refused, if they are: no height above 0, else the first height that is too large, else the first off the ladder
+-- why the heights are refused, if they are: no height above 0, else the first height that is too large, else the
+-- first off the ladder
 abbrev pub gate_refusal : List ℕ → Option MerkleTreeError
 gate_refusal hs =
     let m = greatest hs in

@@ -82,7 +82,8 @@ widths s = widths_of s.dimensions
 abbrev pub is_bridge : Shape → ℕ → Bool
 is_bridge s x = list_any (λ h. nat_lt (x - exponent s.arity) (exponent h) && nat_lt (exponent h) x) (heights s)
 
--- the exponent of layer l: that of the greatest height at first; a bridge step takes 1, any other log2 of the arity, and none goes below 0
+-- the exponent of layer l: that of the greatest height at first; a bridge step takes 1, any other log2 of the arity,
+-- and none goes below 0
 unfoldable pub layer_exponent : Shape → ℕ → ℕ
 layer_exponent s zero = exponent (greatest (heights s))
 layer_exponent s (suc l) = let x = layer_exponent s l in if is_bridge s x then x - 1 else x - exponent s.arity
@@ -157,6 +158,7 @@ position_in_group s l i = ancestor s l i % step s l
 abbrev pub positions_below : Shape → ℕ → ℕ → List ℕ
 positions_below s t i = map (λ l. position_in_group s l i) (range_with_len 0 t)
 
--- the row that belongs to leaf i in a matrix of height h, where m is the greatest height: the leaf, halved as often as leads from m down to h
+-- the row that belongs to leaf i in a matrix of height h, where m is the greatest height: the leaf, halved as often
+-- as leads from m down to h
 abbrev pub halved_index : ℕ → ℕ → ℕ → ℕ
 halved_index m h i = i / 2 ^ bits_reduced m h

@@ -23,11 +23,13 @@ use Rattle.p3_merkle_core.specs.declared.cap.CapRule.TheVariants.{Lowered, Fixed
 abbrev pub TestedIsArity : Type 0
 TestedIsArity = (n : ℕ) → IsTrue (is_arity n) ↔ IsArity n
 
--- the walk from the leaves ends at the exponent 0, after at most as many steps as the tallest height has halvings, and the schedule has one step a level
+-- the walk from the leaves ends at the exponent 0, after at most as many steps as the tallest height has halvings,
+-- and the schedule has one step a level
 abbrev pub WalkEnds : Type 0
 WalkEnds =
     (s : Shape) → IsArity s.arity →
-    (layer_exponent s (levels s) ≡ 0) × (length (arity_schedule s) ≡ levels s) × (levels s ≤ exponent (greatest (heights s)))
+    (layer_exponent s (levels s) ≡ 0) × (length (arity_schedule s) ≡ levels s) ×
+    (levels s ≤ exponent (greatest (heights s)))
 
 -- the steps below the cap are the first of the schedule, and at most as many as the tallest height has halvings
 abbrev pub ScheduleStopsAtCap : Type 0
@@ -53,7 +55,8 @@ abbrev pub RowsAreAncestors : Type 0
 RowsAreAncestors =
     (s : Shape) (k i : ℕ) → IsArity s.arity → IsLawful (heights s) → k < length (heights s) → i < greatest (heights s) →
     let h = slice_index (heights s) k in
-    (halved_index (greatest (heights s)) h i < h) × (halved_index (greatest (heights s)) h i ≡ ancestor s (layer_of s h) i)
+    (halved_index (greatest (heights s)) h i < h) ×
+    (halved_index (greatest (heights s)) h i ≡ ancestor s (layer_of s h) i)
 
 -- the gate refuses nothing exactly if the heights are lawful
 abbrev pub UnrefusedIsLawful : Type 0
@@ -64,12 +67,14 @@ UnrefusedIsLawful = (hs : List ℕ) → (gate_refusal hs ≡ None) ↔ IsLawful 
 -- under the rule Lowered each matrix is authenticated
 abbrev pub LoweredLeavesNoneOut : Type 0
 LoweredLeavesNoneOut =
-    (s : Shape) (cap_height k : ℕ) → IsArity s.arity → k < length (heights s) → IsTrue (is_authenticated s (cap_layer s Lowered cap_height) k)
+    (s : Shape) (cap_height k : ℕ) → IsArity s.arity → k < length (heights s) →
+    IsTrue (is_authenticated s (cap_layer s Lowered cap_height) k)
 
 -- where the rule Fixed leaves no matrix out, both rules have one cap layer
 abbrev pub RulesAgree : Type 0
 RulesAgree =
-    (s : Shape) (cap_height : ℕ) → IsArity s.arity → ((k : ℕ) → k < length (heights s) → IsTrue (is_authenticated s (cap_layer s Fixed cap_height) k)) →
+    (s : Shape) (cap_height : ℕ) → IsArity s.arity →
+    ((k : ℕ) → k < length (heights s) → IsTrue (is_authenticated s (cap_layer s Fixed cap_height) k)) →
     cap_layer s Lowered cap_height ≡ cap_layer s Fixed cap_height
 
 -- under the rule Fixed the cap is the layer so many levels below the root
@@ -80,35 +85,42 @@ FixedIsBelowRoot = (s : Shape) (cap_height : ℕ) → cap_layer s Fixed cap_heig
 
 -- the boundary suffices
 abbrev pub BoundarySuffices : Type 0
-BoundarySuffices = (s : Shape) (queries : List ℕ) (t : ℕ) → CanQuery s queries t → Suffices s queries t (boundary s queries t)
+BoundarySuffices =
+    (s : Shape) (queries : List ℕ) (t : ℕ) → CanQuery s queries t → Suffices s queries t (boundary s queries t)
 
 -- a list of uncovered nodes that suffices is no shorter than the boundary
 abbrev pub BoundaryIsSmallest : Type 0
 BoundaryIsSmallest =
-    (s : Shape) (queries : List ℕ) (t : ℕ) (given : List (ℕ × ℕ)) → IsArity s.arity → IsUncovered s queries t given → Suffices s queries t given →
+    (s : Shape) (queries : List ℕ) (t : ℕ) (given : List (ℕ × ℕ)) → IsArity s.arity → IsUncovered s queries t given →
+    Suffices s queries t given →
     length (boundary s queries t) ≤ length given
 
 -- a list of uncovered nodes that suffices and is as short as the boundary has just its nodes
 abbrev pub BoundaryIsAlone : Type 0
 BoundaryIsAlone =
-    (s : Shape) (queries : List ℕ) (t : ℕ) (given : List (ℕ × ℕ)) → IsArity s.arity → IsUncovered s queries t given → Suffices s queries t given →
+    (s : Shape) (queries : List ℕ) (t : ℕ) (given : List (ℕ × ℕ)) → IsArity s.arity → IsUncovered s queries t given →
+    Suffices s queries t given →
     length given ≤ length (boundary s queries t) → (l j : ℕ) → is_in given l j ≡ is_in (boundary s queries t) l j
 
 -- the boundary is least: it suffices, and each other list of uncovered nodes that suffices is longer
 abbrev pub BoundaryIsLeast : Type 0
-BoundaryIsLeast = (s : Shape) (queries : List ℕ) (t : ℕ) → CanQuery s queries t → IsLeast s queries t (pruned_len s queries t)
+BoundaryIsLeast =
+    (s : Shape) (queries : List ℕ) (t : ℕ) → CanQuery s queries t → IsLeast s queries t (pruned_len s queries t)
 
 -- no node is under two boundary nodes
 abbrev pub BoundaryNodesAreApart : Type 0
 BoundaryNodesAreApart =
-    (s : Shape) (queries : List ℕ) (t : ℕ) (x : ℕ × ℕ) → count_by (λ (l, j). is_under s l j x) (boundary s queries t) ≤ 1
+    (s : Shape) (queries : List ℕ) (t : ℕ) (x : ℕ × ℕ) →
+    count_by (λ (l, j). is_under s l j x) (boundary s queries t) ≤ 1
 
 -- a list of uncovered nodes that suffices has each boundary node, or two different nodes under it
 abbrev pub BoundaryNodesAreHeld : Type 0
 BoundaryNodesAreHeld =
-    (s : Shape) (queries : List ℕ) (t : ℕ) (given : List (ℕ × ℕ)) → IsArity s.arity → IsUncovered s queries t given → Suffices s queries t given →
+    (s : Shape) (queries : List ℕ) (t : ℕ) (given : List (ℕ × ℕ)) → IsArity s.arity → IsUncovered s queries t given →
+    Suffices s queries t given →
     (l j : ℕ) → is_in (boundary s queries t) l j ≡ true →
-    (is_in given l j ≡ true) ⊎ ((x : ℕ × ℕ) × (y : ℕ × ℕ) × IsGivenUnder s given l j x × IsGivenUnder s given l j y × (x ≢ y))
+    (is_in given l j ≡ true) ⊎ ((x : ℕ × ℕ) × (y : ℕ × ℕ) × IsGivenUnder s given l j x × IsGivenUnder s given l j y ×
+    (x ≢ y))
 
 module _ (T W : Type 0) where
   -- ---- honest openings
@@ -116,37 +128,44 @@ module _ (T W : Type 0) where
   -- the honest opening of each index of a lawful batch is accepted under each cap layer
   abbrev pub HonestIsAccepted : Type 0
   HonestIsAccepted =
-      (f : Functions T W) (b : Batch T) (t i : ℕ) → IsArity b.arity → IsLawful (heights (shape b)) → i < greatest (heights (shape b)) → t ≤ levels (shape b) → HasFullRows b →
+      (f : Functions T W) (b : Batch T) (t i : ℕ) → IsArity b.arity → IsLawful (heights (shape b)) →
+      i < greatest (heights (shape b)) → t ≤ levels (shape b) → HasFullRows b →
       IsAccepted (terms f (shape b) t) (layer f b t) (honest f b t i)
 
   -- the honest pruned opening of each list of indices is answered Ok
   abbrev pub HonestQueryIsAccepted : Type 0
   HonestQueryIsAccepted =
-      (row_eq : T → T → Bool) (digest_eq : W → W → Bool) (f : Functions T W) (b : Batch T) (t : ℕ) (indices : List ℕ) → IsEquality row_eq → IsEquality digest_eq → IsHonestQuery b t indices → HasFullRows b →
+      (row_eq : T → T → Bool) (digest_eq : W → W → Bool) (f : Functions T W) (b : Batch T) (t : ℕ)
+      (indices : List ℕ) → IsEquality row_eq → IsEquality digest_eq → IsHonestQuery b t indices → HasFullRows b →
       pruned_answer_under row_eq digest_eq (terms f (shape b) t) (layer f b t) (honest_query f b t indices) ≡ Ok tt
 
   -- an honest pruned opening restores each covered node
   abbrev pub HonestNodesAreRestored : Type 0
   HonestNodesAreRestored =
-      (f : Functions T W) (b : Batch T) (t : ℕ) (indices : List ℕ) → IsHonestQuery b t indices → (l j : ℕ) → l ≤ t → is_covered (shape b) indices l j ≡ true →
+      (f : Functions T W) (b : Batch T) (t : ℕ) (indices : List ℕ) → IsHonestQuery b t indices → (l j : ℕ) → l ≤ t →
+      is_covered (shape b) indices l j ≡ true →
       restored_node (terms f (shape b) t) (honest_query f b t indices) l j ≡ node f b l j
 
   -- an honest pruned opening restores the honest siblings of each query
   abbrev pub HonestPathsAreRestored : Type 0
   HonestPathsAreRestored =
-      (f : Functions T W) (b : Batch T) (t : ℕ) (indices : List ℕ) → IsHonestQuery b t indices → (k : ℕ) → k < length indices →
-      restored_path (terms f (shape b) t) (honest_query f b t indices) (slice_index indices k) ≡ siblings_by (node f b) (shape b) t (slice_index indices k)
+      (f : Functions T W) (b : Batch T) (t : ℕ) (indices : List ℕ) → IsHonestQuery b t indices → (k : ℕ) →
+      k < length indices →
+      restored_path (terms f (shape b) t) (honest_query f b t indices) (slice_index indices k) ≡ siblings_by
+      (node f b) (shape b) t (slice_index indices k)
 
   -- so it answers the honest siblings of each query, in order
   abbrev pub HonestPathsInOrder : Type 0
   HonestPathsInOrder =
       (f : Functions T W) (b : Batch T) (t : ℕ) (indices : List ℕ) → IsHonestQuery b t indices →
-      restored_paths (terms f (shape b) t) (honest_query f b t indices) ≡ map (λ i. (i, siblings_by (node f b) (shape b) t i)) indices
+      restored_paths (terms f (shape b) t) (honest_query f b t indices) ≡ map
+      (λ i. (i, siblings_by (node f b) (shape b) t i)) indices
 
   -- the opening of an index whose siblings are read out of the layers of a batch's tree is the honest one
   abbrev pub OwnOpeningIsHonest : Type 0
   OwnOpeningIsHonest =
-      (f : Functions T W) (b : Batch T) (t i : ℕ) → IsArity b.arity → IsLawful (heights (shape b)) → i < greatest (heights (shape b)) → t ≤ levels (shape b) →
+      (f : Functions T W) (b : Batch T) (t i : ℕ) → IsArity b.arity → IsLawful (heights (shape b)) →
+      i < greatest (heights (shape b)) → t ≤ levels (shape b) →
       opening_in_layers b (layers f b) t i ≡ honest f b t i
 
   -- so is the pruned opening of some indices
@@ -175,16 +194,20 @@ module _ (T W : Type 0) where
       (row_eq : T → T → Bool) (s : Shape) (t : ℕ) (p : PrunedOpening T W) → IsEquality row_eq →
       (pruned_answer row_eq s t p ≡ Ok tt) ↔ IsRestorable s t p
 
-  -- a pruned opening is answered Ok under a cap exactly if it is restorable and each query is accepted with its restored path
+  -- a pruned opening is answered Ok under a cap exactly if it is restorable and each query is accepted with its
+  -- restored path
   abbrev pub OkIsEachAccepted : Type 0
   OkIsEachAccepted =
-      (row_eq : T → T → Bool) (digest_eq : W → W → Bool) (c : Terms T W) (cap : List (List W)) (p : PrunedOpening T W) → IsEquality row_eq → IsEquality digest_eq → IsArity c.shape.arity →
+      (row_eq : T → T → Bool) (digest_eq : W → W → Bool) (c : Terms T W) (cap : List (List W))
+      (p : PrunedOpening T W) → IsEquality row_eq → IsEquality digest_eq → IsArity c.shape.arity →
       (pruned_answer_under row_eq digest_eq c cap p ≡ Ok tt) ↔ IsPrunedAccepted c cap p
 
-  -- a pruned opening is answered Ok under a cap exactly if it is restorable and the cap has each covered node of its layer
+  -- a pruned opening is answered Ok under a cap exactly if it is restorable and the cap has each covered node of its
+  -- layer
   abbrev pub OkIsCapped : Type 0
   OkIsCapped =
-      (row_eq : T → T → Bool) (digest_eq : W → W → Bool) (c : Terms T W) (cap : List (List W)) (p : PrunedOpening T W) → IsEquality row_eq → IsEquality digest_eq →
+      (row_eq : T → T → Bool) (digest_eq : W → W → Bool) (c : Terms T W) (cap : List (List W))
+      (p : PrunedOpening T W) → IsEquality row_eq → IsEquality digest_eq →
       (pruned_answer_under row_eq digest_eq c cap p ≡ Ok tt) ↔ (IsRestorable c.shape c.layer p × IsCapped c cap p)
 
   -- ---- pruned openings and their restored paths
@@ -192,49 +215,62 @@ module _ (T W : Type 0) where
   -- a restorable opening fits the cap exactly if each query is accepted with its restored path
   abbrev pub CappedIsEachAccepted : Type 0
   CappedIsEachAccepted =
-      (c : Terms T W) (cap : List (List W)) (p : PrunedOpening T W) → IsArity c.shape.arity → IsRestorable c.shape c.layer p →
+      (c : Terms T W) (cap : List (List W)) (p : PrunedOpening T W) → IsArity c.shape.arity →
+      IsRestorable c.shape c.layer p →
       IsCapped c cap p ↔ EachAccepted c cap p
 
   -- a pruned opening that is refused whatever the cap is refused alike under each cap
   abbrev pub RefusedUnderEachCap : Type 0
   RefusedUnderEachCap =
-      (row_eq : T → T → Bool) (digest_eq : W → W → Bool) (c : Terms T W) (cap : List (List W)) (p : PrunedOpening T W) (e : MerkleTreeError) →
+      (row_eq : T → T → Bool) (digest_eq : W → W → Bool) (c : Terms T W) (cap : List (List W)) (p : PrunedOpening T W)
+      (e : MerkleTreeError) →
       pruned_answer row_eq c.shape c.layer p ≡ Err e → pruned_answer_under row_eq digest_eq c cap p ≡ Err e
 
   -- what is not refused whatever the cap is answered Ok under a cap exactly if each query with its restored path is
   abbrev pub AnsweredAsEachPath : Type 0
   AnsweredAsEachPath =
-      (row_eq : T → T → Bool) (digest_eq : W → W → Bool) (c : Terms T W) (cap : List (List W)) (p : PrunedOpening T W) → IsEquality row_eq → IsEquality digest_eq → IsArity c.shape.arity →
+      (row_eq : T → T → Bool) (digest_eq : W → W → Bool) (c : Terms T W) (cap : List (List W))
+      (p : PrunedOpening T W) → IsEquality row_eq → IsEquality digest_eq → IsArity c.shape.arity →
       pruned_answer row_eq c.shape c.layer p ≡ Ok tt →
-      (pruned_answer_under row_eq digest_eq c cap p ≡ Ok tt) ↔ ((k : ℕ) → k < length p.indices → answer_under digest_eq c cap (opening_at c p k) ≡ Ok tt)
+      (pruned_answer_under row_eq digest_eq c cap p ≡ Ok tt) ↔ ((k : ℕ) → k < length p.indices →
+      answer_under digest_eq c cap (opening_at c p k) ≡ Ok tt)
 
   -- what is not refused whatever the cap is answered Ok under a cap, or CapMismatch
   abbrev pub OkOrCapMismatch : Type 0
   OkOrCapMismatch =
-      (row_eq : T → T → Bool) (digest_eq : W → W → Bool) (c : Terms T W) (cap : List (List W)) (p : PrunedOpening T W) → pruned_answer row_eq c.shape c.layer p ≡ Ok tt →
-      (pruned_answer_under row_eq digest_eq c cap p ≡ Ok tt) ⊎ (pruned_answer_under row_eq digest_eq c cap p ≡ Err CapMismatch)
+      (row_eq : T → T → Bool) (digest_eq : W → W → Bool) (c : Terms T W) (cap : List (List W))
+      (p : PrunedOpening T W) → pruned_answer row_eq c.shape c.layer p ≡ Ok tt →
+      (pruned_answer_under row_eq digest_eq c cap p ≡ Ok tt) ⊎
+      (pruned_answer_under row_eq digest_eq c cap p ≡ Err CapMismatch)
 
   -- ---- two openings under one cap
 
   -- the last inputs that two accepted openings share and that differ stand at one place and have one digest
   abbrev pub LastDifferenceCollides : Type 0
   LastDifferenceCollides =
-      (c : Terms T W) (cap : List (List W)) (o u : Opening T W) → IsArity c.shape.arity → IsAccepted c cap o → IsAccepted c cap u →
-      (x y : Input T W) → IsLastShared c o u x y → IsAtOnePlace x y × (x ≢ y) × (input_digest c.functions x ≡ input_digest c.functions y)
+      (c : Terms T W) (cap : List (List W)) (o u : Opening T W) → IsArity c.shape.arity → IsAccepted c cap o →
+      IsAccepted c cap u →
+      (x y : Input T W) → IsLastShared c o u x y →
+      IsAtOnePlace x y × (x ≢ y) × (input_digest c.functions x ≡ input_digest c.functions y)
 
-  -- where two accepted openings agree wherever they share a place, they answer each row of an authenticated matrix alike
+  -- where two accepted openings agree wherever they share a place, they answer each row of an authenticated matrix
+  -- alike
   abbrev pub RowsAreBound : Type 0
   RowsAreBound =
-      (c : Terms T W) (cap : List (List W)) (o u : Opening T W) → IsArity c.shape.arity → IsAccepted c cap o → IsAccepted c cap u →
+      (c : Terms T W) (cap : List (List W)) (o u : Opening T W) → IsArity c.shape.arity → IsAccepted c cap o →
+      IsAccepted c cap u →
       AgreeWhereShared c o u →
       (k : ℕ) → k < length (heights c.shape) → IsTrue (is_authenticated c.shape c.layer k) →
       let h = slice_index (heights c.shape) k in
-      halved_index (greatest (heights c.shape)) h o.index ≡ halved_index (greatest (heights c.shape)) h u.index → opened_row o k ≡ opened_row u k
+      halved_index (greatest (heights c.shape)) h o.index ≡ halved_index (greatest (heights c.shape)) h u.index →
+      opened_row o k ≡ opened_row u k
 
-  -- two accepted openings of one index agree wherever they share a place exactly if their siblings do, and their rows of each authenticated matrix
+  -- two accepted openings of one index agree wherever they share a place exactly if their siblings do, and their rows
+  -- of each authenticated matrix
   abbrev pub OneIndexIsBound : Type 0
   OneIndexIsBound =
-      (c : Terms T W) (cap : List (List W)) (o u : Opening T W) → IsArity c.shape.arity → IsAccepted c cap o → IsAccepted c cap u → o.index ≡ u.index →
+      (c : Terms T W) (cap : List (List W)) (o u : Opening T W) → IsArity c.shape.arity → IsAccepted c cap o →
+      IsAccepted c cap u → o.index ≡ u.index →
       AgreeWhereShared c o u ↔ AnswerAlike c o u
 
   -- each input of an accepted opening that is made of digests has as many of them as the arity
@@ -247,12 +283,16 @@ module _ (T W : Type 0) where
   abbrev pub LastInputIsReached : Type 0
   LastInputIsReached =
       (c : Terms T W) (o : Opening T W) →
-      (path_digest c.functions c.shape o c.layer ≡ check_digest c o) × ((before : List (Input T W)) × (inputs c o ≡ before ++ last_input c o ∷ []))
+      (path_digest c.functions c.shape o c.layer ≡ check_digest c o) ×
+      ((before : List (Input T W)) × (inputs c o ≡ before ++ last_input c o ∷ []))
 
-  -- the definition's answer to two openings of one cap is what an extraction has to be: the refusals in order, nothing where all checks agree, and else the first collision
+  -- the definition's answer to two openings of one cap is what an extraction has to be: the refusals in order,
+  -- nothing where all checks agree, and else the first collision
   abbrev pub AnswerIsExtraction : Type 0
   AnswerIsExtraction =
-      (row_eq : T → T → Bool) (digest_eq : W → W → Bool) (f : Functions T W) (s : Shape) (rule : CapRule) (cap_height : ℕ) (cap : List (List W)) (o u : Opening T W) → IsEquality row_eq → IsEquality digest_eq → IsArity s.arity →
+      (row_eq : T → T → Bool) (digest_eq : W → W → Bool) (f : Functions T W) (s : Shape) (rule : CapRule)
+      (cap_height : ℕ) (cap : List (List W)) (o u : Opening T W) → IsEquality row_eq → IsEquality digest_eq →
+      IsArity s.arity →
       let c = terms f s (cap_layer s rule cap_height) in
       let first = presented digest_eq c cap o in
       let second = presented digest_eq c cap u in
@@ -261,7 +301,9 @@ module _ (T W : Type 0) where
   -- the same of two pruned openings
   abbrev pub PrunedAnswerIsExtraction : Type 0
   PrunedAnswerIsExtraction =
-      (row_eq : T → T → Bool) (digest_eq : W → W → Bool) (f : Functions T W) (s : Shape) (rule : CapRule) (cap_height : ℕ) (cap : List (List W)) (p r : PrunedOpening T W) → IsEquality row_eq → IsEquality digest_eq → IsArity s.arity →
+      (row_eq : T → T → Bool) (digest_eq : W → W → Bool) (f : Functions T W) (s : Shape) (rule : CapRule)
+      (cap_height : ℕ) (cap : List (List W)) (p r : PrunedOpening T W) → IsEquality row_eq →
+      IsEquality digest_eq → IsArity s.arity →
       let c = terms f s (cap_layer s rule cap_height) in
       let first = presented_pruned row_eq digest_eq c cap p in
       let second = presented_pruned row_eq digest_eq c cap r in

@@ -12,7 +12,8 @@ pub record Functions (T W : Type 0) : Type 0 where
 
 -- the functions of a hash and a compression
 abbrev pub functions_of : {T W : Type 0} → (List T → List W) → (List (List W) → List W) → List W → Functions T W
-functions_of hash compression default_digest = record { hash = hash; compression = compression; default_digest = default_digest }
+functions_of hash compression default_digest =
+    record { hash = hash; compression = compression; default_digest = default_digest }
 
 -- a matrix by its height, its width and its rows
 pub record Matrix (T : Type 0) : Type 0 where
@@ -57,7 +58,8 @@ compress f n ds = f.compression (padded n f.default_digest ds)
 abbrev pub row_digest : {T W : Type 0} → Functions T W → List (Matrix T) → ℕ → List W
 row_digest f ms j = if list_all (λ m. nat_lt j m.height) ms then f.hash (joined_rows ms j) else f.default_digest
 
--- the digest of a node's children beside that of rows, followed by default digests: what is compressed where a node has rows
+-- the digest of a node's children beside that of rows, followed by default digests: what is compressed where a node
+-- has rows
 abbrev pub pair : {T W : Type 0} → Functions T W → ℕ → List W → List W → List (List W)
 pair f n c r = padded n f.default_digest (c ∷ r ∷ [])
 
@@ -65,13 +67,16 @@ pair f n c r = padded n f.default_digest (c ∷ r ∷ [])
 abbrev pub with_rows : {T W : Type 0} → Functions T W → ℕ → Bool → List W → List W → List W
 with_rows f n has c r = if has then f.compression (pair f n c r) else c
 
--- node j of layer l: the hash of rows for a leaf, else the compression of its children, with its rows if the layer has any; the default digest for padding
+-- node j of layer l: the hash of rows for a leaf, else the compression of its children, with its rows if the layer
+-- has any; the default digest for padding
 unfoldable pub node : {T W : Type 0} → Functions T W → Batch T → ℕ → ℕ → List W
 node f b zero j = if nat_lt j (raw_len (shape b) 0) then f.hash (joined_rows (at_layer b 0) j) else f.default_digest
 node f b (suc l) j =
     let s = step (shape b) l in
     if nat_lt j (raw_len (shape b) (suc l))
-    then with_rows f b.arity (has_rows (shape b) (suc l)) (compress f b.arity (map (λ i. node f b l (s * j + i)) (range_with_len 0 s))) (row_digest f (at_layer b (suc l)) j)
+    then with_rows f b.arity (has_rows (shape b) (suc l))
+    (compress f b.arity (map (λ i. node f b l (s * j + i)) (range_with_len 0 s)))
+    (row_digest f (at_layer b (suc l)) j)
     else f.default_digest
 
 -- layer l, padding included

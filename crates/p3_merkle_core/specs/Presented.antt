@@ -7,7 +7,8 @@ use Rattle.p3_merkle_core.specs.Pruning.{IsPrunedAccepted, IsRestorable, PrunedO
 use Rattle.p3_merkle_core.specs.Refusals.{AnswersUnlessMemory, pruned_refusal, pruned_refusal_under, refusal_under}
 use Rattle.p3_merkle_core.specs.declared.error.MerkleTreeError.{MerkleTreeError}
 
--- an opening as a verifier takes it: when it is accepted, why it is refused, and the queries that are checked, each an opening of one index
+-- an opening as a verifier takes it: when it is accepted, why it is refused, and the queries that are checked, each
+-- an opening of one index
 pub record Presented (T W : Type 0) : Type 1 where
   pub accepted : Type 0
   pub refusal : Option MerkleTreeError
@@ -16,18 +17,32 @@ pub record Presented (T W : Type 0) : Type 1 where
 
 -- an opening of one index, under a cap: it is its only query
 abbrev pub presented : {T W : Type 0} → (W → W → Bool) → Terms T W → List (List W) → Opening T W → Presented T W
-presented digest_eq c cap o = record { accepted = IsAccepted c cap o; refusal = refusal_under digest_eq c cap o; queries = 1; query = λ k. o }
+presented digest_eq c cap o =
+    record { accepted = IsAccepted c cap o; refusal = refusal_under digest_eq c cap o; queries = 1; query = λ k. o }
 
 -- a pruned opening, under a cap: its queries are checked with their restored paths
-abbrev pub presented_pruned : {T W : Type 0} → (T → T → Bool) → (W → W → Bool) → Terms T W → List (List W) → PrunedOpening T W → Presented T W
+abbrev pub presented_pruned : {T W : Type 0} → (T → T → Bool) → (W → W → Bool) → Terms T W → List (List W) →
+    PrunedOpening T W → Presented T W
 presented_pruned row_eq digest_eq c cap p =
-    record { accepted = IsPrunedAccepted c cap p; refusal = pruned_refusal_under row_eq digest_eq c cap p; queries = length p.indices; query = opening_at c p }
+    record {
+      accepted = IsPrunedAccepted c cap p;
+      refusal = pruned_refusal_under row_eq digest_eq c cap p;
+      queries = length p.indices;
+      query = opening_at c p;
+    }
 
 -- a pruned opening whose paths are restored, whatever the cap, which is layer t
 abbrev pub presented_to_restore : {T W : Type 0} → (T → T → Bool) → Shape → ℕ → PrunedOpening T W → Presented T W
-presented_to_restore row_eq s t p = record { accepted = IsRestorable s t p; refusal = pruned_refusal row_eq s t p; queries = 0; query = λ k. opening_of 0 [] [] }
+presented_to_restore row_eq s t p =
+    record {
+      accepted = IsRestorable s t p;
+      refusal = pruned_refusal row_eq s t p;
+      queries = 0;
+      query = λ k. opening_of 0 [] [];
+    }
 
--- what a verifier answers to an opening: the definition's refusal; Ok only where the opening is accepted, and an accepted one is answered Ok unless there is no memory
+-- what a verifier answers to an opening: the definition's refusal; Ok only where the opening is accepted, and an
+-- accepted one is answered Ok unless there is no memory
 pub record IsVerdict {T W V : Type 0} (presented : Presented T W) (result : Result V MerkleTreeError) : Type 0 where
   pub answer : AnswersUnlessMemory result presented.refusal
   pub accepted : IsOk result → presented.accepted

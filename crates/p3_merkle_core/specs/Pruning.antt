@@ -35,7 +35,8 @@ boundary_by value s queries t = map (λ (l, j). value l j) (boundary s queries t
 abbrev pub pruned_len : Shape → List ℕ → ℕ → ℕ
 pruned_len s indices t = length (boundary s indices t)
 
--- a tree can be asked for these queries under layer t: its arity is one, the queries are below its tallest height, and it has the layer
+-- a tree can be asked for these queries under layer t: its arity is one, the queries are below its tallest height,
+-- and it has the layer
 pub record CanQuery (s : Shape) (queries : List ℕ) (t : ℕ) : Type 0 where
   pub well_shaped : IsArity s.arity
   pub below : All (λ q. q < greatest (heights s)) queries
@@ -51,7 +52,8 @@ is_in given l j = list_any (λ (m, k). (m == l) && (k == j)) given
 abbrev pub IsKnown : Shape → List ℕ → List (ℕ × ℕ) → ℕ → ℕ → Type 0
 IsKnown s queries given zero j = IsTrue (is_in given 0 j) ⊎ IsTrue (is_covered s queries 0 j)
 IsKnown s queries given (suc l) j =
-    IsTrue (is_in given (suc l) j) ⊎ ((j < raw_len s (suc l)) × ((i : ℕ) → i < step s l → IsKnown s queries given l (step s l * j + i)))
+    IsTrue (is_in given (suc l) j) ⊎ ((j < raw_len s (suc l)) ×
+    ((i : ℕ) → i < step s l → IsKnown s queries given l (step s l * j + i)))
 
 -- each covered node of layer t is known from the nodes in given
 abbrev pub Suffices : Shape → List ℕ → ℕ → List (ℕ × ℕ) → Type 0
@@ -74,7 +76,8 @@ is_under s l j (m, k) = nat_le m l && (up s m k (l - m) == j)
 abbrev pub IsGivenUnder : Shape → List (ℕ × ℕ) → ℕ → ℕ → ℕ × ℕ → Type 0
 IsGivenUnder s given l j x = IsTrue (is_in given x.0 x.1) × IsTrue (is_under s l j x)
 
--- so many nodes are least: they are the boundary's, which are uncovered and suffice, and each list of uncovered nodes that suffices has just the boundary's nodes, or is longer
+-- so many nodes are least: they are the boundary's, which are uncovered and suffice, and each list of uncovered nodes
+-- that suffices has just the boundary's nodes, or is longer
 pub record IsLeast (s : Shape) (queries : List ℕ) (t : ℕ) (count : ℕ) : Type 0 where
   pub counted : count ≡ pruned_len s queries t
   pub uncovered : IsUncovered s queries t (boundary s queries t)
@@ -104,13 +107,16 @@ first_rows passes p = value_at passes (zip p.indices p.rows) []
 
 -- the digest that is sent for node j of layer l
 abbrev pub sent_digest : {T W : Type 0} → Terms T W → PrunedOpening T W → ℕ → ℕ → List W
-sent_digest c p l j = value_at (λ (m, k). (m == l) && (k == j)) (zip (boundary c.shape p.indices c.layer) p.digests) c.functions.default_digest
+sent_digest c p l j =
+    value_at (λ (m, k). (m == l) && (k == j))
+    (zip (boundary c.shape p.indices c.layer) p.digests) c.functions.default_digest
 
 -- the words of the first query under node j of layer l, of the matrices that belong to the layer
 abbrev pub words_under : {T W : Type 0} → Shape → PrunedOpening T W → ℕ → ℕ → List T
 words_under s p l j = layer_words s (first_rows (λ i. ancestor s l i == j) p) l
 
--- the value of a covered node: the hash of rows for a leaf, else the compression of its children's values, with its rows if the layer has any
+-- the value of a covered node: the hash of rows for a leaf, else the compression of its children's values, with its
+-- rows if the layer has any
 unfoldable pub restored_node : {T W : Type 0} → Terms T W → PrunedOpening T W → ℕ → ℕ → List W
 restored_node c p zero j = c.functions.hash (words_under c.shape p 0 j)
 restored_node c p (suc l) j =
@@ -141,12 +147,15 @@ opening_at c p k = let i = slice_index p.indices k in opening_of i (slice_index_
 -- queries of one index have one row set, and queries under one node the same rows of the matrices of its layer
 pub record IsAgreed {T W : Type 0} (s : Shape) (t : ℕ) (p : PrunedOpening T W) : Type 0 where
   pub in_pairs : length p.rows ≡ length p.indices
-  pub repeats : (a b : ℕ) → a < length p.indices → b < length p.indices → slice_index p.indices a ≡ slice_index p.indices b →
+  pub repeats : (a b : ℕ) → a < length p.indices → b < length p.indices →
+      slice_index p.indices a ≡ slice_index p.indices b →
       slice_index_or p.rows a [] ≡ slice_index_or p.rows b []
-  pub groups : (l a b : ℕ) → l ≤ t → a < length p.indices → b < length p.indices → ancestor s l (slice_index p.indices a) ≡ ancestor s l (slice_index p.indices b) →
+  pub groups : (l a b : ℕ) → l ≤ t → a < length p.indices → b < length p.indices →
+      ancestor s l (slice_index p.indices a) ≡ ancestor s l (slice_index p.indices b) →
       layer_rows s (slice_index_or p.rows a []) l ≡ layer_rows s (slice_index_or p.rows b []) l
 
--- a pruned opening restores: lawful heights, queries below the greatest height, a digest for each boundary node, and rows of their widths that agree
+-- a pruned opening restores: lawful heights, queries below the greatest height, a digest for each boundary node, and
+-- rows of their widths that agree
 pub record IsRestorable {T W : Type 0} (s : Shape) (t : ℕ) (p : PrunedOpening T W) : Type 0 where
   pub lawful : IsLawful (heights s)
   pub below : All (λ i. i < greatest (heights s)) p.indices
@@ -156,7 +165,8 @@ pub record IsRestorable {T W : Type 0} (s : Shape) (t : ℕ) (p : PrunedOpening 
 
 -- each covered node of the cap's layer has its entry in the cap
 abbrev pub IsCapped : {T W : Type 0} → Terms T W → List (List W) → PrunedOpening T W → Type 0
-IsCapped c cap p = (j : ℕ) → IsTrue (is_covered c.shape p.indices c.layer j) → slice_get cap j ≡ Some (restored_node c p c.layer j)
+IsCapped c cap p =
+    (j : ℕ) → IsTrue (is_covered c.shape p.indices c.layer j) → slice_get cap j ≡ Some (restored_node c p c.layer j)
 
 -- each query is accepted with its restored path
 abbrev pub EachAccepted : {T W : Type 0} → Terms T W → List (List W) → PrunedOpening T W → Type 0
@@ -170,11 +180,13 @@ IsPrunedAccepted c cap p = IsRestorable c.shape c.layer p × EachAccepted c cap 
 
 -- the pruned opening of some indices whose digests are the nodes that the layers of a tree have, up to layer t
 abbrev pub pruned_in_layers : {T W : Type 0} → Batch T → List (List (List W)) → ℕ → List ℕ → PrunedOpening T W
-pruned_in_layers b layers t indices = pruned_of indices (map (honest_rows b) indices) (boundary_by (node_in [] layers) (shape b) indices t)
+pruned_in_layers b layers t indices =
+    pruned_of indices (map (honest_rows b) indices) (boundary_by (node_in [] layers) (shape b) indices t)
 
 -- the honest pruned opening of some indices: the digests are those of the boundary nodes
 abbrev pub honest_query : {T W : Type 0} → Functions T W → Batch T → ℕ → List ℕ → PrunedOpening T W
-honest_query f b t indices = pruned_of indices (map (honest_rows b) indices) (boundary_by (node f b) (shape b) indices t)
+honest_query f b t indices =
+    pruned_of indices (map (honest_rows b) indices) (boundary_by (node f b) (shape b) indices t)
 
 -- queries below the greatest height of a lawful batch, and a layer of its tree
 pub record IsHonestQuery {T : Type 0} (b : Batch T) (t : ℕ) (indices : List ℕ) : Type 0 where

@@ -41,7 +41,8 @@ ok_unless (Some e) v = Err e
 
 -- Ok only where nothing is refused; an error is the refusal, or tells that there is no memory
 abbrev pub AnswersUnlessMemory : {V : Type 0} → Result V MerkleTreeError → Option MerkleTreeError → Type 0
-AnswersUnlessMemory result refusal = MatchResult result (λ v. refusal ≡ None) (λ e. (e ≡ OutOfMemory) ⊎ (refusal ≡ Some e))
+AnswersUnlessMemory result refusal =
+    MatchResult result (λ v. refusal ≡ None) (λ e. (e ≡ OutOfMemory) ⊎ (refusal ≡ Some e))
 
 -- ---- slots
 
@@ -63,7 +64,8 @@ lead s indices l j = least (λ i. is_among indices i && (ancestor s l i == j)) (
 
 -- the places in input order of the matrices of layer l
 abbrev pub matrices_at : Shape → ℕ → List ℕ
-matrices_at s l = filter (λ m. exponent (slice_index (heights s) m) == layer_exponent s l) (range_with_len 0 (length (heights s)))
+matrices_at s l =
+    filter (λ m. exponent (slice_index (heights s) m) == layer_exponent s l) (range_with_len 0 (length (heights s)))
 
 -- ---- the reasons
 
@@ -81,7 +83,8 @@ row_width_refusal widths rows = first_of width_fault (enumerate_from 0 (zip widt
 
 -- a wrong number of rows, else the first row that has not the width of its matrix
 abbrev pub width_refusal : {T : Type 0} → List Dimensions → List (List T) → Option MerkleTreeError
-width_refusal dimensions rows = option_or (size_refusal (length dimensions) (length rows)) (row_width_refusal (widths_of dimensions) rows)
+width_refusal dimensions rows =
+    option_or (size_refusal (length dimensions) (length rows)) (row_width_refusal (widths_of dimensions) rows)
 
 -- digests of a pruned proof that are not as many as they should be
 abbrev pub digest_count_refusal : ℕ → ℕ → Option MerkleTreeError
@@ -98,15 +101,19 @@ queries_refusal m indices = unless (nat_lt (greatest indices) m) (IndexOutOfBoun
 -- a query whose row set is not that of the first query of its index
 abbrev pub repeat_refusal : {T W : Type 0} → (T → T → Bool) → PrunedOpening T W → Option MerkleTreeError
 repeat_refusal row_eq p =
-    first_of (λ (i, rows). unless (pointwise (pointwise row_eq) rows (rows_of p i)) (MalformedPrunedProof (InconsistentDuplicateOpenings (slot_of p.indices i)))) (zip p.indices p.rows)
+    first_of (λ (i, rows). unless (pointwise (pointwise row_eq) rows (rows_of p i))
+    (MalformedPrunedProof (InconsistentDuplicateOpenings (slot_of p.indices i)))) (zip p.indices p.rows)
 
 -- a row of matrix m, of layer l, that is not that of the lowest queried index under the same node
-abbrev pub row_refusal : {T W : Type 0} → (T → T → Bool) → Shape → PrunedOpening T W → ℕ → ℕ → ℕ → Option MerkleTreeError
+abbrev pub row_refusal : {T W : Type 0} → (T → T → Bool) → Shape → PrunedOpening T W → ℕ → ℕ → ℕ →
+    Option MerkleTreeError
 row_refusal row_eq s p l i m =
-    unless (pointwise row_eq (slice_index_or (rows_of p i) m []) (slice_index_or (rows_of p (lead s p.indices l (ancestor s l i))) m []))
+    unless (pointwise row_eq (slice_index_or (rows_of p i) m [])
+    (slice_index_or (rows_of p (lead s p.indices l (ancestor s l i))) m []))
     (MalformedPrunedProof (InconsistentGroupOpening (slot_of p.indices i) m))
 
--- the first row of index i, of the matrices of layer l, that is not that of the lowest queried index under the same node
+-- the first row of index i, of the matrices of layer l, that is not that of the lowest queried index under the same
+-- node
 abbrev pub slot_refusal : {T W : Type 0} → (T → T → Bool) → Shape → PrunedOpening T W → ℕ → ℕ → Option MerkleTreeError
 slot_refusal row_eq s p l i = first_of (row_refusal row_eq s p l i) (matrices_at s l)
 
@@ -128,7 +135,8 @@ is_entry eq cap j digest = unwrap_or (option_map (λ entry. eq entry digest) (sl
 abbrev pub sibling_count_refusal : ℕ → ℕ → Option MerkleTreeError
 sibling_count_refusal expected got = unless (expected == got) (WrongHeight expected got)
 
--- why an opening of an index, rows and so many siblings is refused before any of it is hashed, where the cap is layer t: the first of these reasons
+-- why an opening of an index, rows and so many siblings is refused before any of it is hashed, where the cap is layer
+-- t: the first of these reasons
 abbrev pub form_refusal : {T : Type 0} → Shape → ℕ → ℕ → List (List T) → ℕ → Option MerkleTreeError
 form_refusal s t index rows siblings =
     first_some (
@@ -140,13 +148,16 @@ form_refusal s t index rows siblings =
     ∷ [])
 
 -- why an opening is refused under a cap: its form, else a cap whose entry is not the digest that the check reaches
-abbrev pub refusal_under : {T W : Type 0} → (W → W → Bool) → Terms T W → List (List W) → Opening T W → Option MerkleTreeError
+abbrev pub refusal_under : {T W : Type 0} → (W → W → Bool) → Terms T W → List (List W) → Opening T W →
+    Option MerkleTreeError
 refusal_under digest_eq c cap o =
     option_or (form_refusal c.shape c.layer o.index o.rows (length o.siblings))
-    (unless (is_entry (pointwise digest_eq) cap (ancestor c.shape c.layer o.index) (path_digest c.functions c.shape o c.layer)) CapMismatch)
+    (unless (is_entry (pointwise digest_eq) cap (ancestor c.shape c.layer o.index)
+    (path_digest c.functions c.shape o c.layer)) CapMismatch)
 
 -- the answer to an opening under a cap
-abbrev pub answer_under : {T W : Type 0} → (W → W → Bool) → Terms T W → List (List W) → Opening T W → Result (Unit {0}) MerkleTreeError
+abbrev pub answer_under : {T W : Type 0} → (W → W → Bool) → Terms T W → List (List W) → Opening T W →
+    Result (Unit {0}) MerkleTreeError
 answer_under digest_eq c cap o = ok_unless (refusal_under digest_eq c cap o) tt
 
 -- why a replay of an index is refused, where a proof has so many siblings: the first of these reasons
@@ -175,22 +186,29 @@ pruned_refusal row_eq s t p =
     ∷ [])
 
 -- the answer to a pruned opening, whatever the cap
-abbrev pub pruned_answer : {T W : Type 0} → (T → T → Bool) → Shape → ℕ → PrunedOpening T W → Result (Unit {0}) MerkleTreeError
+abbrev pub pruned_answer : {T W : Type 0} → (T → T → Bool) → Shape → ℕ → PrunedOpening T W →
+    Result (Unit {0}) MerkleTreeError
 pruned_answer row_eq s t p = ok_unless (pruned_refusal row_eq s t p) tt
 
 -- a covered node of the cap's layer whose value is not the cap's entry
-abbrev pub cap_refusal : {T W : Type 0} → (W → W → Bool) → Terms T W → List (List W) → PrunedOpening T W → Option MerkleTreeError
+abbrev pub cap_refusal : {T W : Type 0} → (W → W → Bool) → Terms T W → List (List W) → PrunedOpening T W →
+    Option MerkleTreeError
 cap_refusal digest_eq c cap p =
-    unless (list_all (λ i. let j = ancestor c.shape c.layer i in is_entry (pointwise digest_eq) cap j (restored_node c p c.layer j)) p.indices) CapMismatch
+    unless (list_all (λ i. let j = ancestor c.shape c.layer i in
+    is_entry (pointwise digest_eq) cap j (restored_node c p c.layer j)) p.indices) CapMismatch
 
 -- why a pruned opening is refused under a cap
-abbrev pub pruned_refusal_under : {T W : Type 0} → (T → T → Bool) → (W → W → Bool) → Terms T W → List (List W) → PrunedOpening T W → Option MerkleTreeError
-pruned_refusal_under row_eq digest_eq c cap p = option_or (pruned_refusal row_eq c.shape c.layer p) (cap_refusal digest_eq c cap p)
+abbrev pub pruned_refusal_under : {T W : Type 0} → (T → T → Bool) → (W → W → Bool) → Terms T W → List (List W) →
+    PrunedOpening T W → Option MerkleTreeError
+pruned_refusal_under row_eq digest_eq c cap p =
+    option_or (pruned_refusal row_eq c.shape c.layer p) (cap_refusal digest_eq c cap p)
 
 -- the answer to a pruned opening under a cap
-abbrev pub pruned_answer_under : {T W : Type 0} → (T → T → Bool) → (W → W → Bool) → Terms T W → List (List W) → PrunedOpening T W → Result (Unit {0}) MerkleTreeError
+abbrev pub pruned_answer_under : {T W : Type 0} → (T → T → Bool) → (W → W → Bool) → Terms T W → List (List W) →
+    PrunedOpening T W → Result (Unit {0}) MerkleTreeError
 pruned_answer_under row_eq digest_eq c cap p = ok_unless (pruned_refusal_under row_eq digest_eq c cap p) tt
 
--- why the number of digests of a pruned proof is refused: the heights, else the highest index, if it is not below the greatest height
+-- why the number of digests of a pruned proof is refused: the heights, else the highest index, if it is not below the
+-- greatest height
 abbrev pub pruned_len_refusal : Shape → List ℕ → Option MerkleTreeError
 pruned_len_refusal s indices = option_or (gate_refusal (heights s)) (queries_refusal (greatest (heights s)) indices)

@@ -48,10 +48,12 @@ opening_lent index opening = opening_of index (row_lists opening.opened_values.n
 
 -- a pruned opening of some indices, by its row sets and digests
 abbrev pub pruned_made : {T W : Type 0} → List ℕ → PrunedRows T (List W) → PrunedOpening T W
-pruned_made indices opening = pruned_of indices (row_sets opening.opened_values.items) opening.pruned_proof.sibling_hashes.items
+pruned_made indices opening =
+    pruned_of indices (row_sets opening.opened_values.items) opening.pruned_proof.sibling_hashes.items
 
 -- the same of row sets and a proof
-abbrev pub multi_made : {T W A B C : Type 0} → List ℕ → Vec (Vec (Vec T A) B) C × PrunedProof (List W) → PrunedOpening T W
+abbrev pub multi_made : {T W A B C : Type 0} → List ℕ → Vec (Vec (Vec T A) B) C × PrunedProof (List W) →
+    PrunedOpening T W
 multi_made indices opening = pruned_of indices (row_sets opening.0.items) opening.1.sibling_hashes.items
 
 -- the same of row sets and a proof that are lent
@@ -74,11 +76,13 @@ inputs_in (Words place first second) = (words_at place first.items, words_at pla
 inputs_in (Digests place first second) = (digests_at place first.items, digests_at place second.items)
 
 -- what is found in two openings of one index each: the first query of both, and the inputs that the collision shows
-abbrev pub found_alone : {T W : Type 0} → Result (Option (InputPair T (List W))) MerkleTreeError → Result (Option (ℕ × ℕ × (Input T W × Input T W))) MerkleTreeError
+abbrev pub found_alone : {T W : Type 0} → Result (Option (InputPair T (List W))) MerkleTreeError →
+    Result (Option (ℕ × ℕ × (Input T W × Input T W))) MerkleTreeError
 found_alone result = result_map_both (λ found. option_map (λ pair. (0, 0, inputs_in pair)) found) (λ e. e) result
 
 -- what is found in two openings of several indices: a query of each, and the inputs that the collision shows
-abbrev pub found_pair : {T W : Type 0} → Result (Option (ℕ × ℕ × InputPair T (List W))) MerkleTreeError → Result (Option (ℕ × ℕ × (Input T W × Input T W))) MerkleTreeError
+abbrev pub found_pair : {T W : Type 0} → Result (Option (ℕ × ℕ × InputPair T (List W))) MerkleTreeError →
+    Result (Option (ℕ × ℕ × (Input T W × Input T W))) MerkleTreeError
 found_pair result = result_map_both (λ found. option_map (λ (a, b, pair). (a, b, inputs_in pair)) found) (λ e. e) result
 
 -- two collisions are of one kind, at one place, with the same inputs

@@ -15,7 +15,8 @@ use Rattle.p3_merkle_tree.specs.Schemes.{terms_of}
 use Rattle.p3_merkle_salts.specs.SaltedOpenings.{SaltedOpening, SaltedPruned, widened}
 use Rattle.p3_merkle_hiding.specs.declared.hiding_mmcs.HidingScheme.{HidingScheme}
 
-module _ {P PW H C R X G V W : Type 0} {N E : ℕ} {p : packed.Ghosts P V} {pd : default.Ghosts V} {pe : equality.Ghosts V} {q : packed.Ghosts PW W} {qd : default.Ghosts W} {qe : equality.Ghosts W} where
+module _ {P PW H C R X G V W : Type 0} {N E : ℕ} {p : packed.Ghosts P V} {pd : default.Ghosts V}
+    {pe : equality.Ghosts V} {q : packed.Ghosts PW W} {qd : default.Ghosts W} {qe : equality.Ghosts W} where
   -- the plain scheme that commits to rows followed by their salts
   abbrev pub plain_of : HidingScheme P PW H C R X G N E V W p pd pe q qd qe → Scheme P PW H C X G N V W p pd pe q qd qe
   plain_of scheme = scheme.plain
@@ -25,25 +26,50 @@ module _ {P PW H C R X G V W : Type 0} {N E : ℕ} {p : packed.Ghosts P V} {pd :
   generator_of scheme = scheme.generator
 
   -- the terms of its checks over matrices of these dimensions without salts
-  abbrev pub salted_terms_of : (H → List V → List W) → (C → List (List W) → List W) → ℕ → HidingScheme P PW H C R X G N E V W p pd pe q qd qe → List Dimensions → Terms V W
+  abbrev pub salted_terms_of : (H → List V → List W) → (C → List (List W) → List W) → ℕ →
+      HidingScheme P PW H C R X G N E V W p pd pe q qd qe → List Dimensions → Terms V W
   salted_terms_of hash compression d scheme dimensions = terms_of hash compression d scheme.plain (widened E dimensions)
 
 -- an opening of an index that is lent, with its salts
-abbrev pub salted_lent : {T W A B D : Type 0} → ℕ → BatchOpeningRef T (Vec (Vec T A) B × Vec (List W) D) → SaltedOpening T W
+abbrev pub salted_lent : {T W A B D : Type 0} → ℕ → BatchOpeningRef T (Vec (Vec T A) B × Vec (List W) D) →
+    SaltedOpening T W
 salted_lent index opening =
-    record { index = index; rows = row_lists opening.opened_values.now; salts = row_lists opening.opening_proof.now.0.items; siblings = opening.opening_proof.now.1.items }
+    record {
+      index = index;
+      rows = row_lists opening.opened_values.now;
+      salts = row_lists opening.opening_proof.now.0.items;
+      siblings = opening.opening_proof.now.1.items;
+    }
 
 -- the same of one that is made
-abbrev pub salted_made : {T W A B D : Type 0} → ℕ → BatchOpening T (Vec (Vec T A) B × Vec (List W) D) → SaltedOpening T W
+abbrev pub salted_made : {T W A B D : Type 0} → ℕ → BatchOpening T (Vec (Vec T A) B × Vec (List W) D) →
+    SaltedOpening T W
 salted_made index opening =
-    record { index = index; rows = row_lists opening.opened_values.items; salts = row_lists opening.opening_proof.0.items; siblings = opening.opening_proof.1.items }
+    record {
+      index = index;
+      rows = row_lists opening.opened_values.items;
+      salts = row_lists opening.opening_proof.0.items;
+      siblings = opening.opening_proof.1.items;
+    }
 
 -- the opening of several indices by row sets and a proof that are lent
-abbrev pub salted_pruned_lent : {T W A B C D E : Type 0} → List ℕ → List (Vec (Vec T A) B) → Vec (Vec (Vec T C) D) E × PrunedProof (List W) → SaltedPruned T W
+abbrev pub salted_pruned_lent : {T W A B C D E : Type 0} → List ℕ → List (Vec (Vec T A) B) →
+    Vec (Vec (Vec T C) D) E × PrunedProof (List W) → SaltedPruned T W
 salted_pruned_lent indices rows proof =
-    record { indices = indices; rows = row_sets rows; salts = row_sets proof.0.items; digests = proof.1.sibling_hashes.items }
+    record {
+      indices = indices;
+      rows = row_sets rows;
+      salts = row_sets proof.0.items;
+      digests = proof.1.sibling_hashes.items;
+    }
 
 -- the same of row sets and a proof that are made
-abbrev pub salted_pruned_made : {T W A B C D E F : Type 0} → List ℕ → Vec (Vec (Vec T A) B) F → Vec (Vec (Vec T C) D) E × PrunedProof (List W) → SaltedPruned T W
+abbrev pub salted_pruned_made : {T W A B C D E F : Type 0} → List ℕ → Vec (Vec (Vec T A) B) F →
+    Vec (Vec (Vec T C) D) E × PrunedProof (List W) → SaltedPruned T W
 salted_pruned_made indices rows proof =
-    record { indices = indices; rows = row_sets rows.items; salts = row_sets proof.0.items; digests = proof.1.sibling_hashes.items }
+    record {
+      indices = indices;
+      rows = row_sets rows.items;
+      salts = row_sets proof.0.items;
+      digests = proof.1.sibling_hashes.items;
+    }

@@ -12,16 +12,22 @@ use Rattle.p3_merkle_core.specs.Checks.{Terms}
 use Rattle.p3_merkle_salts.specs.SaltedOpenings.{CanWiden, IsSaltedAccepted, salted_of}
 use Rattle.p3_merkle_salts.specs.SaltedTrees.{HaveSaltColumns}
 
--- matrices that can be committed to with e salts a row: their heights are lawful, and their widths with the salts are sizes
-pub record CanCommitSalted {T M : Type 0} (height width : M → ℕ) (row : M → ℕ → List T) (e : ℕ) (matrices : List M) : Type 0 where
+-- matrices that can be committed to with e salts a row: their heights are lawful, and their widths with the salts are
+-- sizes
+pub record CanCommitSalted {T M : Type 0} (height width : M → ℕ) (row : M → ℕ → List T) (e : ℕ)
+    (matrices : List M) : Type 0 where
   pub lawful : IsLawful (heights_in height width row matrices)
   pub can_widen : CanWiden e (dimensions_in height width matrices)
 
 -- a commitment to a batch, which is that of pairs with e salts a row
-pub record IsSaltedCommitment {T W A B : Type 0} {a : Ghosts A T} {b : Ghosts B T} (e : ℕ) (c : Terms T W) (cap : List (List W)) (batch : Batch T) (own : List (List (List W))) (pairs : List (HorizontalPair T A B a b)) : Type 0 where
+pub record IsSaltedCommitment {T W A B : Type 0} {a : Ghosts A T} {b : Ghosts B T} (e : ℕ) (c : Terms T W)
+    (cap : List (List W)) (batch : Batch T) (own : List (List (List W)))
+    (pairs : List (HorizontalPair T A B a b)) : Type 0 where
   pub committed : IsCommitment c cap batch own
   pub columns : HaveSaltColumns e pairs
 
 -- with some salts and siblings the rows are accepted at an index under a cap
 abbrev pub IsSaltedShown : {T W : Type 0} → ℕ → List Dimensions → Terms T W → List (List W) → ℕ → List (List T) → Type 0
-IsSaltedShown {T = T} {W = W} e dimensions c cap index rows = (salts : List (List T)) × (siblings : List (List W)) × IsSaltedAccepted e dimensions c cap (salted_of index rows salts siblings)
+IsSaltedShown {T =
+    T} {W = W} e dimensions c cap index rows = (salts : List (List T)) × (siblings : List (List W)) ×
+    IsSaltedAccepted e dimensions c cap (salted_of index rows salts siblings)

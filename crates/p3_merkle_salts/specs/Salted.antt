@@ -5,7 +5,8 @@ use Rattle.p3_support.specs.Lists.{message}
 use Rattle.p3_support.specs.Salts.{after_words, salts}
 use Rattle.p3_merkle_core.specs.Nodes.{Batch, Matrix}
 
--- a matrix, each row followed by its n values of a list, which has those of the first row first, then those of the second, and so on
+-- a matrix, each row followed by its n values of a list, which has those of the first row first, then those of the
+-- second, and so on
 abbrev pub salted : {T : Type 0} → ℕ → List T → Matrix T → Matrix T
 salted n values m = record { height = m.height; width = m.width + n; row = λ j. m.row j ++ message n values j }
 
@@ -13,7 +14,8 @@ module _ {T : Type 0} (of_word : ℕ → T) (n : ℕ) where
   -- the matrices in input order, each with n salts for each of its rows, which words of the stream make
   abbrev pub salted_matrices : List (Matrix T) → Stream → List (Matrix T)
   salted_matrices [] s = []
-  salted_matrices (m ∷ ms) s = salted n (salts of_word (m.height * n) s) m ∷ salted_matrices ms (after_words (m.height * n) s)
+  salted_matrices (m ∷ ms) s =
+      salted n (salts of_word (m.height * n) s) m ∷ salted_matrices ms (after_words (m.height * n) s)
 
   -- their batch
   abbrev pub salted_batch : Batch T → Stream → Batch T

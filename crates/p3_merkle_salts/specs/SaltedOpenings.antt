@@ -50,7 +50,8 @@ salted_of index rows salts siblings = record { index = index; rows = rows; salts
 abbrev pub joined : {T W : Type 0} → SaltedOpening T W → Opening T W
 joined o = opening_of o.index (salted_rows o.rows o.salts) o.siblings
 
--- an opening of several indices by one pruned proof: a row set and a salt set for each index, and the digests that are sent
+-- an opening of several indices by one pruned proof: a row set and a salt set for each index, and the digests that
+-- are sent
 pub record SaltedPruned (T W : Type 0) : Type 0 where
   pub indices : List ℕ
   pub rows : List (List (List T))
@@ -58,8 +59,10 @@ pub record SaltedPruned (T W : Type 0) : Type 0 where
   pub digests : List (List W)
 
 -- the opening of indices, row sets, salt sets and digests
-abbrev pub salted_pruned_of : {T W : Type 0} → List ℕ → List (List (List T)) → List (List (List T)) → List (List W) → SaltedPruned T W
-salted_pruned_of indices rows salts digests = record { indices = indices; rows = rows; salts = salts; digests = digests }
+abbrev pub salted_pruned_of : {T W : Type 0} → List ℕ → List (List (List T)) → List (List (List T)) → List (List W) →
+    SaltedPruned T W
+salted_pruned_of indices rows salts digests =
+    record { indices = indices; rows = rows; salts = salts; digests = digests }
 
 -- the plain pruned opening that a check sees
 abbrev pub joined_sets : {T W : Type 0} → SaltedPruned T W → PrunedOpening T W
@@ -72,14 +75,17 @@ pub record HaveSalts {T : Type 0} (dimensions : List Dimensions) (rows salts : L
   pub rows_fit : map length rows ≡ widths_of dimensions
   pub in_pairs : length salts ≡ length rows
 
--- an opening with e salts a row is accepted under a cap: its rows have their widths without the salts, the widths with them are sizes, and rows followed by salts are accepted under the terms of matrices that have e more columns
-pub record IsSaltedAccepted {T W : Type 0} (e : ℕ) (dimensions : List Dimensions) (c : Terms T W) (cap : List (List W)) (o : SaltedOpening T W) : Type 0 where
+-- an opening with e salts a row is accepted under a cap: its rows have their widths without the salts, the widths
+-- with them are sizes, and rows followed by salts are accepted under the terms of matrices that have e more columns
+pub record IsSaltedAccepted {T W : Type 0} (e : ℕ) (dimensions : List Dimensions) (c : Terms T W)
+    (cap : List (List W)) (o : SaltedOpening T W) : Type 0 where
   pub salted : HaveSalts dimensions o.rows o.salts
   pub can_widen : CanWiden e dimensions
   pub accepted : IsAccepted c cap (joined o)
 
 -- the same of several indices
-pub record IsSaltedPrunedAccepted {T W : Type 0} (e : ℕ) (dimensions : List Dimensions) (c : Terms T W) (cap : List (List W)) (p : SaltedPruned T W) : Type 0 where
+pub record IsSaltedPrunedAccepted {T W : Type 0} (e : ℕ) (dimensions : List Dimensions) (c : Terms T W)
+    (cap : List (List W)) (p : SaltedPruned T W) : Type 0 where
   pub in_pairs : length p.salts ≡ length p.rows
   pub salted : AllZip (HaveSalts dimensions) p.rows p.salts
   pub can_widen : CanWiden e dimensions

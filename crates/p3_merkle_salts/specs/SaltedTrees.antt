@@ -22,7 +22,12 @@ module _ {T A B : Type 0} {a : Ghosts A T} {b : Ghosts B T} where
 
   -- a pair, seen as one matrix
   abbrev pub pair_matrix : HorizontalPair T A B a b → Matrix T
-  pair_matrix p = record { height = a.height_of (left_of p); width = a.width_of (left_of p) + b.width_of (right_of p); row = pair_row a.row_of b.row_of (left_of p) (right_of p) }
+  pair_matrix p =
+      record {
+        height = a.height_of (left_of p);
+        width = a.width_of (left_of p) + b.width_of (right_of p);
+        row = pair_row a.row_of b.row_of (left_of p) (right_of p);
+      }
 
   -- each matrix has e salts a row
   abbrev pub HaveSaltColumns : ℕ → List (HorizontalPair T A B a b) → Type 0

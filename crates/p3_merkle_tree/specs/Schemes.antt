@@ -11,7 +11,8 @@ use Rattle.p3_merkle_core.specs.declared.cap.CapRule.{CapRule}
 use Rattle.p3_merkle_core.specs.Nodes.{Functions, functions_of}
 use Rattle.p3_merkle_tree.specs.declared.mmcs.Scheme.{Scheme}
 
-module _ {P PW H C X G V W : Type 0} {N : ℕ} {p : packed.Ghosts P V} {pd : default.Ghosts V} {pe : equality.Ghosts V} {q : packed.Ghosts PW W} {qd : default.Ghosts W} {qe : equality.Ghosts W} where
+module _ {P PW H C X G V W : Type 0} {N : ℕ} {p : packed.Ghosts P V} {pd : default.Ghosts V} {pe : equality.Ghosts V}
+    {q : packed.Ghosts PW W} {qd : default.Ghosts W} {qe : equality.Ghosts W} where
   -- the hasher that a scheme was made of
   abbrev pub hash_of : Scheme P PW H C X G N V W p pd pe q qd qe → H
   hash_of scheme = scheme.hash
@@ -33,15 +34,19 @@ module _ {P PW H C X G V W : Type 0} {N : ℕ} {p : packed.Ghosts P V} {pd : def
   proof_layer scheme s = cap_layer s scheme.cap_rule scheme.cap_height
 
   -- what its hasher and its compression compute, and the digest of d default words
-  abbrev pub scheme_functions : (H → List V → List W) → (C → List (List W) → List W) → ℕ → Scheme P PW H C X G N V W p pd pe q qd qe → Functions V W
-  scheme_functions hash compression d scheme = functions_of (hash scheme.hash) (compression scheme.compress) (replicate d q.default_value)
+  abbrev pub scheme_functions : (H → List V → List W) → (C → List (List W) → List W) → ℕ →
+      Scheme P PW H C X G N V W p pd pe q qd qe → Functions V W
+  scheme_functions hash compression d scheme =
+      functions_of (hash scheme.hash) (compression scheme.compress) (replicate d q.default_value)
 
   -- the terms of its checks over a tree of this shape
-  abbrev pub terms_over : (H → List V → List W) → (C → List (List W) → List W) → ℕ → Scheme P PW H C X G N V W p pd pe q qd qe → Shape → Terms V W
+  abbrev pub terms_over : (H → List V → List W) → (C → List (List W) → List W) → ℕ →
+      Scheme P PW H C X G N V W p pd pe q qd qe → Shape → Terms V W
   terms_over hash compression d scheme s = terms (scheme_functions hash compression d scheme) s (proof_layer scheme s)
 
   -- the terms of its checks over matrices of these dimensions
-  abbrev pub terms_of : (H → List V → List W) → (C → List (List W) → List W) → ℕ → Scheme P PW H C X G N V W p pd pe q qd qe → List Dimensions → Terms V W
+  abbrev pub terms_of : (H → List V → List W) → (C → List (List W) → List W) → ℕ →
+      Scheme P PW H C X G N V W p pd pe q qd qe → List Dimensions → Terms V W
   terms_of hash compression d scheme dimensions = terms_over hash compression d scheme (shape_of N dimensions)
 
   -- the layer that is its cap over matrices of these dimensions
@@ -49,7 +54,8 @@ module _ {P PW H C X G V W : Type 0} {N : ℕ} {p : packed.Ghosts P V} {pd : def
   cap_of scheme dimensions = proof_layer scheme (shape_of N dimensions)
 
 -- two schemes have one hasher, one compression, one cap height and one rule
-pub record IsSameScheme {P PW H C X G V W : Type 0} {N : ℕ} {p : packed.Ghosts P V} {pd : default.Ghosts V} {pe : equality.Ghosts V} {q : packed.Ghosts PW W} {qd : default.Ghosts W} {qe : equality.Ghosts W}
+pub record IsSameScheme {P PW H C X G V W : Type 0} {N : ℕ} {p : packed.Ghosts P V} {pd : default.Ghosts V}
+    {pe : equality.Ghosts V} {q : packed.Ghosts PW W} {qd : default.Ghosts W} {qe : equality.Ghosts W}
     (s t : Scheme P PW H C X G N V W p pd pe q qd qe) : Type 0 where
   pub same_hash : hash_of s ≡ hash_of t
   pub same_compression : compression_of s ≡ compression_of t

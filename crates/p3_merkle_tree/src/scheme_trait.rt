@@ -13,6 +13,7 @@ ghost use Rattle.p3_merkle_tree.specs.Inner.CommitmentLaws.{at_same, each_shown,
 ghost use Rattle.p3_merkle_tree.specs.Schemes.{cap_of, scheme_functions, terms_of, terms_over, IsSameScheme};
 ghost use Rattle.p3_support.specs.Batches.{greatest};
 ghost use Rattle.p3_support.specs.Shown.{roots_of};
+ghost use Rattle.p3_merkle_core.specs.Views.{opening_lent, heights_in};
 
 use crate::mmcs::MerkleTreeMmcs;
 use p3_merkle_builder::tree::{MerkleTree, Tree};
@@ -25,7 +26,6 @@ use p3_support::mmcs::Mmcs;
 use p3_support::opening::{BatchOpening, BatchOpeningRef, MerkleCap};
 use p3_support::packed::PackedValue;
 use std::alloc::Global;
-ghost use Rattle.p3_merkle_core.specs.Views.{opening_lent, heights_in};
 
 /// The calls of the scheme. What is committed to is a tree, and a commitment is its cap.
 impl<

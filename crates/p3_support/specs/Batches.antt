@@ -19,7 +19,8 @@ widths_of dimensions = map (λ d. d.width) dimensions
 abbrev pub dimensions_in : {M : Type 0} → (M → ℕ) → (M → ℕ) → List M → List Dimensions
 dimensions_in height width ms = map (λ m. record { width = width m; height = height m }) ms
 
--- of each matrix the row that belongs to an index: its number follows from the greatest height, the matrix's own and the index
+-- of each matrix the row that belongs to an index: its number follows from the greatest height, the matrix's own and
+-- the index
 abbrev pub rows_in : {T M : Type 0} → (M → ℕ) → (M → ℕ → List T) → (ℕ → ℕ → ℕ → ℕ) → ℕ → List M → ℕ → List (List T)
 rows_in height row row_at top ms index = map (λ m. row m (row_at top (height m) index)) ms
 

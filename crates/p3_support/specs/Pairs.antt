@@ -20,5 +20,8 @@ module _ {T A B : Type 0} (left_row : A → ℕ → List T) (right_row : B → �
   pair_row left right r = left_row left r ++ right_row right r
 
   -- it is as long as the two together
-  pub length-pair_row : (left : A) (right : B) (r v w : ℕ) → length (left_row left r) ≡ v → length (right_row right r) ≡ w → length (pair_row left right r) ≡ v + w
-  length-pair_row left right r v w long wide = length-append (left_row left r) (right_row right r) ∙ ap (λ n. n + length (right_row right r)) long ∙ ap (λ n. v + n) wide
+  pub length-pair_row : (left : A) (right : B) (r v w : ℕ) → length (left_row left r) ≡ v →
+      length (right_row right r) ≡ w → length (pair_row left right r) ≡ v + w
+  length-pair_row left right r v w long wide =
+      length-append (left_row left r) (right_row right r) ∙ ap (λ n. n + length (right_row right r)) long
+      ∙ ap (λ n. v + n) wide
