@@ -2,7 +2,7 @@
 
 ghost use Rattle.std.specs.Prelude.{◌≡◌, IsTrue};
 ghost use Rattle.p3_support.specs.Shown.{roots_of, row_sets};
-ghost use Rattle.p3_merkle_builder.specs.Parts.{layers_of, matrices_of};
+ghost use Rattle.p3_merkle_tree.specs.Parts.{layers_of, matrices_of};
 ghost use Rattle.p3_merkle_tree.specs.Schemes.{cap_height_of, cap_rule_of, scheme_functions};
 ghost use Rattle.mmcs_text.specs.Matrices.{stored_batch};
 ghost use Rattle.mmcs_text.specs.Words.{is_taken_arity};

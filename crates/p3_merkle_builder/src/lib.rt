@@ -1,7 +1,7 @@
 //! The tree over a batch of matrices: how it is built, and what it opens of one leaf and of several.
 #![tactic(auto)]
 
-pub mod copy;
+mod copy;
 pub mod opener;
 pub mod pruned;
 pub mod tree;

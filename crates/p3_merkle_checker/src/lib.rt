@@ -5,12 +5,12 @@
 //! nothing of a scheme but these and the cap's layer.
 #![tactic(auto)]
 
-pub mod collision;
-pub mod extraction;
-pub mod form;
+mod collision;
+mod extraction;
+mod form;
 pub mod level;
 mod opened;
 pub mod openings;
 pub mod path;
 pub mod roots;
-pub mod walk;
+mod walk;

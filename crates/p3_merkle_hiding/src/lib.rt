@@ -7,7 +7,7 @@ mod extract;
 mod fork;
 pub mod hiding_mmcs;
 mod open;
-pub mod salted;
+mod salted;
 mod salting;
 mod scheme_trait;
 mod verify;

@@ -8,6 +8,6 @@ mod leads;
 mod leaves;
 mod level;
 pub mod paths;
-pub mod plan;
-pub mod restored;
+mod plan;
+mod restored;
 mod rows;

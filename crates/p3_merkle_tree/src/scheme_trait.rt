@@ -1,6 +1,6 @@
 //! The scheme as one of the schemes that commit to matrices.
 
-ghost use Rattle.std.specs.Prelude.{◌≡◌, ◌<◌, All, IfErr, IfOk, IsOk};
+ghost use Rattle.std.specs.Prelude.{◌≡◌, ◌<◌, All, IfErr, IfOk, IsOk, map};
 ghost use Rattle.p3_merkle_builder.specs.Parts.{layers_of, matrices_of, tree_batch};
 ghost use Rattle.p3_merkle_core.specs.Commitments.{IsCommitment, IsShown};
 ghost use Rattle.p3_merkle_core.specs.Geometry.{heights, shape_of, IsLawful, halved_index};

@@ -1,4 +1,4 @@
-use Rattle.p3_merkle_builder.specs.Parts.{layers_of}
+use Rattle.p3_merkle_tree.specs.Parts.{layers_of}
 use Rattle.p3_support.specs.Shown.{roots_of}
 use Rattle.mmcs_engine.proofs.SchemeFacts.{built_alike, capped_alike, caps_alike}
 use Rattle.mmcs_engine.proofs.fold.FoldSuite.commit.Goals as goal
