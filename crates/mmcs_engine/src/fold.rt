@@ -12,13 +12,13 @@ ghost use Rattle.mmcs_engine.specs.Program.{fold_functions};
 use crate::suite::Suite;
 use mmcs_text::command::CapChoice;
 use mmcs_text::fault::Fault;
-use mmcs_text::input::{dimensions_of, read_matrices};
+use mmcs_text::input::read_matrices;
 use mmcs_text::text::{push_rows, push_word_digests};
 use p3_instances::fold::{FoldCompress, FoldHash};
 use p3_merkle_tree::{MerkleCap, MerkleTree, MerkleTreeError, MerkleTreeMmcs, PrunedBatchOpening};
 use p3_support::compress::PseudoCompressionFunction;
 use p3_support::hasher::CryptographicHasher;
-use p3_support::matrix::{Dimensions, RowMajorMatrix};
+use p3_support::matrix::{Dimensions, RowMajorMatrix, dimensions_of};
 use std::alloc::{AllocError, Global};
 
 /// The scheme of the fold functions, under this choice of a cap. The arity is 2, 4 or 8.

@@ -4,6 +4,7 @@ use Rattle.std.specs.Prelude.{slice_index_or, flat_map}
 use Rattle.std.specs.List.{AllZip}
 use Rattle.std.specs.declared.vec.Vec.{Vec}
 use Rattle.p3_support.specs.declared.matrix.RowMajorMatrix.{RowMajorMatrix}
+use Rattle.p3_support.specs.Batches.{dimensions_in}
 use Rattle.p3_support.specs.Lists.{message}
 use Rattle.p3_support.specs.RowMajor.{values_of, row_width, row_count}
 use Rattle.std.proofs.lemmas.List.{length-map, get_or-map, map-id}
@@ -56,6 +57,6 @@ rows_plain [] = refl
 rows_plain (row ∷ rows) = λ i. map-id row.items i ∷ rows_plain rows i
 
 -- the dimensions of stored matrices
-pub stored_dimensions : (stored : List (RowMajorMatrix ℕ)) (arity : ℕ) → map (λ m. record { width = row_width m; height = row_count m }) stored ≡ (shape (stored_batch arity stored)).dimensions
+pub stored_dimensions : (stored : List (RowMajorMatrix ℕ)) (arity : ℕ) → dimensions_in row_count row_width stored ≡ (shape (stored_batch arity stored)).dimensions
 stored_dimensions [] arity = refl
 stored_dimensions (m ∷ stored) arity = ap (λ ds. record { width = row_width m; height = row_count m } ∷ ds) (stored_dimensions stored arity)

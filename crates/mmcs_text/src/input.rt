@@ -3,7 +3,6 @@
 ghost use Rattle.std.specs.Prelude.{◌≡◌, ◌⊎◌, ℕ, ◌+◌, ◌*◌, ◌<◌, ◌==◌, false, List, [], ◌∷◌, ◌++◌, map, length, take, ◌≤◌, All, IfOk, IfErr, IfSome, IfNone, OnOk};
 ghost use Rattle.std.specs.List.{slice_split};
 ghost use Rattle.std.specs.Str.Lines.{strip_carriage_return};
-ghost use Rattle.p3_support.specs.RowMajor.{row_count, row_width};
 ghost use Rattle.p3_merkle_core.specs.declared.error.MerkleTreeError.TheVariants.{OutOfMemory};
 ghost use Rattle.mmcs_text.specs.declared.fault.Fault.TheVariants.{Tree};
 ghost use Rattle.mmcs_text.specs.Numbers.{IsNumberBelow, IsRead};
@@ -13,7 +12,7 @@ ghost use Rattle.mmcs_text.specs.Matrices.{matrix_of_rows, stored_matrix};
 
 use crate::fault::Fault;
 use crate::word::Word;
-use p3_support::matrix::{Dimensions, Matrix, RowMajorMatrix};
+use p3_support::matrix::RowMajorMatrix;
 use std::alloc::{AllocError, Global};
 use std::mem;
 
@@ -239,22 +238,4 @@ pub fn read_matrices<W: Word>(alloc: Global, input: &[u8]) -> Result<Vec<RowMajo
         matrices.push(matrix)?;
     }
     Ok(matrices)
-}
-
-/// The dimensions of matrices, in their order.
-///
-/// # Errors
-///
-/// `AllocError` where there is no memory.
-pub fn dimensions_of<T: Copy>(
-    alloc: Global,
-    matrices: &[RowMajorMatrix<T>],
-) -> Result<Vec<Dimensions>, AllocError>
-    ensures { IfOk result (λ dimensions.
-        dimensions.items ≡ map (λ m. record { width = row_width m; height = row_count m }) matrices.now) }
-{
-    matrices
-        .iter()
-        .map(|matrix| matrix.dimensions())
-        .collect(alloc)
 }

@@ -15,7 +15,7 @@ use crate::opener::rows_of_index;
 use crate::tree::Tree;
 use p3_merkle_core::error::MerkleTreeError;
 use p3_merkle_core::pruning::{boundary_len_of, climb, covered_leaves};
-use p3_merkle_layers::levels::dimensions_of;
+use p3_merkle_layers::levels::batch_dimensions;
 use p3_support::matrix::Matrix;
 use std::alloc::Global;
 ghost use Rattle.p3_merkle_core.specs.Pruning.{boundary_by};
@@ -66,7 +66,7 @@ pub fn digests_of_boundary<F, X: Copy, G, M: Matrix<F>, const N: usize>(
     ensures memory { AnswersUnlessMemory result None }
 {
     let mut covered = covered_leaves(alloc, indices)?;
-    let dimensions = dimensions_of(alloc, &tree.matrices)?;
+    let dimensions = batch_dimensions(alloc, &tree.matrices)?;
     let leaves = Vec::from_slice(alloc, &covered)?;
     let mut digests = Vec::with_capacity(alloc, boundary_len_of(&dimensions, N, t, leaves))?;
     for level in 0..t {

@@ -12,7 +12,7 @@ ghost use Rattle.p3_merkle_core.specs.Views.{batch_of};
 use p3_merkle_core::error::MerkleTreeError;
 use p3_merkle_core::geometry::check_heights;
 use p3_merkle_layers::layers::{Builder, Stack};
-use p3_merkle_layers::levels::dimensions_of;
+use p3_merkle_layers::levels::batch_dimensions;
 use p3_support::compress::PseudoCompressionFunction;
 use p3_support::hasher::CryptographicHasher;
 use p3_support::matrix::Matrix;
@@ -104,7 +104,7 @@ impl<F: Copy, W: Copy, M: Matrix<F> + Drop, const N: usize, const D: usize> Merk
             let b = batch_of M.height_of M.width_of M.row_of N leaves.items in
             IfOk result (λ tree. layers_of tree ≡ layers_over f b) }
     {
-        let dimensions = dimensions_of(alloc, &leaves)?;
+        let dimensions = batch_dimensions(alloc, &leaves)?;
         check_heights(&dimensions)?;
         let builder = Builder::<(P, PW), H, C, M, [[W; D]; N]> {
             hash,

@@ -2,6 +2,7 @@ pub mod ShapeFacts
 pub mod LeastFacts
 pub mod GateFacts
 pub mod ArityFacts
+pub mod ViewFacts
 pub mod StepFacts
 pub mod LadderFacts
 pub mod RawFacts

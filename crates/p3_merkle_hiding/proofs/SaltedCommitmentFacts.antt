@@ -16,7 +16,7 @@ use Rattle.p3_merkle_core.specs.declared.error.MerkleTreeError.{MerkleTreeError}
 use Rattle.p3_merkle_core.specs.declared.error.MerkleTreeError.TheVariants.{OutOfMemory}
 use Rattle.p3_merkle_core.proofs.GateFacts.{gate_lawful}
 use Rattle.p3_merkle_core.proofs.NoneFacts.{none_of_both, none_parts}
-use Rattle.p3_merkle_tree.specs.Inner.CommitmentLaws.{dimensions_are}
+use Rattle.p3_merkle_core.proofs.ViewFacts.{dimensions_are}
 use Rattle.p3_merkle_hiding.proofs.SaltedAnswers.{widening}
 use Rattle.p3_merkle_salts.specs.SaltRefusals.{salted_commit_refusal, widening_refusal}
 use Rattle.p3_merkle_hiding.specs.SaltedCommitments.{CanCommitSalted, IsSaltedCommitment}
@@ -28,12 +28,12 @@ module _ {T M : Type 0} (height width : M → ℕ) (row : M → ℕ → List T) 
   none_when none =
       let ds = dimensions_of (map (matrix_of height width row) ms) in
       let both = none_parts (gate_refusal (heights_of ds)) (widening_refusal e ds) none in
-      record { lawful = (gate_lawful (heights_of ds)).0 both.0; can_widen = subst (CanWiden e) (dimensions_are height width row 0 ms) ((widening e ds).0 both.1) }
+      record { lawful = (gate_lawful (heights_of ds)).0 both.0; can_widen = subst (CanWiden e) (dimensions_are height width row ms) ((widening e ds).0 both.1) }
 
   when_none : CanCommitSalted height width row e ms → salted_commit_refusal e (dimensions_of (map (matrix_of height width row) ms)) ≡ None
   when_none w =
       let ds = dimensions_of (map (matrix_of height width row) ms) in
-      none_of_both (gate_refusal (heights_of ds)) (widening_refusal e ds) ((gate_lawful (heights_of ds)).1 w.lawful) ((widening e ds).1 (subst (CanWiden e) (sym (dimensions_are height width row 0 ms)) w.can_widen))
+      none_of_both (gate_refusal (heights_of ds)) (widening_refusal e ds) ((gate_lawful (heights_of ds)).1 w.lawful) ((widening e ds).1 (subst (CanWiden e) (sym (dimensions_are height width row ms)) w.can_widen))
 
   -- Ok is answered of such matrices alone
   pub can_when_ok : {A : Type 0} (r : Result A MerkleTreeError) → AnswersUnlessMemory r (salted_commit_refusal e (dimensions_of (map (matrix_of height width row) ms))) → IfOk r (λ made. CanCommitSalted height width row e ms)

@@ -12,7 +12,7 @@ ghost use Rattle.p3_merkle_salts.specs.SaltedTrees.{pair_matrix, HaveSaltColumns
 
 use p3_merkle_core::error::MerkleTreeError;
 use p3_merkle_core::geometry::check_heights;
-use p3_merkle_layers::levels::dimensions_of;
+use p3_merkle_layers::levels::batch_dimensions;
 use p3_merkle_salts::salting::salted_pairs;
 use p3_merkle_salts::salts::check_widening;
 use p3_support::matrix::{Matrix, RowMajorMatrix};
@@ -51,7 +51,7 @@ pub(crate) fn checked_pairs<T: SaltWord, M: Matrix<T> + Drop, R: Rng>(
         IsAfterSome salt_elems ms (R.stream rng.old) (R.stream rng.new) }
     ensures untouched { IfErr result (λ e. (e ≡ OutOfMemory) ⊎ (rng.new ≡ rng.old)) }
 {
-    let dimensions = dimensions_of(alloc, &matrices)?;
+    let dimensions = batch_dimensions(alloc, &matrices)?;
     check_heights(&dimensions)?;
     check_widening(&dimensions, salt_elems)?;
     let pairs = salted_pairs(alloc, rng, salt_elems, matrices)?;

@@ -1,12 +1,13 @@
 //! Matrices, seen as their height, their width and their rows.
-ghost use Rattle.std.specs.Prelude.{◌≡◌, ℕ, ◌+◌, ◌*◌, ◌<◌, ◌≤◌, ◌^◌, List, length, map, slice_get, slice_index_or, IfSome, Some};
+ghost use Rattle.std.specs.Prelude.{◌≡◌, ℕ, ◌+◌, ◌*◌, ◌<◌, ◌≤◌, ◌^◌, List, length, map, slice_get, slice_index_or, IfOk, IfSome, Some};
 ghost use Rattle.std.specs.List.{flat_map, range_with_len};
 ghost use Rattle.std.specs.Iterator.{YieldsFirst, YieldsFirstBy, item_count};
+ghost use Rattle.p3_support.specs.Batches.{dimensions_in};
 ghost use Rattle.p3_support.specs.Lists.{message, column_of_rows, columns};
 ghost use Rattle.p3_support.specs.Inner.RowLengths.{length-message};
 
 use crate::packed::PackedValue;
-use std::alloc::AllocError;
+use std::alloc::{AllocError, Global};
 use std::marker::{Model, PhantomData};
 
 /// The size of a matrix.
@@ -330,4 +331,22 @@ impl<T: Copy> Matrix<T> for RowMajorMatrix<T> {
     }
 
     ghost length_row_of = { λ m r h. length-message m.values.items m.width m.height r m.full h };
+}
+
+/// The dimensions of matrices, in input order.
+///
+/// # Errors
+///
+/// `AllocError` where there is no memory.
+pub fn dimensions_of<T, M: Matrix<T>>(
+    alloc: Global,
+    matrices: &[M],
+) -> Result<Vec<Dimensions>, AllocError>
+    ensures { IfOk result (λ v. v.items ≡ dimensions_in M.height_of M.width_of matrices.now) }
+{
+    let mut dimensions = Vec::with_capacity(alloc, matrices.len())?;
+    for matrix in matrices {
+        dimensions.push(matrix.dimensions())?;
+    }
+    Ok(dimensions)
 }

@@ -86,7 +86,7 @@ pub fn numbered(alloc: Global, sizes: &[(usize, usize)]) -> Result<Vec<Numbers>,
 }
 
 /// The dimensions of matrices of these widths and heights.
-pub fn dimensions_of(
+pub fn dimensions_with(
     alloc: Global,
     sizes: &[(usize, usize)],
 ) -> Result<Vec<Dimensions>, AllocError> {

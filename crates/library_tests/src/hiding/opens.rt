@@ -2,7 +2,7 @@
 
 use crate::hiding::counting::Counting;
 use crate::hiding::fixtures::{
-    Cap, OneSalt, Opening, Salted, Tree, cap_of, columns, dimensions_of, one_salt, opened,
+    Cap, OneSalt, Opening, Salted, Tree, cap_of, columns, dimensions_with, one_salt, opened,
     opened_together, opening, sets, values_of,
 };
 use p3_instances::fold::{FoldCompress, FoldHash};
@@ -111,7 +111,7 @@ fn assert_opened_alone(
 ) -> Result<(), Fail> {
     let found = opened(alloc, scheme, 1, tree)?;
     assert_opening(rt, alloc, &found, &[&[5], &[2]], &[&[10], &[30]], &[1012])?;
-    let sizes = dimensions_of(alloc, &[(1, 1), (1, 2)])?;
+    let sizes = dimensions_with(alloc, &[(1, 1), (1, 2)])?;
     scheme.verify_batch(alloc, cap, &sizes, 1, BatchOpeningRef::from(&found))?;
     Ok(())
 }
@@ -126,7 +126,7 @@ fn assert_opened_together(
 ) -> Result<(), Fail> {
     let (rows, mut proof) = opened_together(alloc, scheme, &[1, 0], tree)?;
     assert!(rt; proof.1.sibling_hashes.is_empty());
-    let sizes = dimensions_of(alloc, &[(1, 1), (1, 2)])?;
+    let sizes = dimensions_with(alloc, &[(1, 1), (1, 2)])?;
     scheme.verify_multi_batch(alloc, cap, &sizes, &[1, 0], &rows, &proof)?;
     proof.0 = sets(alloc, &[&[&[11], &[30]], &[&[10], &[20]]])?;
     let refused = scheme.verify_multi_batch(alloc, cap, &sizes, &[1, 0], &rows, &proof);
@@ -158,7 +158,7 @@ static RULES: [(CapRule, &[u32], &[u32]); 2] = [
 #[test]
 fn a_cap_is_lowered_to_the_last_matrix_or_fixed(rt: HostRuntime) -> Result<(), Fail> {
     let alloc = rt.alloc();
-    let sizes = dimensions_of(alloc, &[(1, 2), (1, 1)])?;
+    let sizes = dimensions_with(alloc, &[(1, 2), (1, 1)])?;
     for (rule, roots, siblings) in &RULES {
         let mut scheme = OneSalt::new_with_rule(FoldHash, FoldCompress, 1, Counting(0), *rule);
         assert_eq!(rt; scheme.cap_height(), 1);

@@ -1,6 +1,6 @@
 //! Random rows and random salts, from seeds that are written here.
 
-use crate::hiding::fixtures::{Salted, columns, dimensions_of, opened, opened_together};
+use crate::hiding::fixtures::{Salted, columns, dimensions_with, opened, opened_together};
 use p3_instances::fold::{FoldCompress, FoldHash};
 use p3_merkle_tree::BatchOpeningRef;
 use p3_support::matrix::RowMajorMatrix;
@@ -69,7 +69,7 @@ fn an_opening_of_ten_widths_is_accepted(rt: HostRuntime) -> Result<(), Fail> {
     for salts in &found.opening_proof.0 {
         assert_eq!(rt; salts.len(), 4);
     }
-    let sizes = dimensions_of(alloc, &TEN)?;
+    let sizes = dimensions_with(alloc, &TEN)?;
     scheme.verify_batch(alloc, &cap, &sizes, 17, BatchOpeningRef::from(&found))?;
     Ok(())
 }
@@ -87,7 +87,7 @@ fn openings_of_several_widths_are_accepted(rt: HostRuntime) -> Result<(), Fail> 
             [2usize, 3, 4].as_slice()
         );
     }
-    let sizes = dimensions_of(alloc, &THREE)?;
+    let sizes = dimensions_with(alloc, &THREE)?;
     scheme.verify_multi_batch(alloc, &cap, &sizes, &indices, &rows, &proof)?;
     Ok(())
 }

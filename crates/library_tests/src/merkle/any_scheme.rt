@@ -6,25 +6,11 @@ ghost use Rattle.p3_support.specs.Batches.{dimensions_in, greatest};
 use crate::merkle::fixtures::numbered;
 use p3_instances::fold::{FoldCompress, FoldHash};
 use p3_merkle_tree::MerkleTreeMmcs;
-use p3_support::matrix::{Dimensions, Matrix};
+use p3_support::matrix::{Dimensions, Matrix, dimensions_of};
 use p3_support::mmcs::Mmcs;
 use p3_support::opening::BatchOpeningRef;
-use std::alloc::{AllocError, Global};
+use std::alloc::Global;
 use std::test::Fail;
-
-/// The dimensions of matrices, in input order.
-fn dimensions_of<T, M: Matrix<T>>(
-    alloc: Global,
-    matrices: &[M],
-) -> Result<Vec<Dimensions>, AllocError>
-    ensures { IfOk result (λ v. v.items ≡ dimensions_in M.height_of M.width_of matrices.now) }
-{
-    let mut dimensions = Vec::with_capacity(alloc, matrices.len())?;
-    for matrix in matrices {
-        dimensions.push(matrix.dimensions())?;
-    }
-    Ok(dimensions)
-}
 
 /// Commits to matrices of these dimensions, opens an index alone and among others, and has both openings checked by a
 /// scheme that agrees with the committer's: whether the matrices have such an index.

@@ -76,11 +76,6 @@ module _ {T M : Type 0} (height width : M → ℕ) (row : M → ℕ → List T) 
   greatest_is [] = refl
   greatest_is (m ∷ ms) = rw (greatest_is ms) refl
 
-  -- the dimensions are those of the batch
-  pub dimensions_are : (ms : List M) → dimensions_of (map (matrix_of height width row) ms) ≡ dimensions_in height width ms
-  dimensions_are [] = refl
-  dimensions_are (m ∷ ms) = ap (λ ds. record { width = width m; height = height m } ∷ ds) (dimensions_are ms)
-
   -- of matrices beside a tallest one, the rows of a batch are those of the matrices
   rows_beside : (tall index : ℕ) (ms : List M) → map (λ m. m.row (halved_index tall m.height index)) (map (matrix_of height width row) ms) ≡ map (λ m. row m (halved_index tall (height m) index)) ms
   rows_beside tall index [] = refl

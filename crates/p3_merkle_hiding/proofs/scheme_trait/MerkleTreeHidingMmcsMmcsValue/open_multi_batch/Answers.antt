@@ -6,7 +6,8 @@ use Rattle.p3_merkle_core.specs.Commitments.{cap_over}
 use Rattle.p3_support.specs.Shown.{roots_of, row_sets}
 use Rattle.p3_support.specs.declared.matrix.Dimensions.{Dimensions}
 use Rattle.p3_merkle_builder.specs.Parts.{matrices_of, tree_batch}
-use Rattle.p3_merkle_tree.specs.Inner.CommitmentLaws.{dimensions_are, rows_are}
+use Rattle.p3_merkle_tree.specs.Inner.CommitmentLaws.{rows_are}
+use Rattle.p3_merkle_core.proofs.ViewFacts.{dimensions_are}
 use Rattle.p3_merkle_tree.specs.Schemes.{terms_of}
 use Rattle.p3_merkle_hiding.proofs.SplitFacts.{wide_is}
 use Rattle.p3_merkle_hiding.specs.HidingSchemes.{plain_of, salted_pruned_made}
@@ -32,4 +33,4 @@ returns-clause-accepted g c = λ commitment own.
     let cap = ap (λ z. cap_over (terms z) b) (sym (wide_is n e pairs own.columns)) ∙ sym own.committed.own_cap in
     let under_cap = subst (λ (roots : List (List _)). IfOk r (λ o. IsSaltedPrunedAccepted e ds (terms (widened e ds)) roots (salted_pruned_made is o.0 o.1))) cap (c.open_multi_batch.ensures.accepted own.committed.own_layers own.columns) in
     subst (λ (z : List Dimensions). IfOk r (λ o. IsSaltedPrunedAccepted e z (terms (widened e z)) (roots_of commitment) (salted_pruned_made is o.0 o.1)))
-    (dimensions_are g.M.Matrix.height_of g.M.Matrix.width_of g.M.Matrix.row_of n (map left_of pairs)) under_cap
+    (dimensions_are g.M.Matrix.height_of g.M.Matrix.width_of g.M.Matrix.row_of (map left_of pairs)) under_cap

@@ -6,7 +6,8 @@ use Rattle.p3_merkle_core.specs.Geometry.{shape_of}
 use Rattle.p3_merkle_core.specs.Nodes.{shape}
 use Rattle.p3_merkle_core.specs.Pruning.{IsPrunedAccepted, PrunedOpening}
 use Rattle.p3_merkle_builder.specs.Parts.{matrices_of, tree_batch}
-use Rattle.p3_merkle_tree.specs.Inner.CommitmentLaws.{dimensions_are, rows_are}
+use Rattle.p3_merkle_tree.specs.Inner.CommitmentLaws.{rows_are}
+use Rattle.p3_merkle_core.proofs.ViewFacts.{dimensions_are}
 use Rattle.p3_merkle_tree.specs.Schemes.{terms_over}
 use Rattle.p3_merkle_core.specs.Views.{pruned_made}
 use Rattle.p3_merkle_core.specs.Checks.{terms}
@@ -25,4 +26,4 @@ returns-clause-accepted g c = λ commitment own.
     let made = pruned_made c.args.indices.now c.in_ok-opening.opening in
     let under_cap = subst (λ (cap : List (List _)). IsPrunedAccepted (over (shape (tree_batch tree))) cap made) (sym own.own_cap) (c.in_ok-opening.ensures.accepted own.own_layers) in
     subst (λ (ds : List Dimensions). IsPrunedAccepted (over (shape_of g.row.N ds)) (roots_of commitment) made)
-    (dimensions_are g.M.Matrix.height_of g.M.Matrix.width_of g.M.Matrix.row_of g.row.N (matrices_of tree)) under_cap
+    (dimensions_are g.M.Matrix.height_of g.M.Matrix.width_of g.M.Matrix.row_of (matrices_of tree)) under_cap
