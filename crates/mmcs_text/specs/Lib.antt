@@ -3,4 +3,5 @@ pub mod Input
 pub mod Words
 pub mod Text
 pub mod Matrices
+pub mod Faults
 pub mod Inner

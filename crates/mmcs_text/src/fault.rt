@@ -3,7 +3,7 @@
 ghost use Rattle.std.specs.Prelude.{◌≡◌};
 ghost use Rattle.p3_merkle_core.specs.declared.error.MerkleTreeError.TheVariants.{OutOfMemory};
 ghost use Rattle.mmcs_text.specs.declared.fault.Fault.TheVariants.{Tree};
-ghost use Rattle.mmcs_text.specs.Inner.Faults.{status_of};
+ghost use Rattle.mmcs_text.specs.Faults.{status_of};
 
 use p3_merkle_core::error::MerkleTreeError;
 use std::alloc::{AllocError, AllocFailed};

@@ -9,7 +9,7 @@ use Rattle.p3_merkle_core.specs.Openings.{Opening, honest, siblings_by, opening_
 use Rattle.p3_merkle_core.specs.Checks.{Input, AgreeWhereShared, HasDigests, IsAccepted, IsAtOnePlace, IsLastShared, inputs, is_authenticated, opened_row, path_digest, input_digest, check_digest, last_input, terms, Terms}
 use Rattle.p3_merkle_core.specs.Pruning.{PrunedOpening, CanQuery, IsHonestQuery, IsCapped, IsUncovered, EachAccepted, Suffices, boundary, honest_query, is_covered, is_in, is_under, opening_at, restored_node, restored_path, IsGivenUnder, IsLeast, IsRestorable, IsPrunedAccepted, restored_paths, pruned_in_layers, pruned_len}
 use Rattle.p3_merkle_core.specs.Refusals.{IsEquality, answer_under, pruned_answer, pruned_answer_under}
-use Rattle.p3_merkle_core.specs.Extraction.{first_pair, IsExtraction, extraction, AnswerAlike}
+use Rattle.p3_merkle_core.specs.Extraction.{IsExtraction, extraction, AnswerAlike}
 use Rattle.p3_merkle_core.specs.Presented.{presented, presented_pruned}
 use Rattle.p3_merkle_core.specs.declared.error.MerkleTreeError.{MerkleTreeError}
 use Rattle.p3_merkle_core.specs.declared.error.MerkleTreeError.TheVariants.{CapMismatch}

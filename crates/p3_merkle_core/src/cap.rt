@@ -44,8 +44,8 @@ pub fn cap_layer_of(
     steps_of(dimensions, arity).cap_layer(rule, cap_height)
 }
 
-/// As [`Steps::cap_layer`], of a tree of so many levels, whose shortest matrix has `min_height` rows. No step above that matrix's layer
-/// is a bridge step.
+/// As [`Steps::cap_layer`], of a tree of so many levels, whose shortest matrix has `min_height` rows. No step above that
+/// matrix's layer is a bridge step.
 pub fn cap_layer_at(
     num_levels: usize,
     min_height: usize,

@@ -6,7 +6,6 @@ ghost use Rattle.std.specs.Prelude.{◌≡◌, ◌↔◌, IsTrue};
 ghost use Rattle.p3_merkle_core.specs.Refusals.{IsEquality};
 ghost use Rattle.p3_merkle_core.specs.Views.{IsSamePair, shown_path};
 ghost use Rattle.p3_merkle_core.specs.Laws.{AnswerIsExtraction, AnsweredAsEachPath, BoundaryIsAlone, BoundaryIsLeast, BoundaryIsSmallest, BoundaryNodesAreApart, BoundaryNodesAreHeld, BoundarySuffices, CappedIsEachAccepted, FixedIsBelowRoot, HonestIsAccepted, HonestNodesAreRestored, HonestPathsAreRestored, HonestPathsInOrder, HonestQueryIsAccepted, HonestQueryIsCapped, InputsAreFull, LastDifferenceCollides, LastInputIsReached, LoweredLeavesNoneOut, MatricesHaveLayers, OkIsAccepted, OkIsCapped, OkIsEachAccepted, OkIsRestorable, OkOrCapMismatch, OneIndexIsBound, OwnOpeningIsHonest, OwnPrunedOpeningIsHonest, PrunedAnswerIsExtraction, RefusedUnderEachCap, RootIsAlone, RowsAreAncestors, RowsAreBound, RulesAgree, ScheduleStopsAtCap, TestedIsArity, UnrefusedIsLawful, WalkEnds};
-ghost use Rattle.p3_merkle_core.specs.Extraction.{extraction};
 
 use crate::collision::{Collision, InputPair, Place};
 use crate::error::{MerkleTreeError, PrunedProofError};

@@ -13,3 +13,4 @@ mod scheme_trait;
 mod verify;
 
 pub use hiding_mmcs::MerkleTreeHidingMmcs;
+pub use p3_merkle_salts::laws;

@@ -1,3 +1,4 @@
 mod LoopFacts
 pub mod SaltFacts
 mod SaltingFacts
+pub mod JoinedFacts

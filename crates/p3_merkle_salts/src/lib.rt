@@ -2,5 +2,6 @@
 #![tactic(auto)]
 
 pub mod pairs;
+pub mod laws;
 pub mod salting;
 pub mod salts;

@@ -34,8 +34,9 @@ use p3_support::packed::PackedValue;
 use std::alloc::Global;
 
 impl<P: PackedValue, PW: PackedValue, H, C, X, G, const N: usize> Scheme<P, PW, H, C, X, G, N> {
-    /// How many digests a pruned proof of some indices has, over matrices of these dimensions: one for each node that is
-    /// not above a queried leaf, and is a child of a node that is. No smaller set of such digests suffices.
+    /// How many digests a pruned proof of some indices has, over matrices of these dimensions: one for each node below
+    /// the cap's layer that is neither a queried leaf nor above one, and whose parent is above one. No smaller set of such
+    /// digests suffices.
     ///
     /// The indices come in any order, and again, too.
     ///
