@@ -1,5 +1,5 @@
 -- A stored matrix by its rows.
-use Rattle.std.proofs.Common.{◌≡◌, ℕ, ◌*◌, ◌/◌, ◌<◌, List, [], ◌∷◌, length, map, sym, ap, ◌∙◌, refl}
+use Rattle.std.proofs.Common.{◌≡◌, ℕ, ◌+◌, ◌-◌, ◌*◌, ◌/◌, ◌<◌, ◌≤◌, cond, nat_lt, List, [], ◌∷◌, length, map, take, sym, ap, ◌∙◌, refl, arith, inl, inr}
 use Rattle.std.specs.Prelude.{slice_index_or, flat_map}
 use Rattle.std.specs.List.{AllZip}
 use Rattle.std.specs.declared.vec.Vec.{Vec}
@@ -7,12 +7,15 @@ use Rattle.p3_support.specs.declared.matrix.RowMajorMatrix.{RowMajorMatrix}
 use Rattle.p3_support.specs.Batches.{dimensions_in}
 use Rattle.p3_support.specs.Lists.{message}
 use Rattle.p3_support.specs.RowMajor.{values_of, row_width, row_count}
-use Rattle.std.proofs.lemmas.List.{length-map, get_or-map, map-id}
+use Rattle.std.proofs.lemmas.Bool.{cases_lt, lt-ltb, le-ltb}
+use Rattle.std.proofs.lemmas.List.{drop_all, length-map, get_or-map, map-id}
 use Rattle.std.proofs.lemmas.List.Elements.{All-get_or}
-use Rattle.std.proofs.Math.Nat.{mul-div_cancel}
+use Rattle.std.proofs.Math.Nat.{mul-div_cancel, mul-le-mul_right}
+use Rattle.std.proofs.Math.Seq.{take-nil}
 use Rattle.mmcs_text.specs.Input.{numbers_of, StandsFor}
 use Rattle.mmcs_text.specs.Inner.Blocks.{IsBlock}
-use Rattle.p3_merkle_core.specs.Nodes.{shape}
+use Rattle.p3_merkle_core.specs.Nodes.{shape, Matrix}
+use Rattle.p3_merkle_core.specs.Views.{matrix_of}
 use Rattle.mmcs_text.specs.Matrices.{matrix_of_rows, stored_batch, stored_matrix}
 use Rattle.mmcs_text.proofs.RowsCut.{length_of_rows, row_range}
 
@@ -47,11 +50,36 @@ module _ {W : Type 0} (value : W → ℕ) where
       (matrices : List (List (List ℕ))) × StandsFor limit input matrices × (map (stored_matrix (map value)) stored ≡ map matrix_of_rows matrices)
   matrices_found limit input stored found = (found.0, found.1, matrices_shown stored found.0 found.2)
 
--- numbers are read as they are
-pub stored_plain : (stored : List (RowMajorMatrix ℕ)) → map (stored_matrix (λ words. words)) stored ≡ map (stored_matrix (map (λ n. n))) stored
-stored_plain stored = λ i. map (stored_matrix (λ words. sym (map-id words) i)) stored
+-- past the last row there are no values
+row_past : (m : RowMajorMatrix ℕ) (r : ℕ) → row_count m ≤ r → message (row_width m) (values_of m) r ≡ []
+row_past m r past =
+    let w = row_width m in
+    let far = mul-le-mul_right w past in
+    let full : length (values_of m) ≡ row_count m * w = m.full in
+    ap (take ((r + 1) * w - r * w)) (drop_all (r * w) (values_of m) (omega (arith, full, far))) ∙ take-nil ((r + 1) * w - r * w)
 
--- and so are rows of numbers
+-- so a row that is cut at the height is the stored one
+row_whole : (m : RowMajorMatrix ℕ) (r : ℕ) → cond (nat_lt r (row_count m)) (message (row_width m) (values_of m) r) [] ≡ message (row_width m) (values_of m) r
+row_whole m r =
+    elim (cases_lt r (row_count m)) [
+      | inl lt ↦ let there = lt-ltb r (row_count m) lt in rw there refl
+      | inr ge ↦ let none = le-ltb r (row_count m) ge in rw none (sym (row_past m r ge))
+    ]
+
+-- a matrix of a batch
+abbrev batched : RowMajorMatrix ℕ → Matrix ℕ
+batched = matrix_of row_count row_width (λ m r. message (row_width m) (values_of m) r)
+
+-- is the stored one, its numbers read as they are
+batched_is : (m : RowMajorMatrix ℕ) → batched m ≡ stored_matrix (map (λ n. n)) m
+batched_is m = λ i. record { height = row_count m; width = row_width m; row = λ r. (row_whole m r ∙ ap (λ vs. message (row_width m) vs r) (sym (map-id (values_of m)))) i }
+
+-- and so are several
+pub stored_plain : (stored : List (RowMajorMatrix ℕ)) → map batched stored ≡ map (stored_matrix (map (λ n. n))) stored
+stored_plain [] = refl
+stored_plain (m ∷ stored) = λ i. batched_is m i ∷ stored_plain stored i
+
+-- rows of numbers are read as they are
 pub rows_plain : {A : Type 0} (rows : List (Vec ℕ A)) → map (λ (row : Vec ℕ A). map (λ n. n) row.items) rows ≡ map (λ (row : Vec ℕ A). row.items) rows
 rows_plain [] = refl
 rows_plain (row ∷ rows) = λ i. map-id row.items i ∷ rows_plain rows i

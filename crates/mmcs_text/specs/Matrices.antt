@@ -4,6 +4,7 @@ use Rattle.p3_support.specs.declared.matrix.RowMajorMatrix.{RowMajorMatrix}
 use Rattle.p3_support.specs.Lists.{message}
 use Rattle.p3_support.specs.RowMajor.{values_of, row_width, row_count}
 use Rattle.p3_merkle_core.specs.Nodes.{Matrix, Batch}
+use Rattle.p3_merkle_core.specs.Views.{batch_of}
 
 -- the matrix of some rows, as wide as the first of them
 abbrev pub matrix_of_rows : List (List ℕ) → Matrix ℕ
@@ -21,4 +22,4 @@ stored_matrix numbers m =
 
 -- stored matrices of numbers, under an arity
 abbrev pub stored_batch : ℕ → List (RowMajorMatrix ℕ) → Batch ℕ
-stored_batch arity stored = record { arity = arity; matrices = map (stored_matrix (λ words. words)) stored }
+stored_batch = batch_of row_count row_width (λ m r. message (row_width m) (values_of m) r)

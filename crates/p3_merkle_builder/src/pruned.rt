@@ -10,6 +10,8 @@ ghost use Rattle.p3_support.specs.Shown.{row_sets};
 ghost use Rattle.p3_merkle_core.specs.declared.error.MerkleTreeError.TheVariants.{OutOfMemory};
 ghost use Rattle.p3_merkle_builder.specs.Inner.Own.{others_beside};
 ghost use Rattle.p3_merkle_builder.specs.Parts.{layers_of, tree_batch};
+ghost use Rattle.p3_merkle_core.specs.Pruning.{boundary_by};
+ghost use Rattle.p3_merkle_core.specs.Refusals.{AnswersUnlessMemory};
 
 use crate::opener::rows_of_index;
 use crate::tree::Tree;
@@ -18,8 +20,6 @@ use p3_merkle_core::pruning::{boundary_len_of, climb, covered_leaves};
 use p3_merkle_layers::levels::batch_dimensions;
 use p3_support::matrix::Matrix;
 use std::alloc::Global;
-ghost use Rattle.p3_merkle_core.specs.Pruning.{boundary_by};
-ghost use Rattle.p3_merkle_core.specs.Refusals.{AnswersUnlessMemory};
 
 /// The rows of each of some leaves, in the order of the indices. Each index is below
 /// [`max_height`](crate::opener::max_height).

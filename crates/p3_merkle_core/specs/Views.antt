@@ -1,5 +1,5 @@
 -- How the values of the code are read by the definitions.
-use Rattle.std.specs.Prelude.{◌≡◌, ℕ, List, map, Option, Result, option_map}
+use Rattle.std.specs.Prelude.{◌≡◌, ℕ, List, [], map, nat_lt, if◌then◌else◌, Option, Result, option_map}
 use Rattle.std.specs.Result.{result_map_both}
 use Rattle.std.specs.declared.vec.Vec.{Vec}
 use Rattle.p3_support.specs.Shown.{row_lists, row_sets}
@@ -20,9 +20,9 @@ use Rattle.p3_merkle_core.specs.declared.pruning.PrunedRows.{PrunedRows}
 -- ---- matrices
 
 module _ {T M : Type 0} (height width : M → ℕ) (row : M → ℕ → List T) where
-  -- a matrix, by what its type says of it
+  -- a matrix, by what its type says of it; past its height its rows are empty
   abbrev pub matrix_of : M → Matrix T
-  matrix_of m = record { height = height m; width = width m; row = row m }
+  matrix_of m = record { height = height m; width = width m; row = λ j. if nat_lt j (height m) then row m j else [] }
 
   -- matrices in input order, under an arity
   abbrev pub batch_of : ℕ → List M → Batch T

@@ -1,6 +1,7 @@
 -- Rows of pairs, taken apart where the left matrix ends.
-use Rattle.std.proofs.Common.{◌≡◌, ℕ, zero, suc, ◌+◌, ◌/◌, ◌^◌, ◌<◌, List, [], ◌∷◌, ◌++◌, map, refl, ap, sym, subst, ◌∙◌, arith, length, get_or, take, drop, All}
+use Rattle.std.proofs.Common.{◌≡◌, ℕ, zero, suc, ◌+◌, ◌/◌, ◌^◌, ◌<◌, cond, nat_lt, List, [], ◌∷◌, ◌++◌, map, refl, ap, sym, subst, ◌∙◌, arith, length, get_or, take, drop, All}
 use Rattle.std.specs.List.{AllZip}
+use Rattle.std.proofs.lemmas.Bool.{lt-ltb}
 use Rattle.std.proofs.lemmas.List.{get_or_default, length-map, take-append-drop}
 use Rattle.std.proofs.lemmas.Simd.{map-map}
 use Rattle.std.proofs.Math.Seq.{drop-append_seam, take-append_seam}
@@ -59,6 +60,13 @@ module _ {X T : Type 0} (side : X → Matrix T) (height : X → ℕ) (same : (x 
   side_rows n i xs =
       ap (λ (hs : List ℕ). map (λ (m : Matrix T). m.row (i / 2 ^ bits_reduced (greatest hs) m.height)) (map side xs)) (heights_are xs) ∙ rows_at (greatest (map height xs)) i xs
 
+-- rows below the heights are the matrices' own
+rows_kept : {X T : Type 0} (at height : X → ℕ) (row : X → List T) (xs : List X) → All (λ x. at x < height x) xs → map (λ x. cond (nat_lt (at x) (height x)) (row x) []) xs ≡ map row xs
+rows_kept at height row [] inside = refl
+rows_kept at height row (x ∷ xs) inside =
+    let there = lt-ltb (at x) (height x) (inside 0 x (omega arith)) in
+    rw (there, rows_kept at height row xs (λ k d h. inside (suc k) d (omega arith))) refl
+
 module _ {T A B : Type 0} {a : Ghosts A T} {b : Ghosts B T} where
   -- the left matrix of a pair, and the right one
   abbrev left_matrix : HorizontalPair T A B a b → Matrix T
@@ -101,45 +109,54 @@ module _ {T A B : Type 0} {a : Ghosts A T} {b : Ghosts B T} where
     at : ℕ → HorizontalPair T A B a b → ℕ
     at i p = i / 2 ^ bits_reduced (greatest (map height_in pairs)) (height_in p)
 
-    pair_rows : (i : ℕ) → honest_rows (pair_batch n pairs) i ≡ map (λ p. a.row_of (left_of p) (at i p) ++ b.row_of (right_of p) (at i p)) pairs
+    -- each pair has the row that belongs to an index
+    inside : (i : ℕ) → i < greatest (heights (shape (pair_batch n pairs))) → All (λ p. at i p < height_in p) pairs
     unfolding at
-    pair_rows i = side_rows pair_matrix height_in (λ p. refl) n i pairs
-
-    left_rows : (i : ℕ) → honest_rows (left_batch n pairs) i ≡ map (λ p. a.row_of (left_of p) (at i p)) pairs
-    unfolding at
-    left_rows i =
-        ap (λ (ms : List (Matrix T)). honest_rows (record { arity = n; matrices = ms }) i) (map-map (matrix_of a.height_of a.width_of a.row_of) left_of pairs)
-        ∙ side_rows left_matrix height_in (λ p. refl) n i pairs
-
-    right_rows : (i : ℕ) → honest_rows (right_batch n pairs) i ≡ map (λ p. b.row_of (right_of p) (at i p)) pairs
-    unfolding at
-    right_rows i =
-        ap (λ (ms : List (Matrix T)). honest_rows (record { arity = n; matrices = ms }) i) (map-map (matrix_of b.height_of b.width_of b.row_of) right_of pairs)
-        ∙ side_rows right_matrix height_in (λ p. sym p.one_height) n i pairs
-
-    full : (i : ℕ) → i < greatest (heights (shape (pair_batch n pairs))) → All (λ p. length (a.row_of (left_of p) (at i p)) ≡ width_in p) pairs
-    unfolding at
-    full i below k d inside =
+    inside i below k d within =
         let p = get_or pairs k d in
         let here : i / 2 ^ bits_reduced (greatest (heights (shape (pair_batch n pairs)))) (height_in p) < height_in p =
-        row_inside height_in (λ p. width_in p + b.width_of (right_of p)) (λ p. pair_row a.row_of b.row_of (left_of p) (right_of p)) n pairs k i p lawful below inside (get_or_default pairs k d p inside) in
-        law (left_of p) (at i p) (subst (λ (hs : List ℕ). i / 2 ^ bits_reduced (greatest hs) (height_in p) < height_in p) (heights_are pair_matrix height_in (λ p. refl) pairs) here)
+        row_inside height_in (λ p. width_in p + b.width_of (right_of p)) (λ p. pair_row a.row_of b.row_of (left_of p) (right_of p)) n pairs k i p lawful below within (get_or_default pairs k d p within) in
+        subst (λ (hs : List ℕ). i / 2 ^ bits_reduced (greatest hs) (height_in p) < height_in p) (heights_are pair_matrix height_in (λ p. refl) pairs) here
+
+    pair_rows : (i : ℕ) → i < greatest (heights (shape (pair_batch n pairs))) → honest_rows (pair_batch n pairs) i ≡ map (λ p. a.row_of (left_of p) (at i p) ++ b.row_of (right_of p) (at i p)) pairs
+    unfolding at
+    pair_rows i below =
+        side_rows pair_matrix height_in (λ p. refl) n i pairs
+        ∙ rows_kept (at i) height_in (λ p. a.row_of (left_of p) (at i p) ++ b.row_of (right_of p) (at i p)) pairs (inside i below)
+
+    left_rows : (i : ℕ) → i < greatest (heights (shape (pair_batch n pairs))) → honest_rows (left_batch n pairs) i ≡ map (λ p. a.row_of (left_of p) (at i p)) pairs
+    unfolding at
+    left_rows i below =
+        ap (λ (ms : List (Matrix T)). honest_rows (record { arity = n; matrices = ms }) i) (map-map (matrix_of a.height_of a.width_of a.row_of) left_of pairs)
+        ∙ side_rows left_matrix height_in (λ p. refl) n i pairs
+        ∙ rows_kept (at i) height_in (λ p. a.row_of (left_of p) (at i p)) pairs (inside i below)
+
+    right_rows : (i : ℕ) → i < greatest (heights (shape (pair_batch n pairs))) → honest_rows (right_batch n pairs) i ≡ map (λ p. b.row_of (right_of p) (at i p)) pairs
+    unfolding at
+    right_rows i below =
+        ap (λ (ms : List (Matrix T)). honest_rows (record { arity = n; matrices = ms }) i) (map-map (matrix_of b.height_of b.width_of b.row_of) right_of pairs)
+        ∙ side_rows right_matrix height_in (λ p. sym p.one_height) n i pairs
+        ∙ rows_kept (at i) (λ p. b.height_of (right_of p)) (λ p. b.row_of (right_of p) (at i p)) pairs
+        (λ k d within. let p = get_or pairs k d in subst (λ (h : ℕ). at i p < h) p.one_height (inside i below k d within))
+
+    full : (i : ℕ) → i < greatest (heights (shape (pair_batch n pairs))) → All (λ p. length (a.row_of (left_of p) (at i p)) ≡ width_in p) pairs
+    full i below k d within = let p = get_or pairs k d in law (left_of p) (at i p) (inside i below k d within)
 
     -- what stands before the salts of an honest row is the left matrix's row
     pub left_is : (i : ℕ) → i < greatest (heights (shape (pair_batch n pairs))) → unsalted_parts (map width_in pairs) (honest_rows (pair_batch n pairs) i) ≡ honest_rows (left_batch n pairs) i
     left_is i below =
-        ap (unsalted_parts (map width_in pairs)) (pair_rows i) ∙ left_parts (λ p. a.row_of (left_of p) (at i p)) (λ p. b.row_of (right_of p) (at i p)) width_in pairs (full i below) ∙ sym (left_rows i)
+        ap (unsalted_parts (map width_in pairs)) (pair_rows i below) ∙ left_parts (λ p. a.row_of (left_of p) (at i p)) (λ p. b.row_of (right_of p) (at i p)) width_in pairs (full i below) ∙ sym (left_rows i below)
 
     -- and what stands after is the right one's
     pub right_is : (i : ℕ) → i < greatest (heights (shape (pair_batch n pairs))) → salt_parts (map width_in pairs) (honest_rows (pair_batch n pairs) i) ≡ honest_rows (right_batch n pairs) i
     right_is i below =
-        ap (salt_parts (map width_in pairs)) (pair_rows i) ∙ right_parts (λ p. a.row_of (left_of p) (at i p)) (λ p. b.row_of (right_of p) (at i p)) width_in pairs (full i below) ∙ sym (right_rows i)
+        ap (salt_parts (map width_in pairs)) (pair_rows i below) ∙ right_parts (λ p. a.row_of (left_of p) (at i p)) (λ p. b.row_of (right_of p) (at i p)) width_in pairs (full i below) ∙ sym (right_rows i below)
 
     -- both together are the honest row
     pub both_are : (i : ℕ) → i < greatest (heights (shape (pair_batch n pairs))) → salted_rows (honest_rows (left_batch n pairs) i) (honest_rows (right_batch n pairs) i) ≡ honest_rows (pair_batch n pairs) i
     both_are i below =
         let rows = honest_rows (pair_batch n pairs) i in
-        let long : length (map width_in pairs) ≡ length rows = length-map pairs width_in ∙ sym (ap length (pair_rows i) ∙ length-map pairs (λ p. a.row_of (left_of p) (at i p) ++ b.row_of (right_of p) (at i p))) in
+        let long : length (map width_in pairs) ≡ length rows = length-map pairs width_in ∙ sym (ap length (pair_rows i below) ∙ length-map pairs (λ p. a.row_of (left_of p) (at i p) ++ b.row_of (right_of p) (at i p))) in
         (λ j. salted_rows (sym (left_is i below) j) (sym (right_is i below) j)) ∙ parts_joined (map width_in pairs) rows long
 
     -- each left row is as long as its matrix is wide
@@ -150,8 +167,8 @@ module _ {T A B : Type 0} {a : Ghosts A T} {b : Ghosts B T} where
     -- the honest rows have their widths, and salts
     pub are_salted : (i : ℕ) → i < greatest (heights (shape (pair_batch n pairs))) → HaveSalts (dimensions_of (left_batch n pairs).matrices) (honest_rows (left_batch n pairs) i) (honest_rows (right_batch n pairs) i)
     are_salted i below = record {
-      rows_fit = ap (map length) (left_rows i) ∙ lengths_are (λ p. a.row_of (left_of p) (at i p)) pairs (full i below) ∙ sym (widths_are n pairs);
-      in_pairs = ap length (right_rows i) ∙ length-map pairs (λ p. b.row_of (right_of p) (at i p)) ∙ sym (ap length (left_rows i) ∙ length-map pairs (λ p. a.row_of (left_of p) (at i p)));
+      rows_fit = ap (map length) (left_rows i below) ∙ lengths_are (λ p. a.row_of (left_of p) (at i p)) pairs (full i below) ∙ sym (widths_are n pairs);
+      in_pairs = ap length (right_rows i below) ∙ length-map pairs (λ p. b.row_of (right_of p) (at i p)) ∙ sym (ap length (left_rows i below) ∙ length-map pairs (λ p. a.row_of (left_of p) (at i p)));
     }
 
     -- an accepted opening of pairs is accepted as its rows and salts

@@ -42,17 +42,19 @@ and_true true = refl
 and_true false = refl
 
 module _ {T M : Type 0} (height width : M → ℕ) (row : M → ℕ → List T) (x h : ℕ) where
-  -- the rows of one height are those of one exponent
-  rows_same : (j : ℕ) (ms : List M) → exponent h ≡ x → All (λ m. exponent (height m) ≡ x → height m ≡ h) ms →
+  -- below it, the rows of one height are those of one exponent
+  rows_same : (j : ℕ) (ms : List M) → j < h → exponent h ≡ x → All (λ m. exponent (height m) ≡ x → height m ≡ h) ms →
       rows_of_height height row h j ms ≡ joined_rows (filter (λ m. eqb (exponent m.height) x) (map (matrix_of height width row) ms)) j
-  rows_same j [] e w = refl
-  rows_same j (m ∷ ms) e w =
-      let rest = rows_same j ms e (λ k d b. w (suc k) d (omega arith)) in
+  rows_same j [] below e w = refl
+  rows_same j (m ∷ ms) below e w =
+      let rest = rows_same j ms below e (λ k d b. w (suc k) d (omega arith)) in
       elim (cases_eq (exponent (height m)) x) [
         | inl same ↦
-            let t = eq-eqb (height m) h (w 0 m (omega arith) same) in
+            let hm = w 0 m (omega arith) same in
+            let t = eq-eqb (height m) h hm in
             let u = eq-eqb (exponent (height m)) x same in
-            rw (t, u) (ap (λ ws. row m j ++ ws) rest)
+            let v = lt-ltb j (height m) (omega (arith, below, hm)) in
+            rw (t, u, v) (ap (λ ws. row m j ++ ws) rest)
         | inr other ↦
             let t = ne_eqb (height m) h (λ s. other (ap exponent s ∙ e)) in
             let u = ne_eqb (exponent (height m)) x other in
@@ -95,13 +97,23 @@ module _ {T M : Type 0} (height width : M → ℕ) (row : M → ℕ → List T) 
         | inr other ↦ let u = ne_eqb (exponent (height m)) x other in exponent_is_there ms (λ k d b. w (suc k) d (omega arith)) (rw u at e)
       ]
 
+  -- so the digest of the rows of one height is that of the rows of one exponent
+  digest_same : {W : Type 0} (f : Functions T W) (j : ℕ) (ms : List M) → exponent h ≡ x → All (λ m. exponent (height m) ≡ x → height m ≡ h) ms →
+      cond (nat_lt j h) (f.hash (rows_of_height height row h j ms)) f.default_digest
+      ≡ cond (nat_lt j h) (f.hash (joined_rows (filter (λ m. eqb (exponent m.height) x) (map (matrix_of height width row) ms)) j)) f.default_digest
+  digest_same f j ms e w =
+      elim (cases_lt j h) [
+        | inl lt ↦ ap (λ ws. cond (nat_lt j h) (f.hash ws) f.default_digest) (rows_same j ms lt e w)
+        | inr ge ↦ let no = le-ltb j h ge in rw no refl
+      ]
+
   -- so where a node has rows, the digest of those of one height is that of the matrices of the exponent
   with_rows_same : {W : Type 0} (f : Functions T W) (n j : ℕ) (c : List W) (ms : List M) → All (λ m. exponent (height m) ≡ x → height m ≡ h) ms →
       with_rows f n (list_any (λ y. eqb (exponent y) x) (map height ms)) c (cond (nat_lt j h) (f.hash (rows_of_height height row h j ms)) f.default_digest)
       ≡ with_rows f n (list_any (λ y. eqb (exponent y) x) (map height ms)) c (row_digest f (filter (λ m. eqb (exponent m.height) x) (map (matrix_of height width row) ms)) j)
   with_rows_same f n j c ms w =
       elim (cases_Bool (list_any (λ y. eqb (exponent y) x) (map height ms))) [
-        | inl e ↦ rw (e, tall_same j ms w e, rows_same j ms (exponent_is_there ms w e) w) refl
+        | inl e ↦ rw (e, tall_same j ms w e, digest_same f j ms (exponent_is_there ms w e) w) refl
         | inr e ↦ rw e refl
       ]
 
@@ -194,7 +206,7 @@ module _ {T W M : Type 0} (f : Functions T W) (n : ℕ) (height width_of : M →
       let at : x ≡ layer_exponent (shape whole) 0 = ap exponent is ∙ sym (layer_start (shape whole)) in
       rw (← wide)
       (same_made (λ j. cond (nat_lt j top) (f.hash (rows_of_height height row top j ms)) f.default_digest) (node f whole 0) slots
-      (λ j b. ap (λ (ws : List T). cond (nat_lt j top) (f.hash ws) f.default_digest) (rows_same height width_of row x top j ms refl all)
+      (λ j b. digest_same height width_of row x top f j ms refl all
       ∙ ap (λ (y : ℕ). cond (nat_lt j top) (f.hash (joined_rows (filter (λ m. eqb (exponent m.height) y) whole.matrices) j)) f.default_digest) at
       ∙ ap (λ (q : ℕ). cond (nat_lt j q) (f.hash (joined_rows (at_layer whole 0) j)) f.default_digest) is
       ∙ sym (node_first f whole j)))

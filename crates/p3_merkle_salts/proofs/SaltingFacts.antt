@@ -1,8 +1,11 @@
 -- One more matrix gets its salts.
-use Rattle.std.proofs.Common.{◌≡◌, ℕ, suc, ◌+◌, ◌*◌, ◌<◌, ◌^◌, List, [], ◌∷◌, ◌++◌, map, length, take, refl, sym, ap, ◌∙◌, arith, append_assoc}
-use Rattle.std.proofs.lemmas.List.{map-append, take-map}
-use Rattle.std.proofs.Math.Seq.{take-append_seam}
+use Rattle.std.proofs.Common.{◌≡◌, ℕ, suc, ◌+◌, ◌-◌, ◌*◌, ◌<◌, ◌≤◌, ◌^◌, cond, nat_lt, List, [], ◌∷◌, ◌++◌, map, length, take, refl, sym, ap, ◌∙◌, arith, inl, inr, append_assoc}
+use Rattle.std.proofs.lemmas.Bool.{cases_lt, lt-ltb, le-ltb}
+use Rattle.std.proofs.lemmas.List.{drop_all, map-append, take-map}
+use Rattle.std.proofs.Math.Nat.{mul-le-mul_right}
+use Rattle.std.proofs.Math.Seq.{take-append_seam, take-nil}
 use Rattle.rand_core.specs.Stream.{Stream}
+use Rattle.p3_support.specs.Lists.{message}
 use Rattle.p3_support.specs.Salts.{after_words, salts}
 use Rattle.p3_merkle_core.specs.Nodes.{Matrix, dimensions_of}
 use Rattle.p3_merkle_salts.specs.Salted.{IsAfterSome, after_salts, salted, salted_matrices}
@@ -14,6 +17,21 @@ first_fits e m ms all is fits = let here = rw is at fits in here 0 (record { wid
 
 pub others_fit : {T : Type 0} (e : ℕ) (m : Matrix T) (ms all : List (Matrix T)) → all ≡ m ∷ ms → CanWiden e (dimensions_of all) → CanWiden e (dimensions_of ms)
 others_fit e m ms all is fits = λ k d h. let here = rw is at fits in here (suc k) d (omega arith)
+
+-- past the last message of a list there are no values
+message_past : {T : Type 0} (xs : List T) (w n i : ℕ) → length xs ≡ n * w → n ≤ i → message w xs i ≡ []
+message_past xs w n i full past =
+    let far = mul-le-mul_right w past in
+    ap (take ((i + 1) * w - i * w)) (drop_all (i * w) xs (omega (arith, full, far))) ∙ take-nil ((i + 1) * w - i * w)
+
+-- a row and the salts behind it: past the height both are empty
+pub salted_row : {T : Type 0} (h n : ℕ) (row : ℕ → List T) (values : List T) → length values ≡ h * n → (j : ℕ) →
+    cond (nat_lt j h) (row j ++ message n values j) [] ≡ cond (nat_lt j h) (row j) [] ++ message n values j
+salted_row h n row values full j =
+    elim (cases_lt j h) [
+      | inl lt ↦ let there = lt-ltb j h lt in rw there refl
+      | inr ge ↦ let none = le-ltb j h ge in rw none (sym (message_past values n h j full ge))
+    ]
 
 module _ {T A : Type 0} (of_word : ℕ → T) (e : ℕ) (shown : A → Matrix T) where
   -- the salted matrix joins those before it, and the rest is still to come

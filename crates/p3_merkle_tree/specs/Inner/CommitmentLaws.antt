@@ -3,6 +3,7 @@ use Rattle.std.specs.Prelude.{◌≡◌, ℕ, suc, ◌<◌, max, List, [], ◌�
 use Rattle.std.specs.List.{AllZip}
 use Rattle.std.proofs.Common.{◌∙◌, ap, arith, refl, subst, sym}
 use Rattle.std.proofs.Math.Nat.{div-one}
+use Rattle.std.proofs.lemmas.Bool.{lt-ltb}
 use Rattle.std.proofs.lemmas.List.{get_or_default}
 use Rattle.p3_merkle_core.specs.Geometry.{IsLawful, Shape, bits_reduced, shape_of, halved_index}
 use Rattle.p3_merkle_core.specs.Commitments.{IsShown}
@@ -77,15 +78,37 @@ module _ {T M : Type 0} (height width : M → ℕ) (row : M → ℕ → List T) 
   greatest_is (m ∷ ms) = rw (greatest_is ms) refl
 
   -- of matrices beside a tallest one, the rows of a batch are those of the matrices
-  rows_beside : (tall index : ℕ) (ms : List M) → map (λ m. m.row (halved_index tall m.height index)) (map (matrix_of height width row) ms) ≡ map (λ m. row m (halved_index tall (height m) index)) ms
-  rows_beside tall index [] = refl
-  rows_beside tall index (m ∷ ms) = ap (λ rows. row m (halved_index tall (height m) index) ∷ rows) (rows_beside tall index ms)
+  rows_beside : (tall index : ℕ) (ms : List M) → All (λ m. halved_index tall (height m) index < height m) ms →
+      map (λ m. m.row (halved_index tall m.height index)) (map (matrix_of height width row) ms)
+      ≡ map (λ m. row m (halved_index tall (height m) index)) ms
+  rows_beside tall index [] inside = refl
+  rows_beside tall index (m ∷ ms) inside =
+      let there = lt-ltb (halved_index tall (height m) index) (height m) (inside 0 m (omega arith)) in
+      let rest = rows_beside tall index ms (λ k d h. inside (suc k) d (omega arith)) in
+      rw there (ap (λ rows. row m (halved_index tall (height m) index) ∷ rows) rest)
 
   -- the honest rows are those that belong to the index
-  pub rows_are : (ms : List M) (index : ℕ) → honest_rows (batch_of height width row n ms) index ≡ rows_in height row halved_index (greatest (map height ms)) ms index
-  rows_are ms index =
+  pub rows_are : (ms : List M) (index : ℕ) → IsLawful (heights_in height width row ms) →
+      index < greatest (heights_in height width row ms) →
+      honest_rows (batch_of height width row n ms) index
+      ≡ rows_in height row halved_index (greatest (map height ms)) ms index
+  rows_are ms index w below =
       rows_beside (greatest (heights_in height width row ms)) index ms
+      (λ k d inside.
+      let m = slice_index_or ms k d in
+      row_inside height width row n ms k index m w below inside (get_or_default ms k d m inside))
       ∙ ap (λ (tall : ℕ). map (λ m. row m (halved_index tall (height m) index)) ms) (sym (greatest_is ms))
+
+  -- and so are those of several
+  pub sets_are : (ms : List M) (indices : List ℕ) → IsLawful (heights_in height width row ms) →
+      All (λ index. index < greatest (heights_in height width row ms)) indices →
+      map (honest_rows (batch_of height width row n ms)) indices
+      ≡ map (rows_in height row halved_index (greatest (map height ms)) ms) indices
+  sets_are ms [] w below = refl
+  sets_are ms (index ∷ indices) w below =
+      let first = rows_are ms index w (below 0 index (omega arith)) in
+      let rest = sets_are ms indices w (λ k d h. below (suc k) d (omega arith)) in
+      λ i. first i ∷ rest i
 
   -- each matrix has the row that belongs to an index
   pub row_in_matrix : (ms : List M) → IsLawful (heights_in height width row ms) →

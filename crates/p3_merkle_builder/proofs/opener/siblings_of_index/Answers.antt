@@ -68,10 +68,11 @@ loop-level-preserved g c =
     let tree = c.args.tree.now in
     let w = group_at_level (λ nodes. length nodes.items) tree.layers.items tree.arity_schedule.items (shape (tree_batch tree)) c.args.index c.loop-level.level c.args.t c.index-step.result.now c.loop-level.ancestor c.index.result.now
     tree.arity tree.lawful tree.layer_lengths tree.schedule c.requires.index c.requires.layer c.loop-level-test.true c.loop-level.invariant.1 c.index-step.ensures c.index.ensures in
-    let count = layers_count (λ nodes. length nodes.items) tree.layers.items (shape (tree_batch tree)) tree.layer_lengths in
-    (λ d. group_next d (λ nodes. nodes.items) tree.layers.items (shape (tree_batch tree)) c.args.index c.loop-level.level c.index-step.result.now c.loop-level.ancestor c.index.result.now c.loop-level.siblings.items c.extend_with_others.new.siblings.items
-    w (omega arith) c.index.ensures (c.loop-level.invariant.0 d) (rw (← c.deref.ensures.value) (c.in_ok-extend_with_others.ensures.others)),
-    node_next (shape (tree_batch tree)) c.args.index c.loop-level.level c.index-step.result.now c.loop-level.ancestor (length c.index.result.now.items) w)
+    let count = layers_count (λ nodes. length nodes.items) tree.layers.items (shape (tree_batch tree)) tree.layer_lengths in (
+      λ d. group_next d (λ nodes. nodes.items) tree.layers.items (shape (tree_batch tree)) c.args.index c.loop-level.level c.index-step.result.now c.loop-level.ancestor c.index.result.now c.loop-level.siblings.items c.extend_with_others.new.siblings.items
+          w (omega arith) c.index.ensures (c.loop-level.invariant.0 d) (rw (← c.deref.ensures.value) (c.in_ok-extend_with_others.ensures.others)),
+      node_next (shape (tree_batch tree)) c.args.index c.loop-level.level c.index-step.result.now c.loop-level.ancestor (length c.index.result.now.items) w,
+    )
 
 pub returns-clause-siblings : goal.returns-clause-siblings
 returns-clause-siblings g c = λ d.

@@ -3,12 +3,11 @@ use Rattle.std.proofs.Common.{◌≡◌, ◌∙◌, ◌+◌, ◌*◌, List, [], 
 use Rattle.std.proofs.lemmas.List.Elements.{All-push}
 use Rattle.std.specs.Vec.Iter.{into_iter_items}
 use Rattle.std.proofs.lemmas.List.{map-append}
-use Rattle.p3_support.specs.Lists.{message}
 use Rattle.p3_merkle_core.specs.Views.{matrix_of}
 use Rattle.p3_support.specs.Pairs.{left_of, right_of}
 use Rattle.p3_support.specs.RowMajor.{row_width, values_of}
 use Rattle.p3_support.specs.Salts.{after_words, salts}
-use Rattle.p3_merkle_salts.proofs.SaltingFacts.{after_next, after_some, drawn_more, first_fits, others_fit, pairs_more, same_more, stream_more}
+use Rattle.p3_merkle_salts.proofs.SaltingFacts.{after_next, after_some, drawn_more, first_fits, others_fit, pairs_more, salted_row, same_more, stream_more}
 use Rattle.p3_merkle_salts.specs.Salted.{after_salts, salted, salted_matrices}
 use Rattle.p3_merkle_salts.specs.SaltedTrees.{HaveSaltColumns, pair_matrix}
 use Rattle.p3_merkle_salts.proofs.salting.salted_pairs.Goals as goal
@@ -35,12 +34,14 @@ loop-matrix-preserved g c =
     let after = c.in_ok-salts.ensures.rest ∙ ap (λ h. after_words (h * e) before) c.height.ensures in
     let width = ap row_width c.new.ensures.right ∙ c.in_ok-salts.ensures.width in
     let values = ap values_of c.new.ensures.right ∙ c.in_ok-salts.ensures.values ∙ ap (λ h. salts of_word (h * e) before) c.height.ensures in
-    let made : pair_matrix c.new.result ≡ salted e (salts of_word (g.M.Matrix.height_of m * e) before) (shown m) =
-    λ i. record {
-      height = g.M.Matrix.height_of (c.new.ensures.left i);
-      width = g.M.Matrix.width_of (c.new.ensures.left i) + width i;
-      row = λ j. g.M.Matrix.row_of (c.new.ensures.left i) j ++ message (width i) (values i) j;
-    } in
+    let pair = c.new.result in
+    let high = g.M.Matrix.height_of (left_of pair) in
+    let wide = row_width (right_of pair) in
+    let full = (right_of pair).full ∙ ap (λ h. h * wide) (sym pair.one_height) in
+    let joined : pair_matrix pair ≡ salted wide (values_of (right_of pair)) (shown (left_of pair)) =
+    λ i. record { height = high; width = g.M.Matrix.width_of (left_of pair) + wide; row = λ j. salted_row high wide (g.M.Matrix.row_of (left_of pair)) (values_of (right_of pair)) full j i } in
+    let made : pair_matrix pair ≡ salted e (salts of_word (g.M.Matrix.height_of m * e) before) (shown m) =
+    joined ∙ (λ i. salted (width i) (values i) (shown (c.new.ensures.left i))) in
     let pushed = c.in_ok-push.ensures.items in
     let lefts = ap (map left_of) pushed ∙ map-append left_of c.loop-matrix.pairs.items (c.new.result ∷ []) ∙ ap (λ (l : _). map left_of c.loop-matrix.pairs.items ++ l ∷ []) c.new.ensures.left in
     record {

@@ -1,24 +1,28 @@
 -- What is opened is what the other call opens, in the words of the trait.
 use Rattle.std.proofs.Common.{◌∙◌, List, ap, map, subst, sym}
-use Rattle.std.specs.Prelude.{◌≡◌, IfOk}
+use Rattle.std.specs.Prelude.{◌≡◌, ◌<◌, ℕ, IfOk}
 use Rattle.p3_support.specs.Pairs.{left_of}
 use Rattle.p3_merkle_core.specs.Commitments.{cap_over}
 use Rattle.p3_support.specs.Shown.{roots_of, row_lists}
 use Rattle.p3_support.specs.declared.matrix.Dimensions.{Dimensions}
 use Rattle.p3_merkle_builder.specs.Parts.{matrices_of, tree_batch}
-use Rattle.p3_merkle_tree.specs.Inner.CommitmentLaws.{rows_are}
+use Rattle.p3_merkle_tree.specs.Inner.CommitmentLaws.{greatest_is, rows_are}
 use Rattle.p3_merkle_core.proofs.ViewFacts.{dimensions_are}
 use Rattle.p3_merkle_tree.specs.Schemes.{terms_of}
 use Rattle.p3_merkle_hiding.proofs.SplitFacts.{wide_is}
 use Rattle.p3_merkle_hiding.specs.HidingSchemes.{plain_of, salted_made}
+use Rattle.p3_merkle_hiding.specs.Inner.SaltedCommitmentLaws.{left_lawful}
 use Rattle.p3_merkle_salts.specs.SaltedOpenings.{IsSaltedAccepted, widened}
 use Rattle.p3_merkle_salts.specs.SaltedTrees.{unsalted_dimensions}
 use Rattle.p3_merkle_hiding.proofs.scheme_trait.MerkleTreeHidingMmcsMmcsValue.open_batch.Goals as goal
 
 pub returns-clause-rows : goal.returns-clause-rows
 returns-clause-rows g c =
+    let tree = c.args.prover_data.now in
+    let ms = map left_of (matrices_of tree) in
+    let below = subst (λ (top : ℕ). c.args.index < top) (greatest_is g.M.Matrix.height_of g.M.Matrix.width_of g.M.Matrix.row_of g.row.N ms) c.requires in
     subst (λ (rows : List (List _)). IfOk c.open_batch.result (λ o. row_lists o.opened_values.items ≡ rows))
-    (rows_are g.M.Matrix.height_of g.M.Matrix.width_of g.M.Matrix.row_of g.row.N (map left_of (matrices_of c.args.prover_data.now)) c.args.index) c.open_batch.ensures.rows
+    (rows_are g.M.Matrix.height_of g.M.Matrix.width_of g.M.Matrix.row_of g.row.N ms c.args.index (left_lawful (matrices_of tree) tree.lawful) below) c.open_batch.ensures.rows
 
 pub returns-clause-accepted : goal.returns-clause-accepted
 returns-clause-accepted g c = λ commitment own.

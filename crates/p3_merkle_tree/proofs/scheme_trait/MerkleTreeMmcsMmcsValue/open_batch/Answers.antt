@@ -17,7 +17,8 @@ use Rattle.p3_merkle_tree.proofs.scheme_trait.MerkleTreeMmcsMmcsValue.open_batch
 
 pub returns-clause-rows : goal.returns-clause-rows
 returns-clause-rows g c =
-    let rows = rows_are g.M.Matrix.height_of g.M.Matrix.width_of g.M.Matrix.row_of g.row.N (matrices_of c.args.prover_data.now) c.args.index in
+    let tree = c.args.prover_data.now in
+    let rows = rows_are g.M.Matrix.height_of g.M.Matrix.width_of g.M.Matrix.row_of g.row.N (matrices_of tree) c.args.index tree.lawful c.tell_index.ensures in
     IfOk-weaker c.open_batch.result _ _ (λ o opened. ap (λ (z : Opening _ _). z.rows) opened ∙ rows) c.open_batch.ensures.opened
 
 pub returns-clause-accepted : goal.returns-clause-accepted

@@ -1,12 +1,12 @@
 -- What is opened is what the other call opens, in the words of the trait.
-use Rattle.std.proofs.Common.{◌∙◌, List, ap, map, subst, sym}
+use Rattle.std.proofs.Common.{◌∙◌, List, ap, subst, sym}
 use Rattle.p3_support.specs.Shown.{roots_of}
 use Rattle.p3_support.specs.declared.matrix.Dimensions.{Dimensions}
 use Rattle.p3_merkle_core.specs.Geometry.{shape_of}
 use Rattle.p3_merkle_core.specs.Nodes.{shape}
 use Rattle.p3_merkle_core.specs.Pruning.{IsPrunedAccepted, PrunedOpening}
 use Rattle.p3_merkle_builder.specs.Parts.{matrices_of, tree_batch}
-use Rattle.p3_merkle_tree.specs.Inner.CommitmentLaws.{rows_are}
+use Rattle.p3_merkle_tree.specs.Inner.CommitmentLaws.{sets_are}
 use Rattle.p3_merkle_core.proofs.ViewFacts.{dimensions_are}
 use Rattle.p3_merkle_tree.specs.Schemes.{terms_over}
 use Rattle.p3_merkle_core.specs.Views.{pruned_made}
@@ -15,8 +15,9 @@ use Rattle.p3_merkle_tree.proofs.scheme_trait.MerkleTreeMmcsMmcsValue.open_multi
 
 pub returns-clause-rows : goal.returns-clause-rows
 returns-clause-rows g c =
+    let tree = c.args.prover_data.now in
     ap (λ (z : PrunedOpening _ _). z.rows) c.in_ok-opening.ensures.opened
-    ∙ (λ i. map (λ index. rows_are g.M.Matrix.height_of g.M.Matrix.width_of g.M.Matrix.row_of g.row.N (matrices_of c.args.prover_data.now) index i) c.args.indices.now)
+    ∙ sets_are g.M.Matrix.height_of g.M.Matrix.width_of g.M.Matrix.row_of g.row.N (matrices_of tree) c.args.indices.now tree.lawful c.tell_indices.ensures
 
 pub returns-clause-accepted : goal.returns-clause-accepted
 returns-clause-accepted g c = λ commitment own.
