@@ -1,12 +1,13 @@
 -- What the facts of a tree say of its layers.
-use Rattle.std.proofs.Common.{◌≡◌, ℕ, suc, ◌<◌, ◌≤◌, List, map, refl, ap, sym, ◌∙◌, arith, length, get_or}
+use Rattle.std.proofs.Common.{◌≡◌, ℕ, suc, ◌<◌, ◌≤◌, cond, nat_lt, List, map, refl, ap, sym, ◌∙◌, arith, inl, inr, length, get_or, All}
 use Rattle.std.specs.Prelude.{[], ◌∷◌, Some, slice_get}
 use Rattle.std.specs.List.{AllZip, range_with_len}
+use Rattle.std.proofs.lemmas.Bool.{cases_lt, le-ltb}
 use Rattle.std.proofs.lemmas.Option.{slice_get_read}
 use Rattle.std.proofs.lemmas.List.FromFn.{length-map-range_with_len, get_or-map-range_with_len}
 use Rattle.std.proofs.lemmas.List.{length-map, get_or-map}
 use Rattle.p3_merkle_core.specs.Geometry.{Shape, heights, layer_len, levels, raw_len, padded_len, IsArity, IsLawful}
-use Rattle.p3_merkle_core.specs.Views.{batch_of, matrix_of, ClonesShowTheSame}
+use Rattle.p3_merkle_core.specs.Views.{batch_of, matrix_of, ClonesShowTheSame, ShowsTheSame}
 use Rattle.p3_merkle_core.specs.Nodes.{Functions, Batch, Matrix, shape, node, layer, layers}
 use Rattle.std.proofs.lemmas.Simd.{map-map}
 use Rattle.p3_merkle_layers.proofs.LayerFacts.{same_made}
@@ -52,15 +53,27 @@ same_lengths b d items copied vs us same e long =
     sym (map-map length copied us) ∙ ap (λ (z : List (List _)). map length z) e ∙ map-map length items vs ∙ long
     ∙ ap (λ (z : Batch _). map (layer_len (shape z)) (range_with_len 0 (suc (levels (shape z))))) same
 
--- clones that show the same make the same batch
-same_matrices : {T M : Type 0} (height width : M → ℕ) (row : M → ℕ → List T) (is_clone : M → M → Type 0) → ClonesShowTheSame height width row is_clone → (xs ys : List M) → AllZip is_clone xs ys →
-    map (matrix_of height width row) ys ≡ map (matrix_of height width row) xs
-same_matrices height width row is_clone keeps [] [] all = refl
-same_matrices height width row is_clone keeps [] (y ∷ ys) all = absurd all
-same_matrices height width row is_clone keeps (x ∷ xs) [] all = absurd all
-same_matrices height width row is_clone keeps (x ∷ xs) (y ∷ ys) all =
-    ap (λ z. z ∷ map (matrix_of height width row) ys) (keeps x y all.0) ∙ ap (λ zs. matrix_of height width row x ∷ zs) (same_matrices height width row is_clone keeps xs ys all.1)
+module _ {T M : Type 0} (height width : M → ℕ) (row : M → ℕ → List T) where
+  -- matrices that show the same are one matrix of a batch
+  same_matrix : (m other : M) → ShowsTheSame height width row m other → matrix_of height width row other ≡ matrix_of height width row m
+  same_matrix m other w =
+      let same : (j : ℕ) → cond (nat_lt j (height other)) (row other j) [] ≡ cond (nat_lt j (height m)) (row m j) [] =
+      λ j. ap (λ h. cond (nat_lt j h) (row other j) []) w.same_height
+      ∙ elim (cases_lt j (height m)) [
+        | inl lt ↦ ap (λ words. cond (nat_lt j (height m)) words []) (w.same_rows j lt)
+        | inr ge ↦ let none = le-ltb j (height m) ge in rw none refl
+      ] in
+      λ i. record { height = w.same_height i; width = w.same_width i; row = λ j. same j i }
 
-pub same_batch : {T M : Type 0} (height width : M → ℕ) (row : M → ℕ → List T) (n : ℕ) (is_clone : M → M → Type 0) (ms clones : List M) → ClonesShowTheSame height width row is_clone → AllZip is_clone ms clones →
-    batch_of height width row n clones ≡ batch_of height width row n ms
-same_batch {T} height width row n is_clone ms clones keeps all = ap (λ (xs : List (Matrix T)). record { arity = n; matrices = xs }) (same_matrices height width row is_clone keeps ms clones all)
+  -- clones that show the same make the same batch
+  same_matrices : (is_clone : M → M → Type 0) (xs ys : List M) → All (ClonesShowTheSame height width row is_clone) xs → AllZip is_clone xs ys → map (matrix_of height width row) ys ≡ map (matrix_of height width row) xs
+  same_matrices is_clone [] [] keeps all = refl
+  same_matrices is_clone [] (y ∷ ys) keeps all = absurd all
+  same_matrices is_clone (x ∷ xs) [] keeps all = absurd all
+  same_matrices is_clone (x ∷ xs) (y ∷ ys) keeps all =
+      let first = same_matrix x y (keeps 0 x (omega arith) y all.0) in
+      let rest = same_matrices is_clone xs ys (λ k d h. keeps (suc k) d (omega arith)) all.1 in
+      λ i. first i ∷ rest i
+
+  pub same_batch : (n : ℕ) (is_clone : M → M → Type 0) (ms clones : List M) → All (ClonesShowTheSame height width row is_clone) ms → AllZip is_clone ms clones → batch_of height width row n clones ≡ batch_of height width row n ms
+  same_batch n is_clone ms clones keeps all = ap (λ (xs : List (Matrix T)). record { arity = n; matrices = xs }) (same_matrices is_clone ms clones keeps all)

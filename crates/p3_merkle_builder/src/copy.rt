@@ -1,6 +1,6 @@
 //! Copies of trees.
 
-ghost use Rattle.std.specs.Prelude.{◌≡◌, IfOk, map};
+ghost use Rattle.std.specs.Prelude.{◌≡◌, All, IfOk, map};
 ghost use Rattle.std.specs.List.{AllZip};
 ghost use Rattle.p3_merkle_core.specs.Views.{ClonesShowTheSame};
 
@@ -18,14 +18,14 @@ impl<F: Copy, W: Copy, M: Matrix<F> + Clone + Drop, const N: usize, const D: usi
 > {
     ghost use Rattle.p3_merkle_builder.specs.Parts.{layers_of, matrices_of, tree_batch};
 
-    /// A tree with clones of the matrices, and the same layers. A clone of a matrix has its height, its width and its
-    /// rows, so that the copy opens what the tree opens.
+    /// A tree with clones of the matrices, and the same layers. Each clone of one of these matrices has its height, its
+    /// width and its rows, so that the copy opens what the tree opens.
     ///
     /// # Errors
     ///
     /// `AllocError` where there is no memory.
     pub fn clone(&self) -> Result<Self, AllocError>
-        requires { ClonesShowTheSame M.height_of M.width_of M.row_of M.is_clone }
+        requires { All (ClonesShowTheSame M.height_of M.width_of M.row_of M.is_clone) (matrices_of self.now) }
         ensures matrices { IfOk result (λ tree. AllZip M.is_clone (matrices_of self.now) (matrices_of tree)) }
         ensures batch { IfOk result (λ tree. tree_batch tree ≡ tree_batch self.now) }
         ensures layers { IfOk result (λ tree. layers_of tree ≡ layers_of self.now) }

@@ -1,5 +1,5 @@
 -- How the values of the code are read by the definitions.
-use Rattle.std.specs.Prelude.{◌≡◌, ℕ, List, [], map, nat_lt, if◌then◌else◌, Option, Result, option_map}
+use Rattle.std.specs.Prelude.{◌≡◌, ℕ, ◌<◌, List, [], map, nat_lt, if◌then◌else◌, Option, Result, option_map}
 use Rattle.std.specs.Result.{result_map_both}
 use Rattle.std.specs.declared.vec.Vec.{Vec}
 use Rattle.p3_support.specs.Shown.{row_lists, row_sets}
@@ -32,9 +32,15 @@ module _ {T M : Type 0} (height width : M → ℕ) (row : M → ℕ → List T) 
   abbrev pub heights_in : List M → List ℕ
   heights_in ms = heights_of (dimensions_of (map matrix_of ms))
 
-  -- a clone of a matrix has its height, its width and its rows
-  abbrev pub ClonesShowTheSame : (M → M → Type 0) → Type 0
-  ClonesShowTheSame is_clone = (matrix clone : M) → is_clone matrix clone → matrix_of clone ≡ matrix_of matrix
+  -- another matrix has the height, the width and the rows of a matrix
+  pub record ShowsTheSame (matrix other : M) : Type 0 where
+    pub same_height : height other ≡ height matrix
+    pub same_width : width other ≡ width matrix
+    pub same_rows : (j : ℕ) → j < height matrix → row other j ≡ row matrix j
+
+  -- each clone of a matrix shows the same
+  abbrev pub ClonesShowTheSame : (M → M → Type 0) → M → Type 0
+  ClonesShowTheSame is_clone matrix = (clone : M) → is_clone matrix clone → ShowsTheSame matrix clone
 
 -- ---- openings
 
