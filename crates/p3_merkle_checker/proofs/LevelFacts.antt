@@ -1,16 +1,15 @@
 -- One level of the check of an opening.
-use Rattle.std.proofs.Common.{insert, ◌≡◌, ℕ, zero, suc, ◌+◌, ◌-◌, ◌%◌, ◌<◌, ◌≤◌, add-suc, true, false, cond, eqb, List, [], ◌∷◌, refl, ap, sym, ◌∙◌, arith, map, zip, None, Some}
-use Rattle.std.specs.List.{list_any, filter, flat_map}
+use Rattle.std.proofs.Common.{insert, ◌≡◌, ℕ, zero, suc, ◌+◌, ◌-◌, ◌%◌, ◌<◌, ◌≤◌, add-suc, true, false, eqb, List, [], ◌∷◌, refl, ap, sym, ◌∙◌, arith, map, zip, None, Some}
+use Rattle.std.specs.List.{filter, flat_map}
 use Rattle.std.proofs.lemmas.Bool.{cond_both}
 use Rattle.std.proofs.lemmas.List.Folds.{flat_map-map}
 use Rattle.p3_merkle_core.specs.Geometry.{Shape, IsArity, exponent, heights, is_bridge, layer_exponent, step, has_rows}
-use Rattle.p3_support.specs.Batches.{greatest}
 use Rattle.p3_merkle_core.specs.Nodes.{Functions, padded}
 use Rattle.p3_merkle_core.specs.Openings.{Opening}
 use Rattle.p3_merkle_core.specs.Checks.{layer_words, path_digest, siblings_below, words_of_exponent}
 use Rattle.p3_merkle_core.proofs.Completeness.{reached_leaf, reached_next}
 use Rattle.p3_merkle_core.proofs.SiblingFacts.{siblings_next, siblings_start}
-use Rattle.p3_merkle_core.proofs.StepFacts.{anc_next, anc_start, layer_start, next_exponent, step_above_1, step_at}
+use Rattle.p3_merkle_core.proofs.StepFacts.{anc_next, anc_start, step_above_1}
 use Rattle.p3_merkle_checker.specs.Inner.Checks.{CanStep, IsAbove, IsLevel, StandsAt, step_siblings}
 use Rattle.p3_merkle_checker.specs.Inner.Paths.{CanReach, rows_of_exponent}
 use Rattle.p3_merkle_checker.specs.declared.level.Standing.{Standing}

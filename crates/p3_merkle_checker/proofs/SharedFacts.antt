@@ -7,7 +7,7 @@ use Rattle.p3_merkle_core.specs.Extraction.{last_difference}
 use Rattle.p3_merkle_core.specs.Geometry.{Shape, ancestor}
 use Rattle.p3_merkle_core.specs.Nodes.{Functions}
 use Rattle.p3_merkle_core.specs.Openings.{Opening}
-use Rattle.p3_merkle_core.specs.Checks.{Input, inputs_at, meeting_level, layer_words, shared_inputs, terms, leaf_input}
+use Rattle.p3_merkle_core.specs.Checks.{Input, inputs_at, meeting_level, shared_inputs, terms, leaf_input}
 use Rattle.p3_merkle_core.specs.Refusals.{unless}
 use Rattle.p3_merkle_core.proofs.Binding.{pieces_long}
 use Rattle.p3_merkle_core.proofs.Extraction.{anc_same, level_lengths}

@@ -1,5 +1,5 @@
 -- The checks of two openings, one level higher.
-use Rattle.std.proofs.Common.{◌≡◌, ℕ, suc, ◌+◌, ◌⊎◌, Bool, List, ap, subst, sym, ◌∙◌, inl, inr, zip, add-one, Option, Some}
+use Rattle.std.proofs.Common.{◌≡◌, ℕ, suc, ◌+◌, ◌⊎◌, Bool, List, ap, subst, sym, ◌∙◌, inl, inr, zip, add-one, Option}
 use Rattle.std.specs.Cmp.Lexicographic.{pointwise}
 use Rattle.std.specs.Option.{option_or}
 use Rattle.std.specs.declared.vec.Vec.{Vec}

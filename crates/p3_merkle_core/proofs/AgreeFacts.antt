@@ -7,7 +7,6 @@ use Rattle.p3_merkle_core.specs.Geometry.{Shape, ancestor, heights, layer_expone
 use Rattle.p3_support.specs.Lists.{is_among}
 use Rattle.p3_support.specs.Batches.{greatest}
 use Rattle.p3_merkle_core.specs.Refusals.{first_of, group_refusal, lead, matrices_at, row_refusal, slots_below, width_refusal, rows_of}
-use Rattle.p3_merkle_core.specs.Pruning.{first_rows}
 use Rattle.p3_support.specs.declared.matrix.Dimensions.{Dimensions}
 use Rattle.p3_merkle_core.specs.Inner.Agreement.{distinct, first_query, layers_refusal, opened_of, rows_refusal, slot_rows, IsAscending}
 use Rattle.p3_merkle_core.specs.declared.error.MerkleTreeError.{MerkleTreeError}

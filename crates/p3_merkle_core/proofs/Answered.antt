@@ -10,7 +10,7 @@ use Rattle.p3_support.specs.Lists.{is_among}
 use Rattle.p3_support.specs.Batches.{greatest}
 use Rattle.p3_merkle_core.specs.Geometry.{Shape, exponent, layer_exponent, ancestor, heights, widths}
 use Rattle.p3_merkle_core.specs.Gate.{gate_refusal}
-use Rattle.p3_merkle_core.specs.Pruning.{PrunedOpening, boundary, first_rows, IsRestorable}
+use Rattle.p3_merkle_core.specs.Pruning.{PrunedOpening, boundary, IsRestorable}
 use Rattle.p3_merkle_core.specs.Refusals.{first_of, first_some, lead, matrices_at, slots_below, slot_of, size_refusal, idle_refusal, queries_refusal, repeat_refusal, digest_count_refusal, width_refusal, row_refusal, group_refusal, pruned_refusal, pruned_answer, rows_of}
 use Rattle.p3_merkle_core.specs.declared.error.PrunedProofError.TheVariants.{SiblingCountMismatch, InconsistentDuplicateOpenings, InconsistentGroupOpening}
 use Rattle.p3_merkle_core.specs.declared.error.MerkleTreeError.TheVariants.{WrongBatchSize, MalformedPrunedProof}

@@ -10,7 +10,7 @@ use Rattle.p3_merkle_core.specs.Checks.{Input, IsAccepted, check_digest, group_a
 use Rattle.p3_merkle_core.proofs.ListFacts.{joined_more}
 use Rattle.p3_merkle_core.proofs.Completeness.{reached_next, reached_leaf}
 use Rattle.p3_merkle_core.specs.declared.collision.Place.{Place}
-use Rattle.p3_merkle_core.specs.declared.collision.Place.TheVariants.{Leaf, Group, Rows, Pair}
+use Rattle.p3_merkle_core.specs.declared.collision.Place.TheVariants.{Group, Rows, Pair}
 
 -- ---- what inputs are made of
 

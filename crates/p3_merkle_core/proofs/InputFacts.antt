@@ -11,7 +11,7 @@ use Rattle.p3_merkle_core.specs.Checks.{HasDigests, inputs, inputs_at, group_at,
 use Rattle.p3_merkle_core.proofs.StepFacts.{step_above_1}
 use Rattle.p3_merkle_core.proofs.Extraction.{siblings_full, in_group}
 use Rattle.p3_merkle_core.proofs.ListFacts.{joined, joined_more}
-use Rattle.p3_merkle_core.specs.declared.collision.Place.TheVariants.{Leaf, Group, Rows, Pair}
+use Rattle.p3_merkle_core.specs.declared.collision.Place.TheVariants.{Group, Rows, Pair}
 
 filled_long : {T W : Type 0} (f : Functions T W) (n : ℕ) (ds : List (List W)) → length ds ≤ n → length (padded n f.default_digest ds) ≡ n
 filled_long f n ds h = length-append ds (replicate (n - length ds) f.default_digest) ∙ (let r = length-replicate (n - length ds) f.default_digest in omega arith)

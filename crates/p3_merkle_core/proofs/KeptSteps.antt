@@ -1,9 +1,9 @@
 -- Steps that are kept level by level.
-use Rattle.std.proofs.Common.{◌≡◌, ℕ, suc, ◌+◌, ◌-◌, ◌<◌, cond, eqb, Bool, List, [], ◌∷◌, ◌++◌, refl, ap, sym, ◌∙◌, arith, add-one, length, get_or, get_or-take, take, set, map}
+use Rattle.std.proofs.Common.{◌≡◌, ℕ, suc, ◌+◌, ◌-◌, ◌<◌, cond, eqb, List, refl, ap, sym, ◌∙◌, arith, length, get_or, get_or-take, take, set, map}
 use Rattle.std.specs.List.{list_any, range_with_len}
 use Rattle.std.proofs.lemmas.List.{take_more_set}
 use Rattle.std.proofs.lemmas.List.FromFn.{map-range_with_len_more, get_or-map-range_with_len}
-use Rattle.p3_merkle_core.specs.Geometry.{Shape, exponent, has_rows, heights, is_bridge, layer_exponent, step}
+use Rattle.p3_merkle_core.specs.Geometry.{Shape, exponent, has_rows, heights, is_bridge, layer_exponent}
 use Rattle.p3_merkle_core.specs.Inner.Steps.{level_step}
 use Rattle.p3_merkle_core.specs.declared.steps.LevelStep.{LevelStep}
 use Rattle.p3_merkle_core.proofs.StepFacts.{next_exponent}

@@ -6,7 +6,7 @@ use Rattle.std.proofs.lemmas.List.{map-append}
 use Rattle.std.proofs.lemmas.List.FromFn.{get_or-map-range_with_len}
 use Rattle.p3_merkle_core.specs.Geometry.{Shape, levels, layer_len, ancestor, position_in_group, step, raw_len}
 use Rattle.p3_merkle_core.specs.Nodes.{Functions, Batch, shape, node, layer, layers}
-use Rattle.p3_merkle_core.specs.Pruning.{boundary, boundary_at, is_boundary, honest_query, restored_path, IsHonestQuery, restored_paths, boundary_by, pruned_in_layers, pruned_of}
+use Rattle.p3_merkle_core.specs.Pruning.{boundary, boundary_at, is_boundary, honest_query, restored_path, IsHonestQuery, restored_paths, pruned_in_layers, pruned_of}
 use Rattle.std.proofs.Math.Nat.{mul-le-mul_left, mul-suc}
 use Rattle.p3_merkle_core.proofs.Completeness.{IsHonest}
 use Rattle.p3_merkle_core.proofs.PathFacts.{joined_same, map_same}

@@ -6,7 +6,7 @@ use Rattle.p3_support.specs.declared.matrix.Dimensions.{Dimensions}
 use Rattle.p3_merkle_core.specs.Geometry.{Shape, heights}
 use Rattle.p3_support.specs.Batches.{greatest}
 use Rattle.p3_merkle_core.specs.Gate.{gate_refusal}
-use Rattle.p3_merkle_core.specs.Pruning.{PrunedOpening, boundary, covered_at, first_rows}
+use Rattle.p3_merkle_core.specs.Pruning.{PrunedOpening, boundary}
 use Rattle.p3_merkle_core.specs.Refusals.{digest_count_refusal, first_of, first_some, group_refusal, idle_refusal, pruned_refusal, queries_refusal, repeat_refusal, size_refusal, slots_below, width_refusal, rows_of}
 use Rattle.p3_merkle_core.specs.Inner.Agreement.{distinct, early_refusal, first_query, late_refusal, layers_refusal, opened_of, opened_with, slot_rows}
 use Rattle.p3_merkle_core.specs.declared.error.MerkleTreeError.{MerkleTreeError}

@@ -11,7 +11,7 @@ use Rattle.p3_merkle_core.proofs.ShapeFacts.{widths_in_pairs}
 use Rattle.p3_support.specs.Lists.{is_among}
 use Rattle.p3_support.specs.Batches.{greatest, widths_of}
 use Rattle.p3_merkle_core.specs.Geometry.{Shape, exponent, layer_exponent, ancestor, least, layer_len, heights}
-use Rattle.p3_merkle_core.specs.Pruning.{PrunedOpening, is_boundary, boundary, boundary_at, first_rows, IsRestorable}
+use Rattle.p3_merkle_core.specs.Pruning.{PrunedOpening, is_boundary, boundary, boundary_at, IsRestorable}
 use Rattle.p3_merkle_core.specs.Refusals.{first_of, lead, matrices_at, slots_below, slot_of, unless, size_refusal, idle_refusal, queries_refusal, repeat_refusal, digest_count_refusal, width_refusal, row_refusal, group_refusal, pruned_refusal, pruned_answer, row_width_refusal, width_fault, rows_of, ok_unless}
 use Rattle.p3_merkle_core.specs.declared.error.PrunedProofError.TheVariants.{SiblingCountMismatch, InconsistentDuplicateOpenings, InconsistentGroupOpening}
 use Rattle.p3_merkle_core.specs.declared.error.MerkleTreeError.TheVariants.{WrongBatchSize, WrongWidth, IndexOutOfBounds, MalformedPrunedProof}

@@ -1,5 +1,5 @@
 -- What two openings of one cap lead to: the last difference of two of their checks, which is a collision.
-use Rattle.std.specs.Prelude.{◌≡◌, ◌≢◌, ◌⊎◌, ◌↔◌, ◌<◌, ℕ, ◌==◌, ◌&&◌, Bool, true, false, IsTrue, IsNone, IsSome, IfOk, IfSome, List, [], ◌∷◌, Option, Some, None, Result, length, slice_index, option_map}
+use Rattle.std.specs.Prelude.{◌≡◌, ◌≢◌, ◌⊎◌, ◌↔◌, ◌<◌, ℕ, ◌==◌, ◌&&◌, Bool, true, false, IsTrue, IsNone, IsSome, IfOk, IfSome, List, [], ◌∷◌, Option, None, Result, length, slice_index, option_map}
 use Rattle.std.specs.List.{range_with_len}
 use Rattle.std.specs.Option.{option_or}
 use Rattle.std.specs.Cmp.Lexicographic.{pointwise}

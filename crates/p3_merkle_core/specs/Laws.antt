@@ -1,5 +1,5 @@
 -- What holds of the definitions, whatever the hash, the compression, the batch, the openings and the cap.
-use Rattle.std.specs.Prelude.{◌≡◌, ◌≢◌, ◌↔◌, ◌⊎◌, ℕ, suc, ◌<◌, ◌≤◌, true, Bool, IsTrue, List, [], ◌∷◌, ◌++◌, Option, None, Some, Ok, Err, length, take, slice_index, All, map}
+use Rattle.std.specs.Prelude.{◌≡◌, ◌≢◌, ◌↔◌, ◌⊎◌, ℕ, suc, ◌<◌, ◌≤◌, true, Bool, IsTrue, List, [], ◌∷◌, ◌++◌, None, Ok, Err, length, take, slice_index, All, map}
 use Rattle.std.specs.List.{count_by}
 use Rattle.p3_merkle_core.specs.Geometry.{Shape, heights, levels, layer_exponent, exponent, layer_of, layer_len, halved_index, step, ancestor, arity_schedule, schedule_below, layer_below_root, is_arity, IsArity, IsLawful}
 use Rattle.p3_support.specs.Batches.{greatest}

@@ -7,10 +7,10 @@ use Rattle.p3_merkle_core.specs.Nodes.{node}
 use Rattle.p3_merkle_core.specs.Pruning.{boundary, covered_at, honest_query, restored_node, restored_path}
 use Rattle.p3_merkle_core.specs.Inner.Children.{beside, children_under, path_out_of}
 use Rattle.p3_merkle_core.specs.Refusals.{pruned_refusal}
-use Rattle.p3_merkle_core.specs.Checks.{digests_at, terms, words_at, siblings_below, path_digest}
+use Rattle.p3_merkle_core.specs.Checks.{digests_at, terms, siblings_below, path_digest}
 use Rattle.p3_merkle_core.specs.Examples.{batch, column, narrow, pruned, fold_example, extracts_pruned}
 use Rattle.p3_merkle_core.specs.declared.error.PrunedProofError.TheVariants.{SiblingCountMismatch, InconsistentDuplicateOpenings, InconsistentGroupOpening}
-use Rattle.p3_merkle_core.specs.declared.collision.Place.TheVariants.{Leaf, Group, Rows, Pair}
+use Rattle.p3_merkle_core.specs.declared.collision.Place.TheVariants.{Group}
 use Rattle.p3_merkle_core.specs.declared.error.MerkleTreeError.TheVariants.{IncompatibleHeights, IndexOutOfBounds, MalformedPrunedProof, WrongBatchSize, WrongWidth}
 
 leaves_of_four_queries : covered_at (narrow 2 (8 ∷ [])) (5 ∷ 1 ∷ 2 ∷ 1 ∷ []) 0 ≡ 1 ∷ 2 ∷ 5 ∷ []

@@ -1,6 +1,6 @@
 -- Why an opening is refused: the first reason that holds.
 use Rattle.std.specs.Prelude.{◌≡◌, ◌⊎◌, ℕ, suc, false, slice_get, ◌==◌, ◌&&◌, nat_lt, Bool, if◌then◌else◌, List, [], ◌∷◌, map, length, filter, zip, unwrap_or, option_map, slice_index, slice_index_or, Option, Some, None, Result, Ok, Err, MatchResult, Decides}
-use Rattle.std.specs.List.{list_all, list_any, range_with_len, enumerate_from}
+use Rattle.std.specs.List.{list_all, range_with_len, enumerate_from}
 use Rattle.std.specs.Option.{option_or}
 use Rattle.std.specs.Cmp.Lexicographic.{pointwise}
 use Rattle.p3_merkle_core.specs.Geometry.{Shape, exponent, layer_exponent, ancestor, least, heights, widths}

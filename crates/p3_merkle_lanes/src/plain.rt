@@ -4,6 +4,7 @@ ghost use Rattle.std.specs.Prelude.{◌≡◌, ℕ, ◌*◌, ◌<◌, ◌≤◌,
 ghost use Rattle.std.specs.List.{flat_map};
 ghost use Rattle.p3_support.specs.Lists.{messages as messages_of, rows_of_height};
 ghost use Rattle.p3_merkle_lanes.specs.Inner.Slots.{leaf_over, IsFilled};
+ghost use Rattle.p3_merkle_core.specs.Refusals.{rows_of};
 
 use crate::batched::lone_rows;
 use p3_support::compress::PseudoCompressionFunction;
@@ -11,7 +12,6 @@ use p3_support::hasher::CryptographicHasher;
 use p3_support::matrix::Matrix;
 use p3_support::packed::PackedValue;
 use p3_support::rows::rows_of;
-ghost use Rattle.p3_merkle_core.specs.Refusals.{rows_of};
 
 /// How many rows are lent side by side at most.
 const MAX_PIECES: usize = 16;

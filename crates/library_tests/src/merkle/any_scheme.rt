@@ -1,6 +1,6 @@
 //! What a caller that is generic in the scheme can prove: what the scheme opens is refused for want of memory alone.
 
-ghost use Rattle.std.specs.Prelude.{◌≡◌, ◌<◌, ◌↔◌, IfErr, IfOk, IsTrue};
+ghost use Rattle.std.specs.Prelude.{◌≡◌, ◌<◌, ◌↔◌, IfErr, IfOk, IsTrue, map};
 ghost use Rattle.p3_support.specs.Batches.{dimensions_in, greatest};
 
 use crate::merkle::fixtures::numbered;

@@ -1,8 +1,6 @@
 -- What is opened along the path of one index in a tree, and what is sent for several indices.
-use Rattle.std.specs.Prelude.{◌*◌, ◌/◌, ◌==◌, ◌&&◌, ℕ, suc, Bool, not, List, [], drop, filter, flat_map, length, map, take, remove, slice_index_or}
+use Rattle.std.specs.Prelude.{◌/◌, ◌==◌, ◌&&◌, ℕ, Bool, not, List, filter, length, map, slice_index_or}
 use Rattle.std.specs.List.{list_any, range_with_len}
-use Rattle.p3_merkle_core.specs.Geometry.{Shape, ancestor, position_in_group, step}
-use Rattle.p3_merkle_core.specs.Pruning.{boundary}
 
 -- a node is not covered, but another one of its group of n is
 abbrev pub is_beside : List ℕ → ℕ → ℕ → Bool

@@ -1,5 +1,5 @@
 -- What the check of an opening reads.
-use Rattle.std.specs.Prelude.{◌≡◌, ◌≤◌, ℕ, ◌==◌, List, [], ◌∷◌, ◌++◌, drop, zip, filter, flat_map, map, if◌then◌else◌}
+use Rattle.std.specs.Prelude.{◌≡◌, ◌≤◌, ℕ, ◌==◌, List, [], ◌∷◌, ◌++◌, drop, zip, filter, map, if◌then◌else◌}
 use Rattle.p3_merkle_core.specs.Geometry.{Shape, IsArity, exponent, levels}
 use Rattle.p3_merkle_core.specs.Checks.{siblings_below, words_of_exponent}
 

@@ -1,6 +1,6 @@
 -- The children of covered nodes, and the values that they take.
-use Rattle.std.specs.Prelude.{◌≡◌, ℕ, ◌+◌, ◌-◌, ◌*◌, ◌/◌, ◌%◌, ◌^◌, ◌<◌, ◌≤◌, ◌==◌, Bool, not, nat_lt, if◌then◌else◌, List, [], All, drop, filter, flat_map, fold, length, map, remove, take, zip}
-use Rattle.std.specs.List.{enumerate_from, list_any, range_with_len}
+use Rattle.std.specs.Prelude.{◌≡◌, ℕ, ◌+◌, ◌-◌, ◌*◌, ◌/◌, ◌%◌, ◌^◌, ◌<◌, ◌≤◌, Bool, not, nat_lt, if◌then◌else◌, List, [], All, drop, filter, flat_map, fold, length, map, remove, take, zip}
+use Rattle.std.specs.List.{enumerate_from, range_with_len}
 use Rattle.p3_support.specs.Lists.{is_among}
 
 -- the children of some parents, n of each, parent by parent

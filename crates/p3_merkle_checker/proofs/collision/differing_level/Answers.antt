@@ -1,13 +1,11 @@
 -- Where nothing differs above a level's group, its last difference is the group's.
-use Rattle.std.proofs.Common.{◌≡◌, Bool, true, false, List, ◌∷◌, Option, None, Some, ap, sym, ◌∙◌, refl}
-use Rattle.std.specs.Prelude.{◌&&◌, is_some, option_map, if◌then◌else◌}
+use Rattle.std.proofs.Common.{◌≡◌, Bool, false, List, ◌∷◌, Option, None, Some, ap, sym, ◌∙◌, refl}
+use Rattle.std.specs.Prelude.{◌&&◌, is_some}
 use Rattle.std.specs.Cmp.Lexicographic.{pointwise}
 use Rattle.std.proofs.lemmas.Bool.{eq-eqb, true≢false}
-use Rattle.std.proofs.lemmas.Option.{none-some}
 use Rattle.std.proofs.lemmas.Result.{IfOk-weaker}
 use Rattle.p3_merkle_core.specs.Extraction.{last_difference, input_eq}
 use Rattle.p3_merkle_core.specs.Checks.{Input, digests_at}
-use Rattle.p3_merkle_core.specs.Refusals.{unless}
 use Rattle.p3_merkle_checker.specs.Inner.Collisions.{Shows, IsDifference, first_words, second_words, inputs_above}
 use Rattle.p3_merkle_core.specs.declared.collision.Place.TheVariants.{Group}
 use Rattle.p3_merkle_core.specs.declared.collision.InputPair.{InputPair}

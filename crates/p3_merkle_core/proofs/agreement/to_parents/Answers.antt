@@ -2,7 +2,6 @@
 use Rattle.std.proofs.Common.{◌/◌, arith}
 use Rattle.p3_merkle_core.proofs.RisingFacts.{mapped_more, mapped_all}
 use Rattle.p3_merkle_core.proofs.agreement.to_parents.Goals as goal
-use Rattle.p3_merkle_core.specs.Geometry.{step}
 
 pub loop-node-preserved : goal.loop-node-preserved
 loop-node-preserved c = mapped_more (λ j. j / c.args.step) c.args.nodes.now c.loop-node.nodes c.loop-node.node-index (omega arith) c.loop-node.invariant

@@ -1,7 +1,7 @@
 -- Each turn is one level.
 use Rattle.std.proofs.Common.{◌≡◌, ◌≤◌, arith, ap, sym, ◌∙◌}
 use Rattle.std.proofs.lemmas.Bool.{cond_both}
-use Rattle.p3_merkle_core.specs.Geometry.{shape_of, exponent, is_bridge, positions_below, ancestor, step}
+use Rattle.p3_merkle_core.specs.Geometry.{shape_of, exponent, is_bridge, positions_below}
 use Rattle.p3_merkle_core.proofs.StepFacts.{layer_start, next_at, anc_start, ancestor_more, position_more}
 use Rattle.p3_merkle_core.proofs.geometry.positions_below_of.Goals as goal
 

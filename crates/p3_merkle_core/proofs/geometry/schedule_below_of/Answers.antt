@@ -1,6 +1,6 @@
 -- Each turn is one level.
 use Rattle.std.proofs.Common.{◌≡◌, arith, ap, sym, ◌∙◌}
-use Rattle.p3_merkle_core.specs.Geometry.{shape_of, exponent, schedule_below, step}
+use Rattle.p3_merkle_core.specs.Geometry.{shape_of, exponent, schedule_below}
 use Rattle.p3_merkle_core.proofs.StepFacts.{layer_start, next_at, schedule_more}
 use Rattle.p3_merkle_core.proofs.geometry.schedule_below_of.Goals as goal
 

@@ -1,6 +1,6 @@
 -- Each turn is one level.
 use Rattle.std.proofs.Common.{◌≡◌, length, refl, arith, ap, sym, ◌∙◌}
-use Rattle.p3_merkle_core.specs.Geometry.{shape_of, exponent, step}
+use Rattle.p3_merkle_core.specs.Geometry.{shape_of, exponent}
 use Rattle.p3_merkle_core.specs.Pruning.{CanQuery, pruned_len}
 use Rattle.p3_merkle_core.proofs.StepFacts.{layer_start, next_at, step_at, step_above_1}
 use Rattle.p3_merkle_core.proofs.CoveredFacts.{turned}

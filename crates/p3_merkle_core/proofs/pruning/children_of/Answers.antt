@@ -5,7 +5,6 @@ use Rattle.p3_merkle_core.proofs.ChildFacts.{IsSent, walk_start, walk_end, known
 use Rattle.p3_merkle_core.proofs.pruning.children_of.Given.{Over}
 use Rattle.p3_merkle_core.proofs.pruning.children_of.Goals as goal
 use Rattle.p3_merkle_core.proofs.pruning.children_of.Goals.{then-known-covered+then-covered-known+in_ok-push, else-known-covered+in_ok-push-2, else-known-covered-via-then-known-covered+else-covered-known, else-known-covered-via-else-known-covered}
-use Rattle.p3_merkle_core.specs.Geometry.{step}
 
 pub overflow_mul-count : goal.overflow_mul-count
 overflow_mul-count g c = record { fits = c.requires.few }

@@ -1,7 +1,6 @@
 use Rattle.p3_merkle_core.specs.Inner.Children.{children_under}
 use Rattle.p3_merkle_core.proofs.ChildFacts.{IsWalked}
 use Rattle.p3_merkle_core.proofs.pruning.children_of.Given as goal
-use Rattle.p3_merkle_core.specs.Geometry.{step}
 
 -- the values of the children so far, of which `known` are covered
 abbrev pub invariant-loop-place : goal.invariant-loop-place

@@ -6,7 +6,6 @@ use Rattle.std.proofs.lemmas.List.Filters.{dedup_is}
 use Rattle.p3_merkle_core.proofs.RisingFacts.{mapped_more, mapped_all}
 use Rattle.p3_merkle_core.proofs.SlotFacts.{parents_once}
 use Rattle.p3_merkle_core.proofs.pruning.climb.Goals as goal
-use Rattle.p3_merkle_core.specs.Geometry.{step}
 
 pub loop-node-preserved : goal.loop-node-preserved
 loop-node-preserved c = mapped_more (λ j. j / c.args.step) c.deref_mut-node-items.result.now c.loop-node.node-items c.loop-node.node-index (omega arith) c.loop-node.invariant

@@ -1,6 +1,5 @@
 use Rattle.std.proofs.Common.{◌≡◌, ◌/◌, ◌++◌, map, take, drop}
 use Rattle.p3_merkle_core.proofs.pruning.climb.Given as goal
-use Rattle.p3_merkle_core.specs.Geometry.{step}
 
 -- the first nodes have given way to their parents
 abbrev pub invariant-loop-node : goal.invariant-loop-node

@@ -1,7 +1,6 @@
 -- The two slices beside the node's own value, at the place of its parent.
 use Rattle.p3_merkle_core.proofs.KeptFacts.{found_siblings, missed_siblings}
 use Rattle.p3_merkle_core.proofs.pruning.extend_with_siblings.Goals as goal
-use Rattle.p3_merkle_core.specs.Geometry.{step}
 
 pub returns-in_ok-extend_from_slice-2 : goal.returns-in_ok-extend_from_slice-2
 returns-in_ok-extend_from_slice-2 g c =

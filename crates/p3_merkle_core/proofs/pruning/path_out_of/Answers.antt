@@ -3,7 +3,6 @@ use Rattle.std.proofs.Common.{arith, map}
 use Rattle.std.proofs.lemmas.List.{length-map}
 use Rattle.p3_merkle_core.proofs.KeptFacts.{path_end, path_more, path_start}
 use Rattle.p3_merkle_core.proofs.pruning.path_out_of.Goals as goal
-use Rattle.p3_merkle_core.specs.Geometry.{step}
 
 pub loop-level-init : goal.loop-level-init
 loop-level-init g c = path_start (map (λ level. (level.parents.items, level.step, level.children.items)) c.args.levels.now) c.args.index c.new-path.result.items c.new-path.ensures.items

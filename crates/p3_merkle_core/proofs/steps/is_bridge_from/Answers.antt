@@ -1,5 +1,5 @@
 -- The next exponent tells it.
-use Rattle.std.proofs.Common.{◌≡◌, ◌-◌, ◌∙◌, ap, nat_lt, sym}
+use Rattle.std.proofs.Common.{◌-◌, ◌∙◌, ap, nat_lt}
 use Rattle.p3_merkle_core.specs.Geometry.{exponent}
 use Rattle.p3_merkle_core.proofs.RungFacts.{bridge_told}
 use Rattle.p3_merkle_core.proofs.steps.is_bridge_from.Goals as goal

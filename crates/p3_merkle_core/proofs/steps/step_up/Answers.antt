@@ -1,5 +1,5 @@
 -- No exponent of a matrix lies between where a step starts and where it leads.
-use Rattle.std.proofs.Common.{arith, ◌≡◌, ◌-◌, ◌∙◌, ap, cond, sym, true, false, inl, inr}
+use Rattle.std.proofs.Common.{arith, ◌-◌, ◌∙◌, sym, inl, inr}
 use Rattle.std.proofs.lemmas.Bool.{cases_Bool}
 use Rattle.p3_merkle_core.specs.Geometry.{exponent}
 use Rattle.p3_support.specs.Batches.{heights_of}

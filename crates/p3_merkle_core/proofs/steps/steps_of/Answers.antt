@@ -1,6 +1,6 @@
 -- Each turn keeps one step of the walk.
 use Rattle.std.proofs.Common.{◌<◌, arith, length, length-set, refl, sym, ◌∙◌}
-use Rattle.p3_merkle_core.specs.Geometry.{shape_of, step}
+use Rattle.p3_merkle_core.specs.Geometry.{shape_of}
 use Rattle.p3_merkle_core.proofs.KeptSteps.{kept_more, level_is}
 use Rattle.p3_merkle_core.proofs.StepFacts.{at_start, at_more, at_end, layer_start, next_falls}
 use Rattle.p3_merkle_core.proofs.steps.steps_of.Goals as goal

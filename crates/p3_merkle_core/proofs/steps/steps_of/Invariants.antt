@@ -1,6 +1,6 @@
 use Rattle.std.proofs.Common.{◌≡◌, length, map, take}
 use Rattle.std.specs.List.{range_with_len}
-use Rattle.p3_merkle_core.specs.Geometry.{layer_exponent, shape_of}
+use Rattle.p3_merkle_core.specs.Geometry.{shape_of}
 use Rattle.p3_support.specs.Batches.{heights_of}
 use Rattle.p3_merkle_core.specs.Inner.Rungs.{IsRung}
 use Rattle.p3_merkle_core.specs.Inner.Steps.{level_step}

@@ -1,6 +1,6 @@
 -- Each turn is one level.
-use Rattle.std.proofs.Common.{◌≡◌, ◌<◌, arith, sym, add-one}
-use Rattle.p3_merkle_core.specs.Geometry.{levels, shape_of, step}
+use Rattle.std.proofs.Common.{◌<◌, arith, sym, add-one}
+use Rattle.p3_merkle_core.specs.Geometry.{levels, shape_of}
 use Rattle.p3_merkle_core.proofs.SiblingFacts.{siblings_next, siblings_start, step_is}
 use Rattle.p3_merkle_core.proofs.HalvingFacts.{siblings_halved}
 use Rattle.p3_merkle_core.proofs.steps.Steps.siblings_below.Goals as goal

@@ -1,6 +1,6 @@
 -- The step that is kept.
 use Rattle.std.proofs.Common.{ap, cond, false, sym, ◌∙◌}
-use Rattle.p3_merkle_core.specs.Geometry.{shape_of, step}
+use Rattle.p3_merkle_core.specs.Geometry.{shape_of}
 use Rattle.p3_merkle_core.proofs.KeptSteps.{kept_at}
 use Rattle.p3_merkle_core.proofs.steps.Steps.step.Goals as goal
 

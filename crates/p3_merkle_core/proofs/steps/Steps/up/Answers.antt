@@ -1,6 +1,6 @@
 -- The step that is kept.
-use Rattle.std.proofs.Common.{◌≡◌, ◌-◌, ap, cond, false, sym, ◌∙◌}
-use Rattle.p3_merkle_core.specs.Geometry.{exponent, is_bridge, layer_exponent, shape_of, step}
+use Rattle.std.proofs.Common.{◌-◌, ap, cond, false, sym, ◌∙◌}
+use Rattle.p3_merkle_core.specs.Geometry.{exponent, is_bridge, layer_exponent, shape_of}
 use Rattle.p3_merkle_core.proofs.KeptSteps.{kept_at}
 use Rattle.p3_merkle_core.proofs.StepFacts.{next_exponent}
 use Rattle.p3_merkle_core.proofs.steps.Steps.up.Goals as goal
