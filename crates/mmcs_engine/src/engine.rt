@@ -55,7 +55,8 @@ pub fn run<Src: Read, Dst: Write>(
     input: &mut Src,
     output: &mut Dst,
 ) -> Result<(), Fault>
-    ensures { IsAnswer Src.remaining Dst.contents (texts_of words.now) input.old input.new output.old output.new result }
+    ensures { IsAnswer Src.remaining Dst.contents (texts_of words.now) input.old input.new output.old output.new
+        result }
 {
     let text = answer_to(alloc, words, input)?;
     write_text(output, &text)
@@ -70,7 +71,8 @@ fn answer_to<Src: Read>(alloc: Global, words: &[String], input: &mut Src) -> Res
     ensures usage { (result ≡ Err Fault.Usage) ↔ AreNoCommand (texts_of words.now) }
     ensures unread { result ≡ Err Fault.Usage → input.new ≡ input.old }
     ensures text { IfOk result (λ text. Prints (texts_of words.now) (Src.remaining input.old) (λ t. text.items ≡ t)) }
-    ensures fault { IfErr result (λ fault. (fault ≡ Fault.Write → ⊥) × IsTold (texts_of words.now) (Src.remaining input.old) fault) }
+    ensures fault { IfErr result
+        (λ fault. (fault ≡ Fault.Write → ⊥) × IsTold (texts_of words.now) (Src.remaining input.old) fault) }
 {
     let request = Request::from_words(alloc, words)?;
     let bytes = read_all(alloc, input)?;
@@ -118,7 +120,8 @@ fn write_text<Dst: Write>(output: &mut Dst, text: &[u8]) -> Result<(), Fault>
 /// `Number` or `Count` for the first faulty line; else `Tree`: why the tree refuses the heights, else `IndexOutOfBounds`
 /// for the highest index; or `Tree(OutOfMemory)`.
 fn reply(alloc: Global, request: &Request, input: &[u8]) -> Result<Vec<u8>, Fault>
-    ensures text { IfOk result (λ text. IsReply request.now.command request.now.indices.items input.now (Ok text.items)) }
+    ensures text { IfOk result
+        (λ text. IsReply request.now.command request.now.indices.items input.now (Ok text.items)) }
     ensures fault { IfErr result (λ fault. (fault ≡ Fault.Tree OutOfMemory) ⊎
         IsReply request.now.command request.now.indices.items input.now (Err fault)) }
 {
@@ -144,7 +147,8 @@ fn reply_by<S: Suite<N>, const N: usize>(
 ) -> Result<Vec<u8>, Fault>
     requires hash { S.name ≡ request.now.command.hash }
     requires arity { N ≡ arity_number request.now.command.arity }
-    ensures text { IfOk result (λ text. IsReply request.now.command request.now.indices.items input.now (Ok text.items)) }
+    ensures text { IfOk result
+        (λ text. IsReply request.now.command request.now.indices.items input.now (Ok text.items)) }
     ensures fault { IfErr result (λ fault. (fault ≡ Fault.Tree OutOfMemory) ⊎
         IsReply request.now.command request.now.indices.items input.now (Err fault)) }
 {
@@ -167,7 +171,8 @@ fn act<S: Suite<N>, const N: usize>(
     ensures text { let b = S.given matrices in
         IfOk result (λ text. text.items ≡ text_of S.name request.now.command.action request.now.indices.items b
         (layer_of_cap request.now.command.cap (shape b))) }
-    ensures answer { AnswersUnlessMemory result (pruned_len_refusal (shape (S.given matrices)) request.now.indices.items) }
+    ensures answer { AnswersUnlessMemory result
+        (pruned_len_refusal (shape (S.given matrices)) request.now.indices.items) }
 {
     let cap = request.command.cap;
     let indices = request.indices.as_slice();

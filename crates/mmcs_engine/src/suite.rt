@@ -125,7 +125,8 @@ pub trait Suite<const N: usize> {
         ensures memory { AnswersUnlessMemory result None }
         ensures rows { IfOk result (λ o. rows o ≡ map (honest_rows (batch tree.now)) indices.now) }
         ensures digests { let s = shape (batch tree.now) in
-            IfOk result (λ o. digests o ≡ boundary_by (node_in [] (nodes tree.now)) s indices.now (layer_of_cap cap s)) }
+            IfOk result (λ o. digests o ≡ boundary_by (node_in [] (nodes tree.now)) s indices.now
+            (layer_of_cap cap s)) }
         ensures accepted { let b = batch tree.now in let t = layer_of_cap cap (shape b) in
             nodes tree.now ≡ layers (functions_of_hash name) b →
             IfOk result (λ o. IsPrunedAccepted (terms (functions_of_hash name) (shape b) t)
@@ -171,7 +172,8 @@ pub trait Suite<const N: usize> {
         place: usize,
     ) -> Result<(), AllocError>
         requires { place < length (rows opening.now) }
-        ensures { OnOk result (text.new.items ≡ text.old.items ++ flat_map row_line (slice_index_or (rows opening.now) place [])) };
+        ensures { OnOk result
+            (text.new.items ≡ text.old.items ++ flat_map row_line (slice_index_or (rows opening.now) place [])) };
 
     /// How many digests are sent.
     fn num_digests(opening: &Self::Opening) -> usize

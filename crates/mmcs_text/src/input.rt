@@ -79,8 +79,12 @@ fn without_return(line: &[u8]) -> &[u8]
 
 /// The number, at most `max`, that a digit makes with those in front of it, of which `before` is the number.
 fn with_digit(before: Option<u32>, digit: u8, max: u32) -> Option<u32>
-    ensures some { IfSome result (λ number. (digits : List ℕ) → IsRead (max + 1) digits before → IsRead (max + 1) (digits ++ digit ∷ []) result) }
-    ensures none { IfNone result ((digits more : List ℕ) → IsRead (max + 1) digits before → (IsNumberBelow (max + 1) ((digits ++ digit ∷ []) ++ more) → ⊥)) }
+    ensures some { IfSome result
+        (λ number. (digits : List ℕ) → IsRead (max + 1) digits before →
+        IsRead (max + 1) (digits ++ digit ∷ []) result) }
+    ensures none { IfNone result
+        ((digits more : List ℕ) → IsRead (max + 1) digits before →
+        (IsNumberBelow (max + 1) ((digits ++ digit ∷ []) ++ more) → ⊥)) }
 {
     if !digit.is_ascii_digit() {
         return None;
@@ -215,7 +219,8 @@ pub fn read_matrices<W: Word>(alloc: Global, input: &[u8]) -> Result<Vec<RowMajo
     ensures matrices { IfOk result (λ found.
         (matrices : List (List (List ℕ))) × StandsFor (W.MAX + 1) input.now matrices ×
         (map (stored_matrix (map W.value)) found.items ≡ map matrix_of_rows matrices)) }
-    ensures fault { IfErr result (λ fault. (fault ≡ Tree OutOfMemory) ⊎ IsFirstFault (W.MAX + 1) (pieces_of input.now) fault) }
+    ensures fault { IfErr result
+        (λ fault. (fault ≡ Tree OutOfMemory) ⊎ IsFirstFault (W.MAX + 1) (pieces_of input.now) fault) }
 {
     let mut matrices = Vec::new(alloc);
     let mut block = Block::new(alloc);

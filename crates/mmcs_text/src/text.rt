@@ -117,7 +117,8 @@ pub fn push_rows<W: Word>(
     text: &mut Vec<u8>,
     rows: &[Vec<W>],
 ) -> Result<(), AllocError>
-    ensures { OnOk result (text.new.items ≡ text.old.items ++ flat_map row_line (map (λ row. map W.value row.items) rows.now)) }
+    ensures { OnOk result
+        (text.new.items ≡ text.old.items ++ flat_map row_line (map (λ row. map W.value row.items) rows.now)) }
 {
     for row in rows {
         push_row(alloc, text, row)?;
@@ -161,7 +162,8 @@ fn row_line<W: Word>(alloc: Global, row: &[W]) -> Result<String, AllocError>
 ///
 /// `AllocError` where there is no memory.
 fn push_spaced<W: Word>(line: &mut String, words: &[W]) -> Result<(), AllocError>
-    ensures { OnOk result (string_bytes line.new ≡ string_bytes line.old ++ flat_map (λ w. 32 ∷ decimal w) (map W.value words.now)) }
+    ensures { OnOk result
+        (string_bytes line.new ≡ string_bytes line.old ++ flat_map (λ w. 32 ∷ decimal w) (map W.value words.now)) }
 {
     for word in words {
         let number = word.to_number();

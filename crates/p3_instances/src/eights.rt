@@ -101,7 +101,8 @@ fn four_columns(messages: &[u32], width: usize, first: usize, column: usize) -> 
     requires full { (n : ℕ) × (first + 4 ≤ n) × (length messages.now ≡ n * width) }
     requires room { first + 4 < 2 ^ 64 }
     requires inside { column + 4 ≤ width }
-    ensures columns { let row = (λ (k : ℕ). slice_range (message_of width messages.now (first + k)) column (column + 4)) in
+    ensures columns { let row =
+        (λ (k : ℕ). slice_range (message_of width messages.now (first + k)) column (column + 4)) in
         result ≡ turned (row 0) (row 1) (row 2) (row 3) }
     ensures long { (k : ℕ) → k < 4 →
         length (slice_range (message_of width messages.now (first + k)) column (column + 4)) ≡ 4 }

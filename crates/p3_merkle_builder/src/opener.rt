@@ -108,7 +108,8 @@ pub fn siblings_of_index<F, X: Copy, G, M: Matrix<F>, const N: usize>(
 ) -> Result<Vec<X>, MerkleTreeError>
     requires index { index < greatest (heights (shape (tree_batch tree.now))) }
     requires layer { t ≤ levels (shape (tree_batch tree.now)) }
-    ensures siblings { (d : X) → let own = siblings_by (node_in d (layers_of tree.now)) (shape (tree_batch tree.now)) t index in
+    ensures siblings { (d : X) → let own = siblings_by (node_in d (layers_of tree.now))
+        (shape (tree_batch tree.now)) t index in
         IfOk result (λ siblings. siblings.items ≡ own) }
     ensures memory { AnswersUnlessMemory result None }
 {

@@ -61,7 +61,8 @@ pub fn digests_of_boundary<F, X: Copy, G, M: Matrix<F>, const N: usize>(
 ) -> Result<Vec<X>, MerkleTreeError>
     requires indices { All (λ index. index < greatest (heights (shape (tree_batch tree.now)))) indices.now }
     requires layer { t ≤ levels (shape (tree_batch tree.now)) }
-    ensures digests { (d : X) → let own = boundary_by (node_in d (layers_of tree.now)) (shape (tree_batch tree.now)) indices.now t in
+    ensures digests { (d : X) → let own = boundary_by (node_in d (layers_of tree.now))
+        (shape (tree_batch tree.now)) indices.now t in
         IfOk result (λ digests. digests.items ≡ own) }
     ensures memory { AnswersUnlessMemory result None }
 {

@@ -79,7 +79,8 @@ impl<F: Copy, W: Copy, M: Matrix<F> + Drop, const N: usize, const D: usize> Merk
         ensures answer { let b = batch_of M.height_of M.width_of M.row_of N leaves.items in
             AnswersUnlessMemory result (gate_refusal (heights (shape b))) }
         ensures matrices { IfOk result (λ tree. matrices_of tree ≡ leaves.items) }
-        ensures layers { let f = functions_of (H.hash hash.now) (C.compression compress.now) (replicate D PW.default_value) in
+        ensures layers { let f = functions_of (H.hash hash.now) (C.compression compress.now)
+            (replicate D PW.default_value) in
             let b = batch_of M.height_of M.width_of M.row_of N leaves.items in
             IfOk result (λ tree. layers_of tree ≡ layers_over f b) }
     {
@@ -100,7 +101,8 @@ impl<F: Copy, W: Copy, M: Matrix<F> + Drop, const N: usize, const D: usize> Merk
         ensures answer { let b = batch_of M.height_of M.width_of M.row_of N leaves.items in
             AnswersUnlessMemory result (gate_refusal (heights (shape b))) }
         ensures matrices { IfOk result (λ tree. matrices_of tree ≡ leaves.items) }
-        ensures layers { let f = functions_of (H.hash hash.now) (C.compression compress.now) (replicate D PW.default_value) in
+        ensures layers { let f = functions_of (H.hash hash.now) (C.compression compress.now)
+            (replicate D PW.default_value) in
             let b = batch_of M.height_of M.width_of M.row_of N leaves.items in
             IfOk result (λ tree. layers_of tree ≡ layers_over f b) }
     {
@@ -127,7 +129,8 @@ impl<F: Copy, W: Copy, M: Matrix<F> + Drop, const N: usize, const D: usize> Merk
 
     /// The digest at the top: the one node of the last layer.
     pub fn root(&self) -> Hash<'_, F, W, D>
-        ensures { slice_get (layers_of self.now) (levels (shape (tree_batch self.now))) ≡ Some (lent_digest result ∷ []) }
+        ensures { slice_get (layers_of self.now) (levels (shape (tree_batch self.now))) ≡
+            Some (lent_digest result ∷ []) }
     {
         let top = &self.layers[self.num_layers() - 1];
         Hash::from(&top[0])
@@ -153,7 +156,8 @@ impl<F: Copy, W: Copy, M: Matrix<F> + Drop, const N: usize, const D: usize> Merk
         cap_height: usize,
     ) -> Result<MerkleCap<F, [W; D]>, MerkleTreeError>
         requires { cap_height < length (layers_of self.now) }
-        ensures { let layer = slice_get (layers_of self.now) (layer_below_root (shape (tree_batch self.now)) cap_height) in
+        ensures { let layer = slice_get (layers_of self.now)
+            (layer_below_root (shape (tree_batch self.now)) cap_height) in
             MatchResult result (λ cap. layer ≡ Some (roots_of cap)) (λ e. e ≡ OutOfMemory) }
     {
         let layer = &self.layers[self.num_layers() - 1 - cap_height];

@@ -53,7 +53,8 @@ pub(crate) fn differing_words<T: Copy + Eq + Drop, W, const D: usize>(
 ) -> Result<Option<Collision<T, W, D>>, AllocError>
     ensures { let mine = first_words rows.now in
         let theirs = second_words rows.now in
-        IfOk result (λ found. IsDifference found (pointwise T.eq mine theirs) (words_at place mine, words_at place theirs)) }
+        IfOk result (λ found. IsDifference found (pointwise T.eq mine theirs)
+        (words_at place mine, words_at place theirs)) }
 {
     let first: Vec<T> = opened_rows(rows.dimensions, rows.first, rows.exponent).collect(alloc)?;
     let second: Vec<T> = opened_rows(rows.dimensions, rows.second, rows.exponent).collect(alloc)?;

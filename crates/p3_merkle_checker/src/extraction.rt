@@ -50,12 +50,16 @@ impl<
         second: IndexedOpening<'_, P::Value, [PW::Value; D]>,
     ) -> Result<Option<Collision<P::Value, PW::Value, D>>, MerkleTreeError>
         requires { CanCheck (shape_of N dimensions.now) t }
-        ensures answer { let f = functions_of (H.hash self.now.hash.now) (C.compression self.now.compress.now) (replicate D PW.default_value) in
+        ensures answer { let f = functions_of (H.hash self.now.hash.now) (C.compression self.now.compress.now)
+            (replicate D PW.default_value) in
             let refusal = refusal_under PW.Value.eq (terms f (shape_of N dimensions.now) t) roots.now in
-            AnswersUnlessMemory result (option_or (refusal (opening_in first.entry)) (refusal (opening_in second.entry))) }
-        ensures found { let f = functions_of (H.hash self.now.hash.now) (C.compression self.now.compress.now) (replicate D PW.default_value) in
+            AnswersUnlessMemory result
+            (option_or (refusal (opening_in first.entry)) (refusal (opening_in second.entry))) }
+        ensures found { let f = functions_of (H.hash self.now.hash.now) (C.compression self.now.compress.now)
+            (replicate D PW.default_value) in
             let c = terms f (shape_of N dimensions.now) t in
-            let difference = difference_of P.Value.eq PW.Value.eq c (opening_in first.entry) (opening_in second.entry) in
+            let difference = difference_of P.Value.eq PW.Value.eq c (opening_in first.entry)
+            (opening_in second.entry) in
             IfOk result (λ found. Shows found difference) }
     {
         let steps = steps_of(dimensions, N);

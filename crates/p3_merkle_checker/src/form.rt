@@ -29,7 +29,8 @@ pub(crate) fn check_form<T>(
     num_siblings: usize,
 ) -> Result<(), MerkleTreeError>
     requires { CanCheck (shape_of steps.now.arity steps.now.dimensions.now) t }
-    ensures { let refusal = form_refusal (shape_of steps.now.arity steps.now.dimensions.now) t index (row_lists rows.now) num_siblings in
+    ensures { let refusal = form_refusal (shape_of steps.now.arity steps.now.dimensions.now) t index
+        (row_lists rows.now) num_siblings in
         MatchResult result (λ ok. refusal ≡ None) (λ e. refusal ≡ Some e) }
 {
     let dimensions = steps.dimensions;

@@ -161,10 +161,12 @@ impl<
     ) -> CheckedLevel<[PW::Value; D], [[PW::Value; D]; N]>
         requires arity { steps.now.arity ≡ N }
         requires level { level < steps.now.num_levels }
-        requires stands { let f = functions_of (H.hash self.now.hash.now) (C.compression self.now.compress.now) (replicate D PW.default_value) in
+        requires stands { let f = functions_of (H.hash self.now.hash.now) (C.compression self.now.compress.now)
+            (replicate D PW.default_value) in
             StandsAt f (shape_of N steps.now.dimensions.now) (opening_in opening) level standing.now }
         requires climbs { CanClimb (shape_of N steps.now.dimensions.now) level (length opening.siblings.now) }
-        ensures { let f = functions_of (H.hash self.now.hash.now) (C.compression self.now.compress.now) (replicate D PW.default_value) in
+        ensures { let f = functions_of (H.hash self.now.hash.now) (C.compression self.now.compress.now)
+            (replicate D PW.default_value) in
             IsLevel f (shape_of N steps.now.dimensions.now) (opening_in opening.entry) level result }
     {
         let StepUp {

@@ -39,7 +39,8 @@ impl<
     ) -> ([PW::Value; D], usize)
         requires arity { steps.now.arity ≡ N }
         requires reach { CanReach (shape_of N steps.now.dimensions.now) t (length opening.siblings.now) }
-        ensures digest { let f = functions_of (H.hash self.now.hash.now) (C.compression self.now.compress.now) (replicate D PW.default_value) in
+        ensures digest { let f = functions_of (H.hash self.now.hash.now) (C.compression self.now.compress.now)
+            (replicate D PW.default_value) in
             result.0 ≡ path_digest f (shape_of N steps.now.dimensions.now) (opening_in opening.entry) t }
         ensures node { result.1 ≡ ancestor (shape_of N steps.now.dimensions.now) t opening.entry.index }
     {
@@ -69,8 +70,10 @@ impl<
     ) -> Result<(), MerkleTreeError>
         requires arity { steps.now.arity ≡ N }
         requires check { CanCheck (shape_of N steps.now.dimensions.now) t }
-        ensures { let f = functions_of (H.hash self.now.hash.now) (C.compression self.now.compress.now) (replicate D PW.default_value) in
-            result ≡ answer_under PW.Value.eq (terms f (shape_of N steps.now.dimensions.now) t) roots.now (opening_in opening.entry) }
+        ensures { let f = functions_of (H.hash self.now.hash.now) (C.compression self.now.compress.now)
+            (replicate D PW.default_value) in
+            result ≡ answer_under PW.Value.eq (terms f (shape_of N steps.now.dimensions.now) t) roots.now
+            (opening_in opening.entry) }
     {
         let (index, num_siblings) = (opening.index, opening.siblings.len());
         check_form(steps, t, index, opening.rows, num_siblings)?;

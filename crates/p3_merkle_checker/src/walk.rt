@@ -56,9 +56,11 @@ impl<
         alloc: Global,
         openings: &OpeningPair<'_, P::Value, [PW::Value; D], N>,
     ) -> Result<Option<Collision<P::Value, PW::Value, D>>, AllocError>
-        ensures { let f = functions_of (H.hash self.now.hash.now) (C.compression self.now.compress.now) (replicate D PW.default_value) in
+        ensures { let f = functions_of (H.hash self.now.hash.now) (C.compression self.now.compress.now)
+            (replicate D PW.default_value) in
             let c = terms f (shape_of N openings.now.dimensions.now) openings.now.t in
-            let difference = difference_of P.Value.eq PW.Value.eq c (opening_in openings.now.first) (opening_in openings.now.second) in
+            let difference = difference_of P.Value.eq PW.Value.eq c (opening_in openings.now.first)
+            (opening_in openings.now.second) in
             IfOk result (λ found. Shows found difference) }
     {
         let dimensions = openings.dimensions;

@@ -61,7 +61,8 @@ fn first_queries(
 
 /// The slot of an index that is queried: its place among the distinct indices, ascending.
 fn slot_of_index(leaves: &[usize], index: usize) -> usize
-    ensures { (indices : List ℕ) → leaves.now ≡ distinct indices → IsTrue (is_among indices index) → IsSlot indices index result }
+    ensures { (indices : List ℕ) → leaves.now ≡ distinct indices → IsTrue (is_among indices index) →
+        IsSlot indices index result }
 {
     match leaves.binary_search(&index) {
         Ok(slot) => slot,
@@ -104,7 +105,8 @@ fn check_first_widths<T>(
     firsts: &[usize],
 ) -> Result<(), MerkleTreeError>
     requires { All (λ query. query < length rows.now) firsts.now }
-    ensures { let refusal = first_of (λ query. width_refusal dimensions.now (slice_index_or (row_sets rows.now) query [])) firsts.now in
+    ensures { let refusal = first_of
+        (λ query. width_refusal dimensions.now (slice_index_or (row_sets rows.now) query [])) firsts.now in
         MatchResult result (λ ok. refusal ≡ None) (λ e. refusal ≡ Some e) }
 {
     for query in firsts {
@@ -127,7 +129,8 @@ fn check_same_rows<T: Eq>(
 ) -> Result<(), MerkleTreeError>
     requires rows { length rows.now ≡ length dimensions.now }
     requires lead { length lead.now ≡ length dimensions.now }
-    ensures { let refusal = rows_refusal T.eq (heights_of dimensions.now) x slot (row_lists rows.now) (row_lists lead.now) in
+    ensures { let refusal = rows_refusal T.eq (heights_of dimensions.now) x slot (row_lists rows.now)
+        (row_lists lead.now) in
         MatchResult result (λ ok. refusal ≡ None) (λ e. refusal ≡ Some e) }
 {
     for matrix in 0..dimensions.len() {
@@ -178,7 +181,8 @@ fn check_layer<T: Eq>(
     requires pairs { length nodes.now ≡ length firsts.now }
     requires ascending { IsAscending nodes.now }
     requires queries { All (λ query. query < length rows.now) firsts.now }
-    requires full { (k : ℕ) → k < length firsts.now → length (slot_rows firsts.now (row_sets rows.now) k) ≡ length dimensions.now }
+    requires full { (k : ℕ) → k < length firsts.now → length (slot_rows firsts.now (row_sets rows.now) k) ≡
+        length dimensions.now }
     ensures { let refusal = nodes_refusal T.eq (heights_of dimensions.now) x nodes.now firsts.now (row_sets rows.now) in
         MatchResult result (λ ok. refusal ≡ None) (λ e. refusal ≡ Some e) }
 {
@@ -234,8 +238,10 @@ fn check_groups<T: Eq>(
     requires pairs { length slots.now.leaves.items ≡ length slots.now.firsts.items }
     requires ascending { IsAscending slots.now.leaves.items }
     requires queries { All (λ query. query < length rows.now) slots.now.firsts.items }
-    requires full { (k : ℕ) → k < length slots.now.firsts.items → length (slot_rows slots.now.firsts.items (row_sets rows.now) k) ≡ length dimensions.now }
-    ensures { let refusal = layers_refusal T.eq (shape_of arity dimensions.now) t slots.now.leaves.items slots.now.firsts.items (row_sets rows.now) in
+    requires full { (k : ℕ) → k < length slots.now.firsts.items →
+        length (slot_rows slots.now.firsts.items (row_sets rows.now) k) ≡ length dimensions.now }
+    ensures { let refusal = layers_refusal T.eq (shape_of arity dimensions.now) t slots.now.leaves.items
+        slots.now.firsts.items (row_sets rows.now) in
         AnswersUnlessMemory result refusal }
 {
     let mut nodes = Vec::from_slice(alloc, &slots.leaves)?;
@@ -271,7 +277,8 @@ pub fn check_pruned<T: Eq>(
 ) -> Result<Slots, MerkleTreeError>
     requires arity { IsArity arity }
     requires layer { t ≤ levels (shape_of arity dimensions.now) }
-    ensures { let refusal = pruned_refusal T.eq (shape_of arity dimensions.now) t (opened_with indices.now (row_sets rows.now) num_digests) in
+    ensures { let refusal = pruned_refusal T.eq (shape_of arity dimensions.now) t
+        (opened_with indices.now (row_sets rows.now) num_digests) in
         MatchResult result (λ slots. (refusal ≡ None) × HasSlots slots indices.now) (λ e. (e ≡ OutOfMemory) ⊎ (refusal ≡ Some e)) }
 {
     check_queries(dimensions, indices, rows.len(), num_digests)?;
@@ -351,7 +358,8 @@ fn check_idle(indices: &[usize], num_digests: usize) -> Result<(), MerkleTreeErr
 
 /// Whether a proof has as many digests as it should have.
 fn check_digest_count(expected: usize, got: usize) -> Result<(), MerkleTreeError>
-    ensures { MatchResult result (λ ok. digest_count_refusal expected got ≡ None) (λ e. digest_count_refusal expected got ≡ Some e) }
+    ensures { MatchResult result (λ ok. digest_count_refusal expected got ≡ None)
+        (λ e. digest_count_refusal expected got ≡ Some e) }
 {
     if expected == got {
         Ok(())
@@ -376,7 +384,8 @@ fn check_slots<T: Eq>(
     requires pairs { length slots.now.leaves.items ≡ length slots.now.firsts.items }
     requires ascending { IsAscending slots.now.leaves.items }
     requires queries { All (λ query. query < length rows.now) slots.now.firsts.items }
-    ensures { let refusal = late_refusal T.eq (shape_of arity dimensions.now) t slots.now.leaves.items slots.now.firsts.items (row_sets rows.now) in
+    ensures { let refusal = late_refusal T.eq (shape_of arity dimensions.now) t slots.now.leaves.items
+        slots.now.firsts.items (row_sets rows.now) in
         AnswersUnlessMemory result refusal }
 {
     check_first_widths(dimensions, rows, &slots.firsts)?;

@@ -106,7 +106,8 @@ fn first_off_ladder_of(dimensions: &[Dimensions], tallest: usize) -> Option<usiz
 /// `EmptyBatch` where no matrix has a row; else `TooLarge` for the first height above [`MAX_HEIGHT`]; else
 /// `IncompatibleHeights` for the first height that is not the tallest one halved and rounded up some number of times.
 pub fn check_heights(dimensions: &[Dimensions]) -> Result<(), MerkleTreeError>
-    ensures answer { MatchResult result (λ ok. gate_refusal (heights_of dimensions.now) ≡ None) (λ e. gate_refusal (heights_of dimensions.now) ≡ Some e) }
+    ensures answer { MatchResult result (λ ok. gate_refusal (heights_of dimensions.now) ≡ None)
+        (λ e. gate_refusal (heights_of dimensions.now) ≡ Some e) }
     ensures lawful { IsOk result ↔ IsLawful (heights_of dimensions.now) }
 {
     let tallest = tallest_of(dimensions);
@@ -137,7 +138,8 @@ pub fn check_heights(dimensions: &[Dimensions]) -> Result<(), MerkleTreeError>
 /// `WrongBatchSize` where there are not as many rows as matrices; else `WrongWidth` for the first row whose
 /// length is not its matrix's width.
 pub fn check_widths<T>(dimensions: &[Dimensions], rows: &[Vec<T>]) -> Result<(), MerkleTreeError>
-    ensures { MatchResult result (λ ok. width_refusal dimensions.now (map (λ r. r.items) rows.now) ≡ None) (λ e. width_refusal dimensions.now (map (λ r. r.items) rows.now) ≡ Some e) }
+    ensures { MatchResult result (λ ok. width_refusal dimensions.now (map (λ r. r.items) rows.now) ≡ None)
+        (λ e. width_refusal dimensions.now (map (λ r. r.items) rows.now) ≡ Some e) }
 {
     if rows.len() != dimensions.len() {
         return Err(MerkleTreeError::WrongBatchSize {

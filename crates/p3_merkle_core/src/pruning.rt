@@ -72,7 +72,8 @@ pub struct KeptLevel<X> {
 ///
 /// `IndexOutOfBounds` for the highest index; of no index, where `max_height` is 0, for the index 0.
 pub fn check_indices(max_height: usize, indices: &[usize]) -> Result<(), MerkleTreeError>
-    ensures answer { MatchResult result (λ ok. queries_refusal max_height indices.now ≡ None) (λ e. queries_refusal max_height indices.now ≡ Some e) }
+    ensures answer { MatchResult result (λ ok. queries_refusal max_height indices.now ≡ None)
+        (λ e. queries_refusal max_height indices.now ≡ Some e) }
     ensures below { IfOk result (λ ok. All (λ q. q < max_height) indices.now) }
 {
     let index = highest_of(indices);

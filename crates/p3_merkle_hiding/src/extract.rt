@@ -114,7 +114,8 @@ impl<
         proof2: &SaltedMultiProof<P::Value, PW::Value, D>,
     ) -> Result<Option<(usize, usize, Collision<P::Value, PW::Value, D>)>, MerkleTreeError>
         ensures { let c = salted_terms_of H.hash C.compression D self.now dimensions.now in
-            let presented = presented_salted_pruned P.Value.eq PW.Value.eq SALT_ELEMS dimensions.now c (roots_of commit.now) in
+            let presented = presented_salted_pruned P.Value.eq PW.Value.eq SALT_ELEMS dimensions.now c
+            (roots_of commit.now) in
             let first = presented (salted_pruned_lent indices1.now rows1.now proof1.now) in
             let second = presented (salted_pruned_lent indices2.now rows2.now proof2.now) in
             IsExtraction P.Value.eq PW.Value.eq (cap_rule_of (plain_of self.now)) c first second (found_pair result) }

@@ -106,12 +106,14 @@ impl<
             IfOk result (λ o. row_sets o.1.0.items ≡ salts) }
         ensures digests { let s = shape (tree_batch tree.now) in
             let t = proof_layer (plain_of self.now) s in
-            IfOk result (λ o. o.1.1.sibling_hashes.items ≡ boundary_by (node_in [] (layers_of tree.now)) s indices.now t) }
+            IfOk result (λ o. o.1.1.sibling_hashes.items ≡ boundary_by
+            (node_in [] (layers_of tree.now)) s indices.now t) }
         ensures accepted { let ds = unsalted_dimensions N (matrices_of tree.now) in
             let c = salted_terms_of H.hash C.compression D self.now ds in
             let b = tree_batch tree.now in
             IsOwn c b (layers_of tree.now) → HaveSaltColumns SALT_ELEMS (matrices_of tree.now) →
-            IfOk result (λ o. IsSaltedPrunedAccepted SALT_ELEMS ds c (cap_over c b) (salted_pruned_made indices.now o.0 o.1)) }
+            IfOk result (λ o. IsSaltedPrunedAccepted SALT_ELEMS ds c (cap_over c b)
+            (salted_pruned_made indices.now o.0 o.1)) }
         ensures memory { AnswersUnlessMemory result None }
     {
         let pairs = self.plain.get_matrices(alloc, tree)?;

@@ -39,7 +39,8 @@ impl<T: Copy> SaltedRows<T> {
         ensures answer { AnswersUnlessMemory result
             (salted_rows_refusal salt_elems dimensions.now (row_lists rows.now) (row_lists salts.now)) }
         ensures dimensions { IfOk result (λ s. s.dimensions.items ≡ widened salt_elems dimensions.now) }
-        ensures rows { IfOk result (λ s. row_lists s.rows.items ≡ salted_rows (row_lists rows.now) (row_lists salts.now)) }
+        ensures rows { IfOk result
+            (λ s. row_lists s.rows.items ≡ salted_rows (row_lists rows.now) (row_lists salts.now)) }
     {
         check_salts(dimensions, rows, salts)?;
         check_widening(dimensions, salt_elems)?;

@@ -44,7 +44,8 @@ pub(crate) fn checked_pairs<T: SaltWord, M: Matrix<T> + Drop, R: Rng>(
     ensures matrices { IfOk result (λ pairs. map left_of pairs.items ≡ matrices.items) }
     ensures columns { IfOk result (λ pairs. HaveSaltColumns salt_elems pairs.items) }
     ensures salted { let ms = map (matrix_of M.height_of M.width_of M.row_of) matrices.items in
-        IfOk result (λ pairs. map pair_matrix pairs.items ≡ salted_matrices T.of_salt_word salt_elems ms (R.stream rng.old)) }
+        IfOk result (λ pairs. map pair_matrix pairs.items ≡ salted_matrices T.of_salt_word salt_elems ms
+        (R.stream rng.old)) }
     ensures rest { let ms = map (matrix_of M.height_of M.width_of M.row_of) matrices.items in
         OnOk result (R.stream rng.new ≡ after_salts salt_elems ms (R.stream rng.old)) }
     ensures further { let ms = map (matrix_of M.height_of M.width_of M.row_of) matrices.items in

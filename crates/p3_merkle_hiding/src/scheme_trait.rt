@@ -65,19 +65,22 @@ where
     ghost matrices_in = { λ tree. map left_of (matrices_of tree) };
 
     ghost commits_to = { λ s cap tree. let b = tree_batch tree in
-        IsSaltedCommitment SALT_ELEMS (terms_over H.hash C.compression D (plain_of s) (shape b)) (roots_of cap) b (layers_of tree) (matrices_of tree) };
+        IsSaltedCommitment SALT_ELEMS (terms_over H.hash C.compression D (plain_of s) (shape b)) (roots_of cap) b
+        (layers_of tree) (matrices_of tree) };
 
     ghost row_at = { halved_index };
 
     ghost is_shown = { λ s cap dimensions index rows.
-        IsSaltedShown SALT_ELEMS dimensions (salted_terms_of H.hash C.compression D s dimensions) (roots_of cap) index rows };
+        IsSaltedShown SALT_ELEMS dimensions (salted_terms_of H.hash C.compression D s dimensions)
+        (roots_of cap) index rows };
 
     ghost accepts = { λ s cap dimensions index rows proof.
         IsSaltedAccepted SALT_ELEMS dimensions (salted_terms_of H.hash C.compression D s dimensions) (roots_of cap)
         (salted_of index rows (row_lists proof.0.items) proof.1.items) };
 
     ghost accepts_all = { λ s cap dimensions indices sets proof.
-        IsSaltedPrunedAccepted SALT_ELEMS dimensions (salted_terms_of H.hash C.compression D s dimensions) (roots_of cap)
+        IsSaltedPrunedAccepted SALT_ELEMS dimensions (salted_terms_of H.hash C.compression D s dimensions)
+        (roots_of cap)
         (salted_pruned_of indices sets (row_sets proof.0.items) proof.1.sibling_hashes.items) };
 
     fn commit(
@@ -86,10 +89,12 @@ where
         matrices: Vec<M>,
     ) -> Result<(Self::Commitment, Self::ProverData), Self::Error>
         ensures agrees { IsSameScheme (plain_of self.old) (plain_of self.new) }
-        ensures taken { IfOk result (λ made. CanCommitSalted M.height_of M.width_of M.row_of SALT_ELEMS matrices.items) }
+        ensures taken { IfOk result
+            (λ made. CanCommitSalted M.height_of M.width_of M.row_of SALT_ELEMS matrices.items) }
         ensures matrices { IfOk result (λ made. map left_of (matrices_of made.1) ≡ matrices.items) }
         ensures commitment { IfOk result (λ made. let b = tree_batch made.1 in
-            IsSaltedCommitment SALT_ELEMS (terms_over H.hash C.compression D (plain_of self.new) (shape b)) (roots_of made.0) b (layers_of made.1) (matrices_of made.1)) }
+            IsSaltedCommitment SALT_ELEMS (terms_over H.hash C.compression D (plain_of self.new) (shape b))
+            (roots_of made.0) b (layers_of made.1) (matrices_of made.1)) }
         ensures memory { CanCommitSalted M.height_of M.width_of M.row_of SALT_ELEMS matrices.items →
             IfErr result (λ e. e ≡ OutOfMemory) }
     {
@@ -126,9 +131,11 @@ where
         index: usize,
         opening: BatchOpeningRef<'_, P::Value, Self::Proof>,
     ) -> Result<(), Self::Error>
-        ensures accepted { IsOk result → IsSaltedAccepted SALT_ELEMS dimensions.now (salted_terms_of H.hash C.compression D self.now dimensions.now)
+        ensures accepted { IsOk result → IsSaltedAccepted SALT_ELEMS dimensions.now
+            (salted_terms_of H.hash C.compression D self.now dimensions.now)
             (roots_of commitment.now) (salted_lent index opening.entry) }
-        ensures memory { IsSaltedAccepted SALT_ELEMS dimensions.now (salted_terms_of H.hash C.compression D self.now dimensions.now)
+        ensures memory { IsSaltedAccepted SALT_ELEMS dimensions.now
+            (salted_terms_of H.hash C.compression D self.now dimensions.now)
             (roots_of commitment.now) (salted_lent index opening.entry) → IfErr result (λ e. e ≡ OutOfMemory) }
     {
         self.verify_batch(alloc, commitment, dimensions, index, opening)
@@ -174,13 +181,15 @@ where
     ghost agreement = { same_plain_is_equivalence };
 
     ghost agreed_commitment = { λ s t cap tree same own. let b = tree_batch tree in record {
-      committed = at_same H.hash C.compression D (shape b) (plain_of s) (plain_of t) (λ c. IsCommitment c (roots_of cap) b (layers_of tree)) same own.committed;
+      committed = at_same H.hash C.compression D (shape b) (plain_of s) (plain_of t)
+          (λ c. IsCommitment c (roots_of cap) b (layers_of tree)) same own.committed;
       columns = own.columns;
     } };
 
     ghost agreed_proof = { λ s t cap dimensions index rows proof.
         at_same H.hash C.compression D (shape_of N (widened SALT_ELEMS dimensions)) (plain_of s) (plain_of t)
-        (λ c. IsSaltedAccepted SALT_ELEMS dimensions c (roots_of cap) (salted_of index rows (row_lists proof.0.items) proof.1.items)) };
+        (λ c. IsSaltedAccepted SALT_ELEMS dimensions c (roots_of cap)
+        (salted_of index rows (row_lists proof.0.items) proof.1.items)) };
 
     ghost agreed_proof_of_all = { λ s t cap dimensions indices sets proof.
         at_same H.hash C.compression D (shape_of N (widened SALT_ELEMS dimensions)) (plain_of s) (plain_of t)

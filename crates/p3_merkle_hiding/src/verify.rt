@@ -90,7 +90,8 @@ impl<
     ) -> Result<(), MerkleTreeError>
         ensures { let c = salted_terms_of H.hash C.compression D self.now dimensions.now in
             let p = salted_pruned_lent indices.now rows.now proof.now in
-            IsVerdict (presented_salted_pruned P.Value.eq PW.Value.eq SALT_ELEMS dimensions.now c (roots_of commit.now) p) result }
+            IsVerdict (presented_salted_pruned P.Value.eq PW.Value.eq SALT_ELEMS dimensions.now c
+            (roots_of commit.now) p) result }
     {
         let (salts, pruned) = proof;
         let salted = SaltedSets::new(alloc, dimensions, SALT_ELEMS, rows, salts)?;

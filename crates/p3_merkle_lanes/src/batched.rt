@@ -163,7 +163,8 @@ pub fn write_batched_leaves<
 ) -> Result<(), AllocError>
     requires rows { count ≤ height }
     requires room { count ≤ length slots.old }
-    ensures { let leaf = leaf_over (H.hash hash.now) (replicate D PW.default_value) M.height_of M.row_of matrices.now height in
+    ensures { let leaf = leaf_over (H.hash hash.now) (replicate D PW.default_value) M.height_of M.row_of matrices.now
+        height in
         IfOk result (λ done. IsFilled leaf count (length slots.old) slots.new) }
 {
     let len = row_len(matrices, height);
@@ -196,7 +197,8 @@ pub fn write_batched_folds<
 >(compress: &C, groups: &[[[PW::Value; D]; N]], count: usize, slots: &mut [[PW::Value; D]])
     requires groups { count ≤ length groups.now }
     requires room { count ≤ length slots.old }
-    ensures { IsFilled (λ j. C.compression compress.now (slice_index_or groups.now j [])) count (length slots.old) slots.new }
+    ensures { IsFilled (λ j. C.compression compress.now (slice_index_or groups.now j [])) count
+        (length slots.old) slots.new }
 {
     compress.compress_many(&groups[..count], &mut slots[..count]);
 }

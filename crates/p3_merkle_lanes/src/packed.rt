@@ -27,7 +27,8 @@ fn array_fits<T>(item: &T, outer: usize, inner: usize) -> bool
 pub fn packed_groups<PW: PackedValue, const N: usize, const D: usize>(count: usize) -> usize
     requires { 0 < N }
     ensures count { result * PW.WIDTH ≤ count }
-    ensures whole { 1 < PW.WIDTH → FitsInMemory (ArrayAt (ArrayAt PW.row D.row) N.row) → count < result * PW.WIDTH + PW.WIDTH }
+    ensures whole { 1 < PW.WIDTH → FitsInMemory (ArrayAt (ArrayAt PW.row D.row) N.row) →
+        count < result * PW.WIDTH + PW.WIDTH }
     ensures digest { 0 < result → FitsInMemory (ArrayAt PW.row D.row) }
     ensures group { 0 < result → FitsInMemory (ArrayAt (ArrayAt PW.row D.row) N.row) }
 {
@@ -152,7 +153,8 @@ pub fn write_packed_leaves<
     requires digest { 0 < groups → FitsInMemory (ArrayAt PW.row D.row) }
     requires rows { groups * PW.WIDTH ≤ height }
     requires room { groups * PW.WIDTH ≤ length slots.old }
-    ensures { let leaf = leaf_over (H.hash hash.now) (replicate D PW.default_value) M.height_of M.row_of matrices.now height in
+    ensures { let leaf = leaf_over (H.hash hash.now) (replicate D PW.default_value) M.height_of M.row_of matrices.now
+        height in
         IfOk result (λ done. IsFilled leaf (groups * PW.WIDTH) (length slots.old) slots.new) }
 {
     let mut staged = Vec::new(alloc);

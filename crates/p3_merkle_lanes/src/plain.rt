@@ -77,7 +77,8 @@ fn pieces_digest<
     const D: usize,
 >(hash: &H, matrices: &[M], height: usize, row: usize) -> Option<[PW::Value; D]>
     requires { row < height }
-    ensures { IfSome result (λ digest. digest ≡ H.hash hash.now (rows_of_height M.height_of M.row_of height row matrices.now)) }
+    ensures { IfSome result
+        (λ digest. digest ≡ H.hash hash.now (rows_of_height M.height_of M.row_of height row matrices.now)) }
 {
     let mut pieces = no_pieces();
     let count = lend_rows(matrices, height, row, &mut pieces)?;
@@ -93,7 +94,8 @@ pub fn rows_digest<
     M: Matrix<P::Value>,
     const D: usize,
 >(hash: &H, matrices: &[M], height: usize, row: usize) -> [PW::Value; D]
-    ensures { result ≡ leaf_over (H.hash hash.now) (replicate D PW.default_value) M.height_of M.row_of matrices.now height row }
+    ensures { result ≡ leaf_over (H.hash hash.now) (replicate D PW.default_value) M.height_of M.row_of matrices.now
+        height row }
 {
     if row >= height {
         return [PW::Value::default(); D];
@@ -145,9 +147,11 @@ pub fn write_lent_leaves<
     M: Matrix<P::Value>,
     const D: usize,
 >(hash: &H, matrices: &[M], height: usize, first: usize, slots: &mut [[PW::Value; D]]) -> usize
-    requires { let leaf = leaf_over (H.hash hash.now) (replicate D PW.default_value) M.height_of M.row_of matrices.now height in
+    requires { let leaf = leaf_over (H.hash hash.now) (replicate D PW.default_value) M.height_of M.row_of matrices.now
+        height in
         IsFilled leaf first (length slots.old) slots.old }
-    ensures filled { let leaf = leaf_over (H.hash hash.now) (replicate D PW.default_value) M.height_of M.row_of matrices.now height in
+    ensures filled { let leaf = leaf_over (H.hash hash.now) (replicate D PW.default_value) M.height_of M.row_of
+        matrices.now height in
         IsFilled leaf result (length slots.old) slots.new }
     ensures further { first ≤ result }
 {

@@ -163,7 +163,8 @@ impl<
     ) -> Result<usize, AllocError>
         requires some { 0 < N }
         requires lanes { P.WIDTH ≡ PW.WIDTH }
-        ensures { let leaf = leaf_over (H.hash self.now.hash.now) (replicate D PW.default_value) M.height_of M.row_of self.now.matrices.now height in
+        ensures { let leaf = leaf_over (H.hash self.now.hash.now)
+            (replicate D PW.default_value) M.height_of M.row_of self.now.matrices.now height in
             IfOk result (λ done. IsFilled leaf done (length slots.old) slots.new) }
     {
         let count = height.min(slots.len());
@@ -193,9 +194,11 @@ impl<
     /// Writes into each slot from the first `done` on the digest of the rows of its number, of the matrices of this
     /// height.
     fn write_other_leaves(&self, height: usize, done: usize, slots: &mut [[PW::Value; D]])
-        requires { let leaf = leaf_over (H.hash self.now.hash.now) (replicate D PW.default_value) M.height_of M.row_of self.now.matrices.now height in
+        requires { let leaf = leaf_over (H.hash self.now.hash.now)
+            (replicate D PW.default_value) M.height_of M.row_of self.now.matrices.now height in
             IsFilled leaf done (length slots.old) slots.old }
-        ensures { let leaf = leaf_over (H.hash self.now.hash.now) (replicate D PW.default_value) M.height_of M.row_of self.now.matrices.now height in
+        ensures { let leaf = leaf_over (H.hash self.now.hash.now)
+            (replicate D PW.default_value) M.height_of M.row_of self.now.matrices.now height in
             slots.new ≡ map leaf (range_with_len 0 (length slots.old)) }
     {
         let done = write_lent_leaves::<P, PW, H, M, D>(
@@ -219,7 +222,8 @@ impl<
     ) -> Result<(), AllocError>
         requires some { 0 < N }
         requires lanes { P.WIDTH ≡ PW.WIDTH }
-        ensures { let leaf = leaf_over (H.hash self.now.hash.now) (replicate D PW.default_value) M.height_of M.row_of self.now.matrices.now height in
+        ensures { let leaf = leaf_over (H.hash self.now.hash.now)
+            (replicate D PW.default_value) M.height_of M.row_of self.now.matrices.now height in
             IfOk result (λ done. slots.new ≡ map leaf (range_with_len 0 (length slots.old))) }
     {
         let done = self.write_first_leaves(alloc, height, slots)?;
@@ -236,7 +240,8 @@ impl<
     ) -> Result<Vec<[PW::Value; D]>, AllocError>
         requires some { 0 < N }
         requires lanes { P.WIDTH ≡ PW.WIDTH }
-        ensures { let leaf = leaf_over (H.hash self.now.hash.now) (replicate D PW.default_value) M.height_of M.row_of self.now.matrices.now height in
+        ensures { let leaf = leaf_over (H.hash self.now.hash.now)
+            (replicate D PW.default_value) M.height_of M.row_of self.now.matrices.now height in
             IfOk result (λ v. v.items ≡ map leaf (range_with_len 0 len)) }
     {
         let mut digests = vec![in alloc; [PW::Value::default(); D]; len]?;
@@ -383,10 +388,12 @@ impl<
         requires level { CanRaise N level.now (length below.now) }
         requires first { let f = functions_of (H.hash self.now.hash.now) (C.compression self.now.compress.now)
             (replicate D PW.default_value) in
-            IsFilled (slot_above f N M.height_of M.row_of self.now.matrices.now level.now below.now) done (length slots.old) slots.old }
+            IsFilled (slot_above f N M.height_of M.row_of self.now.matrices.now level.now below.now) done
+            (length slots.old) slots.old }
         ensures { let f = functions_of (H.hash self.now.hash.now) (C.compression self.now.compress.now)
             (replicate D PW.default_value) in
-            IsFilled (slot_above f N M.height_of M.row_of self.now.matrices.now level.now below.now) result (length slots.old) slots.new }
+            IsFilled (slot_above f N M.height_of M.row_of self.now.matrices.now level.now below.now) result
+            (length slots.old) slots.new }
     {
         let end = level.raw_len.min(slots.len());
         if level.step != N || level.has_rows || done >= end {
@@ -408,7 +415,8 @@ impl<
         requires level { CanRaise N level.now (length below.now) }
         requires first { let f = functions_of (H.hash self.now.hash.now) (C.compression self.now.compress.now)
             (replicate D PW.default_value) in
-            IsFilled (slot_above f N M.height_of M.row_of self.now.matrices.now level.now below.now) done (length slots.old) slots.old }
+            IsFilled (slot_above f N M.height_of M.row_of self.now.matrices.now level.now below.now) done
+            (length slots.old) slots.old }
         ensures { let f = functions_of (H.hash self.now.hash.now) (C.compression self.now.compress.now)
             (replicate D PW.default_value) in
             slots.new ≡ map (slot_above f N M.height_of M.row_of self.now.matrices.now level.now below.now) (range_with_len 0 (length slots.old)) }
@@ -431,7 +439,9 @@ impl<
         requires lanes { P.WIDTH ≡ PW.WIDTH }
         ensures { let f = functions_of (H.hash self.now.hash.now) (C.compression self.now.compress.now)
             (replicate D PW.default_value) in
-            IfOk result (λ done. slots.new ≡ map (slot_above f N M.height_of M.row_of self.now.matrices.now level.now below.now) (range_with_len 0 (length slots.old))) }
+            IfOk result (λ done. slots.new ≡ map
+            (slot_above f N M.height_of M.row_of self.now.matrices.now level.now below.now)
+            (range_with_len 0 (length slots.old))) }
     {
         let done = self.write_first_nodes(alloc, level, below, slots)?;
         self.write_other_nodes(level, below, done, slots);
@@ -485,7 +495,8 @@ impl<
         requires lanes { P.WIDTH ≡ PW.WIDTH }
         ensures { let f = functions_of (H.hash self.now.hash.now) (C.compression self.now.compress.now)
             (replicate D PW.default_value) in
-            IfOk result (λ v. v.items ≡ layer_above f N M.height_of M.row_of self.now.matrices.now level.now below.now) }
+            IfOk result (λ v. v.items ≡ layer_above f N M.height_of M.row_of self.now.matrices.now level.now
+            below.now) }
     {
         let picked = of_height(alloc, self.matrices, level.height)?;
         let builder = self.over(&picked);
@@ -535,7 +546,8 @@ impl<
             (map (λ nodes. nodes.items) stack.now.layers.items) stack.now.arity_schedule.items }
         requires more { 0 < stack.now.exponent }
         requires lanes { P.WIDTH ≡ PW.WIDTH }
-        ensures level { IfOk result (λ made. IsLevel (shape (batch_of M.height_of M.width_of M.row_of N self.now.matrices.now)) made.0) }
+        ensures level { IfOk result
+            (λ made. IsLevel (shape (batch_of M.height_of M.width_of M.row_of N self.now.matrices.now)) made.0) }
         ensures below { IfOk result (λ made. made.0.below ≡ length stack.now.arity_schedule.items) }
         ensures nodes { let f = functions_of (H.hash self.now.hash.now) (C.compression self.now.compress.now)
             (replicate D PW.default_value) in

@@ -103,10 +103,13 @@ fn differing_query<
 ) -> Result<Option<(usize, Collision<P::Value, PW::Value, D>)>, AllocError>
     requires first { CanReach (shape_of N dimensions.now) t (length first.siblings.now) }
     requires queries { CanCompare (shape_of N dimensions.now) t queries.now }
-    ensures { let f = functions_of (H.hash checker.now.hash.now) (C.compression checker.now.compress.now) (replicate D PW.default_value) in
+    ensures { let f = functions_of (H.hash checker.now.hash.now) (C.compression checker.now.compress.now)
+        (replicate D PW.default_value) in
         let s = shape_of N dimensions.now in
         let o = opening_in first.entry in
-        let differs = first_place (λ b. query_difference P.Value.eq PW.Value.eq f s t o (query_in queries.now b)) (length queries.now.paths.items) in
+        let differs = first_place
+        (λ b. query_difference P.Value.eq PW.Value.eq f s t o (query_in queries.now b))
+        (length queries.now.paths.items) in
         IfOk result (λ found. ShowsAt found differs) }
 {
     for place in 0..queries.paths.len() {
@@ -147,9 +150,12 @@ fn differing_pair<
 ) -> Result<Option<(usize, usize, Collision<P::Value, PW::Value, D>)>, AllocError>
     requires first { CanCompare (shape_of N dimensions.now) t first.now }
     requires second { CanCompare (shape_of N dimensions.now) t second.now }
-    ensures { let f = functions_of (H.hash checker.now.hash.now) (C.compression checker.now.compress.now) (replicate D PW.default_value) in
+    ensures { let f = functions_of (H.hash checker.now.hash.now) (C.compression checker.now.compress.now)
+        (replicate D PW.default_value) in
         let s = shape_of N dimensions.now in
-        let differ = first_pair (λ a b. query_difference P.Value.eq PW.Value.eq f s t (query_in first.now a) (query_in second.now b)) (length first.now.paths.items) (length second.now.paths.items) in
+        let differ = first_pair
+        (λ a b. query_difference P.Value.eq PW.Value.eq f s t (query_in first.now a) (query_in second.now b))
+        (length first.now.paths.items) (length second.now.paths.items) in
         IfOk result (λ found. ShowsPair found differ) }
 {
     for place in 0..first.paths.len() {
@@ -186,11 +192,14 @@ fn checked_queries<
     opening: PrunedOpeningRef<'a, P::Value, [PW::Value; D]>,
 ) -> Result<RestoredQueries<'a, P::Value, [PW::Value; D]>, MerkleTreeError>
     requires { CanCheck (shape_of N dimensions.now) t }
-    ensures answer { let f = functions_of (H.hash checker.now.hash.now) (C.compression checker.now.compress.now) (replicate D PW.default_value) in
-        let refusal = pruned_refusal_under P.Value.eq PW.Value.eq (terms f (shape_of N dimensions.now) t) roots.now (pruned_in opening.entry) in
+    ensures answer { let f = functions_of (H.hash checker.now.hash.now) (C.compression checker.now.compress.now)
+        (replicate D PW.default_value) in
+        let refusal = pruned_refusal_under P.Value.eq PW.Value.eq (terms f (shape_of N dimensions.now) t) roots.now
+        (pruned_in opening.entry) in
         AnswersUnlessMemory result refusal }
     ensures comparable { IfOk result (λ queries. CanCompare (shape_of N dimensions.now) t queries) }
-    ensures restored { let f = functions_of (H.hash checker.now.hash.now) (C.compression checker.now.compress.now) (replicate D PW.default_value) in
+    ensures restored { let f = functions_of (H.hash checker.now.hash.now) (C.compression checker.now.compress.now)
+        (replicate D PW.default_value) in
         IfOk result (λ queries. AreQueriesOf f (shape_of N dimensions.now) t (pruned_in opening.entry) queries) }
 {
     let PrunedOpeningRef {
@@ -233,14 +242,18 @@ pub fn extraction<
     second: PrunedOpeningRef<'_, P::Value, [PW::Value; D]>,
 ) -> Result<Option<(usize, usize, Collision<P::Value, PW::Value, D>)>, MerkleTreeError>
     requires { CanCheck (shape_of N dimensions.now) t }
-    ensures answer { let f = functions_of (H.hash checker.now.hash.now) (C.compression checker.now.compress.now) (replicate D PW.default_value) in
+    ensures answer { let f = functions_of (H.hash checker.now.hash.now) (C.compression checker.now.compress.now)
+        (replicate D PW.default_value) in
         let refusal = pruned_refusal_under P.Value.eq PW.Value.eq (terms f (shape_of N dimensions.now) t) roots.now in
         AnswersUnlessMemory result (option_or (refusal (pruned_in first.entry)) (refusal (pruned_in second.entry))) }
-    ensures found { let f = functions_of (H.hash checker.now.hash.now) (C.compression checker.now.compress.now) (replicate D PW.default_value) in
+    ensures found { let f = functions_of (H.hash checker.now.hash.now) (C.compression checker.now.compress.now)
+        (replicate D PW.default_value) in
         let c = terms f (shape_of N dimensions.now) t in
         let p = pruned_in first.entry in
         let r = pruned_in second.entry in
-        let difference = first_pair (λ a b. difference_of P.Value.eq PW.Value.eq c (opening_at c p a) (opening_at c r b)) (length p.indices) (length r.indices) in
+        let difference = first_pair
+        (λ a b. difference_of P.Value.eq PW.Value.eq c (opening_at c p a) (opening_at c r b)) (length p.indices)
+        (length r.indices) in
         IfOk result (λ found. ShowsPair found difference) }
 {
     let first = checked_queries::<P, PW, H, C, N, D>(alloc, checker, roots, dimensions, t, first)?;

@@ -8,6 +8,7 @@ ghost use Rattle.p3_merkle_core.specs.Pruning.{pruned_of};
 ghost use Rattle.p3_merkle_core.specs.Refusals.{pruned_refusal_under, AnswersUnlessMemory};
 ghost use Rattle.p3_merkle_core.specs.declared.error.MerkleTreeError.TheVariants.{OutOfMemory};
 ghost use Rattle.p3_merkle_checker.specs.Inner.Paths.{CanCheck};
+ghost use Rattle.p3_merkle_core.specs.Checks.{terms};
 
 use crate::leaves::{leaves_of, tell_restorable};
 use crate::plan::Plan;
@@ -20,7 +21,6 @@ use p3_support::hasher::CryptographicHasher;
 use p3_support::matrix::Dimensions;
 use p3_support::packed::PackedValue;
 use std::alloc::Global;
-ghost use Rattle.p3_merkle_core.specs.Checks.{terms};
 
 /// Checks a pruned opening against the roots of a cap, which is layer `t`: whether its form is right, and the digests that
 /// its rows and the digests that were sent lead to are the roots of their places. `sets` has the rows of each query.
@@ -49,7 +49,8 @@ pub fn check_opening<
     sent: &[[PW::Value; D]],
 ) -> Result<(), MerkleTreeError>
     requires { CanCheck (shape_of N dimensions.now) t }
-    ensures { let f = functions_of (H.hash checker.now.hash.now) (C.compression checker.now.compress.now) (replicate D PW.default_value) in
+    ensures { let f = functions_of (H.hash checker.now.hash.now) (C.compression checker.now.compress.now)
+        (replicate D PW.default_value) in
         let p = pruned_of indices.now (row_sets sets.now) sent.now in
         let refusal = pruned_refusal_under P.Value.eq PW.Value.eq (terms f (shape_of N dimensions.now) t) roots.now p in
         AnswersUnlessMemory result refusal }

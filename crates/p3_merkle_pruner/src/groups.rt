@@ -56,7 +56,8 @@ impl<
         requires step { 0 < step }
         requires few { step ≤ N }
         ensures count { IfOk result (λ digests. length digests.items ≡ length children.now / step) }
-        ensures digests { let digest = group_digest (C.compression self.now.compress.now) N (replicate D PW.default_value) step children.now in
+        ensures digests { let digest = group_digest (C.compression self.now.compress.now) N
+            (replicate D PW.default_value) step children.now in
             IfOk result (λ digests. digests.items ≡ map digest (range_with_len 0 (length children.now / step))) }
     {
         let parents = children.len() / step;

@@ -19,7 +19,8 @@ pub(crate) fn leads_above(
 ) -> Result<Vec<usize>, AllocError>
     requires step { 0 < step }
     requires pairs { length leads.now ≡ length nodes.now }
-    ensures parents { (node : ℕ → ℕ) → nodes.now ≡ map node leads.now → IfOk result (λ above. map (λ k. node k / step) above.items ≡ dedup ◌==◌ (map (λ j. j / step) nodes.now)) }
+    ensures parents { (node : ℕ → ℕ) → nodes.now ≡ map node leads.now →
+        IfOk result (λ above. map (λ k. node k / step) above.items ≡ dedup ◌==◌ (map (λ j. j / step) nodes.now)) }
     ensures among { (n : ℕ) → All (λ k. k < n) leads.now → IfOk result (λ above. All (λ k. k < n) above.items) }
 {
     let mut above = Vec::new(alloc);

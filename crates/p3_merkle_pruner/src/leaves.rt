@@ -46,7 +46,8 @@ pub(crate) fn tell_restorable<P: PackedValue, PW: PackedValue, const D: usize>(
     sent: &[[PW::Value; D]],
 )
     requires checked { CanCheck (shape_of arity dimensions.now) t }
-    requires unrefused { pruned_refusal P.Value.eq (shape_of arity dimensions.now) t (opened_with indices.now (row_sets sets.now) (length sent.now)) ≡ None }
+    requires unrefused { pruned_refusal P.Value.eq (shape_of arity dimensions.now) t
+        (opened_with indices.now (row_sets sets.now) (length sent.now)) ≡ None }
     ensures queried { CanQuery (shape_of arity dimensions.now) indices.now t }
     ensures low { greatest (heights_of dimensions.now) ≤ height_limit }
     ensures below { greatest indices.now < greatest (heights_of dimensions.now) }

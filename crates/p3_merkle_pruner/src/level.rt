@@ -45,8 +45,10 @@ pub(crate) fn node_digests<
     requires narrow { step ≤ N }
     requires leads { All (λ k. k < length sets.now) leads.now }
     requires pairs { length leads.now ≡ length children.now / step }
-    ensures { let f = functions_of (H.hash checker.now.hash.now) (C.compression checker.now.compress.now) (replicate D PW.default_value) in
-        IfOk result (λ digests. digests.items ≡ layer_digests f N step (heights_of dimensions.now) x (row_sets sets.now) leads.now children.now) }
+    ensures { let f = functions_of (H.hash checker.now.hash.now) (C.compression checker.now.compress.now)
+        (replicate D PW.default_value) in
+        IfOk result (λ digests. digests.items ≡ layer_digests f N step (heights_of dimensions.now) x
+        (row_sets sets.now) leads.now children.now) }
 {
     let compressor = Compressor::<PW, C, [[PW::Value; D]; N]> {
         compress: checker.compress,

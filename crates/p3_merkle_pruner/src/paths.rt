@@ -10,6 +10,7 @@ ghost use Rattle.p3_merkle_core.specs.Refusals.{pruned_refusal, AnswersUnlessMem
 ghost use Rattle.p3_merkle_core.specs.declared.error.MerkleTreeError.TheVariants.{OutOfMemory};
 ghost use Rattle.p3_merkle_checker.specs.Inner.Paths.{CanCheck};
 ghost use Rattle.p3_merkle_pruner.specs.Inner.Walks.{AreKept, IsCoveredAt};
+ghost use Rattle.p3_merkle_core.specs.Checks.{terms};
 
 use crate::leaves::{leaves_of, tell_restorable};
 use crate::plan::{Covered, Plan, Rise};
@@ -24,7 +25,6 @@ use p3_support::hasher::CryptographicHasher;
 use p3_support::matrix::Dimensions;
 use p3_support::packed::PackedValue;
 use std::alloc::{AllocError, Global};
-ghost use Rattle.p3_merkle_core.specs.Checks.{terms};
 
 /// The path of each query up to the cap's layer `t`, in query order, out of a pruned opening: the siblings are digests that
 /// were sent, or that its rows and these lead to. `sets` has the rows of each query. No cap is looked at.
@@ -54,7 +54,8 @@ pub fn restored_paths_of<
     ensures answer { let p = pruned_of indices.now (row_sets sets.now) sent.now in
         let refusal = pruned_refusal P.Value.eq (shape_of N dimensions.now) t p in
         AnswersUnlessMemory result refusal }
-    ensures paths { let f = functions_of (H.hash checker.now.hash.now) (C.compression checker.now.compress.now) (replicate D PW.default_value) in
+    ensures paths { let f = functions_of (H.hash checker.now.hash.now) (C.compression checker.now.compress.now)
+        (replicate D PW.default_value) in
         let p = pruned_of indices.now (row_sets sets.now) sent.now in
         IfOk result (λ paths. shown_paths paths.items ≡ restored_paths (terms f (shape_of N dimensions.now) t) p) }
 {
@@ -94,12 +95,16 @@ fn kept_levels<
 ) -> Result<Vec<KeptLevel<[PW::Value; D]>>, AllocError>
     requires arity { plan.now.arity ≡ N }
     requires pairs { length sets.now ≡ length plan.now.indices.now }
-    requires sent { length sent.now ≡ length (boundary (shape_of plan.now.arity plan.now.dimensions.now) plan.now.indices.now plan.now.t) }
-    requires agreed { IsAgreed (shape_of plan.now.arity plan.now.dimensions.now) plan.now.t (pruned_of plan.now.indices.now (row_sets sets.now) sent.now) }
+    requires sent { length sent.now ≡ length
+        (boundary (shape_of plan.now.arity plan.now.dimensions.now) plan.now.indices.now plan.now.t) }
+    requires agreed { IsAgreed (shape_of plan.now.arity plan.now.dimensions.now) plan.now.t
+        (pruned_of plan.now.indices.now (row_sets sets.now) sent.now) }
     requires leaves { IsCoveredAt (shape_of plan.now.arity plan.now.dimensions.now) plan.now.indices.now 0 leaves }
-    ensures { let f = functions_of (H.hash checker.now.hash.now) (C.compression checker.now.compress.now) (replicate D PW.default_value) in
+    ensures { let f = functions_of (H.hash checker.now.hash.now) (C.compression checker.now.compress.now)
+        (replicate D PW.default_value) in
         let p = pruned_of plan.now.indices.now (row_sets sets.now) sent.now in
-        IfOk result (λ levels. AreKept f (shape_of plan.now.arity plan.now.dimensions.now) plan.now.t p plan.now.t levels.items) }
+        IfOk result (λ levels. AreKept f (shape_of plan.now.arity plan.now.dimensions.now) plan.now.t p plan.now.t
+        levels.items) }
 {
     let mut covered = leaves;
     tell_leads(plan.indices, sets, &covered.leads);

@@ -65,9 +65,12 @@ impl<'a> Plan<'a> {
         covered: &Covered,
     ) -> Result<(usize, Covered), AllocError>
         requires below { level < self.now.t }
-        requires stands { IsCoveredAt (shape_of self.now.arity self.now.dimensions.now) self.now.indices.now level covered.now }
+        requires stands { IsCoveredAt (shape_of self.now.arity self.now.dimensions.now) self.now.indices.now level
+            covered.now }
         ensures step { IfOk result (λ pair. pair.0 ≡ step_in (shape_of self.now.arity self.now.dimensions.now) level) }
-        ensures above { IfOk result (λ pair. IsCoveredAt (shape_of self.now.arity self.now.dimensions.now) self.now.indices.now (suc level) (pair.1)) }
+        ensures above { IfOk result
+            (λ pair. IsCoveredAt (shape_of self.now.arity self.now.dimensions.now) self.now.indices.now (suc level)
+            (pair.1)) }
     {
         let (step, exponent) = select_arity_step(self.dimensions, self.arity, covered.exponent);
         let mut nodes = Vec::from_slice(alloc, &covered.nodes)?;
@@ -101,13 +104,17 @@ impl<'a> Plan<'a> {
         sent: &[X],
     ) -> Result<Vec<X>, AllocError>
         requires below { level < self.now.t }
-        requires stands { IsCoveredAt (shape_of self.now.arity self.now.dimensions.now) self.now.indices.now level covered.now }
+        requires stands { IsCoveredAt (shape_of self.now.arity self.now.dimensions.now) self.now.indices.now level
+            covered.now }
         requires digests { length digests.now ≡ length covered.now.nodes.items }
         requires step { step ≡ step_in (shape_of self.now.arity self.now.dimensions.now) level }
-        requires above { IsCoveredAt (shape_of self.now.arity self.now.dimensions.now) self.now.indices.now (suc level) above.now }
-        requires sent { length sent.now ≡ length (boundary (shape_of self.now.arity self.now.dimensions.now) self.now.indices.now self.now.t) }
+        requires above { IsCoveredAt (shape_of self.now.arity self.now.dimensions.now) self.now.indices.now
+            (suc level) above.now }
+        requires sent { length sent.now ≡ length
+            (boundary (shape_of self.now.arity self.now.dimensions.now) self.now.indices.now self.now.t) }
         ensures { let left = drop covered.now.used sent.now in
-            IfOk result (λ children. AreChildren step above.now.nodes.items covered.now.nodes.items digests.now left children.items) }
+            IfOk result (λ children. AreChildren step above.now.nodes.items covered.now.nodes.items digests.now left
+            children.items) }
     {
         let left = &sent[covered.used..];
         children_of(alloc, &covered.nodes, digests, &above.nodes, step, left)
@@ -128,9 +135,11 @@ impl<'a> Plan<'a> {
         sent: &[X],
     ) -> Result<Rise<X>, AllocError>
         requires below { level < self.now.t }
-        requires stands { IsCoveredAt (shape_of self.now.arity self.now.dimensions.now) self.now.indices.now level covered.now }
+        requires stands { IsCoveredAt (shape_of self.now.arity self.now.dimensions.now) self.now.indices.now level
+            covered.now }
         requires digests { length digests.now ≡ length covered.now.nodes.items }
-        requires sent { length sent.now ≡ length (boundary (shape_of self.now.arity self.now.dimensions.now) self.now.indices.now self.now.t) }
+        requires sent { length sent.now ≡ length
+            (boundary (shape_of self.now.arity self.now.dimensions.now) self.now.indices.now self.now.t) }
         ensures wide { IfOk result (λ rise. 0 < rise.step) }
         ensures narrow { IfOk result (λ rise. rise.step ≤ self.now.arity) }
         ensures among { IfOk result (λ rise. All (λ k. k < length self.now.indices.now) rise.above.leads.items) }

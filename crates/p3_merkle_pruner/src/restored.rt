@@ -8,6 +8,7 @@ ghost use Rattle.p3_support.specs.Shown.{row_sets};
 ghost use Rattle.p3_merkle_core.specs.Refusals.{cap_refusal, AnswersUnlessMemory};
 ghost use Rattle.p3_merkle_core.specs.declared.error.MerkleTreeError.TheVariants.{OutOfMemory};
 ghost use Rattle.p3_merkle_pruner.specs.Inner.Walks.{AreRestored, IsCoveredAt, IsRestoredRise};
+ghost use Rattle.p3_merkle_core.specs.Checks.{terms};
 
 use crate::level::node_digests;
 use crate::plan::{Covered, Plan, Rise};
@@ -19,7 +20,6 @@ use p3_support::compress::PseudoCompressionFunction;
 use p3_support::hasher::CryptographicHasher;
 use p3_support::packed::PackedValue;
 use std::alloc::{AllocError, Global};
-ghost use Rattle.p3_merkle_core.specs.Checks.{terms};
 
 /// Tells that leads have row sets where each query has one. It does nothing at run time.
 pub(crate) fn tell_leads<T>(indices: &[usize], sets: &[Vec<T>], leads: &[usize])
@@ -75,13 +75,17 @@ pub(crate) fn restored_above<
 ) -> Result<(Rise<[PW::Value; D]>, Vec<[PW::Value; D]>), AllocError>
     requires arity { plan.now.arity ≡ N }
     requires pairs { length sets.now ≡ length plan.now.indices.now }
-    requires sent { length sent.now ≡ length (boundary (shape_of plan.now.arity plan.now.dimensions.now) plan.now.indices.now plan.now.t) }
-    requires agreed { IsAgreed (shape_of plan.now.arity plan.now.dimensions.now) plan.now.t (pruned_of plan.now.indices.now (row_sets sets.now) sent.now) }
+    requires sent { length sent.now ≡ length
+        (boundary (shape_of plan.now.arity plan.now.dimensions.now) plan.now.indices.now plan.now.t) }
+    requires agreed { IsAgreed (shape_of plan.now.arity plan.now.dimensions.now) plan.now.t
+        (pruned_of plan.now.indices.now (row_sets sets.now) sent.now) }
     requires below { level < plan.now.t }
-    requires restored { let f = functions_of (H.hash checker.now.hash.now) (C.compression checker.now.compress.now) (replicate D PW.default_value) in
+    requires restored { let f = functions_of (H.hash checker.now.hash.now) (C.compression checker.now.compress.now)
+        (replicate D PW.default_value) in
         let p = pruned_of plan.now.indices.now (row_sets sets.now) sent.now in
         AreRestored f (shape_of plan.now.arity plan.now.dimensions.now) plan.now.t p level covered.now digests.now }
-    ensures { let f = functions_of (H.hash checker.now.hash.now) (C.compression checker.now.compress.now) (replicate D PW.default_value) in
+    ensures { let f = functions_of (H.hash checker.now.hash.now) (C.compression checker.now.compress.now)
+        (replicate D PW.default_value) in
         let s = shape_of plan.now.arity plan.now.dimensions.now in
         let p = pruned_of plan.now.indices.now (row_sets sets.now) sent.now in
         IfOk result (λ pair. IsRestoredRise f s plan.now.t p level (pair.0) pair.1.items) }
@@ -120,11 +124,16 @@ pub(crate) fn restored_cap<
 ) -> Result<(Covered, Vec<[PW::Value; D]>), AllocError>
     requires arity { plan.now.arity ≡ N }
     requires pairs { length sets.now ≡ length plan.now.indices.now }
-    requires sent { length sent.now ≡ length (boundary (shape_of plan.now.arity plan.now.dimensions.now) plan.now.indices.now plan.now.t) }
-    requires agreed { IsAgreed (shape_of plan.now.arity plan.now.dimensions.now) plan.now.t (pruned_of plan.now.indices.now (row_sets sets.now) sent.now) }
+    requires sent { length sent.now ≡ length
+        (boundary (shape_of plan.now.arity plan.now.dimensions.now) plan.now.indices.now plan.now.t) }
+    requires agreed { IsAgreed (shape_of plan.now.arity plan.now.dimensions.now) plan.now.t
+        (pruned_of plan.now.indices.now (row_sets sets.now) sent.now) }
     requires leaves { IsCoveredAt (shape_of plan.now.arity plan.now.dimensions.now) plan.now.indices.now 0 leaves }
-    ensures covered { IfOk result (λ cap. IsCoveredAt (shape_of plan.now.arity plan.now.dimensions.now) plan.now.indices.now plan.now.t (cap.0)) }
-    ensures digests { let f = functions_of (H.hash checker.now.hash.now) (C.compression checker.now.compress.now) (replicate D PW.default_value) in
+    ensures covered { IfOk result
+        (λ cap. IsCoveredAt (shape_of plan.now.arity plan.now.dimensions.now) plan.now.indices.now plan.now.t
+        (cap.0)) }
+    ensures digests { let f = functions_of (H.hash checker.now.hash.now) (C.compression checker.now.compress.now)
+        (replicate D PW.default_value) in
         let s = shape_of plan.now.arity plan.now.dimensions.now in
         let t = plan.now.t in
         let p = pruned_of plan.now.indices.now (row_sets sets.now) sent.now in
@@ -176,12 +185,16 @@ pub(crate) fn check_cap<
 ) -> Result<(), MerkleTreeError>
     requires arity { plan.now.arity ≡ N }
     requires pairs { length sets.now ≡ length plan.now.indices.now }
-    requires sent { length sent.now ≡ length (boundary (shape_of plan.now.arity plan.now.dimensions.now) plan.now.indices.now plan.now.t) }
-    requires agreed { IsAgreed (shape_of plan.now.arity plan.now.dimensions.now) plan.now.t (pruned_of plan.now.indices.now (row_sets sets.now) sent.now) }
+    requires sent { length sent.now ≡ length
+        (boundary (shape_of plan.now.arity plan.now.dimensions.now) plan.now.indices.now plan.now.t) }
+    requires agreed { IsAgreed (shape_of plan.now.arity plan.now.dimensions.now) plan.now.t
+        (pruned_of plan.now.indices.now (row_sets sets.now) sent.now) }
     requires leaves { IsCoveredAt (shape_of plan.now.arity plan.now.dimensions.now) plan.now.indices.now 0 leaves }
-    ensures { let f = functions_of (H.hash checker.now.hash.now) (C.compression checker.now.compress.now) (replicate D PW.default_value) in
+    ensures { let f = functions_of (H.hash checker.now.hash.now) (C.compression checker.now.compress.now)
+        (replicate D PW.default_value) in
         let p = pruned_of plan.now.indices.now (row_sets sets.now) sent.now in
-        let refusal = cap_refusal PW.Value.eq (terms f (shape_of plan.now.arity plan.now.dimensions.now) plan.now.t) roots.now p in
+        let refusal = cap_refusal PW.Value.eq
+        (terms f (shape_of plan.now.arity plan.now.dimensions.now) plan.now.t) roots.now p in
         AnswersUnlessMemory result refusal }
 {
     let restored = restored_cap::<P, PW, H, C, N, D>(alloc, checker, plan, sets, sent, leaves)?;

@@ -93,10 +93,12 @@ pub record IsSaltedPrunedAccepted {T W : Type 0} (e : ℕ) (dimensions : List Di
 
 -- ---- what joined rows tell
 
--- of rows that have the widths of their matrices: where a row or its salts differ, the row followed by its salts differs
+-- of rows that have the widths of their matrices: where a row or its salts differ, the row followed by its salts
+-- differs
 abbrev pub JoinedRowsTell : Type 0 → Type 0
 JoinedRowsTell T =
     (dimensions : List Dimensions) (rows salts others other_salts : List (List T)) (k : ℕ) →
     HaveSalts dimensions rows salts → HaveSalts dimensions others other_salts → k < length dimensions →
-    (slice_index_or rows k [] ≢ slice_index_or others k []) ⊎ (slice_index_or salts k [] ≢ slice_index_or other_salts k []) →
+    (slice_index_or rows k [] ≢ slice_index_or others k []) ⊎
+    (slice_index_or salts k [] ≢ slice_index_or other_salts k []) →
     slice_index_or (salted_rows rows salts) k [] ≢ slice_index_or (salted_rows others other_salts) k []

@@ -1,7 +1,7 @@
 //! Rows and their salts, and matrices beside theirs.
 #![tactic(auto)]
 
-pub mod pairs;
 pub mod laws;
+pub mod pairs;
 pub mod salting;
 pub mod salts;

@@ -29,11 +29,13 @@ pub fn salted_pairs<T: SaltWord, M: Matrix<T> + Drop, R: Rng>(
     matrices: Vec<M>,
 ) -> Result<Vec<HorizontalPair<T, M, RowMajorMatrix<T>>>, AllocError>
     requires some_salt { 1 ≤ salt_elems }
-    requires fits { CanWiden salt_elems (dimensions_of (map (matrix_of M.height_of M.width_of M.row_of) matrices.items)) }
+    requires fits { CanWiden salt_elems
+        (dimensions_of (map (matrix_of M.height_of M.width_of M.row_of) matrices.items)) }
     ensures matrices { IfOk result (λ pairs. map left_of pairs.items ≡ matrices.items) }
     ensures columns { IfOk result (λ pairs. HaveSaltColumns salt_elems pairs.items) }
     ensures salted { let ms = map (matrix_of M.height_of M.width_of M.row_of) matrices.items in
-        IfOk result (λ pairs. map pair_matrix pairs.items ≡ salted_matrices T.of_salt_word salt_elems ms (R.stream rng.old)) }
+        IfOk result (λ pairs. map pair_matrix pairs.items ≡ salted_matrices T.of_salt_word salt_elems ms
+        (R.stream rng.old)) }
     ensures rest { let ms = map (matrix_of M.height_of M.width_of M.row_of) matrices.items in
         OnOk result (R.stream rng.new ≡ after_salts salt_elems ms (R.stream rng.old)) }
     ensures further { let ms = map (matrix_of M.height_of M.width_of M.row_of) matrices.items in

@@ -188,7 +188,8 @@ impl<
         ),
         MerkleTreeError,
     >
-        ensures answer { AnswersUnlessMemory result (gate_refusal (heights_in M.height_of M.width_of M.row_of matrices.items)) }
+        ensures answer { AnswersUnlessMemory result
+            (gate_refusal (heights_in M.height_of M.width_of M.row_of matrices.items)) }
         ensures matrices { IfOk result (λ (cap, tree). matrices_of tree ≡ matrices.items) }
         ensures committed { let b = batch_of M.height_of M.width_of M.row_of N matrices.items in
             let c = terms_over H.hash C.compression D self.now (shape b) in
@@ -232,7 +233,8 @@ impl<
         // Where the tree is this scheme's own, the opening is the honest one, and it is accepted.
         ensures honest { let b = tree_batch tree.now in
             let c = terms_over H.hash C.compression D self.now (shape b) in
-            IsOwn c b (layers_of tree.now) → IfOk result (λ o. opening_made index o ≡ honest c.functions b c.layer index) }
+            IsOwn c b (layers_of tree.now) →
+            IfOk result (λ o. opening_made index o ≡ honest c.functions b c.layer index) }
         ensures accepted { let b = tree_batch tree.now in
             let c = terms_over H.hash C.compression D self.now (shape b) in
             IsOwn c b (layers_of tree.now) → IfOk result (λ o. IsAccepted c (cap_over c b) (opening_made index o)) }

@@ -99,10 +99,12 @@ impl<
         // that `open_batch` opens.
         ensures honest { let b = tree_batch tree.now in
             let c = terms_over H.hash C.compression D self.now (shape b) in
-            IsOwn c b (layers_of tree.now) → IfOk result (λ o. pruned_made indices.now o ≡ honest_query c.functions b c.layer indices.now) }
+            IsOwn c b (layers_of tree.now) →
+            IfOk result (λ o. pruned_made indices.now o ≡ honest_query c.functions b c.layer indices.now) }
         ensures accepted { let b = tree_batch tree.now in
             let c = terms_over H.hash C.compression D self.now (shape b) in
-            IsOwn c b (layers_of tree.now) → IfOk result (λ o. IsPrunedAccepted c (cap_over c b) (pruned_made indices.now o)) }
+            IsOwn c b (layers_of tree.now) →
+            IfOk result (λ o. IsPrunedAccepted c (cap_over c b) (pruned_made indices.now o)) }
         ensures restored { let b = tree_batch tree.now in
             let c = terms_over H.hash C.compression D self.now (shape b) in
             IsOwn c b (layers_of tree.now) → IfOk result (λ o. restored_paths c (pruned_made indices.now o) ≡
@@ -141,10 +143,12 @@ impl<
         // that `open_batch` opens.
         ensures honest { let b = tree_batch tree.now in
             let c = terms_over H.hash C.compression D self.now (shape b) in
-            IsOwn c b (layers_of tree.now) → IfOk result (λ o. multi_made indices.now o ≡ honest_query c.functions b c.layer indices.now) }
+            IsOwn c b (layers_of tree.now) →
+            IfOk result (λ o. multi_made indices.now o ≡ honest_query c.functions b c.layer indices.now) }
         ensures accepted { let b = tree_batch tree.now in
             let c = terms_over H.hash C.compression D self.now (shape b) in
-            IsOwn c b (layers_of tree.now) → IfOk result (λ o. IsPrunedAccepted c (cap_over c b) (multi_made indices.now o)) }
+            IsOwn c b (layers_of tree.now) →
+            IfOk result (λ o. IsPrunedAccepted c (cap_over c b) (multi_made indices.now o)) }
         ensures restored { let b = tree_batch tree.now in
             let c = terms_over H.hash C.compression D self.now (shape b) in
             IsOwn c b (layers_of tree.now) → IfOk result (λ o. restored_paths c (multi_made indices.now o) ≡

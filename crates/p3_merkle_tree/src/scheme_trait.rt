@@ -64,7 +64,8 @@ impl<
         IsShown (terms_of H.hash C.compression D s dimensions) (roots_of cap) index rows };
 
     ghost accepts = { λ s cap dimensions index rows siblings.
-        IsAccepted (terms_of H.hash C.compression D s dimensions) (roots_of cap) (opening_of index rows siblings.items) };
+        IsAccepted (terms_of H.hash C.compression D s dimensions) (roots_of cap)
+        (opening_of index rows siblings.items) };
 
     ghost accepts_all = { λ s cap dimensions indices sets proof.
         IsPrunedAccepted (terms_of H.hash C.compression D s dimensions) (roots_of cap)
@@ -79,7 +80,8 @@ impl<
         ensures taken { IfOk result (λ made. IsLawful (heights_in M.height_of M.width_of M.row_of matrices.items)) }
         ensures matrices { IfOk result (λ made. matrices_of made.1 ≡ matrices.items) }
         ensures commitment { IfOk result (λ made. let b = tree_batch made.1 in
-            IsCommitment (terms_over H.hash C.compression D self.new (shape b)) (roots_of made.0) b (layers_of made.1)) }
+            IsCommitment (terms_over H.hash C.compression D self.new (shape b)) (roots_of made.0) b
+            (layers_of made.1)) }
         ensures memory { IsLawful (heights_in M.height_of M.width_of M.row_of matrices.items) →
             IfErr result (λ e. e ≡ OutOfMemory) }
     {
@@ -158,7 +160,8 @@ impl<
         (pruned_of indices sets proof.sibling_hashes.items) accepted };
 
     ghost shown_fits = { λ s cap dimensions index rows.
-        shown_rows_fit (scheme_functions H.hash C.compression D s) N (cap_of s dimensions) dimensions (roots_of cap) index rows };
+        shown_rows_fit (scheme_functions H.hash C.compression D s) N (cap_of s dimensions) dimensions
+        (roots_of cap) index rows };
 
     ghost agreement = { same_is_equivalence };
 
@@ -166,10 +169,12 @@ impl<
         at_same H.hash C.compression D (shape b) s t (λ c. IsCommitment c (roots_of cap) b (layers_of tree)) };
 
     ghost agreed_proof = { λ s t cap dimensions index rows siblings.
-        at_same H.hash C.compression D (shape_of N dimensions) s t (λ c. IsAccepted c (roots_of cap) (opening_of index rows siblings.items)) };
+        at_same H.hash C.compression D (shape_of N dimensions) s t
+        (λ c. IsAccepted c (roots_of cap) (opening_of index rows siblings.items)) };
 
     ghost agreed_proof_of_all = { λ s t cap dimensions indices sets proof.
-        at_same H.hash C.compression D (shape_of N dimensions) s t (λ c. IsPrunedAccepted c (roots_of cap) (pruned_of indices sets proof.sibling_hashes.items)) };
+        at_same H.hash C.compression D (shape_of N dimensions) s t
+        (λ c. IsPrunedAccepted c (roots_of cap) (pruned_of indices sets proof.sibling_hashes.items)) };
 }
 
 /// Tells that an index below the greatest height is below the tallest one of the tree. It does nothing at run time.

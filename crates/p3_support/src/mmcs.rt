@@ -89,7 +89,8 @@ pub trait Mmcs<T, M: Matrix<T>> {
     ) -> Result<BatchOpening<T, Self::Proof>, Self::Error>
         requires { index < greatest (map M.height_of (matrices_in prover_data.now)) }
         ensures rows { let ms = matrices_in prover_data.now in
-            IfOk result (λ o. row_lists o.opened_values.items ≡ rows_in M.height_of M.row_of row_at (greatest (map M.height_of ms)) ms index) }
+            IfOk result (λ o. row_lists o.opened_values.items ≡
+            rows_in M.height_of M.row_of row_at (greatest (map M.height_of ms)) ms index) }
         ensures accepted { let dimensions = dimensions_in M.height_of M.width_of (matrices_in prover_data.now) in
             (c : Self.Commitment) → commits_to self.now c prover_data.now →
             IfOk result (λ o. accepts self.now c dimensions index (row_lists o.opened_values.items) o.opening_proof) }
@@ -145,7 +146,8 @@ pub trait Mmcs<T, M: Matrix<T>> {
     ) -> Result<(Vec<Vec<Vec<T>>>, Self::MultiProof), Self::Error>
         requires { All (λ index. index < greatest (map M.height_of (matrices_in prover_data.now))) indices.now }
         ensures rows { let ms = matrices_in prover_data.now in
-            IfOk result (λ o. row_sets o.0.items ≡ map (rows_in M.height_of M.row_of row_at (greatest (map M.height_of ms)) ms) indices.now) }
+            IfOk result (λ o. row_sets o.0.items ≡ map
+            (rows_in M.height_of M.row_of row_at (greatest (map M.height_of ms)) ms) indices.now) }
         ensures accepted { let dimensions = dimensions_in M.height_of M.width_of (matrices_in prover_data.now) in
             (c : Self.Commitment) → commits_to self.now c prover_data.now →
             IfOk result (λ o. accepts_all self.now c dimensions indices.now (row_sets o.0.items) o.1) }
@@ -176,7 +178,8 @@ pub trait Mmcs<T, M: Matrix<T>> {
 
     // It belongs to each matrix as one of its rows.
     ghost row_below: { (d : Self.ProverData) → let tallest = greatest (map M.height_of (matrices_in d)) in
-        All (λ m. (index : ℕ) → index < tallest → row_at tallest (M.height_of m) index < M.height_of m) (matrices_in d) };
+        All (λ m. (index : ℕ) → index < tallest → row_at tallest (M.height_of m) index < M.height_of m)
+        (matrices_in d) };
 
     // What one proof shows, and what one proof shows of several indices, each is shown.
     ghost shown_by_one: { (s : Self) (c : Self.Commitment) (ds : List Dimensions) (index : ℕ) (rows : List (List T)) (proof : Self.Proof) →

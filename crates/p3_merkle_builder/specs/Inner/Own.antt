@@ -8,4 +8,5 @@ is_beside covered n j = list_any (λ k. k / n == j / n) covered && not (list_any
 
 -- such nodes of a layer, ascending; d stands for a node that the layer has not
 abbrev pub others_beside : {X : Type 0} → List X → List ℕ → ℕ → X → List X
-others_beside layer covered n d = map (λ j. slice_index_or layer j d) (filter (is_beside covered n) (range_with_len 0 (length layer)))
+others_beside layer covered n d =
+    map (λ j. slice_index_or layer j d) (filter (is_beside covered n) (range_with_len 0 (length layer)))

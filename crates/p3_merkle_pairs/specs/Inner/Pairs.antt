@@ -33,12 +33,14 @@ pub record CanCompare {T W : Type 0} (s : Shape) (t : ℕ) (queries : RestoredQu
   pub reach : (k : ℕ) → k < length queries.paths.items → CanReach s t (length (query_in queries k).siblings)
 
 -- the queries are those of a pruned opening, each with its restored path
-pub record AreQueriesOf {T W : Type 0} (f : Functions T W) (s : Shape) (t : ℕ) (p : PrunedOpening T W) (queries : RestoredQueries T (List W)) : Type 0 where
+pub record AreQueriesOf {T W : Type 0} (f : Functions T W) (s : Shape) (t : ℕ) (p : PrunedOpening T W)
+    (queries : RestoredQueries T (List W)) : Type 0 where
   pub as_many : length queries.paths.items ≡ length p.indices
   pub each : (k : ℕ) → k < length p.indices → query_in queries k ≡ opening_at (terms f s t) p k
 
 -- the last inputs that the checks of two openings share and that differ, kept folded
-unfoldable pub query_difference : {T W : Type 0} → (T → T → Bool) → (W → W → Bool) → Functions T W → Shape → ℕ → Opening T W → Opening T W → Option (Input T W × Input T W)
+unfoldable pub query_difference : {T W : Type 0} → (T → T → Bool) → (W → W → Bool) → Functions T W → Shape → ℕ →
+    Opening T W → Opening T W → Option (Input T W × Input T W)
 query_difference row_eq digest_eq f s t o u = difference_of row_eq digest_eq (terms f s t) o u
 
 -- the first place below n at which d answers

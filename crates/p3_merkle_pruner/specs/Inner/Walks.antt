@@ -23,26 +23,33 @@ pub record IsCoveredAt (s : Shape) (indices : List ℕ) (l : ℕ) (covered : Cov
   pub sent_below : covered.used ≡ length (boundary s indices l)
 
 -- one level up from layer l, where some digests are left of those that were sent
-pub record IsRise {X : Type 0} (s : Shape) (indices : List ℕ) (l : ℕ) (covered : Covered) (digests sent : List X) (rise : Rise X) : Type 0 where
+pub record IsRise {X : Type 0} (s : Shape) (indices : List ℕ) (l : ℕ) (covered : Covered) (digests sent : List X)
+    (rise : Rise X) : Type 0 where
   pub step_is : rise.step ≡ step s l
   pub wide : 0 < rise.step
   pub narrow : rise.step ≤ s.arity
   pub stands : IsCoveredAt s indices (suc l) rise.above
   pub in_groups : length rise.above.leads.items ≡ length rise.children.items / rise.step
-  pub values : AreChildren rise.step rise.above.nodes.items covered.nodes.items digests (drop covered.used sent) rise.children.items
+  pub values : AreChildren rise.step rise.above.nodes.items covered.nodes.items digests
+      (drop covered.used sent) rise.children.items
 
 -- the covered nodes of layer l, and the digests that are restored of them
-pub record AreRestored {T W : Type 0} (f : Functions T W) (s : Shape) (t : ℕ) (p : PrunedOpening T W) (l : ℕ) (covered : Covered) (digests : List (List W)) : Type 0 where
+pub record AreRestored {T W : Type 0} (f : Functions T W) (s : Shape) (t : ℕ) (p : PrunedOpening T W) (l : ℕ)
+    (covered : Covered) (digests : List (List W)) : Type 0 where
   pub stands : IsCoveredAt s p.indices l covered
   pub each : length digests ≡ length covered.nodes.items
   pub restored : digests ≡ map (restored_node (terms f s t) p l) (covered_at s p.indices l)
 
 -- the values of the children of the covered nodes above layer l, parent by parent
 abbrev pub child_values : {T W : Type 0} → Functions T W → Shape → ℕ → PrunedOpening T W → ℕ → List (List W)
-child_values f s t p l = flat_map (λ j. map (value_of (terms f s t) p l) (range_with_len (step s l * j) (step s l))) (covered_at s p.indices (suc l))
+child_values f s t p l =
+    flat_map (λ j. map (value_of (terms f s t) p l) (range_with_len (step s l * j) (step s l)))
+    (covered_at s p.indices (suc l))
 
--- one level up from layer l: the children have their values, and the nodes above have the digests that are restored of them
-pub record IsRestoredRise {T W : Type 0} (f : Functions T W) (s : Shape) (t : ℕ) (p : PrunedOpening T W) (l : ℕ) (rise : Rise (List W)) (digests : List (List W)) : Type 0 where
+-- one level up from layer l: the children have their values, and the nodes above have the digests that are restored
+-- of them
+pub record IsRestoredRise {T W : Type 0} (f : Functions T W) (s : Shape) (t : ℕ) (p : PrunedOpening T W) (l : ℕ)
+    (rise : Rise (List W)) (digests : List (List W)) : Type 0 where
   pub step_is : rise.step ≡ step s l
   pub wide : 0 < rise.step
   pub full : length rise.children.items ≡ rise.step * length rise.above.nodes.items
@@ -50,6 +57,8 @@ pub record IsRestoredRise {T W : Type 0} (f : Functions T W) (s : Shape) (t : �
   pub above_are : AreRestored f s t p (suc l) rise.above digests
 
 -- the levels that a walk kept up to layer l: the covered nodes above each, its step, and the values of its children
-pub record AreKept {T W : Type 0} (f : Functions T W) (s : Shape) (t : ℕ) (p : PrunedOpening T W) (l : ℕ) (levels : List (KeptLevel (List W))) : Type 0 where
+pub record AreKept {T W : Type 0} (f : Functions T W) (s : Shape) (t : ℕ) (p : PrunedOpening T W) (l : ℕ)
+    (levels : List (KeptLevel (List W))) : Type 0 where
   pub levels_are : map (λ level. (level.parents.items, level.step, level.children.items)) levels
-      ≡ map {B = List ℕ × ℕ × List (List W)} (λ l. (covered_at s p.indices (suc l), step s l, child_values f s t p l)) (range_with_len 0 l)
+      ≡ map {B = List ℕ × ℕ × List (List W)} (λ l. (covered_at s p.indices (suc l), step s l, child_values f s t p l))
+      (range_with_len 0 l)
