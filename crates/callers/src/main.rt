@@ -1,0 +1,18 @@
+//! The callers of docs/CALLING.md, each in a module of its own. The stored run says what they print.
+#![tactic(auto)]
+
+mod conflict;
+mod one_row;
+mod rules;
+mod salted;
+mod several_rows;
+
+use anyhow::Result;
+
+fn main(rt: HostRuntime) -> Result<()> {
+    one_row::run(&rt)?;
+    conflict::run(&rt)?;
+    several_rows::run(&rt)?;
+    rules::run(&rt)?;
+    salted::run(&rt)
+}
