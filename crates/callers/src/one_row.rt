@@ -2,8 +2,7 @@
 
 use anyhow::Result;
 use p3_instances::fold::{FoldCompress, FoldHash};
-use p3_merkle_core::pruning::check_indices;
-use p3_merkle_tree::{BatchOpeningRef, MerkleTreeMmcs};
+use p3_merkle_tree::{BatchOpeningRef, MerkleTreeMmcs, check_indices};
 use p3_support::matrix::{Dimensions, RowMajorMatrix};
 
 /// Arity 2, digests of one word. The fold functions are not secure; their digests can be worked out by hand.

@@ -2,9 +2,8 @@
 
 use anyhow::Result;
 use p3_instances::fold::{FoldCompress, FoldHash};
-use p3_merkle_core::pruning::check_indices;
 use p3_merkle_hiding::MerkleTreeHidingMmcs;
-use p3_merkle_tree::BatchOpeningRef;
+use p3_merkle_tree::{BatchOpeningRef, check_indices};
 use p3_support::matrix::{Dimensions, RowMajorMatrix};
 use rand_chacha::ChaCha20Rng;
 use rand_core::SeedableRng;

@@ -2,8 +2,7 @@
 
 use anyhow::Result;
 use p3_instances::fold::{FoldCompress, FoldHash};
-use p3_merkle_core::pruning::check_indices;
-use p3_merkle_tree::MerkleTreeMmcs;
+use p3_merkle_tree::{MerkleTreeMmcs, check_indices};
 use p3_support::matrix::{Dimensions, RowMajorMatrix};
 
 type Fold = MerkleTreeMmcs<u32, u32, FoldHash<4>, FoldCompress<2, 4>, 2, 1>;

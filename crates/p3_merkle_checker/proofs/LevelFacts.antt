@@ -10,9 +10,9 @@ use Rattle.p3_merkle_core.specs.Checks.{layer_words, path_digest, siblings_below
 use Rattle.p3_merkle_core.proofs.Completeness.{reached_leaf, reached_next}
 use Rattle.p3_merkle_core.proofs.SiblingFacts.{siblings_next, siblings_start}
 use Rattle.p3_merkle_core.proofs.StepFacts.{anc_next, anc_start, step_above_1}
-use Rattle.p3_merkle_checker.specs.Inner.Checks.{CanStep, IsAbove, IsLevel, StandsAt, step_siblings}
+use Rattle.p3_merkle_checker.specs.Inner.Checks.{CanStep, IsAbove, IsLevelOfCheck, StandsAt, step_siblings}
 use Rattle.p3_merkle_checker.specs.Inner.Paths.{CanReach, rows_of_exponent}
-use Rattle.p3_merkle_checker.specs.declared.level.Standing.{Standing}
+use Rattle.p3_merkle_checker.specs.declared.level.Progress.{Progress}
 use Rattle.p3_merkle_core.proofs.CheckFacts.{full_group, inputs_with_rows, inputs_alone}
 
 -- rows that are read whole, one after another, are the words of these rows
@@ -21,7 +21,7 @@ words_read now x pairs rows e =
     sym (flat_map-map (λ row. row) now rows) ∙ ap (flat_map (λ row. row)) e ∙ flat_map-map (λ row. row) (λ (h, row). row) (filter (λ (h, row). eqb (exponent h) x) pairs)
 
 -- a check begins at its leaf
-pub stands_first : {T W : Type 0} (f : Functions T W) (s : Shape) (o : Opening T W) (standing : Standing (List W)) → standing.exponent ≡ layer_exponent s 0 → standing.node ≡ o.index → standing.used ≡ 0 →
+pub stands_first : {T W : Type 0} (f : Functions T W) (s : Shape) (o : Opening T W) (standing : Progress (List W)) → standing.exponent ≡ layer_exponent s 0 → standing.node ≡ o.index → standing.used ≡ 0 →
     standing.digest ≡ f.hash (words_of_exponent standing.exponent (zip (heights s) o.rows)) → StandsAt f s o 0 standing
 stands_first f s o standing is node used digest =
     record {
@@ -58,7 +58,7 @@ enough_below s t l count w h =
     let more = rw rest at (siblings_mono s (suc l) (t - suc l)) in
     omega (arith, more, w.all_siblings)
 
-module _ {T W : Type 0} (f : Functions T W) (s : Shape) (o : Opening T W) (l n y : ℕ) (standing above : Standing (List W)) (group : List (List W)) where
+module _ {T W : Type 0} (f : Functions T W) (s : Shape) (o : Opening T W) (l n y : ℕ) (standing above : Progress (List W)) (group : List (List W)) where
   -- the group of the level
   group_is : IsStepFrom s l n y → StandsAt f s o l standing →
       group ≡ padded s.arity f.default_digest (insert (step_siblings n o.siblings standing.used) (standing.node % n) standing.digest) → group ≡ full_group f s o l
@@ -78,7 +78,7 @@ module _ {T W : Type 0} (f : Functions T W) (s : Shape) (o : Opening T W) (l n y
   pub level_with_rows : IsStepFrom s l n y → StandsAt f s o l standing →
       group ≡ padded s.arity f.default_digest (insert (step_siblings n o.siblings standing.used) (standing.node % n) standing.digest) → has_rows s (suc l) ≡ true →
       (pair : List (List W)) → pair ≡ padded s.arity f.default_digest (f.compression group ∷ f.hash (words_of_exponent y (zip (heights s) o.rows)) ∷ []) → IsAbove n y (f.compression pair) standing above →
-      IsLevel f s o l (record { level = l; group = group; pair = Some pair; above = above })
+      IsLevelOfCheck f s o l (record { level = l; group = group; pair = Some pair; above = above })
   level_with_rows from at e has pair p up =
       let whole = group_is from at e in
       let full : pair ≡ padded s.arity f.default_digest (f.compression (full_group f s o l) ∷ f.hash (layer_words s o.rows (suc l)) ∷ []) = rw (whole, from.above) at p in
@@ -93,7 +93,7 @@ module _ {T W : Type 0} (f : Functions T W) (s : Shape) (o : Opening T W) (l n y
   pub level_alone : IsStepFrom s l n y → StandsAt f s o l standing →
       group ≡ padded s.arity f.default_digest (insert (step_siblings n o.siblings standing.used) (standing.node % n) standing.digest) → has_rows s (suc l) ≡ false →
       IsAbove n y (f.compression group) standing above →
-      IsLevel f s o l (record { level = l; group = group; pair = None; above = above })
+      IsLevelOfCheck f s o l (record { level = l; group = group; pair = None; above = above })
   level_alone from at e has up =
       let whole = group_is from at e in
       let next = rw has at (reached_next f s o l) in

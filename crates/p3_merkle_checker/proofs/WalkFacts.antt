@@ -12,18 +12,18 @@ use Rattle.p3_merkle_core.specs.Openings.{Opening}
 use Rattle.p3_merkle_core.specs.Checks.{Input, inputs_at, layer_words, leaf_input, words_at, words_of_exponent}
 use Rattle.p3_merkle_core.specs.Refusals.{unless}
 use Rattle.p3_merkle_core.proofs.StepFacts.{layer_start}
-use Rattle.p3_merkle_checker.specs.Inner.Checks.{IsLevel, StandsAt, leaf_difference, level_difference}
+use Rattle.p3_merkle_checker.specs.Inner.Checks.{IsLevelOfCheck, StandsAt, leaf_difference, level_difference}
 use Rattle.p3_merkle_checker.specs.Inner.Collisions.{IsDifference, Shows, level_inputs}
 use Rattle.p3_merkle_core.specs.declared.collision.Place.TheVariants.{Leaf}
 use Rattle.p3_merkle_core.specs.declared.collision.InputPair.{InputPair}
 use Rattle.p3_merkle_checker.specs.declared.level.CheckedLevel.{CheckedLevel}
-use Rattle.p3_merkle_checker.specs.declared.level.Standing.{Standing}
+use Rattle.p3_merkle_checker.specs.declared.level.Progress.{Progress}
 use Rattle.p3_merkle_checker.proofs.SharedFacts.{difference_below, shows_later}
 use Rattle.p3_support.specs.declared.matrix.Dimensions.{Dimensions}
 use Rattle.p3_support.specs.Shown.{row_lists}
 
 -- the checks of two openings stand at layer l, and this is the last difference below it
-pub record StandTogether {T W : Type 0} (test : Input T W → Input T W → Bool) (f : Functions T W) (s : Shape) (o u : Opening T W) (l : ℕ) (first second : Standing (List W)) (last : Option (InputPair T (List W))) : Type 0 where
+pub record StandTogether {T W : Type 0} (test : Input T W → Input T W → Bool) (f : Functions T W) (s : Shape) (o u : Opening T W) (l : ℕ) (first second : Progress (List W)) (last : Option (InputPair T (List W))) : Type 0 where
   pub first_stands : StandsAt f s o l first
   pub second_stands : StandsAt f s u l second
   pub found : Shows last (difference_below test f s o u l)
@@ -54,7 +54,7 @@ found_leaf eq same s o u mine theirs found e a b is =
 
 -- what is shown of the two levels is the last difference of their inputs
 pub found_here : {T W : Type 0} (test : Input T W → Input T W → Bool) (f : Functions T W) (s : Shape) (l : ℕ) (o u : Opening T W) (found : Option (InputPair T (List W))) (mine theirs : CheckedLevel (List W) (List (List W))) (a b : List T) →
-    IsLevel f s o l mine → IsLevel f s u l theirs → a ≡ layer_words s o.rows (suc l) → b ≡ layer_words s u.rows (suc l) →
+    IsLevelOfCheck f s o l mine → IsLevelOfCheck f s u l theirs → a ≡ layer_words s o.rows (suc l) → b ≡ layer_words s u.rows (suc l) →
     Shows found (last_difference test (level_inputs mine.level a mine) (level_inputs mine.level b theirs)) → Shows found (last_difference test (inputs_at f s o l) (inputs_at f s u l))
 found_here test f s l o u found mine theirs a b m n is_a is_b shown =
     let mine_is : level_inputs mine.level a mine ≡ inputs_at f s o l =
@@ -66,7 +66,7 @@ found_here test f s l o u found mine theirs a b m n is_a is_b shown =
 
 -- the last difference there, where both checks stand at one node above the level, else the one below
 pub found_next : {T W : Type 0} (test : Input T W → Input T W → Bool) (f : Functions T W) (s : Shape) (l : ℕ) (o u : Opening T W) (last next : Option (InputPair T (List W))) (mine theirs : CheckedLevel (List W) (List (List W))) →
-    IsLevel f s o l mine → IsLevel f s u l theirs → Shows last (difference_below test f s o u l) →
+    IsLevelOfCheck f s o l mine → IsLevelOfCheck f s u l theirs → Shows last (difference_below test f s o u l) →
     ((mine.above.node ≡ theirs.above.node) × ((found : Option (InputPair T (List W))) × Shows found (last_difference test (inputs_at f s o l) (inputs_at f s u l)) × (next ≡ option_or found last)))
     ⊎ ((mine.above.node ≡ theirs.above.node → ⊥) × (next ≡ last)) →
     Shows next (difference_below test f s o u (l + 1))

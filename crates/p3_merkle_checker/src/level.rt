@@ -5,7 +5,7 @@ ghost use Rattle.p3_merkle_core.specs.Geometry.{layer_exponent, shape_of};
 ghost use Rattle.p3_merkle_core.specs.Checks.{words_of_exponent};
 ghost use Rattle.p3_support.specs.Batches.{heights_of};
 ghost use Rattle.p3_merkle_core.specs.Nodes.{functions_of, padded};
-ghost use Rattle.p3_merkle_checker.specs.Inner.Checks.{opening_in, step_siblings, CanClimb, CanStep, IsAbove, IsLevel, StandsAt};
+ghost use Rattle.p3_merkle_checker.specs.Inner.Checks.{opening_in, step_siblings, CanClimb, CanStep, IsAbove, IsLevelOfCheck, StandsAt};
 ghost use Rattle.p3_merkle_checker.specs.Inner.Paths.{CanReach};
 ghost use Rattle.p3_support.specs.Shown.{row_lists};
 
@@ -21,7 +21,7 @@ use std::marker::PhantomData;
 
 /// How far the check of an opening has come.
 #[derive(Clone, Copy)]
-pub struct Standing<X> {
+pub struct Progress<X> {
     /// The exponent of the layer that is reached.
     pub exponent: usize,
     /// The node above the leaf in this layer.
@@ -32,7 +32,7 @@ pub struct Standing<X> {
     pub digest: X,
 }
 
-impl<W: Copy, const D: usize> Standing<[W; D]> {
+impl<W: Copy, const D: usize> Progress<[W; D]> {
     /// The group of the next step: the digest that is reached at its place among its siblings, then default digests.
     fn group<const N: usize>(
         &self,
@@ -50,14 +50,14 @@ impl<W: Copy, const D: usize> Standing<[W; D]> {
     }
 }
 
-impl<X: Copy> Standing<X> {
+impl<X: Copy> Progress<X> {
     /// The same check one step higher, at a layer of this exponent, where this digest is reached.
-    fn above(&self, step: usize, exponent: usize, digest: X) -> Standing<X>
+    fn above(&self, step: usize, exponent: usize, digest: X) -> Progress<X>
         requires step { 0 < step }
         requires fits { self.now.used + (step - 1) < 2 ^ 64 }
         ensures { IsAbove step exponent digest self.now result }
     {
-        Standing {
+        Progress {
             exponent,
             node: self.node / step,
             used: self.used + (step - 1),
@@ -76,11 +76,11 @@ pub struct CheckedLevel<X, G> {
     /// The group's digest and that of rows, where matrices belong to the layer above.
     pub pair: Option<G>,
     /// How far the check has come above the level.
-    pub above: Standing<X>,
+    pub above: Progress<X>,
 }
 
 /// The digest of the rows of the matrices of this exponent, one after another.
-pub fn rows_digest<
+pub fn opened_rows_digest<
     P: PackedValue,
     PW: PackedValue,
     H: CryptographicHasher<P, PW, D>,
@@ -102,7 +102,7 @@ pub(crate) fn leaf<
     hash: &H,
     steps: &Steps<'_>,
     opening: IndexedOpening<'_, P::Value, [PW::Value; D]>,
-) -> Standing<[PW::Value; D]>
+) -> Progress<[PW::Value; D]>
     ensures exponent { result.exponent ≡ layer_exponent (shape_of steps.now.arity steps.now.dimensions.now) 0 }
     ensures node { result.node ≡ opening.entry.index }
     ensures used { result.used ≡ 0 }
@@ -110,11 +110,11 @@ pub(crate) fn leaf<
         result.digest ≡ H.hash hash.now (words_of_exponent result.exponent rows) }
 {
     let exponent = steps.exponent;
-    Standing {
+    Progress {
         exponent,
         node: opening.index,
         used: 0,
-        digest: rows_digest::<P, PW, H, D>(hash, steps.dimensions, opening.rows, exponent),
+        digest: opened_rows_digest::<P, PW, H, D>(hash, steps.dimensions, opening.rows, exponent),
     }
 }
 
@@ -157,7 +157,7 @@ impl<
         steps: &Steps<'_>,
         level: usize,
         opening: IndexedOpening<'_, P::Value, [PW::Value; D]>,
-        standing: &Standing<[PW::Value; D]>,
+        standing: &Progress<[PW::Value; D]>,
     ) -> CheckedLevel<[PW::Value; D], [[PW::Value; D]; N]>
         requires arity { steps.now.arity ≡ N }
         requires level { level < steps.now.num_levels }
@@ -167,7 +167,7 @@ impl<
         requires climbs { CanClimb (shape_of N steps.now.dimensions.now) level (length opening.siblings.now) }
         ensures { let f = functions_of (H.hash self.now.hash.now) (C.compression self.now.compress.now)
             (replicate D PW.default_value) in
-            IsLevel f (shape_of N steps.now.dimensions.now) (opening_in opening.entry) level result }
+            IsLevelOfCheck f (shape_of N steps.now.dimensions.now) (opening_in opening.entry) level result }
     {
         let StepUp {
             step,
@@ -178,7 +178,7 @@ impl<
         let group = standing.group::<N>(default_digest, step, opening.siblings);
         let node = self.compress.compress(group);
         if has_rows {
-            let rows = [rows_digest::<P, PW, H, D>(
+            let rows = [opened_rows_digest::<P, PW, H, D>(
                 self.hash,
                 steps.dimensions,
                 opening.rows,

@@ -12,5 +12,5 @@ mod salting;
 mod scheme_trait;
 mod verify;
 
-pub use hiding_mmcs::MerkleTreeHidingMmcs;
+pub use hiding_mmcs::{MerkleTreeHidingMmcs, SaltedMultiProof, SaltedProof, SaltedTree};
 pub use p3_merkle_salts::laws;

@@ -189,7 +189,7 @@ pub fn write_batched_leaves<
 
 /// Writes the compressions of whole groups of a layer into the first `count` slots: slot `j` is that of group `j`. There
 /// are at least `count` groups, and as many slots.
-pub fn write_batched_folds<
+pub fn compress_groups_batched<
     PW: PackedValue,
     C: PseudoCompressionFunction<PW, N, D>,
     const N: usize,
@@ -232,7 +232,7 @@ fn stage_pairs<W: Copy, const N: usize, const D: usize>(
 ///
 /// `AllocError` where there is no memory for that buffer.
 #[tactic(auto, using(crate::proofs::StageFacts::made_long))]
-pub fn join_rows<
+pub fn inject_row_digests<
     PW: PackedValue,
     C: PseudoCompressionFunction<PW, N, D>,
     const N: usize,

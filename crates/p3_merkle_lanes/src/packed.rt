@@ -307,7 +307,7 @@ fn packed_pair<PW: PackedValue, const N: usize, const D: usize>(
 
 /// The compressions of the children of the nodes from `first` on over a layer, with default digests behind them: lane `k`
 /// is that of node `first + k`.
-pub fn packed_fold<
+pub fn compress_children_packed<
     PW: PackedValue,
     C: PseudoCompressionFunction<PW, N, D>,
     const N: usize,
@@ -324,7 +324,7 @@ pub fn packed_fold<
 }
 
 /// The compressions of two packed digests, lane by lane, with default digests behind them.
-pub fn packed_join<
+pub fn compress_pairs_packed<
     PW: PackedValue,
     C: PseudoCompressionFunction<PW, N, D>,
     const N: usize,

@@ -17,7 +17,7 @@ use p3_support::rows::rows_of;
 const MAX_PIECES: usize = 16;
 
 /// From how many words on rows are lent side by side. Shorter ones are read faster word by word.
-const WIDE: usize = 4;
+const MIN_LENT_WIDTH: usize = 4;
 
 /// The digest of row `row` of a matrix, which is below its height.
 fn row_digest<
@@ -106,7 +106,7 @@ pub fn rows_digest<
             return row_digest::<P, PW, H, M, D>(hash, matrix, row);
         },
         // Whole pieces are hashed without a look for the next word's matrix.
-        [first, ..] if first.width() >= WIDE => {
+        [first, ..] if first.width() >= MIN_LENT_WIDTH => {
             pieces_digest::<P, PW, H, M, D>(hash, matrices, height, row)
         },
         _ => None,
@@ -170,7 +170,7 @@ pub fn write_lent_leaves<
 
 /// Writes the compressions of whole groups of a layer into the slots from `first` to `end`: slot `j` is that of group
 /// `j`. There are at least `end` groups, and as many slots.
-pub fn write_whole_folds<
+pub fn compress_groups<
     PW: PackedValue,
     C: PseudoCompressionFunction<PW, N, D>,
     const N: usize,

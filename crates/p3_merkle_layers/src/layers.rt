@@ -20,11 +20,12 @@ ghost use Rattle.p3_merkle_lanes.specs.Inner.Slots.{leaf_over, IsFilled};
 use p3_merkle_core::geometry::{exponent_of, padded_len, tallest_of};
 use p3_merkle_core::group::group_with;
 use p3_merkle_core::levels::{Level, level_above};
-use p3_merkle_lanes::batched::{join_rows, write_batched_folds, write_batched_leaves};
+use p3_merkle_lanes::batched::{compress_groups_batched, inject_row_digests, write_batched_leaves};
 use p3_merkle_lanes::packed::{
-    packed_fold, packed_groups, packed_join, packed_rows_digest, write_packed_leaves,
+    compress_children_packed, compress_pairs_packed, packed_groups, packed_rows_digest,
+    write_packed_leaves,
 };
-use p3_merkle_lanes::plain::{rows_digest, write_lent_leaves, write_whole_folds};
+use p3_merkle_lanes::plain::{compress_groups, rows_digest, write_lent_leaves};
 use p3_support::compress::PseudoCompressionFunction;
 use p3_support::hasher::CryptographicHasher;
 use p3_support::matrix::{Dimensions, Matrix};
@@ -155,7 +156,7 @@ impl<
 
     /// Writes the digests of the rows of the matrices of this height into as many of the first slots as are filled
     /// several at a time, and says how many these are.
-    fn write_first_leaves(
+    fn write_leaves_together(
         &self,
         alloc: Global,
         height: usize,
@@ -193,7 +194,7 @@ impl<
 
     /// Writes into each slot from the first `done` on the digest of the rows of its number, of the matrices of this
     /// height.
-    fn write_other_leaves(&self, height: usize, done: usize, slots: &mut [[PW::Value; D]])
+    fn write_remaining_leaves(&self, height: usize, done: usize, slots: &mut [[PW::Value; D]])
         requires { let leaf = leaf_over (H.hash self.now.hash.now)
             (replicate D PW.default_value) M.height_of M.row_of self.now.matrices.now height in
             IsFilled leaf done (length slots.old) slots.old }
@@ -226,8 +227,8 @@ impl<
             (replicate D PW.default_value) M.height_of M.row_of self.now.matrices.now height in
             IfOk result (λ done. slots.new ≡ map leaf (range_with_len 0 (length slots.old))) }
     {
-        let done = self.write_first_leaves(alloc, height, slots)?;
-        self.write_other_leaves(height, done, slots);
+        let done = self.write_leaves_together(alloc, height, slots)?;
+        self.write_remaining_leaves(height, done, slots);
         Ok(())
     }
 
@@ -267,7 +268,12 @@ impl<
             IfOk result (λ digests. (k : ℕ) → k < PW.WIDTH → lane_of PW.lanes PW.default_value k digests
             ≡ slot_above f N M.height_of M.row_of self.now.matrices.now level.now below.now (first + k)) }
     {
-        let folded = packed_fold::<PW, C, N, D>(self.compress, below, level.step, first);
+        let folded = compress_children_packed::<PW, C, N, D>(
+            self.compress,
+            below,
+            level.step,
+            first,
+        );
         if !level.has_rows {
             return Ok(folded);
         }
@@ -278,7 +284,7 @@ impl<
             first,
             staged,
         )?;
-        Ok(packed_join::<PW, C, N, D>(self.compress, folded, rows))
+        Ok(compress_pairs_packed::<PW, C, N, D>(self.compress, folded, rows))
     }
 
     /// Writes the nodes of the layer above a layer into the first slots: `groups` groups, each of as many slots as there
@@ -335,19 +341,19 @@ impl<
             IfOk result (λ done. IsFilled slot count (length slots.old) slots.new) }
     {
         let (groups, _) = below.as_chunks::<N>();
-        write_batched_folds::<PW, C, N, D>(self.compress, groups, count, slots);
+        compress_groups_batched::<PW, C, N, D>(self.compress, groups, count, slots);
         if !level.has_rows {
             return Ok(());
         }
         let rows = self.leaves(alloc, level.height, count)?;
         let mut pairs = Vec::new(alloc);
-        join_rows::<PW, C, N, D>(self.compress, &mut pairs, &rows, slots)?;
+        inject_row_digests::<PW, C, N, D>(self.compress, &mut pairs, &rows, slots)?;
         Ok(())
     }
 
     /// Writes the layer above a layer into as many of the first slots as are filled several at a time, and says how many
     /// these are.
-    fn write_first_nodes(
+    fn write_nodes_together(
         &self,
         alloc: Global,
         level: &Level,
@@ -400,12 +406,12 @@ impl<
             return done;
         }
         let (groups, _) = below.as_chunks::<N>();
-        write_whole_folds::<PW, C, N, D>(self.compress, groups, done, end, slots);
+        compress_groups::<PW, C, N, D>(self.compress, groups, done, end, slots);
         end
     }
 
     /// Writes the slots of the layer above a layer, from the first `done` on.
-    fn write_other_nodes(
+    fn write_remaining_nodes(
         &self,
         level: &Level,
         below: &[[PW::Value; D]],
@@ -443,8 +449,8 @@ impl<
             (slot_above f N M.height_of M.row_of self.now.matrices.now level.now below.now)
             (range_with_len 0 (length slots.old))) }
     {
-        let done = self.write_first_nodes(alloc, level, below, slots)?;
-        self.write_other_nodes(level, below, done, slots);
+        let done = self.write_nodes_together(alloc, level, below, slots)?;
+        self.write_remaining_nodes(level, below, done, slots);
         Ok(())
     }
 

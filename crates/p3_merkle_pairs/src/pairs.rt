@@ -17,7 +17,7 @@ use p3_merkle_checker::openings::{IndexedOpening, OpeningPair};
 use p3_merkle_core::collision::Collision;
 use p3_merkle_core::error::MerkleTreeError;
 use p3_merkle_core::pruning::{AuthPath, PrunedProof};
-use p3_merkle_pruner::check::check_opening;
+use p3_merkle_pruner::check::check_pruned_opening;
 use p3_merkle_pruner::paths::restored_paths_of;
 use p3_support::compress::PseudoCompressionFunction;
 use p3_support::hasher::CryptographicHasher;
@@ -170,11 +170,11 @@ fn differing_pair<
     Ok(None)
 }
 
-/// Checks a pruned opening as [`check_opening`] does, and restores the path of each query.
+/// Checks a pruned opening as [`check_pruned_opening`] does, and restores the path of each query.
 ///
 /// # Errors
 ///
-/// Those of [`check_opening`].
+/// Those of [`check_pruned_opening`].
 fn checked_queries<
     'a,
     P: PackedValue,
@@ -207,7 +207,9 @@ fn checked_queries<
         sets,
         sent,
     } = opening;
-    check_opening::<P, PW, H, C, N, D>(alloc, checker, roots, dimensions, t, indices, sets, sent)?;
+    check_pruned_opening::<P, PW, H, C, N, D>(
+        alloc, checker, roots, dimensions, t, indices, sets, sent,
+    )?;
     let paths = restored_paths_of::<P, PW, H, C, N, D>(
         alloc, checker, dimensions, t, indices, sets, sent,
     )?;
@@ -223,7 +225,7 @@ fn checked_queries<
 ///
 /// # Errors
 ///
-/// What [`check_opening`] answers to the first opening, else what it answers to the second; `OutOfMemory` may come at any
+/// What [`check_pruned_opening`] answers to the first opening, else what it answers to the second; `OutOfMemory` may come at any
 /// time.
 pub fn extraction<
     P: PackedValue,

@@ -12,9 +12,9 @@ use Rattle.p3_merkle_core.proofs.PathFacts.{group_values}
 use Rattle.p3_merkle_core.proofs.ValueFacts.{IsLevel, children_are}
 use Rattle.p3_merkle_pruner.proofs.WalkFacts.{same_map}
 use Rattle.p3_merkle_pruner.specs.Inner.Groups.{group_digest, layer_digests, pair_digest, query_digest}
-use Rattle.p3_merkle_pruner.specs.Inner.Walks.{AreRestored, IsCoveredAt, IsRestoredRise, IsRise, child_values, node_of_query}
-use Rattle.p3_merkle_pruner.specs.declared.plan.Covered.{Covered}
-use Rattle.p3_merkle_pruner.specs.declared.plan.Rise.{Rise}
+use Rattle.p3_merkle_pruner.specs.Inner.Walks.{AreRestored, IsCoveredAt, IsRestoredRise, IsNextLevel, child_values, node_of_query}
+use Rattle.p3_merkle_pruner.specs.declared.queries.Covered.{Covered}
+use Rattle.p3_merkle_pruner.specs.declared.queries.NextLevel.{NextLevel}
 use Rattle.p3_merkle_core.specs.Openings.{children_by}
 use Rattle.p3_merkle_core.specs.Checks.{terms}
 
@@ -129,9 +129,9 @@ start_restored f s t p agreed covered digests at e =
 
 -- the children have their values
 level_values : {T W : Type 0} (f : Functions T W) (s : Shape) (t : ℕ) (p : PrunedOpening T W) → CanQuery s p.indices t → length p.digests ≡ length (boundary s p.indices t) → (l : ℕ) → l < t →
-    (covered : Covered) (rise : Rise (List W)) (digests : List (List W)) → AreRestored f s t p l covered digests → IsRise s p.indices l covered digests p.digests rise → rise.children.items ≡ child_values f s t p l
-level_values f s t p w count l h covered rise digests here up =
-    let same : IsLevel f s t p l (λ (d : List _). d) rise.step rise.above.nodes.items covered.nodes.items digests (drop covered.used p.digests) =
+    (covered : Covered) (next_level : NextLevel (List W)) (digests : List (List W)) → AreRestored f s t p l covered digests → IsNextLevel s p.indices l covered digests p.digests next_level → next_level.children.items ≡ child_values f s t p l
+level_values f s t p w count l h covered next_level digests here up =
+    let same : IsLevel f s t p l (λ (d : List _). d) next_level.step next_level.above.nodes.items covered.nodes.items digests (drop covered.used p.digests) =
     record {
       step_is = up.step_is;
       parents_are = up.stands.nodes_are;
@@ -139,22 +139,22 @@ level_values f s t p w count l h covered rise digests here up =
       digests_are = map-id digests ∙ here.restored;
       sent_is = map-id (drop covered.used p.digests) ∙ ap (λ k. drop k p.digests) here.stands.sent_below;
     } in
-    sym (map-id rise.children.items) ∙ children_are f s t p w count l h (λ (d : List _). d) rise.step rise.above.nodes.items covered.nodes.items digests (drop covered.used p.digests) rise.children.items same up.values
+    sym (map-id next_level.children.items) ∙ children_are f s t p w count l h (λ (d : List _). d) next_level.step next_level.above.nodes.items covered.nodes.items digests (drop covered.used p.digests) next_level.children.items same up.values
 
 -- so the nodes above have their digests
 pub level_restored : {T W : Type 0} (f : Functions T W) (s : Shape) (t : ℕ) (p : PrunedOpening T W) → CanQuery s p.indices t → IsAgreed s t p → length p.digests ≡ length (boundary s p.indices t) → (l : ℕ) → l < t → (n : ℕ) → s.arity ≡ n →
-    (covered : Covered) (rise : Rise (List W)) (digests next : List (List W)) → AreRestored f s t p l covered digests → IsRise s p.indices l covered digests p.digests rise →
-    next ≡ layer_digests f n rise.step (heights s) rise.above.exponent p.rows rise.above.leads.items rise.children.items → IsRestoredRise f s t p l rise next
-level_restored f s t p w agreed count l h n is_n covered rise digests next here up e =
-    let values = level_values f s t p w count l h covered rise digests here up in
+    (covered : Covered) (next_level : NextLevel (List W)) (digests next : List (List W)) → AreRestored f s t p l covered digests → IsNextLevel s p.indices l covered digests p.digests next_level →
+    next ≡ layer_digests f n next_level.step (heights s) next_level.above.exponent p.rows next_level.above.leads.items next_level.children.items → IsRestoredRise f s t p l next_level next
+level_restored f s t p w agreed count l h n is_n covered next_level digests next here up e =
+    let values = level_values f s t p w count l h covered next_level digests here up in
     let are = sym up.stands.nodes_are ∙ up.stands.leads_are in
-    let long = sym up.in_groups ∙ sym (length-map rise.above.leads.items (node_of_query s p.indices (suc l))) ∙ sym (ap length are) in
-    let is = e ∙ ap (λ a. layer_digests f a rise.step (heights s) rise.above.exponent p.rows rise.above.leads.items rise.children.items) (sym is_n)
-    ∙ layer_next f s t p l agreed (omega arith) rise.step rise.above.exponent rise.above.leads.items rise.children.items up.step_is up.stands.at_exponent are up.stands.among long values in
+    let long = sym up.in_groups ∙ sym (length-map next_level.above.leads.items (node_of_query s p.indices (suc l))) ∙ sym (ap length are) in
+    let is = e ∙ ap (λ a. layer_digests f a next_level.step (heights s) next_level.above.exponent p.rows next_level.above.leads.items next_level.children.items) (sym is_n)
+    ∙ layer_next f s t p l agreed (omega arith) next_level.step next_level.above.exponent next_level.above.leads.items next_level.children.items up.step_is up.stands.at_exponent are up.stands.among long values in
     record {
       step_is = up.step_is;
       wide = up.wide;
       full = up.values.each;
       values_are = values;
-      above_are = record { stands = up.stands; each = digests_long s p.indices (suc l) rise.above (restored_node (terms f s t) p (suc l)) next up.stands is; restored = is };
+      above_are = record { stands = up.stands; each = digests_long s p.indices (suc l) next_level.above (restored_node (terms f s t) p (suc l)) next up.stands is; restored = is };
     }

@@ -8,7 +8,7 @@ use Rattle.p3_merkle_core.specs.Pruning.{PrunedOpening, value_of}
 use Rattle.p3_merkle_core.specs.declared.pruning.KeptLevel.{KeptLevel}
 use Rattle.p3_merkle_core.proofs.KeptFacts.{level_of}
 use Rattle.p3_merkle_pruner.specs.Inner.Walks.{AreKept, IsRestoredRise}
-use Rattle.p3_merkle_pruner.specs.declared.plan.Rise.{Rise}
+use Rattle.p3_merkle_pruner.specs.declared.queries.NextLevel.{NextLevel}
 use Rattle.p3_merkle_core.specs.Checks.{terms}
 
 -- none at first
@@ -20,10 +20,10 @@ abbrev shown_level : {X : Type 0} → KeptLevel X → List ℕ × ℕ × List X
 shown_level level = (level.parents.items, level.step, level.children.items)
 
 -- one level more
-pub kept_next : {T W : Type 0} (f : Functions T W) (s : Shape) (t : ℕ) (p : PrunedOpening T W) (l : ℕ) (old new : List (KeptLevel (List W))) (level : KeptLevel (List W)) (rise : Rise (List W)) (digests : List (List W)) →
-    AreKept f s t p l old → IsRestoredRise f s t p l rise digests → new ≡ old ++ level ∷ [] → level.step ≡ rise.step → level.parents.items ≡ rise.above.nodes.items → level.children.items ≡ rise.children.items →
+pub kept_next : {T W : Type 0} (f : Functions T W) (s : Shape) (t : ℕ) (p : PrunedOpening T W) (l : ℕ) (old new : List (KeptLevel (List W))) (level : KeptLevel (List W)) (next_level : NextLevel (List W)) (digests : List (List W)) →
+    AreKept f s t p l old → IsRestoredRise f s t p l next_level digests → new ≡ old ++ level ∷ [] → level.step ≡ next_level.step → level.parents.items ≡ next_level.above.nodes.items → level.children.items ≡ next_level.children.items →
     AreKept f s t p (l + 1) new
-kept_next f s t p l old new level rise digests k up is a b c =
+kept_next f s t p l old new level next_level digests k up is a b c =
     let z : 0 + l ≡ l = omega arith in
     let here = level_of s p.indices (value_of (terms f s t) p) in
     let last : shown_level level ≡ here l = λ i. ((b ∙ up.above_are.stands.nodes_are) i, (a ∙ up.step_is) i, (c ∙ up.values_are) i) in

@@ -14,7 +14,7 @@ use Rattle.p3_merkle_core.proofs.ListFacts.{length-joined_le}
 use Rattle.p3_merkle_core.proofs.StepFacts.{anc_next, step_above_1}
 use Rattle.p3_merkle_core.proofs.ValueFacts.{family_by_counts}
 use Rattle.p3_merkle_pruner.specs.Inner.Walks.{IsCoveredAt, node_of_query}
-use Rattle.p3_merkle_pruner.specs.declared.plan.Covered.{Covered}
+use Rattle.p3_merkle_pruner.specs.declared.queries.Covered.{Covered}
 use Rattle.p3_merkle_core.specs.Openings.{children_by}
 
 -- equal functions, mapped
@@ -48,7 +48,7 @@ left_family s queries t w low l h n parents covered digests sent left used is_st
 
 -- ---- one level up
 
--- what a rise is, from its parts
+-- what a next_level is, from its parts
 pub rises : {X Y : Type 0} (s : Shape) (queries : List ℕ) (l : ℕ) (covered above : Covered) (digests sent : List X) (children : Vec X Y) (n : ℕ) → 2 ≤ s.arity → n ≡ step s l → IsCoveredAt s queries (suc l) above →
     AreChildren n above.nodes.items covered.nodes.items digests (drop covered.used sent) children.items →
     (0 < n) × (n ≤ s.arity) × (length above.leads.items ≡ length children.items / n)

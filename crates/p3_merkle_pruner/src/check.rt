@@ -11,7 +11,7 @@ ghost use Rattle.p3_merkle_checker.specs.Inner.Paths.{CanCheck};
 ghost use Rattle.p3_merkle_core.specs.Checks.{terms};
 
 use crate::leaves::{leaves_of, tell_restorable};
-use crate::plan::Plan;
+use crate::queries::Queries;
 use crate::restored::check_cap;
 use p3_merkle_checker::level::Checker;
 use p3_merkle_core::agreement::check_pruned;
@@ -31,7 +31,7 @@ use std::alloc::Global;
 ///
 /// What [`check_pruned`] answers; else `CapMismatch` where a root is another, or is not there. `OutOfMemory` may come at any
 /// time.
-pub fn check_opening<
+pub fn check_pruned_opening<
     P: PackedValue,
     PW: PackedValue,
     H: CryptographicHasher<P, PW, D>,
@@ -57,12 +57,12 @@ pub fn check_opening<
 {
     let slots = check_pruned(alloc, dimensions, N, t, indices, sets, sent.len())?;
     tell_restorable::<P, PW, D>(dimensions, N, t, indices, sets, sent);
-    let plan = Plan {
+    let queries = Queries {
         dimensions,
         arity: N,
         t,
         indices,
     };
     let leaves = leaves_of(dimensions, N, indices, slots);
-    check_cap::<P, PW, H, C, N, D>(alloc, checker, roots, &plan, sets, sent, leaves)
+    check_cap::<P, PW, H, C, N, D>(alloc, checker, roots, &queries, sets, sent, leaves)
 }

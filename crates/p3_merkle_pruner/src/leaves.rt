@@ -10,7 +10,7 @@ ghost use Rattle.p3_merkle_core.specs.Refusals.{pruned_refusal};
 ghost use Rattle.p3_merkle_checker.specs.Inner.Paths.{CanCheck};
 ghost use Rattle.p3_merkle_pruner.specs.Inner.Walks.{IsCoveredAt};
 
-use crate::plan::Covered;
+use crate::queries::Covered;
 use p3_merkle_core::agreement::Slots;
 use p3_merkle_core::geometry::{exponent_of, tallest_of};
 use p3_support::matrix::Dimensions;

@@ -8,6 +8,6 @@ mod leads;
 mod leaves;
 mod level;
 pub mod paths;
-mod plan;
+mod queries;
 mod restored;
 mod rows;

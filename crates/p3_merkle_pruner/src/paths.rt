@@ -13,7 +13,7 @@ ghost use Rattle.p3_merkle_pruner.specs.Inner.Walks.{AreKept, IsCoveredAt};
 ghost use Rattle.p3_merkle_core.specs.Checks.{terms};
 
 use crate::leaves::{leaves_of, tell_restorable};
-use crate::plan::{Covered, Plan, Rise};
+use crate::queries::{Covered, NextLevel, Queries};
 use crate::restored::{restored_above, tell_leads};
 use crate::rows::row_digests;
 use p3_merkle_checker::level::Checker;
@@ -61,14 +61,14 @@ pub fn restored_paths_of<
 {
     let slots = check_pruned(alloc, dimensions, N, t, indices, sets, sent.len())?;
     tell_restorable::<P, PW, D>(dimensions, N, t, indices, sets, sent);
-    let plan = Plan {
+    let queries = Queries {
         dimensions,
         arity: N,
         t,
         indices,
     };
     let leaves = leaves_of(dimensions, N, indices, slots);
-    let levels = kept_levels::<P, PW, H, C, N, D>(alloc, checker, &plan, sets, sent, leaves)?;
+    let levels = kept_levels::<P, PW, H, C, N, D>(alloc, checker, &queries, sets, sent, leaves)?;
     Ok(paths_out_of(alloc, &levels, indices)?)
 }
 
@@ -88,39 +88,39 @@ fn kept_levels<
 >(
     alloc: Global,
     checker: &Checker<'_, P, PW, H, C, [[PW::Value; D]; N]>,
-    plan: &Plan<'_>,
+    queries: &Queries<'_>,
     sets: &[Vec<Vec<P::Value>>],
     sent: &[[PW::Value; D]],
     leaves: Covered,
 ) -> Result<Vec<KeptLevel<[PW::Value; D]>>, AllocError>
-    requires arity { plan.now.arity ≡ N }
-    requires pairs { length sets.now ≡ length plan.now.indices.now }
+    requires arity { queries.now.arity ≡ N }
+    requires pairs { length sets.now ≡ length queries.now.indices.now }
     requires sent { length sent.now ≡ length
-        (boundary (shape_of plan.now.arity plan.now.dimensions.now) plan.now.indices.now plan.now.t) }
-    requires agreed { IsAgreed (shape_of plan.now.arity plan.now.dimensions.now) plan.now.t
-        (pruned_of plan.now.indices.now (row_sets sets.now) sent.now) }
-    requires leaves { IsCoveredAt (shape_of plan.now.arity plan.now.dimensions.now) plan.now.indices.now 0 leaves }
+        (boundary (shape_of queries.now.arity queries.now.dimensions.now) queries.now.indices.now queries.now.t) }
+    requires agreed { IsAgreed (shape_of queries.now.arity queries.now.dimensions.now) queries.now.t
+        (pruned_of queries.now.indices.now (row_sets sets.now) sent.now) }
+    requires leaves { IsCoveredAt (shape_of queries.now.arity queries.now.dimensions.now) queries.now.indices.now 0 leaves }
     ensures { let f = functions_of (H.hash checker.now.hash.now) (C.compression checker.now.compress.now)
         (replicate D PW.default_value) in
-        let p = pruned_of plan.now.indices.now (row_sets sets.now) sent.now in
-        IfOk result (λ levels. AreKept f (shape_of plan.now.arity plan.now.dimensions.now) plan.now.t p plan.now.t
+        let p = pruned_of queries.now.indices.now (row_sets sets.now) sent.now in
+        IfOk result (λ levels. AreKept f (shape_of queries.now.arity queries.now.dimensions.now) queries.now.t p queries.now.t
         levels.items) }
 {
     let mut covered = leaves;
-    tell_leads(plan.indices, sets, &covered.leads);
-    let (dimensions, x) = (plan.dimensions, covered.exponent);
+    tell_leads(queries.indices, sets, &covered.leads);
+    let (dimensions, x) = (queries.dimensions, covered.exponent);
     let leads = covered.leads.as_slice();
     let mut digests = row_digests::<P, PW, H, D>(alloc, checker.hash, dimensions, x, sets, leads)?;
-    let mut levels = Vec::with_capacity(alloc, plan.t)?;
-    for level in 0..plan.t {
-        let (rise, nodes) = restored_above::<P, PW, H, C, N, D>(
-            alloc, checker, plan, sets, sent, level, &covered, &digests,
+    let mut levels = Vec::with_capacity(alloc, queries.t)?;
+    for level in 0..queries.t {
+        let (next_level, nodes) = restored_above::<P, PW, H, C, N, D>(
+            alloc, checker, queries, sets, sent, level, &covered, &digests,
         )?;
-        let Rise {
+        let NextLevel {
             step,
             above,
             children,
-        } = rise;
+        } = next_level;
         let parents = Vec::from_slice(alloc, &above.nodes)?;
         levels.push(KeptLevel {
             parents,

@@ -11,7 +11,7 @@ ghost use Rattle.p3_merkle_pruner.specs.Inner.Walks.{AreRestored, IsCoveredAt, I
 ghost use Rattle.p3_merkle_core.specs.Checks.{terms};
 
 use crate::level::node_digests;
-use crate::plan::{Covered, Plan, Rise};
+use crate::queries::{Covered, NextLevel, Queries};
 use crate::rows::row_digests;
 use p3_merkle_checker::level::Checker;
 use p3_merkle_checker::roots::are_entries;
@@ -30,24 +30,24 @@ pub(crate) fn tell_leads<T>(indices: &[usize], sets: &[Vec<T>], leads: &[usize])
 
 /// Tells what the digests of a level's nodes ask of its leads and children. It does nothing at run time.
 fn tell_level<T, X>(
-    plan: &Plan<'_>,
+    queries: &Queries<'_>,
     arity: usize,
     sets: &[Vec<T>],
-    rise: &Rise<X>,
+    next_level: &NextLevel<X>,
     leads: &[usize],
     children: &[X],
 )
-    requires arity { plan.now.arity ≡ arity }
-    requires pairs { length sets.now ≡ length plan.now.indices.now }
-    requires narrow { rise.now.step ≤ plan.now.arity }
-    requires among { All (λ k. k < length plan.now.indices.now) rise.now.above.leads.items }
-    requires groups { length rise.now.above.leads.items ≡ length rise.now.children.items / rise.now.step }
-    requires leads { leads.now ≡ rise.now.above.leads.items }
-    requires children { children.now ≡ rise.now.children.items }
+    requires arity { queries.now.arity ≡ arity }
+    requires pairs { length sets.now ≡ length queries.now.indices.now }
+    requires narrow { next_level.now.step ≤ queries.now.arity }
+    requires among { All (λ k. k < length queries.now.indices.now) next_level.now.above.leads.items }
+    requires groups { length next_level.now.above.leads.items ≡ length next_level.now.children.items / next_level.now.step }
+    requires leads { leads.now ≡ next_level.now.above.leads.items }
+    requires children { children.now ≡ next_level.now.children.items }
     ensures room { 2 ≤ arity }
-    ensures narrow { rise.now.step ≤ arity }
+    ensures narrow { next_level.now.step ≤ arity }
     ensures among { All (λ k. k < length sets.now) leads.now }
-    ensures groups { length leads.now ≡ length children.now / rise.now.step }
+    ensures groups { length leads.now ≡ length children.now / next_level.now.step }
 {}
 
 /// One level of the walk: the layer above `level`, which is below layer `t`, with the values of its nodes' children, and the
@@ -66,39 +66,43 @@ pub(crate) fn restored_above<
 >(
     alloc: Global,
     checker: &Checker<'_, P, PW, H, C, [[PW::Value; D]; N]>,
-    plan: &Plan<'_>,
+    queries: &Queries<'_>,
     sets: &[Vec<Vec<P::Value>>],
     sent: &[[PW::Value; D]],
     level: usize,
     covered: &Covered,
     digests: &[[PW::Value; D]],
-) -> Result<(Rise<[PW::Value; D]>, Vec<[PW::Value; D]>), AllocError>
-    requires arity { plan.now.arity ≡ N }
-    requires pairs { length sets.now ≡ length plan.now.indices.now }
+) -> Result<(NextLevel<[PW::Value; D]>, Vec<[PW::Value; D]>), AllocError>
+    requires arity { queries.now.arity ≡ N }
+    requires pairs { length sets.now ≡ length queries.now.indices.now }
     requires sent { length sent.now ≡ length
-        (boundary (shape_of plan.now.arity plan.now.dimensions.now) plan.now.indices.now plan.now.t) }
-    requires agreed { IsAgreed (shape_of plan.now.arity plan.now.dimensions.now) plan.now.t
-        (pruned_of plan.now.indices.now (row_sets sets.now) sent.now) }
-    requires below { level < plan.now.t }
+        (boundary (shape_of queries.now.arity queries.now.dimensions.now) queries.now.indices.now queries.now.t) }
+    requires agreed { IsAgreed (shape_of queries.now.arity queries.now.dimensions.now) queries.now.t
+        (pruned_of queries.now.indices.now (row_sets sets.now) sent.now) }
+    requires below { level < queries.now.t }
     requires restored { let f = functions_of (H.hash checker.now.hash.now) (C.compression checker.now.compress.now)
         (replicate D PW.default_value) in
-        let p = pruned_of plan.now.indices.now (row_sets sets.now) sent.now in
-        AreRestored f (shape_of plan.now.arity plan.now.dimensions.now) plan.now.t p level covered.now digests.now }
+        let p = pruned_of queries.now.indices.now (row_sets sets.now) sent.now in
+        AreRestored f (shape_of queries.now.arity queries.now.dimensions.now) queries.now.t p level covered.now digests.now }
     ensures { let f = functions_of (H.hash checker.now.hash.now) (C.compression checker.now.compress.now)
         (replicate D PW.default_value) in
-        let s = shape_of plan.now.arity plan.now.dimensions.now in
-        let p = pruned_of plan.now.indices.now (row_sets sets.now) sent.now in
-        IfOk result (λ pair. IsRestoredRise f s plan.now.t p level (pair.0) pair.1.items) }
+        let s = shape_of queries.now.arity queries.now.dimensions.now in
+        let p = pruned_of queries.now.indices.now (row_sets sets.now) sent.now in
+        IfOk result (λ pair. IsRestoredRise f s queries.now.t p level (pair.0) pair.1.items) }
 {
-    let rise = plan.rise(alloc, level, covered, digests, sent)?;
-    let (dimensions, x, step) = (plan.dimensions, rise.above.exponent, rise.step);
-    let leads = rise.above.leads.as_slice();
-    let children = rise.children.as_slice();
-    tell_level(plan, N, sets, &rise, leads, children);
+    let next_level = queries.next_level(alloc, level, covered, digests, sent)?;
+    let (dimensions, x, step) = (
+        queries.dimensions,
+        next_level.above.exponent,
+        next_level.step,
+    );
+    let leads = next_level.above.leads.as_slice();
+    let children = next_level.children.as_slice();
+    tell_level(queries, N, sets, &next_level, leads, children);
     let above = node_digests::<P, PW, H, C, N, D>(
         alloc, checker, dimensions, x, sets, leads, step, children,
     )?;
-    Ok((rise, above))
+    Ok((next_level, above))
 }
 
 /// The digests of the covered nodes of layer `t`, restored from the rows of the queries and the digests that were sent, with
@@ -117,32 +121,32 @@ pub(crate) fn restored_cap<
 >(
     alloc: Global,
     checker: &Checker<'_, P, PW, H, C, [[PW::Value; D]; N]>,
-    plan: &Plan<'_>,
+    queries: &Queries<'_>,
     sets: &[Vec<Vec<P::Value>>],
     sent: &[[PW::Value; D]],
     leaves: Covered,
 ) -> Result<(Covered, Vec<[PW::Value; D]>), AllocError>
-    requires arity { plan.now.arity ≡ N }
-    requires pairs { length sets.now ≡ length plan.now.indices.now }
+    requires arity { queries.now.arity ≡ N }
+    requires pairs { length sets.now ≡ length queries.now.indices.now }
     requires sent { length sent.now ≡ length
-        (boundary (shape_of plan.now.arity plan.now.dimensions.now) plan.now.indices.now plan.now.t) }
-    requires agreed { IsAgreed (shape_of plan.now.arity plan.now.dimensions.now) plan.now.t
-        (pruned_of plan.now.indices.now (row_sets sets.now) sent.now) }
-    requires leaves { IsCoveredAt (shape_of plan.now.arity plan.now.dimensions.now) plan.now.indices.now 0 leaves }
+        (boundary (shape_of queries.now.arity queries.now.dimensions.now) queries.now.indices.now queries.now.t) }
+    requires agreed { IsAgreed (shape_of queries.now.arity queries.now.dimensions.now) queries.now.t
+        (pruned_of queries.now.indices.now (row_sets sets.now) sent.now) }
+    requires leaves { IsCoveredAt (shape_of queries.now.arity queries.now.dimensions.now) queries.now.indices.now 0 leaves }
     ensures covered { IfOk result
-        (λ cap. IsCoveredAt (shape_of plan.now.arity plan.now.dimensions.now) plan.now.indices.now plan.now.t
+        (λ cap. IsCoveredAt (shape_of queries.now.arity queries.now.dimensions.now) queries.now.indices.now queries.now.t
         (cap.0)) }
     ensures digests { let f = functions_of (H.hash checker.now.hash.now) (C.compression checker.now.compress.now)
         (replicate D PW.default_value) in
-        let s = shape_of plan.now.arity plan.now.dimensions.now in
-        let t = plan.now.t in
-        let p = pruned_of plan.now.indices.now (row_sets sets.now) sent.now in
-        let restored = map (restored_node (terms f s t) p t) (covered_at s plan.now.indices.now t) in
+        let s = shape_of queries.now.arity queries.now.dimensions.now in
+        let t = queries.now.t in
+        let p = pruned_of queries.now.indices.now (row_sets sets.now) sent.now in
+        let restored = map (restored_node (terms f s t) p t) (covered_at s queries.now.indices.now t) in
         IfOk result (λ cap. cap.1.items ≡ restored) }
 {
     let mut covered = leaves;
-    tell_leads(plan.indices, sets, &covered.leads);
-    let (dimensions, x) = (plan.dimensions, covered.exponent);
+    tell_leads(queries.indices, sets, &covered.leads);
+    let (dimensions, x) = (queries.dimensions, covered.exponent);
     let mut digests = row_digests::<P, PW, H, D>(
         alloc,
         checker.hash,
@@ -151,11 +155,11 @@ pub(crate) fn restored_cap<
         sets,
         &covered.leads,
     )?;
-    for level in 0..plan.t {
-        let (rise, above) = restored_above::<P, PW, H, C, N, D>(
-            alloc, checker, plan, sets, sent, level, &covered, &digests,
+    for level in 0..queries.t {
+        let (next_level, above) = restored_above::<P, PW, H, C, N, D>(
+            alloc, checker, queries, sets, sent, level, &covered, &digests,
         )?;
-        covered = rise.above;
+        covered = next_level.above;
         digests = above;
     }
     Ok((covered, digests))
@@ -178,26 +182,26 @@ pub(crate) fn check_cap<
     alloc: Global,
     checker: &Checker<'_, P, PW, H, C, [[PW::Value; D]; N]>,
     roots: &[[PW::Value; D]],
-    plan: &Plan<'_>,
+    queries: &Queries<'_>,
     sets: &[Vec<Vec<P::Value>>],
     sent: &[[PW::Value; D]],
     leaves: Covered,
 ) -> Result<(), MerkleTreeError>
-    requires arity { plan.now.arity ≡ N }
-    requires pairs { length sets.now ≡ length plan.now.indices.now }
+    requires arity { queries.now.arity ≡ N }
+    requires pairs { length sets.now ≡ length queries.now.indices.now }
     requires sent { length sent.now ≡ length
-        (boundary (shape_of plan.now.arity plan.now.dimensions.now) plan.now.indices.now plan.now.t) }
-    requires agreed { IsAgreed (shape_of plan.now.arity plan.now.dimensions.now) plan.now.t
-        (pruned_of plan.now.indices.now (row_sets sets.now) sent.now) }
-    requires leaves { IsCoveredAt (shape_of plan.now.arity plan.now.dimensions.now) plan.now.indices.now 0 leaves }
+        (boundary (shape_of queries.now.arity queries.now.dimensions.now) queries.now.indices.now queries.now.t) }
+    requires agreed { IsAgreed (shape_of queries.now.arity queries.now.dimensions.now) queries.now.t
+        (pruned_of queries.now.indices.now (row_sets sets.now) sent.now) }
+    requires leaves { IsCoveredAt (shape_of queries.now.arity queries.now.dimensions.now) queries.now.indices.now 0 leaves }
     ensures { let f = functions_of (H.hash checker.now.hash.now) (C.compression checker.now.compress.now)
         (replicate D PW.default_value) in
-        let p = pruned_of plan.now.indices.now (row_sets sets.now) sent.now in
+        let p = pruned_of queries.now.indices.now (row_sets sets.now) sent.now in
         let refusal = cap_refusal PW.Value.eq
-        (terms f (shape_of plan.now.arity plan.now.dimensions.now) plan.now.t) roots.now p in
+        (terms f (shape_of queries.now.arity queries.now.dimensions.now) queries.now.t) roots.now p in
         AnswersUnlessMemory result refusal }
 {
-    let restored = restored_cap::<P, PW, H, C, N, D>(alloc, checker, plan, sets, sent, leaves)?;
+    let restored = restored_cap::<P, PW, H, C, N, D>(alloc, checker, queries, sets, sent, leaves)?;
     let (covered, digests) = restored;
     if are_entries(roots, &covered.nodes, &digests) {
         Ok(())

@@ -5,7 +5,7 @@ ghost use Rattle.p3_support.specs.Batches.{heights_of};
 ghost use Rattle.p3_support.specs.Shown.{row_sets};
 ghost use Rattle.p3_merkle_pruner.specs.Inner.Groups.{query_digest};
 
-use p3_merkle_checker::level::rows_digest;
+use p3_merkle_checker::level::opened_rows_digest;
 use p3_support::hasher::CryptographicHasher;
 use p3_support::matrix::Dimensions;
 use p3_support::packed::PackedValue;
@@ -37,7 +37,7 @@ pub(crate) fn row_digests<
 {
     let mut digests = Vec::with_capacity(alloc, queries.len())?;
     for query in queries {
-        let digest = rows_digest::<P, PW, H, D>(hash, dimensions, &sets[*query], x);
+        let digest = opened_rows_digest::<P, PW, H, D>(hash, dimensions, &sets[*query], x);
         digests.push(digest)?;
     }
     Ok(digests)

@@ -17,5 +17,7 @@ pub use p3_merkle_core::collision::{Collision, Place};
 pub use p3_merkle_core::error::{MerkleTreeError, PrunedProofError};
 pub use p3_merkle_core::geometry::{ArityAndPositions, MAX_HEIGHT};
 pub use p3_merkle_core::laws;
-pub use p3_merkle_core::pruning::{MerkleAuthPath, PrunedBatchOpening, PrunedMerklePaths};
+pub use p3_merkle_core::pruning::{
+    MerkleAuthPath, PrunedBatchOpening, PrunedMerklePaths, check_indices,
+};
 pub use p3_support::opening::{BatchOpening, BatchOpeningRef, Hash, MerkleCap};

@@ -24,7 +24,7 @@ use p3_merkle_core::pruning::{
     MerkleAuthPath, PrunedBatchOpening, PrunedMerklePaths, PrunedProof, PrunedRows, check_indices,
     pruned_len_of,
 };
-use p3_merkle_pruner::check::check_opening;
+use p3_merkle_pruner::check::check_pruned_opening;
 use p3_merkle_pruner::paths::restored_paths_of;
 use p3_support::compress::PseudoCompressionFunction;
 use p3_support::hasher::CryptographicHasher;
@@ -205,7 +205,7 @@ impl<
         let t = self.proof_levels(dimensions);
         let checker = self.checker();
         let sent = proof.sibling_hashes.as_slice();
-        check_opening::<P, PW, H, C, N, D>(
+        check_pruned_opening::<P, PW, H, C, N, D>(
             alloc,
             &checker,
             commit.roots(),

@@ -1,11 +1,11 @@
 -- What the values show that a commitment scheme hands out.
 use Rattle.std.specs.Prelude.{List, map}
 use Rattle.std.specs.declared.vec.Vec.{Vec}
-use Rattle.p3_support.specs.declared.opening.LentDigest.{LentDigest}
+use Rattle.p3_support.specs.declared.opening.DigestRef.{DigestRef}
 use Rattle.p3_support.specs.declared.opening.MerkleCap.{MerkleCap}
 
 -- the digest that is lent
-abbrev pub lent_digest : {F X : Type 0} → LentDigest F X → X
+abbrev pub lent_digest : {F X : Type 0} → DigestRef F X → X
 lent_digest lent = lent.value.now
 
 -- the digests of a cap

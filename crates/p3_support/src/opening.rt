@@ -8,29 +8,29 @@ use std::ops::Index;
 /// are.
 #[derive_where(Clone, Copy)]
 #[derive_where(Debug, PartialEq, Eq; X)]
-pub struct LentDigest<'a, F, X> {
+pub struct DigestRef<'a, F, X> {
     value: &'a X,
     #[derive_where(skip)]
     of: PhantomData<F>,
 }
 
 /// A lent digest of `D` words `W`.
-pub type Hash<'a, F, W, const D: usize> = LentDigest<'a, F, [W; D]>;
+pub type Hash<'a, F, W, const D: usize> = DigestRef<'a, F, [W; D]>;
 
-impl<'a, F, X> From<&'a X> for LentDigest<'a, F, X> {
+impl<'a, F, X> From<&'a X> for DigestRef<'a, F, X> {
     ghost use Rattle.p3_support.specs.Shown.{lent_digest};
 
     ghost from_gives = { λ digest lent. lent_digest lent ≡ digest.now };
 
-    fn from(value: &'a X) -> LentDigest<'a, F, X> {
-        LentDigest {
+    fn from(value: &'a X) -> DigestRef<'a, F, X> {
+        DigestRef {
             value,
             of: PhantomData,
         }
     }
 }
 
-impl<'a, F, X> LentDigest<'a, F, X> {
+impl<'a, F, X> DigestRef<'a, F, X> {
     ghost use Rattle.p3_support.specs.Shown.{lent_digest};
 
     /// The digest.

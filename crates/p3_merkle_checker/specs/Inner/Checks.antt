@@ -8,7 +8,7 @@ use Rattle.p3_merkle_core.specs.Checks.{Input, inputs_at, path_digest, layer_wor
 use Rattle.p3_support.specs.Shown.{row_lists}
 use Rattle.p3_merkle_checker.specs.declared.openings.IndexedOpening.{IndexedOpening}
 use Rattle.p3_merkle_checker.specs.declared.level.CheckedLevel.{CheckedLevel}
-use Rattle.p3_merkle_checker.specs.declared.level.Standing.{Standing}
+use Rattle.p3_merkle_checker.specs.declared.level.Progress.{Progress}
 use Rattle.p3_merkle_checker.specs.Inner.Collisions.{level_inputs}
 
 -- an opening that is lent with its index
@@ -26,14 +26,14 @@ abbrev pub step_siblings : {X : Type 0} → ℕ → List X → ℕ → List X
 step_siblings step siblings used = take (step - 1) (drop used siblings)
 
 -- one step higher, at a layer of this exponent, with this digest
-pub record IsAbove {X : Type 0} (step exponent : ℕ) (digest : X) (standing above : Standing X) : Type 0 where
+pub record IsAbove {X : Type 0} (step exponent : ℕ) (digest : X) (standing above : Progress X) : Type 0 where
   pub at_exponent : above.exponent ≡ exponent
   pub at_node : above.node ≡ standing.node / step
   pub taken : above.used ≡ standing.used + (step - 1)
   pub reached : above.digest ≡ digest
 
 -- the check of an opening stands at layer l: at the node above the leaf, whose digest is the one that the path reaches
-pub record StandsAt {T W : Type 0} (f : Functions T W) (s : Shape) (o : Opening T W) (l : ℕ) (standing : Standing (List W)) : Type 0 where
+pub record StandsAt {T W : Type 0} (f : Functions T W) (s : Shape) (o : Opening T W) (l : ℕ) (standing : Progress (List W)) : Type 0 where
   pub at_exponent : standing.exponent ≡ layer_exponent s l
   pub at_node : standing.node ≡ ancestor s l o.index
   pub taken : standing.used ≡ siblings_below s l
@@ -45,7 +45,7 @@ pub record CanClimb (s : Shape) (l count : ℕ) : Type 0 where
   pub enough : siblings_below s (suc l) ≤ count
 
 -- level l of the check of an opening: it has the level's inputs, and above it the check stands at the next layer
-pub record IsLevel {T W : Type 0} (f : Functions T W) (s : Shape) (o : Opening T W) (l : ℕ) (level : CheckedLevel (List W) (List (List W))) : Type 0 where
+pub record IsLevelOfCheck {T W : Type 0} (f : Functions T W) (s : Shape) (o : Opening T W) (l : ℕ) (level : CheckedLevel (List W) (List (List W))) : Type 0 where
   pub at_level : level.level ≡ l
   pub inputs_are : level_inputs l (layer_words s o.rows (suc l)) level ≡ inputs_at f s o l
   pub stands : StandsAt f s o (suc l) level.above

@@ -6,8 +6,8 @@ use Rattle.p3_merkle_core.specs.Inner.Children.{AreChildren}
 use Rattle.p3_merkle_core.specs.Nodes.{Functions}
 use Rattle.p3_merkle_core.specs.Pruning.{PrunedOpening, boundary, covered_at, restored_node, value_of}
 use Rattle.p3_merkle_core.specs.declared.pruning.KeptLevel.{KeptLevel}
-use Rattle.p3_merkle_pruner.specs.declared.plan.Covered.{Covered}
-use Rattle.p3_merkle_pruner.specs.declared.plan.Rise.{Rise}
+use Rattle.p3_merkle_pruner.specs.declared.queries.Covered.{Covered}
+use Rattle.p3_merkle_pruner.specs.declared.queries.NextLevel.{NextLevel}
 use Rattle.p3_merkle_core.specs.Checks.{terms}
 
 -- the node of layer l above the index of query k
@@ -23,15 +23,15 @@ pub record IsCoveredAt (s : Shape) (indices : List ℕ) (l : ℕ) (covered : Cov
   pub sent_below : covered.used ≡ length (boundary s indices l)
 
 -- one level up from layer l, where some digests are left of those that were sent
-pub record IsRise {X : Type 0} (s : Shape) (indices : List ℕ) (l : ℕ) (covered : Covered) (digests sent : List X)
-    (rise : Rise X) : Type 0 where
-  pub step_is : rise.step ≡ step s l
-  pub wide : 0 < rise.step
-  pub narrow : rise.step ≤ s.arity
-  pub stands : IsCoveredAt s indices (suc l) rise.above
-  pub in_groups : length rise.above.leads.items ≡ length rise.children.items / rise.step
-  pub values : AreChildren rise.step rise.above.nodes.items covered.nodes.items digests
-      (drop covered.used sent) rise.children.items
+pub record IsNextLevel {X : Type 0} (s : Shape) (indices : List ℕ) (l : ℕ) (covered : Covered) (digests sent : List X)
+    (next_level : NextLevel X) : Type 0 where
+  pub step_is : next_level.step ≡ step s l
+  pub wide : 0 < next_level.step
+  pub narrow : next_level.step ≤ s.arity
+  pub stands : IsCoveredAt s indices (suc l) next_level.above
+  pub in_groups : length next_level.above.leads.items ≡ length next_level.children.items / next_level.step
+  pub values : AreChildren next_level.step next_level.above.nodes.items covered.nodes.items digests
+      (drop covered.used sent) next_level.children.items
 
 -- the covered nodes of layer l, and the digests that are restored of them
 pub record AreRestored {T W : Type 0} (f : Functions T W) (s : Shape) (t : ℕ) (p : PrunedOpening T W) (l : ℕ)
@@ -49,12 +49,12 @@ child_values f s t p l =
 -- one level up from layer l: the children have their values, and the nodes above have the digests that are restored
 -- of them
 pub record IsRestoredRise {T W : Type 0} (f : Functions T W) (s : Shape) (t : ℕ) (p : PrunedOpening T W) (l : ℕ)
-    (rise : Rise (List W)) (digests : List (List W)) : Type 0 where
-  pub step_is : rise.step ≡ step s l
-  pub wide : 0 < rise.step
-  pub full : length rise.children.items ≡ rise.step * length rise.above.nodes.items
-  pub values_are : rise.children.items ≡ child_values f s t p l
-  pub above_are : AreRestored f s t p (suc l) rise.above digests
+    (next_level : NextLevel (List W)) (digests : List (List W)) : Type 0 where
+  pub step_is : next_level.step ≡ step s l
+  pub wide : 0 < next_level.step
+  pub full : length next_level.children.items ≡ next_level.step * length next_level.above.nodes.items
+  pub values_are : next_level.children.items ≡ child_values f s t p l
+  pub above_are : AreRestored f s t p (suc l) next_level.above digests
 
 -- the levels that a walk kept up to layer l: the covered nodes above each, its step, and the values of its children
 pub record AreKept {T W : Type 0} (f : Functions T W) (s : Shape) (t : ℕ) (p : PrunedOpening T W) (l : ℕ)

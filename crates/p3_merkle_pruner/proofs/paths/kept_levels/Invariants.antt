@@ -10,9 +10,9 @@ use Rattle.p3_merkle_pruner.proofs.paths.kept_levels.Given as goal
 abbrev pub invariant-loop-level : goal.invariant-loop-level
 invariant-loop-level g l =
     let f = functions_of (g.H.CryptographicHasher.hash l.checker.hash.now) (g.C.PseudoCompressionFunction.compression l.checker.compress.now) (replicate g.row.D g.PW.PackedValue.default_value) in
-    let s = shape_of l.plan.arity l.plan.dimensions.now in
-    let p = pruned_of l.plan.indices.now (row_sets l.sets) l.sent in
+    let s = shape_of l.queries.arity l.queries.dimensions.now in
+    let p = pruned_of l.queries.indices.now (row_sets l.sets) l.sent in
     record {
-      here : AreRestored f s l.plan.t p l.level l.covered l.digests.items;
-      kept : AreKept f s l.plan.t p l.level l.levels.items;
+      here : AreRestored f s l.queries.t p l.level l.covered l.digests.items;
+      kept : AreKept f s l.queries.t p l.level l.levels.items;
     }

@@ -9,9 +9,9 @@ use Rattle.p3_merkle_pruner.proofs.restored.restored_above.Goals as goal
 
 pub returns : goal.returns
 returns g c =
-    let plan = c.args.plan.now in
+    let queries = c.args.queries.now in
     let f = functions_of (g.H.CryptographicHasher.hash c.args.checker.now.hash.now) (g.C.PseudoCompressionFunction.compression c.args.checker.now.compress.now) (replicate g.row.D g.PW.PackedValue.default_value) in
-    let s = shape_of plan.arity plan.dimensions.now in
-    let p = pruned_of plan.indices.now (row_sets c.args.sets.now) c.args.sent.now in
-    level_restored f s plan.t p plan.queried c.requires.agreed c.requires.sent c.args.level c.requires.below g.row.N c.requires.arity c.args.covered.now c.in_ok-rise.rise c.args.digests.now c.in_ok-above.above.items
-    c.requires.restored c.in_ok-rise.ensures.rise (rw (c.as_slice-leads.ensures.value, c.as_slice-children.ensures.value) at c.in_ok-above.ensures)
+    let s = shape_of queries.arity queries.dimensions.now in
+    let p = pruned_of queries.indices.now (row_sets c.args.sets.now) c.args.sent.now in
+    level_restored f s queries.t p queries.queried c.requires.agreed c.requires.sent c.args.level c.requires.below g.row.N c.requires.arity c.args.covered.now c.in_ok-next_level.next_level c.args.digests.now c.in_ok-above.above.items
+    c.requires.restored c.in_ok-next_level.ensures.next_level (rw (c.as_slice-leads.ensures.value, c.as_slice-children.ensures.value) at c.in_ok-above.ensures)

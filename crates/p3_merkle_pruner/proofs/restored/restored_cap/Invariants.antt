@@ -10,4 +10,4 @@ use Rattle.p3_merkle_pruner.proofs.restored.restored_cap.Given as goal
 abbrev pub invariant-loop-level : goal.invariant-loop-level
 invariant-loop-level g l =
     AreRestored (functions_of (g.H.CryptographicHasher.hash l.checker.hash.now) (g.C.PseudoCompressionFunction.compression l.checker.compress.now) (replicate g.row.D g.PW.PackedValue.default_value))
-    (shape_of l.plan.arity l.plan.dimensions.now) l.plan.t (pruned_of l.plan.indices.now (row_sets l.sets) l.sent) l.level l.covered l.digests.items
+    (shape_of l.queries.arity l.queries.dimensions.now) l.queries.t (pruned_of l.queries.indices.now (row_sets l.sets) l.sent) l.level l.covered l.digests.items

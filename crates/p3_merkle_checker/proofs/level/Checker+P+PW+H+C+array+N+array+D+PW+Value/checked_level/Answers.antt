@@ -33,7 +33,7 @@ returns-then-has_rows g c =
     let step = c.up-step in
     let one = g.met.PW.PackedValue.default_is_unique c.default-default_digest.result c.default-default_digest.ensures in
     level_with_rows f s (opening_in c.args.opening) c.args.level step.result.step step.result.exponent c.args.standing.now c.above.result c.group-group.result (record { is_step = step.ensures.step; above = step.ensures.exponent }) c.requires.stands
-    (rw one at c.group-group.ensures) (sym step.ensures.rows ∙ c.if-has_rows.true) c.group_with-pair.result (rw (one, c.rows_digest.ensures, c.compress-node.ensures) at c.group_with-pair.ensures) (rw c.compress.ensures at c.above.ensures)
+    (rw one at c.group-group.ensures) (sym step.ensures.rows ∙ c.if-has_rows.true) c.group_with-pair.result (rw (one, c.opened_rows_digest.ensures, c.compress-node.ensures) at c.group_with-pair.ensures) (rw c.compress.ensures at c.above.ensures)
 
 pub returns-else-has_rows : goal.returns-else-has_rows
 returns-else-has_rows g c =

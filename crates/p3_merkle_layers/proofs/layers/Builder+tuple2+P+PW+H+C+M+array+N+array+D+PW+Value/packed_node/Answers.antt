@@ -18,7 +18,7 @@ returns-then-not-level g c = λ k small.
     let none : v.has_rows ≡ false = search rules in
     node_alone f g.row.N g.M.Matrix.height_of g.M.Matrix.row_of c.args.self.now.matrices.now v below (c.args.first + k) (take v.step (drop (v.step * (c.args.first + k)) below))
     (omega (arith, c.requires.nodes, small)) refl (children_long below v.step c.args.first k w small all)
-    (lane_of g.PW.PackedValue.lanes g.PW.PackedValue.default_value k c.packed_fold-folded.result) none (c.packed_fold-folded.ensures k small)
+    (lane_of g.PW.PackedValue.lanes g.PW.PackedValue.default_value k c.compress_children_packed-folded.result) none (c.compress_children_packed-folded.ensures k small)
 
 pub returns : goal.returns
 returns g c = λ k small.
@@ -33,4 +33,4 @@ returns g c = λ k small.
     let tall : c.args.first + k < v.height = omega (arith, c.requires.rows has, small) in
     node_joined f g.row.N g.M.Matrix.height_of g.M.Matrix.row_of c.args.self.now.matrices.now v below (c.args.first + k) (take v.step (drop (v.step * (c.args.first + k)) below))
     (omega (arith, c.requires.nodes, small)) refl (children_long below v.step c.args.first k w small all)
-    (lane c.packed_fold-folded.result) (lane c.in_ok-rows.rows) (lane c.packed_join.result) has tall (c.packed_fold-folded.ensures k small) (c.in_ok-rows.ensures k (rw c.requires.lanes small) small) (c.packed_join.ensures k small)
+    (lane c.compress_children_packed-folded.result) (lane c.in_ok-rows.rows) (lane c.compress_pairs_packed.result) has tall (c.compress_children_packed-folded.ensures k small) (c.in_ok-rows.ensures k (rw c.requires.lanes small) small) (c.compress_pairs_packed.ensures k small)

@@ -1,6 +1,6 @@
 use Rattle.std.proofs.Common.{length, replicate}
 use Rattle.p3_merkle_lanes.specs.Inner.Slots.{leaf_over, IsFilled}
-use Rattle.p3_merkle_layers.proofs.layers.Builder+tuple2+P+PW+H+C+M+array+N+array+D+PW+Value.write_other_leaves.Given as goal
+use Rattle.p3_merkle_layers.proofs.layers.Builder+tuple2+P+PW+H+C+M+array+N+array+D+PW+Value.write_remaining_leaves.Given as goal
 
 -- the slots so far are written
 abbrev pub invariant-loop-j : goal.invariant-loop-j

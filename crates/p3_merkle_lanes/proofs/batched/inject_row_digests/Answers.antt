@@ -2,7 +2,7 @@
 use Rattle.std.proofs.Common.{arith, ◌≡◌, ℕ, ◌+◌, ◌-◌, ◌≤◌, List, ◌∷◌, ◌∙◌, [], ap, length, map, take, drop, replicate, slice_index_or}
 use Rattle.std.specs.List.{range_with_len}
 use Rattle.p3_merkle_lanes.proofs.StageFacts.{join_more}
-use Rattle.p3_merkle_lanes.proofs.batched.join_rows.Goals as goal
+use Rattle.p3_merkle_lanes.proofs.batched.inject_row_digests.Goals as goal
 
 pub loop-first-preserved : goal.loop-first-preserved
 loop-first-preserved g c =

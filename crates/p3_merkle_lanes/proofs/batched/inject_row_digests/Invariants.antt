@@ -1,6 +1,6 @@
 use Rattle.std.proofs.Common.{◌≡◌, ℕ, ◌≤◌, ◌-◌, ◌∷◌, [], length, replicate, slice_index_or}
 use Rattle.p3_merkle_lanes.specs.Inner.Slots.{IsFilled}
-use Rattle.p3_merkle_lanes.proofs.batched.join_rows.Given as goal
+use Rattle.p3_merkle_lanes.proofs.batched.inject_row_digests.Given as goal
 
 -- the slots so far are compressed once more, and the others are as they were
 abbrev pub invariant-loop-first : goal.invariant-loop-first

@@ -2,7 +2,7 @@ use Rattle.std.proofs.Common.{length, replicate}
 use Rattle.p3_merkle_core.specs.Nodes.{functions_of}
 use Rattle.p3_merkle_layers.specs.Inner.Levels.{slot_above}
 use Rattle.p3_merkle_lanes.specs.Inner.Slots.{IsFilled}
-use Rattle.p3_merkle_layers.proofs.layers.Builder+tuple2+P+PW+H+C+M+array+N+array+D+PW+Value.write_other_nodes.Given as goal
+use Rattle.p3_merkle_layers.proofs.layers.Builder+tuple2+P+PW+H+C+M+array+N+array+D+PW+Value.write_remaining_nodes.Given as goal
 
 -- the slots so far are written
 abbrev pub invariant-loop-j : goal.invariant-loop-j

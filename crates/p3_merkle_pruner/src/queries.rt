@@ -5,7 +5,7 @@ ghost use Rattle.p3_merkle_core.specs.Inner.Children.{AreChildren};
 ghost use Rattle.p3_support.specs.Batches.{heights_of, greatest};
 ghost use Rattle.p3_merkle_core.specs.Geometry.{height_limit, shape_of, step as step_in};
 ghost use Rattle.p3_merkle_core.specs.Pruning.{boundary, CanQuery};
-ghost use Rattle.p3_merkle_pruner.specs.Inner.Walks.{IsCoveredAt, IsRise};
+ghost use Rattle.p3_merkle_pruner.specs.Inner.Walks.{IsCoveredAt, IsNextLevel};
 
 use crate::leads::leads_above;
 use p3_merkle_core::geometry::select_arity_step;
@@ -15,7 +15,7 @@ use std::alloc::{AllocError, Global};
 
 /// Queries of matrices of these dimensions under the cap of layer `t`, where a node has at most `arity` children.
 #[derive(Clone, Copy)]
-pub struct Plan<'a> {
+pub struct Queries<'a> {
     /// The dimensions of all matrices.
     pub dimensions: &'a [Dimensions],
     /// How many children a node has at most.
@@ -43,7 +43,7 @@ pub struct Covered {
 
 /// One level up: the covered nodes above it, and the values of their children.
 #[derive(Debug, Drop)]
-pub struct Rise<X> {
+pub struct NextLevel<X> {
     /// How many children a node has.
     pub step: usize,
     /// The covered nodes above the level.
@@ -52,7 +52,7 @@ pub struct Rise<X> {
     pub children: Vec<X>,
 }
 
-impl<'a> Plan<'a> {
+impl<'a> Queries<'a> {
     /// The covered nodes of the layer above `level`, which is below layer `t`, and how many children each has.
     ///
     /// # Errors
@@ -126,30 +126,30 @@ impl<'a> Plan<'a> {
     /// # Errors
     ///
     /// `AllocError` where there is no memory.
-    pub(crate) fn rise<X: Copy>(
+    pub(crate) fn next_level<X: Copy>(
         &self,
         alloc: Global,
         level: usize,
         covered: &Covered,
         digests: &[X],
         sent: &[X],
-    ) -> Result<Rise<X>, AllocError>
+    ) -> Result<NextLevel<X>, AllocError>
         requires below { level < self.now.t }
         requires stands { IsCoveredAt (shape_of self.now.arity self.now.dimensions.now) self.now.indices.now level
             covered.now }
         requires digests { length digests.now ≡ length covered.now.nodes.items }
         requires sent { length sent.now ≡ length
             (boundary (shape_of self.now.arity self.now.dimensions.now) self.now.indices.now self.now.t) }
-        ensures wide { IfOk result (λ rise. 0 < rise.step) }
-        ensures narrow { IfOk result (λ rise. rise.step ≤ self.now.arity) }
-        ensures among { IfOk result (λ rise. All (λ k. k < length self.now.indices.now) rise.above.leads.items) }
-        ensures groups { IfOk result (λ rise. length rise.above.leads.items ≡ length rise.children.items / rise.step) }
-        ensures rise { let s = shape_of self.now.arity self.now.dimensions.now in
-            IfOk result (λ rise. IsRise s self.now.indices.now level covered.now digests.now sent.now rise) }
+        ensures wide { IfOk result (λ next_level. 0 < next_level.step) }
+        ensures narrow { IfOk result (λ next_level. next_level.step ≤ self.now.arity) }
+        ensures among { IfOk result (λ next_level. All (λ k. k < length self.now.indices.now) next_level.above.leads.items) }
+        ensures groups { IfOk result (λ next_level. length next_level.above.leads.items ≡ length next_level.children.items / next_level.step) }
+        ensures next_level { let s = shape_of self.now.arity self.now.dimensions.now in
+            IfOk result (λ next_level. IsNextLevel s self.now.indices.now level covered.now digests.now sent.now next_level) }
     {
         let (step, above) = self.covered_above(alloc, level, covered)?;
         let children = self.children(alloc, level, covered, digests, step, &above, sent)?;
-        Ok(Rise {
+        Ok(NextLevel {
             step,
             above,
             children,

@@ -8,7 +8,7 @@ use Rattle.p3_support.specs.Batches.{heights_of}
 use Rattle.p3_support.proofs.Runs.{fact_of_run}
 use Rattle.p3_merkle_checker.specs.Inner.Paths.{rows_of_exponent}
 use Rattle.p3_merkle_checker.proofs.LevelFacts.{words_read}
-use Rattle.p3_merkle_checker.proofs.level.rows_digest.Goals as goal
+use Rattle.p3_merkle_checker.proofs.level.opened_rows_digest.Goals as goal
 
 pub returns : goal.returns
 returns g c =

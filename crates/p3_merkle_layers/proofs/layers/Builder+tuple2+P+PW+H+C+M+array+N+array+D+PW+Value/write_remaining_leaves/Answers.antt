@@ -3,7 +3,7 @@ use Rattle.std.proofs.Common.{arith, ◌∙◌, length, [], replicate, length-se
 use Rattle.std.proofs.lemmas.List.FromFn.{fill_by_all}
 use Rattle.p3_support.proofs.Fills.{filled_more}
 use Rattle.p3_merkle_lanes.specs.Inner.Slots.{leaf_over}
-use Rattle.p3_merkle_layers.proofs.layers.Builder+tuple2+P+PW+H+C+M+array+N+array+D+PW+Value.write_other_leaves.Goals as goal
+use Rattle.p3_merkle_layers.proofs.layers.Builder+tuple2+P+PW+H+C+M+array+N+array+D+PW+Value.write_remaining_leaves.Goals as goal
 
 pub returns : goal.returns
 returns g c =

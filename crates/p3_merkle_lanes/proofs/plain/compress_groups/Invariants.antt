@@ -1,5 +1,5 @@
 use Rattle.std.proofs.Common.{◌≡◌, ℕ, ◌<◌, ◌≤◌, length, slice_index_or, []}
-use Rattle.p3_merkle_lanes.proofs.plain.write_whole_folds.Given as goal
+use Rattle.p3_merkle_lanes.proofs.plain.compress_groups.Given as goal
 
 -- the slots from the first to the next are written, and those before are as they were
 abbrev pub invariant-loop-j : goal.invariant-loop-j
