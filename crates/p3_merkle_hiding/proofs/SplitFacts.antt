@@ -15,7 +15,7 @@ use Rattle.p3_merkle_core.specs.Nodes.{Batch, Matrix, dimensions_of, shape}
 use Rattle.p3_merkle_core.specs.Pruning.{pruned_of, IsPrunedAccepted}
 use Rattle.p3_merkle_core.specs.Openings.{honest_rows, opening_of}
 use Rattle.p3_merkle_core.specs.Checks.{IsAccepted, Terms}
-use Rattle.p3_merkle_builder.proofs.RowFacts.{row_inside}
+use Rattle.p3_merkle_prover.proofs.RowFacts.{row_inside}
 use Rattle.p3_merkle_salts.specs.SaltedOpenings.{CanWiden, HaveSalts, IsSaltedAccepted, IsSaltedPrunedAccepted, salt_parts, salted_of, salted_pruned_of, salted_rows, salted_sets, unsalted_parts, widened}
 use Rattle.p3_merkle_salts.specs.SaltedTrees.{HaveSaltColumns, left_batch, pair_matrix, right_batch, unsalted_dimensions}
 use Rattle.p3_support.specs.declared.matrix.Dimensions.{Dimensions}

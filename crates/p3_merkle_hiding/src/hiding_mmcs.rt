@@ -3,9 +3,9 @@
 ghost use Rattle.std.specs.Prelude.{◌≡◌, ◌≤◌, IsTrue};
 ghost use Rattle.p3_merkle_core.specs.Geometry.{is_arity};
 
-use p3_merkle_builder::tree::MerkleTree;
 use p3_merkle_core::cap::CapRule;
 use p3_merkle_core::pruning::PrunedMerklePaths;
+use p3_merkle_prover::tree::MerkleTree;
 use p3_merkle_tree::mmcs::{MerkleTreeMmcs, Scheme};
 use p3_support::compress::PseudoCompressionFunction;
 use p3_support::hasher::CryptographicHasher;

@@ -9,7 +9,7 @@ ghost use Rattle.p3_merkle_core.specs.Openings.{honest_rows, node_in, siblings_b
 ghost use Rattle.p3_merkle_core.specs.Pruning.{boundary_by};
 ghost use Rattle.p3_merkle_core.specs.Refusals.{AnswersUnlessMemory};
 ghost use Rattle.p3_merkle_core.specs.declared.error.MerkleTreeError.TheVariants.{OutOfMemory};
-ghost use Rattle.p3_merkle_builder.specs.Parts.{layers_of, matrices_of, tree_batch};
+ghost use Rattle.p3_merkle_prover.specs.Parts.{layers_of, matrices_of, tree_batch};
 ghost use Rattle.p3_merkle_tree.specs.Schemes.{proof_layer};
 ghost use Rattle.p3_support.specs.Pairs.{left_of};
 ghost use Rattle.p3_support.specs.Shown.{row_lists, row_sets};

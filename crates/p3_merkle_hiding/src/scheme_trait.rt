@@ -1,7 +1,7 @@
 //! The salted scheme as one of the schemes that commit to matrices.
 
 ghost use Rattle.std.specs.Prelude.{◌≡◌, ◌<◌, All, IfErr, IfOk, IsOk, map};
-ghost use Rattle.p3_merkle_builder.specs.Parts.{layers_of, matrices_of, tree_batch};
+ghost use Rattle.p3_merkle_prover.specs.Parts.{layers_of, matrices_of, tree_batch};
 ghost use Rattle.p3_merkle_core.specs.Commitments.{IsCommitment};
 ghost use Rattle.p3_merkle_core.specs.Geometry.{heights, shape_of, halved_index};
 ghost use Rattle.p3_merkle_core.specs.Nodes.{shape};
@@ -17,8 +17,8 @@ ghost use Rattle.p3_merkle_hiding.specs.SaltedCommitments.{CanCommitSalted, IsSa
 ghost use Rattle.p3_merkle_salts.specs.SaltedOpenings.{salted_of, salted_pruned_of, widened, IsSaltedAccepted, IsSaltedPrunedAccepted};
 
 use crate::hiding_mmcs::{MerkleTreeHidingMmcs, SaltedMultiProof, SaltedProof, SaltedTree};
-use p3_merkle_builder::tree::Tree;
 use p3_merkle_core::error::MerkleTreeError;
+use p3_merkle_prover::tree::Tree;
 use p3_support::compress::PseudoCompressionFunction;
 use p3_support::hasher::CryptographicHasher;
 use p3_support::matrix::{Dimensions, Matrix};

@@ -6,10 +6,10 @@ use Rattle.p3_merkle_core.specs.Geometry.{Shape}
 use Rattle.p3_merkle_core.specs.Nodes.{functions_of}
 use Rattle.p3_merkle_core.specs.Openings.{opening_of}
 use Rattle.p3_merkle_core.specs.Pruning.{pruned_of}
-use Rattle.p3_merkle_checker.specs.Inner.Checks.{opening_in}
-use Rattle.p3_merkle_checker.specs.declared.openings.IndexedOpening.{IndexedOpening}
-use Rattle.p3_merkle_pairs.specs.Inner.Pairs.{pruned_in}
-use Rattle.p3_merkle_pairs.specs.declared.pairs.PrunedOpeningRef.{PrunedOpeningRef}
+use Rattle.p3_merkle_verifier.specs.Inner.Checks.{opening_in}
+use Rattle.p3_merkle_verifier.specs.declared.openings.IndexedOpening.{IndexedOpening}
+use Rattle.p3_merkle_multiproof.specs.Inner.Pairs.{pruned_in}
+use Rattle.p3_merkle_multiproof.specs.declared.extraction.PrunedOpeningRef.{PrunedOpeningRef}
 
 -- the same terms, of the same hash, compression and layer
 pub terms_alike : {T W H C : Type 0} (hash : H → List T → List W) (compression : C → List (List W) → List W) (d : List W) (s : Shape) (h k : H) (c e : C) (t v : ℕ) → h ≡ k → c ≡ e → t ≡ v →

@@ -1,3 +1,3 @@
-pub use Rattle.p3_merkle_builder.specs.Parts
+pub use Rattle.p3_merkle_prover.specs.Parts
 pub mod Schemes
 pub mod Inner

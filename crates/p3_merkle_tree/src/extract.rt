@@ -13,10 +13,10 @@ ghost use Rattle.p3_merkle_tree.specs.Schemes.{cap_of, cap_rule_of, terms_of};
 ghost use Rattle.p3_support.specs.Shown.{roots_of};
 
 use crate::mmcs::{MerkleTreeMmcs, Scheme};
-use p3_merkle_checker::openings::IndexedOpening;
 use p3_merkle_core::collision::Collision;
 use p3_merkle_core::error::MerkleTreeError;
 use p3_merkle_core::geometry::{check_heights, exponent_of, layer_exponent_of};
+use p3_merkle_verifier::openings::IndexedOpening;
 use p3_support::compress::PseudoCompressionFunction;
 use p3_support::hasher::CryptographicHasher;
 use p3_support::matrix::Dimensions;

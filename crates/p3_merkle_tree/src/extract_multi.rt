@@ -11,7 +11,7 @@ use crate::mmcs::MerkleTreeMmcs;
 use p3_merkle_core::collision::Collision;
 use p3_merkle_core::error::MerkleTreeError;
 use p3_merkle_core::pruning::PrunedMerklePaths;
-use p3_merkle_pairs::pairs::{PrunedOpeningRef, extraction};
+use p3_merkle_multiproof::extraction::{PrunedOpeningRef, extraction};
 use p3_support::compress::PseudoCompressionFunction;
 use p3_support::hasher::CryptographicHasher;
 use p3_support::matrix::Dimensions;

@@ -10,8 +10,6 @@ mod schedule;
 mod scheme_trait;
 
 pub use mmcs::MerkleTreeMmcs;
-pub use p3_merkle_builder::tree;
-pub use p3_merkle_builder::tree::MerkleTree;
 pub use p3_merkle_core::cap::CapRule;
 pub use p3_merkle_core::collision::{Collision, Place};
 pub use p3_merkle_core::error::{MerkleTreeError, PrunedProofError};
@@ -20,4 +18,6 @@ pub use p3_merkle_core::laws;
 pub use p3_merkle_core::pruning::{
     MerkleAuthPath, PrunedBatchOpening, PrunedMerklePaths, check_indices,
 };
+pub use p3_merkle_prover::tree;
+pub use p3_merkle_prover::tree::MerkleTree;
 pub use p3_support::opening::{BatchOpening, BatchOpeningRef, Hash, MerkleCap};

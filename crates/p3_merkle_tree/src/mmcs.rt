@@ -5,13 +5,13 @@ ghost use Rattle.p3_merkle_core.specs.Geometry.{is_arity, IsArity};
 ghost use Rattle.p3_merkle_core.specs.Commitments.{cap_over, IsCommitment, IsOwn};
 ghost use Rattle.p3_support.specs.Batches.{greatest};
 
-use p3_merkle_builder::opener::{cap_layer_in, rows_of_index, siblings_of_index};
-use p3_merkle_builder::tree::MerkleTree;
-use p3_merkle_checker::level::Checker;
-use p3_merkle_checker::openings::IndexedOpening;
 use p3_merkle_core::cap::{CapRule, cap_layer_of};
 use p3_merkle_core::error::MerkleTreeError;
 use p3_merkle_core::steps::steps_of;
+use p3_merkle_prover::opener::{cap_layer_in, rows_of_index, siblings_of_index};
+use p3_merkle_prover::tree::MerkleTree;
+use p3_merkle_verifier::level::Checker;
+use p3_merkle_verifier::openings::IndexedOpening;
 use p3_support::compress::PseudoCompressionFunction;
 use p3_support::hasher::CryptographicHasher;
 use p3_support::matrix::{Dimensions, Matrix};
@@ -121,7 +121,7 @@ impl<
     ghost use Rattle.p3_merkle_core.specs.Refusals.{answer_under, AnswersUnlessMemory};
     ghost use Rattle.p3_merkle_core.specs.Views.{opening_lent, opening_made, batch_of, heights_in};
     ghost use Rattle.p3_merkle_core.specs.declared.cap.CapRule.TheVariants.{Lowered};
-    ghost use Rattle.p3_merkle_builder.specs.Parts.{layers_of, matrices_of, tree_batch};
+    ghost use Rattle.p3_merkle_prover.specs.Parts.{layers_of, matrices_of, tree_batch};
     ghost use Rattle.p3_merkle_tree.specs.Schemes.{cap_height_of, cap_rule_of, compression_of, hash_of, proof_layer, terms_of, terms_over};
     ghost use Rattle.p3_support.specs.Shown.{roots_of};
 

@@ -10,22 +10,22 @@ ghost use Rattle.p3_merkle_core.specs.Presented.{presented_pruned, presented_to_
 ghost use Rattle.p3_merkle_core.specs.Pruning.{honest_query, pruned_in_layers, pruned_len, restored_paths, IsLeast, IsPrunedAccepted};
 ghost use Rattle.p3_merkle_core.specs.Refusals.{pruned_len_refusal, AnswersUnlessMemory};
 ghost use Rattle.p3_merkle_core.specs.Views.{multi_made, pruned_lent, pruned_made, shown_paths};
-ghost use Rattle.p3_merkle_builder.specs.Parts.{layers_of, tree_batch};
+ghost use Rattle.p3_merkle_prover.specs.Parts.{layers_of, tree_batch};
 ghost use Rattle.p3_merkle_tree.specs.Schemes.{cap_of, proof_layer, terms_of, terms_over};
 ghost use Rattle.p3_support.specs.Shown.{roots_of};
 
 use crate::mmcs::{MerkleTreeMmcs, Scheme};
-use p3_merkle_builder::opener::cap_layer_in;
-use p3_merkle_builder::pruned::{digests_of_boundary, rows_of_indices};
-use p3_merkle_builder::tree::MerkleTree;
 use p3_merkle_core::error::MerkleTreeError;
 use p3_merkle_core::geometry::{check_heights, tallest_of};
 use p3_merkle_core::pruning::{
     MerkleAuthPath, PrunedBatchOpening, PrunedMerklePaths, PrunedProof, PrunedRows, check_indices,
     pruned_len_of,
 };
-use p3_merkle_pruner::check::check_pruned_opening;
-use p3_merkle_pruner::paths::restored_paths_of;
+use p3_merkle_multiproof::check::check_pruned_opening;
+use p3_merkle_multiproof::paths::restored_paths_of;
+use p3_merkle_prover::opener::cap_layer_in;
+use p3_merkle_prover::pruned::{digests_of_boundary, rows_of_indices};
+use p3_merkle_prover::tree::MerkleTree;
 use p3_support::compress::PseudoCompressionFunction;
 use p3_support::hasher::CryptographicHasher;
 use p3_support::matrix::{Dimensions, Matrix};

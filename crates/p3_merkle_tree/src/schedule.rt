@@ -4,13 +4,13 @@ ghost use Rattle.std.specs.Prelude.{◌≡◌, ◌≤◌, IfErr, IfOk, map, take
 ghost use Rattle.p3_merkle_core.specs.Refusals.{AnswersUnlessMemory};
 
 use crate::mmcs::Scheme;
-use p3_merkle_builder::opener::{matrix_refs, max_height};
-use p3_merkle_builder::tree::Tree;
 use p3_merkle_core::error::MerkleTreeError;
 use p3_merkle_core::geometry::{
     ArityAndPositions, check_heights, positions_below_of, schedule_below_of, tallest_of,
 };
 use p3_merkle_core::steps::siblings_below_of;
+use p3_merkle_prover::opener::{matrix_refs, max_height};
+use p3_merkle_prover::tree::Tree;
 use p3_support::matrix::{Dimensions, Matrix};
 use p3_support::packed::PackedValue;
 use std::alloc::Global;
@@ -30,7 +30,7 @@ impl<P: PackedValue, PW: PackedValue, H, C, X: Copy, G, const N: usize> Scheme<
     ghost use Rattle.p3_merkle_core.specs.Nodes.{shape};
     ghost use Rattle.p3_merkle_core.specs.Refusals.{replay_refusal, AnswersUnlessMemory};
     ghost use Rattle.p3_merkle_core.specs.declared.error.MerkleTreeError.TheVariants.{OutOfMemory};
-    ghost use Rattle.p3_merkle_builder.specs.Parts.{matrices_of, tree_batch};
+    ghost use Rattle.p3_merkle_prover.specs.Parts.{matrices_of, tree_batch};
     ghost use Rattle.p3_merkle_tree.specs.Schemes.{proof_layer};
 
     /// The steps of the levels below the cap, from the leaves up, in children a node: those of the tree over matrices

@@ -1,7 +1,7 @@
 //! The scheme as one of the schemes that commit to matrices.
 
 ghost use Rattle.std.specs.Prelude.{◌≡◌, ◌<◌, All, IfErr, IfOk, IsOk, map};
-ghost use Rattle.p3_merkle_builder.specs.Parts.{layers_of, matrices_of, tree_batch};
+ghost use Rattle.p3_merkle_prover.specs.Parts.{layers_of, matrices_of, tree_batch};
 ghost use Rattle.p3_merkle_core.specs.Commitments.{IsCommitment, IsShown};
 ghost use Rattle.p3_merkle_core.specs.Geometry.{heights, shape_of, IsLawful, halved_index};
 ghost use Rattle.p3_merkle_core.specs.Nodes.{shape};
@@ -16,9 +16,9 @@ ghost use Rattle.p3_support.specs.Shown.{roots_of};
 ghost use Rattle.p3_merkle_core.specs.Views.{opening_lent, heights_in};
 
 use crate::mmcs::MerkleTreeMmcs;
-use p3_merkle_builder::tree::{MerkleTree, Tree};
 use p3_merkle_core::error::MerkleTreeError;
 use p3_merkle_core::pruning::PrunedMerklePaths;
+use p3_merkle_prover::tree::{MerkleTree, Tree};
 use p3_support::compress::PseudoCompressionFunction;
 use p3_support::hasher::CryptographicHasher;
 use p3_support::matrix::{Dimensions, Matrix};

@@ -12,7 +12,7 @@ use Rattle.p3_merkle_core.specs.Nodes.{Functions, dimensions_of, functions_of}
 use Rattle.p3_merkle_core.specs.Openings.{honest_rows}
 use Rattle.p3_merkle_core.specs.Pruning.{PrunedOpening, restored_path, IsPrunedAccepted}
 use Rattle.p3_merkle_core.specs.Caps.{cap_layer}
-use Rattle.p3_merkle_builder.proofs.RowFacts.{row_inside}
+use Rattle.p3_merkle_prover.proofs.RowFacts.{row_inside}
 use Rattle.p3_support.specs.Batches.{FitDimensions, IsEquivalence, dimensions_in, rows_in, heights_of, greatest}
 use Rattle.p3_support.specs.declared.matrix.Dimensions.{Dimensions}
 use Rattle.p3_support.specs.declared.packed.PackedValue as packed

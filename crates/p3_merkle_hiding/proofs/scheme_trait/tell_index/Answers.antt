@@ -1,5 +1,5 @@
 -- The greatest height is that of the pairs.
-use Rattle.p3_merkle_builder.specs.Parts.{matrices_of}
+use Rattle.p3_merkle_prover.specs.Parts.{matrices_of}
 use Rattle.p3_merkle_hiding.specs.Inner.SaltedCommitmentLaws.{left_greatest}
 use Rattle.p3_merkle_hiding.proofs.scheme_trait.tell_index.Goals as goal
 

@@ -1,7 +1,7 @@
 -- The greatest height is that of the pairs.
 use Rattle.std.proofs.Common.{ℕ, ◌<◌, subst}
 use Rattle.std.specs.Prelude.{All}
-use Rattle.p3_merkle_builder.specs.Parts.{matrices_of}
+use Rattle.p3_merkle_prover.specs.Parts.{matrices_of}
 use Rattle.p3_merkle_hiding.specs.Inner.SaltedCommitmentLaws.{left_greatest}
 use Rattle.p3_merkle_hiding.proofs.scheme_trait.tell_indices.Goals as goal
 

@@ -1,5 +1,5 @@
 -- The greatest height is that of the batch.
-use Rattle.p3_merkle_builder.specs.Parts.{matrices_of}
+use Rattle.p3_merkle_prover.specs.Parts.{matrices_of}
 use Rattle.p3_merkle_tree.specs.Inner.CommitmentLaws.{greatest_is}
 use Rattle.p3_merkle_tree.proofs.scheme_trait.tell_index.Goals as goal
 

@@ -8,7 +8,7 @@ use Rattle.p3_support.specs.Batches.{heights_of}
 use Rattle.p3_merkle_core.specs.Views.{matrix_of}
 use Rattle.p3_merkle_salts.specs.Salted.{salted_matrices}
 use Rattle.p3_support.specs.Shown.{roots_of}
-use Rattle.p3_merkle_builder.specs.Parts.{layers_of}
+use Rattle.p3_merkle_prover.specs.Parts.{layers_of}
 use Rattle.p3_merkle_core.specs.Gate.{gate_refusal}
 use Rattle.p3_merkle_core.specs.Geometry.{shape_of}
 use Rattle.p3_support.specs.declared.matrix.Dimensions.{Dimensions}

@@ -4,7 +4,7 @@ use Rattle.std.proofs.lemmas.Simd.{map-map}
 use Rattle.p3_merkle_core.specs.Nodes.{dimensions_of}
 use Rattle.p3_merkle_core.specs.Commitments.{cap_over}
 use Rattle.p3_merkle_core.specs.Pruning.{IsPrunedAccepted, PrunedOpening, pruned_of}
-use Rattle.p3_merkle_builder.specs.Parts.{matrices_of, tree_batch}
+use Rattle.p3_merkle_prover.specs.Parts.{matrices_of, tree_batch}
 use Rattle.p3_merkle_tree.specs.Schemes.{terms_of}
 use Rattle.p3_support.specs.Pairs.{left_of}
 use Rattle.p3_support.specs.Shown.{row_sets}

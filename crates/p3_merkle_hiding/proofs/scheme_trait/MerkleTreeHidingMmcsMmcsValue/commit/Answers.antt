@@ -4,7 +4,7 @@ use Rattle.std.specs.Prelude.{IfOk}
 use Rattle.p3_support.specs.Shown.{roots_of}
 use Rattle.p3_merkle_core.specs.Views.{batch_of}
 use Rattle.p3_merkle_salts.specs.Salted.{salted_batch}
-use Rattle.p3_merkle_builder.specs.Parts.{layers_of, matrices_of, tree_batch}
+use Rattle.p3_merkle_prover.specs.Parts.{layers_of, matrices_of, tree_batch}
 use Rattle.p3_merkle_core.specs.Geometry.{shape_of}
 use Rattle.p3_merkle_core.specs.Nodes.{dimensions_of, shape}
 use Rattle.p3_merkle_tree.specs.Schemes.{terms_over}

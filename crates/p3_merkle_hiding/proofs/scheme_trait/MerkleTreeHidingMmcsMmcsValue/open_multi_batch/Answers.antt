@@ -5,7 +5,7 @@ use Rattle.p3_support.specs.Pairs.{left_of}
 use Rattle.p3_merkle_core.specs.Commitments.{cap_over}
 use Rattle.p3_support.specs.Shown.{roots_of, row_sets}
 use Rattle.p3_support.specs.declared.matrix.Dimensions.{Dimensions}
-use Rattle.p3_merkle_builder.specs.Parts.{matrices_of, tree_batch}
+use Rattle.p3_merkle_prover.specs.Parts.{matrices_of, tree_batch}
 use Rattle.p3_merkle_tree.specs.Inner.CommitmentLaws.{greatest_is, sets_are}
 use Rattle.p3_merkle_core.proofs.ViewFacts.{dimensions_are}
 use Rattle.p3_merkle_tree.specs.Schemes.{terms_of}

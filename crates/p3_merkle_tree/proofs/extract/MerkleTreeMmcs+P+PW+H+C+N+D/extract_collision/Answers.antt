@@ -9,7 +9,7 @@ use Rattle.p3_merkle_core.specs.Presented.{presented}
 use Rattle.p3_merkle_core.specs.Refusals.{AnswersUnlessMemory, refusal_under}
 use Rattle.p3_merkle_core.specs.Views.{opening_lent}
 use Rattle.p3_merkle_core.proofs.ExtractionFacts.{all_authenticated, extracted_alone, single_presented}
-use Rattle.p3_merkle_checker.specs.Inner.Collisions.{Shows}
+use Rattle.p3_merkle_verifier.specs.Inner.Collisions.{Shows}
 use Rattle.p3_merkle_tree.specs.Schemes.{compression_of, hash_of, proof_layer, terms_of}
 use Rattle.p3_merkle_tree.proofs.CheckFacts.{opening_is, terms_alike}
 use Rattle.p3_merkle_tree.proofs.extract.MerkleTreeMmcs+P+PW+H+C+N+D.extract_collision.Goals as goal

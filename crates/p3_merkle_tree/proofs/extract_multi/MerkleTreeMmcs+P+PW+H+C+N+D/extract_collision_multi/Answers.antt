@@ -9,7 +9,7 @@ use Rattle.p3_merkle_core.specs.Pruning.{opening_at}
 use Rattle.p3_merkle_core.specs.Refusals.{AnswersUnlessMemory, pruned_refusal_under}
 use Rattle.p3_merkle_core.specs.Views.{pruned_lent}
 use Rattle.p3_merkle_core.proofs.ExtractionFacts.{all_authenticated, extracted_pair, pruned_presented}
-use Rattle.p3_merkle_pairs.specs.Inner.Pairs.{ShowsPair}
+use Rattle.p3_merkle_multiproof.specs.Inner.Pairs.{ShowsPair}
 use Rattle.p3_merkle_tree.specs.Schemes.{compression_of, hash_of, proof_layer, terms_of}
 use Rattle.p3_merkle_tree.proofs.CheckFacts.{pruned_is, terms_alike}
 use Rattle.p3_merkle_tree.proofs.extract_multi.MerkleTreeMmcs+P+PW+H+C+N+D.extract_collision_multi.Goals as goal

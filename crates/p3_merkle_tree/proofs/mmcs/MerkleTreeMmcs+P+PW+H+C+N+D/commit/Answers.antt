@@ -1,6 +1,6 @@
 -- The cap is the tree's own layer.
 use Rattle.std.proofs.Common.{ap}
-use Rattle.p3_merkle_builder.specs.Parts.{layers_of, tree_batch}
+use Rattle.p3_merkle_prover.specs.Parts.{layers_of, tree_batch}
 use Rattle.p3_merkle_core.specs.Views.{batch_of}
 use Rattle.p3_merkle_tree.specs.Schemes.{cap_height_of, cap_rule_of, scheme_functions}
 use Rattle.p3_support.specs.Shown.{roots_of}

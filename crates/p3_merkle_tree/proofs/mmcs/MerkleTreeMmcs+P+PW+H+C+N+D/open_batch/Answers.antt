@@ -2,9 +2,9 @@
 use Rattle.std.proofs.Common.{◌∙◌, [], ℕ, ap, arith, refl}
 use Rattle.p3_merkle_core.specs.Nodes.{shape}
 use Rattle.p3_merkle_core.specs.Openings.{node_in, opening_of, siblings_by}
-use Rattle.p3_merkle_builder.specs.Parts.{layers_of, tree_batch}
+use Rattle.p3_merkle_prover.specs.Parts.{layers_of, tree_batch}
 use Rattle.p3_merkle_tree.specs.Schemes.{proof_layer, terms_over}
-use Rattle.p3_merkle_builder.proofs.RowFacts.{full_rows}
+use Rattle.p3_merkle_prover.proofs.RowFacts.{full_rows}
 use Rattle.p3_merkle_tree.proofs.OwnAccepted.{own_accepted, own_honest}
 use Rattle.p3_merkle_tree.proofs.mmcs.MerkleTreeMmcs+P+PW+H+C+N+D.open_batch.Goals as goal
 

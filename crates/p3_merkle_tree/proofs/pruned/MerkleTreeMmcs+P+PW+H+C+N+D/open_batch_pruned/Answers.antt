@@ -5,8 +5,8 @@ use Rattle.p3_merkle_core.specs.Nodes.{shape}
 use Rattle.p3_merkle_core.specs.Pruning.{IsHonestQuery, boundary, boundary_by, pruned_of}
 use Rattle.p3_merkle_core.specs.Openings.{node_in}
 use Rattle.p3_merkle_core.proofs.Sufficient.{count_least}
-use Rattle.p3_merkle_builder.specs.Parts.{layers_of, tree_batch}
-use Rattle.p3_merkle_builder.proofs.RowFacts.{full_rows}
+use Rattle.p3_merkle_prover.specs.Parts.{layers_of, tree_batch}
+use Rattle.p3_merkle_prover.proofs.RowFacts.{full_rows}
 use Rattle.p3_merkle_tree.specs.Schemes.{proof_layer, terms_over}
 use Rattle.p3_merkle_tree.proofs.PrunedFacts.{own_query_accepted, own_query_honest, own_query_restores}
 use Rattle.p3_merkle_tree.proofs.pruned.MerkleTreeMmcs+P+PW+H+C+N+D.open_batch_pruned.Goals as goal

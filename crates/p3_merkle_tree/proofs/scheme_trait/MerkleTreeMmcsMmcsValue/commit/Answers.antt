@@ -1,7 +1,7 @@
 -- What is committed to is a tree of the scheme's own.
 use Rattle.p3_support.specs.Shown.{roots_of}
 use Rattle.p3_merkle_core.specs.Views.{batch_of, heights_in}
-use Rattle.p3_merkle_builder.specs.Parts.{layers_of, matrices_of}
+use Rattle.p3_merkle_prover.specs.Parts.{layers_of, matrices_of}
 use Rattle.p3_merkle_tree.specs.Schemes.{terms_over}
 use Rattle.p3_merkle_tree.proofs.CommitmentFacts.{is_committed, lawful_when_ok, memory_when_lawful}
 use Rattle.p3_merkle_tree.proofs.scheme_trait.MerkleTreeMmcsMmcsValue.commit.Goals as goal

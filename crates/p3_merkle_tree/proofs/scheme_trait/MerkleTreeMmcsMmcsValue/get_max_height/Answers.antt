@@ -1,6 +1,6 @@
 -- The greatest height is that of the batch.
 use Rattle.std.proofs.Common.{◌∙◌, sym}
-use Rattle.p3_merkle_builder.specs.Parts.{matrices_of}
+use Rattle.p3_merkle_prover.specs.Parts.{matrices_of}
 use Rattle.p3_merkle_tree.specs.Inner.CommitmentLaws.{greatest_is}
 use Rattle.p3_merkle_tree.proofs.scheme_trait.MerkleTreeMmcsMmcsValue.get_max_height.Goals as goal
 

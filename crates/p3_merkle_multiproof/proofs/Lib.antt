@@ -1,0 +1,10 @@
+mod LeadFacts
+pub mod GroupFacts
+mod WalkFacts
+mod LayerFacts
+mod PathFacts
+mod RootFacts
+pub mod StartFacts
+mod PlaceFacts
+mod PairFacts
+mod QueryFacts

@@ -1,0 +1,68 @@
+//! The check of a pruned opening: its form first, then the digests of the covered nodes, then the cap's entries.
+
+ghost use Rattle.std.specs.Prelude.{◌≡◌, ◌⊎◌, MatchResult, None, Some, replicate};
+ghost use Rattle.p3_merkle_core.specs.Geometry.{shape_of};
+ghost use Rattle.p3_merkle_core.specs.Nodes.{functions_of};
+ghost use Rattle.p3_support.specs.Shown.{row_sets};
+ghost use Rattle.p3_merkle_core.specs.Pruning.{pruned_of};
+ghost use Rattle.p3_merkle_core.specs.Refusals.{pruned_refusal_under, AnswersUnlessMemory};
+ghost use Rattle.p3_merkle_core.specs.declared.error.MerkleTreeError.TheVariants.{OutOfMemory};
+ghost use Rattle.p3_merkle_verifier.specs.Inner.Paths.{CanCheck};
+ghost use Rattle.p3_merkle_core.specs.Checks.{terms};
+
+use crate::leaves::{leaves_of, tell_restorable};
+use crate::queries::Queries;
+use crate::restored::check_cap;
+use p3_merkle_core::agreement::check_pruned;
+use p3_merkle_core::error::MerkleTreeError;
+use p3_merkle_verifier::level::Checker;
+use p3_support::compress::PseudoCompressionFunction;
+use p3_support::hasher::CryptographicHasher;
+use p3_support::matrix::Dimensions;
+use p3_support::packed::PackedValue;
+use std::alloc::Global;
+
+/// Checks a pruned opening against the roots of a cap, which is layer `t`: whether its form is right, and the digests that
+/// its rows and the digests that were sent lead to are the roots of their places. `sets` has the rows of each query.
+///
+/// `N` is a power of two from 2 to 2^62, and `t` is at most the number of levels.
+///
+/// # Errors
+///
+/// What [`check_pruned`] answers; else `CapMismatch` where a root is another, or is not there. `OutOfMemory` may come at any
+/// time.
+pub fn check_pruned_opening<
+    P: PackedValue,
+    PW: PackedValue,
+    H: CryptographicHasher<P, PW, D>,
+    C: PseudoCompressionFunction<PW, N, D>,
+    const N: usize,
+    const D: usize,
+>(
+    alloc: Global,
+    checker: &Checker<'_, P, PW, H, C, [[PW::Value; D]; N]>,
+    roots: &[[PW::Value; D]],
+    dimensions: &[Dimensions],
+    t: usize,
+    indices: &[usize],
+    sets: &[Vec<Vec<P::Value>>],
+    sent: &[[PW::Value; D]],
+) -> Result<(), MerkleTreeError>
+    requires { CanCheck (shape_of N dimensions.now) t }
+    ensures { let f = functions_of (H.hash checker.now.hash.now) (C.compression checker.now.compress.now)
+        (replicate D PW.default_value) in
+        let p = pruned_of indices.now (row_sets sets.now) sent.now in
+        let refusal = pruned_refusal_under P.Value.eq PW.Value.eq (terms f (shape_of N dimensions.now) t) roots.now p in
+        AnswersUnlessMemory result refusal }
+{
+    let slots = check_pruned(alloc, dimensions, N, t, indices, sets, sent.len())?;
+    tell_restorable::<P, PW, D>(dimensions, N, t, indices, sets, sent);
+    let queries = Queries {
+        dimensions,
+        arity: N,
+        t,
+        indices,
+    };
+    let leaves = leaves_of(dimensions, N, indices, slots);
+    check_cap::<P, PW, H, C, N, D>(alloc, checker, roots, &queries, sets, sent, leaves)
+}

@@ -1,0 +1,269 @@
+//! Extraction from two pruned openings under one cap: the first pair of queries whose checks differ.
+
+ghost use Rattle.std.specs.Prelude.{◌≡◌, ◌<◌, IfOk, length, replicate};
+ghost use Rattle.std.specs.Option.{option_or};
+ghost use Rattle.p3_merkle_core.specs.Checks.{terms};
+ghost use Rattle.p3_merkle_core.specs.Extraction.{difference_of, first_pair};
+ghost use Rattle.p3_merkle_core.specs.Geometry.{shape_of};
+ghost use Rattle.p3_merkle_core.specs.Nodes.{functions_of};
+ghost use Rattle.p3_merkle_core.specs.Refusals.{pruned_refusal_under, AnswersUnlessMemory};
+ghost use Rattle.p3_merkle_core.specs.Pruning.{opening_at};
+ghost use Rattle.p3_merkle_verifier.specs.Inner.Checks.{opening_in};
+ghost use Rattle.p3_merkle_verifier.specs.Inner.Paths.{CanCheck, CanReach};
+ghost use Rattle.p3_merkle_multiproof.specs.Inner.Pairs.{query_difference, first_place, pruned_in, query_in, AreQueriesOf, CanCompare, ShowsAt, ShowsPair};
+
+use crate::check::check_pruned_opening;
+use crate::paths::restored_paths_of;
+use p3_merkle_core::collision::Collision;
+use p3_merkle_core::error::MerkleTreeError;
+use p3_merkle_core::pruning::{AuthPath, PrunedProof};
+use p3_merkle_verifier::level::Checker;
+use p3_merkle_verifier::openings::{IndexedOpening, OpeningPair};
+use p3_support::compress::PseudoCompressionFunction;
+use p3_support::hasher::CryptographicHasher;
+use p3_support::matrix::Dimensions;
+use p3_support::packed::PackedValue;
+use std::alloc::{AllocError, Global};
+
+/// A pruned opening that is lent.
+#[derive_where(Clone, Copy)]
+pub struct PrunedOpeningRef<'a, T, X> {
+    /// The index of each query.
+    pub indices: &'a [usize],
+    /// The rows of each query, one of each matrix.
+    pub sets: &'a [Vec<Vec<T>>],
+    /// The digests that are sent.
+    pub sent: &'a [X],
+}
+
+impl<'a, T, X> PrunedOpeningRef<'a, T, X> {
+    /// The pruned opening of some indices, by the rows of each and a proof.
+    pub fn new(
+        indices: &'a [usize],
+        sets: &'a [Vec<Vec<T>>],
+        proof: &'a PrunedProof<X>,
+    ) -> PrunedOpeningRef<'a, T, X>
+        ensures indices { result.indices.now ≡ indices.now }
+        ensures sets { result.sets.now ≡ sets.now }
+        ensures sent { result.sent.now ≡ proof.now.sibling_hashes.items }
+    {
+        PrunedOpeningRef {
+            indices,
+            sets,
+            sent: &proof.sibling_hashes,
+        }
+    }
+}
+
+/// The queries of a pruned opening, each to be read as an opening of its own.
+#[derive(Drop)]
+pub(crate) struct RestoredQueries<'a, T, X> {
+    /// The rows of each query.
+    pub sets: &'a [Vec<Vec<T>>],
+    /// The path of each, with its index.
+    pub paths: Vec<AuthPath<X>>,
+}
+
+impl<'a, T, W, const D: usize> RestoredQueries<'a, T, [W; D]> {
+    /// The opening of query `k`.
+    fn opening(&self, k: usize) -> IndexedOpening<'_, T, [W; D]>
+        requires row_set { k < length self.now.sets.now }
+        requires path { k < length self.now.paths.items }
+        ensures { opening_in result ≡ query_in self.now k }
+    {
+        let path = &self.paths[k];
+        IndexedOpening {
+            index: path.leaf_index,
+            rows: &self.sets[k],
+            siblings: &path.siblings,
+        }
+    }
+}
+
+/// The first of some queries whose check differs from that of an opening at a place that both share, by its place among
+/// them, with the last such place.
+///
+/// # Errors
+///
+/// `AllocError` where there is no memory.
+fn differing_query<
+    P: PackedValue,
+    PW: PackedValue,
+    H: CryptographicHasher<P, PW, D>,
+    C: PseudoCompressionFunction<PW, N, D>,
+    const N: usize,
+    const D: usize,
+>(
+    alloc: Global,
+    checker: &Checker<'_, P, PW, H, C, [[PW::Value; D]; N]>,
+    dimensions: &[Dimensions],
+    t: usize,
+    first: IndexedOpening<'_, P::Value, [PW::Value; D]>,
+    queries: &RestoredQueries<'_, P::Value, [PW::Value; D]>,
+) -> Result<Option<(usize, Collision<P::Value, PW::Value, D>)>, AllocError>
+    requires first { CanReach (shape_of N dimensions.now) t (length first.siblings.now) }
+    requires queries { CanCompare (shape_of N dimensions.now) t queries.now }
+    ensures { let f = functions_of (H.hash checker.now.hash.now) (C.compression checker.now.compress.now)
+        (replicate D PW.default_value) in
+        let s = shape_of N dimensions.now in
+        let o = opening_in first.entry in
+        let differs = first_place
+        (λ b. query_difference P.Value.eq PW.Value.eq f s t o (query_in queries.now b))
+        (length queries.now.paths.items) in
+        IfOk result (λ found. ShowsAt found differs) }
+{
+    for place in 0..queries.paths.len() {
+        let second = queries.opening(place);
+        let openings = OpeningPair::<P::Value, [PW::Value; D], N> {
+            dimensions,
+            t,
+            first,
+            second,
+        };
+        if let Some(collision) = checker.last_difference(alloc, &openings)? {
+            return Ok(Some((place, collision)));
+        }
+    }
+    Ok(None)
+}
+
+/// The first pair of queries, by the first list, then by the second, whose checks differ at a place that both share: the
+/// place of each in its list, with the last such place.
+///
+/// # Errors
+///
+/// `AllocError` where there is no memory.
+fn differing_pair<
+    P: PackedValue,
+    PW: PackedValue,
+    H: CryptographicHasher<P, PW, D>,
+    C: PseudoCompressionFunction<PW, N, D>,
+    const N: usize,
+    const D: usize,
+>(
+    alloc: Global,
+    checker: &Checker<'_, P, PW, H, C, [[PW::Value; D]; N]>,
+    dimensions: &[Dimensions],
+    t: usize,
+    first: &RestoredQueries<'_, P::Value, [PW::Value; D]>,
+    second: &RestoredQueries<'_, P::Value, [PW::Value; D]>,
+) -> Result<Option<(usize, usize, Collision<P::Value, PW::Value, D>)>, AllocError>
+    requires first { CanCompare (shape_of N dimensions.now) t first.now }
+    requires second { CanCompare (shape_of N dimensions.now) t second.now }
+    ensures { let f = functions_of (H.hash checker.now.hash.now) (C.compression checker.now.compress.now)
+        (replicate D PW.default_value) in
+        let s = shape_of N dimensions.now in
+        let differ = first_pair
+        (λ a b. query_difference P.Value.eq PW.Value.eq f s t (query_in first.now a) (query_in second.now b))
+        (length first.now.paths.items) (length second.now.paths.items) in
+        IfOk result (λ found. ShowsPair found differ) }
+{
+    for place in 0..first.paths.len() {
+        let opening = first.opening(place);
+        let found = differing_query::<P, PW, H, C, N, D>(
+            alloc, checker, dimensions, t, opening, second,
+        )?;
+        if let Some((other, collision)) = found {
+            return Ok(Some((place, other, collision)));
+        }
+    }
+    Ok(None)
+}
+
+/// Checks a pruned opening as [`check_pruned_opening`] does, and restores the path of each query.
+///
+/// # Errors
+///
+/// Those of [`check_pruned_opening`].
+fn checked_queries<
+    'a,
+    P: PackedValue,
+    PW: PackedValue,
+    H: CryptographicHasher<P, PW, D>,
+    C: PseudoCompressionFunction<PW, N, D>,
+    const N: usize,
+    const D: usize,
+>(
+    alloc: Global,
+    checker: &Checker<'_, P, PW, H, C, [[PW::Value; D]; N]>,
+    roots: &[[PW::Value; D]],
+    dimensions: &[Dimensions],
+    t: usize,
+    opening: PrunedOpeningRef<'a, P::Value, [PW::Value; D]>,
+) -> Result<RestoredQueries<'a, P::Value, [PW::Value; D]>, MerkleTreeError>
+    requires { CanCheck (shape_of N dimensions.now) t }
+    ensures answer { let f = functions_of (H.hash checker.now.hash.now) (C.compression checker.now.compress.now)
+        (replicate D PW.default_value) in
+        let refusal = pruned_refusal_under P.Value.eq PW.Value.eq (terms f (shape_of N dimensions.now) t) roots.now
+        (pruned_in opening.entry) in
+        AnswersUnlessMemory result refusal }
+    ensures comparable { IfOk result (λ queries. CanCompare (shape_of N dimensions.now) t queries) }
+    ensures restored { let f = functions_of (H.hash checker.now.hash.now) (C.compression checker.now.compress.now)
+        (replicate D PW.default_value) in
+        IfOk result (λ queries. AreQueriesOf f (shape_of N dimensions.now) t (pruned_in opening.entry) queries) }
+{
+    let PrunedOpeningRef {
+        indices,
+        sets,
+        sent,
+    } = opening;
+    check_pruned_opening::<P, PW, H, C, N, D>(
+        alloc, checker, roots, dimensions, t, indices, sets, sent,
+    )?;
+    let paths = restored_paths_of::<P, PW, H, C, N, D>(
+        alloc, checker, dimensions, t, indices, sets, sent,
+    )?;
+    Ok(RestoredQueries { sets, paths })
+}
+
+/// What two pruned openings under the roots of a cap, which is layer `t`, lead to: nothing where the checks of all pairs of
+/// their queries agree, and else the first pair that differs, by the first list, then by the second: the place of each in
+/// its list, and the last place that both checks share and at which their inputs differ.
+///
+/// `N` is a power of two from 2 to 2^62, and `t` is at most the number of levels. It takes the time of a check for each pair
+/// of queries.
+///
+/// # Errors
+///
+/// What [`check_pruned_opening`] answers to the first opening, else what it answers to the second; `OutOfMemory` may come at any
+/// time.
+pub fn extraction<
+    P: PackedValue,
+    PW: PackedValue,
+    H: CryptographicHasher<P, PW, D>,
+    C: PseudoCompressionFunction<PW, N, D>,
+    const N: usize,
+    const D: usize,
+>(
+    alloc: Global,
+    checker: &Checker<'_, P, PW, H, C, [[PW::Value; D]; N]>,
+    roots: &[[PW::Value; D]],
+    dimensions: &[Dimensions],
+    t: usize,
+    first: PrunedOpeningRef<'_, P::Value, [PW::Value; D]>,
+    second: PrunedOpeningRef<'_, P::Value, [PW::Value; D]>,
+) -> Result<Option<(usize, usize, Collision<P::Value, PW::Value, D>)>, MerkleTreeError>
+    requires { CanCheck (shape_of N dimensions.now) t }
+    ensures answer { let f = functions_of (H.hash checker.now.hash.now) (C.compression checker.now.compress.now)
+        (replicate D PW.default_value) in
+        let refusal = pruned_refusal_under P.Value.eq PW.Value.eq (terms f (shape_of N dimensions.now) t) roots.now in
+        AnswersUnlessMemory result (option_or (refusal (pruned_in first.entry)) (refusal (pruned_in second.entry))) }
+    ensures found { let f = functions_of (H.hash checker.now.hash.now) (C.compression checker.now.compress.now)
+        (replicate D PW.default_value) in
+        let c = terms f (shape_of N dimensions.now) t in
+        let p = pruned_in first.entry in
+        let r = pruned_in second.entry in
+        let difference = first_pair
+        (λ a b. difference_of P.Value.eq PW.Value.eq c (opening_at c p a) (opening_at c r b)) (length p.indices)
+        (length r.indices) in
+        IfOk result (λ found. ShowsPair found difference) }
+{
+    let first = checked_queries::<P, PW, H, C, N, D>(alloc, checker, roots, dimensions, t, first)?;
+    let second = checked_queries::<P, PW, H, C, N, D>(
+        alloc, checker, roots, dimensions, t, second,
+    )?;
+    let found = differing_pair::<P, PW, H, C, N, D>(
+        alloc, checker, dimensions, t, &first, &second,
+    )?;
+    Ok(found)
+}

@@ -1,0 +1,14 @@
+//! The verifier's side of pruned openings: the digests of the covered nodes, layer by layer, out of the rows and the digests
+//! that are sent; the check against a cap; the restored paths; and what two such openings under one cap lead to.
+#![tactic(auto)]
+
+pub mod check;
+pub mod extraction;
+mod groups;
+mod leads;
+mod leaves;
+mod level;
+pub mod paths;
+mod queries;
+mod restored;
+mod rows;

@@ -1,3 +1,0 @@
-mod PlaceFacts
-mod PairFacts
-mod QueryFacts

@@ -1,2 +1,0 @@
--- What only proofs, and calls that no public contract speaks of, cite.
-pub mod Pairs

@@ -1,0 +1,36 @@
+-- Each turn adds what lies beside one covered node.
+use Rattle.std.proofs.Common.{◌≤◌, ◌++◌, ◌∙◌, ap, arith, sym, append-nil, get_or, length, refl}
+use Rattle.p3_merkle_prover.proofs.BoundaryFacts.{gone_start, others_end, others_more, turned}
+use Rattle.p3_merkle_prover.proofs.pruned.extend_with_boundary.Goals as goal
+
+pub loop-place-init : goal.loop-place-init
+loop-place-init g c = record {
+  gone = gone_start c.args.covered.now c.args.step;
+  inside = omega arith;
+  so_far = λ d. sym (append-nil c.args.digests.now.items);
+}
+
+pub loop-place-preserved : goal.loop-place-preserved
+loop-place-preserved g c =
+    let covered = c.args.covered.now in
+    let layer = c.args.layer.now in
+    let n = c.args.step in
+    let place = c.loop-place.place in
+    let next = c.loop-place.next in
+    let node = get_or covered place 0 in
+    let end = c.end_before-end.result in
+    let w = turned covered n place next c.max.result node end c.requires.some c.requires.ascending (omega arith) c.loop-place.invariant.gone refl c.max.ensures
+    (record { next = c.end_before-end.ensures.next; last = c.end_before-end.ensures.last }) in
+    let inside : end ≤ length layer = omega (arith, w.fits, c.requires.groups place 0 (omega arith)) in
+    record {
+      gone = w.gone;
+      inside = inside;
+      so_far = λ d.
+          others_more layer covered n place next c.max.result node end c.args.digests.now.items c.loop-place.digests.items c.extend_from_slice.new.self.items c.extend_from_slice-in-loop-place.new.self.items d w inside
+          (c.loop-place.invariant.so_far d) c.in_ok-extend_from_slice.ensures.items c.in_ok-extend_from_slice-2.ensures.items;
+    }
+
+pub returns-clause-digests : goal.returns-clause-digests
+returns-clause-digests g c d =
+    c.loop-place.invariant.so_far d ∙ ap (λ ys. c.args.digests.now.items ++ ys)
+    (sym (others_end c.args.layer.now c.args.covered.now c.args.step c.loop-place.place c.loop-place.next d (omega arith) c.loop-place.invariant.inside c.loop-place.invariant.gone))

@@ -1,0 +1,178 @@
+//! What a tree opens of one leaf: a row of each matrix, and the siblings on the leaf's path.
+
+ghost use Rattle.std.specs.Prelude.{◌≡◌, ◌<◌, ◌≤◌, ◌++◌, length, map, remove, IfErr, IfOk, None};
+ghost use Rattle.p3_merkle_core.specs.Caps.{cap_layer};
+ghost use Rattle.p3_support.specs.Batches.{greatest};
+ghost use Rattle.p3_merkle_core.specs.Geometry.{heights, levels};
+ghost use Rattle.p3_merkle_core.specs.Nodes.{shape};
+ghost use Rattle.p3_merkle_core.specs.Openings.{honest_rows, node_in, siblings_by};
+ghost use Rattle.p3_merkle_core.specs.Checks.{siblings_below};
+ghost use Rattle.p3_merkle_core.specs.declared.error.MerkleTreeError.TheVariants.{OutOfMemory};
+ghost use Rattle.p3_support.specs.Shown.{row_lists};
+ghost use Rattle.p3_merkle_prover.specs.Parts.{layers_of, matrices_of, tree_batch};
+ghost use Rattle.p3_merkle_core.specs.Refusals.{AnswersUnlessMemory};
+
+use crate::tree::Tree;
+use p3_merkle_core::cap::{CapRule, cap_layer_at};
+use p3_merkle_core::error::MerkleTreeError;
+use p3_merkle_core::geometry::bits_reduced_of;
+use p3_merkle_layers::levels::{max_height_of, min_height_of};
+use p3_support::matrix::Matrix;
+use std::alloc::{AllocError, Global};
+
+/// How many levels lead from the leaves of a tree to its root.
+pub fn num_levels<F, X, G, M: Matrix<F>, const N: usize>(tree: &Tree<F, X, G, M, N>) -> usize
+    ensures { result ≡ levels (shape (tree_batch tree.now)) }
+{
+    tree.arity_schedule.len()
+}
+
+/// The height of the tallest matrix of a tree, in rows: how many leaves it has, padding aside.
+pub fn max_height<F, X, G, M: Matrix<F>, const N: usize>(tree: &Tree<F, X, G, M, N>) -> usize
+    ensures { result ≡ greatest (heights (shape (tree_batch tree.now))) }
+{
+    max_height_of(&tree.matrices)
+}
+
+/// The layer of a tree, counted from the leaves, that is the cap of this height.
+pub fn cap_layer_in<F, X, G, M: Matrix<F>, const N: usize>(
+    tree: &Tree<F, X, G, M, N>,
+    rule: CapRule,
+    cap_height: usize,
+) -> usize
+    ensures { result ≡ cap_layer (shape (tree_batch tree.now)) rule cap_height }
+{
+    cap_layer_at(
+        num_levels(tree),
+        min_height_of(&tree.matrices),
+        N,
+        rule,
+        cap_height,
+    )
+}
+
+/// The row of each matrix that belongs to leaf `index`, in input order. The index is below [`max_height`].
+///
+/// # Errors
+///
+/// `OutOfMemory` alone.
+pub fn rows_of_index<F: Copy, X, G, M: Matrix<F>, const N: usize>(
+    alloc: Global,
+    tree: &Tree<F, X, G, M, N>,
+    index: usize,
+) -> Result<Vec<Vec<F>>, MerkleTreeError>
+    requires { index < greatest (heights (shape (tree_batch tree.now))) }
+    ensures rows { let honest = honest_rows (tree_batch tree.now) index in
+        IfOk result (λ rows. row_lists rows.items ≡ honest) }
+    ensures memory { AnswersUnlessMemory result None }
+{
+    let max_height = max_height(tree);
+    let mut rows = Vec::with_capacity(alloc, tree.matrices.len())?;
+    for matrix in &tree.matrices {
+        let row = index >> bits_reduced_of(max_height, matrix.height());
+        rows.push(words_of_row(alloc, matrix, row)?)?;
+    }
+    Ok(rows)
+}
+
+/// The matrices of a tree, in input order.
+///
+/// # Errors
+///
+/// `OutOfMemory` alone.
+pub fn matrix_refs<'a, F, X, G, M: Matrix<F>, const N: usize>(
+    alloc: Global,
+    tree: &'a Tree<F, X, G, M, N>,
+) -> Result<Vec<&'a M>, MerkleTreeError>
+    ensures matrices { IfOk result (λ v. map (λ m. m.now) v.items ≡ matrices_of tree.now) }
+    ensures memory { AnswersUnlessMemory result None }
+{
+    let mut matrices = Vec::with_capacity(alloc, tree.matrices.len())?;
+    for matrix in &tree.matrices {
+        matrices.push(matrix)?;
+    }
+    Ok(matrices)
+}
+
+/// The siblings on the path of leaf `index` up to layer `t`: of each group on it all digests but the path's own,
+/// level by level from the leaves, ascending. The index is below [`max_height`], and `t` at most [`num_levels`].
+///
+/// # Errors
+///
+/// `OutOfMemory` alone.
+pub fn siblings_of_index<F, X: Copy, G, M: Matrix<F>, const N: usize>(
+    alloc: Global,
+    tree: &Tree<F, X, G, M, N>,
+    index: usize,
+    t: usize,
+) -> Result<Vec<X>, MerkleTreeError>
+    requires index { index < greatest (heights (shape (tree_batch tree.now))) }
+    requires layer { t ≤ levels (shape (tree_batch tree.now)) }
+    ensures siblings { (d : X) → let own = siblings_by (node_in d (layers_of tree.now))
+        (shape (tree_batch tree.now)) t index in
+        IfOk result (λ siblings. siblings.items ≡ own) }
+    ensures memory { AnswersUnlessMemory result None }
+{
+    let mut siblings = Vec::with_capacity(alloc, num_siblings(tree, t))?;
+    let mut ancestor = index;
+    for level in 0..t {
+        let step = tree.arity_schedule[level];
+        let position = ancestor % step;
+        let first = ancestor - position;
+        let group = &tree.layers[level][first..first + step];
+        extend_with_others(&mut siblings, group, position)?;
+        ancestor /= step;
+    }
+    Ok(siblings)
+}
+
+/// How many siblings the path of a leaf up to layer `t` has. `t` is at most [`num_levels`].
+fn num_siblings<F, X, G, M: Matrix<F>, const N: usize>(
+    tree: &Tree<F, X, G, M, N>,
+    t: usize,
+) -> usize
+    requires { t ≤ levels (shape (tree_batch tree.now)) }
+    ensures { result ≡ siblings_below (shape (tree_batch tree.now)) t }
+{
+    let mut count = 0;
+    for step in &tree.arity_schedule[..t] {
+        count += step - 1;
+    }
+    count
+}
+
+/// The words of a row.
+fn words_of_row<F: Copy, M: Matrix<F>>(
+    alloc: Global,
+    matrix: &M,
+    row: usize,
+) -> Result<Vec<F>, AllocError>
+    requires { row < M.height_of matrix.now }
+    ensures { IfOk result (λ words. words.items ≡ M.row_of matrix.now row) }
+{
+    if let Some(words) = matrix.row_slice(row) {
+        return Vec::from_slice(alloc, words);
+    }
+    let mut words = Vec::with_capacity(alloc, matrix.width())?;
+    words.extend(matrix.row(row))?;
+    Ok(words)
+}
+
+/// Adds the members of a group to the end, all but the one at `position`.
+fn extend_with_others<X: Copy>(
+    siblings: &mut Vec<X>,
+    group: &[X],
+    position: usize,
+) -> Result<(), MerkleTreeError>
+    requires { position < length group.now }
+    ensures others { let others = remove group.now position in
+        IfOk result (λ done. siblings.new.items ≡ siblings.old.items ++ others) }
+    ensures memory { AnswersUnlessMemory result None }
+{
+    for (place, digest) in group.iter().enumerate() {
+        if place != position {
+            siblings.push(*digest)?;
+        }
+    }
+    Ok(())
+}

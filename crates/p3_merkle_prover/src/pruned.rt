@@ -1,0 +1,120 @@
+//! What a tree opens of several leaves at once: their rows, and the digests that these rows leave unknown.
+
+ghost use Rattle.std.specs.Prelude.{◌≡◌, ◌+◌, ◌-◌, ◌%◌, ◌^◌, ◌<◌, ◌≤◌, ◌++◌, length, map, min, slice_index, All, IfErr, IfOk, None};
+ghost use Rattle.std.specs.List.Sorted.{IsStrictlyIncreasing};
+ghost use Rattle.p3_merkle_core.specs.Geometry.{heights, levels};
+ghost use Rattle.p3_support.specs.Batches.{greatest};
+ghost use Rattle.p3_merkle_core.specs.Nodes.{shape};
+ghost use Rattle.p3_merkle_core.specs.Openings.{honest_rows, node_in};
+ghost use Rattle.p3_support.specs.Shown.{row_sets};
+ghost use Rattle.p3_merkle_core.specs.declared.error.MerkleTreeError.TheVariants.{OutOfMemory};
+ghost use Rattle.p3_merkle_prover.specs.Inner.Own.{others_beside};
+ghost use Rattle.p3_merkle_prover.specs.Parts.{layers_of, tree_batch};
+ghost use Rattle.p3_merkle_core.specs.Pruning.{boundary_by};
+ghost use Rattle.p3_merkle_core.specs.Refusals.{AnswersUnlessMemory};
+
+use crate::opener::rows_of_index;
+use crate::tree::Tree;
+use p3_merkle_core::error::MerkleTreeError;
+use p3_merkle_core::pruning::{boundary_len_of, climb, covered_leaves};
+use p3_merkle_layers::levels::batch_dimensions;
+use p3_support::matrix::Matrix;
+use std::alloc::Global;
+
+/// The rows of each of some leaves, in the order of the indices. Each index is below
+/// [`max_height`](crate::opener::max_height).
+///
+/// # Errors
+///
+/// `OutOfMemory` alone.
+pub fn rows_of_indices<F: Copy, X, G, M: Matrix<F>, const N: usize>(
+    alloc: Global,
+    tree: &Tree<F, X, G, M, N>,
+    indices: &[usize],
+) -> Result<Vec<Vec<Vec<F>>>, MerkleTreeError>
+    requires { All (λ index. index < greatest (heights (shape (tree_batch tree.now)))) indices.now }
+    ensures rows { let honest = map (honest_rows (tree_batch tree.now)) indices.now in
+        IfOk result (λ rows. row_sets rows.items ≡ honest) }
+    ensures memory { AnswersUnlessMemory result None }
+{
+    let mut rows = Vec::with_capacity(alloc, indices.len())?;
+    for index in indices {
+        rows.push(rows_of_index(alloc, tree, *index)?)?;
+    }
+    Ok(rows)
+}
+
+/// The digests of the boundary of some leaves below layer `t`, in wire order: level by level from the leaves, and
+/// ascending, those of the children of covered nodes that are not covered. Each index is below
+/// [`max_height`](crate::opener::max_height), and `t` at most [`num_levels`](crate::opener::num_levels). Takes memory for
+/// all indices, and beside their sort the time of one step for each index and level, and of a copy of the digests. These
+/// are allocated once, at their number.
+///
+/// # Errors
+///
+/// `OutOfMemory` alone.
+pub fn digests_of_boundary<F, X: Copy, G, M: Matrix<F>, const N: usize>(
+    alloc: Global,
+    tree: &Tree<F, X, G, M, N>,
+    indices: &[usize],
+    t: usize,
+) -> Result<Vec<X>, MerkleTreeError>
+    requires indices { All (λ index. index < greatest (heights (shape (tree_batch tree.now)))) indices.now }
+    requires layer { t ≤ levels (shape (tree_batch tree.now)) }
+    ensures digests { (d : X) → let own = boundary_by (node_in d (layers_of tree.now))
+        (shape (tree_batch tree.now)) indices.now t in
+        IfOk result (λ digests. digests.items ≡ own) }
+    ensures memory { AnswersUnlessMemory result None }
+{
+    let mut covered = covered_leaves(alloc, indices)?;
+    let dimensions = batch_dimensions(alloc, &tree.matrices)?;
+    let leaves = Vec::from_slice(alloc, &covered)?;
+    let mut digests = Vec::with_capacity(alloc, boundary_len_of(&dimensions, N, t, leaves))?;
+    for level in 0..t {
+        let step = tree.arity_schedule[level];
+        extend_with_boundary(&mut digests, &tree.layers[level], &covered, step)?;
+        climb(&mut covered, step);
+    }
+    Ok(digests)
+}
+
+/// Adds the boundary's digests of one layer to the end, ascending: those of the nodes that are not covered, but have a
+/// covered one in their group of `step`. The covered nodes ascend. Goes once through these, and copies what lies between
+/// them.
+fn extend_with_boundary<X: Copy>(
+    digests: &mut Vec<X>,
+    layer: &[X],
+    covered: &[usize],
+    step: usize,
+) -> Result<(), MerkleTreeError>
+    requires some { 0 < step }
+    requires ascending { IsStrictlyIncreasing covered.now }
+    requires groups { All (λ k. k - k % step + step ≤ length layer.now) covered.now }
+    requires len { length layer.now < 2 ^ 64 }
+    ensures digests { (d : X) → let others = others_beside layer.now covered.now step d in
+        IfOk result (λ done. digests.new.items ≡ digests.old.items ++ others) }
+    ensures memory { AnswersUnlessMemory result None }
+{
+    let mut next = 0;
+    for place in 0..covered.len() {
+        let node = covered[place];
+        let first = node - node % step;
+        let end = end_before(covered, place + 1, first + step);
+        digests.extend_from_slice(&layer[first.max(next)..node])?;
+        digests.extend_from_slice(&layer[node + 1..end])?;
+        next = end;
+    }
+    Ok(())
+}
+
+/// The end of a group, or the covered node at a place, if there is one and it comes first.
+fn end_before(covered: &[usize], place: usize, group_end: usize) -> usize
+    ensures next { place < length covered.now → result ≡ min group_end (slice_index covered.now place) }
+    ensures last { length covered.now ≤ place → result ≡ group_end }
+{
+    if place < covered.len() {
+        group_end.min(covered[place])
+    } else {
+        group_end
+    }
+}

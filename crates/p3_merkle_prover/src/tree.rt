@@ -1,0 +1,172 @@
+//! The tree over a batch of matrices.
+
+ghost use Rattle.std.specs.Prelude.{◌≡◌, ℕ, suc, ◌+◌, ◌-◌, ◌<◌, ◌≤◌, ◌⊎◌, [], ◌∷◌, IfOk, IsTrue, MatchResult, List, Some, map, length, replicate, slice_get};
+ghost use Rattle.std.specs.List.{range_with_len};
+ghost use Rattle.p3_merkle_core.specs.Geometry.{arity_schedule as schedule_in, heights, is_arity, layer_below_root, layer_len, levels, IsArity, IsLawful};
+ghost use Rattle.p3_merkle_core.specs.Gate.{gate_refusal};
+ghost use Rattle.p3_merkle_core.specs.Nodes.{functions_of, layers as layers_over, shape};
+ghost use Rattle.p3_merkle_core.specs.declared.error.MerkleTreeError.TheVariants.{OutOfMemory};
+ghost use Rattle.p3_merkle_core.specs.Refusals.{AnswersUnlessMemory};
+ghost use Rattle.p3_merkle_core.specs.Views.{batch_of};
+
+use p3_merkle_core::error::MerkleTreeError;
+use p3_merkle_core::geometry::check_heights;
+use p3_merkle_layers::layers::{Builder, Stack};
+use p3_merkle_layers::levels::batch_dimensions;
+use p3_support::compress::PseudoCompressionFunction;
+use p3_support::hasher::CryptographicHasher;
+use p3_support::matrix::Matrix;
+use p3_support::opening::{Hash, MerkleCap};
+use p3_support::packed::PackedValue;
+use std::alloc::Global;
+use std::marker::PhantomData;
+
+/// A Merkle tree over matrices `M` of values `F`: digests `X` in layers, from the leaves to the root, where each node
+/// is a compression of a group `G` of `N` digests. [`MerkleTree`] is this tree at digests of words.
+///
+/// Every tree has the shape of its matrices: their heights are lawful, and its layers have the lengths and steps that
+/// those heights give.
+#[derive(Debug, Drop)]
+pub struct Tree<F, X, G, M: Matrix<F>, const N: usize> {
+    pub(crate) matrices: Vec<M>,
+    pub(crate) layers: Vec<Vec<X>>,
+    pub(crate) arity_schedule: Vec<usize>,
+    pub(crate) item: PhantomData<(F, G)>,
+    ghost arity: { IsArity N },
+    ghost lawful: { IsLawful (heights (shape (batch_of M.height_of M.width_of M.row_of N matrices.items))) },
+    ghost layer_lengths: { let s = shape (batch_of M.height_of M.width_of M.row_of N matrices.items) in
+        map (λ nodes. length nodes.items) layers.items ≡ map (layer_len s) (range_with_len 0 (suc (levels s))) },
+    ghost schedule: { arity_schedule.items ≡ schedule_in (shape (batch_of M.height_of M.width_of M.row_of N matrices.items)) },
+}
+
+/// A tree over matrices of values `F`, with digests of `D` words `W`, where a node has at most `N` children
+/// (`MerkleTree` in the Rust crate).
+pub type MerkleTree<F, W, M, const N: usize, const D: usize> = Tree<F, [W; D], [[W; D]; N], M, N>;
+
+impl<F: Copy, W: Copy, M: Matrix<F> + Drop, const N: usize, const D: usize> MerkleTree<
+    F,
+    W,
+    M,
+    N,
+    D,
+> {
+    ghost use Rattle.p3_support.specs.Shown.{lent_digest, roots_of};
+    ghost use Rattle.p3_merkle_prover.specs.Parts.{layers_of, matrices_of, tree_batch};
+
+    /// The tree over matrices, which it keeps in input order. Leaf `i` is the hash of the rows `i` of the tallest
+    /// matrices, one after another; a node above compresses its children, and once more with the hash of the rows of
+    /// the matrices whose heights belong to its layer. Default digests stand for children that are missing, for rows
+    /// past the end of their matrices, and in slots that only pad a layer.
+    ///
+    /// `N` is a power of two from 2 to 2^62, and both packings have equally many lanes, at least one. Each layer is
+    /// allocated once. Where the hash or the compression takes several messages a call (its `LANES` are above 1), they are
+    /// laid side by side for that; else as many are taken together as the packing has lanes. The tree is the same.
+    ///
+    /// # Errors
+    ///
+    /// `EmptyBatch` where no matrix has a row; else `TooLarge` for the first height above 2^62; else
+    /// `IncompatibleHeights` for the first height that is not the tallest one halved and rounded up some number of
+    /// times. `OutOfMemory` may come at any time.
+    pub fn new<
+        P: PackedValue<Value = F>,
+        PW: PackedValue<Value = W>,
+        H: CryptographicHasher<P, PW, D>,
+        C: PseudoCompressionFunction<PW, N, D>,
+    >(alloc: Global, hash: &H, compress: &C, leaves: Vec<M>) -> Result<Self, MerkleTreeError>
+        requires arity { IsTrue (is_arity N) }
+        requires lanes { P.WIDTH ≡ PW.WIDTH }
+        requires some_lane { 1 ≤ P.WIDTH }
+        ensures answer { let b = batch_of M.height_of M.width_of M.row_of N leaves.items in
+            AnswersUnlessMemory result (gate_refusal (heights (shape b))) }
+        ensures matrices { IfOk result (λ tree. matrices_of tree ≡ leaves.items) }
+        ensures layers { let f = functions_of (H.hash hash.now) (C.compression compress.now)
+            (replicate D PW.default_value) in
+            let b = batch_of M.height_of M.width_of M.row_of N leaves.items in
+            IfOk result (λ tree. layers_of tree ≡ layers_over f b) }
+    {
+        know_arity::<N>();
+        Self::build::<P, PW, H, C>(alloc, hash, compress, leaves)
+    }
+
+    /// The tree over matrices, as [`Tree::new`] has it.
+    fn build<
+        P: PackedValue<Value = F>,
+        PW: PackedValue<Value = W>,
+        H: CryptographicHasher<P, PW, D>,
+        C: PseudoCompressionFunction<PW, N, D>,
+    >(alloc: Global, hash: &H, compress: &C, leaves: Vec<M>) -> Result<Self, MerkleTreeError>
+        requires arity { IsArity N }
+        requires lanes { P.WIDTH ≡ PW.WIDTH }
+        requires some_lane { 1 ≤ P.WIDTH }
+        ensures answer { let b = batch_of M.height_of M.width_of M.row_of N leaves.items in
+            AnswersUnlessMemory result (gate_refusal (heights (shape b))) }
+        ensures matrices { IfOk result (λ tree. matrices_of tree ≡ leaves.items) }
+        ensures layers { let f = functions_of (H.hash hash.now) (C.compression compress.now)
+            (replicate D PW.default_value) in
+            let b = batch_of M.height_of M.width_of M.row_of N leaves.items in
+            IfOk result (λ tree. layers_of tree ≡ layers_over f b) }
+    {
+        let dimensions = batch_dimensions(alloc, &leaves)?;
+        check_heights(&dimensions)?;
+        let builder = Builder::<(P, PW), H, C, M, [[W; D]; N]> {
+            hash,
+            compress,
+            matrices: &leaves,
+            item: PhantomData,
+        };
+        let Stack {
+            layers,
+            arity_schedule,
+            ..
+        } = builder.layers(alloc, &dimensions)?;
+        Ok(Tree {
+            matrices: leaves,
+            layers,
+            arity_schedule,
+            item: PhantomData,
+        })
+    }
+
+    /// The digest at the top: the one node of the last layer.
+    pub fn root(&self) -> Hash<'_, F, W, D>
+        ensures { slice_get (layers_of self.now) (levels (shape (tree_batch self.now))) ≡
+            Some (lent_digest result ∷ []) }
+    {
+        let top = &self.layers[self.num_layers() - 1];
+        Hash::from(&top[0])
+    }
+
+    /// How many layers there are, leaves and root included: one more than levels. It is at least 1.
+    pub fn num_layers(&self) -> usize
+        ensures count { result ≡ length (layers_of self.now) }
+        ensures levels { result ≡ levels (shape (tree_batch self.now)) + 1 }
+    {
+        self.layers.len()
+    }
+
+    /// The cap of this height: the whole layer `cap_height` levels below the root, padding included. The height is below
+    /// `num_layers()`: 0 is the root alone, the greatest the leaves.
+    ///
+    /// # Errors
+    ///
+    /// `OutOfMemory` alone.
+    pub fn cap(
+        &self,
+        alloc: Global,
+        cap_height: usize,
+    ) -> Result<MerkleCap<F, [W; D]>, MerkleTreeError>
+        requires { cap_height < length (layers_of self.now) }
+        ensures { let layer = slice_get (layers_of self.now)
+            (layer_below_root (shape (tree_batch self.now)) cap_height) in
+            MatchResult result (λ cap. layer ≡ Some (roots_of cap)) (λ e. e ≡ OutOfMemory) }
+    {
+        let layer = &self.layers[self.num_layers() - 1 - cap_height];
+        Ok(MerkleCap::new(Vec::from_slice(alloc, layer)?))
+    }
+}
+
+/// Tells what is known of a number that passes the test of arities. It does nothing at run time.
+fn know_arity<const N: usize>()
+    requires { IsTrue (is_arity N) }
+    ensures { IsArity N }
+{}

@@ -1,7 +1,0 @@
-mod LeadFacts
-pub mod GroupFacts
-mod WalkFacts
-mod LayerFacts
-mod PathFacts
-mod RootFacts
-pub mod StartFacts

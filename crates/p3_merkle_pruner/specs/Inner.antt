@@ -1,3 +1,0 @@
--- What only proofs, and calls that no public contract speaks of, cite.
-pub mod Groups
-pub mod Walks

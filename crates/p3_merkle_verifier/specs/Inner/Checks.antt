@@ -1,0 +1,61 @@
+-- How far the checks of openings have come.
+use Rattle.std.specs.Prelude.{◌≡◌, ◌+◌, ◌-◌, ◌/◌, ◌≤◌, ◌==◌, ℕ, suc, List, [], ◌∷◌, Bool, Option, None, if◌then◌else◌, drop, take}
+use Rattle.p3_merkle_core.specs.Extraction.{last_difference}
+use Rattle.p3_merkle_core.specs.Geometry.{Shape, IsArity, ancestor, layer_exponent}
+use Rattle.p3_merkle_core.specs.Nodes.{Functions}
+use Rattle.p3_merkle_core.specs.Openings.{Opening, opening_of}
+use Rattle.p3_merkle_core.specs.Checks.{Input, inputs_at, path_digest, layer_words, siblings_below, leaf_input}
+use Rattle.p3_support.specs.Shown.{row_lists}
+use Rattle.p3_merkle_verifier.specs.declared.openings.IndexedOpening.{IndexedOpening}
+use Rattle.p3_merkle_verifier.specs.declared.level.CheckedLevel.{CheckedLevel}
+use Rattle.p3_merkle_verifier.specs.declared.level.Progress.{Progress}
+use Rattle.p3_merkle_verifier.specs.Inner.Collisions.{level_inputs}
+
+-- an opening that is lent with its index
+abbrev pub opening_in : {T W : Type 0} → IndexedOpening T (List W) → Opening T W
+opening_in opening = opening_of opening.index (row_lists opening.rows.now) opening.siblings.now
+
+-- so many siblings are left that a step can take its own
+pub record CanStep (arity step used count : ℕ) : Type 0 where
+  pub wide : 2 ≤ step
+  pub narrow : step ≤ arity
+  pub enough : used + (step - 1) ≤ count
+
+-- the siblings of a step, after those that are used
+abbrev pub step_siblings : {X : Type 0} → ℕ → List X → ℕ → List X
+step_siblings step siblings used = take (step - 1) (drop used siblings)
+
+-- one step higher, at a layer of this exponent, with this digest
+pub record IsAbove {X : Type 0} (step exponent : ℕ) (digest : X) (standing above : Progress X) : Type 0 where
+  pub at_exponent : above.exponent ≡ exponent
+  pub at_node : above.node ≡ standing.node / step
+  pub taken : above.used ≡ standing.used + (step - 1)
+  pub reached : above.digest ≡ digest
+
+-- the check of an opening stands at layer l: at the node above the leaf, whose digest is the one that the path reaches
+pub record StandsAt {T W : Type 0} (f : Functions T W) (s : Shape) (o : Opening T W) (l : ℕ) (standing : Progress (List W)) : Type 0 where
+  pub at_exponent : standing.exponent ≡ layer_exponent s l
+  pub at_node : standing.node ≡ ancestor s l o.index
+  pub taken : standing.used ≡ siblings_below s l
+  pub reached : standing.digest ≡ path_digest f s o l
+
+-- a check can climb level l: the arity is one, and there are siblings for this level and those below it
+pub record CanClimb (s : Shape) (l count : ℕ) : Type 0 where
+  pub arity : IsArity s.arity
+  pub enough : siblings_below s (suc l) ≤ count
+
+-- level l of the check of an opening: it has the level's inputs, and above it the check stands at the next layer
+pub record IsLevelOfCheck {T W : Type 0} (f : Functions T W) (s : Shape) (o : Opening T W) (l : ℕ) (level : CheckedLevel (List W) (List (List W))) : Type 0 where
+  pub at_level : level.level ≡ l
+  pub inputs_are : level_inputs l (layer_words s o.rows (suc l)) level ≡ inputs_at f s o l
+  pub stands : StandsAt f s o (suc l) level.above
+
+-- the inputs of the leaf, if the checks of o and u share it and they differ
+abbrev pub leaf_difference : {T W : Type 0} → (Input T W → Input T W → Bool) → Shape → Opening T W → Opening T W → Option (Input T W × Input T W)
+leaf_difference test s o u =
+    if o.index == u.index then last_difference test (leaf_input s o ∷ []) (leaf_input s u ∷ []) else None
+
+-- the last inputs of level l that differ, if the checks of o and u share the level
+abbrev pub level_difference : {T W : Type 0} → (Input T W → Input T W → Bool) → Functions T W → Shape → ℕ → Opening T W → Opening T W → Option (Input T W × Input T W)
+level_difference test f s l o u =
+    if ancestor s (suc l) o.index == ancestor s (suc l) u.index then last_difference test (inputs_at f s o l) (inputs_at f s u l) else None

@@ -1,0 +1,114 @@
+//! What two openings of one cap lead to where they differ: two inputs of one digest.
+
+ghost use Rattle.std.specs.Prelude.{IfOk};
+ghost use Rattle.std.specs.Cmp.Lexicographic.{pointwise};
+ghost use Rattle.p3_merkle_core.specs.Checks.{digests_at, words_at};
+ghost use Rattle.p3_merkle_core.specs.Extraction.{input_eq, last_difference};
+ghost use Rattle.p3_merkle_verifier.specs.Inner.Collisions.{first_words, inputs_above, level_inputs, second_words, IsDifference, Shows};
+
+use crate::level::CheckedLevel;
+use crate::opened::opened_rows;
+use p3_merkle_core::collision::{Collision, InputPair, Place};
+use p3_support::matrix::Dimensions;
+use std::alloc::{AllocError, Global};
+
+/// The rows of two openings, of which those of the matrices of one exponent are compared.
+#[derive(Clone, Copy)]
+pub(crate) struct RowPair<'a, T> {
+    /// The dimensions of all matrices.
+    pub dimensions: &'a [Dimensions],
+    /// The exponent of those whose rows are compared.
+    pub exponent: usize,
+    /// The first opening's rows of all matrices.
+    pub first: &'a [Vec<T>],
+    /// The second's.
+    pub second: &'a [Vec<T>],
+}
+
+/// The digests at a place, where they differ.
+pub(crate) fn differing_digests<T, W: Copy + Eq, const D: usize>(
+    alloc: Global,
+    place: Place,
+    first: &[[W; D]],
+    second: &[[W; D]],
+) -> Result<Option<Collision<T, W, D>>, AllocError>
+    ensures { let same = pointwise (pointwise W.eq) first.now second.now in
+        IfOk result (λ found. IsDifference found same (digests_at place first.now, digests_at place second.now)) }
+{
+    if first == second {
+        return Ok(None);
+    }
+    Ok(Some(InputPair::Digests {
+        place,
+        first: Vec::from_slice(alloc, first)?,
+        second: Vec::from_slice(alloc, second)?,
+    }))
+}
+
+/// The words at a place, where they differ.
+pub(crate) fn differing_words<T: Copy + Eq + Drop, W, const D: usize>(
+    alloc: Global,
+    place: Place,
+    rows: &RowPair<'_, T>,
+) -> Result<Option<Collision<T, W, D>>, AllocError>
+    ensures { let mine = first_words rows.now in
+        let theirs = second_words rows.now in
+        IfOk result (λ found. IsDifference found (pointwise T.eq mine theirs)
+        (words_at place mine, words_at place theirs)) }
+{
+    let first: Vec<T> = opened_rows(rows.dimensions, rows.first, rows.exponent).collect(alloc)?;
+    let second: Vec<T> = opened_rows(rows.dimensions, rows.second, rows.exponent).collect(alloc)?;
+    if first == second {
+        return Ok(None);
+    }
+    Ok(Some(InputPair::Words {
+        place,
+        first,
+        second,
+    }))
+}
+
+/// The last place of a level above its group (the rows, then the pair) at which two checks differ. `rows` are those of
+/// both openings for the next layer.
+fn differing_above<T: Copy + Eq + Drop, W: Copy + Eq, const N: usize, const D: usize>(
+    alloc: Global,
+    rows: &RowPair<'_, T>,
+    first: &CheckedLevel<[W; D], [[W; D]; N]>,
+    second: &CheckedLevel<[W; D], [[W; D]; N]>,
+) -> Result<Option<Collision<T, W, D>>, AllocError>
+    ensures { let mine = inputs_above first.now.level (first_words rows.now) first.now.pair in
+        let theirs = inputs_above first.now.level (second_words rows.now) second.now.pair in
+        IfOk result (λ found. Shows found (last_difference (input_eq T.eq W.eq) mine theirs)) }
+{
+    let (Some(first_pair), Some(second_pair)) = (&first.pair, &second.pair) else {
+        return Ok(None);
+    };
+    let pair = differing_digests(alloc, Place::Pair(first.level), first_pair, second_pair)?;
+    if pair.is_some() {
+        return Ok(pair);
+    }
+    differing_words(alloc, Place::Rows(first.level), rows)
+}
+
+/// The last place of a level at which two checks differ. `rows` are those of both openings for the next layer.
+pub(crate) fn differing_level<T: Copy + Eq + Drop, W: Copy + Eq, const N: usize, const D: usize>(
+    alloc: Global,
+    rows: &RowPair<'_, T>,
+    first: &CheckedLevel<[W; D], [[W; D]; N]>,
+    second: &CheckedLevel<[W; D], [[W; D]; N]>,
+) -> Result<Option<Collision<T, W, D>>, AllocError>
+    ensures { let mine = level_inputs first.now.level (first_words rows.now) first.now in
+        let theirs = level_inputs first.now.level (second_words rows.now) second.now in
+        IfOk result (λ found. Shows found (last_difference (input_eq T.eq W.eq) mine theirs)) }
+{
+    let above = differing_above(alloc, rows, first, second)?;
+    if above.is_some() {
+        return Ok(above);
+    }
+    differing_digests(
+        alloc,
+        Place::Group(first.level),
+        &first.group,
+        &second.group,
+    )
+}

@@ -1,0 +1,76 @@
+//! Extraction: what two openings under one cap lead to.
+
+ghost use Rattle.std.specs.Prelude.{IfOk, replicate};
+ghost use Rattle.std.specs.Option.{option_or};
+ghost use Rattle.p3_merkle_core.specs.Checks.{terms};
+ghost use Rattle.p3_merkle_core.specs.Extraction.{difference_of};
+ghost use Rattle.p3_merkle_core.specs.Refusals.{refusal_under, AnswersUnlessMemory};
+ghost use Rattle.p3_merkle_core.specs.Geometry.{shape_of};
+ghost use Rattle.p3_merkle_core.specs.Nodes.{functions_of};
+ghost use Rattle.p3_merkle_verifier.specs.Inner.Checks.{opening_in};
+ghost use Rattle.p3_merkle_verifier.specs.Inner.Collisions.{Shows};
+ghost use Rattle.p3_merkle_verifier.specs.Inner.Paths.{CanCheck};
+
+use crate::level::Checker;
+use crate::openings::{IndexedOpening, OpeningPair};
+use p3_merkle_core::collision::Collision;
+use p3_merkle_core::error::MerkleTreeError;
+use p3_merkle_core::steps::steps_of;
+use p3_support::compress::PseudoCompressionFunction;
+use p3_support::hasher::CryptographicHasher;
+use p3_support::matrix::Dimensions;
+use p3_support::packed::PackedValue;
+use std::alloc::Global;
+
+impl<
+    'a,
+    P: PackedValue,
+    PW: PackedValue,
+    H: CryptographicHasher<P, PW, D>,
+    C: PseudoCompressionFunction<PW, N, D>,
+    const N: usize,
+    const D: usize,
+> Checker<'a, P, PW, H, C, [[PW::Value; D]; N]> {
+    /// What two openings under the roots of a cap, which is layer `t`, lead to: nothing where their checks agree, and else
+    /// the last place that both share and at which their inputs differ.
+    ///
+    /// `N` is a power of two from 2 to 2^62, and `t` is at most the number of levels.
+    ///
+    /// # Errors
+    ///
+    /// What [`check_opening`](Self::check_opening) answers to the first opening, else what it answers to the second;
+    /// `OutOfMemory` may come at any time.
+    pub fn extraction(
+        &self,
+        alloc: Global,
+        roots: &[[PW::Value; D]],
+        dimensions: &[Dimensions],
+        t: usize,
+        first: IndexedOpening<'_, P::Value, [PW::Value; D]>,
+        second: IndexedOpening<'_, P::Value, [PW::Value; D]>,
+    ) -> Result<Option<Collision<P::Value, PW::Value, D>>, MerkleTreeError>
+        requires { CanCheck (shape_of N dimensions.now) t }
+        ensures answer { let f = functions_of (H.hash self.now.hash.now) (C.compression self.now.compress.now)
+            (replicate D PW.default_value) in
+            let refusal = refusal_under PW.Value.eq (terms f (shape_of N dimensions.now) t) roots.now in
+            AnswersUnlessMemory result
+            (option_or (refusal (opening_in first.entry)) (refusal (opening_in second.entry))) }
+        ensures found { let f = functions_of (H.hash self.now.hash.now) (C.compression self.now.compress.now)
+            (replicate D PW.default_value) in
+            let c = terms f (shape_of N dimensions.now) t in
+            let difference = difference_of P.Value.eq PW.Value.eq c (opening_in first.entry)
+            (opening_in second.entry) in
+            IfOk result (λ found. Shows found difference) }
+    {
+        let steps = steps_of(dimensions, N);
+        self.check_opening(roots, &steps, t, first)?;
+        self.check_opening(roots, &steps, t, second)?;
+        let openings = OpeningPair::<P::Value, [PW::Value; D], N> {
+            dimensions,
+            t,
+            first,
+            second,
+        };
+        Ok(self.last_difference(alloc, &openings)?)
+    }
+}

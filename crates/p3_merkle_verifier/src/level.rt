@@ -1,0 +1,203 @@
+//! One level of a check: what it compresses, and where the check stands above it.
+
+ghost use Rattle.std.specs.Prelude.{insert, ◌≡◌, ◌+◌, ◌-◌, ◌%◌, ◌^◌, ◌<◌, length, replicate, zip};
+ghost use Rattle.p3_merkle_core.specs.Geometry.{layer_exponent, shape_of};
+ghost use Rattle.p3_merkle_core.specs.Checks.{words_of_exponent};
+ghost use Rattle.p3_support.specs.Batches.{heights_of};
+ghost use Rattle.p3_merkle_core.specs.Nodes.{functions_of, padded};
+ghost use Rattle.p3_merkle_verifier.specs.Inner.Checks.{opening_in, step_siblings, CanClimb, CanStep, IsAbove, IsLevelOfCheck, StandsAt};
+ghost use Rattle.p3_merkle_verifier.specs.Inner.Paths.{CanReach};
+ghost use Rattle.p3_support.specs.Shown.{row_lists};
+
+use crate::opened::opened_slices;
+use crate::openings::IndexedOpening;
+use p3_merkle_core::group::group_with;
+use p3_merkle_core::steps::{StepUp, Steps};
+use p3_support::compress::PseudoCompressionFunction;
+use p3_support::hasher::CryptographicHasher;
+use p3_support::matrix::Dimensions;
+use p3_support::packed::PackedValue;
+use std::marker::PhantomData;
+
+/// How far the check of an opening has come.
+#[derive(Clone, Copy)]
+pub struct Progress<X> {
+    /// The exponent of the layer that is reached.
+    pub exponent: usize,
+    /// The node above the leaf in this layer.
+    pub node: usize,
+    /// How many of the siblings are compressed already.
+    pub used: usize,
+    /// The digest that is reached.
+    pub digest: X,
+}
+
+impl<W: Copy, const D: usize> Progress<[W; D]> {
+    /// The group of the next step: the digest that is reached at its place among its siblings, then default digests.
+    fn group<const N: usize>(
+        &self,
+        default_digest: [W; D],
+        step: usize,
+        siblings: &[[W; D]],
+    ) -> [[W; D]; N]
+        requires { CanStep N step self.now.used (length siblings.now) }
+        ensures { let others = step_siblings step siblings.now self.now.used in
+            result ≡ padded N default_digest (insert others (self.now.node % step) self.now.digest) }
+    {
+        let end = self.used + (step - 1);
+        let others = &siblings[self.used..end];
+        group_with::<W, N, D>(default_digest, self.digest, self.node % step, others)
+    }
+}
+
+impl<X: Copy> Progress<X> {
+    /// The same check one step higher, at a layer of this exponent, where this digest is reached.
+    fn above(&self, step: usize, exponent: usize, digest: X) -> Progress<X>
+        requires step { 0 < step }
+        requires fits { self.now.used + (step - 1) < 2 ^ 64 }
+        ensures { IsAbove step exponent digest self.now result }
+    {
+        Progress {
+            exponent,
+            node: self.node / step,
+            used: self.used + (step - 1),
+            digest,
+        }
+    }
+}
+
+/// A level of the check of an opening: what it compresses, and where the check stands above it.
+#[derive(Clone, Copy)]
+pub struct CheckedLevel<X, G> {
+    /// The level, counted from the leaves.
+    pub level: usize,
+    /// The digest that was reached at its place among its siblings, then default digests.
+    pub group: G,
+    /// The group's digest and that of rows, where matrices belong to the layer above.
+    pub pair: Option<G>,
+    /// How far the check has come above the level.
+    pub above: Progress<X>,
+}
+
+/// The digest of the rows of the matrices of this exponent, one after another.
+pub fn opened_rows_digest<
+    P: PackedValue,
+    PW: PackedValue,
+    H: CryptographicHasher<P, PW, D>,
+    const D: usize,
+>(hash: &H, dimensions: &[Dimensions], rows: &[Vec<P::Value>], exponent: usize) -> [PW::Value; D]
+    ensures { let rows = zip (heights_of dimensions.now) (row_lists rows.now) in
+        result ≡ H.hash hash.now (words_of_exponent exponent rows) }
+{
+    hash.hash_iter_slices(opened_slices(dimensions, rows, exponent))
+}
+
+/// The check of an opening at its leaf.
+pub(crate) fn leaf<
+    P: PackedValue,
+    PW: PackedValue,
+    H: CryptographicHasher<P, PW, D>,
+    const D: usize,
+>(
+    hash: &H,
+    steps: &Steps<'_>,
+    opening: IndexedOpening<'_, P::Value, [PW::Value; D]>,
+) -> Progress<[PW::Value; D]>
+    ensures exponent { result.exponent ≡ layer_exponent (shape_of steps.now.arity steps.now.dimensions.now) 0 }
+    ensures node { result.node ≡ opening.entry.index }
+    ensures used { result.used ≡ 0 }
+    ensures digest { let rows = zip (heights_of steps.now.dimensions.now) (row_lists opening.entry.rows.now) in
+        result.digest ≡ H.hash hash.now (words_of_exponent result.exponent rows) }
+{
+    let exponent = steps.exponent;
+    Progress {
+        exponent,
+        node: opening.index,
+        used: 0,
+        digest: opened_rows_digest::<P, PW, H, D>(hash, steps.dimensions, opening.rows, exponent),
+    }
+}
+
+/// Tells that an opening with its siblings up to layer `t` has those of each level below it. It does nothing at run time.
+pub(crate) fn tell_siblings<X>(
+    dimensions: &[Dimensions],
+    arity: usize,
+    t: usize,
+    level: usize,
+    siblings: &[X],
+)
+    requires reach { CanReach (shape_of arity dimensions.now) t (length siblings.now) }
+    requires below { level < t }
+    ensures { CanClimb (shape_of arity dimensions.now) level (length siblings.now) }
+{}
+
+/// Checks openings, with a hash for their rows and a compression of `N` digests for nodes.
+#[derive(Drop)]
+pub struct Checker<'a, P, PW, H, C, G> {
+    /// The hash of rows.
+    pub hash: &'a H,
+    /// The compression of the children of a node.
+    pub compress: &'a C,
+    /// How words are packed, and the groups that the compression takes.
+    pub item: PhantomData<(P, PW, G)>,
+}
+
+impl<
+    'a,
+    P: PackedValue,
+    PW: PackedValue,
+    H: CryptographicHasher<P, PW, D>,
+    C: PseudoCompressionFunction<PW, N, D>,
+    const N: usize,
+    const D: usize,
+> Checker<'a, P, PW, H, C, [[PW::Value; D]; N]> {
+    /// The level above the layer where the check of an opening stands.
+    pub(crate) fn checked_level(
+        &self,
+        steps: &Steps<'_>,
+        level: usize,
+        opening: IndexedOpening<'_, P::Value, [PW::Value; D]>,
+        standing: &Progress<[PW::Value; D]>,
+    ) -> CheckedLevel<[PW::Value; D], [[PW::Value; D]; N]>
+        requires arity { steps.now.arity ≡ N }
+        requires level { level < steps.now.num_levels }
+        requires stands { let f = functions_of (H.hash self.now.hash.now) (C.compression self.now.compress.now)
+            (replicate D PW.default_value) in
+            StandsAt f (shape_of N steps.now.dimensions.now) (opening_in opening) level standing.now }
+        requires climbs { CanClimb (shape_of N steps.now.dimensions.now) level (length opening.siblings.now) }
+        ensures { let f = functions_of (H.hash self.now.hash.now) (C.compression self.now.compress.now)
+            (replicate D PW.default_value) in
+            IsLevelOfCheck f (shape_of N steps.now.dimensions.now) (opening_in opening.entry) level result }
+    {
+        let StepUp {
+            step,
+            has_rows,
+            exponent,
+        } = steps.up(N, level, standing.exponent);
+        let default_digest = [PW::Value::default(); D];
+        let group = standing.group::<N>(default_digest, step, opening.siblings);
+        let node = self.compress.compress(group);
+        if has_rows {
+            let rows = [opened_rows_digest::<P, PW, H, D>(
+                self.hash,
+                steps.dimensions,
+                opening.rows,
+                exponent,
+            )];
+            let pair = group_with::<PW::Value, N, D>(default_digest, node, 0, &rows);
+            CheckedLevel {
+                level,
+                group,
+                pair: Some(pair),
+                above: standing.above(step, exponent, self.compress.compress(pair)),
+            }
+        } else {
+            CheckedLevel {
+                level,
+                group,
+                pair: None,
+                above: standing.above(step, exponent, node),
+            }
+        }
+    }
+}

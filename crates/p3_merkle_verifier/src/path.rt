@@ -1,0 +1,97 @@
+//! The check of one opening: its form first, then the digests on its path, then the cap's entry. It takes no memory.
+
+ghost use Rattle.std.specs.Prelude.{◌≡◌, ◌==◌, false, length, replicate, slice_get, unwrap_or};
+ghost use Rattle.std.specs.Option.{option_map};
+ghost use Rattle.p3_merkle_core.specs.Geometry.{ancestor, shape_of};
+ghost use Rattle.p3_merkle_core.specs.Nodes.{functions_of};
+ghost use Rattle.p3_merkle_core.specs.Checks.{path_digest, terms};
+ghost use Rattle.p3_merkle_core.specs.Refusals.{answer_under, is_entry as is_entry_of};
+ghost use Rattle.p3_merkle_verifier.specs.Inner.Checks.{opening_in};
+ghost use Rattle.p3_merkle_verifier.specs.Inner.Paths.{CanCheck, CanReach};
+
+use crate::form::check_form;
+use crate::level::{Checker, leaf, tell_siblings};
+use crate::openings::IndexedOpening;
+use p3_merkle_core::error::MerkleTreeError;
+use p3_merkle_core::steps::Steps;
+use p3_support::compress::PseudoCompressionFunction;
+use p3_support::hasher::CryptographicHasher;
+use p3_support::packed::PackedValue;
+
+impl<
+    'a,
+    P: PackedValue,
+    PW: PackedValue,
+    H: CryptographicHasher<P, PW, D>,
+    C: PseudoCompressionFunction<PW, N, D>,
+    const N: usize,
+    const D: usize,
+> Checker<'a, P, PW, H, C, [[PW::Value; D]; N]> {
+    /// The digest that the check of an opening reaches at layer `t`, and the node of that layer above the leaf.
+    ///
+    /// The opening has its siblings up to layer `t`, `N` is a power of two from 2 to 2^62, and `t` is at most the number
+    /// of levels. The call takes no memory.
+    pub(crate) fn path_digest(
+        &self,
+        steps: &Steps<'_>,
+        t: usize,
+        opening: IndexedOpening<'_, P::Value, [PW::Value; D]>,
+    ) -> ([PW::Value; D], usize)
+        requires arity { steps.now.arity ≡ N }
+        requires reach { CanReach (shape_of N steps.now.dimensions.now) t (length opening.siblings.now) }
+        ensures digest { let f = functions_of (H.hash self.now.hash.now) (C.compression self.now.compress.now)
+            (replicate D PW.default_value) in
+            result.0 ≡ path_digest f (shape_of N steps.now.dimensions.now) (opening_in opening.entry) t }
+        ensures node { result.1 ≡ ancestor (shape_of N steps.now.dimensions.now) t opening.entry.index }
+    {
+        let mut standing = leaf::<P, PW, H, D>(self.hash, steps, opening);
+        for level in 0..t {
+            tell_siblings(steps.dimensions, N, t, level, opening.siblings);
+            standing = self.checked_level(steps, level, opening, &standing).above;
+        }
+        (standing.digest, standing.node)
+    }
+
+    /// Checks an opening against the roots of a cap, which is layer `t`: whether its form is right, and its path leads to
+    /// the root above the leaf.
+    ///
+    /// `N` is a power of two from 2 to 2^62, and `t` is at most the number of levels. The call takes no memory.
+    ///
+    /// # Errors
+    ///
+    /// What [`check_form`] answers; else `CapMismatch` where there is no root above the leaf, or it is not the digest that
+    /// the check reaches.
+    pub fn check_opening(
+        &self,
+        roots: &[[PW::Value; D]],
+        steps: &Steps<'_>,
+        t: usize,
+        opening: IndexedOpening<'_, P::Value, [PW::Value; D]>,
+    ) -> Result<(), MerkleTreeError>
+        requires arity { steps.now.arity ≡ N }
+        requires check { CanCheck (shape_of N steps.now.dimensions.now) t }
+        ensures { let f = functions_of (H.hash self.now.hash.now) (C.compression self.now.compress.now)
+            (replicate D PW.default_value) in
+            result ≡ answer_under PW.Value.eq (terms f (shape_of N steps.now.dimensions.now) t) roots.now
+            (opening_in opening.entry) }
+    {
+        let (index, num_siblings) = (opening.index, opening.siblings.len());
+        check_form(steps, t, index, opening.rows, num_siblings)?;
+        let (digest, node) = self.path_digest(steps, t, opening);
+        if is_entry(roots, node, &digest) {
+            Ok(())
+        } else {
+            Err(MerkleTreeError::CapMismatch)
+        }
+    }
+}
+
+/// Whether the entry `node` of some roots is this digest.
+pub(crate) fn is_entry<X: PartialEq>(roots: &[X], node: usize, digest: &X) -> bool
+    ensures { result ≡ is_entry_of X.eq roots.now node digest.now }
+{
+    match roots.get(node) {
+        Some(root) => *root == *digest,
+        None => false,
+    }
+}

@@ -1,0 +1,86 @@
+//! The checks of two openings, level by level and side by side, and the last place at which they differ.
+
+ghost use Rattle.std.specs.Prelude.{◌≡◌, IfOk, replicate};
+ghost use Rattle.p3_merkle_core.specs.Checks.{terms};
+ghost use Rattle.p3_merkle_core.specs.Extraction.{difference_of, input_eq};
+ghost use Rattle.p3_merkle_core.specs.Geometry.{shape_of};
+ghost use Rattle.p3_merkle_core.specs.Nodes.{functions_of};
+ghost use Rattle.p3_merkle_verifier.specs.Inner.Checks.{leaf_difference, opening_in};
+ghost use Rattle.p3_merkle_verifier.specs.Inner.Collisions.{Shows};
+
+use crate::collision::{differing_level, differing_words};
+use crate::level::{Checker, leaf, tell_siblings};
+use crate::openings::OpeningPair;
+use p3_merkle_core::collision::{Collision, Place};
+use p3_merkle_core::geometry::{exponent_of, tallest_of};
+use p3_merkle_core::steps::steps_of;
+use p3_support::compress::PseudoCompressionFunction;
+use p3_support::hasher::CryptographicHasher;
+use p3_support::packed::PackedValue;
+use std::alloc::{AllocError, Global};
+
+/// The words of the leaf, if the checks of both openings share it and they differ there.
+fn leaf_difference<T: Copy + Eq + Drop, W: Copy + Eq, const N: usize, const D: usize>(
+    alloc: Global,
+    openings: &OpeningPair<'_, T, [W; D], N>,
+) -> Result<Option<Collision<T, W, D>>, AllocError>
+    ensures { let o = opening_in openings.now.first in
+        let u = opening_in openings.now.second in
+        let s = shape_of N openings.now.dimensions.now in
+        IfOk result (λ found. Shows found (leaf_difference (input_eq T.eq W.eq) s o u)) }
+{
+    if openings.first.index != openings.second.index {
+        return Ok(None);
+    }
+    let exponent = exponent_of(tallest_of(openings.dimensions));
+    differing_words(alloc, Place::Leaf, &openings.rows_of_exponent(exponent))
+}
+
+impl<
+    'a,
+    P: PackedValue,
+    PW: PackedValue,
+    H: CryptographicHasher<P, PW, D>,
+    C: PseudoCompressionFunction<PW, N, D>,
+    const N: usize,
+    const D: usize,
+> Checker<'a, P, PW, H, C, [[PW::Value; D]; N]> {
+    /// The last place that the checks of two openings share and at which they differ, with both inputs. Memory is taken
+    /// at shared places alone: for the rows there, and for inputs that differ, of which the last found are kept.
+    ///
+    /// # Errors
+    ///
+    /// `AllocError` where there is no memory.
+    pub fn last_difference(
+        &self,
+        alloc: Global,
+        openings: &OpeningPair<'_, P::Value, [PW::Value; D], N>,
+    ) -> Result<Option<Collision<P::Value, PW::Value, D>>, AllocError>
+        ensures { let f = functions_of (H.hash self.now.hash.now) (C.compression self.now.compress.now)
+            (replicate D PW.default_value) in
+            let c = terms f (shape_of N openings.now.dimensions.now) openings.now.t in
+            let difference = difference_of P.Value.eq PW.Value.eq c (opening_in openings.now.first)
+            (opening_in openings.now.second) in
+            IfOk result (λ found. Shows found difference) }
+    {
+        let dimensions = openings.dimensions;
+        let steps = steps_of(dimensions, N);
+        let mut first = leaf::<P, PW, H, D>(self.hash, &steps, openings.first);
+        let mut second = leaf::<P, PW, H, D>(self.hash, &steps, openings.second);
+        let mut last = leaf_difference(alloc, openings)?;
+        for level in 0..openings.t {
+            tell_siblings(dimensions, N, openings.t, level, openings.first.siblings);
+            tell_siblings(dimensions, N, openings.t, level, openings.second.siblings);
+            let mine = self.checked_level(&steps, level, openings.first, &first);
+            let theirs = self.checked_level(&steps, level, openings.second, &second);
+            if mine.above.node == theirs.above.node {
+                let rows = openings.rows_of_exponent(mine.above.exponent);
+                let found = differing_level(alloc, &rows, &mine, &theirs)?;
+                last = found.or(last);
+            }
+            first = mine.above;
+            second = theirs.above;
+        }
+        Ok(last)
+    }
+}
