@@ -326,7 +326,7 @@ def known(fields):
 
 
 def lawful(tallest, width):
-    """One or two matrices of a width, of every lawful height up to a bound; the second height is 0 where there is one."""
+    """One or two matrices of a width, of every lawful height up to a bound. A second height of 0 is no matrix."""
     pairs = [(first, second) for first in range(tallest + 1) for second in range(tallest + 1)]
     batches = [[(width, first)] + [(width, second)] * (second > 0) for first, second in pairs]
     scheme = Scheme(2, 0, geometry.LOWERED)

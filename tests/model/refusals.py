@@ -1,7 +1,7 @@
 """Why openings are refused: tables whose rows are looked at in order. The first row that holds is answered.
 
-Each row of a table yields, of a claim, the name of what is wrong and the text of the error. It does so whatever the other
-rows say, so that it can be told which of them hold together. Where a row says something of a path that can't be
+Each row of a table yields, of a claim, the name of what is wrong and the text of the error. It does so whatever the
+other rows say, so that it can be told which of them hold together. Where a row says something of a path that can't be
 followed, it does not hold.
 """
 
@@ -252,7 +252,8 @@ PRUNED = RESTORED + [cap_entries]
 SALTED = [rows_number, widths, salts_number, widened, gate, siblings_number]
 SALTED += [joined_with_salts(row) for row in (salt_widths, index_bound, cap_entry)]
 SALTED_PRUNED = [salt_sets_number, salted_sets, widened, gate, sets_number, no_query, highest_index]
-SALTED_PRUNED += [joined_sets_with_salts(row) for row in (repeats, digests_number, salt_set_widths, groups, cap_entries)]
+JOINED_SETS = [repeats, digests_number, salt_set_widths, groups, cap_entries]
+SALTED_PRUNED += [joined_sets_with_salts(row) for row in JOINED_SETS]
 
 
 def faults(table, claim):
