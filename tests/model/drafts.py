@@ -53,9 +53,7 @@ class Draft:
 
     def is_written(self):
         """Whether the notation has a form for it: there is none for one row set of one empty row."""
-        return [[]] not in ([self.rows, self.salts] if not self.is_pruned else []) and not (
-            self.is_pruned and [[[]]] in (self.rows, self.salts)
-        )
+        return not self.is_pruned or [[[]]] not in (self.rows, self.salts)
 
     def line(self):
         """The fields of its case, without the answer."""

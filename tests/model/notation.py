@@ -1,8 +1,20 @@
 """How cases are written: numbers, rows, row sets, dimensions and matrices, read and printed."""
 
 
+def repeated(word, read):
+    """What a word stands for; with * and a count behind it, so often."""
+    value, _, count = word.partition("*")
+    return read(value.strip()) * int(count or 1)
+
+
+def span(word):
+    """A number, or the numbers from one up to another that have .. between them."""
+    first, dots, end = word.partition("..")
+    return list(range(int(first), int(end))) if dots else [int(first)]
+
+
 def numbers(text):
-    return [] if text == "-" else [int(word) for word in text.split()]
+    return [] if text == "-" else [value for word in text.split() for value in repeated(word, span)]
 
 
 def rows(text):
@@ -13,9 +25,13 @@ def row_sets(text):
     return [] if text == "-" else [rows(one.strip()) for one in text.split("/")]
 
 
+def size(word):
+    width, height = word.split("x")
+    return [(int(width), int(height))]
+
+
 def dimensions(text):
-    pairs = [] if text == "none" else [word.split("x") for word in text.split()]
-    return [(int(width), int(height)) for width, height in pairs]
+    return [] if text == "none" else [value for word in text.split() for value in repeated(word, size)]
 
 
 def matrices(text):

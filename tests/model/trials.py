@@ -1,5 +1,7 @@
 """Random trials: a batch of matrices, and cases of every kind about it."""
 
+import re
+
 import cases
 import notation
 import program
@@ -124,15 +126,26 @@ def check_collision(arity, answer):
 
 def opens_other(trial, honest, other):
     """Whether another row or salt of an authenticated matrix is opened at one index by both."""
-    shape = trial.tree.shape
-    def opened(draft):
-        sets = zip(draft.index, draft.rows, draft.salts or draft.rows) if draft.is_pruned else [
-            (draft.index, draft.rows, draft.salts or draft.rows)]
-        return {(matrix, shape.row(matrix, index)): (rows[matrix], salts[matrix])
-                for index, rows, salts in sets
-                for matrix in range(len(trial.dimensions)) if shape.layers[matrix] <= shape.cap_layer}
-    ours, theirs = opened(honest), opened(other)
+    ours, theirs = opened_rows(trial.tree.shape, honest), opened_rows(trial.tree.shape, other)
     return any(place in theirs and theirs[place] != row for place, row in ours.items())
+
+
+def opened_rows(shape, draft):
+    """The rows of authenticated matrices that an opening shows, each with its salts."""
+    salts = draft.rows if draft.salts is None else draft.salts
+    sets = zip(draft.index, draft.rows, salts) if draft.is_pruned else [(draft.index, draft.rows, salts)]
+    own = [matrix for matrix, layer in enumerate(shape.layers) if layer <= shape.cap_layer]
+    return {
+        (matrix, shape.row(matrix, index)): (rows[matrix], drawn[matrix])
+        for index, rows, drawn in sets
+        for matrix in own
+    }
+
+
+def refusal_name(answer):
+    """The name of a refusal: what its text begins with, up to the first number."""
+    text = answer.removeprefix("malformed pruned proof: ")
+    return text if text.isalpha() else re.split("[0-9:]", text, maxsplit=1)[0].strip()
 
 
 def count_accepted(trial, honest, other):
@@ -160,7 +173,7 @@ def add_damaged(trial, honest):
     if answer == "accepted":
         counted = count_accepted(trial, honest, other)
     else:
-        counted = "damaged, refused: " + answer.split(":")[0].split(" incompatible")[0].rstrip("0123456789 ")
+        counted = f"damaged, refused: {refusal_name(answer)}"
     trial.add(line, counted)
     if other.is_pruned and other.salts is None:
         fields = line.split(" | ")
