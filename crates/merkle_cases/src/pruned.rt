@@ -3,6 +3,8 @@
 ghost use Rattle.std.specs.Prelude.{◌≤◌, IsTrue};
 ghost use Rattle.p3_merkle_core.specs.Geometry.{is_arity};
 
+use crate::agreement::agrees;
+use crate::extract::collision_of_leaves;
 use crate::fields::{Fault, Fields};
 use crate::scheme::{FoldCap, FoldScheme, FoldTree, Rows, committed, fold_scheme};
 use crate::text::Answer;
@@ -63,6 +65,9 @@ fn write_opened<const N: usize>(
     Ok(())
 }
 
+/// How many queries an opening has at most whose queries are compared each with each.
+pub const LONG: usize = 64;
+
 /// The opening of several leaves: queries with the rows of each, and a proof for all of them.
 #[derive(Drop)]
 pub struct LeavesOpening {
@@ -82,6 +87,21 @@ impl LeavesOpening {
             rows,
             proof: PrunedProof { sibling_hashes },
         }
+    }
+
+    /// The opening of no leaf.
+    pub fn none(alloc: Global) -> LeavesOpening {
+        let sibling_hashes = Vec::new(alloc);
+        LeavesOpening {
+            indices: Vec::new(alloc),
+            rows: Vec::new(alloc),
+            proof: PrunedProof { sibling_hashes },
+        }
+    }
+
+    /// Whether it has too many queries to compare each with each.
+    pub fn is_long(&self) -> bool {
+        self.indices.len() > LONG
     }
 }
 
@@ -119,7 +139,7 @@ fn restored_verdict<const N: usize>(
 }
 
 /// `verify_pruned | ARITY | CAP | ROOTS | DIMENSIONS | INDICES | ROW SETS | DIGESTS | ANSWER`: the check of a pruned opening,
-/// which answers what the checks of its queries with their restored paths do.
+/// which answers what the checks of its queries with their restored paths do, and what the extractions do.
 pub fn verify_pruned<const N: usize>(
     alloc: Global,
     fields: &mut Fields<'_>,
@@ -140,12 +160,36 @@ pub fn verify_pruned<const N: usize>(
         &opening.rows,
         &opening.proof,
     );
-    if verdict == restored_verdict(alloc, &scheme, &cap, &dimensions, &opening) {
-        answer.verdict(&verdict);
-        Ok(())
-    } else {
-        Err(Fault::Wrong("the restored paths are answered otherwise"))
+    if verdict != restored_verdict(alloc, &scheme, &cap, &dimensions, &opening) {
+        return Err(Fault::Wrong("the restored paths are answered otherwise"));
     }
+    if !extracts_alike(alloc, &scheme, &cap, &dimensions, &opening, &verdict) {
+        return Err(Fault::Wrong("an extraction is answered otherwise"));
+    }
+    answer.verdict(&verdict);
+    Ok(())
+}
+
+/// Whether the extractions from an opening and that of no leaf, in either order, and from it and itself answer what its
+/// check does.
+fn extracts_alike<const N: usize>(
+    alloc: Global,
+    scheme: &FoldScheme<N>,
+    cap: &FoldCap,
+    dimensions: &[Dimensions],
+    opening: &LeavesOpening,
+    verdict: &Result<(), MerkleTreeError>,
+) -> bool {
+    let none = LeavesOpening::none(alloc);
+    let first = collision_of_leaves(alloc, scheme, cap, dimensions, opening, &none);
+    let second = collision_of_leaves(alloc, scheme, cap, dimensions, &none, opening);
+    agrees(verdict, &first)
+        && agrees(verdict, &second)
+        && (opening.is_long()
+            || agrees(
+                verdict,
+                &collision_of_leaves(alloc, scheme, cap, dimensions, opening, opening),
+            ))
 }
 
 /// `restore | ARITY | CAP | DIMENSIONS | INDICES | ROW SETS | DIGESTS | PATHS`: the index and the siblings of each query.

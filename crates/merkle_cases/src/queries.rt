@@ -53,7 +53,7 @@ fn every_list(reader: &mut Reader, leaves: usize, len: usize) -> Vec<Vec<usize>>
 }
 
 /// The generator of a seed of one byte.
-fn generator_of(reader: &mut Reader, seed: usize) -> ChaCha20Rng {
+pub fn generator_of(reader: &mut Reader, seed: usize) -> ChaCha20Rng {
     let byte = match u8::try_from(seed) {
         Ok(byte) => byte,
         Err(_) => {
