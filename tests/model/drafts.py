@@ -111,12 +111,12 @@ def row_list(random, draft, values):
     return random.choice(values) if values else None
 
 
-def lengthen(random, draft, values, added):
+def lengthen(values, added):
     if values is not None:
         values.append(added)
 
 
-def shorten(random, draft, values):
+def shorten(random, values):
     if values:
         values.pop(random.randrange(len(values)))
 
@@ -124,24 +124,24 @@ def shorten(random, draft, values):
 def change_rows_number(random, draft):
     rows = row_list(random, draft, draft.rows)
     if random.random() < 0.5:
-        lengthen(random, draft, rows, [1])
+        lengthen(rows, [1])
     else:
-        shorten(random, draft, rows)
+        shorten(random, rows)
 
 
 def change_salts_number(random, draft):
     if draft.salts is not None:
         salts = row_list(random, draft, draft.salts)
         if random.random() < 0.5:
-            lengthen(random, draft, salts, [1])
+            lengthen(salts, [1])
         else:
-            shorten(random, draft, salts)
+            shorten(random, salts)
 
 
 def change_row_width(random, draft):
     rows = row_list(random, draft, draft.rows)
     if rows:
-        lengthen(random, draft, random.choice(rows), 7)
+        lengthen(random.choice(rows), 7)
 
 
 def change_salt_width(random, draft):
@@ -149,9 +149,9 @@ def change_salt_width(random, draft):
     if salts:
         own = random.choice(salts)
         if random.random() < 0.5:
-            lengthen(random, draft, own, 7)
+            lengthen(own, 7)
         else:
-            shorten(random, draft, own)
+            shorten(random, own)
 
 
 def change_word(random, draft):
@@ -165,7 +165,7 @@ def change_siblings(random, draft):
     if random.random() < 0.5:
         draft.siblings.append(random.randrange(9))
     else:
-        shorten(random, draft, draft.siblings)
+        shorten(random, draft.siblings)
 
 
 def change_index(random, draft):
@@ -187,17 +187,17 @@ def another_root(random, draft):
 
 def change_sets_number(random, draft):
     if draft.is_pruned and random.random() < 0.5:
-        lengthen(random, draft, draft.rows, [[1]])
+        lengthen(draft.rows, [[1]])
     elif draft.is_pruned:
-        shorten(random, draft, draft.rows)
+        shorten(random, draft.rows)
 
 
 def change_salt_sets_number(random, draft):
     if draft.is_pruned and draft.salts is not None:
         if random.random() < 0.5:
-            lengthen(random, draft, draft.salts, [[1]])
+            lengthen(draft.salts, [[1]])
         else:
-            shorten(random, draft, draft.salts)
+            shorten(random, draft.salts)
 
 
 def change_both_sets(random, draft):

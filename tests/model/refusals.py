@@ -48,18 +48,23 @@ def with_salts(rows, salts):
     return [row + own for row, own in zip(rows, salts)] + rows[len(salts) :]
 
 
-def gate(claim):
-    """Heights that no tree has."""
-    tallest = claim.shape.tallest
-    if tallest == 0:
+def no_rows(claim):
+    if claim.shape.tallest == 0:
         yield "no rows at all", texts.EMPTY_BATCH
+
+
+def past_limit(claim):
     for matrix, height in enumerate(claim.heights):
         if height > MAX_HEIGHT:
             yield "a height past the limit", texts.too_large(matrix, height)
             break
-    for height in claim.heights:
+
+
+def off_ladder(claim):
+    tallest = claim.shape.tallest
+    for height in claim.heights if tallest else []:
         expected = expected_height(tallest, height)
-        if tallest and height != expected:
+        if height != expected:
             text = texts.heights(height, tallest, expected, halvings(tallest, height))
             yield "a height off the ladder", text
             break
@@ -245,13 +250,14 @@ def joined_sets_with_salts(row):
     return lambda claim: row(claim.plain_pruned())
 
 
-REPLAY = [gate, index_bound, siblings_number]
-SINGLE = [rows_number, gate, siblings_number, widths, index_bound, cap_entry]
-RESTORED = [gate, sets_number, no_query, highest_index, repeats, digests_number, sets, groups]
+HEIGHTS = [no_rows, past_limit, off_ladder]
+REPLAY = [*HEIGHTS, index_bound, siblings_number]
+SINGLE = [rows_number, *HEIGHTS, siblings_number, widths, index_bound, cap_entry]
+RESTORED = [*HEIGHTS, sets_number, no_query, highest_index, repeats, digests_number, sets, groups]
 PRUNED = RESTORED + [cap_entries]
-SALTED = [rows_number, widths, salts_number, widened, gate, siblings_number]
+SALTED = [rows_number, widths, salts_number, widened, *HEIGHTS, siblings_number]
 SALTED += [joined_with_salts(row) for row in (salt_widths, index_bound, cap_entry)]
-SALTED_PRUNED = [salt_sets_number, salted_sets, widened, gate, sets_number, no_query, highest_index]
+SALTED_PRUNED = [salt_sets_number, salted_sets, widened, *HEIGHTS, sets_number, no_query, highest_index]
 JOINED_SETS = [repeats, digests_number, salt_set_widths, groups, cap_entries]
 SALTED_PRUNED += [joined_sets_with_salts(row) for row in JOINED_SETS]
 

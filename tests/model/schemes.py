@@ -3,7 +3,7 @@
 from geometry import shape_of
 from nodes import Fold, Tree
 from pruned import digests_of
-from refusals import Claim, gate, widened
+from refusals import HEIGHTS, Claim, refusal
 from salts import Generator, salts_of
 
 
@@ -26,12 +26,7 @@ class Scheme:
     def height_refusal(self, heights):
         """Why no tree has these heights; none where one has."""
         columns = Claim(self, [], [(1, height) for height in heights], 0, [], [])
-        return next((text for _, text in gate(columns)), None)
-
-    def commit_refusal(self, dimensions):
-        """Why a salted commit refuses these dimensions; none where it does not."""
-        claim = Claim(self, [], dimensions, 0, [], [])
-        return next((text for row in (gate, widened) for _, text in row(claim)), None)
+        return refusal(HEIGHTS, columns)
 
     def opening(self, tree, index):
         """The honest opening of a leaf: rows and siblings."""

@@ -144,8 +144,9 @@ def opened_rows(shape, draft):
 
 def refusal_name(answer):
     """The name of a refusal: what its text begins with, up to the first number."""
-    text = answer.removeprefix("malformed pruned proof: ")
-    return text if text.isalpha() else re.split("[0-9:]", text, maxsplit=1)[0].strip()
+    if answer.startswith("matrix"):
+        return "a height off the ladder" if "incompatible" in answer else "a size past the limit"
+    return re.split("[0-9:]", answer.removeprefix("malformed pruned proof: "), maxsplit=1)[0].strip()
 
 
 def count_accepted(trial, honest, other):
