@@ -357,6 +357,8 @@ def query_lists(text, leaves):
     words = text.split()
     if words[0] == "every":
         return every_list(leaves, int(words[1]))
+    if words[:2] == ["up", "to"]:
+        return [one for length in range(int(words[2]) + 1) for one in every_list(leaves, length)]
     if words[0] != "random":
         return [notation.numbers(one.strip()) for one in text.split(";")]
     seed, count, shortest, longest = map(int, words[1:])
@@ -364,14 +366,35 @@ def query_lists(text, leaves):
     return [random_list(generator, leaves, shortest, longest) for _ in range(count)]
 
 
-def sweep(fields):
-    scheme, found, queries = fields.scheme(), batches(fields.take()), fields.take()
-    lists = digests = 0
+def counted_sweep(scheme, fields):
+    """Lists of queries, digests of their proofs, openings that collide with a twin, and openings that do not.
+
+    Where each row has two words or more, each list is compared with its twin, matrix by matrix, and so is the first
+    leaf of each list that has a query.
+    """
+    found, queries = batches(fields.take()), fields.take()
+    lists = digests = collisions = nones = 0
     for batch in found:
         shape = scheme.shape([height for _, height in batch])
+        has_twins = all(width >= 2 for width, _ in batch)
+        known = sum(layer <= shape.cap_layer for layer in shape.layers)
         for one in query_lists(queries, shape.tallest):
             lists, digests = lists + 1, digests + boundary_len(shape, one)
-    return f"{lists} {digests}"
+            if has_twins and one:
+                collisions, nones = collisions + 2 * known, nones + 2 * (len(batch) - known)
+            elif has_twins:
+                nones += len(batch)
+    return f"{lists} {digests} {collisions} {nones}"
+
+
+def sweep(fields):
+    return counted_sweep(fields.scheme(), fields)
+
+
+def sweep_salted(fields):
+    scheme = fields.salted_scheme()
+    fields.take()
+    return counted_sweep(scheme, fields)
 
 
 KINDS = {
@@ -384,6 +407,7 @@ KINDS = {
     "verify_salted_pruned": verify_salted_pruned, "restore": restore, "extract": extract_leaf,
     "extract_pruned": extract_leaves, "extract_salted": extract_salted,
     "extract_salted_pruned": extract_salted_leaves, "known": known, "sweep": sweep,
+    "sweep_salted": sweep_salted,
 }
 
 
@@ -391,17 +415,9 @@ def is_case(line):
     return bool(line.strip()) and not line.startswith("#")
 
 
-def with_arity(line):
-    """A salted case in the form that names no arity and no cap, at arity 2 and cap height 0."""
-    parts = line.split("|")
-    is_short = parts[0].strip() in ("verify_salted", "verify_salted_pruned") and len(parts) == 9
-    return "|".join([parts[0], " 2 ", " 0 ", *parts[1:]]) if is_short else line
-
-
 def answers(line):
     """What is answered to a case, whose own answer may stand behind its fields: one answer, or one by each rule."""
     found = []
-    line = with_arity(line)
     for rule in (geometry.LOWERED, geometry.FIXED):
         fields = Fields(line, rule)
         found.append(KINDS[fields.take()](fields))

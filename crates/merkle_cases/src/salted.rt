@@ -6,6 +6,7 @@ ghost use Rattle.p3_merkle_core.specs.Geometry.{is_arity};
 mod check;
 mod extract;
 mod open;
+mod sweep;
 
 use crate::fields::{Fault, Fields};
 use crate::scheme::Cap;
@@ -82,6 +83,7 @@ fn opened_or_checked<const N: usize, const SALT_ELEMS: usize>(
     match keyword {
         "open_salted" => open::open::<N, SALT_ELEMS>(alloc, cap, fields, answer),
         "pruned_salted" => open::pruned::<N, SALT_ELEMS>(alloc, cap, fields, answer),
+        "sweep_salted" => sweep::sweep::<N, SALT_ELEMS>(alloc, cap, fields, answer),
         _ => checked::<N, SALT_ELEMS>(alloc, keyword, cap, fields, answer),
     }
 }

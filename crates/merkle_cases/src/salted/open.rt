@@ -21,10 +21,10 @@ use std::alloc::Global;
 pub type Tree<const N: usize> = SaltedTree<u32, u32, Rows, N, 1>;
 
 /// The rows of several leaves, and what proves them.
-type Opened = (Vec<Vec<Vec<u32>>>, SaltedMultiProof<u32, u32, 1>);
+pub type Opened = (Vec<Vec<Vec<u32>>>, SaltedMultiProof<u32, u32, 1>);
 
 /// The scheme with such a cap, whose salts come from the seed that the next field is.
-fn seeded<const N: usize, const SALT_ELEMS: usize>(
+pub fn seeded<const N: usize, const SALT_ELEMS: usize>(
     cap: Cap,
     fields: &mut Fields<'_>,
 ) -> SaltedScheme<N, SALT_ELEMS>
