@@ -1,6 +1,6 @@
-"""Runs the program mmcs with each of its requests for memory refused in turn, from its start on, alone and with all later
-ones: python3 program.py MMCS LIBRARY. It prints a line for each command and one for all, and ends with status 1 where a
-run did anything else than answer as with ample memory, or print `out of memory` alone with status 1."""
+"""Runs the program mmcs with each of its requests for memory refused in turn, alone and with all later ones:
+python3 program.py MMCS LIBRARY. It prints a line for each command and one for all. The status is 1 where a run did
+anything else than answer as with ample memory, or print `out of memory` alone with status 1."""
 
 import os
 import subprocess

@@ -1,8 +1,8 @@
 /* Refuses and counts requests for memory. It is loaded before a program by LD_PRELOAD, and needs the GNU C library.
  *
- * A program gives it orders by requests of sizes that no allocation has: the upper 16 bits of the size are 0x5a5a, the
- * next 8 say what is asked, and the lower 40 are a number n. An order is answered by a null pointer, or by a small block
- * where the answer is yes. Orders are not counted.
+ * A program gives it orders by requests of sizes that no allocation has: the upper 16 bits of the size are 0x5a5a,
+ * the next 8 say what is asked, and the lower 40 are a number n. An order is answered by a null pointer, or by a small
+ * block where the answer is yes. Orders are not counted. Sizes of blocks are as malloc rounds them up.
  *
  * Where the environment has REFUSE_ONCE=n or REFUSE_FROM=n, requests are refused from the program's start on, and where
  * it has REFUSE_REPORT=fd, a line `REQUESTS REFUSED` is written to that file descriptor at the end. */
