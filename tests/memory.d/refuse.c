@@ -2,16 +2,16 @@
  *
  * A program gives it orders by requests of sizes that no allocation has: the upper 16 bits of the size are 0x5a5a,
  * the next 8 say what is asked, and the lower 40 are a number n. An order is answered by a null pointer, or by a small
- * block where the answer is yes. Orders are not counted. Sizes of blocks are as malloc rounds them up.
+ * block where the answer is yes. Orders are not counted.
  *
  * Where the environment has REFUSE_ONCE=n or REFUSE_FROM=n, requests are refused from the program's start on, and where
  * it has REFUSE_REPORT=fd, a line `REQUESTS REFUSED` is written to that file descriptor at the end. */
 
 #include <errno.h>
-#include <malloc.h>
 #include <stdint.h>
 #include <stdio.h>
 #include <stdlib.h>
+#include <string.h>
 #include <unistd.h>
 
 extern void *__libc_malloc(size_t);
@@ -74,42 +74,71 @@ static int grants(size_t size) {
   return 0;
 }
 
-static void *taken(void *block) {
-  if (counts && block != NULL) {
-    held += (int64_t)malloc_usable_size(block);
+/* Before each block stands how far it is from where the C library's block begins, and how many bytes were requested. */
+struct head {
+  size_t distance, size;
+};
+
+static struct head *head_of(void *block) { return (struct head *)block - 1; }
+
+/* The block that is handed out of a block of the C library, which may be null. */
+static void *taken(char *whole, size_t distance, size_t size) {
+  if (whole == NULL) return NULL;
+  void *block = whole + distance;
+  *head_of(block) = (struct head){distance, size};
+  if (counts) {
+    held += (int64_t)size;
     if (held > most) most = held;
   }
   return block;
 }
 
-static void given_back(size_t size) {
-  if (counts) held -= (int64_t)size;
+/* Whether so many bytes can be asked for beside a head. */
+static int fits(size_t size) {
+  if (size <= PTRDIFF_MAX / 2) return 1;
+  errno = ENOMEM;
+  return 0;
 }
 
 void *malloc(size_t size) {
-  if (is_order(size)) return obey(size) ? __libc_malloc(1) : NULL;
-  return grants(size) ? taken(__libc_malloc(size)) : NULL;
+  if (is_order(size)) return obey(size) ? taken(__libc_malloc(sizeof(struct head)), sizeof(struct head), 0) : NULL;
+  if (!grants(size) || !fits(size)) return NULL;
+  return taken(__libc_malloc(sizeof(struct head) + size), sizeof(struct head), size);
 }
 
 void *calloc(size_t count, size_t size) {
   size_t whole;
   if (__builtin_mul_overflow(count, size, &whole)) whole = SIZE_MAX;
-  if (is_order(whole)) return obey(whole) ? __libc_malloc(1) : NULL;
-  return grants(whole) ? taken(__libc_calloc(count, size)) : NULL;
+  void *block = malloc(whole);
+  return block == NULL ? NULL : memset(block, 0, whole);
+}
+
+void free(void *block) {
+  if (block == NULL) return;
+  struct head *head = head_of(block);
+  if (counts) held -= (int64_t)head->size;
+  __libc_free((char *)block - head->distance);
 }
 
 void *realloc(void *block, size_t size) {
   if (block == NULL) return malloc(size);
-  if (!grants(size)) return NULL;
-  size_t before = malloc_usable_size(block);
-  void *moved = __libc_realloc(block, size);
-  if (moved == NULL && size != 0) return NULL;
-  given_back(before);
-  return taken(moved);
+  struct head before = *head_of(block);
+  if (!grants(size) || !fits(size)) return NULL;
+  /* An aligned block is not moved: nothing here asks for that. */
+  if (before.distance != sizeof(struct head)) {
+    errno = ENOMEM;
+    return NULL;
+  }
+  char *moved = __libc_realloc(head_of(block), sizeof(struct head) + size);
+  if (moved == NULL) return NULL;
+  if (counts) held -= (int64_t)before.size;
+  return taken(moved, sizeof(struct head), size);
 }
 
 static void *aligned(size_t alignment, size_t size) {
-  return grants(size) ? taken(__libc_memalign(alignment, size)) : NULL;
+  size_t distance = alignment < sizeof(struct head) ? sizeof(struct head) : alignment;
+  if (!grants(size) || !fits(size)) return NULL;
+  return taken(__libc_memalign(alignment, distance + size), distance, size);
 }
 
 void *memalign(size_t alignment, size_t size) { return aligned(alignment, size); }
@@ -119,11 +148,6 @@ void *aligned_alloc(size_t alignment, size_t size) { return aligned(alignment, s
 int posix_memalign(void **block, size_t alignment, size_t size) {
   *block = aligned(alignment, size);
   return *block == NULL ? ENOMEM : 0;
-}
-
-void free(void *block) {
-  if (block != NULL) given_back(malloc_usable_size(block));
-  __libc_free(block);
 }
 
 __attribute__((constructor)) static void begin(void) {

@@ -16,10 +16,14 @@ def table(head, rows):
 
 
 def by_call(lines, columns, value):
-    """A row for each call and a column for each batch or input, in the order of their first lines."""
+    """A row for each call and a column for each batch, numbered, in the order of their first lines."""
     calls = dict.fromkeys(call for _, call, *_ in lines)
     cells = {(batch, call): value(rest) for batch, call, *rest in lines}
-    table(["Call", *columns], [[call, *(cells.get((it, call), "") for it in columns)] for call in calls])
+    for number, name in enumerate(columns, 1):
+        print(f"{number}. {name}")
+    print()
+    head = ["Call", *(str(number) for number, _ in enumerate(columns, 1))]
+    table(head, [[call, *(cells.get((it, call), "") for it in columns)] for call in calls])
 
 
 def main():
@@ -39,7 +43,7 @@ def main():
         by_call([line for line in batches if line[0] in columns], columns, lambda rest: rest[0])
     names = list(dict.fromkeys(line[0] for line in inputs))
     calls = list(dict.fromkeys(line[1] for line in inputs))
-    for some in (calls[:5], calls[5:]):
+    for some in (calls[:4], calls[4:7], calls[7:]):
         cells = {(line[0], line[1]): line[3] for line in inputs}
         held = {(line[0], line[1]): line[4] for line in inputs}
         table(
