@@ -52,9 +52,9 @@ fn write_collision(collision: &Collision<u32, u32, 1>, answer: &mut Answer) {
     }
 }
 
-/// `extract_pruned | ARITY | CAP | ROOTS | DIMENSIONS | INDICES | ROW SETS | DIGESTS | INDICES | ROW SETS | DIGESTS | ANSWER`:
-/// what two openings of several leaves lead to, which is `none`, or the places of two queries in their lists, and then a
-/// place with the input of the first and that of the second.
+/// `extract_pruned | ARITY | CAP | ROOTS | DIMENSIONS | INDICES | ROW SETS | DIGESTS | INDICES | ROW SETS | DIGESTS |
+/// ANSWER`: what two openings of several leaves lead to, which is `none`, or the places of two queries in their lists,
+/// and then a place with the input of the first and that of the second.
 pub fn extract_pruned<const N: usize>(
     alloc: Global,
     fields: &mut Fields<'_>,

@@ -31,8 +31,8 @@ pub fn pruned_len<const N: usize>(
     Ok(())
 }
 
-/// `pruned | ARITY | CAP | MATRICES | INDICES | ROW SETS | DIGESTS`: the rows of each query, and the digests of the proof
-/// for all of them.
+/// `pruned | ARITY | CAP | MATRICES | INDICES | ROW SETS | DIGESTS`: the rows of each query, and the digests of the
+/// proof for all of them.
 pub fn pruned<const N: usize>(
     alloc: Global,
     fields: &mut Fields<'_>,
@@ -121,8 +121,8 @@ fn paths_of<const N: usize>(
     )
 }
 
-/// What the opening of several leaves is answered, query by query: why no paths are restored, or the verdict on each query
-/// with its path, where not all are accepted: the first refusal.
+/// What the opening of several leaves is answered, query by query: why no paths are restored, or the verdict on each
+/// query with its path, where not all are accepted: the first refusal.
 fn restored_verdict<const N: usize>(
     alloc: Global,
     scheme: &FoldScheme<N>,
@@ -138,8 +138,8 @@ fn restored_verdict<const N: usize>(
     Ok(())
 }
 
-/// `verify_pruned | ARITY | CAP | ROOTS | DIMENSIONS | INDICES | ROW SETS | DIGESTS | ANSWER`: the check of a pruned opening,
-/// which answers what the checks of its queries with their restored paths do, and what the extractions do.
+/// `verify_pruned | ARITY | CAP | ROOTS | DIMENSIONS | INDICES | ROW SETS | DIGESTS | ANSWER`: the check of a pruned
+/// opening, which answers what the checks of its queries with their restored paths do, and what the extractions do.
 pub fn verify_pruned<const N: usize>(
     alloc: Global,
     fields: &mut Fields<'_>,
@@ -192,7 +192,8 @@ fn extracts_alike<const N: usize>(
             ))
 }
 
-/// `restore | ARITY | CAP | DIMENSIONS | INDICES | ROW SETS | DIGESTS | PATHS`: the index and the siblings of each query.
+/// `restore | ARITY | CAP | DIMENSIONS | INDICES | ROW SETS | DIGESTS | PATHS`: the index and the siblings of each
+/// query.
 pub fn restore<const N: usize>(
     alloc: Global,
     fields: &mut Fields<'_>,

@@ -31,8 +31,8 @@ impl LeafOpening {
     }
 }
 
-/// `verify | ARITY | CAP | CAP | DIMENSIONS | INDEX | ROWS | SIBLINGS | ANSWER`: the check of an opening, which the extraction
-/// from it and itself answers, too.
+/// `verify | ARITY | CAP | CAP | DIMENSIONS | INDEX | ROWS | SIBLINGS | ANSWER`: the check of an opening, which the
+/// extraction from it and itself answers, too.
 pub fn verify<const N: usize>(
     alloc: Global,
     fields: &mut Fields<'_>,

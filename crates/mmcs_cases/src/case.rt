@@ -88,8 +88,8 @@ fn digit_of(byte: u8) -> Option<u8> {
     }
 }
 
-/// The bytes that are written with `\n`, `\r`, `\t`, `\0` and `\xHH`; none where a `\x` has no two digits behind it, or a
-/// last backslash nothing.
+/// The bytes that are written with `\n`, `\r`, `\t`, `\0` and `\xHH`; none where a `\x` has no two digits behind it, or
+/// a last backslash nothing.
 fn bytes_of(alloc: Global, written: &str) -> Result<Option<Vec<u8>>, AllocError> {
     let mut bytes = Vec::new(alloc);
     let mut state = State::Plain;

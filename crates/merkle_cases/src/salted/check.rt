@@ -20,8 +20,8 @@ pub fn unused() -> ChaCha20Rng {
     ChaCha20Rng::from_seed([0; 32])
 }
 
-/// `verify_salted | ARITY | CAP | SALTS A ROW | ROOTS | DIMENSIONS | INDEX | ROWS | SALTS | SIBLINGS | ANSWER`: the check of
-/// an opening, which the extraction from it and itself answers, too.
+/// `verify_salted | ARITY | CAP | SALTS A ROW | ROOTS | DIMENSIONS | INDEX | ROWS | SALTS | SIBLINGS | ANSWER`: the
+/// check of an opening, which the extraction from it and itself answers, too.
 pub fn verify<const N: usize, const SALT_ELEMS: usize>(
     alloc: Global,
     cap: Cap,
@@ -47,8 +47,8 @@ pub fn verify<const N: usize, const SALT_ELEMS: usize>(
     }
 }
 
-/// `verify_salted_pruned | ARITY | CAP | SALTS A ROW | ROOTS | DIMENSIONS | INDICES | ROW SETS | SALT SETS | DIGESTS | ANSWER`:
-/// the check of an opening of several leaves, which the extractions answer, too.
+/// `verify_salted_pruned | ARITY | CAP | SALTS A ROW | ROOTS | DIMENSIONS | INDICES | ROW SETS | SALT SETS | DIGESTS |
+/// ANSWER`: the check of an opening of several leaves, which the extractions answer, too.
 pub fn verify_pruned<const N: usize, const SALT_ELEMS: usize>(
     alloc: Global,
     cap: Cap,
@@ -88,8 +88,8 @@ fn verdict_on<const N: usize, const SALT_ELEMS: usize>(
     scheme.verify_multi_batch(alloc, cap, dimensions, indices, rows, proof)
 }
 
-/// Whether the extractions from an opening and that of no leaf, in either order, and where it is accepted that from it and
-/// itself answer what the checks do.
+/// Whether the extractions from an opening and that of no leaf, in either order, and where it is accepted that from it
+/// and itself answer what the checks do.
 fn extracts_alike<const N: usize, const SALT_ELEMS: usize>(
     alloc: Global,
     scheme: &SaltedScheme<N, SALT_ELEMS>,

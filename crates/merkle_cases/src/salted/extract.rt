@@ -117,8 +117,8 @@ pub fn collision_of_leaves<const N: usize, const SALT_ELEMS: usize>(
     )
 }
 
-/// `extract_salted | ARITY | CAP | SALTS A ROW | ROOTS | DIMENSIONS | INDEX | ROWS | SALTS | SIBLINGS | INDEX | ROWS | SALTS
-/// | SIBLINGS | ANSWER`: what two openings lead to, which is `none`, or a place with both inputs.
+/// `extract_salted | ARITY | CAP | SALTS A ROW | ROOTS | DIMENSIONS | INDEX | ROWS | SALTS | SIBLINGS | INDEX | ROWS |
+/// SALTS | SIBLINGS | ANSWER`: what two openings lead to, which is `none`, or a place with both inputs.
 pub fn extract<const N: usize, const SALT_ELEMS: usize>(
     alloc: Global,
     cap: Cap,
@@ -144,8 +144,8 @@ pub fn extract<const N: usize, const SALT_ELEMS: usize>(
 }
 
 /// `extract_salted_pruned | ARITY | CAP | SALTS A ROW | ROOTS | DIMENSIONS | INDICES | ROW SETS | SALT SETS | DIGESTS |
-/// INDICES | ROW SETS | SALT SETS | DIGESTS | ANSWER`: what two openings of several leaves lead to, which is `none`, or the
-/// places of two queries in their lists, and then a place with both inputs.
+/// INDICES | ROW SETS | SALT SETS | DIGESTS | ANSWER`: what two openings of several leaves lead to, which is `none`, or
+/// the places of two queries in their lists, and then a place with both inputs.
 pub fn extract_pruned<const N: usize, const SALT_ELEMS: usize>(
     alloc: Global,
     cap: Cap,

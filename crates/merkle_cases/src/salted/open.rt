@@ -1,5 +1,5 @@
-//! What is opened of a tree with salts, and that it is accepted. The salts are those of ChaCha20 from a seed whose 32 bytes
-//! are one number.
+//! What is opened of a tree with salts, and that it is accepted. The salts are those of ChaCha20 from a seed whose 32
+//! bytes are one number.
 
 ghost use Rattle.std.specs.Prelude.{◌≤◌, IsTrue};
 ghost use Rattle.p3_merkle_core.specs.Geometry.{is_arity};
@@ -94,8 +94,8 @@ fn shown_dimensions<const N: usize, const SALT_ELEMS: usize>(
     Ok(dimensions_of(reader, &scheme.get_matrices(alloc, tree)?))
 }
 
-/// `open_salted | ARITY | CAP | SALTS A ROW | SEED | MATRICES | INDEX | ROOTS | ROWS | SALTS | SIBLINGS`: the cap and the
-/// opening of a leaf, which is accepted.
+/// `open_salted | ARITY | CAP | SALTS A ROW | SEED | MATRICES | INDEX | ROOTS | ROWS | SALTS | SIBLINGS`: the cap and
+/// the opening of a leaf, which is accepted.
 pub fn open<const N: usize, const SALT_ELEMS: usize>(
     alloc: Global,
     cap: Cap,
@@ -136,8 +136,8 @@ fn write_accepted<const N: usize, const SALT_ELEMS: usize>(
     Ok(())
 }
 
-/// `pruned_salted | ARITY | CAP | SALTS A ROW | SEED | MATRICES | INDICES | ROOTS | ROW SETS | SALT SETS | DIGESTS`: the cap
-/// and the opening of several leaves, which is accepted.
+/// `pruned_salted | ARITY | CAP | SALTS A ROW | SEED | MATRICES | INDICES | ROOTS | ROW SETS | SALT SETS | DIGESTS`:
+/// the cap and the opening of several leaves, which is accepted.
 pub fn pruned<const N: usize, const SALT_ELEMS: usize>(
     alloc: Global,
     cap: Cap,
