@@ -52,9 +52,9 @@ fn write_collision(collision: &Collision<u32, u32, 1>, answer: &mut Answer) {
     }
 }
 
-/// `extract_pruned | ARITY | CAP | ROOTS | DIMENSIONS | INDICES | ROW SETS | DIGESTS | INDICES | ROW SETS | DIGESTS | ANSWER`:
-/// what two openings of several leaves lead to, which is `none`, or the places of two queries in their lists, and then a
-/// place with the input of the first and that of the second.
+/// `extract_pruned | ARITY | CAP | ROOTS | DIMENSIONS | INDICES | ROW SETS | DIGESTS | INDICES | ROW SETS | DIGESTS |
+/// ANSWER`: what two openings of several leaves lead to, which is `none`, or the places of two queries in their lists,
+/// and then a place with the input of the first and that of the second.
 pub fn extract_pruned<const N: usize>(
     alloc: Global,
     fields: &mut Fields<'_>,
@@ -68,26 +68,46 @@ pub fn extract_pruned<const N: usize>(
     let dimensions = fields.dimensions();
     let first = LeavesOpening::of(fields);
     let second = LeavesOpening::of(fields);
-    let found = scheme.extract_collision_multi(
+    let found = collision_of_leaves(alloc, &scheme, &cap, &dimensions, &first, &second)?;
+    write_found_pair(&found, answer);
+    Ok(())
+}
+
+/// Writes what two openings of several leaves lead to.
+pub fn write_found_pair(
+    found: &Option<(usize, usize, Collision<u32, u32, 1>)>,
+    answer: &mut Answer,
+) {
+    match found {
+        Some((first, second, collision)) => {
+            answer.numbers(&[*first, *second]);
+            answer.push(" | ");
+            write_collision(collision, answer);
+        }
+        None => answer.push("none"),
+    }
+}
+
+/// What two openings of several leaves lead to.
+pub fn collision_of_leaves<const N: usize>(
+    alloc: Global,
+    scheme: &FoldScheme<N>,
+    cap: &FoldCap,
+    dimensions: &[Dimensions],
+    first: &LeavesOpening,
+    second: &LeavesOpening,
+) -> Result<Option<(usize, usize, Collision<u32, u32, 1>)>, MerkleTreeError> {
+    scheme.extract_collision_multi(
         alloc,
-        &cap,
-        &dimensions,
+        cap,
+        dimensions,
         &first.indices,
         &first.rows,
         &first.proof,
         &second.indices,
         &second.rows,
         &second.proof,
-    )?;
-    match &found {
-        Some((a, b, collision)) => {
-            answer.numbers(&[*a, *b]);
-            answer.push(" | ");
-            write_collision(collision, answer);
-        }
-        None => answer.push("none"),
-    }
-    Ok(())
+    )
 }
 
 /// `extract | ARITY | CAP | CAP | DIMENSIONS | INDEX | ROWS | SIBLINGS | INDEX | ROWS | SIBLINGS | ANSWER`: what
@@ -111,7 +131,7 @@ pub fn extract<const N: usize>(
 }
 
 /// Writes what two openings lead to.
-fn write_found(found: &Option<Collision<u32, u32, 1>>, answer: &mut Answer) {
+pub fn write_found(found: &Option<Collision<u32, u32, 1>>, answer: &mut Answer) {
     match found {
         Some(collision) => write_collision(collision, answer),
         None => answer.push("none"),
@@ -119,7 +139,7 @@ fn write_found(found: &Option<Collision<u32, u32, 1>>, answer: &mut Answer) {
 }
 
 /// What two openings lead to.
-fn collision_of<const N: usize>(
+pub fn collision_of<const N: usize>(
     alloc: Global,
     scheme: &FoldScheme<N>,
     cap: &FoldCap,

@@ -9,6 +9,7 @@
 ghost use Rattle.std.specs.Prelude.{◌≤◌, IsTrue};
 ghost use Rattle.p3_merkle_core.specs.Geometry.{is_arity};
 
+mod agreement;
 mod authenticated;
 mod batches;
 mod builders;
@@ -98,10 +99,10 @@ fn answer_to_opening<const N: usize>(
         "pruned_len" => pruned::pruned_len::<N>(alloc, fields, answer),
         "verify_pruned" => pruned::verify_pruned::<N>(alloc, fields, answer),
         "restore" => pruned::restore::<N>(alloc, fields, answer),
-        "verify" => verify::verify::<N>(fields, answer),
+        "verify" => verify::verify::<N>(alloc, fields, answer),
         "extract" => extract::extract::<N>(alloc, fields, answer),
         "extract_pruned" => extract::extract_pruned::<N>(alloc, fields, answer),
-        _ => Err(Fault::Unreadable("there is no such kind of case")),
+        _ => salted::salted::<N>(alloc, keyword, fields, answer),
     }
 }
 
@@ -117,8 +118,6 @@ fn answer(alloc: Global, fields: &mut Fields<'_>, answer: &mut Answer) -> Result
         "widths" => geometry::widths(fields, answer),
         "heights" => heights::heights(alloc, fields, answer),
         "known" => known::known(alloc, fields, answer),
-        "verify_salted" => salted::verify(alloc, fields, answer),
-        "verify_salted_pruned" => salted::verify_pruned(alloc, fields, answer),
         keyword => answer_at_next(alloc, keyword, fields, answer),
     }
 }

@@ -13,6 +13,15 @@ use p3_merkle_tree::{BatchOpeningRef, MerkleTreeError};
 use p3_support::matrix::{Dimensions, Matrix};
 use std::alloc::Global;
 
+/// The dimensions of matrices.
+pub fn dimensions_of(reader: &mut Reader, matrices: &[&Rows]) -> Vec<Dimensions> {
+    let mut dimensions = reader.none();
+    for matrix in matrices {
+        reader.push(&mut dimensions, matrix.dimensions());
+    }
+    dimensions
+}
+
 /// The dimensions of the matrices that a tree shows.
 fn shown_dimensions<const N: usize>(
     alloc: Global,
@@ -20,11 +29,7 @@ fn shown_dimensions<const N: usize>(
     scheme: &FoldScheme<N>,
     tree: &FoldTree<Rows, N>,
 ) -> Result<Vec<Dimensions>, MerkleTreeError> {
-    let mut dimensions = reader.none();
-    for matrix in &scheme.get_matrices(alloc, tree)? {
-        reader.push(&mut dimensions, matrix.dimensions());
-    }
-    Ok(dimensions)
+    Ok(dimensions_of(reader, &scheme.get_matrices(alloc, tree)?))
 }
 
 /// The opening of a leaf, where there is such a leaf and its opening is accepted.

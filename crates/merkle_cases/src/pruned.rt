@@ -3,6 +3,8 @@
 ghost use Rattle.std.specs.Prelude.{◌≤◌, IsTrue};
 ghost use Rattle.p3_merkle_core.specs.Geometry.{is_arity};
 
+use crate::agreement::agrees;
+use crate::extract::collision_of_leaves;
 use crate::fields::{Fault, Fields};
 use crate::scheme::{FoldCap, FoldScheme, FoldTree, Rows, committed, fold_scheme};
 use crate::text::Answer;
@@ -29,8 +31,8 @@ pub fn pruned_len<const N: usize>(
     Ok(())
 }
 
-/// `pruned | ARITY | CAP | MATRICES | INDICES | ROW SETS | DIGESTS`: the rows of each query, and the digests of the proof
-/// for all of them.
+/// `pruned | ARITY | CAP | MATRICES | INDICES | ROW SETS | DIGESTS`: the rows of each query, and the digests of the
+/// proof for all of them.
 pub fn pruned<const N: usize>(
     alloc: Global,
     fields: &mut Fields<'_>,
@@ -63,6 +65,9 @@ fn write_opened<const N: usize>(
     Ok(())
 }
 
+/// How many queries an opening has at most whose queries are compared each with each.
+pub const LONG: usize = 64;
+
 /// The opening of several leaves: queries with the rows of each, and a proof for all of them.
 #[derive(Drop)]
 pub struct LeavesOpening {
@@ -83,6 +88,21 @@ impl LeavesOpening {
             proof: PrunedProof { sibling_hashes },
         }
     }
+
+    /// The opening of no leaf.
+    pub fn none(alloc: Global) -> LeavesOpening {
+        let sibling_hashes = Vec::new(alloc);
+        LeavesOpening {
+            indices: Vec::new(alloc),
+            rows: Vec::new(alloc),
+            proof: PrunedProof { sibling_hashes },
+        }
+    }
+
+    /// Whether it has too many queries to compare each with each.
+    pub fn is_long(&self) -> bool {
+        self.indices.len() > LONG
+    }
 }
 
 /// The path of each query of an opening of several leaves.
@@ -101,8 +121,8 @@ fn paths_of<const N: usize>(
     )
 }
 
-/// What the opening of several leaves is answered, query by query: why no paths are restored, or the verdict on each query
-/// with its path, where not all are accepted: the first refusal.
+/// What the opening of several leaves is answered, query by query: why no paths are restored, or the verdict on each
+/// query with its path, where not all are accepted: the first refusal.
 fn restored_verdict<const N: usize>(
     alloc: Global,
     scheme: &FoldScheme<N>,
@@ -118,8 +138,8 @@ fn restored_verdict<const N: usize>(
     Ok(())
 }
 
-/// `verify_pruned | ARITY | CAP | ROOTS | DIMENSIONS | INDICES | ROW SETS | DIGESTS | ANSWER`: the check of a pruned opening,
-/// which answers what the checks of its queries with their restored paths do.
+/// `verify_pruned | ARITY | CAP | ROOTS | DIMENSIONS | INDICES | ROW SETS | DIGESTS | ANSWER`: the check of a pruned
+/// opening, which answers what the checks of its queries with their restored paths do, and what the extractions do.
 pub fn verify_pruned<const N: usize>(
     alloc: Global,
     fields: &mut Fields<'_>,
@@ -140,15 +160,40 @@ pub fn verify_pruned<const N: usize>(
         &opening.rows,
         &opening.proof,
     );
-    if verdict == restored_verdict(alloc, &scheme, &cap, &dimensions, &opening) {
-        answer.verdict(&verdict);
-        Ok(())
-    } else {
-        Err(Fault::Wrong("the restored paths are answered otherwise"))
+    if verdict != restored_verdict(alloc, &scheme, &cap, &dimensions, &opening) {
+        return Err(Fault::Wrong("the restored paths are answered otherwise"));
     }
+    if !extracts_alike(alloc, &scheme, &cap, &dimensions, &opening, &verdict) {
+        return Err(Fault::Wrong("an extraction is answered otherwise"));
+    }
+    answer.verdict(&verdict);
+    Ok(())
 }
 
-/// `restore | ARITY | CAP | DIMENSIONS | INDICES | ROW SETS | DIGESTS | PATHS`: the index and the siblings of each query.
+/// Whether the extractions from an opening and that of no leaf, in either order, and from it and itself answer what its
+/// check does.
+fn extracts_alike<const N: usize>(
+    alloc: Global,
+    scheme: &FoldScheme<N>,
+    cap: &FoldCap,
+    dimensions: &[Dimensions],
+    opening: &LeavesOpening,
+    verdict: &Result<(), MerkleTreeError>,
+) -> bool {
+    let none = LeavesOpening::none(alloc);
+    let first = collision_of_leaves(alloc, scheme, cap, dimensions, opening, &none);
+    let second = collision_of_leaves(alloc, scheme, cap, dimensions, &none, opening);
+    agrees(verdict, &first)
+        && agrees(verdict, &second)
+        && (opening.is_long()
+            || agrees(
+                verdict,
+                &collision_of_leaves(alloc, scheme, cap, dimensions, opening, opening),
+            ))
+}
+
+/// `restore | ARITY | CAP | DIMENSIONS | INDICES | ROW SETS | DIGESTS | PATHS`: the index and the siblings of each
+/// query.
 pub fn restore<const N: usize>(
     alloc: Global,
     fields: &mut Fields<'_>,

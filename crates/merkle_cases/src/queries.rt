@@ -52,8 +52,19 @@ fn every_list(reader: &mut Reader, leaves: usize, len: usize) -> Vec<Vec<usize>>
     lists
 }
 
+/// Every list of at most so many of some leaves.
+fn lists_up_to(reader: &mut Reader, leaves: usize, longest: usize) -> Vec<Vec<usize>> {
+    let mut lists = reader.none();
+    for len in 0..longest.saturating_add(1) {
+        for list in every_list(reader, leaves, len) {
+            reader.push(&mut lists, list);
+        }
+    }
+    lists
+}
+
 /// The generator of a seed of one byte.
-fn generator_of(reader: &mut Reader, seed: usize) -> ChaCha20Rng {
+pub fn generator_of(reader: &mut Reader, seed: usize) -> ChaCha20Rng {
     let byte = match u8::try_from(seed) {
         Ok(byte) => byte,
         Err(_) => {
@@ -98,12 +109,16 @@ fn random_lists(reader: &mut Reader, leaves: usize, numbers: [usize; 4]) -> Vec<
     lists
 }
 
-/// The lists that a text names, over so many leaves: lists with `;` between them; `every LENGTH`; or
+/// The lists that a text names, over so many leaves: lists with `;` between them; `every LENGTH`; `up to LENGTH`; or
 /// `random SEED LISTS SHORTEST LONGEST`, with lengths between these two.
 pub fn lists_of(reader: &mut Reader, text: &str, leaves: usize) -> Vec<Vec<usize>> {
     if let Some(len) = text.strip_prefix("every ") {
         let len = reader.number(len.trim());
         return every_list(reader, leaves, len);
+    }
+    if let Some(longest) = text.strip_prefix("up to ") {
+        let longest = reader.number(longest.trim());
+        return lists_up_to(reader, leaves, longest);
     }
     let Some(words) = text.strip_prefix("random ") else {
         return written_lists(reader, text);

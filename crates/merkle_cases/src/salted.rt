@@ -1,94 +1,112 @@
-//! What is answered to openings with salts, at arity 2.
+//! Openings with salts: one or two salts a row, or the greatest number of them.
 
-ghost use Rattle.std.specs.Prelude.{◌≤◌};
+ghost use Rattle.std.specs.Prelude.{◌≤◌, IsTrue};
+ghost use Rattle.p3_merkle_core.specs.Geometry.{is_arity};
+
+mod check;
+mod extract;
+mod open;
+mod sweep;
 
 use crate::fields::{Fault, Fields};
+use crate::scheme::Cap;
 use crate::text::Answer;
 use p3_instances::fold::{FoldCompress, FoldHash};
-use p3_merkle_core::pruning::PrunedProof;
 use p3_merkle_hiding::MerkleTreeHidingMmcs;
-use p3_merkle_tree::{BatchOpening, BatchOpeningRef, MerkleCap};
 use rand_chacha::ChaCha20Rng;
-use rand_core::SeedableRng;
 use std::alloc::Global;
 
-/// The salted scheme of the fold functions.
-type SaltedScheme<const SALT_ELEMS: usize> = MerkleTreeHidingMmcs<
+/// The salted scheme of the fold functions with digests of one word.
+pub type SaltedScheme<const N: usize, const SALT_ELEMS: usize> = MerkleTreeHidingMmcs<
     u32,
     u32,
     FoldHash<1>,
-    FoldCompress<2, 1>,
+    FoldCompress<N, 1>,
     ChaCha20Rng,
-    2,
+    N,
     1,
     SALT_ELEMS,
 >;
 
-/// That scheme, for a verifier: it draws no salts.
-fn verifier<const SALT_ELEMS: usize>() -> SaltedScheme<SALT_ELEMS>
-    requires { 1 ≤ SALT_ELEMS }
+/// The scheme with such a cap, whose salts come from this generator.
+pub fn salted_scheme<const N: usize, const SALT_ELEMS: usize>(
+    cap: Cap,
+    rng: ChaCha20Rng,
+) -> SaltedScheme<N, SALT_ELEMS>
+    requires arity { IsTrue (is_arity N) }
+    requires few { N ≤ 8 }
+    requires some_salt { 1 ≤ SALT_ELEMS }
 {
-    SaltedScheme::<SALT_ELEMS>::new(FoldHash, FoldCompress, 0, ChaCha20Rng::from_seed([0; 32]))
+    MerkleTreeHidingMmcs::new_with_rule(
+        FoldHash::<1>,
+        FoldCompress::<N, 1>,
+        cap.height,
+        rng,
+        cap.rule,
+    )
 }
 
-/// `verify_salted | SALTS A ROW | CAP | DIMENSIONS | INDEX | ROWS | SALTS | SIBLINGS | ANSWER`: one salt a row, or the
-/// greatest number of them.
-pub fn verify(alloc: Global, fields: &mut Fields<'_>, answer: &mut Answer) -> Result<(), Fault> {
-    match fields.take() {
-        "1" => verify_with::<1>(alloc, fields, answer),
-        "18446744073709551615" => verify_with::<18_446_744_073_709_551_615>(alloc, fields, answer),
-        _ => return Err(Fault::Unreadable("there are no schemes of as many salts")),
-    }
-    Ok(())
-}
-
-/// Writes the answer to the opening of a leaf.
-fn verify_with<const SALT_ELEMS: usize>(alloc: Global, fields: &mut Fields<'_>, answer: &mut Answer)
-    requires { 1 ≤ SALT_ELEMS }
-{
-    let cap = MerkleCap::new(fields.digests());
-    let dimensions = fields.dimensions();
-    let index = fields.number();
-    let rows = fields.rows();
-    let salts = fields.rows();
-    let opening = BatchOpening::new(rows, (salts, fields.digests()));
-    let lent = BatchOpeningRef::from(&opening);
-    let scheme = verifier::<SALT_ELEMS>();
-    answer.verdict(&scheme.verify_batch(alloc, &cap, &dimensions, index, lent));
-}
-
-/// `verify_salted_pruned | SALTS A ROW | CAP | DIMENSIONS | INDICES | ROW SETS | SALT SETS | DIGESTS | ANSWER`.
-pub fn verify_pruned(
+/// Writes what the calls of a kind of case with salts answer at an arity. The next fields are the cap and the number of
+/// salts a row.
+pub fn salted<const N: usize>(
     alloc: Global,
+    keyword: &str,
     fields: &mut Fields<'_>,
     answer: &mut Answer,
-) -> Result<(), Fault> {
+) -> Result<(), Fault>
+    requires arity { IsTrue (is_arity N) }
+    requires few { N ≤ 8 }
+{
+    let cap = fields.cap();
     match fields.take() {
-        "1" => verify_pruned_with::<1>(alloc, fields, answer),
+        "1" => opened_or_checked::<N, 1>(alloc, keyword, cap, fields, answer),
+        "2" => opened_or_checked::<N, 2>(alloc, keyword, cap, fields, answer),
         "18446744073709551615" => {
-            verify_pruned_with::<18_446_744_073_709_551_615>(alloc, fields, answer)
+            checked::<N, 18_446_744_073_709_551_615>(alloc, keyword, cap, fields, answer)
         }
-        _ => return Err(Fault::Unreadable("there are no schemes of as many salts")),
+        _ => Err(Fault::Unreadable("there are no schemes of as many salts")),
     }
-    Ok(())
 }
 
-/// Writes the answer to the opening of several leaves.
-fn verify_pruned_with<const SALT_ELEMS: usize>(
+/// The same at a number of salts a row.
+fn opened_or_checked<const N: usize, const SALT_ELEMS: usize>(
     alloc: Global,
+    keyword: &str,
+    cap: Cap,
     fields: &mut Fields<'_>,
     answer: &mut Answer,
-)
-    requires { 1 ≤ SALT_ELEMS }
+) -> Result<(), Fault>
+    requires arity { IsTrue (is_arity N) }
+    requires few { N ≤ 8 }
+    requires some_salt { 1 ≤ SALT_ELEMS }
 {
-    let cap = MerkleCap::new(fields.digests());
-    let dimensions = fields.dimensions();
-    let indices = fields.numbers();
-    let rows = fields.row_sets();
-    let salts = fields.row_sets();
-    let sibling_hashes = fields.digests();
-    let proof = (salts, PrunedProof { sibling_hashes });
-    let scheme = verifier::<SALT_ELEMS>();
-    let verdict = scheme.verify_multi_batch(alloc, &cap, &dimensions, &indices, &rows, &proof);
-    answer.verdict(&verdict);
+    match keyword {
+        "open_salted" => open::open::<N, SALT_ELEMS>(alloc, cap, fields, answer),
+        "pruned_salted" => open::pruned::<N, SALT_ELEMS>(alloc, cap, fields, answer),
+        "sweep_salted" => sweep::sweep::<N, SALT_ELEMS>(alloc, cap, fields, answer),
+        _ => checked::<N, SALT_ELEMS>(alloc, keyword, cap, fields, answer),
+    }
+}
+
+/// The same of the kinds that check openings.
+fn checked<const N: usize, const SALT_ELEMS: usize>(
+    alloc: Global,
+    keyword: &str,
+    cap: Cap,
+    fields: &mut Fields<'_>,
+    answer: &mut Answer,
+) -> Result<(), Fault>
+    requires arity { IsTrue (is_arity N) }
+    requires few { N ≤ 8 }
+    requires some_salt { 1 ≤ SALT_ELEMS }
+{
+    match keyword {
+        "verify_salted" => check::verify::<N, SALT_ELEMS>(alloc, cap, fields, answer),
+        "verify_salted_pruned" => check::verify_pruned::<N, SALT_ELEMS>(alloc, cap, fields, answer),
+        "extract_salted" => extract::extract::<N, SALT_ELEMS>(alloc, cap, fields, answer),
+        "extract_salted_pruned" => {
+            extract::extract_pruned::<N, SALT_ELEMS>(alloc, cap, fields, answer)
+        }
+        _ => Err(Fault::Unreadable("there is no such kind of case")),
+    }
 }

@@ -10,7 +10,9 @@ use crate::queries::lists_of;
 use crate::reader::Reader;
 use crate::scheme::{FoldCap, FoldOpening, FoldScheme, FoldTree, Rows, committed, fold_scheme};
 use crate::text::Answer;
-use crate::twin::{collides_at, collides_first_at, has_twins, place_of, twin_rows, twin_sets};
+use crate::twin::{
+    collides_at, collides_first_at, has_twins, place_of, place_of_first, twin_rows, twin_sets,
+};
 use crate::verify::LeafOpening;
 use p3_merkle_core::geometry::tallest_of;
 use p3_merkle_core::pruning::check_indices;
@@ -23,6 +25,47 @@ use std::alloc::Global;
 struct Opened<'a> {
     indices: &'a [usize],
     opening: &'a PrunedBatchOpening<u32, u32, 1>,
+}
+
+/// What a sweep has tried.
+#[derive(Clone, Copy)]
+pub struct Counts {
+    lists: usize,
+    digests: usize,
+    collisions: usize,
+    nones: usize,
+}
+
+impl Counts {
+    /// Nothing yet.
+    pub fn none() -> Counts {
+        Counts {
+            lists: 0,
+            digests: 0,
+            collisions: 0,
+            nones: 0,
+        }
+    }
+
+    /// One more list of queries, whose proof has so many digests.
+    pub fn add_list(&mut self, digests: usize) {
+        self.lists = self.lists.saturating_add(1);
+        self.digests = self.digests.saturating_add(digests);
+    }
+
+    /// One more opening beside its twin, which collide at this place, or nowhere.
+    pub fn add_twins(&mut self, place: &Option<Place>) {
+        if place.is_some() {
+            self.collisions = self.collisions.saturating_add(1);
+        } else {
+            self.nones = self.nones.saturating_add(1);
+        }
+    }
+
+    /// Writes `LISTS DIGESTS COLLISIONS NONES`.
+    pub fn write(&self, answer: &mut Answer) {
+        answer.numbers(&[self.lists, self.digests, self.collisions, self.nones]);
+    }
 }
 
 /// How many paths of a list of queries are compared with those that leaf by leaf are opened.
@@ -66,6 +109,7 @@ fn check_leaf_twins<const N: usize>(
     tree: &FoldTree<Rows, N>,
     dimensions: &[Dimensions],
     index: usize,
+    counts: &mut Counts,
 ) -> Result<(), Fault> {
     let opening = accepted(alloc, scheme, cap, tree, dimensions, index)?;
     let leaf = LeafOpening { index, opening };
@@ -74,6 +118,7 @@ fn check_leaf_twins<const N: usize>(
         let place = place_of(dimensions, &steps, *height);
         let twin = twin_rows(alloc, &leaf.opening.opened_values, matrix)?;
         check_leaf_twin(alloc, scheme, cap, dimensions, &leaf, &twin, &place)?;
+        counts.add_twins(&place);
     }
     Ok(())
 }
@@ -99,19 +144,22 @@ fn check_leaf_twin<const N: usize>(
     }
 }
 
-/// The same of the leaves of some queries, at least one, that are opened by one proof: the first of them collides.
+/// The same of the leaves of some queries that are opened by one proof: the first of them collides, and nothing does where
+/// there is no query.
 fn check_twins<const N: usize>(
     alloc: Global,
     scheme: &FoldScheme<N>,
     cap: &FoldCap,
     dimensions: &[Dimensions],
     opened: Opened<'_>,
+    counts: &mut Counts,
 ) -> Result<(), Fault> {
     let steps = scheme.proof_arity_schedule(alloc, dimensions)?;
     for (matrix, Dimensions { height, .. }) in dimensions.iter().enumerate() {
-        let place = place_of(dimensions, &steps, *height);
+        let place = place_of_first(opened.indices, dimensions, &steps, *height);
         let twin = twin_sets(alloc, &opened.opening.opened_values, matrix)?;
         check_twin(alloc, scheme, cap, dimensions, opened, &twin, &place)?;
+        counts.add_twins(&place);
     }
     Ok(())
 }
@@ -146,12 +194,16 @@ fn check_all_twins<const N: usize>(
     tree: &FoldTree<Rows, N>,
     dimensions: &[Dimensions],
     opened: Opened<'_>,
+    counts: &mut Counts,
 ) -> Result<(), Fault> {
-    if !has_twins(dimensions) || opened.indices.is_empty() {
+    if !has_twins(dimensions) {
         return Ok(());
     }
-    check_twins(alloc, scheme, cap, dimensions, opened)?;
-    check_leaf_twins(alloc, scheme, cap, tree, dimensions, opened.indices[0])
+    check_twins(alloc, scheme, cap, dimensions, opened, counts)?;
+    match opened.indices.first() {
+        Some(index) => check_leaf_twins(alloc, scheme, cap, tree, dimensions, *index, counts),
+        None => Ok(()),
+    }
 }
 
 /// Fails where the opening of some queries is not accepted, or restores another path than one for each.
@@ -173,15 +225,16 @@ fn check_opening<const N: usize>(
     check_paths(alloc, scheme, cap, tree, dimensions, indices, &paths)
 }
 
-/// How many digests the proof for some queries has. Their opening is accepted, and restores a path for each.
-fn digests_for<const N: usize>(
+/// Fails where the opening of some queries, its twins or the number of its digests is not as it should be.
+fn check_list<const N: usize>(
     alloc: Global,
     scheme: &FoldScheme<N>,
     cap: &FoldCap,
     tree: &FoldTree<Rows, N>,
     dimensions: &[Dimensions],
     indices: &[usize],
-) -> Result<usize, Fault> {
+    counts: &mut Counts,
+) -> Result<(), Fault> {
     check_indices(scheme.get_max_height(tree), indices)?;
     let opening = scheme.open_batch_pruned(alloc, indices, tree)?;
     let opened = Opened {
@@ -189,20 +242,14 @@ fn digests_for<const N: usize>(
         opening: &opening,
     };
     check_opening(alloc, scheme, cap, tree, dimensions, opened)?;
-    check_all_twins(alloc, scheme, cap, tree, dimensions, opened)?;
+    check_all_twins(alloc, scheme, cap, tree, dimensions, opened, counts)?;
     let count = scheme.pruned_len(alloc, dimensions, indices)?;
+    counts.add_list(count);
     if count == opening.pruned_proof.sibling_hashes.len() {
-        Ok(count)
+        Ok(())
     } else {
         Err(Fault::Wrong("a proof has another number of digests"))
     }
-}
-
-/// How many lists of queries there are for batches, and how many digests their proofs have.
-#[derive(Clone, Copy)]
-struct Counts {
-    lists: usize,
-    digests: usize,
 }
 
 /// Opens the leaves of each of some lists of queries of a batch of these dimensions, and counts.
@@ -216,15 +263,15 @@ fn count_for<const N: usize>(
 ) -> Result<(), Fault> {
     let (cap, tree) = committed(alloc, scheme, reader.numbered(dimensions))?;
     for indices in &lists_of(reader, queries, tallest_of(dimensions)) {
-        let digests = digests_for(alloc, scheme, &cap, &tree, dimensions, indices)?;
-        counts.lists = counts.lists.saturating_add(1);
-        counts.digests = counts.digests.saturating_add(digests);
+        check_list(alloc, scheme, &cap, &tree, dimensions, indices, counts)?;
     }
     Ok(())
 }
 
-/// `sweep | ARITY | CAP | DIMENSIONS | QUERIES | LISTS DIGESTS`: of each batch of matrices, many lists of queries are
-/// opened, accepted and restored; how many there are, and how many digests their proofs have.
+/// `sweep | ARITY | CAP | BATCHES | QUERIES | LISTS DIGESTS COLLISIONS NONES`: of each batch of matrices, many lists of
+/// queries are opened, accepted and restored, and so is the first leaf of each. Where all rows have twins, each opening is
+/// compared with its twin, matrix by matrix. How many lists there are, how many digests their proofs have, how many
+/// openings collide with a twin, and how many do not, since the matrix is not authenticated or there is no query.
 pub fn sweep<const N: usize>(
     alloc: Global,
     fields: &mut Fields<'_>,
@@ -236,10 +283,7 @@ pub fn sweep<const N: usize>(
     let scheme = fold_scheme::<N>(fields.cap());
     let batches = fields.take();
     let queries = fields.take();
-    let mut counts = Counts {
-        lists: 0,
-        digests: 0,
-    };
+    let mut counts = Counts::none();
     for dimensions in &batches_of(&mut fields.reader, batches) {
         count_for(
             alloc,
@@ -250,6 +294,6 @@ pub fn sweep<const N: usize>(
             &mut counts,
         )?;
     }
-    answer.numbers(&[counts.lists, counts.digests]);
+    counts.write(answer);
     Ok(())
 }

@@ -72,6 +72,19 @@ pub fn place_of(dimensions: &[Dimensions], steps: &[usize], height: usize) -> Op
     None
 }
 
+/// The same of the first of some queries; none where there is no query.
+pub fn place_of_first(
+    indices: &[usize],
+    dimensions: &[Dimensions],
+    steps: &[usize],
+    height: usize,
+) -> Option<Place> {
+    if indices.is_empty() {
+        return None;
+    }
+    place_of(dimensions, steps, height)
+}
+
 /// Whether two rows collide at this place, or nothing does where there is none.
 pub fn collides_at(found: &Option<Collision<u32, u32, 1>>, place: &Option<Place>) -> bool {
     match (found, place) {

@@ -3,10 +3,13 @@
 ghost use Rattle.std.specs.Prelude.{◌≤◌, IsTrue};
 ghost use Rattle.p3_merkle_core.specs.Geometry.{is_arity};
 
+use crate::agreement::agrees;
+use crate::extract::collision_of;
 use crate::fields::{Fault, Fields};
 use crate::scheme::{FoldOpening, fold_scheme};
 use crate::text::Answer;
 use p3_merkle_tree::{BatchOpening, BatchOpeningRef, MerkleCap};
+use std::alloc::Global;
 
 /// An opening of the leaf `index`.
 #[derive(Drop)]
@@ -28,16 +31,27 @@ impl LeafOpening {
     }
 }
 
-/// `verify | ARITY | CAP | CAP | DIMENSIONS | INDEX | ROWS | SIBLINGS | ANSWER`.
-pub fn verify<const N: usize>(fields: &mut Fields<'_>, answer: &mut Answer) -> Result<(), Fault>
+/// `verify | ARITY | CAP | CAP | DIMENSIONS | INDEX | ROWS | SIBLINGS | ANSWER`: the check of an opening, which the
+/// extraction from it and itself answers, too.
+pub fn verify<const N: usize>(
+    alloc: Global,
+    fields: &mut Fields<'_>,
+    answer: &mut Answer,
+) -> Result<(), Fault>
     requires arity { IsTrue (is_arity N) }
     requires few { N ≤ 8 }
 {
     let scheme = fold_scheme::<N>(fields.cap());
     let cap = MerkleCap::new(fields.digests());
     let dimensions = fields.dimensions();
-    let LeafOpening { index, opening } = LeafOpening::of(fields);
-    let verdict = scheme.verify_batch(&cap, &dimensions, index, BatchOpeningRef::from(&opening));
-    answer.verdict(&verdict);
-    Ok(())
+    let leaf = LeafOpening::of(fields);
+    let lent = BatchOpeningRef::from(&leaf.opening);
+    let verdict = scheme.verify_batch(&cap, &dimensions, leaf.index, lent);
+    let found = collision_of(alloc, &scheme, &cap, &dimensions, &leaf, &leaf);
+    if agrees(&verdict, &found) {
+        answer.verdict(&verdict);
+        Ok(())
+    } else {
+        Err(Fault::Wrong("the extraction is answered otherwise"))
+    }
 }

@@ -13,9 +13,11 @@ pub fn mistake(alloc: Global, line: &str) -> Result<Option<String>, Error> {
     let Some((words, input, answer)) = parts_of(line) else {
         return Ok(Some(format!(in alloc; "is no case")?));
     };
-    let got = answer_to(alloc, words, text_of(alloc, input)?.as_bytes())?;
-    let want = text_of(alloc, answer)?;
-    if got.as_str() == want.as_str() {
+    let (Some(input), Some(want)) = (bytes_of(alloc, input)?, bytes_of(alloc, answer)?) else {
+        return Ok(Some(format!(in alloc; "is no case")?));
+    };
+    let got = answer_to(alloc, words, &input)?;
+    if got.as_bytes() == want.as_slice() {
         Ok(None)
     } else {
         Ok(Some(format!(in alloc; "is answered {got:?}")?))
@@ -29,25 +31,79 @@ fn parts_of(line: &str) -> Option<(&str, &str, &str)> {
     Some((words, input, answer))
 }
 
-/// The text that is written with `\n`, `\r`, `\t` and `\0` for these bytes.
-fn text_of(alloc: Global, written: &str) -> Result<String, AllocError> {
-    let mut text = String::new(alloc);
-    let mut is_escaped = false;
-    for character in written.chars() {
-        if character == '\\' && !is_escaped {
-            is_escaped = true;
-            continue;
+/// Where a reading of written bytes stands.
+#[derive(Clone, Copy)]
+enum State {
+    /// Behind a byte.
+    Plain,
+    /// Behind a backslash.
+    Escaped,
+    /// Behind `\x`.
+    High,
+    /// Behind `\x` and a digit of this value.
+    Low(u8),
+    /// Behind what stands for no byte.
+    Wrong,
+}
+
+impl State {
+    /// Where the reading stands after one more byte, and the byte that is complete with it.
+    fn after(self, byte: u8) -> (State, Option<u8>) {
+        match self {
+            State::Plain if byte == b'\\' => (State::Escaped, None),
+            State::Plain => (State::Plain, Some(byte)),
+            State::Escaped if byte == b'x' => (State::High, None),
+            State::Escaped => (State::Plain, Some(escaped(byte))),
+            State::High => match digit_of(byte) {
+                Some(high) => (State::Low(high), None),
+                None => (State::Wrong, None),
+            },
+            State::Low(high) => match digit_of(byte) {
+                Some(low) => (State::Plain, Some(high.wrapping_mul(16).wrapping_add(low))),
+                None => (State::Wrong, None),
+            },
+            State::Wrong => (State::Wrong, None),
         }
-        text.push(match (is_escaped, character) {
-            (true, 'n') => '\n',
-            (true, 'r') => '\r',
-            (true, 't') => '\t',
-            (true, '0') => '\0',
-            _ => character,
-        })?;
-        is_escaped = false;
     }
-    Ok(text)
+}
+
+/// The byte for which a letter behind a backslash stands.
+fn escaped(letter: u8) -> u8 {
+    match letter {
+        b'n' => b'\n',
+        b'r' => b'\r',
+        b't' => b'\t',
+        b'0' => 0,
+        _ => letter,
+    }
+}
+
+/// The value of a hexadecimal digit.
+fn digit_of(byte: u8) -> Option<u8> {
+    match byte {
+        b'0'..=b'9' => Some(byte - b'0'),
+        b'a'..=b'f' => Some(byte - b'a' + 10),
+        b'A'..=b'F' => Some(byte - b'A' + 10),
+        _ => None,
+    }
+}
+
+/// The bytes that are written with `\n`, `\r`, `\t`, `\0` and `\xHH`; none where a `\x` has no two digits behind it, or
+/// a last backslash nothing.
+fn bytes_of(alloc: Global, written: &str) -> Result<Option<Vec<u8>>, AllocError> {
+    let mut bytes = Vec::new(alloc);
+    let mut state = State::Plain;
+    for byte in written.as_bytes() {
+        let (next, complete) = state.after(*byte);
+        if let Some(complete) = complete {
+            bytes.push(complete)?;
+        }
+        state = next;
+    }
+    Ok(match state {
+        State::Plain => Some(bytes),
+        _ => None,
+    })
 }
 
 /// What the output holds once the engine has answered, and behind it the line and the status of a fault.

@@ -2,8 +2,8 @@
 //! written, or is no case. Where there is such a line, it ends with status 1.
 //!
 //! A case is `WORDS | "INPUT" | ANSWER`: the words after the program's name, where `""` is an empty word; the input;
-//! and what is printed, with the line and the status of a fault. In the input and the answer `\n`, `\r`, `\t` and
-//! `\0` are the bytes that they are in Rust. Blank lines, and lines that begin with `#`, are no cases.
+//! and what is printed, with the line and the status of a fault. In the input and the answer `\n`, `\r`, `\t`, `\0` and
+//! `\xHH` are the bytes that they are in Rust's byte strings. Blank lines, and lines that begin with `#`, are no cases.
 #![tactic(auto)]
 
 mod case;

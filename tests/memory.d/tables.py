@@ -1,0 +1,56 @@
+"""Prints the lines of a run as the tables of docs/MEMORY.md: python3 tables.py LINES."""
+
+import sys
+
+
+def fields(line):
+    return [field.strip() for field in line.split("|")]
+
+
+def table(head, rows):
+    print("| " + " | ".join(head) + " |")
+    print("|---|" + "---:|" * (len(head) - 1))
+    for row in rows:
+        print("| " + " | ".join(row) + " |")
+    print()
+
+
+def by_call(lines, columns, value):
+    """A row for each call and a column for each batch, numbered, in the order of their first lines."""
+    calls = dict.fromkeys(call for _, call, *_ in lines)
+    cells = {(batch, call): value(rest) for batch, call, *rest in lines}
+    for number, name in enumerate(columns, 1):
+        print(f"{number}. {name}")
+    print()
+    head = ["Call", *(str(number) for number, _ in enumerate(columns, 1))]
+    table(head, [[call, *(cells.get((it, call), "") for it in columns)] for call in calls])
+
+
+def main():
+    lines = [fields(line) for line in open(sys.argv[1], encoding="utf-8") if "|" in line]
+    batches = [line for line in lines if len(line) == 5 and line[0] != "batch"]
+    inputs = [line for line in lines if len(line) == 7 and line[0] != "input"]
+    groups = []
+    for batch in dict.fromkeys(line[0] for line in batches):
+        calls = tuple(call for it, call, *_ in batches if it == batch)
+        for group in groups:
+            if set(group[0]) & set(calls):
+                group[1].append(batch)
+                break
+        else:
+            groups.append((calls, [batch]))
+    for _, columns in groups:
+        by_call([line for line in batches if line[0] in columns], columns, lambda rest: rest[0])
+    names = list(dict.fromkeys(line[0] for line in inputs))
+    calls = list(dict.fromkeys(line[1] for line in inputs))
+    for some in (calls[:4], calls[4:7], calls[7:]):
+        cells = {(line[0], line[1]): line[3] for line in inputs}
+        held = {(line[0], line[1]): line[4] for line in inputs}
+        table(
+            ["Input", "Its bytes", *some],
+            [[name, held[name, some[-1]], *(cells[name, call] for call in some)] for name in names],
+        )
+
+
+if __name__ == "__main__":
+    main()

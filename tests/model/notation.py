@@ -1,0 +1,72 @@
+"""How cases are written: numbers, rows, row sets, dimensions and matrices, read and printed."""
+
+
+def repeated(word, read):
+    """What a word stands for; with * and a count behind it, so often."""
+    value, _, count = word.partition("*")
+    return read(value.strip()) * int(count or 1)
+
+
+def span(word):
+    """A number, or the numbers from one up to another that have .. between them."""
+    first, dots, end = word.partition("..")
+    return list(range(int(first), int(end))) if dots else [int(first)]
+
+
+def numbers(text):
+    return [] if text == "-" else [value for word in text.split() for value in repeated(word, span)]
+
+
+def rows(text):
+    return [] if text == "none" else [numbers(row.strip()) for row in text.split(";")]
+
+
+def row_sets(text):
+    return [] if text == "-" else [rows(one.strip()) for one in text.split("/")]
+
+
+def size(word):
+    width, height = word.split("x")
+    return [(int(width), int(height))]
+
+
+def dimensions(text):
+    return [] if text == "none" else [value for word in text.split() for value in repeated(word, size)]
+
+
+def matrices(text):
+    return [[numbers(row.strip()) for row in matrix.split(",")] for matrix in text.split(";")]
+
+
+def numbered(sizes):
+    """Matrices of these dimensions, each word of which is the number of its row."""
+    return [[[row] * width for row in range(height)] for width, height in sizes]
+
+
+def print_numbers(values):
+    return " ".join(map(str, values)) if values else "-"
+
+
+def print_rows(values, empty="none"):
+    return "; ".join(map(print_numbers, values)) if values else empty
+
+
+def print_row_sets(values):
+    return " / ".join(map(print_rows, values)) if values else "-"
+
+
+def print_dimensions(values):
+    return " ".join(f"{width}x{height}" for width, height in values) if values else "none"
+
+
+def print_matrices(values):
+    return "; ".join(", ".join(map(print_numbers, matrix)) for matrix in values)
+
+
+def print_paths(paths):
+    return "; ".join(f"{query}: {print_numbers(path)}" for query, path in paths) if paths else "-"
+
+
+def print_collision(found):
+    name, first, second = found
+    return f"{name} | {print_numbers(first)} | {print_numbers(second)}"
