@@ -17,12 +17,18 @@ def numbers(text):
     return [] if text == "-" else [value for word in text.split() for value in repeated(word, span)]
 
 
+def counted(text, mark, read):
+    """What a part of a text stands for; with a mark and a count behind it, so often."""
+    part, _, count = text.partition(mark)
+    return [read(part.strip()) for _ in range(int(count or 1))]
+
+
 def rows(text):
-    return [] if text == "none" else [numbers(row.strip()) for row in text.split(";")]
+    return [] if text == "none" else [row for one in text.split(";") for row in counted(one, " times ", numbers)]
 
 
 def row_sets(text):
-    return [] if text == "-" else [rows(one.strip()) for one in text.split("/")]
+    return [] if text == "-" else [found for one in text.split("/") for found in counted(one, " sets ", rows)]
 
 
 def size(word):

@@ -31,6 +31,7 @@ mod sweep;
 mod text;
 mod twin;
 mod verify;
+mod widest;
 
 use crate::fields::{Fault, Fields};
 use crate::text::Answer;
@@ -133,7 +134,8 @@ fn answer_at_next(
         "2" => answer_at::<2>(alloc, keyword, fields, answer),
         "4" => answer_at::<4>(alloc, keyword, fields, answer),
         "8" => answer_at::<8>(alloc, keyword, fields, answer),
-        _ => Err(Fault::Unreadable("the arity is not 2, 4 or 8")),
+        "4611686018427387904" => widest::widest(alloc, keyword, fields, answer),
+        _ => Err(Fault::Unreadable("the arity is not 2, 4, 8 or 2^62")),
     }
 }
 

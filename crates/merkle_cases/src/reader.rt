@@ -1,5 +1,6 @@
 //! Numbers, rows, dimensions and matrices in a text. An empty list of numbers is written `-`, no rows and no dimensions
-//! at all are written `none`.
+//! at all are written `none`. What stands there often is written once: `NUMBER*COUNT`, `FIRST..END` for the numbers up to
+//! another, `WIDTHxHEIGHT*COUNT`, `ROW times COUNT` and `ROWS sets COUNT`.
 
 ghost use Rattle.std.specs.Prelude.{◌%◌, ◌<◌};
 
@@ -69,6 +70,39 @@ impl Reader {
         }
     }
 
+    /// A part of a text, and how often it stands there: the number behind this mark, or once.
+    fn counted<'w>(&mut self, text: &'w str, mark: &str) -> (&'w str, usize) {
+        match text.split_once(mark) {
+            Some((part, count)) => (part.trim(), self.number(count.trim())),
+            None => (text.trim(), 1),
+        }
+    }
+
+    /// Adds a number so often.
+    fn push_often(&mut self, numbers: &mut Vec<usize>, number: usize, count: usize) {
+        for _ in 0..count {
+            self.push(numbers, number);
+        }
+    }
+
+    /// Adds the numbers from one up to another.
+    fn push_span(&mut self, numbers: &mut Vec<usize>, first: usize, end: usize) {
+        for number in first..end {
+            self.push(numbers, number);
+        }
+    }
+
+    /// Adds the numbers that a word stands for.
+    fn push_numbers(&mut self, numbers: &mut Vec<usize>, word: &str) {
+        if let Some((first, end)) = word.split_once("..") {
+            let (first, end) = (self.number(first), self.number(end));
+            return self.push_span(numbers, first, end);
+        }
+        let (word, count) = self.counted(word, "*");
+        let number = self.number(word);
+        self.push_often(numbers, number, count);
+    }
+
     /// The cap that a word is: a height under this rule, or with `l` after it under the lowered rule, with `f` under the
     /// fixed one.
     pub fn cap(&mut self, word: &str, rule: CapRule) -> Cap {
@@ -90,8 +124,7 @@ impl Reader {
         let mut numbers = self.none();
         if text != "-" {
             for word in text.split_whitespace() {
-                let number = self.number(word);
-                self.push(&mut numbers, number);
+                self.push_numbers(&mut numbers, word);
             }
             self.check(!numbers.is_empty(), "a number is wrong or missing");
         }
@@ -119,16 +152,32 @@ impl Reader {
         digests
     }
 
+    /// Adds the row in a text so often.
+    fn push_row(&mut self, rows: &mut Vec<Vec<u32>>, text: &str, count: usize) {
+        for _ in 0..count {
+            let row = self.words(text);
+            self.push(rows, row);
+        }
+    }
+
     /// The rows in a text, with `;` between them.
     pub fn rows(&mut self, text: &str) -> Vec<Vec<u32>> {
         let mut rows = self.none();
         if text != "none" {
             for row in text.split(';') {
-                let row = self.words(row.trim());
-                self.push(&mut rows, row);
+                let (row, count) = self.counted(row, " times ");
+                self.push_row(&mut rows, row, count);
             }
         }
         rows
+    }
+
+    /// Adds the row set in a text so often.
+    fn push_row_set(&mut self, sets: &mut Vec<Vec<Vec<u32>>>, text: &str, count: usize) {
+        for _ in 0..count {
+            let rows = self.rows(text);
+            self.push(sets, rows);
+        }
     }
 
     /// The row sets in a text, with `/` between them; `-` where there are none.
@@ -136,8 +185,8 @@ impl Reader {
         let mut sets = self.none();
         if text != "-" {
             for set in text.split('/') {
-                let rows = self.rows(set.trim());
-                self.push(&mut sets, rows);
+                let (set, count) = self.counted(set, " sets ");
+                self.push_row_set(&mut sets, set, count);
             }
         }
         sets
@@ -160,13 +209,21 @@ impl Reader {
         }
     }
 
+    /// Adds dimensions so often.
+    fn push_matrix(&mut self, dimensions: &mut Vec<Dimensions>, matrix: Dimensions, count: usize) {
+        for _ in 0..count {
+            self.push(dimensions, matrix);
+        }
+    }
+
     /// The dimensions in a text, with blanks between those of each matrix.
     pub fn dimensions(&mut self, text: &str) -> Vec<Dimensions> {
         let mut dimensions = self.none();
         if text != "none" {
             for word in text.split_whitespace() {
+                let (word, count) = self.counted(word, "*");
                 let matrix = self.matrix_dimensions(word);
-                self.push(&mut dimensions, matrix);
+                self.push_matrix(&mut dimensions, matrix, count);
             }
             self.check(!dimensions.is_empty(), "dimensions are missing");
         }
