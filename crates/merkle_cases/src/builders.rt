@@ -63,7 +63,7 @@ fn check_builders<const N: usize>(
     tree: &Tree<N>,
 ) -> Result<(), Fault>
     requires arity { IsTrue (is_arity N) }
-    requires few { N ≤ 8 }
+    requires few { N ≤ 16 }
 {
     let (hash, compress) = (FoldHash::<1>, FoldCompress::<N, 1>);
     let again = reader.numbered(dimensions);
@@ -84,7 +84,7 @@ pub fn builders<const N: usize>(
     answer: &mut Answer,
 ) -> Result<(), Fault>
     requires arity { IsTrue (is_arity N) }
-    requires few { N ≤ 8 }
+    requires few { N ≤ 16 }
 {
     let dimensions = fields.dimensions();
     let tree = fold_tree::<_, N>(alloc, fields.reader.numbered(&dimensions))?;

@@ -17,7 +17,7 @@ pub fn commit<const N: usize>(
     answer: &mut Answer,
 ) -> Result<(), Fault>
     requires arity { IsTrue (is_arity N) }
-    requires few { N ≤ 8 }
+    requires few { N ≤ 16 }
 {
     let scheme = fold_scheme::<N>(fields.cap());
     let (cap, _) = committed(alloc, &scheme, fields.matrices())?;
@@ -32,7 +32,7 @@ pub fn layers<const N: usize>(
     answer: &mut Answer,
 ) -> Result<(), Fault>
     requires arity { IsTrue (is_arity N) }
-    requires few { N ≤ 8 }
+    requires few { N ≤ 16 }
 {
     let tree = fold_tree::<_, N>(alloc, fields.matrices())?;
     write_layers(alloc, &tree, answer)?;

@@ -61,7 +61,7 @@ pub fn extract_pruned<const N: usize>(
     answer: &mut Answer,
 ) -> Result<(), Fault>
     requires arity { IsTrue (is_arity N) }
-    requires few { N ≤ 8 }
+    requires few { N ≤ 16 }
 {
     let scheme = fold_scheme::<N>(fields.cap());
     let cap = MerkleCap::new(fields.digests());
@@ -118,7 +118,7 @@ pub fn extract<const N: usize>(
     answer: &mut Answer,
 ) -> Result<(), Fault>
     requires arity { IsTrue (is_arity N) }
-    requires few { N ≤ 8 }
+    requires few { N ≤ 16 }
 {
     let scheme = fold_scheme::<N>(fields.cap());
     let cap = MerkleCap::new(fields.digests());

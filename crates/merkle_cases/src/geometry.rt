@@ -38,7 +38,7 @@ const MAX_LEN: usize = 1 << 32;
 /// `padding | ARITY | LENGTHS | PADDED LENGTHS`.
 pub fn padding<const N: usize>(fields: &mut Fields<'_>, answer: &mut Answer) -> Result<(), Fault>
     requires some { 1 ≤ N }
-    requires few { N ≤ 8 }
+    requires few { N ≤ 16 }
 {
     for (place, len) in fields.numbers().iter().enumerate() {
         if *len > MAX_LEN {

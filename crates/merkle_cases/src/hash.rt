@@ -18,7 +18,7 @@ pub fn hash(fields: &mut Fields<'_>, answer: &mut Answer) -> Result<(), Fault> {
 
 /// `compress | ARITY | DIGESTS | DIGEST`: the digest of a group of as many digests as the arity.
 pub fn compress<const N: usize>(fields: &mut Fields<'_>, answer: &mut Answer) -> Result<(), Fault>
-    requires { N ≤ 8 }
+    requires { N ≤ 16 }
 {
     let digests = fields.digests();
     let Some(group) = digests.first_chunk::<N>() else {

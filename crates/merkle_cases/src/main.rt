@@ -49,7 +49,7 @@ fn answer_at<const N: usize>(
 ) -> Result<(), Fault>
     requires arity { IsTrue (is_arity N) }
     requires several { 2 ≤ N }
-    requires few { N ≤ 8 }
+    requires few { N ≤ 16 }
 {
     match keyword {
         "compress" => hash::compress::<N>(fields, answer),
@@ -70,7 +70,7 @@ fn answer_of_tree<const N: usize>(
     answer: &mut Answer,
 ) -> Result<(), Fault>
     requires arity { IsTrue (is_arity N) }
-    requires few { N ≤ 8 }
+    requires few { N ≤ 16 }
 {
     match keyword {
         "shape" => heights::shape::<N>(alloc, fields, answer),
@@ -94,7 +94,7 @@ fn answer_to_opening<const N: usize>(
     answer: &mut Answer,
 ) -> Result<(), Fault>
     requires arity { IsTrue (is_arity N) }
-    requires few { N ≤ 8 }
+    requires few { N ≤ 16 }
 {
     match keyword {
         "pruned_len" => pruned::pruned_len::<N>(alloc, fields, answer),
@@ -134,8 +134,9 @@ fn answer_at_next(
         "2" => answer_at::<2>(alloc, keyword, fields, answer),
         "4" => answer_at::<4>(alloc, keyword, fields, answer),
         "8" => answer_at::<8>(alloc, keyword, fields, answer),
+        "16" => answer_at::<16>(alloc, keyword, fields, answer),
         "4611686018427387904" => widest::widest(alloc, keyword, fields, answer),
-        _ => Err(Fault::Unreadable("the arity is not 2, 4, 8 or 2^62")),
+        _ => Err(Fault::Unreadable("the arity is not 2, 4, 8, 16 or 2^62")),
     }
 }
 

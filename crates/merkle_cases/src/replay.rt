@@ -17,7 +17,7 @@ pub fn schedule<const N: usize>(
     answer: &mut Answer,
 ) -> Result<(), Fault>
     requires arity { IsTrue (is_arity N) }
-    requires few { N ≤ 8 }
+    requires few { N ≤ 16 }
 {
     let scheme = fold_scheme::<N>(fields.cap());
     let dimensions = fields.columns();
@@ -44,7 +44,7 @@ pub fn replay<const N: usize>(
     answer: &mut Answer,
 ) -> Result<(), Fault>
     requires arity { IsTrue (is_arity N) }
-    requires few { N ≤ 8 }
+    requires few { N ≤ 16 }
 {
     let scheme = fold_scheme::<N>(fields.cap());
     let dimensions = fields.columns();

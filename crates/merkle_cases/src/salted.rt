@@ -34,7 +34,7 @@ pub fn salted_scheme<const N: usize, const SALT_ELEMS: usize>(
     rng: ChaCha20Rng,
 ) -> SaltedScheme<N, SALT_ELEMS>
     requires arity { IsTrue (is_arity N) }
-    requires few { N ≤ 8 }
+    requires few { N ≤ 16 }
     requires some_salt { 1 ≤ SALT_ELEMS }
 {
     MerkleTreeHidingMmcs::new_with_rule(
@@ -55,7 +55,7 @@ pub fn salted<const N: usize>(
     answer: &mut Answer,
 ) -> Result<(), Fault>
     requires arity { IsTrue (is_arity N) }
-    requires few { N ≤ 8 }
+    requires few { N ≤ 16 }
 {
     let cap = fields.cap();
     match fields.take() {
@@ -77,7 +77,7 @@ fn opened_or_checked<const N: usize, const SALT_ELEMS: usize>(
     answer: &mut Answer,
 ) -> Result<(), Fault>
     requires arity { IsTrue (is_arity N) }
-    requires few { N ≤ 8 }
+    requires few { N ≤ 16 }
     requires some_salt { 1 ≤ SALT_ELEMS }
 {
     match keyword {
@@ -97,7 +97,7 @@ fn checked<const N: usize, const SALT_ELEMS: usize>(
     answer: &mut Answer,
 ) -> Result<(), Fault>
     requires arity { IsTrue (is_arity N) }
-    requires few { N ≤ 8 }
+    requires few { N ≤ 16 }
     requires some_salt { 1 ≤ SALT_ELEMS }
 {
     match keyword {

@@ -51,7 +51,7 @@ pub const ROOT: Cap = Cap {
 /// The scheme with such a cap.
 pub fn fold_scheme<const N: usize>(cap: Cap) -> FoldScheme<N>
     requires arity { IsTrue (is_arity N) }
-    requires few { N ≤ 8 }
+    requires few { N ≤ 16 }
 {
     MerkleTreeMmcs::new_with_rule(FoldHash::<1>, FoldCompress::<N, 1>, cap.height, cap.rule)
 }
@@ -71,7 +71,7 @@ pub fn fold_tree<M: Matrix<u32> + Drop, const N: usize>(
     matrices: Vec<M>,
 ) -> Result<FoldTree<M, N>, MerkleTreeError>
     requires arity { IsTrue (is_arity N) }
-    requires few { N ≤ 8 }
+    requires few { N ≤ 16 }
 {
     MerkleTree::new::<u32, u32, FoldHash<1>, FoldCompress<N, 1>>(
         alloc,

@@ -278,7 +278,7 @@ pub fn sweep<const N: usize>(
     answer: &mut Answer,
 ) -> Result<(), Fault>
     requires arity { IsTrue (is_arity N) }
-    requires few { N ≤ 8 }
+    requires few { N ≤ 16 }
 {
     let scheme = fold_scheme::<N>(fields.cap());
     let batches = fields.take();

@@ -39,7 +39,7 @@ pub fn verify<const N: usize>(
     answer: &mut Answer,
 ) -> Result<(), Fault>
     requires arity { IsTrue (is_arity N) }
-    requires few { N ≤ 8 }
+    requires few { N ≤ 16 }
 {
     let scheme = fold_scheme::<N>(fields.cap());
     let cap = MerkleCap::new(fields.digests());

@@ -29,7 +29,7 @@ pub fn verify<const N: usize, const SALT_ELEMS: usize>(
     answer: &mut Answer,
 ) -> Result<(), Fault>
     requires arity { IsTrue (is_arity N) }
-    requires few { N ≤ 8 }
+    requires few { N ≤ 16 }
     requires some_salt { 1 ≤ SALT_ELEMS }
 {
     let scheme = salted_scheme::<N, SALT_ELEMS>(cap, unused());
@@ -56,7 +56,7 @@ pub fn verify_pruned<const N: usize, const SALT_ELEMS: usize>(
     answer: &mut Answer,
 ) -> Result<(), Fault>
     requires arity { IsTrue (is_arity N) }
-    requires few { N ≤ 8 }
+    requires few { N ≤ 16 }
     requires some_salt { 1 ≤ SALT_ELEMS }
 {
     let scheme = salted_scheme::<N, SALT_ELEMS>(cap, unused());

@@ -126,7 +126,7 @@ pub fn extract<const N: usize, const SALT_ELEMS: usize>(
     answer: &mut Answer,
 ) -> Result<(), Fault>
     requires arity { IsTrue (is_arity N) }
-    requires few { N ≤ 8 }
+    requires few { N ≤ 16 }
     requires some_salt { 1 ≤ SALT_ELEMS }
 {
     let scheme = salted_scheme::<N, SALT_ELEMS>(cap, unused());
@@ -153,7 +153,7 @@ pub fn extract_pruned<const N: usize, const SALT_ELEMS: usize>(
     answer: &mut Answer,
 ) -> Result<(), Fault>
     requires arity { IsTrue (is_arity N) }
-    requires few { N ≤ 8 }
+    requires few { N ≤ 16 }
     requires some_salt { 1 ≤ SALT_ELEMS }
 {
     let scheme = salted_scheme::<N, SALT_ELEMS>(cap, unused());

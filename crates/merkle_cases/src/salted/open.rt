@@ -29,7 +29,7 @@ pub fn seeded<const N: usize, const SALT_ELEMS: usize>(
     fields: &mut Fields<'_>,
 ) -> SaltedScheme<N, SALT_ELEMS>
     requires arity { IsTrue (is_arity N) }
-    requires few { N ≤ 8 }
+    requires few { N ≤ 16 }
     requires some_salt { 1 ≤ SALT_ELEMS }
 {
     let seed = fields.number();
@@ -103,7 +103,7 @@ pub fn open<const N: usize, const SALT_ELEMS: usize>(
     answer: &mut Answer,
 ) -> Result<(), Fault>
     requires arity { IsTrue (is_arity N) }
-    requires few { N ≤ 8 }
+    requires few { N ≤ 16 }
     requires some_salt { 1 ≤ SALT_ELEMS }
 {
     let mut scheme = seeded::<N, SALT_ELEMS>(cap, fields);
@@ -145,7 +145,7 @@ pub fn pruned<const N: usize, const SALT_ELEMS: usize>(
     answer: &mut Answer,
 ) -> Result<(), Fault>
     requires arity { IsTrue (is_arity N) }
-    requires few { N ≤ 8 }
+    requires few { N ≤ 16 }
     requires some_salt { 1 ≤ SALT_ELEMS }
 {
     let mut scheme = seeded::<N, SALT_ELEMS>(cap, fields);

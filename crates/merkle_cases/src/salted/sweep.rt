@@ -164,7 +164,7 @@ pub fn sweep<const N: usize, const SALT_ELEMS: usize>(
     answer: &mut Answer,
 ) -> Result<(), Fault>
     requires arity { IsTrue (is_arity N) }
-    requires few { N ≤ 8 }
+    requires few { N ≤ 16 }
     requires some_salt { 1 ≤ SALT_ELEMS }
 {
     let mut scheme = seeded::<N, SALT_ELEMS>(cap, fields);
