@@ -20,7 +20,8 @@ pub mixed : (s x place : ℕ) → ((31 * s + x) % 2 ^ 32 + place % 2 ^ 32) % 2 ^
 mixed s x place = omega arith
 
 -- one more element has the next place
-enumerate_from-append : {A : Type 0} (n : ℕ) (xs : List A) (x : A) → enumerate_from n (xs ++ x ∷ []) ≡ enumerate_from n xs ++ (n + length xs, x) ∷ []
+enumerate_from-append : {A : Type 0} (n : ℕ) (xs : List A) (x : A) → enumerate_from n (xs ++ x ∷ [])
+    ≡ enumerate_from n xs ++ (n + length xs, x) ∷ []
 enumerate_from-append n [] x = ap (λ i. (i, x) ∷ []) (omega arith)
 enumerate_from-append n (y ∷ ys) x =
     let place : n + 1 + length ys ≡ n + length (y ∷ ys) = omega arith in
@@ -28,17 +29,21 @@ enumerate_from-append n (y ∷ ys) x =
 
 -- an element after one more child
 pub placed_more : (e i : ℕ) (children : List (List ℕ)) (d : List ℕ) → i < length children
-    → fold mix_in 0 (placed_elements e (take (i + 1) children)) ≡ mix_in (fold mix_in 0 (placed_elements e (take i children))) (i, get_or (get_or children i d) e 0)
+    → fold mix_in 0 (placed_elements e (take (i + 1) children))
+    ≡ mix_in (fold mix_in 0 (placed_elements e (take i children))) (i, get_or (get_or children i d) e 0)
 placed_more e i children d below =
     let of = λ (child : List ℕ). get_or child e 0 in
     let so_far = take i children in
-    let count : 0 + length (map of so_far) ≡ i = omega (arith, length-map so_far of, length-take-le i children (omega arith)) in
-    ap (λ l. fold mix_in 0 (enumerate_from 0 l)) (ap (map of) (take_more children i d below) ∙ map-append of so_far (get_or children i d ∷ []))
+    let count : 0 + length (map of so_far)
+    ≡ i = omega (arith, length-map so_far of, length-take-le i children (omega arith)) in
+    ap (λ l. fold mix_in 0 (enumerate_from 0 l)) (ap (map of) (take_more children i d below)
+    ∙ map-append of so_far (get_or children i d ∷ []))
     ∙ ap (fold mix_in 0) (enumerate_from-append 0 (map of so_far) (of (get_or children i d)))
     ∙ fold-append mix_in 0 (placed_elements e so_far) ((0 + length (map of so_far), of (get_or children i d)) ∷ [])
     ∙ ap (λ j. mix_in (fold mix_in 0 (placed_elements e so_far)) (j, of (get_or children i d))) count
 
 -- elements that take in one more word of a slice
 pub absorbed_more : (words state : List ℕ) (i : ℕ) → i < length words
-    → map (λ s. take_in s (get_or words i 0)) (map (λ s. fold take_in s (take i words)) state) ≡ map (λ s. fold take_in s (take (i + 1) words)) state
+    → map (λ s. take_in s (get_or words i 0)) (map (λ s. fold take_in s (take i words)) state)
+    ≡ map (λ s. fold take_in s (take (i + 1) words)) state
 absorbed_more words state i below = rw (take_more words i 0 below) (simp (map-map, fold-append))

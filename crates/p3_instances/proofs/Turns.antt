@@ -2,7 +2,8 @@
 use Rattle.std.proofs.Common.{◌≡◌, ℕ, zero, suc, ◌<◌, List, [], ◌∷◌, length, get_or, slice_index, refl, ap, ◌∙◌, arith}
 
 -- a list of four, by its elements
-pub four_of : (xs : List ℕ) → length xs ≡ 4 → slice_index xs 0 ∷ slice_index xs 1 ∷ slice_index xs 2 ∷ slice_index xs 3 ∷ [] ≡ xs
+pub four_of : (xs : List ℕ) → length xs ≡ 4 → slice_index xs 0 ∷ slice_index xs 1 ∷ slice_index xs 2 ∷ slice_index xs 3
+    ∷ [] ≡ xs
 four_of [] h = absurd (omega (arith, h))
 four_of (a ∷ []) h = absurd (omega (arith, h))
 four_of (a ∷ b ∷ []) h = absurd (omega (arith, h))
@@ -24,19 +25,30 @@ lane_cases P a b c d e f g h (suc (suc (suc (suc (suc (suc (suc (suc k)))))))) b
 
 -- element k of column i of eight rows
 abbrev element : List ℕ → List ℕ → List ℕ → List ℕ → List ℕ → List ℕ → List ℕ → List ℕ → ℕ → ℕ → ℕ
-element a b c d e f g h k i = get_or (slice_index a i ∷ slice_index b i ∷ slice_index c i ∷ slice_index d i ∷ slice_index e i ∷ slice_index f i ∷ slice_index g i ∷ slice_index h i ∷ []) k 0
+element a b c d e f g h k i =
+    get_or (slice_index a i ∷ slice_index b i ∷ slice_index c i ∷ slice_index d i ∷ slice_index e i ∷ slice_index f i
+    ∷ slice_index g i ∷ slice_index h i ∷ []) k 0
 
 -- what the lanes of four columns of eight rows are: the rows
-pub turned_lanes : (a b c d e f g h p q r s : List ℕ) → length a ≡ 4 → length b ≡ 4 → length c ≡ 4 → length d ≡ 4 → length e ≡ 4 → length f ≡ 4 → length g ≡ 4 → length h ≡ 4
-    → p ≡ slice_index a 0 ∷ slice_index b 0 ∷ slice_index c 0 ∷ slice_index d 0 ∷ slice_index e 0 ∷ slice_index f 0 ∷ slice_index g 0 ∷ slice_index h 0 ∷ []
-    → q ≡ slice_index a 1 ∷ slice_index b 1 ∷ slice_index c 1 ∷ slice_index d 1 ∷ slice_index e 1 ∷ slice_index f 1 ∷ slice_index g 1 ∷ slice_index h 1 ∷ []
-    → r ≡ slice_index a 2 ∷ slice_index b 2 ∷ slice_index c 2 ∷ slice_index d 2 ∷ slice_index e 2 ∷ slice_index f 2 ∷ slice_index g 2 ∷ slice_index h 2 ∷ []
-    → s ≡ slice_index a 3 ∷ slice_index b 3 ∷ slice_index c 3 ∷ slice_index d 3 ∷ slice_index e 3 ∷ slice_index f 3 ∷ slice_index g 3 ∷ slice_index h 3 ∷ []
-    → (k : ℕ) → k < 8 → get_or p k 0 ∷ get_or q k 0 ∷ get_or r k 0 ∷ get_or s k 0 ∷ [] ≡ get_or (a ∷ b ∷ c ∷ d ∷ e ∷ f ∷ g ∷ h ∷ []) k []
+pub turned_lanes : (a b c d e f g h p q r s : List ℕ) → length a ≡ 4 → length b ≡ 4 → length c ≡ 4 → length d ≡ 4 →
+    length e ≡ 4 → length f ≡ 4 → length g ≡ 4 → length h ≡ 4
+    → p ≡ slice_index a 0 ∷ slice_index b 0 ∷ slice_index c 0 ∷ slice_index d 0 ∷ slice_index e 0 ∷ slice_index f 0
+    ∷ slice_index g 0 ∷ slice_index h 0 ∷ []
+    → q ≡ slice_index a 1 ∷ slice_index b 1 ∷ slice_index c 1 ∷ slice_index d 1 ∷ slice_index e 1 ∷ slice_index f 1
+    ∷ slice_index g 1 ∷ slice_index h 1 ∷ []
+    → r ≡ slice_index a 2 ∷ slice_index b 2 ∷ slice_index c 2 ∷ slice_index d 2 ∷ slice_index e 2 ∷ slice_index f 2
+    ∷ slice_index g 2 ∷ slice_index h 2 ∷ []
+    → s ≡ slice_index a 3 ∷ slice_index b 3 ∷ slice_index c 3 ∷ slice_index d 3 ∷ slice_index e 3 ∷ slice_index f 3
+    ∷ slice_index g 3 ∷ slice_index h 3 ∷ []
+    → (k : ℕ) → k < 8 → get_or p k 0 ∷ get_or q k 0 ∷ get_or r k 0 ∷ get_or s k 0 ∷ []
+    ≡ get_or (a ∷ b ∷ c ∷ d ∷ e ∷ f ∷ g ∷ h ∷ []) k []
 turned_lanes a b c d e f g h p q r s la lb lc ld le lf lg lh ep eq er es k below =
     ap (λ l. get_or l k 0 ∷ get_or q k 0 ∷ get_or r k 0 ∷ get_or s k 0 ∷ []) ep
     ∙ ap (λ l. element a b c d e f g h k 0 ∷ get_or l k 0 ∷ get_or r k 0 ∷ get_or s k 0 ∷ []) eq
     ∙ ap (λ l. element a b c d e f g h k 0 ∷ element a b c d e f g h k 1 ∷ get_or l k 0 ∷ get_or s k 0 ∷ []) er
-    ∙ ap (λ l. element a b c d e f g h k 0 ∷ element a b c d e f g h k 1 ∷ element a b c d e f g h k 2 ∷ get_or l k 0 ∷ []) es
-    ∙ lane_cases (λ j. element a b c d e f g h j 0 ∷ element a b c d e f g h j 1 ∷ element a b c d e f g h j 2 ∷ element a b c d e f g h j 3 ∷ [] ≡ get_or (a ∷ b ∷ c ∷ d ∷ e ∷ f ∷ g ∷ h ∷ []) j [])
-    (four_of a la) (four_of b lb) (four_of c lc) (four_of d ld) (four_of e le) (four_of f lf) (four_of g lg) (four_of h lh) k below
+    ∙ ap (λ l. element a b c d e f g h k 0 ∷ element a b c d e f g h k 1 ∷ element a b c d e f g h k 2 ∷ get_or l k 0
+    ∷ []) es
+    ∙ lane_cases (λ j. element a b c d e f g h j 0 ∷ element a b c d e f g h j 1 ∷ element a b c d e f g h j 2
+    ∷ element a b c d e f g h j 3 ∷ [] ≡ get_or (a ∷ b ∷ c ∷ d ∷ e ∷ f ∷ g ∷ h ∷ []) j [])
+    (four_of a la) (four_of b lb) (four_of c lc) (four_of d ld) (four_of e le) (four_of f lf) (four_of g lg)
+    (four_of h lh) k below

@@ -6,6 +6,7 @@ ghost use Rattle.std.specs.Iterator.Runs.{WholeRun};
 ghost use Rattle.p3_support.specs.Lists.{lane_of};
 ghost use Rattle.p3_instances.specs.Sha.{sha256_rows, sha256_nodes};
 
+pub use p3_sha256_lanes::digest_size::DigestSize;
 use p3_support::compress::PseudoCompressionFunction;
 use p3_support::hasher::CryptographicHasher;
 use sha2::{Digest, Sha256};
@@ -75,23 +76,6 @@ impl CryptographicHasher<u8, u8, 32> for Sha256Rows {
 
     fn hash_packed<I: Iterator<Item = u8>>(&self, input: I) -> [u8; 32] {
         hash_bytes(input)
-    }
-}
-
-/// That a digest has `D` bytes, which holds of `Sha256` at 32 alone. `Sha256Nodes` asks for it in
-/// place of writing 32, since an `impl` that leaves one number of its trait open and writes another
-/// is not proved.
-pub trait DigestSize<const D: usize> {
-    /// The digest, as an array of `D` bytes.
-    fn array(digest: [u8; 32]) -> [u8; D]
-        ensures { result ≡ digest };
-}
-
-impl DigestSize<32> for Sha256 {
-    fn array(digest: [u8; 32]) -> [u8; 32]
-        ensures { result ≡ digest }
-    {
-        digest
     }
 }
 

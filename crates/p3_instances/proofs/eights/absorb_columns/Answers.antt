@@ -12,7 +12,9 @@ loop-column-preserved g c = λ k below.
     let i = c.loop-column.column in
     let x = slice_index_or row i 0 in
     let state = lane_of g.P.PackedValue.lanes g.P.PackedValue.default_value k c.loop-column.state in
-    let long : length row ≡ c.args.width = length-message c.args.messages.now c.args.width c.requires.full.0 (c.args.first + k) c.requires.full.2 (omega (arith, c.requires.full.1, below)) in
+    let long : length row
+    ≡ c.args.width = length-message c.args.messages.now c.args.width c.requires.full.0 (c.args.first + k)
+    c.requires.full.2 (omega (arith, c.requires.full.1, below)) in
     let inside : i < length row = omega (arith, long, c.loop-column-test.true) in
     c.absorb.ensures k below ∙ ap (λ w. map (λ s. take_in s w) state) (c.column_of.ensures k below)
     ∙ ap (map (λ s. take_in s x)) (c.loop-column.invariant k below)

@@ -17,4 +17,5 @@ loop-block-preserved g c = λ k below.
     c.absorb_words.ensures k below ∙ ap (λ l. map (λ s. fold take_in s l) state) (c.columns_of_eight.ensures k below)
     ∙ ap (map (λ s. fold take_in s words)) (c.loop-block.invariant k below)
     ∙ fold_hash-append g.row.D (take i row) words
-    ∙ ap (fold_hash g.row.D) (ap (λ n. take i row ++ take n (drop i row)) four ∙ sym (take-add i 4 row) ∙ ap (λ n. take n row) next)
+    ∙ ap (fold_hash g.row.D) (ap (λ n. take i row ++ take n (drop i row)) four ∙ sym (take-add i 4 row)
+    ∙ ap (λ n. take n row) next)

@@ -13,11 +13,17 @@ returns c = λ k below.
     let back = c.four_columns-back.result in
     let long = λ (j : ℕ). c.four_columns-front.ensures.long j in
     let too = λ (j : ℕ). c.four_columns-back.ensures.long j in
-    let joined : (i : ℕ) → get_or front i [] ++ get_or back i [] ≡ get_or (turned (row 0) (row 1) (row 2) (row 3)) i [] ++ get_or (turned (later 0) (later 1) (later 2) (later 3)) i [] =
+    let joined : (i : ℕ) → get_or front i [] ++ get_or back i [] ≡ get_or (turned (row 0) (row 1) (row 2) (row 3)) i []
+    ++ get_or (turned (later 0) (later 1) (later 2) (later 3)) i [] =
     λ i. ap (λ (l : List (List ℕ)). get_or l i [] ++ get_or back i []) c.four_columns-front.ensures.columns
-    ∙ ap (λ (l : List (List ℕ)). get_or (turned (row 0) (row 1) (row 2) (row 3)) i [] ++ get_or l i []) c.four_columns-back.ensures.columns in
-    let same : (j : ℕ) → later j ≡ row (4 + j) = λ j. let place : c.args.first + 4 + j ≡ c.args.first + (4 + j) = omega arith in ap words place in
-    turned_lanes (row 0) (row 1) (row 2) (row 3) (later 0) (later 1) (later 2) (later 3) _ _ _ _ (long 0 (omega arith)) (long 1 (omega arith)) (long 2 (omega arith)) (long 3 (omega arith))
-    (too 0 (omega arith)) (too 1 (omega arith)) (too 2 (omega arith)) (too 3 (omega arith)) (c.join.ensures ∙ joined 0) (c.join-2.ensures ∙ joined 1) (c.join-3.ensures ∙ joined 2)
+    ∙ ap (λ (l : List (List ℕ)). get_or (turned (row 0) (row 1) (row 2) (row 3)) i [] ++ get_or l i [])
+    c.four_columns-back.ensures.columns in
+    let same : (j : ℕ) → later j ≡ row (4 + j) = λ j. let place : c.args.first + 4 + j
+    ≡ c.args.first + (4 + j) = omega arith in ap words place in
+    turned_lanes (row 0) (row 1) (row 2) (row 3) (later 0) (later 1) (later 2) (later 3) _ _ _ _ (long 0 (omega arith))
+    (long 1 (omega arith)) (long 2 (omega arith)) (long 3 (omega arith))
+    (too 0 (omega arith)) (too 1 (omega arith)) (too 2 (omega arith)) (too 3 (omega arith)) (c.join.ensures ∙ joined 0)
+    (c.join-2.ensures ∙ joined 1) (c.join-3.ensures ∙ joined 2)
     (c.join-4.ensures ∙ joined 3) k below
-    ∙ lane_cases (λ j. get_or (row 0 ∷ row 1 ∷ row 2 ∷ row 3 ∷ later 0 ∷ later 1 ∷ later 2 ∷ later 3 ∷ []) j [] ≡ row j) refl refl refl refl (same 0) (same 1) (same 2) (same 3) k below
+    ∙ lane_cases (λ j. get_or (row 0 ∷ row 1 ∷ row 2 ∷ row 3 ∷ later 0 ∷ later 1 ∷ later 2 ∷ later 3 ∷ []) j [] ≡ row j)
+    refl refl refl refl (same 0) (same 1) (same 2) (same 3) k below

@@ -6,4 +6,5 @@ abbrev pub invariant-loop-i : goal.invariant-loop-i
 invariant-loop-i g l =
     (length l.out ≡ length l.initial.out)
     × ((j : ℕ) → j < l.from → slice_index_or l.out j [] ≡ slice_index_or l.initial.out j [])
-    × ((j : ℕ) → l.from ≤ j → j < l.i → slice_index_or l.out j [] ≡ fold_compress g.row.D (slice_index_or l.groups j []))
+    × ((j : ℕ) → l.from ≤ j → j < l.i → slice_index_or l.out j []
+    ≡ fold_compress g.row.D (slice_index_or l.groups j []))

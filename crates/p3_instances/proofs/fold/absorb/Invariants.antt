@@ -8,4 +8,7 @@ invariant-loop-element g l =
     (length l.state ≡ length l.initial.state)
     × ((k : ℕ) → k < g.P.PackedValue.WIDTH →
     let lanes = g.P.PackedValue.lanes in let d = g.P.PackedValue.default_value in
-    lane_of lanes d k l.state ≡ map (λ s. take_in s (slice_index_or (lanes l.word) k d)) (take l.element-index (lane_of lanes d k l.initial.state)) ++ drop l.element-index (lane_of lanes d k l.initial.state))
+    lane_of lanes d k l.state
+    ≡ map (λ s. take_in s (slice_index_or (lanes l.word) k d))
+    (take l.element-index (lane_of lanes d k l.initial.state))
+    ++ drop l.element-index (lane_of lanes d k l.initial.state))

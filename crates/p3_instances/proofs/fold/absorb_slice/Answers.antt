@@ -10,4 +10,5 @@ loop-word-preserved g c =
     let i = c.loop-word.word-index in
     let below : i < length words = search rules in
     sym (single_lane 0 c.absorb.new.state) ∙ c.absorb.ensures 0 (omega arith)
-    ∙ ap (map (λ s. take_in s (slice_index words i))) (single_lane 0 c.loop-word.state ∙ c.loop-word.invariant) ∙ absorbed_more words c.args.state.now i below
+    ∙ ap (map (λ s. take_in s (slice_index words i))) (single_lane 0 c.loop-word.state ∙ c.loop-word.invariant)
+    ∙ absorbed_more words c.args.state.now i below

@@ -5,4 +5,5 @@ use Rattle.p3_instances.proofs.fold.compress_group.Goals as goal
 
 pub returns : goal.returns
 returns g c =
-    sym (single_lane 0 c.compress_lanes.result) ∙ c.compress_lanes.ensures 0 (omega arith) ∙ ap (fold_compress g.row.D) (single_lanes 0 c.args.children.now)
+    sym (single_lane 0 c.compress_lanes.result) ∙ c.compress_lanes.ensures 0 (omega arith)
+    ∙ ap (fold_compress g.row.D) (single_lanes 0 c.args.children.now)

@@ -14,7 +14,8 @@ loop-i-init g c = (
   λ k e below inside.
       let pick = λ (p : g.row.P.Denot). slice_index_or (g.P.PackedValue.lanes p) k g.P.PackedValue.default_value in
       lane_of_same pick g.row.D e c.broadcast-digest.result 0 inside
-      ∙ ap (λ l. slice_index_or l k g.P.PackedValue.default_value) c.broadcast-digest.ensures ∙ get_or-replicate g.P.PackedValue.WIDTH k 0 g.P.PackedValue.default_value below,
+      ∙ ap (λ l. slice_index_or l k g.P.PackedValue.default_value) c.broadcast-digest.ensures
+      ∙ get_or-replicate g.P.PackedValue.WIDTH k 0 g.P.PackedValue.default_value below,
 )
 
 pub loop-i-preserved : goal.loop-i-preserved
@@ -39,6 +40,8 @@ returns g c = λ k below.
     let of = λ (ps : List g.row.P.Denot). lane_of g.P.PackedValue.lanes g.P.PackedValue.default_value k ps in
     let pick = λ (p : g.row.P.Denot). slice_index_or (g.P.PackedValue.lanes p) k g.P.PackedValue.default_value in
     let all = map of c.args.children.now in
-    let whole : take c.loop-i.i all ≡ all = take_all c.loop-i.i all (rw (length-map c.args.children.now of) (search rules)) in
-    fill_by_all (λ e. fold mix_in 0 (placed_elements e all)) (of c.loop-i.digest) g.row.D 0 (length-map c.loop-i.digest pick ∙ c.loop-i.invariant.0)
+    let whole : take c.loop-i.i all
+    ≡ all = take_all c.loop-i.i all (rw (length-map c.args.children.now of) (search rules)) in
+    fill_by_all (λ e. fold mix_in 0 (placed_elements e all)) (of c.loop-i.digest) g.row.D 0
+    (length-map c.loop-i.digest pick ∙ c.loop-i.invariant.0)
     (λ e h. c.loop-i.invariant.1 k e below h ∙ ap (λ l. fold mix_in 0 (placed_elements e l)) whole)

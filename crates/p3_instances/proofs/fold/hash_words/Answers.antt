@@ -8,4 +8,6 @@ use Rattle.p3_instances.proofs.fold.hash_words.Goals as goal
 pub returns : goal.returns
 returns g c =
     let words = c.args.words.now in
-    c.absorb_slice.ensures ∙ ap (map (λ s. fold take_in s words)) (alone 0 c.start-state.result (fold_hash g.row.D []) c.start-state.ensures) ∙ fold_hash-append g.row.D [] words
+    c.absorb_slice.ensures
+    ∙ ap (map (λ s. fold take_in s words))
+    (alone 0 c.start-state.result (fold_hash g.row.D []) c.start-state.ensures) ∙ fold_hash-append g.row.D [] words

@@ -23,10 +23,15 @@ loop-e-preserved g c =
                 let s = of k (slice_index_or old e c.index-digest-e.result) in
                 let x = of k (slice_index_or child e c.index-child-e.result) in
                 let element : of k new ≡ mix_in s (c.args.place, x) =
-                c.add_to_each.ensures k below ∙ ap (λ n. (of k c.step_together.result + n) % 2 ^ 32) c.low_bits-number.ensures
-                ∙ ap (λ t. (t + c.args.place % 2 ^ 32) % 2 ^ 32) (c.step_together.ensures k below) ∙ mixed s x c.args.place in
-                rw same (lane_of_written (of k) old e new 0 inside ∙ element ∙ rw (← read, ← word, c.loop-e.invariant.2 k e (omega arith)) refl)
-            | inr other ↦ lane_of_set (of k) old e j new 0 other ∙ c.loop-e.invariant.1 k j below (omega (arith, other, inner))
+                c.add_to_each.ensures k below
+                ∙ ap (λ n. (of k c.step_together.result + n) % 2 ^ 32) c.low_bits-number.ensures
+                ∙ ap (λ t. (t + c.args.place % 2 ^ 32) % 2 ^ 32) (c.step_together.ensures k below)
+                ∙ mixed s x c.args.place in
+                rw same (lane_of_written (of k) old e new 0 inside ∙ element
+                ∙ rw (← read, ← word, c.loop-e.invariant.2 k e (omega arith)) refl)
+            | inr other ↦ lane_of_set (of k) old e j new 0 other
+                ∙ c.loop-e.invariant.1 k j below (omega (arith, other, inner))
           ],
-      λ k j above. lane_of_set (of k) old e j new 0 (λ same. omega (arith, same, above)) ∙ c.loop-e.invariant.2 k j (omega (arith, above)),
+      λ k j above. lane_of_set (of k) old e j new 0 (λ same. omega (arith, same, above))
+          ∙ c.loop-e.invariant.2 k j (omega (arith, above)),
     )

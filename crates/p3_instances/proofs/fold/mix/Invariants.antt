@@ -7,5 +7,6 @@ abbrev pub invariant-loop-e : goal.invariant-loop-e
 invariant-loop-e g l =
     let of = lane_of g.P.PackedValue.lanes g.P.PackedValue.default_value in
     (length l.digest ≡ length l.initial.digest)
-    × ((k j : ℕ) → k < g.P.PackedValue.WIDTH → j < l.e → slice_index_or (of k l.digest) j 0 ≡ mix_in (slice_index_or (of k l.initial.digest) j 0) (l.place, slice_index_or (of k l.child) j 0))
+    × ((k j : ℕ) → k < g.P.PackedValue.WIDTH → j < l.e → slice_index_or (of k l.digest) j 0
+    ≡ mix_in (slice_index_or (of k l.initial.digest) j 0) (l.place, slice_index_or (of k l.child) j 0))
     × ((k j : ℕ) → l.e ≤ j → slice_index_or (of k l.digest) j 0 ≡ slice_index_or (of k l.initial.digest) j 0)

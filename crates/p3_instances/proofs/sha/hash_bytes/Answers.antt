@@ -8,7 +8,8 @@ use Rattle.p3_support.proofs.Runs.{run_of_loop}
 use Rattle.p3_instances.proofs.sha.hash_bytes.Goals as goal
 
 -- the bytes so far and one more are those handed on and those gathered with it
-gathered : (yielded handed block : List ℕ) (filled byte : ℕ) → filled < length block → yielded ≡ handed ++ take filled block → yielded ++ byte ∷ [] ≡ handed ++ take (filled + 1) (set block filled byte)
+gathered : (yielded handed block : List ℕ) (filled byte : ℕ) → filled < length block → yielded
+    ≡ handed ++ take filled block → yielded ++ byte ∷ [] ≡ handed ++ take (filled + 1) (set block filled byte)
 gathered yielded handed block filled byte below held =
     ap (λ xs. xs ++ byte ∷ []) held
     ∙ append_assoc handed (take filled block) (byte ∷ [])
@@ -16,7 +17,8 @@ gathered yielded handed block filled byte below held =
 
 -- a full block is gathered as a whole
 full : (handed block : List ℕ) (n : ℕ) → length block ≡ n → handed ++ take n block ≡ (handed ++ block) ++ []
-full handed block n long = ap (λ xs. handed ++ xs) (take_all n block (omega (arith, long))) ∙ sym (append-nil (handed ++ block))
+full handed block n long = ap (λ xs. handed ++ xs) (take_all n block (omega (arith, long)))
+    ∙ sym (append-nil (handed ++ block))
 
 pub loop-byte-preserved : goal.loop-byte-preserved
 loop-byte-preserved g c =
@@ -33,12 +35,21 @@ loop-byte-preserved-then-filled-eq-BLOCK g c =
     let inside : c.loop-byte.filled < length c.loop-byte.block = rw long below in
     let still : length block ≡ 64 = length-set c.loop-byte.block c.loop-byte.filled c.in-Some.byte ∙ long in
     let more = gathered c.loop-byte.yielded handed c.loop-byte.block c.loop-byte.filled c.in-Some.byte inside held in
-    let none : 0 < 64 = omega arith in
-    (still, none, (handed ++ block, c.update.ensures handed holds, more ∙ full handed block (c.loop-byte.filled + 1) (still ∙ sym c.if-filled-eq-BLOCK.true)))
+    let none : 0 < 64 = omega arith in (
+      still,
+      none,
+      (
+        handed ++ block,
+        c.update.ensures handed holds,
+        more
+            ∙ full handed block (c.loop-byte.filled + 1) (still ∙ sym c.if-filled-eq-BLOCK.true),
+      ),
+    )
 
 pub returns : goal.returns
 returns g c =
     let held = c.loop-byte.invariant.2 in
     let whole = c.finalize.ensures _ (c.update-2.ensures held.0 held.1) in
-    run_of_loop g.I.Iterator.next_gives (λ (xs : List ℕ). c.finalize.result ≡ sha256_rows xs) c.loop-byte.yielded _ c.into_iter-byte-iterator.ensures.into_iter_gives c.loop-byte.yielded_by c.in-None.is c.next.ensures.steps
+    run_of_loop g.I.Iterator.next_gives (λ (xs : List ℕ). c.finalize.result ≡ sha256_rows xs) c.loop-byte.yielded _
+    c.into_iter-byte-iterator.ensures.into_iter_gives c.loop-byte.yielded_by c.in-None.is c.next.ensures.steps
     (whole ∙ ap sha256_rows (sym held.2))

@@ -10,5 +10,6 @@ loop-digest-preserved g c =
     let digests = c.args.digests.now in
     let i = c.loop-digest.digest-index in
     let below : i < length digests = search rules in
-    let more : concat (take (i + 1) digests) ≡ concat (take i digests) ++ get_or digests i [] = rw (take_more digests i [] below) (simp (concat-append, append-nil)) in
+    let more : concat (take (i + 1) digests) ≡ concat (take i digests) ++ get_or digests i [] =
+    rw (take_more digests i [] below) (simp (concat-append, append-nil)) in
     rw more (c.update.ensures _ c.loop-digest.invariant)

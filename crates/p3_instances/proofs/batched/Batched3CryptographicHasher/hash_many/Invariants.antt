@@ -6,4 +6,5 @@ use Rattle.p3_instances.proofs.batched.Batched3CryptographicHasher.hash_many.Giv
 abbrev pub invariant-loop-i : goal.invariant-loop-i
 invariant-loop-i g l =
     (length l.out ≡ length l.initial.out)
-    × ((j : ℕ) → j < l.i → slice_index_or l.out j [] ≡ g.X.CryptographicHasher.hash l.self.0 (message l.width l.messages j))
+    × ((j : ℕ) → j < l.i → slice_index_or l.out j []
+    ≡ g.X.CryptographicHasher.hash l.self.0 (message l.width l.messages j))

@@ -5,4 +5,5 @@ use Rattle.p3_instances.proofs.batched.Batched3PseudoCompressionFunction.compres
 abbrev pub invariant-loop-i : goal.invariant-loop-i
 invariant-loop-i g l =
     (length l.out ≡ length l.initial.out)
-    × ((j : ℕ) → j < l.i → slice_index_or l.out j [] ≡ g.X.PseudoCompressionFunction.compression l.self.0 (slice_index_or l.groups j []))
+    × ((j : ℕ) → j < l.i → slice_index_or l.out j []
+    ≡ g.X.PseudoCompressionFunction.compression l.self.0 (slice_index_or l.groups j []))

@@ -5,5 +5,10 @@ use Rattle.p3_instances.proofs.fold.FoldHashCryptographicHasher.hash_iter.Goals 
 
 pub returns : goal.returns
 returns g c =
-    let run = c.hash_lanes.ensures in
-    (run.0, run.1, run.2, sym (single_lane 0 c.hash_lanes.result) ∙ run.3 0 (omega arith) ∙ ap (fold_hash g.row.D) (single_lane 0 run.0.items))
+    let run = c.hash_lanes.ensures in (
+      run.0,
+      run.1,
+      run.2,
+      sym (single_lane 0 c.hash_lanes.result) ∙ run.3 0 (omega arith)
+          ∙ ap (fold_hash g.row.D) (single_lane 0 run.0.items),
+    )

@@ -15,10 +15,14 @@ loop-words-preserved g c =
     let items = g.S.AsSlice.items in
     let so_far = c.loop-words.yielded in
     let words = c.in-Some.words in
-    let more : flat_map items (so_far ++ words ∷ []) ≡ flat_map items so_far ++ items words = flat_map-append items so_far (words ∷ []) ∙ ap (λ l. flat_map items so_far ++ l) (append-nil (items words)) in
-    c.absorb_slice.ensures ∙ ap (λ l. map (λ s. fold take_in s l) c.loop-words.state) c.as_slice.ensures ∙ ap (map (λ s. fold take_in s (items words))) c.loop-words.invariant
+    let more : flat_map items (so_far ++ words ∷ []) ≡ flat_map items so_far ++ items words =
+    flat_map-append items so_far (words ∷ []) ∙ ap (λ l. flat_map items so_far ++ l) (append-nil (items words)) in
+    c.absorb_slice.ensures ∙ ap (λ l. map (λ s. fold take_in s l) c.loop-words.state) c.as_slice.ensures
+    ∙ ap (map (λ s. fold take_in s (items words))) c.loop-words.invariant
     ∙ fold_hash-append g.row.D (flat_map items so_far) (items words) ∙ ap (fold_hash g.row.D) (sym more)
 
 pub returns : goal.returns
 returns g c =
-    run_of_loop g.I.Iterator.next_gives (λ xs. c.loop-words.state ≡ fold_hash g.row.D (flat_map g.S.AsSlice.items xs)) c.loop-words.yielded _ c.into_iter-words-iterator.ensures.into_iter_gives c.loop-words.yielded_by c.in-None.is c.next.ensures.steps c.loop-words.invariant
+    run_of_loop g.I.Iterator.next_gives (λ xs. c.loop-words.state ≡ fold_hash g.row.D (flat_map g.S.AsSlice.items xs))
+    c.loop-words.yielded _ c.into_iter-words-iterator.ensures.into_iter_gives c.loop-words.yielded_by c.in-None.is
+    c.next.ensures.steps c.loop-words.invariant

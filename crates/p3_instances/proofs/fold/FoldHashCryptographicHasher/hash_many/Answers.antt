@@ -14,5 +14,6 @@ returns g c = λ w e.
     let some : 0 < n = search rules in
     let width : length xs / n ≡ w = rw e (mul-div_cancel w some) in
     let hash = fold_hash g.row.D in
-    fill_by_all (λ i. hash (message w xs i)) c.hash_all.new.out n [] c.hash_all.ensures.long (λ k h. c.hash_all.ensures.filled k h ∙ ap (λ v. hash (message v xs k)) width)
+    fill_by_all (λ i. hash (message w xs i)) c.hash_all.new.out n [] c.hash_all.ensures.long
+    (λ k h. c.hash_all.ensures.filled k h ∙ ap (λ v. hash (message v xs k)) width)
     ∙ sym (map-map hash (message w xs) (range_with_len 0 n))

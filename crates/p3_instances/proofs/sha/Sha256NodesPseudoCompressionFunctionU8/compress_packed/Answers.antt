@@ -5,4 +5,5 @@ use Rattle.p3_support.proofs.LaneReads.{only_lane, only_lanes}
 use Rattle.p3_instances.proofs.sha.Sha256NodesPseudoCompressionFunctionU8.compress_packed.Goals as goal
 
 pub returns : goal.returns
-returns g c = λ k below. only_lane 0 k c.array.result below ∙ c.array.ensures ∙ c.hash_group.ensures ∙ ap sha256_nodes (sym (only_lanes 0 k c.args.input below))
+returns g c = λ k below. only_lane 0 k c.array.result below ∙ c.array.ensures ∙ c.hash_group.ensures
+    ∙ ap sha256_nodes (sym (only_lanes 0 k c.args.input below))

@@ -14,5 +14,6 @@ returns c = λ w e.
     let n = length c.args.out.now in
     let some : 0 < n = search rules in
     let width : length xs / n ≡ w = rw e (mul-div_cancel w some) in
-    fill_by_all (λ i. sha256_rows (message w xs i)) c.loop-i.out n [] c.loop-i.invariant.0 (λ k h. c.loop-i.invariant.1 k (omega arith) ∙ ap (λ v. sha256_rows (message v xs k)) width)
+    fill_by_all (λ i. sha256_rows (message w xs i)) c.loop-i.out n [] c.loop-i.invariant.0
+    (λ k h. c.loop-i.invariant.1 k (omega arith) ∙ ap (λ v. sha256_rows (message v xs k)) width)
     ∙ sym (map-map sha256_rows (message w xs) (range_with_len 0 n))

@@ -6,5 +6,10 @@ use Rattle.p3_instances.proofs.sha.Sha256RowsCryptographicHasherU8U832.hash_pack
 
 pub returns : goal.returns
 returns g c =
-    let run = c.hash_bytes.ensures in
-    (run.0, run.1, run.2, λ k below same. only_lane 0 k c.hash_bytes.result below ∙ run.3 ∙ ap sha256_rows (sym (only_lane 0 k run.0.items below)))
+    let run = c.hash_bytes.ensures in (
+      run.0,
+      run.1,
+      run.2,
+      λ k below same. only_lane 0 k c.hash_bytes.result below ∙ run.3
+          ∙ ap sha256_rows (sym (only_lane 0 k run.0.items below)),
+    )
