@@ -26,6 +26,23 @@ def by_call(lines, columns, value):
     table(head, [[call, *(cells.get((it, call), "") for it in columns)] for call in calls])
 
 
+def is_free(lines):
+    return all(requests == "0" for _, _, requests, *_ in lines)
+
+
+def by_calls(lines, columns):
+    """A row for each list of calls, with the batches that have it."""
+    rows = {}
+    for name in columns:
+        calls = tuple(call for batch, call, *_ in lines if batch == name)
+        rows.setdefault(calls, []).append(name)
+    print("| Of | Calls |")
+    print("|---|---|")
+    for calls, names in rows.items():
+        print(f"| {', '.join(names)} | {'; '.join(calls)} |")
+    print()
+
+
 def main():
     lines = [fields(line) for line in open(sys.argv[1], encoding="utf-8") if "|" in line]
     batches = [line for line in lines if len(line) == 5 and line[0] != "batch"]
@@ -39,8 +56,14 @@ def main():
                 break
         else:
             groups.append((calls, [batch]))
+    free = []
     for _, columns in groups:
-        by_call([line for line in batches if line[0] in columns], columns, lambda rest: rest[0])
+        some = [line for line in batches if line[0] in columns]
+        if is_free(some):
+            free += columns
+        else:
+            by_call(some, columns, lambda rest: rest[0])
+    by_calls(batches, free)
     names = list(dict.fromkeys(line[0] for line in inputs))
     calls = list(dict.fromkeys(line[1] for line in inputs))
     for some in (calls[:4], calls[4:7], calls[7:]):
