@@ -76,8 +76,8 @@ fn check_builders<const N: usize>(
     check_built::<u32, _, _, N>(alloc, &Batched3(hash), &Batched3(compress), three, tree)
 }
 
-/// `builders | ARITY | DIMENSIONS | LAYERS ROOT`: the number of layers and the root of the tree that is built one by one,
-/// where it has the same layers once more and by each other builder.
+/// `builders | ARITY | DIMENSIONS | LAYERS ROOT`: the number of layers and the root of the tree that is built one by
+/// one, where it has the same layers once more and by each other builder.
 pub fn builders<const N: usize>(
     alloc: Global,
     fields: &mut Fields<'_>,

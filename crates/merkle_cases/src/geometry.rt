@@ -7,10 +7,9 @@ use crate::fields::{Fault, Fields};
 use crate::text::Answer;
 use p3_merkle_core::geometry::{
     MAX_HEIGHT, bits_reduced_of, check_widths, expected_height_of, exponent_of, has_exponent,
-    is_bridge_step, padded_len, positions_below_of, schedule_below_of, select_arity_step,
-    tallest_of,
+    is_bridge_step, padded_len, select_arity_step,
 };
-use p3_merkle_core::steps::{levels_of, siblings_below_of};
+use p3_merkle_core::steps::steps_of;
 use std::alloc::Global;
 
 /// `exponent | HEIGHT | EXPONENT`.
@@ -19,8 +18,8 @@ pub fn exponent(fields: &mut Fields<'_>, answer: &mut Answer) -> Result<(), Faul
     Ok(())
 }
 
-/// `halving | TALLEST HEIGHT | HEIGHT | EXPECTED HEIGHT, HALVINGS`: the height that is expected in the place of a height,
-/// and how many halvings lead there from the tallest.
+/// `halving | TALLEST HEIGHT | HEIGHT | EXPECTED HEIGHT, HALVINGS`: the height that is expected in the place of a
+/// height, and how many halvings lead there from the tallest.
 pub fn halving(fields: &mut Fields<'_>, answer: &mut Answer) -> Result<(), Fault> {
     let tallest = fields.number();
     let height = fields.number();
@@ -50,8 +49,8 @@ pub fn padding<const N: usize>(fields: &mut Fields<'_>, answer: &mut Answer) -> 
     Ok(())
 }
 
-/// `step | ARITY | HEIGHTS | EXPONENT | matrix or none, bridge or whole, STEP, NEXT EXPONENT`: whether a matrix has that
-/// exponent, and the step from there.
+/// `step | ARITY | HEIGHTS | EXPONENT | matrix or none, bridge or whole, STEP, NEXT EXPONENT`: whether a matrix has
+/// that exponent, and the step from there.
 pub fn step(fields: &mut Fields<'_>, answer: &mut Answer) -> Result<(), Fault> {
     let arity = fields.number();
     let dimensions = fields.columns();
@@ -69,8 +68,8 @@ pub fn step(fields: &mut Fields<'_>, answer: &mut Answer) -> Result<(), Fault> {
 pub fn steps(alloc: Global, fields: &mut Fields<'_>, answer: &mut Answer) -> Result<(), Fault> {
     let arity = fields.number().max(2);
     let dimensions = fields.columns();
-    let levels = levels_of(&dimensions, arity);
-    answer.numbers(&schedule_below_of(alloc, &dimensions, arity, levels)?);
+    let steps = steps_of(&dimensions, arity);
+    answer.numbers(&steps.schedule_below(alloc, steps.num_levels)?);
     Ok(())
 }
 
@@ -81,7 +80,11 @@ pub fn positions(alloc: Global, fields: &mut Fields<'_>, answer: &mut Answer) ->
     let dimensions = fields.columns();
     let layer = fields.number();
     let index = fields.number();
-    answer.numbers(&positions_below_of(alloc, &dimensions, arity, layer, index)?);
+    let steps = steps_of(&dimensions, arity);
+    if layer > steps.num_levels {
+        return Err(Fault::Unreadable("the layer is above the root"));
+    }
+    answer.numbers(&steps.positions_below(alloc, layer, index)?);
     Ok(())
 }
 
@@ -92,12 +95,13 @@ pub fn siblings<const N: usize>(fields: &mut Fields<'_>, answer: &mut Answer) ->
     requires several { 2 ≤ N }
 {
     let dimensions = fields.columns();
-    if tallest_of(&dimensions) > MAX_HEIGHT {
+    let steps = steps_of(&dimensions, N);
+    if steps.max_height > MAX_HEIGHT {
         return Err(Fault::Unreadable("the height is too great"));
     }
-    for layer in 0..=levels_of(&dimensions, N) {
+    for layer in 0..=steps.num_levels {
         answer.separate(layer, " ");
-        answer.number(siblings_below_of(&dimensions, N, layer));
+        answer.number(steps.siblings_below(layer));
     }
     Ok(())
 }

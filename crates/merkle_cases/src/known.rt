@@ -4,8 +4,7 @@ ghost use Rattle.std.specs.Prelude.{◌<◌};
 
 use crate::fields::{Fault, Fields};
 use crate::text::Answer;
-use p3_merkle_core::geometry::schedule_below_of;
-use p3_merkle_core::steps::levels_of;
+use p3_merkle_core::steps::steps_of;
 use std::alloc::{AllocError, Global};
 
 /// Nodes that are given: the layer of each, counted from the leaves, and its number there.
@@ -85,7 +84,8 @@ pub fn known(alloc: Global, fields: &mut Fields<'_>, answer: &mut Answer) -> Res
         layers: fields.numbers(),
         numbers: fields.numbers(),
     };
-    let steps = schedule_below_of(alloc, &dimensions, arity, levels_of(&dimensions, arity))?;
+    let steps = steps_of(&dimensions, arity);
+    let steps = steps.schedule_below(alloc, steps.num_levels)?;
     write_known(alloc, &steps, &indices, &nodes, answer)?;
     Ok(())
 }

@@ -1,6 +1,6 @@
 //! Numbers, rows, dimensions and matrices in a text. An empty list of numbers is written `-`, no rows and no dimensions
-//! at all are written `none`. What stands there often is written once: `NUMBER*COUNT`, `FIRST..END` for the numbers up to
-//! another, `WIDTHxHEIGHT*COUNT`, `ROW times COUNT` and `ROWS sets COUNT`.
+//! at all are written `none`. What stands there often is written once: `NUMBER*COUNT`, `FIRST..END` for the numbers up
+//! to another, `WIDTHxHEIGHT*COUNT`, `ROW times COUNT` and `ROWS sets COUNT`.
 
 ghost use Rattle.std.specs.Prelude.{◌%◌, ◌<◌};
 
@@ -103,8 +103,8 @@ impl Reader {
         self.push_often(numbers, number, count);
     }
 
-    /// The cap that a word is: a height under this rule, or with `l` after it under the lowered rule, with `f` under the
-    /// fixed one.
+    /// The cap that a word is: a height under this rule, or with `l` after it under the lowered rule, with `f` under
+    /// the fixed one.
     pub fn cap(&mut self, word: &str, rule: CapRule) -> Cap {
         let (height, rule) = if let Some(height) = word.strip_suffix('l') {
             (height, CapRule::Lowered)

@@ -144,8 +144,8 @@ fn check_leaf_twin<const N: usize>(
     }
 }
 
-/// The same of the leaves of some queries that are opened by one proof: the first of them collides, and nothing does where
-/// there is no query.
+/// The same of the leaves of some queries that are opened by one proof: the first of them collides, and nothing does
+/// where there is no query.
 fn check_twins<const N: usize>(
     alloc: Global,
     scheme: &FoldScheme<N>,
@@ -269,8 +269,8 @@ fn count_for<const N: usize>(
 }
 
 /// `sweep | ARITY | CAP | BATCHES | QUERIES | LISTS DIGESTS COLLISIONS NONES`: of each batch of matrices, many lists of
-/// queries are opened, accepted and restored, and so is the first leaf of each. Where all rows have twins, each opening is
-/// compared with its twin, matrix by matrix. How many lists there are, how many digests their proofs have, how many
+/// queries are opened, accepted and restored, and so is the first leaf of each. Where all rows have twins, each opening
+/// is compared with its twin, matrix by matrix. How many lists there are, how many digests their proofs have, how many
 /// openings collide with a twin, and how many do not, since the matrix is not authenticated or there is no query.
 pub fn sweep<const N: usize>(
     alloc: Global,

@@ -15,8 +15,8 @@ pub fn has_twins(dimensions: &[Dimensions]) -> bool {
     true
 }
 
-/// A row with its first word one more and its second 31 less, which has the same digest. A row of one word has no twin but
-/// itself.
+/// A row with its first word one more and its second 31 less, which has the same digest. A row of one word has no twin
+/// but itself.
 fn twin_row(alloc: Global, row: &[u32]) -> Result<Vec<u32>, AllocError> {
     let mut twin = Vec::from_slice(alloc, row)?;
     if twin.len() >= 2 {
@@ -56,8 +56,8 @@ pub fn twin_sets(
     Ok(twin)
 }
 
-/// The place of a check at which the rows of a matrix of this height are hashed; none where its layer is above the cap, to
-/// which these steps lead.
+/// The place of a check at which the rows of a matrix of this height are hashed; none where its layer is above the cap,
+/// to which these steps lead.
 pub fn place_of(dimensions: &[Dimensions], steps: &[usize], height: usize) -> Option<Place> {
     let mut exponent = exponent_of(tallest_of(dimensions));
     if exponent == exponent_of(height) {

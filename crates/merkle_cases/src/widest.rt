@@ -1,5 +1,5 @@
-//! What the calls that build no group answer at the greatest arity. Digests have no words there, since no group of others
-//! fits in memory.
+//! What the calls that build no group answer at the greatest arity. Digests have no words there, since no group of
+//! others fits in memory.
 
 use crate::fields::{Fault, Fields};
 use crate::text::Answer;

@@ -56,47 +56,70 @@ has_end (line ∷ lines) = end_cons line lines (is_blank line) refl (has_end lin
 -- ---- a faulty line is in no matrix
 
 -- the lines of a matrix have one length
-same_lengths : (limit : ℕ) (block rows : List (List ℕ)) → IsMatrix limit block rows → (width : ℕ) × All (λ line. length (numbers_of line) ≡ width) block
+same_lengths : (limit : ℕ) (block rows : List (List ℕ)) → IsMatrix limit block rows →
+    (width : ℕ) × All (λ line. length (numbers_of line) ≡ width) block
 same_lengths limit block rows matrix =
-    let w = matrix.one_length.0 in
-    (w, all_from_map (λ r. length r ≡ w) numbers_of block (subst (λ (rs : List (List ℕ)). All (λ r. length r ≡ w) rs) matrix.rows_are matrix.one_length.1))
+    let w = matrix.one_length.0 in (
+      w,
+      all_from_map (λ r. length r ≡ w) numbers_of block
+          (subst (λ (rs : List (List ℕ)). All (λ r. length r ≡ w) rs) matrix.rows_are matrix.one_length.1),
+    )
 
-refused_by : (limit at : ℕ) (rows : List (List ℕ)) (line : List ℕ) (more made : List (List ℕ)) (fault : Fault) → IsMatrix limit ((rows ++ line ∷ []) ++ more) made → IsLineFault limit rows at line fault → ⊥
+refused_by : (limit at : ℕ) (rows : List (List ℕ)) (line : List ℕ) (more made : List (List ℕ)) (fault : Fault) →
+    IsMatrix limit ((rows ++ line ∷ []) ++ more) made → IsLineFault limit rows at line fault → ⊥
 refused_by limit at rows line more made Usage matrix faulty = faulty
 refused_by limit at rows line more made Read matrix faulty = faulty
 refused_by limit at rows line more made Write matrix faulty = faulty
 refused_by limit at rows line more made (Tree e) matrix faulty = faulty
 refused_by limit at rows line more made (Number number max) matrix faulty =
-    faulty.2 (All-contains (λ l. All (IsNumberBelow limit) (numerals_of l)) ((rows ++ line ∷ []) ++ more) line matrix.numbers (Contains-append_left (rows ++ line ∷ []) more line (Contains-push rows line)))
+    faulty.2 (All-contains (λ l. All (IsNumberBelow limit) (numerals_of l)) ((rows ++ line ∷ []) ++ more) line
+    matrix.numbers (Contains-append_left (rows ++ line ∷ []) more line (Contains-push rows line)))
 refused_by limit at rows line more made (Count number expected got) matrix faulty =
     let each = same_lengths limit ((rows ++ line ∷ []) ++ more) made matrix in
     let P : List ℕ → Type 0 = λ l. length (numbers_of l) ≡ each.0 in
     let first = get_or rows 0 [] in
-    let first_among = Contains-append_left (rows ++ line ∷ []) more first (Contains-append_left rows (line ∷ []) first (Contains-get_or rows 0 [] faulty.1)) in
+    let first_among =
+    Contains-append_left (rows ++ line ∷ []) more first
+    (Contains-append_left rows (line ∷ []) first (Contains-get_or rows 0 [] faulty.1)) in
     let first_width = All-contains P ((rows ++ line ∷ []) ++ more) first each.1 first_among in
-    let line_width = All-contains P ((rows ++ line ∷ []) ++ more) line each.1 (Contains-append_left (rows ++ line ∷ []) more line (Contains-push rows line)) in
+    let line_width = All-contains P ((rows ++ line ∷ []) ++ more) line each.1
+    (Contains-append_left (rows ++ line ∷ []) more line (Contains-push rows line)) in
     faulty.4 (faulty.3 ∙ line_width ∙ sym first_width ∙ sym faulty.2)
 
 -- lines with a faulty one stand for nothing
-pub fault_excludes : (limit : ℕ) (lines : List (List ℕ)) (fault : Fault) (matrices : List (List (List ℕ))) → IsFirstFault limit lines fault → AreLinesOf limit lines matrices → ⊥
+pub fault_excludes : (limit : ℕ) (lines : List (List ℕ)) (fault : Fault) (matrices : List (List (List ℕ))) →
+    IsFirstFault limit lines fault → AreLinesOf limit lines matrices → ⊥
 fault_excludes limit lines fault matrices found stands =
     let there = has_end found.above in
     let rows = there.rows in
-    let last : rows_at_end found.above ≡ rows = ap rows_at_end there.cut ∙ rows_are_last there.front rows there.ended there.full in
-    let run = first_run is_blank (rows ++ found.line ∷ []) found.below (All-push (λ l. is_blank l ≡ false) rows found.line there.full found.full) (omega (arith, length_push rows found.line)) in
+    let last : rows_at_end found.above ≡ rows = ap rows_at_end there.cut
+    ∙ rows_are_last there.front rows there.ended there.full in
+    let run = first_run is_blank (rows ++ found.line ∷ []) found.below
+    (All-push (λ l. is_blank l ≡ false) rows found.line there.full found.full)
+    (omega (arith, length_push rows found.line)) in
     let whole : lines ≡ there.front ++ ((rows ++ found.line ∷ []) ++ found.below) =
-    found.cut ∙ ap (λ ls. ls ++ found.line ∷ found.below) there.cut ∙ append_assoc there.front rows (found.line ∷ found.below) ∙ ap (λ ls. there.front ++ ls) (sym (append_assoc rows (found.line ∷ []) found.below)) in
-    let runs : runs_between is_blank lines ≡ runs_between is_blank there.front ++ (((rows ++ found.line ∷ []) ++ run.more) ∷ run.others) =
-    ap (runs_between is_blank) whole ∙ runs_ended there.front ((rows ++ found.line ∷ []) ++ found.below) there.ended ∙ ap (λ rs. runs_between is_blank there.front ++ rs) run.runs in
-    let matrix = zip_at (IsMatrix limit) (runs_between is_blank there.front) ((rows ++ found.line ∷ []) ++ run.more) run.others matrices (subst (λ (bs : List (List (List ℕ))). AllZip (IsMatrix limit) bs matrices) runs stands) in
-    refused_by limit (length found.above + 1) rows found.line run.more matrix.0 fault matrix.1 (subst (λ (rs : List (List ℕ)). IsLineFault limit rs (length found.above + 1) found.line fault) last found.fault_is)
+    found.cut ∙ ap (λ ls. ls ++ found.line ∷ found.below) there.cut
+    ∙ append_assoc there.front rows (found.line ∷ found.below)
+    ∙ ap (λ ls. there.front ++ ls) (sym (append_assoc rows (found.line ∷ []) found.below)) in
+    let runs : runs_between is_blank lines
+    ≡ runs_between is_blank there.front ++ (((rows ++ found.line ∷ []) ++ run.more) ∷ run.others) =
+    ap (runs_between is_blank) whole ∙ runs_ended there.front ((rows ++ found.line ∷ []) ++ found.below) there.ended
+    ∙ ap (λ rs. runs_between is_blank there.front ++ rs) run.runs in
+    let matrix = zip_at (IsMatrix limit) (runs_between is_blank there.front) ((rows ++ found.line ∷ []) ++ run.more)
+    run.others matrices (subst (λ (bs : List (List (List ℕ))). AllZip (IsMatrix limit) bs matrices) runs stands) in
+    refused_by limit (length found.above + 1) rows found.line run.more matrix.0 fault matrix.1
+    (subst (λ (rs : List (List ℕ)). IsLineFault limit rs (length found.above + 1) found.line fault) last
+    found.fault_is)
 
 -- ---- one at most
 
 -- a line has one fault
-one_fault : (limit at : ℕ) (rows : List (List ℕ)) (line : List ℕ) (f g : Fault) → IsLineFault limit rows at line f → IsLineFault limit rows at line g → f ≡ g
-one_fault limit at rows line (Number n m) (Number k l) u v = let same : m ≡ l = omega (arith, u.1, v.1) in λ i. Number ((u.0 ∙ sym v.0) i) (same i)
-one_fault limit at rows line (Count n e g) (Count k f h) u v = λ i. Count ((u.0 ∙ sym v.0) i) ((u.2 ∙ sym v.2) i) ((u.3 ∙ sym v.3) i)
+one_fault : (limit at : ℕ) (rows : List (List ℕ)) (line : List ℕ) (f g : Fault) → IsLineFault limit rows at line f →
+    IsLineFault limit rows at line g → f ≡ g
+one_fault limit at rows line (Number n m) (Number k l) u v = let same : m ≡ l = omega (arith, u.1, v.1) in
+    λ i. Number ((u.0 ∙ sym v.0) i) (same i)
+one_fault limit at rows line (Count n e g) (Count k f h) u v =
+    λ i. Count ((u.0 ∙ sym v.0) i) ((u.2 ∙ sym v.2) i) ((u.3 ∙ sym v.3) i)
 one_fault limit at rows line (Number n m) (Count k f h) u v = absurd (u.2 v.5)
 one_fault limit at rows line (Count n e g) (Number k l) u v = absurd (v.2 u.5)
 one_fault limit at rows line Usage g u v = absurd u
@@ -122,11 +145,13 @@ two_cuts (a ∷ xs) (b ∷ ys) x y us vs same =
     let head : a ≡ b = cc in
     let tail : xs ++ x ∷ us ≡ ys ++ y ∷ vs = cc in
     ⊎_elim (λ first. inl (first.0, λ i. sym head i ∷ first.1 i))
-    (λ others. ⊎_elim (λ second. inr (inl (second.0, λ i. head i ∷ second.1 i))) (λ one. inr (inr ((λ i. head i ∷ one.0 i), one.1))) others)
+    (λ others. ⊎_elim (λ second. inr (inl (second.0, λ i. head i ∷ second.1 i)))
+    (λ one. inr (inr ((λ i. head i ∷ one.0 i), one.1))) others)
     (two_cuts xs ys x y us vs tail)
 
 -- lines up to a faulty one have it as their first
-fault_before : (limit : ℕ) (lines mid : List (List ℕ)) (fault : Fault) (found : IsFirstFault limit lines fault) → IsFirstFault limit (found.above ++ found.line ∷ mid) fault
+fault_before : (limit : ℕ) (lines mid : List (List ℕ)) (fault : Fault) (found : IsFirstFault limit lines fault) →
+    IsFirstFault limit (found.above ++ found.line ∷ mid) fault
 fault_before limit lines mid fault found = record {
   above = found.above;
   line = found.line;
@@ -138,13 +163,20 @@ fault_before limit lines mid fault found = record {
   fault_is = found.fault_is;
 }
 
-pub one_first_fault : (limit : ℕ) (lines : List (List ℕ)) (f g : Fault) → IsFirstFault limit lines f → IsFirstFault limit lines g → f ≡ g
+pub one_first_fault : (limit : ℕ) (lines : List (List ℕ)) (f g : Fault) → IsFirstFault limit lines f →
+    IsFirstFault limit lines g → f ≡ g
 one_first_fault limit lines f g u v =
     ⊎_elim
-    (λ first. absurd (fault_excludes limit v.above f v.matrices (subst (λ (ls : List (List ℕ)). IsFirstFault limit ls f) (sym first.1) (fault_before limit lines first.0 f u)) v.good))
+    (λ first. absurd
+    (fault_excludes limit v.above f v.matrices
+    (subst (λ (ls : List (List ℕ)). IsFirstFault limit ls f) (sym first.1) (fault_before limit lines first.0 f u))
+    v.good))
     (λ others.
     ⊎_elim
-    (λ second. absurd (fault_excludes limit u.above g u.matrices (subst (λ (ls : List (List ℕ)). IsFirstFault limit ls g) (sym second.1) (fault_before limit lines second.0 g v)) u.good))
+    (λ second. absurd
+    (fault_excludes limit u.above g u.matrices
+    (subst (λ (ls : List (List ℕ)). IsFirstFault limit ls g) (sym second.1) (fault_before limit lines second.0 g v))
+    u.good))
     (λ one.
     one_fault limit (length v.above + 1) (rows_at_end v.above) v.line f g
     (subst (λ (l : List ℕ). IsLineFault limit (rows_at_end v.above) (length v.above + 1) l f) one.1

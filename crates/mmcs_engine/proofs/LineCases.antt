@@ -19,7 +19,8 @@ module _ (max : ℕ) (lines : List (List ℕ)) where
 
   -- no line of these is faulty
   abbrev AreGood : List (List ℕ) → Type 0
-  AreGood seen = (found : List (Unit {0})) × (values : List ℕ) × (width : ℕ) × LinesSoFar Shows (max + 1) seen found values width
+  AreGood seen = (found : List (Unit {0})) × (values : List ℕ) × (width : ℕ) ×
+      LinesSoFar Shows (max + 1) seen found values width
 
   -- some line is the first faulty one
   abbrev HaveFault : Type 0
@@ -35,61 +36,86 @@ module _ (max : ℕ) (lines : List (List ℕ)) where
     some_above_0 = λ above. absurd (omega arith);
   }
 
-  module _ (seen : List (List ℕ)) (found : List (Unit {0})) (values : List ℕ) (width : ℕ) (so_far : LinesSoFar Shows (max + 1) seen found values width) where
+  module _ (seen : List (List ℕ)) (found : List (Unit {0})) (values : List ℕ) (width : ℕ)
+      (so_far : LinesSoFar Shows (max + 1) seen found values width) where
     -- one more line, that is blank
     good_blank : (line : List ℕ) (w : ℕ) → width ≡ w → is_blank line ≡ true → AreGood (seen ++ line ∷ [])
-    good_blank line zero is blank = (found, [], 0, lines_blank Shows (max + 1) seen found values width so_far line [] 0 blank is no_rows)
-    good_blank line (suc w) is blank =
-        (found ++ tt ∷ [], [], 0, lines_ended Shows (max + 1) seen found values width so_far line [] 0 tt blank (omega (arith, is)) no_rows (λ rows block. tt))
+    good_blank line zero is blank =
+        (found, [], 0, lines_blank Shows (max + 1) seen found values width so_far line [] 0 blank is no_rows)
+    good_blank line (suc w) is blank = (
+      found ++ tt ∷ [],
+      [],
+      0,
+      lines_ended Shows (max + 1) seen found values width so_far line [] 0 tt blank
+          (omega (arith, is)) no_rows (λ rows block. tt),
+    )
 
     -- or has numbers, as many as the rows above
-    good_row : (line : List ℕ) → is_blank line ≡ false → All (IsNumberBelow (max + 1)) (numerals_of line) → (width ≡ 0) ⊎ (width ≡ length (numbers_of line)) → AreGood (seen ++ line ∷ [])
+    good_row : (line : List ℕ) → is_blank line ≡ false → All (IsNumberBelow (max + 1)) (numerals_of line) →
+        (width ≡ 0) ⊎ (width ≡ length (numbers_of line)) → AreGood (seen ++ line ∷ [])
     good_row line full numbers was =
         let got = length (numbers_of line) in (
           found,
           values ++ numbers_of line,
           got,
           lines_row Shows (max + 1) seen found values width so_far line (values ++ numbers_of line) got
-              (λ rows block. block_more (max + 1) rows values width block line (values ++ numbers_of line) got full numbers refl refl was),
+              (λ rows block. block_more (max + 1) rows values width block line (values ++ numbers_of line) got full
+              numbers refl refl was),
         )
 
-    module _ (line : List ℕ) (below : List (List ℕ)) (cut : lines ≡ seen ++ line ∷ below) (full : is_blank line ≡ false) where
-      no_number : (All (IsNumberBelow (max + 1)) (numerals_of line) → ⊥) → HaveFault
-      no_number bad =
-          let at = length seen + 1 in
-          (Number at max, lines_fault Shows (max + 1) seen found values width so_far line lines below at (Number at max) cut refl full (refl, refl, bad))
+    module _ (line : List ℕ) (below : List (List ℕ)) (cut : lines ≡ seen ++ line ∷ below) (full : is_blank line ≡ false)
+      where
+        no_number : (All (IsNumberBelow (max + 1)) (numerals_of line) → ⊥) → HaveFault
+        no_number bad =
+            let at = length seen + 1 in (
+              Number at max,
+              lines_fault Shows (max + 1) seen found values width so_far line lines below at (Number at max)
+                  cut refl full (refl, refl, bad),
+            )
 
-      wrong_count : All (IsNumberBelow (max + 1)) (numerals_of line) → 0 < width → (length (numbers_of line) ≡ width → ⊥) → HaveFault
-      wrong_count numbers above other =
-          let at = length seen + 1 in
-          let got = length (numbers_of line) in
-          let block = so_far.block in
-          let some = block.some_above_0 above in (
-            Count at width got,
-            lines_fault Shows (max + 1) seen found values width so_far line lines below at (Count at width got) cut refl full
-                (refl, some, sym (All-get_or (λ l. length (numbers_of l) ≡ width) so_far.rows 0 [] some block.widths), refl, other, numbers),
-          )
+        wrong_count : All (IsNumberBelow (max + 1)) (numerals_of line) → 0 < width →
+            (length (numbers_of line) ≡ width → ⊥) → HaveFault
+        wrong_count numbers above other =
+            let at = length seen + 1 in
+            let got = length (numbers_of line) in
+            let block = so_far.block in
+            let some = block.some_above_0 above in (
+              Count at width got,
+              lines_fault Shows (max + 1) seen found values width so_far line lines below at (Count at width got) cut refl
+                  full (
+                    refl,
+                    some,
+                    sym (All-get_or (λ l. length (numbers_of l) ≡ width) so_far.rows 0 [] some block.widths),
+                    refl,
+                    other,
+                    numbers,
+                  ),
+            )
 
-      counted : All (IsNumberBelow (max + 1)) (numerals_of line) → (w : ℕ) → width ≡ w → AreGood (seen ++ line ∷ []) ⊎ HaveFault
-      counted numbers zero is = inl (good_row line full numbers (inl is))
-      counted numbers (suc w) is =
-          ⊎_elim
-          (λ same. inl (good_row line full numbers (inr (sym same))))
-          (λ other. inr (wrong_count numbers (omega (arith, is)) other))
-          (cases_eq (length (numbers_of line)) width)
+        counted : All (IsNumberBelow (max + 1)) (numerals_of line) → (w : ℕ) → width ≡ w → AreGood (seen ++ line ∷ []) ⊎
+            HaveFault
+        counted numbers zero is = inl (good_row line full numbers (inl is))
+        counted numbers (suc w) is =
+            ⊎_elim
+            (λ same. inl (good_row line full numbers (inr (sym same))))
+            (λ other. inr (wrong_count numbers (omega (arith, is)) other))
+            (cases_eq (length (numbers_of line)) width)
 
-      row_or_fault : AreGood (seen ++ line ∷ []) ⊎ HaveFault
-      row_or_fault = ⊎_elim (λ numbers. counted numbers width refl) (λ bad. inr (no_number bad)) (settled_each (IsNumberBelow (max + 1)) (settled_number (max + 1)) (numerals_of line))
+        row_or_fault : AreGood (seen ++ line ∷ []) ⊎ HaveFault
+        row_or_fault = ⊎_elim (λ numbers. counted numbers width refl) (λ bad. inr (no_number bad))
+            (settled_each (IsNumberBelow (max + 1)) (settled_number (max + 1)) (numerals_of line))
 
     -- one more line
-    line_or_fault : (line : List ℕ) (below : List (List ℕ)) → lines ≡ seen ++ line ∷ below → (b : Bool) → is_blank line ≡ b → AreGood (seen ++ line ∷ []) ⊎ HaveFault
+    line_or_fault : (line : List ℕ) (below : List (List ℕ)) → lines ≡ seen ++ line ∷ below → (b : Bool) → is_blank line
+        ≡ b → AreGood (seen ++ line ∷ []) ⊎ HaveFault
     line_or_fault line below cut true blank = inl (good_blank line width refl blank)
     line_or_fault line below cut false full = row_or_fault line below cut full
 
     -- after the last line
     good_end : (w : ℕ) → width ≡ w → (matrices : List (List (List ℕ))) × AreLinesOf (max + 1) seen matrices
     good_end zero is = let end = lines_end Shows (max + 1) seen found values width so_far is in (end.0, end.1)
-    good_end (suc w) is = let end = lines_end_block Shows (max + 1) seen found values width so_far tt (omega (arith, is)) (λ rows block. tt) in (end.0, end.1)
+    good_end (suc w) is = let end = lines_end_block Shows (max + 1) seen found values width so_far tt
+        (omega (arith, is)) (λ rows block. tt) in (end.0, end.1)
 
   rest_or_fault : (rest seen : List (List ℕ)) → lines ≡ seen ++ rest → AreGood seen → AreGood lines ⊎ HaveFault
   rest_or_fault [] seen cut good = inl (subst AreGood (sym (cut ∙ append-nil seen)) good)

@@ -20,15 +20,18 @@ use Rattle.mmcs_engine.proofs.FaultFacts.{fault_excludes, one_first_fault}
 use Rattle.mmcs_engine.proofs.GateFacts.{heights_are, taken_unrefused}
 
 -- blocks are of one list of matrices
-same_zipped : (limit : ℕ) (blocks : List (List (List ℕ))) (ms ns : List (List (List ℕ))) → AllZip (IsMatrix limit) blocks ms → AllZip (IsMatrix limit) blocks ns → ms ≡ ns
+same_zipped : (limit : ℕ) (blocks : List (List (List ℕ))) (ms ns : List (List (List ℕ))) →
+    AllZip (IsMatrix limit) blocks ms → AllZip (IsMatrix limit) blocks ns → ms ≡ ns
 same_zipped limit [] [] [] u v = refl
 same_zipped limit [] (m ∷ ms) ns u v = absurd u
 same_zipped limit [] [] (n ∷ ns) u v = absurd v
 same_zipped limit (b ∷ blocks) [] ns u v = absurd u
 same_zipped limit (b ∷ blocks) (m ∷ ms) [] u v = absurd v
-same_zipped limit (b ∷ blocks) (m ∷ ms) (n ∷ ns) u v = λ i. (u.0.rows_are ∙ sym v.0.rows_are) i ∷ same_zipped limit blocks ms ns u.1 v.1 i
+same_zipped limit (b ∷ blocks) (m ∷ ms) (n ∷ ns) u v = λ i. (u.0.rows_are ∙ sym v.0.rows_are) i
+    ∷ same_zipped limit blocks ms ns u.1 v.1 i
 
-pub same_matrices : (limit : ℕ) (input : List ℕ) (ms ns : List (List (List ℕ))) → StandsFor limit input ms → StandsFor limit input ns → ms ≡ ns
+pub same_matrices : (limit : ℕ) (input : List ℕ) (ms ns : List (List (List ℕ))) → StandsFor limit input ms →
+    StandsFor limit input ns → ms ≡ ns
 same_matrices limit input ms ns u v = same_zipped limit (runs_between is_blank (pieces_of input)) ms ns u v
 
 module _ (command : Command) (indices input : List ℕ) where
@@ -36,14 +39,17 @@ module _ (command : Command) (indices input : List ℕ) where
   limit = max_word command.hash + 1
 
   -- what is taken is not refused
-  pub unrefused : (matrices : List (List (List ℕ))) → AreTaken indices matrices → refusal_of command indices matrices ≡ None
+  pub unrefused : (matrices : List (List (List ℕ))) → AreTaken indices matrices → refusal_of command indices matrices
+      ≡ None
   unrefused matrices taken =
-      let there = subst (λ (hs : List ℕ). IsLawful hs × All (λ i. i < greatest hs) indices) (sym (heights_are matrices (arity_number command.arity))) taken in
+      let there = subst (λ (hs : List ℕ). IsLawful hs × All (λ i. i < greatest hs) indices)
+      (sym (heights_are matrices (arity_number command.arity))) taken in
       taken_unrefused (shape (batch_asked command matrices)) indices there.0 there.1
 
   -- a fault is of the tree, or of a line
   fault_parts : (fault : Fault) → IsReply command indices input (Err fault) →
-      ((e : MerkleTreeError) × (fault ≡ Tree e) × IsReply command indices input (Err (Tree e))) ⊎ IsFirstFault limit (pieces_of input) fault
+      ((e : MerkleTreeError) × (fault ≡ Tree e) × IsReply command indices input (Err (Tree e))) ⊎
+      IsFirstFault limit (pieces_of input) fault
   fault_parts Usage told = inr told
   fault_parts Read told = inr told
   fault_parts (Number n m) told = inr told
@@ -52,7 +58,8 @@ module _ (command : Command) (indices input : List ℕ) where
   fault_parts Write told = inr told
 
   -- a text comes with no fault
-  not_both : (text : List ℕ) (fault : Fault) → IsReply command indices input (Ok text) → IsReply command indices input (Err fault) → ⊥
+  not_both : (text : List ℕ) (fault : Fault) → IsReply command indices input (Ok text) →
+      IsReply command indices input (Err fault) → ⊥
   not_both text fault ok told =
       ⊎_elim
       (λ tree.
@@ -88,7 +95,8 @@ module _ (command : Command) (indices input : List ℕ) where
 
 -- the usage of words that are no command, or what a command is answered
 outcome_parts : (words : List (List ℕ)) (input : List ℕ) (o : Result (List ℕ) Fault) → IsOutcome words input o →
-    ((o ≡ Err Usage) × AreNoCommand words) ⊎ ((command : Command) × (indices : List ℕ) × AreWords words command indices × IsReply command indices input o)
+    ((o ≡ Err Usage) × AreNoCommand words) ⊎
+    ((command : Command) × (indices : List ℕ) × AreWords words command indices × IsReply command indices input o)
 outcome_parts words input (Ok t) told = inr told
 outcome_parts words input (Err Usage) told = inl (refl, told)
 outcome_parts words input (Err Read) told = inr told
@@ -97,7 +105,8 @@ outcome_parts words input (Err (Count n e g)) told = inr told
 outcome_parts words input (Err (Tree e)) told = inr told
 outcome_parts words input (Err Write) told = inr told
 
-pub one_outcome : (words : List (List ℕ)) (input : List ℕ) (o p : Result (List ℕ) Fault) → IsOutcome words input o → IsOutcome words input p → o ≡ p
+pub one_outcome : (words : List (List ℕ)) (input : List ℕ) (o p : Result (List ℕ) Fault) → IsOutcome words input o →
+    IsOutcome words input p → o ≡ p
 one_outcome words input o p u v =
     ⊎_elim
     (λ a. ⊎_elim (λ b. a.0 ∙ sym b.0) (λ b. absurd (a.1 b.0 b.1 b.2)) (outcome_parts words input p v))
@@ -120,26 +129,37 @@ after_memory : (outcome : Result (List ℕ) Fault) → EndsIn outcome (Err (Tree
 after_memory (Ok text) = inr (inr (inr refl))
 after_memory (Err fault) = inr (inr refl)
 
-module _ (words : List (List ℕ)) (known old new : Option (List ℕ)) (input : List ℕ) (known_is : known ≡ Some input) (outcome : Result (List ℕ) Fault) (told : IsOutcome words input outcome) where
+module _ (words : List (List ℕ)) (known old new : Option (List ℕ)) (input : List ℕ) (known_is : known ≡ Some input)
+    (outcome : Result (List ℕ) Fault) (told : IsOutcome words input outcome) where
   -- a fault that is the outcome
   same_fault : (fault : Fault) → IfSome known (λ bytes. IsOutcome words bytes (Err fault)) → EndsIn outcome (Err fault)
   same_fault fault there =
-      let known_told = subst (λ (k : Option (List ℕ)). IfSome k (λ bytes. IsOutcome words bytes (Err fault))) known_is there in
-      subst (λ (o : Result (List ℕ) Fault). EndsIn o (Err fault)) (one_outcome words input (Err fault) outcome known_told told) (inl refl)
+      let known_told = subst (λ (k : Option (List ℕ)). IfSome k (λ bytes. IsOutcome words bytes (Err fault))) known_is
+      there in
+      subst (λ (o : Result (List ℕ) Fault). EndsIn o (Err fault))
+      (one_outcome words input (Err fault) outcome known_told told) (inl refl)
 
   -- a text that is the outcome
-  same_text : (H : List ℕ → Type 0) (result : Result (Unit {0}) Fault) → Prints words known H → ((text : List ℕ) → EndsIn (Ok text) result) → EndsIn outcome result
+  same_text : (H : List ℕ → Type 0) (result : Result (Unit {0}) Fault) → Prints words known H →
+      ((text : List ℕ) → EndsIn (Ok text) result) → EndsIn outcome result
   same_text H result there ends =
-      let known_told = subst (λ (k : Option (List ℕ)). IfSome k (λ bytes. (text : List ℕ) × IsOutcome words bytes (Ok text) × H text)) known_is there in
-      subst (λ (o : Result (List ℕ) Fault). EndsIn o result) (one_outcome words input (Ok known_told.0) outcome known_told.1 told) (ends known_told.0)
+      let known_told =
+      subst (λ (k : Option (List ℕ)). IfSome k (λ bytes. (text : List ℕ) × IsOutcome words bytes (Ok text) ×
+      H text)) known_is there in
+      subst (λ (o : Result (List ℕ) Fault). EndsIn o result)
+      (one_outcome words input (Ok known_told.0) outcome known_told.1 told) (ends known_told.0)
 
-  pub ends_in : (result : Result (Unit {0}) Fault) → (result ≡ Err Usage → AreNoCommand words) → OnOk result (Prints words known (λ text. Appends old new text)) →
-      (result ≡ Err Write → Prints words known (λ text. Unit {0})) → IfErr result (IsTold words known) → EndsIn outcome result
+  pub ends_in : (result : Result (Unit {0}) Fault) → (result ≡ Err Usage → AreNoCommand words) →
+      OnOk result (Prints words known (λ text. Appends old new text)) →
+      (result ≡ Err Write → Prints words known (λ text. Unit {0})) → IfErr result (IsTold words known) →
+      EndsIn outcome result
   ends_in (Ok tt) usage ok last fault = same_text (λ text. Appends old new text) (Ok tt) ok (λ text. inr (inl refl))
-  ends_in (Err Usage) usage ok last fault = subst (λ (o : Result (List ℕ) Fault). EndsIn o (Err Usage)) (one_outcome words input (Err Usage) outcome (usage refl) told) (inl refl)
+  ends_in (Err Usage) usage ok last fault = subst (λ (o : Result (List ℕ) Fault). EndsIn o (Err Usage))
+      (one_outcome words input (Err Usage) outcome (usage refl) told) (inl refl)
   ends_in (Err Read) usage ok last fault = after_read outcome
   ends_in (Err (Number n m)) usage ok last fault = same_fault (Number n m) fault
   ends_in (Err (Count n e g)) usage ok last fault = same_fault (Count n e g) fault
   ends_in (Err (Tree e)) usage ok last fault =
-      ⊎_elim (λ memory. subst (λ (d : MerkleTreeError). EndsIn outcome (Err (Tree d))) (sym memory) (after_memory outcome)) (λ there. same_fault (Tree e) there) fault
+      ⊎_elim (λ memory. subst (λ (d : MerkleTreeError). EndsIn outcome (Err (Tree d))) (sym memory)
+      (after_memory outcome)) (λ there. same_fault (Tree e) there) fault
   ends_in (Err Write) usage ok last fault = same_text (λ text. Unit {0}) (Err Write) (last refl) (λ text. inl refl)

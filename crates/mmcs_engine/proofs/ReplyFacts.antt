@@ -18,70 +18,99 @@ use Rattle.mmcs_engine.specs.Program.{batch_asked, layer_of_cap, text_of, IsAnsw
 use Rattle.mmcs_engine.proofs.GateFacts.{heights_are, taken_from_none}
 use Rattle.mmcs_engine.proofs.Outcomes.{ends_in}
 
-module _ (command : Command) (indices input : List ℕ) (b : Batch ℕ) (n : ℕ) (hash : HashName) (hash_is : hash ≡ command.hash) (n_is : n ≡ arity_number command.arity)
-    (found : (matrices : List (List (List ℕ))) × StandsFor (max_word hash + 1) input matrices × (b ≡ batch_of_rows n matrices)) where
+module _ (command : Command) (indices input : List ℕ) (b : Batch ℕ) (n : ℕ) (hash : HashName) (hash_is : hash
+    ≡ command.hash) (n_is : n ≡ arity_number command.arity)
+    (found : (matrices : List (List (List ℕ))) × StandsFor (max_word hash + 1) input matrices ×
+    (b ≡ batch_of_rows n matrices)) where
   stands : StandsFor (max_word command.hash + 1) input found.0
   stands = subst (λ (h : HashName). StandsFor (max_word h + 1) input found.0) hash_is found.1
 
   batch_is : b ≡ batch_asked command found.0
   batch_is = found.2 ∙ ap (λ a. batch_of_rows a found.0) n_is
 
-  pub reply_text : (text : List ℕ) → pruned_len_refusal (shape b) indices ≡ None → text ≡ text_of hash command.action indices b (layer_of_cap command.cap (shape b)) → IsReply command indices input (Ok text)
+  pub reply_text : (text : List ℕ) → pruned_len_refusal (shape b) indices ≡ None → text
+      ≡ text_of hash command.action indices b (layer_of_cap command.cap (shape b)) →
+      IsReply command indices input (Ok text)
   reply_text text none text_is =
-      let there = taken_from_none (shape (batch_asked command found.0)) indices (ap (λ c. pruned_len_refusal (shape c) indices) (sym batch_is) ∙ none) in (
+      let there = taken_from_none (shape (batch_asked command found.0)) indices
+      (ap (λ c. pruned_len_refusal (shape c) indices) (sym batch_is) ∙ none) in (
         found.0,
         stands,
-        subst (λ (hs : List ℕ). IsLawful hs × All (λ i. i < greatest hs) indices) (heights_are found.0 (arity_number command.arity)) there,
-        text_is ∙ (λ i. text_of (hash_is i) command.action indices (batch_is i) (layer_of_cap command.cap (shape (batch_is i)))),
+        subst (λ (hs : List ℕ). IsLawful hs × All (λ i. i < greatest hs) indices)
+            (heights_are found.0 (arity_number command.arity)) there,
+        text_is ∙ (λ i. text_of (hash_is i) command.action indices (batch_is i)
+            (layer_of_cap command.cap (shape (batch_is i)))),
       )
 
 -- ---- the outcome
 
 -- the usage is told of no command alone
-pub usage_told : {V : Type 0} (words : List (List ℕ)) (fault : Fault) → ((fault ≡ Usage) × AreNoCommand words) ⊎ ((fault ≡ Tree OutOfMemory) × (AreNoCommand words → ⊥)) → (◌≡◌ {A = Result V Fault} (Err fault) (Err Usage)) ↔ AreNoCommand words
+pub usage_told : {V : Type 0} (words : List (List ℕ)) (fault : Fault) → ((fault ≡ Usage) × AreNoCommand words) ⊎
+    ((fault ≡ Tree OutOfMemory) × (AreNoCommand words → ⊥)) →
+    (◌≡◌ {A = Result V Fault} (Err fault) (Err Usage)) ↔ AreNoCommand words
 usage_told words fault told = (
-  λ is. ⊎_elim (λ usage. usage.1) (λ memory. absurd (let same : fault ≡ Usage = cc in let apart = sym same ∙ memory.0 in cc)) told,
+  λ is. ⊎_elim (λ usage. usage.1)
+      (λ memory. absurd (let same : fault ≡ Usage = cc in let apart = sym same ∙ memory.0 in cc)) told,
   λ none. ⊎_elim (λ usage. ap Err usage.0) (λ memory. absurd (memory.1 none)) told,
 )
 
-module _ {S D V : Type 0} (remaining : S → Option (List ℕ)) (contents : D → Option (List ℕ)) (words : List (List ℕ)) (input input_left : S) (output : D) (answer : Result V Fault)
+module _ {S D V : Type 0} (remaining : S → Option (List ℕ)) (contents : D → Option (List ℕ)) (words : List (List ℕ))
+    (input input_left : S) (output : D) (answer : Result V Fault)
     (usage : (answer ≡ Err Usage) ↔ AreNoCommand words) (unread : answer ≡ Err Usage → input_left ≡ input) where
   -- a fault before anything is written
-  at_fault : (fault : Fault) → answer ≡ Err fault → (fault ≡ Write → ⊥) × IsTold words (remaining input) fault → IsAnswer remaining contents words input input_left output output (Err fault)
+  at_fault : (fault : Fault) → answer ≡ Err fault → (fault ≡ Write → ⊥) × IsTold words (remaining input) fault →
+      IsAnswer remaining contents words input input_left output output (Err fault)
   at_fault fault answer_is told =
-      let is_usage : ◌≡◌ {A = Result (Unit {0}) Fault} (Err fault) (Err Usage) → answer ≡ Err Usage = λ is. answer_is ∙ ap Err (let same : fault ≡ Usage = cc in same) in
-      let told_usage : ◌≡◌ {A = Result (Unit {0}) Fault} (Err fault) (Err Usage) → AreNoCommand words = λ is. usage.0 (is_usage is) in
-      let last : ◌≡◌ {A = Result (Unit {0}) Fault} (Err fault) (Err Write) → Prints words (remaining input) (λ text. Unit {0}) = λ is. absurd (told.0 (let same : fault ≡ Write = cc in same)) in
+      let is_usage : ◌≡◌ {A = Result (Unit {0}) Fault} (Err fault) (Err Usage) → answer ≡ Err Usage = λ is. answer_is
+      ∙ ap Err (let same : fault ≡ Usage = cc in same) in
+      let told_usage : ◌≡◌ {A = Result (Unit {0}) Fault} (Err fault) (Err Usage) →
+      AreNoCommand words = λ is. usage.0 (is_usage is) in
+      let last : ◌≡◌ {A = Result (Unit {0}) Fault} (Err fault) (Err Write) →
+      Prints words (remaining input) (λ text. Unit {0}) =
+      λ is. absurd (told.0 (let same : fault ≡ Write = cc in same)) in
       record {
-        usage = (told_usage, λ none. ap Err (let same = sym answer_is ∙ usage.1 none in let faults : fault ≡ Usage = cc in faults));
+        usage = (
+          told_usage,
+          λ none. ap Err (let same = sym answer_is ∙ usage.1 none in let faults : fault
+              ≡ Usage = cc in faults),
+        );
         unread = λ is. unread (is_usage is);
         silent = inr refl;
         ok = tt;
         last = last;
         fault = told.1;
-        ends = λ bytes outcome known outcome_is. ends_in words (remaining input) (contents output) (contents output) bytes known outcome outcome_is (Err fault) told_usage tt last told.1;
+        ends = λ bytes outcome known outcome_is. ends_in words (remaining input) (contents output) (contents output)
+            bytes known outcome outcome_is (Err fault) told_usage tt last told.1;
       }
 
-  pub failed_answer : (result : Result (Unit {0}) Fault) (fault : Fault) → answer ≡ Err fault → result ≡ Err fault → IfErr answer (λ f. (f ≡ Write → ⊥) × IsTold words (remaining input) f) →
+  pub failed_answer : (result : Result (Unit {0}) Fault) (fault : Fault) → answer ≡ Err fault → result ≡ Err fault →
+      IfErr answer (λ f. (f ≡ Write → ⊥) × IsTold words (remaining input) f) →
       IsAnswer remaining contents words input input_left output output result
   failed_answer result fault answer_is result_is told =
-      subst (λ (r : Result (Unit {0}) Fault). IsAnswer remaining contents words input input_left output output r) (sym result_is)
-      (at_fault fault answer_is (subst (λ (r : Result V Fault). IfErr r (λ f. (f ≡ Write → ⊥) × IsTold words (remaining input) f)) answer_is told))
+      subst (λ (r : Result (Unit {0}) Fault). IsAnswer remaining contents words input input_left output output r)
+      (sym result_is)
+      (at_fault fault answer_is
+      (subst (λ (r : Result V Fault). IfErr r (λ f. (f ≡ Write → ⊥) × IsTold words (remaining input) f)) answer_is
+      told))
 
   -- a text that is written
-  module _ (output_left : D) (value : V) (text : List ℕ) (answer_is : answer ≡ Ok value) (prints : Prints words (remaining input) (λ t. text ≡ t)) where
+  module _ (output_left : D) (value : V) (text : List ℕ) (answer_is : answer ≡ Ok value)
+      (prints : Prints words (remaining input) (λ t. text ≡ t)) where
     no_usage : (result : Result (Unit {0}) Fault) → (result ≡ Err Usage → ⊥) → (result ≡ Err Usage) ↔ AreNoCommand words
     no_usage result never = (λ is. absurd (never is), λ none. absurd (let same = sym answer_is ∙ usage.1 none in cc))
 
     -- what is printed, of which another fact holds
-    printed : (known : Option (List ℕ)) (H : List ℕ → Type 0) → (((t : List ℕ) → text ≡ t → H t)) → Prints words known (λ t. text ≡ t) → Prints words known H
+    printed : (known : Option (List ℕ)) (H : List ℕ → Type 0) → (((t : List ℕ) → text ≡ t → H t)) →
+        Prints words known (λ t. text ≡ t) → Prints words known H
     printed None H holds there = tt
     printed (Some bytes) H holds there = (there.0, there.1, holds there.0 there.2)
 
-    pub written_answer : (result : Result (Unit {0}) Fault) → OnOk result (Appends (contents output) (contents output_left) text) → IfErr result (λ f. f ≡ Write) →
+    pub written_answer : (result : Result (Unit {0}) Fault) →
+        OnOk result (Appends (contents output) (contents output_left) text) → IfErr result (λ f. f ≡ Write) →
         IsAnswer remaining contents words input input_left output output_left result
     written_answer (Ok tt) wrote failed =
-        let told = printed (remaining input) (λ t. Appends (contents output) (contents output_left) t) (λ t same. subst (λ (s : List ℕ). Appends (contents output) (contents output_left) s) same wrote) prints in
+        let told = printed (remaining input) (λ t. Appends (contents output) (contents output_left) t)
+        (λ t same. subst (λ (s : List ℕ). Appends (contents output) (contents output_left) s) same wrote) prints in
         let never : ◌≡◌ {A = Result (Unit {0}) Fault} (Ok tt) (Err Usage) → ⊥ = λ is. cc in
         record {
           usage = no_usage (Ok tt) never;
@@ -90,9 +119,13 @@ module _ {S D V : Type 0} (remaining : S → Option (List ℕ)) (contents : D �
           ok = told;
           last = λ is. absurd cc;
           fault = tt;
-          ends = λ bytes outcome known outcome_is. ends_in words (remaining input) (contents output) (contents output_left) bytes known outcome outcome_is (Ok tt) (λ is. absurd (never is)) told (λ is. absurd cc) tt;
+          ends = λ bytes outcome known outcome_is. ends_in words (remaining input) (contents output)
+              (contents output_left) bytes known outcome outcome_is (Ok tt) (λ is. absurd (never is)) told
+              (λ is. absurd cc) tt;
         }
-    written_answer (Err f) wrote failed = subst (λ (e : Fault). IsAnswer remaining contents words input input_left output output_left (Err e)) (sym failed) at_write
+    written_answer (Err f) wrote failed =
+        subst (λ (e : Fault). IsAnswer remaining contents words input input_left output output_left (Err e))
+        (sym failed) at_write
       where
         told : Prints words (remaining input) (λ t. Unit {0})
         told = printed (remaining input) (λ t. Unit {0}) (λ t same. tt) prints
@@ -108,5 +141,7 @@ module _ {S D V : Type 0} (remaining : S → Option (List ℕ)) (contents : D �
           ok = tt;
           last = λ is. told;
           fault = tt;
-          ends = λ bytes outcome known outcome_is. ends_in words (remaining input) (contents output) (contents output_left) bytes known outcome outcome_is (Err Write) (λ is. absurd (never is)) tt (λ is. told) tt;
+          ends = λ bytes outcome known outcome_is. ends_in words (remaining input) (contents output)
+              (contents output_left) bytes known outcome outcome_is (Err Write) (λ is. absurd (never is)) tt
+              (λ is. told) tt;
         }

@@ -26,7 +26,8 @@ module _ (words : List (List ℕ)) (input : List ℕ) where
         command,
         indices,
         are,
-        reply_text command indices input (batch_asked command matrices) (arity_number command.arity) command.hash refl refl (matrices, stands, refl) (output_of command indices matrices) taken refl,
+        reply_text command indices input (batch_asked command matrices) (arity_number command.arity) command.hash refl
+            refl (matrices, stands, refl) (output_of command indices matrices) taken refl,
       ),
     )
     of_matrices matrices stands (Some e) refused = (Err (Tree e), (command, indices, are, (matrices, stands, refused)))

@@ -72,7 +72,8 @@ settled_digits (d ∷ ds) = settled_both (settled_below (digit_value d) 10) (set
 pub settled_number : (limit : ℕ) (digits : List ℕ) → IsSettled (IsNumberBelow limit digits)
 settled_number limit digits =
     settled_as (λ parts. record { numeral = parts.0; below = parts.1 }) (λ number. (number.numeral, number.below))
-    (settled_both (settled_both (settled_below 0 (length digits)) (settled_digits digits)) (settled_below (digits_value 10 digits) limit))
+    (settled_both (settled_both (settled_below 0 (length digits)) (settled_digits digits))
+    (settled_below (digits_value 10 digits) limit))
 
 -- ---- the parts of a command
 
@@ -87,10 +88,13 @@ settled_hash word =
 
 settled_arity : (word : List ℕ) → IsSettled ((arity : Arity) × (word ≡ arity_word arity))
 settled_arity word =
-    settled_as (λ either. ⊎_elim (λ is. (Two, is)) (λ others. ⊎_elim (λ is. (Four, is)) (λ is. (Eight, is)) others) either) (λ some. by_arity some.0 some.1)
-    (settled_either (settled_same word (arity_word Two)) (settled_either (settled_same word (arity_word Four)) (settled_same word (arity_word Eight))))
+    settled_as (λ either. ⊎_elim (λ is. (Two, is)) (λ others. ⊎_elim (λ is. (Four, is)) (λ is. (Eight, is)) others)
+    either) (λ some. by_arity some.0 some.1)
+    (settled_either (settled_same word (arity_word Two))
+    (settled_either (settled_same word (arity_word Four)) (settled_same word (arity_word Eight))))
   where
-    by_arity : (arity : Arity) → word ≡ arity_word arity → (word ≡ arity_word Two) ⊎ ((word ≡ arity_word Four) ⊎ (word ≡ arity_word Eight))
+    by_arity : (arity : Arity) → word ≡ arity_word arity → (word ≡ arity_word Two) ⊎
+        ((word ≡ arity_word Four) ⊎ (word ≡ arity_word Eight))
     by_arity Two is = inl is
     by_arity Four is = inr (inl is)
     by_arity Eight is = inr (inr is)
@@ -115,17 +119,24 @@ settled_cap : (word : List ℕ) → IsSettled ((cap : CapChoice) × IsCapWord wo
 settled_cap word =
     ⊎_elim
     (λ marked. ⊎_elim
-    (λ number. inl (record { height = digits_value 10 marked.0; rule = Fixed }, cap_fixed word marked.0 (digits_value 10 marked.0) marked.1 (number, refl)))
+    (λ number. inl (
+      record { height = digits_value 10 marked.0; rule = Fixed },
+      cap_fixed word marked.0 (digits_value 10 marked.0) marked.1 (number, refl),
+    ))
     (λ bad. inr (λ some. no_cap_fixed word marked.0 some.0 marked.1 bad some.1))
     (settled_number (2 ^ 64) marked.0))
     (λ unmarked. ⊎_elim
-    (λ number. inl (record { height = digits_value 10 word; rule = Lowered }, (word, sym (append-nil word), number, refl)))
+    (λ number. inl (
+      record { height = digits_value 10 word; rule = Lowered },
+      (word, sym (append-nil word), number, refl),
+    ))
     (λ bad. inr (λ some. no_cap_lowered word some.0 (λ digits is. unmarked (digits, is)) bad some.1))
     (settled_number (2 ^ 64) word))
     (settled_mark word)
 
 settled_follow : (action : Action) (places : List (List ℕ)) → IsSettled (MayFollow action places)
-settled_follow action places = settled_both (settled_each IsNumberWord (settled_number (2 ^ 64)) places) (none_after action places)
+settled_follow action places = settled_both (settled_each IsNumberWord (settled_number (2 ^ 64)) places)
+    (none_after action places)
   where
     none_after : (action : Action) (places : List (List ℕ)) → IsSettled (action ≡ Commit → places ≡ [])
     none_after action [] = inl (λ is. refl)
@@ -144,7 +155,8 @@ module _ (word : List ℕ) (places : List (List ℕ)) where
   settled_action : IsSettled ((action : Action) × (word ≡ action_word action) × MayFollow action places)
   settled_action =
       settled_as
-      (λ either. ⊎_elim (λ it. (Commit, it.0, it.1)) (λ others. ⊎_elim (λ it. (Open, it.0, it.1)) (λ it. (Check, it.0, it.1)) others) either)
+      (λ either. ⊎_elim (λ it. (Commit, it.0, it.1))
+      (λ others. ⊎_elim (λ it. (Open, it.0, it.1)) (λ it. (Check, it.0, it.1)) others) either)
       (λ some. by_action some.0 (some.1, some.2))
       (settled_either (settled_asks Commit) (settled_either (settled_asks Open) (settled_asks Check)))
     where
@@ -182,7 +194,8 @@ module _ (hash arity cap action : List ℕ) (places : List (List ℕ)) where
     },
   )
 
-  parts_of : (command : Command) (indices : List ℕ) → AreWords (hash ∷ arity ∷ cap ∷ action ∷ places) command indices → HaveParts
+  parts_of : (command : Command) (indices : List ℕ) → AreWords (hash ∷ arity ∷ cap ∷ action ∷ places) command indices →
+      HaveParts
   parts_of command indices are =
       let e = are.spelling in
       let hash_is : hash ≡ hash_word command.hash = cc in
@@ -195,7 +208,12 @@ module _ (hash arity cap action : List ℕ) (places : List (List ℕ)) where
           (command.arity, arity_is),
           (
             (command.cap, subst (λ (w : List ℕ). IsCapWord w command.cap) (sym cap_is) are.cap_word),
-            (command.action, action_is, subst (λ (ps : List (List ℕ)). MayFollow command.action ps) (sym places_are) are.may_follow),
+            (
+              command.action,
+              action_is,
+              subst (λ (ps : List (List ℕ)). MayFollow command.action ps) (sym places_are)
+                  are.may_follow,
+            ),
           ),
         ),
       )
@@ -203,7 +221,8 @@ module _ (hash arity cap action : List ℕ) (places : List (List ℕ)) where
   settled_words : IsSettled (AreSomeCommand (hash ∷ arity ∷ cap ∷ action ∷ places))
   settled_words =
       settled_as command_from (λ some. parts_of some.0 some.1 some.2)
-      (settled_both (settled_hash hash) (settled_both (settled_arity arity) (settled_both (settled_cap cap) (settled_action action places))))
+      (settled_both (settled_hash hash)
+      (settled_both (settled_arity arity) (settled_both (settled_cap cap) (settled_action action places))))
 
 -- a command has at least four words
 no_short : (words : List (List ℕ)) → length words < 4 → AreSomeCommand words → ⊥

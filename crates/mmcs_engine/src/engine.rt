@@ -28,15 +28,16 @@ use std::io::{ErrorKind, Read, Write};
 /// Answers the words after the program's name: reads the whole input, and writes the output once all else has
 /// succeeded.
 ///
-/// The words are `HASH ARITY CAP[f] ACTION I..`: a hash (`fold` or `sha256`), an arity (`2`, `4` or `8`), how many levels
-/// below the root the cap is (by the rule `Lowered`, or with an `f` behind it by the rule `Fixed`), an action, and after
-/// `open` and `check` any number of indices. The lines of the input are the rows of matrices: decimal numbers, up to
-/// 4294967295 for `fold` and up to 255 for `sha256`, with spaces or tabs between; blank lines end a matrix.
+/// The words are `HASH ARITY CAP[f] ACTION I..`: a hash (`fold` or `sha256`), an arity (`2`, `4` or `8`), how many
+/// levels below the root the cap is (by the rule `Lowered`, or with an `f` behind it by the rule `Fixed`), an action,
+/// and after `open` and `check` any number of indices. The lines of the input are the rows of matrices: decimal
+/// numbers, up to 4294967295 for `fold` and up to 255 for `sha256`, with spaces or tabs between; blank lines end a
+/// matrix.
 ///
 /// `commit` writes the cap of the matrices' tree, a line for each digest in hexadecimal. `open` writes for each index a
-/// line `index I` and the rows that belong to it, a line for each matrix, and then `digests K` and the `K` digests of one
-/// pruned proof for all of them. `check` opens the same, verifies it, and writes `ok K`. A stream is lent, so that what it
-/// has left or holds can be told of.
+/// line `index I` and the rows that belong to it, a line for each matrix, and then `digests K` and the `K` digests of
+/// one pruned proof for all of them. `check` opens the same, verifies it, and writes `ok K`. A stream is lent, so that
+/// what it has left or holds can be told of.
 ///
 /// # Errors
 ///
@@ -44,8 +45,8 @@ use std::io::{ErrorKind, Read, Write};
 ///
 /// - `Usage`: the words are no command. Nothing was read.
 /// - `Read`: a read failed.
-/// - `Number` or `Count`, for the first line that has a part which is no number that the hash takes, or else not as many
-///   numbers as the first row of its matrix.
+/// - `Number` or `Count`, for the first line that has a part which is no number that the hash takes, or else not as
+///   many numbers as the first row of its matrix.
 /// - `Tree`: why the tree refuses the heights; else `IndexOutOfBounds` for the highest index, where it is not below the
 ///   tallest height.
 /// - `Write`: a write failed. No other fault leaves anything written.
@@ -117,8 +118,8 @@ fn write_text<Dst: Write>(output: &mut Dst, text: &[u8]) -> Result<(), Fault>
 ///
 /// # Errors
 ///
-/// `Number` or `Count` for the first faulty line; else `Tree`: why the tree refuses the heights, else `IndexOutOfBounds`
-/// for the highest index; or `Tree(OutOfMemory)`.
+/// `Number` or `Count` for the first faulty line; else `Tree`: why the tree refuses the heights, else
+/// `IndexOutOfBounds` for the highest index; or `Tree(OutOfMemory)`.
 fn reply(alloc: Global, request: &Request, input: &[u8]) -> Result<Vec<u8>, Fault>
     ensures text { IfOk result
         (λ text. IsReply request.now.command request.now.indices.items input.now (Ok text.items)) }

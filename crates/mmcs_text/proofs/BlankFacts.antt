@@ -7,10 +7,13 @@ use Rattle.mmcs_text.specs.Input.{is_gap, is_blank, numerals_of, numbers_of}
 use Rattle.mmcs_text.proofs.Runs.{run_skips, first_run}
 
 -- one more byte in front, that is a gap or not
-some_numeral_cons : (b : ℕ) (line : List ℕ) → (is_blank line ≡ false → 0 < length (numerals_of line)) → is_blank (b ∷ line) ≡ false → (t : Bool) → is_gap b ≡ t → 0 < length (numerals_of (b ∷ line))
-some_numeral_cons b line rest full true gap = omega (arith, ap length (run_skips is_gap b line gap), rest (ap (λ t. t && is_blank line) (sym gap) ∙ full))
+some_numeral_cons : (b : ℕ) (line : List ℕ) → (is_blank line ≡ false → 0 < length (numerals_of line)) →
+    is_blank (b ∷ line) ≡ false → (t : Bool) → is_gap b ≡ t → 0 < length (numerals_of (b ∷ line))
+some_numeral_cons b line rest full true gap =
+    omega (arith, ap length (run_skips is_gap b line gap), rest (ap (λ t. t && is_blank line) (sym gap) ∙ full))
 some_numeral_cons b line rest full false text =
-    let r = first_run is_gap (b ∷ []) line (All-cons (λ c. is_gap c ≡ false) b [] text (All-nil (λ c. is_gap c ≡ false))) (omega arith) in
+    let r = first_run is_gap (b ∷ []) line
+    (All-cons (λ c. is_gap c ≡ false) b [] text (All-nil (λ c. is_gap c ≡ false))) (omega arith) in
     omega (arith, ap length r.runs)
 
 -- some byte is no gap, so there is a run of such bytes

@@ -8,13 +8,16 @@ use Rattle.std.proofs.lemmas.Fmt.{IsAscii-from_digits}
 use Rattle.mmcs_text.specs.Numbers.{IsNumberBelow}
 
 -- bytes that are no text are no number
-pub no_number_from_bytes : {S E : Type 0} (Y : S → Type 0) (N : E → Type 0) (bytes : List ℕ) (r : Result S E) → result_ok r ≡ None →
+pub no_number_from_bytes : {S E : Type 0} (Y : S → Type 0) (N : E → Type 0) (bytes : List ℕ) (r : Result S E) →
+    result_ok r ≡ None →
     MatchResult r Y (λ e. ((IsUtf8 bytes) → ⊥) × N e) → (IsNumberBelow (2 ^ 64) bytes → ⊥)
 no_number_from_bytes Y N bytes (Ok s) none said = absurd cc
-no_number_from_bytes Y N bytes (Err e) none said = λ number. said.0 (IsUtf8-from_ascii bytes (IsAscii-from_digits bytes number.numeral.1))
+no_number_from_bytes Y N bytes (Err e) none said =
+    λ number. said.0 (IsUtf8-from_ascii bytes (IsAscii-from_digits bytes number.numeral.1))
 
 -- where there is a number, the test passed
-pub number_read : {V : Type 0} (o : Option V) (P : Type 0) (value x : V) → SomeIff o P value → o ≡ Some x → P × (x ≡ value)
+pub number_read : {V : Type 0} (o : Option V) (P : Type 0) (value x : V) → SomeIff o P value → o ≡ Some x →
+    P × (x ≡ value)
 number_read None P value x said is = absurd cc
 number_read (Some y) P value x said is = (said.0, let same : y ≡ x = cc in sym same ∙ said.1)
 

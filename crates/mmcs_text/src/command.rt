@@ -76,8 +76,8 @@ pub enum Action {
 }
 
 impl Request {
-    /// What the words after the program's name ask for: a hash, an arity, a cap, an action, and the indices. Numbers are
-    /// one or more ASCII digits, and fit usize.
+    /// What the words after the program's name ask for: a hash, an arity, a cap, an action, and the indices. Numbers
+    /// are one or more ASCII digits, and fit usize.
     ///
     /// # Errors
     ///

@@ -153,13 +153,14 @@ impl<W: Word> Block<W> {
     ///
     /// # Errors
     ///
-    /// `Number` where a part of the line is no such number, else `Count` where the row is of another width than the rows
-    /// before it; `Tree(OutOfMemory)` where there is no memory.
+    /// `Number` where a part of the line is no such number, else `Count` where the row is of another width than the
+    /// rows before it; `Tree(OutOfMemory)` where there is no memory.
     fn push_row(&mut self, text: &[u8], line: usize) -> Result<(), Fault>
         requires full { is_blank text.now ≡ false }
         ensures row { (lines : List (List ℕ)) →
             IsBlock (W.MAX + 1) lines (map W.value self.old.values.items) self.old.width →
-            OnOk result (IsBlock (W.MAX + 1) (lines ++ text.now ∷ []) (map W.value self.new.values.items) self.new.width) }
+            OnOk result (IsBlock (W.MAX + 1) (lines ++ text.now ∷ []) (map W.value self.new.values.items)
+            self.new.width) }
         ensures fault { (lines : List (List ℕ)) →
             IsBlock (W.MAX + 1) lines (map W.value self.old.values.items) self.old.width →
             IfErr result (λ fault. (fault ≡ Tree OutOfMemory) ⊎ IsLineFault (W.MAX + 1) lines line text.now fault) }

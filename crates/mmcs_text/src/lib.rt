@@ -1,5 +1,5 @@
-//! What the program `mmcs` reads and writes as text: the words of a command, the matrices of an input, the lines that are
-//! printed, and the fault that ends it. No tree is known of here.
+//! What the program `mmcs` reads and writes as text: the words of a command, the matrices of an input, the lines that
+//! are printed, and the fault that ends it. No tree is known of here.
 #![tactic(auto)]
 
 pub mod command;

@@ -1,7 +1,6 @@
 -- Caps: the layer that a scheme hands out, by its rule.
 use Rattle.std.specs.Prelude.{ℕ, min}
-use Rattle.std.specs.Int.{div_ceil}
-use Rattle.p3_merkle_core.specs.Geometry.{Shape, exponent, has_rows, layer_below_root, least, levels}
+use Rattle.p3_merkle_core.specs.Geometry.{Shape, has_rows, layer_below_root, least, levels}
 use Rattle.p3_merkle_core.specs.declared.cap.CapRule.{CapRule}
 use Rattle.p3_merkle_core.specs.declared.cap.CapRule.TheVariants.{Lowered, Fixed}
 
@@ -18,8 +17,3 @@ room s Fixed = levels s
 -- the cap layer of a shape, a rule and a cap height: so many levels below the root, as far as there is room
 abbrev pub cap_layer : Shape → CapRule → ℕ → ℕ
 cap_layer s rule cap_height = layer_below_root s (min cap_height (room s rule))
-
--- the same room by numbers: of a tree of so many levels and this arity, whose shortest matrix has h rows
-abbrev pub room_of : ℕ → ℕ → ℕ → CapRule → ℕ
-room_of levels h arity Lowered = div_ceil (exponent h) (exponent arity)
-room_of levels h arity Fixed = levels

@@ -31,9 +31,12 @@ abbrev pub pruned : List ℕ → List (List (List ℕ)) → List (List ℕ) → 
 pruned indices rows digests = pruned_of indices rows digests
 
 -- what is answered to two openings under a cap
-abbrev pub extracts : Terms ℕ ℕ → List (List ℕ) → Opening ℕ ℕ → Opening ℕ ℕ → Result (Option (ℕ × ℕ × (Input ℕ ℕ × Input ℕ ℕ))) MerkleTreeError
+abbrev pub extracts : Terms ℕ ℕ → List (List ℕ) → Opening ℕ ℕ → Opening ℕ ℕ →
+    Result (Option (ℕ × ℕ × (Input ℕ ℕ × Input ℕ ℕ))) MerkleTreeError
 extracts c cap o u = extraction nat_eq nat_eq c (presented nat_eq c cap o) (presented nat_eq c cap u)
 
 -- the same of two pruned openings
-abbrev pub extracts_pruned : Terms ℕ ℕ → List (List ℕ) → PrunedOpening ℕ ℕ → PrunedOpening ℕ ℕ → Result (Option (ℕ × ℕ × (Input ℕ ℕ × Input ℕ ℕ))) MerkleTreeError
-extracts_pruned c cap p r = extraction nat_eq nat_eq c (presented_pruned nat_eq nat_eq c cap p) (presented_pruned nat_eq nat_eq c cap r)
+abbrev pub extracts_pruned : Terms ℕ ℕ → List (List ℕ) → PrunedOpening ℕ ℕ → PrunedOpening ℕ ℕ →
+    Result (Option (ℕ × ℕ × (Input ℕ ℕ × Input ℕ ℕ))) MerkleTreeError
+extracts_pruned c cap p r = extraction nat_eq nat_eq c (presented_pruned nat_eq nat_eq c cap p)
+    (presented_pruned nat_eq nat_eq c cap r)

@@ -5,11 +5,13 @@ use Rattle.p3_merkle_core.specs.Geometry.{exponent, layer_exponent, raw_len}
 use Rattle.p3_merkle_core.specs.Nodes.{node, layer}
 use Rattle.p3_merkle_core.specs.Examples.{batch, column, fold_example}
 
-leaves_of_four_rows : layer (fold_example 1) (batch 2 (column (1 ∷ 2 ∷ 3 ∷ 4 ∷ []) ∷ [])) 0 ≡ (32 ∷ []) ∷ (33 ∷ []) ∷ (34 ∷ []) ∷ (35 ∷ []) ∷ []
+leaves_of_four_rows : layer (fold_example 1) (batch 2 (column (1 ∷ 2 ∷ 3 ∷ 4 ∷ []) ∷ [])) 0
+    ≡ (32 ∷ []) ∷ (33 ∷ []) ∷ (34 ∷ []) ∷ (35 ∷ []) ∷ []
 unfolding exponent layer_exponent raw_len node fold_hash fold_compress
 leaves_of_four_rows = refl
 
-nodes_over_four_rows : layer (fold_example 1) (batch 2 (column (1 ∷ 2 ∷ 3 ∷ 4 ∷ []) ∷ [])) 1 ≡ (1026 ∷ []) ∷ (1090 ∷ []) ∷ []
+nodes_over_four_rows : layer (fold_example 1) (batch 2 (column (1 ∷ 2 ∷ 3 ∷ 4 ∷ []) ∷ [])) 1
+    ≡ (1026 ∷ []) ∷ (1090 ∷ []) ∷ []
 unfolding exponent layer_exponent raw_len node fold_hash fold_compress
 nodes_over_four_rows = refl
 
@@ -22,11 +24,13 @@ unfolding exponent layer_exponent raw_len node fold_hash fold_compress
 root_of_one_row = refl
 
 -- a layer of odd length is padded by a default digest
-leaves_of_three_rows : layer (fold_example 1) (batch 2 (column (1 ∷ 2 ∷ 3 ∷ []) ∷ [])) 0 ≡ (32 ∷ []) ∷ (33 ∷ []) ∷ (34 ∷ []) ∷ (0 ∷ []) ∷ []
+leaves_of_three_rows : layer (fold_example 1) (batch 2 (column (1 ∷ 2 ∷ 3 ∷ []) ∷ [])) 0
+    ≡ (32 ∷ []) ∷ (33 ∷ []) ∷ (34 ∷ []) ∷ (0 ∷ []) ∷ []
 unfolding exponent layer_exponent raw_len node fold_hash fold_compress
 leaves_of_three_rows = refl
 
-nodes_over_three_rows : layer (fold_example 1) (batch 2 (column (1 ∷ 2 ∷ 3 ∷ []) ∷ [])) 1 ≡ (1026 ∷ []) ∷ (1055 ∷ []) ∷ []
+nodes_over_three_rows : layer (fold_example 1) (batch 2 (column (1 ∷ 2 ∷ 3 ∷ []) ∷ [])) 1
+    ≡ (1026 ∷ []) ∷ (1055 ∷ []) ∷ []
 unfolding exponent layer_exponent raw_len node fold_hash fold_compress
 nodes_over_three_rows = refl
 
@@ -34,11 +38,13 @@ root_of_three_rows : layer (fold_example 1) (batch 2 (column (1 ∷ 2 ∷ 3 ∷ 
 unfolding exponent layer_exponent raw_len node fold_hash fold_compress
 root_of_three_rows = refl
 
-root_with_an_injected_row : layer (fold_example 1) (batch 2 (column (1 ∷ 2 ∷ []) ∷ column (5 ∷ []) ∷ [])) 1 ≡ (31843 ∷ []) ∷ []
+root_with_an_injected_row : layer (fold_example 1) (batch 2 (column (1 ∷ 2 ∷ []) ∷ column (5 ∷ []) ∷ [])) 1
+    ≡ (31843 ∷ []) ∷ []
 unfolding exponent layer_exponent raw_len node fold_hash fold_compress
 root_with_an_injected_row = refl
 
-leaves_of_two_rows_at_4 : layer (fold_example 1) (batch 4 (column (1 ∷ 2 ∷ []) ∷ [])) 0 ≡ (32 ∷ []) ∷ (33 ∷ []) ∷ (0 ∷ []) ∷ (0 ∷ []) ∷ []
+leaves_of_two_rows_at_4 : layer (fold_example 1) (batch 4 (column (1 ∷ 2 ∷ []) ∷ [])) 0
+    ≡ (32 ∷ []) ∷ (33 ∷ []) ∷ (0 ∷ []) ∷ (0 ∷ []) ∷ []
 unfolding exponent layer_exponent raw_len node fold_hash fold_compress
 leaves_of_two_rows_at_4 = refl
 
@@ -47,23 +53,33 @@ unfolding exponent layer_exponent raw_len node fold_hash fold_compress
 root_of_two_rows_at_4 = refl
 
 -- rows of matrices of one height are joined in input order
-leaves_of_two_matrices : layer (fold_example 1) (batch 2 (column (1 ∷ 2 ∷ []) ∷ column (3 ∷ 4 ∷ []) ∷ [])) 0 ≡ (995 ∷ []) ∷ (1027 ∷ []) ∷ []
+leaves_of_two_matrices : layer (fold_example 1) (batch 2 (column (1 ∷ 2 ∷ []) ∷ column (3 ∷ 4 ∷ []) ∷ [])) 0
+    ≡ (995 ∷ []) ∷ (1027 ∷ []) ∷ []
 unfolding exponent layer_exponent raw_len node fold_hash fold_compress
 leaves_of_two_matrices = refl
 
-root_of_two_matrices : layer (fold_example 1) (batch 2 (column (1 ∷ 2 ∷ []) ∷ column (3 ∷ 4 ∷ []) ∷ [])) 1 ≡ (31873 ∷ []) ∷ []
+root_of_two_matrices : layer (fold_example 1) (batch 2 (column (1 ∷ 2 ∷ []) ∷ column (3 ∷ 4 ∷ []) ∷ [])) 1
+    ≡ (31873 ∷ []) ∷ []
 unfolding exponent layer_exponent raw_len node fold_hash fold_compress
 root_of_two_matrices = refl
 
-nodes_with_injected_rows : layer (fold_example 1) (batch 2 (column (1 ∷ 2 ∷ 3 ∷ []) ∷ column (4 ∷ 5 ∷ []) ∷ [])) 1 ≡ (31842 ∷ []) ∷ (32742 ∷ []) ∷ []
+nodes_with_injected_rows : layer (fold_example 1) (batch 2 (column (1 ∷ 2 ∷ 3 ∷ []) ∷ column (4 ∷ 5 ∷ []) ∷ [])) 1
+    ≡ (31842 ∷ []) ∷ (32742 ∷ []) ∷ []
 unfolding exponent layer_exponent raw_len node fold_hash fold_compress
 nodes_with_injected_rows = refl
 
-root_with_injected_rows : layer (fold_example 1) (batch 2 (column (1 ∷ 2 ∷ 3 ∷ []) ∷ column (4 ∷ 5 ∷ []) ∷ [])) 2 ≡ (1019845 ∷ []) ∷ []
+root_with_injected_rows : layer (fold_example 1) (batch 2 (column (1 ∷ 2 ∷ 3 ∷ []) ∷ column (4 ∷ 5 ∷ []) ∷ [])) 2
+    ≡ (1019845 ∷ []) ∷ []
 unfolding exponent layer_exponent raw_len node fold_hash fold_compress
 root_with_injected_rows = refl
 
 -- the last of four nodes: default digests compressed, and once more with a default digest
-node_past_the_injected_height : node (fold_example 1) (record { arity = 4; matrices = record { height = 5; width = 1; row = λ r. r ∷ [] } ∷ record { height = 3; width = 1; row = λ r. r ∷ [] } ∷ [] }) 1 3 ≡ 30566592 ∷ []
+node_past_the_injected_height :
+    node (fold_example 1)
+    (record {
+      arity = 4;
+      matrices = record { height = 5; width = 1; row = λ r. r ∷ [] }
+          ∷ record { height = 3; width = 1; row = λ r. r ∷ [] } ∷ [];
+    }) 1 3 ≡ 30566592 ∷ []
 unfolding exponent layer_exponent raw_len node fold_hash fold_compress
 node_past_the_injected_height = refl

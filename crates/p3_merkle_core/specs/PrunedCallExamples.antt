@@ -12,11 +12,14 @@ use Rattle.p3_merkle_core.specs.declared.error.MerkleTreeError.TheVariants.{CapM
 use Rattle.p3_merkle_core.specs.Openings.{node_in}
 use Rattle.p3_merkle_core.specs.Checks.{terms}
 
-second_node_over_four_rows : node_in [] (layers (fold_example 1) (batch 2 (column (1 ∷ 2 ∷ 3 ∷ 4 ∷ []) ∷ []))) 1 1 ≡ 1090 ∷ []
+second_node_over_four_rows : node_in [] (layers (fold_example 1) (batch 2 (column (1 ∷ 2 ∷ 3 ∷ 4 ∷ []) ∷ []))) 1 1
+    ≡ 1090 ∷ []
 unfolding exponent layer_exponent raw_len node fold_hash fold_compress
 second_node_over_four_rows = refl
 
-own_digests_of_four_queries : boundary_by (node_in [] (layers (fold_example 1) (batch 2 (column (1 ∷ 2 ∷ 3 ∷ 4 ∷ 5 ∷ 6 ∷ 7 ∷ 8 ∷ []) ∷ [])))) (narrow 2 (8 ∷ [])) (5 ∷ 1 ∷ 2 ∷ 1 ∷ []) 3 ≡ (32 ∷ []) ∷ (35 ∷ []) ∷ (36 ∷ []) ∷ (1218 ∷ []) ∷ []
+own_digests_of_four_queries :
+    boundary_by (node_in [] (layers (fold_example 1) (batch 2 (column (1 ∷ 2 ∷ 3 ∷ 4 ∷ 5 ∷ 6 ∷ 7 ∷ 8 ∷ []) ∷ []))))
+    (narrow 2 (8 ∷ [])) (5 ∷ 1 ∷ 2 ∷ 1 ∷ []) 3 ≡ (32 ∷ []) ∷ (35 ∷ []) ∷ (36 ∷ []) ∷ (1218 ∷ []) ∷ []
 unfolding exponent layer_exponent raw_len leaves_under node fold_hash fold_compress
 own_digests_of_four_queries = refl
 
@@ -42,18 +45,30 @@ unfolding exponent
 gate_before_indices = refl
 
 -- one path a query, in order, repeats included
-paths_of_four_queries : restored_paths (terms (fold_example 1) (narrow 2 (8 ∷ [])) 3) (pruned (5 ∷ 1 ∷ 2 ∷ 1 ∷ []) (((6 ∷ []) ∷ []) ∷ ((2 ∷ []) ∷ []) ∷ ((3 ∷ []) ∷ []) ∷ ((2 ∷ []) ∷ []) ∷ []) ((32 ∷ []) ∷ (35 ∷ []) ∷ (36 ∷ []) ∷ (1218 ∷ []) ∷ [])) ≡ (5, (36 ∷ []) ∷ (1218 ∷ []) ∷ (32897 ∷ []) ∷ []) ∷ (1, (32 ∷ []) ∷ (1090 ∷ []) ∷ (36993 ∷ []) ∷ []) ∷ (2, (35 ∷ []) ∷ (1026 ∷ []) ∷ (36993 ∷ []) ∷ []) ∷ (1, (32 ∷ []) ∷ (1090 ∷ []) ∷ (36993 ∷ []) ∷ []) ∷ []
+paths_of_four_queries :
+    restored_paths (terms (fold_example 1) (narrow 2 (8 ∷ [])) 3)
+    (pruned (5 ∷ 1 ∷ 2 ∷ 1 ∷ []) (((6 ∷ []) ∷ []) ∷ ((2 ∷ []) ∷ []) ∷ ((3 ∷ []) ∷ []) ∷ ((2 ∷ []) ∷ []) ∷ [])
+    ((32 ∷ []) ∷ (35 ∷ []) ∷ (36 ∷ []) ∷ (1218 ∷ []) ∷ []))
+    ≡ (5, (36 ∷ []) ∷ (1218 ∷ []) ∷ (32897 ∷ []) ∷ []) ∷ (1, (32 ∷ []) ∷ (1090 ∷ []) ∷ (36993 ∷ []) ∷ [])
+    ∷ (2, (35 ∷ []) ∷ (1026 ∷ []) ∷ (36993 ∷ []) ∷ []) ∷ (1, (32 ∷ []) ∷ (1090 ∷ []) ∷ (36993 ∷ []) ∷ []) ∷ []
 unfolding exponent layer_exponent raw_len leaves_under restored_node fold_hash fold_compress
 paths_of_four_queries = refl
 
 -- an opening is answered Ok exactly if it is accepted
-four_queries_are_accepted : pruned_answer_under nat_eq nat_eq (terms (fold_example 1) (narrow 2 (8 ∷ [])) 3) ((1056801 ∷ []) ∷ []) (pruned (5 ∷ 1 ∷ 2 ∷ 1 ∷ []) (((6 ∷ []) ∷ []) ∷ ((2 ∷ []) ∷ []) ∷ ((3 ∷ []) ∷ []) ∷ ((2 ∷ []) ∷ []) ∷ []) ((32 ∷ []) ∷ (35 ∷ []) ∷ (36 ∷ []) ∷ (1218 ∷ []) ∷ [])) ≡ Ok tt
+four_queries_are_accepted : pruned_answer_under nat_eq nat_eq (terms (fold_example 1) (narrow 2 (8 ∷ [])) 3)
+    ((1056801 ∷ []) ∷ [])
+    (pruned (5 ∷ 1 ∷ 2 ∷ 1 ∷ []) (((6 ∷ []) ∷ []) ∷ ((2 ∷ []) ∷ []) ∷ ((3 ∷ []) ∷ []) ∷ ((2 ∷ []) ∷ []) ∷ [])
+    ((32 ∷ []) ∷ (35 ∷ []) ∷ (36 ∷ []) ∷ (1218 ∷ []) ∷ [])) ≡ Ok tt
 unfolding exponent layer_exponent raw_len leaves_under restored_node fold_hash fold_compress
 four_queries_are_accepted = refl
 
-one_digest_is_wrong : pruned_answer_under nat_eq nat_eq (terms (fold_example 1) (narrow 2 (8 ∷ [])) 3) ((1056801 ∷ []) ∷ []) (pruned (5 ∷ 1 ∷ 2 ∷ 1 ∷ []) (((6 ∷ []) ∷ []) ∷ ((2 ∷ []) ∷ []) ∷ ((3 ∷ []) ∷ []) ∷ ((2 ∷ []) ∷ []) ∷ []) ((31 ∷ []) ∷ (35 ∷ []) ∷ (36 ∷ []) ∷ (1218 ∷ []) ∷ [])) ≡ Err CapMismatch
+one_digest_is_wrong : pruned_answer_under nat_eq nat_eq (terms (fold_example 1) (narrow 2 (8 ∷ [])) 3)
+    ((1056801 ∷ []) ∷ [])
+    (pruned (5 ∷ 1 ∷ 2 ∷ 1 ∷ []) (((6 ∷ []) ∷ []) ∷ ((2 ∷ []) ∷ []) ∷ ((3 ∷ []) ∷ []) ∷ ((2 ∷ []) ∷ []) ∷ [])
+    ((31 ∷ []) ∷ (35 ∷ []) ∷ (36 ∷ []) ∷ (1218 ∷ []) ∷ [])) ≡ Err CapMismatch
 unfolding exponent layer_exponent raw_len leaves_under restored_node fold_hash fold_compress
 one_digest_is_wrong = refl
 
-row_sets_of_two_queries : {A B : Type 0} (first second : Vec (Vec ℕ A) B) → row_sets (first ∷ second ∷ []) ≡ row_lists first.items ∷ row_lists second.items ∷ []
+row_sets_of_two_queries : {A B : Type 0} (first second : Vec (Vec ℕ A) B) → row_sets (first ∷ second ∷ [])
+    ≡ row_lists first.items ∷ row_lists second.items ∷ []
 row_sets_of_two_queries first second = refl

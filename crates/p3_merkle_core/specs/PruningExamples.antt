@@ -51,7 +51,9 @@ digests_for_one_of_16_at_4 : length (boundary (narrow 4 (16 ∷ [])) (9 ∷ []) 
 unfolding exponent layer_exponent raw_len leaves_under
 digests_for_one_of_16_at_4 = refl
 
-digests_for_all_of_16_at_4 : length (boundary (narrow 4 (16 ∷ [])) (0 ∷ 1 ∷ 2 ∷ 3 ∷ 4 ∷ 5 ∷ 6 ∷ 7 ∷ 8 ∷ 9 ∷ 10 ∷ 11 ∷ 12 ∷ 13 ∷ 14 ∷ 15 ∷ []) 2) ≡ 0
+digests_for_all_of_16_at_4 :
+    length (boundary (narrow 4 (16 ∷ [])) (0 ∷ 1 ∷ 2 ∷ 3 ∷ 4 ∷ 5 ∷ 6 ∷ 7 ∷ 8 ∷ 9 ∷ 10 ∷ 11 ∷ 12 ∷ 13 ∷ 14 ∷ 15 ∷ []) 2)
+    ≡ 0
 unfolding exponent layer_exponent raw_len leaves_under
 digests_for_all_of_16_at_4 = refl
 
@@ -59,43 +61,69 @@ digests_for_both_of_2_at_4 : length (boundary (narrow 4 (2 ∷ [])) (0 ∷ 1 ∷
 unfolding exponent layer_exponent raw_len leaves_under
 digests_for_both_of_2_at_4 = refl
 
-digests_of_four_queries : (honest_query (fold_example 1) (batch 2 (column (1 ∷ 2 ∷ 3 ∷ 4 ∷ 5 ∷ 6 ∷ 7 ∷ 8 ∷ []) ∷ [])) 3 (5 ∷ 1 ∷ 2 ∷ 1 ∷ [])).digests ≡ (32 ∷ []) ∷ (35 ∷ []) ∷ (36 ∷ []) ∷ (1218 ∷ []) ∷ []
+digests_of_four_queries :
+    (honest_query (fold_example 1) (batch 2 (column (1 ∷ 2 ∷ 3 ∷ 4 ∷ 5 ∷ 6 ∷ 7 ∷ 8 ∷ []) ∷ [])) 3
+    (5 ∷ 1 ∷ 2 ∷ 1 ∷ [])).digests ≡ (32 ∷ []) ∷ (35 ∷ []) ∷ (36 ∷ []) ∷ (1218 ∷ []) ∷ []
 unfolding exponent layer_exponent raw_len node fold_hash fold_compress leaves_under
 digests_of_four_queries = refl
 
-digests_under_a_cap_of_two : (honest_query (fold_example 1) (batch 2 (column (1 ∷ 2 ∷ 3 ∷ 4 ∷ 5 ∷ 6 ∷ 7 ∷ 8 ∷ []) ∷ [])) 2 (1 ∷ 2 ∷ 5 ∷ [])).digests ≡ (32 ∷ []) ∷ (35 ∷ []) ∷ (36 ∷ []) ∷ (1218 ∷ []) ∷ []
+digests_under_a_cap_of_two :
+    (honest_query (fold_example 1) (batch 2 (column (1 ∷ 2 ∷ 3 ∷ 4 ∷ 5 ∷ 6 ∷ 7 ∷ 8 ∷ []) ∷ [])) 2
+    (1 ∷ 2 ∷ 5 ∷ [])).digests ≡ (32 ∷ []) ∷ (35 ∷ []) ∷ (36 ∷ []) ∷ (1218 ∷ []) ∷ []
 unfolding exponent layer_exponent raw_len node fold_hash fold_compress leaves_under
 digests_under_a_cap_of_two = refl
 
-digests_of_padding_slots : (honest_query (fold_example 1) (batch 4 (column (1 ∷ 2 ∷ []) ∷ [])) 1 (0 ∷ [])).digests ≡ (33 ∷ []) ∷ (0 ∷ []) ∷ (0 ∷ []) ∷ []
+digests_of_padding_slots : (honest_query (fold_example 1) (batch 4 (column (1 ∷ 2 ∷ []) ∷ [])) 1 (0 ∷ [])).digests
+    ≡ (33 ∷ []) ∷ (0 ∷ []) ∷ (0 ∷ []) ∷ []
 unfolding exponent layer_exponent raw_len node fold_hash fold_compress leaves_under
 digests_of_padding_slots = refl
 
-root_restored_from_four_queries : restored_node (terms (fold_example 1) (narrow 2 (8 ∷ [])) 3) (pruned (5 ∷ 1 ∷ 2 ∷ 1 ∷ []) (((6 ∷ []) ∷ []) ∷ ((2 ∷ []) ∷ []) ∷ ((3 ∷ []) ∷ []) ∷ ((2 ∷ []) ∷ []) ∷ []) ((32 ∷ []) ∷ (35 ∷ []) ∷ (36 ∷ []) ∷ (1218 ∷ []) ∷ [])) 3 0 ≡ 1056801 ∷ []
+root_restored_from_four_queries :
+    restored_node (terms (fold_example 1) (narrow 2 (8 ∷ [])) 3)
+    (pruned (5 ∷ 1 ∷ 2 ∷ 1 ∷ []) (((6 ∷ []) ∷ []) ∷ ((2 ∷ []) ∷ []) ∷ ((3 ∷ []) ∷ []) ∷ ((2 ∷ []) ∷ []) ∷ [])
+    ((32 ∷ []) ∷ (35 ∷ []) ∷ (36 ∷ []) ∷ (1218 ∷ []) ∷ [])) 3 0 ≡ 1056801 ∷ []
 unfolding exponent layer_exponent raw_len leaves_under restored_node fold_hash fold_compress
 root_restored_from_four_queries = refl
 
-paths_restored_from_four_queries : map (restored_path (terms (fold_example 1) (narrow 2 (8 ∷ [])) 3) (pruned (5 ∷ 1 ∷ 2 ∷ 1 ∷ []) (((6 ∷ []) ∷ []) ∷ ((2 ∷ []) ∷ []) ∷ ((3 ∷ []) ∷ []) ∷ ((2 ∷ []) ∷ []) ∷ []) ((32 ∷ []) ∷ (35 ∷ []) ∷ (36 ∷ []) ∷ (1218 ∷ []) ∷ []))) (5 ∷ 1 ∷ 2 ∷ []) ≡ ((36 ∷ []) ∷ (1218 ∷ []) ∷ (32897 ∷ []) ∷ []) ∷ ((32 ∷ []) ∷ (1090 ∷ []) ∷ (36993 ∷ []) ∷ []) ∷ ((35 ∷ []) ∷ (1026 ∷ []) ∷ (36993 ∷ []) ∷ []) ∷ []
+paths_restored_from_four_queries :
+    map (restored_path (terms (fold_example 1) (narrow 2 (8 ∷ [])) 3)
+    (pruned (5 ∷ 1 ∷ 2 ∷ 1 ∷ []) (((6 ∷ []) ∷ []) ∷ ((2 ∷ []) ∷ []) ∷ ((3 ∷ []) ∷ []) ∷ ((2 ∷ []) ∷ []) ∷ [])
+    ((32 ∷ []) ∷ (35 ∷ []) ∷ (36 ∷ []) ∷ (1218 ∷ []) ∷ []))) (5 ∷ 1 ∷ 2 ∷ [])
+    ≡ ((36 ∷ []) ∷ (1218 ∷ []) ∷ (32897 ∷ []) ∷ []) ∷ ((32 ∷ []) ∷ (1090 ∷ []) ∷ (36993 ∷ []) ∷ [])
+    ∷ ((35 ∷ []) ∷ (1026 ∷ []) ∷ (36993 ∷ []) ∷ []) ∷ []
 unfolding exponent layer_exponent raw_len leaves_under restored_node fold_hash fold_compress
 paths_restored_from_four_queries = refl
 
-paths_restored_from_a_wrong_digest : map (restored_path (terms (fold_example 1) (narrow 2 (8 ∷ [])) 3) (pruned (5 ∷ 1 ∷ 2 ∷ 1 ∷ []) (((6 ∷ []) ∷ []) ∷ ((2 ∷ []) ∷ []) ∷ ((3 ∷ []) ∷ []) ∷ ((2 ∷ []) ∷ []) ∷ []) ((31 ∷ []) ∷ (35 ∷ []) ∷ (36 ∷ []) ∷ (1218 ∷ []) ∷ []))) (5 ∷ 1 ∷ 2 ∷ []) ≡ ((36 ∷ []) ∷ (1218 ∷ []) ∷ (31936 ∷ []) ∷ []) ∷ ((31 ∷ []) ∷ (1090 ∷ []) ∷ (36993 ∷ []) ∷ []) ∷ ((35 ∷ []) ∷ (995 ∷ []) ∷ (36993 ∷ []) ∷ []) ∷ []
+paths_restored_from_a_wrong_digest :
+    map (restored_path (terms (fold_example 1) (narrow 2 (8 ∷ [])) 3)
+    (pruned (5 ∷ 1 ∷ 2 ∷ 1 ∷ []) (((6 ∷ []) ∷ []) ∷ ((2 ∷ []) ∷ []) ∷ ((3 ∷ []) ∷ []) ∷ ((2 ∷ []) ∷ []) ∷ [])
+    ((31 ∷ []) ∷ (35 ∷ []) ∷ (36 ∷ []) ∷ (1218 ∷ []) ∷ []))) (5 ∷ 1 ∷ 2 ∷ [])
+    ≡ ((36 ∷ []) ∷ (1218 ∷ []) ∷ (31936 ∷ []) ∷ []) ∷ ((31 ∷ []) ∷ (1090 ∷ []) ∷ (36993 ∷ []) ∷ [])
+    ∷ ((35 ∷ []) ∷ (995 ∷ []) ∷ (36993 ∷ []) ∷ []) ∷ []
 unfolding exponent layer_exponent raw_len leaves_under restored_node fold_hash fold_compress
 paths_restored_from_a_wrong_digest = refl
 
 children_of_two_parents : children_under 2 (0 ∷ 2 ∷ []) ≡ 0 ∷ 1 ∷ 4 ∷ 5 ∷ []
 children_of_two_parents = refl
 
-values_of_covered_children : beside {X = ℕ} (is_among (1 ∷ 5 ∷ [])) (0 ∷ 1 ∷ 4 ∷ 5 ∷ []) (30 ∷ 31 ∷ 34 ∷ 35 ∷ []) ≡ 31 ∷ 35 ∷ []
+values_of_covered_children : beside {X = ℕ} (is_among (1 ∷ 5 ∷ [])) (0 ∷ 1 ∷ 4 ∷ 5 ∷ []) (30 ∷ 31 ∷ 34 ∷ 35 ∷ [])
+    ≡ 31 ∷ 35 ∷ []
 values_of_covered_children = refl
 
-path_of_a_kept_leaf : path_out_of {X = ℕ} ((0 ∷ 1 ∷ 2 ∷ [], 2, 0 ∷ 1 ∷ 2 ∷ 3 ∷ 4 ∷ 5 ∷ []) ∷ (0 ∷ 1 ∷ [], 2, 10 ∷ 11 ∷ 12 ∷ 13 ∷ []) ∷ (0 ∷ [], 2, 20 ∷ 21 ∷ []) ∷ []) 5 ≡ 4 ∷ 13 ∷ 20 ∷ []
+path_of_a_kept_leaf :
+    path_out_of {X = ℕ} ((0 ∷ 1 ∷ 2 ∷ [], 2, 0 ∷ 1 ∷ 2 ∷ 3 ∷ 4 ∷ 5 ∷ []) ∷ (0 ∷ 1 ∷ [], 2, 10 ∷ 11 ∷ 12 ∷ 13 ∷ [])
+    ∷ (0 ∷ [], 2, 20 ∷ 21 ∷ []) ∷ []) 5 ≡ 4 ∷ 13 ∷ 20 ∷ []
 path_of_a_kept_leaf = refl
 
-path_of_another_leaf : path_out_of {X = ℕ} ((0 ∷ 1 ∷ 2 ∷ [], 2, 0 ∷ 1 ∷ 2 ∷ 3 ∷ 4 ∷ 5 ∷ []) ∷ (0 ∷ 1 ∷ [], 2, 10 ∷ 11 ∷ 12 ∷ 13 ∷ []) ∷ (0 ∷ [], 2, 20 ∷ 21 ∷ []) ∷ []) 7 ≡ 12 ∷ 20 ∷ []
+path_of_another_leaf :
+    path_out_of {X = ℕ} ((0 ∷ 1 ∷ 2 ∷ [], 2, 0 ∷ 1 ∷ 2 ∷ 3 ∷ 4 ∷ 5 ∷ []) ∷ (0 ∷ 1 ∷ [], 2, 10 ∷ 11 ∷ 12 ∷ 13 ∷ [])
+    ∷ (0 ∷ [], 2, 20 ∷ 21 ∷ []) ∷ []) 7 ≡ 12 ∷ 20 ∷ []
 path_of_another_leaf = refl
 
-honest_queries_are_not_refused : pruned_refusal nat_eq (narrow 2 (8 ∷ [])) 3 (pruned (5 ∷ 1 ∷ 2 ∷ 1 ∷ []) (((6 ∷ []) ∷ []) ∷ ((2 ∷ []) ∷ []) ∷ ((3 ∷ []) ∷ []) ∷ ((2 ∷ []) ∷ []) ∷ []) ((32 ∷ []) ∷ (35 ∷ []) ∷ (36 ∷ []) ∷ (1218 ∷ []) ∷ [])) ≡ None
+honest_queries_are_not_refused :
+    pruned_refusal nat_eq (narrow 2 (8 ∷ [])) 3
+    (pruned (5 ∷ 1 ∷ 2 ∷ 1 ∷ []) (((6 ∷ []) ∷ []) ∷ ((2 ∷ []) ∷ []) ∷ ((3 ∷ []) ∷ []) ∷ ((2 ∷ []) ∷ []) ∷ [])
+    ((32 ∷ []) ∷ (35 ∷ []) ∷ (36 ∷ []) ∷ (1218 ∷ []) ∷ [])) ≡ None
 unfolding exponent layer_exponent raw_len leaves_under
 honest_queries_are_not_refused = refl
 
@@ -103,74 +131,132 @@ no_queries_are_not_refused : pruned_refusal nat_eq (narrow 2 (8 ∷ [])) 3 (prun
 unfolding exponent layer_exponent raw_len leaves_under
 no_queries_are_not_refused = refl
 
-no_queries_with_a_digest : pruned_refusal nat_eq (narrow 2 (8 ∷ [])) 3 (pruned ([]) ([]) ((7 ∷ []) ∷ [])) ≡ Some (MalformedPrunedProof (SiblingCountMismatch 0 1))
+no_queries_with_a_digest : pruned_refusal nat_eq (narrow 2 (8 ∷ [])) 3 (pruned ([]) ([]) ((7 ∷ []) ∷ []))
+    ≡ Some (MalformedPrunedProof (SiblingCountMismatch 0 1))
 unfolding exponent layer_exponent raw_len leaves_under
 no_queries_with_a_digest = refl
 
-row_sets_before_digests : pruned_refusal nat_eq (narrow 2 (8 ∷ [])) 3 (pruned ([]) (((1 ∷ []) ∷ []) ∷ []) ((7 ∷ []) ∷ [])) ≡ Some (WrongBatchSize 0 1)
+row_sets_before_digests :
+    pruned_refusal nat_eq (narrow 2 (8 ∷ [])) 3 (pruned ([]) (((1 ∷ []) ∷ []) ∷ []) ((7 ∷ []) ∷ []))
+    ≡ Some (WrongBatchSize 0 1)
 unfolding exponent layer_exponent raw_len leaves_under
 row_sets_before_digests = refl
 
-one_row_set_too_few : pruned_refusal nat_eq (narrow 2 (8 ∷ [])) 3 (pruned (5 ∷ 1 ∷ 2 ∷ 1 ∷ []) (((6 ∷ []) ∷ []) ∷ ((2 ∷ []) ∷ []) ∷ ((3 ∷ []) ∷ []) ∷ []) ((32 ∷ []) ∷ (35 ∷ []) ∷ (36 ∷ []) ∷ (1218 ∷ []) ∷ [])) ≡ Some (WrongBatchSize 4 3)
+one_row_set_too_few :
+    pruned_refusal nat_eq (narrow 2 (8 ∷ [])) 3
+    (pruned (5 ∷ 1 ∷ 2 ∷ 1 ∷ []) (((6 ∷ []) ∷ []) ∷ ((2 ∷ []) ∷ []) ∷ ((3 ∷ []) ∷ []) ∷ [])
+    ((32 ∷ []) ∷ (35 ∷ []) ∷ (36 ∷ []) ∷ (1218 ∷ []) ∷ [])) ≡ Some (WrongBatchSize 4 3)
 unfolding exponent layer_exponent raw_len leaves_under
 one_row_set_too_few = refl
 
-gate_before_row_sets : pruned_refusal nat_eq (narrow 2 (6 ∷ 4 ∷ [])) 3 (pruned (5 ∷ 1 ∷ 2 ∷ 1 ∷ []) (((6 ∷ []) ∷ []) ∷ ((2 ∷ []) ∷ []) ∷ ((3 ∷ []) ∷ []) ∷ []) ((32 ∷ []) ∷ (35 ∷ []) ∷ (36 ∷ []) ∷ (1218 ∷ []) ∷ [])) ≡ Some (IncompatibleHeights 4 6 3 1)
+gate_before_row_sets :
+    pruned_refusal nat_eq (narrow 2 (6 ∷ 4 ∷ [])) 3
+    (pruned (5 ∷ 1 ∷ 2 ∷ 1 ∷ []) (((6 ∷ []) ∷ []) ∷ ((2 ∷ []) ∷ []) ∷ ((3 ∷ []) ∷ []) ∷ [])
+    ((32 ∷ []) ∷ (35 ∷ []) ∷ (36 ∷ []) ∷ (1218 ∷ []) ∷ [])) ≡ Some (IncompatibleHeights 4 6 3 1)
 unfolding exponent layer_exponent raw_len leaves_under
 gate_before_row_sets = refl
 
-highest_index_out_of_bounds : pruned_refusal nat_eq (narrow 2 (8 ∷ [])) 3 (pruned (9 ∷ 12 ∷ []) (((1 ∷ []) ∷ []) ∷ ((1 ∷ []) ∷ []) ∷ []) ([])) ≡ Some (IndexOutOfBounds 8 12)
+highest_index_out_of_bounds :
+    pruned_refusal nat_eq (narrow 2 (8 ∷ [])) 3 (pruned (9 ∷ 12 ∷ []) (((1 ∷ []) ∷ []) ∷ ((1 ∷ []) ∷ []) ∷ []) ([]))
+    ≡ Some (IndexOutOfBounds 8 12)
 unfolding exponent layer_exponent raw_len leaves_under
 highest_index_out_of_bounds = refl
 
-repeats_that_disagree : pruned_refusal nat_eq (narrow 2 (8 ∷ [])) 3 (pruned (5 ∷ 1 ∷ 5 ∷ []) (((6 ∷ []) ∷ []) ∷ ((2 ∷ 2 ∷ []) ∷ []) ∷ ((7 ∷ []) ∷ []) ∷ []) ([])) ≡ Some (MalformedPrunedProof (InconsistentDuplicateOpenings 1))
+repeats_that_disagree :
+    pruned_refusal nat_eq (narrow 2 (8 ∷ [])) 3
+    (pruned (5 ∷ 1 ∷ 5 ∷ []) (((6 ∷ []) ∷ []) ∷ ((2 ∷ 2 ∷ []) ∷ []) ∷ ((7 ∷ []) ∷ []) ∷ []) ([]))
+    ≡ Some (MalformedPrunedProof (InconsistentDuplicateOpenings 1))
 unfolding exponent layer_exponent raw_len leaves_under
 repeats_that_disagree = refl
 
-repeats_that_disagree_in_number : pruned_refusal nat_eq (narrow 2 (8 ∷ [])) 3 (pruned (1 ∷ 1 ∷ []) (([]) ∷ ((2 ∷ []) ∷ []) ∷ []) ([])) ≡ Some (MalformedPrunedProof (InconsistentDuplicateOpenings 0))
+repeats_that_disagree_in_number :
+    pruned_refusal nat_eq (narrow 2 (8 ∷ [])) 3 (pruned (1 ∷ 1 ∷ []) (([]) ∷ ((2 ∷ []) ∷ []) ∷ []) ([]))
+    ≡ Some (MalformedPrunedProof (InconsistentDuplicateOpenings 0))
 unfolding exponent layer_exponent raw_len leaves_under
 repeats_that_disagree_in_number = refl
 
-one_digest_too_many : pruned_refusal nat_eq (narrow 2 (8 ∷ [])) 3 (pruned (5 ∷ 1 ∷ 2 ∷ 1 ∷ []) (((6 ∷ []) ∷ []) ∷ ((2 ∷ []) ∷ []) ∷ ((3 ∷ []) ∷ []) ∷ ((2 ∷ []) ∷ []) ∷ []) ((32 ∷ []) ∷ (35 ∷ []) ∷ (36 ∷ []) ∷ (1218 ∷ []) ∷ (0 ∷ []) ∷ [])) ≡ Some (MalformedPrunedProof (SiblingCountMismatch 4 5))
+one_digest_too_many :
+    pruned_refusal nat_eq (narrow 2 (8 ∷ [])) 3
+    (pruned (5 ∷ 1 ∷ 2 ∷ 1 ∷ []) (((6 ∷ []) ∷ []) ∷ ((2 ∷ []) ∷ []) ∷ ((3 ∷ []) ∷ []) ∷ ((2 ∷ []) ∷ []) ∷ [])
+    ((32 ∷ []) ∷ (35 ∷ []) ∷ (36 ∷ []) ∷ (1218 ∷ []) ∷ (0 ∷ []) ∷ []))
+    ≡ Some (MalformedPrunedProof (SiblingCountMismatch 4 5))
 unfolding exponent layer_exponent raw_len leaves_under
 one_digest_too_many = refl
 
-one_digest_too_few : pruned_refusal nat_eq (narrow 2 (8 ∷ [])) 3 (pruned (5 ∷ 1 ∷ 2 ∷ 1 ∷ []) (((6 ∷ []) ∷ []) ∷ ((2 ∷ []) ∷ []) ∷ ((3 ∷ []) ∷ []) ∷ ((2 ∷ []) ∷ []) ∷ []) ((32 ∷ []) ∷ (35 ∷ []) ∷ (36 ∷ []) ∷ [])) ≡ Some (MalformedPrunedProof (SiblingCountMismatch 4 3))
+one_digest_too_few :
+    pruned_refusal nat_eq (narrow 2 (8 ∷ [])) 3
+    (pruned (5 ∷ 1 ∷ 2 ∷ 1 ∷ []) (((6 ∷ []) ∷ []) ∷ ((2 ∷ []) ∷ []) ∷ ((3 ∷ []) ∷ []) ∷ ((2 ∷ []) ∷ []) ∷ [])
+    ((32 ∷ []) ∷ (35 ∷ []) ∷ (36 ∷ []) ∷ [])) ≡ Some (MalformedPrunedProof (SiblingCountMismatch 4 3))
 unfolding exponent layer_exponent raw_len leaves_under
 one_digest_too_few = refl
 
-no_rows_for_a_query : pruned_refusal nat_eq (narrow 2 (8 ∷ [])) 3 (pruned (1 ∷ 1 ∷ []) (([]) ∷ ([]) ∷ []) ((0 ∷ []) ∷ (0 ∷ []) ∷ (0 ∷ []) ∷ [])) ≡ Some (WrongBatchSize 1 0)
+no_rows_for_a_query :
+    pruned_refusal nat_eq (narrow 2 (8 ∷ [])) 3
+    (pruned (1 ∷ 1 ∷ []) (([]) ∷ ([]) ∷ []) ((0 ∷ []) ∷ (0 ∷ []) ∷ (0 ∷ []) ∷ [])) ≡ Some (WrongBatchSize 1 0)
 unfolding exponent layer_exponent raw_len leaves_under
 no_rows_for_a_query = refl
 
-widths_by_ascending_slots : pruned_refusal nat_eq (narrow 2 (8 ∷ [])) 3 (pruned (5 ∷ 1 ∷ []) (((6 ∷ []) ∷ []) ∷ ((2 ∷ 2 ∷ []) ∷ []) ∷ []) ((0 ∷ []) ∷ (0 ∷ []) ∷ (0 ∷ []) ∷ (0 ∷ []) ∷ [])) ≡ Some (WrongWidth 0 1 2)
+widths_by_ascending_slots :
+    pruned_refusal nat_eq (narrow 2 (8 ∷ [])) 3
+    (pruned (5 ∷ 1 ∷ []) (((6 ∷ []) ∷ []) ∷ ((2 ∷ 2 ∷ []) ∷ []) ∷ []) ((0 ∷ []) ∷ (0 ∷ []) ∷ (0 ∷ []) ∷ (0 ∷ []) ∷ []))
+    ≡ Some (WrongWidth 0 1 2)
 unfolding exponent layer_exponent raw_len leaves_under
 widths_by_ascending_slots = refl
 
-a_query_with_too_many_rows : pruned_refusal nat_eq (narrow 2 (8 ∷ [])) 3 (pruned (5 ∷ 1 ∷ []) (((6 ∷ 6 ∷ []) ∷ []) ∷ ((2 ∷ []) ∷ (2 ∷ []) ∷ []) ∷ []) ((0 ∷ []) ∷ (0 ∷ []) ∷ (0 ∷ []) ∷ (0 ∷ []) ∷ [])) ≡ Some (WrongBatchSize 1 2)
+a_query_with_too_many_rows :
+    pruned_refusal nat_eq (narrow 2 (8 ∷ [])) 3
+    (pruned (5 ∷ 1 ∷ []) (((6 ∷ 6 ∷ []) ∷ []) ∷ ((2 ∷ []) ∷ (2 ∷ []) ∷ []) ∷ [])
+    ((0 ∷ []) ∷ (0 ∷ []) ∷ (0 ∷ []) ∷ (0 ∷ []) ∷ [])) ≡ Some (WrongBatchSize 1 2)
 unfolding exponent layer_exponent raw_len leaves_under
 a_query_with_too_many_rows = refl
 
-a_group_that_disagrees : pruned_refusal nat_eq (narrow 2 (2 ∷ 1 ∷ [])) 1 (pruned (0 ∷ 1 ∷ []) (((1 ∷ []) ∷ (5 ∷ []) ∷ []) ∷ ((2 ∷ []) ∷ (6 ∷ []) ∷ []) ∷ []) ([])) ≡ Some (MalformedPrunedProof (InconsistentGroupOpening 1 1))
+a_group_that_disagrees :
+    pruned_refusal nat_eq (narrow 2 (2 ∷ 1 ∷ [])) 1
+    (pruned (0 ∷ 1 ∷ []) (((1 ∷ []) ∷ (5 ∷ []) ∷ []) ∷ ((2 ∷ []) ∷ (6 ∷ []) ∷ []) ∷ []) ([]))
+    ≡ Some (MalformedPrunedProof (InconsistentGroupOpening 1 1))
 unfolding exponent layer_exponent raw_len leaves_under
 a_group_that_disagrees = refl
 
-lower_layers_before_higher : pruned_refusal nat_eq (narrow 2 (4 ∷ 2 ∷ 1 ∷ [])) 2 (pruned (0 ∷ 2 ∷ 3 ∷ []) (((1 ∷ []) ∷ (5 ∷ []) ∷ (7 ∷ []) ∷ []) ∷ ((3 ∷ []) ∷ (6 ∷ []) ∷ (8 ∷ []) ∷ []) ∷ ((4 ∷ []) ∷ (9 ∷ []) ∷ (7 ∷ []) ∷ []) ∷ []) ((0 ∷ []) ∷ [])) ≡ Some (MalformedPrunedProof (InconsistentGroupOpening 2 1))
+lower_layers_before_higher :
+    pruned_refusal nat_eq (narrow 2 (4 ∷ 2 ∷ 1 ∷ [])) 2
+    (pruned (0 ∷ 2 ∷ 3 ∷ []) (((1 ∷ []) ∷ (5 ∷ []) ∷ (7 ∷ []) ∷ []) ∷ ((3 ∷ []) ∷ (6 ∷ []) ∷ (8 ∷ []) ∷ [])
+    ∷ ((4 ∷ []) ∷ (9 ∷ []) ∷ (7 ∷ []) ∷ []) ∷ []) ((0 ∷ []) ∷ []))
+    ≡ Some (MalformedPrunedProof (InconsistentGroupOpening 2 1))
 unfolding exponent layer_exponent raw_len leaves_under
 lower_layers_before_higher = refl
 
-first_pair_of_queries_collides : extracts_pruned (terms (fold_example 1) (narrow 2 (2 ∷ [])) 1) ((1026 ∷ []) ∷ []) (pruned (1 ∷ 0 ∷ []) (((2 ∷ []) ∷ []) ∷ ((1 ∷ []) ∷ []) ∷ []) ([])) (pruned (1 ∷ 0 ∷ []) (((4294967267 ∷ []) ∷ []) ∷ ((2 ∷ []) ∷ []) ∷ []) ([])) ≡ Ok (Some (0, 0, (digests_at (Group 0) ((32 ∷ []) ∷ (33 ∷ []) ∷ []), digests_at (Group 0) ((33 ∷ []) ∷ (2 ∷ []) ∷ []))))
+first_pair_of_queries_collides : extracts_pruned (terms (fold_example 1) (narrow 2 (2 ∷ [])) 1) ((1026 ∷ []) ∷ [])
+    (pruned (1 ∷ 0 ∷ []) (((2 ∷ []) ∷ []) ∷ ((1 ∷ []) ∷ []) ∷ []) ([]))
+    (pruned (1 ∷ 0 ∷ []) (((4294967267 ∷ []) ∷ []) ∷ ((2 ∷ []) ∷ []) ∷ []) ([]))
+    ≡ Ok (Some (
+      0,
+      0,
+      (digests_at (Group 0) ((32 ∷ []) ∷ (33 ∷ []) ∷ []), digests_at (Group 0) ((33 ∷ []) ∷ (2 ∷ []) ∷ [])),
+    ))
 unfolding exponent layer_exponent raw_len leaves_under restored_node fold_hash fold_compress siblings_below path_digest
 first_pair_of_queries_collides = refl
 
-second_pair_of_queries_collides : extracts_pruned (terms (fold_example 1) (narrow 2 (4 ∷ [])) 1) ((1026 ∷ []) ∷ (1090 ∷ []) ∷ []) (pruned (2 ∷ 0 ∷ []) (((3 ∷ []) ∷ []) ∷ ((1 ∷ []) ∷ []) ∷ []) ((33 ∷ []) ∷ (35 ∷ []) ∷ [])) (pruned (2 ∷ 0 ∷ []) (((3 ∷ []) ∷ []) ∷ ((2 ∷ []) ∷ []) ∷ []) ((2 ∷ []) ∷ (35 ∷ []) ∷ [])) ≡ Ok (Some (1, 1, (digests_at (Group 0) ((32 ∷ []) ∷ (33 ∷ []) ∷ []), digests_at (Group 0) ((33 ∷ []) ∷ (2 ∷ []) ∷ []))))
+second_pair_of_queries_collides :
+    extracts_pruned (terms (fold_example 1) (narrow 2 (4 ∷ [])) 1) ((1026 ∷ []) ∷ (1090 ∷ []) ∷ [])
+    (pruned (2 ∷ 0 ∷ []) (((3 ∷ []) ∷ []) ∷ ((1 ∷ []) ∷ []) ∷ []) ((33 ∷ []) ∷ (35 ∷ []) ∷ []))
+    (pruned (2 ∷ 0 ∷ []) (((3 ∷ []) ∷ []) ∷ ((2 ∷ []) ∷ []) ∷ []) ((2 ∷ []) ∷ (35 ∷ []) ∷ []))
+    ≡ Ok (Some (
+      1,
+      1,
+      (digests_at (Group 0) ((32 ∷ []) ∷ (33 ∷ []) ∷ []), digests_at (Group 0) ((33 ∷ []) ∷ (2 ∷ []) ∷ [])),
+    ))
 unfolding exponent layer_exponent raw_len leaves_under restored_node fold_hash fold_compress siblings_below path_digest
 second_pair_of_queries_collides = refl
 
-no_pair_of_queries_differs : extracts_pruned (terms (fold_example 1) (narrow 2 (4 ∷ [])) 1) ((1026 ∷ []) ∷ (1090 ∷ []) ∷ []) (pruned (2 ∷ 0 ∷ []) (((3 ∷ []) ∷ []) ∷ ((1 ∷ []) ∷ []) ∷ []) ((33 ∷ []) ∷ (35 ∷ []) ∷ [])) (pruned (2 ∷ 0 ∷ []) (((3 ∷ []) ∷ []) ∷ ((1 ∷ []) ∷ []) ∷ []) ((33 ∷ []) ∷ (35 ∷ []) ∷ [])) ≡ Ok None
+no_pair_of_queries_differs :
+    extracts_pruned (terms (fold_example 1) (narrow 2 (4 ∷ [])) 1) ((1026 ∷ []) ∷ (1090 ∷ []) ∷ [])
+    (pruned (2 ∷ 0 ∷ []) (((3 ∷ []) ∷ []) ∷ ((1 ∷ []) ∷ []) ∷ []) ((33 ∷ []) ∷ (35 ∷ []) ∷ []))
+    (pruned (2 ∷ 0 ∷ []) (((3 ∷ []) ∷ []) ∷ ((1 ∷ []) ∷ []) ∷ []) ((33 ∷ []) ∷ (35 ∷ []) ∷ [])) ≡ Ok None
 unfolding exponent layer_exponent raw_len leaves_under restored_node fold_hash fold_compress siblings_below path_digest
 no_pair_of_queries_differs = refl
 
-no_queries_on_either_side : extracts_pruned (terms (fold_example 1) (narrow 2 (4 ∷ [])) 1) ((1026 ∷ []) ∷ (1090 ∷ []) ∷ []) (pruned ([]) ([]) ([])) (pruned ([]) ([]) ([])) ≡ Ok None
+no_queries_on_either_side :
+    extracts_pruned (terms (fold_example 1) (narrow 2 (4 ∷ [])) 1) ((1026 ∷ []) ∷ (1090 ∷ []) ∷ [])
+    (pruned ([]) ([]) ([])) (pruned ([]) ([]) ([])) ≡ Ok None
 unfolding exponent layer_exponent raw_len leaves_under restored_node fold_hash fold_compress siblings_below path_digest
 no_queries_on_either_side = refl

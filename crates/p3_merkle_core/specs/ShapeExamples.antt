@@ -8,13 +8,16 @@ use Rattle.p3_merkle_core.specs.Examples.{narrow}
 use Rattle.p3_merkle_core.specs.declared.cap.CapRule.TheVariants.{Lowered, Fixed}
 use Rattle.p3_merkle_core.specs.declared.error.MerkleTreeError.TheVariants.{EmptyBatch, IncompatibleHeights, TooLarge}
 
-padded_lengths_at_2 : map (λ r. padded_len r 2) (0 ∷ 1 ∷ 2 ∷ 3 ∷ 4 ∷ 5 ∷ 7 ∷ 8 ∷ 9 ∷ 15 ∷ 16 ∷ []) ≡ 0 ∷ 1 ∷ 2 ∷ 4 ∷ 4 ∷ 6 ∷ 8 ∷ 8 ∷ 10 ∷ 16 ∷ 16 ∷ []
+padded_lengths_at_2 : map (λ r. padded_len r 2) (0 ∷ 1 ∷ 2 ∷ 3 ∷ 4 ∷ 5 ∷ 7 ∷ 8 ∷ 9 ∷ 15 ∷ 16 ∷ [])
+    ≡ 0 ∷ 1 ∷ 2 ∷ 4 ∷ 4 ∷ 6 ∷ 8 ∷ 8 ∷ 10 ∷ 16 ∷ 16 ∷ []
 padded_lengths_at_2 = refl
 
-padded_lengths_at_4 : map (λ r. padded_len r 4) (0 ∷ 1 ∷ 2 ∷ 3 ∷ 4 ∷ 5 ∷ 7 ∷ 8 ∷ 9 ∷ []) ≡ 0 ∷ 1 ∷ 4 ∷ 4 ∷ 4 ∷ 8 ∷ 8 ∷ 8 ∷ 12 ∷ []
+padded_lengths_at_4 : map (λ r. padded_len r 4) (0 ∷ 1 ∷ 2 ∷ 3 ∷ 4 ∷ 5 ∷ 7 ∷ 8 ∷ 9 ∷ [])
+    ≡ 0 ∷ 1 ∷ 4 ∷ 4 ∷ 4 ∷ 8 ∷ 8 ∷ 8 ∷ 12 ∷ []
 padded_lengths_at_4 = refl
 
-padded_lengths_at_8 : map (λ r. padded_len r 8) (0 ∷ 1 ∷ 2 ∷ 3 ∷ 5 ∷ 7 ∷ 8 ∷ 9 ∷ 15 ∷ 16 ∷ []) ≡ 0 ∷ 1 ∷ 8 ∷ 8 ∷ 8 ∷ 8 ∷ 8 ∷ 16 ∷ 16 ∷ 16 ∷ []
+padded_lengths_at_8 : map (λ r. padded_len r 8) (0 ∷ 1 ∷ 2 ∷ 3 ∷ 5 ∷ 7 ∷ 8 ∷ 9 ∷ 15 ∷ 16 ∷ [])
+    ≡ 0 ∷ 1 ∷ 8 ∷ 8 ∷ 8 ∷ 8 ∷ 8 ∷ 16 ∷ 16 ∷ 16 ∷ []
 padded_lengths_at_8 = refl
 
 exponent_above_the_limit : exponent (2 ^ 62 + 1) ≡ 63
@@ -61,11 +64,13 @@ schedule_of_17_9_5_3_at_4 : arity_schedule (narrow 4 (17 ∷ 9 ∷ 5 ∷ 3 ∷ [
 unfolding exponent layer_exponent
 schedule_of_17_9_5_3_at_4 = refl
 
-node_counts_of_17_9_5_3_at_4 : map (raw_len (narrow 4 (17 ∷ 9 ∷ 5 ∷ 3 ∷ []))) (0 ∷ 1 ∷ 2 ∷ 3 ∷ 4 ∷ []) ≡ 17 ∷ 10 ∷ 6 ∷ 4 ∷ 1 ∷ []
+node_counts_of_17_9_5_3_at_4 : map (raw_len (narrow 4 (17 ∷ 9 ∷ 5 ∷ 3 ∷ []))) (0 ∷ 1 ∷ 2 ∷ 3 ∷ 4 ∷ [])
+    ≡ 17 ∷ 10 ∷ 6 ∷ 4 ∷ 1 ∷ []
 unfolding exponent layer_exponent raw_len
 node_counts_of_17_9_5_3_at_4 = refl
 
-layer_lengths_of_17_9_5_3_at_4 : map (layer_len (narrow 4 (17 ∷ 9 ∷ 5 ∷ 3 ∷ []))) (0 ∷ 1 ∷ 2 ∷ 3 ∷ 4 ∷ []) ≡ 20 ∷ 12 ∷ 8 ∷ 4 ∷ 1 ∷ []
+layer_lengths_of_17_9_5_3_at_4 : map (layer_len (narrow 4 (17 ∷ 9 ∷ 5 ∷ 3 ∷ []))) (0 ∷ 1 ∷ 2 ∷ 3 ∷ 4 ∷ [])
+    ≡ 20 ∷ 12 ∷ 8 ∷ 4 ∷ 1 ∷ []
 unfolding exponent layer_exponent raw_len
 layer_lengths_of_17_9_5_3_at_4 = refl
 
@@ -110,24 +115,29 @@ unfolding exponent layer_exponent
 no_steps_over_one_leaf = refl
 
 -- a cap height above the levels is the leaves
-cap_lengths_of_5 : map (λ c. layer_len (narrow 2 (5 ∷ [])) (cap_layer (narrow 2 (5 ∷ [])) Fixed c)) (0 ∷ 1 ∷ 2 ∷ 3 ∷ 9 ∷ []) ≡ 1 ∷ 2 ∷ 4 ∷ 6 ∷ 6 ∷ []
+cap_lengths_of_5 : map (λ c. layer_len (narrow 2 (5 ∷ [])) (cap_layer (narrow 2 (5 ∷ [])) Fixed c))
+    (0 ∷ 1 ∷ 2 ∷ 3 ∷ 9 ∷ []) ≡ 1 ∷ 2 ∷ 4 ∷ 6 ∷ 6 ∷ []
 unfolding exponent layer_exponent raw_len
 cap_lengths_of_5 = refl
 
 -- under the lowered rule the cap stays at or above the layer of the height 3, two levels below the root
-cap_layers_of_17_to_3 : map (cap_layer (narrow 2 (17 ∷ 9 ∷ 5 ∷ 3 ∷ [])) Lowered) (0 ∷ 1 ∷ 2 ∷ 3 ∷ 9 ∷ []) ≡ 5 ∷ 4 ∷ 3 ∷ 3 ∷ 3 ∷ []
+cap_layers_of_17_to_3 : map (cap_layer (narrow 2 (17 ∷ 9 ∷ 5 ∷ 3 ∷ [])) Lowered) (0 ∷ 1 ∷ 2 ∷ 3 ∷ 9 ∷ [])
+    ≡ 5 ∷ 4 ∷ 3 ∷ 3 ∷ 3 ∷ []
 unfolding exponent layer_exponent
 cap_layers_of_17_to_3 = refl
 
-fixed_cap_layers_of_17_to_3 : map (cap_layer (narrow 2 (17 ∷ 9 ∷ 5 ∷ 3 ∷ [])) Fixed) (0 ∷ 1 ∷ 2 ∷ 3 ∷ 9 ∷ []) ≡ 5 ∷ 4 ∷ 3 ∷ 2 ∷ 0 ∷ []
+fixed_cap_layers_of_17_to_3 : map (cap_layer (narrow 2 (17 ∷ 9 ∷ 5 ∷ 3 ∷ [])) Fixed) (0 ∷ 1 ∷ 2 ∷ 3 ∷ 9 ∷ [])
+    ≡ 5 ∷ 4 ∷ 3 ∷ 2 ∷ 0 ∷ []
 unfolding exponent layer_exponent
 fixed_cap_layers_of_17_to_3 = refl
 
-cap_layers_of_17_to_3_at_4 : map (cap_layer (narrow 4 (17 ∷ 9 ∷ 5 ∷ 3 ∷ [])) Lowered) (0 ∷ 1 ∷ 2 ∷ 9 ∷ []) ≡ 4 ∷ 3 ∷ 3 ∷ 3 ∷ []
+cap_layers_of_17_to_3_at_4 : map (cap_layer (narrow 4 (17 ∷ 9 ∷ 5 ∷ 3 ∷ [])) Lowered) (0 ∷ 1 ∷ 2 ∷ 9 ∷ [])
+    ≡ 4 ∷ 3 ∷ 3 ∷ 3 ∷ []
 unfolding exponent layer_exponent
 cap_layers_of_17_to_3_at_4 = refl
 
-rows_of_index_6 : map (λ h. halved_index (greatest (heights (narrow 2 (7 ∷ 4 ∷ 2 ∷ 1 ∷ [])))) h 6) (7 ∷ 4 ∷ 2 ∷ 1 ∷ []) ≡ 6 ∷ 3 ∷ 1 ∷ 0 ∷ []
+rows_of_index_6 : map (λ h. halved_index (greatest (heights (narrow 2 (7 ∷ 4 ∷ 2 ∷ 1 ∷ [])))) h 6) (7 ∷ 4 ∷ 2 ∷ 1 ∷ [])
+    ≡ 6 ∷ 3 ∷ 1 ∷ 0 ∷ []
 unfolding exponent
 rows_of_index_6 = refl
 

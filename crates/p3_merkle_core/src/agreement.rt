@@ -1,5 +1,5 @@
-//! Why a pruned opening is refused, whatever the cap: by its form, or where its rows disagree. Queries of one index have
-//! one row set, and queries under one node the same rows of the matrices of its layer. Nothing here hashes.
+//! Why a pruned opening is refused, whatever the cap: by its form, or where its rows disagree. Queries of one index
+//! have one row set, and queries under one node the same rows of the matrices of its layer. Nothing here hashes.
 
 ghost use Rattle.std.specs.Prelude.{◌≡◌, ℕ, ◌-◌, ◌/◌, ◌<◌, ◌≤◌, ◌⊎◌, Some, None, List, [], All, length, map, slice_index, slice_index_or, IfOk, IsTrue, MatchResult};
 ghost use Rattle.p3_merkle_core.specs.Inner.Agreement.{distinct, early_refusal, first_query, late_refusal, layers_refusal, nodes_refusal, opened_of, opened_with, rows_refusal, slot_rows, HasSlots, IsAscending, IsSlot};
@@ -41,8 +41,8 @@ fn slots_of(alloc: Global, indices: &[usize]) -> Result<Slots, AllocError>
     Ok(Slots { leaves, firsts })
 }
 
-/// For each of the distinct indices, ascending, the place of its first query: the last that is written, since the queries
-/// are gone through from the last one.
+/// For each of the distinct indices, ascending, the place of its first query: the last that is written, since the
+/// queries are gone through from the last one.
 fn first_queries(
     alloc: Global,
     leaves: &[usize],
@@ -216,14 +216,14 @@ fn to_parents(nodes: &mut [usize], step: usize)
 
 /// Whether slots under one node of a layer up to `t` have the same rows of the matrices of that layer: each is compared
 /// with the lowest slot under its node. Each slot's row set has a row for each matrix, `t` is at most the number of
-/// levels, the arity a power of two from 2 to 2^62, and no height is above
-/// [`MAX_HEIGHT`](crate::geometry::MAX_HEIGHT). Takes memory for a number a slot, the time of one step for each slot and
-/// layer, and on each layer to which a matrix belongs that of a look at each matrix for each slot.
+/// levels, the arity a power of two from 2 to 2^62, and no height is above [`MAX_HEIGHT`](crate::geometry::MAX_HEIGHT).
+/// Takes memory for a number a slot, the time of one step for each slot and layer, and on each layer to which a matrix
+/// belongs that of a look at each matrix for each slot.
 ///
 /// # Errors
 ///
-/// `InconsistentGroupOpening` for the first row that differs: layers from the leaves up, slots ascending, matrices in input
-/// order; `OutOfMemory` where there is no memory.
+/// `InconsistentGroupOpening` for the first row that differs: layers from the leaves up, slots ascending, matrices in
+/// input order; `OutOfMemory` where there is no memory.
 fn check_groups<T: Eq>(
     alloc: Global,
     dimensions: &[Dimensions],
@@ -255,8 +255,8 @@ fn check_groups<T: Eq>(
     Ok(())
 }
 
-/// Whether a pruned opening of some indices can be restored, whatever the cap, which is layer `t`. Answers the slots of its
-/// indices. `t` is at most the number of levels, and the arity a power of two from 2 to 2^62. Takes memory for all
+/// Whether a pruned opening of some indices can be restored, whatever the cap, which is layer `t`. Answers the slots of
+/// its indices. `t` is at most the number of levels, and the arity a power of two from 2 to 2^62. Takes memory for all
 /// indices, and beside one sort of them the time of one step for each index and level, and of the rows' comparison.
 ///
 /// # Errors
@@ -279,7 +279,8 @@ pub fn check_pruned<T: Eq>(
     requires layer { t ≤ levels (shape_of arity dimensions.now) }
     ensures { let refusal = pruned_refusal T.eq (shape_of arity dimensions.now) t
         (opened_with indices.now (row_sets rows.now) num_digests) in
-        MatchResult result (λ slots. (refusal ≡ None) × HasSlots slots indices.now) (λ e. (e ≡ OutOfMemory) ⊎ (refusal ≡ Some e)) }
+        MatchResult result (λ slots. (refusal ≡ None) × HasSlots slots indices.now)
+        (λ e. (e ≡ OutOfMemory) ⊎ (refusal ≡ Some e)) }
 {
     check_queries(dimensions, indices, rows.len(), num_digests)?;
     let slots = slots_of(alloc, indices)?;
@@ -292,8 +293,8 @@ pub fn check_pruned<T: Eq>(
     Ok(slots)
 }
 
-/// How many digests a pruned proof of some indices sends under the cap of layer `t`, from their slots, so that they aren't
-/// sorted again.
+/// How many digests a pruned proof of some indices sends under the cap of layer `t`, from their slots, so that they
+/// aren't sorted again.
 ///
 /// # Errors
 ///

@@ -1,21 +1,21 @@
-//! Caps: which layer of a tree is handed to verifiers.
+//! Caps: the layer of a tree that verifiers get.
 
-ghost use Rattle.std.specs.Prelude.{◌≡◌, ◌-◌, min};
-ghost use Rattle.p3_merkle_core.specs.Caps.{cap_layer, room_of};
+ghost use Rattle.std.specs.Prelude.{◌≡◌};
+ghost use Rattle.p3_merkle_core.specs.Caps.{cap_layer};
 ghost use Rattle.p3_merkle_core.specs.Geometry.{shape_of, IsArity};
 
-use crate::geometry::{exponent_of, shortest_of};
+use crate::geometry::exponent_of;
 use crate::steps::{Steps, steps_of};
 use p3_support::matrix::Dimensions;
 
-/// Which layer is the cap of a cap height. The height counts levels below the root.
+/// The rule by which a cap height chooses the cap's layer. The height counts levels below the root.
 #[derive(Debug, Clone, Copy, PartialEq, Eq)]
 pub enum CapRule {
-    /// The layer so many levels below the root, but none below the last one to which a matrix belongs. So every row of
-    /// every matrix is hashed on the way to the cap.
+    /// The layer that many levels below the root, or the last layer to which a matrix belongs if that is higher. So
+    /// every row of every matrix is hashed on the way to the cap.
     Lowered,
-    /// The layer so many levels below the root, or the leaves where there are fewer levels, as in the Rust crate. The
-    /// rows of a matrix whose layer is above that one are not looked at by a check.
+    /// The layer that many levels below the root, or the leaves if there are fewer levels, as in the Rust crate. The
+    /// rows of a matrix that is injected above that layer are not verified.
     Fixed,
 }
 
@@ -26,8 +26,12 @@ impl<'a> Steps<'a> {
         requires { IsArity self.now.arity }
         ensures { result ≡ cap_layer (shape_of self.now.arity self.now.dimensions.now) rule cap_height }
     {
-        let min_height = shortest_of(self.dimensions);
-        cap_layer_at(self.num_levels, min_height, self.arity, rule, cap_height)
+        // No step above the layer of the shortest matrix is a bridge step.
+        let room = match rule {
+            CapRule::Lowered => exponent_of(self.min_height).div_ceil(exponent_of(self.arity)),
+            CapRule::Fixed => self.num_levels,
+        };
+        self.num_levels.saturating_sub(cap_height.min(room))
     }
 }
 
@@ -42,23 +46,4 @@ pub fn cap_layer_of(
     ensures { result ≡ cap_layer (shape_of arity dimensions.now) rule cap_height }
 {
     steps_of(dimensions, arity).cap_layer(rule, cap_height)
-}
-
-/// As [`Steps::cap_layer`], of a tree of so many levels, whose shortest matrix has `min_height` rows. No step above that
-/// matrix's layer is a bridge step.
-pub fn cap_layer_at(
-    num_levels: usize,
-    min_height: usize,
-    arity: usize,
-    rule: CapRule,
-    cap_height: usize,
-) -> usize
-    requires { IsArity arity }
-    ensures { result ≡ num_levels - min cap_height (room_of num_levels min_height arity rule) }
-{
-    let room = match rule {
-        CapRule::Lowered => exponent_of(min_height).div_ceil(exponent_of(arity)),
-        CapRule::Fixed => num_levels,
-    };
-    num_levels.saturating_sub(cap_height.min(room))
 }

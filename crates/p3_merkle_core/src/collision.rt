@@ -1,36 +1,36 @@
-//! Collisions: two different inputs that have one digest, at one place of the checks of two openings.
+//! Collisions: two different inputs with one digest, at one place of two checks.
 ghost use Rattle.p3_merkle_core.specs.Checks.{Words, Digests};
 
-/// Where an input of the check of an opening stands. The check hashes the leaf, and then goes up level by level, from
-/// level 0; level `l` leads from layer `l` to layer `l + 1`.
+/// The place of an input in the check of an opening. A check hashes the leaf, and then goes up level by level; level
+/// `l` leads from layer `l` to layer `l + 1`.
 #[derive(Debug, PartialEq, Eq, Drop)]
 pub enum Place {
-    /// The words that are hashed at the leaf.
+    /// The words hashed at the leaf.
     Leaf,
-    /// The digests that are compressed on this level: the path's own among its siblings, then default digests.
+    /// The digests compressed on this level: the path's own among its siblings, then default digests.
     Group(usize),
-    /// The words that are hashed for the matrices of the layer above this level.
+    /// The words hashed for the matrices injected above this level.
     Rows(usize),
-    /// The digests of this level's group and of its rows, then default digests, which are compressed where matrices
-    /// belong to the layer above.
+    /// The digests compressed when rows are injected above this level: that of the group, that of the rows, then
+    /// default digests.
     Pair(usize),
 }
 
-/// Two different inputs at one place, with words `T` and digests `X`. [`Collision`] is this pair at digests of words.
+/// Two different inputs at one place, of words `T` or of digests `X`. [`Collision`] is this pair at digests of words.
 #[derive(Debug, PartialEq, Eq, Drop)]
 pub enum InputPair<T, X> {
-    /// Words that are hashed: the rows of the matrices there, one after another.
+    /// Inputs of the hasher: the rows of the matrices there, one after another.
     Words {
-        /// Where both inputs stand.
+        /// The place of both inputs.
         place: Place,
         /// The input of the first opening.
         first: Vec<T>,
         /// The input of the second.
         second: Vec<T>,
     },
-    /// Digests that are compressed, as many as the arity.
+    /// Inputs of the compression: as many digests as the arity.
     Digests {
-        /// Where both inputs stand.
+        /// The place of both inputs.
         place: Place,
         /// The input of the first opening.
         first: Vec<X>,
@@ -39,6 +39,5 @@ pub enum InputPair<T, X> {
     },
 }
 
-/// Two different inputs of one digest, at one place of the checks of two openings: words `T`, or digests of `D` words
-/// `W`.
+/// Two different inputs with one digest, at one place of two checks: of words `T`, or of digests of `D` words `W`.
 pub type Collision<T, W, const D: usize> = InputPair<T, [W; D]>;

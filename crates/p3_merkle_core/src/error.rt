@@ -9,21 +9,21 @@ use thiserror::Error;
 /// Why a pruned proof does not fit the queries and rows that it comes with.
 #[derive(Debug, PartialEq, Eq, Drop, Error)]
 pub enum PrunedProofError {
-    /// The proof has not as many digests as its queries leave unknown.
+    /// The proof's digest count differs from what the queries require.
     #[error("wrong pruned sibling count: expected {expected}, got {got}")]
     SiblingCountMismatch {
-        /// How many digests the queries need.
+        /// How many digests the queries require.
         expected: usize,
         /// How many digests the proof has.
         got: usize,
     },
-    /// Two queries of one index come with different rows.
+    /// Two queries of one index have different rows.
     #[error("duplicate queries for path slot {slot} disagree on opened values")]
     InconsistentDuplicateOpenings {
         /// The place of the index among the distinct queried indices, ascending.
         slot: usize,
     },
-    /// Two queries under one node come with different rows of a matrix of that node's layer.
+    /// Two queries under one node have different rows of a matrix that is injected there.
     #[error("unique path slot {slot} disagrees with its group's lead on matrix {matrix}'s opened row")]
     InconsistentGroupOpening {
         /// The place of the later index among the distinct queried indices, ascending.
@@ -33,11 +33,10 @@ pub enum PrunedProofError {
     },
 }
 
-/// Why a batch of matrices, an index or an opening is refused. Sizes count what their names say:
-/// entries, words of a row, digests, rows.
+/// Why a batch of matrices, an index or an opening is refused.
 #[derive(Debug, PartialEq, Eq, Drop, Error)]
 pub enum MerkleTreeError {
-    /// There are not as many rows as matrices.
+    /// The number of rows is not that of the matrices.
     #[error("batch size mismatch: expected {expected} entries, got {got}")]
     WrongBatchSize {
         /// How many there should be.
@@ -45,7 +44,7 @@ pub enum MerkleTreeError {
         /// How many there are.
         got: usize,
     },
-    /// An opened row has not the width of its matrix.
+    /// The length of an opened row is not the width of its matrix.
     #[error("wrong width: matrix {matrix} expected {expected} values, got {got}")]
     WrongWidth {
         /// The place of the matrix in input order.
@@ -55,7 +54,7 @@ pub enum MerkleTreeError {
         /// How many words the row has.
         got: usize,
     },
-    /// A proof has not as many siblings as the levels below the cap need.
+    /// The number of siblings is not what the levels below the cap need.
     #[error("wrong height: expected {expected_proof_len} siblings, got {num_siblings}")]
     WrongHeight {
         /// How many siblings the levels need.
@@ -70,7 +69,7 @@ pub enum MerkleTreeError {
         height: usize,
         /// The tallest height.
         max_height: usize,
-        /// The height that a matrix so many halvings below the tallest one has.
+        /// The tallest height after that many halvings, each rounded up.
         expected_height: usize,
         /// How many halvings lead from the tallest height to this one.
         bits_reduced: usize,
@@ -86,21 +85,22 @@ pub enum MerkleTreeError {
     /// There are no matrices, or none of them has a row.
     #[error("empty batch: attempted to open an empty batch with no committed matrices")]
     EmptyBatch,
-    /// The cap's entry above an index is not the digest that its opening leads to.
+    /// The cap has no entry above the index, or another digest than the one computed from the opening.
     #[error("cap mismatch: computed digest does not match any entry in the Merkle cap")]
     CapMismatch,
-    /// A pruned proof does not fit its queries and rows.
+    /// The pruned proof does not fit its queries and rows.
     #[error("malformed pruned proof: {0}")]
     MalformedPrunedProof(PrunedProofError),
-    /// A height is above 2^62, the greatest that is taken; or, in the salted scheme, a width with its salts passes `usize`.
+    /// A height is above 2^62, the greatest one allowed; or, in the salted scheme, a width with its salts does not fit
+    /// `usize`.
     #[error("matrix {matrix}: size {size} is too large")]
     TooLarge {
         /// The place of the matrix in input order.
         matrix: usize,
-        /// Its height in rows, where that is above 2^62; else its width, without the salts.
+        /// Its height in rows if that is above 2^62; else its width without the salts.
         size: usize,
     },
-    /// There is no memory left.
+    /// Memory ran out.
     #[error("out of memory")]
     OutOfMemory,
 }

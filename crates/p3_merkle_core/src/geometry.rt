@@ -1,20 +1,17 @@
 //! The shape of a tree, computed from the dimensions of its matrices: which heights are taken, how many children
 //! a node has on each level, how long the layers are, and where the ancestors of an index stand.
 //!
-//! No call here takes memory, but for the two that answer a list.
+//! No call here takes memory.
 
 ghost use Rattle.std.specs.Prelude.{◌≡◌, ◌+◌, ◌-◌, ◌*◌, ◌^◌, ◌<◌, ◌≤◌, ◌==◌, ◌↔◌, Some, None, IfOk, IsOk, MatchResult, List, map, if◌then◌else◌, nat_lt, ◌&&◌};
 ghost use Rattle.std.specs.List.{list_any};
-ghost use Rattle.p3_merkle_core.specs.Geometry.{bits_reduced, expected_height, exponent, grouped_len_of, is_bridge, layer_exponent, height_limit, padded_len, positions_below, schedule_below, shape_of, shortest, levels, IsArity, IsLawful, Shape};
+ghost use Rattle.p3_merkle_core.specs.Geometry.{bits_reduced, expected_height, exponent, height_at, height_limit, is_bridge, padded_len, shape_of, shortest, IsLawful};
 ghost use Rattle.p3_support.specs.Batches.{heights_of, greatest};
 ghost use Rattle.p3_merkle_core.specs.Gate.{first_off_ladder, first_too_large, gate_refusal};
-ghost use Rattle.p3_merkle_core.specs.Checks.{siblings_below};
 ghost use Rattle.p3_merkle_core.specs.Refusals.{width_refusal};
-ghost use Rattle.p3_merkle_core.specs.Inner.Rungs.{next_below, IsRung};
 
 use crate::error::MerkleTreeError;
 use p3_support::matrix::Dimensions;
-use std::alloc::{AllocError, Global};
 
 /// The greatest height of a matrix, in rows: 2^62. It keeps the slots of all layers within `usize`.
 pub const MAX_HEIGHT: usize = 1 << 62;
@@ -36,29 +33,28 @@ pub fn exponent_of(height: usize) -> usize
     (usize::BITS - height.saturating_sub(1).leading_zeros()) as usize
 }
 
+/// The greatest and the least height of the matrices, in rows, and 0 of none. Each matrix is looked at once.
+pub(crate) fn extremes_of(dimensions: &[Dimensions]) -> (usize, usize)
+    ensures greatest { result.0 ≡ greatest (heights_of dimensions.now) }
+    ensures least { result.1 ≡ shortest (heights_of dimensions.now) }
+{
+    let Some((first, others)) = dimensions.split_first() else {
+        return (0, 0);
+    };
+    let mut tallest = first.height;
+    let mut shortest = first.height;
+    for matrix in others {
+        tallest = tallest.max(matrix.height);
+        shortest = shortest.min(matrix.height);
+    }
+    (tallest, shortest)
+}
+
 /// The greatest height of the matrices, in rows, and 0 of none.
 pub fn tallest_of(dimensions: &[Dimensions]) -> usize
     ensures { result ≡ greatest (heights_of dimensions.now) }
 {
-    let mut tallest = 0;
-    for matrix in dimensions {
-        tallest = tallest.max(matrix.height);
-    }
-    tallest
-}
-
-/// The least height of the matrices, in rows, and 0 of none.
-pub(crate) fn shortest_of(dimensions: &[Dimensions]) -> usize
-    ensures { result ≡ shortest (heights_of dimensions.now) }
-{
-    let Some((first, others)) = dimensions.split_first() else {
-        return 0;
-    };
-    let mut shortest = first.height;
-    for matrix in others {
-        shortest = shortest.min(matrix.height);
-    }
-    shortest
+    extremes_of(dimensions).0
 }
 
 /// How many halvings lead from the tallest height down to this one.
@@ -68,19 +64,32 @@ pub fn bits_reduced_of(tallest: usize, height: usize) -> usize
     exponent_of(tallest).saturating_sub(exponent_of(height))
 }
 
+/// The one lawful height with the exponent `x`: the tallest height, at most [`MAX_HEIGHT`], halved and rounded up until
+/// it has that exponent; 1 where the tallest height is 0.
+pub(crate) fn height_at_of(tallest: usize, x: usize) -> usize
+    requires { tallest ≤ height_limit }
+    ensures { result ≡ height_at tallest x }
+{
+    (tallest.saturating_sub(1) >> exponent_of(tallest).saturating_sub(x)) + 1
+}
+
 /// The one lawful height with the exponent of `height`: the tallest height, at most [`MAX_HEIGHT`], halved and rounded
 /// up so many times; 1 where the tallest height is 0.
 pub fn expected_height_of(tallest: usize, height: usize) -> usize
     requires { tallest ≤ height_limit }
     ensures { result ≡ expected_height tallest height }
 {
-    (tallest.saturating_sub(1) >> bits_reduced_of(tallest, height)) + 1
+    height_at_of(tallest, exponent_of(height))
 }
 
-/// The place of the first height above the limit.
-fn first_too_large_of(dimensions: &[Dimensions]) -> Option<usize>
+/// The place of the first height above the limit. No height is looked at where the tallest one is not above it.
+fn first_too_large_of(dimensions: &[Dimensions], tallest: usize) -> Option<usize>
+    requires { tallest ≡ greatest (heights_of dimensions.now) }
     ensures { result ≡ first_too_large (heights_of dimensions.now) }
 {
+    if tallest <= MAX_HEIGHT {
+        return None;
+    }
     dimensions
         .iter()
         .map(|matrix| matrix.height)
@@ -110,11 +119,23 @@ pub fn check_heights(dimensions: &[Dimensions]) -> Result<(), MerkleTreeError>
         (λ e. gate_refusal (heights_of dimensions.now) ≡ Some e) }
     ensures lawful { IsOk result ↔ IsLawful (heights_of dimensions.now) }
 {
-    let tallest = tallest_of(dimensions);
+    check_heights_up_to(dimensions, tallest_of(dimensions))
+}
+
+/// The same as [`check_heights`], where the tallest height is known. Each matrix is looked at once.
+pub(crate) fn check_heights_up_to(
+    dimensions: &[Dimensions],
+    tallest: usize,
+) -> Result<(), MerkleTreeError>
+    requires { tallest ≡ greatest (heights_of dimensions.now) }
+    ensures answer { MatchResult result (λ ok. gate_refusal (heights_of dimensions.now) ≡ None)
+        (λ e. gate_refusal (heights_of dimensions.now) ≡ Some e) }
+    ensures lawful { IsOk result ↔ IsLawful (heights_of dimensions.now) }
+{
     if tallest == 0 {
         return Err(MerkleTreeError::EmptyBatch);
     }
-    if let Some(matrix) = first_too_large_of(dimensions) {
+    if let Some(matrix) = first_too_large_of(dimensions, tallest) {
         return Err(MerkleTreeError::TooLarge {
             matrix,
             size: dimensions[matrix].height,
@@ -180,13 +201,13 @@ pub fn padded_len(len: usize, arity: usize) -> usize
 /// How many slots of a layer of `len` nodes and the exponent `x` are grouped into nodes of the layer above: `2^x` where
 /// a bridge step starts from fewer nodes than the arity, since the slots that pad such a layer have no pair above; else
 /// all its slots. The arity is above 0, `x` below 64, and the layer has fewer than 2^64 slots.
-pub(crate) fn grouped_len(dimensions: &[Dimensions], arity: usize, x: usize, len: usize) -> usize
+pub(crate) fn grouped_len(arity: usize, is_bridge: bool, x: usize, len: usize) -> usize
     requires positive { 0 < arity }
     requires shift { x < 64 }
     requires fits { padded_len len arity < 2 ^ 64 }
-    ensures { result ≡ grouped_len_of (shape_of arity dimensions.now) x len }
+    ensures { result ≡ (if is_bridge && nat_lt len arity then 2 ^ x else padded_len len arity) }
 {
-    if is_bridge_step(dimensions, arity, x) && len < arity {
+    if is_bridge && len < arity {
         1 << x
     } else {
         padded_len(len, arity)
@@ -239,66 +260,4 @@ pub(crate) fn step_from(arity: usize, is_bridge: bool, x: usize) -> (usize, usiz
     } else {
         (arity, x.saturating_sub(exponent_of(arity)))
     }
-}
-
-/// The exponent of layer `t`, counted from the leaves.
-pub fn layer_exponent_of(dimensions: &[Dimensions], arity: usize, t: usize) -> usize
-    ensures { result ≡ layer_exponent (shape_of arity dimensions.now) t }
-{
-    let mut x = exponent_of(tallest_of(dimensions));
-    for _l in 0..t {
-        x = select_arity_step(dimensions, arity, x).1;
-    }
-    x
-}
-
-/// The steps of the levels below layer `t`, from the leaves up, in children a node. Takes memory for `t` numbers.
-///
-/// # Errors
-///
-/// `AllocError` where there is no memory.
-pub fn schedule_below_of(
-    alloc: Global,
-    dimensions: &[Dimensions],
-    arity: usize,
-    t: usize,
-) -> Result<Vec<usize>, AllocError>
-    ensures { IfOk result (λ v. v.items ≡ schedule_below (shape_of arity dimensions.now) t) }
-{
-    let mut schedule = Vec::with_capacity(alloc, t)?;
-    let mut x = exponent_of(tallest_of(dimensions));
-    for _l in 0..t {
-        let (step, next) = select_arity_step(dimensions, arity, x);
-        schedule.push(step)?;
-        x = next;
-    }
-    Ok(schedule)
-}
-
-/// The place of the index's ancestor among the children of its parent, for each level below layer `t`, from the
-/// leaves up. Takes memory for `t` numbers. The arity is at least 2.
-///
-/// # Errors
-///
-/// `AllocError` where there is no memory.
-pub fn positions_below_of(
-    alloc: Global,
-    dimensions: &[Dimensions],
-    arity: usize,
-    t: usize,
-    index: usize,
-) -> Result<Vec<usize>, AllocError>
-    requires { 2 ≤ arity }
-    ensures { IfOk result (λ v. v.items ≡ positions_below (shape_of arity dimensions.now) t index) }
-{
-    let mut positions = Vec::with_capacity(alloc, t)?;
-    let mut x = exponent_of(tallest_of(dimensions));
-    let mut ancestor = index;
-    for _l in 0..t {
-        let (step, next) = select_arity_step(dimensions, arity, x);
-        positions.push(ancestor % step)?;
-        ancestor /= step;
-        x = next;
-    }
-    Ok(positions)
 }

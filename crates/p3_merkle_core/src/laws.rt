@@ -100,8 +100,8 @@ pub fn pruned_completeness<T, W>()
     ensures { HonestQueryIsAccepted T W }
 {}
 
-/// An honest pruned opening restores the tree's own nodes and siblings. What is read out of the layers of a batch's tree
-/// is the honest opening, of one index or of several: so a restored path is the proof of its index alone.
+/// An honest pruned opening restores the tree's own nodes and siblings. What is read out of the layers of a batch's
+/// tree is the honest opening, of one index or of several: so a restored path is the proof of its index alone.
 pub fn restoration<T, W>()
     ensures nodes { HonestNodesAreRestored T W }
     ensures paths { HonestPathsAreRestored T W }
@@ -127,8 +127,8 @@ pub fn equivalence<T, W>()
     ensures mismatch { OkOrCapMismatch T W }
 {}
 
-/// Two accepted openings of one cap that differ where they meet lead to two inputs of one digest: the definition's answer
-/// to two openings, single or pruned, is what an extraction has to be.
+/// Two accepted openings of one cap that differ where they meet lead to two inputs of one digest: the definition's
+/// answer to two openings, single or pruned, is what an extraction has to be.
 pub fn extraction<T, W>()
     ensures collision { LastDifferenceCollides T W }
     ensures single { AnswerIsExtraction T W }

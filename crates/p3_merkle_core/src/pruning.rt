@@ -11,7 +11,7 @@ ghost use Rattle.p3_merkle_core.specs.Geometry.{levels, height_limit, shape_of, 
 ghost use Rattle.p3_merkle_core.specs.Refusals.{queries_refusal};
 
 use crate::error::MerkleTreeError;
-use crate::geometry::{exponent_of, select_arity_step, tallest_of};
+use crate::steps::{Steps, steps_of};
 use p3_support::matrix::Dimensions;
 use std::alloc::{AllocError, Global};
 
@@ -19,15 +19,16 @@ use std::alloc::{AllocError, Global};
 /// words.
 #[derive(Debug, Clone, Drop)]
 pub struct PrunedProof<X> {
-    /// The digests of the boundary in wire order: level by level from the leaves, and ascending on each level, those of the
-    /// children of covered nodes that are not covered.
+    /// The digests of the boundary in wire order: level by level from the leaves, and ascending on each level, those of
+    /// the children of covered nodes that are not covered.
     pub sibling_hashes: Vec<X>,
 }
 
 /// The digests of a pruned proof, of `D` words each (`PrunedMerklePaths` in the Rust crate).
 pub type PrunedMerklePaths<W, const D: usize> = PrunedProof<[W; D]>;
 
-/// The rows of several leaves, and one proof for all of them. [`PrunedBatchOpening`] is this opening at digests of words.
+/// The rows of several leaves, and one proof for all of them. [`PrunedBatchOpening`] is this opening at digests of
+/// words.
 #[derive(Debug, Clone, Drop)]
 pub struct PrunedRows<T, X> {
     /// For each query, in query order, a row of each matrix, in matrix order.
@@ -36,11 +37,12 @@ pub struct PrunedRows<T, X> {
     pub pruned_proof: PrunedProof<X>,
 }
 
-/// The rows of several leaves, and one proof for all of them, with digests of `D` words (`PrunedBatchOpening` in the Rust
-/// crate).
+/// The rows of several leaves, and one proof for all of them, with digests of `D` words (`PrunedBatchOpening` in the
+/// Rust crate).
 pub type PrunedBatchOpening<T, W, const D: usize> = PrunedRows<T, [W; D]>;
 
-/// A leaf and the siblings on its path, as a pruned proof restores them. [`MerkleAuthPath`] is this path at digests of words.
+/// A leaf and the siblings on its path, as a pruned proof restores them. [`MerkleAuthPath`] is this path at digests of
+/// words.
 #[derive(Debug, Clone, PartialEq, Eq, Drop)]
 pub struct AuthPath<X> {
     /// The leaf.
@@ -147,8 +149,31 @@ pub fn pruned_len_of(
     Ok(boundary_len_of(dimensions, arity, t, leaves))
 }
 
-/// The same as [`pruned_len_of`] from the leaves that the indices cover, each once, ascending, as [`covered_leaves`] has
-/// them. Takes no memory beside theirs, and the time of one step for each leaf and level.
+impl<'a> Steps<'a> {
+    /// The same as [`pruned_len_of`] from the leaves that the indices cover, each once, ascending, as
+    /// [`covered_leaves`] has them. Takes no memory beside theirs, and the time of one step for each leaf and level.
+    pub fn boundary_len(&self, layer: usize, leaves: Vec<usize>) -> usize
+        requires arity { IsArity self.now.arity }
+        requires low { greatest (heights_of self.now.dimensions.now) ≤ height_limit }
+        requires layer { layer ≤ self.now.num_levels }
+        requires below { All (λ q. q < greatest (heights_of self.now.dimensions.now)) leaves.items }
+        requires ascending { IsStrictlyIncreasing leaves.items }
+        ensures { result ≡ pruned_len (shape_of self.now.arity self.now.dimensions.now) leaves.items layer }
+    {
+        let mut covered = leaves;
+        let mut count = 0;
+        for level in 0..layer {
+            let step = self.step(level);
+            let below = covered.len();
+            climb(&mut covered, step);
+            let children = step * covered.len();
+            count += children - below;
+        }
+        count
+    }
+}
+
+/// As [`Steps::boundary_len`], of dimensions.
 pub fn boundary_len_of(
     dimensions: &[Dimensions],
     arity: usize,
@@ -162,23 +187,12 @@ pub fn boundary_len_of(
     requires ascending { IsStrictlyIncreasing leaves.items }
     ensures { result ≡ pruned_len (shape_of arity dimensions.now) leaves.items t }
 {
-    let mut covered = leaves;
-    let mut x = exponent_of(tallest_of(dimensions));
-    let mut count = 0;
-    for _l in 0..t {
-        let (step, next) = select_arity_step(dimensions, arity, x);
-        let below = covered.len();
-        climb(&mut covered, step);
-        let children = step * covered.len();
-        count += children - below;
-        x = next;
-    }
-    count
+    steps_of(dimensions, arity).boundary_len(t, leaves)
 }
 
 /// The values of the children of some parents, `step` of each, parent by parent: of a covered child its digest, and of
-/// another the next of those that were sent. The covered nodes, each with its digest, are those of the children, in the same
-/// order. Takes memory and time for all children.
+/// another the next of those that were sent. The covered nodes, each with its digest, are those of the children, in the
+/// same order. Takes memory and time for all children.
 ///
 /// # Errors
 ///
@@ -209,20 +223,21 @@ pub fn children_of<X: Copy>(
     Ok(children)
 }
 
-/// The siblings on the path of a leaf, out of the levels that a walk kept, from the leaves on: of each group on the path
-/// all values but the path's own, ascending. The path of a leaf that the walk did not cover has no siblings on the levels
-/// where no covered node is above it.
+/// The siblings on the path of a leaf, out of the levels that a walk kept, from the leaves on: of each group on the
+/// path all values but the path's own, ascending. The path of a leaf that the walk did not cover has no siblings on the
+/// levels where no covered node is above it.
 ///
 /// # Errors
 ///
 /// `AllocError` where there is no memory.
-pub(crate) fn path_out_of<X: Copy>(
+fn path_out_of<X: Copy>(
     alloc: Global,
     levels: &[KeptLevel<X>],
     index: usize,
 ) -> Result<Vec<X>, AllocError>
     ensures { IfOk result (λ path.
-        path.items ≡ path_out_of (map (λ level. (level.parents.items, level.step, level.children.items)) levels.now) index) }
+        path.items ≡ path_out_of (map (λ level. (level.parents.items, level.step, level.children.items)) levels.now)
+        index) }
 {
     let mut path = Vec::new(alloc);
     let mut node = index;
@@ -244,7 +259,9 @@ pub fn paths_out_of<X: Copy>(
     indices: &[usize],
 ) -> Result<Vec<AuthPath<X>>, AllocError>
     ensures { IfOk result (λ paths.
-        shown_paths paths.items ≡ paths_out_of (map (λ level. (level.parents.items, level.step, level.children.items)) levels.now) indices.now) }
+        shown_paths paths.items
+        ≡ paths_out_of (map (λ level. (level.parents.items, level.step, level.children.items)) levels.now)
+        indices.now) }
 {
     let mut paths = Vec::with_capacity(alloc, indices.len())?;
     for index in indices {
@@ -264,7 +281,9 @@ fn extend_with_siblings<X: Copy>(
     node: usize,
 ) -> Result<(), AllocError>
     ensures { IfOk result (λ done.
-        path.new.items ≡ path.old.items ++ siblings_out_of (level.now.parents.items, level.now.step, level.now.children.items) node) }
+        path.new.items
+        ≡ path.old.items ++ siblings_out_of (level.now.parents.items, level.now.step, level.now.children.items)
+        node) }
 {
     if let Ok(place) = level.parents.binary_search(&(node / level.step)) {
         let first = level.step * place;

@@ -1,22 +1,26 @@
-//! The steps of a tree, from the leaves to the root, walked once and kept. No call here takes memory from an allocator.
+//! The steps of a tree, from the leaves to the root, walked once and kept: every walk goes by them. No call here takes
+//! memory from an allocator, but for the two that answer a list.
 
-ghost use Rattle.std.specs.Prelude.{◌≡◌, ℕ, suc, ◌+◌, ◌-◌, ◌<◌, ◌≤◌, ◌==◌, List, if◌then◌else◌, length, map, nat_lt, take, ◌&&◌};
+ghost use Rattle.std.specs.Prelude.{◌≡◌, ℕ, suc, ◌+◌, ◌-◌, ◌<◌, ◌≤◌, ◌==◌, ◌↔◌, List, if◌then◌else◌, length, map, nat_lt, take, ◌&&◌, IfOk, IsOk, MatchResult, None, Some};
 ghost use Rattle.std.specs.List.{list_any, range_with_len};
-ghost use Rattle.p3_merkle_core.specs.Geometry.{exponent, has_rows, is_bridge, layer_exponent, levels, height_limit, shape_of, step, IsArity};
+ghost use Rattle.p3_merkle_core.specs.Geometry.{exponent, has_rows, is_bridge, layer_exponent, levels, height_limit, positions_below, schedule_below, shape_of, shortest, step, IsArity, IsLawful};
 ghost use Rattle.p3_support.specs.Batches.{heights_of, greatest};
 ghost use Rattle.p3_merkle_core.specs.Checks.{siblings_below};
+ghost use Rattle.p3_merkle_core.specs.Gate.{gate_refusal};
 ghost use Rattle.p3_merkle_core.specs.Inner.Rungs.{next_below, IsRung};
 ghost use Rattle.p3_merkle_core.specs.Inner.Steps.{level_step};
 
-use crate::geometry::{exponent_of, has_exponent, step_from};
+use crate::error::MerkleTreeError;
+use crate::geometry::{check_heights_up_to, exponent_of, extremes_of, has_exponent, step_from};
 use p3_support::matrix::Dimensions;
+use std::alloc::{AllocError, Global};
 
 /// How many levels a tree has at most: each halves the heights, which are below 2^64, at least.
 const MAX_LEVELS: usize = 64;
 
 /// The exponent of a layer, and the next one below it: what the steps from there on depend on.
 #[derive(Clone, Copy)]
-pub struct Rung {
+struct Rung {
     /// The exponent of the layer.
     pub exponent: usize,
     /// One more than the greatest exponent below that one which a matrix has, and 0 where none has one.
@@ -24,7 +28,7 @@ pub struct Rung {
 }
 
 /// This exponent with the next one below it. Each matrix is looked at once, and none for 0.
-pub(crate) fn rung_at(dimensions: &[Dimensions], x: usize) -> Rung
+fn rung_at(dimensions: &[Dimensions], x: usize) -> Rung
     ensures exponent { result.exponent ≡ x }
     ensures rung { IsRung (heights_of dimensions.now) result }
 {
@@ -48,34 +52,6 @@ pub(crate) fn rung_at(dimensions: &[Dimensions], x: usize) -> Rung
 fn tell_exponent(height: usize)
     ensures { exponent height ≤ 64 }
 {}
-
-/// The exponent of the leaves with the next one below it. Each matrix is looked at once.
-pub(crate) fn leaf_rung(dimensions: &[Dimensions]) -> Rung
-    ensures exponent { result.exponent ≡ exponent (greatest (heights_of dimensions.now)) }
-    ensures few { result.exponent ≤ 64 }
-    ensures rung { IsRung (heights_of dimensions.now) result }
-{
-    let Some((first, others)) = dimensions.split_first() else {
-        return Rung {
-            exponent: 0,
-            next: 0,
-        };
-    };
-    tell_exponent(first.height);
-    let mut x = exponent_of(first.height);
-    let mut next = 0;
-    for matrix in others {
-        tell_exponent(matrix.height);
-        let e = exponent_of(matrix.height);
-        if e > x {
-            next = x + 1;
-            x = e;
-        } else if e < x {
-            next = next.max(e + 1);
-        }
-    }
-    Rung { exponent: x, next }
-}
 
 /// Whether the step from a layer is a bridge step, as [`is_bridge_step`], without a look at the matrices.
 fn is_bridge_from(arity: usize, rung: Rung) -> bool
@@ -112,7 +88,7 @@ fn rung_above(dimensions: &[Dimensions], rung: Rung, x: usize) -> (bool, Rung)
 
 /// The step of a level, and whether matrices belong to the layer above it.
 #[derive(Clone, Copy)]
-pub struct LevelStep {
+struct LevelStep {
     /// Whether it is a bridge step of 2, and none of the whole arity.
     pub is_bridge: bool,
     /// Whether matrices belong to the layer above the level.
@@ -125,7 +101,8 @@ fn step_up(dimensions: &[Dimensions], arity: usize, rung: Rung) -> (LevelStep, R
     requires { IsRung (heights_of dimensions.now) rung }
     ensures bridge { result.0.is_bridge ≡ is_bridge (shape_of arity dimensions.now) rung.exponent }
     ensures next { result.1.exponent
-        ≡ (if is_bridge (shape_of arity dimensions.now) rung.exponent then rung.exponent - 1 else rung.exponent - exponent arity) }
+        ≡ (if is_bridge (shape_of arity dimensions.now) rung.exponent then rung.exponent - 1
+        else rung.exponent - exponent arity) }
     ensures rows { result.0.has_rows ≡ list_any (λ h. exponent h == result.1.exponent) (heights_of dimensions.now) }
     ensures rung { IsRung (heights_of dimensions.now) result.1 }
 {
@@ -157,28 +134,38 @@ pub struct Steps<'a> {
     pub dimensions: &'a [Dimensions],
     /// How many children a node has at most.
     pub arity: usize,
+    /// The greatest height, in rows, and 0 of no matrix.
+    pub max_height: usize,
+    /// The least height, in rows, and 0 of no matrix.
+    pub min_height: usize,
     /// The exponent of the leaves.
     pub exponent: usize,
     /// How many steps lead from the leaves to the root.
     pub num_levels: usize,
     of_level: [LevelStep; MAX_LEVELS],
+    ghost wide: { 2 ≤ arity },
+    ghost tallest: { max_height ≡ greatest (heights_of dimensions.now) },
+    ghost shortest: { min_height ≡ shortest (heights_of dimensions.now) },
     ghost leaves: { exponent ≡ layer_exponent (shape_of arity dimensions.now) 0 },
     ghost whole: { num_levels ≡ levels (shape_of arity dimensions.now) },
     ghost few: { num_levels ≤ 64 },
     ghost long: { length of_level ≡ 64 },
-    ghost kept: { take num_levels of_level ≡ map (level_step (shape_of arity dimensions.now)) (range_with_len 0 num_levels) },
+    ghost kept: { take num_levels of_level
+        ≡ map (level_step (shape_of arity dimensions.now)) (range_with_len 0 num_levels) },
 }
 
 /// The steps of the tree over matrices of these dimensions, where a node has at most `arity` children. They end for all
-/// dimensions and every arity of at least 2. Each matrix is looked at once for the leaves, and once for each layer to
+/// dimensions and every arity of at least 2. Each matrix is looked at once for its height, and once for each layer to
 /// which one belongs.
 pub fn steps_of(dimensions: &[Dimensions], arity: usize) -> Steps<'_>
     requires { 2 ≤ arity }
     ensures dimensions { result.dimensions.now ≡ dimensions.now }
     ensures arity { result.arity ≡ arity }
 {
-    let mut rung = leaf_rung(dimensions);
-    let exponent = rung.exponent;
+    let (max_height, min_height) = extremes_of(dimensions);
+    tell_exponent(max_height);
+    let exponent = exponent_of(max_height);
+    let mut rung = rung_at(dimensions, exponent);
     let none = LevelStep {
         is_bridge: false,
         has_rows: false,
@@ -194,6 +181,8 @@ pub fn steps_of(dimensions: &[Dimensions], arity: usize) -> Steps<'_>
     Steps {
         dimensions,
         arity,
+        max_height,
+        min_height,
         exponent,
         num_levels,
         of_level,
@@ -201,20 +190,39 @@ pub fn steps_of(dimensions: &[Dimensions], arity: usize) -> Steps<'_>
 }
 
 impl<'a> Steps<'a> {
+    /// Whether a tree can be built over matrices of these heights, as
+    /// [`check_heights`](crate::geometry::check_heights). Each matrix is looked at once.
+    ///
+    /// # Errors
+    ///
+    /// The same.
+    pub fn check_heights(&self) -> Result<(), MerkleTreeError>
+        ensures answer { MatchResult result (λ ok. gate_refusal (heights_of self.now.dimensions.now) ≡ None)
+            (λ e. gate_refusal (heights_of self.now.dimensions.now) ≡ Some e) }
+        ensures lawful { IsOk result ↔ IsLawful (heights_of self.now.dimensions.now) }
+    {
+        check_heights_up_to(self.dimensions, self.max_height)
+    }
+
+    /// Whether the step of a level below the root is a bridge step.
+    pub(crate) fn is_bridge(&self, level: usize) -> bool
+        requires { level < self.now.num_levels }
+        ensures { let s = shape_of self.now.arity self.now.dimensions.now in
+            result ≡ is_bridge s (layer_exponent s level) }
+    {
+        self.of_level[level].is_bridge
+    }
+
     /// The step of a level below the root, in children a node.
-    fn step(&self, level: usize) -> usize
+    pub fn step(&self, level: usize) -> usize
         requires { level < self.now.num_levels }
         ensures { result ≡ step (shape_of self.now.arity self.now.dimensions.now) level }
     {
-        if self.of_level[level].is_bridge {
-            2
-        } else {
-            self.arity
-        }
+        if self.is_bridge(level) { 2 } else { self.arity }
     }
 
-    /// The step of a level below the root, from a layer of this exponent. The arity is the one that the steps are for: a
-    /// caller that knows it when it is compiled divides by it as such.
+    /// The step of a level below the root, from a layer of this exponent. The arity is the one that the steps are for:
+    /// a caller that knows it when it is compiled divides by it as such.
     pub fn up(&self, arity: usize, level: usize, exponent: usize) -> StepUp
         requires arity { arity ≡ self.now.arity }
         requires level { level < self.now.num_levels }
@@ -235,40 +243,78 @@ impl<'a> Steps<'a> {
         }
     }
 
-    /// How many siblings the levels below layer `t` have, in digests: one less than the step of each
-    /// (`total_siblings_for_levels` in the Rust crate). `t` is at most the number of levels, the arity a power of two
-    /// from 2 to 2^62, and no height is above [`MAX_HEIGHT`](crate::geometry::MAX_HEIGHT).
-    pub fn siblings_below(&self, t: usize) -> usize
+    /// The exponent of a layer, counted from the leaves. The layer is at most the number of levels.
+    pub fn layer_exponent(&self, layer: usize) -> usize
+        requires { layer ≤ self.now.num_levels }
+        ensures { result ≡ layer_exponent (shape_of self.now.arity self.now.dimensions.now) layer }
+    {
+        let mut exponent = self.exponent;
+        for level in 0..layer {
+            exponent = self.up(self.arity, level, exponent).exponent;
+        }
+        exponent
+    }
+
+    /// How many siblings the levels below a layer have, in digests: one less than the step of each
+    /// (`total_siblings_for_levels` in the Rust crate). The layer is at most the number of levels, the arity a power of
+    /// two from 2 to 2^62, and no height is above [`MAX_HEIGHT`](crate::geometry::MAX_HEIGHT).
+    pub fn siblings_below(&self, layer: usize) -> usize
         requires arity { IsArity self.now.arity }
         requires low { greatest (heights_of self.now.dimensions.now) ≤ height_limit }
-        requires layer { t ≤ self.now.num_levels }
-        ensures { result ≡ siblings_below (shape_of self.now.arity self.now.dimensions.now) t }
+        requires layer { layer ≤ self.now.num_levels }
+        ensures { result ≡ siblings_below (shape_of self.now.arity self.now.dimensions.now) layer }
     {
         if self.arity == 2 {
-            return t;
+            return layer;
         }
         let mut count = 0;
-        for level in 0..t {
+        for level in 0..layer {
             count += self.step(level) - 1;
         }
         count
     }
-}
 
-/// How many steps lead from the leaves to the root. They end for all dimensions and every arity of at least 2.
-pub fn levels_of(dimensions: &[Dimensions], arity: usize) -> usize
-    requires { 2 ≤ arity }
-    ensures { result ≡ levels (shape_of arity dimensions.now) }
-{
-    steps_of(dimensions, arity).num_levels
-}
+    /// The steps of the levels below a layer, from the leaves up, in children a node. The layer is at most the number
+    /// of levels. Takes memory for a number a level.
+    ///
+    /// # Errors
+    ///
+    /// `AllocError` where there is no memory.
+    pub fn schedule_below(&self, alloc: Global, layer: usize) -> Result<Vec<usize>, AllocError>
+        requires { layer ≤ self.now.num_levels }
+        ensures { let s = shape_of self.now.arity self.now.dimensions.now in
+            IfOk result (λ v. v.items ≡ schedule_below s layer) }
+    {
+        let mut schedule = Vec::with_capacity(alloc, layer)?;
+        for level in 0..layer {
+            schedule.push(self.step(level))?;
+        }
+        Ok(schedule)
+    }
 
-/// As [`Steps::siblings_below`], of dimensions.
-pub fn siblings_below_of(dimensions: &[Dimensions], arity: usize, t: usize) -> usize
-    requires arity { IsArity arity }
-    requires low { greatest (heights_of dimensions.now) ≤ height_limit }
-    requires layer { t ≤ levels (shape_of arity dimensions.now) }
-    ensures { result ≡ siblings_below (shape_of arity dimensions.now) t }
-{
-    steps_of(dimensions, arity).siblings_below(t)
+    /// The place of the index's ancestor among the children of its parent, for each level below a layer, from the
+    /// leaves up. The layer is at most the number of levels. Takes memory for a number a level.
+    ///
+    /// # Errors
+    ///
+    /// `AllocError` where there is no memory.
+    pub fn positions_below(
+        &self,
+        alloc: Global,
+        layer: usize,
+        index: usize,
+    ) -> Result<Vec<usize>, AllocError>
+        requires { layer ≤ self.now.num_levels }
+        ensures { let s = shape_of self.now.arity self.now.dimensions.now in
+            IfOk result (λ v. v.items ≡ positions_below s layer index) }
+    {
+        let mut positions = Vec::with_capacity(alloc, layer)?;
+        let mut ancestor = index;
+        for level in 0..layer {
+            let step = self.step(level);
+            positions.push(ancestor % step)?;
+            ancestor /= step;
+        }
+        Ok(positions)
+    }
 }

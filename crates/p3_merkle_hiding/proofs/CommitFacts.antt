@@ -10,38 +10,49 @@ use Rattle.p3_merkle_core.specs.Gate.{gate_refusal}
 use Rattle.p3_merkle_core.specs.Nodes.{Matrix, dimensions_of}
 use Rattle.p3_merkle_core.specs.declared.error.MerkleTreeError.{MerkleTreeError}
 use Rattle.p3_merkle_core.specs.declared.error.MerkleTreeError.TheVariants.{OutOfMemory}
-use Rattle.p3_merkle_core.proofs.NoneFacts.{none_of_both}
+use Rattle.p3_merkle_core.proofs.Pruned.NoneFacts.{none_of_both}
 use Rattle.p3_merkle_salts.specs.Salted.{salted_matrices}
 use Rattle.p3_merkle_salts.specs.SaltRefusals.{salted_commit_refusal, widening_refusal}
 use Rattle.p3_merkle_salts.specs.SaltedOpenings.{widened}
 
 -- salted matrices have their heights
-heights_stay : {T : Type 0} (of_word : ℕ → T) (e : ℕ) (ms : List (Matrix T)) (s : Stream) → heights_of (dimensions_of (salted_matrices of_word e ms s)) ≡ heights_of (dimensions_of ms)
+heights_stay : {T : Type 0} (of_word : ℕ → T) (e : ℕ) (ms : List (Matrix T)) (s : Stream) →
+    heights_of (dimensions_of (salted_matrices of_word e ms s)) ≡ heights_of (dimensions_of ms)
 heights_stay of_word e [] s = refl
-heights_stay of_word e (m ∷ ms) s = ap (λ (hs : List ℕ). m.height ∷ hs) (heights_stay of_word e ms (after_words (m.height * e) s))
+heights_stay of_word e (m ∷ ms) s =
+    ap (λ (hs : List ℕ). m.height ∷ hs) (heights_stay of_word e ms (after_words (m.height * e) s))
 
 -- and are so much wider
-pub salted_widened : {T : Type 0} (of_word : ℕ → T) (e : ℕ) (ms : List (Matrix T)) (s : Stream) → dimensions_of (salted_matrices of_word e ms s) ≡ widened e (dimensions_of ms)
+pub salted_widened : {T : Type 0} (of_word : ℕ → T) (e : ℕ) (ms : List (Matrix T)) (s : Stream) →
+    dimensions_of (salted_matrices of_word e ms s) ≡ widened e (dimensions_of ms)
 salted_widened of_word e [] s = refl
-salted_widened of_word e (m ∷ ms) s = ap (λ (ds : List Dimensions). record { width = m.width + e; height = m.height } ∷ ds) (salted_widened of_word e ms (after_words (m.height * e) s))
+salted_widened of_word e (m ∷ ms) s =
+    ap (λ (ds : List Dimensions). record { width = m.width + e; height = m.height } ∷ ds)
+    (salted_widened of_word e ms (after_words (m.height * e) s))
 
 -- so the gate takes them where it takes the matrices
-pub gate_stays : {T : Type 0} (of_word : ℕ → T) (e : ℕ) (ms pairs : List (Matrix T)) (s : Stream) → pairs ≡ salted_matrices of_word e ms s → gate_refusal (heights_of (dimensions_of ms)) ≡ None → gate_refusal (heights_of (dimensions_of pairs)) ≡ None
-gate_stays of_word e ms pairs s are none = ap (λ (z : List (Matrix _)). gate_refusal (heights_of (dimensions_of z))) are ∙ ap gate_refusal (heights_stay of_word e ms s) ∙ none
+pub gate_stays : {T : Type 0} (of_word : ℕ → T) (e : ℕ) (ms pairs : List (Matrix T)) (s : Stream) → pairs
+    ≡ salted_matrices of_word e ms s → gate_refusal (heights_of (dimensions_of ms)) ≡ None →
+    gate_refusal (heights_of (dimensions_of pairs)) ≡ None
+gate_stays of_word e ms pairs s are none = ap (λ (z : List (Matrix _)). gate_refusal (heights_of (dimensions_of z))) are
+    ∙ ap gate_refusal (heights_stay of_word e ms s) ∙ none
 
 module _ {A : Type 0} where
   -- an error where nothing is refused is for want of memory
-  pub memory_alone : (r : Result A MerkleTreeError) (refusal : Option MerkleTreeError) → AnswersUnlessMemory r refusal → refusal ≡ None → IfErr r (λ e. e ≡ OutOfMemory)
+  pub memory_alone : (r : Result A MerkleTreeError) (refusal : Option MerkleTreeError) → AnswersUnlessMemory r refusal →
+      refusal ≡ None → IfErr r (λ e. e ≡ OutOfMemory)
   memory_alone (Ok v) refusal a none = tt
   memory_alone (Err e) refusal (inl m) none = m
   memory_alone (Err e) refusal (inr some) none = absurd cc
 
   -- and the other way round
-  pub unrefused : (r : Result A MerkleTreeError) (refusal : Option MerkleTreeError) → IfErr r (λ e. e ≡ OutOfMemory) → refusal ≡ None → AnswersUnlessMemory r refusal
+  pub unrefused : (r : Result A MerkleTreeError) (refusal : Option MerkleTreeError) → IfErr r (λ e. e ≡ OutOfMemory) →
+      refusal ≡ None → AnswersUnlessMemory r refusal
   unrefused (Ok v) refusal m none = none
   unrefused (Err e) refusal m none = inl m
 
-  pub memory_or : (P : Type 0) (r : Result A MerkleTreeError) → IfErr r (λ e. e ≡ OutOfMemory) → IfErr r (λ e. (e ≡ OutOfMemory) ⊎ P)
+  pub memory_or : (P : Type 0) (r : Result A MerkleTreeError) → IfErr r (λ e. e ≡ OutOfMemory) →
+      IfErr r (λ e. (e ≡ OutOfMemory) ⊎ P)
   memory_or P (Ok v) m = tt
   memory_or P (Err e) m = inl m
 
@@ -64,5 +75,6 @@ module _ {A : Type 0} where
   stays P (Err e) holds = inr holds
 
 -- matrices that pass the gate, and can be wider, are not refused
-pub commit_none : (e : ℕ) (ds : List Dimensions) → gate_refusal (heights_of ds) ≡ None → widening_refusal e ds ≡ None → salted_commit_refusal e ds ≡ None
+pub commit_none : (e : ℕ) (ds : List Dimensions) → gate_refusal (heights_of ds) ≡ None → widening_refusal e ds ≡ None →
+    salted_commit_refusal e ds ≡ None
 commit_none e ds gate wide = none_of_both (gate_refusal (heights_of ds)) (widening_refusal e ds) gate wide

@@ -14,9 +14,9 @@ use Rattle.p3_merkle_salts.specs.SaltedTrees.{HaveSaltColumns}
 use Rattle.p3_merkle_core.specs.Nodes.{Batch, dimensions_of, shape}
 use Rattle.p3_merkle_core.specs.declared.error.MerkleTreeError.{MerkleTreeError}
 use Rattle.p3_merkle_core.specs.declared.error.MerkleTreeError.TheVariants.{OutOfMemory}
-use Rattle.p3_merkle_core.proofs.GateFacts.{gate_lawful}
-use Rattle.p3_merkle_core.proofs.NoneFacts.{none_of_both, none_parts}
-use Rattle.p3_merkle_core.proofs.ViewFacts.{dimensions_are}
+use Rattle.p3_merkle_core.proofs.Shapes.GateFacts.{gate_lawful}
+use Rattle.p3_merkle_core.proofs.Pruned.NoneFacts.{none_of_both, none_parts}
+use Rattle.p3_merkle_core.proofs.Lists.ViewFacts.{dimensions_are}
 use Rattle.p3_merkle_hiding.proofs.SaltedAnswers.{widening}
 use Rattle.p3_merkle_salts.specs.SaltRefusals.{salted_commit_refusal, widening_refusal}
 use Rattle.p3_merkle_hiding.specs.SaltedCommitments.{CanCommitSalted, IsSaltedCommitment}
@@ -24,34 +24,49 @@ use Rattle.p3_merkle_salts.specs.SaltedOpenings.{CanWiden}
 
 module _ {T M : Type 0} (height width : M → ℕ) (row : M → ℕ → List T) (e : ℕ) (ms : List M) where
   -- matrices are refused exactly if they can't be committed to
-  none_when : salted_commit_refusal e (dimensions_of (map (matrix_of height width row) ms)) ≡ None → CanCommitSalted height width row e ms
+  none_when : salted_commit_refusal e (dimensions_of (map (matrix_of height width row) ms)) ≡ None →
+      CanCommitSalted height width row e ms
   none_when none =
       let ds = dimensions_of (map (matrix_of height width row) ms) in
       let both = none_parts (gate_refusal (heights_of ds)) (widening_refusal e ds) none in
-      record { lawful = (gate_lawful (heights_of ds)).0 both.0; can_widen = subst (CanWiden e) (dimensions_are height width row ms) ((widening e ds).0 both.1) }
+      record {
+        lawful = (gate_lawful (heights_of ds)).0 both.0;
+        can_widen = subst (CanWiden e) (dimensions_are height width row ms) ((widening e ds).0 both.1);
+      }
 
-  when_none : CanCommitSalted height width row e ms → salted_commit_refusal e (dimensions_of (map (matrix_of height width row) ms)) ≡ None
+  when_none : CanCommitSalted height width row e ms →
+      salted_commit_refusal e (dimensions_of (map (matrix_of height width row) ms)) ≡ None
   when_none w =
       let ds = dimensions_of (map (matrix_of height width row) ms) in
-      none_of_both (gate_refusal (heights_of ds)) (widening_refusal e ds) ((gate_lawful (heights_of ds)).1 w.lawful) ((widening e ds).1 (subst (CanWiden e) (sym (dimensions_are height width row ms)) w.can_widen))
+      none_of_both (gate_refusal (heights_of ds)) (widening_refusal e ds) ((gate_lawful (heights_of ds)).1 w.lawful)
+      ((widening e ds).1 (subst (CanWiden e) (sym (dimensions_are height width row ms)) w.can_widen))
 
   -- Ok is answered of such matrices alone
-  pub can_when_ok : {A : Type 0} (r : Result A MerkleTreeError) → AnswersUnlessMemory r (salted_commit_refusal e (dimensions_of (map (matrix_of height width row) ms))) → IfOk r (λ made. CanCommitSalted height width row e ms)
+  pub can_when_ok : {A : Type 0} (r : Result A MerkleTreeError) →
+      AnswersUnlessMemory r (salted_commit_refusal e (dimensions_of (map (matrix_of height width row) ms))) →
+      IfOk r (λ made. CanCommitSalted height width row e ms)
   can_when_ok (Ok made) answer = none_when answer
   can_when_ok (Err x) answer = tt
 
   -- of these an error is for want of memory
-  pub memory_when_can : {A : Type 0} (r : Result A MerkleTreeError) → AnswersUnlessMemory r (salted_commit_refusal e (dimensions_of (map (matrix_of height width row) ms))) → CanCommitSalted height width row e ms → IfErr r (λ x. x ≡ OutOfMemory)
+  pub memory_when_can : {A : Type 0} (r : Result A MerkleTreeError) →
+      AnswersUnlessMemory r (salted_commit_refusal e (dimensions_of (map (matrix_of height width row) ms))) →
+      CanCommitSalted height width row e ms → IfErr r (λ x. x ≡ OutOfMemory)
   memory_when_can (Ok made) answer w = tt
   memory_when_can (Err x) (inl memory) w = memory
   memory_when_can (Err x) (inr refused) w = let none = when_none w in absurd cc
 
 -- a tree over salted matrices, which have so many salts a row, belongs to its cap
-pub is_salted_commitment : {M T W A B : Type 0} {a : Ghosts A T} {b : Ghosts B T} (r : Result M MerkleTreeError) (cap : M → List (List W)) (own : M → List (List (List W))) (over : M → Batch T) (pairs : M → List (HorizontalPair T A B a b)) (e : ℕ)
-    (c : Shape → Terms T W) (salted : Batch T) (s : Shape) → shape salted ≡ s → IfOk r (λ made. HaveSaltColumns e (pairs made)) → IfOk r (λ made. over made ≡ salted) → IfOk r (λ made. IsCommitment (c s) (cap made) salted (own made)) →
+pub is_salted_commitment : {M T W A B : Type 0} {a : Ghosts A T} {b : Ghosts B T} (r : Result M MerkleTreeError)
+    (cap : M → List (List W)) (own : M → List (List (List W))) (over : M → Batch T) (pairs : M →
+    List (HorizontalPair T A B a b)) (e : ℕ)
+    (c : Shape → Terms T W) (salted : Batch T) (s : Shape) → shape salted ≡ s →
+    IfOk r (λ made. HaveSaltColumns e (pairs made)) → IfOk r (λ made. over made ≡ salted) →
+    IfOk r (λ made. IsCommitment (c s) (cap made) salted (own made)) →
     IfOk r (λ made. IsSaltedCommitment e (c (shape (over made))) (cap made) (over made) (own made) (pairs made))
 is_salted_commitment (Ok made) cap own over pairs e c salted s wide columns is committed = record {
-  committed = subst (λ z. IsCommitment (c (shape z)) (cap made) z (own made)) (sym is) (subst (λ z. IsCommitment (c z) (cap made) salted (own made)) (sym wide) committed);
+  committed = subst (λ z. IsCommitment (c (shape z)) (cap made) z (own made)) (sym is)
+      (subst (λ z. IsCommitment (c z) (cap made) salted (own made)) (sym wide) committed);
   columns = columns;
 }
 is_salted_commitment (Err x) cap own over pairs e c salted s wide columns is committed = tt

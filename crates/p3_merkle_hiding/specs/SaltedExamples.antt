@@ -10,10 +10,12 @@ use Rattle.p3_merkle_salts.specs.SaltedOpenings.{salt_parts, salted_rows, unsalt
 abbrev one : ℕ → ℕ → List Dimensions
 one width height = record { width = width; height = height } ∷ []
 
-rows_with_salts : salted_rows {T = ℕ} ((1 ∷ []) ∷ (2 ∷ 3 ∷ []) ∷ []) ((10 ∷ []) ∷ (20 ∷ []) ∷ []) ≡ (1 ∷ 10 ∷ []) ∷ (2 ∷ 3 ∷ 20 ∷ []) ∷ []
+rows_with_salts : salted_rows {T = ℕ} ((1 ∷ []) ∷ (2 ∷ 3 ∷ []) ∷ []) ((10 ∷ []) ∷ (20 ∷ []) ∷ [])
+    ≡ (1 ∷ 10 ∷ []) ∷ (2 ∷ 3 ∷ 20 ∷ []) ∷ []
 rows_with_salts = refl
 
-rows_without_salts : unsalted_parts {T = ℕ} (1 ∷ 2 ∷ []) ((1 ∷ 10 ∷ []) ∷ (2 ∷ 3 ∷ 20 ∷ []) ∷ []) ≡ (1 ∷ []) ∷ (2 ∷ 3 ∷ []) ∷ []
+rows_without_salts : unsalted_parts {T = ℕ} (1 ∷ 2 ∷ []) ((1 ∷ 10 ∷ []) ∷ (2 ∷ 3 ∷ 20 ∷ []) ∷ [])
+    ≡ (1 ∷ []) ∷ (2 ∷ 3 ∷ []) ∷ []
 rows_without_salts = refl
 
 salts_of_rows : salt_parts {T = ℕ} (1 ∷ 2 ∷ []) ((1 ∷ 10 ∷ []) ∷ (2 ∷ 3 ∷ 20 ∷ []) ∷ []) ≡ (10 ∷ []) ∷ (20 ∷ []) ∷ []
@@ -36,10 +38,12 @@ two_salts_pass_here = refl
 salts_without_rows : salted_rows_refusal {T = ℕ} 1 [] [] ([] ∷ []) ≡ Some (WrongBatchSize 0 1)
 salts_without_rows = refl
 
-no_queries_of_a_wide_matrix : salted_sets_refusal {T = ℕ} 1 (one (2 ^ 64 - 1) 8) [] [] ≡ Some (TooLarge 0 18446744073709551615)
+no_queries_of_a_wide_matrix : salted_sets_refusal {T = ℕ} 1 (one (2 ^ 64 - 1) 8) [] []
+    ≡ Some (TooLarge 0 18446744073709551615)
 no_queries_of_a_wide_matrix = refl
 
-one_salt_set_of_two : salted_sets_refusal {T = ℕ} 1 (one 1 8) (((1 ∷ []) ∷ []) ∷ ((2 ∷ []) ∷ []) ∷ []) (((10 ∷ []) ∷ []) ∷ []) ≡ Some (WrongBatchSize 2 1)
+one_salt_set_of_two : salted_sets_refusal {T = ℕ} 1 (one 1 8) (((1 ∷ []) ∷ []) ∷ ((2 ∷ []) ∷ []) ∷ [])
+    (((10 ∷ []) ∷ []) ∷ []) ≡ Some (WrongBatchSize 2 1)
 one_salt_set_of_two = refl
 
 salt_set_without_queries : salted_sets_refusal {T = ℕ} 1 (one 1 8) [] ([] ∷ []) ≡ Some (WrongBatchSize 0 1)

@@ -1,4 +1,4 @@
-//! Committing to salted matrices.
+//! Commitments to salted matrices.
 
 ghost use Rattle.std.specs.Prelude.{◌≡◌, ◌⊎◌, IfErr, IfOk, OnOk, map};
 ghost use Rattle.p3_merkle_core.specs.Refusals.{AnswersUnlessMemory};
@@ -39,20 +39,19 @@ impl<
 where
     P::Value: SaltWord,
 {
-    /// Commits to matrices, each row followed by its salts: the cap of their tree, and the tree, which keeps the matrices in
-    /// input order, each beside its salts. It is the plain scheme's commitment to the salted matrices.
+    /// Commits to matrices, each row followed by its salts. Returns the cap of their tree, and the tree, which keeps
+    /// each matrix beside its salts, in input order. It is the plain scheme's commitment to the salted matrices.
     ///
-    /// The salts are drawn from the scheme's generator: for the matrices in input order, for the rows of each ascending,
-    /// `SALT_ELEMS` for each row, each from one call of `next_u64`. Afterwards the generator stands after these draws, so
-    /// that the next commitment has other salts.
+    /// The salts are drawn from the scheme's generator, `SALT_ELEMS` for each row: matrix by matrix in input order, row
+    /// by row, each from one call of `next_u64`. The next commitment draws from where this one ended.
     ///
     /// # Errors
     ///
-    /// `EmptyBatch` where no matrix has a row; else `TooLarge` for the first height above 2^62; else
-    /// `IncompatibleHeights` for the first height that is not the tallest one halved and rounded up some number of times;
-    /// else `TooLarge` for the first matrix whose width with its salts passes `usize`, with its width as the size. After
-    /// these the generator is as it was. `OutOfMemory` may come at any time; then the generator stands after the salts of
-    /// the first few matrices, perhaps of none or of all.
+    /// `EmptyBatch` if no matrix has a row; else `TooLarge` for the first height above 2^62; else `IncompatibleHeights`
+    /// for the first height that is not the tallest one halved and rounded up some number of times; else `TooLarge` for
+    /// the first matrix whose width with its salts does not fit `usize`, with its width as the size. These draw nothing
+    /// from the generator. `OutOfMemory` may come at any time; then the generator has drawn the salts of the first few
+    /// matrices, perhaps of none or of all.
     pub fn commit<M: Matrix<P::Value> + Drop>(
         &mut self,
         alloc: Global,

@@ -1,4 +1,4 @@
-//! Extraction: from two salted openings of one cap that differ to two inputs of one digest.
+//! Extraction of collisions from two salted openings of one cap.
 
 ghost use Rattle.std.specs.Prelude.{◌≡◌, ◌↔◌, IfOk, IsNone};
 ghost use Rattle.p3_merkle_core.specs.Extraction.{IsExtraction};
@@ -30,17 +30,17 @@ impl<
     const D: usize,
     const SALT_ELEMS: usize,
 > MerkleTreeHidingMmcs<P, PW, H, C, R, N, D, SALT_ELEMS> {
-    /// What two openings of one cap lead to: nothing where they agree, and else two different inputs of the hasher or of
-    /// the compression that have one digest.
+    /// Extracts a collision from two accepted openings of one cap: two different inputs of the hasher or of the
+    /// compression with one digest, or `None` if the openings agree.
     ///
-    /// It is the plain scheme's [`extract_collision`](p3_merkle_tree::mmcs::Scheme::extract_collision) of the rows followed
-    /// by their salts, where both openings are checked as [`verify_batch`](Self::verify_batch) checks them. Two openings of
-    /// one index lead to a collision exactly if their siblings differ, or the rows or the salts of a matrix that is
-    /// authenticated; under the rule `Lowered` that is each.
+    /// It is the plain scheme's [`extract_collision`](p3_merkle_tree::mmcs::Scheme::extract_collision) of the rows
+    /// followed by their salts. Both openings are verified as by [`verify_batch`](Self::verify_batch). Two openings of
+    /// one index give a collision exactly if they differ in a sibling, or in a row or the salts of an authenticated
+    /// matrix. Under the rule `Lowered` every matrix is authenticated.
     ///
     /// # Errors
     ///
-    /// What `verify_batch` answers to the first opening, else what it answers to the second; `OutOfMemory` may come at any
+    /// The error of `verify_batch` for the first opening, else that for the second; `OutOfMemory` may come at any
     /// time.
     pub fn extract_collision(
         &self,
@@ -79,7 +79,7 @@ impl<
                     joined2,
                 )
             }
-            // What the first opening is refused for comes before what the second is.
+            // A refusal of the first opening comes before one of the second.
             Err(error) => {
                 let checked = self
                     .plain
@@ -89,18 +89,18 @@ impl<
         }
     }
 
-    /// What two pruned openings of one cap lead to: nothing where all their queries agree, and else a query of each that
-    /// leads to two different inputs of the hasher or of the compression that have one digest.
+    /// Extracts a collision from two accepted pruned openings of one cap: the first pair of queries whose checks
+    /// differ, by their places in the two lists, from 0, with two different inputs of the hasher or of the compression
+    /// with one digest. Returns `None` if all queries agree.
     ///
-    /// It is the plain scheme's [`extract_collision_multi`](p3_merkle_tree::mmcs::Scheme::extract_collision_multi) of the
-    /// rows followed by their salts, where both openings are checked as [`verify_multi_batch`](Self::verify_multi_batch)
-    /// checks them: the first pair of queries whose checks differ, by their places in the two lists, from 0, and the
-    /// collision.
+    /// It is the plain scheme's [`extract_collision_multi`](p3_merkle_tree::mmcs::Scheme::extract_collision_multi) of
+    /// the rows followed by their salts. Both openings are verified as by
+    /// [`verify_multi_batch`](Self::verify_multi_batch).
     ///
     /// # Errors
     ///
-    /// What `verify_multi_batch` answers to the first opening, else what it answers to the second; `OutOfMemory` may come
-    /// at any time.
+    /// The error of `verify_multi_batch` for the first opening, else that for the second; `OutOfMemory` may come at any
+    /// time.
     pub fn extract_collision_multi(
         &self,
         alloc: Global,
@@ -135,7 +135,7 @@ impl<
                 &salted2.sets,
                 pruned2,
             ),
-            // What the first opening is refused for comes before what the second is.
+            // A refusal of the first opening comes before one of the second.
             Err(error) => {
                 let checked = self.plain.verify_batch_pruned(
                     alloc,

@@ -1,4 +1,4 @@
-//! A second scheme with salts of its own.
+//! Forks: a second scheme with salts of its own.
 
 ghost use Rattle.std.specs.Prelude.{◌≡◌, IfOk, IsOk};
 ghost use Rattle.rand_core.specs.Stream.{fill_bytes};
@@ -20,14 +20,13 @@ impl<
     const N: usize,
     const SALT_ELEMS: usize,
 > HidingScheme<P, PW, H, C, R, X, G, N, SALT_ELEMS> {
-    /// The same scheme with a generator of its own, whose seed is drawn from this one's. The two schemes accept the same
-    /// openings. The fork draws its salts from the stream of that seed; this scheme goes on in its own stream, after the
-    /// seed's bytes. That the two draw different salts is not proved. A fork takes the place of a clone, which would draw
-    /// the same salts again.
+    /// A scheme that accepts the same openings, with a generator of its own. Its seed is drawn from this scheme's
+    /// generator, which goes on after the seed's bytes. That the two draw different salts is not proved. There is no
+    /// `clone`, since a clone would draw the same salts again.
     ///
     /// # Errors
     ///
-    /// None: it takes no memory.
+    /// None: it does not allocate.
     pub fn fork(&mut self) -> Result<Self, MerkleTreeError>
         ensures made { IsOk result }
         ensures scheme { IfOk result (λ scheme. plain_of scheme ≡ plain_of self.old) }

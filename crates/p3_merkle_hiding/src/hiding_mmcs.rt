@@ -1,4 +1,4 @@
-//! The salted scheme: what it is made of.
+//! The salted scheme: its parts and how to make it.
 
 ghost use Rattle.std.specs.Prelude.{◌≡◌, ◌≤◌, IsTrue};
 ghost use Rattle.p3_merkle_core.specs.Geometry.{is_arity};
@@ -17,7 +17,7 @@ use p3_support::pair::HorizontalPair;
 /// digests `X` and groups `G` of `N` digests, packed in `P` and `PW`. [`MerkleTreeHidingMmcs`] is this scheme at
 /// digests of words.
 ///
-/// Every scheme has at least one salt for a row, and what [`Scheme`] has.
+/// `SALT_ELEMS` is at least 1; the other parameters are as in [`Scheme`].
 #[derive(Debug, Drop)]
 pub struct HidingScheme<
     P: PackedValue,
@@ -57,10 +57,10 @@ pub type SaltedTree<T, W, M, const N: usize, const D: usize> = MerkleTree<
     D,
 >;
 
-/// What proves the rows of one index: the salts of each row, and the siblings on its path.
+/// The proof of one index: the salts of each row, and the siblings on the path.
 pub type SaltedProof<T, W, const D: usize> = (Vec<Vec<T>>, Vec<[W; D]>);
 
-/// What proves the rows of several indices: for each index the salts of each row, and one pruned proof.
+/// The proof of several indices: the salts of each row of each index, and one pruned proof.
 pub type SaltedMultiProof<T, W, const D: usize> = (Vec<Vec<Vec<T>>>, PrunedMerklePaths<W, D>);
 
 impl<
@@ -77,14 +77,14 @@ impl<
     ghost use Rattle.p3_merkle_tree.specs.Schemes.{cap_height_of, cap_rule_of};
     ghost use Rattle.p3_merkle_hiding.specs.HidingSchemes.{plain_of};
 
-    /// How many levels below the root the cap is, as it was handed to [`new`](Self::new).
+    /// The cap height that was given to [`new`](Self::new), in levels below the root.
     pub fn cap_height(&self) -> usize
         ensures { result ≡ cap_height_of (plain_of self.now) }
     {
         self.plain.cap_height()
     }
 
-    /// By which rule the cap's layer is chosen.
+    /// The rule that chooses the cap's layer.
     pub fn cap_rule(&self) -> CapRule
         ensures { result ≡ cap_rule_of (plain_of self.now) }
     {
@@ -106,12 +106,12 @@ impl<
     ghost use Rattle.p3_merkle_tree.specs.Schemes.{cap_height_of, cap_rule_of, compression_of, hash_of};
     ghost use Rattle.p3_merkle_hiding.specs.HidingSchemes.{generator_of, plain_of};
 
-    /// The salted scheme of a hasher and a compression, whose cap is `cap_height` levels below the root, but never below
-    /// the last layer to which a matrix belongs: the rule [`CapRule::Lowered`], under which a cap fixes every row and
-    /// salt of every matrix. Salts are drawn from `rng`, `SALT_ELEMS` for each row.
+    /// The salted scheme of a hasher and a compression. Its cap is `cap_height` levels below the root, or fewer where a
+    /// matrix is injected above that layer: the rule [`CapRule::Lowered`], under which a cap fixes every row and salt
+    /// of every matrix. `SALT_ELEMS` salts for each row are drawn from `rng`.
     ///
-    /// There is at least one salt for a row; `N` is a power of two from 2 to 2^62, and both packings have equally many
-    /// lanes, at least one. It takes no memory.
+    /// `SALT_ELEMS` must be at least 1, `N` a power of two from 2 to 2^62, and both packings must have equally many
+    /// lanes, at least one. It does not allocate.
     pub fn new(
         hash: H,
         compress: C,
@@ -131,9 +131,8 @@ impl<
         Self::new_with_rule(hash, compress, cap_height, rng, CapRule::Lowered)
     }
 
-    /// The salted scheme whose cap is `cap_height` levels below the root as far as the rule lets it: see [`CapRule`].
-    ///
-    /// It asks what [`new`](Self::new) asks, and takes no memory.
+    /// The salted scheme with a cap of this height by this rule: see [`CapRule`]. The conditions are those of
+    /// [`new`](Self::new). It does not allocate.
     pub fn new_with_rule(
         hash: H,
         compress: C,

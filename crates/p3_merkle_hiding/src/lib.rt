@@ -1,5 +1,5 @@
-//! Merkle commitments whose rows are salted: each row is followed by random words before it is hashed. That this hides a
-//! row is not proved.
+//! Merkle commitments with salts: each row is followed by random words before it is hashed. That this hides the rows is
+//! not proved.
 #![tactic(auto)]
 
 mod commit;

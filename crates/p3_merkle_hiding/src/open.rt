@@ -1,4 +1,4 @@
-//! Salted openings: those of the plain scheme, each row taken apart into the matrix's own words and its salts.
+//! Salted openings: those of the plain scheme, with each row split into the matrix's own words and its salts.
 
 ghost use Rattle.std.specs.Prelude.{◌≡◌, ◌<◌, [], All, IfErr, IfOk, None, map};
 ghost use Rattle.p3_merkle_core.specs.Geometry.{heights};
@@ -38,16 +38,17 @@ impl<
     const D: usize,
     const SALT_ELEMS: usize,
 > MerkleTreeHidingMmcs<P, PW, H, C, R, N, D, SALT_ELEMS> {
-    /// Opens the leaf `index` of a tree: of each matrix, in input order, the row that belongs to the leaf; and as its proof
-    /// the salts of each row and the siblings on the leaf's path to the cap.
+    /// Opens the leaf `index` of a tree, which must be below the tallest height. The opening has the row of each matrix
+    /// that belongs to the leaf, in input order; its proof has the salts of each row, and the siblings on the leaf's
+    /// path to the cap.
     ///
-    /// It is the plain scheme's opening, each row taken apart where the matrix ends and its salts begin. The tree may have
-    /// any number of salts a row; where it has `SALT_ELEMS` of them and its layers are those of this scheme's own hasher and
-    /// compression, the opening is accepted under the cap of its tree. The index is below the tallest height.
+    /// It is the plain scheme's opening, with each row split into the matrix's own words and its salts. The opening is
+    /// accepted under the cap of the tree if the tree has `SALT_ELEMS` salts a row and was built with this scheme's
+    /// hasher and compression.
     ///
     /// # Errors
     ///
-    /// `OutOfMemory` alone.
+    /// Only `OutOfMemory`.
     pub fn open_batch<M: Matrix<P::Value>>(
         &self,
         alloc: Global,
@@ -76,17 +77,17 @@ impl<
         Ok(BatchOpening::new(rows, (salts, siblings)))
     }
 
-    /// Opens several leaves of a tree at once: for each index, in query order, the row of each matrix that belongs to the
-    /// leaf; and as their proof the salts of each row, index by index, and one pruned proof for all of them.
+    /// Opens several leaves of a tree by one pruned proof. The indices count rows of the tallest matrix and must be
+    /// below its height, in any order; repeats are allowed. For each index, in query order, the opening has the row of
+    /// each matrix that belongs to the leaf; its proof has the salts of each row, and the digests that are sent.
     ///
-    /// It is the plain scheme's opening, each row taken apart where the matrix ends and its salts begin. The indices count
-    /// rows of the tallest matrix and are below its height; they come in any order, and again, too. Where the tree has
-    /// `SALT_ELEMS` salts a row and its layers are those of this scheme's own hasher and compression, the opening is accepted
-    /// under the cap of its tree.
+    /// It is the plain scheme's opening, with each row split into the matrix's own words and its salts. The opening is
+    /// accepted under the cap of the tree if the tree has `SALT_ELEMS` salts a row and was built with this scheme's
+    /// hasher and compression.
     ///
     /// # Errors
     ///
-    /// `OutOfMemory` alone.
+    /// Only `OutOfMemory`.
     pub fn open_multi_batch<M: Matrix<P::Value>>(
         &self,
         alloc: Global,
@@ -127,7 +128,7 @@ impl<
     ///
     /// # Errors
     ///
-    /// `OutOfMemory` alone.
+    /// Only `OutOfMemory`.
     pub fn get_matrices<'a, M: Matrix<P::Value>>(
         &self,
         alloc: Global,

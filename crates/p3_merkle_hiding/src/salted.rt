@@ -1,4 +1,4 @@
-//! Rows and their salts as a check takes them: checked, joined, and beside the wider dimensions.
+//! Rows joined with their salts, and the wider dimensions under which they are verified.
 
 ghost use Rattle.std.specs.Prelude.{◌≡◌, IfOk};
 ghost use Rattle.p3_merkle_core.specs.Refusals.{AnswersUnlessMemory};
@@ -13,7 +13,7 @@ use p3_merkle_salts::salts::{
 use p3_support::matrix::Dimensions;
 use std::alloc::Global;
 
-/// The rows of one index, each followed by its salts, with the dimensions of matrices that are as much wider.
+/// The rows of one index, each followed by its salts, with the dimensions that fit them.
 #[derive(Drop)]
 pub struct SaltedRows<T> {
     /// The dimensions with the salts.
@@ -23,12 +23,12 @@ pub struct SaltedRows<T> {
 }
 
 impl<T: Copy> SaltedRows<T> {
-    /// The rows of matrices of these dimensions, with `salt_elems` salts each.
+    /// Checks and joins the rows and the salts of matrices of these dimensions, with `salt_elems` salts a row.
     ///
     /// # Errors
     ///
-    /// What [`check_salts`] answers, else what [`check_widening`] answers; `OutOfMemory` may come at any time. How many
-    /// salts each row has is not looked at.
+    /// The error of [`check_salts`], else that of [`check_widening`]; `OutOfMemory` may come at any time. How many
+    /// salts each row has is not checked here.
     pub fn new(
         alloc: Global,
         dimensions: &[Dimensions],
@@ -51,7 +51,7 @@ impl<T: Copy> SaltedRows<T> {
     }
 }
 
-/// The same of several indices: a row set for each.
+/// The rows of several indices, each followed by its salts, with the dimensions that fit them.
 #[derive(Drop)]
 pub struct SaltedSets<T> {
     /// The dimensions with the salts.
@@ -61,12 +61,12 @@ pub struct SaltedSets<T> {
 }
 
 impl<T: Copy> SaltedSets<T> {
-    /// The row sets of matrices of these dimensions, with `salt_elems` salts a row.
+    /// Checks and joins the row sets and the salt sets of matrices of these dimensions, with `salt_elems` salts a row.
     ///
     /// # Errors
     ///
-    /// What [`check_salt_sets`] answers, else what [`check_widening`] answers; `OutOfMemory` may come at any time. How
-    /// many salts each row has is not looked at.
+    /// The error of [`check_salt_sets`], else that of [`check_widening`]; `OutOfMemory` may come at any time. How many
+    /// salts each row has is not checked here.
     pub fn new(
         alloc: Global,
         dimensions: &[Dimensions],

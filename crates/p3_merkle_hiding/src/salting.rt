@@ -1,4 +1,4 @@
-//! Matrices that get their salts, once their heights and widths are checked.
+//! Salts for matrices whose heights and widths are checked first.
 
 ghost use Rattle.std.specs.Prelude.{◌≡◌, ◌≤◌, ◌⊎◌, IfErr, IfOk, OnOk, map};
 ghost use Rattle.p3_merkle_core.specs.Refusals.{AnswersUnlessMemory};
@@ -21,17 +21,15 @@ use p3_support::salts::SaltWord;
 use rand_core::Rng;
 use std::alloc::Global;
 
-/// Each matrix beside its salts, as [`salted_pairs`] draws them, where the matrices can be committed to with as many salts
-/// a row.
-///
-/// There is at least one salt for a row.
+/// Checks the heights and widths of matrices, and draws their salts as [`salted_pairs`]. `salt_elems` must be at least
+/// 1.
 ///
 /// # Errors
 ///
-/// `EmptyBatch`, `TooLarge` or `IncompatibleHeights` for the heights of the matrices, as a commitment refuses them; else
-/// `TooLarge` for the first matrix whose width with its salts passes `usize`. After these the generator is as it was.
-/// `OutOfMemory` may come at any time; then the generator stands after the salts of the first few matrices, perhaps of
-/// none or of all.
+/// `EmptyBatch`, `TooLarge` or `IncompatibleHeights` for the heights of the matrices, as a commitment refuses them;
+/// else `TooLarge` for the first matrix whose width with its salts does not fit `usize`. These draw nothing from the
+/// generator. `OutOfMemory` may come at any time; then the generator has drawn the salts of the first few matrices,
+/// perhaps of none or of all.
 pub(crate) fn checked_pairs<T: SaltWord, M: Matrix<T> + Drop, R: Rng>(
     alloc: Global,
     rng: &mut R,

@@ -30,8 +30,8 @@ use p3_support::salts::SaltWord;
 use rand_core::CryptoRng;
 use std::alloc::Global;
 
-/// The calls of the salted scheme. What is committed to is a tree over matrices beside their salts, and a commitment is
-/// its cap. A commitment leaves the scheme what it was but for its generator.
+/// The salted scheme as an `Mmcs`. The commitment is the cap of a tree over matrices beside their salts. A commitment
+/// changes the scheme in its generator alone.
 impl<
     P: PackedValue,
     PW: PackedValue,

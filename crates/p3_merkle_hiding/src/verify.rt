@@ -1,4 +1,4 @@
-//! The checks of salted openings: rows and salts by themselves, then the plain check of rows followed by their salts.
+//! Verification of salted openings: rows and salts are checked, joined, and verified as plain rows.
 
 ghost use Rattle.p3_merkle_core.specs.Presented.{IsVerdict};
 ghost use Rattle.p3_support.specs.Shown.{roots_of};
@@ -25,24 +25,25 @@ impl<
     const D: usize,
     const SALT_ELEMS: usize,
 > MerkleTreeHidingMmcs<P, PW, H, C, R, N, D, SALT_ELEMS> {
-    /// Checks an opening of the leaf `index` with its salts against a cap: the plain scheme's check of each row followed
-    /// by its salts, under dimensions that have `SALT_ELEMS` more columns. Whoever drew the salts, they are as much fixed
-    /// by the cap as the rows.
+    /// Verifies an opening of the leaf `index` with its salts against a cap: the plain scheme's verification of each
+    /// row followed by its salts, under dimensions with `SALT_ELEMS` more columns. A cap fixes the salts as it fixes
+    /// the rows, whoever drew them.
     ///
-    /// The opening has one row for each of `dimensions`, as wide as that says, with `SALT_ELEMS` salts each, and for each
-    /// level below the cap one sibling less than a node there has children. `dimensions` are those of the matrices without
-    /// salts; they must come from who checks. It takes memory for the rows that it joins with their salts.
+    /// An accepted opening has one row for each of `dimensions`, of that width, `SALT_ELEMS` salts for each row, and
+    /// for each level below the cap one sibling less than a node there has children. `dimensions` are those of the
+    /// matrices without salts, in input order; they must come from the verifier, never from the proof. The call
+    /// allocates the joined rows.
     ///
     /// # Errors
     ///
     /// The first of these that holds, where `OutOfMemory` may come at any time:
     ///
-    /// - `WrongBatchSize`: there are not as many rows as dimensions;
-    /// - `WrongWidth`: a row, the first such, has not the width of its matrix;
-    /// - `WrongBatchSize`: there are not as many lists of salts as rows;
-    /// - `TooLarge`: the width of a matrix, the first such, with its salts passes `usize`;
-    /// - what the plain [`verify_batch`](p3_merkle_tree::mmcs::Scheme::verify_batch) answers to the rows followed by their
-    ///   salts, so that a wrong number of salts in a row is `WrongWidth` of both together.
+    /// - `WrongBatchSize`: the number of rows is not that of the dimensions;
+    /// - `WrongWidth`, for the first row whose length is not the width of its matrix;
+    /// - `WrongBatchSize`: the number of lists of salts is not that of the rows;
+    /// - `TooLarge`, for the first matrix whose width with its salts does not fit `usize`;
+    /// - the error of the plain [`verify_batch`](p3_merkle_tree::mmcs::Scheme::verify_batch) for the joined rows, so
+    ///   that a wrong number of salts is a `WrongWidth` of the joined row.
     pub fn verify_batch(
         &self,
         alloc: Global,
@@ -62,23 +63,24 @@ impl<
             .verify_batch(commit, &salted.dimensions, index, opening)
     }
 
-    /// Checks the openings of several leaves with their salts by one pruned proof against a cap: the plain scheme's check
-    /// of each row followed by its salts, under dimensions that have `SALT_ELEMS` more columns.
+    /// Verifies the rows and salts of several leaves by one pruned proof against a cap: the plain scheme's verification
+    /// of each row followed by its salts, under dimensions with `SALT_ELEMS` more columns.
     ///
-    /// There is a row set and a salt set for each index, with one row for each of `dimensions`, as wide as that says, and
-    /// `SALT_ELEMS` salts for each row. `dimensions` are those of the matrices without salts; they must come from who
-    /// checks.
+    /// An accepted opening has a row set and a salt set for each index: one row for each of `dimensions`, of that
+    /// width, and `SALT_ELEMS` salts for each row. `dimensions` are those of the matrices without salts, in input
+    /// order; they must come from the verifier, never from the proof.
     ///
     /// # Errors
     ///
     /// The first of these that holds, where `OutOfMemory` may come at any time:
     ///
-    /// - `WrongBatchSize`: there are not as many salt sets as row sets;
-    /// - `WrongBatchSize`, `WrongWidth`, `WrongBatchSize`: in query order, a row set has not one row for each of
-    ///   `dimensions`, or a row not the width of its matrix, or there are not as many lists of salts as rows;
-    /// - `TooLarge`: the width of a matrix, the first such, with its salts passes `usize`;
-    /// - what the plain [`verify_multi_batch`](p3_merkle_tree::mmcs::Scheme::verify_multi_batch) answers to the rows
-    ///   followed by their salts.
+    /// - `WrongBatchSize`: the number of salt sets is not that of the row sets;
+    /// - in query order, for each row set with its salts: `WrongBatchSize` if the number of rows is not that of the
+    ///   dimensions, `WrongWidth` for the first row whose length is not the width of its matrix, `WrongBatchSize` if
+    ///   the number of lists of salts is not that of the rows;
+    /// - `TooLarge`, for the first matrix whose width with its salts does not fit `usize`;
+    /// - the error of the plain [`verify_multi_batch`](p3_merkle_tree::mmcs::Scheme::verify_multi_batch) for the joined
+    ///   rows.
     pub fn verify_multi_batch(
         &self,
         alloc: Global,

@@ -17,19 +17,23 @@ group_next g w = add-mul g 1 w ∙ ap (λ v. g * w + v) (one-mul w)
 
 -- a group below n of them ends within all of them
 pub group_end : (g w n m : ℕ) → g < n → n * w ≤ m → g * w + w ≤ m
-group_end g w n m below fits = let more : (g + 1) * w ≤ n * w = mul-le-mul_right w (omega arith) in omega (arith, group_next g w, more)
+group_end g w n m below fits = let more : (g + 1) * w ≤ n * w = mul-le-mul_right w (omega arith) in
+    omega (arith, group_next g w, more)
 
 -- what stands in a part that was just written
-pub part_written : {X : Type 0} (xs ys : List X) (a k n j : ℕ) (d : X) → length ys ≡ n → a ≤ length xs → j < n → get_or (put_mid a k xs ys) (a + j) d ≡ get_or ys j d
+pub part_written : {X : Type 0} (xs ys : List X) (a k n j : ℕ) (d : X) → length ys ≡ n → a ≤ length xs → j < n →
+    get_or (put_mid a k xs ys) (a + j) d ≡ get_or ys j d
 part_written xs ys a k n j d long inside below =
     get_or-append_right (take a xs) (ys ++ drop k (drop a xs)) a (a + j) d (length-take-le a xs inside) (omega arith)
     ∙ ap (λ i. get_or (ys ++ drop k (drop a xs)) i d) (omega arith)
     ∙ get_or_append_left ys (drop k (drop a xs)) d j (rw long below)
 
 -- and before it
-pub part_before : {X : Type 0} (xs ys : List X) (a k j : ℕ) (d : X) → a ≤ length xs → j < a → get_or (put_mid a k xs ys) j d ≡ get_or xs j d
+pub part_before : {X : Type 0} (xs ys : List X) (a k j : ℕ) (d : X) → a ≤ length xs → j < a →
+    get_or (put_mid a k xs ys) j d ≡ get_or xs j d
 part_before xs ys a k j d inside below =
-    get_or_append_left (take a xs) (ys ++ drop k (drop a xs)) d j (rw (length-take-le a xs inside) below) ∙ get_or-take a xs j d below
+    get_or_append_left (take a xs) (ys ++ drop k (drop a xs)) d j (rw (length-take-le a xs inside) below)
+    ∙ get_or-take a xs j d below
 
 -- one more group of w slots is written
 pub group_more : {X : Type 0} (f seen : ℕ → X) (xs ys : List X) (g w : ℕ) (d : X)
@@ -47,9 +51,14 @@ group_more f seen xs ys g w d made each kept before j below =
     ]
 
 -- the next element is written over one of the first list
-pub put_next : {X : Type 0} (first whole : List X) (n : ℕ) (x d : X) → n < length whole → n < length first → get_or whole n d ≡ x → set (take n whole ++ drop n first) n x ≡ take (n + 1) whole ++ drop (n + 1) first
+pub put_next : {X : Type 0} (first whole : List X) (n : ℕ) (x d : X) → n < length whole → n < length first →
+    get_or whole n d ≡ x → set (take n whole ++ drop n first) n x ≡ take (n + 1) whole ++ drop (n + 1) first
 put_next first whole n x d in_whole in_first is =
-    rw (drop_more first n d in_first, set_at (take n whole) (get_or first n d) (drop (n + 1) first) x n (length-take-le n whole (omega arith)))
+    rw (
+      drop_more first n d in_first,
+      set_at (take n whole) (get_or first n d) (drop (n + 1) first) x n
+          (length-take-le n whole (omega arith)),
+    )
     (sym (append_assoc (take n whole) (x ∷ []) (drop (n + 1) first))
     ∙ ap (λ z. z ++ drop (n + 1) first) (sym (take_more whole n d in_whole ∙ ap (λ y. take n whole ++ y ∷ []) is)))
 
@@ -60,17 +69,26 @@ children_inside step first k w m below fits =
     omega (arith, more, fits, mul-suc step (first + k))
 
 -- so they are as many as the step
-pub children_long : {X : Type 0} (below : List X) (step first k w : ℕ) → k < w → step * (first + w) ≤ length below → length (take step (drop (step * (first + k)) below)) ≡ step
+pub children_long : {X : Type 0} (below : List X) (step first k w : ℕ) → k < w → step * (first + w) ≤ length below →
+    length (take step (drop (step * (first + k)) below)) ≡ step
 children_long below step first k w small fits =
-    length-take-le step (drop (step * (first + k)) below) (omega (arith, length-drop (step * (first + k)) below, children_inside step first k w (length below) small fits))
+    length-take-le step (drop (step * (first + k)) below)
+    (omega (
+      arith,
+      length-drop (step * (first + k)) below,
+      children_inside step first k w (length below) small fits,
+    ))
 
 -- child n of the node first + k
-pub child_at : {X : Type 0} (below : List X) (step first k n : ℕ) (d : X) → n < step → get_or (take step (drop (step * (first + k)) below)) n d ≡ get_or below (step * (first + k) + n) d
-child_at below step first k n d child = get_or-take step (drop (step * (first + k)) below) n d child ∙ get_or-drop (step * (first + k)) below n d
+pub child_at : {X : Type 0} (below : List X) (step first k n : ℕ) (d : X) → n < step →
+    get_or (take step (drop (step * (first + k)) below)) n d ≡ get_or below (step * (first + k) + n) d
+child_at below step first k n d child = get_or-take step (drop (step * (first + k)) below) n d child
+    ∙ get_or-drop (step * (first + k)) below n d
 
 -- a number is not above its product with a step
 below_product : (step i m : ℕ) → 0 < step → step * i ≤ m → i ≤ m
-below_product step i m some fits = let more : 1 * i ≤ step * i = mul-le-mul_right i (omega arith) in omega (arith, more, fits)
+below_product step i m some fits = let more : 1 * i ≤ step * i = mul-le-mul_right i (omega arith) in
+    omega (arith, more, fits)
 
 -- so a child is in the layer
 pub child_below : (step first k w n m : ℕ) → n < step → k < w → step * (first + w) ≤ m → step * (first + k) + n < m
@@ -78,7 +96,8 @@ child_below step first k w n m child below fits = omega (arith, children_inside 
 
 -- and its node is no further than the layer's end
 pub node_below : (step first k w n m : ℕ) → n < step → k < w → step * (first + w) ≤ m → first + k ≤ m
-node_below step first k w n m child below fits = below_product step (first + k) m (omega arith) (omega (arith, children_inside step first k w m below fits))
+node_below step first k w n m child below fits =
+    below_product step (first + k) m (omega arith) (omega (arith, children_inside step first k w m below fits))
 
 -- a list of one value, seen through a function
 pub map_replicate : {A B : Type 0} (of : A → B) (n : ℕ) (x : A) → map of (replicate n x) ≡ replicate n (of x)
@@ -86,20 +105,26 @@ map_replicate of zero x = refl
 map_replicate of (suc n) x = ap (λ ys. of x ∷ ys) (map_replicate of n x)
 
 -- each lane of default digests is default digests
-pub default_lanes : {A P : Type 0} (lanes : P → List A) (d : A) (p : P) (w k m n : ℕ) → lanes p ≡ replicate w d → k < w → map (lane_of lanes d k) (replicate n (replicate m p)) ≡ replicate n (replicate m d)
+pub default_lanes : {A P : Type 0} (lanes : P → List A) (d : A) (p : P) (w k m n : ℕ) → lanes p ≡ replicate w d →
+    k < w → map (lane_of lanes d k) (replicate n (replicate m p)) ≡ replicate n (replicate m d)
 default_lanes lanes d p w k m n is below =
     let one : get_or (lanes p) k d ≡ d = ap (λ l. get_or l k d) is ∙ get_or-replicate w k d d below in
-    map_replicate (lane_of lanes d k) n (replicate m p) ∙ ap (λ l. replicate n l) (map_replicate (λ q. get_or (lanes q) k d) m p ∙ ap (λ v. replicate m v) one)
+    map_replicate (lane_of lanes d k) n (replicate m p)
+    ∙ ap (λ l. replicate n l) (map_replicate (λ q. get_or (lanes q) k d) m p ∙ ap (λ v. replicate m v) one)
 
 module _ {T M : Type 0} (height : M → ℕ) (row : M → ℕ → List T) (h r : ℕ) where
   -- the rows of one more matrix
-  pub rows_append : (ms more : List M) → rows_of_height height row h r (ms ++ more) ≡ rows_of_height height row h r ms ++ rows_of_height height row h r more
+  pub rows_append : (ms more : List M) → rows_of_height height row h r (ms ++ more)
+      ≡ rows_of_height height row h r ms ++ rows_of_height height row h r more
   rows_append [] more = refl
   rows_append (m ∷ ms) more =
-      ap (λ l. cond (height m == h) (row m r) [] ++ l) (rows_append ms more) ∙ sym (append_assoc (cond (height m == h) (row m r) []) (rows_of_height height row h r ms) (rows_of_height height row h r more))
+      ap (λ l. cond (height m == h) (row m r) [] ++ l) (rows_append ms more)
+      ∙ sym (append_assoc (cond (height m == h) (row m r) []) (rows_of_height height row h r ms)
+      (rows_of_height height row h r more))
 
   rows_take_more : (ms : List M) (i : ℕ) (m : M) → i < length ms → m ≡ get_or ms i m →
-      rows_of_height height row h r (take (i + 1) ms) ≡ rows_of_height height row h r (take i ms) ++ cond (height m == h) (row m r) []
+      rows_of_height height row h r (take (i + 1) ms) ≡ rows_of_height height row h r (take i ms)
+      ++ cond (height m == h) (row m r) []
   rows_take_more ms i m inside is =
       ap (rows_of_height height row h r) (take_more ms i m inside ∙ ap (λ x. take i ms ++ x ∷ []) (sym is))
       ∙ rows_append (take i ms) (m ∷ [])
@@ -113,10 +138,12 @@ module _ {T M : Type 0} (height : M → ℕ) (row : M → ℕ → List T) (h r :
   -- and where it has not
   pub row_passed : (ms : List M) (i : ℕ) (m : M) → i < length ms → m ≡ get_or ms i m → (height m ≡ h → ⊥) →
       rows_of_height height row h r (take (i + 1) ms) ≡ rows_of_height height row h r (take i ms)
-  row_passed ms i m inside is other = rows_take_more ms i m inside is ∙ rw (ne_eqb (height m) h other) (append-nil (rows_of_height height row h r (take i ms)))
+  row_passed ms i m inside is other = rows_take_more ms i m inside is
+      ∙ rw (ne_eqb (height m) h other) (append-nil (rows_of_height height row h r (take i ms)))
 
 -- the words of one more piece, written in place i
-pub piece_more : {X A : Type 0} (words : X → List A) (pieces : List X) (i : ℕ) (piece : X) → i < length pieces → flat_map words (take (i + 1) (set pieces i piece)) ≡ flat_map words (take i pieces) ++ words piece
+pub piece_more : {X A : Type 0} (words : X → List A) (pieces : List X) (i : ℕ) (piece : X) → i < length pieces →
+    flat_map words (take (i + 1) (set pieces i piece)) ≡ flat_map words (take i pieces) ++ words piece
 piece_more words pieces i piece inside =
     ap (flat_map words) (take_more_set pieces i piece inside)
     ∙ flat_map-append words (take i pieces) (piece ∷ [])
@@ -129,11 +156,15 @@ one_element (y ∷ []) x h is = ap (λ z. z ∷ []) (sym is)
 one_element (y ∷ z ∷ ys) x h is = absurd (omega arith)
 
 -- one matrix alone gives its own row
-pub rows_alone : {T M : Type 0} (height : M → ℕ) (row : M → ℕ → List T) (h j : ℕ) (ms : List M) (m : M) → length ms ≡ 1 → m ≡ get_or ms 0 m → height m ≡ h → rows_of_height height row h j ms ≡ row m j
-rows_alone height row h j ms m one is same = rw (one_element ms m one is, eq-eqb (height m) h same) (append-nil (row m j))
+pub rows_alone : {T M : Type 0} (height : M → ℕ) (row : M → ℕ → List T) (h j : ℕ) (ms : List M) (m : M) → length ms
+    ≡ 1 → m ≡ get_or ms 0 m → height m ≡ h → rows_of_height height row h j ms ≡ row m j
+rows_alone height row h j ms m one is same =
+    rw (one_element ms m one is, eq-eqb (height m) h same) (append-nil (row m j))
 
--- an array of arrays of s bytes each fits, where the product of the numbers is small as code has it, which caps what is too large
-pub array_small : (outer inner s : ℕ) → min (outer * min (inner * capped s) (2 ^ 64 - 1)) (2 ^ 64 - 1) < 2 ^ 63 → outer * (inner * s) < 2 ^ 63
+-- an array of arrays of s bytes each fits, where the product of the numbers is small as code has it, which caps what is
+-- too large
+pub array_small : (outer inner s : ℕ) → min (outer * min (inner * capped s) (2 ^ 64 - 1)) (2 ^ 64 - 1) < 2 ^ 63 →
+    outer * (inner * s) < 2 ^ 63
 array_small outer inner s h =
     elim (cases_eq outer 0) [
       | inl none ↦ rw none (omega arith)
@@ -148,7 +179,8 @@ array_small outer inner s h =
                 let size : s < 2 ^ 63 = capped_small s (omega (arith, one, small)) in
                 let is : capped s ≡ s = capped_is s (omega (arith, size)) in
                 let all : min (outer * min (inner * s) (2 ^ 64 - 1)) (2 ^ 64 - 1) < 2 ^ 63 = rw is at h in
-                let same : min (inner * s) (2 ^ 64 - 1) ≡ inner * s = let few : inner * s < 2 ^ 63 = rw is at small in omega arith in
+                let same : min (inner * s) (2 ^ 64 - 1) ≡ inner * s = let few : inner * s < 2 ^ 63 = rw is at small in
+                omega arith in
                 let whole : min (outer * (inner * s)) (2 ^ 64 - 1) < 2 ^ 63 = rw same at all in
                 omega arith
           ]
@@ -162,7 +194,8 @@ capped_le s = elim (cases_lt s (2 ^ 64)) [
 ]
 
 -- and it is small where the array fits
-pub array_fits : (outer inner s : ℕ) → outer * (inner * s) < 2 ^ 63 → min (outer * min (inner * capped s) (2 ^ 64 - 1)) (2 ^ 64 - 1) < 2 ^ 63
+pub array_fits : (outer inner s : ℕ) → outer * (inner * s) < 2 ^ 63 →
+    min (outer * min (inner * capped s) (2 ^ 64 - 1)) (2 ^ 64 - 1) < 2 ^ 63
 array_fits outer inner s h =
     let part : ℕ = min (inner * capped s) (2 ^ 64 - 1) in
     let size : inner * capped s ≤ inner * s = mul-le-mul_left inner (capped_le s) in
@@ -171,4 +204,5 @@ array_fits outer inner s h =
 
 -- so the inner array fits, where there is one
 pub inner_small : (outer inner s : ℕ) → 0 < outer → outer * (inner * s) < 2 ^ 63 → inner * s < 2 ^ 63
-inner_small outer inner s some h = let more : 1 * (inner * s) ≤ outer * (inner * s) = mul-le-mul_right (inner * s) (omega arith) in omega arith
+inner_small outer inner s some h = let more : 1 * (inner * s) ≤ outer * (inner * s) =
+    mul-le-mul_right (inner * s) (omega arith) in omega arith

@@ -15,7 +15,8 @@ use Rattle.p3_merkle_lanes.proofs.LaneFacts.{part_written, part_before, rows_alo
 use borrow.Rule.Slice.PartMut.{put_mid, same_len_mid}
 
 -- messages that are there stay
-message_kept : {A : Type 0} (xs ys : List A) (w i j : ℕ) → length xs ≡ i * w → j < i → message w (xs ++ ys) j ≡ message w xs j
+message_kept : {A : Type 0} (xs ys : List A) (w i j : ℕ) → length xs ≡ i * w → j < i → message w (xs ++ ys) j
+    ≡ message w xs j
 message_kept xs ys w i j long below =
     let fits : (j + 1) * w ≤ i * w = mul-le-mul_right w (omega arith) in
     let more = next_start j w in
@@ -36,13 +37,15 @@ pub record IsStagedTo {A : Type 0} (f : ℕ → List A) (w i : ℕ) (xs : List A
   pub each : (j : ℕ) → j < i → message w xs j ≡ f j
 
 -- one more message
-pub staged_more : {A : Type 0} (f : ℕ → List A) (xs ys : List A) (w i : ℕ) → IsStagedTo f w i xs → length ys ≡ w → ys ≡ f i → IsStagedTo f w (i + 1) (xs ++ ys)
+pub staged_more : {A : Type 0} (f : ℕ → List A) (xs ys : List A) (w i : ℕ) → IsStagedTo f w i xs → length ys ≡ w → ys
+    ≡ f i → IsStagedTo f w (i + 1) (xs ++ ys)
 staged_more f xs ys w i s width is =
     record {
       long = omega (arith, length-append xs ys, s.long, next_start i w, width);
       each = λ j below. elim (cases_eq j i) [
         | inl same ↦ rw same (message_new xs ys w i s.long width ∙ is)
-        | inr other ↦ let low : j < i = omega (arith, below, other) in message_kept xs ys w i j s.long low ∙ s.each j low
+        | inr other ↦ let low : j < i = omega (arith, below, other) in message_kept xs ys w i j s.long low
+            ∙ s.each j low
       ];
     }
 
@@ -52,22 +55,28 @@ staged_all f xs w i n s e =
     record {
       width = w;
       long = s.long ∙ ap (λ k. k * w) e ∙ mul_comm n w;
-      are = fill_by_all f (messages w n xs) n [] (length-map-range_with_len (message w xs) 0 n) (λ k h. get_or-map-range_with_len (message w xs) 0 n k k [] h (omega arith) ∙ s.each k (omega arith));
+      are = fill_by_all f (messages w n xs) n [] (length-map-range_with_len (message w xs) 0 n)
+          (λ k h. get_or-map-range_with_len (message w xs) 0 n k k [] h (omega arith) ∙ s.each k (omega arith));
     }
 
 -- one more number at the end
 range_more : (a n : ℕ) → range_with_len a (suc n) ≡ range_with_len a n ++ (a + n) ∷ []
 range_more a zero = ap (λ k. k ∷ []) (omega arith)
-range_more a (suc n) = ap (λ l. a ∷ l) (range_more (a + 1) n ∙ ap (λ k. range_with_len (a + 1) n ++ k ∷ []) (omega arith))
+range_more a (suc n) =
+    ap (λ l. a ∷ l) (range_more (a + 1) n ∙ ap (λ k. range_with_len (a + 1) n ++ k ∷ []) (omega arith))
 
 -- rows that stand one after another as they are
-staged_rows : {A : Type 0} (row f : ℕ → List A) (w a n : ℕ) → ((j : ℕ) → j < n → length (row (a + j)) ≡ w) → ((j : ℕ) → j < n → row (a + j) ≡ f j) → IsStagedTo f w n (flat_map row (range_with_len a n))
+staged_rows : {A : Type 0} (row f : ℕ → List A) (w a n : ℕ) → ((j : ℕ) → j < n → length (row (a + j)) ≡ w) →
+    ((j : ℕ) → j < n → row (a + j) ≡ f j) → IsStagedTo f w n (flat_map row (range_with_len a n))
 staged_rows row f w a zero long are = record { long = omega arith; each = λ j none. absurd (omega (arith, none)) }
 staged_rows row f w a (suc n) long are =
     let ys = flat_map row (range_with_len a n) in
     let before = staged_rows row f w a n (λ j h. long j (omega (arith, h))) (λ j h. are j (omega (arith, h))) in
-    let words : flat_map row (range_with_len a (suc n)) ≡ ys ++ row (a + n) = ap (flat_map row) (range_more a n) ∙ sym (flat_map_more row [] (range_with_len a n) (a + n)) in
-    let more : IsStagedTo f w (suc n) (ys ++ row (a + n)) = subst (λ (k : ℕ). IsStagedTo f w k (ys ++ row (a + n))) (add-one n) (staged_more f ys (row (a + n)) w n before (long n (omega arith)) (are n (omega arith))) in
+    let words : flat_map row (range_with_len a (suc n)) ≡ ys ++ row (a + n) = ap (flat_map row) (range_more a n)
+    ∙ sym (flat_map_more row [] (range_with_len a n) (a + n)) in
+    let more : IsStagedTo f w (suc n) (ys ++ row (a + n)) =
+    subst (λ (k : ℕ). IsStagedTo f w k (ys ++ row (a + n))) (add-one n)
+    (staged_more f ys (row (a + n)) w n before (long n (omega arith)) (are n (omega arith))) in
     rw words more
 
 module _ {A M : Type 0} (height width : M → ℕ) (row : M → ℕ → List A) (h : ℕ) where
@@ -77,21 +86,31 @@ module _ {A M : Type 0} (height width : M → ℕ) (row : M → ℕ → List A) 
   all_widths (m ∷ ms) = cond (height m == h) (width m) 0 + all_widths ms
 
   -- their rows have as many elements
-  pub length-rows : ((m : M) (r : ℕ) → r < height m → length (row m r) ≡ width m) → (r : ℕ) → r < h → (ms : List M) → length (rows_of_height height row h r ms) ≡ all_widths ms
+  pub length-rows : ((m : M) (r : ℕ) → r < height m → length (row m r) ≡ width m) → (r : ℕ) → r < h → (ms : List M) →
+      length (rows_of_height height row h r ms) ≡ all_widths ms
   length-rows each r below [] = refl
   length-rows each r below (m ∷ ms) =
       let rest = length-rows each r below ms in
       elim (cases_Bool (height m == h)) [
-        | inl same ↦ rw same (omega (arith, length-append (row m r) (rows_of_height height row h r ms), each m r (rw (eqb-true (height m) h same) below), rest))
+        | inl same ↦ rw same
+            (omega (
+              arith,
+              length-append (row m r) (rows_of_height height row h r ms),
+              each m r (rw (eqb-true (height m) h same) below),
+              rest,
+            ))
         | inr other ↦ rw other (omega (arith, rest))
       ]
 
 -- those of a matrix that stands alone
-pub staged_alone : {A M : Type 0} (height width : M → ℕ) (row : M → ℕ → List A) (h a n : ℕ) (ms : List M) (m : M) (xs : List A) → ((m : M) (r : ℕ) → r < height m → length (row m r) ≡ width m)
-    → length ms ≡ 1 → m ≡ get_or ms 0 m → height m ≡ h → a + n ≤ h → xs ≡ flat_map (row m) (range_with_len a n) → IsStaged (λ j. rows_of_height height row h (a + j) ms) n xs
+pub staged_alone : {A M : Type 0} (height width : M → ℕ) (row : M → ℕ → List A) (h a n : ℕ) (ms : List M) (m : M)
+    (xs : List A) → ((m : M) (r : ℕ) → r < height m → length (row m r) ≡ width m)
+    → length ms ≡ 1 → m ≡ get_or ms 0 m → height m ≡ h → a + n ≤ h → xs ≡ flat_map (row m) (range_with_len a n) →
+    IsStaged (λ j. rows_of_height height row h (a + j) ms) n xs
 staged_alone height width row h a n ms m xs each one is same inside words =
     let f = λ (j : ℕ). rows_of_height height row h (a + j) ms in
-    let staged = staged_rows (row m) f (width m) a n (λ j below. each m (a + j) (omega (arith, same, below, inside))) (λ j below. sym (rows_alone height row h (a + j) ms m one is same)) in
+    let staged = staged_rows (row m) f (width m) a n (λ j below. each m (a + j) (omega (arith, same, below, inside)))
+    (λ j below. sym (rows_alone height row h (a + j) ms m one is same)) in
     rw words (staged_all f (flat_map (row m) (range_with_len a n)) (width m) n n staged refl)
 
 -- a list made by index has its length
@@ -99,7 +118,8 @@ pub made_long : {X : Type 0} (f : ℕ → X) (n : ℕ) (xs : List X) → xs ≡ 
 made_long f n xs is = ap length is ∙ length-map-range_with_len f 0 n
 
 -- one more part of slots is written
-pub part_more : {X : Type 0} (f : ℕ → X) (xs ys : List X) (a k n : ℕ) (d : X) → length ys ≡ n → ((j : ℕ) → j < n → get_or ys j d ≡ f (a + j)) → a ≤ length xs
+pub part_more : {X : Type 0} (f : ℕ → X) (xs ys : List X) (a k n : ℕ) (d : X) → length ys ≡ n →
+    ((j : ℕ) → j < n → get_or ys j d ≡ f (a + j)) → a ≤ length xs
     → ((j : ℕ) → j < a → get_or xs j d ≡ f j) → (j : ℕ) → j < a + n → get_or (put_mid a k xs ys) j d ≡ f j
 part_more f xs ys a k n d long made inside before j below =
     elim (cases_lt j a) [
@@ -107,11 +127,13 @@ part_more f xs ys a k n d long made inside before j below =
       | inr high ↦
           let inner : j - a < n = omega arith in
           let at : j ≡ a + (j - a) = omega arith in
-          ap (λ i. get_or (put_mid a k xs ys) i d) at ∙ part_written xs ys a k n (j - a) d long inside inner ∙ made (j - a) inner ∙ ap f (sym at)
+          ap (λ i. get_or (put_mid a k xs ys) i d) at ∙ part_written xs ys a k n (j - a) d long inside inner
+          ∙ made (j - a) inner ∙ ap f (sym at)
     ]
 
 -- what stands behind a part stays
-pub part_after : {X : Type 0} (xs ys : List X) (a k j : ℕ) (d : X) → length ys ≡ k → a ≤ length xs → a + k ≤ j → get_or (put_mid a k xs ys) j d ≡ get_or xs j d
+pub part_after : {X : Type 0} (xs ys : List X) (a k j : ℕ) (d : X) → length ys ≡ k → a ≤ length xs → a + k ≤ j →
+    get_or (put_mid a k xs ys) j d ≡ get_or xs j d
 part_after xs ys a k j d long inside behind =
     get_or-append_right (take a xs) (ys ++ drop k (drop a xs)) a j d (length-take-le a xs inside) (omega arith)
     ∙ get_or-append_right ys (drop k (drop a xs)) k (j - a) d long (omega arith)
@@ -120,7 +142,8 @@ part_after xs ys a k j d long inside behind =
     ∙ ap (λ i. get_or xs i d) (omega arith)
 
 -- a chunk is the elements from its start on
-pub chunk_at : {X : Type 0} (n k : ℕ) (xs : List X) (j : ℕ) → j < k → get_or (first_chunks n k xs) j [] ≡ take n (drop (n * j) xs)
+pub chunk_at : {X : Type 0} (n k : ℕ) (xs : List X) (j : ℕ) → j < k → get_or (first_chunks n k xs) j []
+    ≡ take n (drop (n * j) xs)
 chunk_at n zero xs j below = absurd (omega arith)
 chunk_at n (suc k) xs zero below = let none : n * 0 ≡ 0 = omega arith in rw none refl
 chunk_at n (suc k) xs (suc j) below =
@@ -129,14 +152,19 @@ chunk_at n (suc k) xs (suc j) below =
     ∙ ap (λ i. take n (drop i xs)) (let next = mul-suc n j in omega (arith, next))
 
 -- one more part is written, each slot with what it should have
-pub fill_part : {W : Type 0} (f made : ℕ → List W) (xs ys : List (List W)) (a k n len : ℕ) → k ≡ n → a + n ≤ length xs → ys ≡ map made (range_with_len 0 (length (take k (drop a xs)))) →
+pub fill_part : {W : Type 0} (f made : ℕ → List W) (xs ys : List (List W)) (a k n len : ℕ) → k ≡ n → a + n ≤ length xs →
+    ys ≡ map made (range_with_len 0 (length (take k (drop a xs)))) →
     ((j : ℕ) → j < n → made j ≡ f (a + j)) → IsFilled f a len xs → IsFilled f (a + n) len (put_mid a k xs ys)
 fill_part f made xs ys a k n len same inside is each before =
-    let part : length (take k (drop a xs)) ≡ n = length-take-le k (drop a xs) (omega (arith, length-drop a xs)) ∙ same in
-    let long : length ys ≡ length (take k (drop a xs)) = ap length is ∙ length-map-range_with_len made 0 (length (take k (drop a xs))) in
+    let part : length (take k (drop a xs)) ≡ n = length-take-le k (drop a xs) (omega (arith, length-drop a xs))
+    ∙ same in
+    let long : length ys ≡ length (take k (drop a xs)) = ap length is
+    ∙ length-map-range_with_len made 0 (length (take k (drop a xs))) in
     record {
       long = same_len_mid a k xs ys long ∙ before.long;
-      filled = part_more f xs ys a k n [] (long ∙ part) (λ j h. ap (λ l. get_or l j []) is ∙ get_or-map-range_with_len made 0 (length (take k (drop a xs))) j j [] (omega (arith, part, h)) (omega arith) ∙ each j h) (omega arith) before.filled;
+      filled = part_more f xs ys a k n [] (long ∙ part) (λ j h. ap (λ l. get_or l j []) is
+          ∙ get_or-map-range_with_len made 0 (length (take k (drop a xs))) j j [] (omega (arith, part, h)) (omega arith)
+          ∙ each j h) (omega arith) before.filled;
     }
 
 -- one more part of digests is compressed once more with the digests of rows
@@ -145,20 +173,27 @@ module _ {W : Type 0} (C : List (List W) → List W) (pad rows old : List (List 
   joined j = C (get_or old j [] ∷ get_or rows j [] ∷ pad)
 
   pub join_more : (xs ys : List (List W)) (a k n : ℕ) → k ≡ n → a + n ≤ length rows → a + n ≤ length xs →
-      ys ≡ map C (map (λ j. get_or (take k (drop a xs)) j [] ∷ get_or (take k (drop a rows)) j [] ∷ pad) (range_with_len 0 (length (take k (drop a xs))))) →
+      ys ≡ map C (map (λ j. get_or (take k (drop a xs)) j [] ∷ get_or (take k (drop a rows)) j [] ∷ pad)
+      (range_with_len 0 (length (take k (drop a xs))))) →
       IsFilled joined a (length old) xs → ((j : ℕ) → a ≤ j → get_or xs j [] ≡ get_or old j []) →
-      IsFilled joined (a + n) (length old) (put_mid a k xs ys) × ((j : ℕ) → a + n ≤ j → get_or (put_mid a k xs ys) j [] ≡ get_or old j [])
+      IsFilled joined (a + n) (length old) (put_mid a k xs ys) ×
+      ((j : ℕ) → a + n ≤ j → get_or (put_mid a k xs ys) j [] ≡ get_or old j [])
   join_more xs ys a k n same few inside is before behind =
       let group = λ (j : ℕ). get_or (take k (drop a xs)) j [] ∷ get_or (take k (drop a rows)) j [] ∷ pad in
       let made = λ (j : ℕ). C (group j) in
       let part : length (take k (drop a xs)) ≡ k = length-take-le k (drop a xs) (omega (arith, length-drop a xs)) in
-      let all : ys ≡ map made (range_with_len 0 (length (take k (drop a xs)))) = is ∙ map-map C group (range_with_len 0 (length (take k (drop a xs)))) in
+      let all : ys ≡ map made (range_with_len 0 (length (take k (drop a xs)))) = is
+      ∙ map-map C group (range_with_len 0 (length (take k (drop a xs)))) in
       let each : (j : ℕ) → j < n → made j ≡ joined (a + j) = λ j h.
       let low : j < k = omega arith in
-      let left : get_or (take k (drop a xs)) j [] ≡ get_or old (a + j) [] = get_or-take k (drop a xs) j [] low ∙ get_or-drop a xs j [] ∙ behind (a + j) (omega arith) in
-      let right : get_or (take k (drop a rows)) j [] ≡ get_or rows (a + j) [] = get_or-take k (drop a rows) j [] low ∙ get_or-drop a rows j [] in
-      ap (λ x. C (x ∷ get_or (take k (drop a rows)) j [] ∷ pad)) left ∙ ap (λ x. C (get_or old (a + j) [] ∷ x ∷ pad)) right in
-      let long : length ys ≡ k = ap length all ∙ length-map-range_with_len made 0 (length (take k (drop a xs))) ∙ part in (
+      let left : get_or (take k (drop a xs)) j [] ≡ get_or old (a + j) [] = get_or-take k (drop a xs) j [] low
+      ∙ get_or-drop a xs j [] ∙ behind (a + j) (omega arith) in
+      let right : get_or (take k (drop a rows)) j [] ≡ get_or rows (a + j) [] = get_or-take k (drop a rows) j [] low
+      ∙ get_or-drop a rows j [] in
+      ap (λ x. C (x ∷ get_or (take k (drop a rows)) j [] ∷ pad)) left
+      ∙ ap (λ x. C (get_or old (a + j) [] ∷ x ∷ pad)) right in
+      let long : length ys ≡ k = ap length all ∙ length-map-range_with_len made 0 (length (take k (drop a xs)))
+      ∙ part in (
         fill_part joined made xs ys a k n (length old) same inside all each before,
         λ j past. part_after xs ys a k j [] long (omega arith) (omega arith) ∙ behind j (omega arith),
       )
@@ -168,12 +203,16 @@ pub below_quotient : (n j m : ℕ) → 0 < n → n * suc j ≤ m → j < m / n
 below_quotient n j m some fits =
     elim (cases_lt j (m / n)) [
       | inl low ↦ low
-      | inr high ↦ let more : n * (m / n) ≤ n * j = mul-le-mul_left n high in absurd (omega (arith, more, mul-suc n j, fits))
+      | inr high ↦ let more : n * (m / n) ≤ n * j = mul-le-mul_left n high in
+          absurd (omega (arith, more, mul-suc n j, fits))
     ]
 
 -- where a node has as many children as a group has places, the group is its children
-pub group_whole : {W : Type 0} (C : List (List W) → List W) (n k step j : ℕ) (below : List (List W)) (groups : List (List (List W))) (d : List W) → step ≡ n → groups ≡ first_chunks n k below → j < k →
+pub group_whole : {W : Type 0} (C : List (List W) → List W) (n k step j : ℕ) (below : List (List W))
+    (groups : List (List (List W))) (d : List W) → step ≡ n → groups ≡ first_chunks n k below → j < k →
     C (get_or groups j []) ≡ C (take step (drop (step * j) below) ++ replicate (n - step) d)
 group_whole C n k step j below groups d same are inside =
     let none : n - n ≡ 0 = omega arith in
-    rw (same, none) (ap C (ap (λ gs. get_or gs j []) are ∙ chunk_at n k below j inside ∙ sym (append-nil (take n (drop (n * j) below)))))
+    rw (same, none)
+    (ap C (ap (λ gs. get_or gs j []) are ∙ chunk_at n k below j inside
+    ∙ sym (append-nil (take n (drop (n * j) below)))))

@@ -94,8 +94,8 @@ fn stage_rows<T: Copy, M: Matrix<T>>(
     Ok(())
 }
 
-/// The rows of the one matrix that there is, `count` of them from `first` on, if it has this height and lends them in one
-/// piece.
+/// The rows of the one matrix that there is, `count` of them from `first` on, if it has this height and lends them in
+/// one piece.
 pub(crate) fn lone_rows<T, M: Matrix<T>>(
     matrices: &[M],
     height: usize,
@@ -130,7 +130,8 @@ fn hash_rows<
 ) -> Result<(), AllocError>
     requires { first + length slots.old ≤ height }
     ensures { IfOk result (λ done. slots.new
-        ≡ map (λ j. H.hash hash.now (rows_of_height M.height_of M.row_of height (first + j) matrices.now)) (range_with_len 0 (length slots.old))) }
+        ≡ map (λ j. H.hash hash.now (rows_of_height M.height_of M.row_of height (first + j) matrices.now))
+        (range_with_len 0 (length slots.old))) }
 {
     if let Some(words) = lone_rows(matrices, height, first, slots.len()) {
         hash.hash_many(words, slots);
@@ -187,8 +188,8 @@ pub fn write_batched_leaves<
     Ok(())
 }
 
-/// Writes the compressions of whole groups of a layer into the first `count` slots: slot `j` is that of group `j`. There
-/// are at least `count` groups, and as many slots.
+/// Writes the compressions of whole groups of a layer into the first `count` slots: slot `j` is that of group `j`.
+/// There are at least `count` groups, and as many slots.
 pub fn compress_groups_batched<
     PW: PackedValue,
     C: PseudoCompressionFunction<PW, N, D>,
@@ -214,7 +215,8 @@ fn stage_pairs<W: Copy, const N: usize, const D: usize>(
     requires pair { 2 ≤ N }
     requires same { length rows.now ≡ length folded.now }
     ensures { IfOk result (λ done. pairs.new.items
-        ≡ map (λ j. slice_index_or folded.now j [] ∷ slice_index_or rows.now j [] ∷ replicate (N - 2) default_digest) (range_with_len 0 (length folded.now))) }
+        ≡ map (λ j. slice_index_or folded.now j [] ∷ slice_index_or rows.now j [] ∷ replicate (N - 2) default_digest)
+        (range_with_len 0 (length folded.now))) }
 {
     pairs.clear();
     for (j, digest) in folded.iter().enumerate() {
@@ -225,8 +227,8 @@ fn stage_pairs<W: Copy, const N: usize, const D: usize>(
 }
 
 /// Compresses digests once more, each with the digest of its rows and default digests behind them: slot `j` with
-/// `rows[j]`, as many a call as [`rows_per_call`] says. There are no more rows than slots, and `pairs` is the buffer that
-/// groups are laid in.
+/// `rows[j]`, as many a call as [`rows_per_call`] says. There are no more rows than slots, and `pairs` is the buffer
+/// that groups are laid in.
 ///
 /// # Errors
 ///
@@ -246,7 +248,8 @@ pub fn inject_row_digests<
     requires pair { 2 ≤ N }
     requires rows { length rows.now ≤ length slots.old }
     ensures { let joined = λ (j : ℕ). C.compression compress.now
-        (slice_index_or slots.old j [] ∷ slice_index_or rows.now j [] ∷ replicate (N - 2) (replicate D PW.default_value)) in
+        (slice_index_or slots.old j [] ∷ slice_index_or rows.now j []
+        ∷ replicate (N - 2) (replicate D PW.default_value)) in
         IfOk result (λ done. IsFilled joined (length rows.now) (length slots.old) slots.new) }
 {
     let default_digest = [PW::Value::default(); D];

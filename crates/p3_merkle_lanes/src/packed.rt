@@ -13,7 +13,8 @@ use p3_support::matrix::Matrix;
 use p3_support::packed::{PackedValue, tell_row, unpack_at};
 use std::alloc::{AllocError, Global};
 
-/// Whether an array of `outer` arrays of `inner` values each has fewer than 2^63 bytes, as each value has that is moved.
+/// Whether an array of `outer` arrays of `inner` values each has fewer than 2^63 bytes, as each value has that is
+/// moved.
 fn array_fits<T>(item: &T, outer: usize, inner: usize) -> bool
     ensures small { IsTrue result → outer * (inner * type_size T.row) < 2 ^ 63 }
     ensures fits { outer * (inner * type_size T.row) < 2 ^ 63 → IsTrue result }
@@ -22,8 +23,8 @@ fn array_fits<T>(item: &T, outer: usize, inner: usize) -> bool
     bytes < 0x8000_0000_0000_0000
 }
 
-/// How many groups of as many slots as there are lanes are filled lane by lane, of `count` slots: none where a slot would
-/// be a group, or a packed group of children would be too large for any memory.
+/// How many groups of as many slots as there are lanes are filled lane by lane, of `count` slots: none where a slot
+/// would be a group, or a packed group of children would be too large for any memory.
 pub fn packed_groups<PW: PackedValue, const N: usize, const D: usize>(count: usize) -> usize
     requires { 0 < N }
     ensures count { result * PW.WIDTH ≤ count }
@@ -92,8 +93,8 @@ fn packed_row_digest<
 }
 
 /// The digests of rows of the matrices of this height, one matrix after another, from `row` on: lane `k` is that of the
-/// rows `row + k`, for each lane that both packings have. As many rows as `P` has lanes are below the height. The rows of
-/// several matrices are staged first.
+/// rows `row + k`, for each lane that both packings have. As many rows as `P` has lanes are below the height. The rows
+/// of several matrices are staged first.
 ///
 /// # Errors
 ///
@@ -128,8 +129,8 @@ pub fn packed_rows_digest<
 }
 
 /// Writes the digests of the rows of the matrices of this height into the first slots: `groups` groups, each of as many
-/// slots as there are lanes. Both packings have equally many lanes, and these slots are no more than there are, nor than
-/// the height.
+/// slots as there are lanes. Both packings have equally many lanes, and these slots are no more than there are, nor
+/// than the height.
 ///
 /// # Errors
 ///
@@ -210,8 +211,8 @@ fn packed_element<PW: PackedValue, const D: usize>(
     )
 }
 
-/// Child `n` of each node `first + k` over a layer, where each node has `step` children, has as many elements as its type
-/// says. It tells this alone, and does nothing.
+/// Child `n` of each node `first + k` over a layer, where each node has `step` children, has as many elements as its
+/// type says. It tells this alone, and does nothing.
 #[tactic(auto, using(crate::proofs::LaneFacts::child_below, crate::proofs::LaneFacts::node_below))]
 fn tell_lengths<PW: PackedValue, const D: usize>(
     below: &[[PW::Value; D]],
@@ -266,7 +267,8 @@ fn pack_children<PW: PackedValue, const D: usize>(
     requires inside { step * (first + PW.WIDTH) ≤ length below.now }
     ensures { (k : ℕ) → k < PW.WIDTH →
         map (lane_of PW.lanes PW.default_value k) places.new
-        ≡ take step (drop (step * (first + k)) below.now) ++ drop step (map (lane_of PW.lanes PW.default_value k) places.old) }
+        ≡ take step (drop (step * (first + k)) below.now)
+        ++ drop step (map (lane_of PW.lanes PW.default_value k) places.old) }
 {
     for n in 0..step {
         places[n] = packed_child(below, step, first, n);
@@ -305,8 +307,8 @@ fn packed_pair<PW: PackedValue, const N: usize, const D: usize>(
     group_with([PW::broadcast(PW::Value::default()); D], left, 0, &others)
 }
 
-/// The compressions of the children of the nodes from `first` on over a layer, with default digests behind them: lane `k`
-/// is that of node `first + k`.
+/// The compressions of the children of the nodes from `first` on over a layer, with default digests behind them: lane
+/// `k` is that of node `first + k`.
 pub fn compress_children_packed<
     PW: PackedValue,
     C: PseudoCompressionFunction<PW, N, D>,
@@ -318,7 +320,8 @@ pub fn compress_children_packed<
     requires inside { step * (first + PW.WIDTH) ≤ length below.now }
     ensures { (k : ℕ) → k < PW.WIDTH →
         lane_of PW.lanes PW.default_value k result
-        ≡ C.compression compress.now (take step (drop (step * (first + k)) below.now) ++ replicate (N - step) (replicate D PW.default_value)) }
+        ≡ C.compression compress.now (take step (drop (step * (first + k)) below.now)
+        ++ replicate (N - step) (replicate D PW.default_value)) }
 {
     compress.compress_packed(packed_children::<PW, N, D>(below, step, first))
 }
@@ -334,7 +337,8 @@ pub fn compress_pairs_packed<
     requires pair { 2 ≤ N }
     ensures { (k : ℕ) → k < PW.WIDTH →
         lane_of PW.lanes PW.default_value k result
-        ≡ C.compression compress.now (lane_of PW.lanes PW.default_value k left ∷ lane_of PW.lanes PW.default_value k right
+        ≡ C.compression compress.now
+        (lane_of PW.lanes PW.default_value k left ∷ lane_of PW.lanes PW.default_value k right
         ∷ replicate (N - 2) (replicate D PW.default_value)) }
 {
     compress.compress_packed(packed_pair::<PW, N, D>(left, right))

@@ -67,8 +67,8 @@ fn lend_rows<'a, T, M: Matrix<T>>(
     Some(count)
 }
 
-/// The digest of the rows `row` of the matrices of this height, one matrix after another, if they are few and each matrix
-/// lends its row. The row is below the height.
+/// The digest of the rows `row` of the matrices of this height, one matrix after another, if they are few and each
+/// matrix lends its row. The row is below the height.
 fn pieces_digest<
     P: PackedValue,
     PW: PackedValue,
@@ -137,8 +137,8 @@ fn hash_each<P: PackedValue, PW: PackedValue, H: CryptographicHasher<P, PW, D>, 
     }
 }
 
-/// Writes the digests of rows into the slots of their numbers, from slot `first` on, if there is one matrix, it has this
-/// height, and it lends its rows in one piece. The answer is how many slots are written then, those before `first`
+/// Writes the digests of rows into the slots of their numbers, from slot `first` on, if there is one matrix, it has
+/// this height, and it lends its rows in one piece. The answer is how many slots are written then, those before `first`
 /// among them.
 pub fn write_lent_leaves<
     P: PackedValue,

@@ -1,8 +1,8 @@
 //! The layers of a tree, one above the other.
 //!
-//! Each layer is allocated once, at its length, and filled from the first slot to the last: several slots at a time while
-//! there are enough, by calls that take many messages or lane by lane, and the others one by one. The matrices of its
-//! height are picked once, and its rows are read from those alone.
+//! Each layer is allocated once, at its length, and filled from the first slot to the last: several slots at a time
+//! while there are enough, by calls that take many messages or lane by lane, and the others one by one. The matrices of
+//! its height are picked once, and its rows are read from those alone.
 
 ghost use Rattle.std.specs.Prelude.{suc, take, drop, ◌≡◌, ℕ, ◌+◌, ◌-◌, ◌*◌, ◌<◌, ◌≤◌, ◌++◌, [], ◌∷◌, IfOk, List, map, filter, length, replicate, if◌then◌else◌, nat_lt, true, ◌==◌};
 ghost use Rattle.std.specs.List.{range_with_len};
@@ -17,9 +17,10 @@ ghost use Rattle.p3_merkle_layers.specs.Inner.Built.{IsBuilt};
 ghost use Rattle.p3_merkle_layers.specs.Inner.Levels.{layer_above, node_above, slot_above, CanBuild, CanRaise};
 ghost use Rattle.p3_merkle_lanes.specs.Inner.Slots.{leaf_over, IsFilled};
 
-use p3_merkle_core::geometry::{exponent_of, padded_len, tallest_of};
+use p3_merkle_core::geometry::padded_len;
 use p3_merkle_core::group::group_with;
-use p3_merkle_core::levels::{Level, level_above};
+use p3_merkle_core::levels::Level;
+use p3_merkle_core::steps::{Steps, steps_of};
 use p3_merkle_lanes::batched::{compress_groups_batched, inject_row_digests, write_batched_leaves};
 use p3_merkle_lanes::packed::{
     compress_children_packed, compress_pairs_packed, packed_groups, packed_rows_digest,
@@ -287,8 +288,8 @@ impl<
         Ok(compress_pairs_packed::<PW, C, N, D>(self.compress, folded, rows))
     }
 
-    /// Writes the nodes of the layer above a layer into the first slots: `groups` groups, each of as many slots as there
-    /// are lanes.
+    /// Writes the nodes of the layer above a layer into the first slots: `groups` groups, each of as many slots as
+    /// there are lanes.
     fn write_packed_nodes(
         &self,
         alloc: Global,
@@ -351,8 +352,8 @@ impl<
         Ok(())
     }
 
-    /// Writes the layer above a layer into as many of the first slots as are filled several at a time, and says how many
-    /// these are.
+    /// Writes the layer above a layer into as many of the first slots as are filled several at a time, and says how
+    /// many these are.
     fn write_nodes_together(
         &self,
         alloc: Global,
@@ -382,8 +383,8 @@ impl<
         Ok(groups * PW::WIDTH)
     }
 
-    /// Writes nodes into the slots of their numbers, from slot `done` on, if each has `N` children and no matrices belong to
-    /// the layer. The answer is how many slots are written then, those before `done` among them.
+    /// Writes nodes into the slots of their numbers, from slot `done` on, if each has `N` children and no matrices
+    /// belong to the layer. The answer is how many slots are written then, those before `done` among them.
     fn write_whole_nodes(
         &self,
         level: &Level,
@@ -425,7 +426,8 @@ impl<
             (length slots.old) slots.old }
         ensures { let f = functions_of (H.hash self.now.hash.now) (C.compression self.now.compress.now)
             (replicate D PW.default_value) in
-            slots.new ≡ map (slot_above f N M.height_of M.row_of self.now.matrices.now level.now below.now) (range_with_len 0 (length slots.old)) }
+            slots.new ≡ map (slot_above f N M.height_of M.row_of self.now.matrices.now level.now below.now)
+            (range_with_len 0 (length slots.old)) }
     {
         let done = self.write_whole_nodes(level, below, done, slots);
         for j in done..slots.len() {
@@ -512,12 +514,10 @@ impl<
     }
 
     /// The first layer alone.
-    fn bottom(
-        &self,
-        alloc: Global,
-        dimensions: &[Dimensions],
-    ) -> Result<Stack<[PW::Value; D]>, AllocError>
-        requires build { CanBuild (batch_of M.height_of M.width_of M.row_of N self.now.matrices.now) dimensions.now }
+    fn bottom(&self, alloc: Global, steps: &Steps<'_>) -> Result<Stack<[PW::Value; D]>, AllocError>
+        requires build { CanBuild (batch_of M.height_of M.width_of M.row_of N self.now.matrices.now)
+            steps.now.dimensions.now }
+        requires arity { steps.now.arity ≡ N }
         requires lanes { P.WIDTH ≡ PW.WIDTH }
         ensures { let f = functions_of (H.hash self.now.hash.now) (C.compression self.now.compress.now)
             (replicate D PW.default_value) in
@@ -525,14 +525,14 @@ impl<
             IfOk result (λ stack. IsBuilt f b stack.exponent stack.len
             (map (λ nodes. nodes.items) stack.layers.items) stack.arity_schedule.items) }
     {
-        let height = tallest_of(dimensions);
+        let height = steps.max_height;
         let layer = self.first_layer(alloc, height, padded_len(height, N))?;
         let mut layers = Vec::new(alloc);
         layers.push(layer)?;
         Ok(Stack {
             layers,
             arity_schedule: Vec::new(alloc),
-            exponent: exponent_of(height),
+            exponent: steps.exponent,
             len: height,
         })
     }
@@ -541,10 +541,12 @@ impl<
     fn raise(
         &self,
         alloc: Global,
-        dimensions: &[Dimensions],
+        steps: &Steps<'_>,
         stack: &Stack<[PW::Value; D]>,
     ) -> Result<(Level, Vec<[PW::Value; D]>), AllocError>
-        requires build { CanBuild (batch_of M.height_of M.width_of M.row_of N self.now.matrices.now) dimensions.now }
+        requires build { CanBuild (batch_of M.height_of M.width_of M.row_of N self.now.matrices.now)
+            steps.now.dimensions.now }
+        requires arity { steps.now.arity ≡ N }
         requires built { let f = functions_of (H.hash self.now.hash.now) (C.compression self.now.compress.now)
             (replicate D PW.default_value) in
             let b = batch_of M.height_of M.width_of M.row_of N self.now.matrices.now in
@@ -561,9 +563,9 @@ impl<
             IfOk result (λ made. made.1.items ≡ layer f b (suc made.0.below)) }
     {
         let below = stack.arity_schedule.len();
-        let level = level_above(dimensions, N, below, stack.exponent, stack.len);
+        let level = steps.level_above(below, stack.exponent, stack.len);
         let nodes = stack.layers[below].as_slice();
-        tell_children(dimensions, N, &level, nodes);
+        tell_children(steps.dimensions, N, &level, nodes);
         let layer = self.next_layer(alloc, &level, nodes)?;
         Ok((level, layer))
     }
@@ -583,9 +585,10 @@ impl<
         ensures arity_schedule { let b = batch_of M.height_of M.width_of M.row_of N self.now.matrices.now in
             IfOk result (λ made. made.arity_schedule.items ≡ schedule_of (shape b)) }
     {
-        let mut stack = self.bottom(alloc, dimensions)?;
+        let steps = steps_of(dimensions, N);
+        let mut stack = self.bottom(alloc, &steps)?;
         while stack.exponent > 0 {
-            let (level, layer) = self.raise(alloc, dimensions, &stack)?;
+            let (level, layer) = self.raise(alloc, &steps, &stack)?;
             stack.layers.push(layer)?;
             stack.arity_schedule.push(level.step)?;
             stack.exponent = level.exponent;

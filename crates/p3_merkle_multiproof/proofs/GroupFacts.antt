@@ -8,11 +8,13 @@ use Rattle.std.proofs.lemmas.Slice.Zip.{get_or-zip, length-zip}
 use Rattle.p3_support.specs.Shown.{row_lists, row_sets}
 
 -- one more of f 0, f 1 and so on
-pub one_more : {X : Type 0} (f : ℕ → X) (n : ℕ) (old new : List X) (x : X) → old ≡ map f (range_with_len 0 n) → new ≡ old ++ x ∷ [] → x ≡ f n → new ≡ map f (range_with_len 0 (n + 1))
+pub one_more : {X : Type 0} (f : ℕ → X) (n : ℕ) (old new : List X) (x : X) → old ≡ map f (range_with_len 0 n) → new
+    ≡ old ++ x ∷ [] → x ≡ f n → new ≡ map f (range_with_len 0 (n + 1))
 one_more f n old new x so_far pushed is = rw (pushed, so_far, is) (sym (map-range_with_len_more f 0 n n (omega arith)))
 
 -- one more of the elements of a list
-pub mapped_more : {X Y : Type 0} (f : X → Y) (xs : List X) (n : ℕ) (d : X) (old new : List Y) (y : Y) → n < length xs → old ≡ map f (take n xs) → new ≡ old ++ y ∷ [] → y ≡ f (get_or xs n d) →
+pub mapped_more : {X Y : Type 0} (f : X → Y) (xs : List X) (n : ℕ) (d : X) (old new : List Y) (y : Y) → n < length xs →
+    old ≡ map f (take n xs) → new ≡ old ++ y ∷ [] → y ≡ f (get_or xs n d) →
     new ≡ map f (take (n + 1) xs)
 mapped_more f xs n d old new y h so_far pushed is = rw (pushed, so_far, is) (sym (map_more f xs n d h))
 
@@ -20,12 +22,16 @@ pub pairs_long : {A B : Type 0} (xs : List A) (ys : List B) → length ys ≡ le
 pairs_long xs ys e = omega (arith, length-zip xs ys)
 
 -- one more pair
-pub pairs_more : {X Y : Type 0} (f : X × X → Y) (xs ys : List X) (n : ℕ) (old new : List Y) (z : Y) (x y : X) → n < length xs → n < length ys → x ≡ get_or xs n x → y ≡ get_or ys n y → old ≡ map f (take n (zip xs ys)) →
+pub pairs_more : {X Y : Type 0} (f : X × X → Y) (xs ys : List X) (n : ℕ) (old new : List Y) (z : Y) (x y : X) →
+    n < length xs → n < length ys → x ≡ get_or xs n x → y ≡ get_or ys n y → old ≡ map f (take n (zip xs ys)) →
     new ≡ old ++ z ∷ [] → z ≡ f (x, y) → new ≡ map f (take (n + 1) (zip xs ys))
 pairs_more f xs ys n old new z x y in_x in_y at_x at_y so_far pushed is =
-    let pair : get_or (zip xs ys) n (x, y) ≡ (x, y) = get_or-zip xs ys n (x, y) in_x in_y ∙ ap (λ a. (a, get_or ys n y)) (sym at_x) ∙ ap (λ b. (x, b)) (sym at_y) in
+    let pair : get_or (zip xs ys) n (x, y) ≡ (x, y) = get_or-zip xs ys n (x, y) in_x in_y
+    ∙ ap (λ a. (a, get_or ys n y)) (sym at_x) ∙ ap (λ b. (x, b)) (sym at_y) in
     mapped_more f (zip xs ys) n (x, y) old new z (omega (arith, length-zip xs ys)) so_far pushed (is ∙ ap f (sym pair))
 
 -- a row set that is read
-pub set_read : {T A B : Type 0} (rows : List (Vec (Vec T A) B)) (n : ℕ) (v : Vec (Vec T A) B) → n < length rows → v ≡ get_or rows n v → get_or (row_sets rows) n [] ≡ row_lists v.items
-set_read rows n v h e = get_or-map (λ (w : Vec (Vec _ _) _). row_lists w.items) rows n v [] h ∙ ap (λ (w : Vec (Vec _ _) _). row_lists w.items) (sym e)
+pub set_read : {T A B : Type 0} (rows : List (Vec (Vec T A) B)) (n : ℕ) (v : Vec (Vec T A) B) → n < length rows → v
+    ≡ get_or rows n v → get_or (row_sets rows) n [] ≡ row_lists v.items
+set_read rows n v h e = get_or-map (λ (w : Vec (Vec _ _) _). row_lists w.items) rows n v [] h
+    ∙ ap (λ (w : Vec (Vec _ _) _). row_lists w.items) (sym e)

@@ -6,13 +6,14 @@ use Rattle.p3_merkle_core.specs.Geometry.{Shape}
 use Rattle.p3_merkle_core.specs.Nodes.{Functions}
 use Rattle.p3_merkle_core.specs.Pruning.{PrunedOpening, value_of}
 use Rattle.p3_merkle_core.specs.declared.pruning.KeptLevel.{KeptLevel}
-use Rattle.p3_merkle_core.proofs.KeptFacts.{level_of}
+use Rattle.p3_merkle_core.proofs.Covered.KeptFacts.{level_of}
 use Rattle.p3_merkle_multiproof.specs.Inner.Walks.{AreKept, IsRestoredRise}
 use Rattle.p3_merkle_multiproof.specs.declared.queries.NextLevel.{NextLevel}
 use Rattle.p3_merkle_core.specs.Checks.{terms}
 
 -- none at first
-pub kept_none : {T W : Type 0} (f : Functions T W) (s : Shape) (t : ℕ) (p : PrunedOpening T W) (levels : List (KeptLevel (List W))) → levels ≡ [] → AreKept f s t p 0 levels
+pub kept_none : {T W : Type 0} (f : Functions T W) (s : Shape) (t : ℕ) (p : PrunedOpening T W)
+    (levels : List (KeptLevel (List W))) → levels ≡ [] → AreKept f s t p 0 levels
 kept_none f s t p levels is = record { levels_are = rw is refl }
 
 -- what a level shows
@@ -20,11 +21,19 @@ abbrev shown_level : {X : Type 0} → KeptLevel X → List ℕ × ℕ × List X
 shown_level level = (level.parents.items, level.step, level.children.items)
 
 -- one level more
-pub kept_next : {T W : Type 0} (f : Functions T W) (s : Shape) (t : ℕ) (p : PrunedOpening T W) (l : ℕ) (old new : List (KeptLevel (List W))) (level : KeptLevel (List W)) (next_level : NextLevel (List W)) (digests : List (List W)) →
-    AreKept f s t p l old → IsRestoredRise f s t p l next_level digests → new ≡ old ++ level ∷ [] → level.step ≡ next_level.step → level.parents.items ≡ next_level.above.nodes.items → level.children.items ≡ next_level.children.items →
+pub kept_next : {T W : Type 0} (f : Functions T W) (s : Shape) (t : ℕ) (p : PrunedOpening T W) (l : ℕ)
+    (old new : List (KeptLevel (List W))) (level : KeptLevel (List W)) (next_level : NextLevel (List W))
+    (digests : List (List W)) →
+    AreKept f s t p l old → IsRestoredRise f s t p l next_level digests → new ≡ old ++ level ∷ [] → level.step
+    ≡ next_level.step → level.parents.items ≡ next_level.above.nodes.items → level.children.items
+    ≡ next_level.children.items →
     AreKept f s t p (l + 1) new
 kept_next f s t p l old new level next_level digests k up is a b c =
     let z : 0 + l ≡ l = omega arith in
     let here = level_of s p.indices (value_of (terms f s t) p) in
-    let last : shown_level level ≡ here l = λ i. ((b ∙ up.above_are.stands.nodes_are) i, (a ∙ up.step_is) i, (c ∙ up.values_are) i) in
-    record { levels_are = ap (map shown_level) is ∙ map-append shown_level old (level ∷ []) ∙ rw (k.levels_are, last) (sym (map-range_with_len_more here 0 l l z)) }
+    let last : shown_level level
+    ≡ here l = λ i. ((b ∙ up.above_are.stands.nodes_are) i, (a ∙ up.step_is) i, (c ∙ up.values_are) i) in
+    record {
+      levels_are = ap (map shown_level) is ∙ map-append shown_level old (level ∷ [])
+          ∙ rw (k.levels_are, last) (sym (map-range_with_len_more here 0 l l z));
+    }

@@ -22,15 +22,16 @@ use p3_support::matrix::Dimensions;
 use p3_support::packed::PackedValue;
 use std::alloc::Global;
 
-/// Checks a pruned opening against the roots of a cap, which is layer `t`: whether its form is right, and the digests that
-/// its rows and the digests that were sent lead to are the roots of their places. `sets` has the rows of each query.
+/// Checks a pruned opening against the roots of a cap, which is layer `t`: whether its form is right, and the digests
+/// that its rows and the digests that were sent lead to are the roots of their places. `sets` has the rows of each
+/// query.
 ///
 /// `N` is a power of two from 2 to 2^62, and `t` is at most the number of levels.
 ///
 /// # Errors
 ///
-/// What [`check_pruned`] answers; else `CapMismatch` where a root is another, or is not there. `OutOfMemory` may come at any
-/// time.
+/// What [`check_pruned`] answers; else `CapMismatch` where a root is another, or is not there. `OutOfMemory` may come
+/// at any time.
 pub fn check_pruned_opening<
     P: PackedValue,
     PW: PackedValue,

@@ -127,8 +127,8 @@ fn differing_query<
     Ok(None)
 }
 
-/// The first pair of queries, by the first list, then by the second, whose checks differ at a place that both share: the
-/// place of each in its list, with the last such place.
+/// The first pair of queries, by the first list, then by the second, whose checks differ at a place that both share:
+/// the place of each in its list, with the last such place.
 ///
 /// # Errors
 ///
@@ -216,17 +216,17 @@ fn checked_queries<
     Ok(RestoredQueries { sets, paths })
 }
 
-/// What two pruned openings under the roots of a cap, which is layer `t`, lead to: nothing where the checks of all pairs of
-/// their queries agree, and else the first pair that differs, by the first list, then by the second: the place of each in
-/// its list, and the last place that both checks share and at which their inputs differ.
+/// What two pruned openings under the roots of a cap, which is layer `t`, lead to: nothing where the checks of all
+/// pairs of their queries agree, and else the first pair that differs, by the first list, then by the second: the place
+/// of each in its list, and the last place that both checks share and at which their inputs differ.
 ///
-/// `N` is a power of two from 2 to 2^62, and `t` is at most the number of levels. It takes the time of a check for each pair
-/// of queries.
+/// `N` is a power of two from 2 to 2^62, and `t` is at most the number of levels. It takes the time of a check for each
+/// pair of queries.
 ///
 /// # Errors
 ///
-/// What [`check_pruned_opening`] answers to the first opening, else what it answers to the second; `OutOfMemory` may come at any
-/// time.
+/// What [`check_pruned_opening`] answers to the first opening, else what it answers to the second; `OutOfMemory` may
+/// come at any time.
 pub fn extraction<
     P: PackedValue,
     PW: PackedValue,

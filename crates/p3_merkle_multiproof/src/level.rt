@@ -17,8 +17,8 @@ use p3_support::packed::PackedValue;
 use std::alloc::{AllocError, Global};
 use std::marker::PhantomData;
 
-/// The digests of the covered nodes of a layer of the exponent `x`: `children` has the values of their children, `step` of
-/// each, and `leads` a query under each, whose rows are hashed where matrices have that exponent.
+/// The digests of the covered nodes of a layer of the exponent `x`: `children` has the values of their children, `step`
+/// of each, and `leads` a query under each, whose rows are hashed where matrices have that exponent.
 ///
 /// # Errors
 ///

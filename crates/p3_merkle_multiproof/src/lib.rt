@@ -1,5 +1,6 @@
-//! The verifier's side of pruned openings: the digests of the covered nodes, layer by layer, out of the rows and the digests
-//! that are sent; the check against a cap; the restored paths; and what two such openings under one cap lead to.
+//! The verifier's side of pruned openings: the digests of the covered nodes, layer by layer, out of the rows and the
+//! digests that are sent; the check against a cap; the restored paths; and what two such openings under one cap lead
+//! to.
 #![tactic(auto)]
 
 pub mod check;

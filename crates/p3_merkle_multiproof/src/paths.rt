@@ -26,8 +26,8 @@ use p3_support::matrix::Dimensions;
 use p3_support::packed::PackedValue;
 use std::alloc::{AllocError, Global};
 
-/// The path of each query up to the cap's layer `t`, in query order, out of a pruned opening: the siblings are digests that
-/// were sent, or that its rows and these lead to. `sets` has the rows of each query. No cap is looked at.
+/// The path of each query up to the cap's layer `t`, in query order, out of a pruned opening: the siblings are digests
+/// that were sent, or that its rows and these lead to. `sets` has the rows of each query. No cap is looked at.
 ///
 /// `N` is a power of two from 2 to 2^62, and `t` is at most the number of levels.
 ///
@@ -99,12 +99,13 @@ fn kept_levels<
         (boundary (shape_of queries.now.arity queries.now.dimensions.now) queries.now.indices.now queries.now.t) }
     requires agreed { IsAgreed (shape_of queries.now.arity queries.now.dimensions.now) queries.now.t
         (pruned_of queries.now.indices.now (row_sets sets.now) sent.now) }
-    requires leaves { IsCoveredAt (shape_of queries.now.arity queries.now.dimensions.now) queries.now.indices.now 0 leaves }
+    requires leaves { IsCoveredAt (shape_of queries.now.arity queries.now.dimensions.now) queries.now.indices.now 0
+        leaves }
     ensures { let f = functions_of (H.hash checker.now.hash.now) (C.compression checker.now.compress.now)
         (replicate D PW.default_value) in
         let p = pruned_of queries.now.indices.now (row_sets sets.now) sent.now in
-        IfOk result (λ levels. AreKept f (shape_of queries.now.arity queries.now.dimensions.now) queries.now.t p queries.now.t
-        levels.items) }
+        IfOk result (λ levels. AreKept f (shape_of queries.now.arity queries.now.dimensions.now) queries.now.t p
+            queries.now.t levels.items) }
 {
     let mut covered = leaves;
     tell_leads(queries.indices, sets, &covered.leads);

@@ -87,8 +87,8 @@ impl<'a> Queries<'a> {
         Ok((step, above))
     }
 
-    /// The values of the children of the nodes of `above`, the covered nodes of the layer above `level`, which have `step`
-    /// children each: those of the covered nodes are `digests`, and the others were sent.
+    /// The values of the children of the nodes of `above`, the covered nodes of the layer above `level`, which have
+    /// `step` children each: those of the covered nodes are `digests`, and the others were sent.
     ///
     /// # Errors
     ///
@@ -120,8 +120,8 @@ impl<'a> Queries<'a> {
         children_of(alloc, &covered.nodes, digests, &above.nodes, step, left)
     }
 
-    /// The layer above `level`: its covered nodes, and the values of their children, which are `digests` for the covered
-    /// nodes of this layer, and were sent for the others.
+    /// The layer above `level`: its covered nodes, and the values of their children, which are `digests` for the
+    /// covered nodes of this layer, and were sent for the others.
     ///
     /// # Errors
     ///
@@ -143,9 +143,11 @@ impl<'a> Queries<'a> {
         ensures wide { IfOk result (λ next_level. 0 < next_level.step) }
         ensures narrow { IfOk result (λ next_level. next_level.step ≤ self.now.arity) }
         ensures among { IfOk result (λ next_level. All (λ k. k < length self.now.indices.now) next_level.above.leads.items) }
-        ensures groups { IfOk result (λ next_level. length next_level.above.leads.items ≡ length next_level.children.items / next_level.step) }
+        ensures groups { IfOk result (λ next_level. length next_level.above.leads.items
+            ≡ length next_level.children.items / next_level.step) }
         ensures next_level { let s = shape_of self.now.arity self.now.dimensions.now in
-            IfOk result (λ next_level. IsNextLevel s self.now.indices.now level covered.now digests.now sent.now next_level) }
+            IfOk result (λ next_level. IsNextLevel s self.now.indices.now level covered.now digests.now sent.now
+            next_level) }
     {
         let (step, above) = self.covered_above(alloc, level, covered)?;
         let children = self.children(alloc, level, covered, digests, step, &above, sent)?;

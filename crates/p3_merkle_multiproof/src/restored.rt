@@ -41,7 +41,8 @@ fn tell_level<T, X>(
     requires pairs { length sets.now ≡ length queries.now.indices.now }
     requires narrow { next_level.now.step ≤ queries.now.arity }
     requires among { All (λ k. k < length queries.now.indices.now) next_level.now.above.leads.items }
-    requires groups { length next_level.now.above.leads.items ≡ length next_level.now.children.items / next_level.now.step }
+    requires groups { length next_level.now.above.leads.items
+        ≡ length next_level.now.children.items / next_level.now.step }
     requires leads { leads.now ≡ next_level.now.above.leads.items }
     requires children { children.now ≡ next_level.now.children.items }
     ensures room { 2 ≤ arity }
@@ -50,8 +51,8 @@ fn tell_level<T, X>(
     ensures groups { length leads.now ≡ length children.now / next_level.now.step }
 {}
 
-/// One level of the walk: the layer above `level`, which is below layer `t`, with the values of its nodes' children, and the
-/// digests of its nodes. `covered` are the nodes of this layer, and `digests` has the digest of each.
+/// One level of the walk: the layer above `level`, which is below layer `t`, with the values of its nodes' children,
+/// and the digests of its nodes. `covered` are the nodes of this layer, and `digests` has the digest of each.
 ///
 /// # Errors
 ///
@@ -83,7 +84,8 @@ pub(crate) fn restored_above<
     requires restored { let f = functions_of (H.hash checker.now.hash.now) (C.compression checker.now.compress.now)
         (replicate D PW.default_value) in
         let p = pruned_of queries.now.indices.now (row_sets sets.now) sent.now in
-        AreRestored f (shape_of queries.now.arity queries.now.dimensions.now) queries.now.t p level covered.now digests.now }
+        AreRestored f (shape_of queries.now.arity queries.now.dimensions.now) queries.now.t p level covered.now
+        digests.now }
     ensures { let f = functions_of (H.hash checker.now.hash.now) (C.compression checker.now.compress.now)
         (replicate D PW.default_value) in
         let s = shape_of queries.now.arity queries.now.dimensions.now in
@@ -105,8 +107,8 @@ pub(crate) fn restored_above<
     Ok((next_level, above))
 }
 
-/// The digests of the covered nodes of layer `t`, restored from the rows of the queries and the digests that were sent, with
-/// these nodes. `leaves` are the covered leaves. Each level's children are let go once they are compressed.
+/// The digests of the covered nodes of layer `t`, restored from the rows of the queries and the digests that were sent,
+/// with these nodes. `leaves` are the covered leaves. Each level's children are let go once they are compressed.
 ///
 /// # Errors
 ///
@@ -132,10 +134,11 @@ pub(crate) fn restored_cap<
         (boundary (shape_of queries.now.arity queries.now.dimensions.now) queries.now.indices.now queries.now.t) }
     requires agreed { IsAgreed (shape_of queries.now.arity queries.now.dimensions.now) queries.now.t
         (pruned_of queries.now.indices.now (row_sets sets.now) sent.now) }
-    requires leaves { IsCoveredAt (shape_of queries.now.arity queries.now.dimensions.now) queries.now.indices.now 0 leaves }
+    requires leaves { IsCoveredAt (shape_of queries.now.arity queries.now.dimensions.now) queries.now.indices.now 0
+        leaves }
     ensures covered { IfOk result
-        (λ cap. IsCoveredAt (shape_of queries.now.arity queries.now.dimensions.now) queries.now.indices.now queries.now.t
-        (cap.0)) }
+        (λ cap. IsCoveredAt (shape_of queries.now.arity queries.now.dimensions.now) queries.now.indices.now
+            queries.now.t (cap.0)) }
     ensures digests { let f = functions_of (H.hash checker.now.hash.now) (C.compression checker.now.compress.now)
         (replicate D PW.default_value) in
         let s = shape_of queries.now.arity queries.now.dimensions.now in
@@ -165,8 +168,8 @@ pub(crate) fn restored_cap<
     Ok((covered, digests))
 }
 
-/// Whether the roots of a cap, which is layer `t`, have the restored digest of each covered node in its place. `leaves` are
-/// the covered leaves.
+/// Whether the roots of a cap, which is layer `t`, have the restored digest of each covered node in its place. `leaves`
+/// are the covered leaves.
 ///
 /// # Errors
 ///
@@ -193,7 +196,8 @@ pub(crate) fn check_cap<
         (boundary (shape_of queries.now.arity queries.now.dimensions.now) queries.now.indices.now queries.now.t) }
     requires agreed { IsAgreed (shape_of queries.now.arity queries.now.dimensions.now) queries.now.t
         (pruned_of queries.now.indices.now (row_sets sets.now) sent.now) }
-    requires leaves { IsCoveredAt (shape_of queries.now.arity queries.now.dimensions.now) queries.now.indices.now 0 leaves }
+    requires leaves { IsCoveredAt (shape_of queries.now.arity queries.now.dimensions.now) queries.now.indices.now 0
+        leaves }
     ensures { let f = functions_of (H.hash checker.now.hash.now) (C.compression checker.now.compress.now)
         (replicate D PW.default_value) in
         let p = pruned_of queries.now.indices.now (row_sets sets.now) sent.now in

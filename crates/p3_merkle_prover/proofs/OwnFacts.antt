@@ -2,45 +2,16 @@
 use Rattle.std.proofs.Common.{◌≡◌, ℕ, suc, ◌+◌, ◌-◌, ◌*◌, ◌/◌, ◌%◌, ◌^◌, ◌<◌, ◌≤◌, List, ◌++◌, [], map, refl, ap, sym, ◌∙◌, arith, length, get_or, take, drop, remove, add-one, length-drop}
 use Rattle.std.specs.List.{range_with_len}
 use Rattle.std.specs.Prelude.{slice_index_or}
-use Rattle.std.proofs.lemmas.List.{ext_get_or, get_or-drop, get_or-map, get_or_default, get_or-take, length-take-le}
+use Rattle.std.proofs.lemmas.List.{ext_get_or, get_or-drop, get_or-map, get_or-take, length-take-le}
 use Rattle.std.proofs.lemmas.List.FromFn.{get_or-map-range_with_len, length-map-range_with_len}
 use Rattle.std.proofs.Math.Nat.{mul-le-mul_left}
-use Rattle.p3_merkle_core.specs.Geometry.{Shape, arity_schedule, height_limit, step, ancestor, levels, heights, raw_len, layer_len, IsArity, IsLawful}
+use Rattle.p3_merkle_core.specs.Geometry.{Shape, step, ancestor, levels, heights, raw_len, layer_len, IsArity, IsLawful}
 use Rattle.p3_support.specs.Batches.{greatest}
-use Rattle.p3_merkle_core.proofs.RawFacts.{anc_below, children_fit}
-use Rattle.p3_merkle_core.proofs.StepFacts.{anc_next, step_above_1, step_read}
-use Rattle.p3_merkle_core.proofs.SiblingFacts.{siblings_next, step_is}
-use Rattle.p3_merkle_core.specs.Checks.{siblings_below}
+use Rattle.p3_merkle_core.proofs.Shapes.RawFacts.{anc_below, children_fit}
+use Rattle.p3_merkle_core.proofs.Shapes.StepFacts.{anc_next, step_above_1}
 use Rattle.p3_merkle_prover.proofs.TreeFacts.{layer_long}
-use Rattle.p3_merkle_core.proofs.ListFacts.{joined, joined_more}
+use Rattle.p3_merkle_core.proofs.Lists.ListFacts.{joined, joined_more}
 use Rattle.p3_merkle_core.specs.Openings.{node_in, level_siblings}
-
--- the steps of a tree are as many as its levels
-pub steps_count : (s : Shape) (taken : List ℕ) → taken ≡ arity_schedule s → length taken ≡ levels s
-steps_count s taken e = ap length e ∙ length-map-range_with_len (step s) 0 (levels s)
-
--- each is the step of its level
-pub step_of : (s : Shape) (taken : List ℕ) (l n : ℕ) → taken ≡ arity_schedule s → l < levels s → n ≡ get_or taken l n → n ≡ step s l
-step_of s taken l n e h is =
-    let long = steps_count s taken e in
-    is ∙ get_or_default taken l n 0 (omega arith) ∙ step_read s l taken e (omega arith)
-
--- a level below layer t, by its step among those of the first t levels
-pub record CountsLevel (s : Shape) (l step : ℕ) : Type 0 where
-  pub wide : 2 ≤ step
-  pub narrow : step ≤ s.arity
-  pub few : siblings_below s l < 2 ^ 62
-  pub more : siblings_below s l + (step - 1) ≡ siblings_below s (l + 1)
-
-pub counts_level : (s : Shape) (taken : List ℕ) (t l : ℕ) → IsArity s.arity → greatest (heights s) ≤ height_limit → taken ≡ arity_schedule s → t ≤ levels s → l < length (take t taken) →
-    CountsLevel s l (get_or (take t taken) l 0)
-counts_level s taken t l w low e in_tree h =
-    let long = steps_count s taken e in
-    let size : length (take t taken) ≡ t = length-take-le t taken (omega arith) in
-    let below : l < t = omega arith in
-    let is : get_or (take t taken) l 0 ≡ step s l = get_or-take t taken l 0 below ∙ step_read s l taken e (omega arith) in
-    let k = step_is s l w low (omega arith) in
-    rw is (record { wide = k.wide; narrow = k.narrow; few = k.few; more = rw (add-one, siblings_next s l) refl })
 
 -- the group, in layer l, of the node above leaf i: from `node - node % n` on, n of the layer's digests
 pub record IsGroup (s : Shape) (i l n node len : ℕ) : Type 0 where
@@ -51,7 +22,8 @@ pub record IsGroup (s : Shape) (i l n node len : ℕ) : Type 0 where
   pub fits : node - node % n + n ≤ len
 
 -- the group lies within its layer
-pub group_is : (s : Shape) (i l n node len : ℕ) → IsArity s.arity → IsLawful (heights s) → i < greatest (heights s) → l < levels s →
+pub group_is : (s : Shape) (i l n node len : ℕ) → IsArity s.arity → IsLawful (heights s) → i < greatest (heights s) →
+    l < levels s →
     node ≡ ancestor s l i → n ≡ step s l → len ≡ layer_len s l → IsGroup s i l n node len
 group_is s i l n node len w lawful below h at is long =
     let two : 2 ≤ n = rw is (step_above_1 s l w.above_1) in
@@ -63,32 +35,50 @@ group_is s i l n node len w lawful below h at is long =
     let next : n * (node / n + 1) ≡ n * (node / n) + n = omega arith in
     record { is_step = is; at_node = at; wide = two; starts = start ∙ rw (up, ← is) refl; fits = omega arith }
 
--- the same from the facts of a tree: its layers have their lengths, and its steps are the shape's
-pub group_at_level : {V : Type 0} (len : V → ℕ) (layers : List V) (taken : List ℕ) (s : Shape) (i l t n node : ℕ) (layer : V) → IsArity s.arity → IsLawful (heights s) →
-    map len layers ≡ map (layer_len s) (range_with_len 0 (suc (levels s))) → taken ≡ arity_schedule s → i < greatest (heights s) → t ≤ levels s → l < t →
-    node ≡ ancestor s l i → n ≡ get_or taken l n → layer ≡ get_or layers l layer → IsGroup s i l n node (len layer)
-group_at_level len layers taken s i l t n node layer w lawful lengths steps below in_tree h at read is =
-    group_is s i l n node (len layer) w lawful below (omega arith) at (step_of s taken l n steps (omega arith) read) (layer_long len layers s lengths l layer (omega arith) is)
+-- the same from the facts of a tree: its layers have their lengths
+pub group_at_level : {V : Type 0} (len : V → ℕ) (layers : List V) (s : Shape) (i l t n node : ℕ) (layer : V) →
+    IsArity s.arity → IsLawful (heights s) →
+    map len layers ≡ map (layer_len s) (range_with_len 0 (suc (levels s))) → i < greatest (heights s) → t ≤ levels s →
+    l < t → node ≡ ancestor s l i → n ≡ step s l → layer ≡ get_or layers l layer → IsGroup s i l n node (len layer)
+group_at_level len layers s i l t n node layer w lawful lengths below in_tree h at step is =
+    group_is s i l n node (len layer) w lawful below (omega arith) at step
+    (layer_long len layers s lengths l layer (omega arith) is)
 
 -- a part of a list, place by place
-part_read : {X : Type 0} (d : X) (xs : List X) (a n : ℕ) → a + n ≤ length xs → take n (drop a xs) ≡ map (λ k. get_or xs (a + k) d) (range_with_len 0 n)
+part_read : {X : Type 0} (d : X) (xs : List X) (a n : ℕ) → a + n ≤ length xs → take n (drop a xs)
+    ≡ map (λ k. get_or xs (a + k) d) (range_with_len 0 n)
 part_read d xs a n fits =
     let left = length-drop a xs in
     let long : length (take n (drop a xs)) ≡ n = length-take-le n (drop a xs) (omega arith) in
     let made = length-map-range_with_len (λ k. get_or xs (a + k) d) 0 n in
     ext_get_or d (take n (drop a xs)) (map (λ k. get_or xs (a + k) d) (range_with_len 0 n)) (long ∙ sym made)
-    (λ k inside. get_or-take n (drop a xs) k d (omega (arith, long)) ∙ get_or-drop a xs k d ∙ sym (get_or-map-range_with_len (λ k. get_or xs (a + k) d) 0 n k k d (omega (arith, long)) (omega arith)))
+    (λ k inside. get_or-take n (drop a xs) k d (omega (arith, long)) ∙ get_or-drop a xs k d
+    ∙ sym (get_or-map-range_with_len (λ k. get_or xs (a + k) d) 0 n k k d (omega (arith, long)) (omega arith)))
 
 -- one level more of the siblings
-pub group_next : {V X : Type 0} (d : X) (items : V → List X) (layers : List V) (s : Shape) (i l n node : ℕ) (layer : V) (old new : List X) →
-    IsGroup s i l n node (length (items layer)) → l < length layers → layer ≡ get_or layers l layer → old ≡ joined (level_siblings (node_in d (map items layers)) s i) l →
-    new ≡ old ++ remove (take (node - node % n + n - (node - node % n)) (drop (node - node % n) (items layer))) (node % n) →
+pub group_next : {V X : Type 0} (d : X) (items : V → List X) (layers : List V) (s : Shape) (i l n node : ℕ) (layer : V)
+    (old new : List X) →
+    IsGroup s i l n node (length (items layer)) → l < length layers → layer ≡ get_or layers l layer → old
+    ≡ joined (level_siblings (node_in d (map items layers)) s i) l →
+    new ≡ old ++ remove (take (node - node % n + n - (node - node % n)) (drop (node - node % n) (items layer)))
+    (node % n) →
     new ≡ joined (level_siblings (node_in d (map items layers)) s i) (l + 1)
 group_next d items layers s i l n node layer old new w h is is_old is_new =
     let count : node - node % n + n - (node - node % n) ≡ n = omega arith in
-    let read : slice_index_or (map items layers) l [] ≡ items layer = get_or-map items layers l layer [] h ∙ ap items (sym is) in
+    let read : slice_index_or (map items layers) l [] ≡ items layer = get_or-map items layers l layer [] h
+    ∙ ap items (sym is) in
     let part = part_read d (items layer) (node - node % n) n w.fits in
-    is_new ∙ rw (is_old, count, add-one, joined_more (level_siblings (node_in d (map items layers)) s i) l, part, read, w.starts, w.is_step, w.at_node) refl
+    is_new ∙ rw (
+      is_old,
+      count,
+      add-one,
+      joined_more (level_siblings (node_in d (map items layers)) s i) l,
+      part,
+      read,
+      w.starts,
+      w.is_step,
+      w.at_node,
+    ) refl
 
 -- the node of the next level
 pub node_next : (s : Shape) (i l n node len : ℕ) → IsGroup s i l n node len → node / n ≡ ancestor s (l + 1) i

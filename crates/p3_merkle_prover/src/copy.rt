@@ -18,12 +18,12 @@ impl<F: Copy, W: Copy, M: Matrix<F> + Clone + Drop, const N: usize, const D: usi
 > {
     ghost use Rattle.p3_merkle_prover.specs.Parts.{layers_of, matrices_of, tree_batch};
 
-    /// A tree with clones of the matrices, and the same layers. Each clone of one of these matrices has its height, its
-    /// width and its rows, so that the copy opens what the tree opens.
+    /// A tree with clones of the matrices, and the same layers. A clone of a matrix must have the same height, width
+    /// and rows. The copy opens what the tree opens.
     ///
     /// # Errors
     ///
-    /// `AllocError` where there is no memory.
+    /// `AllocError` if memory runs out.
     pub fn clone(&self) -> Result<Self, AllocError>
         requires { All (ClonesShowTheSame M.height_of M.width_of M.row_of M.is_clone) (matrices_of self.now) }
         ensures matrices { IfOk result (λ tree. AllZip M.is_clone (matrices_of self.now) (matrices_of tree)) }
@@ -33,8 +33,8 @@ impl<F: Copy, W: Copy, M: Matrix<F> + Clone + Drop, const N: usize, const D: usi
         let alloc = *self.matrices.allocator();
         Ok(Tree {
             matrices: self.matrices.clone()?,
+            dimensions: Vec::from_slice(alloc, &self.dimensions)?,
             layers: copies_of(alloc, &self.layers)?,
-            arity_schedule: Vec::from_slice(alloc, &self.arity_schedule)?,
             item: PhantomData,
         })
     }

@@ -1,4 +1,4 @@
-//! The tree over a batch of matrices: how it is built, and what it opens of one leaf and of several.
+//! The tree over a batch of matrices: how it is built, and how it opens one leaf or several.
 #![tactic(auto)]
 
 mod copy;

@@ -3,35 +3,34 @@
 ghost use Rattle.std.specs.Prelude.{◌≡◌, ◌<◌, ◌≤◌, ◌++◌, length, map, remove, IfErr, IfOk, None};
 ghost use Rattle.p3_merkle_core.specs.Caps.{cap_layer};
 ghost use Rattle.p3_support.specs.Batches.{greatest};
-ghost use Rattle.p3_merkle_core.specs.Geometry.{heights, levels};
+ghost use Rattle.p3_merkle_core.specs.Geometry.{heights, levels, shape_of};
 ghost use Rattle.p3_merkle_core.specs.Nodes.{shape};
 ghost use Rattle.p3_merkle_core.specs.Openings.{honest_rows, node_in, siblings_by};
-ghost use Rattle.p3_merkle_core.specs.Checks.{siblings_below};
 ghost use Rattle.p3_merkle_core.specs.declared.error.MerkleTreeError.TheVariants.{OutOfMemory};
 ghost use Rattle.p3_support.specs.Shown.{row_lists};
 ghost use Rattle.p3_merkle_prover.specs.Parts.{layers_of, matrices_of, tree_batch};
 ghost use Rattle.p3_merkle_core.specs.Refusals.{AnswersUnlessMemory};
 
 use crate::tree::Tree;
-use p3_merkle_core::cap::{CapRule, cap_layer_at};
+use p3_merkle_core::cap::CapRule;
 use p3_merkle_core::error::MerkleTreeError;
-use p3_merkle_core::geometry::bits_reduced_of;
-use p3_merkle_layers::levels::{max_height_of, min_height_of};
+use p3_merkle_core::geometry::{bits_reduced_of, tallest_of};
+use p3_merkle_core::steps::{Steps, steps_of};
 use p3_support::matrix::Matrix;
 use std::alloc::{AllocError, Global};
 
-/// How many levels lead from the leaves of a tree to its root.
-pub fn num_levels<F, X, G, M: Matrix<F>, const N: usize>(tree: &Tree<F, X, G, M, N>) -> usize
-    ensures { result ≡ levels (shape (tree_batch tree.now)) }
+/// The steps of a tree, from the leaves to the root.
+pub fn steps_in<F, X, G, M: Matrix<F>, const N: usize>(tree: &Tree<F, X, G, M, N>) -> Steps<'_>
+    ensures { shape_of result.arity result.dimensions.now ≡ shape (tree_batch tree.now) }
 {
-    tree.arity_schedule.len()
+    steps_of(&tree.dimensions, N)
 }
 
 /// The height of the tallest matrix of a tree, in rows: how many leaves it has, padding aside.
 pub fn max_height<F, X, G, M: Matrix<F>, const N: usize>(tree: &Tree<F, X, G, M, N>) -> usize
     ensures { result ≡ greatest (heights (shape (tree_batch tree.now))) }
 {
-    max_height_of(&tree.matrices)
+    tallest_of(&tree.dimensions)
 }
 
 /// The layer of a tree, counted from the leaves, that is the cap of this height.
@@ -42,13 +41,7 @@ pub fn cap_layer_in<F, X, G, M: Matrix<F>, const N: usize>(
 ) -> usize
     ensures { result ≡ cap_layer (shape (tree_batch tree.now)) rule cap_height }
 {
-    cap_layer_at(
-        num_levels(tree),
-        min_height_of(&tree.matrices),
-        N,
-        rule,
-        cap_height,
-    )
+    steps_in(tree).cap_layer(rule, cap_height)
 }
 
 /// The row of each matrix that belongs to leaf `index`, in input order. The index is below [`max_height`].
@@ -94,8 +87,9 @@ pub fn matrix_refs<'a, F, X, G, M: Matrix<F>, const N: usize>(
     Ok(matrices)
 }
 
-/// The siblings on the path of leaf `index` up to layer `t`: of each group on it all digests but the path's own,
-/// level by level from the leaves, ascending. The index is below [`max_height`], and `t` at most [`num_levels`].
+/// The siblings on the path of leaf `index` up to a layer, by the tree's own steps: of each group on it all digests but
+/// the path's own, level by level from the leaves, ascending. The index is below [`max_height`], and the layer at most
+/// the number of levels.
 ///
 /// # Errors
 ///
@@ -103,20 +97,22 @@ pub fn matrix_refs<'a, F, X, G, M: Matrix<F>, const N: usize>(
 pub fn siblings_of_index<F, X: Copy, G, M: Matrix<F>, const N: usize>(
     alloc: Global,
     tree: &Tree<F, X, G, M, N>,
+    steps: &Steps<'_>,
     index: usize,
-    t: usize,
+    layer: usize,
 ) -> Result<Vec<X>, MerkleTreeError>
+    requires own { shape_of steps.now.arity steps.now.dimensions.now ≡ shape (tree_batch tree.now) }
     requires index { index < greatest (heights (shape (tree_batch tree.now))) }
-    requires layer { t ≤ levels (shape (tree_batch tree.now)) }
+    requires layer { layer ≤ levels (shape (tree_batch tree.now)) }
     ensures siblings { (d : X) → let own = siblings_by (node_in d (layers_of tree.now))
-        (shape (tree_batch tree.now)) t index in
+        (shape (tree_batch tree.now)) layer index in
         IfOk result (λ siblings. siblings.items ≡ own) }
     ensures memory { AnswersUnlessMemory result None }
 {
-    let mut siblings = Vec::with_capacity(alloc, num_siblings(tree, t))?;
+    let mut siblings = Vec::with_capacity(alloc, steps.siblings_below(layer))?;
     let mut ancestor = index;
-    for level in 0..t {
-        let step = tree.arity_schedule[level];
+    for level in 0..layer {
+        let step = steps.step(level);
         let position = ancestor % step;
         let first = ancestor - position;
         let group = &tree.layers[level][first..first + step];
@@ -124,21 +120,6 @@ pub fn siblings_of_index<F, X: Copy, G, M: Matrix<F>, const N: usize>(
         ancestor /= step;
     }
     Ok(siblings)
-}
-
-/// How many siblings the path of a leaf up to layer `t` has. `t` is at most [`num_levels`].
-fn num_siblings<F, X, G, M: Matrix<F>, const N: usize>(
-    tree: &Tree<F, X, G, M, N>,
-    t: usize,
-) -> usize
-    requires { t ≤ levels (shape (tree_batch tree.now)) }
-    ensures { result ≡ siblings_below (shape (tree_batch tree.now)) t }
-{
-    let mut count = 0;
-    for step in &tree.arity_schedule[..t] {
-        count += step - 1;
-    }
-    count
 }
 
 /// The words of a row.

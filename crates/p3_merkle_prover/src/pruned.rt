@@ -13,11 +13,10 @@ ghost use Rattle.p3_merkle_prover.specs.Parts.{layers_of, tree_batch};
 ghost use Rattle.p3_merkle_core.specs.Pruning.{boundary_by};
 ghost use Rattle.p3_merkle_core.specs.Refusals.{AnswersUnlessMemory};
 
-use crate::opener::rows_of_index;
+use crate::opener::{rows_of_index, steps_in};
 use crate::tree::Tree;
 use p3_merkle_core::error::MerkleTreeError;
-use p3_merkle_core::pruning::{boundary_len_of, climb, covered_leaves};
-use p3_merkle_layers::levels::batch_dimensions;
+use p3_merkle_core::pruning::{climb, covered_leaves};
 use p3_support::matrix::Matrix;
 use std::alloc::Global;
 
@@ -46,9 +45,9 @@ pub fn rows_of_indices<F: Copy, X, G, M: Matrix<F>, const N: usize>(
 
 /// The digests of the boundary of some leaves below layer `t`, in wire order: level by level from the leaves, and
 /// ascending, those of the children of covered nodes that are not covered. Each index is below
-/// [`max_height`](crate::opener::max_height), and `t` at most [`num_levels`](crate::opener::num_levels). Takes memory for
-/// all indices, and beside their sort the time of one step for each index and level, and of a copy of the digests. These
-/// are allocated once, at their number.
+/// [`max_height`](crate::opener::max_height), and `t` at most the number of levels. Takes memory for all indices, and
+/// beside their sort the time of one step for each index and level, and of a copy of the digests. These are allocated
+/// once, at their number.
 ///
 /// # Errors
 ///
@@ -67,11 +66,11 @@ pub fn digests_of_boundary<F, X: Copy, G, M: Matrix<F>, const N: usize>(
     ensures memory { AnswersUnlessMemory result None }
 {
     let mut covered = covered_leaves(alloc, indices)?;
-    let dimensions = batch_dimensions(alloc, &tree.matrices)?;
+    let steps = steps_in(tree);
     let leaves = Vec::from_slice(alloc, &covered)?;
-    let mut digests = Vec::with_capacity(alloc, boundary_len_of(&dimensions, N, t, leaves))?;
+    let mut digests = Vec::with_capacity(alloc, steps.boundary_len(t, leaves))?;
     for level in 0..t {
-        let step = tree.arity_schedule[level];
+        let step = steps.step(level);
         extend_with_boundary(&mut digests, &tree.layers[level], &covered, step)?;
         climb(&mut covered, step);
     }
@@ -79,8 +78,8 @@ pub fn digests_of_boundary<F, X: Copy, G, M: Matrix<F>, const N: usize>(
 }
 
 /// Adds the boundary's digests of one layer to the end, ascending: those of the nodes that are not covered, but have a
-/// covered one in their group of `step`. The covered nodes ascend. Goes once through these, and copies what lies between
-/// them.
+/// covered one in their group of `step`. The covered nodes ascend. Goes once through these, and copies what lies
+/// between them.
 fn extend_with_boundary<X: Copy>(
     digests: &mut Vec<X>,
     layer: &[X],

@@ -2,7 +2,7 @@
 
 ghost use Rattle.std.specs.Prelude.{◌≡◌, ℕ, suc, ◌+◌, ◌-◌, ◌<◌, ◌≤◌, ◌⊎◌, [], ◌∷◌, IfOk, IsTrue, MatchResult, List, Some, map, length, replicate, slice_get};
 ghost use Rattle.std.specs.List.{range_with_len};
-ghost use Rattle.p3_merkle_core.specs.Geometry.{arity_schedule as schedule_in, heights, is_arity, layer_below_root, layer_len, levels, IsArity, IsLawful};
+ghost use Rattle.p3_merkle_core.specs.Geometry.{heights, is_arity, layer_below_root, layer_len, levels, shape_of, IsArity, IsLawful};
 ghost use Rattle.p3_merkle_core.specs.Gate.{gate_refusal};
 ghost use Rattle.p3_merkle_core.specs.Nodes.{functions_of, layers as layers_over, shape};
 ghost use Rattle.p3_merkle_core.specs.declared.error.MerkleTreeError.TheVariants.{OutOfMemory};
@@ -15,7 +15,7 @@ use p3_merkle_layers::layers::{Builder, Stack};
 use p3_merkle_layers::levels::batch_dimensions;
 use p3_support::compress::PseudoCompressionFunction;
 use p3_support::hasher::CryptographicHasher;
-use p3_support::matrix::Matrix;
+use p3_support::matrix::{Dimensions, Matrix};
 use p3_support::opening::{Hash, MerkleCap};
 use p3_support::packed::PackedValue;
 use std::alloc::Global;
@@ -24,19 +24,19 @@ use std::marker::PhantomData;
 /// A Merkle tree over matrices `M` of values `F`: digests `X` in layers, from the leaves to the root, where each node
 /// is a compression of a group `G` of `N` digests. [`MerkleTree`] is this tree at digests of words.
 ///
-/// Every tree has the shape of its matrices: their heights are lawful, and its layers have the lengths and steps that
-/// those heights give.
+/// The heights of its matrices are lawful, and its layers have the lengths and steps that those heights give.
 #[derive(Debug, Drop)]
 pub struct Tree<F, X, G, M: Matrix<F>, const N: usize> {
     pub(crate) matrices: Vec<M>,
+    pub(crate) dimensions: Vec<Dimensions>,
     pub(crate) layers: Vec<Vec<X>>,
-    pub(crate) arity_schedule: Vec<usize>,
     pub(crate) item: PhantomData<(F, G)>,
     ghost arity: { IsArity N },
     ghost lawful: { IsLawful (heights (shape (batch_of M.height_of M.width_of M.row_of N matrices.items))) },
     ghost layer_lengths: { let s = shape (batch_of M.height_of M.width_of M.row_of N matrices.items) in
         map (λ nodes. length nodes.items) layers.items ≡ map (layer_len s) (range_with_len 0 (suc (levels s))) },
-    ghost schedule: { arity_schedule.items ≡ schedule_in (shape (batch_of M.height_of M.width_of M.row_of N matrices.items)) },
+    ghost own_shape: { shape_of N dimensions.items
+        ≡ shape (batch_of M.height_of M.width_of M.row_of N matrices.items) },
 }
 
 /// A tree over matrices of values `F`, with digests of `D` words `W`, where a node has at most `N` children
@@ -54,19 +54,19 @@ impl<F: Copy, W: Copy, M: Matrix<F> + Drop, const N: usize, const D: usize> Merk
     ghost use Rattle.p3_merkle_prover.specs.Parts.{layers_of, matrices_of, tree_batch};
 
     /// The tree over matrices, which it keeps in input order. Leaf `i` is the hash of the rows `i` of the tallest
-    /// matrices, one after another; a node above compresses its children, and once more with the hash of the rows of
-    /// the matrices whose heights belong to its layer. Default digests stand for children that are missing, for rows
-    /// past the end of their matrices, and in slots that only pad a layer.
+    /// matrices, one after another. A node compresses its children; where matrices are injected at its layer, the
+    /// result is compressed with the hash of their rows. Default digests stand for missing children, for rows past the
+    /// end of a matrix, and in the slots that pad a layer.
     ///
-    /// `N` is a power of two from 2 to 2^62, and both packings have equally many lanes, at least one. Each layer is
-    /// allocated once. Where the hash or the compression takes several messages a call (its `LANES` are above 1), they are
-    /// laid side by side for that; else as many are taken together as the packing has lanes. The tree is the same.
+    /// `N` must be a power of two from 2 to 2^62, and both packings must have equally many lanes, at least one. Each
+    /// layer is allocated once. If the hash or the compression has `LANES` above 1, the tree is built in batches of so
+    /// many messages; else in packed values. The tree is the same.
     ///
     /// # Errors
     ///
-    /// `EmptyBatch` where no matrix has a row; else `TooLarge` for the first height above 2^62; else
-    /// `IncompatibleHeights` for the first height that is not the tallest one halved and rounded up some number of
-    /// times. `OutOfMemory` may come at any time.
+    /// `EmptyBatch` if no matrix has a row; else `TooLarge` for the first height above 2^62; else `IncompatibleHeights`
+    /// for the first height that is not the tallest one halved and rounded up some number of times. `OutOfMemory` may
+    /// come at any time.
     pub fn new<
         P: PackedValue<Value = F>,
         PW: PackedValue<Value = W>,
@@ -114,20 +114,16 @@ impl<F: Copy, W: Copy, M: Matrix<F> + Drop, const N: usize, const D: usize> Merk
             matrices: &leaves,
             item: PhantomData,
         };
-        let Stack {
-            layers,
-            arity_schedule,
-            ..
-        } = builder.layers(alloc, &dimensions)?;
+        let Stack { layers, .. } = builder.layers(alloc, &dimensions)?;
         Ok(Tree {
             matrices: leaves,
+            dimensions,
             layers,
-            arity_schedule,
             item: PhantomData,
         })
     }
 
-    /// The digest at the top: the one node of the last layer.
+    /// The root: the one node of the last layer.
     pub fn root(&self) -> Hash<'_, F, W, D>
         ensures { slice_get (layers_of self.now) (levels (shape (tree_batch self.now))) ≡
             Some (lent_digest result ∷ []) }
@@ -136,7 +132,7 @@ impl<F: Copy, W: Copy, M: Matrix<F> + Drop, const N: usize, const D: usize> Merk
         Hash::from(&top[0])
     }
 
-    /// How many layers there are, leaves and root included: one more than levels. It is at least 1.
+    /// The number of layers, leaves and root included. It is at least 1.
     pub fn num_layers(&self) -> usize
         ensures count { result ≡ length (layers_of self.now) }
         ensures levels { result ≡ levels (shape (tree_batch self.now)) + 1 }
@@ -144,12 +140,12 @@ impl<F: Copy, W: Copy, M: Matrix<F> + Drop, const N: usize, const D: usize> Merk
         self.layers.len()
     }
 
-    /// The cap of this height: the whole layer `cap_height` levels below the root, padding included. The height is below
-    /// `num_layers()`: 0 is the root alone, the greatest the leaves.
+    /// The cap of this height: the whole layer `cap_height` levels below the root, padding included. `cap_height` must
+    /// be below `num_layers()`; 0 is the root alone.
     ///
     /// # Errors
     ///
-    /// `OutOfMemory` alone.
+    /// Only `OutOfMemory`.
     pub fn cap(
         &self,
         alloc: Global,

@@ -14,12 +14,14 @@ use Rattle.p3_merkle_salts.specs.SaltRefusals.{first_too_wide, salt_refusal, sal
 use Rattle.p3_merkle_salts.specs.SaltedOpenings.{CanWiden}
 
 -- where either list is at its end, so is either of what it shows
-pub shown_end : {A B C D : Type 0} (f : A → C) (g : B → D) (xs : List A) (ys : List B) → (xs ≡ []) ⊎ (ys ≡ []) → (map f xs ≡ []) ⊎ (map g ys ≡ [])
+pub shown_end : {A B C D : Type 0} (f : A → C) (g : B → D) (xs : List A) (ys : List B) → (xs ≡ []) ⊎ (ys ≡ []) →
+    (map f xs ≡ []) ⊎ (map g ys ≡ [])
 shown_end f g xs ys (inl e) = inl (ap (λ (z : List _). map f z) e)
 shown_end f g xs ys (inr e) = inr (ap (λ (z : List _). map g z) e)
 
 -- the same where the second list is what it shows
-pub rows_end : {A B C : Type 0} (f : A → C) (xs : List A) (ys : List B) → (xs ≡ []) ⊎ (ys ≡ []) → (map f xs ≡ []) ⊎ (ys ≡ [])
+pub rows_end : {A B C : Type 0} (f : A → C) (xs : List A) (ys : List B) → (xs ≡ []) ⊎ (ys ≡ []) → (map f xs ≡ []) ⊎
+    (ys ≡ [])
 rows_end f xs ys (inl e) = inl (ap (λ (z : List _). map f z) e)
 rows_end f xs ys (inr e) = inr e
 
@@ -34,15 +36,22 @@ module _ {A B C : Type 0} (join : A × B → C) where
   pairs_end xs ys (inr e) = none_left xs ys e
 
   -- so all are joined
-  pub joined_end : (done : List C) (xs : List A) (ys : List B) (all : List C) → (xs ≡ []) ⊎ (ys ≡ []) → done ++ map join (zip xs ys) ≡ all → done ≡ all
-  joined_end done xs ys all end is = sym (append-nil done) ∙ ap (λ (z : List C). done ++ z) (sym (pairs_end xs ys end)) ∙ is
+  pub joined_end : (done : List C) (xs : List A) (ys : List B) (all : List C) → (xs ≡ []) ⊎ (ys ≡ []) →
+      done ++ map join (zip xs ys) ≡ all → done ≡ all
+  joined_end done xs ys all end is = sym (append-nil done) ∙ ap (λ (z : List C). done ++ z) (sym (pairs_end xs ys end))
+      ∙ is
 
 -- as many sets, none of which is refused, are not refused
-pub sets_pass : {T : Type 0} (dimensions : List Dimensions) (sets salts : List (List (List T))) → length salts ≡ length sets →
-    first_of (λ (rows, salt). salt_refusal dimensions rows salt) (zip sets salts) ≡ None → salt_sets_refusal dimensions sets salts ≡ None
+pub sets_pass : {T : Type 0} (dimensions : List Dimensions) (sets salts : List (List (List T))) → length salts
+    ≡ length sets →
+    first_of (λ (rows, salt). salt_refusal dimensions rows salt) (zip sets salts) ≡ None →
+    salt_sets_refusal dimensions sets salts ≡ None
 sets_pass {T} dimensions sets salts same none =
-    let size : size_refusal (length sets) (length salts) ≡ None = cond-true (eqb (length sets) (length salts)) None (Some (WrongBatchSize (length sets) (length salts))) (eq-eqb (length sets) (length salts) (sym same)) in
-    ap (λ (o : Option MerkleTreeError). option_or o (first_of (λ (rows, salt). salt_refusal dimensions rows salt) (zip sets salts))) size ∙ none
+    let size : size_refusal (length sets) (length salts)
+    ≡ None = cond-true (eqb (length sets) (length salts)) None (Some (WrongBatchSize (length sets) (length salts)))
+    (eq-eqb (length sets) (length salts) (sym same)) in
+    ap (λ (o : Option MerkleTreeError).
+    option_or o (first_of (λ (rows, salt). salt_refusal dimensions rows salt) (zip sets salts))) size ∙ none
 
 -- a width is above what is left of the greatest number exactly if it passes it with the salts
 pub too_wide_is : (e w : ℕ) → e < 2 ^ 64 → nat_lt (2 ^ 64 - 1 - e) w ≡ nat_le (2 ^ 64) (w + e)
@@ -57,8 +66,12 @@ can_widen e ds none k d inside =
     let ws = widths_of ds in
     let test = λ (w : ℕ). nat_le (2 ^ 64) (w + e) in
     let long : length ws ≡ length ds = length-map ds (λ (d : Dimensions). d.width) in
-    let at : get_or ws k d.width ≡ (get_or ds k d).width = get_or-map (λ (d : Dimensions). d.width) ds k d d.width inside in
+    let at : get_or ws k d.width
+    ≡ (get_or ds k d).width = get_or-map (λ (d : Dimensions). d.width) ds k d d.width inside in
     elim (cases_lt (position_or_len test ws) (length ws)) [
-      | inl l ↦ let s = cond-true (nat_lt (position_or_len test ws) (length ws)) (Some (position_or_len test ws)) None (lt-ltb (position_or_len test ws) (length ws) l) in absurd cc
-      | inr g ↦ let small = leb-false (2 ^ 64) (get_or ws k d.width + e) (fails_before_first test ws k d.width (omega arith)) in omega (arith, small, at)
+      | inl l ↦ let s = cond-true (nat_lt (position_or_len test ws) (length ws)) (Some (position_or_len test ws)) None
+          (lt-ltb (position_or_len test ws) (length ws) l) in absurd cc
+      | inr g ↦ let small =
+          leb-false (2 ^ 64) (get_or ws k d.width + e) (fails_before_first test ws k d.width (omega arith)) in
+          omega (arith, small, at)
     ]

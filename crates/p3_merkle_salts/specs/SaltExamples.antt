@@ -10,7 +10,11 @@ use Rattle.p3_merkle_salts.specs.Salted.{IsAfterSome, after_salts, salted_batch}
 
 -- a stream of these words
 abbrev words : List ℕ → Stream
-words xs = record { u32_after = λ calls. 0; u64_after = λ calls. slice_index xs (length calls); bytes_after = λ calls n. [] }
+words xs = record {
+  u32_after = λ calls. 0;
+  u64_after = λ calls. slice_index xs (length calls);
+  bytes_after = λ calls n. [];
+}
 
 -- the word itself
 abbrev whole : ℕ → ℕ
@@ -25,27 +29,37 @@ unfolding next_u64
 salts_after_two_words = refl
 
 -- rows ascending, then the second matrix
-rows_of_two_matrices : map (λ m. m.row 0 ∷ m.row 1 ∷ []) (salted_batch whole 2 (batch 2 (column (1 ∷ 2 ∷ []) ∷ column (3 ∷ 4 ∷ []) ∷ [])) (words (10 ∷ 20 ∷ 30 ∷ 40 ∷ 50 ∷ 60 ∷ 70 ∷ 80 ∷ []))).matrices
+rows_of_two_matrices :
+    map (λ m. m.row 0 ∷ m.row 1 ∷ [])
+    (salted_batch whole 2 (batch 2 (column (1 ∷ 2 ∷ []) ∷ column (3 ∷ 4 ∷ []) ∷ []))
+    (words (10 ∷ 20 ∷ 30 ∷ 40 ∷ 50 ∷ 60 ∷ 70 ∷ 80 ∷ []))).matrices
     ≡ ((1 ∷ 10 ∷ 20 ∷ []) ∷ (2 ∷ 30 ∷ 40 ∷ []) ∷ []) ∷ ((3 ∷ 50 ∷ 60 ∷ []) ∷ (4 ∷ 70 ∷ 80 ∷ []) ∷ []) ∷ []
 unfolding next_u64
 rows_of_two_matrices = refl
 
-leaves_of_salted_rows : layer (fold_example 1) (salted_batch whole 1 (batch 2 (column (1 ∷ 2 ∷ []) ∷ [])) (words (10 ∷ 20 ∷ 30 ∷ 40 ∷ []))) 0 ≡ (1002 ∷ []) ∷ (1043 ∷ []) ∷ []
+leaves_of_salted_rows :
+    layer (fold_example 1) (salted_batch whole 1 (batch 2 (column (1 ∷ 2 ∷ []) ∷ [])) (words (10 ∷ 20 ∷ 30 ∷ 40 ∷ [])))
+    0 ≡ (1002 ∷ []) ∷ (1043 ∷ []) ∷ []
 unfolding next_u64 exponent layer_exponent raw_len node fold_hash fold_compress
 leaves_of_salted_rows = refl
 
-root_of_salted_rows : layer (fold_example 1) (salted_batch whole 1 (batch 2 (column (1 ∷ 2 ∷ []) ∷ [])) (words (10 ∷ 20 ∷ 30 ∷ 40 ∷ []))) 1 ≡ (32106 ∷ []) ∷ []
+root_of_salted_rows :
+    layer (fold_example 1) (salted_batch whole 1 (batch 2 (column (1 ∷ 2 ∷ []) ∷ [])) (words (10 ∷ 20 ∷ 30 ∷ 40 ∷ [])))
+    1 ≡ (32106 ∷ []) ∷ []
 unfolding next_u64 exponent layer_exponent raw_len node fold_hash fold_compress
 root_of_salted_rows = refl
 
 -- the same rows, salted once more, take the next words
 root_of_rows_salted_again :
     let b = batch 2 (column (1 ∷ 2 ∷ []) ∷ []) in
-    layer (fold_example 1) (salted_batch whole 1 b (after_salts 1 b.matrices (words (10 ∷ 20 ∷ 30 ∷ 40 ∷ [])))) 1 ≡ (32746 ∷ []) ∷ []
+    layer (fold_example 1) (salted_batch whole 1 b (after_salts 1 b.matrices (words (10 ∷ 20 ∷ 30 ∷ 40 ∷ [])))) 1
+    ≡ (32746 ∷ []) ∷ []
 unfolding next_u64 exponent layer_exponent raw_len node fold_hash fold_compress
 root_of_rows_salted_again = refl
 
-root_of_a_row_with_two_salts : layer (fold_example 1) (salted_batch whole 2 (batch 2 (column (9 ∷ []) ∷ [])) (words (100 ∷ 101 ∷ []))) 0 ≡ (41641 ∷ []) ∷ []
+root_of_a_row_with_two_salts :
+    layer (fold_example 1) (salted_batch whole 2 (batch 2 (column (9 ∷ []) ∷ [])) (words (100 ∷ 101 ∷ []))) 0
+    ≡ (41641 ∷ []) ∷ []
 unfolding next_u64 exponent layer_exponent raw_len node fold_hash fold_compress
 root_of_a_row_with_two_salts = refl
 

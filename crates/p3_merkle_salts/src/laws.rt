@@ -2,8 +2,8 @@
 
 ghost use Rattle.p3_merkle_salts.specs.SaltedOpenings.{JoinedRowsTell};
 
-/// Where a row or its salts differ, the row followed by its salts differs: both rows have their matrix's width. So what a
-/// collision says of rows followed by their salts, it says of rows and of salts.
+/// Two rows of one width, each followed by its salts, differ if the rows differ or the salts do. So a collision of the
+/// joined rows is one of rows and salts.
 pub fn joined_rows<T>()
     ensures { JoinedRowsTell T }
 {}

@@ -1,4 +1,4 @@
-//! Rows and their salts, and matrices beside theirs.
+//! Rows followed by their salts, and matrices beside theirs.
 #![tactic(auto)]
 
 pub mod laws;

@@ -1,4 +1,4 @@
-//! Matrices beside their salts: what is read out of such pairs.
+//! What is read out of matrices beside their salts.
 
 ghost use Rattle.std.specs.Prelude.{◌≡◌, map, IfOk};
 ghost use Rattle.p3_support.specs.Pairs.{left_of};
@@ -11,7 +11,7 @@ use std::alloc::{AllocError, Global};
 ///
 /// # Errors
 ///
-/// Want of memory.
+/// `AllocError` if memory runs out.
 pub fn left_matrices<'a, T, A: Matrix<T>, B: Matrix<T>>(
     alloc: Global,
     pairs: &[&'a HorizontalPair<T, A, B>],
@@ -29,7 +29,7 @@ pub fn left_matrices<'a, T, A: Matrix<T>, B: Matrix<T>>(
 ///
 /// # Errors
 ///
-/// Want of memory.
+/// `AllocError` if memory runs out.
 pub fn left_widths<T, A: Matrix<T>, B: Matrix<T>>(
     alloc: Global,
     pairs: &[&HorizontalPair<T, A, B>],

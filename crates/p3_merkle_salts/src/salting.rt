@@ -1,4 +1,4 @@
-//! Matrices that get their salts.
+//! Drawing salts for matrices.
 
 ghost use Rattle.std.specs.Prelude.{◌≡◌, ◌≤◌, IfOk, OnOk, map};
 ghost use Rattle.p3_merkle_core.specs.Nodes.{dimensions_of};
@@ -14,14 +14,15 @@ use p3_support::salts::SaltWord;
 use rand_core::Rng;
 use std::alloc::{AllocError, Global};
 
-/// Each matrix beside its salts, `salt_elems` for each of its rows, drawn from the generator: for the matrices in their
-/// order, for the rows of each ascending, one call of `next_u64` for each salt.
+/// Draws `salt_elems` salts for each row of each matrix, and returns each matrix beside its salts. Each salt takes one
+/// call of `next_u64`: matrix by matrix in input order, row by row.
 ///
-/// There is at least one salt for a row, and each matrix can have as many more columns.
+/// `salt_elems` must be at least 1, and the width of each matrix with its salts must fit `usize`.
 ///
 /// # Errors
 ///
-/// Want of memory. The generator then stands after the salts of the first few matrices, perhaps of none or of all.
+/// `AllocError` if memory runs out. Then the generator has drawn the salts of the first few matrices, perhaps of none
+/// or of all.
 pub fn salted_pairs<T: SaltWord, M: Matrix<T> + Drop, R: Rng>(
     alloc: Global,
     rng: &mut R,

@@ -1,4 +1,4 @@
-//! Rows and their salts: what is checked of both, and what is hashed. No call here knows a hash.
+//! The checks of rows and their salts, and the joined rows that are hashed. Nothing here hashes.
 
 ghost use Rattle.std.specs.Prelude.{◌≡◌, ◌++◌, map, IfOk, MatchResult, None, Some};
 ghost use Rattle.p3_support.specs.Batches.{widths_of};
@@ -11,12 +11,13 @@ use p3_merkle_core::geometry::check_widths;
 use p3_support::matrix::Dimensions;
 use std::alloc::{AllocError, Global};
 
-/// Whether there is one row for each matrix, as wide as its matrix without salts, and one list of salts for each row.
+/// Checks that there is one row for each matrix, of the matrix's width without salts, and one list of salts for each
+/// row.
 ///
 /// # Errors
 ///
-/// `WrongBatchSize` where there are not as many rows as matrices; else `WrongWidth` for the first row whose length is
-/// not its matrix's width; else `WrongBatchSize` where there are not as many lists of salts as rows.
+/// `WrongBatchSize` if the number of rows is not that of the matrices; else `WrongWidth` for the first row whose length
+/// is not its matrix's width; else `WrongBatchSize` if the number of lists of salts is not that of the rows.
 pub fn check_salts<T>(
     dimensions: &[Dimensions],
     rows: &[Vec<T>],
@@ -35,12 +36,12 @@ pub fn check_salts<T>(
     Ok(())
 }
 
-/// Whether there are as many salt sets as row sets, and each row set with its salt set passes [`check_salts`].
+/// Checks that there is one salt set for each row set, and that each pair of them passes [`check_salts`].
 ///
 /// # Errors
 ///
-/// `WrongBatchSize` where there are not as many salt sets as row sets; else what `check_salts` answers to the first
-/// row set that it refuses.
+/// `WrongBatchSize` if the number of salt sets is not that of the row sets; else the error of `check_salts` for the
+/// first row set that it refuses.
 pub fn check_salt_sets<T>(
     dimensions: &[Dimensions],
     sets: &[Vec<Vec<T>>],
@@ -61,7 +62,7 @@ pub fn check_salt_sets<T>(
     Ok(())
 }
 
-/// The place of the first matrix of which the width with `salt_elems` more columns passes `usize`.
+/// The place of the first matrix whose width plus `salt_elems` does not fit `usize`.
 fn first_too_wide_of(dimensions: &[Dimensions], salt_elems: usize) -> Option<usize>
     ensures { result ≡ first_too_wide salt_elems (widths_of dimensions.now) }
 {
@@ -71,11 +72,11 @@ fn first_too_wide_of(dimensions: &[Dimensions], salt_elems: usize) -> Option<usi
         .position(|width| width > usize::MAX - salt_elems)
 }
 
-/// Whether each matrix can have `salt_elems` more columns.
+/// Checks that each matrix can have `salt_elems` more columns.
 ///
 /// # Errors
 ///
-/// `TooLarge` for the first matrix whose width with them passes `usize`; its `size` is the width without them.
+/// `TooLarge` for the first matrix whose width plus `salt_elems` does not fit `usize`; its `size` is the width alone.
 pub fn check_widening(dimensions: &[Dimensions], salt_elems: usize) -> Result<(), MerkleTreeError>
     ensures answer { let refusal = widening_refusal salt_elems dimensions.now in
         MatchResult result (λ ok. refusal ≡ None) (λ e. refusal ≡ Some e) }
@@ -90,11 +91,11 @@ pub fn check_widening(dimensions: &[Dimensions], salt_elems: usize) -> Result<()
     Ok(())
 }
 
-/// The dimensions of matrices that have `salt_elems` more columns.
+/// The dimensions, each with `salt_elems` more columns.
 ///
 /// # Errors
 ///
-/// Want of memory.
+/// `AllocError` if memory runs out.
 pub fn widened_dimensions(
     alloc: Global,
     dimensions: &[Dimensions],
@@ -117,7 +118,7 @@ pub fn widened_dimensions(
 ///
 /// # Errors
 ///
-/// Want of memory.
+/// `AllocError` if memory runs out.
 pub fn joined_rows<T: Copy>(
     alloc: Global,
     rows: &[Vec<T>],
@@ -142,11 +143,11 @@ fn joined_row<T: Copy>(alloc: Global, row: &[T], salt: &[T]) -> Result<Vec<T>, A
     Ok(joined)
 }
 
-/// The same of several queries: a row set and a salt set for each.
+/// Each row of several queries followed by its salts. Each query has a row set and a salt set.
 ///
 /// # Errors
 ///
-/// Want of memory.
+/// `AllocError` if memory runs out.
 pub fn joined_row_sets<T: Copy>(
     alloc: Global,
     sets: &[Vec<Vec<T>>],
@@ -161,11 +162,11 @@ pub fn joined_row_sets<T: Copy>(
     Ok(joined)
 }
 
-/// Rows taken apart at these widths: what stands before, and what stands after.
+/// Splits each row at its width: the first parts, and the rests.
 ///
 /// # Errors
 ///
-/// Want of memory.
+/// `AllocError` if memory runs out.
 pub fn split_rows<T: Copy>(
     alloc: Global,
     widths: &[usize],
@@ -184,11 +185,11 @@ pub fn split_rows<T: Copy>(
     Ok((unsalted, salts))
 }
 
-/// The same of the row sets of several queries.
+/// Splits the row sets of several queries as [`split_rows`].
 ///
 /// # Errors
 ///
-/// Want of memory.
+/// `AllocError` if memory runs out.
 pub fn split_row_sets<T: Copy>(
     alloc: Global,
     widths: &[usize],

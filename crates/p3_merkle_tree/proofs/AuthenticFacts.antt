@@ -2,9 +2,9 @@
 use Rattle.std.proofs.Common.{◌≡◌, ◌↔◌, ℕ, ◌+◌, ◌-◌, ◌<◌, ◌≤◌, leb, sym, ◌∙◌, arith, inl, inr, length, get_or}
 use Rattle.std.proofs.lemmas.Bool.{cases_lt, le-leb, lt-leb}
 use Rattle.p3_merkle_core.specs.Geometry.{Shape, IsArity, exponent, heights, layer_exponent, layer_of, levels}
-use Rattle.p3_merkle_core.proofs.LeastFacts.{least_le}
-use Rattle.p3_merkle_core.proofs.LadderFacts.{layer_of_is}
-use Rattle.p3_merkle_core.proofs.FallFacts.{exponents_fall, falls_above}
+use Rattle.p3_merkle_core.proofs.Shapes.LeastFacts.{least_le}
+use Rattle.p3_merkle_core.proofs.Shapes.LadderFacts.{layer_of_is}
+use Rattle.p3_merkle_core.proofs.Shapes.FallFacts.{exponents_fall, falls_above}
 
 -- the matrices with at least the exponent of layer t belong to it, or to a layer below it
 at_or_below : (s : Shape) (t k : ℕ) → IsArity s.arity → t ≤ levels s → k < length (heights s) →
@@ -31,7 +31,11 @@ authenticated_is s t k w in_tree inside =
     let both = at_or_below s t k w in_tree inside in
     elim (cases_lt (exponent h) (layer_exponent s t)) [
       | inl less ↦
-          let above : t < layer_of s h = elim (cases_lt t (layer_of s h)) [ inl a ↦ a | inr low ↦ let z = both.1 low in absurd (omega arith) ] in
+          let above : t < layer_of s h = elim (cases_lt t (layer_of s h)) [
+            | inl a ↦ a
+            | inr low ↦ let z = both.1 low in
+                absurd (omega arith)
+          ] in
           lt-leb (layer_exponent s t) (exponent h) less ∙ sym (lt-leb (layer_of s h) t above)
       | inr enough ↦ le-leb (layer_exponent s t) (exponent h) enough ∙ sym (le-leb (layer_of s h) t (both.0 enough))
     ]

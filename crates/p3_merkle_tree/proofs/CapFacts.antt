@@ -8,8 +8,11 @@ use Rattle.p3_merkle_core.specs.Nodes.{Functions, Batch, shape, layer, layers}
 use Rattle.p3_merkle_core.specs.declared.cap.CapRule.{CapRule}
 
 -- a tree over b of so many layers, whose matrices are those of a
-pub cap_is : {T W : Type 0} (f : Functions T W) (a b : Batch T) (own : List (List (List W))) (rule : CapRule) (c count t : ℕ) (roots : List (List W)) → b ≡ a → own ≡ layers f a →
-    count ≡ levels (shape b) + 1 → t ≡ cap_layer (shape b) rule c → slice_get own (layer_below_root (shape b) (count - 1 - t)) ≡ Some roots → roots ≡ layer f a (cap_layer (shape a) rule c)
+pub cap_is : {T W : Type 0} (f : Functions T W) (a b : Batch T) (own : List (List (List W))) (rule : CapRule)
+    (c count t : ℕ) (roots : List (List W)) → b ≡ a → own ≡ layers f a →
+    count ≡ levels (shape b) + 1 → t ≡ cap_layer (shape b) rule c →
+    slice_get own (layer_below_root (shape b) (count - 1 - t)) ≡ Some roots → roots
+    ≡ layer f a (cap_layer (shape a) rule c)
 cap_is f a b own rule c count t roots same is all at found =
     let n = levels (shape a) in
     let k = cap_layer (shape a) rule c in

@@ -12,16 +12,20 @@ use Rattle.p3_merkle_multiproof.specs.Inner.Pairs.{pruned_in}
 use Rattle.p3_merkle_multiproof.specs.declared.extraction.PrunedOpeningRef.{PrunedOpeningRef}
 
 -- the same terms, of the same hash, compression and layer
-pub terms_alike : {T W H C : Type 0} (hash : H → List T → List W) (compression : C → List (List W) → List W) (d : List W) (s : Shape) (h k : H) (c e : C) (t v : ℕ) → h ≡ k → c ≡ e → t ≡ v →
+pub terms_alike : {T W H C : Type 0} (hash : H → List T → List W) (compression : C → List (List W) → List W)
+    (d : List W) (s : Shape) (h k : H) (c e : C) (t v : ℕ) → h ≡ k → c ≡ e → t ≡ v →
     terms (functions_of (hash h) (compression c) d) s t ≡ terms (functions_of (hash k) (compression e) d) s v
-terms_alike hash compression d s h k c e t v p q r = λ i. terms (functions_of (hash (p i)) (compression (q i)) d) s (r i)
+terms_alike hash compression d s h k c e t v p q r = λ i. terms (functions_of (hash (p i)) (compression (q i)) d) s
+    (r i)
 
 -- the opening of an index, rows and siblings
-pub opening_is : {T W : Type 0} (v : IndexedOpening T (List W)) (index : ℕ) (rows : List (List T)) (siblings : List (List W)) → v.index ≡ index → row_lists v.rows.now ≡ rows → v.siblings.now ≡ siblings →
+pub opening_is : {T W : Type 0} (v : IndexedOpening T (List W)) (index : ℕ) (rows : List (List T))
+    (siblings : List (List W)) → v.index ≡ index → row_lists v.rows.now ≡ rows → v.siblings.now ≡ siblings →
     opening_in v ≡ opening_of index rows siblings
 opening_is v index rows siblings a b c = λ i. opening_of (a i) (b i) (c i)
 
 -- the pruned opening of indices, row sets and digests
-pub pruned_is : {T W : Type 0} (v : PrunedOpeningRef T (List W)) (indices : List ℕ) (rows : List (List (List T))) (digests : List (List W)) → v.indices.now ≡ indices → row_sets v.sets.now ≡ rows → v.sent.now ≡ digests →
+pub pruned_is : {T W : Type 0} (v : PrunedOpeningRef T (List W)) (indices : List ℕ) (rows : List (List (List T)))
+    (digests : List (List W)) → v.indices.now ≡ indices → row_sets v.sets.now ≡ rows → v.sent.now ≡ digests →
     pruned_in v ≡ pruned_of indices rows digests
 pruned_is v indices rows digests a b c = λ i. pruned_of (a i) (b i) (c i)

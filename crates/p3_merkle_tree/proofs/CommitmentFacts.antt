@@ -7,17 +7,19 @@ use Rattle.p3_merkle_core.specs.Geometry.{IsLawful, Shape}
 use Rattle.p3_merkle_core.specs.Nodes.{Batch, Functions, layer, layers, shape}
 use Rattle.p3_merkle_core.specs.declared.error.MerkleTreeError.TheVariants.{OutOfMemory}
 use Rattle.p3_merkle_core.specs.declared.error.MerkleTreeError.{MerkleTreeError}
-use Rattle.p3_merkle_core.proofs.GateFacts.{gate_lawful}
+use Rattle.p3_merkle_core.proofs.Shapes.GateFacts.{gate_lawful}
 use Rattle.p3_merkle_core.specs.Refusals.{AnswersUnlessMemory}
 use Rattle.p3_merkle_core.specs.Checks.{Terms}
 
 -- Ok is answered of lawful heights alone
-pub lawful_when_ok : {A : Type 0} (hs : List ℕ) (r : Result A MerkleTreeError) → AnswersUnlessMemory r (gate_refusal hs) → IfOk r (λ made. IsLawful hs)
+pub lawful_when_ok : {A : Type 0} (hs : List ℕ) (r : Result A MerkleTreeError) →
+    AnswersUnlessMemory r (gate_refusal hs) → IfOk r (λ made. IsLawful hs)
 lawful_when_ok hs (Ok made) answer = (gate_lawful hs).0 answer
 lawful_when_ok hs (Err e) answer = tt
 
 -- of these an error is for want of memory
-pub memory_when_lawful : {A : Type 0} (hs : List ℕ) (r : Result A MerkleTreeError) → AnswersUnlessMemory r (gate_refusal hs) → IsLawful hs → IfErr r (λ e. e ≡ OutOfMemory)
+pub memory_when_lawful : {A : Type 0} (hs : List ℕ) (r : Result A MerkleTreeError) →
+    AnswersUnlessMemory r (gate_refusal hs) → IsLawful hs → IfErr r (λ e. e ≡ OutOfMemory)
 memory_when_lawful hs (Ok made) answer w = tt
 memory_when_lawful hs (Err e) (inl memory) w = memory
 memory_when_lawful hs (Err e) (inr refused) w = let none = (gate_lawful hs).1 w in absurd cc
@@ -28,8 +30,10 @@ no_error_when_ok (Ok v) what ok = tt
 no_error_when_ok (Err e) what ok = absurd cc
 
 -- a tree that keeps the matrices, and is built over their batch, belongs to the cap of one of these
-pub is_committed : {A E M T W : Type 0} (r : Result A E) (cap : A → List (List W)) (own : A → List (List (List W))) (kept : A → List M) (over : List M → Batch T) (c : Shape → Terms T W) (ms : List M) →
-    IfOk r (λ made. kept made ≡ ms) → IfOk r (λ made. IsCommitment (c (shape (over ms))) (cap made) (over ms) (own made)) →
+pub is_committed : {A E M T W : Type 0} (r : Result A E) (cap : A → List (List W)) (own : A → List (List (List W)))
+    (kept : A → List M) (over : List M → Batch T) (c : Shape → Terms T W) (ms : List M) →
+    IfOk r (λ made. kept made ≡ ms) →
+    IfOk r (λ made. IsCommitment (c (shape (over ms))) (cap made) (over ms) (own made)) →
     IfOk r (λ made. IsCommitment (c (shape (over (kept made)))) (cap made) (over (kept made)) (own made))
 is_committed (Ok made) cap own kept over c ms keeps is =
     subst (λ (z : List _). IsCommitment (c (shape (over z))) (cap made) (over z) (own made)) (sym keeps) is

@@ -1,4 +1,4 @@
-//! Extraction: from two openings of one cap that differ to two inputs of one digest.
+//! Extraction of collisions from two openings of one cap.
 
 ghost use Rattle.std.specs.Prelude.{◌≡◌, ◌<◌, IfOk, IsTrue, MatchResult, None, Some, length};
 ghost use Rattle.p3_merkle_core.specs.Checks.{is_authenticated as authenticates};
@@ -15,7 +15,8 @@ ghost use Rattle.p3_support.specs.Shown.{roots_of};
 use crate::mmcs::{MerkleTreeMmcs, Scheme};
 use p3_merkle_core::collision::Collision;
 use p3_merkle_core::error::MerkleTreeError;
-use p3_merkle_core::geometry::{check_heights, exponent_of, layer_exponent_of};
+use p3_merkle_core::geometry::exponent_of;
+use p3_merkle_core::steps::steps_of;
 use p3_merkle_verifier::openings::IndexedOpening;
 use p3_support::compress::PseudoCompressionFunction;
 use p3_support::hasher::CryptographicHasher;
@@ -25,15 +26,14 @@ use p3_support::packed::PackedValue;
 use std::alloc::Global;
 
 impl<P: PackedValue, PW: PackedValue, H, C, X, G, const N: usize> Scheme<P, PW, H, C, X, G, N> {
-    /// Whether a cap over matrices of these dimensions authenticates the rows of one of them: its rows are hashed into
-    /// the cap's layer, or into a layer below it. Of any other matrix a check looks at the width of its row alone. Under
-    /// the rule `Lowered` each matrix is authenticated.
-    ///
-    /// `matrix` is a place in `dimensions`. The call takes no memory.
+    /// Whether a cap over matrices of these dimensions authenticates the rows of the matrix at place `matrix`, which
+    /// must be a place in `dimensions`: its rows are hashed into the cap's layer, or into a layer below it. Of any
+    /// other matrix a verifier checks the width of the row alone. Under the rule `Lowered` every matrix is
+    /// authenticated. The call does not allocate.
     ///
     /// # Errors
     ///
-    /// `EmptyBatch`, `TooLarge` or `IncompatibleHeights` where [`commit`](Self::commit) refuses such heights.
+    /// `EmptyBatch`, `TooLarge` or `IncompatibleHeights` if [`commit`](Self::commit) refuses such heights.
     pub fn is_authenticated(
         &self,
         dimensions: &[Dimensions],
@@ -47,10 +47,11 @@ impl<P: PackedValue, PW: PackedValue, H, C, X, G, const N: usize> Scheme<P, PW, 
             IfOk result (λ answer. answer ≡ authenticates (shape_of N dimensions.now) t matrix) }
         ensures lowered { cap_rule_of self.now ≡ Lowered → IfOk result (λ answer. IsTrue answer) }
     {
-        check_heights(dimensions)?;
-        let t = self.proof_levels(dimensions);
+        let steps = steps_of(dimensions, N);
+        steps.check_heights()?;
+        let cap_layer = steps.cap_layer(self.cap_rule, self.cap_height);
         let height = dimensions[matrix].height;
-        Ok(exponent_of(height) >= layer_exponent_of(dimensions, N, t))
+        Ok(exponent_of(height) >= steps.layer_exponent(cap_layer))
     }
 }
 
@@ -62,24 +63,24 @@ impl<
     const N: usize,
     const D: usize,
 > MerkleTreeMmcs<P, PW, H, C, N, D> {
-    /// What two openings of one cap lead to: nothing where they agree, and else two different inputs of the hasher or
-    /// of the compression that have one digest.
+    /// Extracts a collision from two accepted openings of one cap: two different inputs of the hasher or of the
+    /// compression with one digest, or `None` if the openings agree.
     ///
-    /// Both are checked as [`verify_batch`](Self::verify_batch) checks them. A check goes through the leaf, then level
-    /// by level through a group and, where matrices belong to the layer above, through their rows and a pair (see
-    /// [`Place`](crate::Place)). Checks of one index share all places; checks of two indices share those from the level
-    /// on where their paths lead into one node. The collision is the last shared place at which the inputs differ, with
-    /// the first opening's input and the second's. It takes memory only at places that both checks share.
+    /// Both openings are verified as by [`verify_batch`](Self::verify_batch). A check hashes the leaf, then on each
+    /// level compresses a group and, where matrices are injected above it, hashes their rows and compresses a pair (see
+    /// [`Place`](crate::Place)). Checks of one index share all these places. Checks of two indices share them from the
+    /// level on at which their paths meet. The collision is at the last shared place where the inputs differ, with the
+    /// input of the first opening and that of the second. The call allocates at shared places alone.
     ///
-    /// Two openings of one index lead to a collision exactly if their siblings differ, or their rows of a matrix that
-    /// [is authenticated](Self::is_authenticated). Openings of any indices do wherever they answer one row of such a
-    /// matrix in two ways. Under the rule `Lowered` each matrix is one: different openings of one index lead to a
-    /// collision, and so do openings that answer one row of any matrix in two ways.
+    /// Two openings of one index give a collision exactly if they differ in a sibling, or in a row of an
+    /// [authenticated](Self::is_authenticated) matrix. Openings of any two indices give one if they conflict in a row
+    /// of such a matrix. Under the rule `Lowered` every matrix is authenticated, so any two different openings of one
+    /// index give a collision.
     ///
     /// # Errors
     ///
-    /// What `verify_batch` answers to the first opening, else what it answers to the second; `OutOfMemory` may come at
-    /// any time.
+    /// The error of `verify_batch` for the first opening, else that for the second; `OutOfMemory` may come at any
+    /// time.
     pub fn extract_collision(
         &self,
         alloc: Global,

@@ -27,19 +27,19 @@ impl<
     const N: usize,
     const D: usize,
 > MerkleTreeMmcs<P, PW, H, C, N, D> {
-    /// What two pruned openings of one cap lead to: nothing where all their queries agree, and else a query of each that
-    /// leads to two different inputs of the hasher or of the compression that have one digest.
+    /// What two pruned openings of one cap lead to: nothing where all their queries agree, and else a query of each
+    /// that leads to two different inputs of the hasher or of the compression that have one digest.
     ///
-    /// Both are checked as [`verify_batch_pruned`](Self::verify_batch_pruned) checks them, each with its own queries, and the
-    /// path of each query is restored. The answer is the first pair of queries, by the first list, then by the second, whose
-    /// checks differ at a place that both share: the place of each query in its own list, from 0, and the collision, as
-    /// [`extract_collision`](Self::extract_collision) finds it in the two single openings. It takes the time of a check for
-    /// each pair of queries, and memory for the restored paths and for what two checks share.
+    /// Both are checked as [`verify_batch_pruned`](Self::verify_batch_pruned) checks them, each with its own queries,
+    /// and the path of each query is restored. The answer is the first pair of queries, by the first list, then by the
+    /// second, whose checks differ at a place that both share: the place of each query in its own list, from 0, and the
+    /// collision, as [`extract_collision`](Self::extract_collision) finds it in the two single openings. It takes the
+    /// time of a check for each pair of queries, and memory for the restored paths and for what two checks share.
     ///
     /// # Errors
     ///
-    /// What `verify_batch_pruned` answers to the first opening, else what it answers to the second; `OutOfMemory` may come
-    /// at any time.
+    /// What `verify_batch_pruned` answers to the first opening, else what it answers to the second; `OutOfMemory` may
+    /// come at any time.
     pub fn extract_collision_multi(
         &self,
         alloc: Global,

@@ -1,5 +1,5 @@
-//! Merkle commitments to matrices of different heights: one tree of any arity over a batch of matrices, and
-//! openings of its rows that a verifier checks against a cap.
+//! Merkle commitments to matrices of different heights: one tree of any arity over a batch of matrices, and openings of
+//! its rows, which a verifier checks against a cap.
 #![tactic(auto)]
 
 mod extract;

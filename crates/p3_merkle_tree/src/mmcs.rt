@@ -1,4 +1,4 @@
-//! The scheme: committing to matrices, opening their rows, and checking what is opened.
+//! The scheme: it commits to matrices, opens their rows, and verifies openings.
 
 ghost use Rattle.std.specs.Prelude.{◌≡◌, ◌<◌, ◌≤◌, ◌↔◌, IfOk, IsOk, IsTrue, None};
 ghost use Rattle.p3_merkle_core.specs.Geometry.{is_arity, IsArity};
@@ -8,7 +8,7 @@ ghost use Rattle.p3_support.specs.Batches.{greatest};
 use p3_merkle_core::cap::{CapRule, cap_layer_of};
 use p3_merkle_core::error::MerkleTreeError;
 use p3_merkle_core::steps::steps_of;
-use p3_merkle_prover::opener::{cap_layer_in, rows_of_index, siblings_of_index};
+use p3_merkle_prover::opener::{cap_layer_in, rows_of_index, siblings_of_index, steps_in};
 use p3_merkle_prover::tree::MerkleTree;
 use p3_merkle_verifier::level::Checker;
 use p3_merkle_verifier::openings::IndexedOpening;
@@ -23,8 +23,7 @@ use std::marker::PhantomData;
 /// The scheme of a hasher `H` and a compression `C`, with digests `X` and groups `G` of `N` digests, packed in `P`
 /// and `PW`. [`MerkleTreeMmcs`] is this scheme at digests of words.
 ///
-/// Every scheme has an arity `N` that is a power of two from 2 to 2^62, and packings of equally many lanes, at least
-/// one.
+/// The arity `N` is a power of two from 2 to 2^62. Both packings have equally many lanes, at least one.
 #[derive(Debug)]
 pub struct Scheme<P: PackedValue, PW: PackedValue, H, C, X, G, const N: usize> {
     pub(crate) hash: H,
@@ -45,7 +44,7 @@ pub type MerkleTreeMmcs<P: PackedValue, PW: PackedValue, H, C, const N: usize, c
 impl<P: PackedValue, PW: PackedValue, H: Copy, C: Copy, X: Copy, G: Copy, const N: usize> Copy
     for Scheme<P, PW, H, C, X, G, N> {}
 
-/// A clone has clones of the hasher and of the compression, the same cap height and the same rule.
+/// Clones the hasher and the compression, and keeps the cap height and the rule.
 impl<P: PackedValue, PW: PackedValue, H: Clone, C: Clone, X: Clone, G: Clone, const N: usize> Clone
     for Scheme<P, PW, H, C, X, G, N> {
     ghost use Rattle.p3_merkle_tree.specs.Schemes.{cap_height_of, cap_rule_of, compression_of, hash_of};
@@ -71,14 +70,14 @@ impl<P: PackedValue, PW: PackedValue, H, C, X, G, const N: usize> Scheme<P, PW, 
     ghost use Rattle.p3_merkle_core.specs.Geometry.{shape_of};
     ghost use Rattle.p3_merkle_tree.specs.Schemes.{cap_height_of, cap_rule_of, compression_of, hash_of, proof_layer};
 
-    /// How many levels below the root the cap is, as it was handed to [`new`](Self::new).
+    /// The cap height that was given to [`new`](Self::new), in levels below the root.
     pub fn cap_height(&self) -> usize
         ensures { result ≡ cap_height_of self.now }
     {
         self.cap_height
     }
 
-    /// By which rule the cap's layer is chosen.
+    /// The rule that chooses the cap's layer.
     pub fn cap_rule(&self) -> CapRule
         ensures { result ≡ cap_rule_of self.now }
     {
@@ -92,7 +91,7 @@ impl<P: PackedValue, PW: PackedValue, H, C, X, G, const N: usize> Scheme<P, PW, 
         cap_layer_of(dimensions, N, self.cap_rule, self.cap_height)
     }
 
-    /// What checks openings for the scheme, with its hasher and its compression.
+    /// The checker of openings, with the scheme's hasher and compression.
     pub(crate) fn checker(&self) -> Checker<'_, P, PW, H, C, G>
         ensures hash { result.hash.now ≡ hash_of self.now }
         ensures compress { result.compress.now ≡ compression_of self.now }
@@ -125,11 +124,11 @@ impl<
     ghost use Rattle.p3_merkle_tree.specs.Schemes.{cap_height_of, cap_rule_of, compression_of, hash_of, proof_layer, terms_of, terms_over};
     ghost use Rattle.p3_support.specs.Shown.{roots_of};
 
-    /// The scheme of a hasher and a compression, whose cap is `cap_height` levels below the root, 0 for the root alone,
-    /// but never below the last layer to which a matrix belongs: the rule [`CapRule::Lowered`], under which a cap fixes
-    /// every row of every matrix. [`new_with_rule`](Self::new_with_rule) takes the rule of the Rust crate, too.
+    /// The scheme of a hasher and a compression. Its cap is `cap_height` levels below the root (0 is the root alone),
+    /// or fewer where a matrix is injected above that layer: the rule [`CapRule::Lowered`], under which a cap fixes
+    /// every row of every matrix. [`new_with_rule`](Self::new_with_rule) also takes the rule of the Rust crate.
     ///
-    /// `N` is a power of two from 2 to 2^62, and both packings have equally many lanes, at least one.
+    /// `N` must be a power of two from 2 to 2^62, and both packings must have equally many lanes, at least one.
     pub fn new(hash: H, compress: C, cap_height: usize) -> MerkleTreeMmcs<P, PW, H, C, N, D>
         requires arity { IsTrue (is_arity N) }
         requires lanes { P.WIDTH ≡ PW.WIDTH }
@@ -142,10 +141,8 @@ impl<
         Self::new_with_rule(hash, compress, cap_height, CapRule::Lowered)
     }
 
-    /// The scheme of a hasher and a compression, whose cap is `cap_height` levels below the root as far as the rule lets
-    /// it: see [`CapRule`]. A cap of one rule is in general not accepted under the other.
-    ///
-    /// It asks what [`new`](Self::new) asks, and takes no memory.
+    /// The scheme with a cap of this height by this rule: see [`CapRule`]. A cap of one rule is in general refused
+    /// under the other. The conditions are those of [`new`](Self::new). It does not allocate.
     pub fn new_with_rule(
         hash: H,
         compress: C,
@@ -169,14 +166,14 @@ impl<
         }
     }
 
-    /// Commits to matrices: the cap of their tree, and the tree, which keeps the matrices in input order. The cap is
-    /// a whole layer, padding included: the one `cap_height` levels below the root, as far as the scheme's rule lets it.
+    /// Commits to matrices. Returns the cap of their tree, and the tree, which keeps the matrices in input order. The
+    /// cap is a whole layer of digests, padding included.
     ///
     /// # Errors
     ///
-    /// `EmptyBatch` where no matrix has a row; else `TooLarge` for the first height above 2^62; else
-    /// `IncompatibleHeights` for the first height that is not the tallest one halved and rounded up some number of
-    /// times. `OutOfMemory` may come at any time.
+    /// `EmptyBatch` if no matrix has a row; else `TooLarge` for the first height above 2^62; else `IncompatibleHeights`
+    /// for the first height that is not the tallest one halved and rounded up some number of times. `OutOfMemory` may
+    /// come at any time.
     pub fn commit<M: Matrix<P::Value> + Drop>(
         &self,
         alloc: Global,
@@ -202,23 +199,22 @@ impl<
             &self.compress,
             matrices,
         )?;
-        let t = cap_layer_in(&tree, self.cap_rule, self.cap_height);
-        let cap = tree.cap(alloc, tree.num_layers() - 1 - t)?;
+        let cap_layer = cap_layer_in(&tree, self.cap_rule, self.cap_height);
+        let cap = tree.cap(alloc, tree.num_layers() - 1 - cap_layer)?;
         Ok((cap, tree))
     }
 
-    /// Opens the leaf `index` of a tree: of each matrix, in input order, the row that belongs to the leaf, and the
+    /// Opens the leaf `index` of a tree: the row of each matrix that belongs to the leaf, in input order, and the
     /// siblings on the leaf's path to the cap.
     ///
-    /// The index counts rows of the tallest matrix and is below its height; a matrix whose height is the tallest halved
-    /// `k` times (and rounded up each time) opens the row `index >> k`. The siblings come level by level, from the leaves
-    /// up to the cap: of each group on the path all digests but the path's own, ascending. They are read from the tree,
-    /// whoever built it; where its layers are those of this scheme's own hasher and compression, the opening is accepted
-    /// under the cap of its tree.
+    /// The index counts rows of the tallest matrix and must be below its height. A matrix whose height is the tallest
+    /// one halved `k` times (rounded up each time) opens its row `index >> k`. The siblings come level by level, from
+    /// the leaves to the cap: all digests of the group but the path's own, in order. They are read from the tree. The
+    /// opening is accepted under the cap of the tree if the tree was built with this scheme's hasher and compression.
     ///
     /// # Errors
     ///
-    /// `OutOfMemory` alone.
+    /// Only `OutOfMemory`.
     pub fn open_batch<M: Matrix<P::Value>>(
         &self,
         alloc: Global,
@@ -230,7 +226,7 @@ impl<
             let t = proof_layer self.now (shape b) in
             IfOk result (λ o. opening_made index o ≡ opening_in_layers b (layers_of tree.now) t index) }
 
-        // Where the tree is this scheme's own, the opening is the honest one, and it is accepted.
+        // If the tree is this scheme's own, the opening is the honest one, and it is accepted.
         ensures honest { let b = tree_batch tree.now in
             let c = terms_over H.hash C.compression D self.now (shape b) in
             IsOwn c b (layers_of tree.now) →
@@ -240,33 +236,35 @@ impl<
             IsOwn c b (layers_of tree.now) → IfOk result (λ o. IsAccepted c (cap_over c b) (opening_made index o)) }
         ensures memory { AnswersUnlessMemory result None }
     {
-        let proof_levels = cap_layer_in(tree, self.cap_rule, self.cap_height);
+        let steps = steps_in(tree);
+        let cap_layer = steps.cap_layer(self.cap_rule, self.cap_height);
         let opened_values = rows_of_index(alloc, tree, index)?;
-        let opening_proof = siblings_of_index(alloc, tree, index, proof_levels)?;
+        let opening_proof = siblings_of_index(alloc, tree, &steps, index, cap_layer)?;
         Ok(BatchOpening {
             opened_values,
             opening_proof,
         })
     }
 
-    /// Checks an opening of the leaf `index` against a cap: whether hashing the rows, and compressing the digest with
-    /// its siblings level by level, leads to the cap's entry above the leaf. It takes no memory.
+    /// Verifies an opening of the leaf `index` against a cap: hashes the rows, compresses the digest with its siblings
+    /// level by level, and compares the last digest with the cap's entry above the leaf. It does not allocate.
     ///
-    /// The opening has one row for each of `dimensions`, as wide as that says, and for each level below the cap one
-    /// sibling less than a node there has children. The dimensions must come from who checks, since a cap binds
-    /// heights only up to padding. Under the rule `Fixed` a matrix whose layer is above the cap's is never hashed, so
-    /// that of its row only the width is checked; under `Lowered` there is no such matrix.
+    /// An accepted opening has one row for each of `dimensions`, of that width, and for each level below the cap one
+    /// sibling less than a node there has children. `dimensions` are those of the matrices, in input order. They must
+    /// come from the verifier, never from the proof: a cap does not fix them. Under the rule `Fixed` the rows of a
+    /// matrix above the cap's layer are never hashed, and only their width is checked; under `Lowered` there is no such
+    /// matrix.
     ///
     /// # Errors
     ///
     /// The first of these that holds:
     ///
-    /// - `WrongBatchSize`: there are not as many rows as dimensions;
+    /// - `WrongBatchSize`: the number of rows is not that of the dimensions;
     /// - `EmptyBatch`, `TooLarge` or `IncompatibleHeights`: [`commit`](Self::commit) refuses such heights;
-    /// - `WrongHeight`: there are not as many siblings as the levels below the cap need;
-    /// - `WrongWidth`: a row, the first such, has not the width of its matrix;
+    /// - `WrongHeight`: the number of siblings is not what the levels below the cap need;
+    /// - `WrongWidth`, for the first row whose length is not the width of its matrix;
     /// - `IndexOutOfBounds`: the index is not below the tallest height;
-    /// - `CapMismatch`: the cap has no entry above the leaf, or it is not the digest that the check reaches.
+    /// - `CapMismatch`: the cap has no entry above the leaf, or another digest than the one computed.
     pub fn verify_batch(
         &self,
         commit: &MerkleCap<P::Value, [PW::Value; D]>,
@@ -280,10 +278,10 @@ impl<
             IsOk result ↔ IsAccepted c (roots_of commit.now) (opening_lent index opening.entry) }
     {
         let steps = steps_of(dimensions, N);
-        let t = steps.cap_layer(self.cap_rule, self.cap_height);
+        let cap_layer = steps.cap_layer(self.cap_rule, self.cap_height);
         let opening = IndexedOpening::new(index, opening);
         self.checker()
-            .check_opening(commit.roots(), &steps, t, opening)
+            .check_opening(commit.roots(), &steps, cap_layer, opening)
     }
 }
 

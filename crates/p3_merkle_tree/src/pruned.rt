@@ -35,16 +35,16 @@ use std::alloc::Global;
 
 impl<P: PackedValue, PW: PackedValue, H, C, X, G, const N: usize> Scheme<P, PW, H, C, X, G, N> {
     /// How many digests a pruned proof of some indices has, over matrices of these dimensions: one for each node below
-    /// the cap's layer that is neither a queried leaf nor above one, and whose parent is above one. No smaller set of such
-    /// digests suffices.
+    /// the cap's layer that is neither a queried leaf nor above one, and whose parent is above one. No smaller set of
+    /// such digests suffices.
     ///
     /// The indices come in any order, and again, too.
     ///
     /// # Errors
     ///
     /// `EmptyBatch`, `TooLarge` or `IncompatibleHeights` where [`commit`](Self::commit) refuses such heights; else
-    /// `IndexOutOfBounds` for the highest index, where it is not below the tallest height. `OutOfMemory` may come at any
-    /// time.
+    /// `IndexOutOfBounds` for the highest index, where it is not below the tallest height. `OutOfMemory` may come at
+    /// any time.
     pub fn pruned_len(
         &self,
         alloc: Global,
@@ -70,11 +70,12 @@ impl<
     const N: usize,
     const D: usize,
 > MerkleTreeMmcs<P, PW, H, C, N, D> {
-    /// Opens several leaves of a tree at once: for each index, in query order, the row of each matrix that belongs to the
-    /// leaf, and one proof for all of them, which has as few digests as can be (see [`pruned_len`](Self::pruned_len)).
+    /// Opens several leaves of a tree at once: for each index, in query order, the row of each matrix that belongs to
+    /// the leaf, and one proof for all of them, which has as few digests as can be (see
+    /// [`pruned_len`](Self::pruned_len)).
     ///
-    /// The indices count rows of the tallest matrix and are below its height; they come in any order, and again, too. The
-    /// digests are read from the tree, whoever built it; where its layers are those of this scheme's own hasher and
+    /// The indices count rows of the tallest matrix and are below its height; they come in any order, and again, too.
+    /// The digests are read from the tree, whoever built it; where its layers are those of this scheme's own hasher and
     /// compression, the opening is accepted under the cap of its tree, and restores to the siblings that
     /// [`open_batch`](Self::open_batch) opens.
     ///
@@ -95,8 +96,8 @@ impl<
             let t = proof_layer self.now s in
             IfOk result (λ o. IsLeast s indices.now t (length (pruned_made indices.now o).digests)) }
 
-        // Where the tree is this scheme's own, the opening is the honest one; it is accepted, and restores to the siblings
-        // that `open_batch` opens.
+        // Where the tree is this scheme's own, the opening is the honest one; it is accepted, and restores to the
+        // siblings that `open_batch` opens.
         ensures honest { let b = tree_batch tree.now in
             let c = terms_over H.hash C.compression D self.now (shape b) in
             IsOwn c b (layers_of tree.now) →
@@ -139,8 +140,8 @@ impl<
             let t = proof_layer self.now s in
             IfOk result (λ o. IsLeast s indices.now t (length (multi_made indices.now o).digests)) }
 
-        // Where the tree is this scheme's own, the opening is the honest one; it is accepted, and restores to the siblings
-        // that `open_batch` opens.
+        // Where the tree is this scheme's own, the opening is the honest one; it is accepted, and restores to the
+        // siblings that `open_batch` opens.
         ensures honest { let b = tree_batch tree.now in
             let c = terms_over H.hash C.compression D self.now (shape b) in
             IsOwn c b (layers_of tree.now) →
@@ -163,12 +164,13 @@ impl<
     }
 
     /// Checks the openings of several leaves by one pruned proof against a cap: whether the rows of the queries and the
-    /// digests of the proof lead to the cap's entries above the leaves. Where it is Ok, each query with its restored path is
-    /// accepted by [`verify_batch`](Self::verify_batch), and the proof has just [`pruned_len`](Self::pruned_len) digests.
+    /// digests of the proof lead to the cap's entries above the leaves. Where it is Ok, each query with its restored
+    /// path is accepted by [`verify_batch`](Self::verify_batch), and the proof has just
+    /// [`pruned_len`](Self::pruned_len) digests.
     ///
-    /// There is a row set for each index, with one row for each of `dimensions`, as wide as that says. Queries of one index
-    /// have the same rows, and so have queries under one node, of the matrices of its layer. The dimensions must come from
-    /// who checks.
+    /// There is a row set for each index, with one row for each of `dimensions`, as wide as that says. Queries of one
+    /// index have the same rows, and so have queries under one node, of the matrices of its layer. The dimensions must
+    /// come from who checks.
     ///
     /// # Errors
     ///
@@ -180,10 +182,10 @@ impl<
     /// - `IndexOutOfBounds`: the highest index is not below the tallest height;
     /// - `InconsistentDuplicateOpenings`: a query's rows are not those of the first query of its index;
     /// - `SiblingCountMismatch`: there are not as many digests as the indices leave unknown;
-    /// - `WrongBatchSize`, `WrongWidth`: by ascending indices, a row set has not one row for each matrix, or a row not the
-    ///   width of its matrix;
-    /// - `InconsistentGroupOpening`: layer by layer, by ascending indices, a row is not that of the lowest index under the
-    ///   same node;
+    /// - `WrongBatchSize`, `WrongWidth`: by ascending indices, a row set has not one row for each matrix, or a row not
+    ///   the width of its matrix;
+    /// - `InconsistentGroupOpening`: layer by layer, by ascending indices, a row is not that of the lowest index under
+    ///   the same node;
     /// - `CapMismatch`: the cap has no entry above a leaf, or it is not the digest that the check reaches.
     ///
     /// Those of pruned proofs come as `MalformedPrunedProof`.
@@ -240,14 +242,14 @@ impl<
         self.verify_batch_pruned(alloc, commit, dimensions, indices, rows, proof)
     }
 
-    /// The path of each query, in query order, with its index: the siblings that [`open_batch`](Self::open_batch) would open,
-    /// restored from the rows of all queries and the digests of a pruned proof. No cap is looked at; under a cap
+    /// The path of each query, in query order, with its index: the siblings that [`open_batch`](Self::open_batch) would
+    /// open, restored from the rows of all queries and the digests of a pruned proof. No cap is looked at; under a cap
     /// [`verify_batch_pruned`](Self::verify_batch_pruned) accepts what restores, exactly where
     /// [`verify_batch`](Self::verify_batch) accepts each query with its rows and its path.
     ///
-    /// There is a row set for each index, with one row for each of `dimensions`, as wide as that says, and the proof has
-    /// [`pruned_len`](Self::pruned_len) digests. Queries of one index have the same rows, and so have queries under one node,
-    /// of the matrices of its layer. The dimensions must come from who checks.
+    /// There is a row set for each index, with one row for each of `dimensions`, as wide as that says, and the proof
+    /// has [`pruned_len`](Self::pruned_len) digests. Queries of one index have the same rows, and so have queries under
+    /// one node, of the matrices of its layer. The dimensions must come from who checks.
     ///
     /// # Errors
     ///
@@ -259,10 +261,10 @@ impl<
     /// - `IndexOutOfBounds`: the highest index is not below the tallest height;
     /// - `InconsistentDuplicateOpenings`: a query's rows are not those of the first query of its index;
     /// - `SiblingCountMismatch`: there are not as many digests as the indices leave unknown;
-    /// - `WrongBatchSize`, `WrongWidth`: by ascending indices, a row set has not one row for each matrix, or a row not the
-    ///   width of its matrix;
-    /// - `InconsistentGroupOpening`: layer by layer, by ascending indices, a row is not that of the lowest index under the
-    ///   same node.
+    /// - `WrongBatchSize`, `WrongWidth`: by ascending indices, a row set has not one row for each matrix, or a row not
+    ///   the width of its matrix;
+    /// - `InconsistentGroupOpening`: layer by layer, by ascending indices, a row is not that of the lowest index under
+    ///   the same node.
     ///
     /// Those of pruned proofs come as `MalformedPrunedProof`.
     pub fn restore_and_recompute_paths(

@@ -1,14 +1,12 @@
-//! How the paths of a scheme go: steps and positions level by level, and what a tree shows of its matrices.
+//! Steps and positions of paths, level by level, and the matrices of a tree.
 
 ghost use Rattle.std.specs.Prelude.{◌≡◌, ◌≤◌, IfErr, IfOk, map, take, vec_len, None};
 ghost use Rattle.p3_merkle_core.specs.Refusals.{AnswersUnlessMemory};
 
 use crate::mmcs::Scheme;
 use p3_merkle_core::error::MerkleTreeError;
-use p3_merkle_core::geometry::{
-    ArityAndPositions, check_heights, positions_below_of, schedule_below_of, tallest_of,
-};
-use p3_merkle_core::steps::siblings_below_of;
+use p3_merkle_core::geometry::ArityAndPositions;
+use p3_merkle_core::steps::steps_of;
 use p3_merkle_prover::opener::{matrix_refs, max_height};
 use p3_merkle_prover::tree::Tree;
 use p3_support::matrix::{Dimensions, Matrix};
@@ -33,13 +31,13 @@ impl<P: PackedValue, PW: PackedValue, H, C, X: Copy, G, const N: usize> Scheme<
     ghost use Rattle.p3_merkle_prover.specs.Parts.{matrices_of, tree_batch};
     ghost use Rattle.p3_merkle_tree.specs.Schemes.{proof_layer};
 
-    /// The steps of the levels below the cap, from the leaves up, in children a node: those of the tree over matrices
-    /// of these dimensions, without those above the cap.
+    /// The step of each level below the cap, from the leaves up: how many children a node above it has, in the tree
+    /// over matrices of these dimensions.
     ///
     /// # Errors
     ///
-    /// `EmptyBatch`, `TooLarge` or `IncompatibleHeights` where [`commit`](Self::commit) refuses such heights;
-    /// `OutOfMemory`.
+    /// `EmptyBatch`, `TooLarge` or `IncompatibleHeights` if [`commit`](Self::commit) refuses such heights;
+    /// `OutOfMemory` may come at any time.
     pub fn proof_arity_schedule(
         &self,
         alloc: Global,
@@ -52,19 +50,21 @@ impl<P: PackedValue, PW: PackedValue, H, C, X: Copy, G, const N: usize> Scheme<
             IfOk result (λ v. v.items ≡ take (proof_layer self.now s) (schedule_in s)) }
         ensures few { IfOk result (λ v. vec_len v ≤ exponent (greatest (heights_of dimensions.now))) }
     {
-        check_heights(dimensions)?;
-        Ok(schedule_below_of(alloc, dimensions, N, self.proof_levels(dimensions))?)
+        let steps = steps_of(dimensions, N);
+        steps.check_heights()?;
+        let cap_layer = steps.cap_layer(self.cap_rule, self.cap_height);
+        Ok(steps.schedule_below(alloc, cap_layer)?)
     }
 
-    /// How the path of a leaf goes that a proof of `num_siblings` digests is for: the steps of
-    /// [`proof_arity_schedule`](Self::proof_arity_schedule), and the place of the leaf's ancestor on each level.
+    /// The path of the leaf `index` to the cap, for a proof of `num_siblings` digests: the steps of
+    /// [`proof_arity_schedule`](Self::proof_arity_schedule), and on each level the position of the leaf's ancestor in
+    /// its group.
     ///
     /// # Errors
     ///
-    /// The first of these that holds: `EmptyBatch`, `TooLarge` or `IncompatibleHeights` where
-    /// [`commit`](Self::commit) refuses such heights; `IndexOutOfBounds` where the index is not below the tallest
-    /// height; `WrongHeight` where there are not as many siblings as the levels below the cap need. `OutOfMemory` may
-    /// come at any time.
+    /// The first of these that holds: `EmptyBatch`, `TooLarge` or `IncompatibleHeights` if [`commit`](Self::commit)
+    /// refuses such heights; `IndexOutOfBounds` if the index is not below the tallest height; `WrongHeight` if
+    /// `num_siblings` is not what the levels below the cap need. `OutOfMemory` may come at any time.
     pub fn replay_arity_and_positions(
         &self,
         alloc: Global,
@@ -79,13 +79,14 @@ impl<P: PackedValue, PW: PackedValue, H, C, X: Copy, G, const N: usize> Scheme<
         ensures positions { let s = shape_of N dimensions.now in
             IfOk result (λ r. r.query_positions.items ≡ positions_below s (proof_layer self.now s) index) }
     {
-        check_heights(dimensions)?;
-        let max_height = tallest_of(dimensions);
+        let steps = steps_of(dimensions, N);
+        steps.check_heights()?;
+        let max_height = steps.max_height;
         if index >= max_height {
             return Err(MerkleTreeError::IndexOutOfBounds { max_height, index });
         }
-        let proof_levels = self.proof_levels(dimensions);
-        let expected_proof_len = siblings_below_of(dimensions, N, proof_levels);
+        let cap_layer = steps.cap_layer(self.cap_rule, self.cap_height);
+        let expected_proof_len = steps.siblings_below(cap_layer);
         if num_siblings != expected_proof_len {
             return Err(MerkleTreeError::WrongHeight {
                 expected_proof_len,
@@ -93,8 +94,8 @@ impl<P: PackedValue, PW: PackedValue, H, C, X: Copy, G, const N: usize> Scheme<
             });
         }
         Ok(ArityAndPositions {
-            arity_schedule: schedule_below_of(alloc, dimensions, N, proof_levels)?,
-            query_positions: positions_below_of(alloc, dimensions, N, proof_levels, index)?,
+            arity_schedule: steps.schedule_below(alloc, cap_layer)?,
+            query_positions: steps.positions_below(alloc, cap_layer, index)?,
         })
     }
 
@@ -102,7 +103,7 @@ impl<P: PackedValue, PW: PackedValue, H, C, X: Copy, G, const N: usize> Scheme<
     ///
     /// # Errors
     ///
-    /// `OutOfMemory` alone.
+    /// Only `OutOfMemory`.
     pub fn get_matrices<'a, M: Matrix<P::Value>>(
         &self,
         alloc: Global,

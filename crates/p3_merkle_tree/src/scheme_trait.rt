@@ -27,7 +27,7 @@ use p3_support::opening::{BatchOpening, BatchOpeningRef, MerkleCap};
 use p3_support::packed::PackedValue;
 use std::alloc::Global;
 
-/// The calls of the scheme. What is committed to is a tree, and a commitment is its cap.
+/// The scheme as an `Mmcs`. The prover keeps the tree, and the commitment is its cap.
 impl<
     P: PackedValue,
     PW: PackedValue,

@@ -7,21 +7,24 @@ use Rattle.p3_merkle_core.specs.Geometry.{Shape, IsArity, exponent, heights, is_
 use Rattle.p3_merkle_core.specs.Nodes.{Functions, padded}
 use Rattle.p3_merkle_core.specs.Openings.{Opening}
 use Rattle.p3_merkle_core.specs.Checks.{layer_words, path_digest, siblings_below, words_of_exponent}
-use Rattle.p3_merkle_core.proofs.Completeness.{reached_leaf, reached_next}
-use Rattle.p3_merkle_core.proofs.SiblingFacts.{siblings_next, siblings_start}
-use Rattle.p3_merkle_core.proofs.StepFacts.{anc_next, anc_start, step_above_1}
+use Rattle.p3_merkle_core.proofs.Checks.Completeness.{reached_leaf, reached_next}
+use Rattle.p3_merkle_core.proofs.Shapes.SiblingFacts.{siblings_next, siblings_start}
+use Rattle.p3_merkle_core.proofs.Shapes.StepFacts.{anc_next, anc_start, step_above_1}
 use Rattle.p3_merkle_verifier.specs.Inner.Checks.{CanStep, IsAbove, IsLevelOfCheck, StandsAt, step_siblings}
 use Rattle.p3_merkle_verifier.specs.Inner.Paths.{CanReach, rows_of_exponent}
 use Rattle.p3_merkle_verifier.specs.declared.level.Progress.{Progress}
-use Rattle.p3_merkle_core.proofs.CheckFacts.{full_group, inputs_with_rows, inputs_alone}
+use Rattle.p3_merkle_core.proofs.Checks.CheckFacts.{full_group, inputs_with_rows, inputs_alone}
 
 -- rows that are read whole, one after another, are the words of these rows
-pub words_read : {T R : Type 0} (now : R → List T) (x : ℕ) (pairs : List (ℕ × List T)) (rows : List R) → map now rows ≡ rows_of_exponent x pairs → flat_map now rows ≡ words_of_exponent x pairs
+pub words_read : {T R : Type 0} (now : R → List T) (x : ℕ) (pairs : List (ℕ × List T)) (rows : List R) → map now rows
+    ≡ rows_of_exponent x pairs → flat_map now rows ≡ words_of_exponent x pairs
 words_read now x pairs rows e =
-    sym (flat_map-map (λ row. row) now rows) ∙ ap (flat_map (λ row. row)) e ∙ flat_map-map (λ row. row) (λ (h, row). row) (filter (λ (h, row). eqb (exponent h) x) pairs)
+    sym (flat_map-map (λ row. row) now rows) ∙ ap (flat_map (λ row. row)) e
+    ∙ flat_map-map (λ row. row) (λ (h, row). row) (filter (λ (h, row). eqb (exponent h) x) pairs)
 
 -- a check begins at its leaf
-pub stands_first : {T W : Type 0} (f : Functions T W) (s : Shape) (o : Opening T W) (standing : Progress (List W)) → standing.exponent ≡ layer_exponent s 0 → standing.node ≡ o.index → standing.used ≡ 0 →
+pub stands_first : {T W : Type 0} (f : Functions T W) (s : Shape) (o : Opening T W) (standing : Progress (List W)) →
+    standing.exponent ≡ layer_exponent s 0 → standing.node ≡ o.index → standing.used ≡ 0 →
     standing.digest ≡ f.hash (words_of_exponent standing.exponent (zip (heights s) o.rows)) → StandsAt f s o 0 standing
 stands_first f s o standing is node used digest =
     record {
@@ -37,12 +40,14 @@ pub record IsStepFrom (s : Shape) (l n y : ℕ) : Type 0 where
   pub above : y ≡ layer_exponent s (suc l)
 
 -- where there are siblings for the level, the step can take its own
-pub can_step : (s : Shape) (l n y used count : ℕ) → IsArity s.arity → IsStepFrom s l n y → used ≡ siblings_below s l → siblings_below s (suc l) ≤ count → CanStep s.arity n used count
+pub can_step : (s : Shape) (l n y used count : ℕ) → IsArity s.arity → IsStepFrom s l n y → used ≡ siblings_below s l →
+    siblings_below s (suc l) ≤ count → CanStep s.arity n used count
 can_step s l n y used count w from taken enough =
     let two = w.above_1 in
     record {
       wide = rw from.is_step (step_above_1 s l two);
-      narrow = rw from.is_step (cond_both (is_bridge s (layer_exponent s l)) 2 s.arity (λ x. x ≤ s.arity) (λ t. two) (λ t. omega arith));
+      narrow = rw from.is_step (cond_both (is_bridge s (layer_exponent s l)) 2 s.arity (λ x. x ≤ s.arity) (λ t. two)
+          (λ t. omega arith));
       enough = omega (arith, siblings_next s l, from.is_step, taken, enough);
     }
 
@@ -58,14 +63,18 @@ enough_below s t l count w h =
     let more = rw rest at (siblings_mono s (suc l) (t - suc l)) in
     omega (arith, more, w.all_siblings)
 
-module _ {T W : Type 0} (f : Functions T W) (s : Shape) (o : Opening T W) (l n y : ℕ) (standing above : Progress (List W)) (group : List (List W)) where
+module _ {T W : Type 0} (f : Functions T W) (s : Shape) (o : Opening T W) (l n y : ℕ) (standing above :
+    Progress (List W)) (group : List (List W)) where
   -- the group of the level
   group_is : IsStepFrom s l n y → StandsAt f s o l standing →
-      group ≡ padded s.arity f.default_digest (insert (step_siblings n o.siblings standing.used) (standing.node % n) standing.digest) → group ≡ full_group f s o l
+      group ≡ padded s.arity f.default_digest
+      (insert (step_siblings n o.siblings standing.used) (standing.node % n) standing.digest) → group
+      ≡ full_group f s o l
   group_is from at e = e ∙ rw (from.is_step, at.taken, at.at_node, at.reached) refl
 
   -- the check stands at the next layer, if the digest there is the one that the path reaches
-  stands_above : IsStepFrom s l n y → StandsAt f s o l standing → {digest : List W} → IsAbove n y digest standing above → digest ≡ path_digest f s o (suc l) → StandsAt f s o (suc l) above
+  stands_above : IsStepFrom s l n y → StandsAt f s o l standing → {digest : List W} →
+      IsAbove n y digest standing above → digest ≡ path_digest f s o (suc l) → StandsAt f s o (suc l) above
   stands_above from at up reached =
       record {
         at_exponent = up.at_exponent ∙ from.above;
@@ -76,12 +85,18 @@ module _ {T W : Type 0} (f : Functions T W) (s : Shape) (o : Opening T W) (l n y
 
   -- a level with rows above it
   pub level_with_rows : IsStepFrom s l n y → StandsAt f s o l standing →
-      group ≡ padded s.arity f.default_digest (insert (step_siblings n o.siblings standing.used) (standing.node % n) standing.digest) → has_rows s (suc l) ≡ true →
-      (pair : List (List W)) → pair ≡ padded s.arity f.default_digest (f.compression group ∷ f.hash (words_of_exponent y (zip (heights s) o.rows)) ∷ []) → IsAbove n y (f.compression pair) standing above →
+      group ≡ padded s.arity f.default_digest
+      (insert (step_siblings n o.siblings standing.used) (standing.node % n) standing.digest) → has_rows s (suc l)
+      ≡ true →
+      (pair : List (List W)) → pair
+      ≡ padded s.arity f.default_digest (f.compression group ∷ f.hash (words_of_exponent y (zip (heights s) o.rows))
+      ∷ []) → IsAbove n y (f.compression pair) standing above →
       IsLevelOfCheck f s o l (record { level = l; group = group; pair = Some pair; above = above })
   level_with_rows from at e has pair p up =
       let whole = group_is from at e in
-      let full : pair ≡ padded s.arity f.default_digest (f.compression (full_group f s o l) ∷ f.hash (layer_words s o.rows (suc l)) ∷ []) = rw (whole, from.above) at p in
+      let full : pair
+      ≡ padded s.arity f.default_digest (f.compression (full_group f s o l) ∷ f.hash (layer_words s o.rows (suc l))
+      ∷ []) = rw (whole, from.above) at p in
       let next = rw has at (reached_next f s o l) in
       record {
         at_level = refl;
@@ -91,7 +106,9 @@ module _ {T W : Type 0} (f : Functions T W) (s : Shape) (o : Opening T W) (l n y
 
   -- a level without
   pub level_alone : IsStepFrom s l n y → StandsAt f s o l standing →
-      group ≡ padded s.arity f.default_digest (insert (step_siblings n o.siblings standing.used) (standing.node % n) standing.digest) → has_rows s (suc l) ≡ false →
+      group ≡ padded s.arity f.default_digest
+      (insert (step_siblings n o.siblings standing.used) (standing.node % n) standing.digest) → has_rows s (suc l)
+      ≡ false →
       IsAbove n y (f.compression group) standing above →
       IsLevelOfCheck f s o l (record { level = l; group = group; pair = None; above = above })
   level_alone from at e has up =

@@ -11,7 +11,7 @@ use Rattle.p3_merkle_core.specs.Nodes.{Functions}
 use Rattle.p3_merkle_core.specs.Openings.{Opening}
 use Rattle.p3_merkle_core.specs.Checks.{Input, inputs_at, layer_words, leaf_input, words_at, words_of_exponent}
 use Rattle.p3_merkle_core.specs.Refusals.{unless}
-use Rattle.p3_merkle_core.proofs.StepFacts.{layer_start}
+use Rattle.p3_merkle_core.proofs.Shapes.StepFacts.{layer_start}
 use Rattle.p3_merkle_verifier.specs.Inner.Checks.{IsLevelOfCheck, StandsAt, leaf_difference, level_difference}
 use Rattle.p3_merkle_verifier.specs.Inner.Collisions.{IsDifference, Shows, level_inputs}
 use Rattle.p3_merkle_core.specs.declared.collision.Place.TheVariants.{Leaf}
@@ -23,13 +23,15 @@ use Rattle.p3_support.specs.declared.matrix.Dimensions.{Dimensions}
 use Rattle.p3_support.specs.Shown.{row_lists}
 
 -- the checks of two openings stand at layer l, and this is the last difference below it
-pub record StandTogether {T W : Type 0} (test : Input T W → Input T W → Bool) (f : Functions T W) (s : Shape) (o u : Opening T W) (l : ℕ) (first second : Progress (List W)) (last : Option (InputPair T (List W))) : Type 0 where
+pub record StandTogether {T W : Type 0} (test : Input T W → Input T W → Bool) (f : Functions T W) (s : Shape)
+    (o u : Opening T W) (l : ℕ) (first second : Progress (List W)) (last : Option (InputPair T (List W))) : Type 0 where
   pub first_stands : StandsAt f s o l first
   pub second_stands : StandsAt f s u l second
   pub found : Shows last (difference_below test f s o u l)
 
 -- the same words, by the same dimensions, exponent and rows
-pub words_alike : {T A : Type 0} (d e : List Dimensions) (x y : ℕ) (v w : List (Vec T A)) → d ≡ e → x ≡ y → v ≡ w → words_of_exponent x (zip (heights_of d) (row_lists v)) ≡ words_of_exponent y (zip (heights_of e) (row_lists w))
+pub words_alike : {T A : Type 0} (d e : List Dimensions) (x y : ℕ) (v w : List (Vec T A)) → d ≡ e → x ≡ y → v ≡ w →
+    words_of_exponent x (zip (heights_of d) (row_lists v)) ≡ words_of_exponent y (zip (heights_of e) (row_lists w))
 words_alike d e x y v w same_d same_x same_v =
     ap (λ (z : List Dimensions). words_of_exponent x (zip (heights_of z) (row_lists v))) same_d
     ∙ ap (λ (z : ℕ). words_of_exponent z (zip (heights_of e) (row_lists v))) same_x
@@ -37,43 +39,60 @@ words_alike d e x y v w same_d same_x same_v =
 
 -- ---- at the leaf
 
--- the exponent of the leaves
-pub at_leaf : (s : Shape) (x y : ℕ) (m : ℕ) → x ≡ y → y ≡ exponent m → m ≡ greatest (heights s) → x ≡ layer_exponent s 0
-at_leaf s x y m same top tall = same ∙ top ∙ ap exponent tall ∙ sym (layer_start s)
+shows_unless : {T W : Type 0} (found : Option (InputPair T (List W))) (same : Bool) (pair : Input T W × Input T W) →
+    IsDifference found same pair → Shows found (unless same pair)
+shows_unless found same pair e = elim (cases_Bool same) [
+  | inl t ↦ let c = rw t at e in rw t c
+  | inr f ↦ let c = rw f at e in rw f c
+]
 
-shows_unless : {T W : Type 0} (found : Option (InputPair T (List W))) (same : Bool) (pair : Input T W × Input T W) → IsDifference found same pair → Shows found (unless same pair)
-shows_unless found same pair e = elim (cases_Bool same) [ inl t ↦ let c = rw t at e in rw t c | inr f ↦ let c = rw f at e in rw f c ]
-
-pub found_leaf : {T W : Type 0} (eq : T → T → Bool) (same : W → W → Bool) (s : Shape) (o u : Opening T W) (mine theirs : List T) (found : Option (InputPair T (List W))) → o.index ≡ u.index →
-    mine ≡ layer_words s o.rows 0 → theirs ≡ layer_words s u.rows 0 → IsDifference found (pointwise eq mine theirs) (words_at Leaf mine, words_at Leaf theirs) → Shows found (leaf_difference (input_eq eq same) s o u)
+pub found_leaf : {T W : Type 0} (eq : T → T → Bool) (same : W → W → Bool) (s : Shape) (o u : Opening T W) (mine theirs :
+    List T) (found : Option (InputPair T (List W))) → o.index ≡ u.index →
+    mine ≡ layer_words s o.rows 0 → theirs ≡ layer_words s u.rows 0 →
+    IsDifference found (pointwise eq mine theirs) (words_at Leaf mine, words_at Leaf theirs) →
+    Shows found (leaf_difference (input_eq eq same) s o u)
 found_leaf eq same s o u mine theirs found e a b is =
     let here = rw (a, b) at is in
-    rw (eq-eqb o.index u.index e) (shows_unless found (pointwise eq (layer_words s o.rows 0) (layer_words s u.rows 0)) (leaf_input s o, leaf_input s u) here)
+    rw (eq-eqb o.index u.index e) (shows_unless found (pointwise eq (layer_words s o.rows 0) (layer_words s u.rows 0))
+    (leaf_input s o, leaf_input s u) here)
 
 -- ---- on one more level
 
 -- what is shown of the two levels is the last difference of their inputs
-pub found_here : {T W : Type 0} (test : Input T W → Input T W → Bool) (f : Functions T W) (s : Shape) (l : ℕ) (o u : Opening T W) (found : Option (InputPair T (List W))) (mine theirs : CheckedLevel (List W) (List (List W))) (a b : List T) →
-    IsLevelOfCheck f s o l mine → IsLevelOfCheck f s u l theirs → a ≡ layer_words s o.rows (suc l) → b ≡ layer_words s u.rows (suc l) →
-    Shows found (last_difference test (level_inputs mine.level a mine) (level_inputs mine.level b theirs)) → Shows found (last_difference test (inputs_at f s o l) (inputs_at f s u l))
+pub found_here : {T W : Type 0} (test : Input T W → Input T W → Bool) (f : Functions T W) (s : Shape) (l : ℕ)
+    (o u : Opening T W) (found : Option (InputPair T (List W))) (mine theirs : CheckedLevel (List W) (List (List W)))
+    (a b : List T) →
+    IsLevelOfCheck f s o l mine → IsLevelOfCheck f s u l theirs → a ≡ layer_words s o.rows (suc l) → b
+    ≡ layer_words s u.rows (suc l) →
+    Shows found (last_difference test (level_inputs mine.level a mine) (level_inputs mine.level b theirs)) →
+    Shows found (last_difference test (inputs_at f s o l) (inputs_at f s u l))
 found_here test f s l o u found mine theirs a b m n is_a is_b shown =
     let mine_is : level_inputs mine.level a mine ≡ inputs_at f s o l =
     ap (λ (j : ℕ). level_inputs j a mine) m.at_level ∙ ap (λ (z : List _). level_inputs l z mine) is_a ∙ m.inputs_are in
     let theirs_is : level_inputs mine.level b theirs ≡ inputs_at f s u l =
-    ap (λ (j : ℕ). level_inputs j b theirs) m.at_level ∙ ap (λ (z : List _). level_inputs l z theirs) is_b ∙ n.inputs_are in
+    ap (λ (j : ℕ). level_inputs j b theirs) m.at_level ∙ ap (λ (z : List _). level_inputs l z theirs) is_b
+    ∙ n.inputs_are in
     subst (λ (ys : List (Input _ _)). Shows found (last_difference test (inputs_at f s o l) ys)) theirs_is
-    (subst (λ (xs : List (Input _ _)). Shows found (last_difference test xs (level_inputs mine.level b theirs))) mine_is shown)
+    (subst (λ (xs : List (Input _ _)). Shows found (last_difference test xs (level_inputs mine.level b theirs))) mine_is
+    shown)
 
 -- the last difference there, where both checks stand at one node above the level, else the one below
-pub found_next : {T W : Type 0} (test : Input T W → Input T W → Bool) (f : Functions T W) (s : Shape) (l : ℕ) (o u : Opening T W) (last next : Option (InputPair T (List W))) (mine theirs : CheckedLevel (List W) (List (List W))) →
+pub found_next : {T W : Type 0} (test : Input T W → Input T W → Bool) (f : Functions T W) (s : Shape) (l : ℕ)
+    (o u : Opening T W) (last next : Option (InputPair T (List W))) (mine theirs :
+    CheckedLevel (List W) (List (List W))) →
     IsLevelOfCheck f s o l mine → IsLevelOfCheck f s u l theirs → Shows last (difference_below test f s o u l) →
-    ((mine.above.node ≡ theirs.above.node) × ((found : Option (InputPair T (List W))) × Shows found (last_difference test (inputs_at f s o l) (inputs_at f s u l)) × (next ≡ option_or found last)))
+    ((mine.above.node ≡ theirs.above.node) ×
+    ((found : Option (InputPair T (List W))) ×
+    Shows found (last_difference test (inputs_at f s o l) (inputs_at f s u l)) × (next ≡ option_or found last)))
     ⊎ ((mine.above.node ≡ theirs.above.node → ⊥) × (next ≡ last)) →
     Shows next (difference_below test f s o u (l + 1))
 found_next test f s l o u last next mine theirs m n below (inl k) =
-    let met = eq-eqb (ancestor s (suc l) o.index) (ancestor s (suc l) u.index) (sym m.stands.at_node ∙ k.0 ∙ n.stands.at_node) in
+    let met = eq-eqb (ancestor s (suc l) o.index) (ancestor s (suc l) u.index) (sym m.stands.at_node ∙ k.0
+    ∙ n.stands.at_node) in
     let here : Shows (k.1.0) (level_difference test f s l o u) = rw met (k.1.1) in
-    rw (add-one, k.1.2) (shows_later (k.1.0) last (level_difference test f s l o u) (difference_below test f s o u l) here below)
+    rw (add-one, k.1.2) (shows_later (k.1.0) last (level_difference test f s l o u) (difference_below test f s o u l)
+    here below)
 found_next test f s l o u last next mine theirs m n below (inr k) =
-    let apart = ne_eqb (ancestor s (suc l) o.index) (ancestor s (suc l) u.index) (λ e. k.0 (m.stands.at_node ∙ e ∙ sym n.stands.at_node)) in
+    let apart = ne_eqb (ancestor s (suc l) o.index) (ancestor s (suc l) u.index)
+    (λ e. k.0 (m.stands.at_node ∙ e ∙ sym n.stands.at_node)) in
     rw (add-one, k.1, apart) below

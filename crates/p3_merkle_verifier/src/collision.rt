@@ -26,7 +26,7 @@ pub(crate) struct RowPair<'a, T> {
 }
 
 /// The digests at a place, where they differ.
-pub(crate) fn differing_digests<T, W: Copy + Eq, const D: usize>(
+fn differing_digests<T, W: Copy + Eq, const D: usize>(
     alloc: Global,
     place: Place,
     first: &[[W; D]],

@@ -31,8 +31,8 @@ impl<
     const N: usize,
     const D: usize,
 > Checker<'a, P, PW, H, C, [[PW::Value; D]; N]> {
-    /// What two openings under the roots of a cap, which is layer `t`, lead to: nothing where their checks agree, and else
-    /// the last place that both share and at which their inputs differ.
+    /// What two openings under the roots of a cap, which is layer `t`, lead to: nothing where their checks agree, and
+    /// else the last place that both share and at which their inputs differ.
     ///
     /// `N` is a power of two from 2 to 2^62, and `t` is at most the number of levels.
     ///

@@ -7,20 +7,20 @@ ghost use Rattle.p3_merkle_verifier.specs.Inner.Paths.{CanCheck};
 ghost use Rattle.p3_support.specs.Shown.{row_lists};
 
 use p3_merkle_core::error::MerkleTreeError;
-use p3_merkle_core::geometry::{check_heights, check_widths, tallest_of};
+use p3_merkle_core::geometry::check_widths;
 use p3_merkle_core::steps::Steps;
 
-/// Whether an opening of the leaf `index` has the form that the tree of these steps gives it: a row for each matrix, and
-/// `num_siblings` digests for the levels below layer `t`.
+/// Whether an opening of the leaf `index` has the form that the tree of these steps gives it: a row for each matrix,
+/// and `num_siblings` digests for the levels below layer `t`.
 ///
 /// The arity is a power of two from 2 to 2^62, and `t` is at most the number of levels.
 ///
 /// # Errors
 ///
 /// The first of these that holds: `WrongBatchSize` where there are not as many rows as dimensions; `EmptyBatch`,
-/// `TooLarge` or `IncompatibleHeights` where no tree can be built over such heights; `WrongHeight` where there are not as
-/// many siblings as the levels below layer `t` have; `WrongWidth` for the first row that has not the width of its matrix;
-/// `IndexOutOfBounds` where the index is not below the tallest height.
+/// `TooLarge` or `IncompatibleHeights` where no tree can be built over such heights; `WrongHeight` where there are not
+/// as many siblings as the levels below layer `t` have; `WrongWidth` for the first row that has not the width of its
+/// matrix; `IndexOutOfBounds` where the index is not below the tallest height.
 pub(crate) fn check_form<T>(
     steps: &Steps<'_>,
     t: usize,
@@ -40,7 +40,7 @@ pub(crate) fn check_form<T>(
             got: rows.len(),
         });
     }
-    check_heights(dimensions)?;
+    steps.check_heights()?;
     let expected_proof_len = steps.siblings_below(t);
     if num_siblings != expected_proof_len {
         return Err(MerkleTreeError::WrongHeight {
@@ -49,7 +49,7 @@ pub(crate) fn check_form<T>(
         });
     }
     check_widths(dimensions, rows)?;
-    let max_height = tallest_of(dimensions);
+    let max_height = steps.max_height;
     if index >= max_height {
         return Err(MerkleTreeError::IndexOutOfBounds { max_height, index });
     }

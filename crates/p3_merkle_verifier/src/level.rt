@@ -118,7 +118,8 @@ pub(crate) fn leaf<
     }
 }
 
-/// Tells that an opening with its siblings up to layer `t` has those of each level below it. It does nothing at run time.
+/// Tells that an opening with its siblings up to layer `t` has those of each level below it. It does nothing at run
+/// time.
 pub(crate) fn tell_siblings<X>(
     dimensions: &[Dimensions],
     arity: usize,

@@ -90,7 +90,8 @@ pub(crate) fn opened_slices<'a, T>(
 impl<'a, T> Iterator for OpenedSlices<'a, T> {
     type Item = &'a [T];
 
-    ghost next_gives = { YieldsFirstBy (λ row. row.now) (λ s. rows_of_exponent s.exponent (zip (heights_of s.dimensions.now) (row_lists s.rows.now))) };
+    ghost next_gives = { YieldsFirstBy (λ row. row.now)
+        (λ s. rows_of_exponent s.exponent (zip (heights_of s.dimensions.now) (row_lists s.rows.now))) };
 
     ghost remaining = { item_count (λ s. rows_of_exponent s.exponent (zip (heights_of s.dimensions.now) (row_lists s.rows.now))) };
 

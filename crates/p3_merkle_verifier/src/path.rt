@@ -29,9 +29,9 @@ impl<
 > Checker<'a, P, PW, H, C, [[PW::Value; D]; N]> {
     /// The digest that the check of an opening reaches at layer `t`, and the node of that layer above the leaf.
     ///
-    /// The opening has its siblings up to layer `t`, `N` is a power of two from 2 to 2^62, and `t` is at most the number
-    /// of levels. The call takes no memory.
-    pub(crate) fn path_digest(
+    /// The opening has its siblings up to layer `t`, `N` is a power of two from 2 to 2^62, and `t` is at most the
+    /// number of levels. The call takes no memory.
+    fn path_digest(
         &self,
         steps: &Steps<'_>,
         t: usize,
@@ -52,15 +52,15 @@ impl<
         (standing.digest, standing.node)
     }
 
-    /// Checks an opening against the roots of a cap, which is layer `t`: whether its form is right, and its path leads to
-    /// the root above the leaf.
+    /// Checks an opening against the roots of a cap, which is layer `t`: whether its form is right, and its path leads
+    /// to the root above the leaf.
     ///
     /// `N` is a power of two from 2 to 2^62, and `t` is at most the number of levels. The call takes no memory.
     ///
     /// # Errors
     ///
-    /// What [`check_form`] answers; else `CapMismatch` where there is no root above the leaf, or it is not the digest that
-    /// the check reaches.
+    /// What [`check_form`] answers; else `CapMismatch` where there is no root above the leaf, or it is not the digest
+    /// that the check reaches.
     pub fn check_opening(
         &self,
         roots: &[[PW::Value; D]],

@@ -3,7 +3,7 @@
 ghost use Rattle.std.specs.Prelude.{◌≡◌, IfOk, replicate};
 ghost use Rattle.p3_merkle_core.specs.Checks.{terms};
 ghost use Rattle.p3_merkle_core.specs.Extraction.{difference_of, input_eq};
-ghost use Rattle.p3_merkle_core.specs.Geometry.{shape_of};
+ghost use Rattle.p3_merkle_core.specs.Geometry.{layer_exponent, shape_of};
 ghost use Rattle.p3_merkle_core.specs.Nodes.{functions_of};
 ghost use Rattle.p3_merkle_verifier.specs.Inner.Checks.{leaf_difference, opening_in};
 ghost use Rattle.p3_merkle_verifier.specs.Inner.Collisions.{Shows};
@@ -12,18 +12,19 @@ use crate::collision::{differing_level, differing_words};
 use crate::level::{Checker, leaf, tell_siblings};
 use crate::openings::OpeningPair;
 use p3_merkle_core::collision::{Collision, Place};
-use p3_merkle_core::geometry::{exponent_of, tallest_of};
 use p3_merkle_core::steps::steps_of;
 use p3_support::compress::PseudoCompressionFunction;
 use p3_support::hasher::CryptographicHasher;
 use p3_support::packed::PackedValue;
 use std::alloc::{AllocError, Global};
 
-/// The words of the leaf, if the checks of both openings share it and they differ there.
+/// The words of the leaf, whose exponent this is, if the checks of both openings share it and they differ there.
 fn leaf_difference<T: Copy + Eq + Drop, W: Copy + Eq, const N: usize, const D: usize>(
     alloc: Global,
     openings: &OpeningPair<'_, T, [W; D], N>,
+    exponent: usize,
 ) -> Result<Option<Collision<T, W, D>>, AllocError>
+    requires { exponent ≡ layer_exponent (shape_of N openings.now.dimensions.now) 0 }
     ensures { let o = opening_in openings.now.first in
         let u = opening_in openings.now.second in
         let s = shape_of N openings.now.dimensions.now in
@@ -32,7 +33,6 @@ fn leaf_difference<T: Copy + Eq + Drop, W: Copy + Eq, const N: usize, const D: u
     if openings.first.index != openings.second.index {
         return Ok(None);
     }
-    let exponent = exponent_of(tallest_of(openings.dimensions));
     differing_words(alloc, Place::Leaf, &openings.rows_of_exponent(exponent))
 }
 
@@ -67,7 +67,7 @@ impl<
         let steps = steps_of(dimensions, N);
         let mut first = leaf::<P, PW, H, D>(self.hash, &steps, openings.first);
         let mut second = leaf::<P, PW, H, D>(self.hash, &steps, openings.second);
-        let mut last = leaf_difference(alloc, openings)?;
+        let mut last = leaf_difference(alloc, openings, steps.exponent)?;
         for level in 0..openings.t {
             tell_siblings(dimensions, N, openings.t, level, openings.first.siblings);
             tell_siblings(dimensions, N, openings.t, level, openings.second.siblings);

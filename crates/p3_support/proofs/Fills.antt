@@ -6,7 +6,8 @@ use lib.ListN.{get_or-append}
 use borrow.Rule.Slice.PartMut.{put_mid, post_of}
 
 -- one more place that has what it should
-pub filled_more : {X : Type 0} (f : ℕ → X) (xs : List X) (i : ℕ) (y d : X) → i < length xs → y ≡ f i → ((j : ℕ) → j < i → get_or xs j d ≡ f j)
+pub filled_more : {X : Type 0} (f : ℕ → X) (xs : List X) (i : ℕ) (y d : X) → i < length xs → y ≡ f i →
+    ((j : ℕ) → j < i → get_or xs j d ≡ f j)
     → (j : ℕ) → j < i + 1 → get_or (set xs i y) j d ≡ f j
 filled_more f xs i y d inside made before j below =
     elim (cases_eq j i) [
@@ -15,7 +16,8 @@ filled_more f xs i y d inside made before j below =
     ]
 
 -- as many more places as there are lanes that have what they should
-pub filled_block : {X : Type 0} (f : ℕ → X) (xs ys : List X) (first n : ℕ) (d : X) → ((k : ℕ) → k < n → get_or ys (first + k) d ≡ f (first + k)) → ((j : ℕ) → j < first → get_or ys j d ≡ get_or xs j d)
+pub filled_block : {X : Type 0} (f : ℕ → X) (xs ys : List X) (first n : ℕ) (d : X) →
+    ((k : ℕ) → k < n → get_or ys (first + k) d ≡ f (first + k)) → ((j : ℕ) → j < first → get_or ys j d ≡ get_or xs j d)
     → ((j : ℕ) → j < first → get_or xs j d ≡ f j) → (j : ℕ) → j < first + n → get_or ys j d ≡ f j
 filled_block f xs ys first n d here before so_far j below =
     elim (cases_lt j first) [
@@ -24,8 +26,10 @@ filled_block f xs ys first n d here before so_far j below =
     ]
 
 -- what stands in a part of a list once that part is written
-pub get_or-put_mid : {X : Type 0} (a m k : ℕ) (xs ys : List X) (d : X) → a ≤ length xs → k < length ys → get_or (put_mid a m xs ys) (a + k) d ≡ get_or ys k d
+pub get_or-put_mid : {X : Type 0} (a m k : ℕ) (xs ys : List X) (d : X) → a ≤ length xs → k < length ys →
+    get_or (put_mid a m xs ys) (a + k) d ≡ get_or ys k d
 get_or-put_mid a m k xs ys d inside below =
     let same : a + k - a ≡ k = omega arith in
     let within : a + k - a < length ys = rw same below in
-    get_or-append_right (take a xs) (ys ++ post_of a m xs) a (a + k) d (length-take-le a xs inside) (omega arith) ∙ get_or-append ys (post_of a m xs) d (a + k - a) within ∙ ap (λ i. get_or ys i d) same
+    get_or-append_right (take a xs) (ys ++ post_of a m xs) a (a + k) d (length-take-le a xs inside) (omega arith)
+    ∙ get_or-append ys (post_of a m xs) d (a + k - a) within ∙ ap (λ i. get_or ys i d) same

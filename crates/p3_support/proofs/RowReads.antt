@@ -19,7 +19,8 @@ pub drop_at : {A : Type 0} (xs : List A) (c : ℕ) (x : A) → slice_get xs c �
 drop_at xs c x at = drop-cons xs c x (slice_get_within xs c x at) ∙ rw (add-one, get_or_from_slice_get xs c x x at) refl
 
 -- the same where the list is made from indices
-pub drop_column : {A : Type 0} (f : ℕ → A) (c w : ℕ) → c < w → drop c (map f (range_with_len 0 w)) ≡ f c ∷ drop (c + 1) (map f (range_with_len 0 w))
+pub drop_column : {A : Type 0} (f : ℕ → A) (c w : ℕ) → c < w → drop c (map f (range_with_len 0 w))
+    ≡ f c ∷ drop (c + 1) (map f (range_with_len 0 w))
 drop_column f c w below =
     let xs = map f (range_with_len 0 w) in
     let inside : c < length xs = rw (length-map-range_with_len f 0 w) below in
@@ -30,7 +31,8 @@ pub drop_columns : {A : Type 0} (f : ℕ → A) (w : ℕ) → drop w (map f (ran
 drop_columns f w = drop_all w (map f (range_with_len 0 w)) (omega (arith, length-map-range_with_len f 0 w))
 
 -- the element of a row that is stored among others
-pub message_at : {A : Type 0} (xs : List A) (w h r c : ℕ) (x : A) → length xs ≡ h * w → r < h → c < w → x ≡ slice_index_or xs (r * w + c) x
+pub message_at : {A : Type 0} (xs : List A) (w h r c : ℕ) (x : A) → length xs ≡ h * w → r < h → c < w → x
+    ≡ slice_index_or xs (r * w + c) x
     → slice_get (message w xs r) c ≡ Some x
 message_at xs w h r c x full below inside read =
     let more = next_start r w in
@@ -54,32 +56,41 @@ chunk_of_rows xs w h a (suc n) full fits =
     let up : (a + 1) * w ≤ (a + 1 + n) * w = mul-le-mul_right w (omega arith) in
     let long : length one ≡ w = length-message xs w h a full (omega (arith, fits)) in
     let whole : (a + suc n) * w - a * w ≡ length one + left = rw end (omega (arith, step, up, long)) in
-    ap (λ k. take k (drop (a * w) xs)) whole ∙ ap (take (length one + left)) (drop_split xs (a * w) ((a + 1) * w) (omega (arith, step)))
+    ap (λ k. take k (drop (a * w) xs)) whole
+    ∙ ap (take (length one + left)) (drop_split xs (a * w) ((a + 1) * w) (omega (arith, step)))
     ∙ take-append-add one later left ∙ ap (λ l. one ++ l) (chunk_of_rows xs w h (a + 1) n full (omega (arith, fits)))
 
 module _ {A M : Type 0} (height : M → ℕ) (row : M → ℕ → List A) (h r : ℕ) where
   -- one more element of the first matrix
-  pub rows_more : (m : M) (ms xs : List M) (c : ℕ) (x : A) → xs ≡ m ∷ ms → (height m == h) ≡ true → slice_get (row m r) c ≡ Some x
+  pub rows_more : (m : M) (ms xs : List M) (c : ℕ) (x : A) → xs ≡ m ∷ ms → (height m == h) ≡ true →
+      slice_get (row m r) c ≡ Some x
       → rows_left height row h r xs c ≡ x ∷ rows_left height row h r xs (c + 1)
   rows_more m ms xs c x e same at = rw (e, same, drop_at (row m r) c x at) refl
 
 -- lane k of the packed columns of rows is row k of them
-pub lane_of_columns : {A P : Type 0} (lanes : P → List A) (row : ℕ → List A) (d : A) (r n k w : ℕ) (ps : List P) → map lanes ps ≡ columns row d r n w → k < n → length (row (r + k)) ≡ w
+pub lane_of_columns : {A P : Type 0} (lanes : P → List A) (row : ℕ → List A) (d : A) (r n k w : ℕ) (ps : List P) →
+    map lanes ps ≡ columns row d r n w → k < n → length (row (r + k)) ≡ w
     → lane_of lanes d k ps ≡ row (r + k)
 lane_of_columns {A} lanes row d r n k w ps packed below long =
     let pick = λ (xs : List A). get_or xs k d in
-    let at : (c : ℕ) → pick (column_of_rows row d r n c) ≡ get_or (row (r + k)) c d = λ c. get_or-map-range_with_len (λ j. get_or (row (r + j)) c d) 0 n k k d below (omega arith) in
+    let at : (c : ℕ) → pick (column_of_rows row d r n c) ≡ get_or (row (r + k)) c d =
+    λ c. get_or-map-range_with_len (λ j. get_or (row (r + j)) c d) 0 n k k d below (omega arith) in
     sym (map-map pick lanes ps) ∙ ap (map pick) packed ∙ map-map pick (column_of_rows row d r n) (range_with_len 0 w)
     ∙ sym (fill_by_all (λ c. pick (column_of_rows row d r n c)) (row (r + k)) w d long (λ c h. sym (at c)))
 
 -- an element of the first of two lists, read in the two, one after the other
-pub joined_first : {A : Type 0} (xs ys : List A) (c : ℕ) (x : A) → slice_get xs c ≡ Some x → slice_get (xs ++ ys) c ≡ Some x
+pub joined_first : {A : Type 0} (xs ys : List A) (c : ℕ) (x : A) → slice_get xs c ≡ Some x → slice_get (xs ++ ys) c
+    ≡ Some x
 joined_first xs ys c x at =
     let inside = slice_get_within xs c x at in
-    slice_get_read (xs ++ ys) (length xs + length ys) c x (sym (length-append xs ys)) (omega (arith, inside)) (sym (get_or-append xs ys x c inside ∙ get_or_from_slice_get xs c x x at))
+    slice_get_read (xs ++ ys) (length xs + length ys) c x (sym (length-append xs ys)) (omega (arith, inside))
+    (sym (get_or-append xs ys x c inside ∙ get_or_from_slice_get xs c x x at))
 
 -- the same of the second, where the first has n elements
-pub joined_second : {A : Type 0} (xs ys : List A) (n c : ℕ) (x : A) → length xs ≡ n → n ≤ c → slice_get ys (c - n) ≡ Some x → slice_get (xs ++ ys) c ≡ Some x
+pub joined_second : {A : Type 0} (xs ys : List A) (n c : ℕ) (x : A) → length xs ≡ n → n ≤ c → slice_get ys (c - n)
+    ≡ Some x → slice_get (xs ++ ys) c ≡ Some x
 joined_second xs ys n c x long above at =
     let inside = slice_get_within ys (c - n) x at in
-    slice_get_read (xs ++ ys) (length xs + length ys) c x (sym (length-append xs ys)) (omega (arith, long, above, inside)) (sym (get_or-append_right xs ys n c x long above ∙ get_or_from_slice_get ys (c - n) x x at))
+    slice_get_read (xs ++ ys) (length xs + length ys) c x (sym (length-append xs ys))
+    (omega (arith, long, above, inside))
+    (sym (get_or-append_right xs ys n c x long above ∙ get_or_from_slice_get ys (c - n) x x at))

@@ -4,10 +4,10 @@ ghost use Rattle.p3_support.specs.Lists.{lane_of};
 
 use crate::packed::PackedValue;
 
-/// A compression: from groups of `N` digests to one digest, of `D` lane values of `PW` each. There
-/// is one function, and all three calls give it. No call takes memory.
+/// A compression function from groups of `N` digests to one digest, of `D` lane values of `PW` each. All three calls
+/// compute this one function. None of them allocates.
 pub trait PseudoCompressionFunction<PW: PackedValue, const N: usize, const D: usize> {
-    /// How many groups `compress_many` works on together.
+    /// How many groups `compress_many` compresses side by side. It is fastest for a multiple of this many.
     const LANES: usize;
 
     // The digest of N digests.
@@ -17,13 +17,13 @@ pub trait PseudoCompressionFunction<PW: PackedValue, const N: usize, const D: us
     fn compress(&self, input: [[PW::Value; D]; N]) -> [PW::Value; D]
         ensures { result ≡ compression self.now input };
 
-    /// Writes into `out[i]` the digest of `groups[i]`. There is a place for each group.
+    /// Writes the digest of `groups[i]` into `out[i]`. `out` must be as long as `groups`.
     fn compress_many(&self, groups: &[[[PW::Value; D]; N]], out: &mut [[PW::Value; D]])
         requires { length groups.now ≡ length out.old }
         ensures { out.new ≡ map (compression self.now) groups.now };
 
-    /// The digests of `PW::WIDTH` groups that are packed value by value: lane `k` of the result is
-    /// the digest of the lanes `k` of the group.
+    /// The digests of `PW::WIDTH` groups that are packed value by value: lane `k` of the result is the digest of the
+    /// lanes `k` of the group.
     fn compress_packed(&self, input: [[PW; D]; N]) -> [PW; D]
         ensures { (k : ℕ) → k < PW.WIDTH →
             lane_of PW.lanes PW.default_value k result

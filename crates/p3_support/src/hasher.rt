@@ -8,22 +8,21 @@ ghost use Rattle.p3_support.specs.Lists.{messages as messages_of, lane_of};
 use crate::packed::PackedValue;
 use std::convert::AsSlice;
 
-/// A hash function: from lists of words, the lane values of `P`, to digests of `D` lane values of
-/// `PW`. There is one function, and all five calls give it. No call takes memory.
+/// A hash function from lists of words, the lane values of `P`, to digests of `D` lane values of `PW`. All five calls
+/// compute this one function. None of them allocates.
 pub trait CryptographicHasher<P: PackedValue, PW: PackedValue, const D: usize> {
-    /// How many messages `hash_many` works on together. Callers that stage messages do best with a
-    /// multiple of it.
+    /// How many messages `hash_many` hashes side by side. It is fastest for a multiple of this many.
     const LANES: usize;
 
-    /// Whether a message in several pieces is better laid into one slice first. No builder here reads
-    /// it: packed rows of several matrices are staged for every hasher, and rows that are hashed one by
-    /// one are handed on piece by piece, or word by word.
+    /// Whether a message in several pieces is hashed faster when it is copied into one slice first. No builder here
+    /// reads it: batches copy the rows of several matrices together for every hasher, and a row that is hashed alone is
+    /// handed on piece by piece or word by word.
     const PREFER_CONTIGUOUS_INPUT: bool;
 
     // The digest of a list of words.
     ghost hash: { Self → List P.Value → List PW.Value };
 
-    /// The digest of the items of `input`, which can be read to its end.
+    /// The digest of the items of `input`, which must be finite.
     fn hash_iter<I: Iterator<Item = P::Value>>(&self, input: I) -> [PW::Value; D]
         requires can { I.can_next input }
         requires ends { IsFinite (I.remaining input) }
@@ -33,7 +32,7 @@ pub trait CryptographicHasher<P: PackedValue, PW: PackedValue, const D: usize> {
     fn hash_slice(&self, input: &[P::Value]) -> [PW::Value; D]
         ensures { result ≡ hash self.now input.now };
 
-    /// The digest of the slices of `input`, one after another. `input` can be read to its end.
+    /// The digest of the slices of `input`, one after another. `input` must be finite.
     fn hash_iter_slices<S: AsSlice<P::Value> + Drop, I: Iterator<Item = S>>(
         &self,
         input: I,
@@ -43,17 +42,15 @@ pub trait CryptographicHasher<P: PackedValue, PW: PackedValue, const D: usize> {
         ensures { WholeRun I.next_gives input (λ p.
             result ≡ hash self.now (flat_map S.items p.items)) };
 
-    /// Writes into `out[i]` the digest of message `i`. The messages lie one after another, as many
-    /// as `out` has places, of the same length `w` each: message `i` is the words from `i * w` up
-    /// to `(i + 1) * w`.
+    /// Writes the digest of message `i` into `out[i]`. `messages` has as many messages as `out` has places, one after
+    /// another and of one length `w`: message `i` is `messages[i * w..(i + 1) * w]`.
     fn hash_many(&self, messages: &[P::Value], out: &mut [[PW::Value; D]])
         requires { (w : ℕ) × (length messages.now ≡ w * length out.old) }
         ensures { (w : ℕ) → length messages.now ≡ w * length out.old →
             out.new ≡ map (hash self.now) (messages_of w (length out.old) messages.now) };
 
-    /// The digests of `P::WIDTH` messages that are packed word by word: lane `k` of the result is
-    /// the digest of the lanes `k` of the items, for each lane that both packings have. `input` can
-    /// be read to its end.
+    /// The digests of `P::WIDTH` messages that are packed word by word: lane `k` of the result is the digest of the
+    /// lanes `k` of the items, for each lane that both packings have. `input` must be finite.
     fn hash_packed<I: Iterator<Item = P>>(&self, input: I) -> [PW; D]
         requires can { I.can_next input }
         requires ends { IsFinite (I.remaining input) }

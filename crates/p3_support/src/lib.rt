@@ -1,5 +1,5 @@
-//! What a Merkle tree over matrices is built from: values in lanes, hashers, compressions and
-//! matrices, each a trait with laws, and the matrices and records that schemes share.
+//! What a Merkle tree over matrices is built from: packed values, hashers, compressions and matrices, each a trait with
+//! laws, and the matrices and records that the schemes share.
 #![tactic(auto)]
 
 pub mod compress;

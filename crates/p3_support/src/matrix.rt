@@ -1,4 +1,4 @@
-//! Matrices, seen as their height, their width and their rows.
+//! Matrices: a height, a width, and rows.
 ghost use Rattle.std.specs.Prelude.{◌≡◌, ℕ, ◌+◌, ◌*◌, ◌<◌, ◌≤◌, ◌^◌, List, length, map, slice_get, slice_index_or, IfOk, IfSome, Some};
 ghost use Rattle.std.specs.List.{flat_map, range_with_len};
 ghost use Rattle.std.specs.Iterator.{YieldsFirst, YieldsFirstBy, item_count};
@@ -19,8 +19,8 @@ pub struct Dimensions {
     pub height: usize,
 }
 
-/// A matrix of elements `T`, with `height` rows of `width` elements each. Every answer depends on
-/// the matrix alone.
+/// A matrix of elements `T`, with `height` rows of `width` elements each. Every call returns the same for the same
+/// matrix.
 pub trait Matrix<T> {
     // The number of rows.
     ghost height_of: { Self → ℕ };
@@ -39,15 +39,15 @@ pub trait Matrix<T> {
     fn width(&self) -> usize
         ensures { result ≡ width_of self.now };
 
-    /// The element of a row at a column, both from 0. The row is below the height, and the column
-    /// below the width.
+    /// The element in a row and a column, both counted from 0. The row must be below the height, the column below the
+    /// width.
     fn get(&self, row: usize, column: usize) -> T
         requires row_in { row < height_of self.now }
         requires column_in { column < width_of self.now }
         ensures { slice_get (row_of self.now row) column ≡ Some result };
 
-    /// The elements of a row, by ascending columns, where the matrix can lend them in one piece. `None`
-    /// says nothing. The row is below the height.
+    /// The elements of a row as a slice, by ascending columns. A matrix that does not store its rows in one piece
+    /// returns `None`. The row must be below the height.
     fn row_slice(&self, row: usize) -> Option<&[T]>
         requires { row < height_of self.now }
         ensures { IfSome result (λ words. words.now ≡ row_of self.now row) }
@@ -55,8 +55,8 @@ pub trait Matrix<T> {
         None
     }
 
-    /// The elements of `count` rows from `first` on, row after row, where the matrix can lend them in
-    /// one piece. `None` says nothing. `first + count` is at most the height.
+    /// The elements of `count` rows from `first` on as one slice, row after row. A matrix that does not store them in
+    /// one piece returns `None`. `first + count` must be at most the height.
     fn row_chunk(&self, first: usize, count: usize) -> Option<&[T]>
         requires { first + count ≤ height_of self.now }
         ensures { IfSome result (λ words. words.now
@@ -76,7 +76,7 @@ pub trait Matrix<T> {
         }
     }
 
-    /// The elements of a row, by ascending columns. The row is below the height.
+    /// The elements of a row, by ascending columns. The row must be below the height.
     final fn row(&self, row: usize) -> Row<'_, T, Self>
     where
         Self: Sized,
@@ -91,8 +91,8 @@ pub trait Matrix<T> {
         }
     }
 
-    /// The rows from `row` on, as many as `P` has lanes, packed column by column: lane `k` of an
-    /// item is the element of row `row + k`. `row + P::WIDTH` is at most the height.
+    /// As many rows from `row` on as `P` has lanes, packed column by column: lane `k` of an item is the element of row
+    /// `row + k`. `row + P::WIDTH` must be at most the height.
     final fn vertically_packed_row<P: PackedValue<Value = T>>(
         &self,
         row: usize,
@@ -147,7 +147,7 @@ impl<T, M: Matrix<T>> Matrix<T> for &M {
     ghost length_row_of = { λ m r h. M.length_row_of m.now r h };
 }
 
-/// The elements of one row of a matrix. A contract sees those that are left.
+/// An iterator over the elements of one row of a matrix. Contracts speak of those that are left.
 #[derive(Drop)]
 pub struct Row<'a, T, M: Matrix<T>> {
     matrix: &'a M,
@@ -184,8 +184,7 @@ impl<'a, T, M: Matrix<T>> Iterator for Row<'a, T, M> {
     }
 }
 
-/// As many rows of a matrix as `P` has lanes, packed column by column. A contract sees the lanes of
-/// the columns that are left.
+/// An iterator over the columns of as many rows as `P` has lanes. Contracts speak of the lanes of those that are left.
 #[derive(Drop)]
 pub struct PackedRow<'a, T, P: PackedValue<Value = T>, M: Matrix<T>> {
     matrix: &'a M,
@@ -247,7 +246,7 @@ fn packed_column<T, P: PackedValue<Value = T>, M: Matrix<T>>(
     )
 }
 
-/// A matrix as the list of its elements, row after row.
+/// A matrix that stores its elements row after row.
 #[derive(Debug, Drop)]
 pub struct RowMajorMatrix<T> {
     values: Vec<T>,
@@ -261,8 +260,8 @@ pub struct RowMajorMatrix<T> {
 impl<T> RowMajorMatrix<T> {
     ghost use Rattle.p3_support.specs.RowMajor.{values_of, row_width, row_count};
 
-    /// The matrix of these values, `width` of them in a row. The width divides their number; width
-    /// 0, which only no values allow, makes no rows.
+    /// The matrix of these values, with `width` of them in a row. The width must divide the number of values. Width 0
+    /// is allowed without values alone, and makes no rows.
     pub fn new(values: Vec<T>, width: usize) -> RowMajorMatrix<T>
         requires divides { (n : ℕ) × (length values.items ≡ n * width) }
         ensures values { values_of result ≡ values.items }
@@ -286,7 +285,7 @@ impl<T> RowMajorMatrix<T> {
     }
 }
 
-/// A clone has clones of the elements, in as many rows of the same width.
+/// Clones the elements. The clone has the same height and width.
 impl<T: Clone> Clone for RowMajorMatrix<T> {
     ghost use Rattle.p3_support.specs.RowMajor.{IsMatrixClone};
 
@@ -337,7 +336,7 @@ impl<T: Copy> Matrix<T> for RowMajorMatrix<T> {
 ///
 /// # Errors
 ///
-/// `AllocError` where there is no memory.
+/// `AllocError` if memory runs out.
 pub fn dimensions_of<T, M: Matrix<T>>(
     alloc: Global,
     matrices: &[M],

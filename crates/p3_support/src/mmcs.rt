@@ -9,26 +9,26 @@ use crate::matrix::{Dimensions, Matrix};
 use crate::opening::{BatchOpening, BatchOpeningRef};
 use std::alloc::Global;
 
-/// A scheme that commits to matrices `M` of words `T` together, opens the rows that belong to an index, and checks what is
-/// opened against the commitment.
+/// A scheme that commits to several matrices `M` of words `T` at once, opens the rows that belong to an index, and
+/// verifies an opening against the commitment (`Mmcs` in the Rust crate).
 ///
-/// An index counts the rows of the tallest matrix, from 0. Who checks has the commitment and the dimensions of the
-/// matrices, and no matrix. A call that takes memory fails where there is none.
+/// An index counts the rows of the tallest matrix, from 0. The verifier has the commitment and the dimensions of the
+/// matrices, and no matrix.
 ///
-/// What is accepted fits the dimensions: its index is below the greatest height, and it has a row for each of them, as wide
-/// as they say. The trait does not promise that a commitment fixes rows: two openings of one index may both be accepted,
-/// and differ. Each scheme says for itself what follows from two such openings, by a call of its own such as
+/// An accepted opening fits the dimensions: its index is below the greatest height, and it has one row of the right
+/// width for each matrix. The trait does not promise that a commitment fixes the rows: two different openings of one
+/// index may both be accepted. Each scheme says what follows from two such openings, by a call of its own such as
 /// `extract_collision`.
 pub trait Mmcs<T, M: Matrix<T>> {
-    /// What the committer keeps, to open from.
+    /// What the prover keeps, to open from.
     type ProverData: Drop;
-    /// What the verifier has of the matrices, beside their dimensions.
+    /// What the verifier gets, beside the dimensions.
     type Commitment: Drop;
     /// What proves the rows of one index.
     type Proof: Drop;
     /// What proves the rows of several indices.
     type MultiProof: Drop;
-    /// Why something is refused, or fails.
+    /// Why a call refuses its input, or fails.
     type Error: Drop;
 
     // An error that is for want of memory.
@@ -56,14 +56,14 @@ pub trait Mmcs<T, M: Matrix<T>> {
     ghost accepts: { Self → Self.Commitment → List Dimensions → ℕ → List (List T) → Self.Proof → Type 0 };
 
     // One proof shows it of several indices, with a row set for each.
-    ghost accepts_all: { Self → Self.Commitment → List Dimensions → List ℕ → List (List (List T)) → Self.MultiProof → Type 0 };
+    ghost accepts_all: { Self → Self.Commitment → List Dimensions → List ℕ → List (List (List T)) → Self.MultiProof →
+        Type 0 };
 
-    /// Commits to matrices. The scheme is changed at most in what it draws at random, so that what it committed to before
-    /// stays so.
+    /// Commits to matrices. It changes the scheme only in its random generator, so earlier commitments stay valid.
     ///
     /// # Errors
     ///
-    /// Why such schemes don't commit to these matrices, or that there is no memory.
+    /// The reason why the scheme refuses these matrices, or that memory ran out.
     fn commit(
         &mut self,
         alloc: Global,
@@ -75,12 +75,12 @@ pub trait Mmcs<T, M: Matrix<T>> {
         ensures commitment { IfOk result (λ made. commits_to self.new made.0 made.1) }
         ensures memory { can_commit matrices.items → IfErr result is_out_of_memory };
 
-    /// Opens an index, which is below the greatest height: of each matrix, in input order, the row that belongs to it, and
-    /// what proves that. The opening is accepted under the commitment.
+    /// Opens an index, which must be below the greatest height. The opening has one row of each matrix, in input order,
+    /// and a proof of them. It is accepted under the commitment.
     ///
     /// # Errors
     ///
-    /// That there is no memory.
+    /// Only if memory runs out.
     fn open_batch(
         &self,
         alloc: Global,
@@ -96,11 +96,11 @@ pub trait Mmcs<T, M: Matrix<T>> {
             IfOk result (λ o. accepts self.now c dimensions index (row_lists o.opened_values.items) o.opening_proof) }
         ensures memory { IfErr result is_out_of_memory };
 
-    /// The matrices that were committed to, in input order.
+    /// The matrices of a commitment, in input order.
     ///
     /// # Errors
     ///
-    /// That there is no memory.
+    /// Only if memory runs out.
     fn get_matrices<'a>(
         &self,
         alloc: Global,
@@ -113,12 +113,13 @@ pub trait Mmcs<T, M: Matrix<T>> {
     fn get_max_height(&self, prover_data: &Self::ProverData) -> usize
         ensures { result ≡ greatest (map M.height_of (matrices_in prover_data.now)) };
 
-    /// Checks an opening of an index against a commitment: Ok if it is accepted. It has a row for each of `dimensions`,
-    /// which are those of the matrices, and as wide as that says. They must come from who checks.
+    /// Verifies an opening of an index against a commitment. `dimensions` are those of the matrices, in input order;
+    /// they must come from the verifier, never from the proof. An accepted opening has one row for each of them, of
+    /// that width.
     ///
     /// # Errors
     ///
-    /// Why it is not accepted, or that there is no memory.
+    /// The reason why the opening is refused, or that memory ran out.
     fn verify_batch(
         &self,
         alloc: Global,
@@ -130,14 +131,15 @@ pub trait Mmcs<T, M: Matrix<T>> {
         ensures accepted { IsOk result → accepts self.now commitment.now dimensions.now index
             (row_lists opening.entry.opened_values.now) opening.entry.opening_proof.now }
         ensures memory { accepts self.now commitment.now dimensions.now index
-            (row_lists opening.entry.opened_values.now) opening.entry.opening_proof.now → IfErr result is_out_of_memory };
+            (row_lists opening.entry.opened_values.now) opening.entry.opening_proof.now →
+            IfErr result is_out_of_memory };
 
-    /// Opens several indices at once, each below the greatest height, in any order, and again, too: for each index, in
-    /// query order, what [`open_batch`](Self::open_batch) opens of it, and one proof for all of them.
+    /// Opens several indices by one proof. The indices must be below the greatest height, in any order; repeats are
+    /// allowed. The rows are those of [`open_batch`](Self::open_batch) for each index, in query order.
     ///
     /// # Errors
     ///
-    /// That there is no memory.
+    /// Only if memory runs out.
     fn open_multi_batch(
         &self,
         alloc: Global,
@@ -153,12 +155,12 @@ pub trait Mmcs<T, M: Matrix<T>> {
             IfOk result (λ o. accepts_all self.now c dimensions indices.now (row_sets o.0.items) o.1) }
         ensures memory { IfErr result is_out_of_memory };
 
-    /// Checks the openings of several indices by one proof against a commitment: Ok if they are accepted. There is a row
-    /// set for each index, with a row for each of `dimensions`, as [`verify_batch`](Self::verify_batch) has them.
+    /// Verifies the rows of several indices by one proof against a commitment. An accepted opening has one row set for
+    /// each index, each of them as in [`verify_batch`](Self::verify_batch).
     ///
     /// # Errors
     ///
-    /// Why they are not accepted, or that there is no memory.
+    /// The reason why the opening is refused, or that memory ran out.
     fn verify_multi_batch(
         &self,
         alloc: Global,
@@ -182,10 +184,12 @@ pub trait Mmcs<T, M: Matrix<T>> {
         (matrices_in d) };
 
     // What one proof shows, and what one proof shows of several indices, each is shown.
-    ghost shown_by_one: { (s : Self) (c : Self.Commitment) (ds : List Dimensions) (index : ℕ) (rows : List (List T)) (proof : Self.Proof) →
+    ghost shown_by_one: { (s : Self) (c : Self.Commitment) (ds : List Dimensions) (index : ℕ) (rows : List (List T))
+        (proof : Self.Proof) →
         accepts s c ds index rows proof → is_shown s c ds index rows };
 
-    ghost shown_by_all: { (s : Self) (c : Self.Commitment) (ds : List Dimensions) (indices : List ℕ) (sets : List (List (List T))) (proof : Self.MultiProof) →
+    ghost shown_by_all: { (s : Self) (c : Self.Commitment) (ds : List Dimensions) (indices : List ℕ) (sets : List (List (List T)))
+        (proof : Self.MultiProof) →
         accepts_all s c ds indices sets proof → AllZip (is_shown s c ds) indices sets };
 
     // What is shown fits the dimensions, so that a verifier may index by these what it has verified.
@@ -198,9 +202,11 @@ pub trait Mmcs<T, M: Matrix<T>> {
     ghost agreed_commitment: { (s t : Self) (c : Self.Commitment) (d : Self.ProverData) →
         agrees s t → commits_to s c d → commits_to t c d };
 
-    ghost agreed_proof: { (s t : Self) (c : Self.Commitment) (ds : List Dimensions) (index : ℕ) (rows : List (List T)) (proof : Self.Proof) →
+    ghost agreed_proof: { (s t : Self) (c : Self.Commitment) (ds : List Dimensions) (index : ℕ) (rows : List (List T))
+        (proof : Self.Proof) →
         agrees s t → accepts s c ds index rows proof → accepts t c ds index rows proof };
 
-    ghost agreed_proof_of_all: { (s t : Self) (c : Self.Commitment) (ds : List Dimensions) (indices : List ℕ) (sets : List (List (List T))) (proof : Self.MultiProof) →
+    ghost agreed_proof_of_all: { (s t : Self) (c : Self.Commitment) (ds : List Dimensions) (indices : List ℕ) (sets : List (List (List T)))
+        (proof : Self.MultiProof) →
         agrees s t → accepts_all s c ds indices sets proof → accepts_all t c ds indices sets proof };
 }

@@ -1,11 +1,10 @@
-//! What a commitment scheme hands out: a digest that is lent, a cap, and openings.
+//! What a commitment scheme hands out: borrowed digests, caps and openings.
 ghost use Rattle.std.specs.Prelude.{◌≡◌, ◌<◌, length, slice_get, Some};
 
 use std::marker::PhantomData;
 use std::ops::Index;
 
-/// A digest `X` that is lent, as that of a tree over values `F`. Two are equal where their digests
-/// are.
+/// A borrowed digest `X` of a tree over values `F`. Two are equal if their digests are.
 #[derive_where(Clone, Copy)]
 #[derive_where(Debug, PartialEq, Eq; X)]
 pub struct DigestRef<'a, F, X> {
@@ -14,7 +13,7 @@ pub struct DigestRef<'a, F, X> {
     of: PhantomData<F>,
 }
 
-/// A lent digest of `D` words `W`.
+/// A borrowed digest of `D` words `W` (`Hash` in the Rust crate).
 pub type Hash<'a, F, W, const D: usize> = DigestRef<'a, F, [W; D]>;
 
 impl<'a, F, X> From<&'a X> for DigestRef<'a, F, X> {
@@ -41,7 +40,7 @@ impl<'a, F, X> DigestRef<'a, F, X> {
     }
 }
 
-/// The commitment to a tree over values `F`: the digests `X` of one of its layers, in their order.
+/// The commitment to a tree over values `F`: the digests `X` of one of its layers, in order.
 #[derive(Drop)]
 #[derive_where(Clone, Debug, PartialEq, Eq; X)]
 pub struct MerkleCap<F, X> {
@@ -93,12 +92,12 @@ impl<F, X> Index<usize> for MerkleCap<F, X> {
     }
 }
 
-/// The opened row of each matrix, in matrix order, and the proof that they were committed to.
+/// The opened rows, one of each matrix, and the proof that they were committed to.
 #[derive(Clone, Debug, Drop)]
 pub struct BatchOpening<T, Proof> {
-    /// A row of each matrix, in matrix order.
+    /// One row of each matrix, in input order.
     pub opened_values: Vec<Vec<T>>,
-    /// What proves that they were committed to.
+    /// The proof of the rows.
     pub opening_proof: Proof,
 }
 
@@ -127,13 +126,13 @@ impl<T, Proof> BatchOpening<T, Proof> {
     }
 }
 
-/// An opening that is lent.
+/// A borrowed opening.
 #[derive_where(Clone, Copy)]
 #[derive_where(Debug; T, Proof)]
 pub struct BatchOpeningRef<'a, T, Proof> {
-    /// A row of each matrix, in matrix order.
+    /// One row of each matrix, in input order.
     pub opened_values: &'a [Vec<T>],
-    /// What proves that they were committed to.
+    /// The proof of the rows.
     pub opening_proof: &'a Proof,
 }
 

@@ -135,7 +135,7 @@ pub fn tell_row<T, const D: usize>(row: &[T; D])
 {}
 
 /// Each row of a slice has as many elements as its type says. It tells this alone, and does nothing.
-pub(crate) fn tell_rows<T, const D: usize>(rows: &[[T; D]])
+pub fn tell_rows<T, const D: usize>(rows: &[[T; D]])
     ensures { (k : ℕ) → k < length rows.now → length (slice_index_or rows.now k []) ≡ D }
 {
     for k in 0..rows.len() {

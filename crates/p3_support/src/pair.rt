@@ -4,7 +4,7 @@ ghost use Rattle.std.specs.Prelude.{◌≡◌, ◌+◌, ◌^◌, ◌<◌};
 use crate::matrix::Matrix;
 use std::marker::PhantomData;
 
-/// Two matrices of one height, side by side: each row is the left matrix's, followed by the right one's.
+/// Two matrices of one height, side by side: each row is a row of the left matrix followed by that of the right one.
 #[derive(Debug, Drop)]
 pub struct HorizontalPair<T, A: Matrix<T>, B: Matrix<T>> {
     left: A,
@@ -17,7 +17,7 @@ pub struct HorizontalPair<T, A: Matrix<T>, B: Matrix<T>> {
 impl<T, A: Matrix<T>, B: Matrix<T>> HorizontalPair<T, A, B> {
     ghost use Rattle.p3_support.specs.Pairs.{left_of, right_of};
 
-    /// The matrices `left` and `right`, side by side. They have equally many rows, and their widths together are a
+    /// The matrices `left` and `right`, side by side. Their heights must be equal, and the sum of their widths must fit
     /// `usize`.
     pub fn new(left: A, right: B) -> HorizontalPair<T, A, B>
         requires one_height { A.height_of left ≡ B.height_of right }

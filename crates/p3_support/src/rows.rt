@@ -6,8 +6,8 @@ ghost use Rattle.p3_support.specs.Lists.{rows_of_height};
 use crate::matrix::Matrix;
 use std::marker::{Model, PhantomData};
 
-/// The elements of one row of each matrix of one height, in the order of the matrices. A contract
-/// sees those that are left.
+/// An iterator over one row of each matrix of one height, in input order, element by element. Contracts speak of those
+/// that are left.
 #[derive(Drop)]
 pub struct Rows<'a, T, M: Matrix<T>> {
     matrices: &'a [M],
@@ -28,8 +28,7 @@ impl<'a, T, M: Matrix<T>> Model for Rows<'a, T, M> {
     ghost invariant = { λ s. s.row < s.height };
 }
 
-/// The row `row` of each of the `matrices` that have `height` rows, one after another. It takes no
-/// memory.
+/// The row `row` of each of the `matrices` that have `height` rows, one after another. It does not allocate.
 pub fn rows_of<'a, T, M: Matrix<T>>(matrices: &'a [M], height: usize, row: usize) -> Rows<'a, T, M>
     requires { row < height }
     ensures { result ≡ rows_of_height M.height_of M.row_of height row matrices.now }

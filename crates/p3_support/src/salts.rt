@@ -1,4 +1,4 @@
-//! Salts: matrices of values that are made from the words of a random generator.
+//! Random matrices, from which salts are taken.
 ghost use Rattle.std.specs.Prelude.{◌≡◌, ℕ, ◌*◌, ◌%◌, ◌^◌, ◌≤◌, IfOk, IsErr, OnErr, OnOk};
 ghost use Rattle.p3_support.specs.Salts.{after_words, salts};
 
@@ -6,12 +6,12 @@ use crate::matrix::RowMajorMatrix;
 use rand_core::Rng;
 use std::alloc::{AllocError, Global};
 
-/// A value that a random word can make.
+/// A value that is made from a random word.
 pub trait SaltWord: Copy {
     // The value that a word makes.
     ghost of_salt_word: { ℕ → Self };
 
-    /// The value that the word `w` makes. It depends on the word alone.
+    /// The value of the word `w`. It depends on the word alone.
     fn from_salt_word(w: u64) -> Self
         ensures { result ≡ of_salt_word w };
 }
@@ -37,14 +37,13 @@ impl SaltWord for u8 {
 impl<T: SaltWord> RowMajorMatrix<T> {
     ghost use Rattle.p3_support.specs.RowMajor.{row_count, row_width, values_of};
 
-    /// A matrix of random values, made from the next `rows * cols` words of a generator: the first row from its first
-    /// column on, then the second, and so on, each value from one call of `next_u64`. With no columns it has no rows, as
-    /// in [`new`](Self::new).
+    /// A matrix of random values. Each value is made from one call of `next_u64`: `rows * cols` of them, row after row.
+    /// With no columns it has no rows, as in [`new`](Self::new).
     ///
     /// # Errors
     ///
-    /// `AllocError` where `rows * cols` is no `usize`, or there is no memory for as many values. Then nothing is drawn: the
-    /// generator is as it was.
+    /// `AllocError` if `rows * cols` does not fit `usize`, or if memory runs out. Then nothing is drawn from the
+    /// generator.
     pub fn rand<R: Rng>(
         alloc: Global,
         rng: &mut R,

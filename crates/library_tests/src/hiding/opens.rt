@@ -135,8 +135,8 @@ fn assert_opened_together(
     Ok(())
 }
 
-// The row of the lower matrix comes first and has the salt 10. The leaves are 1012, of 1 and 20, and 1053, of 2 and 30; the
-// digest of 5 and 10 is 1126.
+// The row of the lower matrix comes first and has the salt 10. The leaves are 1012, of 1 and 20, and 1053, of 2 and 30;
+// the digest of 5 and 10 is 1126.
 #[test]
 fn matrices_get_salts_and_are_opened_in_input_order(rt: HostRuntime) -> Result<(), Fail> {
     let alloc = rt.alloc();

@@ -165,8 +165,8 @@ fn assert_paths<const N: usize>(
     Ok(())
 }
 
-/// Asserts that the leaves 2, 0 and 2 are opened by one proof of these digests, which is accepted and restores their paths,
-/// and is refused with another first digest.
+/// Asserts that the leaves 2, 0 and 2 are opened by one proof of these digests, which is accepted and restores their
+/// paths, and is refused with another first digest.
 fn assert_pruned<const N: usize>(
     rt: &impl Abort,
     alloc: Global,
@@ -193,8 +193,8 @@ fn assert_pruned<const N: usize>(
     Ok(())
 }
 
-/// Asserts that the tree of arity `N` over the two matrices has this root, and what its openings are answered, with these
-/// digests for several leaves.
+/// Asserts that the tree of arity `N` over the two matrices has this root, and what its openings are answered, with
+/// these digests for several leaves.
 fn assert_tree<const N: usize>(
     rt: &impl Abort,
     alloc: Global,

@@ -15,7 +15,8 @@ beside p js xs = map (λ (j, x). x) (filter (λ (j, x). p j) (zip js xs))
 abbrev pub unknown_count : ℕ → List ℕ → List ℕ → ℕ
 unknown_count n parents covered = n * length parents - length covered
 
--- the covered nodes, in order, are children of the parents, n of each, and have a digest each; enough are sent for the other children
+-- the covered nodes, in order, are children of the parents, n of each, and have a digest each; enough are sent for the
+-- other children
 pub record IsFamily {X : Type 0} (n : ℕ) (parents covered : List ℕ) (digests sent : List X) : Type 0 where
   pub in_order : filter (is_among covered) (children_under n parents) ≡ covered
   pub one_each : length digests ≡ length covered
@@ -23,11 +24,13 @@ pub record IsFamily {X : Type 0} (n : ℕ) (parents covered : List ℕ) (digests
   pub few : n * length parents < 2 ^ 64
   pub low : All (λ p. n * p + n < 2 ^ 64) parents
 
--- a value for each child: those of the covered ones are the digests, in order, and those of the others the first that were sent
+-- a value for each child: those of the covered ones are the digests, in order, and those of the others the first that
+-- were sent
 pub record AreChildren {X : Type 0} (n : ℕ) (parents covered : List ℕ) (digests sent values : List X) : Type 0 where
   pub each : length values ≡ n * length parents
   pub known : beside (is_among covered) (children_under n parents) values ≡ digests
-  pub unknown : beside (λ j. not (is_among covered j)) (children_under n parents) values ≡ take (unknown_count n parents covered) sent
+  pub unknown : beside (λ j. not (is_among covered j)) (children_under n parents) values
+      ≡ take (unknown_count n parents covered) sent
 
 -- ---- what is kept of a walk
 
@@ -39,18 +42,22 @@ place_among xs p = length (filter (λ x. nat_lt x p) xs)
 abbrev pub children_at : {X : Type 0} → ℕ → List ℕ → List X → ℕ → List X
 children_at n parents values p = take n (drop (n * place_among parents p) values)
 
--- the siblings of node j out of a level of some parents, n children of each, with their values: those of its group but its own, and none where its parent is not among them
+-- the siblings of node j out of a level of some parents, n children of each, with their values: those of its group but
+-- its own, and none where its parent is not among them
 abbrev pub siblings_out_of : {X : Type 0} → List ℕ × ℕ × List X → ℕ → List X
-siblings_out_of (parents, n, values) j = if is_among parents (j / n) then remove (children_at n parents values (j / n)) (j % n) else []
+siblings_out_of (parents, n, values) j = if is_among parents (j / n) then remove (children_at n parents values (j / n))
+    (j % n) else []
 
 -- the node above leaf i over levels of these steps: the leaf divided by their product
 abbrev pub node_over : List ℕ → ℕ → ℕ
 node_over steps i = i / fold (λ product n. product * n) 1 steps
 
--- the siblings on the path of leaf i out of such levels, from the leaves on: in each, those of the node over the steps below it
+-- the siblings on the path of leaf i out of such levels, from the leaves on: in each, those of the node over the steps
+-- below it
 abbrev pub path_out_of : {X : Type 0} → List (List ℕ × ℕ × List X) → ℕ → List X
 path_out_of levels i =
-    flat_map (λ (k, level). siblings_out_of level (node_over (map (λ (parents, n, values). n) (take k levels)) i)) (enumerate_from 0 levels)
+    flat_map (λ (k, level). siblings_out_of level (node_over (map (λ (parents, n, values). n) (take k levels)) i))
+    (enumerate_from 0 levels)
 
 -- for each of some leaves, in order, its index and these siblings
 abbrev pub paths_out_of : {X : Type 0} → List (List ℕ × ℕ × List X) → List ℕ → List (ℕ × List X)

@@ -24,9 +24,11 @@ use Rattle.p3_merkle_salts.specs.SaltedOpenings.{HaveSalts, IsSaltedPrunedAccept
 use Rattle.p3_merkle_salts.specs.SaltedTrees.{pair_matrix}
 use Rattle.p3_merkle_hiding.specs.declared.hiding_mmcs.HidingScheme.{HidingScheme}
 
-module _ {P PW H C R X G V W : Type 0} {N E : ℕ} {p : packed.Ghosts P V} {pd : default.Ghosts V} {pe : equality.Ghosts V} {q : packed.Ghosts PW W} {qd : default.Ghosts W} {qe : equality.Ghosts W} where
+module _ {P PW H C R X G V W : Type 0} {N E : ℕ} {p : packed.Ghosts P V} {pd : default.Ghosts V}
+    {pe : equality.Ghosts V} {q : packed.Ghosts PW W} {qd : default.Ghosts W} {qe : equality.Ghosts W} where
   -- having one plain scheme is an equivalence
-  pub same_plain_is_equivalence : IsEquivalence {A = HidingScheme P PW H C R X G N E V W p pd pe q qd qe} (λ s t. IsSameScheme (plain_of s) (plain_of t))
+  pub same_plain_is_equivalence : IsEquivalence {A = HidingScheme P PW H C R X G N E V W p pd pe q qd qe}
+      (λ s t. IsSameScheme (plain_of s) (plain_of t))
   same_plain_is_equivalence =
       record {
         itself = λ s. same_is_equivalence.itself (plain_of s);
@@ -38,48 +40,65 @@ module _ {P PW H C R X G V W : Type 0} {N E : ℕ} {p : packed.Ghosts P V} {pd :
 
 module _ {T A B : Type 0} {a : Ghosts A T} {b : Ghosts B T} where
   -- pairs have the heights of their left matrices
-  pub left_heights : (pairs : List (HorizontalPair T A B a b)) → heights_of (dimensions_of (map pair_matrix pairs)) ≡ heights_in a.height_of a.width_of a.row_of (map left_of pairs)
+  pub left_heights : (pairs : List (HorizontalPair T A B a b)) → heights_of (dimensions_of (map pair_matrix pairs))
+      ≡ heights_in a.height_of a.width_of a.row_of (map left_of pairs)
   left_heights [] = refl
   left_heights (p ∷ pairs) = ap (λ (hs : List ℕ). a.height_of (left_of p) ∷ hs) (left_heights pairs)
 
   -- so these are lawful
-  pub left_lawful : (pairs : List (HorizontalPair T A B a b)) → IsLawful (heights_of (dimensions_of (map pair_matrix pairs))) → IsLawful (heights_in a.height_of a.width_of a.row_of (map left_of pairs))
+  pub left_lawful : (pairs : List (HorizontalPair T A B a b)) →
+      IsLawful (heights_of (dimensions_of (map pair_matrix pairs))) →
+      IsLawful (heights_in a.height_of a.width_of a.row_of (map left_of pairs))
   left_lawful pairs w = subst IsLawful (left_heights pairs) w
 
   -- and the greatest of them is the tallest of the pairs
-  pub left_greatest : (n : ℕ) (pairs : List (HorizontalPair T A B a b)) → greatest (map a.height_of (map left_of pairs)) ≡ greatest (heights_of (dimensions_of (map pair_matrix pairs)))
-  left_greatest n pairs = greatest_is a.height_of a.width_of a.row_of n (map left_of pairs) ∙ ap greatest (sym (left_heights pairs))
+  pub left_greatest : (n : ℕ) (pairs : List (HorizontalPair T A B a b)) → greatest (map a.height_of (map left_of pairs))
+      ≡ greatest (heights_of (dimensions_of (map pair_matrix pairs)))
+  left_greatest n pairs = greatest_is a.height_of a.width_of a.row_of n (map left_of pairs)
+      ∙ ap greatest (sym (left_heights pairs))
 
 -- ---- what is shown
 
-zip_at : {A B : Type 0} (holds : A → B → Type 0) (xs : List A) (ys : List B) (a : A) (b : B) (k : ℕ) → AllZip holds xs ys → k < length xs → holds (slice_index_or xs k a) (slice_index_or ys k b)
+zip_at : {A B : Type 0} (holds : A → B → Type 0) (xs : List A) (ys : List B) (a : A) (b : B) (k : ℕ) →
+    AllZip holds xs ys → k < length xs → holds (slice_index_or xs k a) (slice_index_or ys k b)
 zip_at holds [] ys a b k w inside = absurd (omega arith)
 zip_at holds (x ∷ xs) [] a b k w inside = absurd w
 zip_at holds (x ∷ xs) (y ∷ ys) a b zero w inside = w.0
 zip_at holds (x ∷ xs) (y ∷ ys) a b (suc k) w inside = zip_at holds xs ys a b k w.1 (omega arith)
 
 module _ {T : Type 0} where
-  length_sets : (sets salts : List (List (List T))) → length salts ≡ length sets → length (salted_sets sets salts) ≡ length sets
+  length_sets : (sets salts : List (List (List T))) → length salts ≡ length sets → length (salted_sets sets salts)
+      ≡ length sets
   length_sets [] salts same = refl
   length_sets (rows ∷ sets) [] same = absurd (omega (arith, same))
   length_sets (rows ∷ sets) (salt ∷ salts) same = ap suc (length_sets sets salts (omega (arith, same)))
 
-  set_at : (sets salts : List (List (List T))) (k : ℕ) → length salts ≡ length sets → k < length sets → slice_index_or (salted_sets sets salts) k [] ≡ salted_rows (slice_index_or sets k []) (slice_index_or salts k [])
+  set_at : (sets salts : List (List (List T))) (k : ℕ) → length salts ≡ length sets → k < length sets →
+      slice_index_or (salted_sets sets salts) k [] ≡ salted_rows (slice_index_or sets k []) (slice_index_or salts k [])
   set_at [] salts k same inside = absurd (omega arith)
   set_at (rows ∷ sets) [] k same inside = absurd (omega (arith, same))
   set_at (rows ∷ sets) (salt ∷ salts) zero same inside = refl
   set_at (rows ∷ sets) (salt ∷ salts) (suc k) same inside = set_at sets salts k (omega (arith, same)) (omega arith)
 
 -- of an accepted pruned opening each row set is shown to be that of its index
-pub each_salted_shown : {T W : Type 0} (e : ℕ) (ds : List Dimensions) (c : Terms T W) (cap : List (List W)) (o : SaltedPruned T W) → IsSaltedPrunedAccepted e ds c cap o → AllZip (IsSaltedShown e ds c cap) o.indices o.rows
+pub each_salted_shown : {T W : Type 0} (e : ℕ) (ds : List Dimensions) (c : Terms T W) (cap : List (List W))
+    (o : SaltedPruned T W) → IsSaltedPrunedAccepted e ds c cap o → AllZip (IsSaltedShown e ds c cap) o.indices o.rows
 each_salted_shown {T} {W} e ds c cap o w =
     let long = length_sets o.rows o.salts w.in_pairs in
     let as_many : length o.rows ≡ length o.indices = sym long ∙ w.accepted.0.agreed.in_pairs in
     all_zip (IsSaltedShown e ds c cap) o.indices o.rows 0 [] as_many (λ k inside.
     let i = slice_index o.indices k in
     let path = restored_path c (joined_sets o) i in
-    let here = subst (λ (rows : List (List T)). IsAccepted c cap (opening_of i rows path)) (set_at o.rows o.salts k w.in_pairs (omega (arith, as_many))) (w.accepted.1 k inside) in
-    (slice_index_or o.salts k [], path, record { salted = zip_at (HaveSalts ds) o.rows o.salts [] [] k w.salted (omega (arith, as_many)); can_widen = w.can_widen; accepted = here }))
+    let here = subst (λ (rows : List (List T)). IsAccepted c cap (opening_of i rows path))
+    (set_at o.rows o.salts k w.in_pairs (omega (arith, as_many))) (w.accepted.1 k inside) in (
+      slice_index_or o.salts k [],
+      path,
+      record {
+        salted = zip_at (HaveSalts ds) o.rows o.salts [] [] k w.salted (omega (arith, as_many));
+        can_widen = w.can_widen;
+        accepted = here;
+      },
+    ))
 
 -- more columns leave the heights
 wide_heights : (e : ℕ) (ds : List Dimensions) → heights_of (widened e ds) ≡ heights_of ds
@@ -87,7 +106,9 @@ wide_heights e [] = refl
 wide_heights e (d ∷ ds) = ap (λ (hs : List ℕ). d.height ∷ hs) (wide_heights e ds)
 
 -- rows that are shown fit the dimensions, which are those of the matrices without salts
-pub salted_rows_fit : {T W : Type 0} (f : Functions T W) (n e t : ℕ) (ds : List Dimensions) (cap : List (List W)) (index : ℕ) (rows : List (List T)) → IsSaltedShown e ds (terms f (shape_of n (widened e ds)) t) cap index rows → FitDimensions ds index rows
+pub salted_rows_fit : {T W : Type 0} (f : Functions T W) (n e t : ℕ) (ds : List Dimensions) (cap : List (List W))
+    (index : ℕ) (rows : List (List T)) → IsSaltedShown e ds (terms f (shape_of n (widened e ds)) t) cap index rows →
+    FitDimensions ds index rows
 salted_rows_fit f n e t ds cap index rows (salts, siblings, w) =
     let tall : greatest (heights_of (widened e ds)) ≡ greatest (heights_of ds) = ap greatest (wide_heights e ds) in
     record { rows_fit = w.salted.rows_fit; in_range = subst (λ height. index < height) tall w.accepted.in_range }

@@ -9,7 +9,8 @@ pub record IsFilled {W : Type 0} (digest : ℕ → List W) (n len : ℕ) (slots 
   pub filled : (j : ℕ) → j < n → slice_index_or slots j [] ≡ digest j
 
 -- the digest of the rows j of the matrices of the height h, or the default digest d past it
-abbrev pub leaf_over : {T W M : Type 0} → (List T → List W) → List W → (M → ℕ) → (M → ℕ → List T) → List M → ℕ → ℕ → List W
+abbrev pub leaf_over : {T W M : Type 0} → (List T → List W) → List W → (M → ℕ) → (M → ℕ → List T) → List M → ℕ → ℕ →
+    List W
 leaf_over hash d height row ms h j = if nat_lt j h then hash (rows_of_height height row h j ms) else d
 
 -- these words are n messages of one length, one after another

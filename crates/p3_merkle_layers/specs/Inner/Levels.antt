@@ -8,9 +8,11 @@ use Rattle.p3_merkle_core.specs.Nodes.{Functions, Batch, shape, compress, dimens
 use Rattle.p3_merkle_core.specs.declared.levels.Level.{Level}
 
 -- a node over some children, compressed once more with the rows j of the matrices of the height h, if it has rows
-abbrev pub node_above : {T W M : Type 0} → Functions T W → ℕ → (M → ℕ) → (M → ℕ → List T) → List M → Bool → ℕ → ℕ → List (List W) → List W
+abbrev pub node_above : {T W M : Type 0} → Functions T W → ℕ → (M → ℕ) → (M → ℕ → List T) → List M → Bool → ℕ → ℕ →
+    List (List W) → List W
 node_above f n height row ms has h j children =
-    with_rows f n has (compress f n children) (if nat_lt j h then f.hash (rows_of_height height row h j ms) else f.default_digest)
+    with_rows f n has (compress f n children)
+    (if nat_lt j h then f.hash (rows_of_height height row h j ms) else f.default_digest)
 
 -- a batch that is not refused, and the dimensions of its matrices
 pub record CanBuild {T : Type 0} (b : Batch T) (dimensions : List Dimensions) : Type 0 where
@@ -25,9 +27,12 @@ pub record CanRaise (n : ℕ) (v : Level) (slots : ℕ) : Type 0 where
   pub fits : v.step * v.raw_len ≤ slots
 
 -- slot j of the layer above a layer
-abbrev pub slot_above : {T W M : Type 0} → Functions T W → ℕ → (M → ℕ) → (M → ℕ → List T) → List M → Level → List (List W) → ℕ → List W
-slot_above f n height row ms v below j = if nat_lt j v.raw_len then node_above f n height row ms v.has_rows v.height j (take v.step (drop (v.step * j) below)) else f.default_digest
+abbrev pub slot_above : {T W M : Type 0} → Functions T W → ℕ → (M → ℕ) → (M → ℕ → List T) → List M → Level →
+    List (List W) → ℕ → List W
+slot_above f n height row ms v below j = if nat_lt j v.raw_len then node_above f n height row ms v.has_rows v.height j
+    (take v.step (drop (v.step * j) below)) else f.default_digest
 
 -- all slots of that layer
-abbrev pub layer_above : {T W M : Type 0} → Functions T W → ℕ → (M → ℕ) → (M → ℕ → List T) → List M → Level → List (List W) → List (List W)
+abbrev pub layer_above : {T W M : Type 0} → Functions T W → ℕ → (M → ℕ) → (M → ℕ → List T) → List M → Level →
+    List (List W) → List (List W)
 layer_above f n height row ms v below = map (slot_above f n height row ms v below) (range_with_len 0 v.layer_len)

@@ -24,42 +24,62 @@ use Rattle.p3_merkle_core.specs.Checks.{Terms, terms}
 
 -- ---- the same scheme
 
-module _ {P PW H C X G V W : Type 0} {N : ℕ} {p : packed.Ghosts P V} {pd : default.Ghosts V} {pe : equality.Ghosts V} {q : packed.Ghosts PW W} {qd : default.Ghosts W} {qe : equality.Ghosts W} where
+module _ {P PW H C X G V W : Type 0} {N : ℕ} {p : packed.Ghosts P V} {pd : default.Ghosts V} {pe : equality.Ghosts V}
+    {q : packed.Ghosts PW W} {qd : default.Ghosts W} {qe : equality.Ghosts W} where
   -- being the same scheme is an equivalence
   pub same_is_equivalence : IsEquivalence {A = Scheme P PW H C X G N V W p pd pe q qd qe} IsSameScheme
   same_is_equivalence =
       record {
         itself = λ s. record { same_hash = refl; same_compression = refl; same_cap_height = refl; same_rule = refl };
-        back = λ s t w. record { same_hash = sym w.same_hash; same_compression = sym w.same_compression; same_cap_height = sym w.same_cap_height; same_rule = sym w.same_rule };
+        back = λ s t w. record {
+          same_hash = sym w.same_hash;
+          same_compression = sym w.same_compression;
+          same_cap_height = sym w.same_cap_height;
+          same_rule = sym w.same_rule;
+        };
         through = λ s t u v w.
-            record { same_hash = v.same_hash ∙ w.same_hash; same_compression = v.same_compression ∙ w.same_compression; same_cap_height = v.same_cap_height ∙ w.same_cap_height; same_rule = v.same_rule ∙ w.same_rule };
+            record {
+              same_hash = v.same_hash ∙ w.same_hash;
+              same_compression = v.same_compression ∙ w.same_compression;
+              same_cap_height = v.same_cap_height ∙ w.same_cap_height;
+              same_rule = v.same_rule ∙ w.same_rule;
+            };
       }
 
   -- what holds under the terms of a scheme holds under those of the same scheme
-  pub at_same : (hash : H → List V → List W) (compression : C → List (List W) → List W) (d : ℕ) (sh : Shape) (s t : Scheme P PW H C X G N V W p pd pe q qd qe) (fact : Terms V W → Type 0) →
+  pub at_same : (hash : H → List V → List W) (compression : C → List (List W) → List W) (d : ℕ) (sh : Shape)
+      (s t : Scheme P PW H C X G N V W p pd pe q qd qe) (fact : Terms V W → Type 0) →
       IsSameScheme s t → fact (terms_over hash compression d s sh) → fact (terms_over hash compression d t sh)
   at_same hash compression d sh s t fact w holds =
       let f : scheme_functions hash compression d s ≡ scheme_functions hash compression d t =
-      λ i. functions_of (hash (w.same_hash i)) (compression (w.same_compression i)) (scheme_functions hash compression d s).default_digest in
+      λ i. functions_of (hash (w.same_hash i)) (compression (w.same_compression i))
+      (scheme_functions hash compression d s).default_digest in
       let l : proof_layer s sh ≡ proof_layer t sh = λ i. cap_layer sh (w.same_rule i) (w.same_cap_height i) in
-      subst (λ k. fact (terms (scheme_functions hash compression d t) sh k)) l (subst (λ g. fact (terms g sh (proof_layer s sh))) f holds)
+      subst (λ k. fact (terms (scheme_functions hash compression d t) sh k)) l
+      (subst (λ g. fact (terms g sh (proof_layer s sh))) f holds)
 
 -- ---- what is shown
 
 -- what holds at each place holds of each pair
-pub all_zip : {A B : Type 0} (holds : A → B → Type 0) (xs : List A) (ys : List B) (a : A) (b : B) → length ys ≡ length xs →
+pub all_zip : {A B : Type 0} (holds : A → B → Type 0) (xs : List A) (ys : List B) (a : A) (b : B) → length ys
+    ≡ length xs →
     ((k : ℕ) → k < length xs → holds (slice_index_or xs k a) (slice_index_or ys k b)) → AllZip holds xs ys
 all_zip holds [] [] a b same at = tt
 all_zip holds [] (y ∷ ys) a b same at = absurd (omega (arith, same))
 all_zip holds (x ∷ xs) [] a b same at = absurd (omega (arith, same))
-all_zip holds (x ∷ xs) (y ∷ ys) a b same at = (at 0 (omega arith), all_zip holds xs ys a b (omega (arith, same)) (λ k inside. at (suc k) (omega arith)))
+all_zip holds (x ∷ xs) (y ∷ ys) a b same at =
+    (at 0 (omega arith), all_zip holds xs ys a b (omega (arith, same)) (λ k inside. at (suc k) (omega arith)))
 
 -- of an accepted pruned opening each row set is shown to be that of its index
-pub each_shown : {T W : Type 0} (c : Terms T W) (cap : List (List W)) (o : PrunedOpening T W) → IsPrunedAccepted c cap o → AllZip (IsShown c cap) o.indices o.rows
-each_shown c cap o (restorable, accepted) = all_zip (IsShown c cap) o.indices o.rows 0 [] restorable.agreed.in_pairs (λ k inside. (restored_path c o (slice_index o.indices k), accepted k inside))
+pub each_shown : {T W : Type 0} (c : Terms T W) (cap : List (List W)) (o : PrunedOpening T W) →
+    IsPrunedAccepted c cap o → AllZip (IsShown c cap) o.indices o.rows
+each_shown c cap o (restorable, accepted) = all_zip (IsShown c cap) o.indices o.rows 0 [] restorable.agreed.in_pairs
+    (λ k inside. (restored_path c o (slice_index o.indices k), accepted k inside))
 
 -- rows that are shown fit the dimensions
-pub shown_rows_fit : {T W : Type 0} (f : Functions T W) (n t : ℕ) (ds : List Dimensions) (cap : List (List W)) (index : ℕ) (rows : List (List T)) → IsShown (terms f (shape_of n ds) t) cap index rows → FitDimensions ds index rows
+pub shown_rows_fit : {T W : Type 0} (f : Functions T W) (n t : ℕ) (ds : List Dimensions) (cap : List (List W))
+    (index : ℕ) (rows : List (List T)) → IsShown (terms f (shape_of n ds) t) cap index rows →
+    FitDimensions ds index rows
 shown_rows_fit f n t ds cap index rows (siblings, accepted) =
     record { rows_fit = accepted.rows_fit; in_range = accepted.in_range }
 
@@ -112,9 +132,11 @@ module _ {T M : Type 0} (height width : M → ℕ) (row : M → ℕ → List T) 
 
   -- each matrix has the row that belongs to an index
   pub row_in_matrix : (ms : List M) → IsLawful (heights_in height width row ms) →
-      All (λ m. (index : ℕ) → index < greatest (map height ms) → halved_index (greatest (map height ms)) (height m) index < height m) ms
+      All (λ m. (index : ℕ) → index < greatest (map height ms) →
+      halved_index (greatest (map height ms)) (height m) index < height m) ms
   row_in_matrix ms w = λ k d inside index below.
       let m = slice_index_or ms k d in
       let inner : halved_index (greatest (heights_in height width row ms)) (height m) index < height m =
-      row_inside height width row n ms k index m w (rw (greatest_is ms) at below) inside (get_or_default ms k d m inside) in
+      row_inside height width row n ms k index m w (rw (greatest_is ms) at below) inside
+      (get_or_default ms k d m inside) in
       rw (greatest_is ms) inner

@@ -33,7 +33,8 @@ pub record IsAbove {X : Type 0} (step exponent : ℕ) (digest : X) (standing abo
   pub reached : above.digest ≡ digest
 
 -- the check of an opening stands at layer l: at the node above the leaf, whose digest is the one that the path reaches
-pub record StandsAt {T W : Type 0} (f : Functions T W) (s : Shape) (o : Opening T W) (l : ℕ) (standing : Progress (List W)) : Type 0 where
+pub record StandsAt {T W : Type 0} (f : Functions T W) (s : Shape) (o : Opening T W) (l : ℕ)
+    (standing : Progress (List W)) : Type 0 where
   pub at_exponent : standing.exponent ≡ layer_exponent s l
   pub at_node : standing.node ≡ ancestor s l o.index
   pub taken : standing.used ≡ siblings_below s l
@@ -45,17 +46,21 @@ pub record CanClimb (s : Shape) (l count : ℕ) : Type 0 where
   pub enough : siblings_below s (suc l) ≤ count
 
 -- level l of the check of an opening: it has the level's inputs, and above it the check stands at the next layer
-pub record IsLevelOfCheck {T W : Type 0} (f : Functions T W) (s : Shape) (o : Opening T W) (l : ℕ) (level : CheckedLevel (List W) (List (List W))) : Type 0 where
+pub record IsLevelOfCheck {T W : Type 0} (f : Functions T W) (s : Shape) (o : Opening T W) (l : ℕ)
+    (level : CheckedLevel (List W) (List (List W))) : Type 0 where
   pub at_level : level.level ≡ l
   pub inputs_are : level_inputs l (layer_words s o.rows (suc l)) level ≡ inputs_at f s o l
   pub stands : StandsAt f s o (suc l) level.above
 
 -- the inputs of the leaf, if the checks of o and u share it and they differ
-abbrev pub leaf_difference : {T W : Type 0} → (Input T W → Input T W → Bool) → Shape → Opening T W → Opening T W → Option (Input T W × Input T W)
+abbrev pub leaf_difference : {T W : Type 0} → (Input T W → Input T W → Bool) → Shape → Opening T W → Opening T W →
+    Option (Input T W × Input T W)
 leaf_difference test s o u =
     if o.index == u.index then last_difference test (leaf_input s o ∷ []) (leaf_input s u ∷ []) else None
 
 -- the last inputs of level l that differ, if the checks of o and u share the level
-abbrev pub level_difference : {T W : Type 0} → (Input T W → Input T W → Bool) → Functions T W → Shape → ℕ → Opening T W → Opening T W → Option (Input T W × Input T W)
+abbrev pub level_difference : {T W : Type 0} → (Input T W → Input T W → Bool) → Functions T W → Shape → ℕ →
+    Opening T W → Opening T W → Option (Input T W × Input T W)
 level_difference test f s l o u =
-    if ancestor s (suc l) o.index == ancestor s (suc l) u.index then last_difference test (inputs_at f s o l) (inputs_at f s u l) else None
+    if ancestor s (suc l) o.index == ancestor s (suc l) u.index then last_difference test (inputs_at f s o l)
+    (inputs_at f s u l) else None

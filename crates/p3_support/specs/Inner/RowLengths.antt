@@ -14,4 +14,5 @@ pub length-message : {A : Type 0} (xs : List A) (w n i : ℕ) → length xs ≡ 
 length-message xs w n i full below =
     let more = next_start i w in
     let fits : (i + 1) * w ≤ n * w = mul-le-mul_right w (omega arith) in
-    length-take-le ((i + 1) * w - i * w) (drop (i * w) xs) (omega (arith, length-drop (i * w) xs, full, fits, more)) ∙ omega (arith, more)
+    length-take-le ((i + 1) * w - i * w) (drop (i * w) xs) (omega (arith, length-drop (i * w) xs, full, fits, more))
+    ∙ omega (arith, more)

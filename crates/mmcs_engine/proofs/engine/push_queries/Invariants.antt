@@ -7,4 +7,5 @@ use Rattle.mmcs_engine.proofs.engine.push_queries.Given as goal
 
 abbrev pub invariant-loop-place : goal.invariant-loop-place
 invariant-loop-place g l =
-    (b : Batch ℕ) → g.S.Suite.rows l.opening ≡ map (honest_rows b) l.indices → l.text.items ≡ l.fn.text.items ++ flat_map (λ i. query_lines i (honest_rows b i)) (take l.place l.indices)
+    (b : Batch ℕ) → g.S.Suite.rows l.opening ≡ map (honest_rows b) l.indices → l.text.items
+    ≡ l.fn.text.items ++ flat_map (λ i. query_lines i (honest_rows b i)) (take l.place l.indices)

@@ -17,4 +17,6 @@ returns-clause-end c = λ limit input blank matrices all.
 
 pub returns-clause-between : goal.returns-clause-between
 returns-clause-between c = λ limit front back ms ns first second.
-    subst (λ (blocks : List (List (List ℕ))). AllZip (IsMatrix limit) blocks (ms ++ ns)) (sym (blank_between front back)) (zip_append (IsMatrix limit) (blocks_of front) ms (blocks_of back) ns first second)
+    subst (λ (blocks : List (List (List ℕ))). AllZip (IsMatrix limit) blocks (ms ++ ns))
+    (sym (blank_between front back))
+    (zip_append (IsMatrix limit) (blocks_of front) ms (blocks_of back) ns first second)

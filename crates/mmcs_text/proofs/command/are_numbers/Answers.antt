@@ -7,4 +7,6 @@ use Rattle.mmcs_text.proofs.command.are_numbers.Goals as goal
 pub returns : goal.returns
 returns c =
     numbers_decided c.all.result c.args.words.now
-    (cases_from_all _ _ _ (λ w. IsNumberWord (string_bytes w)) (λ w. (IsNumberWord (string_bytes w) → ⊥)) c.all.ensures.ran (YieldsList-from_slice c.args.words.now c.iter.ensures.rest) (λ x q k. search (rules, tests)) (λ x q k. search (rules, tests)))
+    (cases_from_all _ _ _ (λ w. IsNumberWord (string_bytes w)) (λ w. (IsNumberWord (string_bytes w) → ⊥))
+    c.all.ensures.ran (YieldsList-from_slice c.args.words.now c.iter.ensures.rest) (λ x q k. search (rules, tests))
+    (λ x q k. search (rules, tests)))

@@ -11,9 +11,13 @@ loop-word-preserved c =
     let word = c.word-item.result in
     elim c.match-parse_number.branch [
       | in-Some+in_ok-push w ↦
-          indices_more c.args.words.now c.loop-word.word-index word c.loop-word-test.true c.word-item.is c.loop-word.indices.items _ w.in-Some.index c.loop-word.invariant
-          ((number_read c.parse_number.result _ _ w.in-Some.index c.parse_number.ensures w.in-Some.is).1 ∙ ap (digits_value 10) c.as_bytes.ensures.value)
+          indices_more c.args.words.now c.loop-word.word-index word c.loop-word-test.true c.word-item.is
+          c.loop-word.indices.items _ w.in-Some.index c.loop-word.invariant
+          ((number_read c.parse_number.result _ _ w.in-Some.index c.parse_number.ensures w.in-Some.is).1
+          ∙ ap (digits_value 10) c.as_bytes.ensures.value)
           (ap (λ v. v.items) w.indices-is ∙ w.in_ok-push.ensures.items)
       | in_default w ↦
-          absurd (number_missed c.parse_number.result _ _ c.parse_number.ensures w.in_default.is (subst (λ (ds : List ℕ). IsNumberWord ds) (sym c.as_bytes.ensures.value) (number_at c.args.words.now c.loop-word.word-index word c.loop-word-test.true c.word-item.is c.requires)))
+          absurd (number_missed c.parse_number.result _ _ c.parse_number.ensures w.in_default.is
+          (subst (λ (ds : List ℕ). IsNumberWord ds) (sym c.as_bytes.ensures.value)
+          (number_at c.args.words.now c.loop-word.word-index word c.loop-word-test.true c.word-item.is c.requires)))
     ]

@@ -8,12 +8,15 @@ use Rattle.mmcs_text.proofs.input.cut_line.Goals as goal
 pub loop-at-preserved : goal.loop-at-preserved
 loop-at-preserved c =
     rw (take_more c.args.input.now c.loop-at.at 0 c.loop-at-test.true)
-    (All-push (λ b. (b == 10) ≡ false) (take c.loop-at.at c.args.input.now) (get_or c.args.input.now c.loop-at.at 0) c.loop-at.invariant (no_line_feed _ c.if-input-at-eq10.false))
+    (All-push (λ b. (b == 10) ≡ false) (take c.loop-at.at c.args.input.now) (get_or c.args.input.now c.loop-at.at 0)
+    c.loop-at.invariant (no_line_feed _ c.if-input-at-eq10.false))
 
 pub returns-then-input-at-eq10-clause-cut : goal.returns-then-input-at-eq10-clause-cut
-returns-then-input-at-eq10-clause-cut c = cut_at c.args.input.now c.loop-at.at c.loop-at-test.true c.loop-at.invariant c.if-input-at-eq10.true
+returns-then-input-at-eq10-clause-cut c = cut_at c.args.input.now c.loop-at.at c.loop-at-test.true c.loop-at.invariant
+    c.if-input-at-eq10.true
 
 pub returns-clause-last : goal.returns-clause-last
 returns-clause-last c =
     let ended : length c.args.input.now ≤ c.loop-at.at = omega (arith, c.loop-at-test.false) in
-    slice_split_none (λ b. b == 10) c.args.input.now (rw (take_all c.loop-at.at c.args.input.now ended) at c.loop-at.invariant)
+    slice_split_none (λ b. b == 10) c.args.input.now
+    (rw (take_all c.loop-at.at c.args.input.now ended) at c.loop-at.invariant)

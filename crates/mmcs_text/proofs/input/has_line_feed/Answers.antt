@@ -8,7 +8,8 @@ pub loop-byte-preserved : goal.loop-byte-preserved
 loop-byte-preserved c = λ none.
     let here = not_seen c.loop-byte.found _ none in
     rw (take_more c.args.block.now c.loop-byte.byte-index 0 (search rules))
-    (All-push (λ b. (b == 10) ≡ false) (take c.loop-byte.byte-index c.args.block.now) (get_or c.args.block.now c.loop-byte.byte-index 0) (c.loop-byte.invariant here.0) here.1)
+    (All-push (λ b. (b == 10) ≡ false) (take c.loop-byte.byte-index c.args.block.now)
+    (get_or c.args.block.now c.loop-byte.byte-index 0) (c.loop-byte.invariant here.0) here.1)
 
 pub returns : goal.returns
 returns c = λ none.

@@ -10,22 +10,31 @@ use Rattle.mmcs_text.proofs.input.read_matrices.Goals as goal
 use Rattle.mmcs_text.proofs.input.read_matrices.Goals.{After-cut_line, in-Some-take_matrix-2+in_ok-push-2, in_default-take_matrix-2}
 
 -- this turn's piece is the next one of the input
-turn : (g : Over) (c : After-cut_line g) → (c.loop-rest.line < length (slice_split (λ b. b == 10) c.args.input.now)) × (c.cut_line.result.0.now ≡ get_or (slice_split (λ b. b == 10) c.args.input.now) c.loop-rest.line c.cut_line.result.0.now)
-    × IfSome c.cut_line.result.1 (λ below. drop (c.loop-rest.line + 1) (slice_split (λ b. b == 10) c.args.input.now) ≡ slice_split (λ b. b == 10) below.now)
+turn : (g : Over) (c : After-cut_line g) → (c.loop-rest.line < length (slice_split (λ b. b == 10) c.args.input.now)) ×
+    (c.cut_line.result.0.now
+    ≡ get_or (slice_split (λ b. b == 10) c.args.input.now) c.loop-rest.line c.cut_line.result.0.now)
+    × IfSome c.cut_line.result.1 (λ below. drop (c.loop-rest.line + 1) (slice_split (λ b. b == 10) c.args.input.now)
+    ≡ slice_split (λ b. b == 10) below.now)
     × IfNone c.cut_line.result.1 (length (slice_split (λ b. b == 10) c.args.input.now) ≤ c.loop-rest.line + 1)
 turn g c =
-    next_piece c.cut_line.result.1 (λ below. below.now) (slice_split (λ b. b == 10) c.args.input.now) c.loop-rest.line c.in-Some.left.now c.cut_line.result.0.now (rw c.in-Some.is at c.loop-rest.invariant.left) c.cut_line.ensures.cut
+    next_piece c.cut_line.result.1 (λ below. below.now) (slice_split (λ b. b == 10) c.args.input.now) c.loop-rest.line
+    c.in-Some.left.now c.cut_line.result.0.now (rw c.in-Some.is at c.loop-rest.invariant.left)
+    c.cut_line.ensures.cut
     c.cut_line.ensures.last
 
 -- there are fewer lines than numbers
 pub overflow_add-line : goal.overflow_add-line
-overflow_add-line g c = let within = lines_fit c.args.input.now c.loop-rest.line (turn g (goal.at.overflow_add-line g c).After-cut_line).0 in search (rules, arith)
+overflow_add-line g c = let within =
+    lines_fit c.args.input.now c.loop-rest.line (turn g (goal.at.overflow_add-line g c).After-cut_line).0 in
+    search (rules, arith)
 
 pub loop-rest-init : goal.loop-rest-init
 loop-rest-init g c = record {
   left = refl;
   none = tt;
-  lines = rw c.new-matrices.ensures.items (lines_start (Shows g.W.Word.value) (g.W.Word.MAX + 1) (map g.W.Word.value c.new-block.result.values.items) c.new-block.result.width (c.new-block.ensures (g.W.Word.MAX + 1)));
+  lines = rw c.new-matrices.ensures.items
+      (lines_start (Shows g.W.Word.value) (g.W.Word.MAX + 1) (map g.W.Word.value c.new-block.result.values.items)
+      c.new-block.result.width (c.new-block.ensures (g.W.Word.MAX + 1)));
 }
 
 -- a blank line ends the matrix
@@ -37,9 +46,18 @@ loop-rest-preserved-in-Continue-1 g c =
       left = t.2;
       none = t.3;
       lines =
-          rw (c.in_ok-push.ensures.items, pieces_more c.args.input.now c.loop-rest.line c.cut_line.result.0.now c.without_return-text.result.now t.0 t.1 c.without_return-text.ensures)
-          (lines_ended (Shows g.W.Word.value) (g.W.Word.MAX + 1) _ c.loop-rest.matrices.items (map g.W.Word.value c.loop-rest.block.values.items) c.loop-rest.block.width c.loop-rest.invariant.lines c.without_return-text.result.now
-          (map g.W.Word.value new.values.items) new.width c.in-Some-take_matrix.matrix (sym c.is_blank.ensures ∙ c.if-is_blank.true) c.in-Some-take_matrix.ensures.some (c.take_matrix.ensures.emptied (g.W.Word.MAX + 1)) (c.in-Some-take_matrix.ensures.matrix (g.W.Word.MAX + 1)));
+          rw (
+            c.in_ok-push.ensures.items,
+            pieces_more c.args.input.now c.loop-rest.line c.cut_line.result.0.now
+                c.without_return-text.result.now t.0 t.1 c.without_return-text.ensures,
+          )
+          (lines_ended (Shows g.W.Word.value) (g.W.Word.MAX + 1) _ c.loop-rest.matrices.items
+          (map g.W.Word.value c.loop-rest.block.values.items) c.loop-rest.block.width c.loop-rest.invariant.lines
+          c.without_return-text.result.now
+          (map g.W.Word.value new.values.items) new.width c.in-Some-take_matrix.matrix (sym c.is_blank.ensures
+          ∙ c.if-is_blank.true) c.in-Some-take_matrix.ensures.some
+          (c.take_matrix.ensures.emptied (g.W.Word.MAX + 1))
+          (c.in-Some-take_matrix.ensures.matrix (g.W.Word.MAX + 1)));
     }
 
 -- a blank line after no row
@@ -51,9 +69,13 @@ loop-rest-preserved-in_default-take_matrix g c =
       left = t.2;
       none = t.3;
       lines =
-          rw (pieces_more c.args.input.now c.loop-rest.line c.cut_line.result.0.now c.without_return-text.result.now t.0 t.1 c.without_return-text.ensures)
-          (lines_blank (Shows g.W.Word.value) (g.W.Word.MAX + 1) _ c.loop-rest.matrices.items (map g.W.Word.value c.loop-rest.block.values.items) c.loop-rest.block.width c.loop-rest.invariant.lines c.without_return-text.result.now
-          (map g.W.Word.value new.values.items) new.width (sym c.is_blank.ensures ∙ c.if-is_blank.true) c.in_default-take_matrix.ensures.none (c.take_matrix.ensures.emptied (g.W.Word.MAX + 1)));
+          rw (pieces_more c.args.input.now c.loop-rest.line c.cut_line.result.0.now c.without_return-text.result.now t.0
+          t.1 c.without_return-text.ensures)
+          (lines_blank (Shows g.W.Word.value) (g.W.Word.MAX + 1) _ c.loop-rest.matrices.items
+          (map g.W.Word.value c.loop-rest.block.values.items) c.loop-rest.block.width c.loop-rest.invariant.lines
+          c.without_return-text.result.now
+          (map g.W.Word.value new.values.items) new.width (sym c.is_blank.ensures ∙ c.if-is_blank.true)
+          c.in_default-take_matrix.ensures.none (c.take_matrix.ensures.emptied (g.W.Word.MAX + 1)));
     }
 
 -- any other line is a row
@@ -65,8 +87,11 @@ loop-rest-preserved g c =
       left = t.2;
       none = t.3;
       lines =
-          rw (pieces_more c.args.input.now c.loop-rest.line c.cut_line.result.0.now c.without_return-text.result.now t.0 t.1 c.without_return-text.ensures)
-          (lines_row (Shows g.W.Word.value) (g.W.Word.MAX + 1) _ c.loop-rest.matrices.items (map g.W.Word.value c.loop-rest.block.values.items) c.loop-rest.block.width c.loop-rest.invariant.lines c.without_return-text.result.now
+          rw (pieces_more c.args.input.now c.loop-rest.line c.cut_line.result.0.now c.without_return-text.result.now t.0
+          t.1 c.without_return-text.ensures)
+          (lines_row (Shows g.W.Word.value) (g.W.Word.MAX + 1) _ c.loop-rest.matrices.items
+          (map g.W.Word.value c.loop-rest.block.values.items) c.loop-rest.block.width c.loop-rest.invariant.lines
+          c.without_return-text.result.now
           (map g.W.Word.value new.values.items) new.width c.in_ok-push_row.ensures.row);
     }
 
@@ -76,10 +101,15 @@ returns-in_err-push_row-clause-fault g c =
     let t = turn g (goal.at.returns-in_err-push_row-clause-fault g c).After-cut_line in
     let n = c.loop-rest.line in
     let left = err_from_is_err_and c.from_residual-in_err-push_row.result c.from_residual-in_err-push_row.ensures.1 in
-    let seen = seen_is c.args.input.now n c.cut_line.result.0.now c.without_return-text.result.now t.0 t.1 c.without_return-text.ensures in
+    let seen = seen_is c.args.input.now n c.cut_line.result.0.now c.without_return-text.result.now t.0 t.1
+    c.without_return-text.ensures in
     rw (left.1, left.2)
-    (lines_refused (Shows g.W.Word.value) (g.W.Word.MAX + 1) _ c.loop-rest.matrices.items (map g.W.Word.value c.loop-rest.block.values.items) c.loop-rest.block.width c.loop-rest.invariant.lines c.without_return-text.result.now
-    (pieces_of c.args.input.now) _ _ c.in_err-push_row.field-0.0 (pieces_cut c.args.input.now n c.cut_line.result.0.now c.without_return-text.result.now t.0 t.1 c.without_return-text.ensures)
+    (lines_refused (Shows g.W.Word.value) (g.W.Word.MAX + 1) _ c.loop-rest.matrices.items
+    (map g.W.Word.value c.loop-rest.block.values.items) c.loop-rest.block.width c.loop-rest.invariant.lines
+    c.without_return-text.result.now
+    (pieces_of c.args.input.now) _ _ c.in_err-push_row.field-0.0
+    (pieces_cut c.args.input.now n c.cut_line.result.0.now c.without_return-text.result.now t.0 t.1
+    c.without_return-text.ensures)
     (omega (arith, seen)) (sym c.is_blank.ensures ∙ c.if-is_blank.false) c.in_err-push_row.ensures.fault)
 
 -- the last matrix may end with the input
@@ -87,13 +117,20 @@ pub returns-clause-matrices : goal.returns-clause-matrices
 returns-clause-matrices g c =
     let seen = pieces_all c.args.input.now c.loop-rest.line (rw c.in_default.is at c.loop-rest.invariant.none) in
     let limit = g.W.Word.MAX + 1 in
-    let lines = subst (λ (ls : List (List ℕ)). LinesSoFar (Shows g.W.Word.value) limit ls c.loop-rest.matrices.items (map g.W.Word.value c.loop-rest.block.values.items) c.loop-rest.block.width) seen c.loop-rest.invariant.lines in
+    let lines = subst (λ (ls : List (List ℕ)). LinesSoFar (Shows g.W.Word.value) limit ls c.loop-rest.matrices.items
+    (map g.W.Word.value c.loop-rest.block.values.items) c.loop-rest.block.width) seen c.loop-rest.invariant.lines in
     elim c.match-take_matrix-2.branch [
       | in-Some-take_matrix-2+in_ok-push-2 w ↦
           let m = w.in-Some-take_matrix-2 in
           rw (w.matrices-is, w.in_ok-push-2.ensures.items)
-          (matrices_found g.W.Word.value limit c.args.input.now _ (lines_end_block (Shows g.W.Word.value) limit (pieces_of c.args.input.now) c.loop-rest.matrices.items (map g.W.Word.value c.loop-rest.block.values.items) c.loop-rest.block.width lines m.matrix m.ensures.some (m.ensures.matrix limit)))
+          (matrices_found g.W.Word.value limit c.args.input.now _
+          (lines_end_block (Shows g.W.Word.value) limit (pieces_of c.args.input.now) c.loop-rest.matrices.items
+          (map g.W.Word.value c.loop-rest.block.values.items) c.loop-rest.block.width lines m.matrix m.ensures.some
+          (m.ensures.matrix limit)))
       | in_default-take_matrix-2 w ↦
           rw w.matrices-is
-          (matrices_found g.W.Word.value limit c.args.input.now _ (lines_end (Shows g.W.Word.value) limit (pieces_of c.args.input.now) c.loop-rest.matrices.items (map g.W.Word.value c.loop-rest.block.values.items) c.loop-rest.block.width lines w.in_default-take_matrix-2.ensures.none))
+          (matrices_found g.W.Word.value limit c.args.input.now _
+          (lines_end (Shows g.W.Word.value) limit (pieces_of c.args.input.now) c.loop-rest.matrices.items
+          (map g.W.Word.value c.loop-rest.block.values.items) c.loop-rest.block.width lines
+          w.in_default-take_matrix-2.ensures.none))
     ]

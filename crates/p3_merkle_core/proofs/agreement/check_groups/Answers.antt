@@ -7,8 +7,8 @@ use Rattle.p3_merkle_core.specs.Geometry.{ancestor, exponent, shape_of}
 use Rattle.p3_support.specs.Shown.{row_sets}
 use Rattle.p3_merkle_core.specs.Inner.Agreement.{layers_refusal}
 use Rattle.p3_merkle_core.specs.Refusals.{first_of}
-use Rattle.p3_merkle_core.proofs.StepFacts.{layer_start, next_at}
-use Rattle.p3_merkle_core.proofs.LeadFacts.{ascending_above, few_layers, found_or, kept_or, layer_fault, layer_read, nodes_more, nodes_start, slots_next}
+use Rattle.p3_merkle_core.proofs.Shapes.StepFacts.{layer_start, next_at}
+use Rattle.p3_merkle_core.proofs.Pruned.LeadFacts.{ascending_above, few_layers, found_or, kept_or, layer_fault, layer_read, nodes_more, nodes_start, slots_next}
 use Rattle.p3_merkle_core.proofs.agreement.check_groups.Goals as goal
 
 pub loop-l-init : goal.loop-l-init
@@ -22,7 +22,8 @@ loop-l-init g c =
     }
 
 pub overflow_add-l-end : goal.overflow_add-l-end
-overflow_add-l-end g c = omega (arith, few_layers (shape_of c.args.arity c.args.dimensions.now) c.args.t c.requires.low c.requires.layer)
+overflow_add-l-end g c =
+    omega (arith, few_layers (shape_of c.args.arity c.args.dimensions.now) c.args.t c.requires.low c.requires.layer)
 
 pub check_layer-requires : goal.check_layer-requires
 check_layer-requires g c =
@@ -33,8 +34,10 @@ check_layer-requires g c =
     let nodes = c.deref-in-loop-l.ensures.value in
     let firsts = c.deref-in-loop-l-2.ensures.value in
     record {
-      pairs = ap length nodes ∙ ap length above ∙ length-map leaves (ancestor s l) ∙ c.requires.pairs ∙ sym (ap length firsts);
-      ascending = ascending_above s l leaves c.deref-in-loop-l.result.now c.requires.arity.above_1 (nodes ∙ above) c.requires.ascending;
+      pairs = ap length nodes ∙ ap length above ∙ length-map leaves (ancestor s l) ∙ c.requires.pairs
+          ∙ sym (ap length firsts);
+      ascending = ascending_above s l leaves c.deref-in-loop-l.result.now c.requires.arity.above_1 (nodes ∙ above)
+          c.requires.ascending;
       queries = rw firsts c.requires.queries;
       full = rw firsts c.requires.full;
     }
@@ -52,13 +55,25 @@ loop-l-preserved g c =
     let above = c.loop-l.invariant.above in
     let h = layer_fault g.T.PartialEq.eq s leaves firsts sets in
     let total = layers_refusal g.T.PartialEq.eq s t leaves firsts sets in
-    let none = layer_read g.T.PartialEq.eq s leaves firsts c.deref-in-loop-l-2.result.now c.deref-in-loop-l.result.now sets l c.loop-l.x None at (c.deref-in-loop-l.ensures.value ∙ above) c.deref-in-loop-l-2.ensures.value c.in_ok-check_layer.ensures in
-    let divided = c.to_parents.ensures ∙ ap (λ xs. map (λ j. j / step.result.0) xs) (c.deref_mut.ensures.value ∙ above) in
-    let long : length c.to_parents.new.nodes ≡ c.loop-l.nodes.len = omega (arith, ap length c.to_parents.ensures, length-map c.deref_mut.result.now (λ j. j / step.result.0), c.deref_mut.ensures.len) in
+    let none = layer_read g.T.PartialEq.eq s leaves firsts c.deref-in-loop-l-2.result.now c.deref-in-loop-l.result.now
+    sets l c.loop-l.x None at (c.deref-in-loop-l.ensures.value ∙ above) c.deref-in-loop-l-2.ensures.value
+    c.in_ok-check_layer.ensures in
+    let divided = c.to_parents.ensures
+    ∙ ap (λ xs. map (λ j. j / step.result.0) xs) (c.deref_mut.ensures.value ∙ above) in
+    let long : length c.to_parents.new.nodes
+    ≡ c.loop-l.nodes.len =
+    omega (
+      arith,
+      ap length c.to_parents.ensures,
+      length-map c.deref_mut.result.now (λ j. j / step.result.0),
+      c.deref_mut.ensures.len,
+    ) in
     record {
       at = next_at s l c.loop-l.x step.result.1 at step.ensures.next;
-      above = with_items_is c.loop-l.nodes c.to_parents.new.nodes long ∙ divided ∙ nodes_more s l c.loop-l.x step.result.0 leaves at step.ensures.step;
-      so_far = kept_or (h l) (first_of h (range_with_len (l + 1) (suc t - (l + 1)))) total (slots_next h (suc t) l total (omega arith) c.loop-l.invariant.so_far) none;
+      above = with_items_is c.loop-l.nodes c.to_parents.new.nodes long ∙ divided
+          ∙ nodes_more s l c.loop-l.x step.result.0 leaves at step.ensures.step;
+      so_far = kept_or (h l) (first_of h (range_with_len (l + 1) (suc t - (l + 1)))) total
+          (slots_next h (suc t) l total (omega arith) c.loop-l.invariant.so_far) none;
     }
 
 pub returns-in_err-check_layer : goal.returns-in_err-check_layer
@@ -72,8 +87,11 @@ returns-in_err-check_layer g c =
     let h = layer_fault g.T.PartialEq.eq s leaves firsts sets in
     let total = layers_refusal g.T.PartialEq.eq s t leaves firsts sets in
     let e = c.in_err-check_layer.field-0.0 in
-    let some = layer_read g.T.PartialEq.eq s leaves firsts c.deref-in-loop-l-2.result.now c.deref-in-loop-l.result.now sets l c.loop-l.x (Some e) c.loop-l.invariant.at (c.deref-in-loop-l.ensures.value ∙ c.loop-l.invariant.above)
+    let some = layer_read g.T.PartialEq.eq s leaves firsts c.deref-in-loop-l-2.result.now c.deref-in-loop-l.result.now
+    sets l c.loop-l.x (Some e) c.loop-l.invariant.at (c.deref-in-loop-l.ensures.value ∙ c.loop-l.invariant.above)
     c.deref-in-loop-l-2.ensures.value c.in_err-check_layer.ensures in
-    let found = found_or (h l) (first_of h (range_with_len (l + 1) (suc t - (l + 1)))) total e (slots_next h (suc t) l total (omega arith) c.loop-l.invariant.so_far) some in
-    let left = err_from_is_err_and c.from_residual-in_err-check_layer.result c.from_residual-in_err-check_layer.ensures.1 in
+    let found = found_or (h l) (first_of h (range_with_len (l + 1) (suc t - (l + 1)))) total e
+    (slots_next h (suc t) l total (omega arith) c.loop-l.invariant.so_far) some in
+    let left = err_from_is_err_and c.from_residual-in_err-check_layer.result
+    c.from_residual-in_err-check_layer.ensures.1 in
     rw left.1 (inr (found ∙ ap (λ e. Some e) (sym left.2)))

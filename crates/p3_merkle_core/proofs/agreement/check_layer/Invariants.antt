@@ -4,7 +4,7 @@ use Rattle.p3_support.specs.Batches.{heights_of}
 use Rattle.p3_support.specs.Shown.{row_sets}
 use Rattle.p3_merkle_core.specs.Inner.Agreement.{first_query, nodes_refusal}
 use Rattle.p3_merkle_core.specs.Refusals.{first_of}
-use Rattle.p3_merkle_core.proofs.LeadFacts.{slot_fault}
+use Rattle.p3_merkle_core.proofs.Pruned.LeadFacts.{slot_fault}
 use Rattle.p3_merkle_core.proofs.agreement.check_layer.Given as goal
 
 -- the lead of the slot before, and the slots so far have its rows, so the rest decides
@@ -12,6 +12,7 @@ abbrev pub invariant-loop-slot : goal.invariant-loop-slot
 invariant-loop-slot g l = record {
   is_lead : l.lead ≡ first_query l.nodes (get_or l.nodes (l.slot - 1) 0);
   so_far :
-      first_of (slot_fault g.T.PartialEq.eq (heights_of l.dimensions) l.x l.nodes l.firsts (row_sets l.rows)) (range_with_len l.slot (length l.nodes - l.slot))
+      first_of (slot_fault g.T.PartialEq.eq (heights_of l.dimensions) l.x l.nodes l.firsts (row_sets l.rows))
+      (range_with_len l.slot (length l.nodes - l.slot))
       ≡ nodes_refusal g.T.PartialEq.eq (heights_of l.dimensions) l.x l.nodes l.firsts (row_sets l.rows);
 }

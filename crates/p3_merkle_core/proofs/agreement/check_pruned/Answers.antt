@@ -5,20 +5,22 @@ use Rattle.std.proofs.lemmas.Result.{err_from_is_err_and}
 use Rattle.p3_support.specs.Shown.{row_lists, row_sets}
 use Rattle.p3_support.specs.Batches.{heights_of}
 use Rattle.p3_merkle_core.specs.Geometry.{shape_of}
-use Rattle.p3_merkle_core.proofs.AgreeFacts.{distinct_ascending, firsts_inside}
-use Rattle.p3_merkle_core.proofs.PrunedFacts.{asked_from, pruned_late}
+use Rattle.p3_merkle_core.proofs.Pruned.AgreeFacts.{distinct_ascending, firsts_inside}
+use Rattle.p3_merkle_core.proofs.Pruned.PrunedFacts.{asked_from, pruned_late}
 use Rattle.p3_merkle_core.proofs.agreement.check_pruned.Goals as goal
 
 pub pruned_len_of_slots-requires-clause-below : goal.pruned_len_of_slots-requires-clause-below
 pruned_len_of_slots-requires-clause-below g c =
-    (asked_from (heights_of c.args.dimensions.now) c.args.indices.now (length c.args.rows.now) c.args.num_digests c.in_ok-check_queries.ensures.answer).highest
+    (asked_from (heights_of c.args.dimensions.now) c.args.indices.now (length c.args.rows.now) c.args.num_digests
+    c.in_ok-check_queries.ensures.answer).highest
 
 pub check_slots-requires-clause-ascending : goal.check_slots-requires-clause-ascending
 check_slots-requires-clause-ascending g c = rw c.in_ok-slots.ensures.leaves (distinct_ascending c.args.indices.now)
 
 pub check_slots-requires-clause-queries : goal.check_slots-requires-clause-queries
 check_slots-requires-clause-queries g c =
-    let asked = asked_from (heights_of c.args.dimensions.now) c.args.indices.now (length c.args.rows.now) c.args.num_digests c.in_ok-check_queries.ensures.answer in
+    let asked = asked_from (heights_of c.args.dimensions.now) c.args.indices.now (length c.args.rows.now)
+    c.args.num_digests c.in_ok-check_queries.ensures.answer in
     rw (← asked.pairs) (firsts_inside c.in_ok-slots.slots.firsts.items c.args.indices.now c.in_ok-slots.ensures.firsts)
 
 pub returns-in_err-check_slots : goal.returns-in_err-check_slots
@@ -26,13 +28,18 @@ returns-in_err-check_slots g c =
     let s = shape_of c.args.arity c.args.dimensions.now in
     let sets = row_sets c.args.rows.now in
     let e = c.in_err-check_slots.field-0.0 in
-    let left = err_from_is_err_and c.from_residual-in_err-check_slots.result c.from_residual-in_err-check_slots.ensures.1 in
-    let early = rw (← length-map c.args.rows.now (λ rows. row_lists rows.items)) at c.in_ok-check_queries.ensures.answer in
+    let left = err_from_is_err_and c.from_residual-in_err-check_slots.result
+    c.from_residual-in_err-check_slots.ensures.1 in
+    let early = rw (← length-map c.args.rows.now (λ rows. row_lists rows.items)) at
+    c.in_ok-check_queries.ensures.answer in
     let count = rw c.in_ok-pruned_len_of_slots.ensures at c.in_ok-check_digest_count.ensures in
     elim c.in_err-check_slots.ensures [
       | inl memory ↦ rw left.1 (inl (left.2 ∙ memory))
       | inr some ↦
-          let found = pruned_late g.T.PartialEq.eq s c.args.t c.in_ok-slots.slots.leaves.items c.in_ok-slots.slots.firsts.items c.args.indices.now sets c.args.num_digests (Some e) c.in_ok-slots.ensures.leaves c.in_ok-slots.ensures.firsts early c.in_ok-check_repeats.ensures count some in
+          let found = pruned_late g.T.PartialEq.eq s c.args.t c.in_ok-slots.slots.leaves.items
+          c.in_ok-slots.slots.firsts.items c.args.indices.now sets c.args.num_digests (Some e)
+          c.in_ok-slots.ensures.leaves c.in_ok-slots.ensures.firsts early c.in_ok-check_repeats.ensures count
+          some in
           rw left.1 (inr (found ∙ ap (λ e. Some e) (sym left.2)))
     ]
 
@@ -40,7 +47,10 @@ pub returns : goal.returns
 returns g c =
     let s = shape_of c.args.arity c.args.dimensions.now in
     let sets = row_sets c.args.rows.now in
-    let early = rw (← length-map c.args.rows.now (λ rows. row_lists rows.items)) at c.in_ok-check_queries.ensures.answer in
+    let early = rw (← length-map c.args.rows.now (λ rows. row_lists rows.items)) at
+    c.in_ok-check_queries.ensures.answer in
     let count = rw c.in_ok-pruned_len_of_slots.ensures at c.in_ok-check_digest_count.ensures in
-    let none = pruned_late g.T.PartialEq.eq s c.args.t c.in_ok-slots.slots.leaves.items c.in_ok-slots.slots.firsts.items c.args.indices.now sets c.args.num_digests None c.in_ok-slots.ensures.leaves c.in_ok-slots.ensures.firsts early c.in_ok-check_repeats.ensures count c.in_ok-check_slots.ensures in
+    let none = pruned_late g.T.PartialEq.eq s c.args.t c.in_ok-slots.slots.leaves.items c.in_ok-slots.slots.firsts.items
+    c.args.indices.now sets c.args.num_digests None c.in_ok-slots.ensures.leaves c.in_ok-slots.ensures.firsts early
+    c.in_ok-check_repeats.ensures count c.in_ok-check_slots.ensures in
     (none, c.in_ok-slots.ensures)

@@ -3,10 +3,12 @@ use Rattle.std.proofs.Common.{refl, ◌<◌, ◌≤◌, All}
 use Rattle.std.proofs.lemmas.Result.{IfOk-weaker}
 use Rattle.p3_merkle_core.specs.Geometry.{height_limit}
 use Rattle.p3_support.specs.Batches.{heights_of, greatest}
-use Rattle.p3_merkle_core.proofs.GateFacts.{none_large_from_lawful, tallest_fits}
+use Rattle.p3_merkle_core.proofs.Shapes.GateFacts.{none_large_from_lawful, tallest_fits}
 use Rattle.p3_merkle_core.proofs.agreement.check_queries.Goals as goal
 
 pub returns-clause-low : goal.returns-clause-low
 returns-clause-low c =
-    let low = tallest_fits (heights_of c.args.dimensions.now) (none_large_from_lawful (heights_of c.args.dimensions.now) (c.in_ok-check_heights.ensures.lawful.0 refl)) in
-    IfOk-weaker c.check_indices.result (λ ok. All (λ q. q < c.tallest_of.result) c.args.indices.now) (λ ok. greatest (heights_of c.args.dimensions.now) ≤ height_limit) (λ _ _. low) c.check_indices.ensures.below
+    let low = tallest_fits (heights_of c.args.dimensions.now)
+    (none_large_from_lawful (heights_of c.args.dimensions.now) (c.in_ok-check_heights.ensures.lawful.0 refl)) in
+    IfOk-weaker c.check_indices.result (λ ok. All (λ q. q < c.tallest_of.result) c.args.indices.now)
+    (λ ok. greatest (heights_of c.args.dimensions.now) ≤ height_limit) (λ _ _. low) c.check_indices.ensures.below

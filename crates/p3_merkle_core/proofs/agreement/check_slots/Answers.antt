@@ -7,12 +7,13 @@ use Rattle.p3_support.specs.Shown.{row_sets}
 use Rattle.p3_merkle_core.specs.Refusals.{first_of, width_refusal}
 use Rattle.p3_merkle_core.specs.Inner.Agreement.{late_refusal, layers_refusal}
 use Rattle.p3_merkle_core.specs.declared.error.MerkleTreeError.TheVariants.{OutOfMemory}
-use Rattle.p3_merkle_core.proofs.PrunedFacts.{full_from, late_from}
+use Rattle.p3_merkle_core.proofs.Pruned.PrunedFacts.{full_from, late_from}
 use Rattle.p3_merkle_core.proofs.agreement.check_slots.Goals as goal
 
 pub check_groups-requires-clause-full : goal.check_groups-requires-clause-full
 check_groups-requires-clause-full g c =
-    full_from c.args.dimensions.now c.args.slots.now.firsts.items (row_sets c.args.rows.now) (rw c.deref.ensures.value at c.in_ok-check_first_widths.ensures)
+    full_from c.args.dimensions.now c.args.slots.now.firsts.items (row_sets c.args.rows.now)
+    (rw c.deref.ensures.value at c.in_ok-check_first_widths.ensures)
 
 pub returns : goal.returns
 returns g c =
@@ -25,4 +26,7 @@ returns g c =
     let late = late_refusal g.T.PartialEq.eq s c.args.t leaves firsts sets in
     let none : widths ≡ None = rw c.deref.ensures.value at c.in_ok-check_first_widths.ensures in
     MatchResult-weaker c.check_groups.result c.check_groups.ensures (λ ok is. late_from widths groups None none is)
-    (λ e either. elim either as (λ _. (e ≡ OutOfMemory) ⊎ (late ≡ Some e)) [ inl memory ↦ inl memory | inr is ↦ inr (late_from widths groups (Some e) none is) ])
+    (λ e either. elim either as (λ _. (e ≡ OutOfMemory) ⊎ (late ≡ Some e)) [
+      | inl memory ↦ inl memory
+      | inr is ↦ inr (late_from widths groups (Some e) none is)
+    ])

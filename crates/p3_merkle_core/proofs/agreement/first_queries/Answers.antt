@@ -1,6 +1,6 @@
 -- Each turn writes the query to the slot of its index.
 use Rattle.std.proofs.Common.{◌-◌, ◌∙◌, length, map, ap, arith}
-use Rattle.p3_merkle_core.proofs.SlotFacts.{first_from, firsts_start, firsts_turn, queried_at}
+use Rattle.p3_merkle_core.proofs.Pruned.SlotFacts.{first_from, firsts_start, firsts_turn, queried_at}
 use Rattle.p3_merkle_core.proofs.agreement.first_queries.Goals as goal
 
 pub loop-query-init : goal.loop-query-init
@@ -12,5 +12,6 @@ loop-query-init c =
 pub loop-query-preserved : goal.loop-query-preserved
 loop-query-preserved c =
     let n = c.loop-query.query - 1 in
-    firsts_turn c.loop-query.firsts.items c.args.indices.now n c.loop-query.query c.slot_of_index-slot.result (omega arith) (omega arith) c.loop-query.invariant
+    firsts_turn c.loop-query.firsts.items c.args.indices.now n c.loop-query.query c.slot_of_index-slot.result
+    (omega arith) (omega arith) c.loop-query.invariant
     (c.slot_of_index-slot.ensures c.args.indices.now c.requires (queried_at c.args.indices.now n (omega arith)))

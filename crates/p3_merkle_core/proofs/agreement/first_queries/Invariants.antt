@@ -1,6 +1,6 @@
 use Rattle.std.proofs.Common.{◌≡◌, map}
 use Rattle.p3_merkle_core.specs.Inner.Agreement.{distinct}
-use Rattle.p3_merkle_core.proofs.SlotFacts.{first_from}
+use Rattle.p3_merkle_core.proofs.Pruned.SlotFacts.{first_from}
 use Rattle.p3_merkle_core.proofs.agreement.first_queries.Given as goal
 
 -- the first queries among those that were gone through

@@ -1,5 +1,5 @@
 -- What the search says of an index that is queried.
-use Rattle.p3_merkle_core.proofs.SlotFacts.{search_hits, search_misses}
+use Rattle.p3_merkle_core.proofs.Pruned.SlotFacts.{search_hits, search_misses}
 use Rattle.p3_merkle_core.proofs.agreement.slot_of_index.Goals as goal
 
 pub returns-in-Ok : goal.returns-in-Ok

@@ -1,10 +1,13 @@
-use Rattle.p3_merkle_core.proofs.Answered.{restorable}
-use Rattle.p3_merkle_core.proofs.Unrefused.{unrefused}
-use Rattle.p3_merkle_core.proofs.Verdicts.{accepted_from, accepted_answer, pruned_accepted, pruned_capped}
+use Rattle.p3_merkle_core.proofs.Pruned.Answered.{restorable}
+use Rattle.p3_merkle_core.proofs.Pruned.Unrefused.{unrefused}
+use Rattle.p3_merkle_core.proofs.Checks.Verdicts.{accepted_from, accepted_answer, pruned_accepted, pruned_capped}
 use Rattle.p3_merkle_core.proofs.laws.answers.Goals as goal
 
 pub returns-clause-single : goal.returns-clause-single
-returns-clause-single g x = λ digest_eq c cap o dec. (accepted_from digest_eq c.functions c.shape c.layer cap o dec, accepted_answer digest_eq c.functions c.shape c.layer cap o dec)
+returns-clause-single g x = λ digest_eq c cap o dec. (
+  accepted_from digest_eq c.functions c.shape c.layer cap o dec,
+  accepted_answer digest_eq c.functions c.shape c.layer cap o dec,
+)
 
 pub returns-clause-pruned : goal.returns-clause-pruned
 returns-clause-pruned g x = λ row_eq s t p dec. (restorable row_eq s t p dec, unrefused row_eq s t p dec)

@@ -1,4 +1,4 @@
-use Rattle.p3_merkle_core.proofs.ArityFacts.{arity_from, is_arity_from}
+use Rattle.p3_merkle_core.proofs.Shapes.ArityFacts.{arity_from, is_arity_from}
 use Rattle.p3_merkle_core.proofs.laws.arities.Goals as goal
 
 pub returns : goal.returns

@@ -1,5 +1,5 @@
-use Rattle.p3_merkle_core.proofs.AuthenticatedFacts.{authenticated_bound}
-use Rattle.p3_merkle_core.proofs.ExtractionFacts.{alike_at_one_index}
+use Rattle.p3_merkle_core.proofs.Checks.AuthenticatedFacts.{authenticated_bound}
+use Rattle.p3_merkle_core.proofs.Collisions.ExtractionFacts.{alike_at_one_index}
 use Rattle.p3_merkle_core.proofs.laws.binding.Goals as goal
 
 pub returns-clause-rows : goal.returns-clause-rows

@@ -1,4 +1,4 @@
-use Rattle.p3_merkle_core.proofs.CapFacts.{fixed_is, none_out, rules_agree}
+use Rattle.p3_merkle_core.proofs.Shapes.CapFacts.{fixed_is, none_out, rules_agree}
 use Rattle.p3_merkle_core.proofs.laws.caps.Goals as goal
 
 pub returns-clause-lowered : goal.returns-clause-lowered

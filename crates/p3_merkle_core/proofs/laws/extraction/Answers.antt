@@ -2,25 +2,33 @@
 use Rattle.p3_merkle_core.specs.Caps.{cap_layer}
 use Rattle.p3_merkle_core.specs.Checks.{shared_inputs, terms}
 use Rattle.p3_merkle_core.specs.Presented.{presented, presented_pruned}
-use Rattle.p3_merkle_core.proofs.Extracted.{differs}
-use Rattle.p3_merkle_core.proofs.Extraction.{collides}
-use Rattle.p3_merkle_core.proofs.ExtractionFacts.{all_authenticated, answer_is_extraction, pruned_presented, single_presented}
-use Rattle.p3_merkle_core.proofs.PlaceFacts.{at_one_place}
+use Rattle.p3_merkle_core.proofs.Collisions.Extracted.{differs}
+use Rattle.p3_merkle_core.proofs.Collisions.Extraction.{collides}
+use Rattle.p3_merkle_core.proofs.Collisions.ExtractionFacts.{all_authenticated, answer_is_extraction, pruned_presented, single_presented}
+use Rattle.p3_merkle_core.proofs.Checks.PlaceFacts.{at_one_place}
 use Rattle.p3_merkle_core.proofs.laws.extraction.Goals as goal
 
 pub returns-clause-collision : goal.returns-clause-collision
 returns-clause-collision g x = λ c cap o u w a b x y last.
     let f = c.functions in
     let s = c.shape in
-    let t = c.layer in
-    (at_one_place f s t o u x y last, differs (shared_inputs c o.index u.index o) (shared_inputs c o.index u.index u) x y last, collides f s t cap o u w a b x y last)
+    let t = c.layer in (
+      at_one_place f s t o u x y last,
+      differs (shared_inputs c o.index u.index o) (shared_inputs c o.index u.index u) x
+          y last,
+      collides f s t cap o u w a b x y last,
+    )
 
 pub returns-clause-single : goal.returns-clause-single
 returns-clause-single g x = λ row_eq digest_eq f s rule cap_height cap o u dec dec_w w.
     let c = terms f s (cap_layer s rule cap_height) in
-    answer_is_extraction row_eq digest_eq rule c cap (presented digest_eq c cap o) (presented digest_eq c cap u) dec dec_w w (all_authenticated s rule cap_height w) (single_presented digest_eq c cap o dec_w) (single_presented digest_eq c cap u dec_w)
+    answer_is_extraction row_eq digest_eq rule c cap (presented digest_eq c cap o) (presented digest_eq c cap u) dec
+    dec_w w (all_authenticated s rule cap_height w) (single_presented digest_eq c cap o dec_w)
+    (single_presented digest_eq c cap u dec_w)
 
 pub returns-clause-pruned : goal.returns-clause-pruned
 returns-clause-pruned g x = λ row_eq digest_eq f s rule cap_height cap p r dec dec_w w.
     let c = terms f s (cap_layer s rule cap_height) in
-    answer_is_extraction row_eq digest_eq rule c cap (presented_pruned row_eq digest_eq c cap p) (presented_pruned row_eq digest_eq c cap r) dec dec_w w (all_authenticated s rule cap_height w) (pruned_presented row_eq digest_eq c cap p dec dec_w w) (pruned_presented row_eq digest_eq c cap r dec dec_w w)
+    answer_is_extraction row_eq digest_eq rule c cap (presented_pruned row_eq digest_eq c cap p)
+    (presented_pruned row_eq digest_eq c cap r) dec dec_w w (all_authenticated s rule cap_height w)
+    (pruned_presented row_eq digest_eq c cap p dec dec_w w) (pruned_presented row_eq digest_eq c cap r dec dec_w w)

@@ -1,5 +1,5 @@
-use Rattle.p3_merkle_core.proofs.InputFacts.{inputs_full}
-use Rattle.p3_merkle_core.proofs.CheckFacts.{last_is, walk_reaches}
+use Rattle.p3_merkle_core.proofs.Checks.InputFacts.{inputs_full}
+use Rattle.p3_merkle_core.proofs.Checks.CheckFacts.{last_is, walk_reaches}
 use Rattle.p3_merkle_core.proofs.laws.inputs.Goals as goal
 
 pub returns-clause-full : goal.returns-clause-full

@@ -2,10 +2,10 @@ use Rattle.std.proofs.lemmas.List.FromFn.{length-map-range_with_len, take-map-ra
 use Rattle.std.proofs.Common.{get_or, sym, arith}
 use Rattle.p3_merkle_core.specs.Caps.{cap_layer}
 use Rattle.p3_merkle_core.specs.Geometry.{heights, levels, step}
-use Rattle.p3_merkle_core.proofs.LadderFacts.{exponent_at_levels, levels_le, layer_of_is, row_below, row_is_anc}
-use Rattle.p3_merkle_core.proofs.RootFacts.{root_alone, last_step}
+use Rattle.p3_merkle_core.proofs.Shapes.LadderFacts.{exponent_at_levels, levels_le, layer_of_is, row_below, row_is_anc}
+use Rattle.p3_merkle_core.proofs.Shapes.RootFacts.{root_alone, last_step}
 use Rattle.p3_merkle_core.proofs.laws.shape.Goals as goal
-use Rattle.p3_merkle_core.proofs.GateFacts.{gate_lawful}
+use Rattle.p3_merkle_core.proofs.Shapes.GateFacts.{gate_lawful}
 
 pub returns-clause-ends : goal.returns-clause-ends
 returns-clause-ends c = λ s w. (exponent_at_levels s w, length-map-range_with_len (step s) 0 (levels s), levels_le s)

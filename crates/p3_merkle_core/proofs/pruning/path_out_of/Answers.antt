@@ -1,19 +1,23 @@
 -- Each turn adds the siblings of one level.
 use Rattle.std.proofs.Common.{arith, map}
 use Rattle.std.proofs.lemmas.List.{length-map}
-use Rattle.p3_merkle_core.proofs.KeptFacts.{path_end, path_more, path_start}
+use Rattle.p3_merkle_core.proofs.Covered.KeptFacts.{path_end, path_more, path_start}
 use Rattle.p3_merkle_core.proofs.pruning.path_out_of.Goals as goal
 
 pub loop-level-init : goal.loop-level-init
-loop-level-init g c = path_start (map (λ level. (level.parents.items, level.step, level.children.items)) c.args.levels.now) c.args.index c.new-path.result.items c.new-path.ensures.items
+loop-level-init g c =
+    path_start (map (λ level. (level.parents.items, level.step, level.children.items)) c.args.levels.now) c.args.index
+    c.new-path.result.items c.new-path.ensures.items
 
 pub loop-level-preserved : goal.loop-level-preserved
 loop-level-preserved g c =
     path_more (λ level. (level.parents.items, level.step, level.children.items)) c.args.levels.now c.args.index
-    c.loop-level.level-index c.loop-level.node c.level-item.result c.loop-level.path.items c.extend_with_siblings.new.path.items c.loop-level-test.true c.level-item.is
+    c.loop-level.level-index c.loop-level.node c.level-item.result c.loop-level.path.items
+    c.extend_with_siblings.new.path.items c.loop-level-test.true c.level-item.is
     c.loop-level.invariant c.in_ok-extend_with_siblings.ensures
 
 pub returns : goal.returns
 returns g c =
-    path_end (map (λ level. (level.parents.items, level.step, level.children.items)) c.args.levels.now) c.args.index c.loop-level.level-index c.loop-level.path.items c.loop-level.node
+    path_end (map (λ level. (level.parents.items, level.step, level.children.items)) c.args.levels.now) c.args.index
+    c.loop-level.level-index c.loop-level.path.items c.loop-level.node
     (simp length-map (omega arith)) c.loop-level.invariant

@@ -6,4 +6,6 @@ use Rattle.p3_merkle_core.proofs.pruning.paths_out_of.Given as goal
 -- the paths so far
 abbrev pub invariant-loop-index : goal.invariant-loop-index
 invariant-loop-index g l =
-    shown_paths l.paths.items ≡ paths_out_of (map (λ level. (level.parents.items, level.step, level.children.items)) l.levels) (take l.index-index l.indices)
+    shown_paths l.paths.items
+    ≡ paths_out_of (map (λ level. (level.parents.items, level.step, level.children.items)) l.levels)
+    (take l.index-index l.indices)

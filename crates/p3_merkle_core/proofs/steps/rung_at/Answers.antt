@@ -1,7 +1,7 @@
 -- Nothing is below 0.
 use Rattle.std.proofs.Common.{arith}
 use Rattle.p3_support.specs.Batches.{heights_of}
-use Rattle.p3_merkle_core.proofs.RungFacts.{next_low}
+use Rattle.p3_merkle_core.proofs.Shapes.RungFacts.{next_low}
 use Rattle.p3_merkle_core.proofs.steps.rung_at.Goals as goal
 
 pub returns-then-x-eq0-clause-rung : goal.returns-then-x-eq0-clause-rung

@@ -3,7 +3,7 @@ use Rattle.std.proofs.Common.{arith, ◌-◌, ◌∙◌, sym, inl, inr}
 use Rattle.std.proofs.lemmas.Bool.{cases_Bool}
 use Rattle.p3_merkle_core.specs.Geometry.{exponent}
 use Rattle.p3_support.specs.Batches.{heights_of}
-use Rattle.p3_merkle_core.proofs.RungFacts.{next_low, none_skipped}
+use Rattle.p3_merkle_core.proofs.Shapes.RungFacts.{next_low, none_skipped}
 use Rattle.p3_merkle_core.proofs.steps.step_up.Goals as goal
 
 pub rung_above-has_rows-requires-clause-between : goal.rung_above-has_rows-requires-clause-between
@@ -17,6 +17,7 @@ rung_above-has_rows-requires-clause-between c = λ down.
       | inl bridging ↦ let one = rw bridging at to in omega (arith, down, one, c.requires.next_is, next_low x hs)
       | inr none ↦
           let whole = rw none at to in
-          let low = none_skipped (x - exponent c.args.arity) x next hs c.requires.next_is (sym (bridge.ensures hs c.requires) ∙ none) in
+          let low = none_skipped (x - exponent c.args.arity) x next hs c.requires.next_is
+          (sym (bridge.ensures hs c.requires) ∙ none) in
           omega (arith, whole, low)
     ]

@@ -4,13 +4,16 @@ use Rattle.p3_merkle_core.specs.Geometry.{shape_of}
 use Rattle.p3_support.specs.Batches.{heights_of}
 use Rattle.p3_merkle_core.specs.Inner.Rungs.{IsRung}
 use Rattle.p3_merkle_core.specs.Inner.Steps.{level_step}
-use Rattle.p3_merkle_core.proofs.StepFacts.{IsAt}
+use Rattle.p3_merkle_core.proofs.Shapes.StepFacts.{IsAt}
 use Rattle.p3_merkle_core.proofs.steps.steps_of.Given as goal
 
 -- the walk is at a layer, and the steps below it are kept
 abbrev pub invariant-loop-rung : goal.invariant-loop-rung
 invariant-loop-rung l =
-    IsAt (shape_of l.arity l.dimensions) l.num_levels l.rung.exponent × IsRung (heights_of l.dimensions) l.rung × (length l.of_level ≡ 64) × (take l.num_levels l.of_level ≡ map (level_step (shape_of l.arity l.dimensions)) (range_with_len 0 l.num_levels))
+    IsAt (shape_of l.arity l.dimensions) l.num_levels l.rung.exponent × IsRung (heights_of l.dimensions) l.rung ×
+    (length l.of_level ≡ 64) ×
+    (take l.num_levels l.of_level
+    ≡ map (level_step (shape_of l.arity l.dimensions)) (range_with_len 0 l.num_levels))
 
 abbrev pub decreases-loop-rung : goal.decreases-loop-rung
 decreases-loop-rung l = l.rung.exponent

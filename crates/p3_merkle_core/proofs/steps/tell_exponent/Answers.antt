@@ -1,5 +1,5 @@
 use Rattle.std.proofs.Common.{arith}
-use Rattle.p3_merkle_core.proofs.LeastFacts.{exponent_le}
+use Rattle.p3_merkle_core.proofs.Shapes.LeastFacts.{exponent_le}
 use Rattle.p3_merkle_core.proofs.steps.tell_exponent.Goals as goal
 
 pub returns : goal.returns

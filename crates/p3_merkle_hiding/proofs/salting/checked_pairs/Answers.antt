@@ -29,9 +29,11 @@ returns-in_err-check_heights g c =
     let r = c.from_residual-in_err-check_heights.result in
     let err = c.from_residual-in_err-check_heights.ensures.0 in
     let shown = map (matrix_of g.M.Matrix.height_of g.M.Matrix.width_of g.M.Matrix.row_of) in
-    let are = c.deref-2.ensures.value ∙ c.in_ok-dimensions.ensures ∙ ap (λ ms. dimensions_of (shown ms)) c.deref.ensures.value in
+    let are = c.deref-2.ensures.value ∙ c.in_ok-dimensions.ensures
+    ∙ ap (λ ms. dimensions_of (shown ms)) c.deref.ensures.value in
     record {
-      answer = subst (λ (ds : List Dimensions). AnswersUnlessMemory r (salted_commit_refusal c.args.salt_elems ds)) are (search rules);
+      answer = subst (λ (ds : List Dimensions). AnswersUnlessMemory r (salted_commit_refusal c.args.salt_elems ds)) are
+          (search rules);
       matrices = nothing_made _ r err;
       columns = nothing_made _ r err;
       salted = nothing_made _ r err;
@@ -45,10 +47,14 @@ returns-in_err-check_widening g c =
     let r = c.from_residual-in_err-check_widening.result in
     let err = c.from_residual-in_err-check_widening.ensures.0 in
     let shown = map (matrix_of g.M.Matrix.height_of g.M.Matrix.width_of g.M.Matrix.row_of) in
-    let are = c.deref-3.ensures.value ∙ c.in_ok-dimensions.ensures ∙ ap (λ ms. dimensions_of (shown ms)) c.deref.ensures.value in
-    let gate : gate_refusal (heights_of c.deref-3.result.now) ≡ _ = ap (λ (ds : List Dimensions). gate_refusal (heights_of ds)) (c.deref-3.ensures.value ∙ sym c.deref-2.ensures.value) ∙ c.in_ok-check_heights.ensures.answer in
+    let are = c.deref-3.ensures.value ∙ c.in_ok-dimensions.ensures
+    ∙ ap (λ ms. dimensions_of (shown ms)) c.deref.ensures.value in
+    let gate : gate_refusal (heights_of c.deref-3.result.now)
+    ≡ _ = ap (λ (ds : List Dimensions). gate_refusal (heights_of ds)) (c.deref-3.ensures.value
+    ∙ sym c.deref-2.ensures.value) ∙ c.in_ok-check_heights.ensures.answer in
     record {
-      answer = subst (λ (ds : List Dimensions). AnswersUnlessMemory r (salted_commit_refusal c.args.salt_elems ds)) are (rw gate (search rules));
+      answer = subst (λ (ds : List Dimensions). AnswersUnlessMemory r (salted_commit_refusal c.args.salt_elems ds)) are
+          (rw gate (search rules));
       matrices = nothing_made _ r err;
       columns = nothing_made _ r err;
       salted = nothing_made _ r err;
@@ -75,8 +81,10 @@ pub returns : goal.returns
 returns g c =
     let shown = map (matrix_of g.M.Matrix.height_of g.M.Matrix.width_of g.M.Matrix.row_of) in
     let are = c.in_ok-dimensions.ensures ∙ ap (λ ms. dimensions_of (shown ms)) c.deref.ensures.value in
-    let gate = ap (λ (ds : List Dimensions). gate_refusal (heights_of ds)) (sym (c.deref-2.ensures.value ∙ are)) ∙ c.in_ok-check_heights.ensures.answer in
-    let wide = ap (widening_refusal c.args.salt_elems) (sym (c.deref-3.ensures.value ∙ are)) ∙ c.in_ok-check_widening.ensures.answer in
+    let gate = ap (λ (ds : List Dimensions). gate_refusal (heights_of ds)) (sym (c.deref-2.ensures.value ∙ are))
+    ∙ c.in_ok-check_heights.ensures.answer in
+    let wide = ap (widening_refusal c.args.salt_elems) (sym (c.deref-3.ensures.value ∙ are))
+    ∙ c.in_ok-check_widening.ensures.answer in
     record {
       answer = commit_none c.args.salt_elems (dimensions_of (shown c.args.matrices.items)) gate wide;
       matrices = c.in_ok-pairs.ensures.matrices;

@@ -6,4 +6,5 @@ use Rattle.p3_merkle_hiding.specs.Inner.SaltedCommitmentLaws.{left_greatest}
 use Rattle.p3_merkle_hiding.proofs.scheme_trait.tell_indices.Goals as goal
 
 pub returns : goal.returns
-returns g c = subst (λ (top : ℕ). All (λ index. index < top) c.args.indices.now) (left_greatest g.row.N (matrices_of c.args.tree.now)) c.requires
+returns g c = subst (λ (top : ℕ). All (λ index. index < top) c.args.indices.now)
+    (left_greatest g.row.N (matrices_of c.args.tree.now)) c.requires

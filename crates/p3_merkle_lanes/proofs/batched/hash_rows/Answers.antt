@@ -9,15 +9,18 @@ pub returns-in-Some : goal.returns-in-Some
 returns-in-Some g c =
     let s = c.in-Some.ensures in
     let hash = g.H.CryptographicHasher.hash c.args.hash.now in
-    let rows = λ (j : ℕ). rows_of_height g.M.Matrix.height_of g.M.Matrix.row_of c.args.height (c.args.first + j) c.args.matrices.now in
-    c.hash_many.ensures s.width s.long ∙ ap (map hash) s.are ∙ map-map hash rows (range_with_len 0 (length c.args.slots.now))
+    let rows = λ (j : ℕ). rows_of_height g.M.Matrix.height_of g.M.Matrix.row_of c.args.height (c.args.first + j)
+    c.args.matrices.now in
+    c.hash_many.ensures s.width s.long ∙ ap (map hash) s.are
+    ∙ map-map hash rows (range_with_len 0 (length c.args.slots.now))
 
 pub returns : goal.returns
 returns g c =
     let s = c.in_ok-stage_rows.ensures in
     let n = length c.args.slots.now in
     let hash = g.H.CryptographicHasher.hash c.args.hash.now in
-    let rows = λ (j : ℕ). rows_of_height g.M.Matrix.height_of g.M.Matrix.row_of c.args.height (c.args.first + j) c.args.matrices.now in
+    let rows = λ (j : ℕ). rows_of_height g.M.Matrix.height_of g.M.Matrix.row_of c.args.height (c.args.first + j)
+    c.args.matrices.now in
     c.hash_many-2.ensures s.width (ap length c.deref.ensures.value ∙ s.long)
     ∙ ap (λ ws. map hash (messages s.width n ws)) c.deref.ensures.value
     ∙ ap (map hash) s.are ∙ map-map hash rows (range_with_len 0 n)

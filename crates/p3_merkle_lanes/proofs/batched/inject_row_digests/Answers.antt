@@ -17,11 +17,17 @@ loop-first-preserved g c =
     let few : first + n ≤ length rows = omega arith in
     let inside : first + n ≤ length xs = omega (arith, few, c.loop-first.invariant.1.long, c.requires.rows) in
     let same : k ≡ n = omega arith in
-    let groups = λ (ds : List (List g.row.PW-Value.Denot)). map (λ (j : ℕ). slice_index_or (take k (drop first xs)) j [] ∷ slice_index_or (take k (drop first rows)) j [] ∷ ds) (range_with_len 0 (length (take k (drop first xs)))) in
-    let default = ap (λ d. groups (replicate (g.row.N - 2) (replicate g.row.D d))) (g.met.PW.PackedValue.default_is_unique digest c.default-default_digest.ensures) in
-    let made = c.compress_many.ensures ∙ ap (map compression) (c.deref.ensures.value ∙ c.in_ok-stage_pairs.ensures ∙ default) in
-    let more = join_more compression pad rows c.args.slots.now xs c.compress_many.new.out first k n same few inside made c.loop-first.invariant.1 c.loop-first.invariant.2 in
+    let groups = λ (ds : List (List g.row.PW-Value.Denot)).
+    map (λ (j : ℕ). slice_index_or (take k (drop first xs)) j [] ∷ slice_index_or (take k (drop first rows)) j []
+    ∷ ds) (range_with_len 0 (length (take k (drop first xs)))) in
+    let default = ap (λ d. groups (replicate (g.row.N - 2) (replicate g.row.D d)))
+    (g.met.PW.PackedValue.default_is_unique digest c.default-default_digest.ensures) in
+    let made = c.compress_many.ensures
+    ∙ ap (map compression) (c.deref.ensures.value ∙ c.in_ok-stage_pairs.ensures ∙ default) in
+    let more = join_more compression pad rows c.args.slots.now xs c.compress_many.new.out first k n same few inside made
+    c.loop-first.invariant.1 c.loop-first.invariant.2 in
     (few, more.0, more.1)
 
 pub returns : goal.returns
-returns g c = let end : c.loop-first.first ≡ length c.args.rows.now = omega (arith, c.loop-first.invariant.0) in rw end at c.loop-first.invariant.1
+returns g c = let end : c.loop-first.first ≡ length c.args.rows.now = omega (arith, c.loop-first.invariant.0) in
+    rw end at c.loop-first.invariant.1

@@ -32,10 +32,15 @@ pub returns-clause-whole : goal.returns-clause-whole
 returns-clause-whole c = rw c.max-lanes.ensures (mul-mod_left c.max.result (max c.args.lanes 1))
 
 pub returns-clause-some : goal.returns-clause-some
-returns-clause-some c = let one : 1 * c.max-lanes.result ≤ c.max.result * c.max-lanes.result = mul-le-mul_right c.max-lanes.result (omega arith) in omega (arith, one)
+returns-clause-some c = let one : 1 * c.max-lanes.result ≤ c.max.result * c.max-lanes.result =
+    mul-le-mul_right c.max-lanes.result (omega arith) in omega (arith, one)
 
 pub returns-clause-fits : goal.returns-clause-fits
-returns-clause-fits c = rw (← c.max-bytes.ensures, ← c.max-lanes.ensures) (groups_fit 16384 c.max-bytes.result c.max-lanes.result c.max.result c.max.ensures)
+returns-clause-fits c =
+    rw (← c.max-bytes.ensures, ← c.max-lanes.ensures)
+    (groups_fit 16384 c.max-bytes.result c.max-lanes.result c.max.result c.max.ensures)
 
 pub returns-clause-most : goal.returns-clause-most
-returns-clause-most c = rw (← c.max-bytes.ensures, ← c.max-lanes.ensures) (group_more 16384 c.max-bytes.result c.max-lanes.result c.max.result (omega arith) (omega arith) c.max.ensures)
+returns-clause-most c =
+    rw (← c.max-bytes.ensures, ← c.max-lanes.ensures)
+    (group_more 16384 c.max-bytes.result c.max-lanes.result c.max.result (omega arith) (omega arith) c.max.ensures)

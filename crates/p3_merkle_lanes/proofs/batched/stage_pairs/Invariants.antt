@@ -4,4 +4,6 @@ use Rattle.p3_merkle_lanes.proofs.batched.stage_pairs.Given as goal
 
 -- the groups so far are staged
 abbrev pub invariant-loop-j : goal.invariant-loop-j
-invariant-loop-j g l = l.pairs.items ≡ map (λ (j : ℕ). slice_index_or l.folded j [] ∷ slice_index_or l.rows j [] ∷ replicate (g.row.N - 2) l.default_digest) (range_with_len 0 l.j)
+invariant-loop-j g l = l.pairs.items
+    ≡ map (λ (j : ℕ). slice_index_or l.folded j [] ∷ slice_index_or l.rows j []
+    ∷ replicate (g.row.N - 2) l.default_digest) (range_with_len 0 l.j)

@@ -6,5 +6,7 @@ use Rattle.p3_merkle_lanes.proofs.batched.stage_row.Goals as goal
 
 pub returns-in-None : goal.returns-in-None
 returns-in-None g c =
-    let h = items_from_extend c.extend.result c.extend.ensures.ran (YieldsList-from_first (λ x. x) (λ rest. rest) (g.M.Matrix.row_of c.args.matrix.now c.args.row) c.row.ensures) in
+    let h = items_from_extend c.extend.result c.extend.ensures.ran
+    (YieldsList-from_first (λ x. x) (λ rest. rest) (g.M.Matrix.row_of c.args.matrix.now c.args.row) c.row.ensures)
+    in
     search rules

@@ -5,7 +5,8 @@ use Rattle.p3_merkle_lanes.proofs.StageFacts.{all_widths, length-rows, staged_mo
 use Rattle.p3_merkle_lanes.proofs.batched.stage_rows.Goals as goal
 
 pub loop-j-init : goal.loop-j-init
-loop-j-init g c = let none = ap length c.clear.ensures.items in record { long = omega (arith, none); each = λ j none. absurd (omega (arith, none)) }
+loop-j-init g c = let none = ap length c.clear.ensures.items in
+    record { long = omega (arith, none); each = λ j none. absurd (omega (arith, none)) }
 
 pub loop-j-preserved : goal.loop-j-preserved
 loop-j-preserved g c =
@@ -17,10 +18,14 @@ loop-j-preserved g c =
     let inside : r < h = omega (arith, c.requires) in
     let row = rows_of_height g.M.Matrix.height_of g.M.Matrix.row_of h r ms in
     rw c.in_ok-stage_rows_at.ensures
-    (staged_more f c.loop-j.staged.items row w c.loop-j.j c.loop-j.invariant (length-rows g.M.Matrix.height_of g.M.Matrix.width_of g.M.Matrix.row_of h g.met.M.Matrix.length_row_of r inside ms) refl)
+    (staged_more f c.loop-j.staged.items row w c.loop-j.j c.loop-j.invariant
+    (length-rows g.M.Matrix.height_of g.M.Matrix.width_of g.M.Matrix.row_of h g.met.M.Matrix.length_row_of r inside
+    ms) refl)
 
 pub returns : goal.returns
 returns g c =
     let ms = c.args.matrices.now in
     let h = c.args.height in
-    staged_all (λ (j : ℕ). rows_of_height g.M.Matrix.height_of g.M.Matrix.row_of h (c.args.first + j) ms) c.loop-j.staged.items (all_widths g.M.Matrix.height_of g.M.Matrix.width_of g.M.Matrix.row_of h ms) c.loop-j.j c.args.count c.loop-j.invariant (omega arith)
+    staged_all (λ (j : ℕ). rows_of_height g.M.Matrix.height_of g.M.Matrix.row_of h (c.args.first + j) ms)
+    c.loop-j.staged.items (all_widths g.M.Matrix.height_of g.M.Matrix.width_of g.M.Matrix.row_of h ms) c.loop-j.j
+    c.args.count c.loop-j.invariant (omega arith)

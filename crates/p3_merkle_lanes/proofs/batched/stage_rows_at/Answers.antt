@@ -11,12 +11,20 @@ loop-matrix-preserved g c =
     let m = c.matrix-item.result in
     let old = c.args.staged.now.items in
     let row = g.M.Matrix.row_of m c.args.row in
-    let so_far = rows_of_height g.M.Matrix.height_of g.M.Matrix.row_of c.args.height c.args.row (take c.loop-matrix.matrix-index c.args.matrices.now) in
+    let so_far = rows_of_height g.M.Matrix.height_of g.M.Matrix.row_of c.args.height c.args.row
+    (take c.loop-matrix.matrix-index c.args.matrices.now) in
     elim c.if-height.branch [
       | then-height+in_ok-stage_row w ↦
-          ap (λ v. v.items) w.staged-is ∙ w.in_ok-stage_row.ensures ∙ ap (λ l. l ++ row) c.loop-matrix.invariant ∙ append_assoc old so_far row
-          ∙ ap (λ l. old ++ l) (sym (row_taken g.M.Matrix.height_of g.M.Matrix.row_of c.args.height c.args.row c.args.matrices.now c.loop-matrix.matrix-index m c.loop-matrix-test.true c.matrix-item.is (omega (arith, c.height.ensures, w.if-height.true))))
+          ap (λ v. v.items) w.staged-is ∙ w.in_ok-stage_row.ensures ∙ ap (λ l. l ++ row) c.loop-matrix.invariant
+          ∙ append_assoc old so_far row
+          ∙ ap (λ l. old ++ l)
+          (sym (row_taken g.M.Matrix.height_of g.M.Matrix.row_of c.args.height c.args.row c.args.matrices.now
+          c.loop-matrix.matrix-index m c.loop-matrix-test.true c.matrix-item.is
+          (omega (arith, c.height.ensures, w.if-height.true))))
       | else-height w ↦
           ap (λ v. v.items) w.staged-is ∙ c.loop-matrix.invariant
-          ∙ ap (λ l. old ++ l) (sym (row_passed g.M.Matrix.height_of g.M.Matrix.row_of c.args.height c.args.row c.args.matrices.now c.loop-matrix.matrix-index m c.loop-matrix-test.true c.matrix-item.is (λ same. w.if-height.false (c.height.ensures ∙ same))))
+          ∙ ap (λ l. old ++ l)
+          (sym (row_passed g.M.Matrix.height_of g.M.Matrix.row_of c.args.height c.args.row c.args.matrices.now
+          c.loop-matrix.matrix-index m c.loop-matrix-test.true c.matrix-item.is
+          (λ same. w.if-height.false (c.height.ensures ∙ same))))
     ]

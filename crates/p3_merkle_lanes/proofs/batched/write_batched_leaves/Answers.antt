@@ -14,15 +14,20 @@ loop-first-preserved g c =
     let xs = c.loop-first.slots in
     let h = c.args.height in
     let hash = g.H.CryptographicHasher.hash c.args.hash.now in
-    let f = leaf_over hash (replicate g.row.D g.PW.PackedValue.default_value) g.M.Matrix.height_of g.M.Matrix.row_of c.args.matrices.now h in
-    let made = λ (j : ℕ). hash (rows_of_height g.M.Matrix.height_of g.M.Matrix.row_of h (first + j) c.args.matrices.now) in
+    let f = leaf_over hash (replicate g.row.D g.PW.PackedValue.default_value) g.M.Matrix.height_of g.M.Matrix.row_of
+    c.args.matrices.now h in
+    let made = λ (j : ℕ).
+    hash (rows_of_height g.M.Matrix.height_of g.M.Matrix.row_of h (first + j) c.args.matrices.now) in
     let few : first + n ≤ c.args.count = omega arith in
     let inside : first + n ≤ length xs = omega (arith, few, c.loop-first.invariant.1.long, c.requires.room) in
     let same : k ≡ n = omega arith in (
       few,
-      fill_part f made xs c.hash_rows.new.slots first k n (length c.args.slots.now) same inside c.in_ok-hash_rows.ensures
-          (λ j below. let row : first + j < h = omega (arith, few, below, c.requires.rows) in rw (lt-ltb (first + j) h row) refl) c.loop-first.invariant.1,
+      fill_part f made xs c.hash_rows.new.slots first k n (length c.args.slots.now) same inside
+          c.in_ok-hash_rows.ensures
+          (λ j below. let row : first + j < h = omega (arith, few, below, c.requires.rows) in
+          rw (lt-ltb (first + j) h row) refl) c.loop-first.invariant.1,
     )
 
 pub returns : goal.returns
-returns g c = let end : c.loop-first.first ≡ c.args.count = omega (arith, c.loop-first.invariant.0) in rw end at c.loop-first.invariant.1
+returns g c = let end : c.loop-first.first ≡ c.args.count = omega (arith, c.loop-first.invariant.0) in
+    rw end at c.loop-first.invariant.1

@@ -17,9 +17,11 @@ loop-n-preserved g c = (
       let first = map lane c.args.places.now in
       let room : n < length first = omega (arith, length-map c.args.places.now lane, c.requires.room) in
       let whole = take step (drop (step * (c.args.first + k)) below) in
-      let long : n < length whole = omega (arith, children_long below step c.args.first k g.PW.PackedValue.WIDTH small c.requires.inside) in
+      let long : n < length whole =
+      omega (arith, children_long below step c.args.first k g.PW.PackedValue.WIDTH small c.requires.inside) in
       map-set lane c.loop-n.places n child ∙ ap (λ z. set z n (lane child)) (c.loop-n.invariant.1 k small)
-      ∙ put_next first whole n (lane child) [] long room (child_at below step c.args.first k n [] c.loop-n-test.true ∙ sym (c.packed_child.ensures k small)),
+      ∙ put_next first whole n (lane child) [] long room (child_at below step c.args.first k n [] c.loop-n-test.true
+      ∙ sym (c.packed_child.ensures k small)),
 )
 
 pub returns : goal.returns
@@ -30,4 +32,5 @@ returns g c = λ k small.
     let whole = take step (drop (step * (c.args.first + k)) c.args.below.now) in
     let end : c.loop-n.n ≡ step = omega arith in
     let long = children_long c.args.below.now step c.args.first k g.PW.PackedValue.WIDTH small c.requires.inside in
-    c.loop-n.invariant.1 k small ∙ ap (λ n. take n whole ++ drop n first) end ∙ ap (λ l. l ++ drop step first) (take_all step whole (omega (arith, long)))
+    c.loop-n.invariant.1 k small ∙ ap (λ n. take n whole ++ drop n first) end
+    ∙ ap (λ l. l ++ drop step first) (take_all step whole (omega (arith, long)))

@@ -8,4 +8,5 @@ invariant-loop-n g l =
     (length l.places ≡ length l.initial.places)
     × ((k : ℕ) → k < g.PW.PackedValue.WIDTH →
     let lane = lane_of g.PW.PackedValue.lanes g.PW.PackedValue.default_value k in
-    map lane l.places ≡ take l.n (take l.step (drop (l.step * (l.first + k)) l.below)) ++ drop l.n (map lane l.initial.places))
+    map lane l.places ≡ take l.n (take l.step (drop (l.step * (l.first + k)) l.below))
+    ++ drop l.n (map lane l.initial.places))

@@ -17,6 +17,11 @@ returns g c = λ k below in_digest.
     let hash = g.H.CryptographicHasher.hash c.args.hash.now in
     let seen = lane_of g.PW.PackedValue.lanes g.PW.PackedValue.default_value k c.hash_packed.result in
     let inside : r + k < g.M.Matrix.height_of m = omega (arith, c.requires) in
-    fact_of_run lanes (λ xs. (j : ℕ) → j < n → j < g.PW.PackedValue.WIDTH → lane_of g.PW.PackedValue.lanes g.PW.PackedValue.default_value j c.hash_packed.result ≡ hash (lane_of lanes default j xs)) (seen ≡ hash (g.M.Matrix.row_of m (r + k)))
-    c.hash_packed.ensures (YieldsList-from_first lanes (λ rest. rest) (columns (g.M.Matrix.row_of m) default r n width) c.vertically_packed_row.ensures)
-    (λ xs e h. h k below in_digest ∙ ap hash (lane_of_columns lanes (g.M.Matrix.row_of m) default r n k width xs e below (g.met.M.Matrix.length_row_of m (r + k) inside)))
+    fact_of_run lanes (λ xs. (j : ℕ) → j < n → j < g.PW.PackedValue.WIDTH →
+    lane_of g.PW.PackedValue.lanes g.PW.PackedValue.default_value j c.hash_packed.result
+    ≡ hash (lane_of lanes default j xs)) (seen ≡ hash (g.M.Matrix.row_of m (r + k)))
+    c.hash_packed.ensures (YieldsList-from_first lanes (λ rest. rest) (columns (g.M.Matrix.row_of m) default r n width)
+    c.vertically_packed_row.ensures)
+    (λ xs e h. h k below in_digest
+    ∙ ap hash (lane_of_columns lanes (g.M.Matrix.row_of m) default r n k width xs e below
+    (g.met.M.Matrix.length_row_of m (r + k) inside)))

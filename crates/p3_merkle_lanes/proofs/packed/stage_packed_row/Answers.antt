@@ -17,9 +17,12 @@ returns g c =
     let width = g.M.Matrix.width_of m in
     let old = c.args.staged.now.items in
     fact_from_extend lanes c.extend.result c.extend.ensures.ran
-    (λ it b. YieldsList-from_first lanes (λ rest. rest) (columns (g.M.Matrix.row_of m) default r n width) (rw b c.vertically_packed_row.ensures))
+    (λ it b. YieldsList-from_first lanes (λ rest. rest) (columns (g.M.Matrix.row_of m) default r n width)
+    (rw b c.vertically_packed_row.ensures))
     (λ xs e h. λ k small.
     let lane = λ (ps : List g.row.P.Denot). lane_of lanes default k ps in
     let inside : r + k < g.M.Matrix.height_of m = omega (arith, c.requires) in
     ap lane h.0 ∙ map-append (λ p. slice_index_or (lanes p) k default) old xs
-    ∙ ap (λ l. lane old ++ l) (lane_of_columns lanes (g.M.Matrix.row_of m) default r n k width xs e small (g.met.M.Matrix.length_row_of m (r + k) inside)))
+    ∙ ap (λ l. lane old ++ l)
+    (lane_of_columns lanes (g.M.Matrix.row_of m) default r n k width xs e small
+    (g.met.M.Matrix.length_row_of m (r + k) inside)))

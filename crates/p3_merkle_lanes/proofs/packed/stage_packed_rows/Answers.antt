@@ -13,9 +13,14 @@ loop-matrix-preserved g c = λ k small.
     let so_far = c.loop-matrix.invariant k small in
     elim c.if-height.branch [
       | then-height+in_ok-stage_packed_row w ↦
-          ap (λ v. lane v.items) w.staged-is ∙ w.in_ok-stage_packed_row.ensures k small ∙ ap (λ l. l ++ g.M.Matrix.row_of m r) so_far
-          ∙ sym (row_taken g.M.Matrix.height_of g.M.Matrix.row_of c.args.height r c.args.matrices.now c.loop-matrix.matrix-index m c.loop-matrix-test.true c.matrix-item.is (omega (arith, c.height.ensures, w.if-height.true)))
+          ap (λ v. lane v.items) w.staged-is ∙ w.in_ok-stage_packed_row.ensures k small
+          ∙ ap (λ l. l ++ g.M.Matrix.row_of m r) so_far
+          ∙ sym (row_taken g.M.Matrix.height_of g.M.Matrix.row_of c.args.height r c.args.matrices.now
+          c.loop-matrix.matrix-index m c.loop-matrix-test.true c.matrix-item.is
+          (omega (arith, c.height.ensures, w.if-height.true)))
       | else-height w ↦
           ap (λ v. lane v.items) w.staged-is ∙ so_far
-          ∙ sym (row_passed g.M.Matrix.height_of g.M.Matrix.row_of c.args.height r c.args.matrices.now c.loop-matrix.matrix-index m c.loop-matrix-test.true c.matrix-item.is (λ same. w.if-height.false (c.height.ensures ∙ same)))
+          ∙ sym (row_passed g.M.Matrix.height_of g.M.Matrix.row_of c.args.height r c.args.matrices.now
+          c.loop-matrix.matrix-index m c.loop-matrix-test.true c.matrix-item.is
+          (λ same. w.if-height.false (c.height.ensures ∙ same)))
     ]

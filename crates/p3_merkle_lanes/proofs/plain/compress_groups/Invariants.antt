@@ -6,4 +6,5 @@ abbrev pub invariant-loop-j : goal.invariant-loop-j
 invariant-loop-j g l =
     (length l.slots ≡ length l.initial.slots)
     × ((j : ℕ) → j < l.first → slice_index_or l.slots j [] ≡ slice_index_or l.initial.slots j [])
-    × ((j : ℕ) → l.first ≤ j → j < l.j → slice_index_or l.slots j [] ≡ g.C.PseudoCompressionFunction.compression l.compress (slice_index_or l.groups j []))
+    × ((j : ℕ) → l.first ≤ j → j < l.j → slice_index_or l.slots j []
+    ≡ g.C.PseudoCompressionFunction.compression l.compress (slice_index_or l.groups j []))

@@ -14,5 +14,6 @@ returns g c = λ w e.
     let some : 0 < n = search rules in
     let width : length xs / n ≡ w = rw e (mul-div_cancel w some) in
     let hash = g.H.CryptographicHasher.hash c.args.hash.now in
-    fill_by_all (λ i. hash (message w xs i)) c.loop-i.slots n [] c.loop-i.invariant.0 (λ k h. c.loop-i.invariant.1 k (omega arith) ∙ ap (λ v. hash (message v xs k)) width)
+    fill_by_all (λ i. hash (message w xs i)) c.loop-i.slots n [] c.loop-i.invariant.0
+    (λ k h. c.loop-i.invariant.1 k (omega arith) ∙ ap (λ v. hash (message v xs k)) width)
     ∙ sym (map-map hash (message w xs) (range_with_len 0 n))

@@ -6,4 +6,5 @@ use Rattle.p3_merkle_lanes.proofs.plain.hash_each.Given as goal
 abbrev pub invariant-loop-i : goal.invariant-loop-i
 invariant-loop-i g l =
     (length l.slots ≡ length l.initial.slots)
-    × ((j : ℕ) → j < l.i → slice_index_or l.slots j [] ≡ g.H.CryptographicHasher.hash l.hash (message l.width l.messages j))
+    × ((j : ℕ) → j < l.i → slice_index_or l.slots j []
+    ≡ g.H.CryptographicHasher.hash l.hash (message l.width l.messages j))

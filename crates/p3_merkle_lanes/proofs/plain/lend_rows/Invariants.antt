@@ -7,4 +7,5 @@ use Rattle.p3_merkle_lanes.proofs.plain.lend_rows.Given as goal
 abbrev pub invariant-loop-matrix : goal.invariant-loop-matrix
 invariant-loop-matrix g l =
     (l.count ≤ 16) × (length l.pieces ≡ 16)
-    × (flat_map (λ piece. piece.now) (take l.count l.pieces) ≡ rows_of_height g.M.Matrix.height_of g.M.Matrix.row_of l.height l.row (take l.matrix-index l.matrices))
+    × (flat_map (λ piece. piece.now) (take l.count l.pieces)
+    ≡ rows_of_height g.M.Matrix.height_of g.M.Matrix.row_of l.height l.row (take l.matrix-index l.matrices))

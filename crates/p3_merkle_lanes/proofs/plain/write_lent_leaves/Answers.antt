@@ -19,7 +19,8 @@ returns-in-Some-clause-filled g c =
     let h = c.args.height in
     let ms = c.args.matrices.now in
     let hash = g.H.CryptographicHasher.hash c.args.hash.now in
-    let f = leaf_over hash (replicate g.row.D g.PW.PackedValue.default_value) g.M.Matrix.height_of g.M.Matrix.row_of ms h in
+    let f = leaf_over hash (replicate g.row.D g.PW.PackedValue.default_value) g.M.Matrix.height_of g.M.Matrix.row_of ms
+    h in
     let rows = λ (j : ℕ). rows_of_height g.M.Matrix.height_of g.M.Matrix.row_of h (first + j) ms in
     let made = λ (j : ℕ). hash (rows j) in
     let words = c.in-Some.words.now in
@@ -28,13 +29,16 @@ returns-in-Some-clause-filled g c =
     let start : first < end = omega arith in
     let whole : first + n ≡ end = omega (arith, start) in
     let inside : first + n ≤ length xs = omega (arith, whole, room) in
-    let long : length (take n (drop first xs)) ≡ n = length-take-le n (drop first xs) (omega (arith, length-drop first xs, inside)) in
+    let long : length (take n (drop first xs))
+    ≡ n = length-take-le n (drop first xs) (omega (arith, length-drop first xs, inside)) in
     let s = c.in-Some.ensures in
     let written : c.hash_each.new.slots ≡ map made (range_with_len 0 (length (take n (drop first xs)))) =
     c.hash_each.ensures s.width (s.long ∙ ap (λ k. s.width * k) (sym long))
     ∙ ap (λ k. map hash (messages s.width k words)) long
     ∙ ap (map hash) s.are ∙ map-map hash rows (range_with_len 0 n)
     ∙ ap (λ k. map made (range_with_len 0 k)) (sym long) in
-    let filled : IsFilled f (first + n) (length xs) (put_mid first n xs c.hash_each.new.slots) = fill_part f made xs c.hash_each.new.slots first n n (length xs) refl inside written
-    (λ j small. let row : first + j < h = omega (arith, small, whole, below) in rw (lt-ltb (first + j) h row) refl) c.requires in
+    let filled : IsFilled f (first + n) (length xs) (put_mid first n xs c.hash_each.new.slots) =
+    fill_part f made xs c.hash_each.new.slots first n n (length xs) refl inside written
+    (λ j small. let row : first + j < h = omega (arith, small, whole, below) in rw (lt-ltb (first + j) h row) refl)
+    c.requires in
     rw whole at filled

@@ -2,4 +2,5 @@
 use Rattle.p3_merkle_layers.proofs.layers.tell_children.Goals as goal
 
 pub returns : goal.returns
-returns g c = let level = c.requires.level in record { wide = level.wide; narrow = level.narrow; fits = rw c.requires.slots level.fits }
+returns g c = let level = c.requires.level in
+    record { wide = level.wide; narrow = level.narrow; fits = rw c.requires.slots level.fits }

@@ -1,6 +1,6 @@
 use Rattle.std.proofs.Common.{◌∙◌, sym}
 use Rattle.std.proofs.lemmas.Result.{IfOk-weaker}
-use Rattle.p3_merkle_core.proofs.ViewFacts.{dimensions_are}
+use Rattle.p3_merkle_core.proofs.Lists.ViewFacts.{dimensions_are}
 use Rattle.p3_merkle_layers.proofs.levels.batch_dimensions.Goals as goal
 
 pub returns : goal.returns

@@ -3,9 +3,9 @@ use Rattle.std.proofs.Common.{◌∙◌, ap, map, refl, sym}
 use Rattle.p3_merkle_core.specs.Inner.Agreement.{distinct}
 use Rattle.p3_support.specs.Batches.{greatest}
 use Rattle.p3_merkle_core.specs.Geometry.{exponent, heights, shape_of}
-use Rattle.p3_merkle_core.proofs.AgreeFacts.{firsts_inside}
-use Rattle.p3_merkle_core.proofs.SlotFacts.{all_below, distinct_from, distinct_queried}
-use Rattle.p3_merkle_core.proofs.StepFacts.{layer_start}
+use Rattle.p3_merkle_core.proofs.Pruned.AgreeFacts.{firsts_inside}
+use Rattle.p3_merkle_core.proofs.Pruned.SlotFacts.{all_below, distinct_from, distinct_queried}
+use Rattle.p3_merkle_core.proofs.Shapes.StepFacts.{layer_start}
 use Rattle.p3_merkle_multiproof.specs.Inner.Walks.{node_of_query}
 use Rattle.p3_merkle_multiproof.proofs.StartFacts.{led_by_firsts}
 use Rattle.p3_merkle_multiproof.proofs.leaves.leaves_of.Goals as goal
@@ -16,8 +16,10 @@ returns c =
     let indices = c.args.indices.now in
     let slots = c.requires.slots in
     record {
-      nodes_are = slots.leaves ∙ sym (distinct_from s indices (all_below (greatest (heights s)) indices c.requires.below));
-      leads_are = slots.leaves ∙ led_by_firsts s indices (distinct indices) (distinct_queried indices) ∙ ap (map (node_of_query s indices 0)) (sym slots.firsts);
+      nodes_are = slots.leaves
+          ∙ sym (distinct_from s indices (all_below (greatest (heights s)) indices c.requires.below));
+      leads_are = slots.leaves ∙ led_by_firsts s indices (distinct indices) (distinct_queried indices)
+          ∙ ap (map (node_of_query s indices 0)) (sym slots.firsts);
       among = firsts_inside c.args.slots.firsts.items indices slots.firsts;
       at_exponent = c.exponent_of.ensures ∙ ap exponent c.tallest_of.ensures ∙ sym (layer_start s);
       sent_below = refl;

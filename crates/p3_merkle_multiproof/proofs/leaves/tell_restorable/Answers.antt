@@ -5,9 +5,9 @@ use Rattle.p3_support.specs.Shown.{row_lists, row_sets}
 use Rattle.p3_merkle_core.specs.Geometry.{heights, shape_of}
 use Rattle.p3_merkle_core.specs.Pruning.{pruned_of}
 use Rattle.p3_merkle_core.specs.Refusals.{pruned_refusal, ok_unless}
-use Rattle.p3_merkle_core.proofs.Answered.{restorable}
-use Rattle.p3_merkle_core.proofs.GateFacts.{none_large_from_lawful, tallest_fits}
-use Rattle.p3_merkle_core.proofs.PrunedFacts.{asked_of, digests_counted}
+use Rattle.p3_merkle_core.proofs.Pruned.Answered.{restorable}
+use Rattle.p3_merkle_core.proofs.Shapes.GateFacts.{none_large_from_lawful, tallest_fits}
+use Rattle.p3_merkle_core.proofs.Pruned.PrunedFacts.{asked_of, digests_counted}
 use Rattle.p3_merkle_multiproof.proofs.leaves.tell_restorable.Goals as goal
 
 pub returns : goal.returns
@@ -20,7 +20,11 @@ returns g c =
     let r = restorable eq s t p g.met.P.PackedValue.eq_is_equality (ap (λ refusal. ok_unless refusal (tt {0})) none) in
     let asked = asked_of eq s t p none in
     record {
-      queried = record { well_shaped = c.requires.checked.arity; below = r.below; in_tree = c.requires.checked.in_tree };
+      queried = record {
+        well_shaped = c.requires.checked.arity;
+        below = r.below;
+        in_tree = c.requires.checked.in_tree;
+      };
       low = tallest_fits (heights s) (none_large_from_lawful (heights s) r.lawful);
       below = asked.highest;
       pairs = sym (length-map c.args.sets.now (λ rows. row_lists rows.items)) ∙ sym asked.pairs;

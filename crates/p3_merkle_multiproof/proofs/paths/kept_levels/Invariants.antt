@@ -9,7 +9,9 @@ use Rattle.p3_merkle_multiproof.proofs.paths.kept_levels.Given as goal
 -- the covered nodes of the layer, with a digest of each, and the levels below
 abbrev pub invariant-loop-level : goal.invariant-loop-level
 invariant-loop-level g l =
-    let f = functions_of (g.H.CryptographicHasher.hash l.checker.hash.now) (g.C.PseudoCompressionFunction.compression l.checker.compress.now) (replicate g.row.D g.PW.PackedValue.default_value) in
+    let f = functions_of (g.H.CryptographicHasher.hash l.checker.hash.now)
+    (g.C.PseudoCompressionFunction.compression l.checker.compress.now)
+    (replicate g.row.D g.PW.PackedValue.default_value) in
     let s = shape_of l.queries.arity l.queries.dimensions.now in
     let p = pruned_of l.queries.indices.now (row_sets l.sets) l.sent in
     record {

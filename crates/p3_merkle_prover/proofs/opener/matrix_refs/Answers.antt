@@ -7,4 +7,6 @@ pub loop-matrix-preserved : goal.loop-matrix-preserved
 loop-matrix-preserved g c =
     let all = c.deref-matrix-items.result.now in
     let i = c.loop-matrix.matrix-index in
-    rw (c.in_ok-push.ensures.items, map-append, c.loop-matrix.invariant) (sym (take_more all i c.matrix-item.result c.loop-matrix-test.true ∙ ap (λ m. take i all ++ m ∷ []) (sym c.matrix-item.is)))
+    rw (c.in_ok-push.ensures.items, map-append, c.loop-matrix.invariant)
+    (sym (take_more all i c.matrix-item.result c.loop-matrix-test.true
+    ∙ ap (λ m. take i all ++ m ∷ []) (sym c.matrix-item.is)))

@@ -14,14 +14,18 @@ overflow_shr-row g c =
 pub words_of_row-requires : goal.words_of_row-requires
 words_of_row-requires g c =
     rw (c.bits_reduced_of.ensures, c.max_height-max_height.ensures, c.height.ensures)
-    (row_inside g.M.Matrix.height_of g.M.Matrix.width_of g.M.Matrix.row_of g.row.N c.args.tree.now.matrices.items c.loop-matrix.matrix-index c.args.index c.matrix-item.result
+    (row_inside g.M.Matrix.height_of g.M.Matrix.width_of g.M.Matrix.row_of g.row.N c.args.tree.now.matrices.items
+    c.loop-matrix.matrix-index c.args.index c.matrix-item.result
     c.args.tree.now.lawful c.requires (search rules) (search rules))
 
 pub loop-matrix-preserved : goal.loop-matrix-preserved
 loop-matrix-preserved g c =
-    row_next g.M.Matrix.height_of g.M.Matrix.width_of g.M.Matrix.row_of g.row.N (λ row. row.items) c.args.tree.now.matrices.items c.loop-matrix.matrix-index c.args.index c.matrix-item.result
+    row_next g.M.Matrix.height_of g.M.Matrix.width_of g.M.Matrix.row_of g.row.N (λ row. row.items)
+    c.args.tree.now.matrices.items c.loop-matrix.matrix-index c.args.index c.matrix-item.result
     c.loop-matrix.rows.items c.push.new.self.items c.in_ok-words_of_row.field-0 (search rules) (search rules)
-    (row_inside g.M.Matrix.height_of g.M.Matrix.width_of g.M.Matrix.row_of g.row.N c.args.tree.now.matrices.items c.loop-matrix.matrix-index c.args.index c.matrix-item.result
+    (row_inside g.M.Matrix.height_of g.M.Matrix.width_of g.M.Matrix.row_of g.row.N c.args.tree.now.matrices.items
+    c.loop-matrix.matrix-index c.args.index c.matrix-item.result
     c.args.tree.now.lawful c.requires (search rules) (search rules))
     c.loop-matrix.invariant c.in_ok-push.ensures.items
-    (c.in_ok-words_of_row.ensures ∙ rw (c.bits_reduced_of.ensures, c.max_height-max_height.ensures, c.height.ensures) refl)
+    (c.in_ok-words_of_row.ensures ∙ rw (c.bits_reduced_of.ensures, c.max_height-max_height.ensures, c.height.ensures)
+    refl)

@@ -9,5 +9,6 @@ use Rattle.p3_merkle_core.specs.Openings.{node_in}
 abbrev pub invariant-loop-level : goal.invariant-loop-level
 invariant-loop-level g l = record {
   covered : l.covered.items ≡ covered_at (shape (tree_batch l.tree)) l.indices l.level;
-  so_far : (d : g.row.X.Denot) → l.digests.items ≡ boundary_by (node_in d (layers_of l.tree)) (shape (tree_batch l.tree)) l.indices l.level;
+  so_far : (d : g.row.X.Denot) → l.digests.items
+      ≡ boundary_by (node_in d (layers_of l.tree)) (shape (tree_batch l.tree)) l.indices l.level;
 }

@@ -19,18 +19,23 @@ loop-place-preserved g c =
     let next = c.loop-place.next in
     let node = get_or covered place 0 in
     let end = c.end_before-end.result in
-    let w = turned covered n place next c.max.result node end c.requires.some c.requires.ascending (omega arith) c.loop-place.invariant.gone refl c.max.ensures
+    let w = turned covered n place next c.max.result node end c.requires.some c.requires.ascending (omega arith)
+    c.loop-place.invariant.gone refl c.max.ensures
     (record { next = c.end_before-end.ensures.next; last = c.end_before-end.ensures.last }) in
     let inside : end ≤ length layer = omega (arith, w.fits, c.requires.groups place 0 (omega arith)) in
     record {
       gone = w.gone;
       inside = inside;
       so_far = λ d.
-          others_more layer covered n place next c.max.result node end c.args.digests.now.items c.loop-place.digests.items c.extend_from_slice.new.self.items c.extend_from_slice-in-loop-place.new.self.items d w inside
-          (c.loop-place.invariant.so_far d) c.in_ok-extend_from_slice.ensures.items c.in_ok-extend_from_slice-2.ensures.items;
+          others_more layer covered n place next c.max.result node end c.args.digests.now.items
+          c.loop-place.digests.items c.extend_from_slice.new.self.items
+          c.extend_from_slice-in-loop-place.new.self.items d w inside
+          (c.loop-place.invariant.so_far d) c.in_ok-extend_from_slice.ensures.items
+          c.in_ok-extend_from_slice-2.ensures.items;
     }
 
 pub returns-clause-digests : goal.returns-clause-digests
 returns-clause-digests g c d =
     c.loop-place.invariant.so_far d ∙ ap (λ ys. c.args.digests.now.items ++ ys)
-    (sym (others_end c.args.layer.now c.args.covered.now c.args.step c.loop-place.place c.loop-place.next d (omega arith) c.loop-place.invariant.inside c.loop-place.invariant.gone))
+    (sym (others_end c.args.layer.now c.args.covered.now c.args.step c.loop-place.place c.loop-place.next d
+    (omega arith) c.loop-place.invariant.inside c.loop-place.invariant.gone))

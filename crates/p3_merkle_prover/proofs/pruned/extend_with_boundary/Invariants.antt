@@ -7,5 +7,6 @@ abbrev pub invariant-loop-place : goal.invariant-loop-place
 invariant-loop-place g l = record {
   gone : IsGone l.covered l.step l.place l.next;
   inside : l.next ≤ length l.layer;
-  so_far : (d : g.row.X.Denot) → l.digests.items ≡ l.initial.digests.items ++ others_below l.layer l.covered l.step l.next d;
+  so_far : (d : g.row.X.Denot) → l.digests.items
+      ≡ l.initial.digests.items ++ others_below l.layer l.covered l.step l.next d;
 }

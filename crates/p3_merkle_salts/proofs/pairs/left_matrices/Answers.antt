@@ -6,7 +6,10 @@ use Rattle.p3_merkle_salts.proofs.pairs.left_matrices.Goals as goal
 
 pub loop-pair-preserved : goal.loop-pair-preserved
 loop-pair-preserved g c =
-    shown_more (λ m. m.now) (λ p. left_of p.now) c.args.pairs.now c.loop-pair.pair-index c.pair-item.result c.left.result c.loop-pair.matrices.items c.push.new.self.items c.loop-pair-test.true c.pair-item.is c.left.ensures c.in_ok-push.ensures.items c.loop-pair.invariant
+    shown_more (λ m. m.now) (λ p. left_of p.now) c.args.pairs.now c.loop-pair.pair-index c.pair-item.result
+    c.left.result c.loop-pair.matrices.items c.push.new.self.items c.loop-pair-test.true c.pair-item.is
+    c.left.ensures c.in_ok-push.ensures.items c.loop-pair.invariant
 
 pub returns : goal.returns
-returns g c = made_all (λ p. left_of p.now) c.args.pairs.now c.loop-pair.pair-index (map (λ m. m.now) c.loop-pair.matrices.items) c.loop-pair-test.false c.loop-pair.invariant
+returns g c = made_all (λ p. left_of p.now) c.args.pairs.now c.loop-pair.pair-index
+    (map (λ m. m.now) c.loop-pair.matrices.items) c.loop-pair-test.false c.loop-pair.invariant

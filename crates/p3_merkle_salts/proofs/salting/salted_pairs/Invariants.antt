@@ -18,7 +18,10 @@ invariant-loop-matrix g l =
       fits : CanWiden l.salt_elems (dimensions_of (shown left));
       same : map left_of l.pairs.items ++ left ≡ l.fn.matrices.items;
       columns : HaveSaltColumns l.salt_elems l.pairs.items;
-      salted : map pair_matrix l.pairs.items ++ salted_matrices of_word l.salt_elems (shown left) (g.R.Rng.stream l.rng) ≡ salted_matrices of_word l.salt_elems (shown l.fn.matrices.items) (g.R.Rng.stream l.fn.rng);
-      end : after_salts l.salt_elems (shown left) (g.R.Rng.stream l.rng) ≡ after_salts l.salt_elems (shown l.fn.matrices.items) (g.R.Rng.stream l.fn.rng);
-      drawn : g.R.Rng.stream l.rng ≡ after_salts l.salt_elems (shown (map left_of l.pairs.items)) (g.R.Rng.stream l.fn.rng);
+      salted : map pair_matrix l.pairs.items ++ salted_matrices of_word l.salt_elems (shown left) (g.R.Rng.stream l.rng)
+          ≡ salted_matrices of_word l.salt_elems (shown l.fn.matrices.items) (g.R.Rng.stream l.fn.rng);
+      end : after_salts l.salt_elems (shown left) (g.R.Rng.stream l.rng)
+          ≡ after_salts l.salt_elems (shown l.fn.matrices.items) (g.R.Rng.stream l.fn.rng);
+      drawn : g.R.Rng.stream l.rng
+          ≡ after_salts l.salt_elems (shown (map left_of l.pairs.items)) (g.R.Rng.stream l.fn.rng);
     }

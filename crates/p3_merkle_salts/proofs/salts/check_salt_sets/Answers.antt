@@ -13,6 +13,10 @@ use Rattle.p3_merkle_salts.proofs.salts.check_salt_sets.Goals as goal
 pub returns : goal.returns
 returns g c =
     let it = c.loop-rows.rows-iterator in
-    let end = shown_end (λ rows. row_lists rows.items) (λ salt. row_lists salt.items) (iter_rest (zip_first it)) (iter_rest (zip_second it)) (either_empty_from_Zip it c.next.new.self c.next.result c.in-None.is c.next.ensures.steps) in
-    let none = pairs_end (λ (rows, salt). salt_refusal c.args.dimensions.now rows salt) (row_sets (iter_rest (zip_first it))) (row_sets (iter_rest (zip_second it))) end in
-    sets_pass c.args.dimensions.now (row_sets c.args.sets.now) (row_sets c.args.salts.now) (simp length-map c.if-salts-sets.false) (sym c.loop-rows.invariant ∙ ap first_some none)
+    let end = shown_end (λ rows. row_lists rows.items) (λ salt. row_lists salt.items) (iter_rest (zip_first it))
+    (iter_rest (zip_second it))
+    (either_empty_from_Zip it c.next.new.self c.next.result c.in-None.is c.next.ensures.steps) in
+    let none = pairs_end (λ (rows, salt). salt_refusal c.args.dimensions.now rows salt)
+    (row_sets (iter_rest (zip_first it))) (row_sets (iter_rest (zip_second it))) end in
+    sets_pass c.args.dimensions.now (row_sets c.args.sets.now) (row_sets c.args.salts.now)
+    (simp length-map c.if-salts-sets.false) (sym c.loop-rows.invariant ∙ ap first_some none)

@@ -9,5 +9,6 @@ use Rattle.p3_merkle_salts.proofs.salts.check_salt_sets.Given as goal
 -- the sets so far are not refused, so those that are left decide
 abbrev pub invariant-loop-rows : goal.invariant-loop-rows
 invariant-loop-rows g l =
-    first_of (λ (rows, salt). salt_refusal l.dimensions rows salt) (zip (row_sets (iter_rest (zip_first l.rows-iterator))) (row_sets (iter_rest (zip_second l.rows-iterator))))
+    first_of (λ (rows, salt). salt_refusal l.dimensions rows salt)
+    (zip (row_sets (iter_rest (zip_first l.rows-iterator))) (row_sets (iter_rest (zip_second l.rows-iterator))))
     ≡ first_of (λ (rows, salt). salt_refusal l.dimensions rows salt) (zip (row_sets l.sets) (row_sets l.salts))

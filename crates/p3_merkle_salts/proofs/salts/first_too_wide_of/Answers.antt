@@ -8,4 +8,7 @@ use Rattle.p3_merkle_salts.proofs.salts.first_too_wide_of.Goals as goal
 
 pub returns : goal.returns
 returns c =
-    position_from_yields_List (λ w. nat_le (2 ^ 64) (w + c.args.salt_elems)) _ _ _ c.position.ensures.ran (YieldsList-from_map _ (λ (d : Dimensions). d.width) (YieldsList-from_slice c.args.dimensions.now (cc)) c.map.ensures.closure (λ x r q k. search rules)) (λ x b q k. let is = too_wide_is c.args.salt_elems x c.ranges.salt_elems.fits in search (rules, tests, is))
+    position_from_yields_List (λ w. nat_le (2 ^ 64) (w + c.args.salt_elems)) _ _ _ c.position.ensures.ran
+    (YieldsList-from_map _ (λ (d : Dimensions). d.width) (YieldsList-from_slice c.args.dimensions.now (cc))
+    c.map.ensures.closure (λ x r q k. search rules))
+    (λ x b q k. let is = too_wide_is c.args.salt_elems x c.ranges.salt_elems.fits in search (rules, tests, is))

@@ -8,5 +8,6 @@ use Rattle.p3_merkle_salts.proofs.salts.joined_row_sets.Given as goal
 -- the sets so far, and those that are left
 abbrev pub invariant-loop-rows : goal.invariant-loop-rows
 invariant-loop-rows g l =
-    row_sets l.joined.items ++ salted_sets (row_sets (iter_rest (zip_first l.rows-iterator))) (row_sets (iter_rest (zip_second l.rows-iterator)))
+    row_sets l.joined.items ++ salted_sets (row_sets (iter_rest (zip_first l.rows-iterator)))
+    (row_sets (iter_rest (zip_second l.rows-iterator)))
     ≡ salted_sets (row_sets l.sets) (row_sets l.salts)

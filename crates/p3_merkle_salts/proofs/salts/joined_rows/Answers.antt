@@ -11,6 +11,9 @@ use Rattle.p3_merkle_salts.proofs.salts.joined_rows.Goals as goal
 pub returns : goal.returns
 returns g c =
     let it = c.loop-row.row-iterator in
-    let end = shown_end (λ row. row.items) (λ salt. salt.items) (iter_rest (zip_first it)) (iter_rest (zip_second it)) (either_empty_from_Zip it c.next.new.self c.next.result c.in-None.is c.next.ensures.steps) in
-    joined_end (λ (row, salt). row ++ salt) (row_lists c.loop-row.joined.items) (row_lists (iter_rest (zip_first it))) (row_lists (iter_rest (zip_second it))) (salted_rows (row_lists c.args.rows.now) (row_lists c.args.salts.now)) end
+    let end = shown_end (λ row. row.items) (λ salt. salt.items) (iter_rest (zip_first it)) (iter_rest (zip_second it))
+    (either_empty_from_Zip it c.next.new.self c.next.result c.in-None.is c.next.ensures.steps) in
+    joined_end (λ (row, salt). row ++ salt) (row_lists c.loop-row.joined.items) (row_lists (iter_rest (zip_first it)))
+    (row_lists (iter_rest (zip_second it))) (salted_rows (row_lists c.args.rows.now) (row_lists c.args.salts.now))
+    end
     c.loop-row.invariant

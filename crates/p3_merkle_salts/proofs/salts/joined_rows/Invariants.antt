@@ -8,5 +8,6 @@ use Rattle.p3_merkle_salts.proofs.salts.joined_rows.Given as goal
 -- the rows so far, and those that are left
 abbrev pub invariant-loop-row : goal.invariant-loop-row
 invariant-loop-row g l =
-    row_lists l.joined.items ++ salted_rows (row_lists (iter_rest (zip_first l.row-iterator))) (row_lists (iter_rest (zip_second l.row-iterator)))
+    row_lists l.joined.items ++ salted_rows (row_lists (iter_rest (zip_first l.row-iterator)))
+    (row_lists (iter_rest (zip_second l.row-iterator)))
     ≡ salted_rows (row_lists l.rows) (row_lists l.salts)

@@ -13,15 +13,24 @@ loop-rows-preserved g c =
     let lent = ap row_lists c.deref.ensures.value in
     record {
       rows_so_far =
-          parted_more (λ rows. row_lists rows.items) (unsalted_parts widths) (λ rows. row_lists rows.items) sets c.loop-rows.rows-index set c.in_ok-front.front c.loop-rows.unsalted.items c.push.new.self.items c.loop-rows-test.true c.rows-item.is
-          (c.in_ok-front.ensures.rows ∙ ap (unsalted_parts widths) lent) c.in_ok-push.ensures.items c.loop-rows.invariant.rows_so_far;
+          parted_more (λ rows. row_lists rows.items) (unsalted_parts widths) (λ rows. row_lists rows.items) sets
+          c.loop-rows.rows-index set c.in_ok-front.front c.loop-rows.unsalted.items c.push.new.self.items
+          c.loop-rows-test.true c.rows-item.is
+          (c.in_ok-front.ensures.rows ∙ ap (unsalted_parts widths) lent) c.in_ok-push.ensures.items
+          c.loop-rows.invariant.rows_so_far;
       salts_so_far =
-          parted_more (λ rows. row_lists rows.items) (salt_parts widths) (λ rows. row_lists rows.items) sets c.loop-rows.rows-index set c.in_ok-front.back c.loop-rows.salts.items c.push-in-loop-rows.new.self.items c.loop-rows-test.true c.rows-item.is
-          (c.in_ok-front.ensures.salts ∙ ap (salt_parts widths) lent) c.in_ok-push-2.ensures.items c.loop-rows.invariant.salts_so_far;
+          parted_more (λ rows. row_lists rows.items) (salt_parts widths) (λ rows. row_lists rows.items) sets
+          c.loop-rows.rows-index set c.in_ok-front.back c.loop-rows.salts.items c.push-in-loop-rows.new.self.items
+          c.loop-rows-test.true c.rows-item.is
+          (c.in_ok-front.ensures.salts ∙ ap (salt_parts widths) lent) c.in_ok-push-2.ensures.items
+          c.loop-rows.invariant.salts_so_far;
     }
 
 pub returns-clause-rows : goal.returns-clause-rows
-returns-clause-rows g c = parted_all (unsalted_parts c.args.widths.now) (λ rows. row_lists rows.items) c.args.sets.now c.loop-rows.rows-index (row_sets c.loop-rows.unsalted.items) c.loop-rows-test.false c.loop-rows.invariant.rows_so_far
+returns-clause-rows g c = parted_all (unsalted_parts c.args.widths.now) (λ rows. row_lists rows.items) c.args.sets.now
+    c.loop-rows.rows-index (row_sets c.loop-rows.unsalted.items) c.loop-rows-test.false
+    c.loop-rows.invariant.rows_so_far
 
 pub returns-clause-salts : goal.returns-clause-salts
-returns-clause-salts g c = parted_all (salt_parts c.args.widths.now) (λ rows. row_lists rows.items) c.args.sets.now c.loop-rows.rows-index (row_sets c.loop-rows.salts.items) c.loop-rows-test.false c.loop-rows.invariant.salts_so_far
+returns-clause-salts g c = parted_all (salt_parts c.args.widths.now) (λ rows. row_lists rows.items) c.args.sets.now
+    c.loop-rows.rows-index (row_sets c.loop-rows.salts.items) c.loop-rows-test.false c.loop-rows.invariant.salts_so_far

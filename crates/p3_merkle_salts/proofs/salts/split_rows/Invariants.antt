@@ -9,9 +9,11 @@ use Rattle.p3_merkle_salts.proofs.salts.split_rows.Given as goal
 abbrev pub invariant-loop-row : goal.invariant-loop-row
 invariant-loop-row g l = record {
   rows_so_far :
-      row_lists l.unsalted.items ++ unsalted_parts (iter_rest (zip_second l.row-iterator)) (row_lists (iter_rest (zip_first l.row-iterator)))
+      row_lists l.unsalted.items ++ unsalted_parts (iter_rest (zip_second l.row-iterator))
+      (row_lists (iter_rest (zip_first l.row-iterator)))
       ≡ unsalted_parts l.widths (row_lists l.rows);
   salts_so_far :
-      row_lists l.salts.items ++ salt_parts (iter_rest (zip_second l.row-iterator)) (row_lists (iter_rest (zip_first l.row-iterator)))
+      row_lists l.salts.items ++ salt_parts (iter_rest (zip_second l.row-iterator))
+      (row_lists (iter_rest (zip_first l.row-iterator)))
       ≡ salt_parts l.widths (row_lists l.rows);
 }

@@ -6,7 +6,11 @@ use Rattle.p3_merkle_salts.proofs.salts.widened_dimensions.Goals as goal
 
 pub loop-matrix-preserved : goal.loop-matrix-preserved
 loop-matrix-preserved c =
-    made_next (λ (d : Dimensions). record { width = d.width + c.args.salt_elems; height = d.height }) c.args.dimensions.now c.loop-matrix.matrix-index _ c.loop-matrix.wider.items c.push.new.self.items c.loop-matrix-test.true c.in_ok-push.ensures.items c.loop-matrix.invariant
+    made_next (λ (d : Dimensions). record { width = d.width + c.args.salt_elems; height = d.height })
+    c.args.dimensions.now c.loop-matrix.matrix-index _ c.loop-matrix.wider.items c.push.new.self.items
+    c.loop-matrix-test.true c.in_ok-push.ensures.items c.loop-matrix.invariant
 
 pub returns : goal.returns
-returns c = made_all (λ (d : Dimensions). record { width = d.width + c.args.salt_elems; height = d.height }) c.args.dimensions.now c.loop-matrix.matrix-index c.loop-matrix.wider.items c.loop-matrix-test.false c.loop-matrix.invariant
+returns c = made_all (λ (d : Dimensions). record { width = d.width + c.args.salt_elems; height = d.height })
+    c.args.dimensions.now c.loop-matrix.matrix-index c.loop-matrix.wider.items c.loop-matrix-test.false
+    c.loop-matrix.invariant

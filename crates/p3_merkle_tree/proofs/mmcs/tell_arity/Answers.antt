@@ -1,5 +1,5 @@
 -- An arity passes the test.
-use Rattle.p3_merkle_core.proofs.ArityFacts.{is_arity_from}
+use Rattle.p3_merkle_core.proofs.Shapes.ArityFacts.{is_arity_from}
 use Rattle.p3_merkle_tree.proofs.mmcs.tell_arity.Goals as goal
 
 pub returns : goal.returns

@@ -12,12 +12,15 @@ use Rattle.p3_merkle_core.specs.declared.collision.InputPair.{InputPair}
 use Rattle.p3_merkle_verifier.proofs.collision.differing_level.Goals as goal
 
 -- what shows nothing shows that there is nothing
-shows_none : {T W : Type 0} (above : Option (InputPair T (List W))) (d : Option (Input T W × Input T W)) → Shows above d → is_some above ≡ false → d ≡ None
+shows_none : {T W : Type 0} (above : Option (InputPair T (List W))) (d : Option (Input T W × Input T W)) →
+    Shows above d → is_some above ≡ false → d ≡ None
 shows_none None d s e = sym s
 shows_none (Some x) d s e = absurd (true≢false e)
 
-last_is_group : {T W : Type 0} (eq : Input T W → Input T W → Bool) (same : Bool) (x y : Input T W) (xs ys : List (Input T W)) (above found : Option (InputPair T (List W))) →
-    eq x y ≡ same → Shows above (last_difference eq xs ys) → is_some above ≡ false → IsDifference found same (x, y) → Shows found (last_difference eq (x ∷ xs) (y ∷ ys))
+last_is_group : {T W : Type 0} (eq : Input T W → Input T W → Bool) (same : Bool) (x y : Input T W)
+    (xs ys : List (Input T W)) (above found : Option (InputPair T (List W))) →
+    eq x y ≡ same → Shows above (last_difference eq xs ys) → is_some above ≡ false → IsDifference found same (x, y) →
+    Shows found (last_difference eq (x ∷ xs) (y ∷ ys))
 last_is_group eq same x y xs ys above found test shown none here =
     rw (shows_none above (last_difference eq xs ys) shown none, test) here
 
@@ -28,8 +31,11 @@ returns g c =
     let theirs = c.args.second.now.group in
     let eq = input_eq g.T.PartialEq.eq g.W.PartialEq.eq in
     let same = pointwise (pointwise g.W.PartialEq.eq) mine theirs in
-    let test : eq (digests_at (Group l) mine) (digests_at (Group l) theirs) ≡ same = ap (λ at_one. at_one && same) (eq-eqb l l refl) in
+    let test : eq (digests_at (Group l) mine) (digests_at (Group l) theirs)
+    ≡ same = ap (λ at_one. at_one && same) (eq-eqb l l refl) in
     IfOk-weaker c.differing_digests.result _ _
-    (λ found here. last_is_group eq same (digests_at (Group l) mine) (digests_at (Group l) theirs) (inputs_above l (first_words c.args.rows.now) c.args.first.now.pair) (inputs_above l (second_words c.args.rows.now) c.args.second.now.pair) c.in_ok-above.above found
+    (λ found here. last_is_group eq same (digests_at (Group l) mine) (digests_at (Group l) theirs)
+    (inputs_above l (first_words c.args.rows.now) c.args.first.now.pair)
+    (inputs_above l (second_words c.args.rows.now) c.args.second.now.pair) c.in_ok-above.above found
     test c.in_ok-above.ensures (sym c.is_some.ensures ∙ c.if-is_some.false) here)
     c.differing_digests.ensures

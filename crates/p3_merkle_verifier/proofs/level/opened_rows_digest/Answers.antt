@@ -15,6 +15,9 @@ returns g c =
     let hash = g.H.CryptographicHasher.hash c.args.hash.now in
     let pairs = zip (heights_of c.args.dimensions.now) (row_lists c.args.rows.now) in
     let opened = c.opened_slices.ensures in
-    let yields = YieldsList-from_first (λ row. row.now) (λ s. rows_of_exponent s.exponent (zip (heights_of s.dimensions.now) (row_lists s.rows.now))) (rows_of_exponent c.args.exponent pairs) (rw (opened.exponent, opened.dimensions, opened.rows) refl) in
-    fact_of_run (λ row. row.now) (λ rows. c.hash_iter_slices.result ≡ hash (flat_map (λ row. row.now) rows)) (c.hash_iter_slices.result ≡ hash (words_of_exponent c.args.exponent pairs)) c.hash_iter_slices.ensures yields
+    let yields = YieldsList-from_first (λ row. row.now)
+    (λ s. rows_of_exponent s.exponent (zip (heights_of s.dimensions.now) (row_lists s.rows.now)))
+    (rows_of_exponent c.args.exponent pairs) (rw (opened.exponent, opened.dimensions, opened.rows) refl) in
+    fact_of_run (λ row. row.now) (λ rows. c.hash_iter_slices.result ≡ hash (flat_map (λ row. row.now) rows))
+    (c.hash_iter_slices.result ≡ hash (words_of_exponent c.args.exponent pairs)) c.hash_iter_slices.ensures yields
     (λ rows e h. h ∙ ap hash (words_read (λ row. row.now) c.args.exponent pairs rows e))

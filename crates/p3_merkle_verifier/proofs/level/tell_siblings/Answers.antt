@@ -7,4 +7,8 @@ use Rattle.p3_merkle_verifier.proofs.level.tell_siblings.Goals as goal
 pub returns : goal.returns
 returns g c =
     let s = shape_of c.args.arity c.args.dimensions.now in
-    record { arity = c.requires.reach.arity; enough = enough_below s c.args.t c.args.level (length c.args.siblings.now) c.requires.reach c.requires.below }
+    record {
+      arity = c.requires.reach.arity;
+      enough = enough_below s c.args.t c.args.level (length c.args.siblings.now)
+          c.requires.reach c.requires.below;
+    }

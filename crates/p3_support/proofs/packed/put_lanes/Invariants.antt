@@ -4,5 +4,7 @@ use Rattle.p3_support.proofs.packed.put_lanes.Given as goal
 abbrev pub invariant-loop-k : goal.invariant-loop-k
 invariant-loop-k g l =
     (length l.rows ≡ length l.initial.rows)
-    × ((j : ℕ) → j < l.k → slice_index_or l.rows j [] ≡ slice_set (slice_index_or l.initial.rows j []) l.e (slice_index_or (g.PW.PackedValue.lanes l.value) j g.PW.PackedValue.default_value))
+    × ((j : ℕ) → j < l.k → slice_index_or l.rows j []
+    ≡ slice_set (slice_index_or l.initial.rows j []) l.e
+    (slice_index_or (g.PW.PackedValue.lanes l.value) j g.PW.PackedValue.default_value))
     × ((j : ℕ) → l.k ≤ j → slice_index_or l.rows j [] ≡ slice_index_or l.initial.rows j [])

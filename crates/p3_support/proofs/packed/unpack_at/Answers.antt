@@ -9,6 +9,8 @@ returns-clause-lanes g c = λ k below.
     let written = c.unpack_into.new.rows in
     let lane = λ (j : ℕ). lane_of g.PW.PackedValue.lanes g.PW.PackedValue.default_value j c.args.packed.now in
     let inside : c.args.first ≤ length c.args.rows.now = omega (arith, c.requires) in
-    let long : length written ≡ g.PW.PackedValue.WIDTH = ap length c.unpack_into.ensures ∙ length-map-range_with_len lane 0 g.PW.PackedValue.WIDTH in
+    let long : length written ≡ g.PW.PackedValue.WIDTH = ap length c.unpack_into.ensures
+    ∙ length-map-range_with_len lane 0 g.PW.PackedValue.WIDTH in
     get_or-put_mid c.args.first _ k c.args.rows.now written [] inside (omega (arith, long, below))
-    ∙ ap (λ l. slice_index_or l k []) c.unpack_into.ensures ∙ get_or-map-range_with_len lane 0 g.PW.PackedValue.WIDTH k k [] below (omega arith)
+    ∙ ap (λ l. slice_index_or l k []) c.unpack_into.ensures
+    ∙ get_or-map-range_with_len lane 0 g.PW.PackedValue.WIDTH k k [] below (omega arith)

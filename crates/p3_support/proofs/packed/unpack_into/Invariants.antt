@@ -7,4 +7,5 @@ invariant-loop-e g l =
     let zero = g.PW.PackedValue.default_value in
     (length l.rows ≡ length l.initial.rows)
     × ((k : ℕ) → k < g.PW.PackedValue.WIDTH → length (slice_index_or l.rows k []) ≡ g.row.D)
-    × ((k : ℕ) → k < g.PW.PackedValue.WIDTH → (j : ℕ) → j < l.e → slice_index_or (slice_index_or l.rows k []) j zero ≡ slice_index_or (lane_of g.PW.PackedValue.lanes zero k l.packed) j zero)
+    × ((k : ℕ) → k < g.PW.PackedValue.WIDTH → (j : ℕ) → j < l.e → slice_index_or (slice_index_or l.rows k []) j zero
+    ≡ slice_index_or (lane_of g.PW.PackedValue.lanes zero k l.packed) j zero)

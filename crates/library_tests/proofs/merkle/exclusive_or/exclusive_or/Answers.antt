@@ -11,7 +11,9 @@ returns c =
     let right = c.args.right.now in
     let left_long : length left ≡ 32 = search rules in
     let right_long : length right ≡ 32 = search rules in
-    let long : length (zip2 bit_xor left right) ≡ 32 = length-zip2 bit_xor left right (left_long ∙ sym right_long) ∙ left_long in
+    let long : length (zip2 bit_xor left right) ≡ 32 = length-zip2 bit_xor left right (left_long ∙ sym right_long)
+    ∙ left_long in
     ext_get_or 0 c.loop-e.digest (zip2 bit_xor left right) (c.loop-e.invariant.0 ∙ sym long) (λ k h.
     let below : k < 32 = rw (← c.loop-e.invariant.0) h in
-    c.loop-e.invariant.1 k (search rules) ∙ sym (get_or-zip2 bit_xor left right k 0 0 0 (rw left_long below) (rw right_long below)))
+    c.loop-e.invariant.1 k (search rules)
+    ∙ sym (get_or-zip2 bit_xor left right k 0 0 0 (rw left_long below) (rw right_long below)))

@@ -10,4 +10,6 @@ index-requires g c =
     let fit = g.met.S.Mmcs.shown_fits _ _ _ _ _ shown in
     let row = c.index-opening-place.result in
     let is = c.index-opening-place.is in
-    subst (λ r. c.args.place.column < vec_len r) is (has_column c.args.dimensions.now c.args.index c.args.opening.opened_values.now c.args.place.matrix c.args.place.column row fit c.requires.matrix c.requires.column is)
+    subst (λ r. c.args.place.column < vec_len r) is
+    (has_column c.args.dimensions.now c.args.index c.args.opening.opened_values.now c.args.place.matrix
+    c.args.place.column row fit c.requires.matrix c.requires.column is)

@@ -6,7 +6,8 @@ use Rattle.library_tests.proofs.merkle.verified_words.verified_word_of.Goals as 
 pub offset_bounds-rows-query : goal.offset_bounds-rows-query
 offset_bounds-rows-query g c =
     let each = g.met.S.Mmcs.shown_by_all _ _ _ _ _ _ (c.in_ok-verify_multi_batch.ensures.accepted refl) in
-    let inside : c.args.query < length c.args.rows.now = has_set _ c.args.indices.now c.args.rows.now each c.args.query c.requires.query in search rules
+    let inside : c.args.query < length c.args.rows.now = has_set _ c.args.indices.now c.args.rows.now each c.args.query
+    c.requires.query in search rules
 
 pub bounds-rows-query : goal.bounds-rows-query
 bounds-rows-query g c =
@@ -17,18 +18,23 @@ pub index-requires : goal.index-requires
 index-requires g c =
     let each = g.met.S.Mmcs.shown_by_all _ _ _ _ _ _ (c.in_ok-verify_multi_batch.ensures.accepted refl) in
     let set = c.index-rows-query.result in
-    let fit = g.met.S.Mmcs.shown_fits _ _ _ _ _ (set_shown _ c.args.indices.now c.args.rows.now each c.args.query set c.requires.query c.index-rows-query.is) in
+    let fit = g.met.S.Mmcs.shown_fits _ _ _ _ _
+    (set_shown _ c.args.indices.now c.args.rows.now each c.args.query set c.requires.query c.index-rows-query.is) in
     omega (arith, as_many c.args.dimensions.now _ set.items fit)
 
 pub index-requires-2 : goal.index-requires-2
 index-requires-2 g c =
     let each = g.met.S.Mmcs.shown_by_all _ _ _ _ _ _ (c.in_ok-verify_multi_batch.ensures.accepted refl) in
     let set = c.index-rows-query.result in
-    let fit = g.met.S.Mmcs.shown_fits _ _ _ _ _ (set_shown _ c.args.indices.now c.args.rows.now each c.args.query set c.requires.query c.index-rows-query.is) in
-    has_column c.args.dimensions.now _ set.items c.args.place.matrix c.args.place.column c.index.result.now fit c.requires.matrix c.requires.column c.index.ensures
+    let fit = g.met.S.Mmcs.shown_fits _ _ _ _ _
+    (set_shown _ c.args.indices.now c.args.rows.now each c.args.query set c.requires.query c.index-rows-query.is) in
+    has_column c.args.dimensions.now _ set.items c.args.place.matrix c.args.place.column c.index.result.now fit
+    c.requires.matrix c.requires.column c.index.ensures
 
 pub returns : goal.returns
 returns g c =
     let each = g.met.S.Mmcs.shown_by_all _ _ _ _ _ _ (c.in_ok-verify_multi_batch.ensures.accepted refl) in
     let set = c.index-rows-query.result in
-    (g.met.S.Mmcs.shown_fits _ _ _ _ _ (set_shown _ c.args.indices.now c.args.rows.now each c.args.query set c.requires.query c.index-rows-query.is)).in_range
+    (g.met.S.Mmcs.shown_fits _ _ _ _ _
+    (set_shown _ c.args.indices.now c.args.rows.now each c.args.query set c.requires.query
+    c.index-rows-query.is)).in_range

@@ -15,6 +15,8 @@ returns g c = λ k below.
     let r = c.args.row in
     let row = g.M.Matrix.row_of m in
     let w = g.M.Matrix.width_of m in
-    let items : map lanes run.0.items ≡ columns row d r n w = (run_of_first_by lanes (λ rest. rest) run.0).1.4 run.2 ∙ run.1 ∙ c.vertically_packed_row.ensures in
+    let items : map lanes run.0.items ≡ columns row d r n w = (run_of_first_by lanes (λ rest. rest) run.0).1.4 run.2
+    ∙ run.1 ∙ c.vertically_packed_row.ensures in
     run.3 k below below ∙ ap (g.H.CryptographicHasher.hash c.args.hasher.now)
-    (lane_of_columns lanes row d r n k w run.0.items items below (g.met.M.Matrix.length_row_of m (r + k) (omega (arith, c.requires, below))))
+    (lane_of_columns lanes row d r n k w run.0.items items below
+    (g.met.M.Matrix.length_row_of m (r + k) (omega (arith, c.requires, below))))

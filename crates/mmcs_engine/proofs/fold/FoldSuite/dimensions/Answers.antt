@@ -9,5 +9,6 @@ use Rattle.mmcs_engine.proofs.fold.FoldSuite.dimensions.Goals as goal
 pub returns : goal.returns
 returns g c =
     IfOk-weaker c.dimensions_of.result _ _
-    (λ made is. ap (shape_of g.row.N) (is ∙ ap (dimensions_in row_count row_width) c.deref.ensures.value ∙ stored_dimensions c.args.matrices.now.items g.row.N))
+    (λ made is. ap (shape_of g.row.N) (is ∙ ap (dimensions_in row_count row_width) c.deref.ensures.value
+    ∙ stored_dimensions c.args.matrices.now.items g.row.N))
     c.dimensions_of.ensures

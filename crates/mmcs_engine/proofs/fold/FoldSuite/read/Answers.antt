@@ -5,4 +5,10 @@ use Rattle.mmcs_engine.proofs.fold.FoldSuite.read.Goals as goal
 
 pub returns-clause-matrices : goal.returns-clause-matrices
 returns-clause-matrices g c =
-    IfOk-weaker c.read_matrices.result _ _ (λ found is. (is.0, is.1, ap (λ ms. record { arity = g.row.N; matrices = ms }) (stored_plain found.items ∙ is.2))) c.read_matrices.ensures.matrices
+    IfOk-weaker c.read_matrices.result _ _
+    (λ found is. (
+      is.0,
+      is.1,
+      ap (λ ms. record { arity = g.row.N; matrices = ms }) (stored_plain found.items
+          ∙ is.2),
+    )) c.read_matrices.ensures.matrices

@@ -5,5 +5,7 @@ use Rattle.mmcs_engine.proofs.fold.FoldSuite.verify.Goals as goal
 
 pub returns-clause-taken : goal.returns-clause-taken
 returns-clause-taken g c =
-    taken_alike _ _ _ _ _ _ _ _ c.verify_batch_pruned.result c.fold_scheme.ensures.functions (caps_alike _ _ _ _ _ c.fold_scheme.ensures.rule c.fold_scheme.ensures.cap_height)
-    (λ i. pruned_of c.args.indices.now (row_sets (c.deref.ensures.value i)) c.args.opening.now.pruned_proof.sibling_hashes.items) c.verify_batch_pruned.ensures.verdict.taken
+    taken_alike _ _ _ _ _ _ _ _ c.verify_batch_pruned.result c.fold_scheme.ensures.functions
+    (caps_alike _ _ _ _ _ c.fold_scheme.ensures.rule c.fold_scheme.ensures.cap_height)
+    (λ i. pruned_of c.args.indices.now (row_sets (c.deref.ensures.value i))
+    c.args.opening.now.pruned_proof.sibling_hashes.items) c.verify_batch_pruned.ensures.verdict.taken

@@ -1,10 +1,25 @@
-use Rattle.std.proofs.Common.{◌∙◌}
+-- There is as much room as the rule says.
+use Rattle.std.proofs.Common.{◌∙◌, ◌-◌, ap, refl}
 use Rattle.p3_merkle_core.specs.Geometry.{shape_of}
-use Rattle.p3_merkle_core.proofs.CapFacts.{cap_by_numbers}
+use Rattle.p3_merkle_core.proofs.Shapes.CapFacts.{lowered_by_numbers}
 use Rattle.p3_merkle_core.proofs.steps.Steps.cap_layer.Goals as goal
+use Rattle.p3_merkle_core.proofs.steps.Steps.cap_layer.Goals.{in-Lowered, in-Fixed}
 
 pub returns : goal.returns
 returns c =
     let steps = c.args.self.now in
-    c.cap_layer_at.ensures
-    ∙ cap_by_numbers (shape_of steps.arity steps.dimensions.now) c.requires c.args.rule c.args.cap_height steps.num_levels c.shortest_of-min_height.result steps.whole c.shortest_of-min_height.ensures
+    let s = shape_of steps.arity steps.dimensions.now in
+    c.saturating_sub.ensures ∙ ap (λ k. steps.num_levels - k) c.min.ensures
+    ∙ elim c.match-rule.branch [
+      | in-Lowered w ↦
+          rw (
+            w.in-Lowered.is,
+            w.room-is,
+            w.div_ceil-room.ensures,
+            w.exponent_of.ensures,
+            w.exponent_of-in-Lowered.ensures,
+          )
+          (lowered_by_numbers s c.requires c.args.cap_height steps.num_levels steps.min_height steps.whole
+          steps.shortest)
+      | in-Fixed w ↦ rw (w.in-Fixed.is, w.room-is, steps.whole) refl
+    ]

@@ -1,8 +1,8 @@
 -- Each turn is one level.
 use Rattle.std.proofs.Common.{◌<◌, arith, sym, add-one}
 use Rattle.p3_merkle_core.specs.Geometry.{levels, shape_of}
-use Rattle.p3_merkle_core.proofs.SiblingFacts.{siblings_next, siblings_start, step_is}
-use Rattle.p3_merkle_core.proofs.HalvingFacts.{siblings_halved}
+use Rattle.p3_merkle_core.proofs.Shapes.SiblingFacts.{siblings_next, siblings_start, step_is}
+use Rattle.p3_merkle_core.proofs.Shapes.HalvingFacts.{siblings_halved}
 use Rattle.p3_merkle_core.proofs.steps.Steps.siblings_below.Goals as goal
 
 pub loop-level-init : goal.loop-level-init
@@ -21,4 +21,6 @@ loop-level-preserved c =
     rw (add-one, c.step.ensures, c.loop-level.invariant) (sym (siblings_next s c.loop-level.level))
 
 pub returns-then-self-eq2 : goal.returns-then-self-eq2
-returns-then-self-eq2 c = sym (siblings_halved (shape_of c.args.self.now.arity c.args.self.now.dimensions.now) c.if-self-eq2.true c.args.t)
+returns-then-self-eq2 c =
+    sym (siblings_halved (shape_of c.args.self.now.arity c.args.self.now.dimensions.now) c.if-self-eq2.true
+    c.args.layer)

@@ -17,7 +17,7 @@ use Rattle.p3_merkle_tree.specs.Schemes.{terms_over}
 use Rattle.p3_merkle_hiding.specs.HidingSchemes.{generator_of, plain_of}
 use Rattle.p3_merkle_salts.specs.SaltRefusals.{salted_commit_refusal, widening_refusal}
 use Rattle.p3_merkle_salts.specs.SaltedTrees.{HaveSaltColumns, pair_matrix}
-use Rattle.p3_merkle_core.proofs.NoneFacts.{none_parts}
+use Rattle.p3_merkle_core.proofs.Pruned.NoneFacts.{none_parts}
 use Rattle.p3_merkle_hiding.proofs.CommitFacts.{gate_stays, memory_alone, memory_or, nothing_drawn, nothing_made, on_ok, salted_widened, unrefused}
 use Rattle.p3_merkle_hiding.proofs.commit.MerkleTreeHidingMmcs+P+PW+H+C+R+N+D+SALT_ELEMS.commit.Goals as goal
 
@@ -48,19 +48,30 @@ returns g c =
     let drawn = g.R.Rng.stream (generator_of c.args.self.now) in
     let r = c.commit.result in
     let none = c.in_ok-pairs.ensures.answer in
-    let gate = (none_parts (gate_refusal (heights_of (dimensions_of (shown ms)))) (widening_refusal e (dimensions_of (shown ms))) none).0 in
+    let gate = (none_parts (gate_refusal (heights_of (dimensions_of (shown ms))))
+    (widening_refusal e (dimensions_of (shown ms))) none).0 in
     let pairs = c.in_ok-pairs.pairs.items in
     let salted = c.in_ok-pairs.ensures.salted in
     let over : List (Matrix _) → Batch _ = λ z. record { arity = g.row.N; matrices = z } in
-    let memory = memory_alone r (gate_refusal (heights_of (dimensions_of (map pair_matrix pairs)))) c.commit.ensures.answer (gate_stays of_word e (shown ms) (map pair_matrix pairs) drawn salted gate) in
+    let memory = memory_alone r (gate_refusal (heights_of (dimensions_of (map pair_matrix pairs))))
+    c.commit.ensures.answer (gate_stays of_word e (shown ms) (map pair_matrix pairs) drawn salted gate) in
     record {
       answer = unrefused r (salted_commit_refusal e (dimensions_of (shown ms))) memory none;
-      matrices = IfOk-weaker r _ _ (λ made is. ap (map left_of) is ∙ c.in_ok-pairs.ensures.matrices) c.commit.ensures.matrices;
-      columns = IfOk-weaker r _ _ (λ made is. subst (λ (z : List _). HaveSaltColumns e z) (sym is) c.in_ok-pairs.ensures.columns) c.commit.ensures.matrices;
-      batch = IfOk-weaker r _ _ (λ made is. ap (λ z. over (map pair_matrix z)) is ∙ ap over salted) c.commit.ensures.matrices;
+      matrices = IfOk-weaker r _ _ (λ made is. ap (map left_of) is ∙ c.in_ok-pairs.ensures.matrices)
+          c.commit.ensures.matrices;
+      columns = IfOk-weaker r _ _
+          (λ made is. subst (λ (z : List _). HaveSaltColumns e z) (sym is) c.in_ok-pairs.ensures.columns)
+          c.commit.ensures.matrices;
+      batch = IfOk-weaker r _ _ (λ made is. ap (λ z. over (map pair_matrix z)) is ∙ ap over salted)
+          c.commit.ensures.matrices;
       committed =
-          subst (λ (ds : List Dimensions). IfOk r (λ made. IsCommitment (terms (shape_of g.row.N ds)) (roots_of made.0) (over (salted_matrices of_word e (shown ms) drawn)) (layers_of made.1))) (salted_widened of_word e (shown ms) drawn)
-          (subst (λ (b : Batch _). IfOk r (λ made. IsCommitment (terms (shape b)) (roots_of made.0) b (layers_of made.1))) (ap over salted) c.commit.ensures.committed);
+          subst (λ (ds : List Dimensions).
+          IfOk r (λ made. IsCommitment (terms (shape_of g.row.N ds)) (roots_of made.0)
+          (over (salted_matrices of_word e (shown ms) drawn)) (layers_of made.1)))
+          (salted_widened of_word e (shown ms) drawn)
+          (subst (λ (b : Batch _).
+          IfOk r (λ made. IsCommitment (terms (shape b)) (roots_of made.0) b (layers_of made.1))) (ap over salted)
+          c.commit.ensures.committed);
       rest = on_ok _ r c.in_ok-pairs.ensures.rest;
       further = c.in_ok-pairs.ensures.further;
       untouched = memory_or _ r memory;

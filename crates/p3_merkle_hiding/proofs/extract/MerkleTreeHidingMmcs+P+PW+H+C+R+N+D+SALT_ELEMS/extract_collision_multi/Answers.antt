@@ -9,7 +9,7 @@ use Rattle.p3_merkle_core.specs.Refusals.{AnswersUnlessMemory, pruned_refusal_un
 use Rattle.p3_merkle_core.specs.Views.{found_pair, pruned_lent}
 use Rattle.p3_merkle_core.specs.declared.error.MerkleTreeError.{MerkleTreeError}
 use Rattle.p3_merkle_core.specs.declared.error.MerkleTreeError.TheVariants.{OutOfMemory}
-use Rattle.p3_merkle_core.proofs.ExtractionFacts.{all_authenticated}
+use Rattle.p3_merkle_core.proofs.Collisions.ExtractionFacts.{all_authenticated}
 use Rattle.p3_merkle_tree.specs.Schemes.{cap_height_of, cap_rule_of, terms_of}
 use Rattle.p3_support.specs.Shown.{roots_of, row_sets}
 use Rattle.p3_merkle_hiding.specs.HidingSchemes.{plain_of, salted_pruned_lent}
@@ -29,16 +29,21 @@ returns-in_err-salted1 g c =
     let e = g.row.SALT_ELEMS in
     let wide = terms (widened e ds) in
     let cap = roots_of c.args.commit.now in
-    let all = all_authenticated (shape_of g.row.N (widened e ds)) (cap_rule_of plain) (cap_height_of plain) plain.arity in
+    let all = all_authenticated (shape_of g.row.N (widened e ds)) (cap_rule_of plain) (cap_height_of plain)
+    plain.arity in
     let o = salted_pruned_lent c.args.indices1.now c.args.rows1.now c.args.proof1.now in
     let u = salted_pruned_lent c.args.indices2.now c.args.rows2.now c.args.proof2.now in
     let salts = ap row_sets c.deref.ensures.value in
     let r = c.from_residual.result in
     let err = c.from_residual.ensures.0 in
-    let before = subst (AnswersUnlessMemory r) (λ i. salted_sets_refusal e ds (row_sets c.args.rows1.now) (salts i)) (search rules) in
-    let first = refused_before r (salted_sets_refusal e ds o.rows o.salts) (pruned_refusal_under eq same wide cap (joined_sets o)) err before in
-    let answer = refused_before r (salted_pruned_refusal_under eq same e ds wide cap o) (salted_pruned_refusal_under eq same e ds wide cap u) err first in
-    failed_salted_pruned eq same (cap_rule_of plain) e ds wide cap g.met.P.PackedValue.eq_is_equality g.met.PW.PackedValue.eq_is_equality plain.arity all o u r err answer
+    let before = subst (AnswersUnlessMemory r) (λ i. salted_sets_refusal e ds (row_sets c.args.rows1.now) (salts i))
+    (search rules) in
+    let first = refused_before r (salted_sets_refusal e ds o.rows o.salts)
+    (pruned_refusal_under eq same wide cap (joined_sets o)) err before in
+    let answer = refused_before r (salted_pruned_refusal_under eq same e ds wide cap o)
+    (salted_pruned_refusal_under eq same e ds wide cap u) err first in
+    failed_salted_pruned eq same (cap_rule_of plain) e ds wide cap g.met.P.PackedValue.eq_is_equality
+    g.met.PW.PackedValue.eq_is_equality plain.arity all o u r err answer
 
 pub returns-in-Ok : goal.returns-in-Ok
 returns-in-Ok g c =
@@ -50,23 +55,41 @@ returns-in-Ok g c =
     let e = g.row.SALT_ELEMS in
     let wide = terms (widened e ds) in
     let cap = roots_of c.args.commit.now in
-    let all = all_authenticated (shape_of g.row.N (widened e ds)) (cap_rule_of plain) (cap_height_of plain) plain.arity in
+    let all = all_authenticated (shape_of g.row.N (widened e ds)) (cap_rule_of plain) (cap_height_of plain)
+    plain.arity in
     let o = salted_pruned_lent c.args.indices1.now c.args.rows1.now c.args.proof1.now in
     let u = salted_pruned_lent c.args.indices2.now c.args.rows2.now c.args.proof2.now in
     let salts = ap row_sets c.deref.ensures.value in
-    let none = sym (λ i. salted_sets_refusal e ds (row_sets c.args.rows1.now) (salts i)) ∙ c.in_ok-salted1.ensures.answer in
+    let none = sym (λ i. salted_sets_refusal e ds (row_sets c.args.rows1.now) (salts i))
+    ∙ c.in_ok-salted1.ensures.answer in
     let salts2 = ap row_sets c.deref-2.ensures.value in
     let none2 = sym (λ i. salted_sets_refusal e ds (row_sets c.args.rows2.now) (salts2 i)) ∙ c.in-Ok.ensures.answer in
     let are_wide = c.deref-in-Ok.ensures.value ∙ c.in_ok-salted1.ensures.dimensions in
     let given = c.deref-in-Ok.result.now in
-    let joined1 = ap row_sets c.deref-in-Ok-2.ensures.value ∙ c.in_ok-salted1.ensures.sets ∙ (λ i. salted_sets (row_sets c.args.rows1.now) (salts i)) in
-    let joined2 = ap row_sets c.deref-in-Ok-3.ensures.value ∙ c.in-Ok.ensures.sets ∙ (λ i. salted_sets (row_sets c.args.rows2.now) (salts2 i)) in
+    let joined1 = ap row_sets c.deref-in-Ok-2.ensures.value ∙ c.in_ok-salted1.ensures.sets
+    ∙ (λ i. salted_sets (row_sets c.args.rows1.now) (salts i)) in
+    let joined2 = ap row_sets c.deref-in-Ok-3.ensures.value ∙ c.in-Ok.ensures.sets
+    ∙ (λ i. salted_sets (row_sets c.args.rows2.now) (salts2 i)) in
     let p = pruned_lent c.args.indices1.now c.deref-in-Ok-2.result.now c.args.proof1.now.1 in
     let q = pruned_lent c.args.indices2.now c.deref-in-Ok-3.result.now c.args.proof2.now.1 in
     let r = c.extract_collision_multi.result in
     let made = c.extract_collision_multi.ensures in
-    extracted_salted_pruned eq same (cap_rule_of plain) e ds wide cap g.met.P.PackedValue.eq_is_equality g.met.PW.PackedValue.eq_is_equality plain.arity all o u (found_pair r) (subst (AnswersUnlessMemory (found_pair r)) (λ i. option_or (refusal_joined_sets eq same e ds given terms cap o p none are_wide (λ i. pruned_of c.args.indices1.now (joined1 i) c.args.proof1.now.1.sibling_hashes.items) i) (refusal_joined_sets eq same e ds given terms cap u q none2 are_wide (λ i. pruned_of c.args.indices2.now (joined2 i) c.args.proof2.now.1.sibling_hashes.items) i)) made.answer)
-    (subst (λ d. IfOk (found_pair r) (λ found. found ≡ d)) (λ i. first_pair (λ a b. difference_of eq same (terms (are_wide i)) (opening_at (terms (are_wide i)) (pruned_of c.args.indices1.now (joined1 i) c.args.proof1.now.1.sibling_hashes.items) a) (opening_at (terms (are_wide i)) (pruned_of c.args.indices2.now (joined2 i) c.args.proof2.now.1.sibling_hashes.items) b)) (length c.args.indices1.now) (length c.args.indices2.now)) made.found)
+    extracted_salted_pruned eq same (cap_rule_of plain) e ds wide cap g.met.P.PackedValue.eq_is_equality
+    g.met.PW.PackedValue.eq_is_equality plain.arity all o u (found_pair r)
+    (subst (AnswersUnlessMemory (found_pair r))
+    (λ i. option_or
+    (refusal_joined_sets eq same e ds given terms cap o p none are_wide
+    (λ i. pruned_of c.args.indices1.now (joined1 i) c.args.proof1.now.1.sibling_hashes.items) i)
+    (refusal_joined_sets eq same e ds given terms cap u q none2 are_wide
+    (λ i. pruned_of c.args.indices2.now (joined2 i) c.args.proof2.now.1.sibling_hashes.items) i)) made.answer)
+    (subst (λ d. IfOk (found_pair r) (λ found. found ≡ d))
+    (λ i. first_pair
+    (λ a b. difference_of eq same (terms (are_wide i))
+    (opening_at (terms (are_wide i))
+    (pruned_of c.args.indices1.now (joined1 i) c.args.proof1.now.1.sibling_hashes.items) a)
+    (opening_at (terms (are_wide i))
+    (pruned_of c.args.indices2.now (joined2 i) c.args.proof2.now.1.sibling_hashes.items) b))
+    (length c.args.indices1.now) (length c.args.indices2.now)) made.found)
 
 pub returns : goal.returns
 returns g c =
@@ -78,19 +101,30 @@ returns g c =
     let e = g.row.SALT_ELEMS in
     let wide = terms (widened e ds) in
     let cap = roots_of c.args.commit.now in
-    let all = all_authenticated (shape_of g.row.N (widened e ds)) (cap_rule_of plain) (cap_height_of plain) plain.arity in
+    let all = all_authenticated (shape_of g.row.N (widened e ds)) (cap_rule_of plain) (cap_height_of plain)
+    plain.arity in
     let o = salted_pruned_lent c.args.indices1.now c.args.rows1.now c.args.proof1.now in
     let u = salted_pruned_lent c.args.indices2.now c.args.rows2.now c.args.proof2.now in
     let salts = ap row_sets c.deref.ensures.value in
-    let none = sym (λ i. salted_sets_refusal e ds (row_sets c.args.rows1.now) (salts i)) ∙ c.in_ok-salted1.ensures.answer in
+    let none = sym (λ i. salted_sets_refusal e ds (row_sets c.args.rows1.now) (salts i))
+    ∙ c.in_ok-salted1.ensures.answer in
     let salts2 = ap row_sets c.deref-2.ensures.value in
-    let second = subst (λ (refusal : Option MerkleTreeError). (c.in-Err.error ≡ OutOfMemory) ⊎ (refusal ≡ Some c.in-Err.error)) (λ i. salted_sets_refusal e ds (row_sets c.args.rows2.now) (salts2 i)) c.in-Err.ensures.answer in
+    let second = subst (λ (refusal : Option MerkleTreeError). (c.in-Err.error ≡ OutOfMemory) ⊎
+    (refusal ≡ Some c.in-Err.error)) (λ i. salted_sets_refusal e ds (row_sets c.args.rows2.now) (salts2 i))
+    c.in-Err.ensures.answer in
     let are_wide = c.deref-in-Err.ensures.value ∙ c.in_ok-salted1.ensures.dimensions in
     let given = c.deref-in-Err.result.now in
-    let joined1 = ap row_sets c.deref-in-Err-2.ensures.value ∙ c.in_ok-salted1.ensures.sets ∙ (λ i. salted_sets (row_sets c.args.rows1.now) (salts i)) in
+    let joined1 = ap row_sets c.deref-in-Err-2.ensures.value ∙ c.in_ok-salted1.ensures.sets
+    ∙ (λ i. salted_sets (row_sets c.args.rows1.now) (salts i)) in
     let p = pruned_lent c.args.indices1.now c.deref-in-Err-2.result.now c.args.proof1.now.1 in
     let checked = c.verify_batch_pruned-checked.result in
-    let passed = subst (AnswersUnlessMemory checked) (refusal_joined_sets eq same e ds given terms cap o p none are_wide (λ i. pruned_of c.args.indices1.now (joined1 i) c.args.proof1.now.1.sibling_hashes.items)) c.verify_batch_pruned-checked.ensures.verdict.answer in
-    let answer = second_refused (Unit {0}) checked c.in-Err.error c.unwrap_or.result (salted_pruned_refusal_under eq same e ds wide cap o) (salted_sets_refusal e ds u.rows u.salts) (pruned_refusal_under eq same wide cap (joined_sets u)) passed second
+    let passed = subst (AnswersUnlessMemory checked)
+    (refusal_joined_sets eq same e ds given terms cap o p none are_wide
+    (λ i. pruned_of c.args.indices1.now (joined1 i) c.args.proof1.now.1.sibling_hashes.items))
+    c.verify_batch_pruned-checked.ensures.verdict.answer in
+    let answer = second_refused (Unit {0}) checked c.in-Err.error c.unwrap_or.result
+    (salted_pruned_refusal_under eq same e ds wide cap o) (salted_sets_refusal e ds u.rows u.salts)
+    (pruned_refusal_under eq same wide cap (joined_sets u)) passed second
     (c.unwrap_or.ensures ∙ ap (λ z. unwrap_or z c.in-Err.error) c.err.ensures.value) in
-    failed_salted_pruned eq same (cap_rule_of plain) e ds wide cap g.met.P.PackedValue.eq_is_equality g.met.PW.PackedValue.eq_is_equality plain.arity all o u (Err c.unwrap_or.result) refl answer
+    failed_salted_pruned eq same (cap_rule_of plain) e ds wide cap g.met.P.PackedValue.eq_is_equality
+    g.met.PW.PackedValue.eq_is_equality plain.arity all o u (Err c.unwrap_or.result) refl answer

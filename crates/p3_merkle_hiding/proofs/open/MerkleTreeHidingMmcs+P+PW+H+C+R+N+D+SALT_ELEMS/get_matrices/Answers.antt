@@ -6,4 +6,5 @@ use Rattle.p3_merkle_hiding.proofs.open.MerkleTreeHidingMmcs+P+PW+H+C+R+N+D+SALT
 
 pub returns-clause-matrices : goal.returns-clause-matrices
 returns-clause-matrices g c =
-    c.in_ok-left_matrices.ensures ∙ ap (map (λ p. left_of p.now)) c.deref.ensures.value ∙ sym (map-map left_of (λ p. p.now) c.in_ok-pairs.pairs.items) ∙ ap (map left_of) c.in_ok-pairs.ensures.matrices
+    c.in_ok-left_matrices.ensures ∙ ap (map (λ p. left_of p.now)) c.deref.ensures.value
+    ∙ sym (map-map left_of (λ p. p.now) c.in_ok-pairs.pairs.items) ∙ ap (map left_of) c.in_ok-pairs.ensures.matrices

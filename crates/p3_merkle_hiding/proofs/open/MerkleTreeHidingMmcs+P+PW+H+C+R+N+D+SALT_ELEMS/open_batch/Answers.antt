@@ -18,37 +18,51 @@ use Rattle.p3_merkle_hiding.proofs.open.MerkleTreeHidingMmcs+P+PW+H+C+R+N+D+SALT
 pub returns-clause-rows : goal.returns-clause-rows
 returns-clause-rows g c =
     let tree = c.args.tree.now in
-    let widths = c.deref-2.ensures.value ∙ c.in_ok-widths.ensures ∙ ap (map (λ p. g.M.Matrix.width_of (left_of p.now))) c.deref.ensures.value ∙ sym (map-map (λ p. g.M.Matrix.width_of (left_of p)) (λ p. p.now) c.in_ok-pairs.pairs.items)
+    let widths = c.deref-2.ensures.value ∙ c.in_ok-widths.ensures
+    ∙ ap (map (λ p. g.M.Matrix.width_of (left_of p.now))) c.deref.ensures.value
+    ∙ sym (map-map (λ p. g.M.Matrix.width_of (left_of p)) (λ p. p.now) c.in_ok-pairs.pairs.items)
     ∙ ap (map (λ p. g.M.Matrix.width_of (left_of p))) c.in_ok-pairs.ensures.matrices in
-    let joined = ap row_lists (c.deref-3.ensures.value ∙ ap (λ v. v.items) c.unpack-joined.ensures.values) ∙ ap (λ (z : Opening _ _). z.rows) c.in_ok-open_batch.ensures.opened in
-    ap (λ v. row_lists v.items) c.new.ensures.values ∙ c.in_ok-rows.ensures.rows ∙ (λ i. unsalted_parts (widths i) (joined i))
+    let joined = ap row_lists (c.deref-3.ensures.value ∙ ap (λ v. v.items) c.unpack-joined.ensures.values)
+    ∙ ap (λ (z : Opening _ _). z.rows) c.in_ok-open_batch.ensures.opened in
+    ap (λ v. row_lists v.items) c.new.ensures.values ∙ c.in_ok-rows.ensures.rows
+    ∙ (λ i. unsalted_parts (widths i) (joined i))
     ∙ left_is g.row.N (matrices_of tree) g.met.M.Matrix.length_row_of tree.lawful c.args.index c.requires
 
 pub returns-clause-salts : goal.returns-clause-salts
 returns-clause-salts g c =
     let tree = c.args.tree.now in
-    let widths = c.deref-2.ensures.value ∙ c.in_ok-widths.ensures ∙ ap (map (λ p. g.M.Matrix.width_of (left_of p.now))) c.deref.ensures.value ∙ sym (map-map (λ p. g.M.Matrix.width_of (left_of p)) (λ p. p.now) c.in_ok-pairs.pairs.items)
+    let widths = c.deref-2.ensures.value ∙ c.in_ok-widths.ensures
+    ∙ ap (map (λ p. g.M.Matrix.width_of (left_of p.now))) c.deref.ensures.value
+    ∙ sym (map-map (λ p. g.M.Matrix.width_of (left_of p)) (λ p. p.now) c.in_ok-pairs.pairs.items)
     ∙ ap (map (λ p. g.M.Matrix.width_of (left_of p))) c.in_ok-pairs.ensures.matrices in
-    let joined = ap row_lists (c.deref-3.ensures.value ∙ ap (λ v. v.items) c.unpack-joined.ensures.values) ∙ ap (λ (z : Opening _ _). z.rows) c.in_ok-open_batch.ensures.opened in
-    ap (λ v. row_lists v.0.items) c.new.ensures.proof ∙ c.in_ok-rows.ensures.salts ∙ (λ i. salt_parts (widths i) (joined i))
+    let joined = ap row_lists (c.deref-3.ensures.value ∙ ap (λ v. v.items) c.unpack-joined.ensures.values)
+    ∙ ap (λ (z : Opening _ _). z.rows) c.in_ok-open_batch.ensures.opened in
+    ap (λ v. row_lists v.0.items) c.new.ensures.proof ∙ c.in_ok-rows.ensures.salts
+    ∙ (λ i. salt_parts (widths i) (joined i))
     ∙ right_is g.row.N (matrices_of tree) g.met.M.Matrix.length_row_of tree.lawful c.args.index c.requires
 
 pub returns-clause-siblings : goal.returns-clause-siblings
-returns-clause-siblings g c = ap (λ v. v.1.items) c.new.ensures.proof ∙ ap (λ v. v.items) c.unpack-joined.ensures.proof ∙ ap (λ (z : Opening _ _). z.siblings) c.in_ok-open_batch.ensures.opened
+returns-clause-siblings g c = ap (λ v. v.1.items) c.new.ensures.proof ∙ ap (λ v. v.items) c.unpack-joined.ensures.proof
+    ∙ ap (λ (z : Opening _ _). z.siblings) c.in_ok-open_batch.ensures.opened
 
 pub returns-clause-accepted : goal.returns-clause-accepted
 returns-clause-accepted g c = λ own salted.
     let tree = c.args.tree.now in
     let n = g.row.N in
     let e = g.row.SALT_ELEMS in
-    let terms = terms_of g.H.CryptographicHasher.hash g.C.PseudoCompressionFunction.compression g.row.D (plain_of c.args.self.now) in
+    let terms = terms_of g.H.CryptographicHasher.hash g.C.PseudoCompressionFunction.compression g.row.D
+    (plain_of c.args.self.now) in
     let b = tree_batch tree in
     let ds = unsalted_dimensions n (matrices_of tree) in
     let wide = terms (widened e ds) in
     let siblings = c.in_ok-open_batch.field-0.opening_proof.items in
     let plain = terms (dimensions_of (map pair_matrix (matrices_of tree))) in
-    let accepted = subst (λ (rows : List (List _)). IsAccepted plain (cap_over plain b) (opening_of c.args.index rows siblings)) (ap (λ (z : Opening _ _). z.rows) c.in_ok-open_batch.ensures.opened) (c.in_ok-open_batch.ensures.accepted own) in
-    let made = salted_from n (matrices_of tree) g.met.M.Matrix.length_row_of tree.lawful terms (λ k. cap_over k b) e c.args.index siblings c.requires salted accepted in
+    let accepted =
+    subst (λ (rows : List (List _)). IsAccepted plain (cap_over plain b) (opening_of c.args.index rows siblings))
+    (ap (λ (z : Opening _ _). z.rows) c.in_ok-open_batch.ensures.opened)
+    (c.in_ok-open_batch.ensures.accepted own) in
+    let made = salted_from n (matrices_of tree) g.met.M.Matrix.length_row_of tree.lawful terms (λ k. cap_over k b) e
+    c.args.index siblings c.requires salted accepted in
     let sent = ap (λ v. v.1.items) c.new.ensures.proof ∙ ap (λ v. v.items) c.unpack-joined.ensures.proof in
     subst (λ (o : SaltedOpening _ _). IsSaltedAccepted e ds wide (cap_over wide b) o)
     (λ i. salted_of c.args.index (sym (returns-clause-rows g c) i) (sym (returns-clause-salts g c) i) (sym sent i)) made

@@ -17,18 +17,24 @@ use Rattle.p3_merkle_hiding.proofs.open.MerkleTreeHidingMmcs+P+PW+H+C+R+N+D+SALT
 pub returns-clause-rows : goal.returns-clause-rows
 returns-clause-rows g c =
     let tree = c.args.tree.now in
-    let widths = c.deref-2.ensures.value ∙ c.in_ok-widths.ensures ∙ ap (map (λ p. g.M.Matrix.width_of (left_of p.now))) c.deref.ensures.value ∙ sym (map-map (λ p. g.M.Matrix.width_of (left_of p)) (λ p. p.now) c.in_ok-pairs.pairs.items)
+    let widths = c.deref-2.ensures.value ∙ c.in_ok-widths.ensures
+    ∙ ap (map (λ p. g.M.Matrix.width_of (left_of p.now))) c.deref.ensures.value
+    ∙ sym (map-map (λ p. g.M.Matrix.width_of (left_of p)) (λ p. p.now) c.in_ok-pairs.pairs.items)
     ∙ ap (map (λ p. g.M.Matrix.width_of (left_of p))) c.in_ok-pairs.ensures.matrices in
-    let joined = ap row_sets c.deref-3.ensures.value ∙ ap (λ (z : PrunedOpening _ _). z.rows) c.in_ok-opening.ensures.opened in
+    let joined = ap row_sets c.deref-3.ensures.value
+    ∙ ap (λ (z : PrunedOpening _ _). z.rows) c.in_ok-opening.ensures.opened in
     c.in_ok-rows.ensures.rows ∙ (λ i. map (unsalted_parts (widths i)) (joined i))
     ∙ left_sets_are g.row.N (matrices_of tree) g.met.M.Matrix.length_row_of tree.lawful c.args.indices.now c.requires
 
 pub returns-clause-salts : goal.returns-clause-salts
 returns-clause-salts g c =
     let tree = c.args.tree.now in
-    let widths = c.deref-2.ensures.value ∙ c.in_ok-widths.ensures ∙ ap (map (λ p. g.M.Matrix.width_of (left_of p.now))) c.deref.ensures.value ∙ sym (map-map (λ p. g.M.Matrix.width_of (left_of p)) (λ p. p.now) c.in_ok-pairs.pairs.items)
+    let widths = c.deref-2.ensures.value ∙ c.in_ok-widths.ensures
+    ∙ ap (map (λ p. g.M.Matrix.width_of (left_of p.now))) c.deref.ensures.value
+    ∙ sym (map-map (λ p. g.M.Matrix.width_of (left_of p)) (λ p. p.now) c.in_ok-pairs.pairs.items)
     ∙ ap (map (λ p. g.M.Matrix.width_of (left_of p))) c.in_ok-pairs.ensures.matrices in
-    let joined = ap row_sets c.deref-3.ensures.value ∙ ap (λ (z : PrunedOpening _ _). z.rows) c.in_ok-opening.ensures.opened in
+    let joined = ap row_sets c.deref-3.ensures.value
+    ∙ ap (λ (z : PrunedOpening _ _). z.rows) c.in_ok-opening.ensures.opened in
     c.in_ok-rows.ensures.salts ∙ (λ i. map (salt_parts (widths i)) (joined i))
     ∙ right_sets_are g.row.N (matrices_of tree) g.met.M.Matrix.length_row_of tree.lawful c.args.indices.now c.requires
 
@@ -40,14 +46,19 @@ returns-clause-accepted g c = λ own salted.
     let tree = c.args.tree.now in
     let n = g.row.N in
     let e = g.row.SALT_ELEMS in
-    let terms = terms_of g.H.CryptographicHasher.hash g.C.PseudoCompressionFunction.compression g.row.D (plain_of c.args.self.now) in
+    let terms = terms_of g.H.CryptographicHasher.hash g.C.PseudoCompressionFunction.compression g.row.D
+    (plain_of c.args.self.now) in
     let b = tree_batch tree in
     let ds = unsalted_dimensions n (matrices_of tree) in
     let wide = terms (widened e ds) in
     let is = c.args.indices.now in
     let digests = c.in_ok-opening.opening.pruned_proof.sibling_hashes.items in
     let plain = terms (dimensions_of (map pair_matrix (matrices_of tree))) in
-    let accepted = subst (λ (rows : List (List (List _))). IsPrunedAccepted plain (cap_over plain b) (pruned_of is rows digests)) (ap (λ (z : PrunedOpening _ _). z.rows) c.in_ok-opening.ensures.opened) (c.in_ok-opening.ensures.accepted own) in
-    let made = salted_pruned_from n (matrices_of tree) g.met.M.Matrix.length_row_of tree.lawful terms (λ k. cap_over k b) e is digests c.requires salted accepted in
+    let accepted =
+    subst (λ (rows : List (List (List _))). IsPrunedAccepted plain (cap_over plain b) (pruned_of is rows digests))
+    (ap (λ (z : PrunedOpening _ _). z.rows) c.in_ok-opening.ensures.opened)
+    (c.in_ok-opening.ensures.accepted own) in
+    let made = salted_pruned_from n (matrices_of tree) g.met.M.Matrix.length_row_of tree.lawful terms
+    (λ k. cap_over k b) e is digests c.requires salted accepted in
     subst (λ (o : SaltedPruned _ _). IsSaltedPrunedAccepted e ds wide (cap_over wide b) o)
     (λ i. salted_pruned_of is (sym (returns-clause-rows g c) i) (sym (returns-clause-salts g c) i) digests) made

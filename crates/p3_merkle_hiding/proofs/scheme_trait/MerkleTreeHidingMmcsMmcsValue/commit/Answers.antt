@@ -16,10 +16,12 @@ use Rattle.p3_merkle_hiding.proofs.SaltedCommitmentFacts.{can_when_ok, is_salted
 use Rattle.p3_merkle_hiding.proofs.scheme_trait.MerkleTreeHidingMmcsMmcsValue.commit.Goals as goal
 
 pub returns-clause-taken : goal.returns-clause-taken
-returns-clause-taken g c = can_when_ok g.M.Matrix.height_of g.M.Matrix.width_of g.M.Matrix.row_of g.row.SALT_ELEMS c.args.matrices.items c.commit.result c.commit.ensures.answer
+returns-clause-taken g c = can_when_ok g.M.Matrix.height_of g.M.Matrix.width_of g.M.Matrix.row_of g.row.SALT_ELEMS
+    c.args.matrices.items c.commit.result c.commit.ensures.answer
 
 pub returns-clause-memory : goal.returns-clause-memory
-returns-clause-memory g c = memory_when_can g.M.Matrix.height_of g.M.Matrix.width_of g.M.Matrix.row_of g.row.SALT_ELEMS c.args.matrices.items c.commit.result c.commit.ensures.answer
+returns-clause-memory g c = memory_when_can g.M.Matrix.height_of g.M.Matrix.width_of g.M.Matrix.row_of g.row.SALT_ELEMS
+    c.args.matrices.items c.commit.result c.commit.ensures.answer
 
 pub returns-clause-commitment : goal.returns-clause-commitment
 returns-clause-commitment g c =
@@ -31,6 +33,9 @@ returns-clause-commitment g c =
     let drawn = g.R.Rng.stream (generator_of c.args.self.now) in
     let b = batch_of g.M.Matrix.height_of g.M.Matrix.width_of g.M.Matrix.row_of g.row.N c.args.matrices.items in
     let wide = ap (shape_of g.row.N) (salted_widened of_word e b.matrices drawn) in
-    let made = is_salted_commitment r (λ made. roots_of made.0) (λ made. layers_of made.1) (λ made. tree_batch made.1) (λ made. matrices_of made.1) e (over old) (salted_batch of_word e b drawn)
-    (shape_of g.row.N (widened e (dimensions_of b.matrices))) wide c.commit.ensures.columns c.commit.ensures.batch c.commit.ensures.committed in
-    subst (λ p. IfOk r (λ made. IsSaltedCommitment e (over p (shape (tree_batch made.1))) (roots_of made.0) (tree_batch made.1) (layers_of made.1) (matrices_of made.1))) (sym c.commit.ensures.scheme) made
+    let made = is_salted_commitment r (λ made. roots_of made.0) (λ made. layers_of made.1) (λ made. tree_batch made.1)
+    (λ made. matrices_of made.1) e (over old) (salted_batch of_word e b drawn)
+    (shape_of g.row.N (widened e (dimensions_of b.matrices))) wide c.commit.ensures.columns c.commit.ensures.batch
+    c.commit.ensures.committed in
+    subst (λ p. IfOk r (λ made. IsSaltedCommitment e (over p (shape (tree_batch made.1))) (roots_of made.0)
+    (tree_batch made.1) (layers_of made.1) (matrices_of made.1))) (sym c.commit.ensures.scheme) made

@@ -7,7 +7,7 @@ use Rattle.p3_support.specs.Shown.{roots_of, row_lists}
 use Rattle.p3_support.specs.declared.matrix.Dimensions.{Dimensions}
 use Rattle.p3_merkle_prover.specs.Parts.{matrices_of, tree_batch}
 use Rattle.p3_merkle_tree.specs.Inner.CommitmentLaws.{greatest_is, rows_are}
-use Rattle.p3_merkle_core.proofs.ViewFacts.{dimensions_are}
+use Rattle.p3_merkle_core.proofs.Lists.ViewFacts.{dimensions_are}
 use Rattle.p3_merkle_tree.specs.Schemes.{terms_of}
 use Rattle.p3_merkle_hiding.proofs.SplitFacts.{wide_is}
 use Rattle.p3_merkle_hiding.specs.HidingSchemes.{plain_of, salted_made}
@@ -20,9 +20,11 @@ pub returns-clause-rows : goal.returns-clause-rows
 returns-clause-rows g c =
     let tree = c.args.prover_data.now in
     let ms = map left_of (matrices_of tree) in
-    let below = subst (λ (top : ℕ). c.args.index < top) (greatest_is g.M.Matrix.height_of g.M.Matrix.width_of g.M.Matrix.row_of g.row.N ms) c.requires in
+    let below = subst (λ (top : ℕ). c.args.index < top)
+    (greatest_is g.M.Matrix.height_of g.M.Matrix.width_of g.M.Matrix.row_of g.row.N ms) c.requires in
     subst (λ (rows : List (List _)). IfOk c.open_batch.result (λ o. row_lists o.opened_values.items ≡ rows))
-    (rows_are g.M.Matrix.height_of g.M.Matrix.width_of g.M.Matrix.row_of g.row.N ms c.args.index (left_lawful (matrices_of tree) tree.lawful) below) c.open_batch.ensures.rows
+    (rows_are g.M.Matrix.height_of g.M.Matrix.width_of g.M.Matrix.row_of g.row.N ms c.args.index
+    (left_lawful (matrices_of tree) tree.lawful) below) c.open_batch.ensures.rows
 
 pub returns-clause-accepted : goal.returns-clause-accepted
 returns-clause-accepted g c = λ commitment own.
@@ -30,10 +32,15 @@ returns-clause-accepted g c = λ commitment own.
     let e = g.row.SALT_ELEMS in
     let pairs = matrices_of c.args.prover_data.now in
     let b = tree_batch c.args.prover_data.now in
-    let terms = terms_of g.H.CryptographicHasher.hash g.C.PseudoCompressionFunction.compression g.row.D (plain_of c.args.self.now) in
+    let terms = terms_of g.H.CryptographicHasher.hash g.C.PseudoCompressionFunction.compression g.row.D
+    (plain_of c.args.self.now) in
     let ds = unsalted_dimensions n pairs in
     let r = c.open_batch.result in
     let cap = ap (λ z. cap_over (terms z) b) (sym (wide_is n e pairs own.columns)) ∙ sym own.committed.own_cap in
-    let under_cap = subst (λ (roots : List (List _)). IfOk r (λ o. IsSaltedAccepted e ds (terms (widened e ds)) roots (salted_made c.args.index o))) cap (c.open_batch.ensures.accepted own.committed.own_layers own.columns) in
-    subst (λ (z : List Dimensions). IfOk r (λ o. IsSaltedAccepted e z (terms (widened e z)) (roots_of commitment) (salted_made c.args.index o)))
+    let under_cap =
+    subst (λ (roots : List (List _)).
+    IfOk r (λ o. IsSaltedAccepted e ds (terms (widened e ds)) roots (salted_made c.args.index o))) cap
+    (c.open_batch.ensures.accepted own.committed.own_layers own.columns) in
+    subst (λ (z : List Dimensions).
+    IfOk r (λ o. IsSaltedAccepted e z (terms (widened e z)) (roots_of commitment) (salted_made c.args.index o)))
     (dimensions_are g.M.Matrix.height_of g.M.Matrix.width_of g.M.Matrix.row_of (map left_of pairs)) under_cap

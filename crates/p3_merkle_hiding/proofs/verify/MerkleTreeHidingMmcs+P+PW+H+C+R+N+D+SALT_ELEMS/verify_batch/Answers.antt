@@ -18,23 +18,28 @@ returns-in_err-salted g c =
     let same = g.PW.Value.PartialEq.eq in
     let ds = c.args.dimensions.now in
     let e = g.row.SALT_ELEMS in
-    let terms = salted_terms_of g.H.CryptographicHasher.hash g.C.PseudoCompressionFunction.compression g.row.D c.args.self.now ds in
+    let terms = salted_terms_of g.H.CryptographicHasher.hash g.C.PseudoCompressionFunction.compression g.row.D
+    c.args.self.now ds in
     let cap = roots_of c.args.commit.now in
     let o = salted_lent c.args.index c.args.opening in
     let r = c.from_residual.result in
     let rows = ap row_lists c.unpack.ensures.values in
     let salts = ap row_lists (c.deref.ensures.value ∙ ap (λ z. z.0.items) c.unpack.ensures.proof) in
     let before = subst (AnswersUnlessMemory r) (λ i. salted_rows_refusal e ds (rows i) (salts i)) (search rules) in
-    verdict_by (presented_salted same e ds terms cap o) (salted_accepted same e ds terms cap g.met.PW.PackedValue.eq_is_equality o) r
-    (refused_before r (salted_rows_refusal e ds o.rows o.salts) (refusal_under same terms cap (joined o)) c.from_residual.ensures.0 before)
+    verdict_by (presented_salted same e ds terms cap o)
+    (salted_accepted same e ds terms cap g.met.PW.PackedValue.eq_is_equality o) r
+    (refused_before r (salted_rows_refusal e ds o.rows o.salts) (refusal_under same terms cap (joined o))
+    c.from_residual.ensures.0 before)
 
 pub returns : goal.returns
 returns g c =
-    let plain = terms_of g.H.CryptographicHasher.hash g.C.PseudoCompressionFunction.compression g.row.D (plain_of c.args.self.now) in
+    let plain = terms_of g.H.CryptographicHasher.hash g.C.PseudoCompressionFunction.compression g.row.D
+    (plain_of c.args.self.now) in
     let same = g.PW.Value.PartialEq.eq in
     let ds = c.args.dimensions.now in
     let e = g.row.SALT_ELEMS in
-    let terms = salted_terms_of g.H.CryptographicHasher.hash g.C.PseudoCompressionFunction.compression g.row.D c.args.self.now ds in
+    let terms = salted_terms_of g.H.CryptographicHasher.hash g.C.PseudoCompressionFunction.compression g.row.D
+    c.args.self.now ds in
     let cap = roots_of c.args.commit.now in
     let o = salted_lent c.args.index c.args.opening in
     let p = opening_lent c.args.index c.new-opening.result in
@@ -42,9 +47,13 @@ returns g c =
     let rows = ap row_lists c.unpack.ensures.values in
     let salts = ap row_lists (c.deref.ensures.value ∙ ap (λ z. z.0.items) c.unpack.ensures.proof) in
     let none = sym (λ i. salted_rows_refusal e ds (rows i) (salts i)) ∙ c.in_ok-salted.ensures.answer in
-    let are_joined = ap row_lists (c.new-opening.ensures.values ∙ c.deref-2.ensures.value) ∙ c.in_ok-salted.ensures.rows ∙ (λ i. salted_rows (rows i) (salts i)) in
+    let are_joined = ap row_lists (c.new-opening.ensures.values ∙ c.deref-2.ensures.value) ∙ c.in_ok-salted.ensures.rows
+    ∙ (λ i. salted_rows (rows i) (salts i)) in
     let siblings = ap (λ z. z.items) (c.new-opening.ensures.proof ∙ ap (λ z. z.1) c.unpack.ensures.proof) in
     let wide = c.deref-3.result.now in
-    let refusal = refusal_joined same e ds wide plain cap o p none (c.deref-3.ensures.value ∙ c.in_ok-salted.ensures.dimensions) (λ i. opening_of c.args.index (are_joined i) (siblings i)) in
-    verdict_by (presented_salted same e ds terms cap o) (salted_accepted same e ds terms cap g.met.PW.PackedValue.eq_is_equality o) r
-    (subst (AnswersUnlessMemory r) refusal (said r (refusal_under same (plain wide) cap p) c.verify_batch.ensures.answer))
+    let refusal = refusal_joined same e ds wide plain cap o p none (c.deref-3.ensures.value
+    ∙ c.in_ok-salted.ensures.dimensions) (λ i. opening_of c.args.index (are_joined i) (siblings i)) in
+    verdict_by (presented_salted same e ds terms cap o)
+    (salted_accepted same e ds terms cap g.met.PW.PackedValue.eq_is_equality o) r
+    (subst (AnswersUnlessMemory r) refusal
+    (said r (refusal_under same (plain wide) cap p) c.verify_batch.ensures.answer))

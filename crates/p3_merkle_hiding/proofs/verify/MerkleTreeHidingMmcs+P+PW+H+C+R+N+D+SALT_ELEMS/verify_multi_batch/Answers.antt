@@ -19,32 +19,43 @@ returns-in_err-salted g c =
     let same = g.PW.Value.PartialEq.eq in
     let ds = c.args.dimensions.now in
     let e = g.row.SALT_ELEMS in
-    let terms = salted_terms_of g.H.CryptographicHasher.hash g.C.PseudoCompressionFunction.compression g.row.D c.args.self.now ds in
+    let terms = salted_terms_of g.H.CryptographicHasher.hash g.C.PseudoCompressionFunction.compression g.row.D
+    c.args.self.now ds in
     let cap = roots_of c.args.commit.now in
     let o = salted_pruned_lent c.args.indices.now c.args.rows.now c.args.proof.now in
     let r = c.from_residual.result in
     let salts = ap row_sets c.deref.ensures.value in
-    let before = subst (AnswersUnlessMemory r) (λ i. salted_sets_refusal e ds (row_sets c.args.rows.now) (salts i)) (search rules) in
+    let before = subst (AnswersUnlessMemory r) (λ i. salted_sets_refusal e ds (row_sets c.args.rows.now) (salts i))
+    (search rules) in
     verdict_by (presented_salted_pruned eq same e ds terms cap o)
-    (salted_pruned_accepted same e ds terms cap g.met.PW.PackedValue.eq_is_equality eq g.met.P.PackedValue.eq_is_equality (plain_of c.args.self.now).arity o) r
-    (refused_before r (salted_sets_refusal e ds o.rows o.salts) (pruned_refusal_under eq same terms cap (joined_sets o)) c.from_residual.ensures.0 before)
+    (salted_pruned_accepted same e ds terms cap g.met.PW.PackedValue.eq_is_equality eq
+    g.met.P.PackedValue.eq_is_equality (plain_of c.args.self.now).arity o) r
+    (refused_before r (salted_sets_refusal e ds o.rows o.salts) (pruned_refusal_under eq same terms cap (joined_sets o))
+    c.from_residual.ensures.0 before)
 
 pub returns : goal.returns
 returns g c =
-    let plain = terms_of g.H.CryptographicHasher.hash g.C.PseudoCompressionFunction.compression g.row.D (plain_of c.args.self.now) in
+    let plain = terms_of g.H.CryptographicHasher.hash g.C.PseudoCompressionFunction.compression g.row.D
+    (plain_of c.args.self.now) in
     let eq = g.P.Value.PartialEq.eq in
     let same = g.PW.Value.PartialEq.eq in
     let ds = c.args.dimensions.now in
     let e = g.row.SALT_ELEMS in
-    let terms = salted_terms_of g.H.CryptographicHasher.hash g.C.PseudoCompressionFunction.compression g.row.D c.args.self.now ds in
+    let terms = salted_terms_of g.H.CryptographicHasher.hash g.C.PseudoCompressionFunction.compression g.row.D
+    c.args.self.now ds in
     let cap = roots_of c.args.commit.now in
     let o = salted_pruned_lent c.args.indices.now c.args.rows.now c.args.proof.now in
     let p = pruned_lent c.args.indices.now c.deref-3.result.now c.args.proof.now.1 in
     let r = c.verify_multi_batch.result in
     let salts = ap row_sets c.deref.ensures.value in
-    let none = sym (λ i. salted_sets_refusal e ds (row_sets c.args.rows.now) (salts i)) ∙ c.in_ok-salted.ensures.answer in
-    let are_joined = ap row_sets c.deref-3.ensures.value ∙ c.in_ok-salted.ensures.sets ∙ (λ i. salted_sets (row_sets c.args.rows.now) (salts i)) in
-    let refusal = refusal_joined_sets eq same e ds c.deref-2.result.now plain cap o p none (c.deref-2.ensures.value ∙ c.in_ok-salted.ensures.dimensions) (λ i. pruned_of c.args.indices.now (are_joined i) c.args.proof.now.1.sibling_hashes.items) in
+    let none = sym (λ i. salted_sets_refusal e ds (row_sets c.args.rows.now) (salts i))
+    ∙ c.in_ok-salted.ensures.answer in
+    let are_joined = ap row_sets c.deref-3.ensures.value ∙ c.in_ok-salted.ensures.sets
+    ∙ (λ i. salted_sets (row_sets c.args.rows.now) (salts i)) in
+    let refusal = refusal_joined_sets eq same e ds c.deref-2.result.now plain cap o p none (c.deref-2.ensures.value
+    ∙ c.in_ok-salted.ensures.dimensions)
+    (λ i. pruned_of c.args.indices.now (are_joined i) c.args.proof.now.1.sibling_hashes.items) in
     verdict_by (presented_salted_pruned eq same e ds terms cap o)
-    (salted_pruned_accepted same e ds terms cap g.met.PW.PackedValue.eq_is_equality eq g.met.P.PackedValue.eq_is_equality (plain_of c.args.self.now).arity o) r
+    (salted_pruned_accepted same e ds terms cap g.met.PW.PackedValue.eq_is_equality eq
+    g.met.P.PackedValue.eq_is_equality (plain_of c.args.self.now).arity o) r
     (subst (AnswersUnlessMemory r) refusal c.verify_multi_batch.ensures.verdict.answer)

@@ -11,7 +11,9 @@ returns g c =
     let picked = c.over-builder.result.matrices.now in
     let hash = g.H.CryptographicHasher.hash in
     let default = replicate g.row.D g.PW.PackedValue.default_value in
-    let f = leaf_over (hash c.over-builder.result.hash.now) default (λ m. g.M.Matrix.height_of m.now) (λ m. g.M.Matrix.row_of m.now) picked h in
+    let f = leaf_over (hash c.over-builder.result.hash.now) default (λ m. g.M.Matrix.height_of m.now)
+    (λ m. g.M.Matrix.row_of m.now) picked h in
     let wanted = leaf_over (hash c.args.self.now.hash.now) default g.M.Matrix.height_of g.M.Matrix.row_of all h in
-    let rows = λ (j : ℕ). rows_picked g.M.Matrix.height_of g.M.Matrix.row_of (λ m. m.now) h j picked all (ap (map (λ m. m.now)) (c.over-builder.ensures.matrices ∙ c.deref.ensures.value) ∙ c.in_ok-picked.ensures) in
+    let rows = λ (j : ℕ). rows_picked g.M.Matrix.height_of g.M.Matrix.row_of (λ m. m.now) h j picked all
+    (ap (map (λ m. m.now)) (c.over-builder.ensures.matrices ∙ c.deref.ensures.value) ∙ c.in_ok-picked.ensures) in
     c.in_ok-leaves.ensures ∙ same_made f wanted c.args.len (λ j below. rw (c.over-builder.ensures.hash, rows j) refl)

@@ -6,7 +6,10 @@ use Rattle.p3_merkle_layers.proofs.layers.Builder+tuple2+P+PW+H+C+M+array+N+arra
 
 abbrev pub invariant-loop-stack : goal.invariant-loop-stack
 invariant-loop-stack g l =
-    IsBuilt (functions_of (g.H.CryptographicHasher.hash l.self.hash.now) (g.C.PseudoCompressionFunction.compression l.self.compress.now) (replicate g.row.D g.PW.PackedValue.default_value)) (batch_of g.M.Matrix.height_of g.M.Matrix.width_of g.M.Matrix.row_of g.row.N l.self.matrices.now)
+    IsBuilt (functions_of (g.H.CryptographicHasher.hash l.self.hash.now)
+    (g.C.PseudoCompressionFunction.compression l.self.compress.now)
+    (replicate g.row.D g.PW.PackedValue.default_value))
+    (batch_of g.M.Matrix.height_of g.M.Matrix.width_of g.M.Matrix.row_of g.row.N l.self.matrices.now)
     l.stack.exponent l.stack.len (map (λ nodes. nodes.items) l.stack.layers.items) l.stack.arity_schedule.items
 
 abbrev pub decreases-loop-stack : goal.decreases-loop-stack

@@ -8,10 +8,14 @@ use Rattle.p3_merkle_layers.proofs.layers.Builder+tuple2+P+PW+H+C+M+array+N+arra
 
 pub returns : goal.returns
 returns g c =
-    let f = leaf_over (g.H.CryptographicHasher.hash c.args.self.now.hash.now) (replicate g.row.D g.PW.PackedValue.default_value) g.M.Matrix.height_of g.M.Matrix.row_of c.args.self.now.matrices.now c.args.height in
+    let f = leaf_over (g.H.CryptographicHasher.hash c.args.self.now.hash.now)
+    (replicate g.row.D g.PW.PackedValue.default_value) g.M.Matrix.height_of g.M.Matrix.row_of
+    c.args.self.now.matrices.now c.args.height in
     let slots = c.write_leaves.new.slots in
-    let long : length c.deref_mut.result.now ≡ c.args.len = omega (arith, c.deref_mut.ensures.len, c.in_ok-digests.ensures.len) in
-    let size : length slots ≡ c.in_ok-digests.digests.len = ap length c.in_ok-write_leaves.ensures ∙ length-map-range_with_len f 0 (length c.deref_mut.result.now) ∙ c.deref_mut.ensures.len in
+    let long : length c.deref_mut.result.now
+    ≡ c.args.len = omega (arith, c.deref_mut.ensures.len, c.in_ok-digests.ensures.len) in
+    let size : length slots ≡ c.in_ok-digests.digests.len = ap length c.in_ok-write_leaves.ensures
+    ∙ length-map-range_with_len f 0 (length c.deref_mut.result.now) ∙ c.deref_mut.ensures.len in
     take_at slots (drop (length slots) c.in_ok-digests.digests.items) c.in_ok-digests.digests.len size
     ∙ c.in_ok-write_leaves.ensures
     ∙ ap (λ n. map f (range_with_len 0 n)) long

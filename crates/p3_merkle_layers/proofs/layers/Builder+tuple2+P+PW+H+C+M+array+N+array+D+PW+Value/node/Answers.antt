@@ -16,13 +16,17 @@ returns-then-level g c =
     let few : start + step - start ≡ step = omega arith in
     rw c.if-level.true
     (c.pair_digest.ensures
-    ∙ ap (λ d. compression (d ∷ c.rows_digest-rows.result ∷ pad)) (c.children_digest-digest.ensures ∙ ap (λ k. compress f n (take k rest)) few)
+    ∙ ap (λ d. compression (d ∷ c.rows_digest-rows.result ∷ pad)) (c.children_digest-digest.ensures
+    ∙ ap (λ k. compress f n (take k rest)) few)
     ∙ ap (λ r. compression (compress f n (take step rest) ∷ r ∷ pad)) c.rows_digest-rows.ensures)
 
 pub returns-else-level : goal.returns-else-level
 returns-else-level g c =
     let step = c.args.level.now.step in
-    let f = functions_of (g.H.CryptographicHasher.hash c.args.self.now.hash.now) (g.C.PseudoCompressionFunction.compression c.args.self.now.compress.now) (replicate g.row.D g.PW.PackedValue.default_value) in
+    let f = functions_of (g.H.CryptographicHasher.hash c.args.self.now.hash.now)
+    (g.C.PseudoCompressionFunction.compression c.args.self.now.compress.now)
+    (replicate g.row.D g.PW.PackedValue.default_value) in
     let start : ℕ = step * c.args.j in
     let few : start + step - start ≡ step = omega arith in
-    rw c.if-level.false (c.children_digest-digest.ensures ∙ ap (λ k. compress f g.row.N (take k (drop start c.args.below.now))) few)
+    rw c.if-level.false (c.children_digest-digest.ensures
+    ∙ ap (λ k. compress f g.row.N (take k (drop start c.args.below.now))) few)

@@ -12,13 +12,17 @@ returns-then-not-level g c = λ k small.
     let v = c.args.level.now in
     let below = c.args.below.now in
     let w = g.PW.PackedValue.WIDTH in
-    let f = functions_of (g.H.CryptographicHasher.hash c.args.self.now.hash.now) (g.C.PseudoCompressionFunction.compression c.args.self.now.compress.now) (replicate g.row.D g.PW.PackedValue.default_value) in
+    let f = functions_of (g.H.CryptographicHasher.hash c.args.self.now.hash.now)
+    (g.C.PseudoCompressionFunction.compression c.args.self.now.compress.now)
+    (replicate g.row.D g.PW.PackedValue.default_value) in
     let fits : v.step * (c.args.first + w) ≤ v.step * v.raw_len = mul-le-mul_left v.step c.requires.nodes in
     let all : v.step * (c.args.first + w) ≤ length below = omega (arith, fits, c.requires.level.fits) in
     let none : v.has_rows ≡ false = search rules in
-    node_alone f g.row.N g.M.Matrix.height_of g.M.Matrix.row_of c.args.self.now.matrices.now v below (c.args.first + k) (take v.step (drop (v.step * (c.args.first + k)) below))
+    node_alone f g.row.N g.M.Matrix.height_of g.M.Matrix.row_of c.args.self.now.matrices.now v below (c.args.first + k)
+    (take v.step (drop (v.step * (c.args.first + k)) below))
     (omega (arith, c.requires.nodes, small)) refl (children_long below v.step c.args.first k w small all)
-    (lane_of g.PW.PackedValue.lanes g.PW.PackedValue.default_value k c.compress_children_packed-folded.result) none (c.compress_children_packed-folded.ensures k small)
+    (lane_of g.PW.PackedValue.lanes g.PW.PackedValue.default_value k c.compress_children_packed-folded.result) none
+    (c.compress_children_packed-folded.ensures k small)
 
 pub returns : goal.returns
 returns g c = λ k small.
@@ -26,11 +30,16 @@ returns g c = λ k small.
     let below = c.args.below.now in
     let w = g.PW.PackedValue.WIDTH in
     let lane = lane_of g.PW.PackedValue.lanes g.PW.PackedValue.default_value k in
-    let f = functions_of (g.H.CryptographicHasher.hash c.args.self.now.hash.now) (g.C.PseudoCompressionFunction.compression c.args.self.now.compress.now) (replicate g.row.D g.PW.PackedValue.default_value) in
+    let f = functions_of (g.H.CryptographicHasher.hash c.args.self.now.hash.now)
+    (g.C.PseudoCompressionFunction.compression c.args.self.now.compress.now)
+    (replicate g.row.D g.PW.PackedValue.default_value) in
     let fits : v.step * (c.args.first + w) ≤ v.step * v.raw_len = mul-le-mul_left v.step c.requires.nodes in
     let all : v.step * (c.args.first + w) ≤ length below = omega (arith, fits, c.requires.level.fits) in
     let has : v.has_rows ≡ true = search rules in
     let tall : c.args.first + k < v.height = omega (arith, c.requires.rows has, small) in
-    node_joined f g.row.N g.M.Matrix.height_of g.M.Matrix.row_of c.args.self.now.matrices.now v below (c.args.first + k) (take v.step (drop (v.step * (c.args.first + k)) below))
+    node_joined f g.row.N g.M.Matrix.height_of g.M.Matrix.row_of c.args.self.now.matrices.now v below (c.args.first + k)
+    (take v.step (drop (v.step * (c.args.first + k)) below))
     (omega (arith, c.requires.nodes, small)) refl (children_long below v.step c.args.first k w small all)
-    (lane c.compress_children_packed-folded.result) (lane c.in_ok-rows.rows) (lane c.compress_pairs_packed.result) has tall (c.compress_children_packed-folded.ensures k small) (c.in_ok-rows.ensures k (rw c.requires.lanes small) small) (c.compress_pairs_packed.ensures k small)
+    (lane c.compress_children_packed-folded.result) (lane c.in_ok-rows.rows) (lane c.compress_pairs_packed.result) has
+    tall (c.compress_children_packed-folded.ensures k small)
+    (c.in_ok-rows.ensures k (rw c.requires.lanes small) small) (c.compress_pairs_packed.ensures k small)

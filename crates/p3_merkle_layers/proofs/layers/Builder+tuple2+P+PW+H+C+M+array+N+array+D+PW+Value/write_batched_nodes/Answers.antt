@@ -24,12 +24,17 @@ returns-then-not-level g c =
           λ j h.
           let inside : j < v.raw_len = omega (arith, h, c.requires.nodes) in
           let more : v.step * suc j ≤ v.step * v.raw_len = mul-le-mul_left v.step inside in
-          let fits : v.step * j + v.step ≤ length below = omega (arith, more, mul-suc v.step j, c.requires.level.fits) in
+          let fits : v.step * j + v.step ≤ length below =
+          omega (arith, more, mul-suc v.step j, c.requires.level.fits) in
           let all : n * suc j ≤ length below = rw (← c.requires.whole) (omega (arith, more, c.requires.level.fits)) in
           let some : 0 < n = omega (arith, c.requires.level.wide, c.requires.level.narrow) in
-          let is = c.compress_groups_batched.ensures.filled j h ∙ group_whole compression n (length below / n) v.step j below c.as_chunks.result.0.now default c.requires.whole c.as_chunks.ensures.front (below_quotient n j (length below) some all) in
-          node_alone f n g.M.Matrix.height_of g.M.Matrix.row_of c.args.self.now.matrices.now v below j (take v.step (drop (v.step * j) below)) inside refl
-          (length-take-le v.step (drop (v.step * j) below) (omega (arith, length-drop (v.step * j) below, fits))) (slice_index_or slots j []) c.if-not-level.true is;
+          let is = c.compress_groups_batched.ensures.filled j h
+          ∙ group_whole compression n (length below / n) v.step j below c.as_chunks.result.0.now default
+          c.requires.whole c.as_chunks.ensures.front (below_quotient n j (length below) some all) in
+          node_alone f n g.M.Matrix.height_of g.M.Matrix.row_of c.args.self.now.matrices.now v below j
+          (take v.step (drop (v.step * j) below)) inside refl
+          (length-take-le v.step (drop (v.step * j) below) (omega (arith, length-drop (v.step * j) below, fits)))
+          (slice_index_or slots j []) c.if-not-level.true is;
     }
 
 pub returns : goal.returns
@@ -41,7 +46,8 @@ returns g c =
     let default = replicate g.row.D g.PW.PackedValue.default_value in
     let compression = g.C.PseudoCompressionFunction.compression c.args.self.now.compress.now in
     let f = functions_of (g.H.CryptographicHasher.hash c.args.self.now.hash.now) compression default in
-    let leaf = leaf_over (g.H.CryptographicHasher.hash c.args.self.now.hash.now) default g.M.Matrix.height_of g.M.Matrix.row_of c.args.self.now.matrices.now v.height in
+    let leaf = leaf_over (g.H.CryptographicHasher.hash c.args.self.now.hash.now) default g.M.Matrix.height_of
+    g.M.Matrix.row_of c.args.self.now.matrices.now v.height in
     let folded = c.compress_groups_batched.new.slots in
     let made = c.deref.ensures.value ∙ c.in_ok-rows.ensures in
     let rows : length c.deref.result.now ≡ count = ap length made ∙ length-map-range_with_len leaf 0 count in
@@ -52,13 +58,20 @@ returns g c =
           λ j h.
           let inside : j < v.raw_len = omega (arith, h, c.requires.nodes) in
           let more : v.step * suc j ≤ v.step * v.raw_len = mul-le-mul_left v.step inside in
-          let fits : v.step * j + v.step ≤ length below = omega (arith, more, mul-suc v.step j, c.requires.level.fits) in
+          let fits : v.step * j + v.step ≤ length below =
+          omega (arith, more, mul-suc v.step j, c.requires.level.fits) in
           let all : n * suc j ≤ length below = rw (← c.requires.whole) (omega (arith, more, c.requires.level.fits)) in
           let some : 0 < n = omega (arith, c.requires.level.wide, c.requires.level.narrow) in
-          let is = c.compress_groups_batched.ensures.filled j h ∙ group_whole compression n (length below / n) v.step j below c.as_chunks.result.0.now default c.requires.whole c.as_chunks.ensures.front (below_quotient n j (length below) some all) in
-          let row = ap (λ l. slice_index_or l j []) made ∙ get_or-map-range_with_len leaf 0 count j j [] h (omega arith) in
-          let joined = c.in_ok-inject_row_digests.ensures.filled j (omega (arith, h, rows)) ∙ ap (λ r. compression (slice_index_or folded j [] ∷ r ∷ pad)) row in
+          let is = c.compress_groups_batched.ensures.filled j h
+          ∙ group_whole compression n (length below / n) v.step j below c.as_chunks.result.0.now default
+          c.requires.whole c.as_chunks.ensures.front (below_quotient n j (length below) some all) in
+          let row = ap (λ l. slice_index_or l j []) made
+          ∙ get_or-map-range_with_len leaf 0 count j j [] h (omega arith) in
+          let joined = c.in_ok-inject_row_digests.ensures.filled j (omega (arith, h, rows))
+          ∙ ap (λ r. compression (slice_index_or folded j [] ∷ r ∷ pad)) row in
           let has : v.has_rows ≡ true = c.if-not-level.false in
-          node_with f n g.M.Matrix.height_of g.M.Matrix.row_of c.args.self.now.matrices.now v below j (take v.step (drop (v.step * j) below)) inside refl
-          (length-take-le v.step (drop (v.step * j) below) (omega (arith, length-drop (v.step * j) below, fits))) (slice_index_or folded j []) (slice_index_or c.inject_row_digests.new.slots j []) has is joined;
+          node_with f n g.M.Matrix.height_of g.M.Matrix.row_of c.args.self.now.matrices.now v below j
+          (take v.step (drop (v.step * j) below)) inside refl
+          (length-take-le v.step (drop (v.step * j) below) (omega (arith, length-drop (v.step * j) below, fits)))
+          (slice_index_or folded j []) (slice_index_or c.inject_row_digests.new.slots j []) has is joined;
     }

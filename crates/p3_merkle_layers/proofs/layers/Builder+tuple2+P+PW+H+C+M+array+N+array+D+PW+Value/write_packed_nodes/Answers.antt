@@ -11,21 +11,29 @@ loop-group-init g c = record { long = refl; filled = λ j none. absurd (omega (a
 
 pub unpack_at-requires : goal.unpack_at-requires
 unpack_at-requires g c =
-    let end = group_end c.loop-group.group g.PW.PackedValue.WIDTH c.args.groups (length c.args.slots.now) c.loop-group-test.true c.requires.room in
+    let end = group_end c.loop-group.group g.PW.PackedValue.WIDTH c.args.groups (length c.args.slots.now)
+    c.loop-group-test.true c.requires.room in
     (c.requires.digest (omega arith), (search rules, rw (c.WIDTH.ensures, c.loop-group.invariant.long) end))
 
 pub loop-group-preserved : goal.loop-group-preserved
 loop-group-preserved g c =
     let w = g.PW.PackedValue.WIDTH in
     let group = c.loop-group.group in
-    let f = slot_above (functions_of (g.H.CryptographicHasher.hash c.args.self.now.hash.now) (g.C.PseudoCompressionFunction.compression c.args.self.now.compress.now) (replicate g.row.D g.PW.PackedValue.default_value)) g.row.N g.M.Matrix.height_of g.M.Matrix.row_of c.args.self.now.matrices.now c.args.level.now c.args.below.now in
+    let f = slot_above
+    (functions_of (g.H.CryptographicHasher.hash c.args.self.now.hash.now)
+    (g.C.PseudoCompressionFunction.compression c.args.self.now.compress.now)
+    (replicate g.row.D g.PW.PackedValue.default_value)) g.row.N g.M.Matrix.height_of g.M.Matrix.row_of
+    c.args.self.now.matrices.now c.args.level.now c.args.below.now in
     let seen = λ (k : ℕ). lane_of g.PW.PackedValue.lanes g.PW.PackedValue.default_value k c.in_ok-digests.digests in
-    let written : (k : ℕ) → k < w → slice_index_or c.unpack_at.new.rows (group * w + k) [] ≡ seen k = rw c.WIDTH.ensures at c.unpack_at.ensures.lanes in
-    let kept : (j : ℕ) → j < group * w → slice_index_or c.unpack_at.new.rows j [] ≡ slice_index_or c.loop-group.slots j [] = rw c.WIDTH.ensures at c.unpack_at.ensures.before in
+    let written : (k : ℕ) → k < w → slice_index_or c.unpack_at.new.rows (group * w + k) []
+    ≡ seen k = rw c.WIDTH.ensures at c.unpack_at.ensures.lanes in
+    let kept : (j : ℕ) → j < group * w → slice_index_or c.unpack_at.new.rows j []
+    ≡ slice_index_or c.loop-group.slots j [] = rw c.WIDTH.ensures at c.unpack_at.ensures.before in
     let built : (k : ℕ) → k < w → seen k ≡ f (group * w + k) = rw c.WIDTH.ensures at c.in_ok-digests.ensures in
     record {
       long = c.unpack_at.ensures.long ∙ c.loop-group.invariant.long;
-      filled = group_more f seen c.loop-group.slots c.unpack_at.new.rows group w [] written built kept c.loop-group.invariant.filled;
+      filled = group_more f seen c.loop-group.slots c.unpack_at.new.rows group w [] written built kept
+          c.loop-group.invariant.filled;
     }
 
 pub returns : goal.returns

@@ -7,5 +7,9 @@ use Rattle.p3_merkle_layers.proofs.layers.Builder+tuple2+P+PW+H+C+M+array+N+arra
 -- the groups so far are written
 abbrev pub invariant-loop-group : goal.invariant-loop-group
 invariant-loop-group g l =
-    IsFilled (slot_above (functions_of (g.H.CryptographicHasher.hash l.self.hash.now) (g.C.PseudoCompressionFunction.compression l.self.compress.now) (replicate g.row.D g.PW.PackedValue.default_value)) g.row.N g.M.Matrix.height_of g.M.Matrix.row_of l.self.matrices.now l.level l.below)
+    IsFilled (slot_above
+    (functions_of (g.H.CryptographicHasher.hash l.self.hash.now)
+    (g.C.PseudoCompressionFunction.compression l.self.compress.now)
+    (replicate g.row.D g.PW.PackedValue.default_value)) g.row.N g.M.Matrix.height_of g.M.Matrix.row_of
+    l.self.matrices.now l.level l.below)
     (l.group * g.PW.PackedValue.WIDTH) (length l.initial.slots) l.slots

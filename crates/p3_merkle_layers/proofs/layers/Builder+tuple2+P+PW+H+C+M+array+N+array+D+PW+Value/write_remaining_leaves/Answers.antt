@@ -7,13 +7,19 @@ use Rattle.p3_merkle_layers.proofs.layers.Builder+tuple2+P+PW+H+C+M+array+N+arra
 
 pub returns : goal.returns
 returns g c =
-    let f = leaf_over (g.H.CryptographicHasher.hash c.args.self.now.hash.now) (replicate g.row.D g.PW.PackedValue.default_value) g.M.Matrix.height_of g.M.Matrix.row_of c.args.self.now.matrices.now c.args.height in
-    fill_by_all f c.loop-j.slots (length c.args.slots.now) [] (c.loop-j.invariant.long ∙ c.write_lent_leaves-done.ensures.filled.long) (λ k h. c.loop-j.invariant.filled k (omega arith))
+    let f = leaf_over (g.H.CryptographicHasher.hash c.args.self.now.hash.now)
+    (replicate g.row.D g.PW.PackedValue.default_value) g.M.Matrix.height_of g.M.Matrix.row_of
+    c.args.self.now.matrices.now c.args.height in
+    fill_by_all f c.loop-j.slots (length c.args.slots.now) [] (c.loop-j.invariant.long
+    ∙ c.write_lent_leaves-done.ensures.filled.long) (λ k h. c.loop-j.invariant.filled k (omega arith))
 
 pub loop-j-preserved : goal.loop-j-preserved
 loop-j-preserved g c =
-    let f = leaf_over (g.H.CryptographicHasher.hash c.args.self.now.hash.now) (replicate g.row.D g.PW.PackedValue.default_value) g.M.Matrix.height_of g.M.Matrix.row_of c.args.self.now.matrices.now c.args.height in
+    let f = leaf_over (g.H.CryptographicHasher.hash c.args.self.now.hash.now)
+    (replicate g.row.D g.PW.PackedValue.default_value) g.M.Matrix.height_of g.M.Matrix.row_of
+    c.args.self.now.matrices.now c.args.height in
     record {
       long = length-set c.loop-j.slots c.loop-j.j c.rows_digest.result ∙ c.loop-j.invariant.long;
-      filled = filled_more f c.loop-j.slots c.loop-j.j c.rows_digest.result [] (omega arith) c.rows_digest.ensures c.loop-j.invariant.filled;
+      filled = filled_more f c.loop-j.slots c.loop-j.j c.rows_digest.result [] (omega arith) c.rows_digest.ensures
+          c.loop-j.invariant.filled;
     }

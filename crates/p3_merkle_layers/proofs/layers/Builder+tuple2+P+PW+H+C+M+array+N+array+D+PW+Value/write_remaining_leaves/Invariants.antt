@@ -5,4 +5,6 @@ use Rattle.p3_merkle_layers.proofs.layers.Builder+tuple2+P+PW+H+C+M+array+N+arra
 -- the slots so far are written
 abbrev pub invariant-loop-j : goal.invariant-loop-j
 invariant-loop-j g l =
-    IsFilled (leaf_over (g.H.CryptographicHasher.hash l.self.hash.now) (replicate g.row.D g.PW.PackedValue.default_value) g.M.Matrix.height_of g.M.Matrix.row_of l.self.matrices.now l.height) l.j (length l.initial.slots) l.slots
+    IsFilled (leaf_over (g.H.CryptographicHasher.hash l.self.hash.now)
+    (replicate g.row.D g.PW.PackedValue.default_value) g.M.Matrix.height_of g.M.Matrix.row_of l.self.matrices.now
+    l.height) l.j (length l.initial.slots) l.slots

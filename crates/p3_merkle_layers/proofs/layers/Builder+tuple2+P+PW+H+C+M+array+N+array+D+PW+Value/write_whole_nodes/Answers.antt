@@ -26,11 +26,16 @@ returns g c =
             | inr high ↦
                 let inside : j < v.raw_len = omega (arith, h) in
                 let more : v.step * suc j ≤ v.step * v.raw_len = mul-le-mul_left v.step inside in
-                let fits : v.step * j + v.step ≤ length below = omega (arith, more, mul-suc v.step j, c.requires.level.fits) in
+                let fits : v.step * j + v.step ≤ length below =
+                omega (arith, more, mul-suc v.step j, c.requires.level.fits) in
                 let all : n * suc j ≤ length below = rw (← whole) (omega (arith, more, c.requires.level.fits)) in
                 let some : 0 < n = omega (arith, c.requires.level.wide, c.requires.level.narrow) in
-                let is = c.compress_groups.ensures.filled j high h ∙ group_whole compression n (length below / n) v.step j below c.as_chunks.result.0.now default whole c.as_chunks.ensures.front (below_quotient n j (length below) some all) in
-                node_alone f n g.M.Matrix.height_of g.M.Matrix.row_of c.args.self.now.matrices.now v below j (take v.step (drop (v.step * j) below)) inside refl
-                (length-take-le v.step (drop (v.step * j) below) (omega (arith, length-drop (v.step * j) below, fits))) (slice_index_or slots j []) c.if-level-2.false is
+                let is = c.compress_groups.ensures.filled j high h
+                ∙ group_whole compression n (length below / n) v.step j below c.as_chunks.result.0.now default whole
+                c.as_chunks.ensures.front (below_quotient n j (length below) some all) in
+                node_alone f n g.M.Matrix.height_of g.M.Matrix.row_of c.args.self.now.matrices.now v below j
+                (take v.step (drop (v.step * j) below)) inside refl
+                (length-take-le v.step (drop (v.step * j) below) (omega (arith, length-drop (v.step * j) below, fits)))
+                (slice_index_or slots j []) c.if-level-2.false is
           ];
     }

@@ -6,4 +6,6 @@ use Rattle.p3_merkle_multiproof.proofs.groups.Compressor+PW+C+array+N+array+D+PW
 -- the digests of the groups so far
 abbrev pub invariant-loop-parent : goal.invariant-loop-parent
 invariant-loop-parent g l =
-    l.digests.items ≡ map (group_digest (g.C.PseudoCompressionFunction.compression l.self.compress.now) g.row.N (replicate g.row.D g.PW.PackedValue.default_value) l.step l.children) (range_with_len 0 l.parent)
+    l.digests.items
+    ≡ map (group_digest (g.C.PseudoCompressionFunction.compression l.self.compress.now) g.row.N
+    (replicate g.row.D g.PW.PackedValue.default_value) l.step l.children) (range_with_len 0 l.parent)

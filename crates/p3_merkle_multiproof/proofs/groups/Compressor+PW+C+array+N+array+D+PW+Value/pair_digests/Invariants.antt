@@ -5,4 +5,6 @@ use Rattle.p3_merkle_multiproof.proofs.groups.Compressor+PW+C+array+N+array+D+PW
 -- the digests of the nodes so far
 abbrev pub invariant-loop-node : goal.invariant-loop-node
 invariant-loop-node g l =
-    l.digests.items ≡ map (pair_digest (g.C.PseudoCompressionFunction.compression l.self.compress.now) g.row.N (replicate g.row.D g.PW.PackedValue.default_value)) (take l.node (zip l.nodes l.rows))
+    l.digests.items
+    ≡ map (pair_digest (g.C.PseudoCompressionFunction.compression l.self.compress.now) g.row.N
+    (replicate g.row.D g.PW.PackedValue.default_value)) (take l.node (zip l.nodes l.rows))

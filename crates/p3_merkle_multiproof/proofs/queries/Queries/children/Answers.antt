@@ -10,8 +10,11 @@ offset_bounds-sent-covered g c =
     let queries = c.args.self.now in
     let s = shape_of queries.arity queries.dimensions.now in
     let here = c.args.covered.now in
-    let k = left_family s queries.indices.now queries.t queries.queried queries.low c.args.level c.requires.below c.args.step c.args.above.now.nodes.items here.nodes.items c.args.digests.now c.args.sent.now (drop here.used c.args.sent.now) here.used
-    c.requires.step c.requires.above.nodes_are c.requires.stands.nodes_are c.requires.digests c.requires.sent c.requires.stands.sent_below in
+    let k = left_family s queries.indices.now queries.t queries.queried queries.low c.args.level c.requires.below
+    c.args.step c.args.above.now.nodes.items here.nodes.items c.args.digests.now c.args.sent.now
+    (drop here.used c.args.sent.now) here.used
+    c.requires.step c.requires.above.nodes_are c.requires.stands.nodes_are c.requires.digests c.requires.sent
+    c.requires.stands.sent_below in
     omega (arith, k.fits)
 
 pub slice_bounds-left-count : goal.slice_bounds-left-count
@@ -19,8 +22,11 @@ slice_bounds-left-count g c =
     let queries = c.args.self.now in
     let s = shape_of queries.arity queries.dimensions.now in
     let here = c.args.covered.now in
-    let k = left_family s queries.indices.now queries.t queries.queried queries.low c.args.level c.requires.below c.args.step c.args.above.now.nodes.items here.nodes.items c.args.digests.now c.args.sent.now (drop here.used c.args.sent.now) here.used
-    c.requires.step c.requires.above.nodes_are c.requires.stands.nodes_are c.requires.digests c.requires.sent c.requires.stands.sent_below in
+    let k = left_family s queries.indices.now queries.t queries.queried queries.low c.args.level c.requires.below
+    c.args.step c.args.above.now.nodes.items here.nodes.items c.args.digests.now c.args.sent.now
+    (drop here.used c.args.sent.now) here.used
+    c.requires.step c.requires.above.nodes_are c.requires.stands.nodes_are c.requires.digests c.requires.sent
+    c.requires.stands.sent_below in
     omega (arith, k.fits)
 
 pub slice_bounds-left-start : goal.slice_bounds-left-start
@@ -28,8 +34,11 @@ slice_bounds-left-start g c =
     let queries = c.args.self.now in
     let s = shape_of queries.arity queries.dimensions.now in
     let here = c.args.covered.now in
-    let k = left_family s queries.indices.now queries.t queries.queried queries.low c.args.level c.requires.below c.args.step c.args.above.now.nodes.items here.nodes.items c.args.digests.now c.args.sent.now (drop here.used c.args.sent.now) here.used
-    c.requires.step c.requires.above.nodes_are c.requires.stands.nodes_are c.requires.digests c.requires.sent c.requires.stands.sent_below in
+    let k = left_family s queries.indices.now queries.t queries.queried queries.low c.args.level c.requires.below
+    c.args.step c.args.above.now.nodes.items here.nodes.items c.args.digests.now c.args.sent.now
+    (drop here.used c.args.sent.now) here.used
+    c.requires.step c.requires.above.nodes_are c.requires.stands.nodes_are c.requires.digests c.requires.sent
+    c.requires.stands.sent_below in
     omega (arith, k.fits)
 
 pub children_of-requires : goal.children_of-requires
@@ -37,9 +46,13 @@ children_of-requires g c =
     let queries = c.args.self.now in
     let s = shape_of queries.arity queries.dimensions.now in
     let here = c.args.covered.now in
-    let k = left_family s queries.indices.now queries.t queries.queried queries.low c.args.level c.requires.below c.args.step c.args.above.now.nodes.items here.nodes.items c.args.digests.now c.args.sent.now (drop here.used c.args.sent.now) here.used
-    c.requires.step c.requires.above.nodes_are c.requires.stands.nodes_are c.requires.digests c.requires.sent c.requires.stands.sent_below in
+    let k = left_family s queries.indices.now queries.t queries.queried queries.low c.args.level c.requires.below
+    c.args.step c.args.above.now.nodes.items here.nodes.items c.args.digests.now c.args.sent.now
+    (drop here.used c.args.sent.now) here.used
+    c.requires.step c.requires.above.nodes_are c.requires.stands.nodes_are c.requires.digests c.requires.sent
+    c.requires.stands.sent_below in
     rw (c.deref.ensures.value, c.deref-2.ensures.value, take_rest c.args.sent.now c.args.covered.now.used) (k.rest refl)
 
 pub returns : goal.returns
-returns g c = rw (c.deref.ensures.value, c.deref-2.ensures.value, take_rest c.args.sent.now c.args.covered.now.used) at c.children_of.ensures
+returns g c = rw (c.deref.ensures.value, c.deref-2.ensures.value, take_rest c.args.sent.now c.args.covered.now.used) at
+    c.children_of.ensures

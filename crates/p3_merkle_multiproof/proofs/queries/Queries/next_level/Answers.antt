@@ -7,7 +7,9 @@ pub returns : goal.returns
 returns g c =
     let queries = c.args.self.now in
     let up = c.in_ok-step in
-    let k = rises (shape_of queries.arity queries.dimensions.now) queries.indices.now c.args.level c.args.covered.now up.above c.args.digests.now c.args.sent.now c.in_ok-children.children up.step queries.queried.well_shaped.above_1 up.ensures.step up.ensures.above c.in_ok-children.ensures in
+    let k = rises (shape_of queries.arity queries.dimensions.now) queries.indices.now c.args.level c.args.covered.now
+    up.above c.args.digests.now c.args.sent.now c.in_ok-children.children up.step
+    queries.queried.well_shaped.above_1 up.ensures.step up.ensures.above c.in_ok-children.ensures in
     record {
       wide = k.0;
       narrow = k.1;

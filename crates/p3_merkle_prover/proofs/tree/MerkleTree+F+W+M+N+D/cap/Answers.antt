@@ -14,5 +14,6 @@ returns g c =
     let l = layer_below_root s c.args.cap_height in
     let many = layers_count (λ nodes. length nodes.items) tree.layers.items s tree.layer_lengths in
     let place : c.num_layers.result - 1 - c.args.cap_height ≡ l = omega (arith, c.num_layers.ensures.levels) in
-    layer_read (λ nodes. nodes.items) tree.layers.items l c.index-layer.result.now (omega (arith, many)) (rw place at c.index-layer.ensures)
+    layer_read (λ nodes. nodes.items) tree.layers.items l c.index-layer.result.now (omega (arith, many))
+    (rw place at c.index-layer.ensures)
     ∙ ap (λ xs. Some xs) (sym (c.new.ensures ∙ c.in_ok-from_slice.ensures.items ∙ c.deref.ensures.value))

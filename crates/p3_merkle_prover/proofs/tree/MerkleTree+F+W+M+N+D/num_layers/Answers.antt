@@ -8,4 +8,10 @@ use Rattle.p3_merkle_prover.proofs.tree.MerkleTree+F+W+M+N+D.num_layers.Goals as
 pub returns-clause-levels : goal.returns-clause-levels
 returns-clause-levels g c =
     let tree = c.args.self.now in
-    omega (arith, layers_count (λ nodes. length nodes.items) tree.layers.items (shape (tree_batch tree)) tree.layer_lengths, c.len.ensures, tree.layers.ok.0)
+    omega (
+      arith,
+      layers_count (λ nodes. length nodes.items) tree.layers.items (shape (tree_batch tree))
+          tree.layer_lengths,
+      c.len.ensures,
+      tree.layers.ok.0,
+    )

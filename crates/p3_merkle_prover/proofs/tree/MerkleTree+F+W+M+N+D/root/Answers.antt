@@ -13,7 +13,8 @@ index-requires g c =
     let tree = c.args.self.now in
     let s = shape (tree_batch tree) in
     let place : c.num_layers.result - 1 ≡ levels s = omega (arith, c.num_layers.ensures.levels) in
-    let one = layer_long (λ nodes. length nodes.items) tree.layers.items s tree.layer_lengths (levels s) c.index-top.result.now (omega arith) (rw place at c.index-top.ensures) ∙ top_len s tree.arity tree.lawful in
+    let one = layer_long (λ nodes. length nodes.items) tree.layers.items s tree.layer_lengths (levels s)
+    c.index-top.result.now (omega arith) (rw place at c.index-top.ensures) ∙ top_len s tree.arity tree.lawful in
     omega (arith, one, c.index-top.result.now.ok.0)
 
 pub returns : goal.returns
@@ -23,6 +24,8 @@ returns g c =
     let many = layers_count (λ nodes. length nodes.items) tree.layers.items s tree.layer_lengths in
     let place : c.num_layers.result - 1 ≡ levels s = omega (arith, c.num_layers.ensures.levels) in
     let top = rw place at c.index-top.ensures in
-    let one = layer_long (λ nodes. length nodes.items) tree.layers.items s tree.layer_lengths (levels s) c.index-top.result.now (omega arith) top ∙ top_len s tree.arity tree.lawful in
+    let one = layer_long (λ nodes. length nodes.items) tree.layers.items s tree.layer_lengths (levels s)
+    c.index-top.result.now (omega arith) top ∙ top_len s tree.arity tree.lawful in
     layer_read (λ nodes. nodes.items) tree.layers.items (levels s) c.index-top.result.now (omega (arith, many)) top
-    ∙ ap (λ xs. Some xs) (one_element c.index-top.result.now.items c.index.result.now one c.index.ensures ∙ ap (λ x. x ∷ []) (sym c.from.ensures))
+    ∙ ap (λ xs. Some xs) (one_element c.index-top.result.now.items c.index.result.now one c.index.ensures
+    ∙ ap (λ x. x ∷ []) (sym c.from.ensures))

@@ -2,19 +2,28 @@
 use Rattle.std.proofs.Common.{◌∙◌, ap, length, sym, arith}
 use Rattle.std.proofs.lemmas.List.FromFn.{length-map-range_with_len, take-map-range_with_len}
 use Rattle.p3_merkle_core.specs.Geometry.{levels, shape_of, step}
-use Rattle.p3_merkle_core.proofs.LadderFacts.{levels_le}
+use Rattle.p3_merkle_core.proofs.Shapes.LadderFacts.{levels_le}
 use Rattle.p3_merkle_tree.specs.Schemes.{proof_layer}
 use Rattle.p3_merkle_tree.proofs.mmcs.Scheme.proof_arity_schedule.Goals as goal
 
 pub returns-clause-steps : goal.returns-clause-steps
-returns-clause-steps g c = rw c.proof_levels.ensures at c.in_ok-schedule_below_of.ensures
+returns-clause-steps g c =
+    let made = c.steps_of-steps.ensures in
+    let at_cap = rw (made.arity, made.dimensions) at c.cap_layer-cap_layer.ensures in
+    rw (made.arity, made.dimensions, at_cap) at c.in_ok-schedule_below.ensures
 
 pub returns-clause-first : goal.returns-clause-first
 returns-clause-first g c =
     let s = shape_of g.row.N c.args.dimensions.now in
-    returns-clause-steps g c ∙ sym (take-map-range_with_len (step s) 0 (levels s) (proof_layer c.args.self.now s) (omega arith))
+    returns-clause-steps g c
+    ∙ sym (take-map-range_with_len (step s) 0 (levels s) (proof_layer c.args.self.now s) (omega arith))
 
 pub returns-clause-few : goal.returns-clause-few
 returns-clause-few g c =
     let s = shape_of g.row.N c.args.dimensions.now in
-    omega (arith, ap length (returns-clause-steps g c), length-map-range_with_len (step s) 0 (proof_layer c.args.self.now s), levels_le s)
+    omega (
+      arith,
+      ap length (returns-clause-steps g c),
+      length-map-range_with_len (step s) 0 (proof_layer c.args.self.now s),
+      levels_le s,
+    )

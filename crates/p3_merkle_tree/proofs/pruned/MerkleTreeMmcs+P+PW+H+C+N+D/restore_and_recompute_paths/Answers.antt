@@ -18,12 +18,16 @@ returns g c =
     let s = shape_of g.row.N c.args.dimensions.now in
     let t = proof_layer scheme s in
     let p = pruned_lent c.args.indices.now c.args.rows.now c.args.proof.now in
-    let alike = terms_alike g.H.CryptographicHasher.hash g.C.PseudoCompressionFunction.compression (replicate g.row.D g.PW.PackedValue.default_value) s c.checker-checker.result.hash.now (hash_of scheme) c.checker-checker.result.compress.now (compression_of scheme) c.proof_levels-t.result t
+    let alike = terms_alike g.H.CryptographicHasher.hash g.C.PseudoCompressionFunction.compression
+    (replicate g.row.D g.PW.PackedValue.default_value) s c.checker-checker.result.hash.now (hash_of scheme)
+    c.checker-checker.result.compress.now (compression_of scheme) c.proof_levels-t.result t
     c.checker-checker.ensures.hash c.checker-checker.ensures.compress c.proof_levels-t.ensures in
     let sent = ap (pruned_of c.args.indices.now (row_sets c.args.rows.now)) c.as_slice-sent.ensures.value in
     let restored = c.restored_paths_of.result in
-    let answer = subst (AnswersUnlessMemory restored) (λ i. pruned_refusal eq s (c.proof_levels-t.ensures i) (sent i)) c.restored_paths_of.ensures.answer in
+    let answer = subst (AnswersUnlessMemory restored) (λ i. pruned_refusal eq s (c.proof_levels-t.ensures i) (sent i))
+    c.restored_paths_of.ensures.answer in
     record {
       verdict = restoring_verdict eq s t p g.met.P.PackedValue.eq_is_equality restored answer;
-      paths = subst (λ (ps : _). IfOk restored (λ paths. shown_paths paths.items ≡ ps)) (λ i. restored_paths (alike i) (sent i)) c.restored_paths_of.ensures.paths;
+      paths = subst (λ (ps : _). IfOk restored (λ paths. shown_paths paths.items ≡ ps))
+          (λ i. restored_paths (alike i) (sent i)) c.restored_paths_of.ensures.paths;
     }

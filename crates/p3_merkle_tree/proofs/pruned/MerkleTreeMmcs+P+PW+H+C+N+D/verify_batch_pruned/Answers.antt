@@ -16,10 +16,17 @@ returns g c =
     let eq = g.P.Value.PartialEq.eq in
     let same = g.PW.Value.PartialEq.eq in
     let s = shape_of g.row.N c.args.dimensions.now in
-    let alike = terms_alike g.H.CryptographicHasher.hash g.C.PseudoCompressionFunction.compression (replicate g.row.D g.PW.PackedValue.default_value) s c.checker-checker.result.hash.now (hash_of scheme) c.checker-checker.result.compress.now (compression_of scheme) c.proof_levels-t.result (proof_layer scheme s)
+    let alike = terms_alike g.H.CryptographicHasher.hash g.C.PseudoCompressionFunction.compression
+    (replicate g.row.D g.PW.PackedValue.default_value) s c.checker-checker.result.hash.now (hash_of scheme)
+    c.checker-checker.result.compress.now (compression_of scheme) c.proof_levels-t.result (proof_layer scheme s)
     c.checker-checker.ensures.hash c.checker-checker.ensures.compress c.proof_levels-t.ensures in
     let sent = ap (pruned_of c.args.indices.now (row_sets c.args.rows.now)) c.as_slice-sent.ensures.value in
-    let answer = subst (AnswersUnlessMemory c.check_pruned_opening.result) (λ i. pruned_refusal_under eq same (alike i) (c.roots.ensures i) (sent i)) c.check_pruned_opening.ensures in
-    let verdict = pruned_verdict eq same (terms_of g.H.CryptographicHasher.hash g.C.PseudoCompressionFunction.compression g.row.D scheme c.args.dimensions.now) (roots_of c.args.commit.now) (pruned_lent c.args.indices.now c.args.rows.now c.args.proof.now)
-    g.met.P.PackedValue.eq_is_equality g.met.PW.PackedValue.eq_is_equality scheme.arity c.check_pruned_opening.result answer in
+    let answer = subst (AnswersUnlessMemory c.check_pruned_opening.result)
+    (λ i. pruned_refusal_under eq same (alike i) (c.roots.ensures i) (sent i)) c.check_pruned_opening.ensures in
+    let verdict =
+    pruned_verdict eq same (terms_of g.H.CryptographicHasher.hash g.C.PseudoCompressionFunction.compression g.row.D
+    scheme c.args.dimensions.now) (roots_of c.args.commit.now)
+    (pruned_lent c.args.indices.now c.args.rows.now c.args.proof.now)
+    g.met.P.PackedValue.eq_is_equality g.met.PW.PackedValue.eq_is_equality scheme.arity c.check_pruned_opening.result
+    answer in
     record { verdict = verdict; count = λ ok. (verdict.accepted ok).0.count }

@@ -7,13 +7,19 @@ use Rattle.p3_merkle_tree.proofs.CommitmentFacts.{is_committed, lawful_when_ok, 
 use Rattle.p3_merkle_tree.proofs.scheme_trait.MerkleTreeMmcsMmcsValue.commit.Goals as goal
 
 pub returns-clause-taken : goal.returns-clause-taken
-returns-clause-taken g c = lawful_when_ok (heights_in g.M.Matrix.height_of g.M.Matrix.width_of g.M.Matrix.row_of c.args.matrices.items) c.commit.result c.commit.ensures.answer
+returns-clause-taken g c =
+    lawful_when_ok (heights_in g.M.Matrix.height_of g.M.Matrix.width_of g.M.Matrix.row_of c.args.matrices.items)
+    c.commit.result c.commit.ensures.answer
 
 pub returns-clause-memory : goal.returns-clause-memory
-returns-clause-memory g c = memory_when_lawful (heights_in g.M.Matrix.height_of g.M.Matrix.width_of g.M.Matrix.row_of c.args.matrices.items) c.commit.result c.commit.ensures.answer
+returns-clause-memory g c =
+    memory_when_lawful (heights_in g.M.Matrix.height_of g.M.Matrix.width_of g.M.Matrix.row_of c.args.matrices.items)
+    c.commit.result c.commit.ensures.answer
 
 pub returns-clause-commitment : goal.returns-clause-commitment
 returns-clause-commitment g c =
     let scheme = c.args.self.now in
-    is_committed c.commit.result (λ made. roots_of made.0) (λ made. layers_of made.1) (λ made. matrices_of made.1) (batch_of g.M.Matrix.height_of g.M.Matrix.width_of g.M.Matrix.row_of g.row.N)
-    (terms_over g.H.CryptographicHasher.hash g.C.PseudoCompressionFunction.compression g.row.D scheme) c.args.matrices.items c.commit.ensures.matrices c.commit.ensures.committed
+    is_committed c.commit.result (λ made. roots_of made.0) (λ made. layers_of made.1) (λ made. matrices_of made.1)
+    (batch_of g.M.Matrix.height_of g.M.Matrix.width_of g.M.Matrix.row_of g.row.N)
+    (terms_over g.H.CryptographicHasher.hash g.C.PseudoCompressionFunction.compression g.row.D scheme)
+    c.args.matrices.items c.commit.ensures.matrices c.commit.ensures.committed

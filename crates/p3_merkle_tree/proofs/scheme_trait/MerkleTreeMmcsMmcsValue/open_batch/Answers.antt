@@ -10,7 +10,7 @@ use Rattle.p3_merkle_core.specs.Nodes.{shape}
 use Rattle.p3_merkle_core.specs.Checks.{IsAccepted, terms}
 use Rattle.p3_merkle_prover.specs.Parts.{matrices_of, tree_batch}
 use Rattle.p3_merkle_tree.specs.Inner.CommitmentLaws.{rows_are}
-use Rattle.p3_merkle_core.proofs.ViewFacts.{dimensions_are}
+use Rattle.p3_merkle_core.proofs.Lists.ViewFacts.{dimensions_are}
 use Rattle.p3_merkle_tree.specs.Schemes.{terms_over}
 use Rattle.p3_merkle_core.specs.Views.{opening_made}
 use Rattle.p3_merkle_tree.proofs.scheme_trait.MerkleTreeMmcsMmcsValue.open_batch.Goals as goal
@@ -18,14 +18,21 @@ use Rattle.p3_merkle_tree.proofs.scheme_trait.MerkleTreeMmcsMmcsValue.open_batch
 pub returns-clause-rows : goal.returns-clause-rows
 returns-clause-rows g c =
     let tree = c.args.prover_data.now in
-    let rows = rows_are g.M.Matrix.height_of g.M.Matrix.width_of g.M.Matrix.row_of g.row.N (matrices_of tree) c.args.index tree.lawful c.tell_index.ensures in
-    IfOk-weaker c.open_batch.result _ _ (λ o opened. ap (λ (z : Opening _ _). z.rows) opened ∙ rows) c.open_batch.ensures.opened
+    let rows = rows_are g.M.Matrix.height_of g.M.Matrix.width_of g.M.Matrix.row_of g.row.N (matrices_of tree)
+    c.args.index tree.lawful c.tell_index.ensures in
+    IfOk-weaker c.open_batch.result _ _ (λ o opened. ap (λ (z : Opening _ _). z.rows) opened ∙ rows)
+    c.open_batch.ensures.opened
 
 pub returns-clause-accepted : goal.returns-clause-accepted
 returns-clause-accepted g c = λ commitment own.
     let scheme = c.args.self.now in
     let tree = c.args.prover_data.now in
     let over = terms_over g.H.CryptographicHasher.hash g.C.PseudoCompressionFunction.compression g.row.D scheme in
-    let under_cap = subst (λ (cap : List (List _)). IfOk c.open_batch.result (λ o. IsAccepted (over (shape (tree_batch tree))) cap (opening_made c.args.index o))) (sym own.own_cap) (c.open_batch.ensures.accepted own.own_layers) in
-    subst (λ (ds : List Dimensions). IfOk c.open_batch.result (λ o. IsAccepted (over (shape_of g.row.N ds)) (roots_of commitment) (opening_made c.args.index o)))
+    let under_cap =
+    subst (λ (cap : List (List _)).
+    IfOk c.open_batch.result (λ o. IsAccepted (over (shape (tree_batch tree))) cap (opening_made c.args.index o)))
+    (sym own.own_cap) (c.open_batch.ensures.accepted own.own_layers) in
+    subst (λ (ds : List Dimensions).
+    IfOk c.open_batch.result
+    (λ o. IsAccepted (over (shape_of g.row.N ds)) (roots_of commitment) (opening_made c.args.index o)))
     (dimensions_are g.M.Matrix.height_of g.M.Matrix.width_of g.M.Matrix.row_of (matrices_of tree)) under_cap

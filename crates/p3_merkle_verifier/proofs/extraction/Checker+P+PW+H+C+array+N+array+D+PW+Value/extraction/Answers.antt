@@ -12,36 +12,59 @@ use Rattle.p3_merkle_core.specs.Checks.{terms}
 
 pub returns-in_err-check_opening : goal.returns-in_err-check_opening
 returns-in_err-check_opening g c =
-    let f = functions_of (g.H.CryptographicHasher.hash c.args.self.now.hash.now) (g.C.PseudoCompressionFunction.compression c.args.self.now.compress.now) (replicate g.row.D g.PW.PackedValue.default_value) in
-    let refusal = refusal_under g.PW.Value.PartialEq.eq (terms f (shape_of g.row.N c.args.dimensions.now) c.args.t) c.args.roots.now in
+    let f = functions_of (g.H.CryptographicHasher.hash c.args.self.now.hash.now)
+    (g.C.PseudoCompressionFunction.compression c.args.self.now.compress.now)
+    (replicate g.row.D g.PW.PackedValue.default_value) in
+    let refusal = refusal_under g.PW.Value.PartialEq.eq (terms f (shape_of g.row.N c.args.dimensions.now) c.args.t)
+    c.args.roots.now in
     let p = err_from_is_err_and c.from_residual.result c.from_residual.ensures.1 in
     rw (p.1, p.2) (record {
-      answer = inr (first_refused (refusal (opening_in c.args.first)) (refusal (opening_in c.args.second)) c.in_err-check_opening.field-0.0 (rw c.steps_of-steps.ensures.dimensions at c.in_err-check_opening.ensures));
+      answer = inr (first_refused (refusal (opening_in c.args.first)) (refusal (opening_in c.args.second))
+          c.in_err-check_opening.field-0.0 (rw c.steps_of-steps.ensures.dimensions at c.in_err-check_opening.ensures));
       found = tt;
     })
 
 pub returns-in_err-check_opening-2 : goal.returns-in_err-check_opening-2
 returns-in_err-check_opening-2 g c =
-    let f = functions_of (g.H.CryptographicHasher.hash c.args.self.now.hash.now) (g.C.PseudoCompressionFunction.compression c.args.self.now.compress.now) (replicate g.row.D g.PW.PackedValue.default_value) in
-    let refusal = refusal_under g.PW.Value.PartialEq.eq (terms f (shape_of g.row.N c.args.dimensions.now) c.args.t) c.args.roots.now in
-    let p = err_from_is_err_and c.from_residual-in_err-check_opening-2.result c.from_residual-in_err-check_opening-2.ensures.1 in
+    let f = functions_of (g.H.CryptographicHasher.hash c.args.self.now.hash.now)
+    (g.C.PseudoCompressionFunction.compression c.args.self.now.compress.now)
+    (replicate g.row.D g.PW.PackedValue.default_value) in
+    let refusal = refusal_under g.PW.Value.PartialEq.eq (terms f (shape_of g.row.N c.args.dimensions.now) c.args.t)
+    c.args.roots.now in
+    let p = err_from_is_err_and c.from_residual-in_err-check_opening-2.result
+    c.from_residual-in_err-check_opening-2.ensures.1 in
     rw (p.1, p.2) (record {
-      answer = inr (second_refused (refusal (opening_in c.args.first)) (refusal (opening_in c.args.second)) c.in_err-check_opening-2.field-0.0 (rw c.steps_of-steps.ensures.dimensions at c.in_ok-check_opening.ensures) (rw c.steps_of-steps.ensures.dimensions at c.in_err-check_opening-2.ensures));
+      answer = inr (second_refused (refusal (opening_in c.args.first)) (refusal (opening_in c.args.second))
+          c.in_err-check_opening-2.field-0.0 (rw c.steps_of-steps.ensures.dimensions at c.in_ok-check_opening.ensures)
+          (rw c.steps_of-steps.ensures.dimensions at c.in_err-check_opening-2.ensures));
       found = tt;
     })
 
 pub returns-clause-answer : goal.returns-clause-answer
 returns-clause-answer g c =
-    let f = functions_of (g.H.CryptographicHasher.hash c.args.self.now.hash.now) (g.C.PseudoCompressionFunction.compression c.args.self.now.compress.now) (replicate g.row.D g.PW.PackedValue.default_value) in
-    let refusal = refusal_under g.PW.Value.PartialEq.eq (terms f (shape_of g.row.N c.args.dimensions.now) c.args.t) c.args.roots.now in
-    both_taken (refusal (opening_in c.args.first)) (refusal (opening_in c.args.second)) (rw c.steps_of-steps.ensures.dimensions at c.in_ok-check_opening.ensures) (rw c.steps_of-steps.ensures.dimensions at c.in_ok-check_opening-2.ensures)
+    let f = functions_of (g.H.CryptographicHasher.hash c.args.self.now.hash.now)
+    (g.C.PseudoCompressionFunction.compression c.args.self.now.compress.now)
+    (replicate g.row.D g.PW.PackedValue.default_value) in
+    let refusal = refusal_under g.PW.Value.PartialEq.eq (terms f (shape_of g.row.N c.args.dimensions.now) c.args.t)
+    c.args.roots.now in
+    both_taken (refusal (opening_in c.args.first)) (refusal (opening_in c.args.second))
+    (rw c.steps_of-steps.ensures.dimensions at c.in_ok-check_opening.ensures)
+    (rw c.steps_of-steps.ensures.dimensions at c.in_ok-check_opening-2.ensures)
 
 pub invariant_of-openings-clause-first_reaches : goal.invariant_of-openings-clause-first_reaches
 invariant_of-openings-clause-first_reaches g c =
-    let f = functions_of (g.H.CryptographicHasher.hash c.args.self.now.hash.now) (g.C.PseudoCompressionFunction.compression c.args.self.now.compress.now) (replicate g.row.D g.PW.PackedValue.default_value) in
-    reach_from g.PW.Value.PartialEq.eq f (shape_of g.row.N c.args.dimensions.now) c.args.t c.args.roots.now (opening_in c.args.first) g.met.PW.PackedValue.eq_is_equality c.requires (rw c.steps_of-steps.ensures.dimensions at c.in_ok-check_opening.ensures)
+    let f = functions_of (g.H.CryptographicHasher.hash c.args.self.now.hash.now)
+    (g.C.PseudoCompressionFunction.compression c.args.self.now.compress.now)
+    (replicate g.row.D g.PW.PackedValue.default_value) in
+    reach_from g.PW.Value.PartialEq.eq f (shape_of g.row.N c.args.dimensions.now) c.args.t c.args.roots.now
+    (opening_in c.args.first) g.met.PW.PackedValue.eq_is_equality c.requires
+    (rw c.steps_of-steps.ensures.dimensions at c.in_ok-check_opening.ensures)
 
 pub invariant_of-openings-clause-second_reaches : goal.invariant_of-openings-clause-second_reaches
 invariant_of-openings-clause-second_reaches g c =
-    let f = functions_of (g.H.CryptographicHasher.hash c.args.self.now.hash.now) (g.C.PseudoCompressionFunction.compression c.args.self.now.compress.now) (replicate g.row.D g.PW.PackedValue.default_value) in
-    reach_from g.PW.Value.PartialEq.eq f (shape_of g.row.N c.args.dimensions.now) c.args.t c.args.roots.now (opening_in c.args.second) g.met.PW.PackedValue.eq_is_equality c.requires (rw c.steps_of-steps.ensures.dimensions at c.in_ok-check_opening-2.ensures)
+    let f = functions_of (g.H.CryptographicHasher.hash c.args.self.now.hash.now)
+    (g.C.PseudoCompressionFunction.compression c.args.self.now.compress.now)
+    (replicate g.row.D g.PW.PackedValue.default_value) in
+    reach_from g.PW.Value.PartialEq.eq f (shape_of g.row.N c.args.dimensions.now) c.args.t c.args.roots.now
+    (opening_in c.args.second) g.met.PW.PackedValue.eq_is_equality c.requires
+    (rw c.steps_of-steps.ensures.dimensions at c.in_ok-check_opening-2.ensures)

@@ -9,37 +9,62 @@ use Rattle.p3_merkle_verifier.proofs.level.Checker+P+PW+H+C+array+N+array+D+PW+V
 pub group-group-requires : goal.group-group-requires
 group-group-requires g c =
     let s = shape_of g.row.N c.args.steps.now.dimensions.now in
-    let step = c.up-step in
-    (omega arith, (omega arith, can_step s c.args.level step.result.step step.result.exponent c.args.standing.now.used (length c.args.opening.siblings.now) c.requires.climbs.arity (record { is_step = step.ensures.step; above = step.ensures.exponent }) c.requires.stands.taken c.requires.climbs.enough))
+    let step = c.up-step in (
+      omega arith,
+      (
+        omega arith,
+        can_step s c.args.level step.result.step step.result.exponent c.args.standing.now.used
+            (length c.args.opening.siblings.now) c.requires.climbs.arity
+            (record { is_step = step.ensures.step; above = step.ensures.exponent }) c.requires.stands.taken
+            c.requires.climbs.enough,
+      ),
+    )
 
 pub above-requires-clause-fits : goal.above-requires-clause-fits
 above-requires-clause-fits g c =
     let s = shape_of g.row.N c.args.steps.now.dimensions.now in
     let step = c.up-step in
-    let can = can_step s c.args.level step.result.step step.result.exponent c.args.standing.now.used (length c.args.opening.siblings.now) c.requires.climbs.arity (record { is_step = step.ensures.step; above = step.ensures.exponent }) c.requires.stands.taken c.requires.climbs.enough in
+    let can = can_step s c.args.level step.result.step step.result.exponent c.args.standing.now.used
+    (length c.args.opening.siblings.now) c.requires.climbs.arity
+    (record { is_step = step.ensures.step; above = step.ensures.exponent }) c.requires.stands.taken
+    c.requires.climbs.enough in
     omega (arith, can.enough)
 
 pub above-requires-else-has_rows-clause-fits : goal.above-requires-else-has_rows-clause-fits
 above-requires-else-has_rows-clause-fits g c =
     let s = shape_of g.row.N c.args.steps.now.dimensions.now in
     let step = c.up-step in
-    let can = can_step s c.args.level step.result.step step.result.exponent c.args.standing.now.used (length c.args.opening.siblings.now) c.requires.climbs.arity (record { is_step = step.ensures.step; above = step.ensures.exponent }) c.requires.stands.taken c.requires.climbs.enough in
+    let can = can_step s c.args.level step.result.step step.result.exponent c.args.standing.now.used
+    (length c.args.opening.siblings.now) c.requires.climbs.arity
+    (record { is_step = step.ensures.step; above = step.ensures.exponent }) c.requires.stands.taken
+    c.requires.climbs.enough in
     omega (arith, can.enough)
 
 pub returns-then-has_rows : goal.returns-then-has_rows
 returns-then-has_rows g c =
-    let f = functions_of (g.H.CryptographicHasher.hash c.args.self.now.hash.now) (g.C.PseudoCompressionFunction.compression c.args.self.now.compress.now) (replicate g.row.D g.PW.PackedValue.default_value) in
+    let f = functions_of (g.H.CryptographicHasher.hash c.args.self.now.hash.now)
+    (g.C.PseudoCompressionFunction.compression c.args.self.now.compress.now)
+    (replicate g.row.D g.PW.PackedValue.default_value) in
     let s = shape_of g.row.N c.args.steps.now.dimensions.now in
     let step = c.up-step in
     let one = g.met.PW.PackedValue.default_is_unique c.default-default_digest.result c.default-default_digest.ensures in
-    level_with_rows f s (opening_in c.args.opening) c.args.level step.result.step step.result.exponent c.args.standing.now c.above.result c.group-group.result (record { is_step = step.ensures.step; above = step.ensures.exponent }) c.requires.stands
-    (rw one at c.group-group.ensures) (sym step.ensures.rows ∙ c.if-has_rows.true) c.group_with-pair.result (rw (one, c.opened_rows_digest.ensures, c.compress-node.ensures) at c.group_with-pair.ensures) (rw c.compress.ensures at c.above.ensures)
+    level_with_rows f s (opening_in c.args.opening) c.args.level step.result.step step.result.exponent
+    c.args.standing.now c.above.result c.group-group.result
+    (record { is_step = step.ensures.step; above = step.ensures.exponent }) c.requires.stands
+    (rw one at c.group-group.ensures) (sym step.ensures.rows ∙ c.if-has_rows.true) c.group_with-pair.result
+    (rw (one, c.opened_rows_digest.ensures, c.compress-node.ensures) at c.group_with-pair.ensures)
+    (rw c.compress.ensures at c.above.ensures)
 
 pub returns-else-has_rows : goal.returns-else-has_rows
 returns-else-has_rows g c =
-    let f = functions_of (g.H.CryptographicHasher.hash c.args.self.now.hash.now) (g.C.PseudoCompressionFunction.compression c.args.self.now.compress.now) (replicate g.row.D g.PW.PackedValue.default_value) in
+    let f = functions_of (g.H.CryptographicHasher.hash c.args.self.now.hash.now)
+    (g.C.PseudoCompressionFunction.compression c.args.self.now.compress.now)
+    (replicate g.row.D g.PW.PackedValue.default_value) in
     let s = shape_of g.row.N c.args.steps.now.dimensions.now in
     let step = c.up-step in
     let one = g.met.PW.PackedValue.default_is_unique c.default-default_digest.result c.default-default_digest.ensures in
-    level_alone f s (opening_in c.args.opening) c.args.level step.result.step step.result.exponent c.args.standing.now c.above-else-has_rows.result c.group-group.result (record { is_step = step.ensures.step; above = step.ensures.exponent }) c.requires.stands
-    (rw one at c.group-group.ensures) (sym step.ensures.rows ∙ c.if-has_rows.false) (rw c.compress-node.ensures at c.above-else-has_rows.ensures)
+    level_alone f s (opening_in c.args.opening) c.args.level step.result.step step.result.exponent c.args.standing.now
+    c.above-else-has_rows.result c.group-group.result
+    (record { is_step = step.ensures.step; above = step.ensures.exponent }) c.requires.stands
+    (rw one at c.group-group.ensures) (sym step.ensures.rows ∙ c.if-has_rows.false)
+    (rw c.compress-node.ensures at c.above-else-has_rows.ensures)

@@ -8,12 +8,22 @@ use Rattle.p3_merkle_verifier.proofs.path.Checker+P+PW+H+C+array+N+array+D+PW+Va
 
 pub returns-then-is_entry : goal.returns-then-is_entry
 returns-then-is_entry g c =
-    let f = functions_of (g.H.CryptographicHasher.hash c.args.self.now.hash.now) (g.C.PseudoCompressionFunction.compression c.args.self.now.compress.now) (replicate g.row.D g.PW.PackedValue.default_value) in
+    let f = functions_of (g.H.CryptographicHasher.hash c.args.self.now.hash.now)
+    (g.C.PseudoCompressionFunction.compression c.args.self.now.compress.now)
+    (replicate g.row.D g.PW.PackedValue.default_value) in
     let path = c.path_digest-digest in
-    answered_by_entry g.PW.Value.PartialEq.eq f (shape_of g.row.N c.args.steps.now.dimensions.now) c.args.t c.args.roots.now (opening_in c.args.opening) path.result.0 path.result.1 c.is_entry.result true (rw c.requires.arity at c.in_ok-check_form.ensures) path.ensures.digest path.ensures.node c.is_entry.ensures c.if-is_entry.true
+    answered_by_entry g.PW.Value.PartialEq.eq f (shape_of g.row.N c.args.steps.now.dimensions.now) c.args.t
+    c.args.roots.now (opening_in c.args.opening) path.result.0 path.result.1 c.is_entry.result true
+    (rw c.requires.arity at c.in_ok-check_form.ensures) path.ensures.digest path.ensures.node c.is_entry.ensures
+    c.if-is_entry.true
 
 pub returns-else-is_entry : goal.returns-else-is_entry
 returns-else-is_entry g c =
-    let f = functions_of (g.H.CryptographicHasher.hash c.args.self.now.hash.now) (g.C.PseudoCompressionFunction.compression c.args.self.now.compress.now) (replicate g.row.D g.PW.PackedValue.default_value) in
+    let f = functions_of (g.H.CryptographicHasher.hash c.args.self.now.hash.now)
+    (g.C.PseudoCompressionFunction.compression c.args.self.now.compress.now)
+    (replicate g.row.D g.PW.PackedValue.default_value) in
     let path = c.path_digest-digest in
-    answered_by_entry g.PW.Value.PartialEq.eq f (shape_of g.row.N c.args.steps.now.dimensions.now) c.args.t c.args.roots.now (opening_in c.args.opening) path.result.0 path.result.1 c.is_entry.result false (rw c.requires.arity at c.in_ok-check_form.ensures) path.ensures.digest path.ensures.node c.is_entry.ensures c.if-is_entry.false
+    answered_by_entry g.PW.Value.PartialEq.eq f (shape_of g.row.N c.args.steps.now.dimensions.now) c.args.t
+    c.args.roots.now (opening_in c.args.opening) path.result.0 path.result.1 c.is_entry.result false
+    (rw c.requires.arity at c.in_ok-check_form.ensures) path.ensures.digest path.ensures.node c.is_entry.ensures
+    c.if-is_entry.false

@@ -8,14 +8,19 @@ use Rattle.p3_merkle_verifier.proofs.path.Checker+P+PW+H+C+array+N+array+D+PW+Va
 
 pub loop-level-init : goal.loop-level-init
 loop-level-init g c =
-    stands_first (functions_of (g.H.CryptographicHasher.hash c.args.self.now.hash.now) (g.C.PseudoCompressionFunction.compression c.args.self.now.compress.now) (replicate g.row.D g.PW.PackedValue.default_value)) (shape_of g.row.N c.args.steps.now.dimensions.now)
-    (opening_in c.args.opening) c.leaf-standing.result (rw c.requires.arity at c.leaf-standing.ensures.exponent) c.leaf-standing.ensures.node c.leaf-standing.ensures.used c.leaf-standing.ensures.digest
+    stands_first (functions_of (g.H.CryptographicHasher.hash c.args.self.now.hash.now)
+    (g.C.PseudoCompressionFunction.compression c.args.self.now.compress.now)
+    (replicate g.row.D g.PW.PackedValue.default_value)) (shape_of g.row.N c.args.steps.now.dimensions.now)
+    (opening_in c.args.opening) c.leaf-standing.result (rw c.requires.arity at c.leaf-standing.ensures.exponent)
+    c.leaf-standing.ensures.node c.leaf-standing.ensures.used c.leaf-standing.ensures.digest
 
 pub loop-level-preserved : goal.loop-level-preserved
 loop-level-preserved g c = rw add-one c.checked_level.ensures.stands
 
 pub returns-clause-digest : goal.returns-clause-digest
-returns-clause-digest g c = let here : c.loop-level.level ≡ c.args.t = omega arith in rw (← here) c.loop-level.invariant.reached
+returns-clause-digest g c = let here : c.loop-level.level ≡ c.args.t = omega arith in
+    rw (← here) c.loop-level.invariant.reached
 
 pub returns-clause-node : goal.returns-clause-node
-returns-clause-node g c = let here : c.loop-level.level ≡ c.args.t = omega arith in rw (← here) c.loop-level.invariant.at_node
+returns-clause-node g c = let here : c.loop-level.level ≡ c.args.t = omega arith in
+    rw (← here) c.loop-level.invariant.at_node

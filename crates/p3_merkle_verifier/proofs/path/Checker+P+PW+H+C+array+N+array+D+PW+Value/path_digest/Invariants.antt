@@ -6,5 +6,7 @@ use Rattle.p3_merkle_verifier.proofs.path.Checker+P+PW+H+C+array+N+array+D+PW+Va
 
 abbrev pub invariant-loop-level : goal.invariant-loop-level
 invariant-loop-level g l =
-    StandsAt (functions_of (g.H.CryptographicHasher.hash l.self.hash.now) (g.C.PseudoCompressionFunction.compression l.self.compress.now) (replicate g.row.D g.PW.PackedValue.default_value)) (shape_of g.row.N l.steps.dimensions.now)
+    StandsAt (functions_of (g.H.CryptographicHasher.hash l.self.hash.now)
+    (g.C.PseudoCompressionFunction.compression l.self.compress.now)
+    (replicate g.row.D g.PW.PackedValue.default_value)) (shape_of g.row.N l.steps.dimensions.now)
     (opening_in l.opening) l.level l.standing

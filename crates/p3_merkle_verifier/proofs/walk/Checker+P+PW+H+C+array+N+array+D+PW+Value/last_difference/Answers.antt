@@ -13,17 +13,27 @@ use Rattle.p3_merkle_verifier.proofs.walk.Checker+P+PW+H+C+array+N+array+D+PW+Va
 
 pub loop-level-init : goal.loop-level-init
 loop-level-init g c =
-    let f = functions_of (g.H.CryptographicHasher.hash c.args.self.now.hash.now) (g.C.PseudoCompressionFunction.compression c.args.self.now.compress.now) (replicate g.row.D g.PW.PackedValue.default_value) in
+    let f = functions_of (g.H.CryptographicHasher.hash c.args.self.now.hash.now)
+    (g.C.PseudoCompressionFunction.compression c.args.self.now.compress.now)
+    (replicate g.row.D g.PW.PackedValue.default_value) in
     let s = shape_of g.row.N c.args.openings.now.dimensions.now in
     record {
-      first_stands = stands_first f s (opening_in c.args.openings.now.first) c.leaf-first.result (rw (c.steps_of-steps.ensures.arity, c.steps_of-steps.ensures.dimensions) at c.leaf-first.ensures.exponent) c.leaf-first.ensures.node c.leaf-first.ensures.used (rw c.steps_of-steps.ensures.dimensions at c.leaf-first.ensures.digest);
-      second_stands = stands_first f s (opening_in c.args.openings.now.second) c.leaf-second.result (rw (c.steps_of-steps.ensures.arity, c.steps_of-steps.ensures.dimensions) at c.leaf-second.ensures.exponent) c.leaf-second.ensures.node c.leaf-second.ensures.used (rw c.steps_of-steps.ensures.dimensions at c.leaf-second.ensures.digest);
+      first_stands = stands_first f s (opening_in c.args.openings.now.first) c.leaf-first.result
+          (rw (c.steps_of-steps.ensures.arity, c.steps_of-steps.ensures.dimensions) at c.leaf-first.ensures.exponent)
+          c.leaf-first.ensures.node c.leaf-first.ensures.used
+          (rw c.steps_of-steps.ensures.dimensions at c.leaf-first.ensures.digest);
+      second_stands = stands_first f s (opening_in c.args.openings.now.second) c.leaf-second.result
+          (rw (c.steps_of-steps.ensures.arity, c.steps_of-steps.ensures.dimensions) at c.leaf-second.ensures.exponent)
+          c.leaf-second.ensures.node c.leaf-second.ensures.used
+          (rw c.steps_of-steps.ensures.dimensions at c.leaf-second.ensures.digest);
       found = c.in_ok-last.ensures;
     }
 
 pub loop-level-preserved : goal.loop-level-preserved
 loop-level-preserved g c =
-    let f = functions_of (g.H.CryptographicHasher.hash c.args.self.now.hash.now) (g.C.PseudoCompressionFunction.compression c.args.self.now.compress.now) (replicate g.row.D g.PW.PackedValue.default_value) in
+    let f = functions_of (g.H.CryptographicHasher.hash c.args.self.now.hash.now)
+    (g.C.PseudoCompressionFunction.compression c.args.self.now.compress.now)
+    (replicate g.row.D g.PW.PackedValue.default_value) in
     let test = input_eq g.P.Value.PartialEq.eq g.PW.Value.PartialEq.eq in
     let pair = c.args.openings.now in
     let s = shape_of g.row.N pair.dimensions.now in
@@ -37,22 +47,36 @@ loop-level-preserved g c =
     record {
       first_stands = rw add-one my_level.stands;
       second_stands = rw add-one their_level.stands;
-      found = found_next test f s l o u c.loop-level.last c.if-mine-theirs.last mine.result theirs.result my_level their_level c.loop-level.invariant.found
+      found = found_next test f s l o u c.loop-level.last c.if-mine-theirs.last mine.result theirs.result my_level
+          their_level c.loop-level.invariant.found
           (elim c.if-mine-theirs.branch [
             | then-mine-theirs+in_ok-found w ↦
                 let rows = w.rows_of_exponent-rows.result in
                 let are = w.rows_of_exponent-rows.ensures in
                 let at = are.exponent ∙ my_level.stands.at_exponent in
-                let a = words_alike rows.dimensions.now pair.dimensions.now rows.exponent (layer_exponent s (suc l)) rows.first.now pair.first.rows.now are.dimensions at are.first in
-                let b = words_alike rows.dimensions.now pair.dimensions.now rows.exponent (layer_exponent s (suc l)) rows.second.now pair.second.rows.now are.dimensions at are.second in
-                inl (w.if-mine-theirs.true, (w.in_ok-found.found, found_here test f s l o u w.in_ok-found.found mine.result theirs.result (first_words rows) (second_words rows) my_level their_level a b w.in_ok-found.ensures, w.last-is ∙ w.or-last.ensures))
+                let a = words_alike rows.dimensions.now pair.dimensions.now rows.exponent (layer_exponent s (suc l))
+                rows.first.now pair.first.rows.now are.dimensions at are.first in
+                let b = words_alike rows.dimensions.now pair.dimensions.now rows.exponent (layer_exponent s (suc l))
+                rows.second.now pair.second.rows.now are.dimensions at are.second in
+                inl (
+                  w.if-mine-theirs.true,
+                  (
+                    w.in_ok-found.found,
+                    found_here test f s l o u w.in_ok-found.found mine.result theirs.result
+                        (first_words rows) (second_words rows) my_level their_level a b w.in_ok-found.ensures,
+                    w.last-is
+                        ∙ w.or-last.ensures,
+                  ),
+                )
             | else-mine-theirs w ↦ inr (w.if-mine-theirs.false, w.last-is)
           ]);
     }
 
 pub returns : goal.returns
 returns g c =
-    let f = functions_of (g.H.CryptographicHasher.hash c.args.self.now.hash.now) (g.C.PseudoCompressionFunction.compression c.args.self.now.compress.now) (replicate g.row.D g.PW.PackedValue.default_value) in
+    let f = functions_of (g.H.CryptographicHasher.hash c.args.self.now.hash.now)
+    (g.C.PseudoCompressionFunction.compression c.args.self.now.compress.now)
+    (replicate g.row.D g.PW.PackedValue.default_value) in
     let s = shape_of g.row.N c.args.openings.now.dimensions.now in
     let o = opening_in c.args.openings.now.first in
     let u = opening_in c.args.openings.now.second in

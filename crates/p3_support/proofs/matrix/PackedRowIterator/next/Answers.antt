@@ -6,16 +6,22 @@ use Rattle.p3_support.proofs.matrix.PackedRowIterator.next.Goals as goal
 pub returns-then-self-width-clause-steps : goal.returns-then-self-width-clause-steps
 returns-then-self-width-clause-steps g c =
     let s = c.self.inside in
-    let column = column_of_rows (g.M.Matrix.row_of s.matrix.now) g.P.PackedValue.default_value s.row g.P.PackedValue.WIDTH in
+    let column = column_of_rows (g.M.Matrix.row_of s.matrix.now) g.P.PackedValue.default_value s.row
+    g.P.PackedValue.WIDTH in
     let end : s.next ≡ g.M.Matrix.width_of s.matrix.now = search rules in
-    let none = sym c.self.view_is ∙ ap (λ n. drop n (columns (g.M.Matrix.row_of s.matrix.now) g.P.PackedValue.default_value s.row g.P.PackedValue.WIDTH (g.M.Matrix.width_of s.matrix.now))) end ∙ drop_columns column (g.M.Matrix.width_of s.matrix.now) in
+    let none = sym c.self.view_is
+    ∙ ap (λ n. drop n
+    (columns (g.M.Matrix.row_of s.matrix.now) g.P.PackedValue.default_value s.row g.P.PackedValue.WIDTH
+    (g.M.Matrix.width_of s.matrix.now))) end ∙ drop_columns column (g.M.Matrix.width_of s.matrix.now) in
     (none, none)
 
 pub returns-clause-steps : goal.returns-clause-steps
 returns-clause-steps g c =
     let s = c.self.inside in
-    let column = column_of_rows (g.M.Matrix.row_of s.matrix.now) g.P.PackedValue.default_value s.row g.P.PackedValue.WIDTH in
-    rw c.packed_column-item.ensures (sym c.self.view_is ∙ drop_column column s.next (g.M.Matrix.width_of s.matrix.now) (search rules))
+    let column = column_of_rows (g.M.Matrix.row_of s.matrix.now) g.P.PackedValue.default_value s.row
+    g.P.PackedValue.WIDTH in
+    rw c.packed_column-item.ensures (sym c.self.view_is
+    ∙ drop_column column s.next (g.M.Matrix.width_of s.matrix.now) (search rules))
 
 pub returns-clause-goes : goal.returns-clause-goes
 returns-clause-goes g c =

@@ -15,7 +15,8 @@ loop-preserved g c =
     let rest = g.R.Rng.stream c.next_u64.new.self in
     let below : i < n = search rules in
     let drawn : (w, rest) ≡ next_u64 before = c.next_u64.ensures in (
-      salts_more of_word c.loop.values.items c.push.new.self.items (salts of_word n start) c.from_salt_word.result n i w before rest below drawn c.from_salt_word.ensures c.in_ok-push.ensures.items c.loop.invariant.0,
+      salts_more of_word c.loop.values.items c.push.new.self.items (salts of_word n start) c.from_salt_word.result n i w
+          before rest below drawn c.from_salt_word.ensures c.in_ok-push.ensures.items c.loop.invariant.0,
       after_more n i w before rest (after_words n start) below drawn c.loop.invariant.1,
       search rules,
       search rules,

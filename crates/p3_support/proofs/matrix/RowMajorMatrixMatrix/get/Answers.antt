@@ -5,4 +5,5 @@ use Rattle.p3_support.proofs.matrix.RowMajorMatrixMatrix.get.Goals as goal
 pub returns : goal.returns
 returns g c =
     let m = c.args.self.now in
-    message_at m.values.items m.width m.height c.args.row c.args.column c.index.result.now m.full (search rules) (search rules) (search rules)
+    message_at m.values.items m.width m.height c.args.row c.args.column c.index.result.now m.full (search rules)
+    (search rules) (search rules)

@@ -9,4 +9,6 @@ returns-then-self-width-clause-steps g c =
     let m = c.in-Some.first.now in
     let cons : s.matrices.now ≡ m ∷ c.in-Some.others.now = search rules in
     let same : (g.M.Matrix.height_of m == s.height) ≡ true = search rules in
-    sym c.self.view_is ∙ sym c.loop-first.invariant.1 ∙ rows_more g.M.Matrix.height_of g.M.Matrix.row_of s.height s.row m c.in-Some.others.now s.matrices.now s.next c.get-item.result cons same (search rules)
+    sym c.self.view_is ∙ sym c.loop-first.invariant.1
+    ∙ rows_more g.M.Matrix.height_of g.M.Matrix.row_of s.height s.row m c.in-Some.others.now s.matrices.now s.next
+    c.get-item.result cons same (search rules)

@@ -14,5 +14,6 @@ returns c = λ w e.
     let digest = λ (bytes : List ℕ). replicate 32 (slice_index_or bytes 0 0) in
     let some : 0 < n = search rules in
     let width : length xs / n ≡ w = rw e (mul-div_cancel w some) in
-    fill_by_all (λ i. digest (message w xs i)) c.loop-i.out n [] c.loop-i.invariant.0 (λ k h. c.loop-i.invariant.1 k (omega arith) ∙ ap (λ v. digest (message v xs k)) width)
+    fill_by_all (λ i. digest (message w xs i)) c.loop-i.out n [] c.loop-i.invariant.0
+    (λ k h. c.loop-i.invariant.1 k (omega arith) ∙ ap (λ v. digest (message v xs k)) width)
     ∙ sym (map-map digest (message w xs) (range_with_len 0 n))

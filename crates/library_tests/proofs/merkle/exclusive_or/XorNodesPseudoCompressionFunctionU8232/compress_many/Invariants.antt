@@ -5,4 +5,6 @@ use Rattle.library_tests.proofs.merkle.exclusive_or.XorNodesPseudoCompressionFun
 abbrev pub invariant-loop-i : goal.invariant-loop-i
 invariant-loop-i l =
     (length l.out ≡ length l.initial.out)
-    × ((j : ℕ) → j < l.i → slice_index_or l.out j [] ≡ zip2 bit_xor (slice_index_or (slice_index_or l.groups j []) 0 []) (slice_index_or (slice_index_or l.groups j []) 1 []))
+    × ((j : ℕ) → j < l.i → slice_index_or l.out j []
+    ≡ zip2 bit_xor (slice_index_or (slice_index_or l.groups j []) 0 [])
+    (slice_index_or (slice_index_or l.groups j []) 1 []))

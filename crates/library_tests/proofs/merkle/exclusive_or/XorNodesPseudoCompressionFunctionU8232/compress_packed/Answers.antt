@@ -6,5 +6,7 @@ use Rattle.library_tests.proofs.merkle.exclusive_or.XorNodesPseudoCompressionFun
 
 pub returns : goal.returns
 returns c = λ k below.
-    let digest = λ (digests : List (List ℕ)). zip2 bit_xor (slice_index_or digests 0 []) (slice_index_or digests 1 []) in
-    only_lane 0 k c.exclusive_or.result below ∙ c.exclusive_or.ensures ∙ ap digest (sym (only_lanes 0 k c.args.input below))
+    let digest = λ (digests : List (List ℕ)). zip2 bit_xor (slice_index_or digests 0 [])
+    (slice_index_or digests 1 []) in
+    only_lane 0 k c.exclusive_or.result below ∙ c.exclusive_or.ensures
+    ∙ ap digest (sym (only_lanes 0 k c.args.input below))

@@ -1,0 +1,123 @@
+-- What a check ends in: the digest of its last input, which is the one that the walk reaches.
+use Rattle.std.proofs.Common.{◌≡◌, ℕ, zero, suc, ◌<◌, true, false, List, [], ◌∷◌, ◌++◌, map, refl, ap, sym, ◌∙◌, inl, inr, length, Some, slice_get}
+use Rattle.std.proofs.lemmas.Bool.{cases_Bool}
+use Rattle.std.proofs.lemmas.List.{append_assoc}
+use Rattle.p3_merkle_core.specs.Geometry.{Shape, IsLawful, ancestor, has_rows, heights, widths}
+use Rattle.p3_support.specs.Batches.{greatest}
+use Rattle.p3_merkle_core.specs.Nodes.{Functions, pair, padded}
+use Rattle.p3_merkle_core.specs.Openings.{Opening}
+use Rattle.p3_merkle_core.specs.Checks.{Input, IsAccepted, check_digest, group_at, input_digest, inputs, inputs_at, last_input, last_of, layer_words, path_digest, siblings_below, terms, leaf_input, words_at, digests_at, Content, Words, Digests}
+use Rattle.p3_merkle_core.proofs.Lists.ListFacts.{joined_more}
+use Rattle.p3_merkle_core.proofs.Checks.Completeness.{reached_next, reached_leaf}
+use Rattle.p3_merkle_core.specs.declared.collision.Place.{Place}
+use Rattle.p3_merkle_core.specs.declared.collision.Place.TheVariants.{Group, Rows, Pair}
+
+-- ---- what inputs are made of
+
+content_words : {T W : Type 0} → Content T W → List T
+content_words (Words words) = words
+content_words (Digests digests) = []
+
+content_digests : {T W : Type 0} → Content T W → List (List W)
+content_digests (Words words) = []
+content_digests (Digests digests) = digests
+
+-- equal inputs of words have equal words
+pub same_words : {T W : Type 0} (p q : Place) (xs ys : List T) → words_at {W = W} p xs ≡ words_at q ys → xs ≡ ys
+unfolding content_words
+same_words {T} {W} p q xs ys e = ap (λ (x : Input T W). content_words x.content) e
+
+-- and of digests equal digests
+pub same_digests : {T W : Type 0} (p q : Place) (xs ys : List (List W)) → digests_at {T = T} p xs ≡ digests_at q ys → xs
+    ≡ ys
+unfolding content_digests
+same_digests {T} {W} p q xs ys e = ap (λ (x : Input T W). content_digests x.content) e
+
+-- ---- the inputs of one level
+
+-- the N digests of level l
+abbrev pub full_group : {T W : Type 0} → Functions T W → Shape → Opening T W → ℕ → List (List W)
+full_group f s o l = padded s.arity f.default_digest (group_at f s o l (path_digest f s o l))
+
+pub inputs_with_rows : {T W : Type 0} (f : Functions T W) (s : Shape) (o : Opening T W) (l : ℕ) → has_rows s (suc l)
+    ≡ true →
+    inputs_at f s o l ≡ digests_at (Group l) (full_group f s o l) ∷ words_at (Rows l) (layer_words s o.rows (suc l))
+    ∷ digests_at (Pair l)
+    (pair f s.arity (f.compression (full_group f s o l)) (f.hash (layer_words s o.rows (suc l)))) ∷ []
+inputs_with_rows f s o l e = rw e refl
+
+pub inputs_alone : {T W : Type 0} (f : Functions T W) (s : Shape) (o : Opening T W) (l : ℕ) → has_rows s (suc l)
+    ≡ false →
+    inputs_at f s o l ≡ digests_at (Group l) (full_group f s o l) ∷ []
+inputs_alone f s o l e = rw e refl
+
+-- ---- the last of them
+
+-- the last input, after which no other stands, has the digest that the walk reaches
+last_reached : {T W : Type 0} (f : Functions T W) (s : Shape) (t : ℕ) (o : Opening T W) →
+    (before : List (Input T W)) × (x : Input T W) × (inputs (terms f s t) o ≡ before ++ x ∷ []) ×
+    (input_digest f x ≡ path_digest f s o t)
+last_reached f s zero o = ([], leaf_input s o, refl, sym (reached_leaf f s o))
+last_reached f s (suc t) o =
+    let below = inputs (terms f s t) o in
+    let words = layer_words s o.rows (suc t) in
+    let group = full_group f s o t in
+    let last = pair f s.arity (f.compression group) (f.hash words) in
+    let next = reached_next f s o t in
+    elim (cases_Bool (has_rows s (suc t))) [
+      | inl e ↦ (
+        below ++ digests_at (Group t) group ∷ words_at (Rows t) words ∷ [],
+        digests_at (Pair t) last,
+        rw (joined_more (inputs_at f s o) t, inputs_with_rows f s o t e)
+            (sym (append_assoc below (digests_at (Group t) group ∷ words_at (Rows t) words ∷ [])
+            (digests_at (Pair t) last ∷ []))),
+        sym (rw e at next),
+      )
+      | inr n ↦ (
+        below,
+        digests_at (Group t) group,
+        rw (joined_more (inputs_at f s o) t, inputs_alone f s o t n) refl,
+        sym (rw n at next),
+      )
+    ]
+
+last_after : {X : Type 0} (x y : X) (xs : List X) → last_of x (xs ++ y ∷ []) ≡ y
+last_after x y [] = refl
+last_after x y (z ∷ xs) = last_after z y xs
+
+pub last_is : {T W : Type 0} (f : Functions T W) (s : Shape) (t : ℕ) (o : Opening T W) → (before : List (Input T W)) ×
+    (inputs (terms f s t) o ≡ before ++ last_input (terms f s t) o ∷ [])
+last_is f s t o =
+    let r = last_reached f s t o in
+    let e = ap (λ xs. last_of (leaf_input s o) xs) (r.2) ∙ last_after (leaf_input s o) (r.1) (r.0) in
+    (r.0, r.2 ∙ ap (λ x. r.0 ++ x ∷ []) (sym e))
+
+-- the walk reaches the digest in which the check ends
+pub walk_reaches : {T W : Type 0} (f : Functions T W) (s : Shape) (t : ℕ) (o : Opening T W) → path_digest f s o t
+    ≡ check_digest (terms f s t) o
+walk_reaches f s t o =
+    let r = last_reached f s t o in
+    let e = ap (λ xs. last_of (leaf_input s o) xs) (r.2) ∙ last_after (leaf_input s o) (r.1) (r.0) in
+    sym (ap (λ x. input_digest f x) e ∙ r.3)
+
+-- ---- accepted, by the walk
+
+-- the cap's entry is what the walk of an accepted opening reaches
+pub accepted_walk : {T W : Type 0} (f : Functions T W) (s : Shape) (t : ℕ) (cap : List (List W)) (o : Opening T W) →
+    IsAccepted (terms f s t) cap o → slice_get cap (ancestor s t o.index) ≡ Some (path_digest f s o t)
+accepted_walk f s t cap o a = a.authentic ∙ ap (λ d. Some d) (sym (walk_reaches f s t o))
+
+-- and where it is, and the rest fits, the opening is accepted
+pub accepted_by_walk : {T W : Type 0} (f : Functions T W) (s : Shape) (t : ℕ) (cap : List (List W)) (o : Opening T W) →
+    IsLawful (heights s) → map length o.rows ≡ widths s → length o.siblings ≡ siblings_below s t →
+    o.index < greatest (heights s) →
+    slice_get cap (ancestor s t o.index) ≡ Some (path_digest f s o t) → IsAccepted (terms f s t) cap o
+accepted_by_walk f s t cap o lawful rows_fit count in_range entry =
+    record {
+      lawful = lawful;
+      rows_fit = rows_fit;
+      count = count;
+      in_range = in_range;
+      authentic = entry
+          ∙ ap (λ d. Some d) (walk_reaches f s t o);
+    }

@@ -1,0 +1,116 @@
+-- At one index, two accepted openings have the same inputs exactly if they have the same siblings and the same rows up
+-- to the cap layer.
+use Rattle.std.proofs.Common.{◌≡◌, ◌↔◌, ℕ, zero, suc, ◌-◌, ◌<◌, ◌≤◌, List, ◌++◌, refl, ap, sym, ◌∙◌, subst, arith, inl, inr, length, take, drop, insert, replicate, flat_map, eq-eqb}
+use Rattle.std.proofs.lemmas.Bool.{cases_Bool}
+use Rattle.std.proofs.lemmas.List.{take_all}
+use Rattle.std.proofs.lemmas.List.Edits.{length-insert}
+use Rattle.p3_merkle_core.specs.Geometry.{Shape, IsArity, step, ancestor, position_in_group, has_rows}
+use Rattle.p3_merkle_core.specs.Nodes.{Functions}
+use Rattle.p3_merkle_core.specs.Openings.{Opening}
+use Rattle.p3_merkle_core.specs.Checks.{IsAccepted, inputs, inputs_at, shared_inputs, group_at, path_digest, layer_words, layer_rows, siblings_at, siblings_below, terms}
+use Rattle.p3_merkle_core.specs.declared.collision.Place.TheVariants.{Group}
+use Rattle.p3_merkle_core.proofs.Checks.CheckFacts.{same_digests, inputs_with_rows, inputs_alone, full_group}
+use Rattle.p3_merkle_core.proofs.Checks.Completeness.{reached_leaf, reached_next}
+use Rattle.p3_merkle_core.proofs.Checks.PathFacts.{joined_same}
+use Rattle.p3_merkle_core.proofs.Collisions.Extraction.{same_ends, siblings_full, in_group}
+use Rattle.p3_merkle_core.proofs.Checks.Binding.{insert_same, take_more_of, level_shared, rows_bound}
+use Rattle.p3_merkle_core.proofs.Lists.ListFacts.{joined, joined_more}
+
+-- ---- siblings
+
+siblings_joined : {X : Type 0} (s : Shape) (xs : List X) (n : ℕ) → take (siblings_below s n) xs
+    ≡ joined (λ l. take (step s l - 1) (drop (siblings_below s l) xs)) n
+unfolding siblings_below
+siblings_joined s xs zero = refl
+siblings_joined s xs (suc n) = take_more_of (siblings_below s n) (step s n - 1) xs
+    ∙ ap (λ ys. ys ++ take (step s n - 1) (drop (siblings_below s n) xs)) (siblings_joined s xs n)
+    ∙ sym (joined_more (λ l. take (step s l - 1) (drop (siblings_below s l) xs)) n)
+
+all_siblings : {T W : Type 0} (s : Shape) (t : ℕ) (o : Opening T W) → length o.siblings ≡ siblings_below s t →
+    o.siblings ≡ joined (siblings_at s o) t
+all_siblings s t o e = sym (take_all (siblings_below s t) o.siblings (omega arith)) ∙ siblings_joined s o.siblings t
+
+siblings_alike : {T W : Type 0} (f : Functions T W) (s : Shape) (t : ℕ) (o u : Opening T W) → IsArity s.arity →
+    length o.siblings ≡ siblings_below s t → length u.siblings ≡ siblings_below s t → o.index ≡ u.index →
+    (l : ℕ) → l < t → inputs_at f s o l ≡ inputs_at f s u l → siblings_at s o l ≡ siblings_at s u l
+siblings_alike {T} f s t o u w a b same l h e =
+    let g : full_group f s o l ≡ full_group f s u l =
+    elim (cases_Bool (has_rows s (suc l))) [
+      | inl t ↦ let c = sym (inputs_with_rows f s o l t) ∙ e ∙ inputs_with_rows f s u l t in
+          same_digests {T = T} (Group l) (Group l) (full_group f s o l) (full_group f s u l) cc
+      | inr n ↦ let c = sym (inputs_alone f s o l n) ∙ e ∙ inputs_alone f s u l n in
+          same_digests {T = T} (Group l) (Group l) (full_group f s o l) (full_group f s u l) cc
+    ] in
+    let p = position_in_group s l o.index in
+    let full = siblings_full s o t l a h in
+    let other = siblings_full s u t l b h in
+    let inside = in_group s l o.index w in
+    let first = group_at f s o l (path_digest f s o l) in
+    let second = insert (siblings_at s u l) p (path_digest f s u l) in
+    let long = length-insert (siblings_at s o l) p (path_digest f s o l) (omega arith) in
+    let long_too = length-insert (siblings_at s u l) p (path_digest f s u l) (omega arith) in
+    let blanks = λ (v : Opening _ _). replicate (s.arity - length (group_at f s v l (path_digest f s v l)))
+    f.default_digest in
+    let there : first ++ blanks o
+    ≡ second ++ blanks u =
+    subst (λ (k : ℕ). first ++ blanks o ≡ insert (siblings_at s u l) k (path_digest f s u l) ++ blanks u)
+    (sym (ap (λ i. position_in_group s l i) same)) g in
+    insert_same (siblings_at s o l) (siblings_at s u l) p (path_digest f s o l) (path_digest f s u l) (omega arith)
+    (same_ends first second (blanks o) (blanks u) (omega arith) there).0
+
+-- ---- from equal siblings and rows
+
+words_same : {T : Type 0} (s : Shape) (us vs : List (List T)) (l : ℕ) → layer_rows s us l ≡ layer_rows s vs l →
+    layer_words s us l ≡ layer_words s vs l
+words_same s us vs l e = ap (λ rs. flat_map (λ (h, row). row) rs) e
+
+group_same : {T W : Type 0} (f : Functions T W) (s : Shape) (o u : Opening T W) (l : ℕ) → o.index ≡ u.index → o.siblings
+    ≡ u.siblings → path_digest f s o l ≡ path_digest f s u l →
+    group_at f s o l (path_digest f s o l) ≡ group_at f s u l (path_digest f s u l)
+group_same f s o u l same sent below =
+    ap (λ i. insert (siblings_at s o l) (position_in_group s l i) (path_digest f s o l)) same
+    ∙ ap (λ ds. insert (take (step s l - 1) (drop (siblings_below s l) ds)) (position_in_group s l u.index)
+    (path_digest f s o l)) sent
+    ∙ ap (λ d. insert (siblings_at s u l) (position_in_group s l u.index) d) below
+
+reached_same : {T W : Type 0} (f : Functions T W) (s : Shape) (t : ℕ) (o u : Opening T W) → o.index ≡ u.index →
+    o.siblings ≡ u.siblings → ((l : ℕ) → l ≤ t → layer_rows s o.rows l ≡ layer_rows s u.rows l) →
+    (n : ℕ) → n ≤ t → path_digest f s o n ≡ path_digest f s u n
+reached_same f s t o u same sent rows zero h = reached_leaf f s o ∙ ap f.hash (words_same s o.rows u.rows 0 (rows 0 h))
+    ∙ sym (reached_leaf f s u)
+reached_same f s t o u same sent rows (suc n) h =
+    let group = group_same f s o u n same sent (reached_same f s t o u same sent rows n (omega arith)) in
+    let words = words_same s o.rows u.rows (suc n) (rows (suc n) h) in
+    reached_next f s o n ∙ rw (group, words) (sym (reached_next f s u n))
+
+level_same : {T W : Type 0} (f : Functions T W) (s : Shape) (t : ℕ) (o u : Opening T W) → o.index ≡ u.index → o.siblings
+    ≡ u.siblings → ((l : ℕ) → l ≤ t → layer_rows s o.rows l ≡ layer_rows s u.rows l) →
+    (l : ℕ) → l < t → inputs_at f s o l ≡ inputs_at f s u l
+level_same f s t o u same sent rows l h =
+    let group = group_same f s o u l same sent (reached_same f s t o u same sent rows l (omega arith)) in
+    let words = words_same s o.rows u.rows (suc l) (rows (suc l) (omega arith)) in
+    rw (group, words) refl
+
+-- ---- both ways
+
+pub same_at_one_index : {T W : Type 0} (f : Functions T W) (s : Shape) (t : ℕ) (cap : List (List W))
+    (o u : Opening T W) → IsArity s.arity → IsAccepted (terms f s t) cap o → IsAccepted (terms f s t) cap u → o.index
+    ≡ u.index →
+    (shared_inputs (terms f s t) o.index u.index o ≡ shared_inputs (terms f s t) o.index u.index u) ↔
+    ((o.siblings ≡ u.siblings) × ((l : ℕ) → l ≤ t → layer_rows s o.rows l ≡ layer_rows s u.rows l))
+same_at_one_index f s t cap o u w a b same = (
+  λ e. (
+    all_siblings s t o a.count
+        ∙ joined_same (siblings_at s o) (siblings_at s u) t
+        (λ l h. siblings_alike f s t o u w a.count b.count same l h
+        (level_shared f s t o u e l h (ap (λ i. ancestor s (suc l) i) same)))
+        ∙ sym (all_siblings s t u b.count),
+    λ l h. rows_bound f s t cap o u a b e l h (ap (λ i. ancestor s l i) same),
+  ),
+  λ (sent, rows).
+      let test = eq-eqb o.index u.index same in
+      let leaf = words_same s o.rows u.rows 0 (rows 0 (omega arith)) in
+      let rest = joined_same (inputs_at f s o) (inputs_at f s u) t (λ l h. level_same f s t o u same sent rows l h) in
+      let all : inputs (terms f s t) o ≡ inputs (terms f s t) u = rw (leaf, rest) refl in
+      rw test all,
+)

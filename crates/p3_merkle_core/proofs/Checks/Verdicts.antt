@@ -1,0 +1,172 @@
+-- The answers under a cap: what is accepted is what is not refused.
+use Rattle.std.proofs.Common.{◌≡◌, ◌↔◌, ℕ, zero, suc, ◌<◌, Bool, true, false, eqb, nat_lt, List, [], ◌∷◌, map, refl, ap, sym, ◌∙◌, arith, length, get_or, slice_get, Option, Some, None, eq-eqb}
+use Rattle.std.specs.Prelude.{Ok, Decides}
+use Rattle.std.specs.Cmp.Lexicographic.{pointwise, pointwise_decides}
+use Rattle.std.specs.List.{list_all}
+use Rattle.std.specs.Option.{unwrap_or, option_map, option_or}
+use Rattle.std.proofs.lemmas.Bool.{and_parts, and_from, eqb-true, ltb-true, lt-ltb, true≢false}
+use Rattle.std.proofs.lemmas.List.{length-map}
+use Rattle.p3_merkle_core.proofs.Shapes.ShapeFacts.{length-widths}
+use Rattle.p3_support.specs.Batches.{greatest}
+use Rattle.p3_merkle_core.specs.Geometry.{Shape, IsArity, ancestor, heights, widths, IsLawful}
+use Rattle.p3_merkle_core.specs.Gate.{gate_refusal}
+use Rattle.p3_merkle_core.specs.Nodes.{Functions}
+use Rattle.p3_merkle_core.specs.Openings.{Opening}
+use Rattle.p3_merkle_core.specs.Checks.{IsAccepted, siblings_below, path_digest, terms}
+use Rattle.p3_merkle_core.specs.Pruning.{PrunedOpening, restored_node, IsCapped, EachAccepted, IsRestorable}
+use Rattle.p3_merkle_core.specs.Refusals.{first_some, unless, is_entry, size_refusal, sibling_count_refusal, row_width_refusal, refusal_under, answer_under, pruned_refusal, cap_refusal, pruned_answer_under, form_refusal, ok_unless}
+use Rattle.p3_merkle_core.specs.declared.error.MerkleTreeError.TheVariants.{WrongBatchSize, WrongHeight, IndexOutOfBounds, CapMismatch}
+use Rattle.p3_merkle_core.proofs.Pruned.NoneFacts.{none_parts, unless_none, none_unless, verdict_ok, rows_fit_from}
+use Rattle.p3_merkle_core.proofs.Pruned.Answered.{restorable}
+use Rattle.p3_merkle_core.proofs.Pruned.Unrefused.{unrefused, size_none, each_width}
+use Rattle.p3_merkle_core.proofs.Covered.Equivalence.{query_covered, rows_under_is, equivalent}
+use Rattle.p3_merkle_core.proofs.Checks.CheckFacts.{accepted_walk, accepted_by_walk}
+use Rattle.p3_merkle_core.proofs.Shapes.GateFacts.{gate_lawful}
+
+-- ---- entries
+
+some_is : {W : Type 0} (digest_eq : W → W → Bool) → ((x y : W) → Decides (digest_eq x y) (x ≡ y)) →
+    (o : Option (List W)) (d : List W) →
+    (unwrap_or (option_map (λ entry. pointwise digest_eq entry d) o) false ≡ true) ↔ (o ≡ Some d)
+some_is digest_eq dec None d = (λ e. absurd (true≢false (sym e)), λ e. absurd cc)
+some_is digest_eq dec (Some x) d = (
+  λ e. ap (λ y. Some y) ((pointwise_decides dec x d).0 e),
+  λ e. (pointwise_decides dec x d).1 (let c : x ≡ d = cc in c),
+)
+
+pub entry_is : {W : Type 0} (digest_eq : W → W → Bool) → ((x y : W) → Decides (digest_eq x y) (x ≡ y)) →
+    (cap : List (List W)) (j : ℕ) (d : List W) →
+    (is_entry (pointwise digest_eq) cap j d ≡ true) ↔ (slice_get cap j ≡ Some d)
+entry_is digest_eq dec cap j d = some_is digest_eq dec (slice_get cap j) d
+
+each_true : (p : ℕ → Bool) (xs : List ℕ) → list_all p xs ≡ true → (k : ℕ) → k < length xs → p (get_or xs k 0) ≡ true
+each_true p [] e k h = absurd (omega arith)
+each_true p (x ∷ xs) e zero h = (and_parts (p x) (list_all p xs) e).0
+each_true p (x ∷ xs) e (suc k) h = each_true p xs (and_parts (p x) (list_all p xs) e).1 k (omega arith)
+
+true_each : (p : ℕ → Bool) (xs : List ℕ) → ((k : ℕ) → k < length xs → p (get_or xs k 0) ≡ true) → list_all p xs ≡ true
+true_each p [] e = refl
+true_each p (x ∷ xs) e =
+    and_from (p x) (list_all p xs) (e 0 (omega arith)) (true_each p xs (λ k h. e (suc k) (omega arith)))
+
+-- ---- single openings
+
+-- the form is not refused exactly if the heights are lawful and rows, siblings and index fit them
+pub record HasForm {T : Type 0} (s : Shape) (t index : ℕ) (rows : List (List T)) (siblings : ℕ) : Type 0 where
+  pub lawful : IsLawful (heights s)
+  pub rows_fit : map length rows ≡ widths s
+  pub count : siblings ≡ siblings_below s t
+  pub in_range : index < greatest (heights s)
+
+pub form_from : {T : Type 0} (s : Shape) (t index : ℕ) (rows : List (List T)) (siblings : ℕ) →
+    form_refusal s t index rows siblings ≡ None → HasForm s t index rows siblings
+form_from s t index rows siblings e =
+    let m = greatest (heights s) in
+    let r5 = unless (nat_lt index m) (IndexOutOfBounds m index) ∷ [] in
+    let r4 = row_width_refusal (widths s) rows ∷ r5 in
+    let r3 = sibling_count_refusal (siblings_below s t) siblings ∷ r4 in
+    let a = none_parts (size_refusal (length s.dimensions) (length rows)) (first_some (gate_refusal (heights s) ∷ r3))
+    e in
+    let b = none_parts (gate_refusal (heights s)) (first_some r3) a.1 in
+    let c = none_parts (sibling_count_refusal (siblings_below s t) siblings) (first_some r4) b.1 in
+    let d = none_parts (row_width_refusal (widths s) rows) (first_some r5) c.1 in
+    let g = none_parts (unless (nat_lt index m) (IndexOutOfBounds m index)) None d.1 in
+    let size = eqb-true (length s.dimensions) (length rows)
+    (unless_none (eqb (length s.dimensions) (length rows)) (WrongBatchSize (length s.dimensions) (length rows)) a.0)
+    in
+    record {
+      lawful = (gate_lawful (heights s)).0 b.0;
+      rows_fit = rows_fit_from (widths s) rows (length-widths s ∙ size) d.0;
+      count = sym (eqb-true (siblings_below s t) siblings
+          (unless_none (eqb (siblings_below s t) siblings) (WrongHeight (siblings_below s t) siblings) c.0));
+      in_range = ltb-true index m (unless_none (nat_lt index m) (IndexOutOfBounds m index) g.0);
+    }
+
+pub form_none : {T : Type 0} (s : Shape) (t index : ℕ) (rows : List (List T)) (siblings : ℕ) →
+    HasForm s t index rows siblings → form_refusal s t index rows siblings ≡ None
+form_none s t index rows siblings w =
+    let m = greatest (heights s) in
+    let size = size_none (length s.dimensions) (length rows) (sym (length-widths s) ∙ sym (ap length w.rows_fit)
+    ∙ length-map rows length) in
+    let gate = (gate_lawful (heights s)).1 w.lawful in
+    let height = none_unless (eqb (siblings_below s t) siblings) (WrongHeight (siblings_below s t) siblings)
+    (eq-eqb (siblings_below s t) siblings (sym w.count)) in
+    let fit : row_width_refusal (widths s) rows ≡ None = rw (← w.rows_fit) (each_width 0 rows) in
+    let below = none_unless (nat_lt index m) (IndexOutOfBounds m index) (lt-ltb index m w.in_range) in
+    rw (size, gate, height, fit, below) refl
+
+pub accepted_from : {T W : Type 0} (digest_eq : W → W → Bool) (f : Functions T W) (s : Shape) (t : ℕ)
+    (cap : List (List W)) (o : Opening T W) → ((x y : W) → Decides (digest_eq x y) (x ≡ y)) →
+    answer_under digest_eq (terms f s t) cap o ≡ Ok tt → IsAccepted (terms f s t) cap o
+accepted_from digest_eq f s t cap o dec e =
+    let digest = path_digest f s o t in
+    let entry = is_entry (pointwise digest_eq) cap (ancestor s t o.index) digest in
+    let both = none_parts (form_refusal s t o.index o.rows (length o.siblings)) (unless entry CapMismatch)
+    (verdict_ok (refusal_under digest_eq (terms f s t) cap o) e) in
+    let form = form_from s t o.index o.rows (length o.siblings) both.0 in
+    accepted_by_walk f s t cap o form.lawful form.rows_fit form.count form.in_range
+    ((entry_is digest_eq dec cap (ancestor s t o.index) digest).0 (unless_none entry CapMismatch both.1))
+
+pub accepted_answer : {T W : Type 0} (digest_eq : W → W → Bool) (f : Functions T W) (s : Shape) (t : ℕ)
+    (cap : List (List W)) (o : Opening T W) → ((x y : W) → Decides (digest_eq x y) (x ≡ y)) →
+    IsAccepted (terms f s t) cap o → answer_under digest_eq (terms f s t) cap o ≡ Ok tt
+accepted_answer digest_eq f s t cap o dec w =
+    let digest = path_digest f s o t in
+    let form = form_none s t o.index o.rows (length o.siblings)
+    (record { lawful = w.lawful; rows_fit = w.rows_fit; count = w.count; in_range = w.in_range }) in
+    let entry = none_unless (is_entry (pointwise digest_eq) cap (ancestor s t o.index) digest) CapMismatch
+    ((entry_is digest_eq dec cap (ancestor s t o.index) digest).1 (accepted_walk f s t cap o w)) in
+    let none : refusal_under digest_eq (terms f s t) cap o ≡ None = rw (form, entry) refl in
+    ap (λ refusal. ok_unless refusal (tt {0})) none
+
+-- ---- pruned openings
+
+cap_fits : {T W : Type 0} (digest_eq : W → W → Bool) (f : Functions T W) (s : Shape) (t : ℕ) (cap : List (List W))
+    (p : PrunedOpening T W) → ((x y : W) → Decides (digest_eq x y) (x ≡ y)) → length p.rows ≡ length p.indices →
+    (cap_refusal digest_eq (terms f s t) cap p ≡ None) ↔ IsCapped (terms f s t) cap p
+cap_fits digest_eq f s t cap p dec paired =
+    let test : ℕ →
+    Bool = λ i. is_entry (pointwise digest_eq) cap (ancestor s t i)
+    (restored_node (terms f s t) p t (ancestor s t i)) in (
+      λ e j c.
+          let all = each_true test p.indices (unless_none (list_all test p.indices) CapMismatch e) in
+          let u = rows_under_is s p.indices p.rows t j paired c in
+          let at = u.2 in
+          rw (← at) ((entry_is digest_eq dec cap (ancestor s t (get_or p.indices (u.0) 0))
+          (restored_node (terms f s t) p t (ancestor s t (get_or p.indices (u.0) 0)))).0 (all (u.0) (u.1))),
+      λ capped. none_unless (list_all test p.indices) CapMismatch (true_each test p.indices (λ k h.
+          let j = ancestor s t (get_or p.indices k 0) in
+          (entry_is digest_eq dec cap j (restored_node (terms f s t) p t j)).1
+          (capped j (query_covered s p.indices k t h)))),
+    )
+
+-- a pruned opening is answered Ok exactly if it is restorable and the cap has each covered node of its layer
+pub pruned_capped : {T W : Type 0} (row_eq : T → T → Bool) (digest_eq : W → W → Bool) (f : Functions T W) (s : Shape)
+    (t : ℕ) (cap : List (List W)) (p : PrunedOpening T W) →
+    ((x y : T) → Decides (row_eq x y) (x ≡ y)) → ((x y : W) → Decides (digest_eq x y) (x ≡ y)) →
+    (pruned_answer_under row_eq digest_eq (terms f s t) cap p ≡ Ok tt) ↔ (IsRestorable s t p ×
+    IsCapped (terms f s t) cap p)
+pruned_capped row_eq digest_eq f s t cap p dec dec_w =
+    let first = pruned_refusal row_eq s t p in
+    let last = cap_refusal digest_eq (terms f s t) cap p in (
+      λ e.
+          let both = none_parts first last (verdict_ok (option_or first last) e) in
+          let r = restorable row_eq s t p dec (ap (λ refusal. ok_unless refusal (tt {0})) both.0) in
+          (r, (cap_fits digest_eq f s t cap p dec_w r.agreed.in_pairs).0 both.1),
+      λ (r, capped).
+          let a = verdict_ok first (unrefused row_eq s t p dec r) in
+          let b = (cap_fits digest_eq f s t cap p dec_w r.agreed.in_pairs).1 capped in
+          let none : option_or first last ≡ None = rw (a, b) refl in
+          ap (λ refusal. ok_unless refusal (tt {0})) none,
+    )
+
+-- and exactly if it is restorable and each query is accepted with its restored path
+pub pruned_accepted : {T W : Type 0} (row_eq : T → T → Bool) (digest_eq : W → W → Bool) (f : Functions T W) (s : Shape)
+    (t : ℕ) (cap : List (List W)) (p : PrunedOpening T W) →
+    ((x y : T) → Decides (row_eq x y) (x ≡ y)) → ((x y : W) → Decides (digest_eq x y) (x ≡ y)) → IsArity s.arity →
+    (pruned_answer_under row_eq digest_eq (terms f s t) cap p ≡ Ok tt) ↔ (IsRestorable s t p ×
+    EachAccepted (terms f s t) cap p)
+pruned_accepted row_eq digest_eq f s t cap p dec dec_w w =
+    let capped = pruned_capped row_eq digest_eq f s t cap p dec dec_w in
+    let alike = λ (r : IsRestorable s t p). equivalent f s t cap p w r.lawful r.below r.rows_fit r.agreed in
+    (λ e. let both = capped.0 e in (both.0, (alike both.0).0 both.1), λ (r, each). capped.1 (r, (alike r).1 each))

@@ -1,0 +1,172 @@
+-- The last difference of two checks: there is none exactly if they agree wherever they share a place, and else it is a
+-- collision.
+use Rattle.std.proofs.Common.{◌≡◌, ◌≢◌, ◌↔◌, ℕ, ◌+◌, ◌-◌, Bool, List, [], ◌∷◌, refl, ap, sym, ◌∙◌, arith, inl, inr, length, Option, Some, None, eq-eqb}
+use Rattle.std.specs.Option.{option_or}
+use Rattle.std.specs.Cmp.Lexicographic.{pointwise_decides}
+use Rattle.std.proofs.lemmas.Bool.{cases_Bool, cases_eq, cond-false, and_parts, and_from, eqb-true, ne_eqb, true≢false, false≢true}
+use Rattle.p3_merkle_core.specs.Geometry.{IsArity, Shape}
+use Rattle.p3_merkle_core.specs.declared.collision.Place.TheVariants.{Leaf, Group, Rows, Pair}
+use Rattle.p3_merkle_core.specs.Nodes.{Functions}
+use Rattle.p3_merkle_core.specs.Openings.{Opening}
+use Rattle.p3_merkle_core.specs.Checks.{AgreeWhereShared, Input, IsAccepted, IsLastDifference, inputs_at, shared_inputs, meeting_level, terms, Terms, Words, Digests, HasDigests}
+use Rattle.p3_merkle_core.specs.Refusals.{unless, IsEquality}
+use Rattle.p3_merkle_core.specs.Extraction.{difference_of, input_eq, last_difference, IsCollision, place_eq, content_eq}
+use Rattle.p3_merkle_core.proofs.Pruned.NoneFacts.{none_parts, unless_none, none_unless, none_of_both}
+use Rattle.p3_merkle_core.proofs.Collisions.Extraction.{collides, level_lengths}
+use Rattle.p3_merkle_core.proofs.Checks.InputFacts.{of_last_difference, shared_full}
+use Rattle.p3_merkle_core.proofs.Checks.PlaceFacts.{at_one_place}
+use Rattle.p3_merkle_core.proofs.Checks.Binding.{pieces_long}
+
+-- ---- the test on inputs
+
+place_eq_decides : IsEquality place_eq
+place_eq_decides Leaf Leaf = (λ e. refl, λ e. refl)
+place_eq_decides Leaf (Group m) = (λ e. absurd (false≢true e), λ e. absurd cc)
+place_eq_decides Leaf (Rows m) = (λ e. absurd (false≢true e), λ e. absurd cc)
+place_eq_decides Leaf (Pair m) = (λ e. absurd (false≢true e), λ e. absurd cc)
+place_eq_decides (Group l) Leaf = (λ e. absurd (false≢true e), λ e. absurd cc)
+place_eq_decides (Group l) (Group m) = (λ e. ap Group (eqb-true l m e), λ e. eq-eqb l m cc)
+place_eq_decides (Group l) (Rows m) = (λ e. absurd (false≢true e), λ e. absurd cc)
+place_eq_decides (Group l) (Pair m) = (λ e. absurd (false≢true e), λ e. absurd cc)
+place_eq_decides (Rows l) Leaf = (λ e. absurd (false≢true e), λ e. absurd cc)
+place_eq_decides (Rows l) (Group m) = (λ e. absurd (false≢true e), λ e. absurd cc)
+place_eq_decides (Rows l) (Rows m) = (λ e. ap Rows (eqb-true l m e), λ e. eq-eqb l m cc)
+place_eq_decides (Rows l) (Pair m) = (λ e. absurd (false≢true e), λ e. absurd cc)
+place_eq_decides (Pair l) Leaf = (λ e. absurd (false≢true e), λ e. absurd cc)
+place_eq_decides (Pair l) (Group m) = (λ e. absurd (false≢true e), λ e. absurd cc)
+place_eq_decides (Pair l) (Rows m) = (λ e. absurd (false≢true e), λ e. absurd cc)
+place_eq_decides (Pair l) (Pair m) = (λ e. ap Pair (eqb-true l m e), λ e. eq-eqb l m cc)
+
+content_eq_decides : {T W : Type 0} (row_eq : T → T → Bool) (digest_eq : W → W → Bool) → IsEquality row_eq →
+    IsEquality digest_eq → IsEquality (content_eq row_eq digest_eq)
+content_eq_decides row_eq digest_eq dec dec_w (Words x) (Words y) =
+    (λ e. ap Words ((pointwise_decides dec x y).0 e), λ e. (pointwise_decides dec x y).1 cc)
+content_eq_decides row_eq digest_eq dec dec_w (Words x) (Digests y) = (λ e. absurd (false≢true e), λ e. absurd cc)
+content_eq_decides row_eq digest_eq dec dec_w (Digests x) (Words y) = (λ e. absurd (false≢true e), λ e. absurd cc)
+content_eq_decides row_eq digest_eq dec dec_w (Digests x) (Digests y) =
+    let both = pointwise_decides (pointwise_decides dec_w) x y in
+    (λ e. ap Digests (both.0 e), λ e. both.1 cc)
+
+pub input_eq_decides : {T W : Type 0} (row_eq : T → T → Bool) (digest_eq : W → W → Bool) → IsEquality row_eq →
+    IsEquality digest_eq → IsEquality (input_eq row_eq digest_eq)
+input_eq_decides {T} {W} row_eq digest_eq dec dec_w x y =
+    let place = place_eq_decides x.place y.place in
+    let content = content_eq_decides row_eq digest_eq dec dec_w x.content y.content in (
+      λ e.
+          let both = and_parts (place_eq x.place y.place) (content_eq row_eq digest_eq x.content y.content) e in
+          let p = place.0 both.0 in
+          let c = content.0 both.1 in
+          λ i. record { place = p i; content = c i },
+      λ e.
+          let p = place.1 (ap (λ (z : Input T W). z.place) e) in
+          let c = content.1 (ap (λ (z : Input T W). z.content) e) in
+          and_from (place_eq x.place y.place) (content_eq row_eq digest_eq x.content y.content) p c,
+    )
+
+-- ---- the last difference
+
+pub none_differs : {X : Type 0} (test : X → X → Bool) → IsEquality test → (xs ys : List X) → length xs ≡ length ys →
+    (last_difference test xs ys ≡ None) ↔ (xs ≡ ys)
+none_differs test dec [] [] same = (λ e. refl, λ e. refl)
+none_differs test dec [] (y ∷ ys) same = absurd (omega arith)
+none_differs test dec (x ∷ xs) [] same = absurd (omega arith)
+none_differs test dec (x ∷ xs) (y ∷ ys) same =
+    let rest = none_differs test dec xs ys (omega arith) in (
+      λ e.
+          let p = none_parts (last_difference test xs ys) (unless (test x y) (x, y)) e in
+          let head = (dec x y).0 (unless_none (test x y) (x, y) p.1) in
+          let tail = rest.0 p.0 in
+          cc,
+      λ e.
+          let tail : xs ≡ ys = cc in
+          let head : x ≡ y = cc in
+          none_of_both (last_difference test xs ys) (unless (test x y) (x, y)) (rest.1 tail)
+          (none_unless (test x y) (x, y) ((dec x y).1 head)),
+    )
+
+here_or_later : {X : Type 0} (test : X → X → Bool) → IsEquality test → (x y : X) (xs ys : List X) (a b : X) → length xs
+    ≡ length ys → (last_difference test xs ys ≡ Some (a, b) → IsLastDifference xs ys a b) →
+    (o : Option (X × X)) → last_difference test xs ys ≡ o → option_or o (unless (test x y) (x, y)) ≡ Some (a, b) →
+    IsLastDifference (x ∷ xs) (y ∷ ys) a b
+here_or_later test dec x y xs ys a b same below (Some p) is e = inl (below (is ∙ e))
+here_or_later {X} test dec x y xs ys a b same below None is e =
+    let pair : X × X = (x, y) in
+    elim (cases_Bool (test x y)) [
+      | inl t ↦ absurd (let n = none_unless (test x y) pair t in cc)
+      | inr f ↦
+          let is_pair : Some pair ≡ Some (a, b) = sym (cond-false (test x y) None (Some pair) f) ∙ e in
+          let both : pair ≡ (a, b) = cc in
+          let first : x ≡ a = ap (λ (p : X × X). p.0) both in
+          let second : y ≡ b = ap (λ (p : X × X). p.1) both in
+          inr (
+            (none_differs test dec xs ys same).0 is,
+            first,
+            second,
+            λ z. true≢false (sym ((dec x y).1 (first ∙ z ∙ sym second)) ∙ f),
+          )
+    ]
+
+pub some_differs : {X : Type 0} (test : X → X → Bool) → IsEquality test → (xs ys : List X) (a b : X) → length xs
+    ≡ length ys → last_difference test xs ys ≡ Some (a, b) → IsLastDifference xs ys a b
+some_differs test dec [] ys a b same e = absurd cc
+some_differs test dec (x ∷ xs) [] a b same e = absurd (omega arith)
+some_differs test dec (x ∷ xs) (y ∷ ys) a b same e =
+    here_or_later test dec x y xs ys a b (omega arith) (λ is. some_differs test dec xs ys a b (omega arith) is)
+    (last_difference test xs ys) refl e
+
+pub differs : {X : Type 0} (xs ys : List X) (a b : X) → IsLastDifference xs ys a b → a ≢ b
+differs [] ys a b d = absurd d
+differs (x ∷ xs) [] a b d = absurd d
+differs (x ∷ xs) (y ∷ ys) a b (inl d) = differs xs ys a b d
+differs (x ∷ xs) (y ∷ ys) a b (inr d) = d.3
+
+-- ---- extraction
+
+pub shared_long : {T W : Type 0} (f : Functions T W) (s : Shape) (t : ℕ) (o u : Opening T W) →
+    length (shared_inputs (terms f s t) o.index u.index o) ≡ length (shared_inputs (terms f s t) o.index u.index u)
+shared_long f s t o u =
+    let m = meeting_level s t o.index u.index in
+    elim (cases_eq o.index u.index) [
+      | inl z ↦
+          let test = eq-eqb o.index u.index z in
+          let long = pieces_long (inputs_at f s o) (inputs_at f s u) t (level_lengths f s o u) in
+          rw test (omega (arith, long))
+      | inr nz ↦
+          let test = ne_eqb o.index u.index nz in
+          let long = pieces_long (λ k. inputs_at f s o (m + k)) (λ k. inputs_at f s u (m + k)) (t - m)
+          (λ k. level_lengths f s o u (m + k)) in
+          rw test long
+    ]
+
+-- two checks have no difference exactly where they agree wherever they share a place
+pub no_difference : {T W : Type 0} (row_eq : T → T → Bool) (digest_eq : W → W → Bool) (c : Terms T W)
+    (o u : Opening T W) → IsEquality row_eq → IsEquality digest_eq →
+    (difference_of row_eq digest_eq c o u ≡ None) ↔ AgreeWhereShared c o u
+no_difference row_eq digest_eq c o u dec dec_w =
+    none_differs (input_eq row_eq digest_eq) (input_eq_decides row_eq digest_eq dec dec_w)
+    (shared_inputs c o.index u.index o) (shared_inputs c o.index u.index u)
+    (shared_long c.functions c.shape c.layer o u)
+
+-- and of two accepted openings it is a collision
+pub difference_collides : {T W : Type 0} (row_eq : T → T → Bool) (digest_eq : W → W → Bool) (c : Terms T W)
+    (cap : List (List W)) (o u : Opening T W) → IsEquality row_eq → IsEquality digest_eq → IsArity c.shape.arity →
+    IsAccepted c cap o → IsAccepted c cap u → (found : Input T W × Input T W) → difference_of row_eq digest_eq c o u
+    ≡ Some found → IsCollision c o u found
+difference_collides row_eq digest_eq c cap o u dec dec_w w first second found is =
+    let f = c.functions in
+    let s = c.shape in
+    let t = c.layer in
+    let mine = shared_inputs c o.index u.index o in
+    let theirs = shared_inputs c o.index u.index u in
+    let last = some_differs (input_eq row_eq digest_eq) (input_eq_decides row_eq digest_eq dec dec_w) mine theirs
+    found.0 found.1 (shared_long f s t o u) is in
+    let full = of_last_difference (HasDigests s.arity) mine theirs found.0 found.1
+    (shared_full f s t o.index u.index o w first.count) (shared_full f s t o.index u.index u w second.count) last in
+    record {
+      last = last;
+      at_one_place = at_one_place f s t o u found.0 found.1 last;
+      different = differs mine theirs found.0 found.1 last;
+      first_full = full.0;
+      second_full = full.1;
+      one_digest = collides f s t cap o u w first second found.0 found.1 last;
+    }

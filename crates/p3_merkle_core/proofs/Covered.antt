@@ -1,0 +1,12 @@
+-- The nodes that queries cover, the values of their children, and the boundary beside them.
+pub mod Under
+pub mod CoveredFacts
+pub mod LeafFacts
+pub mod ChildFacts
+pub mod ValueFacts
+pub mod SentFacts
+pub mod KeptFacts
+pub mod Sufficient
+pub mod Minimal
+pub mod Restoration
+pub mod Equivalence

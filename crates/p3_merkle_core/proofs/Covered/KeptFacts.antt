@@ -1,0 +1,329 @@
+-- The paths that are read out of a walk's kept levels.
+use Rattle.std.proofs.Common.{◌≡◌, ℕ, zero, suc, ◌+◌, ◌-◌, ◌*◌, ◌/◌, ◌%◌, ◌<◌, ◌≤◌, true, eqb, nat_lt, List, [], ◌∷◌, ◌++◌, map, refl, ap, sym, ◌∙◌, arith, add-one, inl, inr, length, filter, get_or, take, drop, remove, eq-eqb, Ok, Err, append_assoc, append-nil, drop-cons, fold}
+use Rattle.std.specs.List.{enumerate_from, flat_map, range_with_len, take-map, drop-map}
+use Rattle.std.specs.List.Sorted.{IsStrictlyIncreasing, IsBinarySearchResult}
+use Rattle.std.specs.Ordering.{nat_cmp}
+use Rattle.std.proofs.lemmas.Bool.{cases_eq, cases_lt, eqb-true, or_cases, or_left, or_right, true≢false, false_from_ne_true, lt-ltb, le-ltb}
+use Rattle.std.proofs.lemmas.List.{map-append, take-take, drop-take, drop-drop, drop_all, take-append-le, take_all, take_more, get_or-map, get_or_default, length-map}
+use Rattle.std.proofs.lemmas.List.{map_more}
+use Rattle.std.proofs.lemmas.List.Folds.{Any-from_list_any}
+use Rattle.std.proofs.lemmas.List.FromFn.{length-range_with_len, map-range_with_len_more, take-map-range_with_len}
+use Rattle.std.proofs.lemmas.List.Sums.{fold-append}
+use Rattle.std.proofs.lemmas.Simd.{map-map}
+use Rattle.std.proofs.Math.Nat.{div-div-eq-div-mul}
+use Rattle.std.proofs.lemmas.List.Kept.{AllPairs-from_increasing}
+use Rattle.std.proofs.lemmas.List.Sorted.{searched}
+use Rattle.std.proofs.Math.Seq.{drop-append-add}
+use Rattle.p3_merkle_core.specs.Inner.Children.{children_at, children_under, node_over, path_out_of, paths_out_of, place_among, siblings_out_of}
+use Rattle.p3_support.specs.Lists.{is_among}
+use Rattle.p3_merkle_core.specs.Views.{shown_path, shown_paths}
+use Rattle.p3_merkle_core.specs.declared.pruning.AuthPath.{AuthPath}
+use Rattle.p3_merkle_core.specs.Geometry.{Shape, step, ancestor, layer_len, leaves_under, schedule_below}
+use Rattle.p3_merkle_core.specs.Nodes.{Functions}
+use Rattle.p3_merkle_core.specs.Pruning.{CanQuery, PrunedOpening, is_covered, covered_at, value_of, restored_path, restored_paths}
+use Rattle.p3_merkle_core.proofs.Covered.CoveredFacts.{covered_listed}
+use Rattle.p3_merkle_core.proofs.Lists.ListFacts.{joined}
+use Rattle.p3_merkle_core.proofs.Checks.PathFacts.{joined_same, piece}
+use Rattle.p3_merkle_core.proofs.Lists.RisingFacts.{listed_at, IsRising, rising_from, rising_filter, increasing_from}
+use Rattle.p3_merkle_core.proofs.Shapes.StepFacts.{anc_next}
+use Rattle.p3_merkle_core.proofs.Covered.ValueFacts.{map_children}
+use Rattle.p3_merkle_core.specs.Checks.{terms}
+
+-- ---- places
+
+none_below : (p a : ℕ) (xs : List ℕ) → p ≤ a → IsRising a xs → filter (λ x. nat_lt x p) xs ≡ []
+none_below p a [] le r = refl
+none_below p a (x ∷ xs) le r = let f = le-ltb x p (omega (arith, r.0)) in
+    rw f (none_below p (suc x) xs (omega (arith, r.0)) r.1)
+
+rising_at : (a : ℕ) (xs : List ℕ) (k : ℕ) → IsRising a xs → k < length xs → a ≤ get_or xs k 0
+rising_at a [] k r h = absurd (omega arith)
+rising_at a (x ∷ xs) zero r h = r.0
+rising_at a (x ∷ xs) (suc k) r h = omega (arith, r.0, rising_at (suc x) xs k r.1 (omega arith))
+
+place_rising : (a : ℕ) (xs : List ℕ) (k : ℕ) → IsRising a xs → k < length xs → place_among xs (get_or xs k 0) ≡ k
+place_rising a [] k r h = absurd (omega arith)
+place_rising a (x ∷ xs) zero r h = let f = le-ltb x x (omega arith) in
+    rw f (ap length (none_below x (suc x) xs (omega arith) r.1))
+place_rising a (x ∷ xs) (suc k) r h =
+    let t = lt-ltb x (get_or xs k 0) (rising_at (suc x) xs k r.1 (omega arith)) in
+    rw t (ap suc (place_rising (suc x) xs k r.1 (omega arith)))
+
+-- a number of an ascending list stands at its place
+placed : (xs : List ℕ) (k p : ℕ) → IsStrictlyIncreasing xs → k < length xs → get_or xs k 0 ≡ p → place_among xs p ≡ k
+placed xs k p up h e = rw (← e) (place_rising 0 xs k (rising_from xs up) h)
+
+-- where a listed number stands
+found_at : (xs : List ℕ) (x : ℕ) → is_among xs x ≡ true → (k : ℕ) × (k < length xs) × (get_or xs k 0 ≡ x)
+found_at xs x h =
+    let q = Any-from_list_any (λ y. eqb y x) xs h in
+    (q.0, q.2, get_or_default xs q.0 0 q.1 q.2 ∙ q.3 ∙ eqb-true q.1 x q.4)
+
+-- where a binary search finds a number
+found_by : (xs : List ℕ) (x i : ℕ) → IsStrictlyIncreasing xs → IsBinarySearchResult (λ y. nat_cmp y x) xs (Ok i) →
+    (i < length xs) × (get_or xs i 0 ≡ x)
+found_by xs x i up hit =
+    let order = AllPairs-from_increasing xs up in
+    searched xs x (Ok i) hit
+    (λ i j le k. elim (cases_eq i j) [
+      | inl e ↦ rw e (omega arith)
+      | inr ne ↦ let q = order i j 0 (omega arith) k in
+          omega arith
+    ])
+
+-- a binary search does not miss what is listed
+not_missed : (xs : List ℕ) (x i : ℕ) → IsStrictlyIncreasing xs → IsBinarySearchResult (λ y. nat_cmp y x) xs (Err i) →
+    is_among xs x ≡ true → ⊥
+not_missed xs x i up miss h =
+    let order = AllPairs-from_increasing xs up in
+    let said = searched xs x (Err i) miss
+    (λ i j le k. elim (cases_eq i j) [
+      | inl e ↦ rw e (omega arith)
+      | inr ne ↦ let q = order i j 0 (omega arith) k in
+          omega arith
+    ]) in
+    let at = found_at xs x h in
+    let is = at.2 in
+    elim (cases_lt at.0 i) [
+      | inl l ↦ absurd (omega (arith, said.1 at.0 l))
+      | inr g ↦ absurd (omega (arith, said.2 at.0 g at.1))
+    ]
+
+-- ---- one group
+
+-- the two slices beside a node of a group
+beside_own : {X : Type 0} (old values : List X) (n first p : ℕ) → p < n →
+    (old ++ take (first + p - first) (drop first values))
+    ++ take (first + n - (first + p + 1)) (drop (first + p + 1) values)
+    ≡ old ++ remove (take n (drop first values)) p
+beside_own old values n first p h =
+    let g = drop first values in
+    let a : first + p - first ≡ p = omega arith in
+    let b : first + n - (first + p + 1) ≡ n - suc p = omega arith in
+    let c : first + p + 1 ≡ first + suc p = omega arith in
+    let whole : suc p + (n - suc p) ≡ n = omega arith in
+    let rest : drop (suc p) (take n g) ≡ take (n - suc p) (drop (suc p) g) =
+    rw whole at (drop-take (suc p) (n - suc p) g) in
+    rw (a, b, c, take-take p n g (omega arith), rest, drop-drop (suc p) first values)
+    (append_assoc old (take p g) (take (n - suc p) (drop (first + suc p) values)))
+
+-- what a search for a node's parent leads to: its siblings, or nothing
+pub found_siblings : {X : Type 0} (old values : List X) (parents : List ℕ) (n k j : ℕ) → 0 < n →
+    IsStrictlyIncreasing parents → IsBinarySearchResult (λ y. nat_cmp y (j / n)) parents (Ok k) →
+    (old ++ take (n * k + j % n - n * k) (drop (n * k) values))
+    ++ take (n * k + n - (n * k + j % n + 1)) (drop (n * k + j % n + 1) values)
+    ≡ old ++ siblings_out_of (parents, n, values) j
+found_siblings old values parents n k j some up hit =
+    let small : j % n < n = omega arith in
+    let at = found_by parents (j / n) k up hit in
+    let there : is_among parents (j / n) ≡ true = rw at.1 at (listed_at parents k 0 at.0) in
+    let is = placed parents k (j / n) up at.0 at.1 in
+    rw (there, is) (beside_own old values n (n * k) (j % n) small)
+
+pub missed_siblings : {X : Type 0} (old values : List X) (parents : List ℕ) (n k j : ℕ) → IsStrictlyIncreasing parents →
+    IsBinarySearchResult (λ y. nat_cmp y (j / n)) parents (Err k) →
+    old ≡ old ++ siblings_out_of (parents, n, values) j
+missed_siblings old values parents n k j up miss =
+    let none = false_from_ne_true (is_among parents (j / n)) (not_missed parents (j / n) k up miss) in
+    rw none (sym (append-nil old))
+
+-- the group of the parent at place k
+group_of : (n : ℕ) (parents : List ℕ) (k : ℕ) → k < length parents → take n (drop (n * k) (children_under n parents))
+    ≡ range_with_len (n * get_or parents k 0) n
+group_of n [] k h = absurd (omega arith)
+group_of n (p ∷ parents) zero h =
+    let z : n * 0 ≡ 0 = omega arith in
+    let here = range_with_len (n * p) n in
+    let long = length-range_with_len (n * p) n in
+    rw z (take-append-le n here (children_under n parents) (omega arith) ∙ take_all n here (omega arith))
+group_of n (p ∷ parents) (suc k) h =
+    let here = range_with_len (n * p) n in
+    let e : n * suc k ≡ length here + n * k = omega (arith, length-range_with_len (n * p) n) in
+    rw e (ap (λ ys. take n ys) (drop-append-add here (children_under n parents) (n * k))
+    ∙ group_of n parents k (omega arith))
+
+shifted : {Y : Type 0} (v : ℕ → Y) (a b n : ℕ) → map v (range_with_len (a + b) n)
+    ≡ map (λ k. v (a + k)) (range_with_len b n)
+shifted v a b zero = refl
+shifted v a b (suc n) = let e : a + b + 1 ≡ a + (b + 1) = omega arith in
+    rw e (ap (λ ys. v (a + b) ∷ ys) (shifted v a (b + 1) n))
+
+-- the values of the children of one of the parents
+values_at : {Y : Type 0} (v : ℕ → Y) (n : ℕ) (parents : List ℕ) (j : ℕ) → IsStrictlyIncreasing parents →
+    is_among parents j ≡ true →
+    children_at n parents (flat_map (λ g. map v (range_with_len (n * g) n)) parents) j
+    ≡ map (λ k. v (n * j + k)) (range_with_len 0 n)
+values_at v n parents j up h =
+    let at = found_at parents j h in
+    let is = placed parents at.0 j up at.1 at.2 in
+    let z : n * j + 0 ≡ n * j = omega arith in
+    ap (λ ys. children_at n parents ys j) (sym (map_children v n parents))
+    ∙ ap (λ k. take n (drop (n * k) (map v (children_under n parents)))) is
+    ∙ ap (take n) (drop-map v (n * at.0) (children_under n parents))
+    ∙ take-map v n (drop (n * at.0) (children_under n parents))
+    ∙ ap (map v) (group_of n parents at.0 at.1 ∙ ap (λ g. range_with_len (n * g) n) at.2)
+    ∙ rw z at (shifted v (n * j) 0 n)
+
+-- ---- the path
+
+-- a queried leaf's ancestors are covered
+above_among : (s : Shape) (queries : List ℕ) (l i : ℕ) → is_among queries i ≡ true →
+    is_covered s queries l (ancestor s l i) ≡ true
+above_among s [] l i h = absurd (true≢false (sym h))
+above_among s (q ∷ queries) l i h =
+    let j = ancestor s l i in
+    elim (or_cases (eqb q i) (is_among queries i) h) [
+      | inl e ↦ or_left (eqb (ancestor s l q) j) (is_covered s queries l j)
+          (eq-eqb (ancestor s l q) j (ap (ancestor s l) (eqb-true q i e)))
+      | inr rest ↦ or_right (eqb (ancestor s l q) j) (is_covered s queries l j) (above_among s queries l i rest)
+    ]
+
+parent_listed : (s : Shape) (queries : List ℕ) (t : ℕ) → CanQuery s queries t → (l i : ℕ) → l < t → is_among queries i
+    ≡ true → is_among (covered_at s queries (suc l)) (ancestor s (suc l) i) ≡ true
+parent_listed s queries t w l i h q = covered_listed s queries t w (suc l) (ancestor s (suc l) i) h
+    (above_among s queries (suc l) i q)
+
+pub covered_up_list : (s : Shape) (queries : List ℕ) (l : ℕ) → IsStrictlyIncreasing (covered_at s queries l)
+covered_up_list s queries l =
+    increasing_from 0 (covered_at s queries l) (rising_filter (is_covered s queries l) 0 (layer_len s l))
+
+-- ---- a walk of a path
+
+abbrev step_of : {X : Type 0} → List ℕ × ℕ × List X → ℕ
+step_of (parents, n, values) = n
+
+-- the steps of the levels below level k
+abbrev steps_below : {X : Type 0} → List (List ℕ × ℕ × List X) → ℕ → List ℕ
+steps_below levels k = map step_of (take k levels)
+
+-- the siblings of the node over the steps below a level
+abbrev kept_siblings : {X : Type 0} → List (List ℕ × ℕ × List X) → ℕ → ℕ × (List ℕ × ℕ × List X) → List X
+kept_siblings levels i = λ (k, level). siblings_out_of level (node_over (steps_below levels k) i)
+
+-- the siblings on the path of leaf i from level k on
+abbrev pub path_from : {X : Type 0} → List (List ℕ × ℕ × List X) → ℕ → ℕ → List X
+path_from levels i k = flat_map (kept_siblings levels i) (enumerate_from k (drop k levels))
+
+-- a walk of a path has come to level k: its siblings so far, and the node at which it stands
+pub record IsOnPath {X : Type 0} (levels : List (List ℕ × ℕ × List X)) (i k : ℕ) (path : List X) (node : ℕ) :
+    Type 0 where
+  pub so_far : path ++ path_from levels i k ≡ path_out_of levels i
+  pub node_is : node ≡ node_over (steps_below levels k) i
+
+pub path_start : {X : Type 0} (levels : List (List ℕ × ℕ × List X)) (i : ℕ) (path : List X) → path ≡ [] →
+    IsOnPath levels i 0 path i
+path_start levels i path is = record { so_far = rw is refl; node_is = omega arith }
+
+pub path_more : {V X : Type 0} (view : V → List ℕ × ℕ × List X) (levels : List V) (i k node : ℕ) (level : V)
+    (old new : List X) → k < length levels → level ≡ get_or levels k level → IsOnPath (map view levels) i k old node →
+    new ≡ old ++ siblings_out_of (view level) node → IsOnPath (map view levels) i (k + 1) new (node / (view level).1)
+path_more view levels i k node level old new h is w more =
+    let shown = map view levels in
+    let d = view level in
+    let inside : k < length shown = omega (arith, length-map levels view) in
+    let here : get_or shown k d ≡ d = get_or-map view levels k level d h ∙ ap view (sym is) in
+    let rest : path_from shown i k ≡ siblings_out_of d node ++ path_from shown i (k + 1) =
+    rw (drop-cons shown k d inside, here, add-one, w.node_is) refl in
+    let steps = steps_below shown k in
+    let next : steps_below shown (k + 1) ≡ steps ++ d.1 ∷ [] =
+    ap (map step_of) (take_more shown k d inside) ∙ map-append step_of (take k shown) (get_or shown k d ∷ [])
+    ∙ ap (λ (x : List ℕ × ℕ × List _). steps ++ x.1 ∷ []) here in
+    record {
+      so_far = rw more (append_assoc old (siblings_out_of d node) (path_from shown i (k + 1)))
+          ∙ ap (λ ys. old ++ ys) (sym rest) ∙ w.so_far;
+      node_is = rw (next, fold-append, w.node_is) (div-div-eq-div-mul i (fold (λ product n. product * n) 1 steps) d.1);
+    }
+
+pub path_end : {X : Type 0} (levels : List (List ℕ × ℕ × List X)) (i k : ℕ) (path : List X) (node : ℕ) →
+    length levels ≤ k → IsOnPath levels i k path node → path ≡ path_out_of levels i
+path_end levels i k path node h w = sym (append-nil path) ∙ rw (drop_all k levels h) at w.so_far
+
+-- one path more
+pub paths_more : {X : Type 0} (path : ℕ → List X) (queries : List ℕ) (k : ℕ) (old new : List (AuthPath X))
+    (added : AuthPath X) → k < length queries →
+    shown_paths old ≡ map {B = ℕ × List X} (λ i. (i, path i)) (take k queries) → new ≡ old ++ added ∷ [] →
+    added.leaf_index ≡ get_or queries k 0 → added.siblings.items ≡ path (get_or queries k 0) →
+    shown_paths new ≡ map {B = ℕ × List X} (λ i. (i, path i)) (take (k + 1) queries)
+paths_more {X} path queries k old new added h so_far is named shown =
+    let both : ℕ → ℕ × List X = λ i. (i, path i) in
+    let last : shown_path added ≡ both (get_or queries k 0) = rw (named, shown) refl in
+    ap (λ (ps : List (AuthPath X)). shown_paths ps) is ∙ map-append shown_path old (added ∷ [])
+    ∙ ap (λ (ys : List (ℕ × List X)). ys ++ shown_path added ∷ []) so_far
+    ∙ ap (λ (one : ℕ × List X). map both (take k queries) ++ one ∷ []) last ∙ sym (map_more both queries k 0 h)
+
+-- ---- what a walk keeps of a tree
+
+-- a level from layer l on: the covered nodes above it, its step, and what the values v of their children are
+abbrev pub level_of : {X : Type 0} → Shape → List ℕ → (ℕ → ℕ → X) → ℕ → List ℕ × ℕ × List X
+level_of s queries v l = (
+  covered_at s queries (suc l),
+  step s l,
+  flat_map (λ j. map (v l) (range_with_len (step s l * j) (step s l)))
+      (covered_at s queries (suc l)),
+)
+
+steps_product : (s : Shape) (l : ℕ) → fold (λ product n. product * n) 1 (schedule_below s l) ≡ leaves_under s l
+unfolding leaves_under
+steps_product s zero = refl
+steps_product s (suc l) =
+    let z : 0 + l ≡ l = omega arith in
+    let more : schedule_below s (suc l) ≡ schedule_below s l ++ step s l ∷ [] =
+    rw add-one at (map-range_with_len_more (step s) 0 l l z) in
+    rw (more, fold-append, steps_product s l) refl
+
+-- the nodes over the steps of a tree are ancestors
+node_over_is : {X : Type 0} (s : Shape) (queries : List ℕ) (v : ℕ → ℕ → X) (t l i : ℕ) → l ≤ t →
+    node_over (steps_below (map (level_of s queries v) (range_with_len 0 t)) l) i ≡ ancestor s l i
+node_over_is s queries v t l i h =
+    let steps : steps_below (map (level_of s queries v) (range_with_len 0 t)) l ≡ schedule_below s l =
+    ap (map step_of) (take-map-range_with_len (level_of s queries v) 0 t l h)
+    ∙ map-map step_of (level_of s queries v) (range_with_len 0 l) in
+    rw (steps, steps_product s l) refl
+
+-- the siblings of an ancestor out of such a level
+siblings_kept : {X : Type 0} (s : Shape) (queries : List ℕ) (t : ℕ) → CanQuery s queries t → (v : ℕ → ℕ → X) (l i : ℕ) →
+    l < t → is_among queries i ≡ true → siblings_out_of (level_of s queries v l) (ancestor s l i) ≡ piece s v i l
+siblings_kept s queries t w v l i h q =
+    let parents = covered_at s queries (suc l) in
+    let there = parent_listed s queries t w l i h q in
+    rw (
+      ← anc_next s l i,
+      there,
+      values_at (v l) (step s l) parents (ancestor s (suc l) i)
+          (covered_up_list s queries (suc l)) there,
+    ) refl
+
+enumerated : {X K : Type 0} (h : ℕ × K → List X) (level : ℕ → K) (a n : ℕ) →
+    flat_map h (enumerate_from a (map level (range_with_len a n))) ≡ flat_map (λ l. h (l, level l)) (range_with_len a n)
+enumerated h level a zero = refl
+enumerated h level a (suc n) = ap (λ ys. h (a, level a) ++ ys) (enumerated h level (a + 1) n)
+
+-- the path of a queried leaf out of such levels
+path_kept : {X : Type 0} (s : Shape) (queries : List ℕ) (t : ℕ) → CanQuery s queries t → (v : ℕ → ℕ → X) (i : ℕ) →
+    is_among queries i ≡ true → path_out_of (map (level_of s queries v) (range_with_len 0 t)) i ≡ joined (piece s v i) t
+path_kept s queries t w v i q =
+    let levels = map (level_of s queries v) (range_with_len 0 t) in
+    enumerated (kept_siblings levels i) (level_of s queries v) 0 t
+    ∙ joined_same (λ l. kept_siblings levels i (l, level_of s queries v l)) (piece s v i) t
+    (λ l h. ap (siblings_out_of (level_of s queries v l)) (node_over_is s queries v t l i (omega arith))
+    ∙ siblings_kept s queries t w v l i h q)
+
+same_paths : {X : Type 0} (g h : ℕ → X) (queries : List ℕ) → ((i : ℕ) → is_among queries i ≡ true → g i ≡ h i) →
+    map g queries ≡ map h queries
+same_paths g h [] same = refl
+same_paths g h (q ∷ queries) same =
+    rw (
+      same q (or_left (eqb q q) (is_among queries q) (eq-eqb q q refl)),
+      same_paths g h queries (λ i c. same i (or_right (eqb q i) (is_among queries i) c)),
+    ) refl
+
+-- out of levels whose values are those of a pruned opening, the paths are the restored ones
+pub paths_restored : {T W : Type 0} (f : Functions T W) (s : Shape) (t : ℕ) (p : PrunedOpening T W) →
+    CanQuery s p.indices t → (levels : List (List ℕ × ℕ × List (List W))) → levels
+    ≡ map (level_of s p.indices (value_of (terms f s t) p)) (range_with_len 0 t) →
+    paths_out_of levels p.indices ≡ restored_paths (terms f s t) p
+paths_restored f s t p w levels are =
+    rw are (same_paths
+    (λ i. (i, path_out_of (map (level_of s p.indices (value_of (terms f s t) p)) (range_with_len 0 t)) i))
+    (λ i. (i, restored_path (terms f s t) p i)) p.indices
+    (λ i q. ap (λ path. (i, path)) (path_kept s p.indices t w (value_of (terms f s t) p) i q)))

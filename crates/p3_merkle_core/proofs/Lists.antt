@@ -1,0 +1,6 @@
+-- Lists, whatever they are lists of, and matrices as the definitions read them.
+pub mod ListFacts
+pub mod RisingFacts
+pub mod GroupFacts
+pub mod FirstPairs
+pub mod ViewFacts

@@ -1,0 +1,91 @@
+-- What writes of a value and others into slots leave.
+use Rattle.std.proofs.Common.{◌≡◌, ℕ, ◌+◌, ◌<◌, ◌≤◌, List, [], ◌∷◌, ◌++◌, refl, ap, sym, ◌∙◌, arith, length, get_or, take, drop, set, insert, replicate, cond, nat_lt, inl, inr, length-append, length-take, length-drop, length-set, get_or-set_same}
+use Rattle.std.proofs.lemmas.Bool.{cases_lt, lt-ltb, le-ltb}
+use Rattle.std.proofs.lemmas.List.{drop_more, take_more, take_all, append_assoc, set_at, drop-set-lt, length-take-le, drop-replicate}
+use Rattle.std.proofs.lemmas.List.Edits.{get_or-insert_at, get_or-insert_below, get_or-insert_above}
+use Rattle.p3_merkle_core.specs.Nodes.{padded}
+
+-- where the element k of the others stands beside a value at p
+abbrev pub slot_of : ℕ → ℕ → ℕ
+slot_of p k = cond (nat_lt k p) k (k + 1)
+
+module _ {X : Type 0} (first whole : List X) (n : ℕ) (x : X) (in_whole : n < length whole) (in_first : n < length first)
+    (is : get_or whole n x ≡ x) where
+  one_more : take n whole ++ x ∷ drop (n + 1) first ≡ take (n + 1) whole ++ drop (n + 1) first
+  one_more =
+      sym (append_assoc (take n whole) (x ∷ []) (drop (n + 1) first))
+      ∙ ap (λ (z : List X). z ++ drop (n + 1) first)
+      (sym (take_more whole n x in_whole ∙ ap (λ y. take n whole ++ y ∷ []) is))
+
+  -- a write of the next element
+  put_next : set (take n whole ++ drop n first) n x ≡ take (n + 1) whole ++ drop (n + 1) first
+  put_next = rw (drop_more first n x in_first)
+      (set_at (take n whole) (get_or first n x) (drop (n + 1) first) x n (length-take-le n whole (omega arith)))
+      ∙ one_more
+
+  -- one that is there already
+  there_next : get_or first n x ≡ x → take n whole ++ drop n first ≡ take (n + 1) whole ++ drop (n + 1) first
+  there_next e = rw (drop_more first n x in_first, e) one_more
+
+module _ {X : Type 0} (slots others : List X) (p : ℕ) (v : X) (h : p ≤ length others)
+    (room : length others < length slots) where
+  whole_long : length (insert others p v) ≡ length others + 1
+  whole_long = simp (length-append, length-take, length-drop) (omega arith)
+
+  -- the value is there from the start
+  at_value : (n : ℕ) → n ≡ p → take n (insert others p v) ++ drop n (set slots p v)
+      ≡ take (n + 1) (insert others p v) ++ drop (n + 1) (set slots p v)
+  at_value n e =
+      rw e (there_next (set slots p v) (insert others p v) p v (omega (arith, whole_long))
+      (omega (arith, length-set slots p v)) (get_or-insert_at others p v v h)
+      (get_or-set_same slots p v v (omega arith)))
+
+  pub put_first : set slots p v ≡ take (slot_of p 0) (insert others p v) ++ drop (slot_of p 0) (set slots p v)
+  put_first =
+      elim (cases_lt 0 p) [
+        | inl t ↦ rw (lt-ltb 0 p t) refl
+        | inr f ↦ rw (le-ltb 0 p f) (at_value 0 (omega arith))
+      ]
+
+  -- one more of those before the value
+  pub put_before : (k : ℕ) (x : X) → k < length others → x ≡ get_or others k x → k < p →
+      set (take (slot_of p k) (insert others p v) ++ drop (slot_of p k) (set slots p v)) k x
+      ≡ take (slot_of p (k + 1)) (insert others p v) ++ drop (slot_of p (k + 1)) (set slots p v)
+  put_before k x below is t =
+      let read : get_or (insert others p v) k x ≡ x = get_or-insert_below others p v x k t h ∙ sym is in
+      let next = put_next (set slots p v) (insert others p v) k x (omega (arith, whole_long))
+      (omega (arith, length-set slots p v)) read in
+      elim (cases_lt (k + 1) p) [
+        | inl more ↦ rw (lt-ltb k p t, lt-ltb (k + 1) p more) next
+        | inr last ↦ rw (lt-ltb k p t, le-ltb (k + 1) p last) (next ∙ at_value (k + 1) (omega arith))
+      ]
+
+  -- one more of those behind it
+  pub put_behind : (k : ℕ) (x : X) → k < length others → x ≡ get_or others k x → p ≤ k →
+      set (take (slot_of p k) (insert others p v) ++ drop (slot_of p k) (set slots p v)) (k + 1) x
+      ≡ take (slot_of p (k + 1)) (insert others p v) ++ drop (slot_of p (k + 1)) (set slots p v)
+  put_behind k x below is f =
+      let read : get_or (insert others p v) (k + 1) x ≡ x = get_or-insert_above others p v x k f h ∙ sym is in
+      let after : p ≤ k + 1 = omega arith in
+      rw (le-ltb k p f, le-ltb (k + 1) p after)
+      (put_next (set slots p v) (insert others p v) (k + 1) x (omega (arith, whole_long))
+      (omega (arith, length-set slots p v)) read)
+
+  -- and then all are there
+  pub put_all : take (slot_of p (length others)) (insert others p v) ++ drop (slot_of p (length others)) (set slots p v)
+      ≡ insert others p v ++ drop (length others + 1) slots
+  put_all =
+      rw (
+        le-ltb (length others) p h,
+        take_all (length others + 1) (insert others p v) (omega (arith, whole_long)),
+        drop-set-lt (length others + 1) slots p v (omega arith),
+      ) refl
+
+-- what all writes leave of default digests
+pub group_around_is : {X : Type 0} (n : ℕ) (default_element v : X) (others : List X) (p : ℕ) → p ≤ length others →
+    insert others p v ++ drop (length others + 1) (replicate n default_element)
+    ≡ padded n default_element (insert others p v)
+group_around_is n default_element v others p h =
+    let size : length (insert others p v)
+    ≡ length others + 1 = simp (length-append, length-take, length-drop) (omega arith) in
+    rw (size, drop-replicate (length others + 1) n default_element) refl

@@ -1,0 +1,74 @@
+-- Facts on lists: pieces that are joined, an element taken out and put back, how many elements pass.
+use Rattle.std.proofs.Common.{◌≡◌, ℕ, zero, suc, ◌+◌, ◌-◌, ◌<◌, ◌≤◌, List, [], ◌∷◌, refl, ap, arith, inl, inr, length, get_or, take, drop, insert, remove, length-append, length-take, length-drop, cond, Bool, ◌++◌, sym, ◌∙◌, append-nil}
+use Rattle.std.specs.List.{count_by, flat_map, range_with_len}
+use Rattle.std.proofs.lemmas.Bool.{cases_eq, cases_Bool}
+use Rattle.std.proofs.lemmas.List.{drop_at, drop-append-le, take-append-le, take_all, append_assoc}
+use Rattle.std.proofs.lemmas.List.Recursion.{is_count_by}
+
+-- ---- pieces that are joined
+
+-- g 0, g 1 and so on up to g (n - 1), one after another
+abbrev pub joined : {A : Type 0} → (ℕ → List A) → ℕ → List A
+joined g n = flat_map g (range_with_len 0 n)
+
+more_from : {A : Type 0} (g : ℕ → List A) (a n : ℕ) → flat_map g (range_with_len a (suc n))
+    ≡ flat_map g (range_with_len a n) ++ g (a + n)
+more_from g a zero = let z : a + 0 ≡ a = omega arith in rw z (append-nil (g a))
+more_from g a (suc n) =
+    let e : (a + 1) + n ≡ a + suc n = omega arith in
+    ap (λ ys. g a ++ ys) (rw e at (more_from g (a + 1) n))
+    ∙ sym (append_assoc (g a) (flat_map g (range_with_len (a + 1) n)) (g (a + suc n)))
+
+-- one more piece
+pub joined_more : {A : Type 0} (g : ℕ → List A) (n : ℕ) → joined g (suc n) ≡ joined g n ++ g n
+joined_more g n = let z : 0 + n ≡ n = omega arith in rw z at (more_from g 0 n)
+
+pub length-joined_le : {A : Type 0} (g : ℕ → List A) (l t : ℕ) → l < t →
+    length (joined g l) + length (g l) ≤ length (joined g t)
+length-joined_le g l zero h = absurd (omega arith)
+length-joined_le g l (suc t) h =
+    elim (cases_eq l t) [
+      | inl e ↦ rw (e, joined_more g t, length-append) (omega arith)
+      | inr ne ↦ rw (joined_more g t, length-append) (omega (arith, length-joined_le g l t (omega arith)))
+    ]
+
+-- the piece l of what is joined
+pub joined_piece : {A : Type 0} (g : ℕ → List A) (l t : ℕ) → l < t →
+    take (length (g l)) (drop (length (joined g l)) (joined g t)) ≡ g l
+joined_piece g l zero h = absurd (omega arith)
+joined_piece g l (suc t) h =
+    elim (cases_eq l t) [
+      | inl e ↦ rw (e, joined_more g t, drop_at (joined g t) (g t) (length (joined g t)) refl)
+          (take_all (length (g t)) (g t) (omega arith))
+      | inr ne ↦
+          let le = length-joined_le g l t (omega arith) in
+          rw (
+            joined_more g t,
+            drop-append-le (length (joined g l)) (joined g t) (g t) (omega arith),
+            take-append-le (length (g l)) (drop (length (joined g l)) (joined g t)) (g t)
+                (omega (arith, length-drop (length (joined g l)) (joined g t))),
+          )
+          (joined_piece g l t (omega arith))
+    ]
+
+pub insert-remove : {X : Type 0} (xs : List X) (p : ℕ) (d : X) → p < length xs → insert (remove xs p) p (get_or xs p d)
+    ≡ xs
+insert-remove [] p d h = absurd (omega arith)
+insert-remove (x ∷ xs) zero d h = refl
+insert-remove (x ∷ xs) (suc p) d h = ap (λ (ys : List _). x ∷ ys) (insert-remove xs p d (omega arith))
+
+pub length-remove : {X : Type 0} (xs : List X) (p : ℕ) → p < length xs → length (remove xs p) ≡ length xs - 1
+length-remove xs p h = simp (length-append, length-take, length-drop) (omega arith)
+
+-- ---- how many elements pass
+
+-- counted from the last on
+unfoldable pub tally : {X : Type 0} → (X → Bool) → List X → ℕ
+tally p [] = 0
+tally p (x ∷ xs) = cond (p x) 1 0 + tally p xs
+
+pub tally_is : {X : Type 0} (p : X → Bool) (xs : List X) → tally p xs ≡ count_by p xs
+unfolding tally
+tally_is p xs =
+    is_count_by (λ ys. tally p ys) p refl
+    (λ x ys. elim (cases_Bool (p x)) [ inl t ↦ rw t refl | inr f ↦ rw f (omega arith) ]) xs

@@ -1,0 +1,60 @@
+-- The honest pruned opening is restorable, so it is not refused.
+use Rattle.std.proofs.Common.{◌≡◌, ℕ, ◌<◌, ◌≤◌, eqb, List, [], ◌∷◌, map, refl, ap, sym, ◌∙◌, arith, inl, inr, length, get_or, filter, zip}
+use Rattle.std.proofs.lemmas.Bool.{cases_Bool, eqb-true}
+use Rattle.std.proofs.lemmas.List.{length-map, get_or-map}
+use Rattle.p3_merkle_core.specs.Geometry.{exponent, layer_exponent, halved_index, heights}
+use Rattle.p3_support.specs.Batches.{greatest, heights_of}
+use Rattle.p3_merkle_core.specs.Nodes.{Functions, Batch, Matrix, shape, node, dimensions_of, HasFullRows}
+use Rattle.p3_merkle_core.specs.Openings.{honest_rows}
+use Rattle.p3_merkle_core.specs.Pruning.{boundary, honest_query, IsHonestQuery, IsRestorable}
+use Rattle.p3_merkle_core.proofs.Shapes.LadderFacts.{row_is_anc_at, row_below}
+use Rattle.p3_merkle_core.proofs.Checks.Accepted.{lengths_are}
+
+-- two ways to pick rows that agree at the heights of exponent x
+same_rows : {T : Type 0} (x top : ℕ) (first second : ℕ → ℕ) →
+    ((h : ℕ) → h ≤ top → exponent h ≡ x → first h ≡ second h) → (ms : List (Matrix T)) →
+    greatest (heights_of (dimensions_of ms)) ≤ top →
+    filter (λ (h, r). eqb (exponent h) x) (zip (heights_of (dimensions_of ms)) (map (λ m. m.row (first m.height)) ms))
+    ≡ filter (λ (h, r). eqb (exponent h) x)
+    (zip (heights_of (dimensions_of ms)) (map (λ m. m.row (second m.height)) ms))
+same_rows x top first second same [] le = refl
+same_rows x top first second same (m ∷ ms) le =
+    let rest = same_rows x top first second same ms (omega arith) in
+    elim (cases_Bool (eqb (exponent m.height) x)) [
+      | inl t ↦ let e = same m.height (omega arith) (eqb-true (exponent m.height) x t) in rw (t, e, rest) refl
+      | inr f ↦ rw (f, rest) refl
+    ]
+
+pub honest_restorable : {T W : Type 0} (f : Functions T W) (b : Batch T) (t : ℕ) (indices : List ℕ) →
+    IsHonestQuery b t indices → HasFullRows b →
+    IsRestorable (shape b) t (honest_query f b t indices)
+honest_restorable f b t indices w widths =
+    let s = shape b in
+    let rows = map (honest_rows b) indices in
+    let in_pairs : length rows ≡ length indices = length-map indices (honest_rows b) in
+    let row : (k : ℕ) → k < length indices → get_or rows k [] ≡ honest_rows b (get_or indices k 0) =
+    λ k h. get_or-map (honest_rows b) indices k 0 [] h in
+    record {
+      lawful = w.lawful;
+      below = w.queried.below;
+      count = length-map (boundary s indices t) (λ (l, k). node f b l k);
+      rows_fit = λ k d h.
+          rw (get_or-map (honest_rows b) indices k 0 d (omega arith))
+          (lengths_are (λ h. halved_index (greatest (heights s)) h (get_or indices k 0)) b.matrices widths
+          (λ n e l. row_below s (get_or (heights s) n e) (get_or indices k 0) (w.lawful.on_ladder n e l)
+          (w.queried.below k 0 (omega arith))));
+      agreed = record {
+        in_pairs = in_pairs;
+        repeats = λ a c h g same. row a h ∙ ap (honest_rows b) same ∙ sym (row c g);
+        groups = λ l a c le h g same.
+            let i = get_or indices a 0 in
+            let j = get_or indices c 0 in
+            rw (row a h, row c g)
+            (same_rows (layer_exponent s l) (greatest (heights s)) (λ n. halved_index (greatest (heights s)) n i)
+            (λ n. halved_index (greatest (heights s)) n j)
+            (λ n top is.
+            row_is_anc_at s w.queried.well_shaped n i l top (w.queried.below a 0 h) (sym is)
+            ∙ same ∙ sym (row_is_anc_at s w.queried.well_shaped n j l top (w.queried.below c 0 g) (sym is)))
+            b.matrices (omega arith));
+      };
+    }

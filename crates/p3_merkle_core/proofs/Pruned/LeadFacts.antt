@@ -1,0 +1,256 @@
+-- The lowest slot under a node, and the rows that are compared with its rows.
+use Rattle.std.proofs.Common.{◌≡◌, ◌≢◌, ℕ, zero, suc, ◌+◌, ◌-◌, ◌/◌, ◌<◌, ◌≤◌, Bool, true, false, not, eqb, cond, List, [], ◌∷◌, map, refl, ap, sym, ◌∙◌, arith, inl, inr, length, filter, get_or, eq-eqb, Option, None, Some, Vec, drop, drop-cons, add-one}
+use Rattle.std.specs.List.{list_any, range_with_len}
+use Rattle.std.specs.Option.{option_or}
+use Rattle.std.specs.Cmp.Lexicographic.{pointwise}
+use Rattle.std.proofs.lemmas.Bool.{cases_Bool, eqb-true, eqb-false, false_from_ne_true, ne_eqb, true≢false, cases_lt}
+use Rattle.std.proofs.lemmas.List.Folds.{list_any_at}
+use Rattle.std.proofs.lemmas.List.{get_or-map, length-map}
+use Rattle.p3_support.specs.Shown.{row_lists}
+use Rattle.p3_support.specs.Lists.{is_among}
+use Rattle.p3_support.specs.Batches.{heights_of, greatest}
+use Rattle.p3_merkle_core.specs.Geometry.{Shape, ancestor, exponent, heights, is_bridge, layer_exponent, leaves_under, levels, height_limit}
+use Rattle.p3_merkle_core.proofs.Shapes.LadderFacts.{levels_le}
+use Rattle.p3_merkle_core.proofs.Shapes.LeastFacts.{exponent_le}
+use Rattle.p3_merkle_core.proofs.Covered.CoveredFacts.{leaves_above_0}
+use Rattle.p3_merkle_core.proofs.Shapes.StepFacts.{anc_start, ancestor_more}
+use Rattle.p3_support.specs.declared.matrix.Dimensions.{Dimensions}
+use Rattle.p3_merkle_core.specs.Refusals.{first_of}
+use Rattle.p3_merkle_core.specs.Inner.Agreement.{first_query, row_fault, rows_refusal, slot_rows, nodes_refusal, IsAscending}
+use Rattle.p3_merkle_core.specs.declared.error.PrunedProofError.TheVariants.{InconsistentGroupOpening}
+use Rattle.p3_merkle_core.specs.declared.error.MerkleTreeError.{MerkleTreeError}
+use Rattle.p3_merkle_core.specs.declared.error.MerkleTreeError.TheVariants.{MalformedPrunedProof}
+use Rattle.p3_merkle_core.proofs.Lists.RisingFacts.{div_mono, listed_at, none_kept}
+use Rattle.p3_merkle_core.proofs.Pruned.SlotFacts.{first_place}
+
+-- ---- the first place of a number
+
+pub first_there : (xs : List ℕ) (v : ℕ) → is_among xs v ≡ true → get_or xs (first_query xs v) 0 ≡ v
+first_there [] v c = absurd (true≢false (sym c))
+first_there (x ∷ xs) v c =
+    elim (cases_Bool (eqb x v)) [
+      | inl t ↦ rw t (eqb-true x v t)
+      | inr f ↦ rw f (first_there xs v (rw f at c))
+    ]
+
+pub first_before : (xs : List ℕ) (v j : ℕ) → j < first_query xs v → get_or xs j 0 ≢ v
+first_before [] v j h = absurd (omega arith)
+first_before (x ∷ xs) v zero h =
+    elim (cases_Bool (eqb x v)) [
+      | inl t ↦ absurd (omega (arith, rw t at h))
+      | inr f ↦ eqb-false x v f
+    ]
+first_before (x ∷ xs) v (suc j) h =
+    elim (cases_Bool (eqb x v)) [
+      | inl t ↦ absurd (omega (arith, rw t at h))
+      | inr f ↦ let l : suc j < suc (first_query xs v) = rw f at h in first_before xs v j (omega arith)
+    ]
+
+-- two places that are first are one
+pub first_unique : (xs : List ℕ) (v k : ℕ) → k < length xs → get_or xs k 0 ≡ v → ((j : ℕ) → j < k → get_or xs j 0 ≢ v) →
+    k ≡ first_query xs v
+first_unique xs v k l e none =
+    let c : is_among xs v ≡ true = rw e at (listed_at xs k 0 l) in
+    let q = first_query xs v in
+    elim (cases_lt q k) [
+      | inl less ↦ absurd (none q less (first_there xs v c))
+      | inr rest ↦ elim (cases_lt k q) [
+        | inl less ↦ absurd (first_before xs v k less e)
+        | inr same ↦ omega arith
+      ]
+    ]
+
+-- ---- from slot to slot
+
+pub lead_inside : (nodes : List ℕ) (k lead : ℕ) → k < length nodes → lead ≡ first_query nodes (get_or nodes (k - 1) 0) →
+    lead < length nodes
+lead_inside nodes k lead l e =
+    omega (arith, first_place nodes (get_or nodes (k - 1) 0) (listed_at nodes (k - 1) 0 (omega arith)))
+
+lead_before : (nodes : List ℕ) (k lead : ℕ) → k < length nodes → lead ≡ first_query nodes (get_or nodes (k - 1) 0) →
+    get_or nodes lead 0 ≡ get_or nodes (k - 1) 0
+lead_before nodes k lead l e = ap (λ i. get_or nodes i 0) e
+    ∙ first_there nodes (get_or nodes (k - 1) 0) (listed_at nodes (k - 1) 0 (omega arith))
+
+pub lead_kept : (nodes : List ℕ) (k lead : ℕ) → k < length nodes → lead ≡ first_query nodes (get_or nodes (k - 1) 0) →
+    get_or nodes k 0 ≡ get_or nodes lead 0 → lead ≡ first_query nodes (get_or nodes k 0)
+lead_kept nodes k lead l e same = e ∙ ap (first_query nodes) (sym (lead_before nodes k lead l e) ∙ sym same)
+
+pub lead_new : (nodes : List ℕ) (k lead : ℕ) → IsAscending nodes → k < length nodes → lead
+    ≡ first_query nodes (get_or nodes (k - 1) 0) → get_or nodes k 0 ≢ get_or nodes lead 0 → k
+    ≡ first_query nodes (get_or nodes k 0)
+lead_new nodes k lead up l e differ =
+    first_unique nodes (get_or nodes k 0) k l refl (λ j h same.
+    let low = up j (k - 1) (omega arith) (omega arith) in
+    let high = up (k - 1) k (omega arith) l in
+    let top : get_or nodes k 0 ≡ get_or nodes (k - 1) 0 = omega arith in
+    differ (top ∙ sym (lead_before nodes k lead l e)))
+
+-- ---- the matrices of a layer
+
+-- the first fault among the matrices of exponent x from m on
+abbrev pub faults_from : {T : Type 0} → (T → T → Bool) → List ℕ → ℕ → ℕ → List (List T) → List (List T) → ℕ → ℕ →
+    Option MerkleTreeError
+faults_from row_eq hs x k rows lead n m =
+    first_of (row_fault row_eq k rows lead) (filter (λ m. eqb (exponent (get_or hs m 0)) x) (range_with_len m (n - m)))
+
+-- one turn over the matrices
+pub record IsRowTurn {T : Type 0} (row_eq : T → T → Bool) (hs : List ℕ) (x k : ℕ) (rows lead : List (List T)) (n m : ℕ)
+    (total : Option MerkleTreeError) : Type 0 where
+  pub skipped : exponent (get_or hs m 0) ≢ x → faults_from row_eq hs x k rows lead n (m + 1) ≡ total
+  pub kept : exponent (get_or hs m 0) ≡ x → pointwise row_eq (get_or rows m []) (get_or lead m []) ≡ true →
+      faults_from row_eq hs x k rows lead n (m + 1) ≡ total
+  pub found : exponent (get_or hs m 0) ≡ x → pointwise row_eq (get_or rows m []) (get_or lead m []) ≡ false → total
+      ≡ Some (MalformedPrunedProof (InconsistentGroupOpening k m))
+
+pub row_turn : {T : Type 0} (row_eq : T → T → Bool) (hs : List ℕ) (x k : ℕ) (rows lead : List (List T)) (n m : ℕ)
+    (total : Option MerkleTreeError) → m < n →
+    faults_from row_eq hs x k rows lead n m ≡ total → IsRowTurn row_eq hs x k rows lead n m total
+row_turn row_eq hs x k rows lead n m total h so_far =
+    let cut : n - m ≡ suc (n - (m + 1)) = omega arith in
+    let here = rw cut at so_far in
+    record {
+      skipped = λ e. rw (ne_eqb (exponent (get_or hs m 0)) x e) at here;
+      kept = λ e same. rw (eq-eqb (exponent (get_or hs m 0)) x e, same) at here;
+      found = λ e differ. sym (rw (eq-eqb (exponent (get_or hs m 0)) x e, differ) at here);
+    }
+
+pub row_read : {T A : Type 0} (rows : List (Vec T A)) (m : ℕ) (v : Vec T A) → m < length rows → v ≡ get_or rows m v →
+    get_or (row_lists rows) m [] ≡ v.items
+row_read rows m v h e = get_or-map (λ row. row.items) rows m v [] h ∙ ap (λ row. row.items) (sym e)
+
+-- ---- the slots of a layer
+
+-- one turn over the slots
+pub slots_next : (g : ℕ → Option MerkleTreeError) (n k : ℕ) (total : Option MerkleTreeError) → k < n →
+    first_of g (range_with_len k (n - k)) ≡ total →
+    option_or (g k) (first_of g (range_with_len (k + 1) (n - (k + 1)))) ≡ total
+slots_next g n k total h so_far =
+    let cut : n - k ≡ suc (n - (k + 1)) = omega arith in
+    rw cut at so_far
+
+-- ---- what the code reads
+
+pub true_of_not : (b d : Bool) → d ≡ not b → d ≡ false → b ≡ true
+true_of_not true d e f = refl
+true_of_not false d e f = absurd (true≢false (sym e ∙ f))
+
+pub false_of_not : (b d : Bool) → d ≡ not b → d ≡ true → b ≡ false
+false_of_not false d e t = refl
+false_of_not true d e t = absurd (true≢false (sym t ∙ e))
+
+pub row_differs : {T A : Type 0} (row_eq : T → T → Bool) (rows lead : List (Vec T A)) (m : ℕ) (v u : Vec T A)
+    (differ : Bool) → m < length rows → m < length lead → v ≡ get_or rows m v → u ≡ get_or lead m u →
+    differ ≡ not (pointwise row_eq v.items u.items) → differ
+    ≡ not (pointwise row_eq (get_or (row_lists rows) m []) (get_or (row_lists lead) m []))
+row_differs row_eq rows lead m v u differ h l e f is = rw (row_read rows m v h e, row_read lead m u l f) is
+
+pub firsts_next : (h : ℕ → Option MerkleTreeError) (xs : List ℕ) (n : ℕ) (total : Option MerkleTreeError) →
+    n < length xs → first_of h (drop n xs) ≡ total → option_or (h (get_or xs n 0)) (first_of h (drop (n + 1) xs))
+    ≡ total
+firsts_next h xs n total l so_far = rw add-one (rw (drop-cons xs n 0 l) at so_far)
+
+pub kept_or : {E : Type 0} (x y total : Option E) → option_or x y ≡ total → x ≡ None → y ≡ total
+kept_or x y total e n = rw n at e
+
+pub found_or : {E : Type 0} (x y total : Option E) (e : E) → option_or x y ≡ total → x ≡ Some e → total ≡ Some e
+found_or x y total e h s = sym (rw s at h)
+
+height_is : (dimensions : List Dimensions) (m e : ℕ) → m < length dimensions → e
+    ≡ exponent (get_or dimensions m (record { width = 0; height = 0 })).height → e
+    ≡ exponent (get_or (heights_of dimensions) m 0)
+height_is dimensions m e h is = is
+    ∙ ap exponent (sym (get_or-map (λ d. d.height) dimensions m (record { width = 0; height = 0 }) 0 h))
+
+pub height_read : (dimensions : List Dimensions) (m e x : ℕ) → m < length dimensions → e
+    ≡ exponent (get_or dimensions m (record { width = 0; height = 0 })).height → e ≡ x →
+    exponent (get_or (heights_of dimensions) m 0) ≡ x
+height_read dimensions m e x h is same = sym (height_is dimensions m e h is) ∙ same
+
+pub height_missed : (dimensions : List Dimensions) (m e x : ℕ) → m < length dimensions → e
+    ≡ exponent (get_or dimensions m (record { width = 0; height = 0 })).height → e ≢ x →
+    exponent (get_or (heights_of dimensions) m 0) ≢ x
+height_missed dimensions m e x h is other = λ same. other (height_is dimensions m e h is ∙ same)
+
+-- the refusal of slot k
+abbrev pub slot_fault : {T : Type 0} → (T → T → Bool) → List ℕ → ℕ → List ℕ → List ℕ → List (List (List T)) → ℕ →
+    Option MerkleTreeError
+slot_fault row_eq hs x nodes firsts sets k =
+    rows_refusal row_eq hs x k (slot_rows firsts sets k) (slot_rows firsts sets (first_query nodes (get_or nodes k 0)))
+
+none_of : (g : ℕ → Option MerkleTreeError) (xs : List ℕ) → ((k : ℕ) → g k ≡ None) → first_of g xs ≡ None
+none_of g [] none = refl
+none_of g (x ∷ xs) none = rw (none x) (none_of g xs none)
+
+-- nothing is compared where no matrix has the exponent
+pub no_matrix : {T : Type 0} (row_eq : T → T → Bool) (hs : List ℕ) (x : ℕ) (nodes firsts : List ℕ)
+    (sets : List (List (List T))) → list_any (λ h. eqb (exponent h) x) hs ≡ false →
+    nodes_refusal row_eq hs x nodes firsts sets ≡ None
+no_matrix row_eq hs x nodes firsts sets none =
+    let kept = none_kept (λ m. eqb (exponent (get_or hs m 0)) x) 0 (length hs)
+    (λ m low high. false_from_ne_true (eqb (exponent (get_or hs m 0)) x)
+    (λ t. true≢false (sym (list_any_at (λ h. eqb (exponent h) x) hs m 0 (omega (arith, high)) t) ∙ none))) in
+    none_of (slot_fault row_eq hs x nodes firsts sets) (range_with_len 0 (length nodes)) (λ k. rw kept refl)
+
+pub lead_start : (nodes : List ℕ) → 0 ≡ first_query nodes (get_or nodes 0 0)
+lead_start [] = refl
+lead_start (x ∷ nodes) = rw (eq-eqb x x refl) refl
+
+pub slot_read : {T : Type 0} (row_eq : T → T → Bool) (hs : List ℕ) (x : ℕ) (nodes firsts : List ℕ)
+    (sets : List (List (List T))) (k lead : ℕ) (mine theirs : List (List T)) (o : Option MerkleTreeError) →
+    mine ≡ slot_rows firsts sets k → theirs ≡ slot_rows firsts sets lead → lead ≡ first_query nodes (get_or nodes k 0) →
+    rows_refusal row_eq hs x k mine theirs ≡ o → slot_fault row_eq hs x nodes firsts sets k ≡ o
+slot_read row_eq hs x nodes firsts sets k lead mine theirs o is_mine is_theirs is_lead e =
+    ap (λ f. rows_refusal row_eq hs x k (slot_rows firsts sets k) (slot_rows firsts sets f)) (sym is_lead)
+    ∙ ap (λ rows. rows_refusal row_eq hs x k (slot_rows firsts sets k) rows) (sym is_theirs)
+    ∙ ap (λ rows. rows_refusal row_eq hs x k rows theirs) (sym is_mine)
+    ∙ e
+
+pub full_rows : {T A : Type 0} (rows : List (Vec T A)) (set : List (List T)) (n : ℕ) → row_lists rows ≡ set → length set
+    ≡ n → length rows ≡ n
+full_rows rows set n e l = sym (length-map rows (λ row. row.items)) ∙ ap length e ∙ l
+
+pub lead_place : (nodes : List ℕ) (k lead : ℕ) → k < length nodes → lead ≡ first_query nodes (get_or nodes k 0) →
+    lead < length nodes
+lead_place nodes k lead l e = omega (arith, first_place nodes (get_or nodes k 0) (listed_at nodes k 0 l))
+
+-- ---- from layer to layer
+
+-- the refusal of layer l
+abbrev pub layer_fault : {T : Type 0} → (T → T → Bool) → Shape → List ℕ → List ℕ → List (List (List T)) → ℕ →
+    Option MerkleTreeError
+layer_fault row_eq s leaves firsts sets l =
+    nodes_refusal row_eq (heights s) (layer_exponent s l) (map (ancestor s l) leaves) firsts sets
+
+pub nodes_start : (s : Shape) (leaves : List ℕ) → leaves ≡ map (ancestor s 0) leaves
+nodes_start s [] = refl
+nodes_start s (i ∷ leaves) = rw (anc_start s i) (ap (λ xs. i ∷ xs) (nodes_start s leaves))
+
+pub nodes_more : (s : Shape) (l x n : ℕ) (leaves : List ℕ) → x ≡ layer_exponent s l → n
+    ≡ cond (is_bridge s x) 2 s.arity → map (λ j. j / n) (map (ancestor s l) leaves) ≡ map (ancestor s (l + 1)) leaves
+nodes_more s l x n [] at is = refl
+nodes_more s l x n (i ∷ leaves) at is =
+    rw (ancestor_more s l x n i (ancestor s l i) refl at is, nodes_more s l x n leaves at is) refl
+
+pub layer_read : {T : Type 0} (row_eq : T → T → Bool) (s : Shape) (leaves firsts read nodes : List ℕ)
+    (sets : List (List (List T))) (l x : ℕ) (o : Option MerkleTreeError) →
+    x ≡ layer_exponent s l → nodes ≡ map (ancestor s l) leaves → read ≡ firsts →
+    nodes_refusal row_eq (heights s) x nodes read sets ≡ o → layer_fault row_eq s leaves firsts sets l ≡ o
+layer_read row_eq s leaves firsts read nodes sets l x o is_x is_nodes is_read e =
+    ap (λ y. nodes_refusal row_eq (heights s) y (map (ancestor s l) leaves) firsts sets) (sym is_x)
+    ∙ ap (λ ys. nodes_refusal row_eq (heights s) x ys firsts sets) (sym is_nodes)
+    ∙ ap (λ ys. nodes_refusal row_eq (heights s) x nodes ys sets) (sym is_read)
+    ∙ e
+
+-- nodes of ascending leaves ascend
+pub ascending_above : (s : Shape) (l : ℕ) (leaves nodes : List ℕ) → 2 ≤ s.arity → nodes ≡ map (ancestor s l) leaves →
+    IsAscending leaves → IsAscending nodes
+ascending_above s l leaves nodes two is up i j h k =
+    let low : j < length leaves = omega (arith, ap length is, length-map leaves (ancestor s l)) in
+    let read = get_or-map (ancestor s l) leaves in
+    rw (is, read i 0 0 (omega arith), read j 0 0 low)
+    (div_mono (leaves_under s l) (get_or leaves i 0) (get_or leaves j 0) (omega (arith, leaves_above_0 s two l))
+    (up i j h low))
+
+pub few_layers : (s : Shape) (t : ℕ) → greatest (heights s) ≤ height_limit → t ≤ levels s → t ≤ 62
+few_layers s t low h = omega (arith, levels_le s, exponent_le (greatest (heights s)) 62 low)

@@ -1,0 +1,129 @@
+-- The reasons to refuse a pruned opening, those before there are slots and those after.
+use Rattle.std.proofs.Common.{◌≡◌, ℕ, ◌<◌, Bool, eqb, nat_lt, List, [], ◌∷◌, ◌++◌, map, refl, ap, sym, ◌∙◌, length, get_or, All, Option, None, Some}
+use Rattle.std.proofs.lemmas.Bool.{eqb-true, ltb-true}
+use Rattle.std.proofs.lemmas.List.{length-map, length-replicate}
+use Rattle.p3_support.specs.declared.matrix.Dimensions.{Dimensions}
+use Rattle.p3_merkle_core.specs.Geometry.{Shape, heights}
+use Rattle.p3_support.specs.Batches.{greatest}
+use Rattle.p3_merkle_core.specs.Gate.{gate_refusal}
+use Rattle.p3_merkle_core.specs.Pruning.{PrunedOpening, boundary}
+use Rattle.p3_merkle_core.specs.Refusals.{digest_count_refusal, first_of, first_some, group_refusal, idle_refusal, pruned_refusal, queries_refusal, repeat_refusal, size_refusal, slots_below, width_refusal, rows_of}
+use Rattle.p3_merkle_core.specs.Inner.Agreement.{distinct, early_refusal, first_query, late_refusal, layers_refusal, opened_of, opened_with, slot_rows}
+use Rattle.p3_merkle_core.specs.declared.error.MerkleTreeError.{MerkleTreeError}
+use Rattle.p3_merkle_core.specs.declared.error.MerkleTreeError.TheVariants.{IndexOutOfBounds, WrongBatchSize}
+use Rattle.p3_merkle_core.proofs.Pruned.NoneFacts.{below_from, each_none, fit_from, none_of_both, none_parts, unless_none}
+use Rattle.p3_merkle_core.proofs.Pruned.AgreeFacts.{groups_are, widths_are}
+
+-- the digests count by their number alone
+pub digests_counted : {T W : Type 0} (row_eq : T → T → Bool) (s : Shape) (t : ℕ) (p : PrunedOpening T W) →
+    pruned_refusal row_eq s t p ≡ pruned_refusal row_eq s t (opened_with p.indices p.rows (length p.digests))
+digests_counted row_eq s t p = rw (length-replicate {A = List ℕ} (length p.digests) []) refl
+
+-- where none of some reasons holds, those after them decide
+past_none : {E : Type 0} (xs ys : List (Option E)) → first_some xs ≡ None → first_some (xs ++ ys) ≡ first_some ys
+past_none [] ys e = refl
+past_none (x ∷ xs) ys e =
+    let both = none_parts x (first_some xs) e in
+    rw both.0 (past_none xs ys both.1)
+
+-- ---- what is known where nothing is refused early
+
+-- as many row sets as indices, all of which are below the tallest height
+pub record Asked (hs indices : List ℕ) (sets : ℕ) : Type 0 where
+  pub pairs : length indices ≡ sets
+  pub highest : greatest indices < greatest hs
+  pub below : All (λ i. i < greatest hs) indices
+
+pub asked_from : (hs indices : List ℕ) (sets digests : ℕ) → early_refusal hs indices sets digests ≡ None →
+    Asked hs indices sets
+asked_from hs indices sets digests e =
+    let m = greatest hs in
+    let n = length indices in
+    let queries = queries_refusal m indices in
+    let idle = idle_refusal n digests in
+    let a = none_parts (gate_refusal hs) (first_some (size_refusal n sets ∷ idle ∷ queries ∷ [])) e in
+    let b = none_parts (size_refusal n sets) (first_some (idle ∷ queries ∷ [])) a.1 in
+    let c = none_parts idle (first_some (queries ∷ [])) b.1 in
+    let d = none_parts queries None c.1 in
+    record {
+      pairs = eqb-true n sets (unless_none (eqb n sets) (WrongBatchSize n sets) b.0);
+      highest = ltb-true (greatest indices) m
+          (unless_none (nat_lt (greatest indices) m) (IndexOutOfBounds m (greatest indices)) d.0);
+      below = below_from m indices d.0;
+    }
+
+-- ---- what is answered late
+
+late_is : {T : Type 0} (row_eq : T → T → Bool) (s : Shape) (t : ℕ) (firsts indices : List ℕ)
+    (sets : List (List (List T))) → firsts ≡ map (first_query indices) (distinct indices) →
+    Asked (heights s) indices (length sets) →
+    late_refusal row_eq s t (distinct indices) firsts sets
+    ≡ first_some (first_of (λ i. width_refusal s.dimensions (rows_of (opened_of indices sets) i))
+    (slots_below (greatest (heights s)) indices) ∷ group_refusal row_eq s t (opened_of indices sets) ∷ [])
+late_is row_eq s t firsts indices sets is asked =
+    let widths = widths_are s.dimensions (greatest (heights s)) firsts indices sets is asked.pairs asked.highest in
+    let groups = groups_are row_eq s t firsts indices sets is asked.pairs asked.highest in
+    ap (λ w. first_some (w ∷ layers_refusal row_eq s t (distinct indices) firsts sets ∷ [])) widths
+    ∙ ap (λ g. first_some
+    (first_of (λ i. width_refusal s.dimensions (rows_of (opened_of indices sets) i))
+    (slots_below (greatest (heights s)) indices) ∷ g ∷ [])) groups
+
+-- where the first of two reasons doesn't hold, the second decides
+pub late_from : {E : Type 0} (x y a : Option E) → x ≡ None → y ≡ a → first_some (x ∷ y ∷ []) ≡ a
+late_from x y None none is = rw (none, is) refl
+late_from x y (Some e) none is = rw (none, is) refl
+
+-- where nothing else is refused, the answer is the late one
+pub pruned_late : {T : Type 0} (row_eq : T → T → Bool) (s : Shape) (t : ℕ) (leaves firsts indices : List ℕ)
+    (sets : List (List (List T))) (n : ℕ) (answer : Option MerkleTreeError) →
+    leaves ≡ distinct indices → firsts ≡ map (first_query indices) (distinct indices) →
+    early_refusal (heights s) indices (length sets) n ≡ None → repeat_refusal row_eq (opened_of indices sets)
+    ≡ None →
+    digest_count_refusal (length (boundary s indices t)) n ≡ None → late_refusal row_eq s t leaves firsts sets
+    ≡ answer → pruned_refusal row_eq s t (opened_with indices sets n) ≡ answer
+pruned_late row_eq s t leaves firsts indices sets n answer listed is early repeats count late =
+    let hs = heights s in
+    let p = opened_of indices sets in
+    let widths = first_of (λ i. width_refusal s.dimensions (rows_of p i)) (slots_below (greatest hs) indices) in
+    let rest = widths ∷ group_refusal row_eq s t p ∷ [] in
+    let number = digest_count_refusal (length (boundary s indices t)) n in
+    let counted = repeat_refusal row_eq p ∷ number ∷ rest in
+    let firsts_none =
+    past_none (gate_refusal hs ∷ size_refusal (length indices) (length sets) ∷ idle_refusal (length indices) n
+    ∷ queries_refusal (greatest hs) indices ∷ []) counted early in
+    let then_none : first_some counted ≡ first_some rest = rw (repeats, count) refl in
+    rw (length-replicate {A = List ℕ} n []) (firsts_none ∙ then_none
+    ∙ sym (late_is row_eq s t firsts indices sets is (asked_from hs indices (length sets) n early))
+    ∙ ap (λ ls. late_refusal row_eq s t ls firsts sets) (sym listed) ∙ late)
+
+-- ---- rows of their widths are as many as there are matrices
+
+pub full_from : {T : Type 0} (dimensions : List Dimensions) (firsts : List ℕ) (sets : List (List (List T))) →
+    first_of (λ query. width_refusal dimensions (get_or sets query [])) firsts ≡ None →
+    (k : ℕ) → k < length firsts → length (slot_rows firsts sets k) ≡ length dimensions
+full_from dimensions firsts sets e k h =
+    let rows = get_or sets (get_or firsts k 0) [] in
+    let fit = fit_from dimensions rows
+    (each_none (λ query. width_refusal dimensions (get_or sets query [])) firsts k 0 e h) in
+    sym (length-map rows length) ∙ ap length fit ∙ length-map dimensions (λ d. d.width)
+
+-- ---- what the callers ask
+
+front_none : {E : Type 0} (xs ys : List (Option E)) → first_some (xs ++ ys) ≡ None → first_some xs ≡ None
+front_none [] ys e = refl
+front_none (x ∷ xs) ys e =
+    let both = none_parts x (first_some (xs ++ ys)) e in
+    none_of_both x (first_some xs) both.0 (front_none xs ys both.1)
+
+-- what is asked early, where nothing is refused at all
+pub asked_of : {T W : Type 0} (row_eq : T → T → Bool) (s : Shape) (t : ℕ) (p : PrunedOpening T W) →
+    pruned_refusal row_eq s t p ≡ None → Asked (heights s) p.indices (length p.rows)
+asked_of row_eq s t p e =
+    let hs = heights s in
+    let is = p.indices in
+    let early = gate_refusal hs ∷ size_refusal (length is) (length p.rows) ∷ idle_refusal (length is) (length p.digests)
+    ∷ queries_refusal (greatest hs) is ∷ [] in
+    let widths = first_of (λ i. width_refusal s.dimensions (rows_of p i)) (slots_below (greatest hs) is) in
+    let rest = repeat_refusal row_eq p ∷ digest_count_refusal (length (boundary s is t)) (length p.digests) ∷ widths
+    ∷ group_refusal row_eq s t p ∷ [] in
+    asked_from hs is (length p.rows) (length p.digests) (front_none early rest e)

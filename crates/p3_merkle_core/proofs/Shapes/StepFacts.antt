@@ -1,0 +1,108 @@
+-- The walk over the steps, and ancestors level by level.
+use Rattle.std.proofs.Common.{◌≡◌, ℕ, suc, ◌+◌, ◌-◌, ◌/◌, ◌%◌, ◌<◌, ◌≤◌, false, cond, eqb, List, [], ◌∷◌, ◌++◌, refl, ap, sym, ◌∙◌, arith, inl, inr, add-one, length, get_or}
+use Rattle.std.proofs.lemmas.Bool.{cond_both, ne_eqb, cases_eq}
+use Rattle.std.proofs.lemmas.List.FromFn.{map-range_with_len_more, get_or-map-range_with_len, length-map-range_with_len}
+use Rattle.std.proofs.Math.Nat.{div-div-eq-div-mul}
+use Rattle.p3_merkle_core.specs.Geometry.{Shape, exponent, layer_exponent, is_bridge, step, levels, leaves_under, ancestor, heights, position_in_group, schedule_below, positions_below, arity_schedule}
+use Rattle.p3_support.specs.Batches.{greatest}
+use Rattle.p3_merkle_core.proofs.Shapes.LeastFacts.{least_is, exponent_covers}
+
+pub layer_start : (s : Shape) → layer_exponent s 0 ≡ exponent (greatest (heights s))
+unfolding layer_exponent
+layer_start s = refl
+
+pub next_exponent : (s : Shape) (n : ℕ) → layer_exponent s (suc n)
+    ≡ cond (is_bridge s (layer_exponent s n)) (layer_exponent s n - 1) (layer_exponent s n - exponent s.arity)
+unfolding layer_exponent
+next_exponent s n = refl
+
+-- a step of the whole arity goes down
+pub whole_step_falls : (n : ℕ) → 2 ≤ n → 0 < exponent n
+whole_step_falls n h = elim (cases_eq (exponent n) 0) [
+  | inl e ↦ let c = rw e at (exponent_covers n) in
+      absurd (omega arith)
+  | inr ne ↦ omega arith
+]
+
+-- ---- the walk from layer to layer
+
+-- after l steps the walk is at the exponent x, and no layer before was at 0
+pub record IsAt (s : Shape) (l x : ℕ) : Type 0 where
+  pub at_x : x ≡ layer_exponent s l
+  pub room : x + l ≤ exponent (greatest (heights s))
+  pub before : (k : ℕ) → k < l → eqb (layer_exponent s k) 0 ≡ false
+
+pub at_start : (s : Shape) (x : ℕ) → x ≡ exponent (greatest (heights s)) → IsAt s 0 x
+at_start s x e = record { at_x = e ∙ sym (layer_start s); room = omega arith; before = λ k h. absurd (omega arith) }
+
+-- each step goes down
+pub next_falls : (s : Shape) (x y : ℕ) → 2 ≤ s.arity → 0 < x → y ≡ cond (is_bridge s x) (x - 1) (x - exponent s.arity) →
+    y < x
+next_falls s x y two h e =
+    let w = whole_step_falls s.arity two in
+    omega (
+      arith,
+      cond_both (is_bridge s x) (x - 1) (x - exponent s.arity) (λ z. z < x) (λ t. omega arith)
+          (λ t. omega arith),
+    )
+
+-- what one step from the exponent x of layer l is, and where it leads
+pub step_at : (s : Shape) (l x n : ℕ) → x ≡ layer_exponent s l → n ≡ cond (is_bridge s x) 2 s.arity → n ≡ step s l
+step_at s l x n at e = e ∙ ap (λ z. cond (is_bridge s z) 2 s.arity) at
+
+pub next_at : (s : Shape) (l x y : ℕ) → x ≡ layer_exponent s l → y
+    ≡ cond (is_bridge s x) (x - 1) (x - exponent s.arity) → y ≡ layer_exponent s (l + 1)
+next_at s l x y at e = rw add-one (e ∙ ap (λ z. cond (is_bridge s z) (z - 1) (z - exponent s.arity)) at
+    ∙ sym (next_exponent s l))
+
+pub at_more : (s : Shape) (l x y : ℕ) → 2 ≤ s.arity → IsAt s l x → 0 < x → y
+    ≡ cond (is_bridge s x) (x - 1) (x - exponent s.arity) → IsAt s (l + 1) y
+at_more s l x y two w h e =
+    record {
+      at_x = next_at s l x y w.at_x e;
+      room = omega (arith, w.room, next_falls s x y two h e);
+      before = λ k b.
+          elim (cases_eq k l) [
+            | inl same ↦ let a = w.at_x in rw same (ne_eqb (layer_exponent s l) 0 (λ z. omega arith))
+            | inr other ↦ w.before k (omega arith)
+          ];
+    }
+
+-- the walk ends at the exponent 0
+pub at_end : (s : Shape) (l x : ℕ) → IsAt s l x → x ≡ 0 → l ≡ levels s
+at_end s l x w z =
+    sym (least_is (λ l. eqb (layer_exponent s l) 0) (exponent (greatest (heights s))) l (omega (arith, w.room)) w.before
+    (λ h. rw (← w.at_x, z) refl))
+
+-- one more step of the schedule
+pub schedule_more : (s : Shape) (l x n : ℕ) (so_far : List ℕ) → so_far ≡ schedule_below s l → x ≡ layer_exponent s l → n
+    ≡ cond (is_bridge s x) 2 s.arity → so_far ++ n ∷ [] ≡ schedule_below s (l + 1)
+schedule_more s l x n so_far e at is =
+    rw (e, step_at s l x n at is) (sym (map-range_with_len_more (step s) 0 l l (omega arith)))
+
+-- ---- ancestors
+
+pub anc_next : (s : Shape) (l i : ℕ) → ancestor s (suc l) i ≡ ancestor s l i / step s l
+unfolding leaves_under
+anc_next s l i = sym (div-div-eq-div-mul i (leaves_under s l) (step s l))
+
+pub anc_start : (s : Shape) (i : ℕ) → ancestor s 0 i ≡ i
+unfolding leaves_under
+anc_start s i = omega arith
+
+pub step_above_1 : (s : Shape) (l : ℕ) → 2 ≤ s.arity → 2 ≤ step s l
+step_above_1 s l h = cond_both (is_bridge s (layer_exponent s l)) 2 s.arity (λ x. 2 ≤ x) (λ e. omega arith) (λ e. h)
+
+-- one more position, from the ancestor of a level
+pub position_more : (s : Shape) (l x n index place : ℕ) (so_far : List ℕ) → so_far ≡ positions_below s l index → place
+    ≡ ancestor s l index → x ≡ layer_exponent s l → n ≡ cond (is_bridge s x) 2 s.arity →
+    so_far ++ (place % n) ∷ [] ≡ positions_below s (l + 1) index
+position_more s l x n index place so_far e is_place at is =
+    rw (e, is_place, step_at s l x n at is)
+    (sym (map-range_with_len_more (λ k. position_in_group s k index) 0 l l (omega arith)))
+
+-- the ancestor of the next level
+pub ancestor_more : (s : Shape) (l x n index place : ℕ) → place ≡ ancestor s l index → x ≡ layer_exponent s l → n
+    ≡ cond (is_bridge s x) 2 s.arity → place / n ≡ ancestor s (l + 1) index
+ancestor_more s l x n index place is_place at is =
+    rw (is_place, step_at s l x n at is, add-one) (sym (anc_next s l index))

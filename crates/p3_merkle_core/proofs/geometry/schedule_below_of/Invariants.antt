@@ -1,9 +1,0 @@
-use Rattle.std.proofs.Common.{◌≡◌}
-use Rattle.p3_merkle_core.specs.Geometry.{shape_of, layer_exponent, schedule_below}
-use Rattle.p3_merkle_core.proofs.geometry.schedule_below_of.Given as goal
-
-abbrev pub invariant-loop-l : goal.invariant-loop-l
-invariant-loop-l l = record {
-  at : l.x ≡ layer_exponent (shape_of l.arity l.dimensions) l._l;
-  so_far : l.schedule.items ≡ schedule_below (shape_of l.arity l.dimensions) l._l;
-}

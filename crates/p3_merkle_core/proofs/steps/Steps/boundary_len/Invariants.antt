@@ -1,0 +1,11 @@
+use Rattle.std.proofs.Common.{◌≡◌}
+use Rattle.p3_merkle_core.specs.Geometry.{shape_of}
+use Rattle.p3_merkle_core.specs.Pruning.{covered_at, pruned_len}
+use Rattle.p3_merkle_core.proofs.steps.Steps.boundary_len.Given as goal
+
+-- the nodes that are covered on the level, and the digests of the levels so far
+abbrev pub invariant-loop-level : goal.invariant-loop-level
+invariant-loop-level l = record {
+  covered : l.covered.items ≡ covered_at (shape_of l.self.arity l.self.dimensions.now) l.fn.leaves.items l.level;
+  so_far : l.count ≡ pruned_len (shape_of l.self.arity l.self.dimensions.now) l.fn.leaves.items l.level;
+}

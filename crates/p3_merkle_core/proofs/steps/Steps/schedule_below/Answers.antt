@@ -1,0 +1,21 @@
+-- Each turn is one level.
+use Rattle.std.proofs.Common.{◌≡◌, arith, ap, refl, ◌∙◌}
+use Rattle.p3_merkle_core.specs.Geometry.{shape_of, layer_exponent, schedule_below}
+use Rattle.p3_merkle_core.proofs.Shapes.StepFacts.{schedule_more}
+use Rattle.p3_merkle_core.proofs.steps.Steps.schedule_below.Goals as goal
+
+pub loop-level-init : goal.loop-level-init
+loop-level-init c = c.in_ok-schedule.ensures.items
+
+pub loop-level-preserved : goal.loop-level-preserved
+loop-level-preserved c =
+    let s = shape_of c.args.self.now.arity c.args.self.now.dimensions.now in
+    let l = c.loop-level.level in
+    rw c.in_ok-push.ensures.items
+    (schedule_more s l (layer_exponent s l) c.step.result c.loop-level.schedule.items c.loop-level.invariant refl
+    c.step.ensures)
+
+pub returns : goal.returns
+returns c =
+    let h : c.loop-level.level ≡ c.args.layer = omega arith in
+    c.loop-level.invariant ∙ ap (schedule_below (shape_of c.args.self.now.arity c.args.self.now.dimensions.now)) h

@@ -1,0 +1,8 @@
+use Rattle.std.proofs.Common.{◌≡◌}
+use Rattle.p3_merkle_core.specs.Geometry.{shape_of, schedule_below}
+use Rattle.p3_merkle_core.proofs.steps.Steps.schedule_below.Given as goal
+
+-- the steps so far
+abbrev pub invariant-loop-level : goal.invariant-loop-level
+invariant-loop-level l =
+    l.schedule.items ≡ schedule_below (shape_of l.self.arity l.self.dimensions.now) l.level
