@@ -105,7 +105,7 @@ fn kept_levels<
         (replicate D PW.default_value) in
         let p = pruned_of queries.now.indices.now (row_sets sets.now) sent.now in
         IfOk result (λ levels. AreKept f (shape_of queries.now.arity queries.now.dimensions.now) queries.now.t p
-            queries.now.t levels.items) }
+        queries.now.t levels.items) }
 {
     let mut covered = leaves;
     tell_leads(queries.indices, sets, &covered.leads);

@@ -138,7 +138,7 @@ pub(crate) fn restored_cap<
         leaves }
     ensures covered { IfOk result
         (λ cap. IsCoveredAt (shape_of queries.now.arity queries.now.dimensions.now) queries.now.indices.now
-            queries.now.t (cap.0)) }
+        queries.now.t (cap.0)) }
     ensures digests { let f = functions_of (H.hash checker.now.hash.now) (C.compression checker.now.compress.now)
         (replicate D PW.default_value) in
         let s = shape_of queries.now.arity queries.now.dimensions.now in
