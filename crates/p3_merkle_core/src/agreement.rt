@@ -2,7 +2,7 @@
 //! have one row set, and queries under one node the same rows of the matrices of its layer. Nothing here hashes.
 
 ghost use Rattle.std.specs.Prelude.{◌≡◌, ℕ, ◌-◌, ◌/◌, ◌<◌, ◌≤◌, ◌⊎◌, Some, None, List, [], All, length, map, slice_index, slice_index_or, IfOk, IsTrue, MatchResult};
-ghost use Rattle.p3_merkle_core.specs.Inner.Agreement.{distinct, early_refusal, first_query, late_refusal, layers_refusal, nodes_refusal, opened_of, opened_with, rows_refusal, slot_rows, HasSlots, IsAscending, IsSlot};
+ghost use Rattle.p3_merkle_core.specs.Inner.Agreement.{distinct, early_refusal, first_query, late_refusal, layers_refusal, nodes_refusal, opened_of, opened_with, rows_refusal, slot_rows, AreDistinctOf, IsAscending, IsSlot};
 ghost use Rattle.p3_support.specs.Lists.{is_among};
 ghost use Rattle.p3_support.specs.Batches.{heights_of, greatest};
 ghost use Rattle.p3_support.specs.Shown.{row_lists, row_sets};
@@ -19,26 +19,30 @@ use crate::pruning::{boundary_len_of, check_indices, covered_leaves};
 use p3_support::matrix::Dimensions;
 use std::alloc::{AllocError, Global};
 
-/// The slots of some queries: a slot for each distinct index, in the order of the indices.
+/// The distinct indices of some queries, ascending, and where each is queried first. The slot of an index is its place
+/// here.
 #[derive(Debug, Drop)]
-pub struct Slots {
-    /// The index of each slot, ascending.
-    pub leaves: Vec<usize>,
-    /// For each slot the place, among the queries, of the first one of its index.
-    pub firsts: Vec<usize>,
+pub struct DistinctIndices {
+    /// The distinct indices, ascending.
+    pub indices: Vec<usize>,
+    /// For each of them, the place of its first query among the queries.
+    pub first_queries: Vec<usize>,
 }
 
-/// The slots of some indices. Takes memory for all indices, and the time of a sort.
+/// Each of some indices once, with its first query. Takes memory for all indices, and the time of a sort.
 ///
 /// # Errors
 ///
 /// `AllocError` where there is no memory.
-fn slots_of(alloc: Global, indices: &[usize]) -> Result<Slots, AllocError>
-    ensures { IfOk result (λ slots. HasSlots slots indices.now) }
+fn distinct_indices_of(alloc: Global, indices: &[usize]) -> Result<DistinctIndices, AllocError>
+    ensures { IfOk result (λ queried. AreDistinctOf queried indices.now) }
 {
-    let leaves = covered_leaves(alloc, indices)?;
-    let firsts = first_queries(alloc, &leaves, indices)?;
-    Ok(Slots { leaves, firsts })
+    let distinct = covered_leaves(alloc, indices)?;
+    let first_queries = first_queries(alloc, &distinct, indices)?;
+    Ok(DistinctIndices {
+        indices: distinct,
+        first_queries,
+    })
 }
 
 /// For each of the distinct indices, ascending, the place of its first query: the last that is written, since the
@@ -51,12 +55,12 @@ fn first_queries(
     requires { leaves.now ≡ distinct indices.now }
     ensures { IfOk result (λ firsts. firsts.items ≡ map (first_query indices.now) (distinct indices.now)) }
 {
-    let mut firsts = vec![in alloc; indices.len(); leaves.len()]?;
+    let mut first_queries = vec![in alloc; indices.len(); leaves.len()]?;
     for query in (0..indices.len()).rev() {
         let slot = slot_of_index(leaves, indices[query]);
-        firsts[slot] = query;
+        first_queries[slot] = query;
     }
-    Ok(firsts)
+    Ok(first_queries)
 }
 
 /// The slot of an index that is queried: its place among the distinct indices, ascending.
@@ -78,16 +82,16 @@ fn slot_of_index(leaves: &[usize], index: usize) -> usize
 fn check_repeats<T: Eq>(
     indices: &[usize],
     rows: &[Vec<Vec<T>>],
-    slots: &Slots,
+    queried: &DistinctIndices,
 ) -> Result<(), MerkleTreeError>
-    requires slots { HasSlots slots.now indices.now }
+    requires queried { AreDistinctOf queried.now indices.now }
     requires pairs { length indices.now ≡ length rows.now }
     ensures { let p = opened_of indices.now (row_sets rows.now) in
         MatchResult result (λ ok. repeat_refusal T.eq p ≡ None) (λ e. repeat_refusal T.eq p ≡ Some e) }
 {
     for query in 0..indices.len() {
-        let slot = slot_of_index(&slots.leaves, indices[query]);
-        if rows[query] != rows[slots.firsts[slot]] {
+        let slot = slot_of_index(&queried.indices, indices[query]);
+        if rows[query] != rows[queried.first_queries[slot]] {
             return Err(PrunedProofError::InconsistentDuplicateOpenings { slot }.into());
         }
     }
@@ -102,39 +106,39 @@ fn check_repeats<T: Eq>(
 fn check_first_widths<T>(
     dimensions: &[Dimensions],
     rows: &[Vec<Vec<T>>],
-    firsts: &[usize],
+    first_queries: &[usize],
 ) -> Result<(), MerkleTreeError>
-    requires { All (λ query. query < length rows.now) firsts.now }
+    requires { All (λ query. query < length rows.now) first_queries.now }
     ensures { let refusal = first_of
-        (λ query. width_refusal dimensions.now (slice_index_or (row_sets rows.now) query [])) firsts.now in
+        (λ query. width_refusal dimensions.now (slice_index_or (row_sets rows.now) query [])) first_queries.now in
         MatchResult result (λ ok. refusal ≡ None) (λ e. refusal ≡ Some e) }
 {
-    for query in firsts {
+    for query in first_queries {
         check_widths(dimensions, &rows[*query])?;
     }
     Ok(())
 }
 
-/// Whether a slot has the lead's rows of the matrices of the exponent `x`.
+/// Whether a slot has the lead's rows of the matrices of this exponent.
 ///
 /// # Errors
 ///
 /// `InconsistentGroupOpening` for the first row that is another.
 fn check_same_rows<T: Eq>(
     dimensions: &[Dimensions],
-    x: usize,
+    exponent: usize,
     slot: usize,
     rows: &[Vec<T>],
     lead: &[Vec<T>],
 ) -> Result<(), MerkleTreeError>
     requires rows { length rows.now ≡ length dimensions.now }
     requires lead { length lead.now ≡ length dimensions.now }
-    ensures { let refusal = rows_refusal T.eq (heights_of dimensions.now) x slot (row_lists rows.now)
+    ensures { let refusal = rows_refusal T.eq (heights_of dimensions.now) exponent slot (row_lists rows.now)
         (row_lists lead.now) in
         MatchResult result (λ ok. refusal ≡ None) (λ e. refusal ≡ Some e) }
 {
     for matrix in 0..dimensions.len() {
-        if exponent_of(dimensions[matrix].height) == x && rows[matrix] != lead[matrix] {
+        if exponent_of(dimensions[matrix].height) == exponent && rows[matrix] != lead[matrix] {
             return Err(PrunedProofError::InconsistentGroupOpening { slot, matrix }.into());
         }
     }
@@ -157,15 +161,19 @@ fn lead_of(nodes: &[usize], slot: usize, lead: usize) -> usize
 }
 
 /// The row set of a slot's first query.
-fn rows_of_slot<'a, T>(rows: &'a [Vec<Vec<T>>], firsts: &[usize], slot: usize) -> &'a [Vec<T>]
-    requires inside { slot < length firsts.now }
-    requires queries { All (λ query. query < length rows.now) firsts.now }
-    ensures { row_lists result.now ≡ slot_rows firsts.now (row_sets rows.now) slot }
+fn rows_of_slot<'a, T>(
+    rows: &'a [Vec<Vec<T>>],
+    first_queries: &[usize],
+    slot: usize,
+) -> &'a [Vec<T>]
+    requires inside { slot < length first_queries.now }
+    requires queries { All (λ query. query < length rows.now) first_queries.now }
+    ensures { row_lists result.now ≡ slot_rows first_queries.now (row_sets rows.now) slot }
 {
-    &rows[firsts[slot]]
+    &rows[first_queries[slot]]
 }
 
-/// Whether slots under one node have the same rows of the matrices of the exponent `x`: each slot is compared with the
+/// Whether slots under one node have the same rows of the matrices of this exponent: each slot is compared with the
 /// lowest one under its node. The nodes of the slots ascend. No slot is looked at where no matrix has the exponent.
 ///
 /// # Errors
@@ -173,31 +181,32 @@ fn rows_of_slot<'a, T>(rows: &'a [Vec<Vec<T>>], firsts: &[usize], slot: usize) -
 /// `InconsistentGroupOpening` for the first slot, and its first row, that differs.
 fn check_layer<T: Eq>(
     dimensions: &[Dimensions],
-    x: usize,
+    exponent: usize,
     nodes: &[usize],
-    firsts: &[usize],
+    first_queries: &[usize],
     rows: &[Vec<Vec<T>>],
 ) -> Result<(), MerkleTreeError>
-    requires pairs { length nodes.now ≡ length firsts.now }
+    requires pairs { length nodes.now ≡ length first_queries.now }
     requires ascending { IsAscending nodes.now }
-    requires queries { All (λ query. query < length rows.now) firsts.now }
-    requires full { (k : ℕ) → k < length firsts.now → length (slot_rows firsts.now (row_sets rows.now) k) ≡
-        length dimensions.now }
-    ensures { let refusal = nodes_refusal T.eq (heights_of dimensions.now) x nodes.now firsts.now (row_sets rows.now) in
+    requires queries { All (λ query. query < length rows.now) first_queries.now }
+    requires full { (k : ℕ) → k < length first_queries.now →
+        length (slot_rows first_queries.now (row_sets rows.now) k) ≡ length dimensions.now }
+    ensures { let refusal = nodes_refusal T.eq (heights_of dimensions.now) exponent nodes.now first_queries.now
+        (row_sets rows.now) in
         MatchResult result (λ ok. refusal ≡ None) (λ e. refusal ≡ Some e) }
 {
-    if !has_exponent(dimensions, x) {
+    if !has_exponent(dimensions, exponent) {
         return Ok(());
     }
     let mut lead = 0;
     for slot in 0..nodes.len() {
         lead = lead_of(nodes, slot, lead);
-        let rows_of_lead = rows_of_slot(rows, firsts, lead);
+        let rows_of_lead = rows_of_slot(rows, first_queries, lead);
         check_same_rows(
             dimensions,
-            x,
+            exponent,
             slot,
-            rows_of_slot(rows, firsts, slot),
+            rows_of_slot(rows, first_queries, slot),
             rows_of_lead,
         )?;
     }
@@ -214,11 +223,11 @@ fn to_parents(nodes: &mut [usize], step: usize)
     }
 }
 
-/// Whether slots under one node of a layer up to `t` have the same rows of the matrices of that layer: each is compared
-/// with the lowest slot under its node. Each slot's row set has a row for each matrix, `t` is at most the number of
-/// levels, the arity a power of two from 2 to 2^62, and no height is above [`MAX_HEIGHT`](crate::geometry::MAX_HEIGHT).
-/// Takes memory for a number a slot, the time of one step for each slot and layer, and on each layer to which a matrix
-/// belongs that of a look at each matrix for each slot.
+/// Whether slots under one node of a layer up to `cap_layer` have the same rows of the matrices of that layer: each is
+/// compared with the lowest slot under its node. Each slot's row set has a row for each matrix, `cap_layer` is at most
+/// the number of levels, the arity a power of two from 2 to 2^62, and no height is above
+/// [`MAX_HEIGHT`](crate::geometry::MAX_HEIGHT). Takes memory for a number a slot, the time of one step for each slot
+/// and layer, and on each layer to which a matrix belongs that of a look at each matrix for each slot.
 ///
 /// # Errors
 ///
@@ -228,36 +237,37 @@ fn check_groups<T: Eq>(
     alloc: Global,
     dimensions: &[Dimensions],
     arity: usize,
-    t: usize,
-    slots: &Slots,
+    cap_layer: usize,
+    queried: &DistinctIndices,
     rows: &[Vec<Vec<T>>],
 ) -> Result<(), MerkleTreeError>
     requires arity { IsArity arity }
     requires low { greatest (heights_of dimensions.now) ≤ height_limit }
-    requires layer { t ≤ levels (shape_of arity dimensions.now) }
-    requires pairs { length slots.now.leaves.items ≡ length slots.now.firsts.items }
-    requires ascending { IsAscending slots.now.leaves.items }
-    requires queries { All (λ query. query < length rows.now) slots.now.firsts.items }
-    requires full { (k : ℕ) → k < length slots.now.firsts.items →
-        length (slot_rows slots.now.firsts.items (row_sets rows.now) k) ≡ length dimensions.now }
-    ensures { let refusal = layers_refusal T.eq (shape_of arity dimensions.now) t slots.now.leaves.items
-        slots.now.firsts.items (row_sets rows.now) in
+    requires layer { cap_layer ≤ levels (shape_of arity dimensions.now) }
+    requires pairs { length queried.now.indices.items ≡ length queried.now.first_queries.items }
+    requires ascending { IsAscending queried.now.indices.items }
+    requires queries { All (λ query. query < length rows.now) queried.now.first_queries.items }
+    requires full { (k : ℕ) → k < length queried.now.first_queries.items →
+        length (slot_rows queried.now.first_queries.items (row_sets rows.now) k) ≡ length dimensions.now }
+    ensures { let refusal = layers_refusal T.eq (shape_of arity dimensions.now) cap_layer queried.now.indices.items
+        queried.now.first_queries.items (row_sets rows.now) in
         AnswersUnlessMemory result refusal }
 {
-    let mut nodes = Vec::from_slice(alloc, &slots.leaves)?;
-    let mut x = exponent_of(tallest_of(dimensions));
-    for _l in 0..t + 1 {
-        check_layer(dimensions, x, &nodes, &slots.firsts, rows)?;
-        let (step, next) = select_arity_step(dimensions, arity, x);
+    let mut nodes = Vec::from_slice(alloc, &queried.indices)?;
+    let mut exponent = exponent_of(tallest_of(dimensions));
+    for _l in 0..cap_layer + 1 {
+        check_layer(dimensions, exponent, &nodes, &queried.first_queries, rows)?;
+        let (step, next) = select_arity_step(dimensions, arity, exponent);
         to_parents(&mut nodes, step);
-        x = next;
+        exponent = next;
     }
     Ok(())
 }
 
-/// Whether a pruned opening of some indices can be restored, whatever the cap, which is layer `t`. Answers the slots of
-/// its indices. `t` is at most the number of levels, and the arity a power of two from 2 to 2^62. Takes memory for all
-/// indices, and beside one sort of them the time of one step for each index and level, and of the rows' comparison.
+/// Whether a pruned opening of some indices can be restored, whatever the cap, which is layer `cap_layer`. Answers its
+/// distinct indices. `cap_layer` is at most the number of levels, and the arity a power of two from 2 to 2^62. Takes
+/// memory for all indices, and beside one sort of them the time of one step for each index and level, and of the rows'
+/// comparison.
 ///
 /// # Errors
 ///
@@ -270,52 +280,52 @@ pub fn check_pruned<T: Eq>(
     alloc: Global,
     dimensions: &[Dimensions],
     arity: usize,
-    t: usize,
+    cap_layer: usize,
     indices: &[usize],
     rows: &[Vec<Vec<T>>],
     num_digests: usize,
-) -> Result<Slots, MerkleTreeError>
+) -> Result<DistinctIndices, MerkleTreeError>
     requires arity { IsArity arity }
-    requires layer { t ≤ levels (shape_of arity dimensions.now) }
-    ensures { let refusal = pruned_refusal T.eq (shape_of arity dimensions.now) t
+    requires layer { cap_layer ≤ levels (shape_of arity dimensions.now) }
+    ensures { let refusal = pruned_refusal T.eq (shape_of arity dimensions.now) cap_layer
         (opened_with indices.now (row_sets rows.now) num_digests) in
-        MatchResult result (λ slots. (refusal ≡ None) × HasSlots slots indices.now)
+        MatchResult result (λ queried. (refusal ≡ None) × AreDistinctOf queried indices.now)
         (λ e. (e ≡ OutOfMemory) ⊎ (refusal ≡ Some e)) }
 {
     check_queries(dimensions, indices, rows.len(), num_digests)?;
-    let slots = slots_of(alloc, indices)?;
-    check_repeats(indices, rows, &slots)?;
+    let queried = distinct_indices_of(alloc, indices)?;
+    check_repeats(indices, rows, &queried)?;
     check_digest_count(
-        pruned_len_of_slots(alloc, dimensions, arity, t, indices, &slots)?,
+        pruned_len_of_distinct(alloc, dimensions, arity, cap_layer, indices, &queried)?,
         num_digests,
     )?;
-    check_slots(alloc, dimensions, arity, t, &slots, rows)?;
-    Ok(slots)
+    check_rows(alloc, dimensions, arity, cap_layer, &queried, rows)?;
+    Ok(queried)
 }
 
-/// How many digests a pruned proof of some indices sends under the cap of layer `t`, from their slots, so that they
-/// aren't sorted again.
+/// How many digests a pruned proof of some indices sends under the cap of layer `cap_layer`, from the distinct ones, so
+/// that they aren't sorted again.
 ///
 /// # Errors
 ///
 /// `AllocError` where there is no memory.
-fn pruned_len_of_slots(
+fn pruned_len_of_distinct(
     alloc: Global,
     dimensions: &[Dimensions],
     arity: usize,
-    t: usize,
+    cap_layer: usize,
     indices: &[usize],
-    slots: &Slots,
+    queried: &DistinctIndices,
 ) -> Result<usize, AllocError>
     requires arity { IsArity arity }
     requires low { greatest (heights_of dimensions.now) ≤ height_limit }
-    requires layer { t ≤ levels (shape_of arity dimensions.now) }
+    requires layer { cap_layer ≤ levels (shape_of arity dimensions.now) }
     requires below { greatest indices.now < greatest (heights_of dimensions.now) }
-    requires slots { HasSlots slots.now indices.now }
-    ensures { IfOk result (λ count. count ≡ pruned_len (shape_of arity dimensions.now) indices.now t) }
+    requires queried { AreDistinctOf queried.now indices.now }
+    ensures { IfOk result (λ count. count ≡ pruned_len (shape_of arity dimensions.now) indices.now cap_layer) }
 {
-    let leaves = Vec::from_slice(alloc, &slots.leaves)?;
-    Ok(boundary_len_of(dimensions, arity, t, leaves))
+    let leaves = Vec::from_slice(alloc, &queried.indices)?;
+    Ok(boundary_len_of(dimensions, arity, cap_layer, leaves))
 }
 
 /// Whether some indices can be queried with so many row sets and digests: what is asked before slots are made.
@@ -371,24 +381,24 @@ fn check_digest_count(expected: usize, got: usize) -> Result<(), MerkleTreeError
 
 /// Whether the rows of slots have their widths, and those under one node agree: [`check_first_widths`], then
 /// [`check_groups`].
-fn check_slots<T: Eq>(
+fn check_rows<T: Eq>(
     alloc: Global,
     dimensions: &[Dimensions],
     arity: usize,
-    t: usize,
-    slots: &Slots,
+    cap_layer: usize,
+    queried: &DistinctIndices,
     rows: &[Vec<Vec<T>>],
 ) -> Result<(), MerkleTreeError>
     requires arity { IsArity arity }
     requires low { greatest (heights_of dimensions.now) ≤ height_limit }
-    requires layer { t ≤ levels (shape_of arity dimensions.now) }
-    requires pairs { length slots.now.leaves.items ≡ length slots.now.firsts.items }
-    requires ascending { IsAscending slots.now.leaves.items }
-    requires queries { All (λ query. query < length rows.now) slots.now.firsts.items }
-    ensures { let refusal = late_refusal T.eq (shape_of arity dimensions.now) t slots.now.leaves.items
-        slots.now.firsts.items (row_sets rows.now) in
+    requires layer { cap_layer ≤ levels (shape_of arity dimensions.now) }
+    requires pairs { length queried.now.indices.items ≡ length queried.now.first_queries.items }
+    requires ascending { IsAscending queried.now.indices.items }
+    requires queries { All (λ query. query < length rows.now) queried.now.first_queries.items }
+    ensures { let refusal = late_refusal T.eq (shape_of arity dimensions.now) cap_layer queried.now.indices.items
+        queried.now.first_queries.items (row_sets rows.now) in
         AnswersUnlessMemory result refusal }
 {
-    check_first_widths(dimensions, rows, &slots.firsts)?;
-    check_groups(alloc, dimensions, arity, t, slots, rows)
+    check_first_widths(dimensions, rows, &queried.first_queries)?;
+    check_groups(alloc, dimensions, arity, cap_layer, queried, rows)
 }

@@ -10,7 +10,7 @@ use Rattle.p3_merkle_core.specs.Refusals.{first_of, first_some, idle_refusal, qu
 use Rattle.p3_merkle_core.specs.declared.error.MerkleTreeError.{MerkleTreeError}
 use Rattle.p3_merkle_core.specs.declared.error.MerkleTreeError.TheVariants.{MalformedPrunedProof}
 use Rattle.p3_merkle_core.specs.declared.error.PrunedProofError.TheVariants.{InconsistentGroupOpening}
-use Rattle.p3_merkle_core.specs.declared.agreement.Slots.{Slots}
+use Rattle.p3_merkle_core.specs.declared.agreement.DistinctIndices.{DistinctIndices}
 
 -- the distinct indices, ascending
 unfoldable pub distinct : List ℕ → List ℕ
@@ -29,10 +29,10 @@ opened_of indices sets = pruned_of indices sets []
 abbrev pub opened_with : {T : Type 0} → List ℕ → List (List (List T)) → ℕ → PrunedOpening T ℕ
 opened_with indices sets n = pruned_of indices sets (replicate n [])
 
--- the slots of some queries: their distinct indices, ascending, and the first query of each
-pub record HasSlots (slots : Slots) (indices : List ℕ) : Type 0 where
-  pub leaves : slots.leaves.items ≡ distinct indices
-  pub firsts : slots.firsts.items ≡ map (first_query indices) (distinct indices)
+-- what is queried of some indices: the distinct ones, ascending, and the first query of each
+pub record AreDistinctOf (queried : DistinctIndices) (queries : List ℕ) : Type 0 where
+  pub indices : queried.indices.items ≡ distinct queries
+  pub first_queries : queried.first_queries.items ≡ map (first_query queries) (distinct queries)
 
 -- k is the slot of index i: how many of the distinct indices are below it, and its place among them
 pub record IsSlot (indices : List ℕ) (i k : ℕ) : Type 0 where

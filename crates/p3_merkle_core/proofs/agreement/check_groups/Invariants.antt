@@ -10,11 +10,11 @@ use Rattle.p3_merkle_core.proofs.agreement.check_groups.Given as goal
 -- the nodes of the slots in the layer, and the layers so far agree, so the rest decides
 abbrev pub invariant-loop-l : goal.invariant-loop-l
 invariant-loop-l g l = record {
-  at : l.x ≡ layer_exponent (shape_of l.arity l.dimensions) l._l;
-  above : l.nodes.items ≡ map (ancestor (shape_of l.arity l.dimensions) l._l) l.slots.leaves.items;
+  at : l.exponent ≡ layer_exponent (shape_of l.arity l.dimensions) l._l;
+  above : l.nodes.items ≡ map (ancestor (shape_of l.arity l.dimensions) l._l) l.queried.indices.items;
   so_far :
-      first_of (layer_fault g.T.PartialEq.eq (shape_of l.arity l.dimensions) l.slots.leaves.items l.slots.firsts.items
-      (row_sets l.rows)) (range_with_len l._l (suc l.t - l._l))
-      ≡ layers_refusal g.T.PartialEq.eq (shape_of l.arity l.dimensions) l.t l.slots.leaves.items l.slots.firsts.items
-      (row_sets l.rows);
+      first_of (layer_fault g.T.PartialEq.eq (shape_of l.arity l.dimensions) l.queried.indices.items
+      l.queried.first_queries.items (row_sets l.rows)) (range_with_len l._l (suc l.cap_layer - l._l))
+      ≡ layers_refusal g.T.PartialEq.eq (shape_of l.arity l.dimensions) l.cap_layer l.queried.indices.items
+      l.queried.first_queries.items (row_sets l.rows);
 }

@@ -42,9 +42,9 @@ loop-slot-preserved g c =
     let nodes = c.args.nodes.now in
     let sets = row_sets c.args.rows.now in
     let k = c.loop-slot.slot in
-    let h = slot_fault g.T.PartialEq.eq hs c.args.x nodes c.args.firsts.now sets in
-    let total = nodes_refusal g.T.PartialEq.eq hs c.args.x nodes c.args.firsts.now sets in
-    let none = slot_read g.T.PartialEq.eq hs c.args.x nodes c.args.firsts.now sets k c.lead_of-lead.result
+    let h = slot_fault g.T.PartialEq.eq hs c.args.exponent nodes c.args.first_queries.now sets in
+    let total = nodes_refusal g.T.PartialEq.eq hs c.args.exponent nodes c.args.first_queries.now sets in
+    let none = slot_read g.T.PartialEq.eq hs c.args.exponent nodes c.args.first_queries.now sets k c.lead_of-lead.result
     (row_lists c.rows_of_slot.result.now) (row_lists c.rows_of_slot-rows_of_lead.result.now) None
     c.rows_of_slot.ensures c.rows_of_slot-rows_of_lead.ensures c.lead_of-lead.ensures c.in_ok-check_same_rows.ensures in
     let same : k + 1 - 1 ≡ k = omega arith in
@@ -60,9 +60,9 @@ returns-in_err-check_same_rows g c =
     let nodes = c.args.nodes.now in
     let sets = row_sets c.args.rows.now in
     let k = c.loop-slot.slot in
-    let h = slot_fault g.T.PartialEq.eq hs c.args.x nodes c.args.firsts.now sets in
-    let total = nodes_refusal g.T.PartialEq.eq hs c.args.x nodes c.args.firsts.now sets in
-    let some = slot_read g.T.PartialEq.eq hs c.args.x nodes c.args.firsts.now sets k c.lead_of-lead.result
+    let h = slot_fault g.T.PartialEq.eq hs c.args.exponent nodes c.args.first_queries.now sets in
+    let total = nodes_refusal g.T.PartialEq.eq hs c.args.exponent nodes c.args.first_queries.now sets in
+    let some = slot_read g.T.PartialEq.eq hs c.args.exponent nodes c.args.first_queries.now sets k c.lead_of-lead.result
     (row_lists c.rows_of_slot.result.now) (row_lists c.rows_of_slot-rows_of_lead.result.now)
     (Some c.in_err-check_same_rows.field-0.0)
     c.rows_of_slot.ensures c.rows_of_slot-rows_of_lead.ensures c.lead_of-lead.ensures
@@ -75,5 +75,5 @@ returns-in_err-check_same_rows g c =
 
 pub returns-then-not-has_exponent : goal.returns-then-not-has_exponent
 returns-then-not-has_exponent g c =
-    no_matrix g.T.PartialEq.eq (heights_of c.args.dimensions.now) c.args.x c.args.nodes.now c.args.firsts.now
-    (row_sets c.args.rows.now) (sym c.has_exponent.ensures ∙ c.if-not-has_exponent.true)
+    no_matrix g.T.PartialEq.eq (heights_of c.args.dimensions.now) c.args.exponent c.args.nodes.now
+    c.args.first_queries.now (row_sets c.args.rows.now) (sym c.has_exponent.ensures ∙ c.if-not-has_exponent.true)

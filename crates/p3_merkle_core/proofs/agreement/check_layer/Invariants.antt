@@ -12,7 +12,7 @@ abbrev pub invariant-loop-slot : goal.invariant-loop-slot
 invariant-loop-slot g l = record {
   is_lead : l.lead ≡ first_query l.nodes (get_or l.nodes (l.slot - 1) 0);
   so_far :
-      first_of (slot_fault g.T.PartialEq.eq (heights_of l.dimensions) l.x l.nodes l.firsts (row_sets l.rows))
-      (range_with_len l.slot (length l.nodes - l.slot))
-      ≡ nodes_refusal g.T.PartialEq.eq (heights_of l.dimensions) l.x l.nodes l.firsts (row_sets l.rows);
+      first_of (slot_fault g.T.PartialEq.eq (heights_of l.dimensions) l.exponent l.nodes l.first_queries
+      (row_sets l.rows)) (range_with_len l.slot (length l.nodes - l.slot))
+      ≡ nodes_refusal g.T.PartialEq.eq (heights_of l.dimensions) l.exponent l.nodes l.first_queries (row_sets l.rows);
 }

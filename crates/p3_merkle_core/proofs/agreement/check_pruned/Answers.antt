@@ -9,36 +9,38 @@ use Rattle.p3_merkle_core.proofs.Pruned.AgreeFacts.{distinct_ascending, firsts_i
 use Rattle.p3_merkle_core.proofs.Pruned.PrunedFacts.{asked_from, pruned_late}
 use Rattle.p3_merkle_core.proofs.agreement.check_pruned.Goals as goal
 
-pub pruned_len_of_slots-requires-clause-below : goal.pruned_len_of_slots-requires-clause-below
-pruned_len_of_slots-requires-clause-below g c =
+pub pruned_len_of_distinct-requires-clause-below : goal.pruned_len_of_distinct-requires-clause-below
+pruned_len_of_distinct-requires-clause-below g c =
     (asked_from (heights_of c.args.dimensions.now) c.args.indices.now (length c.args.rows.now) c.args.num_digests
     c.in_ok-check_queries.ensures.answer).highest
 
-pub check_slots-requires-clause-ascending : goal.check_slots-requires-clause-ascending
-check_slots-requires-clause-ascending g c = rw c.in_ok-slots.ensures.leaves (distinct_ascending c.args.indices.now)
+pub check_rows-requires-clause-ascending : goal.check_rows-requires-clause-ascending
+check_rows-requires-clause-ascending g c = rw c.in_ok-queried.ensures.indices (distinct_ascending c.args.indices.now)
 
-pub check_slots-requires-clause-queries : goal.check_slots-requires-clause-queries
-check_slots-requires-clause-queries g c =
+pub check_rows-requires-clause-queries : goal.check_rows-requires-clause-queries
+check_rows-requires-clause-queries g c =
     let asked = asked_from (heights_of c.args.dimensions.now) c.args.indices.now (length c.args.rows.now)
     c.args.num_digests c.in_ok-check_queries.ensures.answer in
-    rw (← asked.pairs) (firsts_inside c.in_ok-slots.slots.firsts.items c.args.indices.now c.in_ok-slots.ensures.firsts)
+    rw (← asked.pairs) (firsts_inside c.in_ok-queried.queried.first_queries.items c.args.indices.now
+    c.in_ok-queried.ensures.first_queries)
 
-pub returns-in_err-check_slots : goal.returns-in_err-check_slots
-returns-in_err-check_slots g c =
+pub returns-in_err-check_rows : goal.returns-in_err-check_rows
+returns-in_err-check_rows g c =
     let s = shape_of c.args.arity c.args.dimensions.now in
     let sets = row_sets c.args.rows.now in
-    let e = c.in_err-check_slots.field-0.0 in
-    let left = err_from_is_err_and c.from_residual-in_err-check_slots.result
-    c.from_residual-in_err-check_slots.ensures.1 in
+    let e = c.in_err-check_rows.field-0.0 in
+    let left = err_from_is_err_and c.from_residual-in_err-check_rows.result
+    c.from_residual-in_err-check_rows.ensures.1 in
     let early = rw (← length-map c.args.rows.now (λ rows. row_lists rows.items)) at
     c.in_ok-check_queries.ensures.answer in
-    let count = rw c.in_ok-pruned_len_of_slots.ensures at c.in_ok-check_digest_count.ensures in
-    elim c.in_err-check_slots.ensures [
+    let count = rw c.in_ok-pruned_len_of_distinct.ensures at c.in_ok-check_digest_count.ensures in
+    elim c.in_err-check_rows.ensures [
       | inl memory ↦ rw left.1 (inl (left.2 ∙ memory))
       | inr some ↦
-          let found = pruned_late g.T.PartialEq.eq s c.args.t c.in_ok-slots.slots.leaves.items
-          c.in_ok-slots.slots.firsts.items c.args.indices.now sets c.args.num_digests (Some e)
-          c.in_ok-slots.ensures.leaves c.in_ok-slots.ensures.firsts early c.in_ok-check_repeats.ensures count
+          let found = pruned_late g.T.PartialEq.eq s c.args.cap_layer c.in_ok-queried.queried.indices.items
+          c.in_ok-queried.queried.first_queries.items c.args.indices.now sets c.args.num_digests (Some e)
+          c.in_ok-queried.ensures.indices c.in_ok-queried.ensures.first_queries early
+          c.in_ok-check_repeats.ensures count
           some in
           rw left.1 (inr (found ∙ ap (λ e. Some e) (sym left.2)))
     ]
@@ -49,8 +51,9 @@ returns g c =
     let sets = row_sets c.args.rows.now in
     let early = rw (← length-map c.args.rows.now (λ rows. row_lists rows.items)) at
     c.in_ok-check_queries.ensures.answer in
-    let count = rw c.in_ok-pruned_len_of_slots.ensures at c.in_ok-check_digest_count.ensures in
-    let none = pruned_late g.T.PartialEq.eq s c.args.t c.in_ok-slots.slots.leaves.items c.in_ok-slots.slots.firsts.items
-    c.args.indices.now sets c.args.num_digests None c.in_ok-slots.ensures.leaves c.in_ok-slots.ensures.firsts early
-    c.in_ok-check_repeats.ensures count c.in_ok-check_slots.ensures in
-    (none, c.in_ok-slots.ensures)
+    let count = rw c.in_ok-pruned_len_of_distinct.ensures at c.in_ok-check_digest_count.ensures in
+    let none = pruned_late g.T.PartialEq.eq s c.args.cap_layer c.in_ok-queried.queried.indices.items
+    c.in_ok-queried.queried.first_queries.items c.args.indices.now sets c.args.num_digests None
+    c.in_ok-queried.ensures.indices c.in_ok-queried.ensures.first_queries early
+    c.in_ok-check_repeats.ensures count c.in_ok-check_rows.ensures in
+    (none, c.in_ok-queried.ensures)

@@ -13,24 +13,24 @@ pub bounds-rows-index : goal.bounds-rows-index
 bounds-rows-index g c =
     let indices = c.args.indices.now in
     let queried = queried_at indices c.loop-query.query (omega arith) in
-    let slot = c.slot_of_index-slot.ensures indices (c.deref.ensures.value ∙ c.requires.slots.leaves) queried in
+    let slot = c.slot_of_index-slot.ensures indices (c.deref.ensures.value ∙ c.requires.queried.indices) queried in
     omega (
       arith,
       c.requires.pairs,
-      first_inside c.args.slots.now.firsts.items indices _ c.slot_of_index-slot.result
-          c.index.result.now c.requires.slots.firsts queried slot c.index.ensures,
+      first_inside c.args.queried.now.first_queries.items indices _ c.slot_of_index-slot.result
+          c.index.result.now c.requires.queried.first_queries queried slot c.index.ensures,
     )
 
 pub offset_bounds-rows-index : goal.offset_bounds-rows-index
 offset_bounds-rows-index g c =
     let indices = c.args.indices.now in
     let queried = queried_at indices c.loop-query.query (omega arith) in
-    let slot = c.slot_of_index-slot.ensures indices (c.deref.ensures.value ∙ c.requires.slots.leaves) queried in
+    let slot = c.slot_of_index-slot.ensures indices (c.deref.ensures.value ∙ c.requires.queried.indices) queried in
     omega (
       arith,
       c.requires.pairs,
-      first_inside c.args.slots.now.firsts.items indices _ c.slot_of_index-slot.result
-          c.index.result.now c.requires.slots.firsts queried slot c.index.ensures,
+      first_inside c.args.queried.now.first_queries.items indices _ c.slot_of_index-slot.result
+          c.index.result.now c.requires.queried.first_queries queried slot c.index.ensures,
     )
 
 pub loop-query-preserved : goal.loop-query-preserved
@@ -38,11 +38,11 @@ loop-query-preserved g c =
     let indices = c.args.indices.now in
     let n = c.loop-query.query in
     let queried = queried_at indices n (omega arith) in
-    (repeat_turn g.T.PartialEq.eq c.args.slots.now.firsts.items indices c.args.rows.now
+    (repeat_turn g.T.PartialEq.eq c.args.queried.now.first_queries.items indices c.args.rows.now
     (repeat_refusal g.T.PartialEq.eq (opened_of indices (row_sets c.args.rows.now))) n
     c.slot_of_index-slot.result c.index.result.now c.index-rows-query.result c.index-rows-index.result c.ne.result
-    c.requires.slots.firsts c.requires.pairs (omega arith)
-    (c.slot_of_index-slot.ensures indices (c.deref.ensures.value ∙ c.requires.slots.leaves) queried)
+    c.requires.queried.first_queries c.requires.pairs (omega arith)
+    (c.slot_of_index-slot.ensures indices (c.deref.ensures.value ∙ c.requires.queried.indices) queried)
     c.index.ensures c.index-rows-query.is c.index-rows-index.is c.ne.ensures c.loop-query.invariant).kept c.if-ne.false
 
 pub returns-then-ne : goal.returns-then-ne
@@ -50,10 +50,10 @@ returns-then-ne g c =
     let indices = c.args.indices.now in
     let n = c.loop-query.query in
     let queried = queried_at indices n (omega arith) in
-    (repeat_turn g.T.PartialEq.eq c.args.slots.now.firsts.items indices c.args.rows.now
+    (repeat_turn g.T.PartialEq.eq c.args.queried.now.first_queries.items indices c.args.rows.now
     (repeat_refusal g.T.PartialEq.eq (opened_of indices (row_sets c.args.rows.now))) n
     c.slot_of_index-slot.result c.index.result.now c.index-rows-query.result c.index-rows-index.result c.ne.result
-    c.requires.slots.firsts c.requires.pairs (omega arith)
-    (c.slot_of_index-slot.ensures indices (c.deref.ensures.value ∙ c.requires.slots.leaves) queried)
+    c.requires.queried.first_queries c.requires.pairs (omega arith)
+    (c.slot_of_index-slot.ensures indices (c.deref.ensures.value ∙ c.requires.queried.indices) queried)
     c.index.ensures c.index-rows-query.is c.index-rows-index.is c.ne.ensures c.loop-query.invariant).found c.if-ne.true
     ∙ ap (λ e. Some e) (sym c.into.ensures)

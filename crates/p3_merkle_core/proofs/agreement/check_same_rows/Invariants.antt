@@ -12,5 +12,5 @@ abbrev pub invariant-loop-matrix : goal.invariant-loop-matrix
 invariant-loop-matrix g l =
     let hs = heights_of l.dimensions in
     first_of (row_fault g.T.PartialEq.eq l.slot (row_lists l.rows) (row_lists l.lead))
-    (filter (λ m. eqb (exponent (get_or hs m 0)) l.x) (range_with_len l.matrix (length l.dimensions - l.matrix)))
-    ≡ rows_refusal g.T.PartialEq.eq hs l.x l.slot (row_lists l.rows) (row_lists l.lead)
+    (filter (λ m. eqb (exponent (get_or hs m 0)) l.exponent) (range_with_len l.matrix (length l.dimensions - l.matrix)))
+    ≡ rows_refusal g.T.PartialEq.eq hs l.exponent l.slot (row_lists l.rows) (row_lists l.lead)

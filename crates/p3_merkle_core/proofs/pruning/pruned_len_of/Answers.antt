@@ -7,18 +7,18 @@ use Rattle.p3_merkle_core.proofs.pruning.pruned_len_of.Goals as goal
 pub boundary_len_of-requires-clause-below : goal.boundary_len_of-requires-clause-below
 boundary_len_of-requires-clause-below c =
     let s = shape_of c.args.arity c.args.dimensions.now in
-    (leaves_asked s c.args.indices.now c.in_ok-leaves.leaves.items c.args.t c.requires.arity c.requires.below
+    (leaves_asked s c.args.indices.now c.in_ok-leaves.leaves.items c.args.cap_layer c.requires.arity c.requires.below
     c.in_ok-leaves.ensures).below
 
 pub boundary_len_of-requires-clause-ascending : goal.boundary_len_of-requires-clause-ascending
 boundary_len_of-requires-clause-ascending c =
     let s = shape_of c.args.arity c.args.dimensions.now in
-    (leaves_asked s c.args.indices.now c.in_ok-leaves.leaves.items c.args.t c.requires.arity c.requires.below
+    (leaves_asked s c.args.indices.now c.in_ok-leaves.leaves.items c.args.cap_layer c.requires.arity c.requires.below
     c.in_ok-leaves.ensures).ascending
 
 pub returns : goal.returns
 returns c =
     let s = shape_of c.args.arity c.args.dimensions.now in
     c.boundary_len_of.ensures
-    ∙ (leaves_asked s c.args.indices.now c.in_ok-leaves.leaves.items c.args.t c.requires.arity c.requires.below
+    ∙ (leaves_asked s c.args.indices.now c.in_ok-leaves.leaves.items c.args.cap_layer c.requires.arity c.requires.below
     c.in_ok-leaves.ensures).count
