@@ -112,15 +112,23 @@ pub fn covered_leaves(alloc: Global, indices: &[usize]) -> Result<Vec<usize>, Al
     Ok(leaves)
 }
 
+/// Turns the nodes of a layer into their parents, in place. A parent has `step` children, at least one.
+pub(crate) fn to_parents(nodes: &mut [usize], step: usize)
+    requires { 0 < step }
+    ensures { nodes.new ≡ map (λ j. j / step) nodes.old }
+{
+    for node in nodes.iter_mut() {
+        *node /= step;
+    }
+}
+
 /// Turns the covered nodes of a layer, which ascend, into those of the layer above, in place: each node's parent once,
 /// ascending. A parent has `step` children, at least one.
 pub fn climb(covered: &mut Vec<usize>, step: usize)
     requires { 0 < step }
     ensures { IsAscending covered.old.items → covered.new.items ≡ distinct (map (λ j. j / step) covered.old.items) }
 {
-    for node in covered.iter_mut() {
-        *node /= step;
-    }
+    to_parents(covered, step);
     covered.dedup();
 }
 
@@ -146,7 +154,7 @@ pub fn pruned_len_of(
     ensures { IfOk result (λ count. count ≡ pruned_len (shape_of arity dimensions.now) indices.now cap_layer) }
 {
     let leaves = covered_leaves(alloc, indices)?;
-    Ok(boundary_len_of(dimensions, arity, cap_layer, leaves))
+    Ok(steps_of(dimensions, arity).boundary_len(cap_layer, leaves))
 }
 
 impl<'a> Steps<'a> {
@@ -171,23 +179,6 @@ impl<'a> Steps<'a> {
         }
         count
     }
-}
-
-/// As [`Steps::boundary_len`], of dimensions.
-pub fn boundary_len_of(
-    dimensions: &[Dimensions],
-    arity: usize,
-    cap_layer: usize,
-    leaves: Vec<usize>,
-) -> usize
-    requires arity { IsArity arity }
-    requires low { greatest (heights_of dimensions.now) ≤ height_limit }
-    requires layer { cap_layer ≤ levels (shape_of arity dimensions.now) }
-    requires below { All (λ q. q < greatest (heights_of dimensions.now)) leaves.items }
-    requires ascending { IsStrictlyIncreasing leaves.items }
-    ensures { result ≡ pruned_len (shape_of arity dimensions.now) leaves.items cap_layer }
-{
-    steps_of(dimensions, arity).boundary_len(cap_layer, leaves)
 }
 
 /// The values of the children of some parents, `step` of each, parent by parent: of a covered child its digest, and of

@@ -12,16 +12,17 @@ use Rattle.p3_merkle_core.proofs.agreement.check_rows.Goals as goal
 
 pub check_groups-requires-clause-full : goal.check_groups-requires-clause-full
 check_groups-requires-clause-full g c =
-    full_from c.args.dimensions.now c.args.queried.now.first_queries.items (row_sets c.args.rows.now)
+    full_from c.args.steps.now.dimensions.now c.args.queried.now.first_queries.items (row_sets c.args.rows.now)
     (rw c.deref.ensures.value at c.in_ok-check_first_widths.ensures)
 
 pub returns : goal.returns
 returns g c =
-    let s = shape_of c.args.arity c.args.dimensions.now in
+    let s = shape_of c.args.steps.now.arity c.args.steps.now.dimensions.now in
     let leaves = c.args.queried.now.indices.items in
     let firsts = c.args.queried.now.first_queries.items in
     let sets = row_sets c.args.rows.now in
-    let widths = first_of (λ query. width_refusal c.args.dimensions.now (slice_index_or sets query [])) firsts in
+    let dimensions = c.args.steps.now.dimensions.now in
+    let widths = first_of (λ query. width_refusal dimensions (slice_index_or sets query [])) firsts in
     let groups = layers_refusal g.T.PartialEq.eq s c.args.cap_layer leaves firsts sets in
     let late = late_refusal g.T.PartialEq.eq s c.args.cap_layer leaves firsts sets in
     let none : widths ≡ None = rw c.deref.ensures.value at c.in_ok-check_first_widths.ensures in
