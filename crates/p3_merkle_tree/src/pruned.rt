@@ -11,7 +11,7 @@ ghost use Rattle.p3_merkle_core.specs.Pruning.{honest_query, pruned_in_layers, p
 ghost use Rattle.p3_merkle_core.specs.Refusals.{pruned_len_refusal, AnswersUnlessMemory};
 ghost use Rattle.p3_merkle_core.specs.Views.{multi_made, pruned_lent, pruned_made, shown_paths};
 ghost use Rattle.p3_merkle_prover.specs.Parts.{layers_of, tree_batch};
-ghost use Rattle.p3_merkle_tree.specs.Schemes.{cap_of, proof_layer, terms_of, terms_over};
+ghost use Rattle.p3_merkle_tree.specs.Schemes.{cap_layer_of, cap_layer_over, terms_of, terms_over};
 ghost use Rattle.p3_support.specs.Shown.{roots_of};
 
 use crate::mmcs::{MerkleTreeMmcs, Scheme};
@@ -52,13 +52,13 @@ impl<P: PackedValue, PW: PackedValue, H, C, X, G, const N: usize> Scheme<P, PW, 
         indices: &[usize],
     ) -> Result<usize, MerkleTreeError>
         ensures answer { AnswersUnlessMemory result (pruned_len_refusal (shape_of N dimensions.now) indices.now) }
-        ensures least { let t = cap_of self.now dimensions.now in
-            IfOk result (λ count. IsLeast (shape_of N dimensions.now) indices.now t count) }
+        ensures least { let cap_layer = cap_layer_of self.now dimensions.now in
+            IfOk result (λ count. IsLeast (shape_of N dimensions.now) indices.now cap_layer count) }
     {
         check_heights(dimensions)?;
         check_indices(tallest_of(dimensions), indices)?;
-        let t = self.proof_levels(dimensions);
-        Ok(pruned_len_of(alloc, dimensions, N, t, indices)?)
+        let cap_layer = self.cap_layer(dimensions);
+        Ok(pruned_len_of(alloc, dimensions, N, cap_layer, indices)?)
     }
 }
 
@@ -90,11 +90,12 @@ impl<
     ) -> Result<PrunedBatchOpening<P::Value, PW::Value, D>, MerkleTreeError>
         requires { All (λ index. index < greatest (heights (shape (tree_batch tree.now)))) indices.now }
         ensures opened { let b = tree_batch tree.now in
-            let t = proof_layer self.now (shape b) in
-            IfOk result (λ o. pruned_made indices.now o ≡ pruned_in_layers b (layers_of tree.now) t indices.now) }
+            let cap_layer = cap_layer_over self.now (shape b) in
+            let in_layers = pruned_in_layers b (layers_of tree.now) cap_layer indices.now in
+            IfOk result (λ o. pruned_made indices.now o ≡ in_layers) }
         ensures least { let s = shape (tree_batch tree.now) in
-            let t = proof_layer self.now s in
-            IfOk result (λ o. IsLeast s indices.now t (length (pruned_made indices.now o).digests)) }
+            let cap_layer = cap_layer_over self.now s in
+            IfOk result (λ o. IsLeast s indices.now cap_layer (length (pruned_made indices.now o).digests)) }
 
         // Where the tree is this scheme's own, the opening is the honest one; it is accepted, and restores to the
         // siblings that `open_batch` opens.
@@ -112,9 +113,9 @@ impl<
             map (λ i. (i, (honest c.functions b c.layer i).siblings)) indices.now) }
         ensures memory { AnswersUnlessMemory result None }
     {
-        let t = cap_layer_in(tree, self.cap_rule, self.cap_height);
+        let cap_layer = cap_layer_in(tree, self.cap_rule, self.cap_height);
         let opened_values = rows_of_indices(alloc, tree, indices)?;
-        let sibling_hashes = digests_of_boundary(alloc, tree, indices, t)?;
+        let sibling_hashes = digests_of_boundary(alloc, tree, indices, cap_layer)?;
         Ok(PrunedRows {
             opened_values,
             pruned_proof: PrunedProof { sibling_hashes },
@@ -134,11 +135,12 @@ impl<
     ) -> Result<(Vec<Vec<Vec<P::Value>>>, PrunedMerklePaths<PW::Value, D>), MerkleTreeError>
         requires { All (λ index. index < greatest (heights (shape (tree_batch tree.now)))) indices.now }
         ensures opened { let b = tree_batch tree.now in
-            let t = proof_layer self.now (shape b) in
-            IfOk result (λ o. multi_made indices.now o ≡ pruned_in_layers b (layers_of tree.now) t indices.now) }
+            let cap_layer = cap_layer_over self.now (shape b) in
+            let in_layers = pruned_in_layers b (layers_of tree.now) cap_layer indices.now in
+            IfOk result (λ o. multi_made indices.now o ≡ in_layers) }
         ensures least { let s = shape (tree_batch tree.now) in
-            let t = proof_layer self.now s in
-            IfOk result (λ o. IsLeast s indices.now t (length (multi_made indices.now o).digests)) }
+            let cap_layer = cap_layer_over self.now s in
+            IfOk result (λ o. IsLeast s indices.now cap_layer (length (multi_made indices.now o).digests)) }
 
         // Where the tree is this scheme's own, the opening is the honest one; it is accepted, and restores to the
         // siblings that `open_batch` opens.
@@ -201,10 +203,11 @@ impl<
         ensures verdict { let c = terms_of H.hash C.compression D self.now dimensions.now in
             let p = pruned_lent indices.now rows.now proof.now in
             IsVerdict (presented_pruned P.Value.eq PW.Value.eq c (roots_of commit.now) p) result }
-        ensures count { let t = cap_of self.now dimensions.now in
-            IsOk result → length proof.now.sibling_hashes.items ≡ pruned_len (shape_of N dimensions.now) indices.now t }
+        ensures count { let cap_layer = cap_layer_of self.now dimensions.now in
+            let count = pruned_len (shape_of N dimensions.now) indices.now cap_layer in
+            IsOk result → length proof.now.sibling_hashes.items ≡ count }
     {
-        let t = self.proof_levels(dimensions);
+        let cap_layer = self.cap_layer(dimensions);
         let checker = self.checker();
         let sent = proof.sibling_hashes.as_slice();
         check_pruned_opening::<P, PW, H, C, N, D>(
@@ -212,7 +215,7 @@ impl<
             &checker,
             commit.roots(),
             dimensions,
-            t,
+            cap_layer,
             indices,
             rows,
             sent,
@@ -236,8 +239,9 @@ impl<
         ensures verdict { let c = terms_of H.hash C.compression D self.now dimensions.now in
             let p = pruned_lent indices.now rows.now proof.now in
             IsVerdict (presented_pruned P.Value.eq PW.Value.eq c (roots_of commit.now) p) result }
-        ensures count { let t = cap_of self.now dimensions.now in
-            IsOk result → length proof.now.sibling_hashes.items ≡ pruned_len (shape_of N dimensions.now) indices.now t }
+        ensures count { let cap_layer = cap_layer_of self.now dimensions.now in
+            let count = pruned_len (shape_of N dimensions.now) indices.now cap_layer in
+            IsOk result → length proof.now.sibling_hashes.items ≡ count }
     {
         self.verify_batch_pruned(alloc, commit, dimensions, indices, rows, proof)
     }
@@ -275,16 +279,18 @@ impl<
         rows: &[Vec<Vec<P::Value>>],
         proof: &PrunedMerklePaths<PW::Value, D>,
     ) -> Result<Vec<MerkleAuthPath<PW::Value, D>>, MerkleTreeError>
-        ensures verdict { let t = cap_of self.now dimensions.now in
+        ensures verdict { let cap_layer = cap_layer_of self.now dimensions.now in
             let p = pruned_lent indices.now rows.now proof.now in
-            IsVerdict (presented_to_restore P.Value.eq (shape_of N dimensions.now) t p) result }
+            IsVerdict (presented_to_restore P.Value.eq (shape_of N dimensions.now) cap_layer p) result }
         ensures paths { let c = terms_of H.hash C.compression D self.now dimensions.now in
             let p = pruned_lent indices.now rows.now proof.now in
             IfOk result (λ paths. shown_paths paths.items ≡ restored_paths c p) }
     {
-        let t = self.proof_levels(dimensions);
+        let cap_layer = self.cap_layer(dimensions);
         let checker = self.checker();
         let sent = proof.sibling_hashes.as_slice();
-        restored_paths_of::<P, PW, H, C, N, D>(alloc, &checker, dimensions, t, indices, rows, sent)
+        restored_paths_of::<P, PW, H, C, N, D>(
+            alloc, &checker, dimensions, cap_layer, indices, rows, sent,
+        )
     }
 }
