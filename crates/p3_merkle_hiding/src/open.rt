@@ -19,8 +19,8 @@ ghost use Rattle.p3_merkle_salts.specs.SaltedTrees.{left_batch, right_batch, uns
 
 use crate::hiding_mmcs::{MerkleTreeHidingMmcs, SaltedMultiProof, SaltedProof, SaltedTree};
 use p3_merkle_core::error::MerkleTreeError;
+use p3_merkle_salts::join::{split_row_sets, split_rows};
 use p3_merkle_salts::pairs::{left_matrices, left_widths};
-use p3_merkle_salts::salts::{split_row_sets, split_rows};
 use p3_support::compress::PseudoCompressionFunction;
 use p3_support::hasher::CryptographicHasher;
 use p3_support::matrix::Matrix;
