@@ -1,29 +1,33 @@
-//! Commitments to salted matrices.
+//! Commitments to salted matrices: heights and widths are checked, salts are drawn, and the plain scheme commits.
 
-ghost use Rattle.std.specs.Prelude.{◌≡◌, ◌⊎◌, IfErr, IfOk, OnOk, map};
+ghost use Rattle.std.specs.Prelude.{◌≡◌, ◌≤◌, ◌⊎◌, IfErr, IfOk, OnOk, map};
 ghost use Rattle.p3_merkle_core.specs.Refusals.{AnswersUnlessMemory};
 ghost use Rattle.p3_merkle_core.specs.Commitments.{IsCommitment};
-ghost use Rattle.p3_merkle_core.specs.Views.{batch_of};
+ghost use Rattle.p3_merkle_core.specs.Views.{batch_of, matrix_of};
 ghost use Rattle.p3_merkle_prover.specs.Parts.{layers_of, matrices_of, tree_batch};
 ghost use Rattle.p3_merkle_core.specs.Nodes.{dimensions_of, shape};
 ghost use Rattle.p3_merkle_core.specs.declared.error.MerkleTreeError.TheVariants.{OutOfMemory};
 ghost use Rattle.p3_support.specs.Pairs.{left_of};
 ghost use Rattle.p3_support.specs.Shown.{roots_of};
 ghost use Rattle.p3_merkle_hiding.specs.HidingSchemes.{generator_of, plain_of, salted_terms_of};
-ghost use Rattle.p3_merkle_salts.specs.Salted.{after_salts, salted_batch, IsAfterSome};
+ghost use Rattle.p3_merkle_salts.specs.Salted.{after_salts, salted_batch, salted_matrices, IsAfterSome};
 ghost use Rattle.p3_merkle_salts.specs.SaltRefusals.{salted_commit_refusal};
-ghost use Rattle.p3_merkle_salts.specs.SaltedTrees.{HaveSaltColumns};
+ghost use Rattle.p3_merkle_salts.specs.SaltedTrees.{pair_matrix, HaveSaltColumns};
 
 use crate::hiding_mmcs::{MerkleTreeHidingMmcs, SaltedTree};
-use crate::salting::checked_pairs;
 use p3_merkle_core::error::MerkleTreeError;
+use p3_merkle_core::geometry::check_heights;
+use p3_merkle_layers::levels::batch_dimensions;
+use p3_merkle_salts::draw::salted_pairs;
+use p3_merkle_salts::join::check_widening;
 use p3_support::compress::PseudoCompressionFunction;
 use p3_support::hasher::CryptographicHasher;
-use p3_support::matrix::Matrix;
+use p3_support::matrix::{Matrix, RowMajorMatrix};
 use p3_support::opening::MerkleCap;
 use p3_support::packed::PackedValue;
+use p3_support::pair::HorizontalPair;
 use p3_support::salts::SaltWord;
-use rand_core::CryptoRng;
+use rand_core::{CryptoRng, Rng};
 use std::alloc::Global;
 
 impl<
@@ -86,4 +90,40 @@ where
         let pairs = checked_pairs(alloc, &mut self.generator, SALT_ELEMS, matrices)?;
         self.plain.commit(alloc, pairs)
     }
+}
+
+/// Checks the heights and widths of matrices, and draws their salts as [`salted_pairs`]. `salt_elems` must be at least
+/// 1.
+///
+/// # Errors
+///
+/// `EmptyBatch`, `TooLarge` or `IncompatibleHeights` for the heights of the matrices, as a commitment refuses them;
+/// else `TooLarge` for the first matrix whose width with its salts does not fit `usize`. These draw nothing from the
+/// generator. `OutOfMemory` may come at any time; then the generator has drawn the salts of the first few matrices,
+/// perhaps of none or of all.
+fn checked_pairs<T: SaltWord, M: Matrix<T> + Drop, R: Rng>(
+    alloc: Global,
+    rng: &mut R,
+    salt_elems: usize,
+    matrices: Vec<M>,
+) -> Result<Vec<HorizontalPair<T, M, RowMajorMatrix<T>>>, MerkleTreeError>
+    requires { 1 ≤ salt_elems }
+    ensures answer { let ms = map (matrix_of M.height_of M.width_of M.row_of) matrices.items in
+        AnswersUnlessMemory result (salted_commit_refusal salt_elems (dimensions_of ms)) }
+    ensures matrices { IfOk result (λ pairs. map left_of pairs.items ≡ matrices.items) }
+    ensures columns { IfOk result (λ pairs. HaveSaltColumns salt_elems pairs.items) }
+    ensures salted { let ms = map (matrix_of M.height_of M.width_of M.row_of) matrices.items in
+        IfOk result (λ pairs. map pair_matrix pairs.items ≡ salted_matrices T.of_salt_word salt_elems ms
+        (R.stream rng.old)) }
+    ensures rest { let ms = map (matrix_of M.height_of M.width_of M.row_of) matrices.items in
+        OnOk result (R.stream rng.new ≡ after_salts salt_elems ms (R.stream rng.old)) }
+    ensures further { let ms = map (matrix_of M.height_of M.width_of M.row_of) matrices.items in
+        IsAfterSome salt_elems ms (R.stream rng.old) (R.stream rng.new) }
+    ensures untouched { IfErr result (λ e. (e ≡ OutOfMemory) ⊎ (rng.new ≡ rng.old)) }
+{
+    let dimensions = batch_dimensions(alloc, &matrices)?;
+    check_heights(&dimensions)?;
+    check_widening(&dimensions, salt_elems)?;
+    let pairs = salted_pairs(alloc, rng, salt_elems, matrices)?;
+    Ok(pairs)
 }

@@ -10,7 +10,7 @@ ghost use Rattle.p3_merkle_hiding.specs.HidingSchemes.{plain_of, salted_lent, sa
 ghost use Rattle.p3_merkle_salts.specs.SaltedPresented.{presented_salted, presented_salted_pruned};
 
 use crate::hiding_mmcs::{MerkleTreeHidingMmcs, SaltedMultiProof, SaltedProof};
-use crate::salted::{SaltedRows, SaltedSets};
+use crate::joined::{SaltedRows, SaltedSets};
 use p3_merkle_core::error::MerkleTreeError;
 use p3_merkle_tree::Collision;
 use p3_support::compress::PseudoCompressionFunction;

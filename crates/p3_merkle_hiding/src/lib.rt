@@ -6,9 +6,8 @@ mod commit;
 mod extract;
 mod fork;
 pub mod hiding_mmcs;
+mod joined;
 mod open;
-mod salted;
-mod salting;
 mod scheme_trait;
 mod verify;
 

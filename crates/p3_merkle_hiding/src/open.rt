@@ -10,7 +10,7 @@ ghost use Rattle.p3_merkle_core.specs.Pruning.{boundary_by};
 ghost use Rattle.p3_merkle_core.specs.Refusals.{AnswersUnlessMemory};
 ghost use Rattle.p3_merkle_core.specs.declared.error.MerkleTreeError.TheVariants.{OutOfMemory};
 ghost use Rattle.p3_merkle_prover.specs.Parts.{layers_of, matrices_of, tree_batch};
-ghost use Rattle.p3_merkle_tree.specs.Schemes.{proof_layer};
+ghost use Rattle.p3_merkle_tree.specs.Schemes.{cap_layer_over};
 ghost use Rattle.p3_support.specs.Pairs.{left_of};
 ghost use Rattle.p3_support.specs.Shown.{row_lists, row_sets};
 ghost use Rattle.p3_merkle_hiding.specs.HidingSchemes.{plain_of, salted_made, salted_pruned_made, salted_terms_of};
@@ -19,8 +19,8 @@ ghost use Rattle.p3_merkle_salts.specs.SaltedTrees.{left_batch, right_batch, uns
 
 use crate::hiding_mmcs::{MerkleTreeHidingMmcs, SaltedMultiProof, SaltedProof, SaltedTree};
 use p3_merkle_core::error::MerkleTreeError;
+use p3_merkle_salts::join::{split_row_sets, split_rows};
 use p3_merkle_salts::pairs::{left_matrices, left_widths};
-use p3_merkle_salts::salts::{split_row_sets, split_rows};
 use p3_support::compress::PseudoCompressionFunction;
 use p3_support::hasher::CryptographicHasher;
 use p3_support::matrix::Matrix;
@@ -61,8 +61,9 @@ impl<
         ensures salts { let salts = honest_rows (right_batch N (matrices_of tree.now)) index in
             IfOk result (λ o. row_lists o.opening_proof.0.items ≡ salts) }
         ensures siblings { let s = shape (tree_batch tree.now) in
-            let t = proof_layer (plain_of self.now) s in
-            IfOk result (λ o. o.opening_proof.1.items ≡ siblings_by (node_in [] (layers_of tree.now)) s t index) }
+            let cap_layer = cap_layer_over (plain_of self.now) s in
+            let siblings = siblings_by (node_in [] (layers_of tree.now)) s cap_layer index in
+            IfOk result (λ o. o.opening_proof.1.items ≡ siblings) }
         ensures accepted { let ds = unsalted_dimensions N (matrices_of tree.now) in
             let c = salted_terms_of H.hash C.compression D self.now ds in
             let b = tree_batch tree.now in
@@ -106,9 +107,9 @@ impl<
         ensures salts { let salts = map (honest_rows (right_batch N (matrices_of tree.now))) indices.now in
             IfOk result (λ o. row_sets o.1.0.items ≡ salts) }
         ensures digests { let s = shape (tree_batch tree.now) in
-            let t = proof_layer (plain_of self.now) s in
+            let cap_layer = cap_layer_over (plain_of self.now) s in
             IfOk result (λ o. o.1.1.sibling_hashes.items ≡ boundary_by
-            (node_in [] (layers_of tree.now)) s indices.now t) }
+            (node_in [] (layers_of tree.now)) s indices.now cap_layer) }
         ensures accepted { let ds = unsalted_dimensions N (matrices_of tree.now) in
             let c = salted_terms_of H.hash C.compression D self.now ds in
             let b = tree_batch tree.now in

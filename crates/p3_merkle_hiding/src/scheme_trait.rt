@@ -7,7 +7,7 @@ ghost use Rattle.p3_merkle_core.specs.Geometry.{heights, shape_of, halved_index}
 ghost use Rattle.p3_merkle_core.specs.Nodes.{shape};
 ghost use Rattle.p3_merkle_core.specs.declared.error.MerkleTreeError.TheVariants.{OutOfMemory};
 ghost use Rattle.p3_merkle_tree.specs.Inner.CommitmentLaws.{at_same, row_in_matrix, tallest_at_index};
-ghost use Rattle.p3_merkle_tree.specs.Schemes.{cap_of, scheme_functions, terms_over, IsSameScheme};
+ghost use Rattle.p3_merkle_tree.specs.Schemes.{cap_layer_of, scheme_functions, terms_over, IsSameScheme};
 ghost use Rattle.p3_support.specs.Batches.{greatest};
 ghost use Rattle.p3_support.specs.Pairs.{left_of};
 ghost use Rattle.p3_support.specs.Shown.{roots_of, row_lists, row_sets};
@@ -176,7 +176,7 @@ where
 
     ghost shown_fits = { λ s cap dimensions index rows.
         salted_rows_fit (scheme_functions H.hash C.compression D (plain_of s)) N SALT_ELEMS
-        (cap_of (plain_of s) (widened SALT_ELEMS dimensions)) dimensions (roots_of cap) index rows };
+        (cap_layer_of (plain_of s) (widened SALT_ELEMS dimensions)) dimensions (roots_of cap) index rows };
 
     ghost agreement = { same_plain_is_equivalence };
 

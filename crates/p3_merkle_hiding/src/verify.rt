@@ -6,7 +6,7 @@ ghost use Rattle.p3_merkle_hiding.specs.HidingSchemes.{salted_lent, salted_prune
 ghost use Rattle.p3_merkle_salts.specs.SaltedPresented.{presented_salted, presented_salted_pruned};
 
 use crate::hiding_mmcs::{MerkleTreeHidingMmcs, SaltedMultiProof, SaltedProof};
-use crate::salted::{SaltedRows, SaltedSets};
+use crate::joined::{SaltedRows, SaltedSets};
 use p3_merkle_core::error::MerkleTreeError;
 use p3_support::compress::PseudoCompressionFunction;
 use p3_support::hasher::CryptographicHasher;

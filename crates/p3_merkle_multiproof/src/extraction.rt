@@ -87,7 +87,7 @@ fn differing_query<
         let second = queries.opening(place);
         let openings = OpeningPair::<P::Value, [PW::Value; D], N> {
             dimensions,
-            t,
+            cap_layer: t,
             first,
             second,
         };

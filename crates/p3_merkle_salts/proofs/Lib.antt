@@ -1,4 +1,4 @@
 mod LoopFacts
 pub mod SaltFacts
-mod SaltingFacts
+mod DrawFacts
 pub mod JoinedFacts

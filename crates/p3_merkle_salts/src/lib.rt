@@ -1,7 +1,7 @@
 //! Rows followed by their salts, and matrices beside theirs.
 #![tactic(auto)]
 
+pub mod draw;
+pub mod join;
 pub mod laws;
 pub mod pairs;
-pub mod salting;
-pub mod salts;

@@ -30,8 +30,8 @@ module _ {P PW H C X G V W : Type 0} {N : ℕ} {p : packed.Ghosts P V} {pd : def
   cap_rule_of scheme = scheme.cap_rule
 
   -- the layer that is its cap, over a shape
-  abbrev pub proof_layer : Scheme P PW H C X G N V W p pd pe q qd qe → Shape → ℕ
-  proof_layer scheme s = cap_layer s scheme.cap_rule scheme.cap_height
+  abbrev pub cap_layer_over : Scheme P PW H C X G N V W p pd pe q qd qe → Shape → ℕ
+  cap_layer_over scheme s = cap_layer s scheme.cap_rule scheme.cap_height
 
   -- what its hasher and its compression compute, and the digest of d default words
   abbrev pub scheme_functions : (H → List V → List W) → (C → List (List W) → List W) → ℕ →
@@ -42,7 +42,8 @@ module _ {P PW H C X G V W : Type 0} {N : ℕ} {p : packed.Ghosts P V} {pd : def
   -- the terms of its checks over a tree of this shape
   abbrev pub terms_over : (H → List V → List W) → (C → List (List W) → List W) → ℕ →
       Scheme P PW H C X G N V W p pd pe q qd qe → Shape → Terms V W
-  terms_over hash compression d scheme s = terms (scheme_functions hash compression d scheme) s (proof_layer scheme s)
+  terms_over hash compression d scheme s =
+      terms (scheme_functions hash compression d scheme) s (cap_layer_over scheme s)
 
   -- the terms of its checks over matrices of these dimensions
   abbrev pub terms_of : (H → List V → List W) → (C → List (List W) → List W) → ℕ →
@@ -50,8 +51,8 @@ module _ {P PW H C X G V W : Type 0} {N : ℕ} {p : packed.Ghosts P V} {pd : def
   terms_of hash compression d scheme dimensions = terms_over hash compression d scheme (shape_of N dimensions)
 
   -- the layer that is its cap over matrices of these dimensions
-  abbrev pub cap_of : Scheme P PW H C X G N V W p pd pe q qd qe → List Dimensions → ℕ
-  cap_of scheme dimensions = proof_layer scheme (shape_of N dimensions)
+  abbrev pub cap_layer_of : Scheme P PW H C X G N V W p pd pe q qd qe → List Dimensions → ℕ
+  cap_layer_of scheme dimensions = cap_layer_over scheme (shape_of N dimensions)
 
 -- two schemes have one hasher, one compression, one cap height and one rule
 pub record IsSameScheme {P PW H C X G V W : Type 0} {N : ℕ} {p : packed.Ghosts P V} {pd : default.Ghosts V}

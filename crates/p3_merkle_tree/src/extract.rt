@@ -9,7 +9,7 @@ ghost use Rattle.p3_merkle_core.specs.Geometry.{shape_of};
 ghost use Rattle.p3_merkle_core.specs.Presented.{presented};
 ghost use Rattle.p3_merkle_core.specs.Views.{found_alone, opening_lent};
 ghost use Rattle.p3_merkle_core.specs.declared.cap.CapRule.TheVariants.{Lowered};
-ghost use Rattle.p3_merkle_tree.specs.Schemes.{cap_of, cap_rule_of, terms_of};
+ghost use Rattle.p3_merkle_tree.specs.Schemes.{cap_layer_of, cap_rule_of, terms_of};
 ghost use Rattle.p3_support.specs.Shown.{roots_of};
 
 use crate::mmcs::{MerkleTreeMmcs, Scheme};
@@ -43,8 +43,8 @@ impl<P: PackedValue, PW: PackedValue, H, C, X, G, const N: usize> Scheme<P, PW, 
         ensures answer { MatchResult result
             (λ answer. gate_refusal (heights_of dimensions.now) ≡ None)
             (λ e. gate_refusal (heights_of dimensions.now) ≡ Some e) }
-        ensures authenticated { let t = cap_of self.now dimensions.now in
-            IfOk result (λ answer. answer ≡ authenticates (shape_of N dimensions.now) t matrix) }
+        ensures authenticated { let cap_layer = cap_layer_of self.now dimensions.now in
+            IfOk result (λ answer. answer ≡ authenticates (shape_of N dimensions.now) cap_layer matrix) }
         ensures lowered { cap_rule_of self.now ≡ Lowered → IfOk result (λ answer. IsTrue answer) }
     {
         let steps = steps_of(dimensions, N);
@@ -96,10 +96,9 @@ impl<
             let second = presented PW.Value.eq c (roots_of commit.now) (opening_lent index2 second.entry) in
             IsExtraction P.Value.eq PW.Value.eq (cap_rule_of self.now) c first second (found_alone result) }
     {
-        let t = self.proof_levels(dimensions);
+        let cap_layer = self.cap_layer(dimensions);
         let first = IndexedOpening::new(index1, first);
         let second = IndexedOpening::new(index2, second);
-        self.checker()
-            .extraction(alloc, commit.roots(), dimensions, t, first, second)
+        self.checker().extraction(alloc, commit.roots(), dimensions, cap_layer, first, second)
     }
 }

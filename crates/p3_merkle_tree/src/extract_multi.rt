@@ -56,14 +56,14 @@ impl<
             let second = presented (pruned_lent b.indices.now b.opened_values.now b.opening_proof.now) in
             IsExtraction P.Value.eq PW.Value.eq (cap_rule_of self.now) c first second (found_pair result) }
     {
-        let t = self.proof_levels(dimensions);
+        let cap_layer = self.cap_layer(dimensions);
         let checker = self.checker();
         extraction::<P, PW, H, C, N, D>(
             alloc,
             &checker,
             commit.roots(),
             dimensions,
-            t,
+            cap_layer,
             first,
             second,
         )

@@ -68,7 +68,7 @@ impl<P: PackedValue, PW: PackedValue, H: Clone, C: Clone, X: Clone, G: Clone, co
 
 impl<P: PackedValue, PW: PackedValue, H, C, X, G, const N: usize> Scheme<P, PW, H, C, X, G, N> {
     ghost use Rattle.p3_merkle_core.specs.Geometry.{shape_of};
-    ghost use Rattle.p3_merkle_tree.specs.Schemes.{cap_height_of, cap_rule_of, compression_of, hash_of, proof_layer};
+    ghost use Rattle.p3_merkle_tree.specs.Schemes.{cap_height_of, cap_layer_over, cap_rule_of, compression_of, hash_of};
 
     /// The cap height that was given to [`new`](Self::new), in levels below the root.
     pub fn cap_height(&self) -> usize
@@ -84,9 +84,9 @@ impl<P: PackedValue, PW: PackedValue, H, C, X, G, const N: usize> Scheme<P, PW, 
         self.cap_rule
     }
 
-    /// How many levels lead from the leaves of a tree over matrices of these dimensions up to its cap.
-    pub(crate) fn proof_levels(&self, dimensions: &[Dimensions]) -> usize
-        ensures { result ≡ proof_layer self.now (shape_of N dimensions.now) }
+    /// The layer that is the cap of a tree over matrices of these dimensions.
+    pub(crate) fn cap_layer(&self, dimensions: &[Dimensions]) -> usize
+        ensures { result ≡ cap_layer_over self.now (shape_of N dimensions.now) }
     {
         cap_layer_of(dimensions, N, self.cap_rule, self.cap_height)
     }
@@ -121,7 +121,7 @@ impl<
     ghost use Rattle.p3_merkle_core.specs.Views.{opening_lent, opening_made, batch_of, heights_in};
     ghost use Rattle.p3_merkle_core.specs.declared.cap.CapRule.TheVariants.{Lowered};
     ghost use Rattle.p3_merkle_prover.specs.Parts.{layers_of, matrices_of, tree_batch};
-    ghost use Rattle.p3_merkle_tree.specs.Schemes.{cap_height_of, cap_rule_of, compression_of, hash_of, proof_layer, terms_of, terms_over};
+    ghost use Rattle.p3_merkle_tree.specs.Schemes.{cap_height_of, cap_layer_over, cap_rule_of, compression_of, hash_of, terms_of, terms_over};
     ghost use Rattle.p3_support.specs.Shown.{roots_of};
 
     /// The scheme of a hasher and a compression. Its cap is `cap_height` levels below the root (0 is the root alone),
@@ -223,8 +223,8 @@ impl<
     ) -> Result<BatchOpening<P::Value, Vec<[PW::Value; D]>>, MerkleTreeError>
         requires { index < greatest (heights (shape (tree_batch tree.now))) }
         ensures opened { let b = tree_batch tree.now in
-            let t = proof_layer self.now (shape b) in
-            IfOk result (λ o. opening_made index o ≡ opening_in_layers b (layers_of tree.now) t index) }
+            let cap_layer = cap_layer_over self.now (shape b) in
+            IfOk result (λ o. opening_made index o ≡ opening_in_layers b (layers_of tree.now) cap_layer index) }
 
         // If the tree is this scheme's own, the opening is the honest one, and it is accepted.
         ensures honest { let b = tree_batch tree.now in

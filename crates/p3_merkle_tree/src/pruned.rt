@@ -11,7 +11,7 @@ ghost use Rattle.p3_merkle_core.specs.Pruning.{honest_query, pruned_in_layers, p
 ghost use Rattle.p3_merkle_core.specs.Refusals.{pruned_len_refusal, AnswersUnlessMemory};
 ghost use Rattle.p3_merkle_core.specs.Views.{multi_made, pruned_lent, pruned_made, shown_paths};
 ghost use Rattle.p3_merkle_prover.specs.Parts.{layers_of, tree_batch};
-ghost use Rattle.p3_merkle_tree.specs.Schemes.{cap_of, proof_layer, terms_of, terms_over};
+ghost use Rattle.p3_merkle_tree.specs.Schemes.{cap_layer_of, cap_layer_over, terms_of, terms_over};
 ghost use Rattle.p3_support.specs.Shown.{roots_of};
 
 use crate::mmcs::{MerkleTreeMmcs, Scheme};
@@ -34,17 +34,17 @@ use p3_support::packed::PackedValue;
 use std::alloc::Global;
 
 impl<P: PackedValue, PW: PackedValue, H, C, X, G, const N: usize> Scheme<P, PW, H, C, X, G, N> {
-    /// How many digests a pruned proof of some indices has, over matrices of these dimensions: one for each node below
-    /// the cap's layer that is neither a queried leaf nor above one, and whose parent is above one. No smaller set of
-    /// such digests suffices.
+    /// The number of digests in a pruned proof of these indices, over matrices of these dimensions. The proof has a
+    /// digest for each node below the cap whose parent is above a queried leaf, unless the node is such a leaf or above
+    /// one. No smaller set of digests suffices.
     ///
-    /// The indices come in any order, and again, too.
+    /// The indices may be in any order, with repeats.
     ///
     /// # Errors
     ///
-    /// `EmptyBatch`, `TooLarge` or `IncompatibleHeights` where [`commit`](Self::commit) refuses such heights; else
-    /// `IndexOutOfBounds` for the highest index, where it is not below the tallest height. `OutOfMemory` may come at
-    /// any time.
+    /// `EmptyBatch`, `TooLarge` or `IncompatibleHeights` if [`commit`](Self::commit) refuses such heights; else
+    /// `IndexOutOfBounds` for the highest index, if it is not below the tallest height. `OutOfMemory` may come at any
+    /// time.
     pub fn pruned_len(
         &self,
         alloc: Global,
@@ -52,13 +52,13 @@ impl<P: PackedValue, PW: PackedValue, H, C, X, G, const N: usize> Scheme<P, PW, 
         indices: &[usize],
     ) -> Result<usize, MerkleTreeError>
         ensures answer { AnswersUnlessMemory result (pruned_len_refusal (shape_of N dimensions.now) indices.now) }
-        ensures least { let t = cap_of self.now dimensions.now in
-            IfOk result (λ count. IsLeast (shape_of N dimensions.now) indices.now t count) }
+        ensures least { let cap_layer = cap_layer_of self.now dimensions.now in
+            IfOk result (λ count. IsLeast (shape_of N dimensions.now) indices.now cap_layer count) }
     {
         check_heights(dimensions)?;
         check_indices(tallest_of(dimensions), indices)?;
-        let t = self.proof_levels(dimensions);
-        Ok(pruned_len_of(alloc, dimensions, N, t, indices)?)
+        let cap_layer = self.cap_layer(dimensions);
+        Ok(pruned_len_of(alloc, dimensions, N, cap_layer, indices)?)
     }
 }
 
@@ -70,18 +70,17 @@ impl<
     const N: usize,
     const D: usize,
 > MerkleTreeMmcs<P, PW, H, C, N, D> {
-    /// Opens several leaves of a tree at once: for each index, in query order, the row of each matrix that belongs to
-    /// the leaf, and one proof for all of them, which has as few digests as can be (see
-    /// [`pruned_len`](Self::pruned_len)).
+    /// Opens several leaves of a tree by one pruned proof. For each index, in query order, the opening has the row of
+    /// each matrix that belongs to the leaf. The proof has as few digests as can be: see
+    /// [`pruned_len`](Self::pruned_len).
     ///
-    /// The indices count rows of the tallest matrix and are below its height; they come in any order, and again, too.
-    /// The digests are read from the tree, whoever built it; where its layers are those of this scheme's own hasher and
-    /// compression, the opening is accepted under the cap of its tree, and restores to the siblings that
-    /// [`open_batch`](Self::open_batch) opens.
+    /// The indices count rows of the tallest matrix and must be below its height, in any order; repeats are allowed.
+    /// The digests are read from the tree. If the tree was built with this scheme's hasher and compression, the opening
+    /// is accepted under its cap, and restores to the siblings that [`open_batch`](Self::open_batch) opens.
     ///
     /// # Errors
     ///
-    /// `OutOfMemory` alone.
+    /// Only `OutOfMemory`.
     pub fn open_batch_pruned<M: Matrix<P::Value>>(
         &self,
         alloc: Global,
@@ -90,11 +89,12 @@ impl<
     ) -> Result<PrunedBatchOpening<P::Value, PW::Value, D>, MerkleTreeError>
         requires { All (λ index. index < greatest (heights (shape (tree_batch tree.now)))) indices.now }
         ensures opened { let b = tree_batch tree.now in
-            let t = proof_layer self.now (shape b) in
-            IfOk result (λ o. pruned_made indices.now o ≡ pruned_in_layers b (layers_of tree.now) t indices.now) }
+            let cap_layer = cap_layer_over self.now (shape b) in
+            let in_layers = pruned_in_layers b (layers_of tree.now) cap_layer indices.now in
+            IfOk result (λ o. pruned_made indices.now o ≡ in_layers) }
         ensures least { let s = shape (tree_batch tree.now) in
-            let t = proof_layer self.now s in
-            IfOk result (λ o. IsLeast s indices.now t (length (pruned_made indices.now o).digests)) }
+            let cap_layer = cap_layer_over self.now s in
+            IfOk result (λ o. IsLeast s indices.now cap_layer (length (pruned_made indices.now o).digests)) }
 
         // Where the tree is this scheme's own, the opening is the honest one; it is accepted, and restores to the
         // siblings that `open_batch` opens.
@@ -112,20 +112,21 @@ impl<
             map (λ i. (i, (honest c.functions b c.layer i).siblings)) indices.now) }
         ensures memory { AnswersUnlessMemory result None }
     {
-        let t = cap_layer_in(tree, self.cap_rule, self.cap_height);
+        let cap_layer = cap_layer_in(tree, self.cap_rule, self.cap_height);
         let opened_values = rows_of_indices(alloc, tree, indices)?;
-        let sibling_hashes = digests_of_boundary(alloc, tree, indices, t)?;
+        let sibling_hashes = digests_of_boundary(alloc, tree, indices, cap_layer)?;
         Ok(PrunedRows {
             opened_values,
             pruned_proof: PrunedProof { sibling_hashes },
         })
     }
 
-    /// The parts of [`open_batch_pruned`](Self::open_batch_pruned): the rows of each index, and the proof.
+    /// Opens several leaves as [`open_batch_pruned`](Self::open_batch_pruned) does, and returns the rows of each index
+    /// and the proof.
     ///
     /// # Errors
     ///
-    /// `OutOfMemory` alone.
+    /// Only `OutOfMemory`.
     pub fn open_multi_batch<M: Matrix<P::Value>>(
         &self,
         alloc: Global,
@@ -134,11 +135,12 @@ impl<
     ) -> Result<(Vec<Vec<Vec<P::Value>>>, PrunedMerklePaths<PW::Value, D>), MerkleTreeError>
         requires { All (λ index. index < greatest (heights (shape (tree_batch tree.now)))) indices.now }
         ensures opened { let b = tree_batch tree.now in
-            let t = proof_layer self.now (shape b) in
-            IfOk result (λ o. multi_made indices.now o ≡ pruned_in_layers b (layers_of tree.now) t indices.now) }
+            let cap_layer = cap_layer_over self.now (shape b) in
+            let in_layers = pruned_in_layers b (layers_of tree.now) cap_layer indices.now in
+            IfOk result (λ o. multi_made indices.now o ≡ in_layers) }
         ensures least { let s = shape (tree_batch tree.now) in
-            let t = proof_layer self.now s in
-            IfOk result (λ o. IsLeast s indices.now t (length (multi_made indices.now o).digests)) }
+            let cap_layer = cap_layer_over self.now s in
+            IfOk result (λ o. IsLeast s indices.now cap_layer (length (multi_made indices.now o).digests)) }
 
         // Where the tree is this scheme's own, the opening is the honest one; it is accepted, and restores to the
         // siblings that `open_batch` opens.
@@ -163,32 +165,32 @@ impl<
         Ok((opened_values, pruned_proof))
     }
 
-    /// Checks the openings of several leaves by one pruned proof against a cap: whether the rows of the queries and the
-    /// digests of the proof lead to the cap's entries above the leaves. Where it is Ok, each query with its restored
-    /// path is accepted by [`verify_batch`](Self::verify_batch), and the proof has just
-    /// [`pruned_len`](Self::pruned_len) digests.
+    /// Verifies the openings of several leaves by one pruned proof against a cap: computes the digests above the leaves
+    /// from the rows and the digests of the proof, and compares the last ones with the cap's entries. If the opening is
+    /// accepted, [`verify_batch`](Self::verify_batch) accepts each query with its restored path.
     ///
-    /// There is a row set for each index, with one row for each of `dimensions`, as wide as that says. Queries of one
-    /// index have the same rows, and so have queries under one node, of the matrices of its layer. The dimensions must
-    /// come from who checks.
+    /// An accepted opening has a row set for each index: one row for each of `dimensions`, of that width. Queries of
+    /// one index have the same rows. Queries under one node have the same rows of the matrices that are injected there.
+    /// `dimensions` are those of the matrices, in input order. They must come from the verifier, never from the proof:
+    /// a cap does not fix them.
     ///
     /// # Errors
     ///
     /// The first of these that holds, where `OutOfMemory` may come at any time:
     ///
     /// - `EmptyBatch`, `TooLarge` or `IncompatibleHeights`: [`commit`](Self::commit) refuses such heights;
-    /// - `WrongBatchSize`: there are not as many row sets as indices;
-    /// - `SiblingCountMismatch`: there is a digest, and no index;
-    /// - `IndexOutOfBounds`: the highest index is not below the tallest height;
-    /// - `InconsistentDuplicateOpenings`: a query's rows are not those of the first query of its index;
-    /// - `SiblingCountMismatch`: there are not as many digests as the indices leave unknown;
-    /// - `WrongBatchSize`, `WrongWidth`: by ascending indices, a row set has not one row for each matrix, or a row not
-    ///   the width of its matrix;
-    /// - `InconsistentGroupOpening`: layer by layer, by ascending indices, a row is not that of the lowest index under
-    ///   the same node;
-    /// - `CapMismatch`: the cap has no entry above a leaf, or it is not the digest that the check reaches.
+    /// - `WrongBatchSize`: the number of row sets is not that of the indices;
+    /// - `SiblingCountMismatch`: the proof has digests, and there are no indices;
+    /// - `IndexOutOfBounds`, for the highest index: it is not below the tallest height;
+    /// - `InconsistentDuplicateOpenings`: the rows of a query are not those of the first query of its index;
+    /// - `SiblingCountMismatch`: the number of digests is not [`pruned_len`](Self::pruned_len);
+    /// - in ascending order of the indices, for each row set: `WrongBatchSize` if the number of rows is not that of the
+    ///   dimensions, `WrongWidth` for the first row whose length is not the width of its matrix;
+    /// - `InconsistentGroupOpening`, layer by layer, then in ascending order of the indices: a row is not that of the
+    ///   lowest index under the same node;
+    /// - `CapMismatch`: the cap has no entry above a leaf, or another digest than the one computed.
     ///
-    /// Those of pruned proofs come as `MalformedPrunedProof`.
+    /// `SiblingCountMismatch` and the two `Inconsistent` errors come within `MalformedPrunedProof`.
     pub fn verify_batch_pruned(
         &self,
         alloc: Global,
@@ -201,10 +203,11 @@ impl<
         ensures verdict { let c = terms_of H.hash C.compression D self.now dimensions.now in
             let p = pruned_lent indices.now rows.now proof.now in
             IsVerdict (presented_pruned P.Value.eq PW.Value.eq c (roots_of commit.now) p) result }
-        ensures count { let t = cap_of self.now dimensions.now in
-            IsOk result → length proof.now.sibling_hashes.items ≡ pruned_len (shape_of N dimensions.now) indices.now t }
+        ensures count { let cap_layer = cap_layer_of self.now dimensions.now in
+            let count = pruned_len (shape_of N dimensions.now) indices.now cap_layer in
+            IsOk result → length proof.now.sibling_hashes.items ≡ count }
     {
-        let t = self.proof_levels(dimensions);
+        let cap_layer = self.cap_layer(dimensions);
         let checker = self.checker();
         let sent = proof.sibling_hashes.as_slice();
         check_pruned_opening::<P, PW, H, C, N, D>(
@@ -212,7 +215,7 @@ impl<
             &checker,
             commit.roots(),
             dimensions,
-            t,
+            cap_layer,
             indices,
             rows,
             sent,
@@ -236,37 +239,40 @@ impl<
         ensures verdict { let c = terms_of H.hash C.compression D self.now dimensions.now in
             let p = pruned_lent indices.now rows.now proof.now in
             IsVerdict (presented_pruned P.Value.eq PW.Value.eq c (roots_of commit.now) p) result }
-        ensures count { let t = cap_of self.now dimensions.now in
-            IsOk result → length proof.now.sibling_hashes.items ≡ pruned_len (shape_of N dimensions.now) indices.now t }
+        ensures count { let cap_layer = cap_layer_of self.now dimensions.now in
+            let count = pruned_len (shape_of N dimensions.now) indices.now cap_layer in
+            IsOk result → length proof.now.sibling_hashes.items ≡ count }
     {
         self.verify_batch_pruned(alloc, commit, dimensions, indices, rows, proof)
     }
 
-    /// The path of each query, in query order, with its index: the siblings that [`open_batch`](Self::open_batch) would
-    /// open, restored from the rows of all queries and the digests of a pruned proof. No cap is looked at; under a cap
-    /// [`verify_batch_pruned`](Self::verify_batch_pruned) accepts what restores, exactly where
+    /// Restores the path of each query, in query order, with its index: the siblings that
+    /// [`open_batch`](Self::open_batch) would open. They are computed from the rows of all queries and the digests of a
+    /// pruned proof.
+    ///
+    /// No cap is compared, so a restored path proves nothing by itself.
+    /// [`verify_batch_pruned`](Self::verify_batch_pruned) accepts an opening under a cap exactly if it restores and
     /// [`verify_batch`](Self::verify_batch) accepts each query with its rows and its path.
     ///
-    /// There is a row set for each index, with one row for each of `dimensions`, as wide as that says, and the proof
-    /// has [`pruned_len`](Self::pruned_len) digests. Queries of one index have the same rows, and so have queries under
-    /// one node, of the matrices of its layer. The dimensions must come from who checks.
+    /// An opening that restores has the form of an accepted one: see `verify_batch_pruned`. `dimensions` must come from
+    /// the verifier, never from the proof.
     ///
     /// # Errors
     ///
     /// The first of these that holds, where `OutOfMemory` may come at any time:
     ///
     /// - `EmptyBatch`, `TooLarge` or `IncompatibleHeights`: [`commit`](Self::commit) refuses such heights;
-    /// - `WrongBatchSize`: there are not as many row sets as indices;
-    /// - `SiblingCountMismatch`: there is a digest, and no index;
-    /// - `IndexOutOfBounds`: the highest index is not below the tallest height;
-    /// - `InconsistentDuplicateOpenings`: a query's rows are not those of the first query of its index;
-    /// - `SiblingCountMismatch`: there are not as many digests as the indices leave unknown;
-    /// - `WrongBatchSize`, `WrongWidth`: by ascending indices, a row set has not one row for each matrix, or a row not
-    ///   the width of its matrix;
-    /// - `InconsistentGroupOpening`: layer by layer, by ascending indices, a row is not that of the lowest index under
-    ///   the same node.
+    /// - `WrongBatchSize`: the number of row sets is not that of the indices;
+    /// - `SiblingCountMismatch`: the proof has digests, and there are no indices;
+    /// - `IndexOutOfBounds`, for the highest index: it is not below the tallest height;
+    /// - `InconsistentDuplicateOpenings`: the rows of a query are not those of the first query of its index;
+    /// - `SiblingCountMismatch`: the number of digests is not [`pruned_len`](Self::pruned_len);
+    /// - in ascending order of the indices, for each row set: `WrongBatchSize` if the number of rows is not that of the
+    ///   dimensions, `WrongWidth` for the first row whose length is not the width of its matrix;
+    /// - `InconsistentGroupOpening`, layer by layer, then in ascending order of the indices: a row is not that of the
+    ///   lowest index under the same node.
     ///
-    /// Those of pruned proofs come as `MalformedPrunedProof`.
+    /// `SiblingCountMismatch` and the two `Inconsistent` errors come within `MalformedPrunedProof`.
     pub fn restore_and_recompute_paths(
         &self,
         alloc: Global,
@@ -275,16 +281,18 @@ impl<
         rows: &[Vec<Vec<P::Value>>],
         proof: &PrunedMerklePaths<PW::Value, D>,
     ) -> Result<Vec<MerkleAuthPath<PW::Value, D>>, MerkleTreeError>
-        ensures verdict { let t = cap_of self.now dimensions.now in
+        ensures verdict { let cap_layer = cap_layer_of self.now dimensions.now in
             let p = pruned_lent indices.now rows.now proof.now in
-            IsVerdict (presented_to_restore P.Value.eq (shape_of N dimensions.now) t p) result }
+            IsVerdict (presented_to_restore P.Value.eq (shape_of N dimensions.now) cap_layer p) result }
         ensures paths { let c = terms_of H.hash C.compression D self.now dimensions.now in
             let p = pruned_lent indices.now rows.now proof.now in
             IfOk result (λ paths. shown_paths paths.items ≡ restored_paths c p) }
     {
-        let t = self.proof_levels(dimensions);
+        let cap_layer = self.cap_layer(dimensions);
         let checker = self.checker();
         let sent = proof.sibling_hashes.as_slice();
-        restored_paths_of::<P, PW, H, C, N, D>(alloc, &checker, dimensions, t, indices, rows, sent)
+        restored_paths_of::<P, PW, H, C, N, D>(
+            alloc, &checker, dimensions, cap_layer, indices, rows, sent,
+        )
     }
 }

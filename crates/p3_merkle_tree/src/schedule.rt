@@ -29,7 +29,7 @@ impl<P: PackedValue, PW: PackedValue, H, C, X: Copy, G, const N: usize> Scheme<
     ghost use Rattle.p3_merkle_core.specs.Refusals.{replay_refusal, AnswersUnlessMemory};
     ghost use Rattle.p3_merkle_core.specs.declared.error.MerkleTreeError.TheVariants.{OutOfMemory};
     ghost use Rattle.p3_merkle_prover.specs.Parts.{matrices_of, tree_batch};
-    ghost use Rattle.p3_merkle_tree.specs.Schemes.{proof_layer};
+    ghost use Rattle.p3_merkle_tree.specs.Schemes.{cap_layer_over};
 
     /// The step of each level below the cap, from the leaves up: how many children a node above it has, in the tree
     /// over matrices of these dimensions.
@@ -45,9 +45,9 @@ impl<P: PackedValue, PW: PackedValue, H, C, X: Copy, G, const N: usize> Scheme<
     ) -> Result<Vec<usize>, MerkleTreeError>
         ensures answer { AnswersUnlessMemory result (gate_refusal (heights_of dimensions.now)) }
         ensures steps { let s = shape_of N dimensions.now in
-            IfOk result (λ v. v.items ≡ schedule_below s (proof_layer self.now s)) }
+            IfOk result (λ v. v.items ≡ schedule_below s (cap_layer_over self.now s)) }
         ensures first { let s = shape_of N dimensions.now in
-            IfOk result (λ v. v.items ≡ take (proof_layer self.now s) (schedule_in s)) }
+            IfOk result (λ v. v.items ≡ take (cap_layer_over self.now s) (schedule_in s)) }
         ensures few { IfOk result (λ v. vec_len v ≤ exponent (greatest (heights_of dimensions.now))) }
     {
         let steps = steps_of(dimensions, N);
@@ -73,11 +73,11 @@ impl<P: PackedValue, PW: PackedValue, H, C, X: Copy, G, const N: usize> Scheme<
         num_siblings: usize,
     ) -> Result<ArityAndPositions, MerkleTreeError>
         ensures answer { let s = shape_of N dimensions.now in
-            AnswersUnlessMemory result (replay_refusal s (proof_layer self.now s) index num_siblings) }
+            AnswersUnlessMemory result (replay_refusal s (cap_layer_over self.now s) index num_siblings) }
         ensures schedule { let s = shape_of N dimensions.now in
-            IfOk result (λ r. r.arity_schedule.items ≡ schedule_below s (proof_layer self.now s)) }
+            IfOk result (λ r. r.arity_schedule.items ≡ schedule_below s (cap_layer_over self.now s)) }
         ensures positions { let s = shape_of N dimensions.now in
-            IfOk result (λ r. r.query_positions.items ≡ positions_below s (proof_layer self.now s) index) }
+            IfOk result (λ r. r.query_positions.items ≡ positions_below s (cap_layer_over self.now s) index) }
     {
         let steps = steps_of(dimensions, N);
         steps.check_heights()?;

@@ -10,7 +10,7 @@ ghost use Rattle.p3_merkle_core.specs.Checks.{IsAccepted};
 ghost use Rattle.p3_merkle_core.specs.Pruning.{pruned_of, IsPrunedAccepted};
 ghost use Rattle.p3_merkle_core.specs.declared.error.MerkleTreeError.TheVariants.{OutOfMemory};
 ghost use Rattle.p3_merkle_tree.specs.Inner.CommitmentLaws.{at_same, each_shown, row_in_matrix, same_is_equivalence, shown_rows_fit, tallest_at_index};
-ghost use Rattle.p3_merkle_tree.specs.Schemes.{cap_of, scheme_functions, terms_of, terms_over, IsSameScheme};
+ghost use Rattle.p3_merkle_tree.specs.Schemes.{cap_layer_of, scheme_functions, terms_of, terms_over, IsSameScheme};
 ghost use Rattle.p3_support.specs.Batches.{greatest};
 ghost use Rattle.p3_support.specs.Shown.{roots_of};
 ghost use Rattle.p3_merkle_core.specs.Views.{opening_lent, heights_in};
@@ -160,7 +160,7 @@ impl<
         (pruned_of indices sets proof.sibling_hashes.items) accepted };
 
     ghost shown_fits = { λ s cap dimensions index rows.
-        shown_rows_fit (scheme_functions H.hash C.compression D s) N (cap_of s dimensions) dimensions
+        shown_rows_fit (scheme_functions H.hash C.compression D s) N (cap_layer_of s dimensions) dimensions
         (roots_of cap) index rows };
 
     ghost agreement = { same_is_equivalence };

@@ -1,4 +1,4 @@
-//! What two openings of one cap lead to where they differ: two inputs of one digest.
+//! Comparing two checks at one level: where their inputs differ, these are a collision.
 
 ghost use Rattle.std.specs.Prelude.{IfOk};
 ghost use Rattle.std.specs.Cmp.Lexicographic.{pointwise};
@@ -12,20 +12,20 @@ use p3_merkle_core::collision::{Collision, InputPair, Place};
 use p3_support::matrix::Dimensions;
 use std::alloc::{AllocError, Global};
 
-/// The rows of two openings, of which those of the matrices of one exponent are compared.
+/// The rows of two openings, to be compared at the matrices of one exponent.
 #[derive(Clone, Copy)]
 pub(crate) struct RowPair<'a, T> {
     /// The dimensions of all matrices.
     pub dimensions: &'a [Dimensions],
     /// The exponent of those whose rows are compared.
     pub exponent: usize,
-    /// The first opening's rows of all matrices.
+    /// The rows of all matrices in the first opening.
     pub first: &'a [Vec<T>],
-    /// The second's.
+    /// The rows of all matrices in the second opening.
     pub second: &'a [Vec<T>],
 }
 
-/// The digests at a place, where they differ.
+/// Both lists of digests at a place, if they differ.
 fn differing_digests<T, W: Copy + Eq, const D: usize>(
     alloc: Global,
     place: Place,
@@ -45,7 +45,7 @@ fn differing_digests<T, W: Copy + Eq, const D: usize>(
     }))
 }
 
-/// The words at a place, where they differ.
+/// Both lists of words at a place, if they differ.
 pub(crate) fn differing_words<T: Copy + Eq + Drop, W, const D: usize>(
     alloc: Global,
     place: Place,
@@ -68,8 +68,8 @@ pub(crate) fn differing_words<T: Copy + Eq + Drop, W, const D: usize>(
     }))
 }
 
-/// The last place of a level above its group (the rows, then the pair) at which two checks differ. `rows` are those of
-/// both openings for the next layer.
+/// The last place of a level above its group at which two checks differ: the pair, else the rows. `rows` are the rows
+/// of both openings at the layer above.
 fn differing_above<T: Copy + Eq + Drop, W: Copy + Eq, const N: usize, const D: usize>(
     alloc: Global,
     rows: &RowPair<'_, T>,
@@ -90,7 +90,7 @@ fn differing_above<T: Copy + Eq + Drop, W: Copy + Eq, const N: usize, const D: u
     differing_words(alloc, Place::Rows(first.level), rows)
 }
 
-/// The last place of a level at which two checks differ. `rows` are those of both openings for the next layer.
+/// The last place of a level at which two checks differ. `rows` are the rows of both openings at the layer above.
 pub(crate) fn differing_level<T: Copy + Eq + Drop, W: Copy + Eq, const N: usize, const D: usize>(
     alloc: Global,
     rows: &RowPair<'_, T>,

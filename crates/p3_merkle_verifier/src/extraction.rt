@@ -1,4 +1,4 @@
-//! Extraction: what two openings under one cap lead to.
+//! Extraction of a collision from two openings of one cap.
 
 ghost use Rattle.std.specs.Prelude.{IfOk, replicate};
 ghost use Rattle.std.specs.Option.{option_or};
@@ -31,43 +31,43 @@ impl<
     const N: usize,
     const D: usize,
 > Checker<'a, P, PW, H, C, [[PW::Value; D]; N]> {
-    /// What two openings under the roots of a cap, which is layer `t`, lead to: nothing where their checks agree, and
-    /// else the last place that both share and at which their inputs differ.
+    /// Extracts a collision from two openings under the roots of a cap: the inputs at the last place that both checks
+    /// share and at which they differ, or `None` if the checks agree.
     ///
-    /// `N` is a power of two from 2 to 2^62, and `t` is at most the number of levels.
+    /// `N` must be a power of two from 2 to 2^62, and `cap_layer` at most the number of levels.
     ///
     /// # Errors
     ///
-    /// What [`check_opening`](Self::check_opening) answers to the first opening, else what it answers to the second;
+    /// The error of [`check_opening`](Self::check_opening) for the first opening, else that for the second;
     /// `OutOfMemory` may come at any time.
     pub fn extraction(
         &self,
         alloc: Global,
         roots: &[[PW::Value; D]],
         dimensions: &[Dimensions],
-        t: usize,
+        cap_layer: usize,
         first: IndexedOpening<'_, P::Value, [PW::Value; D]>,
         second: IndexedOpening<'_, P::Value, [PW::Value; D]>,
     ) -> Result<Option<Collision<P::Value, PW::Value, D>>, MerkleTreeError>
-        requires { CanCheck (shape_of N dimensions.now) t }
+        requires { CanCheck (shape_of N dimensions.now) cap_layer }
         ensures answer { let f = functions_of (H.hash self.now.hash.now) (C.compression self.now.compress.now)
             (replicate D PW.default_value) in
-            let refusal = refusal_under PW.Value.eq (terms f (shape_of N dimensions.now) t) roots.now in
+            let refusal = refusal_under PW.Value.eq (terms f (shape_of N dimensions.now) cap_layer) roots.now in
             AnswersUnlessMemory result
             (option_or (refusal (opening_in first.entry)) (refusal (opening_in second.entry))) }
         ensures found { let f = functions_of (H.hash self.now.hash.now) (C.compression self.now.compress.now)
             (replicate D PW.default_value) in
-            let c = terms f (shape_of N dimensions.now) t in
+            let c = terms f (shape_of N dimensions.now) cap_layer in
             let difference = difference_of P.Value.eq PW.Value.eq c (opening_in first.entry)
             (opening_in second.entry) in
             IfOk result (λ found. Shows found difference) }
     {
         let steps = steps_of(dimensions, N);
-        self.check_opening(roots, &steps, t, first)?;
-        self.check_opening(roots, &steps, t, second)?;
+        self.check_opening(roots, &steps, cap_layer, first)?;
+        self.check_opening(roots, &steps, cap_layer, second)?;
         let openings = OpeningPair::<P::Value, [PW::Value; D], N> {
             dimensions,
-            t,
+            cap_layer,
             first,
             second,
         };

@@ -10,26 +10,26 @@ use p3_merkle_core::error::MerkleTreeError;
 use p3_merkle_core::geometry::check_widths;
 use p3_merkle_core::steps::Steps;
 
-/// Whether an opening of the leaf `index` has the form that the tree of these steps gives it: a row for each matrix,
-/// and `num_siblings` digests for the levels below layer `t`.
+/// Checks that an opening of the leaf `index` has the form that a tree of these steps gives it: one row for each
+/// matrix, of its width, and the siblings of the levels below the cap.
 ///
-/// The arity is a power of two from 2 to 2^62, and `t` is at most the number of levels.
+/// The arity must be a power of two from 2 to 2^62, and `cap_layer` at most the number of levels.
 ///
 /// # Errors
 ///
-/// The first of these that holds: `WrongBatchSize` where there are not as many rows as dimensions; `EmptyBatch`,
-/// `TooLarge` or `IncompatibleHeights` where no tree can be built over such heights; `WrongHeight` where there are not
-/// as many siblings as the levels below layer `t` have; `WrongWidth` for the first row that has not the width of its
-/// matrix; `IndexOutOfBounds` where the index is not below the tallest height.
+/// The first of these that holds: `WrongBatchSize` if the number of rows is not that of the dimensions; `EmptyBatch`,
+/// `TooLarge` or `IncompatibleHeights` if no tree can be built over such heights; `WrongHeight` if `num_siblings` is
+/// not what the levels below the cap need; `WrongWidth` for the first row whose length is not the width of its matrix;
+/// `IndexOutOfBounds` if the index is not below the tallest height.
 pub(crate) fn check_form<T>(
     steps: &Steps<'_>,
-    t: usize,
+    cap_layer: usize,
     index: usize,
     rows: &[Vec<T>],
     num_siblings: usize,
 ) -> Result<(), MerkleTreeError>
-    requires { CanCheck (shape_of steps.now.arity steps.now.dimensions.now) t }
-    ensures { let refusal = form_refusal (shape_of steps.now.arity steps.now.dimensions.now) t index
+    requires { CanCheck (shape_of steps.now.arity steps.now.dimensions.now) cap_layer }
+    ensures { let refusal = form_refusal (shape_of steps.now.arity steps.now.dimensions.now) cap_layer index
         (row_lists rows.now) num_siblings in
         MatchResult result (λ ok. refusal ≡ None) (λ e. refusal ≡ Some e) }
 {
@@ -41,7 +41,7 @@ pub(crate) fn check_form<T>(
         });
     }
     steps.check_heights()?;
-    let expected_proof_len = steps.siblings_below(t);
+    let expected_proof_len = steps.siblings_below(cap_layer);
     if num_siblings != expected_proof_len {
         return Err(MerkleTreeError::WrongHeight {
             expected_proof_len,

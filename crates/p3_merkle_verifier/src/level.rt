@@ -19,21 +19,21 @@ use p3_support::matrix::Dimensions;
 use p3_support::packed::PackedValue;
 use std::marker::PhantomData;
 
-/// How far the check of an opening has come.
+/// How far the check of an opening has come: it stands at a node on the leaf's path.
 #[derive(Clone, Copy)]
 pub struct Progress<X> {
-    /// The exponent of the layer that is reached.
+    /// The exponent of the node's layer.
     pub exponent: usize,
-    /// The node above the leaf in this layer.
+    /// The node.
     pub node: usize,
-    /// How many of the siblings are compressed already.
+    /// The number of siblings that are used so far.
     pub used: usize,
-    /// The digest that is reached.
+    /// The digest that the check computed for the node.
     pub digest: X,
 }
 
 impl<W: Copy, const D: usize> Progress<[W; D]> {
-    /// The group of the next step: the digest that is reached at its place among its siblings, then default digests.
+    /// The group of the next step: the siblings with this node's digest at its position, then default digests.
     fn group<const N: usize>(
         &self,
         default_digest: [W; D],
@@ -51,7 +51,7 @@ impl<W: Copy, const D: usize> Progress<[W; D]> {
 }
 
 impl<X: Copy> Progress<X> {
-    /// The same check one step higher, at a layer of this exponent, where this digest is reached.
+    /// The same check one step higher: at the parent, whose layer has this exponent, with this digest.
     fn above(&self, step: usize, exponent: usize, digest: X) -> Progress<X>
         requires step { 0 < step }
         requires fits { self.now.used + (step - 1) < 2 ^ 64 }
@@ -66,20 +66,20 @@ impl<X: Copy> Progress<X> {
     }
 }
 
-/// A level of the check of an opening: what it compresses, and where the check stands above it.
+/// One level of the check of an opening: what it compresses, and where the check stands above it.
 #[derive(Clone, Copy)]
 pub struct CheckedLevel<X, G> {
     /// The level, counted from the leaves.
     pub level: usize,
-    /// The digest that was reached at its place among its siblings, then default digests.
+    /// The siblings with the node's digest at its position, then default digests.
     pub group: G,
-    /// The group's digest and that of rows, where matrices belong to the layer above.
+    /// The digests of the group and of the rows, if matrices are injected at the layer above.
     pub pair: Option<G>,
-    /// How far the check has come above the level.
+    /// Where the check stands above the level.
     pub above: Progress<X>,
 }
 
-/// The digest of the rows of the matrices of this exponent, one after another.
+/// Hashes the rows of the matrices of one exponent, one after another.
 pub fn opened_rows_digest<
     P: PackedValue,
     PW: PackedValue,
@@ -92,7 +92,7 @@ pub fn opened_rows_digest<
     hash.hash_iter_slices(opened_slices(dimensions, rows, exponent))
 }
 
-/// The check of an opening at its leaf.
+/// Starts the check of an opening: it stands at the leaf.
 pub(crate) fn leaf<
     P: PackedValue,
     PW: PackedValue,
@@ -118,28 +118,27 @@ pub(crate) fn leaf<
     }
 }
 
-/// Tells that an opening with its siblings up to layer `t` has those of each level below it. It does nothing at run
-/// time.
+/// Tells that an opening with its siblings up to the cap has those of each level below it. It does nothing at run time.
 pub(crate) fn tell_siblings<X>(
     dimensions: &[Dimensions],
     arity: usize,
-    t: usize,
+    cap_layer: usize,
     level: usize,
     siblings: &[X],
 )
-    requires reach { CanReach (shape_of arity dimensions.now) t (length siblings.now) }
-    requires below { level < t }
+    requires reach { CanReach (shape_of arity dimensions.now) cap_layer (length siblings.now) }
+    requires below { level < cap_layer }
     ensures { CanClimb (shape_of arity dimensions.now) level (length siblings.now) }
 {}
 
-/// Checks openings, with a hash for their rows and a compression of `N` digests for nodes.
+/// Checks openings: it borrows the hash of rows and the compression of nodes.
 #[derive(Drop)]
 pub struct Checker<'a, P, PW, H, C, G> {
     /// The hash of rows.
     pub hash: &'a H,
     /// The compression of the children of a node.
     pub compress: &'a C,
-    /// How words are packed, and the groups that the compression takes.
+    /// The packings of words, and the type of a group.
     pub item: PhantomData<(P, PW, G)>,
 }
 
@@ -152,7 +151,7 @@ impl<
     const N: usize,
     const D: usize,
 > Checker<'a, P, PW, H, C, [[PW::Value; D]; N]> {
-    /// The level above the layer where the check of an opening stands.
+    /// Checks one level: it leads from where the check stands to the layer above.
     pub(crate) fn checked_level(
         &self,
         steps: &Steps<'_>,

@@ -1,8 +1,7 @@
-//! What checks openings of a tree: the form of an opening, the digests on its path, the cap's entry, and where the
-//! checks of two openings differ.
+//! Checking openings of a tree, and extracting a collision from two of them.
 //!
-//! A check goes level by level, from the leaf up to the cap's layer. It takes a hash and a compression that are lent,
-//! and nothing of a scheme but these and the cap's layer.
+//! A check looks at the form of an opening first. Then it walks the leaf's path level by level up to the cap, and
+//! compares the digest there with the cap's entry. It borrows a hash and a compression, and knows no scheme.
 #![tactic(auto)]
 
 mod collision;

@@ -9,7 +9,7 @@ ghost use Rattle.p3_support.specs.Shown.{row_lists};
 use p3_merkle_core::geometry::exponent_of;
 use p3_support::matrix::Dimensions;
 
-/// The words of the rows of the matrices of one exponent, one matrix after another, without a copy.
+/// The words of the rows of the matrices of one exponent, one row after another. Nothing is copied.
 #[derive(Drop)]
 pub struct OpenedRows<'a, T> {
     dimensions: &'a [Dimensions],
@@ -18,7 +18,7 @@ pub struct OpenedRows<'a, T> {
     next: usize,
 }
 
-/// The words of the rows of the matrices of this exponent; `rows` has the rows of all matrices, in input order.
+/// Yields the words of the rows of the matrices of this exponent. `rows` has one row of each matrix, in input order.
 pub(crate) fn opened_rows<'a, T>(
     dimensions: &'a [Dimensions],
     rows: &'a [Vec<T>],
@@ -70,7 +70,7 @@ pub struct OpenedSlices<'a, T> {
     exponent: usize,
 }
 
-/// The rows of the matrices of this exponent; `rows` has the rows of all matrices, in input order.
+/// Yields the rows of the matrices of this exponent. `rows` has one row of each matrix, in input order.
 pub(crate) fn opened_slices<'a, T>(
     dimensions: &'a [Dimensions],
     rows: &'a [Vec<T>],

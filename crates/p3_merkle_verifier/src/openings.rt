@@ -1,4 +1,4 @@
-//! Openings as a check reads them: with their index, alone or two side by side.
+//! Openings as a check reads them: each with its index, one alone or two side by side.
 
 ghost use Rattle.std.specs.Prelude.{◌≡◌, length};
 ghost use Rattle.p3_merkle_core.specs.Geometry.{shape_of};
@@ -8,19 +8,19 @@ use crate::collision::RowPair;
 use p3_support::matrix::Dimensions;
 use p3_support::opening::BatchOpeningRef;
 
-/// An opening of the leaf `index`, by its rows and siblings.
+/// A borrowed opening with the index of its leaf.
 #[derive_where(Clone, Copy)]
 pub struct IndexedOpening<'a, T, X> {
-    /// The leaf.
+    /// The index of the leaf.
     pub index: usize,
-    /// Its rows, one of each matrix.
+    /// One row of each matrix, in input order.
     pub rows: &'a [Vec<T>],
-    /// The siblings on its path, from the leaves up.
+    /// The siblings on the leaf's path, from the leaf's own up.
     pub siblings: &'a [X],
 }
 
 impl<'a, T, X> IndexedOpening<'a, T, X> {
-    /// An opening that is lent, of the leaf `index`.
+    /// The opening of the leaf `index` by these rows and siblings.
     pub fn new(index: usize, opening: BatchOpeningRef<'a, T, Vec<X>>) -> IndexedOpening<'a, T, X>
         ensures index { result.index ≡ index }
         ensures rows { result.rows.now ≡ opening.entry.opened_values.now }
@@ -34,24 +34,24 @@ impl<'a, T, X> IndexedOpening<'a, T, X> {
     }
 }
 
-/// Two openings of matrices of these dimensions, with their siblings up to layer `t`, where a node has at most `N`
-/// children.
+/// Two openings of one tree, where a node has at most `N` children. Each has as many siblings as the levels below the
+/// cap need.
 #[derive(Drop)]
 pub struct OpeningPair<'a, T, X, const N: usize> {
-    /// The dimensions of all matrices.
+    /// The dimensions of the matrices, in input order.
     pub dimensions: &'a [Dimensions],
-    /// The cap's layer.
-    pub t: usize,
+    /// The layer that is the cap.
+    pub cap_layer: usize,
     /// The first opening.
     pub first: IndexedOpening<'a, T, X>,
-    /// The second.
+    /// The second opening.
     pub second: IndexedOpening<'a, T, X>,
-    ghost first_reaches: { CanReach (shape_of N dimensions.now) t (length first.siblings.now) },
-    ghost second_reaches: { CanReach (shape_of N dimensions.now) t (length second.siblings.now) },
+    ghost first_reaches: { CanReach (shape_of N dimensions.now) cap_layer (length first.siblings.now) },
+    ghost second_reaches: { CanReach (shape_of N dimensions.now) cap_layer (length second.siblings.now) },
 }
 
 impl<'a, T, X, const N: usize> OpeningPair<'a, T, X, N> {
-    /// The rows of both, of which those of the matrices of this exponent are compared.
+    /// The rows of both openings, to be compared at the matrices of this exponent.
     pub(crate) fn rows_of_exponent(&self, exponent: usize) -> RowPair<'a, T>
         ensures dimensions { result.dimensions.now ≡ self.now.dimensions.now }
         ensures exponent { result.exponent ≡ exponent }

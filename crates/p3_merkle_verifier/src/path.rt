@@ -1,4 +1,4 @@
-//! The check of one opening: its form first, then the digests on its path, then the cap's entry. It takes no memory.
+//! The check of one opening: its form, then the digests on its path, then the cap's entry. It does not allocate.
 
 ghost use Rattle.std.specs.Prelude.{◌≡◌, ◌==◌, false, length, replicate, slice_get, unwrap_or};
 ghost use Rattle.std.specs.Option.{option_map};
@@ -27,57 +27,56 @@ impl<
     const N: usize,
     const D: usize,
 > Checker<'a, P, PW, H, C, [[PW::Value; D]; N]> {
-    /// The digest that the check of an opening reaches at layer `t`, and the node of that layer above the leaf.
+    /// Walks the leaf's path up to the cap. Returns the digest that it computes there, and the node above the leaf.
     ///
-    /// The opening has its siblings up to layer `t`, `N` is a power of two from 2 to 2^62, and `t` is at most the
-    /// number of levels. The call takes no memory.
+    /// The opening must have its siblings up to the cap.
     fn path_digest(
         &self,
         steps: &Steps<'_>,
-        t: usize,
+        cap_layer: usize,
         opening: IndexedOpening<'_, P::Value, [PW::Value; D]>,
     ) -> ([PW::Value; D], usize)
         requires arity { steps.now.arity ≡ N }
-        requires reach { CanReach (shape_of N steps.now.dimensions.now) t (length opening.siblings.now) }
+        requires reach { CanReach (shape_of N steps.now.dimensions.now) cap_layer (length opening.siblings.now) }
         ensures digest { let f = functions_of (H.hash self.now.hash.now) (C.compression self.now.compress.now)
             (replicate D PW.default_value) in
-            result.0 ≡ path_digest f (shape_of N steps.now.dimensions.now) (opening_in opening.entry) t }
-        ensures node { result.1 ≡ ancestor (shape_of N steps.now.dimensions.now) t opening.entry.index }
+            result.0 ≡ path_digest f (shape_of N steps.now.dimensions.now) (opening_in opening.entry) cap_layer }
+        ensures node { result.1 ≡ ancestor (shape_of N steps.now.dimensions.now) cap_layer opening.entry.index }
     {
         let mut standing = leaf::<P, PW, H, D>(self.hash, steps, opening);
-        for level in 0..t {
-            tell_siblings(steps.dimensions, N, t, level, opening.siblings);
+        for level in 0..cap_layer {
+            tell_siblings(steps.dimensions, N, cap_layer, level, opening.siblings);
             standing = self.checked_level(steps, level, opening, &standing).above;
         }
         (standing.digest, standing.node)
     }
 
-    /// Checks an opening against the roots of a cap, which is layer `t`: whether its form is right, and its path leads
-    /// to the root above the leaf.
+    /// Checks an opening against the roots of a cap: its form, and that its path leads to the root above the leaf. It
+    /// does not allocate.
     ///
-    /// `N` is a power of two from 2 to 2^62, and `t` is at most the number of levels. The call takes no memory.
+    /// `N` must be a power of two from 2 to 2^62, and `cap_layer` at most the number of levels.
     ///
     /// # Errors
     ///
-    /// What [`check_form`] answers; else `CapMismatch` where there is no root above the leaf, or it is not the digest
-    /// that the check reaches.
+    /// The error of [`check_form`]; else `CapMismatch` if there is no root above the leaf, or the path leads to another
+    /// digest.
     pub fn check_opening(
         &self,
         roots: &[[PW::Value; D]],
         steps: &Steps<'_>,
-        t: usize,
+        cap_layer: usize,
         opening: IndexedOpening<'_, P::Value, [PW::Value; D]>,
     ) -> Result<(), MerkleTreeError>
         requires arity { steps.now.arity ≡ N }
-        requires check { CanCheck (shape_of N steps.now.dimensions.now) t }
+        requires check { CanCheck (shape_of N steps.now.dimensions.now) cap_layer }
         ensures { let f = functions_of (H.hash self.now.hash.now) (C.compression self.now.compress.now)
             (replicate D PW.default_value) in
-            result ≡ answer_under PW.Value.eq (terms f (shape_of N steps.now.dimensions.now) t) roots.now
+            result ≡ answer_under PW.Value.eq (terms f (shape_of N steps.now.dimensions.now) cap_layer) roots.now
             (opening_in opening.entry) }
     {
         let (index, num_siblings) = (opening.index, opening.siblings.len());
-        check_form(steps, t, index, opening.rows, num_siblings)?;
-        let (digest, node) = self.path_digest(steps, t, opening);
+        check_form(steps, cap_layer, index, opening.rows, num_siblings)?;
+        let (digest, node) = self.path_digest(steps, cap_layer, opening);
         if is_entry(roots, node, &digest) {
             Ok(())
         } else {
@@ -86,7 +85,7 @@ impl<
     }
 }
 
-/// Whether the entry `node` of some roots is this digest.
+/// Whether the roots have this digest at `node`.
 pub(crate) fn is_entry<X: PartialEq>(roots: &[X], node: usize, digest: &X) -> bool
     ensures { result ≡ is_entry_of X.eq roots.now node digest.now }
 {

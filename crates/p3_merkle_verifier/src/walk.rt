@@ -1,4 +1,4 @@
-//! The checks of two openings, level by level and side by side, and the last place at which they differ.
+//! Walking the checks of two openings side by side, to the last place at which they differ.
 
 ghost use Rattle.std.specs.Prelude.{◌≡◌, IfOk, replicate};
 ghost use Rattle.p3_merkle_core.specs.Checks.{terms};
@@ -18,7 +18,8 @@ use p3_support::hasher::CryptographicHasher;
 use p3_support::packed::PackedValue;
 use std::alloc::{AllocError, Global};
 
-/// The words of the leaf, whose exponent this is, if the checks of both openings share it and they differ there.
+/// The words that are hashed for the leaf, if the openings are of one leaf and differ there. `exponent` is that of the
+/// leaves.
 fn leaf_difference<T: Copy + Eq + Drop, W: Copy + Eq, const N: usize, const D: usize>(
     alloc: Global,
     openings: &OpeningPair<'_, T, [W; D], N>,
@@ -45,12 +46,12 @@ impl<
     const N: usize,
     const D: usize,
 > Checker<'a, P, PW, H, C, [[PW::Value; D]; N]> {
-    /// The last place that the checks of two openings share and at which they differ, with both inputs. Memory is taken
-    /// at shared places alone: for the rows there, and for inputs that differ, of which the last found are kept.
+    /// The last place that the checks of two openings share and at which they differ, with both inputs. It allocates at
+    /// shared places alone: the rows there, and the inputs that differ.
     ///
     /// # Errors
     ///
-    /// `AllocError` where there is no memory.
+    /// `AllocError` if memory runs out.
     pub fn last_difference(
         &self,
         alloc: Global,
@@ -58,7 +59,7 @@ impl<
     ) -> Result<Option<Collision<P::Value, PW::Value, D>>, AllocError>
         ensures { let f = functions_of (H.hash self.now.hash.now) (C.compression self.now.compress.now)
             (replicate D PW.default_value) in
-            let c = terms f (shape_of N openings.now.dimensions.now) openings.now.t in
+            let c = terms f (shape_of N openings.now.dimensions.now) openings.now.cap_layer in
             let difference = difference_of P.Value.eq PW.Value.eq c (opening_in openings.now.first)
             (opening_in openings.now.second) in
             IfOk result (λ found. Shows found difference) }
@@ -68,9 +69,21 @@ impl<
         let mut first = leaf::<P, PW, H, D>(self.hash, &steps, openings.first);
         let mut second = leaf::<P, PW, H, D>(self.hash, &steps, openings.second);
         let mut last = leaf_difference(alloc, openings, steps.exponent)?;
-        for level in 0..openings.t {
-            tell_siblings(dimensions, N, openings.t, level, openings.first.siblings);
-            tell_siblings(dimensions, N, openings.t, level, openings.second.siblings);
+        for level in 0..openings.cap_layer {
+            tell_siblings(
+                dimensions,
+                N,
+                openings.cap_layer,
+                level,
+                openings.first.siblings,
+            );
+            tell_siblings(
+                dimensions,
+                N,
+                openings.cap_layer,
+                level,
+                openings.second.siblings,
+            );
             let mine = self.checked_level(&steps, level, openings.first, &first);
             let theirs = self.checked_level(&steps, level, openings.second, &second);
             if mine.above.node == theirs.above.node {

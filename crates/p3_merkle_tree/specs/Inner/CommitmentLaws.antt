@@ -18,7 +18,7 @@ use Rattle.p3_support.specs.declared.matrix.Dimensions.{Dimensions}
 use Rattle.p3_support.specs.declared.packed.PackedValue as packed
 use Rattle.std.specs.declared.default.Default as default
 use Rattle.std.specs.declared.cmp.PartialEq as equality
-use Rattle.p3_merkle_tree.specs.Schemes.{proof_layer, scheme_functions, terms_over, IsSameScheme}
+use Rattle.p3_merkle_tree.specs.Schemes.{cap_layer_over, scheme_functions, terms_over, IsSameScheme}
 use Rattle.p3_merkle_tree.specs.declared.mmcs.Scheme.{Scheme}
 use Rattle.p3_merkle_core.specs.Checks.{Terms, terms}
 
@@ -54,9 +54,9 @@ module _ {P PW H C X G V W : Type 0} {N : ℕ} {p : packed.Ghosts P V} {pd : def
       let f : scheme_functions hash compression d s ≡ scheme_functions hash compression d t =
       λ i. functions_of (hash (w.same_hash i)) (compression (w.same_compression i))
       (scheme_functions hash compression d s).default_digest in
-      let l : proof_layer s sh ≡ proof_layer t sh = λ i. cap_layer sh (w.same_rule i) (w.same_cap_height i) in
+      let l : cap_layer_over s sh ≡ cap_layer_over t sh = λ i. cap_layer sh (w.same_rule i) (w.same_cap_height i) in
       subst (λ k. fact (terms (scheme_functions hash compression d t) sh k)) l
-      (subst (λ g. fact (terms g sh (proof_layer s sh))) f holds)
+      (subst (λ g. fact (terms g sh (cap_layer_over s sh))) f holds)
 
 -- ---- what is shown
 

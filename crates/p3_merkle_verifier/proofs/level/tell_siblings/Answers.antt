@@ -9,6 +9,6 @@ returns g c =
     let s = shape_of c.args.arity c.args.dimensions.now in
     record {
       arity = c.requires.reach.arity;
-      enough = enough_below s c.args.t c.args.level (length c.args.siblings.now)
+      enough = enough_below s c.args.cap_layer c.args.level (length c.args.siblings.now)
           c.requires.reach c.requires.below;
     }

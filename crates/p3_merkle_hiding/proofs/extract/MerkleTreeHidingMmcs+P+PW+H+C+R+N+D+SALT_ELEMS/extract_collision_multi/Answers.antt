@@ -49,8 +49,8 @@ returns-in_err-salted1 g c =
     let salts = ap row_sets c.deref.ensures.value in
     let r = c.from_residual.result in
     let err = c.from_residual.ensures.0 in
-    let before = subst (AnswersUnlessMemory r) (λ i. salted_sets_refusal e ds (row_sets c.args.first.opened_values.now) (salts i))
-    (search rules) in
+    let before = subst (AnswersUnlessMemory r)
+    (λ i. salted_sets_refusal e ds (row_sets c.args.first.opened_values.now) (salts i)) (search rules) in
     let first = refused_before r (salted_sets_refusal e ds o.rows o.salts)
     (pruned_refusal_under eq same wide cap (joined_sets o)) err before in
     let answer = refused_before r (salted_pruned_refusal_under eq same e ds wide cap o)
@@ -76,7 +76,8 @@ returns-in-Ok g c =
     let none = sym (λ i. salted_sets_refusal e ds (row_sets c.args.first.opened_values.now) (salts i))
     ∙ c.in_ok-salted1.ensures.answer in
     let salts2 = ap row_sets c.deref-3.ensures.value in
-    let none2 = sym (λ i. salted_sets_refusal e ds (row_sets c.args.second.opened_values.now) (salts2 i)) ∙ c.in-Ok.ensures.answer in
+    let none2 = sym (λ i. salted_sets_refusal e ds (row_sets c.args.second.opened_values.now) (salts2 i))
+    ∙ c.in-Ok.ensures.answer in
     let are_wide = c.deref-in-Ok-2.ensures.value ∙ c.in_ok-salted1.ensures.dimensions in
     let given = c.deref-in-Ok-2.result.now in
     let rows1 = ap row_sets (c.new-joined1.ensures.values ∙ c.deref-2.ensures.value) ∙ c.in_ok-salted1.ensures.sets
@@ -121,8 +122,8 @@ returns g c =
     ∙ c.in_ok-salted1.ensures.answer in
     let salts2 = ap row_sets c.deref-3.ensures.value in
     let second = subst (λ (refusal : Option MerkleTreeError). (c.in-Err.error ≡ OutOfMemory) ⊎
-    (refusal ≡ Some c.in-Err.error)) (λ i. salted_sets_refusal e ds (row_sets c.args.second.opened_values.now) (salts2 i))
-    c.in-Err.ensures.answer in
+    (refusal ≡ Some c.in-Err.error))
+    (λ i. salted_sets_refusal e ds (row_sets c.args.second.opened_values.now) (salts2 i)) c.in-Err.ensures.answer in
     let are_wide = c.deref-in-Err.ensures.value ∙ c.in_ok-salted1.ensures.dimensions in
     let given = c.deref-in-Err.result.now in
     let rows1 = ap row_sets c.deref-in-Err-2.ensures.value ∙ c.in_ok-salted1.ensures.sets

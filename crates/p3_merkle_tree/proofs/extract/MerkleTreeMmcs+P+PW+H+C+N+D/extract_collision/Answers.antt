@@ -10,7 +10,7 @@ use Rattle.p3_merkle_core.specs.Refusals.{AnswersUnlessMemory, refusal_under}
 use Rattle.p3_merkle_core.specs.Views.{opening_lent}
 use Rattle.p3_merkle_core.proofs.Collisions.ExtractionFacts.{all_authenticated, extracted_alone, single_presented}
 use Rattle.p3_merkle_verifier.specs.Inner.Collisions.{Shows}
-use Rattle.p3_merkle_tree.specs.Schemes.{compression_of, hash_of, proof_layer, terms_of}
+use Rattle.p3_merkle_tree.specs.Schemes.{cap_layer_over, compression_of, hash_of, terms_of}
 use Rattle.p3_merkle_tree.proofs.CheckFacts.{opening_is, terms_alike}
 use Rattle.p3_merkle_tree.proofs.extract.MerkleTreeMmcs+P+PW+H+C+N+D.extract_collision.Goals as goal
 use Rattle.p3_merkle_core.specs.Checks.{terms}
@@ -23,8 +23,8 @@ returns g c =
     let s = shape_of g.row.N c.args.dimensions.now in
     let alike = terms_alike g.H.CryptographicHasher.hash g.C.PseudoCompressionFunction.compression
     (replicate g.row.D g.PW.PackedValue.default_value) s c.checker.result.hash.now (hash_of scheme)
-    c.checker.result.compress.now (compression_of scheme) c.proof_levels-t.result (proof_layer scheme s)
-    c.checker.ensures.hash c.checker.ensures.compress c.proof_levels-t.ensures in
+    c.checker.result.compress.now (compression_of scheme) c.cap_layer-cap_layer.result (cap_layer_over scheme s)
+    c.checker.ensures.hash c.checker.ensures.compress c.cap_layer-cap_layer.ensures in
     let first = opening_is c.new-first.result c.args.index1 (row_lists c.args.first.opened_values.now)
     c.args.first.opening_proof.now.items c.new-first.ensures.index (ap row_lists c.new-first.ensures.rows)
     c.new-first.ensures.siblings in

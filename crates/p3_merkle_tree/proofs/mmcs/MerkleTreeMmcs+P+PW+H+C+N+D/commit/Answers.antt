@@ -16,6 +16,6 @@ returns-clause-committed g c =
       own_cap = cap_is (scheme_functions g.H.CryptographicHasher.hash g.C.PseudoCompressionFunction.compression g.row.D
           c.args.self.now) (over c.args.matrices.items) (tree_batch tree) (layers_of tree)
           (cap_rule_of c.args.self.now) (cap_height_of c.args.self.now) c.num_layers.result
-          c.cap_layer_in-cap_layer.result (roots_of c.in_ok-cap.cap) (ap over c.in_ok-tree.ensures.matrices) c.in_ok-tree.ensures.layers
-          c.num_layers.ensures.levels c.cap_layer_in-cap_layer.ensures c.in_ok-cap.ensures;
+          c.cap_layer_in-cap_layer.result (roots_of c.in_ok-cap.cap) (ap over c.in_ok-tree.ensures.matrices)
+          c.in_ok-tree.ensures.layers c.num_layers.ensures.levels c.cap_layer_in-cap_layer.ensures c.in_ok-cap.ensures;
     }

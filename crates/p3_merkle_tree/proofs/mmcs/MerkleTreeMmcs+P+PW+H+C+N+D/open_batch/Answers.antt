@@ -4,7 +4,7 @@ use Rattle.p3_merkle_core.specs.Geometry.{Shape}
 use Rattle.p3_merkle_core.specs.Nodes.{shape}
 use Rattle.p3_merkle_core.specs.Openings.{node_in, opening_of, siblings_by}
 use Rattle.p3_merkle_prover.specs.Parts.{layers_of, tree_batch}
-use Rattle.p3_merkle_tree.specs.Schemes.{proof_layer, terms_over}
+use Rattle.p3_merkle_tree.specs.Schemes.{cap_layer_over, terms_over}
 use Rattle.p3_merkle_prover.proofs.RowFacts.{full_rows}
 use Rattle.p3_merkle_tree.proofs.OwnAccepted.{own_accepted, own_honest}
 use Rattle.p3_merkle_tree.proofs.mmcs.MerkleTreeMmcs+P+PW+H+C+N+D.open_batch.Goals as goal
@@ -19,7 +19,7 @@ returns-clause-opened g c =
     let siblings = c.in_ok-opening_proof.ensures.siblings []
     ∙ ap (λ (t : ℕ). siblings_by (node_in [] (layers_of tree)) s t c.args.index)
     (c.cap_layer-cap_layer.ensures
-    ∙ ap (λ (z : Shape). proof_layer c.args.self.now z) c.steps_in-steps.ensures) in
+    ∙ ap (λ (z : Shape). cap_layer_over c.args.self.now z) c.steps_in-steps.ensures) in
     λ i. opening_of c.args.index (c.in_ok-opened_values.ensures.rows i) (siblings i)
 
 pub returns-clause-honest : goal.returns-clause-honest

@@ -3,7 +3,7 @@ use Rattle.std.proofs.Common.{◌∙◌, ap, replicate}
 use Rattle.p3_merkle_core.specs.Geometry.{shape_of}
 use Rattle.p3_merkle_core.specs.Refusals.{answer_under}
 use Rattle.p3_merkle_core.specs.Views.{opening_lent}
-use Rattle.p3_merkle_tree.specs.Schemes.{compression_of, hash_of, proof_layer, terms_of}
+use Rattle.p3_merkle_tree.specs.Schemes.{cap_layer_over, compression_of, hash_of, terms_of}
 use Rattle.p3_support.specs.Shown.{roots_of, row_lists}
 use Rattle.p3_merkle_tree.proofs.CheckFacts.{opening_is, terms_alike}
 use Rattle.p3_merkle_tree.proofs.VerdictFacts.{verdict_of}
@@ -20,7 +20,7 @@ returns-clause-answer g c =
     c.cap_layer-cap_layer.ensures in
     let same = terms_alike g.H.CryptographicHasher.hash g.C.PseudoCompressionFunction.compression
     (replicate g.row.D g.PW.PackedValue.default_value) s c.checker.result.hash.now (hash_of scheme)
-    c.checker.result.compress.now (compression_of scheme) c.cap_layer-cap_layer.result (proof_layer scheme s)
+    c.checker.result.compress.now (compression_of scheme) c.cap_layer-cap_layer.result (cap_layer_over scheme s)
     c.checker.ensures.hash c.checker.ensures.compress at_cap in
     (rw c.steps_of-steps.ensures.dimensions at c.check_opening.ensures)
     ∙ (λ i. answer_under g.PW.Value.PartialEq.eq (same i) (c.roots.ensures i) (opening i))

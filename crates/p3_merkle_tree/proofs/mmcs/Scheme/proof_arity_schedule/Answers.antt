@@ -3,7 +3,7 @@ use Rattle.std.proofs.Common.{◌∙◌, ap, length, sym, arith}
 use Rattle.std.proofs.lemmas.List.FromFn.{length-map-range_with_len, take-map-range_with_len}
 use Rattle.p3_merkle_core.specs.Geometry.{levels, shape_of, step}
 use Rattle.p3_merkle_core.proofs.Shapes.LadderFacts.{levels_le}
-use Rattle.p3_merkle_tree.specs.Schemes.{proof_layer}
+use Rattle.p3_merkle_tree.specs.Schemes.{cap_layer_over}
 use Rattle.p3_merkle_tree.proofs.mmcs.Scheme.proof_arity_schedule.Goals as goal
 
 pub returns-clause-steps : goal.returns-clause-steps
@@ -16,7 +16,7 @@ pub returns-clause-first : goal.returns-clause-first
 returns-clause-first g c =
     let s = shape_of g.row.N c.args.dimensions.now in
     returns-clause-steps g c
-    ∙ sym (take-map-range_with_len (step s) 0 (levels s) (proof_layer c.args.self.now s) (omega arith))
+    ∙ sym (take-map-range_with_len (step s) 0 (levels s) (cap_layer_over c.args.self.now s) (omega arith))
 
 pub returns-clause-few : goal.returns-clause-few
 returns-clause-few g c =
@@ -24,6 +24,6 @@ returns-clause-few g c =
     omega (
       arith,
       ap length (returns-clause-steps g c),
-      length-map-range_with_len (step s) 0 (proof_layer c.args.self.now s),
+      length-map-range_with_len (step s) 0 (cap_layer_over c.args.self.now s),
       levels_le s,
     )

@@ -7,7 +7,7 @@ use Rattle.p3_merkle_core.specs.Openings.{node_in}
 use Rattle.p3_merkle_core.proofs.Covered.Sufficient.{count_least}
 use Rattle.p3_merkle_prover.specs.Parts.{layers_of, tree_batch}
 use Rattle.p3_merkle_prover.proofs.RowFacts.{full_rows}
-use Rattle.p3_merkle_tree.specs.Schemes.{proof_layer, terms_over}
+use Rattle.p3_merkle_tree.specs.Schemes.{cap_layer_over, terms_over}
 use Rattle.p3_merkle_tree.proofs.PrunedFacts.{own_query_accepted, own_query_honest, own_query_restores}
 use Rattle.p3_merkle_tree.proofs.pruned.MerkleTreeMmcs+P+PW+H+C+N+D.open_batch_pruned.Goals as goal
 
@@ -15,17 +15,17 @@ pub returns-clause-opened : goal.returns-clause-opened
 returns-clause-opened g c =
     let digests = c.in_ok-sibling_hashes.ensures.digests []
     ∙ ap (λ (t : ℕ). boundary_by (node_in [] (layers_of c.args.tree.now)) (shape (tree_batch c.args.tree.now))
-    c.args.indices.now t) c.cap_layer_in-t.ensures in
+    c.args.indices.now t) c.cap_layer_in-cap_layer.ensures in
     λ i. pruned_of c.args.indices.now (c.in_ok-opened_values.ensures.rows i) (digests i)
 
 pub returns-clause-least : goal.returns-clause-least
 returns-clause-least g c =
     let tree = c.args.tree.now in
     let s = shape (tree_batch tree) in
-    let t = proof_layer c.args.self.now s in
+    let t = cap_layer_over c.args.self.now s in
     let digests = c.in_ok-sibling_hashes.ensures.digests []
     ∙ ap (λ (t : ℕ). boundary_by (node_in [] (layers_of c.args.tree.now)) (shape (tree_batch c.args.tree.now))
-    c.args.indices.now t) c.cap_layer_in-t.ensures in
+    c.args.indices.now t) c.cap_layer_in-cap_layer.ensures in
     count_least s c.args.indices.now t (length c.in_ok-sibling_hashes.sibling_hashes.items)
     (record { well_shaped = tree.arity; below = c.requires; in_tree = omega arith }) (ap length digests
     ∙ length-map (boundary s c.args.indices.now t) _)
@@ -34,7 +34,7 @@ pub returns-clause-honest : goal.returns-clause-honest
 returns-clause-honest g c =
     let tree = c.args.tree.now in
     let b = tree_batch tree in
-    let honest : IsHonestQuery b (proof_layer c.args.self.now (shape b)) c.args.indices.now =
+    let honest : IsHonestQuery b (cap_layer_over c.args.self.now (shape b)) c.args.indices.now =
     record {
       queried = record { well_shaped = tree.arity; below = c.requires; in_tree = omega arith };
       lawful = tree.lawful;
@@ -46,7 +46,7 @@ pub returns-clause-accepted : goal.returns-clause-accepted
 returns-clause-accepted g c =
     let tree = c.args.tree.now in
     let b = tree_batch tree in
-    let honest : IsHonestQuery b (proof_layer c.args.self.now (shape b)) c.args.indices.now =
+    let honest : IsHonestQuery b (cap_layer_over c.args.self.now (shape b)) c.args.indices.now =
     record {
       queried = record { well_shaped = tree.arity; below = c.requires; in_tree = omega arith };
       lawful = tree.lawful;
@@ -60,7 +60,7 @@ pub returns-clause-restored : goal.returns-clause-restored
 returns-clause-restored g c =
     let tree = c.args.tree.now in
     let b = tree_batch tree in
-    let honest : IsHonestQuery b (proof_layer c.args.self.now (shape b)) c.args.indices.now =
+    let honest : IsHonestQuery b (cap_layer_over c.args.self.now (shape b)) c.args.indices.now =
     record {
       queried = record { well_shaped = tree.arity; below = c.requires; in_tree = omega arith };
       lawful = tree.lawful;

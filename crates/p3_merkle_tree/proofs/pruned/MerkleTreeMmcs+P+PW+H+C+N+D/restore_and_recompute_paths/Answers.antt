@@ -6,7 +6,7 @@ use Rattle.p3_merkle_core.specs.Geometry.{shape_of}
 use Rattle.p3_merkle_core.specs.Pruning.{pruned_of, restored_paths}
 use Rattle.p3_merkle_core.specs.Refusals.{AnswersUnlessMemory, pruned_refusal}
 use Rattle.p3_merkle_core.specs.Views.{pruned_lent, shown_paths}
-use Rattle.p3_merkle_tree.specs.Schemes.{compression_of, hash_of, proof_layer}
+use Rattle.p3_merkle_tree.specs.Schemes.{cap_layer_over, compression_of, hash_of}
 use Rattle.p3_merkle_tree.proofs.CheckFacts.{terms_alike}
 use Rattle.p3_merkle_tree.proofs.PrunedFacts.{restoring_verdict}
 use Rattle.p3_merkle_tree.proofs.pruned.MerkleTreeMmcs+P+PW+H+C+N+D.restore_and_recompute_paths.Goals as goal
@@ -16,15 +16,16 @@ returns g c =
     let scheme = c.args.self.now in
     let eq = g.P.Value.PartialEq.eq in
     let s = shape_of g.row.N c.args.dimensions.now in
-    let t = proof_layer scheme s in
+    let t = cap_layer_over scheme s in
     let p = pruned_lent c.args.indices.now c.args.rows.now c.args.proof.now in
     let alike = terms_alike g.H.CryptographicHasher.hash g.C.PseudoCompressionFunction.compression
     (replicate g.row.D g.PW.PackedValue.default_value) s c.checker-checker.result.hash.now (hash_of scheme)
-    c.checker-checker.result.compress.now (compression_of scheme) c.proof_levels-t.result t
-    c.checker-checker.ensures.hash c.checker-checker.ensures.compress c.proof_levels-t.ensures in
+    c.checker-checker.result.compress.now (compression_of scheme) c.cap_layer-cap_layer.result t
+    c.checker-checker.ensures.hash c.checker-checker.ensures.compress c.cap_layer-cap_layer.ensures in
     let sent = ap (pruned_of c.args.indices.now (row_sets c.args.rows.now)) c.as_slice-sent.ensures.value in
     let restored = c.restored_paths_of.result in
-    let answer = subst (AnswersUnlessMemory restored) (λ i. pruned_refusal eq s (c.proof_levels-t.ensures i) (sent i))
+    let answer = subst (AnswersUnlessMemory restored)
+    (λ i. pruned_refusal eq s (c.cap_layer-cap_layer.ensures i) (sent i))
     c.restored_paths_of.ensures.answer in
     record {
       verdict = restoring_verdict eq s t p g.met.P.PackedValue.eq_is_equality restored answer;

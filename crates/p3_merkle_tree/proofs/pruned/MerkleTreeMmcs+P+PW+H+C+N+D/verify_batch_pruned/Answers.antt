@@ -5,7 +5,7 @@ use Rattle.p3_merkle_core.specs.Geometry.{shape_of}
 use Rattle.p3_merkle_core.specs.Pruning.{pruned_of}
 use Rattle.p3_merkle_core.specs.Refusals.{AnswersUnlessMemory, pruned_refusal_under}
 use Rattle.p3_merkle_core.specs.Views.{pruned_lent}
-use Rattle.p3_merkle_tree.specs.Schemes.{compression_of, hash_of, proof_layer, terms_of}
+use Rattle.p3_merkle_tree.specs.Schemes.{cap_layer_over, compression_of, hash_of, terms_of}
 use Rattle.p3_merkle_tree.proofs.CheckFacts.{terms_alike}
 use Rattle.p3_merkle_tree.proofs.PrunedFacts.{pruned_verdict}
 use Rattle.p3_merkle_tree.proofs.pruned.MerkleTreeMmcs+P+PW+H+C+N+D.verify_batch_pruned.Goals as goal
@@ -18,8 +18,8 @@ returns g c =
     let s = shape_of g.row.N c.args.dimensions.now in
     let alike = terms_alike g.H.CryptographicHasher.hash g.C.PseudoCompressionFunction.compression
     (replicate g.row.D g.PW.PackedValue.default_value) s c.checker-checker.result.hash.now (hash_of scheme)
-    c.checker-checker.result.compress.now (compression_of scheme) c.proof_levels-t.result (proof_layer scheme s)
-    c.checker-checker.ensures.hash c.checker-checker.ensures.compress c.proof_levels-t.ensures in
+    c.checker-checker.result.compress.now (compression_of scheme) c.cap_layer-cap_layer.result (cap_layer_over scheme s)
+    c.checker-checker.ensures.hash c.checker-checker.ensures.compress c.cap_layer-cap_layer.ensures in
     let sent = ap (pruned_of c.args.indices.now (row_sets c.args.rows.now)) c.as_slice-sent.ensures.value in
     let answer = subst (AnswersUnlessMemory c.check_pruned_opening.result)
     (λ i. pruned_refusal_under eq same (alike i) (c.roots.ensures i) (sent i)) c.check_pruned_opening.ensures in

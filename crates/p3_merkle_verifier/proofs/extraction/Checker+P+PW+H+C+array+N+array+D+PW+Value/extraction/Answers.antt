@@ -15,7 +15,8 @@ returns-in_err-check_opening g c =
     let f = functions_of (g.H.CryptographicHasher.hash c.args.self.now.hash.now)
     (g.C.PseudoCompressionFunction.compression c.args.self.now.compress.now)
     (replicate g.row.D g.PW.PackedValue.default_value) in
-    let refusal = refusal_under g.PW.Value.PartialEq.eq (terms f (shape_of g.row.N c.args.dimensions.now) c.args.t)
+    let refusal = refusal_under g.PW.Value.PartialEq.eq
+    (terms f (shape_of g.row.N c.args.dimensions.now) c.args.cap_layer)
     c.args.roots.now in
     let p = err_from_is_err_and c.from_residual.result c.from_residual.ensures.1 in
     rw (p.1, p.2) (record {
@@ -29,7 +30,8 @@ returns-in_err-check_opening-2 g c =
     let f = functions_of (g.H.CryptographicHasher.hash c.args.self.now.hash.now)
     (g.C.PseudoCompressionFunction.compression c.args.self.now.compress.now)
     (replicate g.row.D g.PW.PackedValue.default_value) in
-    let refusal = refusal_under g.PW.Value.PartialEq.eq (terms f (shape_of g.row.N c.args.dimensions.now) c.args.t)
+    let refusal = refusal_under g.PW.Value.PartialEq.eq
+    (terms f (shape_of g.row.N c.args.dimensions.now) c.args.cap_layer)
     c.args.roots.now in
     let p = err_from_is_err_and c.from_residual-in_err-check_opening-2.result
     c.from_residual-in_err-check_opening-2.ensures.1 in
@@ -45,7 +47,8 @@ returns-clause-answer g c =
     let f = functions_of (g.H.CryptographicHasher.hash c.args.self.now.hash.now)
     (g.C.PseudoCompressionFunction.compression c.args.self.now.compress.now)
     (replicate g.row.D g.PW.PackedValue.default_value) in
-    let refusal = refusal_under g.PW.Value.PartialEq.eq (terms f (shape_of g.row.N c.args.dimensions.now) c.args.t)
+    let refusal = refusal_under g.PW.Value.PartialEq.eq
+    (terms f (shape_of g.row.N c.args.dimensions.now) c.args.cap_layer)
     c.args.roots.now in
     both_taken (refusal (opening_in c.args.first)) (refusal (opening_in c.args.second))
     (rw c.steps_of-steps.ensures.dimensions at c.in_ok-check_opening.ensures)
@@ -56,7 +59,7 @@ invariant_of-openings-clause-first_reaches g c =
     let f = functions_of (g.H.CryptographicHasher.hash c.args.self.now.hash.now)
     (g.C.PseudoCompressionFunction.compression c.args.self.now.compress.now)
     (replicate g.row.D g.PW.PackedValue.default_value) in
-    reach_from g.PW.Value.PartialEq.eq f (shape_of g.row.N c.args.dimensions.now) c.args.t c.args.roots.now
+    reach_from g.PW.Value.PartialEq.eq f (shape_of g.row.N c.args.dimensions.now) c.args.cap_layer c.args.roots.now
     (opening_in c.args.first) g.met.PW.PackedValue.eq_is_equality c.requires
     (rw c.steps_of-steps.ensures.dimensions at c.in_ok-check_opening.ensures)
 
@@ -65,6 +68,6 @@ invariant_of-openings-clause-second_reaches g c =
     let f = functions_of (g.H.CryptographicHasher.hash c.args.self.now.hash.now)
     (g.C.PseudoCompressionFunction.compression c.args.self.now.compress.now)
     (replicate g.row.D g.PW.PackedValue.default_value) in
-    reach_from g.PW.Value.PartialEq.eq f (shape_of g.row.N c.args.dimensions.now) c.args.t c.args.roots.now
+    reach_from g.PW.Value.PartialEq.eq f (shape_of g.row.N c.args.dimensions.now) c.args.cap_layer c.args.roots.now
     (opening_in c.args.second) g.met.PW.PackedValue.eq_is_equality c.requires
     (rw c.steps_of-steps.ensures.dimensions at c.in_ok-check_opening-2.ensures)

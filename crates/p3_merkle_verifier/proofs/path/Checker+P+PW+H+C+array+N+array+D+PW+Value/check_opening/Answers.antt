@@ -12,7 +12,7 @@ returns-then-is_entry g c =
     (g.C.PseudoCompressionFunction.compression c.args.self.now.compress.now)
     (replicate g.row.D g.PW.PackedValue.default_value) in
     let path = c.path_digest-digest in
-    answered_by_entry g.PW.Value.PartialEq.eq f (shape_of g.row.N c.args.steps.now.dimensions.now) c.args.t
+    answered_by_entry g.PW.Value.PartialEq.eq f (shape_of g.row.N c.args.steps.now.dimensions.now) c.args.cap_layer
     c.args.roots.now (opening_in c.args.opening) path.result.0 path.result.1 c.is_entry.result true
     (rw c.requires.arity at c.in_ok-check_form.ensures) path.ensures.digest path.ensures.node c.is_entry.ensures
     c.if-is_entry.true
@@ -23,7 +23,7 @@ returns-else-is_entry g c =
     (g.C.PseudoCompressionFunction.compression c.args.self.now.compress.now)
     (replicate g.row.D g.PW.PackedValue.default_value) in
     let path = c.path_digest-digest in
-    answered_by_entry g.PW.Value.PartialEq.eq f (shape_of g.row.N c.args.steps.now.dimensions.now) c.args.t
+    answered_by_entry g.PW.Value.PartialEq.eq f (shape_of g.row.N c.args.steps.now.dimensions.now) c.args.cap_layer
     c.args.roots.now (opening_in c.args.opening) path.result.0 path.result.1 c.is_entry.result false
     (rw c.requires.arity at c.in_ok-check_form.ensures) path.ensures.digest path.ensures.node c.is_entry.ensures
     c.if-is_entry.false

@@ -18,9 +18,9 @@ pub loop-level-preserved : goal.loop-level-preserved
 loop-level-preserved g c = rw add-one c.checked_level.ensures.stands
 
 pub returns-clause-digest : goal.returns-clause-digest
-returns-clause-digest g c = let here : c.loop-level.level ≡ c.args.t = omega arith in
+returns-clause-digest g c = let here : c.loop-level.level ≡ c.args.cap_layer = omega arith in
     rw (← here) c.loop-level.invariant.reached
 
 pub returns-clause-node : goal.returns-clause-node
-returns-clause-node g c = let here : c.loop-level.level ≡ c.args.t = omega arith in
+returns-clause-node g c = let here : c.loop-level.level ≡ c.args.cap_layer = omega arith in
     rw (← here) c.loop-level.invariant.at_node

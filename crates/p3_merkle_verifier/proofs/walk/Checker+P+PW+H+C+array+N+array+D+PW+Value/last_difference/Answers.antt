@@ -81,5 +81,5 @@ returns g c =
     let o = opening_in c.args.openings.now.first in
     let u = opening_in c.args.openings.now.second in
     let test = input_eq g.P.Value.PartialEq.eq g.PW.Value.PartialEq.eq in
-    let here : c.loop-level.level ≡ c.args.openings.now.t = omega arith in
-    rw (← difference_shared test f s o u c.args.openings.now.t, ← here) c.loop-level.invariant.found
+    let here : c.loop-level.level ≡ c.args.openings.now.cap_layer = omega arith in
+    rw (← difference_shared test f s o u c.args.openings.now.cap_layer, ← here) c.loop-level.invariant.found
