@@ -199,24 +199,35 @@ pub fn children_of<X: Copy>(
     requires { IsFamily step parents.now covered.now digests.now sent.now }
     ensures { IfOk result (λ children. AreChildren step parents.now covered.now digests.now sent.now children.items) }
 {
-    let count = step * parents.len();
-    let mut children = Vec::with_capacity(alloc, count)?;
+    let mut children = Vec::with_capacity(alloc, step * parents.len())?;
     let mut known = 0;
-    for place in 0..count {
-        let child = step * parents[place / step] + place % step;
-        if known < covered.len() && covered[known] == child {
-            children.push(digests[known])?;
-            known += 1;
-        } else {
-            children.push(sent[place - known])?;
+    for parent in parents {
+        let first = step * *parent;
+        for child in first..first + step {
+            if known < covered.len() && covered[known] == child {
+                children.push(digests[known])?;
+                known += 1;
+            } else {
+                children.push(sent[children.len() - known])?;
+            }
         }
     }
     Ok(children)
 }
 
+/// How many siblings a path through these levels has at most.
+fn num_siblings<X>(levels: &[KeptLevel<X>]) -> usize {
+    let mut count = 0usize;
+    for level in levels {
+        count = count.saturating_add(level.step - 1);
+    }
+    count
+}
+
 /// The siblings on the path of a leaf, out of the levels that a walk kept, from the leaves on: of each group on the
 /// path all values but the path's own, ascending. The path of a leaf that the walk did not cover has no siblings on the
-/// levels where no covered node is above it.
+/// levels where no covered node is above it. Takes memory for `room` siblings at once, and for more where there are
+/// more.
 ///
 /// # Errors
 ///
@@ -224,17 +235,17 @@ pub fn children_of<X: Copy>(
 fn path_out_of<X: Copy>(
     alloc: Global,
     levels: &[KeptLevel<X>],
+    room: usize,
     index: usize,
 ) -> Result<Vec<X>, AllocError>
     ensures { IfOk result (λ path.
         path.items ≡ path_out_of (map (λ level. (level.parents.items, level.step, level.children.items)) levels.now)
         index) }
 {
-    let mut path = Vec::new(alloc);
+    let mut path = Vec::with_capacity(alloc, room)?;
     let mut node = index;
     for level in levels {
-        extend_with_siblings(&mut path, level, node)?;
-        node /= level.step;
+        node = extend_with_siblings(&mut path, level, node)?;
     }
     Ok(path)
 }
@@ -254,9 +265,10 @@ pub fn paths_out_of<X: Copy>(
         ≡ paths_out_of (map (λ level. (level.parents.items, level.step, level.children.items)) levels.now)
         indices.now) }
 {
+    let room = num_siblings(levels);
     let mut paths = Vec::with_capacity(alloc, indices.len())?;
     for index in indices {
-        let siblings = path_out_of(alloc, levels, *index)?;
+        let siblings = path_out_of(alloc, levels, room, *index)?;
         paths.push(AuthPath {
             leaf_index: *index,
             siblings,
@@ -265,22 +277,25 @@ pub fn paths_out_of<X: Copy>(
     Ok(paths)
 }
 
-/// Adds the values of the siblings of a node to the end, where its parent is covered.
+/// Adds the values of the siblings of a node to the end, where its parent is covered, and answers the parent.
 fn extend_with_siblings<X: Copy>(
     path: &mut Vec<X>,
     level: &KeptLevel<X>,
     node: usize,
-) -> Result<(), AllocError>
-    ensures { IfOk result (λ done.
+) -> Result<usize, AllocError>
+    ensures siblings { IfOk result (λ parent.
         path.new.items
         ≡ path.old.items ++ siblings_out_of (level.now.parents.items, level.now.step, level.now.children.items)
         node) }
+    ensures parent { IfOk result (λ parent. parent ≡ node / level.now.step) }
 {
-    if let Ok(place) = level.parents.binary_search(&(node / level.step)) {
+    // The parent is divided for once: a division takes longer than the copies of a small group.
+    let parent = node / level.step;
+    if let Ok(place) = level.parents.binary_search(&parent) {
         let first = level.step * place;
-        let own = first + node % level.step;
+        let own = first + (node - level.step * parent);
         path.extend_from_slice(&level.children[first..own])?;
         path.extend_from_slice(&level.children[own + 1..first + level.step])?;
     }
-    Ok(())
+    Ok(parent)
 }

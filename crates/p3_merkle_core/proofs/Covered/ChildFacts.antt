@@ -8,6 +8,7 @@ use Rattle.std.proofs.lemmas.List.Filters.{length-filter_both, length-filter_mor
 use Rattle.std.proofs.lemmas.List.FromFn.{length-range_with_len, get_or-range_with_len}
 use Rattle.std.proofs.lemmas.List.{take_all}
 use Rattle.std.proofs.Math.Nat.{mul_comm, div-lt_iff_lt-mul}
+use Rattle.std.proofs.lemmas.Nat.{div-mul-add, mod-mul-add, mul-add-lt}
 use Rattle.p3_merkle_core.specs.Inner.Children.{AreChildren, IsFamily, beside, children_under, unknown_count}
 use Rattle.p3_support.specs.Lists.{is_among}
 use Rattle.p3_merkle_core.proofs.Lists.RisingFacts.{listed_at}
@@ -49,31 +50,21 @@ child_at n parents place h =
           rw place_is at at ∙ get_or-range_with_len (n * get_or parents i 0) n k 0 small
     ]
 
--- what holds of the child at a place: that it has a parent, and fits
-pub record IsPlaced (n : ℕ) (parents : List ℕ) (place : ℕ) : Type 0 where
-  pub some : 0 < n
-  pub parent : place / n < length parents
-  pub base : n * get_or parents (place / n) 0 < 2 ^ 64
-  pub child : n * get_or parents (place / n) 0 + place % n < 2 ^ 64
+-- a child of some parents, and its place among their children
+pub record IsPlaced (n : ℕ) (parents : List ℕ) (place child : ℕ) : Type 0 where
+  pub inside : place < n * length parents
+  pub child_is : child ≡ n * get_or parents (place / n) 0 + place % n
 
-pub is_placed : {X : Type 0} (n : ℕ) (parents covered : List ℕ) (digests sent : List X) →
-    IsFamily n parents covered digests sent → (place : ℕ) → place < n * length parents → IsPlaced n parents place
-is_placed n parents covered digests sent w place h =
-    elim (cases_eq n 0) [
-      | inl z ↦ absurd (let e : n * length parents ≡ 0 = rw z (omega arith) in omega arith)
-      | inr nz ↦
-          let some : 0 < n = omega arith in
-          let inside : place / n < length parents =
-          (div-lt_iff_lt-mul {k = n} some).1 (omega (arith, mul_comm n (length parents))) in
-          let low = w.low (place / n) 0 inside in
-          let small : place % n < n = omega arith in
-          record {
-            some = some;
-            parent = inside;
-            base = omega arith;
-            child = omega arith;
-          }
-    ]
+-- the place of a child of the parent at place i
+pub placed_at : (n i : ℕ) (parents : List ℕ) (first child : ℕ) → first ≡ n * get_or parents i 0 → i < length parents →
+    first ≤ child → child < first + n → IsPlaced n parents (n * i + (child - first)) child
+placed_at n i parents first child is h above below =
+    let k = child - first in
+    let small : k < n = omega arith in
+    record {
+      inside = rw (mul_comm n i) (mul-add-lt i n k (length parents) h small);
+      child_is = rw (mul_comm n i, div-mul-add i n k small, mod-mul-add i n k small) (omega arith);
+    }
 
 -- ---- what stands beside
 

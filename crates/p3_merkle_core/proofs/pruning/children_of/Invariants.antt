@@ -1,8 +1,14 @@
+use Rattle.std.proofs.Common.{◌+◌, ◌-◌, ◌*◌}
 use Rattle.p3_merkle_core.specs.Inner.Children.{children_under}
 use Rattle.p3_merkle_core.proofs.Covered.ChildFacts.{IsWalked}
 use Rattle.p3_merkle_core.proofs.pruning.children_of.Given as goal
 
--- the values of the children so far, of which `known` are covered
-abbrev pub invariant-loop-place : goal.invariant-loop-place
-invariant-loop-place g l = IsWalked l.covered (children_under l.step l.parents) l.digests l.sent l.place l.known
-    l.children.items
+-- the values of the children of the parents so far, of which `known` are covered
+abbrev pub invariant-loop-parent : goal.invariant-loop-parent
+invariant-loop-parent g l = IsWalked l.covered (children_under l.step l.parents) l.digests l.sent
+    (l.step * l.parent-index) l.known l.children.items
+
+-- and of those of this parent so far
+abbrev pub invariant-loop-child : goal.invariant-loop-child
+invariant-loop-child g l = IsWalked l.covered (children_under l.step l.parents) l.digests l.sent
+    (l.step * l.parent-index + (l.child - l.first)) l.known l.children.items

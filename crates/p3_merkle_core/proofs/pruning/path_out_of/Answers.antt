@@ -7,14 +7,14 @@ use Rattle.p3_merkle_core.proofs.pruning.path_out_of.Goals as goal
 pub loop-level-init : goal.loop-level-init
 loop-level-init g c =
     path_start (map (λ level. (level.parents.items, level.step, level.children.items)) c.args.levels.now) c.args.index
-    c.new-path.result.items c.new-path.ensures.items
+    c.in_ok-path.path.items c.in_ok-path.ensures.items
 
 pub loop-level-preserved : goal.loop-level-preserved
 loop-level-preserved g c =
-    path_more (λ level. (level.parents.items, level.step, level.children.items)) c.args.levels.now c.args.index
+    rw c.in_ok-node.ensures.parent (path_more (λ level. (level.parents.items, level.step, level.children.items)) c.args.levels.now c.args.index
     c.loop-level.level-index c.loop-level.node c.level-item.result c.loop-level.path.items
     c.extend_with_siblings.new.path.items c.loop-level-test.true c.level-item.is
-    c.loop-level.invariant c.in_ok-extend_with_siblings.ensures
+    c.loop-level.invariant c.in_ok-node.ensures.siblings)
 
 pub returns : goal.returns
 returns g c =
