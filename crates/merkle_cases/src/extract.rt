@@ -97,17 +97,7 @@ pub fn collision_of_leaves<const N: usize>(
     first: &LeavesOpening,
     second: &LeavesOpening,
 ) -> Result<Option<(usize, usize, Collision<u32, u32, 1>)>, MerkleTreeError> {
-    scheme.extract_collision_multi(
-        alloc,
-        cap,
-        dimensions,
-        &first.indices,
-        &first.rows,
-        &first.proof,
-        &second.indices,
-        &second.rows,
-        &second.proof,
-    )
+    scheme.extract_collision_multi(alloc, cap, dimensions, first.lent(), second.lent())
 }
 
 /// `extract | ARITY | CAP | CAP | DIMENSIONS | INDEX | ROWS | SIBLINGS | INDEX | ROWS | SIBLINGS | ANSWER`: what

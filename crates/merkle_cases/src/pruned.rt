@@ -11,6 +11,7 @@ use crate::text::Answer;
 use p3_merkle_core::pruning::{PrunedProof, check_indices};
 use p3_merkle_tree::{
     BatchOpeningRef, MerkleAuthPath, MerkleCap, MerkleTreeError, PrunedMerklePaths,
+    PrunedOpeningRef,
 };
 use p3_support::matrix::Dimensions;
 use std::alloc::Global;
@@ -97,6 +98,11 @@ impl LeavesOpening {
             rows: Vec::new(alloc),
             proof: PrunedProof { sibling_hashes },
         }
+    }
+
+    /// The opening, lent.
+    pub fn lent(&self) -> PrunedOpeningRef<'_, u32, PrunedMerklePaths<u32, 1>> {
+        PrunedOpeningRef::new(&self.indices, &self.rows, &self.proof)
     }
 
     /// Whether it has too many queries to compare each with each.

@@ -16,7 +16,9 @@ use crate::twin::{
 use crate::verify::LeafOpening;
 use p3_merkle_core::geometry::tallest_of;
 use p3_merkle_core::pruning::check_indices;
-use p3_merkle_tree::{BatchOpeningRef, MerkleAuthPath, Place, PrunedBatchOpening};
+use p3_merkle_tree::{
+    BatchOpeningRef, MerkleAuthPath, Place, PrunedBatchOpening, PrunedOpeningRef,
+};
 use p3_support::matrix::Dimensions;
 use std::alloc::Global;
 
@@ -176,9 +178,9 @@ fn check_twin<const N: usize>(
 ) -> Result<(), Fault> {
     let Opened { indices, opening } = opened;
     let (rows, proof) = (&opening.opened_values, &opening.pruned_proof);
-    let found = scheme.extract_collision_multi(
-        alloc, cap, dimensions, indices, rows, proof, indices, twin, proof,
-    )?;
+    let honest = PrunedOpeningRef::new(indices, rows, proof);
+    let forged = PrunedOpeningRef::new(indices, twin, proof);
+    let found = scheme.extract_collision_multi(alloc, cap, dimensions, honest, forged)?;
     if collides_first_at(&found, place) {
         Ok(())
     } else {

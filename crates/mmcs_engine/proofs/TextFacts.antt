@@ -1,10 +1,11 @@
 -- Lines behind lines.
-use Rattle.std.proofs.Common.{◌≡◌, ℕ, ◌+◌, ◌<◌, List, [], ◌++◌, length, get_or, take, map, sym, ap, ◌∙◌, append_assoc}
-use Rattle.std.specs.Prelude.{codes, flat_map}
+use Rattle.std.proofs.Common.{◌≡◌, ℕ, ◌+◌, ◌<◌, List, [], ◌++◌, length, get_or, take, map, sym, ap, subst, ◌∙◌, append_assoc, Result}
+use Rattle.std.specs.Prelude.{codes, flat_map, OnOk}
 use Rattle.std.proofs.lemmas.List.{flat_map_more, get_or-map, take_more}
 use Rattle.p3_merkle_core.specs.Nodes.{Batch}
 use Rattle.p3_merkle_core.specs.Openings.{honest_rows}
-use Rattle.mmcs_text.specs.Text.{labelled, query_lines, row_line}
+use Rattle.mmcs_text.proofs.MatrixFacts.{digests_plain}
+use Rattle.mmcs_text.specs.Text.{hex_lines, labelled, query_lines, row_line}
 
 -- what is opened of one more index
 pub queries_more : (b : Batch ℕ) (sets : List (List (List ℕ))) (indices : List ℕ) (k index : ℕ)
@@ -24,3 +25,10 @@ queries_more b sets indices k index old before named after sets_are within index
     ∙ ap (λ t. t ++ F own) before_is
     ∙ flat_map_more F old (take k indices) own
     ∙ ap (λ xs. old ++ flat_map F xs) (sym (take_more indices k 0 within))
+
+-- digests of numbers, each read as it is
+pub digests_plainly : {V E : Type 0} (width : ℕ) (digests own : List (List ℕ)) (old new : List ℕ)
+    (result : Result V E) → digests ≡ own → OnOk result (new ≡ old ++ hex_lines width (map (map (λ n. n)) digests)) →
+    OnOk result (new ≡ old ++ hex_lines width own)
+digests_plainly width digests own old new result same printed =
+    subst (λ (ds : List (List ℕ)). OnOk result (new ≡ old ++ hex_lines width ds)) (digests_plain digests ∙ same) printed

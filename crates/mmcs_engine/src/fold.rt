@@ -13,7 +13,7 @@ use crate::suite::Suite;
 use mmcs_text::command::CapChoice;
 use mmcs_text::fault::Fault;
 use mmcs_text::input::read_matrices;
-use mmcs_text::text::{push_rows, push_word_digests};
+use mmcs_text::text::{push_digests, push_rows};
 use p3_instances::fold::{FoldCompress, FoldHash};
 use p3_merkle_tree::{MerkleCap, MerkleTree, MerkleTreeError, MerkleTreeMmcs, PrunedBatchOpening};
 use p3_support::compress::PseudoCompressionFunction;
@@ -107,7 +107,7 @@ impl<const N: usize> Suite<N> for Fold {
     }
 
     fn push_cap(text: &mut Vec<u8>, cap: &Self::Cap) -> Result<(), AllocError> {
-        push_word_digests(text, cap.roots())
+        push_digests(text, cap.roots())
     }
 
     fn push_rows(
@@ -124,6 +124,6 @@ impl<const N: usize> Suite<N> for Fold {
     }
 
     fn push_digests(text: &mut Vec<u8>, opening: &Self::Opening) -> Result<(), AllocError> {
-        push_word_digests(text, &opening.pruned_proof.sibling_hashes)
+        push_digests(text, &opening.pruned_proof.sibling_hashes)
     }
 }

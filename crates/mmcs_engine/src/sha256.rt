@@ -13,8 +13,8 @@ use crate::suite::Suite;
 use mmcs_text::command::CapChoice;
 use mmcs_text::fault::Fault;
 use mmcs_text::input::read_matrices;
-use mmcs_text::text::{push_byte_digests, push_rows};
-use p3_instances::sha::{Sha256Nodes, Sha256Rows};
+use mmcs_text::text::{push_digests, push_rows};
+use p3_instances::sha_eights::{Sha256NodesInEights, Sha256RowsInEights};
 use p3_merkle_tree::{MerkleCap, MerkleTree, MerkleTreeError, MerkleTreeMmcs, PrunedBatchOpening};
 use p3_support::compress::PseudoCompressionFunction;
 use p3_support::hasher::CryptographicHasher;
@@ -24,14 +24,19 @@ use std::alloc::{AllocError, Global};
 /// The scheme of SHA-256, under this choice of a cap. The arity is 2, 4 or 8.
 fn sha_scheme<const N: usize>(
     cap: CapChoice,
-) -> MerkleTreeMmcs<u8, u8, Sha256Rows, Sha256Nodes<N>, N, 32>
+) -> MerkleTreeMmcs<u8, u8, Sha256RowsInEights, Sha256NodesInEights<N>, N, 32>
     requires { IsTrue (is_taken_arity N) }
-    ensures functions { scheme_functions ⟦<Sha256Rows as CryptographicHasher<u8, u8, 32>>⟧.hash
-        ⟦<Sha256Nodes<N> as PseudoCompressionFunction<u8, N, 32>>⟧.compression 32 result ≡ sha_functions }
+    ensures functions { scheme_functions ⟦<Sha256RowsInEights as CryptographicHasher<u8, u8, 32>>⟧.hash
+        ⟦<Sha256NodesInEights<N> as PseudoCompressionFunction<u8, N, 32>>⟧.compression 32 result ≡ sha_functions }
     ensures cap_height { cap_height_of result ≡ cap.height }
     ensures rule { cap_rule_of result ≡ cap.rule }
 {
-    MerkleTreeMmcs::new_with_rule(Sha256Rows, Sha256Nodes::<N>, cap.height, cap.rule)
+    MerkleTreeMmcs::new_with_rule(
+        Sha256RowsInEights,
+        Sha256NodesInEights::<N>,
+        cap.height,
+        cap.rule,
+    )
 }
 
 /// SHA-256.
@@ -107,7 +112,7 @@ impl<const N: usize> Suite<N> for Sha256 {
     }
 
     fn push_cap(text: &mut Vec<u8>, cap: &Self::Cap) -> Result<(), AllocError> {
-        push_byte_digests(text, cap.roots())
+        push_digests(text, cap.roots())
     }
 
     fn push_rows(
@@ -124,6 +129,6 @@ impl<const N: usize> Suite<N> for Sha256 {
     }
 
     fn push_digests(text: &mut Vec<u8>, opening: &Self::Opening) -> Result<(), AllocError> {
-        push_byte_digests(text, &opening.pruned_proof.sibling_hashes)
+        push_digests(text, &opening.pruned_proof.sibling_hashes)
     }
 }

@@ -104,6 +104,11 @@ pub rows_plain : {A : Type 0} (rows : List (Vec ℕ A)) → map (λ (row : Vec �
 rows_plain [] = refl
 rows_plain (row ∷ rows) = λ i. map-id row.items i ∷ rows_plain rows i
 
+-- and so are digests
+pub digests_plain : (digests : List (List ℕ)) → map (map (λ n. n)) digests ≡ digests
+digests_plain [] = refl
+digests_plain (digest ∷ digests) = λ i. map-id digest i ∷ digests_plain digests i
+
 -- the dimensions of stored matrices
 pub stored_dimensions : (stored : List (RowMajorMatrix ℕ)) (arity : ℕ) → dimensions_in row_count row_width stored
     ≡ (shape (stored_batch arity stored)).dimensions

@@ -6,92 +6,55 @@ ghost use Rattle.mmcs_text.specs.Text.{hex_digit, hex_lines, hex_word, labelled,
 use crate::word::Word;
 use std::alloc::{AllocError, Global};
 
-/// Appends a line for each digest: its words in lower case hexadecimal, eight digits each.
+/// Appends a line for each digest: its words in lower case hexadecimal, without a gap.
 ///
 /// # Errors
 ///
 /// `AllocError` where there is no memory.
-pub fn push_word_digests<const D: usize>(
+pub fn push_digests<W: Word, const D: usize>(
     text: &mut Vec<u8>,
-    digests: &[[u32; D]],
+    digests: &[[W; D]],
 ) -> Result<(), AllocError>
-    ensures { OnOk result (text.new.items ≡ text.old.items ++ hex_lines 8 digests.now) }
+    ensures { OnOk result
+        (text.new.items ≡ text.old.items ++ hex_lines W.HEX_DIGITS (map (map W.value) digests.now)) }
 {
     for digest in digests {
-        push_words(text, digest)?;
+        push_hex_words(text, digest)?;
         text.push(b'\n')?;
     }
     Ok(())
 }
 
-/// Appends words in hexadecimal, eight digits each.
+/// Appends words in hexadecimal, `W::HEX_DIGITS` digits each.
 ///
 /// # Errors
 ///
 /// `AllocError` where there is no memory.
-fn push_words(text: &mut Vec<u8>, words: &[u32]) -> Result<(), AllocError>
-    ensures { OnOk result (text.new.items ≡ text.old.items ++ flat_map (hex_word 8) words.now) }
+fn push_hex_words<W: Word>(text: &mut Vec<u8>, words: &[W]) -> Result<(), AllocError>
+    ensures { OnOk result
+        (text.new.items ≡ text.old.items ++ flat_map (hex_word W.HEX_DIGITS) (map W.value words.now)) }
 {
     for word in words {
-        text.extend_from_slice(&digits_of_word(*word))?;
+        let digits = hex_digits(word.to_number());
+        text.extend_from_slice(&digits[8 - W::HEX_DIGITS..])?;
     }
     Ok(())
 }
 
-/// The eight digits of a word.
-fn digits_of_word(word: u32) -> [u8; 8]
-    ensures { result ≡ hex_word 8 word }
+/// The eight digits of a number in hexadecimal.
+fn hex_digits(number: u32) -> [u8; 8]
+    ensures { result ≡ hex_word 8 number }
 {
     [
-        hex_digit(word / 0x1000_0000 % 16),
-        hex_digit(word / 0x100_0000 % 16),
-        hex_digit(word / 0x10_0000 % 16),
-        hex_digit(word / 0x1_0000 % 16),
-        hex_digit(word / 0x1000 % 16),
-        hex_digit(word / 0x100 % 16),
-        hex_digit(word / 0x10 % 16),
-        hex_digit(word % 16),
+        hex_digit(number / 0x1000_0000 % 16),
+        hex_digit(number / 0x100_0000 % 16),
+        hex_digit(number / 0x10_0000 % 16),
+        hex_digit(number / 0x1_0000 % 16),
+        hex_digit(number / 0x1000 % 16),
+        hex_digit(number / 0x100 % 16),
+        hex_digit(number / 0x10 % 16),
+        hex_digit(number % 16),
     ]
-}
-
-/// Appends a line for each digest: its bytes in lower case hexadecimal, two digits each.
-///
-/// # Errors
-///
-/// `AllocError` where there is no memory.
-pub fn push_byte_digests<const D: usize>(
-    text: &mut Vec<u8>,
-    digests: &[[u8; D]],
-) -> Result<(), AllocError>
-    ensures { OnOk result (text.new.items ≡ text.old.items ++ hex_lines 2 digests.now) }
-{
-    for digest in digests {
-        push_bytes(text, digest)?;
-        text.push(b'\n')?;
-    }
-    Ok(())
-}
-
-/// Appends bytes in hexadecimal, two digits each.
-///
-/// # Errors
-///
-/// `AllocError` where there is no memory.
-fn push_bytes(text: &mut Vec<u8>, bytes: &[u8]) -> Result<(), AllocError>
-    ensures { OnOk result (text.new.items ≡ text.old.items ++ flat_map (hex_word 2) bytes.now) }
-{
-    for byte in bytes {
-        text.extend_from_slice(&digits_of_byte(*byte))?;
-    }
-    Ok(())
-}
-
-/// The two digits of a byte.
-fn digits_of_byte(byte: u8) -> [u8; 2]
-    ensures { result ≡ hex_word 2 byte }
-{
-    let byte = u32::from(byte);
-    [hex_digit(byte / 16), hex_digit(byte % 16)]
 }
 
 /// A digit in lower case hexadecimal, of a number below 16.

@@ -1,16 +1,20 @@
-//! The words of rows.
+//! The words of rows and of digests.
 
 ghost use Rattle.std.specs.Prelude.{◌≡◌, ℕ, ◌≤◌};
+ghost use Rattle.std.proofs.Common.{rules};
 
-/// A word of a row: a number from 0 to `MAX`.
+/// A word of a row or of a digest: a number from 0 to `MAX`.
 pub trait Word: Copy {
     /// The greatest of them.
     const MAX: u32;
+    /// How many digits a word is printed with in hexadecimal, at most 8.
+    const HEX_DIGITS: usize;
 
-    // The constant above.
+    // The constants above, and which number a word is.
     ghost MAX: { ℕ };
 
-    // Which number a word is.
+    ghost HEX_DIGITS: { ℕ };
+
     ghost value: { Self → ℕ };
 
     /// The word of a number that is at most `MAX`.
@@ -21,12 +25,19 @@ pub trait Word: Copy {
     /// Its number.
     fn to_number(self) -> u32
         ensures { result ≡ value self };
+
+    // Its digits are among those of 32 bits.
+    ghost at_most_eight: { HEX_DIGITS ≤ 8 };
 }
 
 impl Word for u8 {
     const MAX: u32 = 255;
 
+    const HEX_DIGITS: usize = 2;
+
     ghost MAX = { 255 };
+
+    ghost HEX_DIGITS = { 2 };
 
     ghost value = { λ byte. byte };
 
@@ -37,12 +48,18 @@ impl Word for u8 {
     fn to_number(self) -> u32 {
         u32::from(self)
     }
+
+    ghost at_most_eight = { Prim.search rules };
 }
 
 impl Word for u32 {
     const MAX: u32 = u32::MAX;
 
+    const HEX_DIGITS: usize = 8;
+
     ghost MAX = { 4294967295 };
+
+    ghost HEX_DIGITS = { 8 };
 
     ghost value = { λ word. word };
 
@@ -53,4 +70,6 @@ impl Word for u32 {
     fn to_number(self) -> u32 {
         self
     }
+
+    ghost at_most_eight = { Prim.search rules };
 }

@@ -1,48 +1,57 @@
-//! Why a pruned opening is refused, whatever the cap: by its form, or where its rows disagree. Queries of one index
-//! have one row set, and queries under one node the same rows of the matrices of its layer. Nothing here hashes.
+//! The checks of a pruned opening that need no cap and no hash: its form, and whether its rows agree. Rows agree where
+//! queries of one index have one row set, and queries under one node have the same rows of the matrices that belong to
+//! the node's layer.
 
-ghost use Rattle.std.specs.Prelude.{◌≡◌, ℕ, ◌-◌, ◌/◌, ◌<◌, ◌≤◌, ◌⊎◌, Some, None, List, [], All, length, map, slice_index, slice_index_or, IfOk, IsTrue, MatchResult};
-ghost use Rattle.p3_merkle_core.specs.Inner.Agreement.{distinct, early_refusal, first_query, late_refusal, layers_refusal, nodes_refusal, opened_of, opened_with, rows_refusal, slot_rows, HasSlots, IsAscending, IsSlot};
+ghost use Rattle.std.specs.Prelude.{◌≡◌, ℕ, ◌-◌, ◌/◌, ◌<◌, ◌≤◌, ◌⊎◌, Some, None, List, [], All, length, map, not, slice_index, slice_index_or, IfOk, IsTrue, MatchResult};
+ghost use Rattle.std.specs.Cmp.Lexicographic.{pointwise};
+ghost use Rattle.std.specs.List.Sorted.{IsStrictlyIncreasing};
+ghost use Rattle.p3_merkle_core.specs.Inner.Agreement.{distinct, early_refusal, first_query, late_refusal, layers_refusal, matrices_with, nodes_refusal, opened_of, opened_with, rows_refusal, slot_rows, AreDistinctOf, IsAscending, IsSlot};
 ghost use Rattle.p3_support.specs.Lists.{is_among};
 ghost use Rattle.p3_support.specs.Batches.{heights_of, greatest};
 ghost use Rattle.p3_support.specs.Shown.{row_lists, row_sets};
-ghost use Rattle.p3_merkle_core.specs.Geometry.{levels, height_limit, shape_of, IsArity, step};
+ghost use Rattle.p3_merkle_core.specs.Geometry.{levels, height_limit, shape_of, IsArity};
 ghost use Rattle.p3_merkle_core.specs.declared.error.MerkleTreeError.TheVariants.{OutOfMemory};
 ghost use Rattle.p3_merkle_core.specs.Pruning.{pruned_len};
 ghost use Rattle.p3_merkle_core.specs.Refusals.{digest_count_refusal, first_of, idle_refusal, pruned_refusal, repeat_refusal, width_refusal, AnswersUnlessMemory};
 
 use crate::error::{MerkleTreeError, PrunedProofError};
-use crate::geometry::{
-    check_heights, check_widths, exponent_of, has_exponent, select_arity_step, tallest_of,
-};
-use crate::pruning::{boundary_len_of, check_indices, covered_leaves};
+use crate::geometry::{check_widths, exponent_of};
+use crate::pruning::{check_indices, covered_leaves, to_parents};
+use crate::steps::{Steps, steps_of};
 use p3_support::matrix::Dimensions;
 use std::alloc::{AllocError, Global};
 
-/// The slots of some queries: a slot for each distinct index, in the order of the indices.
+/// The distinct indices of some queries, ascending, and the first query of each. The slot of an index is its place
+/// here.
 #[derive(Debug, Drop)]
-pub struct Slots {
-    /// The index of each slot, ascending.
-    pub leaves: Vec<usize>,
-    /// For each slot the place, among the queries, of the first one of its index.
-    pub firsts: Vec<usize>,
+pub struct DistinctIndices {
+    /// The distinct indices, ascending.
+    pub indices: Vec<usize>,
+    /// For each of them, the place of its first query among the queries.
+    pub first_queries: Vec<usize>,
 }
 
-/// The slots of some indices. Takes memory for all indices, and the time of a sort.
+/// The distinct indices of some queries. Sorts them once. Takes memory for two numbers an index.
 ///
 /// # Errors
 ///
 /// `AllocError` where there is no memory.
-fn slots_of(alloc: Global, indices: &[usize]) -> Result<Slots, AllocError>
-    ensures { IfOk result (λ slots. HasSlots slots indices.now) }
+fn distinct_indices_of(alloc: Global, indices: &[usize]) -> Result<DistinctIndices, AllocError>
+    ensures { IfOk result (λ queried. AreDistinctOf queried indices.now) }
 {
-    let leaves = covered_leaves(alloc, indices)?;
-    let firsts = first_queries(alloc, &leaves, indices)?;
-    Ok(Slots { leaves, firsts })
+    let distinct = covered_leaves(alloc, indices)?;
+    let first_queries = first_queries(alloc, &distinct, indices)?;
+    Ok(DistinctIndices {
+        indices: distinct,
+        first_queries,
+    })
 }
 
-/// For each of the distinct indices, ascending, the place of its first query: the last that is written, since the
-/// queries are gone through from the last one.
+/// The place of the first query of each distinct index, in their order.
+///
+/// # Errors
+///
+/// `AllocError` where there is no memory.
 fn first_queries(
     alloc: Global,
     leaves: &[usize],
@@ -51,15 +60,16 @@ fn first_queries(
     requires { leaves.now ≡ distinct indices.now }
     ensures { IfOk result (λ firsts. firsts.items ≡ map (first_query indices.now) (distinct indices.now)) }
 {
-    let mut firsts = vec![in alloc; indices.len(); leaves.len()]?;
+    let mut first_queries = vec![in alloc; indices.len(); leaves.len()]?;
+    // From the last query on, so that the first one of an index is written last.
     for query in (0..indices.len()).rev() {
         let slot = slot_of_index(leaves, indices[query]);
-        firsts[slot] = query;
+        first_queries[slot] = query;
     }
-    Ok(firsts)
+    Ok(first_queries)
 }
 
-/// The slot of an index that is queried: its place among the distinct indices, ascending.
+/// The slot of an index that is queried: its place among the distinct indices, which ascend.
 fn slot_of_index(leaves: &[usize], index: usize) -> usize
     ensures { (indices : List ℕ) → leaves.now ≡ distinct indices → IsTrue (is_among indices index) →
         IsSlot indices index result }
@@ -70,7 +80,17 @@ fn slot_of_index(leaves: &[usize], index: usize) -> usize
     }
 }
 
-/// Whether each query has the row set of the first query of its index.
+/// Whether two queries have different row sets. Nothing is compared where both are the same query.
+fn have_other_rows<T: Eq>(rows: &[Vec<Vec<T>>], query: usize, first: usize) -> bool
+    requires query { query < length rows.now }
+    requires first { first < length rows.now }
+    ensures { let sets = row_sets rows.now in
+        result ≡ not (pointwise (pointwise T.eq) (slice_index_or sets query []) (slice_index_or sets first [])) }
+{
+    query != first && rows[query] != rows[first]
+}
+
+/// Checks that each query has the row set of the first query of its index.
 ///
 /// # Errors
 ///
@@ -78,63 +98,62 @@ fn slot_of_index(leaves: &[usize], index: usize) -> usize
 fn check_repeats<T: Eq>(
     indices: &[usize],
     rows: &[Vec<Vec<T>>],
-    slots: &Slots,
+    queried: &DistinctIndices,
 ) -> Result<(), MerkleTreeError>
-    requires slots { HasSlots slots.now indices.now }
+    requires queried { AreDistinctOf queried.now indices.now }
     requires pairs { length indices.now ≡ length rows.now }
     ensures { let p = opened_of indices.now (row_sets rows.now) in
         MatchResult result (λ ok. repeat_refusal T.eq p ≡ None) (λ e. repeat_refusal T.eq p ≡ Some e) }
 {
     for query in 0..indices.len() {
-        let slot = slot_of_index(&slots.leaves, indices[query]);
-        if rows[query] != rows[slots.firsts[slot]] {
+        let slot = slot_of_index(&queried.indices, indices[query]);
+        if have_other_rows(rows, query, queried.first_queries[slot]) {
             return Err(PrunedProofError::InconsistentDuplicateOpenings { slot }.into());
         }
     }
     Ok(())
 }
 
-/// Whether the row set of each of some queries has one row for each matrix, each as wide as its matrix.
+/// Checks that the row set of each of some queries has one row for each matrix, as wide as its matrix.
 ///
 /// # Errors
 ///
-/// `WrongBatchSize` or `WrongWidth` for the first query whose row set has not, as [`check_widths`] says.
+/// What [`check_widths`] answers, for the first query that it refuses.
 fn check_first_widths<T>(
     dimensions: &[Dimensions],
     rows: &[Vec<Vec<T>>],
-    firsts: &[usize],
+    first_queries: &[usize],
 ) -> Result<(), MerkleTreeError>
-    requires { All (λ query. query < length rows.now) firsts.now }
+    requires { All (λ query. query < length rows.now) first_queries.now }
     ensures { let refusal = first_of
-        (λ query. width_refusal dimensions.now (slice_index_or (row_sets rows.now) query [])) firsts.now in
+        (λ query. width_refusal dimensions.now (slice_index_or (row_sets rows.now) query [])) first_queries.now in
         MatchResult result (λ ok. refusal ≡ None) (λ e. refusal ≡ Some e) }
 {
-    for query in firsts {
+    for query in first_queries {
         check_widths(dimensions, &rows[*query])?;
     }
     Ok(())
 }
 
-/// Whether a slot has the lead's rows of the matrices of the exponent `x`.
+/// Checks that a slot has the lead's rows of some matrices, which are given by their places.
 ///
 /// # Errors
 ///
 /// `InconsistentGroupOpening` for the first row that is another.
 fn check_same_rows<T: Eq>(
-    dimensions: &[Dimensions],
-    x: usize,
+    matrices: &[usize],
     slot: usize,
     rows: &[Vec<T>],
     lead: &[Vec<T>],
 ) -> Result<(), MerkleTreeError>
-    requires rows { length rows.now ≡ length dimensions.now }
-    requires lead { length lead.now ≡ length dimensions.now }
-    ensures { let refusal = rows_refusal T.eq (heights_of dimensions.now) x slot (row_lists rows.now)
-        (row_lists lead.now) in
+    requires rows { All (λ matrix. matrix < length rows.now) matrices.now }
+    requires lead { All (λ matrix. matrix < length lead.now) matrices.now }
+    ensures { let refusal = rows_refusal T.eq matrices.now slot (row_lists rows.now) (row_lists lead.now) in
         MatchResult result (λ ok. refusal ≡ None) (λ e. refusal ≡ Some e) }
 {
-    for matrix in 0..dimensions.len() {
-        if exponent_of(dimensions[matrix].height) == x && rows[matrix] != lead[matrix] {
+    for matrix in matrices {
+        let matrix = *matrix;
+        if rows[matrix] != lead[matrix] {
             return Err(PrunedProofError::InconsistentGroupOpening { slot, matrix }.into());
         }
     }
@@ -157,68 +176,81 @@ fn lead_of(nodes: &[usize], slot: usize, lead: usize) -> usize
 }
 
 /// The row set of a slot's first query.
-fn rows_of_slot<'a, T>(rows: &'a [Vec<Vec<T>>], firsts: &[usize], slot: usize) -> &'a [Vec<T>]
-    requires inside { slot < length firsts.now }
-    requires queries { All (λ query. query < length rows.now) firsts.now }
-    ensures { row_lists result.now ≡ slot_rows firsts.now (row_sets rows.now) slot }
+fn rows_of_slot<'a, T>(
+    rows: &'a [Vec<Vec<T>>],
+    first_queries: &[usize],
+    slot: usize,
+) -> &'a [Vec<T>]
+    requires inside { slot < length first_queries.now }
+    requires queries { All (λ query. query < length rows.now) first_queries.now }
+    ensures { row_lists result.now ≡ slot_rows first_queries.now (row_sets rows.now) slot }
 {
-    &rows[firsts[slot]]
+    &rows[first_queries[slot]]
 }
 
-/// Whether slots under one node have the same rows of the matrices of the exponent `x`: each slot is compared with the
-/// lowest one under its node. The nodes of the slots ascend. No slot is looked at where no matrix has the exponent.
+/// Checks that slots under one node have the same rows of the matrices of its layer. The lowest slot under a node is
+/// its lead, and each other one is compared with it. The nodes of the slots ascend.
 ///
 /// # Errors
 ///
 /// `InconsistentGroupOpening` for the first slot, and its first row, that differs.
 fn check_layer<T: Eq>(
-    dimensions: &[Dimensions],
-    x: usize,
+    matrices: &[usize],
     nodes: &[usize],
-    firsts: &[usize],
+    first_queries: &[usize],
     rows: &[Vec<Vec<T>>],
 ) -> Result<(), MerkleTreeError>
-    requires pairs { length nodes.now ≡ length firsts.now }
+    requires pairs { length nodes.now ≡ length first_queries.now }
     requires ascending { IsAscending nodes.now }
-    requires queries { All (λ query. query < length rows.now) firsts.now }
-    requires full { (k : ℕ) → k < length firsts.now → length (slot_rows firsts.now (row_sets rows.now) k) ≡
-        length dimensions.now }
-    ensures { let refusal = nodes_refusal T.eq (heights_of dimensions.now) x nodes.now firsts.now (row_sets rows.now) in
+    requires queries { All (λ query. query < length rows.now) first_queries.now }
+    requires full { (k : ℕ) → k < length first_queries.now →
+        All (λ matrix. matrix < length (slot_rows first_queries.now (row_sets rows.now) k)) matrices.now }
+    ensures { let refusal = nodes_refusal T.eq matrices.now nodes.now first_queries.now (row_sets rows.now) in
         MatchResult result (λ ok. refusal ≡ None) (λ e. refusal ≡ Some e) }
 {
-    if !has_exponent(dimensions, x) {
-        return Ok(());
-    }
     let mut lead = 0;
     for slot in 0..nodes.len() {
         lead = lead_of(nodes, slot, lead);
-        let rows_of_lead = rows_of_slot(rows, firsts, lead);
-        check_same_rows(
-            dimensions,
-            x,
-            slot,
-            rows_of_slot(rows, firsts, slot),
-            rows_of_lead,
-        )?;
+        if lead != slot {
+            let rows_of_lead = rows_of_slot(rows, first_queries, lead);
+            check_same_rows(
+                matrices,
+                slot,
+                rows_of_slot(rows, first_queries, slot),
+                rows_of_lead,
+            )?;
+        }
     }
     Ok(())
 }
 
-/// Turns the nodes of a layer into their parents, which have `step` children each, at least one.
-fn to_parents(nodes: &mut [usize], step: usize)
-    requires { 0 < step }
-    ensures { nodes.new ≡ map (λ j. j / step) nodes.old }
+/// Fills a list with the places of the matrices of this exponent, in input order, in place of what it has.
+///
+/// # Errors
+///
+/// `AllocError` where there is no memory.
+fn list_matrices(
+    matrices: &mut Vec<usize>,
+    dimensions: &[Dimensions],
+    exponent: usize,
+) -> Result<(), AllocError>
+    ensures { IfOk result (λ done. matrices.new.items ≡ matrices_with (heights_of dimensions.now) exponent) }
 {
-    for node in nodes.iter_mut() {
-        *node /= step;
+    matrices.clear();
+    for matrix in 0..dimensions.len() {
+        if exponent_of(dimensions[matrix].height) == exponent {
+            matrices.push(matrix)?;
+        }
     }
+    Ok(())
 }
 
-/// Whether slots under one node of a layer up to `t` have the same rows of the matrices of that layer: each is compared
-/// with the lowest slot under its node. Each slot's row set has a row for each matrix, `t` is at most the number of
-/// levels, the arity a power of two from 2 to 2^62, and no height is above [`MAX_HEIGHT`](crate::geometry::MAX_HEIGHT).
-/// Takes memory for a number a slot, the time of one step for each slot and layer, and on each layer to which a matrix
-/// belongs that of a look at each matrix for each slot.
+/// Checks that slots under one node have the same rows of the matrices of its layer, up to the cap's layer. The row set
+/// of each slot has a row for each matrix, `cap_layer` is at most the number of levels, and the arity is at least 2.
+///
+/// Goes once through the levels. Each takes the time of one division a slot; one whose upper layer has matrices also
+/// that of a look at each matrix, and of the comparison of the rows of that layer. Takes memory for a number a slot,
+/// and a number for each matrix of a layer above the leaves.
 ///
 /// # Errors
 ///
@@ -226,115 +258,152 @@ fn to_parents(nodes: &mut [usize], step: usize)
 /// input order; `OutOfMemory` where there is no memory.
 fn check_groups<T: Eq>(
     alloc: Global,
-    dimensions: &[Dimensions],
-    arity: usize,
-    t: usize,
-    slots: &Slots,
+    steps: &Steps<'_>,
+    cap_layer: usize,
+    queried: &DistinctIndices,
     rows: &[Vec<Vec<T>>],
 ) -> Result<(), MerkleTreeError>
-    requires arity { IsArity arity }
-    requires low { greatest (heights_of dimensions.now) ≤ height_limit }
-    requires layer { t ≤ levels (shape_of arity dimensions.now) }
-    requires pairs { length slots.now.leaves.items ≡ length slots.now.firsts.items }
-    requires ascending { IsAscending slots.now.leaves.items }
-    requires queries { All (λ query. query < length rows.now) slots.now.firsts.items }
-    requires full { (k : ℕ) → k < length slots.now.firsts.items →
-        length (slot_rows slots.now.firsts.items (row_sets rows.now) k) ≡ length dimensions.now }
-    ensures { let refusal = layers_refusal T.eq (shape_of arity dimensions.now) t slots.now.leaves.items
-        slots.now.firsts.items (row_sets rows.now) in
+    requires layer { cap_layer ≤ steps.now.num_levels }
+    requires pairs { length queried.now.indices.items ≡ length queried.now.first_queries.items }
+    requires ascending { IsStrictlyIncreasing queried.now.indices.items }
+    requires queries { All (λ query. query < length rows.now) queried.now.first_queries.items }
+    requires full { (k : ℕ) → k < length queried.now.first_queries.items →
+        length (slot_rows queried.now.first_queries.items (row_sets rows.now) k) ≡ length steps.now.dimensions.now }
+    ensures { let s = shape_of steps.now.arity steps.now.dimensions.now in
+        let refusal = layers_refusal T.eq s cap_layer queried.now.indices.items queried.now.first_queries.items
+        (row_sets rows.now) in
         AnswersUnlessMemory result refusal }
 {
-    let mut nodes = Vec::from_slice(alloc, &slots.leaves)?;
-    let mut x = exponent_of(tallest_of(dimensions));
-    for _l in 0..t + 1 {
-        check_layer(dimensions, x, &nodes, &slots.firsts, rows)?;
-        let (step, next) = select_arity_step(dimensions, arity, x);
-        to_parents(&mut nodes, step);
-        x = next;
+    let mut nodes = Vec::from_slice(alloc, &queried.indices)?;
+    let mut matrices = Vec::new(alloc);
+    let mut exponent = steps.exponent;
+    // No two slots are under one leaf, so the first layer to look at is the one above the leaves.
+    for level in 0..cap_layer {
+        let up = steps.up(steps.arity, level, exponent);
+        to_parents(&mut nodes, up.step);
+        exponent = up.exponent;
+        if up.has_rows {
+            list_matrices(&mut matrices, steps.dimensions, exponent)?;
+            check_layer(&matrices, &nodes, &queried.first_queries, rows)?;
+        }
     }
     Ok(())
 }
 
-/// Whether a pruned opening of some indices can be restored, whatever the cap, which is layer `t`. Answers the slots of
-/// its indices. `t` is at most the number of levels, and the arity a power of two from 2 to 2^62. Takes memory for all
-/// indices, and beside one sort of them the time of one step for each index and level, and of the rows' comparison.
+/// As [`Steps::check_pruned`], of dimensions.
 ///
 /// # Errors
 ///
-/// In this order: what [`check_heights`] says of the heights; `WrongBatchSize` where there are not as many row sets as
-/// indices; `SiblingCountMismatch` for a digest where there is no index; `IndexOutOfBounds` for the highest index;
-/// `InconsistentDuplicateOpenings`, as [`check_repeats`]; `SiblingCountMismatch` where there are not as many digests as
-/// the indices leave unknown; `WrongBatchSize` or `WrongWidth` for the rows of the first query of an index, ascending;
-/// `InconsistentGroupOpening`, as [`check_groups`]. `OutOfMemory` where there is no memory.
+/// The same.
 pub fn check_pruned<T: Eq>(
     alloc: Global,
     dimensions: &[Dimensions],
     arity: usize,
-    t: usize,
+    cap_layer: usize,
     indices: &[usize],
     rows: &[Vec<Vec<T>>],
     num_digests: usize,
-) -> Result<Slots, MerkleTreeError>
+) -> Result<DistinctIndices, MerkleTreeError>
     requires arity { IsArity arity }
-    requires layer { t ≤ levels (shape_of arity dimensions.now) }
-    ensures { let refusal = pruned_refusal T.eq (shape_of arity dimensions.now) t
+    requires layer { cap_layer ≤ levels (shape_of arity dimensions.now) }
+    ensures { let refusal = pruned_refusal T.eq (shape_of arity dimensions.now) cap_layer
         (opened_with indices.now (row_sets rows.now) num_digests) in
-        MatchResult result (λ slots. (refusal ≡ None) × HasSlots slots indices.now)
+        MatchResult result (λ queried. (refusal ≡ None) × AreDistinctOf queried indices.now)
         (λ e. (e ≡ OutOfMemory) ⊎ (refusal ≡ Some e)) }
 {
-    check_queries(dimensions, indices, rows.len(), num_digests)?;
-    let slots = slots_of(alloc, indices)?;
-    check_repeats(indices, rows, &slots)?;
-    check_digest_count(
-        pruned_len_of_slots(alloc, dimensions, arity, t, indices, &slots)?,
-        num_digests,
-    )?;
-    check_slots(alloc, dimensions, arity, t, &slots, rows)?;
-    Ok(slots)
+    steps_of(dimensions, arity).check_pruned(alloc, cap_layer, indices, rows, num_digests)
 }
 
-/// How many digests a pruned proof of some indices sends under the cap of layer `t`, from their slots, so that they
-/// aren't sorted again.
+impl<'a> Steps<'a> {
+    /// Checks a pruned opening of some indices for all that doesn't depend on the cap, which is layer `cap_layer`:
+    /// whether paths can be restored from it. Answers its distinct indices. `cap_layer` is at most the number of
+    /// levels, and the arity a power of two from 2 to 2^62.
+    ///
+    /// Sorts the indices once. Takes memory for four numbers an index, and a number for each matrix of a layer above
+    /// the leaves. How many requests it makes doesn't depend on the indices.
+    ///
+    /// # Errors
+    ///
+    /// The first of these that holds, where `OutOfMemory` may come once the indices are known to be in range:
+    ///
+    /// - what [`check_heights`](Self::check_heights) answers;
+    /// - `WrongBatchSize`: there are not as many row sets as indices;
+    /// - `SiblingCountMismatch`: there is a digest, and no index;
+    /// - `IndexOutOfBounds`: the highest index is not below the tallest height;
+    /// - `InconsistentDuplicateOpenings`: a query has not the row set of the first query of its index;
+    /// - `SiblingCountMismatch`: there are not as many digests as the indices leave unknown;
+    /// - `WrongBatchSize`, `WrongWidth`: by ascending indices, what [`check_widths`] answers for the first query of the
+    ///   index;
+    /// - `InconsistentGroupOpening`: layer by layer, by ascending indices and in the order of the matrices, a row is
+    ///   not that of the lowest index under the same node.
+    pub fn check_pruned<T: Eq>(
+        &self,
+        alloc: Global,
+        cap_layer: usize,
+        indices: &[usize],
+        rows: &[Vec<Vec<T>>],
+        num_digests: usize,
+    ) -> Result<DistinctIndices, MerkleTreeError>
+        requires arity { IsArity self.now.arity }
+        requires layer { cap_layer ≤ self.now.num_levels }
+        ensures { let refusal = pruned_refusal T.eq (shape_of self.now.arity self.now.dimensions.now) cap_layer
+            (opened_with indices.now (row_sets rows.now) num_digests) in
+            MatchResult result (λ queried. (refusal ≡ None) × AreDistinctOf queried indices.now)
+            (λ e. (e ≡ OutOfMemory) ⊎ (refusal ≡ Some e)) }
+    {
+        check_queries(self, indices, rows.len(), num_digests)?;
+        let queried = distinct_indices_of(alloc, indices)?;
+        check_repeats(indices, rows, &queried)?;
+        let expected = pruned_len_of_distinct(alloc, self, cap_layer, indices, &queried)?;
+        check_digest_count(expected, num_digests)?;
+        check_rows(alloc, self, cap_layer, &queried, rows)?;
+        Ok(queried)
+    }
+}
+
+/// How many digests a pruned proof of some indices sends under the cap of layer `cap_layer`. Takes a copy of the
+/// distinct indices, so that they aren't sorted again.
 ///
 /// # Errors
 ///
 /// `AllocError` where there is no memory.
-fn pruned_len_of_slots(
+fn pruned_len_of_distinct(
     alloc: Global,
-    dimensions: &[Dimensions],
-    arity: usize,
-    t: usize,
+    steps: &Steps<'_>,
+    cap_layer: usize,
     indices: &[usize],
-    slots: &Slots,
+    queried: &DistinctIndices,
 ) -> Result<usize, AllocError>
-    requires arity { IsArity arity }
-    requires low { greatest (heights_of dimensions.now) ≤ height_limit }
-    requires layer { t ≤ levels (shape_of arity dimensions.now) }
-    requires below { greatest indices.now < greatest (heights_of dimensions.now) }
-    requires slots { HasSlots slots.now indices.now }
-    ensures { IfOk result (λ count. count ≡ pruned_len (shape_of arity dimensions.now) indices.now t) }
+    requires arity { IsArity steps.now.arity }
+    requires low { greatest (heights_of steps.now.dimensions.now) ≤ height_limit }
+    requires layer { cap_layer ≤ steps.now.num_levels }
+    requires below { greatest indices.now < greatest (heights_of steps.now.dimensions.now) }
+    requires queried { AreDistinctOf queried.now indices.now }
+    ensures { let s = shape_of steps.now.arity steps.now.dimensions.now in
+        IfOk result (λ count. count ≡ pruned_len s indices.now cap_layer) }
 {
-    let leaves = Vec::from_slice(alloc, &slots.leaves)?;
-    Ok(boundary_len_of(dimensions, arity, t, leaves))
+    let leaves = Vec::from_slice(alloc, &queried.indices)?;
+    Ok(steps.boundary_len(cap_layer, leaves))
 }
 
-/// Whether some indices can be queried with so many row sets and digests: what is asked before slots are made.
+/// Checks whether some indices can be queried with so many row sets and digests. Takes no memory.
 ///
 /// # Errors
 ///
-/// In this order: what [`check_heights`] says of the heights; `WrongBatchSize` where there are not as many row sets as
+/// In this order: what [`Steps::check_heights`] answers; `WrongBatchSize` where there are not as many row sets as
 /// indices; `SiblingCountMismatch` for a digest where there is no index; `IndexOutOfBounds` for the highest index.
 fn check_queries(
-    dimensions: &[Dimensions],
+    steps: &Steps<'_>,
     indices: &[usize],
     num_row_sets: usize,
     num_digests: usize,
 ) -> Result<(), MerkleTreeError>
-    ensures answer { let refusal = early_refusal (heights_of dimensions.now) indices.now num_row_sets num_digests in
+    ensures answer { let heights = heights_of steps.now.dimensions.now in
+        let refusal = early_refusal heights indices.now num_row_sets num_digests in
         MatchResult result (λ ok. refusal ≡ None) (λ e. refusal ≡ Some e) }
-    ensures low { IfOk result (λ ok. greatest (heights_of dimensions.now) ≤ height_limit) }
+    ensures low { IfOk result (λ ok. greatest (heights_of steps.now.dimensions.now) ≤ height_limit) }
 {
-    check_heights(dimensions)?;
+    steps.check_heights()?;
     if num_row_sets != indices.len() {
         return Err(MerkleTreeError::WrongBatchSize {
             expected: indices.len(),
@@ -342,10 +411,10 @@ fn check_queries(
         });
     }
     check_idle(indices, num_digests)?;
-    check_indices(tallest_of(dimensions), indices)
+    check_indices(steps.max_height, indices)
 }
 
-/// Whether there is no digest where there is no index.
+/// Checks that there is no digest where there is no index.
 fn check_idle(indices: &[usize], num_digests: usize) -> Result<(), MerkleTreeError>
     ensures { let refusal = idle_refusal (length indices.now) num_digests in
         MatchResult result (λ ok. refusal ≡ None) (λ e. refusal ≡ Some e) }
@@ -357,7 +426,7 @@ fn check_idle(indices: &[usize], num_digests: usize) -> Result<(), MerkleTreeErr
     }
 }
 
-/// Whether a proof has as many digests as it should have.
+/// Checks that a proof has as many digests as it should have.
 fn check_digest_count(expected: usize, got: usize) -> Result<(), MerkleTreeError>
     ensures { MatchResult result (λ ok. digest_count_refusal expected got ≡ None)
         (λ e. digest_count_refusal expected got ≡ Some e) }
@@ -369,26 +438,27 @@ fn check_digest_count(expected: usize, got: usize) -> Result<(), MerkleTreeError
     }
 }
 
-/// Whether the rows of slots have their widths, and those under one node agree: [`check_first_widths`], then
-/// [`check_groups`].
-fn check_slots<T: Eq>(
+/// Checks the rows of slots: their widths, and then whether those under one node agree.
+///
+/// # Errors
+///
+/// What [`check_first_widths`] answers; else what [`check_groups`] does.
+fn check_rows<T: Eq>(
     alloc: Global,
-    dimensions: &[Dimensions],
-    arity: usize,
-    t: usize,
-    slots: &Slots,
+    steps: &Steps<'_>,
+    cap_layer: usize,
+    queried: &DistinctIndices,
     rows: &[Vec<Vec<T>>],
 ) -> Result<(), MerkleTreeError>
-    requires arity { IsArity arity }
-    requires low { greatest (heights_of dimensions.now) ≤ height_limit }
-    requires layer { t ≤ levels (shape_of arity dimensions.now) }
-    requires pairs { length slots.now.leaves.items ≡ length slots.now.firsts.items }
-    requires ascending { IsAscending slots.now.leaves.items }
-    requires queries { All (λ query. query < length rows.now) slots.now.firsts.items }
-    ensures { let refusal = late_refusal T.eq (shape_of arity dimensions.now) t slots.now.leaves.items
-        slots.now.firsts.items (row_sets rows.now) in
+    requires layer { cap_layer ≤ steps.now.num_levels }
+    requires pairs { length queried.now.indices.items ≡ length queried.now.first_queries.items }
+    requires ascending { IsStrictlyIncreasing queried.now.indices.items }
+    requires queries { All (λ query. query < length rows.now) queried.now.first_queries.items }
+    ensures { let s = shape_of steps.now.arity steps.now.dimensions.now in
+        let refusal = late_refusal T.eq s cap_layer queried.now.indices.items queried.now.first_queries.items
+        (row_sets rows.now) in
         AnswersUnlessMemory result refusal }
 {
-    check_first_widths(dimensions, rows, &slots.firsts)?;
-    check_groups(alloc, dimensions, arity, t, slots, rows)
+    check_first_widths(steps.dimensions, rows, &queried.first_queries)?;
+    check_groups(alloc, steps, cap_layer, queried, rows)
 }

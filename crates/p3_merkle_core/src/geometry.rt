@@ -5,6 +5,7 @@
 
 ghost use Rattle.std.specs.Prelude.{◌≡◌, ◌+◌, ◌-◌, ◌*◌, ◌^◌, ◌<◌, ◌≤◌, ◌==◌, ◌↔◌, Some, None, IfOk, IsOk, MatchResult, List, map, if◌then◌else◌, nat_lt, ◌&&◌};
 ghost use Rattle.std.specs.List.{list_any};
+ghost use Rattle.p3_merkle_core.specs.Geometry;
 ghost use Rattle.p3_merkle_core.specs.Geometry.{bits_reduced, expected_height, exponent, height_at, height_limit, is_bridge, padded_len, shape_of, shortest, IsLawful};
 ghost use Rattle.p3_support.specs.Batches.{heights_of, greatest};
 ghost use Rattle.p3_merkle_core.specs.Gate.{first_off_ladder, first_too_large, gate_refusal};
@@ -64,13 +65,13 @@ pub fn bits_reduced_of(tallest: usize, height: usize) -> usize
     exponent_of(tallest).saturating_sub(exponent_of(height))
 }
 
-/// The one lawful height with the exponent `x`: the tallest height, at most [`MAX_HEIGHT`], halved and rounded up until
+/// The one lawful height with this exponent: the tallest height, at most [`MAX_HEIGHT`], halved and rounded up until
 /// it has that exponent; 1 where the tallest height is 0.
-pub(crate) fn height_at_of(tallest: usize, x: usize) -> usize
+pub(crate) fn height_at_of(tallest: usize, exponent: usize) -> usize
     requires { tallest ≤ height_limit }
-    ensures { result ≡ height_at tallest x }
+    ensures { result ≡ height_at tallest exponent }
 {
-    (tallest.saturating_sub(1) >> exponent_of(tallest).saturating_sub(x)) + 1
+    (tallest.saturating_sub(1) >> exponent_of(tallest).saturating_sub(exponent)) + 1
 }
 
 /// The one lawful height with the exponent of `height`: the tallest height, at most [`MAX_HEIGHT`], halved and rounded
@@ -198,66 +199,67 @@ pub fn padded_len(len: usize, arity: usize) -> usize
     }
 }
 
-/// How many slots of a layer of `len` nodes and the exponent `x` are grouped into nodes of the layer above: `2^x` where
-/// a bridge step starts from fewer nodes than the arity, since the slots that pad such a layer have no pair above; else
-/// all its slots. The arity is above 0, `x` below 64, and the layer has fewer than 2^64 slots.
-pub(crate) fn grouped_len(arity: usize, is_bridge: bool, x: usize, len: usize) -> usize
+/// How many slots of a layer of `len` nodes and this exponent are grouped into nodes of the layer above: `2^exponent`
+/// where a bridge step starts from fewer nodes than the arity, since the slots that pad such a layer have no pair
+/// above; else all its slots. The arity is above 0, the exponent below 64, and the layer has fewer than 2^64 slots.
+pub(crate) fn grouped_len(arity: usize, is_bridge: bool, exponent: usize, len: usize) -> usize
     requires positive { 0 < arity }
-    requires shift { x < 64 }
+    requires shift { exponent < 64 }
     requires fits { padded_len len arity < 2 ^ 64 }
-    ensures { result ≡ (if is_bridge && nat_lt len arity then 2 ^ x else padded_len len arity) }
+    ensures { result ≡ (if is_bridge && nat_lt len arity then 2 ^ exponent else padded_len len arity) }
 {
     if is_bridge && len < arity {
-        1 << x
+        1 << exponent
     } else {
         padded_len(len, arity)
     }
 }
 
 /// Whether a matrix has this exponent, so that its rows belong to the layer of that exponent.
-pub fn has_exponent(dimensions: &[Dimensions], x: usize) -> bool
-    ensures { result ≡ list_any (λ h. exponent h == x) (heights_of dimensions.now) }
+pub fn has_exponent(dimensions: &[Dimensions], exponent: usize) -> bool
+    ensures { result ≡ list_any (λ h. Geometry.exponent h == exponent) (heights_of dimensions.now) }
 {
     dimensions
         .iter()
         .map(|matrix| matrix.height)
-        .any(|height| exponent_of(height) == x)
+        .any(|height| exponent_of(height) == exponent)
 }
 
-/// Whether the step from the exponent `x` is a bridge step of 2: a matrix's exponent lies strictly between `x` and
-/// what a step of the whole arity leaves of it.
-pub fn is_bridge_step(dimensions: &[Dimensions], arity: usize, x: usize) -> bool
-    ensures { result ≡ is_bridge (shape_of arity dimensions.now) x }
+/// Whether the step from a layer of this exponent is a bridge step of 2: a matrix's exponent lies strictly between the
+/// layer's and what a step of the whole arity leaves of it.
+pub fn is_bridge_step(dimensions: &[Dimensions], arity: usize, exponent: usize) -> bool
+    ensures { result ≡ is_bridge (shape_of arity dimensions.now) exponent }
 {
-    let target = x.saturating_sub(exponent_of(arity));
+    let target = exponent.saturating_sub(exponent_of(arity));
     // Where no number lies between, no height is asked.
-    if x - target < 2 {
+    if exponent - target < 2 {
         return false;
     }
     dimensions.iter().map(|matrix| matrix.height).any(|height| {
         let e = exponent_of(height);
-        target < e && e < x
+        target < e && e < exponent
     })
 }
 
-/// The step from a layer of the exponent `x`, in children a node, and the exponent of the next layer
+/// The step from a layer of this exponent, in children a node, and the exponent of the next layer
 /// (`select_arity_step` in the Rust crate).
-pub fn select_arity_step(dimensions: &[Dimensions], arity: usize, x: usize) -> (usize, usize)
-    ensures step { result.0 ≡ (if is_bridge (shape_of arity dimensions.now) x then 2 else arity) }
-    ensures next { result.1 ≡ (if is_bridge (shape_of arity dimensions.now) x then x - 1 else x - exponent arity) }
+pub fn select_arity_step(dimensions: &[Dimensions], arity: usize, exponent: usize) -> (usize, usize)
+    ensures step { result.0 ≡ (if is_bridge (shape_of arity dimensions.now) exponent then 2 else arity) }
+    ensures next { result.1 ≡ (if is_bridge (shape_of arity dimensions.now) exponent then exponent - 1
+        else exponent - Geometry.exponent arity) }
 {
-    step_from(arity, is_bridge_step(dimensions, arity, x), x)
+    step_from(arity, is_bridge_step(dimensions, arity, exponent), exponent)
 }
 
-/// The step from a layer of the exponent `x`, in children a node, and the exponent of the next layer: a bridge step, or
+/// The step from a layer of this exponent, in children a node, and the exponent of the next layer: a bridge step, or
 /// one of the whole arity.
-pub(crate) fn step_from(arity: usize, is_bridge: bool, x: usize) -> (usize, usize)
+pub(crate) fn step_from(arity: usize, is_bridge: bool, exponent: usize) -> (usize, usize)
     ensures step { result.0 ≡ (if is_bridge then 2 else arity) }
-    ensures next { result.1 ≡ (if is_bridge then x - 1 else x - exponent arity) }
+    ensures next { result.1 ≡ (if is_bridge then exponent - 1 else exponent - Geometry.exponent arity) }
 {
     if is_bridge {
-        (2, x.saturating_sub(1))
+        (2, exponent.saturating_sub(1))
     } else {
-        (arity, x.saturating_sub(exponent_of(arity)))
+        (arity, exponent.saturating_sub(exponent_of(arity)))
     }
 }

@@ -1,6 +1,6 @@
 //! Groups of digests, as a compression takes them.
 
-ghost use Rattle.std.specs.Prelude.{◌≡◌, ◌+◌, ◌<◌, ◌≤◌, ◌++◌, length, drop, insert};
+ghost use Rattle.std.specs.Prelude.{◌≡◌, ◌+◌, ◌<◌, ◌≤◌, ◌++◌, ◌∷◌, [], length, drop, insert};
 ghost use Rattle.p3_merkle_core.specs.Nodes.{padded};
 
 /// Writes a value at its place among others into the first slots.
@@ -32,4 +32,33 @@ pub fn group_with<W: Copy, const N: usize, const D: usize>(
     let mut group = [default_digest; N];
     place(&mut group, position, digest, siblings);
     group
+}
+
+/// The children of a node, then default digests. There is at least one child, and there are at most `N`.
+pub fn padded_group<W: Copy, const N: usize, const D: usize>(
+    default_digest: [W; D],
+    children: &[[W; D]],
+) -> [[W; D]; N]
+    requires some { 0 < length children.now }
+    requires few { length children.now ≤ N }
+    ensures { result ≡ padded N default_digest children.now }
+{
+    // A group without default digests is copied as a whole.
+    if let Some(group) = children.first_chunk::<N>() {
+        return *group;
+    }
+    group_with(default_digest, children[0], 0, &children[1..])
+}
+
+/// Two digests, then default digests: the digest of a node's children beside that of its rows.
+pub fn pair_group<W: Copy, const N: usize, const D: usize>(
+    default_digest: [W; D],
+    left: [W; D],
+    right: [W; D],
+) -> [[W; D]; N]
+    requires { 2 ≤ N }
+    ensures { result ≡ padded N default_digest (left ∷ right ∷ []) }
+{
+    let others = [right];
+    group_with(default_digest, left, 0, &others)
 }

@@ -112,22 +112,30 @@ pub fn covered_leaves(alloc: Global, indices: &[usize]) -> Result<Vec<usize>, Al
     Ok(leaves)
 }
 
+/// Turns the nodes of a layer into their parents, in place. A parent has `step` children, at least one.
+pub(crate) fn to_parents(nodes: &mut [usize], step: usize)
+    requires { 0 < step }
+    ensures { nodes.new ≡ map (λ j. j / step) nodes.old }
+{
+    for node in nodes.iter_mut() {
+        *node /= step;
+    }
+}
+
 /// Turns the covered nodes of a layer, which ascend, into those of the layer above, in place: each node's parent once,
 /// ascending. A parent has `step` children, at least one.
 pub fn climb(covered: &mut Vec<usize>, step: usize)
     requires { 0 < step }
     ensures { IsAscending covered.old.items → covered.new.items ≡ distinct (map (λ j. j / step) covered.old.items) }
 {
-    for node in covered.iter_mut() {
-        *node /= step;
-    }
+    to_parents(covered, step);
     covered.dedup();
 }
 
-/// How many digests a pruned proof of some indices sends under the cap of layer `t`: on each level, the children of
-/// covered nodes that are not covered. `t` is at most the number of levels, the arity a power of two from 2 to 2^62, no
-/// height above [`MAX_HEIGHT`](crate::geometry::MAX_HEIGHT), and each index below the tallest height. Takes memory for
-/// all indices, and beside their sort the time of one step for each index and level.
+/// How many digests a pruned proof of some indices sends under the cap of layer `cap_layer`: on each level, the
+/// children of covered nodes that are not covered. `cap_layer` is at most the number of levels, the arity a power of
+/// two from 2 to 2^62, no height above [`MAX_HEIGHT`](crate::geometry::MAX_HEIGHT), and each index below the tallest
+/// height. Takes memory for all indices, and beside their sort the time of one step for each index and level.
 ///
 /// # Errors
 ///
@@ -136,17 +144,17 @@ pub fn pruned_len_of(
     alloc: Global,
     dimensions: &[Dimensions],
     arity: usize,
-    t: usize,
+    cap_layer: usize,
     indices: &[usize],
 ) -> Result<usize, AllocError>
     requires arity { IsArity arity }
     requires low { greatest (heights_of dimensions.now) ≤ height_limit }
-    requires layer { t ≤ levels (shape_of arity dimensions.now) }
+    requires layer { cap_layer ≤ levels (shape_of arity dimensions.now) }
     requires below { All (λ q. q < greatest (heights_of dimensions.now)) indices.now }
-    ensures { IfOk result (λ count. count ≡ pruned_len (shape_of arity dimensions.now) indices.now t) }
+    ensures { IfOk result (λ count. count ≡ pruned_len (shape_of arity dimensions.now) indices.now cap_layer) }
 {
     let leaves = covered_leaves(alloc, indices)?;
-    Ok(boundary_len_of(dimensions, arity, t, leaves))
+    Ok(steps_of(dimensions, arity).boundary_len(cap_layer, leaves))
 }
 
 impl<'a> Steps<'a> {
@@ -171,23 +179,6 @@ impl<'a> Steps<'a> {
         }
         count
     }
-}
-
-/// As [`Steps::boundary_len`], of dimensions.
-pub fn boundary_len_of(
-    dimensions: &[Dimensions],
-    arity: usize,
-    t: usize,
-    leaves: Vec<usize>,
-) -> usize
-    requires arity { IsArity arity }
-    requires low { greatest (heights_of dimensions.now) ≤ height_limit }
-    requires layer { t ≤ levels (shape_of arity dimensions.now) }
-    requires below { All (λ q. q < greatest (heights_of dimensions.now)) leaves.items }
-    requires ascending { IsStrictlyIncreasing leaves.items }
-    ensures { result ≡ pruned_len (shape_of arity dimensions.now) leaves.items t }
-{
-    steps_of(dimensions, arity).boundary_len(t, leaves)
 }
 
 /// The values of the children of some parents, `step` of each, parent by parent: of a covered child its digest, and of

@@ -3,6 +3,7 @@
 
 ghost use Rattle.std.specs.Prelude.{◌≡◌, ℕ, suc, ◌+◌, ◌-◌, ◌<◌, ◌≤◌, ◌==◌, ◌↔◌, List, if◌then◌else◌, length, map, nat_lt, take, ◌&&◌, IfOk, IsOk, MatchResult, None, Some};
 ghost use Rattle.std.specs.List.{list_any, range_with_len};
+ghost use Rattle.p3_merkle_core.specs.Geometry;
 ghost use Rattle.p3_merkle_core.specs.Geometry.{exponent, has_rows, is_bridge, layer_exponent, levels, height_limit, positions_below, schedule_below, shape_of, shortest, step, IsArity, IsLawful};
 ghost use Rattle.p3_support.specs.Batches.{heights_of, greatest};
 ghost use Rattle.p3_merkle_core.specs.Checks.{siblings_below};
@@ -28,11 +29,11 @@ struct Rung {
 }
 
 /// This exponent with the next one below it. Each matrix is looked at once, and none for 0.
-fn rung_at(dimensions: &[Dimensions], x: usize) -> Rung
-    ensures exponent { result.exponent ≡ x }
+fn rung_at(dimensions: &[Dimensions], exponent: usize) -> Rung
+    ensures exponent { result.exponent ≡ exponent }
     ensures rung { IsRung (heights_of dimensions.now) result }
 {
-    if x == 0 {
+    if exponent == 0 {
         return Rung {
             exponent: 0,
             next: 0,
@@ -41,11 +42,14 @@ fn rung_at(dimensions: &[Dimensions], x: usize) -> Rung
     let mut next = 0;
     for matrix in dimensions {
         let e = exponent_of(matrix.height);
-        if e < x {
+        if e < exponent {
             next = next.max(e + 1);
         }
     }
-    Rung { exponent: x, next }
+    Rung {
+        exponent: exponent,
+        next,
+    }
 }
 
 /// Tells that the exponent of a height is at most 64. It does nothing at run time.
@@ -64,23 +68,23 @@ fn is_bridge_from(arity: usize, rung: Rung) -> bool
 
 /// Whether matrices have this exponent, and the exponent with the next one below it. It is that of the layer above a
 /// rung: at most the rung's, and no matrix has one between them. The matrices are looked at only where one has it.
-fn rung_above(dimensions: &[Dimensions], rung: Rung, x: usize) -> (bool, Rung)
+fn rung_above(dimensions: &[Dimensions], rung: Rung, exponent: usize) -> (bool, Rung)
     requires rung { IsRung (heights_of dimensions.now) rung }
-    requires down { x ≤ rung.exponent }
-    requires between { x < rung.exponent → rung.next ≤ x + 1 }
-    ensures rows { result.0 ≡ list_any (λ h. exponent h == x) (heights_of dimensions.now) }
-    ensures exponent { result.1.exponent ≡ x }
+    requires down { exponent ≤ rung.exponent }
+    requires between { exponent < rung.exponent → rung.next ≤ exponent + 1 }
+    ensures rows { result.0 ≡ list_any (λ h. Geometry.exponent h == exponent) (heights_of dimensions.now) }
+    ensures exponent { result.1.exponent ≡ exponent }
     ensures above { IsRung (heights_of dimensions.now) result.1 }
 {
     // No step leads down from exponent 0.
-    if x == rung.exponent {
-        return (has_exponent(dimensions, x), rung);
+    if exponent == rung.exponent {
+        return (has_exponent(dimensions, exponent), rung);
     }
-    if rung.next == x + 1 {
-        return (true, rung_at(dimensions, x));
+    if rung.next == exponent + 1 {
+        return (true, rung_at(dimensions, exponent));
     }
     let above = Rung {
-        exponent: x,
+        exponent: exponent,
         next: rung.next,
     };
     (false, above)
@@ -102,7 +106,7 @@ fn step_up(dimensions: &[Dimensions], arity: usize, rung: Rung) -> (LevelStep, R
     ensures bridge { result.0.is_bridge ≡ is_bridge (shape_of arity dimensions.now) rung.exponent }
     ensures next { result.1.exponent
         ≡ (if is_bridge (shape_of arity dimensions.now) rung.exponent then rung.exponent - 1
-        else rung.exponent - exponent arity) }
+        else rung.exponent - Geometry.exponent arity) }
     ensures rows { result.0.has_rows ≡ list_any (λ h. exponent h == result.1.exponent) (heights_of dimensions.now) }
     ensures rung { IsRung (heights_of dimensions.now) result.1 }
 {

@@ -5,7 +5,7 @@ ghost use Rattle.std.specs.List.{range_with_len};
 ghost use Rattle.p3_support.specs.Lists.{rows_of_height};
 ghost use Rattle.p3_merkle_lanes.specs.Inner.Slots.{leaf_over, IsFilled, IsStaged};
 
-use p3_merkle_core::group::group_with;
+use p3_merkle_core::group::pair_group;
 use p3_support::compress::PseudoCompressionFunction;
 use p3_support::hasher::CryptographicHasher;
 use p3_support::matrix::Matrix;
@@ -220,8 +220,7 @@ fn stage_pairs<W: Copy, const N: usize, const D: usize>(
 {
     pairs.clear();
     for (j, digest) in folded.iter().enumerate() {
-        let others = [rows[j]];
-        pairs.push(group_with(default_digest, *digest, 0, &others))?;
+        pairs.push(pair_group(default_digest, *digest, rows[j]))?;
     }
     Ok(())
 }

@@ -6,7 +6,7 @@ ghost use Rattle.std.specs.Prelude.{IsTrue, ◌≡◌, ℕ, ◌+◌, ◌-◌, �
 ghost use Rattle.p3_support.specs.Lists.{lane_of, rows_of_height};
 ghost use Rattle.p3_merkle_lanes.specs.Inner.Slots.{leaf_over, IsFilled};
 
-use p3_merkle_core::group::group_with;
+use p3_merkle_core::group::pair_group;
 use p3_support::compress::PseudoCompressionFunction;
 use p3_support::hasher::CryptographicHasher;
 use p3_support::matrix::Matrix;
@@ -303,8 +303,7 @@ fn packed_pair<PW: PackedValue, const N: usize, const D: usize>(
         ≡ lane_of PW.lanes PW.default_value k left ∷ lane_of PW.lanes PW.default_value k right
         ∷ replicate (N - 2) (replicate D PW.default_value) }
 {
-    let others = [right];
-    group_with([PW::broadcast(PW::Value::default()); D], left, 0, &others)
+    pair_group([PW::broadcast(PW::Value::default()); D], left, right)
 }
 
 /// The compressions of the children of the nodes from `first` on over a layer, with default digests behind them: lane

@@ -18,7 +18,7 @@ ghost use Rattle.p3_merkle_layers.specs.Inner.Levels.{layer_above, node_above, s
 ghost use Rattle.p3_merkle_lanes.specs.Inner.Slots.{leaf_over, IsFilled};
 
 use p3_merkle_core::geometry::padded_len;
-use p3_merkle_core::group::group_with;
+use p3_merkle_core::group::{padded_group, pair_group};
 use p3_merkle_core::levels::Level;
 use p3_merkle_core::steps::{Steps, steps_of};
 use p3_merkle_lanes::batched::{compress_groups_batched, inject_row_digests, write_batched_leaves};
@@ -98,8 +98,7 @@ impl<
         ensures { result ≡ C.compression self.now.compress.now
             (left ∷ right ∷ replicate (N - 2) (replicate D PW.default_value)) }
     {
-        let others = [right];
-        let group = group_with::<PW::Value, N, D>([PW::Value::default(); D], left, 0, &others);
+        let group = pair_group::<PW::Value, N, D>([PW::Value::default(); D], left, right);
         self.compress.compress(group)
     }
 
@@ -110,12 +109,7 @@ impl<
         ensures { result ≡ C.compression self.now.compress.now
             (children.now ++ replicate (N - length children.now) (replicate D PW.default_value)) }
     {
-        // A group without default digests is copied as a whole.
-        if let Some(group) = children.first_chunk::<N>() {
-            return self.compress.compress(*group);
-        }
-        let (first, others) = (children[0], &children[1..]);
-        let group = group_with::<PW::Value, N, D>([PW::Value::default(); D], first, 0, others);
+        let group = padded_group::<PW::Value, N, D>([PW::Value::default(); D], children);
         self.compress.compress(group)
     }
 

@@ -56,7 +56,7 @@ pub fn check_pruned_opening<
         let refusal = pruned_refusal_under P.Value.eq PW.Value.eq (terms f (shape_of N dimensions.now) t) roots.now p in
         AnswersUnlessMemory result refusal }
 {
-    let slots = check_pruned(alloc, dimensions, N, t, indices, sets, sent.len())?;
+    let queried = check_pruned(alloc, dimensions, N, t, indices, sets, sent.len())?;
     tell_restorable::<P, PW, D>(dimensions, N, t, indices, sets, sent);
     let queries = Queries {
         dimensions,
@@ -64,6 +64,6 @@ pub fn check_pruned_opening<
         t,
         indices,
     };
-    let leaves = leaves_of(dimensions, N, indices, slots);
+    let leaves = leaves_of(dimensions, N, indices, queried);
     check_cap::<P, PW, H, C, N, D>(alloc, checker, roots, &queries, sets, sent, leaves)
 }

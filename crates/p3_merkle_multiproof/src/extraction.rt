@@ -16,44 +16,15 @@ use crate::check::check_pruned_opening;
 use crate::paths::restored_paths_of;
 use p3_merkle_core::collision::Collision;
 use p3_merkle_core::error::MerkleTreeError;
-use p3_merkle_core::pruning::{AuthPath, PrunedProof};
+use p3_merkle_core::pruning::{AuthPath, PrunedMerklePaths};
 use p3_merkle_verifier::level::Checker;
 use p3_merkle_verifier::openings::{IndexedOpening, OpeningPair};
 use p3_support::compress::PseudoCompressionFunction;
 use p3_support::hasher::CryptographicHasher;
 use p3_support::matrix::Dimensions;
+use p3_support::opening::PrunedOpeningRef;
 use p3_support::packed::PackedValue;
 use std::alloc::{AllocError, Global};
-
-/// A pruned opening that is lent.
-#[derive_where(Clone, Copy)]
-pub struct PrunedOpeningRef<'a, T, X> {
-    /// The index of each query.
-    pub indices: &'a [usize],
-    /// The rows of each query, one of each matrix.
-    pub sets: &'a [Vec<Vec<T>>],
-    /// The digests that are sent.
-    pub sent: &'a [X],
-}
-
-impl<'a, T, X> PrunedOpeningRef<'a, T, X> {
-    /// The pruned opening of some indices, by the rows of each and a proof.
-    pub fn new(
-        indices: &'a [usize],
-        sets: &'a [Vec<Vec<T>>],
-        proof: &'a PrunedProof<X>,
-    ) -> PrunedOpeningRef<'a, T, X>
-        ensures indices { result.indices.now ≡ indices.now }
-        ensures sets { result.sets.now ≡ sets.now }
-        ensures sent { result.sent.now ≡ proof.now.sibling_hashes.items }
-    {
-        PrunedOpeningRef {
-            indices,
-            sets,
-            sent: &proof.sibling_hashes,
-        }
-    }
-}
 
 /// The queries of a pruned opening, each to be read as an opening of its own.
 #[derive(Drop)]
@@ -189,7 +160,7 @@ fn checked_queries<
     roots: &[[PW::Value; D]],
     dimensions: &[Dimensions],
     t: usize,
-    opening: PrunedOpeningRef<'a, P::Value, [PW::Value; D]>,
+    opening: PrunedOpeningRef<'a, P::Value, PrunedMerklePaths<PW::Value, D>>,
 ) -> Result<RestoredQueries<'a, P::Value, [PW::Value; D]>, MerkleTreeError>
     requires { CanCheck (shape_of N dimensions.now) t }
     ensures answer { let f = functions_of (H.hash checker.now.hash.now) (C.compression checker.now.compress.now)
@@ -204,9 +175,10 @@ fn checked_queries<
 {
     let PrunedOpeningRef {
         indices,
-        sets,
-        sent,
+        opened_values: sets,
+        opening_proof,
     } = opening;
+    let sent = opening_proof.sibling_hashes.as_slice();
     check_pruned_opening::<P, PW, H, C, N, D>(
         alloc, checker, roots, dimensions, t, indices, sets, sent,
     )?;
@@ -240,8 +212,8 @@ pub fn extraction<
     roots: &[[PW::Value; D]],
     dimensions: &[Dimensions],
     t: usize,
-    first: PrunedOpeningRef<'_, P::Value, [PW::Value; D]>,
-    second: PrunedOpeningRef<'_, P::Value, [PW::Value; D]>,
+    first: PrunedOpeningRef<'_, P::Value, PrunedMerklePaths<PW::Value, D>>,
+    second: PrunedOpeningRef<'_, P::Value, PrunedMerklePaths<PW::Value, D>>,
 ) -> Result<Option<(usize, usize, Collision<P::Value, PW::Value, D>)>, MerkleTreeError>
     requires { CanCheck (shape_of N dimensions.now) t }
     ensures answer { let f = functions_of (H.hash checker.now.hash.now) (C.compression checker.now.compress.now)

@@ -1,7 +1,7 @@
 //! Where a walk begins: the covered leaves of a pruned opening that restores.
 
 ghost use Rattle.std.specs.Prelude.{◌≡◌, ◌<◌, ◌≤◌, ℕ, None, length};
-ghost use Rattle.p3_merkle_core.specs.Inner.Agreement.{opened_with, HasSlots};
+ghost use Rattle.p3_merkle_core.specs.Inner.Agreement.{opened_with, AreDistinctOf};
 ghost use Rattle.p3_support.specs.Batches.{heights_of, greatest};
 ghost use Rattle.p3_merkle_core.specs.Geometry.{height_limit, shape_of};
 ghost use Rattle.p3_support.specs.Shown.{row_sets};
@@ -11,26 +11,29 @@ ghost use Rattle.p3_merkle_verifier.specs.Inner.Paths.{CanCheck};
 ghost use Rattle.p3_merkle_multiproof.specs.Inner.Walks.{IsCoveredAt};
 
 use crate::queries::Covered;
-use p3_merkle_core::agreement::Slots;
+use p3_merkle_core::agreement::DistinctIndices;
 use p3_merkle_core::geometry::{exponent_of, tallest_of};
 use p3_support::matrix::Dimensions;
 use p3_support::packed::PackedValue;
 
-/// The covered leaves of some queries, by their slots.
+/// The covered leaves of some queries, by their distinct indices.
 pub(crate) fn leaves_of(
     dimensions: &[Dimensions],
     arity: usize,
     indices: &[usize],
-    slots: Slots,
+    queried: DistinctIndices,
 ) -> Covered
-    requires slots { HasSlots slots indices.now }
+    requires queried { AreDistinctOf queried indices.now }
     requires below { greatest indices.now < greatest (heights_of dimensions.now) }
     ensures { IsCoveredAt (shape_of arity dimensions.now) indices.now 0 result }
 {
-    let Slots { leaves, firsts } = slots;
+    let DistinctIndices {
+        indices,
+        first_queries,
+    } = queried;
     Covered {
-        nodes: leaves,
-        leads: firsts,
+        nodes: indices,
+        leads: first_queries,
         exponent: exponent_of(tallest_of(dimensions)),
         used: 0,
     }

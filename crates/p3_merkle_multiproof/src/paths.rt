@@ -59,7 +59,7 @@ pub fn restored_paths_of<
         let p = pruned_of indices.now (row_sets sets.now) sent.now in
         IfOk result (λ paths. shown_paths paths.items ≡ restored_paths (terms f (shape_of N dimensions.now) t) p) }
 {
-    let slots = check_pruned(alloc, dimensions, N, t, indices, sets, sent.len())?;
+    let queried = check_pruned(alloc, dimensions, N, t, indices, sets, sent.len())?;
     tell_restorable::<P, PW, D>(dimensions, N, t, indices, sets, sent);
     let queries = Queries {
         dimensions,
@@ -67,7 +67,7 @@ pub fn restored_paths_of<
         t,
         indices,
     };
-    let leaves = leaves_of(dimensions, N, indices, slots);
+    let leaves = leaves_of(dimensions, N, indices, queried);
     let levels = kept_levels::<P, PW, H, C, N, D>(alloc, checker, &queries, sets, sent, leaves)?;
     Ok(paths_out_of(alloc, &levels, indices)?)
 }

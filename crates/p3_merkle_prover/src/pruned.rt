@@ -43,11 +43,11 @@ pub fn rows_of_indices<F: Copy, X, G, M: Matrix<F>, const N: usize>(
     Ok(rows)
 }
 
-/// The digests of the boundary of some leaves below layer `t`, in wire order: level by level from the leaves, and
+/// The digests of the boundary of some leaves below the cap's layer, in wire order: level by level from the leaves, and
 /// ascending, those of the children of covered nodes that are not covered. Each index is below
-/// [`max_height`](crate::opener::max_height), and `t` at most the number of levels. Takes memory for all indices, and
-/// beside their sort the time of one step for each index and level, and of a copy of the digests. These are allocated
-/// once, at their number.
+/// [`max_height`](crate::opener::max_height), and `cap_layer` at most the number of levels. Takes memory for all
+/// indices, and beside their sort the time of one step for each index and level, and of a copy of the digests. These
+/// are allocated once, at their number.
 ///
 /// # Errors
 ///
@@ -56,20 +56,20 @@ pub fn digests_of_boundary<F, X: Copy, G, M: Matrix<F>, const N: usize>(
     alloc: Global,
     tree: &Tree<F, X, G, M, N>,
     indices: &[usize],
-    t: usize,
+    cap_layer: usize,
 ) -> Result<Vec<X>, MerkleTreeError>
     requires indices { All (λ index. index < greatest (heights (shape (tree_batch tree.now)))) indices.now }
-    requires layer { t ≤ levels (shape (tree_batch tree.now)) }
+    requires layer { cap_layer ≤ levels (shape (tree_batch tree.now)) }
     ensures digests { (d : X) → let own = boundary_by (node_in d (layers_of tree.now))
-        (shape (tree_batch tree.now)) indices.now t in
+        (shape (tree_batch tree.now)) indices.now cap_layer in
         IfOk result (λ digests. digests.items ≡ own) }
     ensures memory { AnswersUnlessMemory result None }
 {
     let mut covered = covered_leaves(alloc, indices)?;
     let steps = steps_in(tree);
     let leaves = Vec::from_slice(alloc, &covered)?;
-    let mut digests = Vec::with_capacity(alloc, steps.boundary_len(t, leaves))?;
-    for level in 0..t {
+    let mut digests = Vec::with_capacity(alloc, steps.boundary_len(cap_layer, leaves))?;
+    for level in 0..cap_layer {
         let step = steps.step(level);
         extend_with_boundary(&mut digests, &tree.layers[level], &covered, step)?;
         climb(&mut covered, step);

@@ -1,15 +1,12 @@
 -- What the scheme hands to its checker.
 use Rattle.std.proofs.Common.{◌≡◌, ℕ, List}
-use Rattle.p3_support.specs.Shown.{row_lists, row_sets}
+use Rattle.p3_support.specs.Shown.{row_lists}
 use Rattle.p3_merkle_core.specs.Checks.{terms}
 use Rattle.p3_merkle_core.specs.Geometry.{Shape}
 use Rattle.p3_merkle_core.specs.Nodes.{functions_of}
 use Rattle.p3_merkle_core.specs.Openings.{opening_of}
-use Rattle.p3_merkle_core.specs.Pruning.{pruned_of}
 use Rattle.p3_merkle_verifier.specs.Inner.Checks.{opening_in}
 use Rattle.p3_merkle_verifier.specs.declared.openings.IndexedOpening.{IndexedOpening}
-use Rattle.p3_merkle_multiproof.specs.Inner.Pairs.{pruned_in}
-use Rattle.p3_merkle_multiproof.specs.declared.extraction.PrunedOpeningRef.{PrunedOpeningRef}
 
 -- the same terms, of the same hash, compression and layer
 pub terms_alike : {T W H C : Type 0} (hash : H → List T → List W) (compression : C → List (List W) → List W)
@@ -23,9 +20,3 @@ pub opening_is : {T W : Type 0} (v : IndexedOpening T (List W)) (index : ℕ) (r
     (siblings : List (List W)) → v.index ≡ index → row_lists v.rows.now ≡ rows → v.siblings.now ≡ siblings →
     opening_in v ≡ opening_of index rows siblings
 opening_is v index rows siblings a b c = λ i. opening_of (a i) (b i) (c i)
-
--- the pruned opening of indices, row sets and digests
-pub pruned_is : {T W : Type 0} (v : PrunedOpeningRef T (List W)) (indices : List ℕ) (rows : List (List (List T)))
-    (digests : List (List W)) → v.indices.now ≡ indices → row_sets v.sets.now ≡ rows → v.sent.now ≡ digests →
-    pruned_in v ≡ pruned_of indices rows digests
-pruned_is v indices rows digests a b c = λ i. pruned_of (a i) (b i) (c i)

@@ -20,4 +20,4 @@ pub use p3_merkle_core::pruning::{
 };
 pub use p3_merkle_prover::tree;
 pub use p3_merkle_prover::tree::MerkleTree;
-pub use p3_support::opening::{BatchOpening, BatchOpeningRef, Hash, MerkleCap};
+pub use p3_support::opening::{BatchOpening, BatchOpeningRef, Hash, MerkleCap, PrunedOpeningRef};

@@ -11,7 +11,7 @@ ghost use Rattle.p3_support.specs.Shown.{row_lists};
 
 use crate::opened::opened_slices;
 use crate::openings::IndexedOpening;
-use p3_merkle_core::group::group_with;
+use p3_merkle_core::group::{group_with, pair_group};
 use p3_merkle_core::steps::{StepUp, Steps};
 use p3_support::compress::PseudoCompressionFunction;
 use p3_support::hasher::CryptographicHasher;
@@ -179,13 +179,13 @@ impl<
         let group = standing.group::<N>(default_digest, step, opening.siblings);
         let node = self.compress.compress(group);
         if has_rows {
-            let rows = [opened_rows_digest::<P, PW, H, D>(
+            let rows = opened_rows_digest::<P, PW, H, D>(
                 self.hash,
                 steps.dimensions,
                 opening.rows,
                 exponent,
-            )];
-            let pair = group_with::<PW::Value, N, D>(default_digest, node, 0, &rows);
+            );
+            let pair = pair_group::<PW::Value, N, D>(default_digest, node, rows);
             CheckedLevel {
                 level,
                 group,

@@ -1,7 +1,7 @@
 //! What two openings of one cap lead to.
 
 use crate::hiding::fixtures::{cap_of, dimensions_with, multi_proof, one_salt, opening, sets};
-use p3_merkle_tree::{BatchOpeningRef, Collision, MerkleTreeError, Place};
+use p3_merkle_tree::{BatchOpeningRef, Collision, MerkleTreeError, Place, PrunedOpeningRef};
 use p3_support::matrix::Dimensions;
 use std::alloc::{AllocError, Global};
 use std::test::Fail;
@@ -75,17 +75,9 @@ fn two_openings_of_several_leaves_lead_to_rows_and_salts(rt: HostRuntime) -> Res
         sets(alloc, &[&[&[0]]])?,
         multi_proof(alloc, &[&[&[41]]], &[1043])?,
     );
-    let found = scheme.extract_collision_multi(
-        alloc,
-        &cap,
-        &TWO,
-        &[1, 0],
-        &honest_rows,
-        &honest,
-        &[0],
-        &forged_rows,
-        &forged,
-    )?;
+    let first = PrunedOpeningRef::new(&[1, 0], &honest_rows, &honest);
+    let second = PrunedOpeningRef::new(&[0], &forged_rows, &forged);
+    let found = scheme.extract_collision_multi(alloc, &cap, &TWO, first, second)?;
     assert_eq!(rt; found, Some((1, 0, words(alloc, &[1, 10], &[0, 41])?)));
     Ok(())
 }

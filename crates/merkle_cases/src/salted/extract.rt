@@ -12,7 +12,9 @@ use crate::scheme::{Cap, FoldCap};
 use crate::text::Answer;
 use p3_merkle_core::pruning::PrunedProof;
 use p3_merkle_hiding::hiding_mmcs::{SaltedMultiProof, SaltedProof};
-use p3_merkle_tree::{BatchOpening, BatchOpeningRef, Collision, MerkleCap, MerkleTreeError};
+use p3_merkle_tree::{
+    BatchOpening, BatchOpeningRef, Collision, MerkleCap, MerkleTreeError, PrunedOpeningRef,
+};
 use p3_support::matrix::Dimensions;
 use std::alloc::Global;
 
@@ -69,6 +71,11 @@ impl SaltedLeaves {
         }
     }
 
+    /// The opening, lent.
+    pub fn lent(&self) -> PrunedOpeningRef<'_, u32, SaltedMultiProof<u32, u32, 1>> {
+        PrunedOpeningRef::new(&self.indices, &self.rows, &self.proof)
+    }
+
     /// Whether it has too many queries to compare each with each.
     pub fn is_long(&self) -> bool {
         self.indices.len() > LONG
@@ -104,17 +111,7 @@ pub fn collision_of_leaves<const N: usize, const SALT_ELEMS: usize>(
     first: &SaltedLeaves,
     second: &SaltedLeaves,
 ) -> Result<Option<(usize, usize, Collision<u32, u32, 1>)>, MerkleTreeError> {
-    scheme.extract_collision_multi(
-        alloc,
-        cap,
-        dimensions,
-        &first.indices,
-        &first.rows,
-        &first.proof,
-        &second.indices,
-        &second.rows,
-        &second.proof,
-    )
+    scheme.extract_collision_multi(alloc, cap, dimensions, first.lent(), second.lent())
 }
 
 /// `extract_salted | ARITY | CAP | SALTS A ROW | ROOTS | DIMENSIONS | INDEX | ROWS | SALTS | SIBLINGS | INDEX | ROWS |

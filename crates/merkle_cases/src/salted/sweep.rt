@@ -17,7 +17,7 @@ use crate::twin::{
 };
 use p3_merkle_core::geometry::tallest_of;
 use p3_merkle_hiding::hiding_mmcs::SaltedProof;
-use p3_merkle_tree::{BatchOpening, BatchOpeningRef, Place};
+use p3_merkle_tree::{BatchOpening, BatchOpeningRef, Place, PrunedOpeningRef};
 use p3_support::matrix::Dimensions;
 use std::alloc::Global;
 
@@ -33,9 +33,9 @@ fn check_twin<const N: usize, const SALT_ELEMS: usize>(
     place: &Option<Place>,
 ) -> Result<(), Fault> {
     let (rows, proof) = opened;
-    let found = scheme.extract_collision_multi(
-        alloc, cap, dimensions, indices, rows, proof, indices, twin, proof,
-    )?;
+    let honest = PrunedOpeningRef::new(indices, rows, proof);
+    let forged = PrunedOpeningRef::new(indices, twin, proof);
+    let found = scheme.extract_collision_multi(alloc, cap, dimensions, honest, forged)?;
     if collides_first_at(&found, place) {
         Ok(())
     } else {

@@ -1,5 +1,5 @@
 -- No set of uncovered nodes that suffices has fewer members than the boundary.
-use Rattle.std.proofs.Common.{◌≡◌, ℕ, zero, suc, ◌+◌, ◌-◌, ◌*◌, ◌/◌, ◌%◌, ◌<◌, ◌≤◌, Bool, true, false, not, eqb, nat_le, ◌&&◌, List, [], ◌∷◌, ◌++◌, map, refl, sym, ◌∙◌, arith, inl, inr, ◌⊎◌, length, filter, add-suc, eq-eqb, subst, ◌≢◌, ap}
+use Rattle.std.proofs.Common.{◌≡◌, ℕ, zero, suc, ◌+◌, ◌-◌, ◌*◌, ◌/◌, ◌%◌, ◌<◌, ◌≤◌, Bool, true, false, not, eqb, nat_le, ◌&&◌, List, [], ◌∷◌, ◌++◌, map, refl, sym, ◌∙◌, arith, inl, inr, ◌⊎◌, length, filter, eq-eqb, subst, ◌≢◌, ap}
 use Rattle.std.specs.List.{range_with_len, count_by}
 use Rattle.std.proofs.lemmas.Bool.{cases_Bool, eqb-true, and_parts, and_from, or_cases, or_left, or_right, leb-true, not-true, both_ways, true≢false, false_from_ne_true}
 use Rattle.p3_merkle_core.specs.Geometry.{Shape, step, layer_len, IsArity}

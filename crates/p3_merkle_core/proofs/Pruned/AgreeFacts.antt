@@ -8,11 +8,11 @@ use Rattle.p3_support.specs.Lists.{is_among}
 use Rattle.p3_support.specs.Batches.{greatest}
 use Rattle.p3_merkle_core.specs.Refusals.{first_of, group_refusal, lead, matrices_at, row_refusal, slots_below, width_refusal, rows_of}
 use Rattle.p3_support.specs.declared.matrix.Dimensions.{Dimensions}
-use Rattle.p3_merkle_core.specs.Inner.Agreement.{distinct, first_query, layers_refusal, opened_of, rows_refusal, slot_rows, IsAscending}
+use Rattle.p3_merkle_core.specs.Inner.Agreement.{distinct, first_query, layers_refusal, matrices_with, opened_of, rows_refusal, slot_rows}
 use Rattle.p3_merkle_core.specs.declared.error.MerkleTreeError.{MerkleTreeError}
 use Rattle.p3_merkle_core.proofs.Shapes.LeastFacts.{least_is}
 use Rattle.p3_merkle_core.proofs.Lists.RisingFacts.{listed_at}
-use Rattle.p3_merkle_core.proofs.Pruned.SlotFacts.{at_slot, distinct_below, distinct_queried, distinct_rising, first_of_index, first_place, found_at, highest, rising_either, rising_order, some_place}
+use Rattle.p3_merkle_core.proofs.Pruned.SlotFacts.{at_slot, distinct_below, distinct_queried, distinct_rising, first_of_index, first_place, found_at, highest, rising_order, some_place}
 use Rattle.p3_merkle_core.proofs.Pruned.LeadFacts.{first_before, first_there, layer_fault, lead_place, slot_fault}
 
 -- ---- places
@@ -82,7 +82,8 @@ slot_is : {T : Type 0} (row_eq : T → T → Bool) (s : Shape) (l : ℕ) (firsts
     (sets : List (List (List T))) (k : ℕ) → firsts ≡ map (first_query indices) (distinct indices) → length indices
     ≡ length sets →
     greatest indices < greatest (heights s) → k < length (distinct indices) →
-    slot_fault row_eq (heights s) (layer_exponent s l) (map (ancestor s l) (distinct indices)) firsts sets k
+    slot_fault row_eq (matrices_with (heights s) (layer_exponent s l)) (map (ancestor s l) (distinct indices)) firsts
+    sets k
     ≡ first_of (row_refusal row_eq s (opened_of indices sets) l (get_or (distinct indices) k 0)) (matrices_at s l)
 slot_is row_eq s l firsts indices sets k is e below h =
     let leaves = distinct indices in
@@ -90,17 +91,16 @@ slot_is row_eq s l firsts indices sets k is e below h =
     let p = opened_of indices sets in
     let i = get_or leaves k 0 in
     let f = first_query nodes (get_or nodes k 0) in
-    let hs = heights s in
-    let x = layer_exponent s l in
+    let ms = matrices_with (heights s) (layer_exponent s l) in
     let long : length nodes ≡ length leaves = length-map leaves (ancestor s l) in
     let inside : f < length nodes = lead_place nodes k f (omega arith) refl in
     let mine = rows_at firsts indices sets k is e h in
     let theirs = rows_at firsts indices sets f is e (omega arith)
     ∙ ap (rows_of p) (sym (lead_index s indices l k f below h refl)) in
     let slot = (found_at indices i k h refl).slot in
-    ap (λ rows. rows_refusal row_eq hs x k rows (slot_rows firsts sets f)) mine
-    ∙ ap (λ rows. rows_refusal row_eq hs x k (rows_of p i) rows) theirs
-    ∙ ap (λ n. rows_refusal row_eq hs x n (rows_of p i) (rows_of p (lead s indices l (ancestor s l i)))) slot
+    ap (λ rows. rows_refusal row_eq ms k rows (slot_rows firsts sets f)) mine
+    ∙ ap (λ rows. rows_refusal row_eq ms k (rows_of p i) rows) theirs
+    ∙ ap (λ n. rows_refusal row_eq ms n (rows_of p i) (rows_of p (lead s indices l (ancestor s l i)))) slot
 
 layer_is : {T : Type 0} (row_eq : T → T → Bool) (s : Shape) (l : ℕ) (firsts indices : List ℕ)
     (sets : List (List (List T))) → firsts ≡ map (first_query indices) (distinct indices) → length indices
@@ -111,7 +111,8 @@ layer_is : {T : Type 0} (row_eq : T → T → Bool) (s : Shape) (l : ℕ) (first
     (slots_below (greatest (heights s)) indices)
 layer_is row_eq s l firsts indices sets is e below =
     let leaves = distinct indices in
-    let g = slot_fault row_eq (heights s) (layer_exponent s l) (map (ancestor s l) leaves) firsts sets in
+    let ms = matrices_with (heights s) (layer_exponent s l) in
+    let g = slot_fault row_eq ms (map (ancestor s l) leaves) firsts sets in
     let h = λ (i : ℕ). first_of (row_refusal row_eq s (opened_of indices sets) l i) (matrices_at s l) in
     ap (λ n. first_of g (range_with_len 0 n)) (length-map leaves (ancestor s l))
     ∙ by_places g h leaves 0 (λ k low. ap g (let z : 0 + k ≡ k = omega arith in z)
@@ -160,6 +161,3 @@ firsts_inside firsts indices is k d h =
     omega (arith, ap length is, length-map (distinct indices) (first_query indices)) in
     rw (is, get_or-map (first_query indices) (distinct indices) k 0 d low)
     (first_place indices (get_or (distinct indices) k 0) (distinct_queried indices k low))
-
-pub distinct_ascending : (indices : List ℕ) → IsAscending (distinct indices)
-distinct_ascending indices = rising_either indices

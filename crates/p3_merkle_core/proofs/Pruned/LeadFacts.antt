@@ -1,27 +1,26 @@
 -- The lowest slot under a node, and the rows that are compared with its rows.
-use Rattle.std.proofs.Common.{◌≡◌, ◌≢◌, ℕ, zero, suc, ◌+◌, ◌-◌, ◌/◌, ◌<◌, ◌≤◌, Bool, true, false, not, eqb, cond, List, [], ◌∷◌, map, refl, ap, sym, ◌∙◌, arith, inl, inr, length, filter, get_or, eq-eqb, Option, None, Some, Vec, drop, drop-cons, add-one}
+use Rattle.std.proofs.Common.{◌++◌, All, ◌≡◌, ◌≢◌, ℕ, zero, suc, ◌+◌, ◌-◌, ◌/◌, ◌<◌, ◌≤◌, Bool, true, false, not, eqb, List, [], ◌∷◌, map, refl, ap, sym, ◌∙◌, arith, inl, inr, length, filter, get_or, eq-eqb, Option, None, Some, Vec, drop, drop-cons, add-one}
 use Rattle.std.specs.List.{list_any, range_with_len}
 use Rattle.std.specs.Option.{option_or}
 use Rattle.std.specs.Cmp.Lexicographic.{pointwise}
 use Rattle.std.proofs.lemmas.Bool.{cases_Bool, eqb-true, eqb-false, false_from_ne_true, ne_eqb, true≢false, cases_lt}
 use Rattle.std.proofs.lemmas.List.Folds.{list_any_at}
-use Rattle.std.proofs.lemmas.List.{get_or-map, length-map}
+use Rattle.std.specs.Cmp.{IsEquivalence}
+use Rattle.std.specs.List.Sorted.{IsStrictlyIncreasing}
+use Rattle.std.proofs.lemmas.Cmp.{lists_equiv}
+use Rattle.std.proofs.lemmas.List.{append_assoc, get_or_default, get_or-map, length-map}
 use Rattle.p3_support.specs.Shown.{row_lists}
 use Rattle.p3_support.specs.Lists.{is_among}
-use Rattle.p3_support.specs.Batches.{heights_of, greatest}
-use Rattle.p3_merkle_core.specs.Geometry.{Shape, ancestor, exponent, heights, is_bridge, layer_exponent, leaves_under, levels, height_limit}
-use Rattle.p3_merkle_core.proofs.Shapes.LadderFacts.{levels_le}
-use Rattle.p3_merkle_core.proofs.Shapes.LeastFacts.{exponent_le}
+use Rattle.p3_support.specs.Batches.{heights_of}
+use Rattle.p3_merkle_core.specs.Geometry.{Shape, ancestor, exponent, heights, layer_exponent, leaves_under, step}
 use Rattle.p3_merkle_core.proofs.Covered.CoveredFacts.{leaves_above_0}
-use Rattle.p3_merkle_core.proofs.Shapes.StepFacts.{anc_start, ancestor_more}
+use Rattle.p3_merkle_core.proofs.Shapes.StepFacts.{anc_next, anc_start}
 use Rattle.p3_support.specs.declared.matrix.Dimensions.{Dimensions}
 use Rattle.p3_merkle_core.specs.Refusals.{first_of}
-use Rattle.p3_merkle_core.specs.Inner.Agreement.{first_query, row_fault, rows_refusal, slot_rows, nodes_refusal, IsAscending}
-use Rattle.p3_merkle_core.specs.declared.error.PrunedProofError.TheVariants.{InconsistentGroupOpening}
+use Rattle.p3_merkle_core.specs.Inner.Agreement.{first_query, matrices_with, row_fault, rows_refusal, slot_rows, nodes_refusal, IsAscending}
 use Rattle.p3_merkle_core.specs.declared.error.MerkleTreeError.{MerkleTreeError}
-use Rattle.p3_merkle_core.specs.declared.error.MerkleTreeError.TheVariants.{MalformedPrunedProof}
-use Rattle.p3_merkle_core.proofs.Lists.RisingFacts.{div_mono, listed_at, none_kept}
-use Rattle.p3_merkle_core.proofs.Pruned.SlotFacts.{first_place}
+use Rattle.p3_merkle_core.proofs.Lists.RisingFacts.{div_mono, listed_at, listed_in, none_kept, rising_from}
+use Rattle.p3_merkle_core.proofs.Pruned.SlotFacts.{first_place, rising_order}
 
 -- ---- the first place of a number
 
@@ -88,32 +87,33 @@ lead_new nodes k lead up l e differ =
 
 -- ---- the matrices of a layer
 
--- the first fault among the matrices of exponent x from m on
-abbrev pub faults_from : {T : Type 0} → (T → T → Bool) → List ℕ → ℕ → ℕ → List (List T) → List (List T) → ℕ → ℕ →
-    Option MerkleTreeError
-faults_from row_eq hs x k rows lead n m =
-    first_of (row_fault row_eq k rows lead) (filter (λ m. eqb (exponent (get_or hs m 0)) x) (range_with_len m (n - m)))
+-- one turn over the matrices: those so far, and the rest's
+pub record IsMatrixTurn (hs : List ℕ) (x n m : ℕ) (so_far total : List ℕ) : Type 0 where
+  pub skipped : exponent (get_or hs m 0) ≢ x →
+      so_far ++ filter (λ m. eqb (exponent (get_or hs m 0)) x) (range_with_len (m + 1) (n - (m + 1))) ≡ total
+  pub taken : exponent (get_or hs m 0) ≡ x →
+      so_far ++ (m ∷ []) ++ filter (λ m. eqb (exponent (get_or hs m 0)) x) (range_with_len (m + 1) (n - (m + 1)))
+      ≡ total
 
--- one turn over the matrices
-pub record IsRowTurn {T : Type 0} (row_eq : T → T → Bool) (hs : List ℕ) (x k : ℕ) (rows lead : List (List T)) (n m : ℕ)
-    (total : Option MerkleTreeError) : Type 0 where
-  pub skipped : exponent (get_or hs m 0) ≢ x → faults_from row_eq hs x k rows lead n (m + 1) ≡ total
-  pub kept : exponent (get_or hs m 0) ≡ x → pointwise row_eq (get_or rows m []) (get_or lead m []) ≡ true →
-      faults_from row_eq hs x k rows lead n (m + 1) ≡ total
-  pub found : exponent (get_or hs m 0) ≡ x → pointwise row_eq (get_or rows m []) (get_or lead m []) ≡ false → total
-      ≡ Some (MalformedPrunedProof (InconsistentGroupOpening k m))
-
-pub row_turn : {T : Type 0} (row_eq : T → T → Bool) (hs : List ℕ) (x k : ℕ) (rows lead : List (List T)) (n m : ℕ)
-    (total : Option MerkleTreeError) → m < n →
-    faults_from row_eq hs x k rows lead n m ≡ total → IsRowTurn row_eq hs x k rows lead n m total
-row_turn row_eq hs x k rows lead n m total h so_far =
+pub matrix_turn : (hs : List ℕ) (x n m : ℕ) (so_far total : List ℕ) → m < n →
+    so_far ++ filter (λ m. eqb (exponent (get_or hs m 0)) x) (range_with_len m (n - m)) ≡ total →
+    IsMatrixTurn hs x n m so_far total
+matrix_turn hs x n m so_far total h is =
     let cut : n - m ≡ suc (n - (m + 1)) = omega arith in
-    let here = rw cut at so_far in
+    let here = rw cut at is in
+    let rest = filter (λ m. eqb (exponent (get_or hs m 0)) x) (range_with_len (m + 1) (n - (m + 1))) in
     record {
       skipped = λ e. rw (ne_eqb (exponent (get_or hs m 0)) x e) at here;
-      kept = λ e same. rw (eq-eqb (exponent (get_or hs m 0)) x e, same) at here;
-      found = λ e differ. sym (rw (eq-eqb (exponent (get_or hs m 0)) x e, differ) at here);
+      taken = λ e. append_assoc so_far (m ∷ []) rest ∙ (rw (eq-eqb (exponent (get_or hs m 0)) x e) at here);
     }
+
+-- a list of matrices has only places of matrices
+pub matrices_inside : (hs : List ℕ) (x n : ℕ) → length hs ≡ n → All (λ m. m < n) (matrices_with hs x)
+matrices_inside hs x n e k d h =
+    let p = λ (m : ℕ). eqb (exponent (get_or hs m 0)) x in
+    let ms = matrices_with hs x in
+    let inside = listed_in p 0 (length hs) (get_or ms k 0) (listed_at ms k 0 h) in
+    omega (arith, inside.0, get_or_default ms k d 0 h)
 
 pub row_read : {T A : Type 0} (rows : List (Vec T A)) (m : ℕ) (v : Vec T A) → m < length rows → v ≡ get_or rows m v →
     get_or (row_lists rows) m [] ≡ v.items
@@ -127,6 +127,14 @@ pub slots_next : (g : ℕ → Option MerkleTreeError) (n k : ℕ) (total : Optio
     option_or (g k) (first_of g (range_with_len (k + 1) (n - (k + 1)))) ≡ total
 slots_next g n k total h so_far =
     let cut : n - k ≡ suc (n - (k + 1)) = omega arith in
+    rw cut at so_far
+
+-- one turn over the levels
+pub levels_next : (h : ℕ → Option MerkleTreeError) (t l : ℕ) (total : Option MerkleTreeError) → l < t →
+    first_of h (range_with_len (l + 1) (t - l)) ≡ total →
+    option_or (h (l + 1)) (first_of h (range_with_len (l + 1 + 1) (t - (l + 1)))) ≡ total
+levels_next h t l total below so_far =
+    let cut : t - l ≡ suc (t - (l + 1)) = omega arith in
     rw cut at so_far
 
 -- ---- what the code reads
@@ -173,10 +181,11 @@ pub height_missed : (dimensions : List Dimensions) (m e x : ℕ) → m < length 
 height_missed dimensions m e x h is other = λ same. other (height_is dimensions m e h is ∙ same)
 
 -- the refusal of slot k
-abbrev pub slot_fault : {T : Type 0} → (T → T → Bool) → List ℕ → ℕ → List ℕ → List ℕ → List (List (List T)) → ℕ →
+abbrev pub slot_fault : {T : Type 0} → (T → T → Bool) → List ℕ → List ℕ → List ℕ → List (List (List T)) → ℕ →
     Option MerkleTreeError
-slot_fault row_eq hs x nodes firsts sets k =
-    rows_refusal row_eq hs x k (slot_rows firsts sets k) (slot_rows firsts sets (first_query nodes (get_or nodes k 0)))
+slot_fault row_eq matrices nodes firsts sets k =
+    rows_refusal row_eq matrices k (slot_rows firsts sets k)
+    (slot_rows firsts sets (first_query nodes (get_or nodes k 0)))
 
 none_of : (g : ℕ → Option MerkleTreeError) (xs : List ℕ) → ((k : ℕ) → g k ≡ None) → first_of g xs ≡ None
 none_of g [] none = refl
@@ -185,26 +194,48 @@ none_of g (x ∷ xs) none = rw (none x) (none_of g xs none)
 -- nothing is compared where no matrix has the exponent
 pub no_matrix : {T : Type 0} (row_eq : T → T → Bool) (hs : List ℕ) (x : ℕ) (nodes firsts : List ℕ)
     (sets : List (List (List T))) → list_any (λ h. eqb (exponent h) x) hs ≡ false →
-    nodes_refusal row_eq hs x nodes firsts sets ≡ None
+    nodes_refusal row_eq (matrices_with hs x) nodes firsts sets ≡ None
 no_matrix row_eq hs x nodes firsts sets none =
     let kept = none_kept (λ m. eqb (exponent (get_or hs m 0)) x) 0 (length hs)
     (λ m low high. false_from_ne_true (eqb (exponent (get_or hs m 0)) x)
     (λ t. true≢false (sym (list_any_at (λ h. eqb (exponent h) x) hs m 0 (omega (arith, high)) t) ∙ none))) in
-    none_of (slot_fault row_eq hs x nodes firsts sets) (range_with_len 0 (length nodes)) (λ k. rw kept refl)
+    none_of (slot_fault row_eq (matrices_with hs x) nodes firsts sets) (range_with_len 0 (length nodes))
+    (λ k. rw kept refl)
 
 pub lead_start : (nodes : List ℕ) → 0 ≡ first_query nodes (get_or nodes 0 0)
 lead_start [] = refl
 lead_start (x ∷ nodes) = rw (eq-eqb x x refl) refl
 
-pub slot_read : {T : Type 0} (row_eq : T → T → Bool) (hs : List ℕ) (x : ℕ) (nodes firsts : List ℕ)
+pub slot_read : {T : Type 0} (row_eq : T → T → Bool) (matrices nodes firsts : List ℕ)
     (sets : List (List (List T))) (k lead : ℕ) (mine theirs : List (List T)) (o : Option MerkleTreeError) →
     mine ≡ slot_rows firsts sets k → theirs ≡ slot_rows firsts sets lead → lead ≡ first_query nodes (get_or nodes k 0) →
-    rows_refusal row_eq hs x k mine theirs ≡ o → slot_fault row_eq hs x nodes firsts sets k ≡ o
-slot_read row_eq hs x nodes firsts sets k lead mine theirs o is_mine is_theirs is_lead e =
-    ap (λ f. rows_refusal row_eq hs x k (slot_rows firsts sets k) (slot_rows firsts sets f)) (sym is_lead)
-    ∙ ap (λ rows. rows_refusal row_eq hs x k (slot_rows firsts sets k) rows) (sym is_theirs)
-    ∙ ap (λ rows. rows_refusal row_eq hs x k rows theirs) (sym is_mine)
+    rows_refusal row_eq matrices k mine theirs ≡ o → slot_fault row_eq matrices nodes firsts sets k ≡ o
+slot_read row_eq matrices nodes firsts sets k lead mine theirs o is_mine is_theirs is_lead e =
+    ap (λ f. rows_refusal row_eq matrices k (slot_rows firsts sets k) (slot_rows firsts sets f)) (sym is_lead)
+    ∙ ap (λ rows. rows_refusal row_eq matrices k (slot_rows firsts sets k) rows) (sym is_theirs)
+    ∙ ap (λ rows. rows_refusal row_eq matrices k rows theirs) (sym is_mine)
     ∙ e
+
+-- rows are those of their own slot
+own_rows : {T : Type 0} (row_eq : T → T → Bool) → IsEquivalence row_eq → (matrices : List ℕ) (k : ℕ)
+    (rows : List (List T)) → rows_refusal row_eq matrices k rows rows ≡ None
+own_rows row_eq laws matrices k rows =
+    none_of (row_fault row_eq k rows rows) matrices
+    (λ m. rw (IsEquivalence.refl (lists_equiv laws) (get_or rows m [])) refl)
+
+-- a lead is not refused
+pub lead_agrees : {T : Type 0} (row_eq : T → T → Bool) → IsEquivalence row_eq → (matrices nodes firsts : List ℕ)
+    (sets : List (List (List T))) (k : ℕ) → k ≡ first_query nodes (get_or nodes k 0) →
+    slot_fault row_eq matrices nodes firsts sets k ≡ None
+lead_agrees row_eq laws matrices nodes firsts sets k is =
+    slot_read row_eq matrices nodes firsts sets k k (slot_rows firsts sets k) (slot_rows firsts sets k) None refl refl
+    is (own_rows row_eq laws matrices k (slot_rows firsts sets k))
+
+none_within : (g : ℕ → Option MerkleTreeError) (a n : ℕ) → ((k : ℕ) → k < a + n → g k ≡ None) →
+    first_of g (range_with_len a n) ≡ None
+none_within g a zero none = refl
+none_within g a (suc n) none =
+    rw (none a (omega arith)) (none_within g (a + 1) n (λ k h. none k (omega arith)))
 
 pub full_rows : {T A : Type 0} (rows : List (Vec T A)) (set : List (List T)) (n : ℕ) → row_lists rows ≡ set → length set
     ≡ n → length rows ≡ n
@@ -220,26 +251,40 @@ lead_place nodes k lead l e = omega (arith, first_place nodes (get_or nodes k 0)
 abbrev pub layer_fault : {T : Type 0} → (T → T → Bool) → Shape → List ℕ → List ℕ → List (List (List T)) → ℕ →
     Option MerkleTreeError
 layer_fault row_eq s leaves firsts sets l =
-    nodes_refusal row_eq (heights s) (layer_exponent s l) (map (ancestor s l) leaves) firsts sets
+    nodes_refusal row_eq (matrices_with (heights s) (layer_exponent s l)) (map (ancestor s l) leaves) firsts sets
 
 pub nodes_start : (s : Shape) (leaves : List ℕ) → leaves ≡ map (ancestor s 0) leaves
 nodes_start s [] = refl
 nodes_start s (i ∷ leaves) = rw (anc_start s i) (ap (λ xs. i ∷ xs) (nodes_start s leaves))
 
-pub nodes_more : (s : Shape) (l x n : ℕ) (leaves : List ℕ) → x ≡ layer_exponent s l → n
-    ≡ cond (is_bridge s x) 2 s.arity → map (λ j. j / n) (map (ancestor s l) leaves) ≡ map (ancestor s (l + 1)) leaves
-nodes_more s l x n [] at is = refl
-nodes_more s l x n (i ∷ leaves) at is =
-    rw (ancestor_more s l x n i (ancestor s l i) refl at is, nodes_more s l x n leaves at is) refl
+pub nodes_more : (s : Shape) (l n : ℕ) (leaves : List ℕ) → n ≡ step s l →
+    map (λ j. j / n) (map (ancestor s l) leaves) ≡ map (ancestor s (l + 1)) leaves
+nodes_more s l n [] is = refl
+nodes_more s l n (i ∷ leaves) is =
+    let here : ancestor s l i / n ≡ ancestor s (l + 1) i = rw (is, add-one) (sym (anc_next s l i)) in
+    rw (here, nodes_more s l n leaves is) refl
 
-pub layer_read : {T : Type 0} (row_eq : T → T → Bool) (s : Shape) (leaves firsts read nodes : List ℕ)
+-- distinct leaves are leads
+pub leaves_agree : {T : Type 0} (row_eq : T → T → Bool) → IsEquivalence row_eq → (s : Shape) (leaves firsts : List ℕ)
+    (sets : List (List (List T))) → IsStrictlyIncreasing leaves → layer_fault row_eq s leaves firsts sets 0 ≡ None
+leaves_agree row_eq laws s leaves firsts sets up =
+    let matrices = matrices_with (heights s) (layer_exponent s 0) in
+    let alone : nodes_refusal row_eq matrices leaves firsts sets ≡ None =
+    none_within (slot_fault row_eq matrices leaves firsts sets) 0 (length leaves)
+    (λ k h. lead_agrees row_eq laws matrices leaves firsts sets k
+    (first_unique leaves (get_or leaves k 0) k (omega arith) refl (λ j low same.
+    let less = rising_order 0 leaves (rising_from leaves up) j k low (omega arith) in omega arith))) in
+    ap (λ nodes. nodes_refusal row_eq matrices nodes firsts sets) (sym (nodes_start s leaves)) ∙ alone
+
+pub layer_read : {T : Type 0} (row_eq : T → T → Bool) (s : Shape) (leaves firsts read matrices nodes : List ℕ)
     (sets : List (List (List T))) (l x : ℕ) (o : Option MerkleTreeError) →
-    x ≡ layer_exponent s l → nodes ≡ map (ancestor s l) leaves → read ≡ firsts →
-    nodes_refusal row_eq (heights s) x nodes read sets ≡ o → layer_fault row_eq s leaves firsts sets l ≡ o
-layer_read row_eq s leaves firsts read nodes sets l x o is_x is_nodes is_read e =
-    ap (λ y. nodes_refusal row_eq (heights s) y (map (ancestor s l) leaves) firsts sets) (sym is_x)
-    ∙ ap (λ ys. nodes_refusal row_eq (heights s) x ys firsts sets) (sym is_nodes)
-    ∙ ap (λ ys. nodes_refusal row_eq (heights s) x nodes ys sets) (sym is_read)
+    x ≡ layer_exponent s l → matrices ≡ matrices_with (heights s) x → nodes ≡ map (ancestor s l) leaves → read
+    ≡ firsts → nodes_refusal row_eq matrices nodes read sets ≡ o → layer_fault row_eq s leaves firsts sets l ≡ o
+layer_read row_eq s leaves firsts read matrices nodes sets l x o is_x is_matrices is_nodes is_read e =
+    ap (λ y. nodes_refusal row_eq (matrices_with (heights s) y) (map (ancestor s l) leaves) firsts sets) (sym is_x)
+    ∙ ap (λ ms. nodes_refusal row_eq ms (map (ancestor s l) leaves) firsts sets) (sym is_matrices)
+    ∙ ap (λ ys. nodes_refusal row_eq matrices ys firsts sets) (sym is_nodes)
+    ∙ ap (λ ys. nodes_refusal row_eq matrices nodes ys sets) (sym is_read)
     ∙ e
 
 -- nodes of ascending leaves ascend
@@ -251,6 +296,3 @@ ascending_above s l leaves nodes two is up i j h k =
     rw (is, read i 0 0 (omega arith), read j 0 0 low)
     (div_mono (leaves_under s l) (get_or leaves i 0) (get_or leaves j 0) (omega (arith, leaves_above_0 s two l))
     (up i j h low))
-
-pub few_layers : (s : Shape) (t : ℕ) → greatest (heights s) ≤ height_limit → t ≤ levels s → t ≤ 62
-few_layers s t low h = omega (arith, levels_le s, exponent_le (greatest (heights s)) 62 low)

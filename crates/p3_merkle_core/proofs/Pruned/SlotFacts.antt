@@ -2,7 +2,8 @@
 use Rattle.std.proofs.Common.{◌≡◌, ℕ, zero, suc, ◌+◌, ◌/◌, ◌<◌, ◌≤◌, Bool, true, false, eqb, List, [], ◌∷◌, map, refl, ap, sym, ◌∙◌, arith, inl, inr, length, filter, get_or, set, drop, eq-eqb, All, zip, replicate, ◌≢◌, drop-cons, add-one, Option, Some, not, Vec}
 use Rattle.std.specs.Prelude.{Ok, Err}
 use Rattle.std.specs.Ordering.{nat_cmp}
-use Rattle.std.specs.Cmp.{both_ways}
+use Rattle.std.specs.Cmp.{both_ways, IsEquivalence}
+use Rattle.std.proofs.lemmas.Cmp.{lists_equiv}
 use Rattle.std.proofs.lemmas.List.Sorted.{IsNonDecreasingBy-from_sort, list_any-IsPermutation, searched}
 use Rattle.std.specs.List.Sorted.{IsBinarySearchResult, IsPermutation, IsSorted}
 use Rattle.std.specs.List.{dedup, range_with_len}
@@ -190,7 +191,7 @@ never_missed indices i k low high c =
       | inr h ↦ absurd (omega (arith, high p.0 h p.1, p.2))
     ]
 
-ascending_from : (xs : List ℕ) → IsRising 0 xs → IsAscending xs
+pub ascending_from : (xs : List ℕ) → IsRising 0 xs → IsAscending xs
 ascending_from xs up i j h l =
     elim (cases_lt i j) [
       | inl less ↦ omega (arith, rising_order 0 xs up i j less l)
@@ -358,27 +359,39 @@ pub record IsRepeatTurn {T : Type 0} (row_eq : T → T → Bool) (indices : List
       first_of (repeat_fault row_eq (opened_of indices sets)) (zip (drop (n + 1) indices) (drop (n + 1) sets)) ≡ total
   pub found : differ ≡ true → total ≡ Some (MalformedPrunedProof (InconsistentDuplicateOpenings k))
 
+-- the row sets of two queries, as the code compares them
+pub sets_compared : {T A B : Type 0} (row_eq : T → T → Bool) (rows : List (Vec (Vec T A) B)) (n f : ℕ)
+    (mine theirs : Vec (Vec T A) B) → n < length rows → f < length rows → mine ≡ get_or rows n mine → theirs
+    ≡ get_or rows f theirs → pointwise (pointwise row_eq) (get_or (row_sets rows) n []) (get_or (row_sets rows) f [])
+    ≡ pointwise (λ a b. pointwise row_eq a.items b.items) mine.items theirs.items
+sets_compared row_eq rows n f mine theirs h k is_mine is_theirs =
+    rw (set_read rows n mine h is_mine, set_read rows f theirs k is_theirs)
+    (pointwise-map (λ r. r.items) (pointwise row_eq) mine.items theirs.items)
+
+-- a query has its own row set
+pub own_set : {T : Type 0} (row_eq : T → T → Bool) → IsEquivalence row_eq → (sets : List (List (List T))) (n f : ℕ) →
+    n ≡ f → pointwise (pointwise row_eq) (get_or sets n []) (get_or sets f []) ≡ true
+own_set row_eq laws sets n f e =
+    ap (λ k. pointwise (pointwise row_eq) (get_or sets n []) (get_or sets k [])) (sym e)
+    ∙ IsEquivalence.refl (lists_equiv (lists_equiv laws)) (get_or sets n [])
+
 pub repeat_turn : {T A B : Type 0} (row_eq : T → T → Bool) (firsts indices : List ℕ) (rows : List (Vec (Vec T A) B))
-    (total : Option MerkleTreeError) (n k f : ℕ) (mine theirs : Vec (Vec T A) B) (differ : Bool) →
+    (total : Option MerkleTreeError) (n k f : ℕ) (differ : Bool) →
     firsts ≡ map (first_query indices) (distinct indices) → length indices ≡ length rows → n < length indices →
-    IsSlot indices (get_or indices n 0) k →
-    f ≡ get_or firsts k f → mine ≡ get_or rows n mine → theirs ≡ get_or rows f theirs →
-    differ ≡ not (pointwise (λ a b. pointwise row_eq a.items b.items) mine.items theirs.items) →
+    IsSlot indices (get_or indices n 0) k → f ≡ get_or firsts k f → differ
+    ≡ not (pointwise (pointwise row_eq) (get_or (row_sets rows) n []) (get_or (row_sets rows) f [])) →
     first_of (repeat_fault row_eq (opened_of indices (row_sets rows))) (zip (drop n indices) (drop n (row_sets rows)))
     ≡ total →
     IsRepeatTurn row_eq indices (row_sets rows) total n k differ
-repeat_turn row_eq firsts indices rows total n k f mine theirs differ is e h w is_first is_mine is_theirs is_differ
-    so_far =
+repeat_turn row_eq firsts indices rows total n k f differ is e h w is_first is_differ so_far =
     let sets = row_sets rows in
     let long : length indices ≡ length sets = e ∙ sym (length-map rows (λ rows. row_lists rows.items)) in
     let at = at_slot firsts indices sets (get_or indices n 0) k is long (queried_at indices n h) w in
     let first : f ≡ get_or firsts k 0 = is_first ∙ get_or_default firsts k f 0 at.inside in
     let b = pointwise (pointwise row_eq) (get_or sets n []) (get_or sets (get_or firsts k 0) []) in
-    let same : b ≡ pointwise (λ a b. pointwise row_eq a.items b.items) mine.items theirs.items =
-    rw (set_read rows n mine (omega arith) is_mine, ← first, set_read rows f theirs (omega (arith, at.place)) is_theirs)
-    (pointwise-map (λ r. r.items) (pointwise row_eq) mine.items theirs.items) in
     let next = repeats_next row_eq firsts indices sets n k is long h w in
-    let told : differ ≡ not b = is_differ ∙ ap not (sym same) in
+    let told : differ ≡ not b = is_differ
+    ∙ ap (λ j. not (pointwise (pointwise row_eq) (get_or sets n []) (get_or sets j []))) first in
     elim (cases_Bool b) [
       | inl t ↦ record {
         kept = λ d. sym (rw t at next) ∙ so_far;

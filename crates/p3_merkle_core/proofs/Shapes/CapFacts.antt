@@ -10,7 +10,6 @@ use Rattle.p3_merkle_core.specs.Caps.{cap_layer, levels_above_rows}
 use Rattle.p3_support.specs.Batches.{greatest}
 use Rattle.p3_merkle_core.specs.Geometry.{Shape, IsArity, exponent, has_rows, heights, is_bridge, layer_below_root, layer_exponent, layer_of, levels, shortest}
 use Rattle.p3_merkle_core.specs.Checks.{is_authenticated}
-use Rattle.p3_merkle_core.specs.declared.cap.CapRule.{CapRule}
 use Rattle.p3_merkle_core.specs.declared.cap.CapRule.TheVariants.{Lowered, Fixed}
 use Rattle.p3_merkle_core.proofs.Shapes.LeastFacts.{exponent_le, exponent_mono, least_bound, least_height_below, least_is, least_le, least_passes, shortest_there}
 use Rattle.p3_merkle_core.proofs.Shapes.StepFacts.{next_exponent, whole_step_falls}

@@ -10,7 +10,7 @@ use Rattle.p3_merkle_core.specs.Refusals.{first_of, first_some, idle_refusal, qu
 use Rattle.p3_merkle_core.specs.declared.error.MerkleTreeError.{MerkleTreeError}
 use Rattle.p3_merkle_core.specs.declared.error.MerkleTreeError.TheVariants.{MalformedPrunedProof}
 use Rattle.p3_merkle_core.specs.declared.error.PrunedProofError.TheVariants.{InconsistentGroupOpening}
-use Rattle.p3_merkle_core.specs.declared.agreement.Slots.{Slots}
+use Rattle.p3_merkle_core.specs.declared.agreement.DistinctIndices.{DistinctIndices}
 
 -- the distinct indices, ascending
 unfoldable pub distinct : List ℕ → List ℕ
@@ -29,10 +29,10 @@ opened_of indices sets = pruned_of indices sets []
 abbrev pub opened_with : {T : Type 0} → List ℕ → List (List (List T)) → ℕ → PrunedOpening T ℕ
 opened_with indices sets n = pruned_of indices sets (replicate n [])
 
--- the slots of some queries: their distinct indices, ascending, and the first query of each
-pub record HasSlots (slots : Slots) (indices : List ℕ) : Type 0 where
-  pub leaves : slots.leaves.items ≡ distinct indices
-  pub firsts : slots.firsts.items ≡ map (first_query indices) (distinct indices)
+-- what is queried of some indices: the distinct ones, ascending, and the first query of each
+pub record AreDistinctOf (queried : DistinctIndices) (queries : List ℕ) : Type 0 where
+  pub indices : queried.indices.items ≡ distinct queries
+  pub first_queries : queried.first_queries.items ≡ map (first_query queries) (distinct queries)
 
 -- k is the slot of index i: how many of the distinct indices are below it, and its place among them
 pub record IsSlot (indices : List ℕ) (i k : ℕ) : Type 0 where
@@ -50,18 +50,21 @@ row_fault row_eq k rows lead m =
     unless (pointwise row_eq (slice_index_or rows m []) (slice_index_or lead m []))
     (MalformedPrunedProof (InconsistentGroupOpening k m))
 
--- the first row of slot k, among the matrices of exponent x, that is not the lead's
-abbrev pub rows_refusal : {T : Type 0} → (T → T → Bool) → List ℕ → ℕ → ℕ → List (List T) → List (List T) →
-    Option MerkleTreeError
-rows_refusal row_eq heights x k rows lead =
-    first_of (row_fault row_eq k rows lead)
-    (filter (λ m. exponent (slice_index heights m) == x) (range_with_len 0 (length heights)))
+-- the places in input order of the matrices of exponent x
+abbrev pub matrices_with : List ℕ → ℕ → List ℕ
+matrices_with heights x = filter (λ m. exponent (slice_index heights m) == x) (range_with_len 0 (length heights))
 
--- slots ascending, each under its node: the first row that is not that of the lowest slot under the same node
-abbrev pub nodes_refusal : {T : Type 0} → (T → T → Bool) → List ℕ → ℕ → List ℕ → List ℕ → List (List (List T)) →
+-- the first row of slot k, among those of some matrices, that is not the lead's
+abbrev pub rows_refusal : {T : Type 0} → (T → T → Bool) → List ℕ → ℕ → List (List T) → List (List T) →
     Option MerkleTreeError
-nodes_refusal row_eq heights x nodes firsts sets =
-    first_of (λ k. rows_refusal row_eq heights x k (slot_rows firsts sets k)
+rows_refusal row_eq matrices k rows lead = first_of (row_fault row_eq k rows lead) matrices
+
+-- slots ascending, each under its node: the first row, among those of some matrices, that is not that of the lowest
+-- slot under the same node
+abbrev pub nodes_refusal : {T : Type 0} → (T → T → Bool) → List ℕ → List ℕ → List ℕ → List (List (List T)) →
+    Option MerkleTreeError
+nodes_refusal row_eq matrices nodes firsts sets =
+    first_of (λ k. rows_refusal row_eq matrices k (slot_rows firsts sets k)
     (slot_rows firsts sets (first_query nodes (slice_index nodes k)))) (range_with_len 0 (length nodes))
 
 -- no number is below one before it
@@ -72,8 +75,8 @@ IsAscending xs = (i j : ℕ) → i ≤ j → j < length xs → slice_index xs i 
 abbrev pub layers_refusal : {T : Type 0} → (T → T → Bool) → Shape → ℕ → List ℕ → List ℕ → List (List (List T)) →
     Option MerkleTreeError
 layers_refusal row_eq s t leaves firsts sets =
-    first_of (λ l. nodes_refusal row_eq (heights s) (layer_exponent s l) (map (ancestor s l) leaves) firsts sets)
-    (range_with_len 0 (suc t))
+    first_of (λ l. nodes_refusal row_eq (matrices_with (heights s) (layer_exponent s l)) (map (ancestor s l) leaves)
+    firsts sets) (range_with_len 0 (suc t))
 
 -- why so many row sets and digests are refused for some indices before slots are made: the first of these reasons
 abbrev pub early_refusal : List ℕ → List ℕ → ℕ → ℕ → Option MerkleTreeError

@@ -9,7 +9,7 @@ use Rattle.p3_merkle_core.proofs.agreement.check_first_widths.Goals as goal
 
 pub loop-query-preserved : goal.loop-query-preserved
 loop-query-preserved g c =
-    let firsts = c.args.firsts.now in
+    let firsts = c.args.first_queries.now in
     let n = c.loop-query.query-index in
     let read = set_read c.args.rows.now (get_or firsts n 0) c.index-rows-query.result (c.requires n 0 (omega arith))
     c.index-rows-query.is ∙ ap row_lists (sym c.deref.ensures.value) in
@@ -20,7 +20,7 @@ loop-query-preserved g c =
 
 pub returns-in_err-check_widths : goal.returns-in_err-check_widths
 returns-in_err-check_widths g c =
-    let firsts = c.args.firsts.now in
+    let firsts = c.args.first_queries.now in
     let n = c.loop-query.query-index in
     let read = set_read c.args.rows.now (get_or firsts n 0) c.index-rows-query.result (c.requires n 0 (omega arith))
     c.index-rows-query.is ∙ ap row_lists (sym c.deref.ensures.value) in

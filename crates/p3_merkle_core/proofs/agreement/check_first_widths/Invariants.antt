@@ -1,4 +1,4 @@
-use Rattle.std.proofs.Common.{◌≡◌, [], drop, get_or}
+use Rattle.std.proofs.Common.{◌≡◌, ℕ, [], drop, get_or}
 use Rattle.p3_support.specs.Shown.{row_sets}
 use Rattle.p3_merkle_core.specs.Refusals.{first_of, width_refusal}
 use Rattle.p3_merkle_core.proofs.agreement.check_first_widths.Given as goal
@@ -6,5 +6,5 @@ use Rattle.p3_merkle_core.proofs.agreement.check_first_widths.Given as goal
 -- the row sets so far have their widths, so the rest decides
 abbrev pub invariant-loop-query : goal.invariant-loop-query
 invariant-loop-query g l =
-    first_of (λ query. width_refusal l.dimensions (get_or (row_sets l.rows) query [])) (drop l.query-index l.firsts)
-    ≡ first_of (λ query. width_refusal l.dimensions (get_or (row_sets l.rows) query [])) l.firsts
+    let refusal = λ (query : ℕ). width_refusal l.dimensions (get_or (row_sets l.rows) query []) in
+    first_of refusal (drop l.query-index l.first_queries) ≡ first_of refusal l.first_queries

@@ -1,97 +1,140 @@
--- Each turn is one layer.
-use Rattle.std.proofs.Common.{◌≡◌, ◌-◌, ◌+◌, ◌/◌, ◌∙◌, suc, map, length, arith, refl, None, Some, ap, sym, inr}
+-- Each turn is one level. No two slots are under one leaf.
+use Rattle.std.proofs.Common.{◌≡◌, ◌<◌, ◌-◌, ◌+◌, ◌/◌, ◌∙◌, ℕ, All, List, suc, map, length, arith, refl, None, Some, add-one, ap, subst, sym, inr}
 use Rattle.std.specs.List.{range_with_len}
 use Rattle.std.proofs.lemmas.List.{length-map, with_items_is}
 use Rattle.std.proofs.lemmas.Result.{err_from_is_err_and}
-use Rattle.p3_merkle_core.specs.Geometry.{ancestor, exponent, shape_of}
+use Rattle.p3_merkle_core.specs.Geometry.{ancestor, heights, layer_exponent, shape_of}
 use Rattle.p3_support.specs.Shown.{row_sets}
-use Rattle.p3_merkle_core.specs.Inner.Agreement.{layers_refusal}
+use Rattle.p3_merkle_core.specs.Inner.Agreement.{layers_refusal, slot_rows}
 use Rattle.p3_merkle_core.specs.Refusals.{first_of}
-use Rattle.p3_merkle_core.proofs.Shapes.StepFacts.{layer_start, next_at}
-use Rattle.p3_merkle_core.proofs.Pruned.LeadFacts.{ascending_above, few_layers, found_or, kept_or, layer_fault, layer_read, nodes_more, nodes_start, slots_next}
+use Rattle.p3_merkle_core.proofs.Lists.RisingFacts.{rising_from}
+use Rattle.p3_merkle_core.proofs.Pruned.LeadFacts.{ascending_above, found_or, kept_or, layer_fault, layer_read, leaves_agree, levels_next, matrices_inside, no_matrix, nodes_more, nodes_start}
+use Rattle.p3_merkle_core.proofs.Pruned.SlotFacts.{ascending_from}
+use Rattle.p3_merkle_core.proofs.agreement.check_groups.Goals.{then-up+in_ok-list_matrices+in_ok-check_layer, else-up}
 use Rattle.p3_merkle_core.proofs.agreement.check_groups.Goals as goal
 
-pub loop-l-init : goal.loop-l-init
-loop-l-init g c =
-    let s = shape_of c.args.arity c.args.dimensions.now in
-    let e : suc c.args.t - 0 ≡ suc c.args.t = omega arith in
-    record {
-      at = c.exponent_of-x.ensures ∙ ap exponent c.tallest_of.ensures ∙ sym (layer_start s);
-      above = c.in_ok-nodes.ensures.items ∙ c.deref.ensures.value ∙ nodes_start s c.args.slots.now.leaves.items;
-      so_far = rw e refl;
-    }
-
-pub overflow_add-l-end : goal.overflow_add-l-end
-overflow_add-l-end g c =
-    omega (arith, few_layers (shape_of c.args.arity c.args.dimensions.now) c.args.t c.requires.low c.requires.layer)
-
-pub check_layer-requires : goal.check_layer-requires
-check_layer-requires g c =
-    let s = shape_of c.args.arity c.args.dimensions.now in
-    let above = c.loop-l.invariant.above in
-    let leaves = c.args.slots.now.leaves.items in
-    let l = c.loop-l._l in
-    let nodes = c.deref-in-loop-l.ensures.value in
-    let firsts = c.deref-in-loop-l-2.ensures.value in
-    record {
-      pairs = ap length nodes ∙ ap length above ∙ length-map leaves (ancestor s l) ∙ c.requires.pairs
-          ∙ sym (ap length firsts);
-      ascending = ascending_above s l leaves c.deref-in-loop-l.result.now c.requires.arity.above_1 (nodes ∙ above)
-          c.requires.ascending;
-      queries = rw firsts c.requires.queries;
-      full = rw firsts c.requires.full;
-    }
-
-pub loop-l-preserved : goal.loop-l-preserved
-loop-l-preserved g c =
-    let s = shape_of c.args.arity c.args.dimensions.now in
-    let leaves = c.args.slots.now.leaves.items in
-    let firsts = c.args.slots.now.firsts.items in
+pub loop-level-init : goal.loop-level-init
+loop-level-init g c =
+    let s = shape_of c.args.steps.now.arity c.args.steps.now.dimensions.now in
+    let leaves = c.args.queried.now.indices.items in
+    let firsts = c.args.queried.now.first_queries.items in
     let sets = row_sets c.args.rows.now in
-    let l = c.loop-l._l in
-    let t = c.args.t in
-    let step = c.select_arity_step-step in
-    let at = c.loop-l.invariant.at in
-    let above = c.loop-l.invariant.above in
     let h = layer_fault g.T.PartialEq.eq s leaves firsts sets in
-    let total = layers_refusal g.T.PartialEq.eq s t leaves firsts sets in
-    let none = layer_read g.T.PartialEq.eq s leaves firsts c.deref-in-loop-l-2.result.now c.deref-in-loop-l.result.now
-    sets l c.loop-l.x None at (c.deref-in-loop-l.ensures.value ∙ above) c.deref-in-loop-l-2.ensures.value
-    c.in_ok-check_layer.ensures in
-    let divided = c.to_parents.ensures
-    ∙ ap (λ xs. map (λ j. j / step.result.0) xs) (c.deref_mut.ensures.value ∙ above) in
-    let long : length c.to_parents.new.nodes
-    ≡ c.loop-l.nodes.len =
+    let t = c.args.cap_layer in
+    let e : t - 0 ≡ t = omega arith in
+    record {
+      at = c.args.steps.now.leaves;
+      above = c.in_ok-nodes.ensures.items ∙ c.deref.ensures.value ∙ nodes_start s leaves;
+      so_far = kept_or (h 0) (first_of h (range_with_len 1 (t - 0)))
+          (layers_refusal g.T.PartialEq.eq s t leaves firsts sets) (rw e refl)
+          (leaves_agree g.T.PartialEq.eq g.met.T.Eq.laws s leaves firsts sets c.requires.ascending);
+    }
+
+pub check_layer-requires-clause-ascending : goal.check_layer-requires-clause-ascending
+check_layer-requires-clause-ascending g c =
+    let s = shape_of c.args.steps.now.arity c.args.steps.now.dimensions.now in
+    let leaves = c.args.queried.now.indices.items in
+    let l = c.loop-level.level in
+    let step = c.up-up.result.step in
+    let long : length c.to_parents.new.nodes ≡ c.loop-level.nodes.len =
     omega (
       arith,
       ap length c.to_parents.ensures,
-      length-map c.deref_mut.result.now (λ j. j / step.result.0),
+      length-map c.deref_mut.result.now (λ j. j / step),
       c.deref_mut.ensures.len,
     ) in
-    record {
-      at = next_at s l c.loop-l.x step.result.1 at step.ensures.next;
-      above = with_items_is c.loop-l.nodes c.to_parents.new.nodes long ∙ divided
-          ∙ nodes_more s l c.loop-l.x step.result.0 leaves at step.ensures.step;
-      so_far = kept_or (h l) (first_of h (range_with_len (l + 1) (suc t - (l + 1)))) total
-          (slots_next h (suc t) l total (omega arith) c.loop-l.invariant.so_far) none;
-    }
+    let nodes = c.deref-then-up-2.ensures.value ∙ with_items_is c.loop-level.nodes c.to_parents.new.nodes long
+    ∙ c.to_parents.ensures
+    ∙ ap (λ (xs : List ℕ). map (λ j. j / step) xs) (c.deref_mut.ensures.value ∙ c.loop-level.invariant.above)
+    ∙ nodes_more s l step leaves c.up-up.ensures.step in
+    ascending_above s (l + 1) leaves c.deref-then-up-2.result.now c.args.steps.now.wide nodes
+    (ascending_from leaves (rising_from leaves c.requires.ascending))
+
+pub check_layer-requires-clause-full : goal.check_layer-requires-clause-full
+check_layer-requires-clause-full g c k h =
+    let s = shape_of c.args.steps.now.arity c.args.steps.now.dimensions.now in
+    let firsts = c.args.queried.now.first_queries.items in
+    let sets = row_sets c.args.rows.now in
+    let read = c.deref-then-up-3.ensures.value in
+    let full = c.requires.full k (omega (arith, ap length read)) in
+    let n = length (slot_rows c.deref-then-up-3.result.now sets k) in
+    let long : length (heights s) ≡ n = length-map c.args.steps.now.dimensions.now (λ d. d.height)
+    ∙ sym full ∙ ap (λ fs. length (slot_rows fs sets k)) (sym read) in
+    subst (λ ms. All (λ m. m < n) ms)
+    (sym (c.deref-then-up.ensures.value ∙ c.in_ok-list_matrices.ensures))
+    (matrices_inside (heights s) c.up-up.result.exponent n long)
 
 pub returns-in_err-check_layer : goal.returns-in_err-check_layer
 returns-in_err-check_layer g c =
-    let s = shape_of c.args.arity c.args.dimensions.now in
-    let leaves = c.args.slots.now.leaves.items in
-    let firsts = c.args.slots.now.firsts.items in
+    let eq = g.T.PartialEq.eq in
+    let s = shape_of c.args.steps.now.arity c.args.steps.now.dimensions.now in
+    let leaves = c.args.queried.now.indices.items in
+    let firsts = c.args.queried.now.first_queries.items in
     let sets = row_sets c.args.rows.now in
-    let l = c.loop-l._l in
-    let t = c.args.t in
-    let h = layer_fault g.T.PartialEq.eq s leaves firsts sets in
-    let total = layers_refusal g.T.PartialEq.eq s t leaves firsts sets in
+    let l = c.loop-level.level in
+    let t = c.args.cap_layer in
+    let step = c.up-up.result.step in
+    let h = layer_fault eq s leaves firsts sets in
+    let total = layers_refusal eq s t leaves firsts sets in
     let e = c.in_err-check_layer.field-0.0 in
-    let some = layer_read g.T.PartialEq.eq s leaves firsts c.deref-in-loop-l-2.result.now c.deref-in-loop-l.result.now
-    sets l c.loop-l.x (Some e) c.loop-l.invariant.at (c.deref-in-loop-l.ensures.value ∙ c.loop-l.invariant.above)
-    c.deref-in-loop-l-2.ensures.value c.in_err-check_layer.ensures in
-    let found = found_or (h l) (first_of h (range_with_len (l + 1) (suc t - (l + 1)))) total e
-    (slots_next h (suc t) l total (omega arith) c.loop-l.invariant.so_far) some in
+    let at : c.up-up.result.exponent ≡ layer_exponent s (l + 1) = rw add-one c.up-up.ensures.exponent in
+    let long : length c.to_parents.new.nodes ≡ c.loop-level.nodes.len =
+    omega (
+      arith,
+      ap length c.to_parents.ensures,
+      length-map c.deref_mut.result.now (λ j. j / step),
+      c.deref_mut.ensures.len,
+    ) in
+    let above = with_items_is c.loop-level.nodes c.to_parents.new.nodes long ∙ c.to_parents.ensures
+    ∙ ap (λ (xs : List ℕ). map (λ j. j / step) xs) (c.deref_mut.ensures.value ∙ c.loop-level.invariant.above)
+    ∙ nodes_more s l step leaves c.up-up.ensures.step in
+    let some = layer_read eq s leaves firsts c.deref-then-up-3.result.now c.deref-then-up.result.now
+    c.deref-then-up-2.result.now sets (l + 1) c.up-up.result.exponent (Some e) at
+    (c.deref-then-up.ensures.value ∙ c.in_ok-list_matrices.ensures) (c.deref-then-up-2.ensures.value ∙ above)
+    c.deref-then-up-3.ensures.value c.in_err-check_layer.ensures in
+    let found = found_or (h (l + 1)) (first_of h (range_with_len (l + 1 + 1) (t - (l + 1)))) total e
+    (levels_next h t l total (omega arith) c.loop-level.invariant.so_far) some in
     let left = err_from_is_err_and c.from_residual-in_err-check_layer.result
     c.from_residual-in_err-check_layer.ensures.1 in
     rw left.1 (inr (found ∙ ap (λ e. Some e) (sym left.2)))
+
+pub loop-level-preserved : goal.loop-level-preserved
+loop-level-preserved g c =
+    let eq = g.T.PartialEq.eq in
+    let s = shape_of c.args.steps.now.arity c.args.steps.now.dimensions.now in
+    let leaves = c.args.queried.now.indices.items in
+    let firsts = c.args.queried.now.first_queries.items in
+    let sets = row_sets c.args.rows.now in
+    let l = c.loop-level.level in
+    let t = c.args.cap_layer in
+    let step = c.up-up.result.step in
+    let h = layer_fault eq s leaves firsts sets in
+    let total = layers_refusal eq s t leaves firsts sets in
+    let at : c.up-up.result.exponent ≡ layer_exponent s (l + 1) = rw add-one c.up-up.ensures.exponent in
+    let long : length c.to_parents.new.nodes ≡ c.loop-level.nodes.len =
+    omega (
+      arith,
+      ap length c.to_parents.ensures,
+      length-map c.deref_mut.result.now (λ j. j / step),
+      c.deref_mut.ensures.len,
+    ) in
+    let above = with_items_is c.loop-level.nodes c.to_parents.new.nodes long ∙ c.to_parents.ensures
+    ∙ ap (λ (xs : List ℕ). map (λ j. j / step) xs) (c.deref_mut.ensures.value ∙ c.loop-level.invariant.above)
+    ∙ nodes_more s l step leaves c.up-up.ensures.step in
+    let none : h (l + 1) ≡ None = elim c.if-up.branch [
+      | then-up+in_ok-list_matrices+in_ok-check_layer w ↦
+          layer_read eq s leaves firsts w.deref-then-up-3.result.now w.deref-then-up.result.now
+          w.deref-then-up-2.result.now sets (l + 1) c.up-up.result.exponent None at
+          (w.deref-then-up.ensures.value ∙ w.in_ok-list_matrices.ensures) (w.deref-then-up-2.ensures.value ∙ above)
+          w.deref-then-up-3.ensures.value w.in_ok-check_layer.ensures
+      | else-up w ↦
+          rw add-one
+          (no_matrix eq (heights s) (layer_exponent s (suc l)) (map (ancestor s (suc l)) leaves) firsts sets
+          (sym c.up-up.ensures.rows ∙ w.if-up.false))
+    ] in
+    record {
+      at = at;
+      above = above;
+      so_far = kept_or (h (l + 1)) (first_of h (range_with_len (l + 1 + 1) (t - (l + 1)))) total
+          (levels_next h t l total (omega arith) c.loop-level.invariant.so_far) none;
+    }

@@ -1,6 +1,5 @@
 use Rattle.std.proofs.Common.{◌≡◌, ◌-◌, length, get_or}
 use Rattle.std.specs.List.{range_with_len}
-use Rattle.p3_support.specs.Batches.{heights_of}
 use Rattle.p3_support.specs.Shown.{row_sets}
 use Rattle.p3_merkle_core.specs.Inner.Agreement.{first_query, nodes_refusal}
 use Rattle.p3_merkle_core.specs.Refusals.{first_of}
@@ -12,7 +11,7 @@ abbrev pub invariant-loop-slot : goal.invariant-loop-slot
 invariant-loop-slot g l = record {
   is_lead : l.lead ≡ first_query l.nodes (get_or l.nodes (l.slot - 1) 0);
   so_far :
-      first_of (slot_fault g.T.PartialEq.eq (heights_of l.dimensions) l.x l.nodes l.firsts (row_sets l.rows))
+      first_of (slot_fault g.T.PartialEq.eq l.matrices l.nodes l.first_queries (row_sets l.rows))
       (range_with_len l.slot (length l.nodes - l.slot))
-      ≡ nodes_refusal g.T.PartialEq.eq (heights_of l.dimensions) l.x l.nodes l.firsts (row_sets l.rows);
+      ≡ nodes_refusal g.T.PartialEq.eq l.matrices l.nodes l.first_queries (row_sets l.rows);
 }

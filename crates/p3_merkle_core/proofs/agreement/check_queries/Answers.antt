@@ -8,7 +8,7 @@ use Rattle.p3_merkle_core.proofs.agreement.check_queries.Goals as goal
 
 pub returns-clause-low : goal.returns-clause-low
 returns-clause-low c =
-    let low = tallest_fits (heights_of c.args.dimensions.now)
-    (none_large_from_lawful (heights_of c.args.dimensions.now) (c.in_ok-check_heights.ensures.lawful.0 refl)) in
-    IfOk-weaker c.check_indices.result (λ ok. All (λ q. q < c.tallest_of.result) c.args.indices.now)
-    (λ ok. greatest (heights_of c.args.dimensions.now) ≤ height_limit) (λ _ _. low) c.check_indices.ensures.below
+    let hs = heights_of c.args.steps.now.dimensions.now in
+    let low = tallest_fits hs (none_large_from_lawful hs (c.in_ok-check_heights.ensures.lawful.0 refl)) in
+    IfOk-weaker c.check_indices.result (λ ok. All (λ q. q < c.args.steps.now.max_height) c.args.indices.now)
+    (λ ok. greatest hs ≤ height_limit) (λ _ _. low) c.check_indices.ensures.below

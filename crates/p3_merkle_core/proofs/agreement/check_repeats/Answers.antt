@@ -9,28 +9,16 @@ use Rattle.p3_merkle_core.proofs.agreement.check_repeats.Goals as goal
 pub loop-query-init : goal.loop-query-init
 loop-query-init g c = refl
 
-pub bounds-rows-index : goal.bounds-rows-index
-bounds-rows-index g c =
+pub have_other_rows-requires-clause-first : goal.have_other_rows-requires-clause-first
+have_other_rows-requires-clause-first g c =
     let indices = c.args.indices.now in
     let queried = queried_at indices c.loop-query.query (omega arith) in
-    let slot = c.slot_of_index-slot.ensures indices (c.deref.ensures.value ∙ c.requires.slots.leaves) queried in
+    let slot = c.slot_of_index-slot.ensures indices (c.deref.ensures.value ∙ c.requires.queried.indices) queried in
     omega (
       arith,
       c.requires.pairs,
-      first_inside c.args.slots.now.firsts.items indices _ c.slot_of_index-slot.result
-          c.index.result.now c.requires.slots.firsts queried slot c.index.ensures,
-    )
-
-pub offset_bounds-rows-index : goal.offset_bounds-rows-index
-offset_bounds-rows-index g c =
-    let indices = c.args.indices.now in
-    let queried = queried_at indices c.loop-query.query (omega arith) in
-    let slot = c.slot_of_index-slot.ensures indices (c.deref.ensures.value ∙ c.requires.slots.leaves) queried in
-    omega (
-      arith,
-      c.requires.pairs,
-      first_inside c.args.slots.now.firsts.items indices _ c.slot_of_index-slot.result
-          c.index.result.now c.requires.slots.firsts queried slot c.index.ensures,
+      first_inside c.args.queried.now.first_queries.items indices _ c.slot_of_index-slot.result
+          c.index.result.now c.requires.queried.first_queries queried slot c.index.ensures,
     )
 
 pub loop-query-preserved : goal.loop-query-preserved
@@ -38,22 +26,22 @@ loop-query-preserved g c =
     let indices = c.args.indices.now in
     let n = c.loop-query.query in
     let queried = queried_at indices n (omega arith) in
-    (repeat_turn g.T.PartialEq.eq c.args.slots.now.firsts.items indices c.args.rows.now
+    (repeat_turn g.T.PartialEq.eq c.args.queried.now.first_queries.items indices c.args.rows.now
     (repeat_refusal g.T.PartialEq.eq (opened_of indices (row_sets c.args.rows.now))) n
-    c.slot_of_index-slot.result c.index.result.now c.index-rows-query.result c.index-rows-index.result c.ne.result
-    c.requires.slots.firsts c.requires.pairs (omega arith)
-    (c.slot_of_index-slot.ensures indices (c.deref.ensures.value ∙ c.requires.slots.leaves) queried)
-    c.index.ensures c.index-rows-query.is c.index-rows-index.is c.ne.ensures c.loop-query.invariant).kept c.if-ne.false
+    c.slot_of_index-slot.result c.index.result.now c.have_other_rows.result
+    c.requires.queried.first_queries c.requires.pairs (omega arith)
+    (c.slot_of_index-slot.ensures indices (c.deref.ensures.value ∙ c.requires.queried.indices) queried)
+    c.index.ensures c.have_other_rows.ensures c.loop-query.invariant).kept c.if-have_other_rows.false
 
-pub returns-then-ne : goal.returns-then-ne
-returns-then-ne g c =
+pub returns-then-have_other_rows : goal.returns-then-have_other_rows
+returns-then-have_other_rows g c =
     let indices = c.args.indices.now in
     let n = c.loop-query.query in
     let queried = queried_at indices n (omega arith) in
-    (repeat_turn g.T.PartialEq.eq c.args.slots.now.firsts.items indices c.args.rows.now
+    (repeat_turn g.T.PartialEq.eq c.args.queried.now.first_queries.items indices c.args.rows.now
     (repeat_refusal g.T.PartialEq.eq (opened_of indices (row_sets c.args.rows.now))) n
-    c.slot_of_index-slot.result c.index.result.now c.index-rows-query.result c.index-rows-index.result c.ne.result
-    c.requires.slots.firsts c.requires.pairs (omega arith)
-    (c.slot_of_index-slot.ensures indices (c.deref.ensures.value ∙ c.requires.slots.leaves) queried)
-    c.index.ensures c.index-rows-query.is c.index-rows-index.is c.ne.ensures c.loop-query.invariant).found c.if-ne.true
+    c.slot_of_index-slot.result c.index.result.now c.have_other_rows.result
+    c.requires.queried.first_queries c.requires.pairs (omega arith)
+    (c.slot_of_index-slot.ensures indices (c.deref.ensures.value ∙ c.requires.queried.indices) queried)
+    c.index.ensures c.have_other_rows.ensures c.loop-query.invariant).found c.if-have_other_rows.true
     ∙ ap (λ e. Some e) (sym c.into.ensures)

@@ -1,16 +1,11 @@
-use Rattle.std.proofs.Common.{◌≡◌, ◌-◌, filter, length, get_or, eqb}
-use Rattle.std.specs.List.{range_with_len}
+use Rattle.std.proofs.Common.{◌≡◌, drop}
 use Rattle.p3_support.specs.Shown.{row_lists}
-use Rattle.p3_support.specs.Batches.{heights_of}
-use Rattle.p3_merkle_core.specs.Geometry.{exponent}
-use Rattle.p3_merkle_core.specs.Inner.Agreement.{row_fault, rows_refusal}
+use Rattle.p3_merkle_core.specs.Inner.Agreement.{row_fault}
 use Rattle.p3_merkle_core.specs.Refusals.{first_of}
 use Rattle.p3_merkle_core.proofs.agreement.check_same_rows.Given as goal
 
 -- the rows so far are the lead's, so the rest decides
 abbrev pub invariant-loop-matrix : goal.invariant-loop-matrix
 invariant-loop-matrix g l =
-    let hs = heights_of l.dimensions in
-    first_of (row_fault g.T.PartialEq.eq l.slot (row_lists l.rows) (row_lists l.lead))
-    (filter (λ m. eqb (exponent (get_or hs m 0)) l.x) (range_with_len l.matrix (length l.dimensions - l.matrix)))
-    ≡ rows_refusal g.T.PartialEq.eq hs l.x l.slot (row_lists l.rows) (row_lists l.lead)
+    let fault = row_fault g.T.PartialEq.eq l.slot (row_lists l.rows) (row_lists l.lead) in
+    first_of fault (drop l.matrix-index l.matrices) ≡ first_of fault l.matrices

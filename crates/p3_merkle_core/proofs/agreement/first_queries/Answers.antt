@@ -5,13 +5,13 @@ use Rattle.p3_merkle_core.proofs.agreement.first_queries.Goals as goal
 
 pub loop-query-init : goal.loop-query-init
 loop-query-init c =
-    c.in_ok-firsts.ensures.items_if_clones_equal (λ y e. e)
+    c.in_ok-first_queries.ensures.items_if_clones_equal (λ y e. e)
     ∙ firsts_start (length c.args.indices.now) c.args.indices.now c.args.leaves.now (omega arith)
     ∙ ap (λ xs. map (first_from c.args.indices.now (length c.args.indices.now)) xs) c.requires
 
 pub loop-query-preserved : goal.loop-query-preserved
 loop-query-preserved c =
     let n = c.loop-query.query - 1 in
-    firsts_turn c.loop-query.firsts.items c.args.indices.now n c.loop-query.query c.slot_of_index-slot.result
+    firsts_turn c.loop-query.first_queries.items c.args.indices.now n c.loop-query.query c.slot_of_index-slot.result
     (omega arith) (omega arith) c.loop-query.invariant
     (c.slot_of_index-slot.ensures c.args.indices.now c.requires (queried_at c.args.indices.now n (omega arith)))

@@ -6,5 +6,5 @@ use Rattle.p3_merkle_core.proofs.agreement.rows_of_slot.Goals as goal
 pub returns : goal.returns
 returns g c =
     ap row_lists c.deref.ensures.value
-    ∙ sym (set_read c.args.rows.now (get_or c.args.firsts.now c.args.slot 0) c.index-rows-firsts.result
-    (c.requires.queries c.args.slot 0 c.requires.inside) c.index-rows-firsts.is)
+    ∙ sym (set_read c.args.rows.now (get_or c.args.first_queries.now c.args.slot 0) c.index-rows-first_queries.result
+    (c.requires.queries c.args.slot 0 c.requires.inside) c.index-rows-first_queries.is)

@@ -4,21 +4,23 @@ use Rattle.p3_merkle_core.specs.Geometry.{shape_of}
 use Rattle.p3_merkle_core.proofs.Covered.LeafFacts.{leaves_asked}
 use Rattle.p3_merkle_core.proofs.pruning.pruned_len_of.Goals as goal
 
-pub boundary_len_of-requires-clause-below : goal.boundary_len_of-requires-clause-below
-boundary_len_of-requires-clause-below c =
+pub boundary_len-requires-clause-below : goal.boundary_len-requires-clause-below
+boundary_len-requires-clause-below c =
     let s = shape_of c.args.arity c.args.dimensions.now in
-    (leaves_asked s c.args.indices.now c.in_ok-leaves.leaves.items c.args.t c.requires.arity c.requires.below
+    rw c.steps_of.ensures.dimensions
+    (leaves_asked s c.args.indices.now c.in_ok-leaves.leaves.items c.args.cap_layer c.requires.arity c.requires.below
     c.in_ok-leaves.ensures).below
 
-pub boundary_len_of-requires-clause-ascending : goal.boundary_len_of-requires-clause-ascending
-boundary_len_of-requires-clause-ascending c =
+pub boundary_len-requires-clause-ascending : goal.boundary_len-requires-clause-ascending
+boundary_len-requires-clause-ascending c =
     let s = shape_of c.args.arity c.args.dimensions.now in
-    (leaves_asked s c.args.indices.now c.in_ok-leaves.leaves.items c.args.t c.requires.arity c.requires.below
+    (leaves_asked s c.args.indices.now c.in_ok-leaves.leaves.items c.args.cap_layer c.requires.arity c.requires.below
     c.in_ok-leaves.ensures).ascending
 
 pub returns : goal.returns
 returns c =
     let s = shape_of c.args.arity c.args.dimensions.now in
-    c.boundary_len_of.ensures
-    ∙ (leaves_asked s c.args.indices.now c.in_ok-leaves.leaves.items c.args.t c.requires.arity c.requires.below
+    let count = rw (c.steps_of.ensures.dimensions, c.steps_of.ensures.arity) at c.boundary_len.ensures in
+    count
+    ∙ (leaves_asked s c.args.indices.now c.in_ok-leaves.leaves.items c.args.cap_layer c.requires.arity c.requires.below
     c.in_ok-leaves.ensures).count

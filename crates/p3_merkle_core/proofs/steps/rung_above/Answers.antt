@@ -4,20 +4,20 @@ use Rattle.p3_support.specs.Batches.{heights_of}
 use Rattle.p3_merkle_core.proofs.Shapes.RungFacts.{next_had, next_not_had, next_stays}
 use Rattle.p3_merkle_core.proofs.steps.rung_above.Goals as goal
 
-pub returns-then-rung-x-clause-rows : goal.returns-then-rung-x-clause-rows
-returns-then-rung-x-clause-rows c =
-    sym (next_had c.args.rung.exponent c.args.x (heights_of c.args.dimensions.now) (omega arith)
-    (sym c.requires.rung.next_is ∙ c.if-rung-x.true))
+pub returns-then-rung-exponent-clause-rows : goal.returns-then-rung-exponent-clause-rows
+returns-then-rung-exponent-clause-rows c =
+    sym (next_had c.args.rung.exponent c.args.exponent (heights_of c.args.dimensions.now) (omega arith)
+    (sym c.requires.rung.next_is ∙ c.if-rung-exponent.true))
 
 pub returns-clause-rows : goal.returns-clause-rows
 returns-clause-rows c =
-    sym (next_not_had c.args.rung.exponent c.args.x (heights_of c.args.dimensions.now) (omega arith)
+    sym (next_not_had c.args.rung.exponent c.args.exponent (heights_of c.args.dimensions.now) (omega arith)
     (omega (arith, c.requires.rung.next_is, c.requires.between (omega arith))))
 
 pub returns-clause-above : goal.returns-clause-above
 returns-clause-above c =
     record {
       next_is = c.requires.rung.next_is
-          ∙ sym (next_stays c.args.rung.exponent c.args.x (heights_of c.args.dimensions.now) c.requires.down
+          ∙ sym (next_stays c.args.rung.exponent c.args.exponent (heights_of c.args.dimensions.now) c.requires.down
           (omega (arith, c.requires.rung.next_is, c.requires.between (omega arith))));
     }

@@ -4,5 +4,6 @@ use Rattle.p3_support.specs.Batches.{heights_of}
 use Rattle.p3_merkle_core.proofs.Shapes.RungFacts.{next_low}
 use Rattle.p3_merkle_core.proofs.steps.rung_at.Goals as goal
 
-pub returns-then-x-eq0-clause-rung : goal.returns-then-x-eq0-clause-rung
-returns-then-x-eq0-clause-rung c = record { next_is = omega (arith, next_low 0 (heights_of c.args.dimensions.now)) }
+pub returns-then-exponent-eq0-clause-rung : goal.returns-then-exponent-eq0-clause-rung
+returns-then-exponent-eq0-clause-rung c =
+    record { next_is = omega (arith, next_low 0 (heights_of c.args.dimensions.now)) }

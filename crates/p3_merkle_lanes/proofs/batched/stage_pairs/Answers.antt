@@ -16,8 +16,8 @@ loop-j-preserved g c =
     let there : j < length rows = omega (arith, inside, c.requires.same) in
     let left = get_or_read folded j c.index-folded-j.result inside c.index-folded-j.is [] in
     let right = get_or_read rows j c.index-rows-j.result there c.index-rows-j.is [] in
-    let is : c.group_with.result ≡ group j = c.group_with.ensures ∙ ap (λ x. x ∷ c.index-rows-j.result ∷ pad) left
+    let is : c.pair_group.result ≡ group j = c.pair_group.ensures ∙ ap (λ x. x ∷ c.index-rows-j.result ∷ pad) left
     ∙ ap (λ x. slice_index_or folded j [] ∷ x ∷ pad) right in
-    c.in_ok-push.ensures.items ∙ ap (λ l. l ++ c.group_with.result ∷ []) c.loop-j.invariant
+    c.in_ok-push.ensures.items ∙ ap (λ l. l ++ c.pair_group.result ∷ []) c.loop-j.invariant
     ∙ ap (λ x. map group (range_with_len 0 j) ++ x ∷ []) is
     ∙ sym (map-range_with_len_more group 0 j j (omega arith))

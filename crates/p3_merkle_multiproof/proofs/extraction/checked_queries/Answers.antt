@@ -1,8 +1,11 @@
 -- What is restored of an opening that is accepted can be compared.
-use Rattle.std.proofs.Common.{refl, replicate}
+use Rattle.std.proofs.Common.{refl, replicate, subst}
+use Rattle.p3_support.specs.Shown.{row_sets}
 use Rattle.p3_merkle_core.specs.Geometry.{shape_of}
 use Rattle.p3_merkle_core.specs.Nodes.{functions_of}
-use Rattle.p3_merkle_multiproof.specs.Inner.Pairs.{pruned_in}
+use Rattle.p3_merkle_core.specs.Pruning.{pruned_of}
+use Rattle.p3_merkle_multiproof.specs.Inner.Pairs.{AreQueriesOf}
+use Rattle.p3_merkle_multiproof.specs.declared.extraction.RestoredQueries.{RestoredQueries}
 use Rattle.p3_merkle_multiproof.proofs.QueryFacts.{comparable, restored}
 use Rattle.p3_merkle_multiproof.proofs.extraction.checked_queries.Goals as goal
 
@@ -11,8 +14,10 @@ returns-clause-comparable g c =
     let f = functions_of (g.H.CryptographicHasher.hash c.args.checker.now.hash.now)
     (g.C.PseudoCompressionFunction.compression c.args.checker.now.compress.now)
     (replicate g.row.D g.PW.PackedValue.default_value) in
+    let opening = pruned_of c.args.opening.indices.now (row_sets c.args.opening.opened_values.now)
+    c.as_slice-sent.result.now in
     comparable g.P.Value.PartialEq.eq g.PW.Value.PartialEq.eq f (shape_of g.row.N c.args.dimensions.now) c.args.t
-    c.args.roots.now (pruned_in c.args.opening) (record { sets = c.args.opening.sets; paths = c.in_ok-paths.paths })
+    c.args.roots.now opening (record { sets = c.args.opening.opened_values; paths = c.in_ok-paths.paths })
     g.met.P.PackedValue.eq_is_equality g.met.PW.PackedValue.eq_is_equality c.requires
     c.in_ok-check_pruned_opening.ensures refl c.in_ok-paths.ensures.paths
 
@@ -21,6 +26,9 @@ returns-clause-restored g c =
     let f = functions_of (g.H.CryptographicHasher.hash c.args.checker.now.hash.now)
     (g.C.PseudoCompressionFunction.compression c.args.checker.now.compress.now)
     (replicate g.row.D g.PW.PackedValue.default_value) in
-    restored g.P.Value.PartialEq.eq g.PW.Value.PartialEq.eq f (shape_of g.row.N c.args.dimensions.now) c.args.t
-    (pruned_in c.args.opening) (record { sets = c.args.opening.sets; paths = c.in_ok-paths.paths }) refl
-    c.in_ok-paths.ensures.paths
+    let s = shape_of g.row.N c.args.dimensions.now in
+    let queries : RestoredQueries _ _ = record { sets = c.args.opening.opened_values; paths = c.in_ok-paths.paths } in
+    let opening_by = pruned_of c.args.opening.indices.now (row_sets c.args.opening.opened_values.now) in
+    subst (λ sent. AreQueriesOf f s c.args.t (opening_by sent) queries) c.as_slice-sent.ensures.value
+    (restored g.P.Value.PartialEq.eq g.PW.Value.PartialEq.eq f s c.args.t (opening_by c.as_slice-sent.result.now)
+    queries refl c.in_ok-paths.ensures.paths)

@@ -1,4 +1,4 @@
--- The slots are the covered leaves.
+-- The distinct indices are the covered leaves.
 use Rattle.std.proofs.Common.{◌∙◌, ap, map, refl, sym}
 use Rattle.p3_merkle_core.specs.Inner.Agreement.{distinct}
 use Rattle.p3_support.specs.Batches.{greatest}
@@ -14,13 +14,13 @@ pub returns : goal.returns
 returns c =
     let s = shape_of c.args.arity c.args.dimensions.now in
     let indices = c.args.indices.now in
-    let slots = c.requires.slots in
+    let queried = c.requires.queried in
     record {
-      nodes_are = slots.leaves
+      nodes_are = queried.indices
           ∙ sym (distinct_from s indices (all_below (greatest (heights s)) indices c.requires.below));
-      leads_are = slots.leaves ∙ led_by_firsts s indices (distinct indices) (distinct_queried indices)
-          ∙ ap (map (node_of_query s indices 0)) (sym slots.firsts);
-      among = firsts_inside c.args.slots.firsts.items indices slots.firsts;
+      leads_are = queried.indices ∙ led_by_firsts s indices (distinct indices) (distinct_queried indices)
+          ∙ ap (map (node_of_query s indices 0)) (sym queried.first_queries);
+      among = firsts_inside c.args.queried.first_queries.items indices queried.first_queries;
       at_exponent = c.exponent_of.ensures ∙ ap exponent c.tallest_of.ensures ∙ sym (layer_start s);
       sent_below = refl;
     }

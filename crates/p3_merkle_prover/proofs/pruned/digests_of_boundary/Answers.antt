@@ -28,7 +28,7 @@ boundary_len-requires-clause-layer g c =
 pub boundary_len-requires-clause-below : goal.boundary_len-requires-clause-below
 boundary_len-requires-clause-below g c =
     let s = shape (tree_batch c.args.tree.now) in
-    let asked = leaves_asked s c.args.indices.now c.in_ok-covered.covered.items c.args.t c.args.tree.now.arity
+    let asked = leaves_asked s c.args.indices.now c.in_ok-covered.covered.items c.args.cap_layer c.args.tree.now.arity
     c.requires.indices c.in_ok-covered.ensures in
     let below = rw (← c.in_ok-leaves.ensures.items ∙ c.deref.ensures.value) at asked.below in
     subst (λ (s : Shape). All (λ q. q < greatest (heights s)) c.in_ok-leaves.leaves.items)
@@ -79,12 +79,12 @@ extend_with_boundary-requires-clause-groups g c =
     let tree = c.args.tree.now in
     let s = shape (tree_batch tree) in
     let l = c.loop-level.level in
-    let w : CanQuery s c.args.indices.now c.args.t =
+    let w : CanQuery s c.args.indices.now c.args.cap_layer =
     record { well_shaped = tree.arity; below = c.requires.indices; in_tree = c.requires.layer } in
     let is = c.step-step.ensures ∙ ap (λ (z : Shape). step z l) c.steps_in-steps.ensures in
     let long = layer_long (λ nodes. length nodes.items) tree.layers.items s tree.layer_lengths l c.index.result.now
     (omega arith) c.index.ensures in
-    groups_fit s c.args.indices.now c.args.t w l c.loop-level-test.true c.step-step.result
+    groups_fit s c.args.indices.now c.args.cap_layer w l c.loop-level-test.true c.step-step.result
     (length c.deref-in-loop-level.result.now) c.deref-in-loop-level-2.result.now
     is (ap length c.deref-in-loop-level.ensures.value ∙ long) (c.deref-in-loop-level-2.ensures.value
     ∙ c.loop-level.invariant.covered)
@@ -94,17 +94,18 @@ loop-level-preserved g c =
     let tree = c.args.tree.now in
     let s = shape (tree_batch tree) in
     let l = c.loop-level.level in
-    let w : CanQuery s c.args.indices.now c.args.t =
+    let w : CanQuery s c.args.indices.now c.args.cap_layer =
     record { well_shaped = tree.arity; below = c.requires.indices; in_tree = c.requires.layer } in
     let is = c.step-step.ensures ∙ ap (λ (z : Shape). step z l) c.steps_in-steps.ensures in
     let long = layer_long (λ nodes. length nodes.items) tree.layers.items s tree.layer_lengths l c.index.result.now
     (omega arith) c.index.ensures in
     let count = layers_count (λ nodes. length nodes.items) tree.layers.items s tree.layer_lengths in
     record {
-      covered = rw add-one (climbed s c.args.indices.now c.args.t w l c.step-step.result c.loop-level.covered.items
-          c.climb.new.covered.items c.loop-level-test.true c.climb.ensures is c.loop-level.invariant.covered);
+      covered = rw add-one (climbed s c.args.indices.now c.args.cap_layer w l c.step-step.result
+          c.loop-level.covered.items c.climb.new.covered.items c.loop-level-test.true c.climb.ensures
+          is c.loop-level.invariant.covered);
       so_far = λ d.
-          boundary_more (λ nodes. nodes.items) tree.layers.items s c.args.indices.now c.args.t w l
+          boundary_more (λ nodes. nodes.items) tree.layers.items s c.args.indices.now c.args.cap_layer w l
           c.loop-level-test.true c.step-step.result c.index.result.now
           c.deref-in-loop-level.result.now c.deref-in-loop-level-2.result.now c.loop-level.digests.items
           c.extend_with_boundary.new.digests.items d
@@ -115,5 +116,5 @@ loop-level-preserved g c =
 
 pub returns-clause-digests : goal.returns-clause-digests
 returns-clause-digests g c d =
-    let h : c.loop-level.level ≡ c.args.t = omega arith in
+    let h : c.loop-level.level ≡ c.args.cap_layer = omega arith in
     rw h at (c.loop-level.invariant.so_far d)

@@ -1,17 +1,16 @@
 -- What the answer means of the queries of both openings.
-use Rattle.std.proofs.Common.{ap, length, replicate, subst}
+use Rattle.std.proofs.Common.{length, replicate, subst}
 use Rattle.std.specs.Prelude.{IfOk}
 use Rattle.std.specs.Option.{option_or}
-use Rattle.p3_support.specs.Shown.{roots_of, row_sets}
+use Rattle.p3_support.specs.Shown.{roots_of}
 use Rattle.p3_merkle_core.specs.Extraction.{difference_of, first_pair}
 use Rattle.p3_merkle_core.specs.Geometry.{shape_of}
 use Rattle.p3_merkle_core.specs.Pruning.{opening_at}
 use Rattle.p3_merkle_core.specs.Refusals.{AnswersUnlessMemory, pruned_refusal_under}
-use Rattle.p3_merkle_core.specs.Views.{pruned_lent}
 use Rattle.p3_merkle_core.proofs.Collisions.ExtractionFacts.{all_authenticated, extracted_pair, pruned_presented}
-use Rattle.p3_merkle_multiproof.specs.Inner.Pairs.{ShowsPair}
+use Rattle.p3_merkle_multiproof.specs.Inner.Pairs.{pruned_in, ShowsPair}
 use Rattle.p3_merkle_tree.specs.Schemes.{compression_of, hash_of, proof_layer, terms_of}
-use Rattle.p3_merkle_tree.proofs.CheckFacts.{pruned_is, terms_alike}
+use Rattle.p3_merkle_tree.proofs.CheckFacts.{terms_alike}
 use Rattle.p3_merkle_tree.proofs.extract_multi.MerkleTreeMmcs+P+PW+H+C+N+D.extract_collision_multi.Goals as goal
 use Rattle.p3_merkle_core.specs.Checks.{terms}
 
@@ -25,23 +24,17 @@ returns g c =
     (replicate g.row.D g.PW.PackedValue.default_value) s c.checker-checker.result.hash.now (hash_of scheme)
     c.checker-checker.result.compress.now (compression_of scheme) c.proof_levels-t.result (proof_layer scheme s)
     c.checker-checker.ensures.hash c.checker-checker.ensures.compress c.proof_levels-t.ensures in
-    let first = pruned_is c.new-first.result c.args.indices1.now (row_sets c.args.rows1.now)
-    c.args.proof1.now.sibling_hashes.items c.new-first.ensures.indices (ap row_sets c.new-first.ensures.sets)
-    c.new-first.ensures.sent in
-    let second = pruned_is c.new-second.result c.args.indices2.now (row_sets c.args.rows2.now)
-    c.args.proof2.now.sibling_hashes.items c.new-second.ensures.indices (ap row_sets c.new-second.ensures.sets)
-    c.new-second.ensures.sent in
+    let p = pruned_in c.args.first in
+    let r = pruned_in c.args.second in
     let answer = subst (AnswersUnlessMemory c.extraction.result)
-    (λ i. option_or (pruned_refusal_under eq same (alike i) (c.roots.ensures i) (first i))
-    (pruned_refusal_under eq same (alike i) (c.roots.ensures i) (second i))) c.extraction.ensures.answer in
+    (λ i. option_or (pruned_refusal_under eq same (alike i) (c.roots.ensures i) p)
+    (pruned_refusal_under eq same (alike i) (c.roots.ensures i) r)) c.extraction.ensures.answer in
     let found = subst (λ d. IfOk c.extraction.result (λ found. ShowsPair found d))
     (λ i. first_pair
-    (λ a b. difference_of eq same (alike i) (opening_at (alike i) (first i) a) (opening_at (alike i) (second i) b))
-    (length (first i).indices) (length (second i).indices)) c.extraction.ensures.found in
+    (λ a b. difference_of eq same (alike i) (opening_at (alike i) p a) (opening_at (alike i) r b))
+    (length p.indices) (length r.indices)) c.extraction.ensures.found in
     let terms = terms_of g.H.CryptographicHasher.hash g.C.PseudoCompressionFunction.compression g.row.D scheme
     c.args.dimensions.now in
-    let p = pruned_lent c.args.indices1.now c.args.rows1.now c.args.proof1.now in
-    let r = pruned_lent c.args.indices2.now c.args.rows2.now c.args.proof2.now in
     extracted_pair eq same scheme.cap_rule terms (roots_of c.args.commit.now) p r g.met.P.PackedValue.eq_is_equality
     g.met.PW.PackedValue.eq_is_equality scheme.arity
     (all_authenticated s scheme.cap_rule scheme.cap_height scheme.arity) c.extraction.result answer found

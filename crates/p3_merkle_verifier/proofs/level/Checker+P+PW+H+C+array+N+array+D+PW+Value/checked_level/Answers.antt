@@ -51,8 +51,8 @@ returns-then-has_rows g c =
     level_with_rows f s (opening_in c.args.opening) c.args.level step.result.step step.result.exponent
     c.args.standing.now c.above.result c.group-group.result
     (record { is_step = step.ensures.step; above = step.ensures.exponent }) c.requires.stands
-    (rw one at c.group-group.ensures) (sym step.ensures.rows ∙ c.if-has_rows.true) c.group_with-pair.result
-    (rw (one, c.opened_rows_digest.ensures, c.compress-node.ensures) at c.group_with-pair.ensures)
+    (rw one at c.group-group.ensures) (sym step.ensures.rows ∙ c.if-has_rows.true) c.pair_group-pair.result
+    (rw (one, c.opened_rows_digest-rows.ensures, c.compress-node.ensures) at c.pair_group-pair.ensures)
     (rw c.compress.ensures at c.above.ensures)
 
 pub returns-else-has_rows : goal.returns-else-has_rows

@@ -1,7 +1,7 @@
 -- Each turn divides one node.
 use Rattle.std.proofs.Common.{◌/◌, arith}
 use Rattle.p3_merkle_core.proofs.Lists.RisingFacts.{mapped_more, mapped_all}
-use Rattle.p3_merkle_core.proofs.agreement.to_parents.Goals as goal
+use Rattle.p3_merkle_core.proofs.pruning.to_parents.Goals as goal
 
 pub loop-node-preserved : goal.loop-node-preserved
 loop-node-preserved c = mapped_more (λ j. j / c.args.step) c.args.nodes.now c.loop-node.nodes c.loop-node.node-index

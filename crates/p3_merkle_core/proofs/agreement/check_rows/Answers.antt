@@ -8,22 +8,23 @@ use Rattle.p3_merkle_core.specs.Refusals.{first_of, width_refusal}
 use Rattle.p3_merkle_core.specs.Inner.Agreement.{late_refusal, layers_refusal}
 use Rattle.p3_merkle_core.specs.declared.error.MerkleTreeError.TheVariants.{OutOfMemory}
 use Rattle.p3_merkle_core.proofs.Pruned.PrunedFacts.{full_from, late_from}
-use Rattle.p3_merkle_core.proofs.agreement.check_slots.Goals as goal
+use Rattle.p3_merkle_core.proofs.agreement.check_rows.Goals as goal
 
 pub check_groups-requires-clause-full : goal.check_groups-requires-clause-full
 check_groups-requires-clause-full g c =
-    full_from c.args.dimensions.now c.args.slots.now.firsts.items (row_sets c.args.rows.now)
+    full_from c.args.steps.now.dimensions.now c.args.queried.now.first_queries.items (row_sets c.args.rows.now)
     (rw c.deref.ensures.value at c.in_ok-check_first_widths.ensures)
 
 pub returns : goal.returns
 returns g c =
-    let s = shape_of c.args.arity c.args.dimensions.now in
-    let leaves = c.args.slots.now.leaves.items in
-    let firsts = c.args.slots.now.firsts.items in
+    let s = shape_of c.args.steps.now.arity c.args.steps.now.dimensions.now in
+    let leaves = c.args.queried.now.indices.items in
+    let firsts = c.args.queried.now.first_queries.items in
     let sets = row_sets c.args.rows.now in
-    let widths = first_of (λ query. width_refusal c.args.dimensions.now (slice_index_or sets query [])) firsts in
-    let groups = layers_refusal g.T.PartialEq.eq s c.args.t leaves firsts sets in
-    let late = late_refusal g.T.PartialEq.eq s c.args.t leaves firsts sets in
+    let dimensions = c.args.steps.now.dimensions.now in
+    let widths = first_of (λ query. width_refusal dimensions (slice_index_or sets query [])) firsts in
+    let groups = layers_refusal g.T.PartialEq.eq s c.args.cap_layer leaves firsts sets in
+    let late = late_refusal g.T.PartialEq.eq s c.args.cap_layer leaves firsts sets in
     let none : widths ≡ None = rw c.deref.ensures.value at c.in_ok-check_first_widths.ensures in
     MatchResult-weaker c.check_groups.result c.check_groups.ensures (λ ok is. late_from widths groups None none is)
     (λ e either. elim either as (λ _. (e ≡ OutOfMemory) ⊎ (late ≡ Some e)) [

@@ -1,6 +1,6 @@
 use Rattle.std.proofs.Common.{◌≡◌, ◌/◌, ◌%◌, ◌∷◌, [], ℕ, ap, ◌∙◌, arith}
 use Rattle.mmcs_text.specs.Text.{hex_digit}
-use Rattle.mmcs_text.proofs.text.digits_of_word.Goals as goal
+use Rattle.mmcs_text.proofs.text.hex_digits.Goals as goal
 
 -- one digit after another
 shifted : (word low high : ℕ) → low ≡ high → hex_digit (low % 16) ≡ hex_digit (high % 16)
@@ -8,7 +8,7 @@ shifted word low high same = ap (λ q. hex_digit (q % 16)) same
 
 pub returns : goal.returns
 returns c =
-    let w = c.args.word in
+    let w = c.args.number in
     λ i.
     (c.hex_digit.ensures ∙ shifted w (w / 268435456) (w / 16 / 16 / 16 / 16 / 16 / 16 / 16) (omega arith)) i
     ∷ (c.hex_digit-2.ensures ∙ shifted w (w / 16777216) (w / 16 / 16 / 16 / 16 / 16 / 16) (omega arith)) i

@@ -1,5 +1,5 @@
 use Rattle.std.proofs.Common.{◌≡◌, ◌/◌, ◌++◌, map, take, drop}
-use Rattle.p3_merkle_core.proofs.agreement.to_parents.Given as goal
+use Rattle.p3_merkle_core.proofs.pruning.to_parents.Given as goal
 
 -- the first nodes have given way to their parents
 abbrev pub invariant-loop-node : goal.invariant-loop-node

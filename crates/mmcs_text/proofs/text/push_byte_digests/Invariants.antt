@@ -1,6 +1,0 @@
-use Rattle.std.proofs.Common.{◌≡◌, ◌++◌, take}
-use Rattle.mmcs_text.specs.Text.{hex_lines}
-use Rattle.mmcs_text.proofs.text.push_byte_digests.Given as goal
-
-abbrev pub invariant-loop-digest : goal.invariant-loop-digest
-invariant-loop-digest g l = l.text.items ≡ l.fn.text.items ++ hex_lines 2 (take l.digest-index l.digests)

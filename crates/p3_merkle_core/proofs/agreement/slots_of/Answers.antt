@@ -1,5 +1,0 @@
-use Rattle.std.proofs.Common.{◌∙◌}
-use Rattle.p3_merkle_core.proofs.agreement.slots_of.Goals as goal
-
-pub first_queries-requires : goal.first_queries-requires
-first_queries-requires c = c.deref.ensures.value ∙ c.in_ok-leaves.ensures

@@ -1,7 +1,0 @@
-use Rattle.std.proofs.Common.{◌≡◌, ◌/◌, ◌++◌, map, take, drop}
-use Rattle.p3_merkle_core.proofs.pruning.climb.Given as goal
-
--- the first nodes have given way to their parents
-abbrev pub invariant-loop-node : goal.invariant-loop-node
-invariant-loop-node l = l.node-items ≡ map (λ j. j / l.step) (take l.node-index l.initial.node-items)
-    ++ drop l.node-index l.initial.node-items
