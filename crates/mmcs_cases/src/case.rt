@@ -2,6 +2,7 @@
 
 use anyhow::Error;
 use mmcs_engine::engine::run;
+use mmcs_verify_engine::engine::run as verify;
 use std::alloc::{AllocError, Global};
 
 /// What is wrong with a line, if it is no case, or is not answered as it is written.
@@ -16,7 +17,10 @@ pub fn mistake(alloc: Global, line: &str) -> Result<Option<String>, Error> {
     let (Some(input), Some(want)) = (bytes_of(alloc, input)?, bytes_of(alloc, answer)?) else {
         return Ok(Some(format!(in alloc; "is no case")?));
     };
-    let got = answer_to(alloc, words, &input)?;
+    let got = match words.strip_prefix("verify ") {
+        Some(words) => verified(alloc, words, &input)?,
+        None => answer_to(alloc, words, &input)?,
+    };
     if got.as_bytes() == want.as_slice() {
         Ok(None)
     } else {
@@ -106,15 +110,34 @@ fn bytes_of(alloc: Global, written: &str) -> Result<Option<Vec<u8>>, AllocError>
     })
 }
 
+/// The words of a text, where `""` is an empty word.
+fn words_of(alloc: Global, text: &str) -> Result<Vec<String>, AllocError> {
+    let mut words = Vec::new(alloc);
+    for word in text.split_whitespace() {
+        let word = if word == "\"\"" { "" } else { word };
+        words.push(String::from_str(alloc, word)?)?;
+    }
+    Ok(words)
+}
+
 /// What the output holds once the engine has answered, and behind it the line and the status of a fault.
 fn answer_to(alloc: Global, words: &str, mut input: &[u8]) -> Result<String, Error> {
-    let mut list = Vec::new(alloc);
-    for word in words.split_whitespace() {
-        let word = if word == "\"\"" { "" } else { word };
-        list.push(String::from_str(alloc, word)?)?;
-    }
+    let words = words_of(alloc, words)?;
     let mut output = Vec::new(alloc);
-    let outcome = run(alloc, &list, &mut input, &mut output);
+    let outcome = run(alloc, &words, &mut input, &mut output);
+    let mut text = String::from_str(alloc, str::from_utf8(&output)?)?;
+    if let Err(fault) = outcome {
+        let status = fault.status();
+        write!(text, "{fault} (status {status})")?;
+    }
+    Ok(text)
+}
+
+/// The same of the engine of `mmcs_verify`.
+fn verified(alloc: Global, words: &str, mut input: &[u8]) -> Result<String, Error> {
+    let words = words_of(alloc, words)?;
+    let mut output = Vec::new(alloc);
+    let outcome = verify(alloc, &words, &mut input, &mut output);
     let mut text = String::from_str(alloc, str::from_utf8(&output)?)?;
     if let Err(fault) = outcome {
         let status = fault.status();

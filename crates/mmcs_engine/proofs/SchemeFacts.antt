@@ -1,6 +1,6 @@
 -- What a suite's scheme accepts and answers, in place of what the suite says of it.
-use Rattle.std.proofs.Common.{◌≡◌, ◌∙◌, ℕ, List, None, Result, subst}
-use Rattle.std.specs.Prelude.{IfOk}
+use Rattle.std.proofs.Common.{◌≡◌, ◌∙◌, ℕ, List, None, Option, Result, subst}
+use Rattle.std.specs.Prelude.{nat_eq, IfOk}
 use Rattle.std.proofs.lemmas.Result.{IfOk-weaker}
 use Rattle.p3_merkle_core.specs.Caps.{cap_layer}
 use Rattle.p3_merkle_core.specs.Commitments.{IsCommitment}
@@ -10,7 +10,7 @@ use Rattle.p3_merkle_core.specs.Nodes.{layer, layers, shape, Batch, Functions}
 use Rattle.p3_merkle_core.specs.Pruning.{PrunedOpening, IsPrunedAccepted}
 use Rattle.p3_merkle_core.specs.declared.cap.CapRule.{CapRule}
 use Rattle.p3_merkle_core.specs.declared.error.MerkleTreeError.{MerkleTreeError}
-use Rattle.p3_merkle_core.specs.Refusals.{AnswersUnlessMemory}
+use Rattle.p3_merkle_core.specs.Refusals.{pruned_refusal_under, AnswersUnlessMemory}
 
 -- equal rules and cap heights
 pub caps_alike : (s : Shape) (r q : CapRule) (c d : ℕ) → r ≡ q → c ≡ d → cap_layer s r c ≡ cap_layer s q d
@@ -38,6 +38,15 @@ taken_alike f g s t u roots o p result same_functions same_layer same_opening ta
     (subst (λ (l : ℕ). IsPrunedAccepted (terms f s l) roots p → AnswersUnlessMemory result None) same_layer
     (subst (λ (q : PrunedOpening ℕ ℕ). IsPrunedAccepted (terms f s t) roots q → AnswersUnlessMemory result None)
     same_opening taken))
+
+-- and answers
+pub answered_alike : {V : Type 0} (f g : Functions ℕ ℕ) (s : Shape) (t u : ℕ) (roots : List (List ℕ))
+    (o p : PrunedOpening ℕ ℕ) (result : Result V MerkleTreeError) → f ≡ g → t ≡ u → o ≡ p →
+    AnswersUnlessMemory result (pruned_refusal_under nat_eq nat_eq (terms f s t) roots o) →
+    AnswersUnlessMemory result (pruned_refusal_under nat_eq nat_eq (terms g s u) roots p)
+answered_alike f g s t u roots o p result same_functions same_layer same_opening answer =
+    subst (λ (r : Option MerkleTreeError). AnswersUnlessMemory result r)
+    (λ i. pruned_refusal_under nat_eq nat_eq (terms (same_functions i) s (same_layer i)) roots (same_opening i)) answer
 
 -- and what it commits to: the cap
 pub capped_alike : {V E : Type 0} (f g : Functions ℕ ℕ) (b : Batch ℕ) (t u : ℕ) (result : Result V E) (roots : V →

@@ -2,9 +2,9 @@
 #![tactic(auto)]
 
 pub mod engine;
-mod fold;
+pub mod fold;
 pub mod laws;
-mod sha256;
-mod suite;
+pub mod sha256;
+pub mod suite;
 
 pub use mmcs_text::fault;

@@ -1,10 +1,10 @@
 //! What the program asks of a hash.
 
-ghost use Rattle.std.specs.Prelude.{◌≡◌, ◌⊎◌, ℕ, ◌+◌, ◌++◌, ◌<◌, All, IfErr, IfOk, IsOk, IsTrue, List, [], None, OnOk, flat_map, length, map, slice_index_or};
+ghost use Rattle.std.specs.Prelude.{◌≡◌, ◌⊎◌, ℕ, ◌+◌, ◌++◌, ◌<◌, All, IfErr, IfOk, IsOk, IsTrue, List, [], None, OnOk, flat_map, length, map, nat_eq, slice_index_or};
 ghost use Rattle.p3_merkle_core.specs.Checks.{terms};
 ghost use Rattle.p3_support.specs.Batches.{greatest};
 ghost use Rattle.p3_merkle_core.specs.Gate.{gate_refusal};
-ghost use Rattle.p3_merkle_core.specs.Refusals.{pruned_len_refusal, AnswersUnlessMemory};
+ghost use Rattle.p3_merkle_core.specs.Refusals.{pruned_len_refusal, pruned_refusal_under, AnswersUnlessMemory};
 ghost use Rattle.p3_merkle_core.specs.Geometry.{heights, shape_of};
 ghost use Rattle.p3_merkle_core.specs.Nodes.{layer, layers, shape, Batch};
 ghost use Rattle.p3_merkle_core.specs.Openings.{honest_rows, node_in};
@@ -146,6 +146,10 @@ pub trait Suite<const N: usize> {
         opening: &Self::Opening,
     ) -> Result<(), MerkleTreeError>
         requires { IsTrue (is_taken_arity N) }
+        ensures answer { let s = shape_of N dimensions.now in
+            AnswersUnlessMemory result (pruned_refusal_under nat_eq nat_eq
+            (terms (functions_of_hash name) s (layer_of_cap cap s)) (roots against.now)
+            (pruned_of indices.now (rows opening.now) (digests opening.now))) }
         ensures count { let s = shape_of N dimensions.now in
             IsOk result → length (digests opening.now) ≡ pruned_len s indices.now (layer_of_cap cap s) }
         ensures taken { let s = shape_of N dimensions.now in

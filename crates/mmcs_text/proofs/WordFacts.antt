@@ -26,14 +26,14 @@ use Rattle.mmcs_text.proofs.BlockFacts.{all_from_map}
 -- ---- words are of one command
 
 -- a word is of one hash
-same_hash : (a b : HashName) → hash_word a ≡ hash_word b → a ≡ b
+pub same_hash : (a b : HashName) → hash_word a ≡ hash_word b → a ≡ b
 same_hash Fold Fold is = refl
 same_hash Fold Sha256 is = absurd (let apart = ap (λ w. eqb (get_or w 0 0) 102) is in cc)
 same_hash Sha256 Fold is = absurd (let apart = ap (λ w. eqb (get_or w 0 0) 115) is in cc)
 same_hash Sha256 Sha256 is = refl
 
 -- of one arity
-same_arity : (a b : Arity) → arity_word a ≡ arity_word b → a ≡ b
+pub same_arity : (a b : Arity) → arity_word a ≡ arity_word b → a ≡ b
 same_arity Two Two is = refl
 same_arity Two Four is = absurd (let apart = ap (λ w. eqb (get_or w 0 0) 50) is in cc)
 same_arity Two Eight is = absurd (let apart = ap (λ w. eqb (get_or w 0 0) 50) is in cc)
@@ -98,7 +98,7 @@ same_ends (d ∷ ds) (e ∷ es) r q u v is =
     (rest.0, λ i. head i ∷ rest.1 i)
 
 -- a word is of one cap
-same_cap : (word other : List ℕ) (c d : CapChoice) → word ≡ other → IsCapWord word c → IsCapWord other d → c ≡ d
+pub same_cap : (word other : List ℕ) (c d : CapChoice) → word ≡ other → IsCapWord word c → IsCapWord other d → c ≡ d
 same_cap word other c d same u v =
     let ends = same_ends u.0 v.0 c.rule d.rule u.2.numeral.1 v.2.numeral.1 (sym u.1 ∙ same ∙ v.1) in
     let height = u.3 ∙ ap (digits_value 10) ends.1 ∙ sym v.3 in

@@ -145,7 +145,7 @@ impl Command {
 
 impl CapChoice {
     /// The cap of a word: a cap height, and `f` behind it for the fixed rule.
-    fn from_word(word: &[u8]) -> Option<CapChoice>
+    pub fn from_word(word: &[u8]) -> Option<CapChoice>
         ensures found { IfSome result (IsCapWord word.now) }
         ensures none { IfNone result ((cap : CapChoice) → IsCapWord word.now cap → ⊥) }
     {
@@ -162,7 +162,7 @@ impl CapChoice {
 
 impl HashName {
     /// The hash of a word: `fold` or `sha256`.
-    fn from_word(word: &str) -> Option<HashName>
+    pub fn from_word(word: &str) -> Option<HashName>
         ensures found { IfSome result (λ hash. word.now ≡ hash_word hash) }
         ensures none { IfNone result ((hash : HashName) → word.now ≡ hash_word hash → ⊥) }
     {
@@ -176,7 +176,7 @@ impl HashName {
 
 impl Arity {
     /// The arity of a word: `2`, `4` or `8`.
-    fn from_word(word: &str) -> Option<Arity>
+    pub fn from_word(word: &str) -> Option<Arity>
         ensures found { IfSome result (λ arity. word.now ≡ arity_word arity) }
         ensures none { IfNone result ((arity : Arity) → word.now ≡ arity_word arity → ⊥) }
     {

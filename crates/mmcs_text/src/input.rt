@@ -50,7 +50,7 @@ fn skip_blocks(input: &[u8]) -> usize
 }
 
 /// The bytes in front of the first line feed, and those behind it; or all bytes, where there is none.
-fn cut_line(input: &[u8]) -> (&[u8], Option<&[u8]>)
+pub fn cut_line(input: &[u8]) -> (&[u8], Option<&[u8]>)
     ensures cut { IfSome result.1 (λ rest.
         slice_split (λ b. b == 10) input.now ≡ result.0.now ∷ slice_split (λ b. b == 10) rest.now) }
     ensures last { IfNone result.1 (slice_split (λ b. b == 10) input.now ≡ result.0.now ∷ []) }
@@ -64,14 +64,14 @@ fn cut_line(input: &[u8]) -> (&[u8], Option<&[u8]>)
 }
 
 /// Whether the line is empty, or has spaces and tabs alone.
-fn is_blank(line: &[u8]) -> bool
+pub fn is_blank(line: &[u8]) -> bool
     ensures { result ≡ is_blank line.now }
 {
     line.iter().all(|byte| is_gap(*byte))
 }
 
 /// The line less one carriage return at its end.
-fn without_return(line: &[u8]) -> &[u8]
+pub fn without_return(line: &[u8]) -> &[u8]
     ensures { result.now ≡ strip_carriage_return line.now }
 {
     line.strip_suffix(b"\r").unwrap_or(line)
@@ -103,7 +103,7 @@ fn with_digit(before: Option<u32>, digit: u8, max: u32) -> Option<u32>
 /// # Errors
 ///
 /// `AllocError` where there is no memory.
-fn append_row<W: Word>(values: &mut Vec<W>, line: &[u8]) -> Result<Option<usize>, AllocError>
+pub fn append_row<W: Word>(values: &mut Vec<W>, line: &[u8]) -> Result<Option<usize>, AllocError>
     ensures row { IfOk result (λ count. IfSome count (λ n.
         (map W.value values.new.items ≡ map W.value values.old.items ++ numbers_of line.now) ×
         (n ≡ length (numbers_of line.now)) × All (IsNumberBelow (W.MAX + 1)) (numerals_of line.now))) }

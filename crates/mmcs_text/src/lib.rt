@@ -5,6 +5,6 @@
 pub mod command;
 pub mod fault;
 pub mod input;
-mod number;
+pub mod number;
 pub mod text;
 pub mod word;

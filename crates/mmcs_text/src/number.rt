@@ -6,7 +6,7 @@ ghost use Rattle.std.specs.Str.Parse.{digits_value};
 ghost use Rattle.mmcs_text.specs.Numbers.{IsNumberBelow};
 
 /// The number that one or more ASCII digits stand for, if it fits usize.
-pub(crate) fn parse_number(digits: &[u8]) -> Option<usize>
+pub fn parse_number(digits: &[u8]) -> Option<usize>
     ensures { SomeIff result (IsNumberBelow (2 ^ 64) digits.now) (digits_value 10 digits.now) }
 {
     // `parse` takes a sign too.

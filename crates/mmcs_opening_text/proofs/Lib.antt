@@ -1,0 +1,3 @@
+pub mod LineFacts
+pub mod ReadingFacts
+pub mod RequestFacts

@@ -1,0 +1,9 @@
+//! What the program `mmcs_verify` reads: the words of its command, and a cap and an opening as the program `mmcs`
+//! prints them. No tree is known of here.
+#![tactic(auto)]
+
+pub mod digest;
+pub mod fault;
+mod line;
+pub mod reader;
+pub mod request;

@@ -1,0 +1,302 @@
+//! A cap and an opening, from the bytes of an input.
+
+ghost use Rattle.std.specs.Prelude.{◌≡◌, ◌⊎◌, ◌+◌, ℕ, if◌then◌else◌, List, IfOk, IfErr, None, OnOk, Some, Ok, Err};
+ghost use Rattle.p3_merkle_core.specs.declared.error.MerkleTreeError.TheVariants.{OutOfMemory};
+ghost use Rattle.mmcs_text.specs.Words.{max_word};
+ghost use Rattle.mmcs_opening_text.specs.declared.fault.Fault.TheVariants.{Line, Tree};
+ghost use Rattle.mmcs_opening_text.specs.Readings.{after_cap_line, after_digest, after_line, after_query, after_row, expected_after, reading_of, settled, shown_in, shown_of, unread, whole_at};
+
+use crate::digest::LineDigest;
+use crate::fault::{Expected, Fault};
+use crate::line::{number_behind, row_of};
+use mmcs_text::input::{cut_line, is_blank, without_return};
+use mmcs_text::word::Word;
+use p3_support::matrix::Dimensions;
+use std::alloc::{AllocError, Global};
+use std::mem;
+
+/// What an input shows: a cap, and an opening of indices under it.
+#[derive(Drop)]
+pub struct Statement<W, H> {
+    /// The digests of the cap.
+    pub cap: Vec<H>,
+    /// The indices, in the order of their lines.
+    pub indices: Vec<usize>,
+    /// The rows of each index, one for each matrix.
+    pub rows: Vec<Vec<Vec<W>>>,
+    /// The digests of the proof.
+    pub digests: Vec<H>,
+}
+
+/// What comes next.
+#[derive(Clone, Copy)]
+pub enum Stage {
+    /// The digests of the cap, and the blank line that ends it.
+    Cap,
+    /// An index, or how many digests there are.
+    Queries,
+    /// The rows of an index.
+    Rows,
+    /// So many digests, and the end.
+    Digests(usize),
+}
+
+/// What the lines so far show.
+#[derive(Drop)]
+struct Reader<W, H> {
+    /// What comes next.
+    stage: Stage,
+    /// What is whole.
+    shown: Statement<W, H>,
+    /// The rows of an index that has not all of them yet.
+    row_set: Vec<Vec<W>>,
+}
+
+impl<W: Word, H: LineDigest> Reader<W, H> {
+    /// Before the first line.
+    fn new(alloc: Global) -> Reader<W, H>
+        ensures { reading_of W.value H.words result ≡ unread }
+    {
+        Reader {
+            stage: Stage::Cap,
+            shown: Statement {
+                cap: Vec::new(alloc),
+                indices: Vec::new(alloc),
+                rows: Vec::new(alloc),
+                digests: Vec::new(alloc),
+            },
+            row_set: Vec::new(alloc),
+        }
+    }
+
+    /// What may stand in the next line.
+    fn expected(&self, dimensions: &[Dimensions]) -> Expected
+        requires { W.MAX ≡ max_word H.hash }
+        ensures { result ≡ expected_after H.hash dimensions.now (reading_of W.value H.words self.now) }
+    {
+        let digits = H::DIGITS;
+        match self.stage {
+            Stage::Cap => Expected::CapDigest { digits },
+            Stage::Queries => Expected::Query,
+            Stage::Rows => {
+                let max = W::MAX as usize;
+                match dimensions.get(self.row_set.len()) {
+                    Some(size) => Expected::Row {
+                        width: size.width,
+                        max,
+                    },
+                    None => Expected::Row { width: 0, max },
+                }
+            }
+            Stage::Digests(count) if self.shown.digests.len() == count => Expected::End,
+            Stage::Digests(_) => Expected::Digest { digits },
+        }
+    }
+
+    /// Whether the lines may end here.
+    fn is_whole(&self) -> bool
+        ensures { result ≡ whole_at self.now.stage (reading_of W.value H.words self.now) }
+    {
+        match self.stage {
+            Stage::Digests(count) => self.shown.digests.len() == count,
+            _ => false,
+        }
+    }
+
+    /// Reads the line of this number.
+    ///
+    /// # Errors
+    ///
+    /// `Line` where it is not what may stand there, or `Tree(OutOfMemory)`.
+    fn take_line(
+        &mut self,
+        alloc: Global,
+        dimensions: &[Dimensions],
+        text: &[u8],
+        line: usize,
+    ) -> Result<(), Fault>
+        requires { W.MAX ≡ max_word H.hash }
+        ensures read { OnOk result (after_line H.hash dimensions.now (reading_of W.value H.words self.old) text.now
+            ≡ Some (reading_of W.value H.words self.new)) }
+        ensures fault { IfErr result (λ fault. (fault ≡ Tree OutOfMemory) ⊎
+            ((after_line H.hash dimensions.now (reading_of W.value H.words self.old) text.now ≡ None) ×
+            (fault ≡ Line line (expected_after H.hash dimensions.now (reading_of W.value H.words self.old))))) }
+    {
+        let expected = self.expected(dimensions);
+        if self.took(alloc, dimensions, text)? {
+            Ok(())
+        } else {
+            Err(Fault::Line { line, expected })
+        }
+    }
+
+    /// Reads a line, if it is what may stand there.
+    ///
+    /// # Errors
+    ///
+    /// `AllocError` where there is no memory.
+    fn took(
+        &mut self,
+        alloc: Global,
+        dimensions: &[Dimensions],
+        text: &[u8],
+    ) -> Result<bool, AllocError>
+        requires { W.MAX ≡ max_word H.hash }
+        ensures { IfOk result (λ took. after_line H.hash dimensions.now (reading_of W.value H.words self.old) text.now
+            ≡ (if took then Some (reading_of W.value H.words self.new) else None)) }
+    {
+        match self.stage {
+            Stage::Cap => self.took_cap_line(text),
+            Stage::Queries => self.took_query(alloc, dimensions, text),
+            Stage::Rows => self.took_row(alloc, dimensions, text),
+            Stage::Digests(count) => self.took_digest(count, text),
+        }
+    }
+
+    /// Reads a digest of the cap, or the blank line that ends it.
+    ///
+    /// # Errors
+    ///
+    /// `AllocError` where there is no memory.
+    fn took_cap_line(&mut self, text: &[u8]) -> Result<bool, AllocError>
+        ensures { IfOk result (λ took. after_cap_line H.hash (reading_of W.value H.words self.old) text.now
+            ≡ (if took then Some (reading_of W.value H.words self.new) else None)) }
+    {
+        if is_blank(text) {
+            self.stage = Stage::Queries;
+            return Ok(true);
+        }
+        let Some(digest) = H::from_line(text) else {
+            return Ok(false);
+        };
+        self.shown.cap.push(digest)?;
+        Ok(true)
+    }
+
+    /// Reads an index, or how many digests there are.
+    ///
+    /// # Errors
+    ///
+    /// `AllocError` where there is no memory.
+    fn took_query(
+        &mut self,
+        alloc: Global,
+        dimensions: &[Dimensions],
+        text: &[u8],
+    ) -> Result<bool, AllocError>
+        ensures { IfOk result (λ took. after_query dimensions.now (reading_of W.value H.words self.old) text.now
+            ≡ (if took then Some (reading_of W.value H.words self.new) else None)) }
+    {
+        if let Some(index) = number_behind(b"index ", text) {
+            self.shown.indices.push(index)?;
+            self.stage = Stage::Rows;
+            self.settle(alloc, dimensions)?;
+            return Ok(true);
+        }
+        let Some(count) = number_behind(b"digests ", text) else {
+            return Ok(false);
+        };
+        self.stage = Stage::Digests(count);
+        Ok(true)
+    }
+
+    /// Reads the row of the next matrix.
+    ///
+    /// # Errors
+    ///
+    /// `AllocError` where there is no memory.
+    fn took_row(
+        &mut self,
+        alloc: Global,
+        dimensions: &[Dimensions],
+        text: &[u8],
+    ) -> Result<bool, AllocError>
+        ensures { let read = reading_of W.value H.words self.old in
+            IfOk result (λ took. after_row dimensions.now (W.MAX + 1) read text.now
+            ≡ (if took then Some (reading_of W.value H.words self.new) else None)) }
+    {
+        let Some(size) = dimensions.get(self.row_set.len()) else {
+            return Ok(false);
+        };
+        let Some(row) = row_of(alloc, size.width, text)? else {
+            return Ok(false);
+        };
+        self.row_set.push(row)?;
+        self.settle(alloc, dimensions)?;
+        Ok(true)
+    }
+
+    /// Ends an index that has all its rows.
+    ///
+    /// # Errors
+    ///
+    /// `AllocError` where there is no memory.
+    fn settle(&mut self, alloc: Global, dimensions: &[Dimensions]) -> Result<(), AllocError>
+        ensures { OnOk result
+            (reading_of W.value H.words self.new ≡ settled dimensions.now (reading_of W.value H.words self.old)) }
+    {
+        if self.row_set.len() == dimensions.len() {
+            let row_set = mem::replace(&mut self.row_set, Vec::new(alloc));
+            self.shown.rows.push(row_set)?;
+            self.stage = Stage::Queries;
+        }
+        Ok(())
+    }
+
+    /// Reads a digest of the proof, or a blank line behind the last of them.
+    ///
+    /// # Errors
+    ///
+    /// `AllocError` where there is no memory.
+    fn took_digest(&mut self, count: usize, text: &[u8]) -> Result<bool, AllocError>
+        ensures { IfOk result (λ took. after_digest H.hash count (reading_of W.value H.words self.old) text.now
+            ≡ (if took then Some (reading_of W.value H.words self.new) else None)) }
+    {
+        if self.shown.digests.len() == count {
+            return Ok(is_blank(text));
+        }
+        let Some(digest) = H::from_line(text) else {
+            return Ok(false);
+        };
+        self.shown.digests.push(digest)?;
+        Ok(true)
+    }
+}
+
+/// What an input shows, for matrices of these dimensions.
+///
+/// The lines of a cap come first, a digest each, and a blank line ends them. Then come any number of queries: a line
+/// `index I`, and a line for the row of each matrix, of as many numbers as its width. Then a line `digests K`, and the
+/// `K` digests of a pruned proof, a line each. Blank lines may follow. Lines end in LF or CRLF.
+///
+/// # Errors
+///
+/// `Line` for the first line that is not what may stand there, or `Tree(OutOfMemory)`.
+pub fn read_statement<W: Word, H: LineDigest>(
+    alloc: Global,
+    dimensions: &[Dimensions],
+    input: &[u8],
+) -> Result<Statement<W, H>, Fault>
+    requires { W.MAX ≡ max_word H.hash }
+    ensures shown { IfOk result
+        (λ found. shown_in H.hash dimensions.now input.now ≡ Ok (shown_of W.value H.words found)) }
+    ensures fault { IfErr result
+        (λ fault. (fault ≡ Tree OutOfMemory) ⊎ (shown_in H.hash dimensions.now input.now ≡ Err fault)) }
+{
+    let mut reader = Reader::new(alloc);
+    let mut line = 0;
+    let mut rest = Some(input);
+    while let Some(left) = rest {
+        let (piece, below) = cut_line(left);
+        rest = below;
+        line += 1;
+        reader.take_line(alloc, dimensions, without_return(piece), line)?;
+    }
+    if reader.is_whole() {
+        Ok(reader.shown)
+    } else {
+        let expected = reader.expected(dimensions);
+        let line = line + 1;
+        Err(Fault::Line { line, expected })
+    }
+}

@@ -1,0 +1,119 @@
+//! Commands, from the words after the program's name.
+
+ghost use Rattle.std.specs.Prelude.{◌≡◌, ◌⊎◌, true, All, Decides, IfErr, IfNone, IfOk, IfSome, List, ℕ, Some, map};
+ghost use Rattle.std.specs.List.{list_all};
+ghost use Rattle.std.specs.Option.{is_some};
+ghost use Rattle.p3_merkle_core.specs.declared.error.MerkleTreeError.TheVariants.{OutOfMemory};
+ghost use Rattle.p3_support.specs.declared.matrix.Dimensions.{Dimensions};
+ghost use Rattle.mmcs_text.specs.Words.{texts_of};
+ghost use Rattle.mmcs_opening_text.specs.declared.fault.Fault.TheVariants.{Usage, Tree};
+ghost use Rattle.mmcs_opening_text.specs.Requests.{dimensions_of_word, AreNoCommand, AreWords};
+
+use crate::fault::Fault;
+use mmcs_text::command::{Arity, CapChoice, HashName};
+use mmcs_text::number::parse_number;
+use p3_support::matrix::Dimensions;
+use std::alloc::{AllocError, Global};
+
+/// What the program is asked for: to verify an opening of matrices.
+#[derive(Drop)]
+pub struct Request {
+    /// What the tree was built with.
+    pub setting: Setting,
+    /// The dimensions of each matrix, in the order of their words.
+    pub dimensions: Vec<Dimensions>,
+}
+
+/// What a tree was built with.
+#[derive(Clone, Copy)]
+pub struct Setting {
+    /// The hash of rows and nodes.
+    pub hash: HashName,
+    /// How many children a node may have.
+    pub arity: Arity,
+    /// Which layer is the cap.
+    pub cap: CapChoice,
+}
+
+impl Request {
+    /// What the words after the program's name ask for: a hash, an arity, a cap, and a height and a width with an `x`
+    /// between for each matrix. Numbers are one or more ASCII digits, and fit usize.
+    ///
+    /// # Errors
+    ///
+    /// `Usage` where the words are no command; else `Tree(OutOfMemory)` where there is no memory for the dimensions.
+    pub fn from_words(alloc: Global, words: &[String]) -> Result<Request, Fault>
+        ensures request { IfOk result
+            (λ request. AreWords (texts_of words.now) request.setting request.dimensions.items) }
+        ensures fault { IfErr result (λ fault. ((fault ≡ Usage) × AreNoCommand (texts_of words.now)) ⊎
+            ((fault ≡ Tree OutOfMemory) × (AreNoCommand (texts_of words.now) → ⊥))) }
+    {
+        let (setting, places) = Setting::from_words(words).ok_or(Fault::Usage)?;
+        let dimensions = dimensions_of(alloc, places)?;
+        Ok(Request {
+            setting,
+            dimensions,
+        })
+    }
+}
+
+impl Setting {
+    /// The setting of the words after the program's name, and the words of the dimensions, if they are a command.
+    fn from_words(words: &[String]) -> Option<(Setting, &[String])>
+        ensures places { IfSome result
+            (λ (_, places). list_all (λ word. is_some (dimensions_of_word word)) (texts_of places.now) ≡ true) }
+        ensures found { IfSome result (λ (setting, places). (dimensions : List Dimensions) →
+            map dimensions_of_word (texts_of places.now) ≡ map Some dimensions →
+            AreWords (texts_of words.now) setting dimensions) }
+        ensures none { IfNone result (AreNoCommand (texts_of words.now)) }
+    {
+        let [hash, arity, cap, places @ ..] = words else {
+            return None;
+        };
+        let setting = Setting {
+            hash: HashName::from_word(hash.as_str())?,
+            arity: Arity::from_word(arity.as_str())?,
+            cap: CapChoice::from_word(cap.as_bytes())?,
+        };
+        are_dimensions(places).then_some((setting, places))
+    }
+}
+
+/// Whether each of these words is the dimensions of a matrix.
+fn are_dimensions(words: &[String]) -> bool
+    ensures { result ≡ list_all (λ word. is_some (dimensions_of_word word)) (texts_of words.now) }
+{
+    words
+        .iter()
+        .all(|word| dimensions_of_word(word.as_bytes()).is_some())
+}
+
+/// The dimensions of a word: a height, an `x` and a width.
+fn dimensions_of_word(word: &[u8]) -> Option<Dimensions>
+    ensures { result ≡ dimensions_of_word word.now }
+{
+    let at = word.iter().position(|byte| *byte == b'x')?;
+    let height = parse_number(&word[..at])?;
+    let width = parse_number(&word[at + 1..])?;
+    Some(Dimensions { width, height })
+}
+
+/// The dimensions of words, each of which is that of a matrix.
+///
+/// # Errors
+///
+/// `AllocError` where there is no memory.
+fn dimensions_of(alloc: Global, words: &[String]) -> Result<Vec<Dimensions>, AllocError>
+    requires { list_all (λ word. is_some (dimensions_of_word word)) (texts_of words.now) ≡ true }
+    ensures { IfOk result
+        (λ dimensions. map dimensions_of_word (texts_of words.now) ≡ map Some dimensions.items) }
+{
+    let mut dimensions = Vec::with_capacity(alloc, words.len())?;
+    for word in words {
+        let Some(size) = dimensions_of_word(word.as_bytes()) else {
+            unreachable!()
+        };
+        dimensions.push(size)?;
+    }
+    Ok(dimensions)
+}

@@ -1,0 +1,43 @@
+//! Checks a cap and an opening of it, without the matrices:
+//! `mmcs_verify fold|sha256 2|4|8 CAP[f] HEIGHTxWIDTH..`.
+#![tactic(auto)]
+
+use mmcs_verify_engine::engine::run;
+use mmcs_verify_engine::fault::Fault;
+use std::alloc::AllocError;
+use std::env;
+use std::io::{Error, ErrorKind};
+use std::process::ExitCode;
+
+/// Why the words cannot be had: memory, or a word that is no text and so of no command.
+fn word_fault(error: Error) -> Fault {
+    if error.kind() == ErrorKind::OutOfMemory {
+        Fault::from(AllocError)
+    } else {
+        Fault::Usage
+    }
+}
+
+/// Passes the words after the program's name and the standard streams on.
+///
+/// # Errors
+///
+/// Those of [`run`], and `Usage` for a word that is no text.
+fn answer_process(rt: &HostRuntime) -> Result<(), Fault> {
+    let words: Vec<String> = env::args(rt)
+        .map_err(word_fault)?
+        .skip(1)
+        .collect(rt.alloc())?;
+    run(rt.alloc(), &words, &mut rt.stdin(), &mut rt.stdout())
+}
+
+fn main(rt: HostRuntime) -> ExitCode {
+    match answer_process(&rt) {
+        Ok(()) => ExitCode::SUCCESS,
+        Err(fault) => {
+            // A line that cannot be written leaves the status to tell.
+            let _ = eprintln!(rt; "{fault}");
+            ExitCode::from(fault.status())
+        }
+    }
+}

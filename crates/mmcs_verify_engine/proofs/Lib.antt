@@ -1,0 +1,3 @@
+pub mod WordFacts
+pub mod FaultFacts
+pub mod AnswerFacts

@@ -1,0 +1,68 @@
+-- What the program answers.
+use Rattle.std.specs.Prelude.{◌≡◌, ◌⊎◌, ◌↔◌, ℕ, List, length, nat_eq, Option, None, Some, Result, Ok, Err, OnErr}
+use Rattle.std.specs.Io.KnownBytes.{Appends}
+use Rattle.p3_support.specs.declared.matrix.Dimensions.{Dimensions}
+use Rattle.p3_merkle_core.specs.Checks.{Terms, terms}
+use Rattle.p3_merkle_core.specs.Geometry.{shape_of}
+use Rattle.p3_merkle_core.specs.Pruning.{pruned_of}
+use Rattle.p3_merkle_core.specs.Refusals.{pruned_refusal_under}
+use Rattle.p3_merkle_core.specs.declared.error.MerkleTreeError.{MerkleTreeError}
+use Rattle.p3_merkle_core.specs.declared.error.MerkleTreeError.TheVariants.{OutOfMemory}
+use Rattle.mmcs_text.specs.Text.{ok_line}
+use Rattle.mmcs_text.specs.Words.{arity_number}
+use Rattle.mmcs_engine.specs.Program.{functions_of_hash, layer_of_cap}
+use Rattle.mmcs_opening_text.specs.Readings.{shown_in, Shown}
+use Rattle.mmcs_opening_text.specs.Requests.{AreNoCommand, AreWords}
+use Rattle.mmcs_opening_text.specs.declared.fault.Fault.{Fault}
+use Rattle.mmcs_opening_text.specs.declared.fault.Fault.TheVariants.{Usage, Read, Tree, Write}
+use Rattle.mmcs_opening_text.specs.declared.request.Setting.{Setting}
+
+-- the terms of a check under a setting, for matrices of these dimensions
+abbrev pub terms_asked : Setting → List Dimensions → Terms ℕ ℕ
+terms_asked setting dimensions =
+    let s = shape_of (arity_number setting.arity) dimensions in
+    terms (functions_of_hash setting.hash) s (layer_of_cap setting.cap s)
+
+-- why the verifier refuses what an input shows
+abbrev pub refusal_asked : Setting → List Dimensions → Shown → Option MerkleTreeError
+refusal_asked setting dimensions s =
+    pruned_refusal_under nat_eq nat_eq (terms_asked setting dimensions) s.cap (pruned_of s.indices s.rows s.digests)
+
+-- how many digests were sent, or the refusal
+abbrev pub told : Option MerkleTreeError → ℕ → Result (List ℕ) Fault
+told None count = Ok (ok_line count)
+told (Some e) count = Err (Tree e)
+
+-- what is answered to what an input shows, or to its first faulty line
+abbrev pub answer_to : Setting → List Dimensions → Result Shown Fault → Result (List ℕ) Fault
+answer_to setting dimensions (Ok s) = told (refusal_asked setting dimensions s) (length s.digests)
+answer_to setting dimensions (Err fault) = Err fault
+
+-- the outcome by definition, of a command and an input: a text or a fault
+abbrev pub outcome_of : Setting → List Dimensions → List ℕ → Result (List ℕ) Fault
+outcome_of setting dimensions input = answer_to setting dimensions (shown_in setting.hash dimensions input)
+
+-- a read failed, or there was no memory
+abbrev pub HasFailed : Result (Unit {0}) Fault → Type 0
+HasFailed result = (result ≡ Err Read) ⊎ (result ≡ Err (Tree OutOfMemory))
+
+-- an outcome by definition ends in this result: a text in Ok, with the text written and nothing else, or in a failed
+-- write; a fault in itself
+abbrev pub EndsIn : Option (List ℕ) → Option (List ℕ) → Result (List ℕ) Fault → Result (Unit {0}) Fault → Type 0
+EndsIn old new (Ok text) result = ((result ≡ Ok tt) × Appends old new text) ⊎ ((result ≡ Err Write) ⊎ HasFailed result)
+EndsIn old new (Err fault) result = (result ≡ Err fault) ⊎ HasFailed result
+
+-- what `run` answers to words, with what its reader and its writer were and what they are then, whose bytes are told
+-- by `remaining` and `contents`, where they are known
+pub record IsAnswer {S D : Type 0} (remaining : S → Option (List ℕ)) (contents : D → Option (List ℕ))
+    (words : List (List ℕ)) (input input_left : S) (output output_left : D)
+    (result : Result (Unit {0}) Fault) : Type 0 where
+  -- words that are no command, and only these, are told by the usage, and then nothing is read
+  pub usage : (result ≡ Err Usage) ↔ AreNoCommand words
+  pub unread : result ≡ Err Usage → input_left ≡ input
+  -- no fault but a failed write leaves anything written
+  pub silent : OnErr result ((result ≡ Err Write) ⊎ (output_left ≡ output))
+  -- the outcome by definition is what the call ends in
+  pub ends : (setting : Setting) (dimensions : List Dimensions) (bytes : List ℕ) → AreWords words setting dimensions →
+      remaining input ≡ Some bytes →
+      EndsIn (contents output) (contents output_left) (outcome_of setting dimensions bytes) result
