@@ -33,7 +33,7 @@ impl<
             IfOk result (λ done. IsFilled leaf done (length slots.old) slots.new) }
     {
         let count = self.height.min(slots.len());
-        // A hasher that takes several messages at a time is faster than one that works lane by lane.
+        // In batches where the hasher takes several messages at a time, else lane by lane.
         if H::LANES > 1 {
             self.write_batched(alloc, count, slots)?;
             return Ok(count);
@@ -52,7 +52,7 @@ impl<
             (rows_over M.row_of self.now.matrices.now) self.now.height in
             slots.new ≡ map leaf (range_with_len 0 (length slots.old)) }
     {
-        // Rows that one matrix lends in one piece are read with no question for each row.
+        // Rows that one matrix lends in one piece have a loop of their own, in which nothing is asked for each row.
         let done = self.write_lent(done, slots);
         for j in done..slots.len() {
             slots[j] = self.digest(j);

@@ -13,6 +13,7 @@ use p3_support::packed::PackedValue;
 use p3_support::rows::rows_of;
 
 /// How many rows are lent side by side at most.
+// An array of pieces takes no memory from an allocator. Rows of more matrices are read word by word.
 const MAX_PIECES: usize = 16;
 
 /// From how many words on rows are lent side by side. Shorter ones are read faster word by word.
@@ -119,7 +120,9 @@ impl<
         };
         match lent {
             Some(digest) => digest,
-            None => self.hash.hash_iter(rows_of(self.matrices, self.height, row)),
+            None => self
+                .hash
+                .hash_iter(rows_of(self.matrices, self.height, row)),
         }
     }
 

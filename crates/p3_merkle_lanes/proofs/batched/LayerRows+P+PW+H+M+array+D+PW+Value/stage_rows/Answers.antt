@@ -16,8 +16,8 @@ loop-j-preserved g c =
     let r : ℕ = c.args.first + c.loop-j.j in
     let inside : r < h = omega (arith, c.requires) in
     rw c.in_ok-stage_row.ensures
-    (staged_more f c.loop-j.staged.items (rows_over g.M.Matrix.row_of ms r) (all_widths g.M.Matrix.width_of ms) c.loop-j.j
-    c.loop-j.invariant
+    (staged_more f c.loop-j.staged.items (rows_over g.M.Matrix.row_of ms r) (all_widths g.M.Matrix.width_of ms)
+    c.loop-j.j c.loop-j.invariant
     (length-rows g.M.Matrix.height_of g.M.Matrix.width_of g.M.Matrix.row_of h g.met.M.Matrix.length_row_of r inside ms
     c.args.self.now.of_height) refl)
 

@@ -5,8 +5,8 @@ use Rattle.p3_merkle_lanes.proofs.packed.LayerRows+P+PW+H+M+array+D+PW+Value.sta
 
 pub stage_packed_row-requires : goal.stage_packed_row-requires
 stage_packed_row-requires g c =
-    let high = height_at g.M.Matrix.height_of c.args.self.now.height c.args.self.now.matrices.now c.loop-matrix.matrix-index
-    c.matrix-item.result c.args.self.now.of_height c.loop-matrix-test.true c.matrix-item.is in
+    let high = height_at g.M.Matrix.height_of c.args.self.now.height c.args.self.now.matrices.now
+    c.loop-matrix.matrix-index c.matrix-item.result c.args.self.now.of_height c.loop-matrix-test.true c.matrix-item.is in
     omega (arith, high, c.requires)
 
 pub loop-matrix-preserved : goal.loop-matrix-preserved
@@ -15,4 +15,5 @@ loop-matrix-preserved g c = λ k small.
     let r : ℕ = c.args.row + k in
     c.in_ok-stage_packed_row.ensures k small
     ∙ ap (λ l. l ++ g.M.Matrix.row_of m r) (c.loop-matrix.invariant k small)
-    ∙ sym (rows_more g.M.Matrix.row_of r c.args.self.now.matrices.now c.loop-matrix.matrix-index m c.loop-matrix-test.true c.matrix-item.is)
+    ∙ sym (rows_more g.M.Matrix.row_of r c.args.self.now.matrices.now c.loop-matrix.matrix-index m
+    c.loop-matrix-test.true c.matrix-item.is)

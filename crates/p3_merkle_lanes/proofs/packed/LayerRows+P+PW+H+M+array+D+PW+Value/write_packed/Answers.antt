@@ -14,7 +14,8 @@ loop-group-preserved g c =
     let w = g.PW.PackedValue.WIDTH in
     let group = c.loop-group.group in
     let f = leaf_over (g.H.CryptographicHasher.hash c.args.self.now.hash.now)
-    (replicate g.row.D g.PW.PackedValue.default_value) (rows_over g.M.Matrix.row_of c.args.self.now.matrices.now) c.args.self.now.height in
+    (replicate g.row.D g.PW.PackedValue.default_value) (rows_over g.M.Matrix.row_of c.args.self.now.matrices.now)
+    c.args.self.now.height in
     let seen = λ (k : ℕ). lane_of g.PW.PackedValue.lanes g.PW.PackedValue.default_value k c.in_ok-digests.digests in
     let end = group_end group w c.args.groups c.args.self.now.height c.loop-group-test.true c.requires.rows in
     let written : (k : ℕ) → k < w → slice_index_or c.unpack_at.new.rows (group * w + k) []

@@ -17,8 +17,9 @@ pub returns-in-len1 : goal.returns-in-len1
 returns-in-len1 g c =
     let below : nat_lt c.args.row c.args.self.now.height ≡ true = lt-ltb c.args.row c.args.self.now.height
     (omega arith) in
-    rw (below, rows_alone g.M.Matrix.row_of c.args.row c.args.self.now.matrices.now c.matrix-item.result (omega arith) c.matrix-item.is)
-    c.row_digest.ensures
+    let alone = rows_alone g.M.Matrix.row_of c.args.row c.args.self.now.matrices.now c.matrix-item.result (omega arith)
+    c.matrix-item.is in
+    rw (below, alone) c.row_digest.ensures
 
 pub returns-in-None : goal.returns-in-None
 returns-in-None g c =

@@ -3,7 +3,7 @@ use Rattle.p3_merkle_core.specs.Nodes.{functions_of, layer}
 use Rattle.p3_merkle_core.specs.Views.{batch_of}
 use Rattle.p3_merkle_layers.proofs.LayerFacts.{layer_next}
 use Rattle.p3_merkle_layers.proofs.BuildFacts.{below_top, layer_at, layers_long, level_there, slots_are}
-use Rattle.p3_merkle_layers.proofs.layers.Builder+tuple2+P+PW+H+C+M+array+N+array+D+PW+Value.raise.Goals as goal
+use Rattle.p3_merkle_layers.proofs.layers.Builder+P+PW+H+C+M+array+N+array+D+PW+Value.raise.Goals as goal
 
 pub level_above-level-requires : goal.level_above-level-requires
 level_above-level-requires g c =

@@ -1,7 +1,7 @@
 use Rattle.std.proofs.Common.{arith}
 use Rattle.std.proofs.lemmas.List.{map-append}
 use Rattle.p3_merkle_layers.proofs.BuildFacts.{built_more, built_all, stepped_all, level_smaller}
-use Rattle.p3_merkle_layers.proofs.layers.Builder+tuple2+P+PW+H+C+M+array+N+array+D+PW+Value.layers.Goals as goal
+use Rattle.p3_merkle_layers.proofs.layers.Builder+P+PW+H+C+M+array+N+array+D+PW+Value.layers.Goals as goal
 
 pub loop-stack-smaller : goal.loop-stack-smaller
 loop-stack-smaller g c = level_smaller c.requires.build c.loop-stack.invariant c.loop-stack-test.true

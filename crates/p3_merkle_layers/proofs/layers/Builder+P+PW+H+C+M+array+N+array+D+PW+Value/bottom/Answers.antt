@@ -4,7 +4,7 @@ use Rattle.p3_merkle_core.specs.Nodes.{functions_of}
 use Rattle.p3_merkle_core.proofs.Shapes.StepFacts.{layer_start}
 use Rattle.p3_merkle_core.proofs.Covered.CoveredFacts.{padded_le}
 use Rattle.p3_merkle_layers.proofs.BuildFacts.{built_first, tallest_low}
-use Rattle.p3_merkle_layers.proofs.layers.Builder+tuple2+P+PW+H+C+M+array+N+array+D+PW+Value.bottom.Goals as goal
+use Rattle.p3_merkle_layers.proofs.layers.Builder+P+PW+H+C+M+array+N+array+D+PW+Value.bottom.Goals as goal
 
 pub padded_len-requires-clause-fits : goal.padded_len-requires-clause-fits
 padded_len-requires-clause-fits g c =

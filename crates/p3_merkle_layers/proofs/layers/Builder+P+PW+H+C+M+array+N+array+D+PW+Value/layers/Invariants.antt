@@ -2,7 +2,7 @@ use Rattle.std.proofs.Common.{map, replicate}
 use Rattle.p3_merkle_core.specs.Nodes.{functions_of}
 use Rattle.p3_merkle_core.specs.Views.{batch_of}
 use Rattle.p3_merkle_layers.specs.Inner.Built.{IsBuilt}
-use Rattle.p3_merkle_layers.proofs.layers.Builder+tuple2+P+PW+H+C+M+array+N+array+D+PW+Value.layers.Given as goal
+use Rattle.p3_merkle_layers.proofs.layers.Builder+P+PW+H+C+M+array+N+array+D+PW+Value.layers.Given as goal
 
 abbrev pub invariant-loop-stack : goal.invariant-loop-stack
 invariant-loop-stack g l =
