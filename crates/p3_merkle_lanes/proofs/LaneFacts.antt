@@ -1,12 +1,12 @@
 -- Slots that are filled in groups, and what each lane of packed digests shows.
-use Rattle.std.proofs.Common.{◌≡◌, ℕ, zero, suc, ◌+◌, ◌-◌, ◌*◌, ◌<◌, ◌≤◌, List, [], ◌∷◌, ◌++◌, length, map, take, drop, get_or, set, replicate, cond, min, ◌^◌, refl, sym, ap, ◌∙◌, arith, inl, inr, append-nil, length-drop}
-use Rattle.std.specs.Prelude.{◌==◌}
+use Rattle.std.proofs.Common.{◌≡◌, ℕ, zero, suc, ◌+◌, ◌-◌, ◌*◌, ◌<◌, ◌≤◌, List, [], ◌∷◌, ◌++◌, length, map, take, drop, get_or, set, replicate, cond, min, ◌^◌, All, refl, sym, ap, ◌∙◌, arith, inl, inr, append-nil, length-drop}
 use Rattle.std.specs.List.{flat_map}
-use Rattle.std.proofs.lemmas.Bool.{cases_lt, cases_eq, eq-eqb, ne_eqb}
+use Rattle.std.proofs.lemmas.Bool.{cases_lt, cases_eq, eq-eqb}
 use Rattle.std.proofs.lemmas.Grind.{flat_map-append}
-use Rattle.std.proofs.lemmas.List.{drop_more, take_more, take_more_set, append_assoc, set_at, length-take-le, get_or_append_left, get_or-append_right, get_or-take, get_or-drop, get_or-replicate}
+use Rattle.std.proofs.lemmas.List.{drop_more, flat_map_more, take_more, take_more_set, append_assoc, set_at, length-take-le, get_or_append_left, get_or-append_right, get_or-take, get_or-drop, get_or-replicate}
 use Rattle.std.proofs.Math.Nat.{mul-le-mul_right, mul-le-mul_left, mul-suc, add-mul, one-mul}
 use Rattle.p3_support.specs.Lists.{lane_of, rows_of_height}
+use Rattle.p3_merkle_lanes.specs.Inner.Slots.{rows_over}
 use borrow.Rule.Slice.PartMut.{put_mid}
 use prog.Memory.{capped}
 use prog.Capped.{capped_fits, capped_is, capped_small}
@@ -112,34 +112,17 @@ default_lanes lanes d p w k m n is below =
     map_replicate (lane_of lanes d k) n (replicate m p)
     ∙ ap (λ l. replicate n l) (map_replicate (λ q. get_or (lanes q) k d) m p ∙ ap (λ v. replicate m v) one)
 
-module _ {T M : Type 0} (height : M → ℕ) (row : M → ℕ → List T) (h r : ℕ) where
-  -- the rows of one more matrix
-  pub rows_append : (ms more : List M) → rows_of_height height row h r (ms ++ more)
-      ≡ rows_of_height height row h r ms ++ rows_of_height height row h r more
-  rows_append [] more = refl
-  rows_append (m ∷ ms) more =
-      ap (λ l. cond (height m == h) (row m r) [] ++ l) (rows_append ms more)
-      ∙ sym (append_assoc (cond (height m == h) (row m r) []) (rows_of_height height row h r ms)
-      (rows_of_height height row h r more))
+-- the rows of one more matrix
+pub rows_more : {T M : Type 0} (row : M → ℕ → List T) (r : ℕ) (ms : List M) (i : ℕ) (m : M) → i < length ms → m
+    ≡ get_or ms i m → rows_over row (take (i + 1) ms) r ≡ rows_over row (take i ms) r ++ row m r
+rows_more row r ms i m inside is =
+    ap (λ l. rows_over row l r) (take_more ms i m inside ∙ ap (λ x. take i ms ++ x ∷ []) (sym is))
+    ∙ sym (flat_map_more (λ m. row m r) [] (take i ms) m)
 
-  rows_take_more : (ms : List M) (i : ℕ) (m : M) → i < length ms → m ≡ get_or ms i m →
-      rows_of_height height row h r (take (i + 1) ms) ≡ rows_of_height height row h r (take i ms)
-      ++ cond (height m == h) (row m r) []
-  rows_take_more ms i m inside is =
-      ap (rows_of_height height row h r) (take_more ms i m inside ∙ ap (λ x. take i ms ++ x ∷ []) (sym is))
-      ∙ rows_append (take i ms) (m ∷ [])
-      ∙ ap (λ l. rows_of_height height row h r (take i ms) ++ l) (append-nil (cond (height m == h) (row m r) []))
-
-  -- where it has the height
-  pub row_taken : (ms : List M) (i : ℕ) (m : M) → i < length ms → m ≡ get_or ms i m → height m ≡ h →
-      rows_of_height height row h r (take (i + 1) ms) ≡ rows_of_height height row h r (take i ms) ++ row m r
-  row_taken ms i m inside is same = rows_take_more ms i m inside is ∙ rw (eq-eqb (height m) h same) refl
-
-  -- and where it has not
-  pub row_passed : (ms : List M) (i : ℕ) (m : M) → i < length ms → m ≡ get_or ms i m → (height m ≡ h → ⊥) →
-      rows_of_height height row h r (take (i + 1) ms) ≡ rows_of_height height row h r (take i ms)
-  row_passed ms i m inside is other = rows_take_more ms i m inside is
-      ∙ rw (ne_eqb (height m) h other) (append-nil (rows_of_height height row h r (take i ms)))
+-- which has the height of all
+pub height_at : {M : Type 0} (height : M → ℕ) (h : ℕ) (ms : List M) (i : ℕ) (m : M) → All (λ m. height m ≡ h) ms →
+    i < length ms → m ≡ get_or ms i m → height m ≡ h
+height_at height h ms i m all inside is = ap height is ∙ all i m inside
 
 -- the words of one more piece, written in place i
 pub piece_more : {X A : Type 0} (words : X → List A) (pieces : List X) (i : ℕ) (piece : X) → i < length pieces →
@@ -155,11 +138,18 @@ one_element [] x h is = absurd (omega arith)
 one_element (y ∷ []) x h is = ap (λ z. z ∷ []) (sym is)
 one_element (y ∷ z ∷ ys) x h is = absurd (omega arith)
 
+-- where all matrices have a height, the rows of those that have it are the rows of all
+pub rows_of_all : {T M : Type 0} (height : M → ℕ) (row : M → ℕ → List T) (h r : ℕ) (ms : List M) →
+    All (λ m. height m ≡ h) ms → rows_of_height height row h r ms ≡ rows_over row ms r
+rows_of_all height row h r [] all = refl
+rows_of_all height row h r (m ∷ ms) all =
+    rw (eq-eqb (height m) h (all 0 m (omega arith)))
+    (ap (λ l. row m r ++ l) (rows_of_all height row h r ms (λ k d b. all (suc k) d (omega arith))))
+
 -- one matrix alone gives its own row
-pub rows_alone : {T M : Type 0} (height : M → ℕ) (row : M → ℕ → List T) (h j : ℕ) (ms : List M) (m : M) → length ms
-    ≡ 1 → m ≡ get_or ms 0 m → height m ≡ h → rows_of_height height row h j ms ≡ row m j
-rows_alone height row h j ms m one is same =
-    rw (one_element ms m one is, eq-eqb (height m) h same) (append-nil (row m j))
+pub rows_alone : {T M : Type 0} (row : M → ℕ → List T) (j : ℕ) (ms : List M) (m : M) → length ms ≡ 1 → m
+    ≡ get_or ms 0 m → rows_over row ms j ≡ row m j
+rows_alone row j ms m one is = rw (one_element ms m one is) (append-nil (row m j))
 
 -- an array of arrays of s bytes each fits, where the product of the numbers is small as code has it, which caps what is
 -- too large

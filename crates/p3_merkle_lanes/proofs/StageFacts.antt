@@ -1,16 +1,15 @@
 -- Messages that are laid one after another, and slots that are filled part by part.
-use Rattle.std.proofs.Common.{◌≡◌, ℕ, zero, suc, ◌+◌, ◌-◌, ◌*◌, ◌/◌, ◌<◌, ◌≤◌, List, [], ◌∷◌, ◌++◌, length, map, take, drop, get_or, replicate, cond, refl, sym, ap, subst, add-one, ◌∙◌, arith, inl, inr, length-append, length-drop, append-nil}
-use Rattle.std.specs.Prelude.{◌==◌}
+use Rattle.std.proofs.Common.{◌≡◌, ℕ, zero, suc, ◌+◌, ◌-◌, ◌*◌, ◌/◌, ◌<◌, ◌≤◌, List, [], ◌∷◌, ◌++◌, length, map, take, drop, get_or, replicate, All, refl, sym, ap, subst, add-one, ◌∙◌, arith, inl, inr, length-append, length-drop, append-nil}
 use Rattle.std.specs.List.{flat_map, range_with_len}
 use Rattle.std.specs.Simd.{first_chunks}
-use Rattle.std.proofs.lemmas.Bool.{cases_lt, cases_eq, cases_Bool, eqb-true}
+use Rattle.std.proofs.lemmas.Bool.{cases_lt, cases_eq}
 use Rattle.std.proofs.lemmas.List.{drop_at, take_all, take-append-le, drop-append-le, get_or-append_right, get_or-drop, get_or-take, drop-drop, flat_map_more, length-take-le}
 use Rattle.std.proofs.lemmas.List.FromFn.{fill_by_all, get_or-map-range_with_len, length-map-range_with_len}
 use Rattle.std.proofs.lemmas.Simd.{map-map}
 use Rattle.std.proofs.Math.Nat.{mul-le-mul_left, mul-le-mul_right, mul_comm, mul-suc}
-use Rattle.p3_support.specs.Lists.{message, messages, rows_of_height}
+use Rattle.p3_support.specs.Lists.{message, messages}
 use Rattle.p3_support.specs.Inner.RowLengths.{next_start}
-use Rattle.p3_merkle_lanes.specs.Inner.Slots.{IsFilled, IsStaged}
+use Rattle.p3_merkle_lanes.specs.Inner.Slots.{rows_over, IsFilled, IsStaged}
 use Rattle.p3_merkle_lanes.proofs.LaneFacts.{part_written, part_before, rows_alone}
 use borrow.Rule.Slice.PartMut.{put_mid, same_len_mid}
 
@@ -79,38 +78,32 @@ staged_rows row f w a (suc n) long are =
     (staged_more f ys (row (a + n)) w n before (long n (omega arith)) (are n (omega arith))) in
     rw words more
 
-module _ {A M : Type 0} (height width : M → ℕ) (row : M → ℕ → List A) (h : ℕ) where
-  -- the widths of the matrices of height h
-  abbrev pub all_widths : List M → ℕ
-  all_widths [] = 0
-  all_widths (m ∷ ms) = cond (height m == h) (width m) 0 + all_widths ms
+-- how wide the matrices are together
+abbrev pub all_widths : {M : Type 0} → (M → ℕ) → List M → ℕ
+all_widths width [] = 0
+all_widths width (m ∷ ms) = width m + all_widths width ms
 
-  -- their rows have as many elements
-  pub length-rows : ((m : M) (r : ℕ) → r < height m → length (row m r) ≡ width m) → (r : ℕ) → r < h → (ms : List M) →
-      length (rows_of_height height row h r ms) ≡ all_widths ms
-  length-rows each r below [] = refl
-  length-rows each r below (m ∷ ms) =
-      let rest = length-rows each r below ms in
-      elim (cases_Bool (height m == h)) [
-        | inl same ↦ rw same
-            (omega (
-              arith,
-              length-append (row m r) (rows_of_height height row h r ms),
-              each m r (rw (eqb-true (height m) h same) below),
-              rest,
-            ))
-        | inr other ↦ rw other (omega (arith, rest))
-      ]
+-- so many elements has each row of all
+pub length-rows : {A M : Type 0} (height width : M → ℕ) (row : M → ℕ → List A) (h : ℕ) →
+    ((m : M) (r : ℕ) → r < height m → length (row m r) ≡ width m) → (r : ℕ) → r < h → (ms : List M) →
+    All (λ m. height m ≡ h) ms → length (rows_over row ms r) ≡ all_widths width ms
+length-rows height width row h each r below [] all = refl
+length-rows height width row h each r below (m ∷ ms) all =
+    let rest = length-rows height width row h each r below ms (λ k d b. all (suc k) d (omega arith)) in
+    let same : height m ≡ h = all 0 m (omega arith) in
+    let long : length (rows_over row (m ∷ ms) r)
+    ≡ length (row m r) + length (rows_over row ms r) = length-append (row m r) (rows_over row ms r) in
+    omega (arith, long, each m r (rw same below), rest)
 
 -- those of a matrix that stands alone
 pub staged_alone : {A M : Type 0} (height width : M → ℕ) (row : M → ℕ → List A) (h a n : ℕ) (ms : List M) (m : M)
     (xs : List A) → ((m : M) (r : ℕ) → r < height m → length (row m r) ≡ width m)
     → length ms ≡ 1 → m ≡ get_or ms 0 m → height m ≡ h → a + n ≤ h → xs ≡ flat_map (row m) (range_with_len a n) →
-    IsStaged (λ j. rows_of_height height row h (a + j) ms) n xs
+    IsStaged (λ j. rows_over row ms (a + j)) n xs
 staged_alone height width row h a n ms m xs each one is same inside words =
-    let f = λ (j : ℕ). rows_of_height height row h (a + j) ms in
+    let f = λ (j : ℕ). rows_over row ms (a + j) in
     let staged = staged_rows (row m) f (width m) a n (λ j below. each m (a + j) (omega (arith, same, below, inside)))
-    (λ j below. sym (rows_alone height row h (a + j) ms m one is same)) in
+    (λ j below. sym (rows_alone row (a + j) ms m one is)) in
     rw words (staged_all f (flat_map (row m) (range_with_len a n)) (width m) n n staged refl)
 
 -- a list made by index has its length

@@ -1,10 +1,10 @@
 //! The digests of many rows or nodes by calls that take many messages at once.
 
-ghost use Rattle.std.specs.Prelude.{◌≡◌, ℕ, ◌+◌, ◌-◌, ◌*◌, ◌%◌, ◌^◌, ◌<◌, ◌≤◌, ◌==◌, ◌++◌, [], ◌∷◌, IfOk, IfSome, filter, length, map, max, min, replicate, slice_index_or, sum_by};
+ghost use Rattle.std.specs.Prelude.{◌≡◌, ℕ, ◌+◌, ◌-◌, ◌*◌, ◌%◌, ◌^◌, ◌<◌, ◌≤◌, ◌++◌, [], ◌∷◌, IfOk, length, map, max, min, replicate, slice_index_or, sum_by};
 ghost use Rattle.std.specs.List.{range_with_len};
-ghost use Rattle.p3_support.specs.Lists.{rows_of_height};
-ghost use Rattle.p3_merkle_lanes.specs.Inner.Slots.{leaf_over, IsFilled, IsStaged};
+ghost use Rattle.p3_merkle_lanes.specs.Inner.Slots.{leaf_over, rows_over, IsFilled, IsStaged};
 
+use crate::rows::LayerRows;
 use p3_merkle_core::group::pair_group;
 use p3_support::compress::PseudoCompressionFunction;
 use p3_support::hasher::CryptographicHasher;
@@ -26,22 +26,8 @@ fn rows_per_call(bytes: usize, lanes: usize) -> usize
     (16384 / bytes / lanes).max(1) * lanes
 }
 
-/// How many elements the rows of the matrices of this height have together, at most 2^64 - 1.
-fn row_len<T, M: Matrix<T>>(matrices: &[M], height: usize) -> usize
-    ensures { let widths = sum_by M.width_of (filter (λ m. M.height_of m == height) matrices.now) in
-        result ≡ min widths (2 ^ 64 - 1) }
-{
-    let mut len = 0usize;
-    for matrix in matrices {
-        if matrix.height() == height {
-            len = len.saturating_add(matrix.width());
-        }
-    }
-    len
-}
-
 /// Adds a row of a matrix to the rows that are staged.
-fn stage_row<T: Copy, M: Matrix<T>>(
+fn stage_row_of<T: Copy, M: Matrix<T>>(
     staged: &mut Vec<T>,
     matrix: &M,
     row: usize,
@@ -55,137 +41,106 @@ fn stage_row<T: Copy, M: Matrix<T>>(
     }
 }
 
-/// Adds the rows `row` of the matrices of this height to the rows that are staged, one matrix after another.
-fn stage_rows_at<T: Copy, M: Matrix<T>>(
-    staged: &mut Vec<T>,
-    matrices: &[M],
-    height: usize,
-    row: usize,
-) -> Result<(), AllocError>
-    requires { row < height }
-    ensures { IfOk result (λ done. staged.new.items
-        ≡ staged.old.items ++ rows_of_height M.height_of M.row_of height row matrices.now) }
-{
-    for matrix in matrices {
-        if matrix.height() == height {
-            stage_row(staged, matrix, row)?;
+impl<
+    'a,
+    P: PackedValue,
+    PW: PackedValue,
+    H: CryptographicHasher<P, PW, D>,
+    M: Matrix<P::Value>,
+    const D: usize,
+> LayerRows<'a, P, PW, H, M, [PW::Value; D]> {
+    /// How many elements a row of the layer has, at most 2^64 - 1.
+    fn row_len(&self) -> usize
+        ensures { result ≡ min (sum_by M.width_of self.now.matrices.now) (2 ^ 64 - 1) }
+    {
+        let mut len = 0usize;
+        for matrix in self.matrices {
+            len = len.saturating_add(matrix.width());
         }
+        len
     }
-    Ok(())
-}
 
-/// Lays the rows of the matrices of this height side by side, `count` of them from `first` on, in place of what was
-/// staged.
-fn stage_rows<T: Copy, M: Matrix<T>>(
-    staged: &mut Vec<T>,
-    matrices: &[M],
-    height: usize,
-    first: usize,
-    count: usize,
-) -> Result<(), AllocError>
-    requires { first + count ≤ height }
-    ensures { let rows = λ (j : ℕ). rows_of_height M.height_of M.row_of height (first + j) matrices.now in
-        IfOk result (λ done. IsStaged rows count staged.new.items) }
-{
-    staged.clear();
-    for j in 0..count {
-        stage_rows_at(staged, matrices, height, first + j)?;
+    /// Adds a row of the layer to the rows that are staged.
+    fn stage_row(&self, staged: &mut Vec<P::Value>, row: usize) -> Result<(), AllocError>
+        requires { row < self.now.height }
+        ensures { IfOk result (λ done. staged.new.items
+            ≡ staged.old.items ++ rows_over M.row_of self.now.matrices.now row) }
+    {
+        for matrix in self.matrices {
+            stage_row_of(staged, matrix, row)?;
+        }
+        Ok(())
     }
-    Ok(())
-}
 
-/// The rows of the one matrix that there is, `count` of them from `first` on, if it has this height and lends them in
-/// one piece.
-pub(crate) fn lone_rows<T, M: Matrix<T>>(
-    matrices: &[M],
-    height: usize,
-    first: usize,
-    count: usize,
-) -> Option<&[T]>
-    requires { first + count ≤ height }
-    ensures { let rows = λ (j : ℕ). rows_of_height M.height_of M.row_of height (first + j) matrices.now in
-        IfSome result (λ words. IsStaged rows count words.now) }
-{
-    match matrices {
-        [matrix] if matrix.height() == height => matrix.row_chunk(first, count),
-        _ => None,
+    /// Lays rows of the layer side by side, `count` of them from `first` on, in place of what was staged.
+    fn stage_rows(
+        &self,
+        staged: &mut Vec<P::Value>,
+        first: usize,
+        count: usize,
+    ) -> Result<(), AllocError>
+        requires { first + count ≤ self.now.height }
+        ensures { let rows = λ (j : ℕ). rows_over M.row_of self.now.matrices.now (first + j) in
+            IfOk result (λ done. IsStaged rows count staged.new.items) }
+    {
+        staged.clear();
+        for j in 0..count {
+            self.stage_row(staged, first + j)?;
+        }
+        Ok(())
     }
-}
 
-/// Writes into slot `j` the digest of the rows `first + j` of the matrices of this height, which are staged for that
-/// where no matrix lends them.
-fn hash_rows<
-    P: PackedValue,
-    PW: PackedValue,
-    H: CryptographicHasher<P, PW, D>,
-    M: Matrix<P::Value>,
-    const D: usize,
->(
-    hash: &H,
-    matrices: &[M],
-    height: usize,
-    first: usize,
-    staged: &mut Vec<P::Value>,
-    slots: &mut [[PW::Value; D]],
-) -> Result<(), AllocError>
-    requires { first + length slots.old ≤ height }
-    ensures { IfOk result (λ done. slots.new
-        ≡ map (λ j. H.hash hash.now (rows_of_height M.height_of M.row_of height (first + j) matrices.now))
-        (range_with_len 0 (length slots.old))) }
-{
-    if let Some(words) = lone_rows(matrices, height, first, slots.len()) {
-        hash.hash_many(words, slots);
-        return Ok(());
+    /// Writes into slot `j` the digest of row `first + j`. The rows are staged for that where no matrix lends them.
+    fn hash_rows(
+        &self,
+        first: usize,
+        staged: &mut Vec<P::Value>,
+        slots: &mut [[PW::Value; D]],
+    ) -> Result<(), AllocError>
+        requires { first + length slots.old ≤ self.now.height }
+        ensures { IfOk result (λ done. slots.new
+            ≡ map (λ j. H.hash self.now.hash.now (rows_over M.row_of self.now.matrices.now (first + j)))
+            (range_with_len 0 (length slots.old))) }
+    {
+        if let Some(words) = self.lone_rows(first, slots.len()) {
+            self.hash.hash_many(words, slots);
+            return Ok(());
+        }
+        self.stage_rows(staged, first, slots.len())?;
+        self.hash.hash_many(staged, slots);
+        Ok(())
     }
-    stage_rows(staged, matrices, height, first, slots.len())?;
-    hash.hash_many(staged, slots);
-    Ok(())
-}
 
-/// Writes the digests of the rows of the matrices of this height into the first `count` slots, as many rows a call as
-/// [`rows_per_call`] says. They are no more than there are slots, nor than the height.
-///
-/// # Errors
-///
-/// `AllocError` where there is no memory for one buffer of rows.
-pub fn write_batched_leaves<
-    P: PackedValue,
-    PW: PackedValue,
-    H: CryptographicHasher<P, PW, D>,
-    M: Matrix<P::Value>,
-    const D: usize,
->(
-    alloc: Global,
-    hash: &H,
-    matrices: &[M],
-    height: usize,
-    count: usize,
-    slots: &mut [[PW::Value; D]],
-) -> Result<(), AllocError>
-    requires rows { count ≤ height }
-    requires room { count ≤ length slots.old }
-    ensures { let leaf = leaf_over (H.hash hash.now) (replicate D PW.default_value) M.height_of M.row_of matrices.now
-        height in
-        IfOk result (λ done. IsFilled leaf count (length slots.old) slots.new) }
-{
-    let len = row_len(matrices, height);
-    let bytes = len.saturating_mul(std::mem::size_of_val(&P::Value::default()));
-    let rows = rows_per_call(bytes, H::LANES);
-    let mut staged = Vec::with_capacity(alloc, rows.min(count).saturating_mul(len))?;
-    let mut first = 0;
-    while first < count {
-        let end = first + rows.min(count - first);
-        hash_rows::<P, PW, H, M, D>(
-            hash,
-            matrices,
-            height,
-            first,
-            &mut staged,
-            &mut slots[first..end],
-        )?;
-        first = end;
+    /// Writes the digests of the rows into the first `count` slots, as many rows a call as [`rows_per_call`] says. They
+    /// are no more than there are slots, nor than the height.
+    ///
+    /// # Errors
+    ///
+    /// `AllocError` where there is no memory for one buffer of rows.
+    pub fn write_batched(
+        &self,
+        alloc: Global,
+        count: usize,
+        slots: &mut [[PW::Value; D]],
+    ) -> Result<(), AllocError>
+        requires rows { count ≤ self.now.height }
+        requires room { count ≤ length slots.old }
+        ensures { let leaf = leaf_over (H.hash self.now.hash.now) (replicate D PW.default_value)
+            (rows_over M.row_of self.now.matrices.now) self.now.height in
+            IfOk result (λ done. IsFilled leaf count (length slots.old) slots.new) }
+    {
+        let len = self.row_len();
+        let bytes = len.saturating_mul(std::mem::size_of_val(&P::Value::default()));
+        let rows = rows_per_call(bytes, H::LANES);
+        let mut staged = Vec::with_capacity(alloc, rows.min(count).saturating_mul(len))?;
+        let mut first = 0;
+        while first < count {
+            let end = first + rows.min(count - first);
+            self.hash_rows(first, &mut staged, &mut slots[first..end])?;
+            first = end;
+        }
+        Ok(())
     }
-    Ok(())
 }
 
 /// Writes the compressions of whole groups of a layer into the first `count` slots: slot `j` is that of group `j`.

@@ -2,5 +2,7 @@
 #![tactic(auto)]
 
 pub mod batched;
+pub mod leaves;
 pub mod packed;
 pub mod plain;
+pub mod rows;

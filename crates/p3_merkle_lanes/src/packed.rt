@@ -3,9 +3,10 @@
 ghost use Rattle.std.specs.Mem.{type_size, FitsInMemory};
 ghost use denote.Param.{ArrayAt};
 ghost use Rattle.std.specs.Prelude.{IsTrue, ◌≡◌, ℕ, ◌+◌, ◌-◌, ◌*◌, ◌^◌, ◌<◌, ◌≤◌, ◌++◌, [], ◌∷◌, IfOk, length, map, take, drop, replicate, slice_index_or};
-ghost use Rattle.p3_support.specs.Lists.{lane_of, rows_of_height};
-ghost use Rattle.p3_merkle_lanes.specs.Inner.Slots.{leaf_over, IsFilled};
+ghost use Rattle.p3_support.specs.Lists.{lane_of};
+ghost use Rattle.p3_merkle_lanes.specs.Inner.Slots.{leaf_over, rows_over, IsFilled};
 
+use crate::rows::LayerRows;
 use p3_merkle_core::group::pair_group;
 use p3_support::compress::PseudoCompressionFunction;
 use p3_support::hasher::CryptographicHasher;
@@ -55,27 +56,6 @@ fn stage_packed_row<P: PackedValue, M: Matrix<P::Value>>(
     staged.extend(matrix.vertically_packed_row::<P>(row))
 }
 
-/// Lays the packed rows of the matrices of this height one after another, from `row` on, in place of what was staged.
-fn stage_packed_rows<P: PackedValue, M: Matrix<P::Value>>(
-    staged: &mut Vec<P>,
-    matrices: &[M],
-    height: usize,
-    row: usize,
-) -> Result<(), AllocError>
-    requires { row + P.WIDTH ≤ height }
-    ensures { IfOk result (λ done. (k : ℕ) → k < P.WIDTH →
-        lane_of P.lanes P.default_value k staged.new.items
-        ≡ rows_of_height M.height_of M.row_of height (row + k) matrices.now) }
-{
-    staged.clear();
-    for matrix in matrices {
-        if matrix.height() == height {
-            stage_packed_row(staged, matrix, row)?;
-        }
-    }
-    Ok(())
-}
-
 /// The digests of rows of one matrix, from `row` on: lane `k` is that of row `row + k`, for each lane
 /// that both packings have.
 fn packed_row_digest<
@@ -92,85 +72,78 @@ fn packed_row_digest<
     hash.hash_packed(matrix.vertically_packed_row::<P>(row))
 }
 
-/// The digests of rows of the matrices of this height, one matrix after another, from `row` on: lane `k` is that of the
-/// rows `row + k`, for each lane that both packings have. As many rows as `P` has lanes are below the height. The rows
-/// of several matrices are staged first.
-///
-/// # Errors
-///
-/// `AllocError` where there is no memory to stage them.
-pub fn packed_rows_digest<
+impl<
+    'a,
     P: PackedValue,
     PW: PackedValue,
     H: CryptographicHasher<P, PW, D>,
     M: Matrix<P::Value>,
     const D: usize,
->(
-    hash: &H,
-    matrices: &[M],
-    height: usize,
-    row: usize,
-    staged: &mut Vec<P>,
-) -> Result<[PW; D], AllocError>
-    requires { row + P.WIDTH ≤ height }
-    ensures { IfOk result (λ digests. (k : ℕ) → k < P.WIDTH → k < PW.WIDTH →
-        lane_of PW.lanes PW.default_value k digests
-        ≡ H.hash hash.now (rows_of_height M.height_of M.row_of height (row + k) matrices.now)) }
-{
-    match matrices {
-        [matrix] if matrix.height() == height => {
-            Ok(packed_row_digest::<P, PW, H, M, D>(hash, matrix, row))
-        },
-        _ => {
-            stage_packed_rows(staged, matrices, height, row)?;
-            Ok(hash.hash_packed(staged.iter().copied()))
-        },
+> LayerRows<'a, P, PW, H, M, [PW::Value; D]> {
+    /// Lays the packed rows of the matrices one after another, from `row` on, in place of what was staged.
+    fn stage_packed_rows(&self, staged: &mut Vec<P>, row: usize) -> Result<(), AllocError>
+        requires { row + P.WIDTH ≤ self.now.height }
+        ensures { IfOk result (λ done. (k : ℕ) → k < P.WIDTH →
+            lane_of P.lanes P.default_value k staged.new.items
+            ≡ rows_over M.row_of self.now.matrices.now (row + k)) }
+    {
+        staged.clear();
+        for matrix in self.matrices {
+            stage_packed_row(staged, matrix, row)?;
+        }
+        Ok(())
     }
-}
 
-/// Writes the digests of the rows of the matrices of this height into the first slots: `groups` groups, each of as many
-/// slots as there are lanes. Both packings have equally many lanes, and these slots are no more than there are, nor
-/// than the height.
-///
-/// # Errors
-///
-/// `AllocError` where there is no memory to stage rows.
-#[tactic(auto, using(crate::proofs::LaneFacts::group_end))]
-pub fn write_packed_leaves<
-    P: PackedValue,
-    PW: PackedValue,
-    H: CryptographicHasher<P, PW, D>,
-    M: Matrix<P::Value>,
-    const D: usize,
->(
-    alloc: Global,
-    hash: &H,
-    matrices: &[M],
-    height: usize,
-    groups: usize,
-    slots: &mut [[PW::Value; D]],
-) -> Result<(), AllocError>
-    requires lanes { P.WIDTH ≡ PW.WIDTH }
-    requires digest { 0 < groups → FitsInMemory (ArrayAt PW.row D.row) }
-    requires rows { groups * PW.WIDTH ≤ height }
-    requires room { groups * PW.WIDTH ≤ length slots.old }
-    ensures { let leaf = leaf_over (H.hash hash.now) (replicate D PW.default_value) M.height_of M.row_of matrices.now
-        height in
-        IfOk result (λ done. IsFilled leaf (groups * PW.WIDTH) (length slots.old) slots.new) }
-{
-    let mut staged = Vec::new(alloc);
-    for group in 0..groups {
-        let first = group * PW::WIDTH;
-        let digests = packed_rows_digest::<P, PW, H, M, D>(
-            hash,
-            matrices,
-            height,
-            first,
-            &mut staged,
-        )?;
-        unpack_at(&digests, slots, first);
+    /// The digests of the rows from `row` on: lane `k` is that of row `row + k`, for each lane that both packings have.
+    /// As many rows as `P` has lanes are below the height. The rows of several matrices are staged first.
+    ///
+    /// # Errors
+    ///
+    /// `AllocError` where there is no memory to stage them.
+    pub fn packed_digest(&self, row: usize, staged: &mut Vec<P>) -> Result<[PW; D], AllocError>
+        requires { row + P.WIDTH ≤ self.now.height }
+        ensures { IfOk result (λ digests. (k : ℕ) → k < P.WIDTH → k < PW.WIDTH →
+            lane_of PW.lanes PW.default_value k digests
+            ≡ H.hash self.now.hash.now (rows_over M.row_of self.now.matrices.now (row + k))) }
+    {
+        match self.matrices {
+            [matrix] => Ok(packed_row_digest::<P, PW, H, M, D>(self.hash, matrix, row)),
+            _ => {
+                self.stage_packed_rows(staged, row)?;
+                Ok(self.hash.hash_packed(staged.iter().copied()))
+            },
+        }
     }
-    Ok(())
+
+    /// Writes the digests of the rows into the first slots: `groups` groups, each of as many slots as there are lanes.
+    /// Both packings have equally many lanes, and these slots are no more than there are, nor than the height.
+    ///
+    /// # Errors
+    ///
+    /// `AllocError` where there is no memory to stage rows.
+    #[tactic(auto, using(crate::proofs::LaneFacts::group_end))]
+    pub fn write_packed(
+        &self,
+        alloc: Global,
+        groups: usize,
+        slots: &mut [[PW::Value; D]],
+    ) -> Result<(), AllocError>
+        requires lanes { P.WIDTH ≡ PW.WIDTH }
+        requires digest { 0 < groups → FitsInMemory (ArrayAt PW.row D.row) }
+        requires rows { groups * PW.WIDTH ≤ self.now.height }
+        requires room { groups * PW.WIDTH ≤ length slots.old }
+        ensures { let leaf = leaf_over (H.hash self.now.hash.now) (replicate D PW.default_value)
+            (rows_over M.row_of self.now.matrices.now) self.now.height in
+            IfOk result (λ done. IsFilled leaf (groups * PW.WIDTH) (length slots.old) slots.new) }
+    {
+        let mut staged = Vec::new(alloc);
+        for group in 0..groups {
+            let first = group * PW::WIDTH;
+            let digests = self.packed_digest(first, &mut staged)?;
+            unpack_at(&digests, slots, first);
+        }
+        Ok(())
+    }
 }
 
 /// An element of a digest of a layer.

@@ -2,11 +2,10 @@
 
 ghost use Rattle.std.specs.Prelude.{◌≡◌, ℕ, ◌*◌, ◌<◌, ◌≤◌, [], length, map, replicate, slice_index_or, take, IfSome};
 ghost use Rattle.std.specs.List.{flat_map};
-ghost use Rattle.p3_support.specs.Lists.{messages as messages_of, rows_of_height};
-ghost use Rattle.p3_merkle_lanes.specs.Inner.Slots.{leaf_over, IsFilled};
-ghost use Rattle.p3_merkle_core.specs.Refusals.{rows_of};
+ghost use Rattle.p3_support.specs.Lists.{messages as messages_of};
+ghost use Rattle.p3_merkle_lanes.specs.Inner.Slots.{leaf_over, rows_over, IsFilled};
 
-use crate::batched::lone_rows;
+use crate::rows::LayerRows;
 use p3_support::compress::PseudoCompressionFunction;
 use p3_support::hasher::CryptographicHasher;
 use p3_support::matrix::Matrix;
@@ -14,6 +13,7 @@ use p3_support::packed::PackedValue;
 use p3_support::rows::rows_of;
 
 /// How many rows are lent side by side at most.
+// An array of pieces takes no memory from an allocator. Rows of more matrices are read word by word.
 const MAX_PIECES: usize = 16;
 
 /// From how many words on rows are lent side by side. Shorter ones are read faster word by word.
@@ -41,82 +41,6 @@ fn no_pieces<'a, T>() -> [&'a [T]; MAX_PIECES] {
     [&[]; MAX_PIECES]
 }
 
-/// Fills `pieces` from its start with the rows `row` of the matrices of this height, and answers how many there are, if
-/// `pieces` has room and each matrix lends its row. The row is below the height.
-fn lend_rows<'a, T, M: Matrix<T>>(
-    matrices: &'a [M],
-    height: usize,
-    row: usize,
-    pieces: &mut [&'a [T]; MAX_PIECES],
-) -> Option<usize>
-    requires { row < height }
-    ensures room { IfSome result (λ count. count ≤ length pieces.new) }
-    ensures lent { IfSome result (λ count. flat_map (λ piece. piece.now) (take count pieces.new)
-        ≡ rows_of_height M.height_of M.row_of height row matrices.now) }
-{
-    let mut count = 0;
-    for matrix in matrices {
-        if matrix.height() == height {
-            if count == MAX_PIECES {
-                return None;
-            }
-            pieces[count] = matrix.row_slice(row)?;
-            count += 1;
-        }
-    }
-    Some(count)
-}
-
-/// The digest of the rows `row` of the matrices of this height, one matrix after another, if they are few and each
-/// matrix lends its row. The row is below the height.
-fn pieces_digest<
-    P: PackedValue,
-    PW: PackedValue,
-    H: CryptographicHasher<P, PW, D>,
-    M: Matrix<P::Value>,
-    const D: usize,
->(hash: &H, matrices: &[M], height: usize, row: usize) -> Option<[PW::Value; D]>
-    requires { row < height }
-    ensures { IfSome result
-        (λ digest. digest ≡ H.hash hash.now (rows_of_height M.height_of M.row_of height row matrices.now)) }
-{
-    let mut pieces = no_pieces();
-    let count = lend_rows(matrices, height, row, &mut pieces)?;
-    Some(hash.hash_iter_slices(pieces[..count].iter().copied()))
-}
-
-/// The digest of the rows `row` of the matrices of this height, one matrix after another; the default digest past
-/// their end.
-pub fn rows_digest<
-    P: PackedValue,
-    PW: PackedValue,
-    H: CryptographicHasher<P, PW, D>,
-    M: Matrix<P::Value>,
-    const D: usize,
->(hash: &H, matrices: &[M], height: usize, row: usize) -> [PW::Value; D]
-    ensures { result ≡ leaf_over (H.hash hash.now) (replicate D PW.default_value) M.height_of M.row_of matrices.now
-        height row }
-{
-    if row >= height {
-        return [PW::Value::default(); D];
-    }
-    let lent = match matrices {
-        // A row that stands alone is read without a look for the next one after each word.
-        [matrix] if matrix.height() == height => {
-            return row_digest::<P, PW, H, M, D>(hash, matrix, row);
-        },
-        // Whole pieces are hashed without a look for the next word's matrix.
-        [first, ..] if first.width() >= MIN_LENT_WIDTH => {
-            pieces_digest::<P, PW, H, M, D>(hash, matrices, height, row)
-        },
-        _ => None,
-    };
-    match lent {
-        Some(digest) => digest,
-        None => hash.hash_iter(rows_of(matrices, height, row)),
-    }
-}
-
 /// Writes into `slots[i]` the digest of message `i`. The messages lie one after another, as many as there are slots, of
 /// one length.
 fn hash_each<P: PackedValue, PW: PackedValue, H: CryptographicHasher<P, PW, D>, const D: usize>(
@@ -137,34 +61,94 @@ fn hash_each<P: PackedValue, PW: PackedValue, H: CryptographicHasher<P, PW, D>, 
     }
 }
 
-/// Writes the digests of rows into the slots of their numbers, from slot `first` on, if there is one matrix, it has
-/// this height, and it lends its rows in one piece. The answer is how many slots are written then, those before `first`
-/// among them.
-pub fn write_lent_leaves<
+impl<
+    'a,
     P: PackedValue,
     PW: PackedValue,
     H: CryptographicHasher<P, PW, D>,
     M: Matrix<P::Value>,
     const D: usize,
->(hash: &H, matrices: &[M], height: usize, first: usize, slots: &mut [[PW::Value; D]]) -> usize
-    requires { let leaf = leaf_over (H.hash hash.now) (replicate D PW.default_value) M.height_of M.row_of matrices.now
-        height in
-        IsFilled leaf first (length slots.old) slots.old }
-    ensures filled { let leaf = leaf_over (H.hash hash.now) (replicate D PW.default_value) M.height_of M.row_of
-        matrices.now height in
-        IsFilled leaf result (length slots.old) slots.new }
-    ensures further { first ≤ result }
-{
-    let end = height.min(slots.len());
-    if first >= end {
-        return first;
+> LayerRows<'a, P, PW, H, M, [PW::Value; D]> {
+    /// Fills `pieces` from its start with row `row` of each matrix, and answers how many there are, if `pieces` has
+    /// room and each matrix lends its row. The row is below the height.
+    fn lend_rows<'b>(
+        &'b self,
+        row: usize,
+        pieces: &mut [&'b [P::Value]; MAX_PIECES],
+    ) -> Option<usize>
+        requires { row < self.now.height }
+        ensures room { IfSome result (λ count. count ≤ length pieces.new) }
+        ensures lent { IfSome result (λ count. flat_map (λ piece. piece.now) (take count pieces.new)
+            ≡ rows_over M.row_of self.now.matrices.now row) }
+    {
+        let mut count = 0;
+        for matrix in self.matrices {
+            if count == MAX_PIECES {
+                return None;
+            }
+            pieces[count] = matrix.row_slice(row)?;
+            count += 1;
+        }
+        Some(count)
     }
-    match lone_rows(matrices, height, first, end - first) {
-        Some(words) => {
-            hash_each::<P, PW, H, D>(hash, words, &mut slots[first..end]);
-            end
-        },
-        None => first,
+
+    /// The digest of a row, if the matrices are few and each lends its own. The row is below the height.
+    fn pieces_digest(&self, row: usize) -> Option<[PW::Value; D]>
+        requires { row < self.now.height }
+        ensures { IfSome result
+            (λ digest. digest ≡ H.hash self.now.hash.now (rows_over M.row_of self.now.matrices.now row)) }
+    {
+        let mut pieces = no_pieces();
+        let count = self.lend_rows(row, &mut pieces)?;
+        Some(self.hash.hash_iter_slices(pieces[..count].iter().copied()))
+    }
+
+    /// The digest of a row; the default digest past the height.
+    pub fn digest(&self, row: usize) -> [PW::Value; D]
+        ensures { result ≡ leaf_over (H.hash self.now.hash.now) (replicate D PW.default_value)
+            (rows_over M.row_of self.now.matrices.now) self.now.height row }
+    {
+        if row >= self.height {
+            return [PW::Value::default(); D];
+        }
+        let lent = match self.matrices {
+            // A row that stands alone is read without a look for the next one after each word.
+            [matrix] => return row_digest::<P, PW, H, M, D>(self.hash, matrix, row),
+            // Whole pieces are hashed without a look for the next word's matrix.
+            [first, ..] if first.width() >= MIN_LENT_WIDTH => self.pieces_digest(row),
+            _ => None,
+        };
+        match lent {
+            Some(digest) => digest,
+            None => self
+                .hash
+                .hash_iter(rows_of(self.matrices, self.height, row)),
+        }
+    }
+
+    /// Writes the digests of rows into the slots of their numbers, from slot `first` on, if the layer has one matrix,
+    /// which lends its rows in one piece. The answer is how many slots are written then, those before `first` among
+    /// them.
+    pub fn write_lent(&self, first: usize, slots: &mut [[PW::Value; D]]) -> usize
+        requires { let leaf = leaf_over (H.hash self.now.hash.now) (replicate D PW.default_value)
+            (rows_over M.row_of self.now.matrices.now) self.now.height in
+            IsFilled leaf first (length slots.old) slots.old }
+        ensures filled { let leaf = leaf_over (H.hash self.now.hash.now) (replicate D PW.default_value)
+            (rows_over M.row_of self.now.matrices.now) self.now.height in
+            IsFilled leaf result (length slots.old) slots.new }
+        ensures further { first ≤ result }
+    {
+        let end = self.height.min(slots.len());
+        if first >= end {
+            return first;
+        }
+        match self.lone_rows(first, end - first) {
+            Some(words) => {
+                hash_each::<P, PW, H, D>(self.hash, words, &mut slots[first..end]);
+                end
+            },
+            None => first,
+        }
     }
 }
 

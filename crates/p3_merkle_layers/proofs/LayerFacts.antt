@@ -1,7 +1,7 @@
 -- The layers that are built are those of the definition.
 use Rattle.std.proofs.Common.{◌≡◌, ℕ, zero, suc, ◌+◌, ◌-◌, ◌*◌, ◌/◌, ◌^◌, ◌<◌, ◌≤◌, Bool, true, false, cond, eqb, nat_lt, ◌&&◌, List, [], ◌∷◌, ◌++◌, map, refl, ap, sym, ◌∙◌, subst, arith, inl, inr, length, take, drop, filter, All}
 use Rattle.std.specs.List.{range_with_len, list_any, list_all}
-use Rattle.std.proofs.lemmas.Bool.{cases_Bool, cases_lt, cases_eq, cond-true, cond-false, le-ltb, lt-ltb, eq-eqb, ne_eqb, or_parts, true≢false}
+use Rattle.std.proofs.lemmas.Bool.{cases_Bool, cases_lt, cases_eq, cond-true, cond-false, le-ltb, lt-ltb, eq-eqb, ne_eqb, or_parts, eqb-true, true≢false}
 use Rattle.std.proofs.lemmas.List.FromFn.{fill_by_all, get_or-map-range_with_len, length-map-range_with_len}
 use Rattle.std.proofs.lemmas.List.{length-take-le, get_or-take, get_or-drop}
 use Rattle.std.proofs.Common.{length-drop}
@@ -15,6 +15,7 @@ use Rattle.p3_merkle_core.specs.Nodes.{Functions, Batch, shape, at_layer, joined
 use Rattle.p3_merkle_core.proofs.Checks.Completeness.{node_next}
 use Rattle.p3_merkle_core.proofs.Shapes.StepFacts.{layer_start}
 use Rattle.p3_merkle_core.specs.Inner.Levels.{IsLevel}
+use Rattle.p3_merkle_lanes.specs.Inner.Slots.{leaf_over, rows_over}
 use Rattle.p3_merkle_layers.specs.Inner.Levels.{node_above}
 use Rattle.p3_merkle_core.specs.declared.levels.Level.{Level}
 use Rattle.p3_merkle_core.specs.Openings.{children_by}
@@ -134,25 +135,50 @@ module _ {T M : Type 0} (height width : M → ℕ) (row : M → ℕ → List T) 
         | inr e ↦ rw e refl
       ]
 
--- the rows of the matrices of a height, picked from all and read through references, are those of all
-module _ {T M R : Type 0} (height : M → ℕ) (row : M → ℕ → List T) (now : R → M) (h j : ℕ) where
-  rows_of_references : (rs : List R) → rows_of_height (λ r. height (now r)) (λ r. row (now r)) h j rs
-      ≡ rows_of_height height row h j (map now rs)
-  rows_of_references [] = refl
-  rows_of_references (r ∷ rs) = rw (rows_of_references rs) refl
+-- a fact of the first, and of all others
+all_more : {A : Type 0} (P : A → Type 0) (x : A) (xs : List A) → P x → All P xs → All P (x ∷ xs)
+all_more P x xs first others zero d b = first
+all_more P x xs first others (suc k) d b = others k d (omega arith)
 
-  rows_of_picked : (ms : List M) → rows_of_height height row h j (filter (λ m. eqb (height m) h) ms)
-      ≡ rows_of_height height row h j ms
-  rows_of_picked [] = refl
-  rows_of_picked (m ∷ ms) =
+-- matrices that are picked by their height, and read through references
+module _ {T M R : Type 0} (height : M → ℕ) (row : M → ℕ → List T) (now : R → M) (h : ℕ) where
+  -- they have it
+  filter_high : (ms : List M) → All (λ m. height m ≡ h) (filter (λ m. eqb (height m) h) ms)
+  filter_high [] = λ k d b. absurd (omega (arith, b))
+  filter_high (m ∷ ms) =
       elim (cases_Bool (eqb (height m) h)) [
-        | inl t ↦ rw (t, t) (ap (λ ws. row m j ++ ws) (rows_of_picked ms))
-        | inr f ↦ rw f (rows_of_picked ms)
+        | inl t ↦ rw t (all_more (λ m. height m ≡ h) m (filter (λ m. eqb (height m) h) ms) (eqb-true (height m) h t)
+            (filter_high ms))
+        | inr f ↦ rw f (filter_high ms)
       ]
 
-  pub rows_picked : (rs : List R) (ms : List M) → map now rs ≡ filter (λ m. eqb (height m) h) ms →
-      rows_of_height (λ r. height (now r)) (λ r. row (now r)) h j rs ≡ rows_of_height height row h j ms
-  rows_picked rs ms e = rows_of_references rs ∙ ap (rows_of_height height row h j) e ∙ rows_of_picked ms
+  all_mapped : (rs : List R) → All (λ m. height m ≡ h) (map now rs) → All (λ r. height (now r) ≡ h) rs
+  all_mapped [] all = λ k d b. absurd (omega (arith, b))
+  all_mapped (r ∷ rs) all = all_more (λ r. height (now r) ≡ h) r rs (all 0 (now r) (omega arith))
+      (all_mapped rs (λ k d b. all (suc k) d (omega arith)))
+
+  pub picked_high : (rs : List R) (ms : List M) → map now rs ≡ filter (λ m. eqb (height m) h) ms →
+      All (λ r. height (now r) ≡ h) rs
+  picked_high rs ms e = all_mapped rs (subst (λ (l : List M). All (λ m. height m ≡ h) l) (sym e) (filter_high ms))
+
+  -- and their rows are those of all matrices of the height
+  module _ (j : ℕ) where
+    rows_of_references : (rs : List R) → rows_over (λ r. row (now r)) rs j ≡ rows_over row (map now rs) j
+    rows_of_references [] = refl
+    rows_of_references (r ∷ rs) = ap (λ l. row (now r) j ++ l) (rows_of_references rs)
+
+    rows_of_picked : (ms : List M) → rows_over row (filter (λ m. eqb (height m) h) ms) j
+        ≡ rows_of_height height row h j ms
+    rows_of_picked [] = refl
+    rows_of_picked (m ∷ ms) =
+        elim (cases_Bool (eqb (height m) h)) [
+          | inl t ↦ rw t (ap (λ ws. row m j ++ ws) (rows_of_picked ms))
+          | inr f ↦ rw f (rows_of_picked ms)
+        ]
+
+    pub rows_picked : (rs : List R) (ms : List M) → map now rs ≡ filter (λ m. eqb (height m) h) ms →
+        rows_over (λ r. row (now r)) rs j ≡ rows_of_height height row h j ms
+    rows_picked rs ms e = rows_of_references rs ∙ ap (λ l. rows_over row l j) e ∙ rows_of_picked ms
 
 -- on the ladder, an exponent is one height's
 agree : {M : Type 0} (height : M → ℕ) (top x : ℕ) (ms : List M) → All (λ y. y ≡ expected_height top y) (map height ms) →
@@ -182,6 +208,10 @@ module _ {T W M : Type 0} (f : Functions T W) (n : ℕ) (height width_of : M →
     abbrev pub whole : Batch T
     whole = batch_of height width_of row n ms
 
+    -- the digests of the rows of the matrices of a height
+    abbrev pub leaf_above : ℕ → ℕ → List W
+    leaf_above h = leaf_over f.hash f.default_digest (λ j. rows_of_height height row h j ms) h
+
     -- the heights of the tree's shape are the matrices'
     heights_are : heights (shape whole) ≡ map height ms
     heights_are =
@@ -198,7 +228,7 @@ module _ {T W M : Type 0} (f : Functions T W) (n : ℕ) (height width_of : M →
     -- a node is built as it is defined
     built_is : (v : Level) (below : List (List W)) (j : ℕ) → IsLevel (shape whole) v → IsLawful (heights (shape whole)) →
         below ≡ layer f whole v.below → j < v.raw_len →
-        node_above f n height row ms v.has_rows v.height j (take v.step (drop (v.step * j) below))
+        node_above f n (leaf_above v.height) v.has_rows j (take v.step (drop (v.step * j) below))
         ≡ node f whole (suc v.below) j
     built_is v below j k w e h =
         let s = shape whole in
@@ -227,20 +257,20 @@ module _ {T W M : Type 0} (f : Functions T W) (n : ℕ) (height width_of : M →
     pub layer_next : (v : Level) (below : List (List W)) → IsLevel (shape whole) v → IsLawful (heights (shape whole)) →
         below ≡ layer f whole v.below →
         map (λ j. cond (nat_lt j v.raw_len)
-        (node_above f n height row ms v.has_rows v.height j (take v.step (drop (v.step * j) below))) f.default_digest)
+        (node_above f n (leaf_above v.height) v.has_rows j (take v.step (drop (v.step * j) below))) f.default_digest)
         (range_with_len 0 v.layer_len) ≡ layer f whole (suc v.below)
     layer_next v below k w e =
         rw (← k.layer_len_is)
         (same_made (λ j.
         cond (nat_lt j v.raw_len)
-        (node_above f n height row ms v.has_rows v.height j (take v.step (drop (v.step * j) below))) f.default_digest)
+        (node_above f n (leaf_above v.height) v.has_rows j (take v.step (drop (v.step * j) below))) f.default_digest)
         (node f whole (suc v.below)) v.layer_len
         (λ j b. elim (cases_lt j v.raw_len) [
           | inl lt ↦ cond-true (nat_lt j v.raw_len)
-              (node_above f n height row ms v.has_rows v.height j (take v.step (drop (v.step * j) below)))
+              (node_above f n (leaf_above v.height) v.has_rows j (take v.step (drop (v.step * j) below)))
               f.default_digest (lt-ltb j v.raw_len lt) ∙ built_is v below j k w e lt
           | inr ge ↦ cond-false (nat_lt j v.raw_len)
-              (node_above f n height row ms v.has_rows v.height j (take v.step (drop (v.step * j) below)))
+              (node_above f n (leaf_above v.height) v.has_rows j (take v.step (drop (v.step * j) below)))
               f.default_digest (le-ltb j v.raw_len ge) ∙ sym (node_past f whole v.below j (omega (arith, k.raw_is)))
         ]))
 

@@ -108,7 +108,7 @@ impl<F: Copy, W: Copy, M: Matrix<F> + Drop, const N: usize, const D: usize> Merk
     {
         let dimensions = batch_dimensions(alloc, &leaves)?;
         check_heights(&dimensions)?;
-        let builder = Builder::<(P, PW), H, C, M, [[W; D]; N]> {
+        let builder = Builder::<P, PW, H, C, M, [[W; D]; N]> {
             hash,
             compress,
             matrices: &leaves,

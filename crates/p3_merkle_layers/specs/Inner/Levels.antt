@@ -2,17 +2,13 @@
 use Rattle.std.specs.Prelude.{◌≡◌, ℕ, ◌*◌, ◌≤◌, Bool, if◌then◌else◌, nat_lt, List, take, drop, map}
 use Rattle.std.specs.List.{range_with_len}
 use Rattle.p3_support.specs.declared.matrix.Dimensions.{Dimensions}
-use Rattle.p3_support.specs.Lists.{rows_of_height}
 use Rattle.p3_merkle_core.specs.Geometry.{heights, IsArity, IsLawful}
 use Rattle.p3_merkle_core.specs.Nodes.{Functions, Batch, shape, compress, dimensions_of, with_rows}
 use Rattle.p3_merkle_core.specs.declared.levels.Level.{Level}
 
--- a node over some children, compressed once more with the rows j of the matrices of the height h, if it has rows
-abbrev pub node_above : {T W M : Type 0} → Functions T W → ℕ → (M → ℕ) → (M → ℕ → List T) → List M → Bool → ℕ → ℕ →
-    List (List W) → List W
-node_above f n height row ms has h j children =
-    with_rows f n has (compress f n children)
-    (if nat_lt j h then f.hash (rows_of_height height row h j ms) else f.default_digest)
+-- node j over some children, compressed once more with leaf j, the digest of its rows, if it has rows
+abbrev pub node_above : {T W : Type 0} → Functions T W → ℕ → (ℕ → List W) → Bool → ℕ → List (List W) → List W
+node_above f n leaf has j children = with_rows f n has (compress f n children) (leaf j)
 
 -- a batch that is not refused, and the dimensions of its matrices
 pub record CanBuild {T : Type 0} (b : Batch T) (dimensions : List Dimensions) : Type 0 where
@@ -26,13 +22,11 @@ pub record CanRaise (n : ℕ) (v : Level) (slots : ℕ) : Type 0 where
   pub narrow : v.step ≤ n
   pub fits : v.step * v.raw_len ≤ slots
 
--- slot j of the layer above a layer
-abbrev pub slot_above : {T W M : Type 0} → Functions T W → ℕ → (M → ℕ) → (M → ℕ → List T) → List M → Level →
-    List (List W) → ℕ → List W
-slot_above f n height row ms v below j = if nat_lt j v.raw_len then node_above f n height row ms v.has_rows v.height j
-    (take v.step (drop (v.step * j) below)) else f.default_digest
+-- slot j of the layer above a layer, with these digests of rows
+abbrev pub slot_above : {T W : Type 0} → Functions T W → ℕ → (ℕ → List W) → Level → List (List W) → ℕ → List W
+slot_above f n leaf v below j = if nat_lt j v.raw_len
+    then node_above f n leaf v.has_rows j (take v.step (drop (v.step * j) below)) else f.default_digest
 
 -- all slots of that layer
-abbrev pub layer_above : {T W M : Type 0} → Functions T W → ℕ → (M → ℕ) → (M → ℕ → List T) → List M → Level →
-    List (List W) → List (List W)
-layer_above f n height row ms v below = map (slot_above f n height row ms v below) (range_with_len 0 v.layer_len)
+abbrev pub layer_above : {T W : Type 0} → Functions T W → ℕ → (ℕ → List W) → Level → List (List W) → List (List W)
+layer_above f n leaf v below = map (slot_above f n leaf v below) (range_with_len 0 v.layer_len)

@@ -1,9 +1,0 @@
-use Rattle.std.proofs.Common.{◌≡◌, ◌-◌, ◌^◌, min, take}
-use Rattle.std.specs.Prelude.{◌==◌, filter, sum_by}
-use Rattle.p3_merkle_lanes.proofs.batched.row_len.Given as goal
-
--- the widths of the matrices so far
-abbrev pub invariant-loop-matrix : goal.invariant-loop-matrix
-invariant-loop-matrix g l = l.len
-    ≡ min (sum_by g.M.Matrix.width_of
-    (filter (λ m. g.M.Matrix.height_of m == l.height) (take l.matrix-index l.matrices))) (2 ^ 64 - 1)

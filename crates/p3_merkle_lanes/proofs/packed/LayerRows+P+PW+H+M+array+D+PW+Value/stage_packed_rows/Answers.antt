@@ -1,0 +1,19 @@
+-- Each turn adds the rows of one matrix.
+use Rattle.std.proofs.Common.{arith, ℕ, ◌+◌, ◌++◌, ◌∙◌, ap, sym}
+use Rattle.p3_merkle_lanes.proofs.LaneFacts.{height_at, rows_more}
+use Rattle.p3_merkle_lanes.proofs.packed.LayerRows+P+PW+H+M+array+D+PW+Value.stage_packed_rows.Goals as goal
+
+pub stage_packed_row-requires : goal.stage_packed_row-requires
+stage_packed_row-requires g c =
+    let high = height_at g.M.Matrix.height_of c.args.self.now.height c.args.self.now.matrices.now
+    c.loop-matrix.matrix-index c.matrix-item.result c.args.self.now.of_height c.loop-matrix-test.true c.matrix-item.is in
+    omega (arith, high, c.requires)
+
+pub loop-matrix-preserved : goal.loop-matrix-preserved
+loop-matrix-preserved g c = λ k small.
+    let m = c.matrix-item.result in
+    let r : ℕ = c.args.row + k in
+    c.in_ok-stage_packed_row.ensures k small
+    ∙ ap (λ l. l ++ g.M.Matrix.row_of m r) (c.loop-matrix.invariant k small)
+    ∙ sym (rows_more g.M.Matrix.row_of r c.args.self.now.matrices.now c.loop-matrix.matrix-index m
+    c.loop-matrix-test.true c.matrix-item.is)

@@ -1,0 +1,42 @@
+-- Each turn writes the slots of one group.
+use Rattle.std.proofs.Common.{rules, arith, ◌≡◌, ℕ, ◌+◌, ◌*◌, ◌<◌, ◌∙◌, [], refl, length, replicate, slice_index_or}
+use Rattle.p3_support.specs.Lists.{lane_of}
+use Rattle.p3_merkle_core.specs.Nodes.{functions_of}
+use Rattle.p3_merkle_lanes.specs.Inner.Slots.{leaf_over, rows_over}
+use Rattle.p3_merkle_layers.specs.Inner.Levels.{slot_above}
+use Rattle.p3_merkle_lanes.proofs.LaneFacts.{group_end, group_more}
+use Rattle.p3_merkle_layers.proofs.layer.LayerBuilder+P+PW+H+C+M+array+D+PW+Value+array+N+array+D+PW+Value.write_packed_nodes.Goals as goal
+
+pub loop-group-init : goal.loop-group-init
+loop-group-init g c = record { long = refl; filled = λ j none. absurd (omega (arith, none)) }
+
+pub unpack_at-requires : goal.unpack_at-requires
+unpack_at-requires g c =
+    let end = group_end c.loop-group.group g.PW.PackedValue.WIDTH c.args.groups (length c.args.slots.now)
+    c.loop-group-test.true c.requires.room in
+    (c.requires.digest (omega arith), (search rules, rw (c.WIDTH.ensures, c.loop-group.invariant.long) end))
+
+pub loop-group-preserved : goal.loop-group-preserved
+loop-group-preserved g c =
+    let w = g.PW.PackedValue.WIDTH in
+    let group = c.loop-group.group in
+    let f = functions_of (g.H.CryptographicHasher.hash c.args.self.now.rows.hash.now)
+    (g.C.PseudoCompressionFunction.compression c.args.self.now.compress.now)
+    (replicate g.row.D g.PW.PackedValue.default_value) in
+    let leaf = leaf_over f.hash f.default_digest (rows_over g.M.Matrix.row_of c.args.self.now.rows.matrices.now)
+    c.args.self.now.rows.height in
+    let slot = slot_above f g.row.N leaf c.args.level.now c.args.below.now in
+    let seen = λ (k : ℕ). lane_of g.PW.PackedValue.lanes g.PW.PackedValue.default_value k c.in_ok-digests.digests in
+    let written : (k : ℕ) → k < w → slice_index_or c.unpack_at.new.rows (group * w + k) []
+    ≡ seen k = rw c.WIDTH.ensures at c.unpack_at.ensures.lanes in
+    let kept : (j : ℕ) → j < group * w → slice_index_or c.unpack_at.new.rows j []
+    ≡ slice_index_or c.loop-group.slots j [] = rw c.WIDTH.ensures at c.unpack_at.ensures.before in
+    let built : (k : ℕ) → k < w → seen k ≡ slot (group * w + k) = rw c.WIDTH.ensures at c.in_ok-digests.ensures in
+    record {
+      long = c.unpack_at.ensures.long ∙ c.loop-group.invariant.long;
+      filled = group_more slot seen c.loop-group.slots c.unpack_at.new.rows group w [] written built kept
+          c.loop-group.invariant.filled;
+    }
+
+pub returns : goal.returns
+returns g c = let end : c.loop-group.group ≡ c.args.groups = omega arith in rw end at c.loop-group.invariant
