@@ -8,7 +8,7 @@ use Rattle.p3_merkle_core.specs.Pruning.{PrunedOpening, value_of}
 use Rattle.p3_merkle_core.specs.declared.pruning.KeptLevel.{KeptLevel}
 use Rattle.p3_merkle_core.proofs.Covered.KeptFacts.{level_of}
 use Rattle.p3_merkle_multiproof.specs.Inner.Walks.{AreKept, IsRestoredRise}
-use Rattle.p3_merkle_multiproof.specs.declared.queries.NextLevel.{NextLevel}
+use Rattle.p3_merkle_multiproof.specs.declared.walk.NextLevel.{NextLevel}
 use Rattle.p3_merkle_core.specs.Checks.{terms}
 
 -- none at first

@@ -14,7 +14,7 @@ use Rattle.p3_merkle_core.proofs.Lists.ListFacts.{length-joined_le}
 use Rattle.p3_merkle_core.proofs.Shapes.StepFacts.{anc_next, step_above_1}
 use Rattle.p3_merkle_core.proofs.Covered.ValueFacts.{family_by_counts}
 use Rattle.p3_merkle_multiproof.specs.Inner.Walks.{IsCoveredAt, node_of_query}
-use Rattle.p3_merkle_multiproof.specs.declared.queries.Covered.{Covered}
+use Rattle.p3_merkle_multiproof.specs.declared.walk.Covered.{Covered}
 use Rattle.p3_merkle_core.specs.Openings.{children_by}
 
 -- equal functions, mapped

@@ -10,11 +10,11 @@ ghost use Rattle.p3_merkle_core.specs.declared.error.MerkleTreeError.TheVariants
 ghost use Rattle.p3_merkle_verifier.specs.Inner.Paths.{CanCheck};
 ghost use Rattle.p3_merkle_core.specs.Checks.{terms};
 
-use crate::leaves::{leaves_of, tell_restorable};
-use crate::queries::Queries;
+use crate::extraction::PrunedOpeningRef;
+use crate::leaves::restorable_of;
 use crate::restored::check_cap;
-use p3_merkle_core::agreement::check_pruned;
 use p3_merkle_core::error::MerkleTreeError;
+use p3_merkle_core::steps::steps_of;
 use p3_merkle_verifier::level::Checker;
 use p3_support::compress::PseudoCompressionFunction;
 use p3_support::hasher::CryptographicHasher;
@@ -22,11 +22,11 @@ use p3_support::matrix::Dimensions;
 use p3_support::packed::PackedValue;
 use std::alloc::Global;
 
-/// Checks a pruned opening against the roots of a cap, which is layer `t`: whether its form is right, and the digests
+/// Checks a pruned opening against the roots of a cap, which is this layer: whether its form is right, and the digests
 /// that its rows and the digests that were sent lead to are the roots of their places. `sets` has the rows of each
 /// query.
 ///
-/// `N` is a power of two from 2 to 2^62, and `t` is at most the number of levels.
+/// `N` is a power of two from 2 to 2^62, and the cap's layer is at most the number of levels.
 ///
 /// # Errors
 ///
@@ -44,26 +44,24 @@ pub fn check_pruned_opening<
     checker: &Checker<'_, P, PW, H, C, [[PW::Value; D]; N]>,
     roots: &[[PW::Value; D]],
     dimensions: &[Dimensions],
-    t: usize,
+    cap_layer: usize,
     indices: &[usize],
     sets: &[Vec<Vec<P::Value>>],
     sent: &[[PW::Value; D]],
 ) -> Result<(), MerkleTreeError>
-    requires { CanCheck (shape_of N dimensions.now) t }
+    requires { CanCheck (shape_of N dimensions.now) cap_layer }
     ensures { let f = functions_of (H.hash checker.now.hash.now) (C.compression checker.now.compress.now)
         (replicate D PW.default_value) in
         let p = pruned_of indices.now (row_sets sets.now) sent.now in
-        let refusal = pruned_refusal_under P.Value.eq PW.Value.eq (terms f (shape_of N dimensions.now) t) roots.now p in
+        let refusal = pruned_refusal_under P.Value.eq PW.Value.eq (terms f (shape_of N dimensions.now) cap_layer) roots.now p in
         AnswersUnlessMemory result refusal }
 {
-    let queried = check_pruned(alloc, dimensions, N, t, indices, sets, sent.len())?;
-    tell_restorable::<P, PW, D>(dimensions, N, t, indices, sets, sent);
-    let queries = Queries {
-        dimensions,
-        arity: N,
-        t,
+    let steps = steps_of(dimensions, N);
+    let opening = PrunedOpeningRef {
         indices,
+        sets,
+        sent,
     };
-    let leaves = leaves_of(dimensions, N, indices, queried);
-    check_cap::<P, PW, H, C, N, D>(alloc, checker, roots, &queries, sets, sent, leaves)
+    let (opening, leaves) = restorable_of::<P, PW, D>(alloc, &steps, cap_layer, opening)?;
+    check_cap::<P, PW, H, C, N, D>(alloc, checker, &opening, leaves, roots)
 }

@@ -6,10 +6,11 @@
 pub mod check;
 pub mod extraction;
 mod groups;
-mod leads;
 mod leaves;
 mod level;
+mod parents;
 pub mod paths;
-mod queries;
+mod restorable;
 mod restored;
 mod rows;
+mod walk;

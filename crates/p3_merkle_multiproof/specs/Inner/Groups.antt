@@ -1,7 +1,6 @@
 -- Digests of rows, of groups of children, and of both.
-use Rattle.std.specs.Prelude.{ℕ, ◌-◌, ◌*◌, ◌/◌, ◌==◌, if◌then◌else◌, List, map, [], ◌∷◌, ◌++◌, length, replicate, take, drop, zip, slice_index_or}
-use Rattle.std.specs.List.{list_any, range_with_len}
-use Rattle.p3_merkle_core.specs.Geometry.{exponent}
+use Rattle.std.specs.Prelude.{ℕ, ◌-◌, ◌*◌, ◌/◌, Bool, if◌then◌else◌, List, map, [], ◌∷◌, ◌++◌, length, replicate, take, drop, zip, slice_index_or}
+use Rattle.std.specs.List.{range_with_len}
 use Rattle.p3_merkle_core.specs.Checks.{words_of_exponent}
 use Rattle.p3_merkle_core.specs.Nodes.{Functions, padded}
 
@@ -19,11 +18,11 @@ abbrev pub query_digest : {T W : Type 0} → (List T → List W) → ℕ → Lis
 query_digest hash x heights sets k = hash (words_of_exponent x (zip heights (slice_index_or sets k [])))
 
 -- the digests of a layer's covered nodes: of the groups of children, each compressed once more with that of its lead's
--- rows where matrices have the exponent x
-abbrev pub layer_digests : {T W : Type 0} → Functions T W → ℕ → ℕ → List ℕ → ℕ → List (List (List T)) → List ℕ →
-    List (List W) → List (List W)
-layer_digests f n step heights x sets leads children =
+-- rows where the layer, of exponent x, has any
+abbrev pub layer_digests : {T W : Type 0} → Functions T W → ℕ → ℕ → Bool → List ℕ → ℕ → List (List (List T)) →
+    List ℕ → List (List W) → List (List W)
+layer_digests f n step has heights x sets leads children =
     let nodes = map (group_digest f.compression n f.default_digest step children)
     (range_with_len 0 (length children / step)) in
-    if list_any (λ h. exponent h == x) heights then map (pair_digest f.compression n f.default_digest)
+    if has then map (pair_digest f.compression n f.default_digest)
     (zip nodes (map (query_digest f.hash x heights sets) leads)) else nodes

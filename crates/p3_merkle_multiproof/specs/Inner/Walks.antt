@@ -1,14 +1,24 @@
 -- How far a walk over the covered nodes has come.
 use Rattle.std.specs.Prelude.{◌≡◌, ◌*◌, ◌/◌, ◌<◌, ◌≤◌, ℕ, suc, List, All, drop, flat_map, length, map, slice_index}
 use Rattle.std.specs.List.{range_with_len}
-use Rattle.p3_merkle_core.specs.Geometry.{Shape, ancestor, layer_exponent, step}
+use Rattle.p3_merkle_core.specs.Geometry.{Shape, ancestor, has_rows, layer_exponent, shape_of, step}
 use Rattle.p3_merkle_core.specs.Inner.Children.{AreChildren}
 use Rattle.p3_merkle_core.specs.Nodes.{Functions}
-use Rattle.p3_merkle_core.specs.Pruning.{PrunedOpening, boundary, covered_at, restored_node, value_of}
+use Rattle.p3_merkle_core.specs.Pruning.{PrunedOpening, boundary, covered_at, pruned_of, restored_node, value_of}
 use Rattle.p3_merkle_core.specs.declared.pruning.KeptLevel.{KeptLevel}
-use Rattle.p3_merkle_multiproof.specs.declared.queries.Covered.{Covered}
-use Rattle.p3_merkle_multiproof.specs.declared.queries.NextLevel.{NextLevel}
+use Rattle.p3_merkle_multiproof.specs.declared.walk.Covered.{Covered}
+use Rattle.p3_merkle_multiproof.specs.declared.walk.NextLevel.{NextLevel}
 use Rattle.p3_merkle_core.specs.Checks.{terms}
+use Rattle.p3_merkle_multiproof.specs.declared.restorable.Restorable.{Restorable}
+use Rattle.p3_support.specs.Shown.{row_sets}
+
+-- the shape of the tree that an opening is of
+abbrev pub tree_of : {T X : Type 0} → Restorable T X → Shape
+tree_of opening = shape_of opening.steps.now.arity opening.steps.now.dimensions.now
+
+-- the opening itself
+abbrev pub opened_by : {T W : Type 0} → Restorable T (List W) → PrunedOpening T W
+opened_by opening = pruned_of opening.indices.now (row_sets opening.sets.now) opening.sent.now
 
 -- the node of layer l above the index of query k
 abbrev pub node_of_query : Shape → List ℕ → ℕ → ℕ → ℕ
@@ -26,6 +36,7 @@ pub record IsCoveredAt (s : Shape) (indices : List ℕ) (l : ℕ) (covered : Cov
 pub record IsNextLevel {X : Type 0} (s : Shape) (indices : List ℕ) (l : ℕ) (covered : Covered) (digests sent : List X)
     (next_level : NextLevel X) : Type 0 where
   pub step_is : next_level.step ≡ step s l
+  pub rows_are : next_level.has_rows ≡ has_rows s (suc l)
   pub wide : 0 < next_level.step
   pub narrow : next_level.step ≤ s.arity
   pub stands : IsCoveredAt s indices (suc l) next_level.above

@@ -2,17 +2,16 @@
 use Rattle.std.proofs.Common.{◌∙◌, ap, map, refl, sym}
 use Rattle.p3_merkle_core.specs.Inner.Agreement.{distinct}
 use Rattle.p3_support.specs.Batches.{greatest}
-use Rattle.p3_merkle_core.specs.Geometry.{exponent, heights, shape_of}
+use Rattle.p3_merkle_core.specs.Geometry.{heights, shape_of}
 use Rattle.p3_merkle_core.proofs.Pruned.AgreeFacts.{firsts_inside}
 use Rattle.p3_merkle_core.proofs.Pruned.SlotFacts.{all_below, distinct_from, distinct_queried}
-use Rattle.p3_merkle_core.proofs.Shapes.StepFacts.{layer_start}
 use Rattle.p3_merkle_multiproof.specs.Inner.Walks.{node_of_query}
 use Rattle.p3_merkle_multiproof.proofs.StartFacts.{led_by_firsts}
 use Rattle.p3_merkle_multiproof.proofs.leaves.leaves_of.Goals as goal
 
 pub returns : goal.returns
 returns c =
-    let s = shape_of c.args.arity c.args.dimensions.now in
+    let s = shape_of c.args.steps.now.arity c.args.steps.now.dimensions.now in
     let indices = c.args.indices.now in
     let queried = c.requires.queried in
     record {
@@ -21,6 +20,6 @@ returns c =
       leads_are = queried.indices ∙ led_by_firsts s indices (distinct indices) (distinct_queried indices)
           ∙ ap (map (node_of_query s indices 0)) (sym queried.first_queries);
       among = firsts_inside c.args.queried.first_queries.items indices queried.first_queries;
-      at_exponent = c.exponent_of.ensures ∙ ap exponent c.tallest_of.ensures ∙ sym (layer_start s);
+      at_exponent = c.args.steps.now.leaves;
       sent_below = refl;
     }

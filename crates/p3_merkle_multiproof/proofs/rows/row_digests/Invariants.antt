@@ -7,5 +7,5 @@ use Rattle.p3_merkle_multiproof.proofs.rows.row_digests.Given as goal
 -- the digests of the queries so far
 abbrev pub invariant-loop-query : goal.invariant-loop-query
 invariant-loop-query g l = l.digests.items
-    ≡ map (query_digest (g.H.CryptographicHasher.hash l.hash) l.x (heights_of l.dimensions) (row_sets l.sets))
+    ≡ map (query_digest (g.H.CryptographicHasher.hash l.hash) l.exponent (heights_of l.dimensions) (row_sets l.sets))
     (take l.query-index l.queries)
