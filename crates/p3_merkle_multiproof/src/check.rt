@@ -62,6 +62,6 @@ pub fn check_pruned_opening<
         sets,
         sent,
     };
-    let (opening, leaves) = restorable_of::<P, PW, D>(alloc, &steps, cap_layer, opening)?;
+    let (opening, leaves) = restorable_of::<P, [PW::Value; D]>(alloc, &steps, cap_layer, opening)?;
     check_cap::<P, PW, H, C, N, D>(alloc, checker, &opening, leaves, roots)
 }

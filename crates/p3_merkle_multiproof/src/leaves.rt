@@ -6,8 +6,7 @@ ghost use Rattle.p3_merkle_core.specs.Inner.Agreement.{opened_of, opened_with, A
 ghost use Rattle.p3_merkle_core.specs.Pruning.{boundary, CanQuery, IsAgreed};
 ghost use Rattle.p3_merkle_core.specs.Refusals.{pruned_refusal, AnswersUnlessMemory};
 ghost use Rattle.p3_merkle_core.specs.declared.error.MerkleTreeError.TheVariants.{OutOfMemory};
-ghost use Rattle.p3_merkle_multiproof.specs.Inner.Pairs.{pruned_in};
-ghost use Rattle.p3_merkle_multiproof.specs.Inner.Walks.{opened_by, tree_of, IsCoveredAt};
+ghost use Rattle.p3_merkle_multiproof.specs.Inner.Walks.{IsCoveredAt};
 ghost use Rattle.p3_merkle_verifier.specs.Inner.Paths.{CanCheck};
 ghost use Rattle.p3_support.specs.Batches.{heights_of, greatest};
 ghost use Rattle.p3_support.specs.Shown.{row_sets};
@@ -64,20 +63,24 @@ fn tell_restorable<P: PackedValue, X>(
 /// # Errors
 ///
 /// What [`check_pruned`] answers.
-pub(crate) fn restorable_of<'a, P: PackedValue, PW: PackedValue, const D: usize>(
+pub(crate) fn restorable_of<'a, P: PackedValue, X>(
     alloc: Global,
     steps: &'a Steps<'a>,
     cap_layer: usize,
-    opening: PrunedOpeningRef<'a, P::Value, [PW::Value; D]>,
-) -> Result<(Restorable<'a, P::Value, [PW::Value; D]>, Covered), MerkleTreeError>
+    opening: PrunedOpeningRef<'a, P::Value, X>,
+) -> Result<(Restorable<'a, P::Value, X>, Covered), MerkleTreeError>
     requires { CanCheck (shape_of steps.now.arity steps.now.dimensions.now) cap_layer }
     ensures answer { let s = shape_of steps.now.arity steps.now.dimensions.now in
-        AnswersUnlessMemory result (pruned_refusal P.Value.eq s cap_layer (pruned_in opening.entry)) }
-    ensures tree { IfOk result
-        (λ made. tree_of (made.0) ≡ shape_of steps.now.arity steps.now.dimensions.now) }
+        let p = opened_with opening.entry.indices.now (row_sets opening.entry.sets.now) (length opening.entry.sent.now) in
+        AnswersUnlessMemory result (pruned_refusal P.Value.eq s cap_layer p) }
+    ensures tree { IfOk result (λ made. shape_of made.0.steps.now.arity made.0.steps.now.dimensions.now
+        ≡ shape_of steps.now.arity steps.now.dimensions.now) }
     ensures layer { IfOk result (λ made. made.0.cap_layer ≡ cap_layer) }
-    ensures opened { IfOk result (λ made. opened_by (made.0) ≡ pruned_in opening.entry) }
-    ensures leaves { IfOk result (λ made. IsCoveredAt (tree_of (made.0)) made.0.indices.now 0 (made.1)) }
+    ensures indices { IfOk result (λ made. made.0.indices.now ≡ opening.entry.indices.now) }
+    ensures sets { IfOk result (λ made. made.0.sets.now ≡ opening.entry.sets.now) }
+    ensures sent { IfOk result (λ made. made.0.sent.now ≡ opening.entry.sent.now) }
+    ensures leaves { IfOk result (λ made. IsCoveredAt (shape_of made.0.steps.now.arity made.0.steps.now.dimensions.now)
+        made.0.indices.now 0 (made.1)) }
 {
     let PrunedOpeningRef {
         indices,
@@ -93,7 +96,7 @@ pub(crate) fn restorable_of<'a, P: PackedValue, PW: PackedValue, const D: usize>
         sets,
         sent.len(),
     )?;
-    tell_restorable::<P, [PW::Value; D]>(steps, cap_layer, opening);
+    tell_restorable::<P, X>(steps, cap_layer, opening);
     let leaves = leaves_of(steps, indices, queried);
     let restorable = Restorable {
         steps,

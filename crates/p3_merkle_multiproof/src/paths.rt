@@ -64,7 +64,7 @@ pub fn restored_paths_of<
         sets,
         sent,
     };
-    let (opening, leaves) = restorable_of::<P, PW, D>(alloc, &steps, cap_layer, opening)?;
+    let (opening, leaves) = restorable_of::<P, [PW::Value; D]>(alloc, &steps, cap_layer, opening)?;
     let (_cap, levels) = walk_to_cap::<P, PW, H, C, N, D>(alloc, checker, &opening, leaves, true)?;
     Ok(paths_out_of(alloc, &levels, indices)?)
 }

@@ -6,6 +6,6 @@ use Rattle.p3_merkle_multiproof.proofs.check.check_pruned_opening.Goals as goal
 pub restorable_of-requires : goal.restorable_of-requires
 restorable_of-requires g c = rw (c.steps_of-steps.ensures.arity, c.steps_of-steps.ensures.dimensions) c.requires
 
-pub check_cap-requires-clause-arity : goal.check_cap-requires-clause-arity
-check_cap-requires-clause-arity g c = ap (λ (s : Shape). s.arity) c.in_ok-opening.ensures.tree
+pub check_cap-requires : goal.check_cap-requires
+check_cap-requires g c = ap (λ (s : Shape). s.arity) c.in_ok-opening.ensures.tree
     ∙ c.steps_of-steps.ensures.arity

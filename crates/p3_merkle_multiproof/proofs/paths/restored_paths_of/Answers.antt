@@ -12,8 +12,8 @@ use Rattle.p3_merkle_multiproof.proofs.paths.restored_paths_of.Goals as goal
 pub restorable_of-requires : goal.restorable_of-requires
 restorable_of-requires g c = rw (c.steps_of-steps.ensures.arity, c.steps_of-steps.ensures.dimensions) c.requires
 
-pub walk_to_cap-requires-clause-arity : goal.walk_to_cap-requires-clause-arity
-walk_to_cap-requires-clause-arity g c = ap (λ (s : Shape). s.arity) c.in_ok-opening.ensures.tree
+pub walk_to_cap-requires : goal.walk_to_cap-requires
+walk_to_cap-requires g c = ap (λ (s : Shape). s.arity) c.in_ok-opening.ensures.tree
     ∙ c.steps_of-steps.ensures.arity
 
 pub returns-clause-paths : goal.returns-clause-paths
@@ -33,4 +33,9 @@ returns-clause-paths g c =
     (c.in_ok-_cap.ensures.kept refl).levels_are
     ∙ ap (λ z. restored_paths (terms f z o.cap_layer) (opened_by o)) tree
     ∙ ap (λ t. restored_paths (terms f s t) (opened_by o)) c.in_ok-opening.ensures.layer
-    ∙ ap (λ p. restored_paths (terms f s c.args.cap_layer) p) c.in_ok-opening.ensures.opened
+    ∙ ap (λ i. restored_paths (terms f s c.args.cap_layer) (pruned_of i (row_sets o.sets.now) o.sent.now))
+      c.in_ok-opening.ensures.indices
+    ∙ ap (λ x. restored_paths (terms f s c.args.cap_layer) (pruned_of c.args.indices.now (row_sets x) o.sent.now))
+      c.in_ok-opening.ensures.sets
+    ∙ ap (λ d. restored_paths (terms f s c.args.cap_layer) (pruned_of c.args.indices.now (row_sets c.args.sets.now) d))
+      c.in_ok-opening.ensures.sent
