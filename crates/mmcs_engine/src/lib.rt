@@ -2,9 +2,7 @@
 #![tactic(auto)]
 
 pub mod engine;
-mod fold;
 pub mod laws;
-mod sha256;
-mod suite;
+mod schemes;
 
 pub use mmcs_text::fault;

@@ -62,56 +62,28 @@ module _ {W : Type 0} (value : W → ℕ) where
       (map (stored_matrix (map value)) stored ≡ map matrix_of_rows matrices)
   matrices_found limit input stored found = (found.0, found.1, matrices_shown stored found.0 found.2)
 
--- past the last row there are no values
-row_past : (m : RowMajorMatrix ℕ) (r : ℕ) → row_count m ≤ r → message (row_width m) (values_of m) r ≡ []
-row_past m r past =
-    let w = row_width m in
-    let far = mul-le-mul_right w past in
-    let full : length (values_of m) ≡ row_count m * w = m.full in
-    ap (take ((r + 1) * w - r * w)) (drop_all (r * w) (values_of m) (omega (arith, full, far)))
-    ∙ take-nil ((r + 1) * w - r * w)
+module _ {W : Type 0} where
+  -- past the last row there are no values
+  row_past : (m : RowMajorMatrix W) (r : ℕ) → row_count m ≤ r → message (row_width m) (values_of m) r ≡ []
+  row_past m r past =
+      let w = row_width m in
+      let far = mul-le-mul_right w past in
+      let full : length (values_of m) ≡ row_count m * w = m.full in
+      ap (take ((r + 1) * w - r * w)) (drop_all (r * w) (values_of m) (omega (arith, full, far)))
+      ∙ take-nil ((r + 1) * w - r * w)
 
--- so a row that is cut at the height is the stored one
-row_whole : (m : RowMajorMatrix ℕ) (r : ℕ) → cond (nat_lt r (row_count m)) (message (row_width m) (values_of m) r) []
-    ≡ message (row_width m) (values_of m) r
-row_whole m r =
-    elim (cases_lt r (row_count m)) [
-      | inl lt ↦ let there = lt-ltb r (row_count m) lt in rw there refl
-      | inr ge ↦ let none = le-ltb r (row_count m) ge in rw none (sym (row_past m r ge))
-    ]
+  -- so a row that is cut at the height is the stored one
+  pub row_whole : (m : RowMajorMatrix W) (r : ℕ) → cond (nat_lt r (row_count m))
+      (message (row_width m) (values_of m) r) [] ≡ message (row_width m) (values_of m) r
+  row_whole m r =
+      elim (cases_lt r (row_count m)) [
+        | inl lt ↦ let there = lt-ltb r (row_count m) lt in rw there refl
+        | inr ge ↦ let none = le-ltb r (row_count m) ge in rw none (sym (row_past m r ge))
+      ]
 
--- a matrix of a batch
-abbrev batched : RowMajorMatrix ℕ → Matrix ℕ
-batched = matrix_of row_count row_width (λ m r. message (row_width m) (values_of m) r)
-
--- is the stored one, its numbers read as they are
-batched_is : (m : RowMajorMatrix ℕ) → batched m ≡ stored_matrix (map (λ n. n)) m
-batched_is m =
-    λ i. record {
-      height = row_count m;
-      width = row_width m;
-      row = λ r. (row_whole m r ∙ ap (λ vs. message (row_width m) vs r) (sym (map-id (values_of m)))) i;
-    }
-
--- and so are several
-pub stored_plain : (stored : List (RowMajorMatrix ℕ)) → map batched stored ≡ map (stored_matrix (map (λ n. n))) stored
-stored_plain [] = refl
-stored_plain (m ∷ stored) = λ i. batched_is m i ∷ stored_plain stored i
-
--- rows of numbers are read as they are
-pub rows_plain : {A : Type 0} (rows : List (Vec ℕ A)) → map (λ (row : Vec ℕ A). map (λ n. n) row.items) rows
-    ≡ map (λ (row : Vec ℕ A). row.items) rows
-rows_plain [] = refl
-rows_plain (row ∷ rows) = λ i. map-id row.items i ∷ rows_plain rows i
-
--- and so are digests
-pub digests_plain : (digests : List (List ℕ)) → map (map (λ n. n)) digests ≡ digests
-digests_plain [] = refl
-digests_plain (digest ∷ digests) = λ i. map-id digest i ∷ digests_plain digests i
-
--- the dimensions of stored matrices
-pub stored_dimensions : (stored : List (RowMajorMatrix ℕ)) (arity : ℕ) → dimensions_in row_count row_width stored
-    ≡ (shape (stored_batch arity stored)).dimensions
-stored_dimensions [] arity = refl
-stored_dimensions (m ∷ stored) arity = ap (λ ds. record { width = row_width m; height = row_count m } ∷ ds)
-    (stored_dimensions stored arity)
+  -- the dimensions of stored matrices
+  pub stored_dimensions : (stored : List (RowMajorMatrix W)) (arity : ℕ) → dimensions_in row_count row_width stored
+      ≡ (shape (stored_batch arity stored)).dimensions
+  stored_dimensions [] arity = refl
+  stored_dimensions (m ∷ stored) arity = ap (λ ds. record { width = row_width m; height = row_count m } ∷ ds)
+      (stored_dimensions stored arity)
