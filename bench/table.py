@@ -26,15 +26,17 @@ def time_a_word(row):
 
 
 def ratios(rows):
-    """Of each row, its time beside that of the scalar commit on the same matrices in the same part."""
-    same = ("part", "functions", "arity", "digest_words", "rows", "width", "matrices")
-    scalar = {}
+    """Of each row, its time beside that of the scalar builder's at the same work; of raw hashes beside the commit's."""
+    same = ("part", "functions", "arity", "digest_words", "rows", "width", "matrices", "queries")
+
+    def key(row):
+        work = "commit" if row["work"] == "raw" else row["work"]
+        return (work, *(row[name] for name in same))
+
+    scalar = {key(row): float(row["least_us"]) for row in rows if row["form"] == "scalar" and row["work"] != "raw"}
     for row in rows:
-        if (row["work"], row["form"]) == ("commit", "scalar"):
-            scalar[tuple(row[name] for name in same)] = float(row["least_us"])
-    for row in rows:
-        base = scalar.get(tuple(row[name] for name in same))
-        beside = row["work"] in ("commit", "raw") and base
+        base = scalar.get(key(row))
+        beside = base and (row["form"] != "scalar" or row["work"] in ("commit", "raw"))
         yield f"{float(row['least_us']) / base:.2f}" if beside else ""
 
 
@@ -119,8 +121,7 @@ def legend(left, top, rows):
         for form in FORMS:
             if (instance, form) in there:
                 yield from line([(left, y), (left + 40, y)], colour, form)
-                label = name if instance[0] == "sha256" else f"{name}, {form}"
-                yield f'<text x="{left + 50}" y="{y + 4}">{label}</text>'
+                yield f'<text x="{left + 50}" y="{y + 4}">{name}, {form}</text>'
                 y += 22
 
 
