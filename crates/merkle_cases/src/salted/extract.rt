@@ -17,6 +17,9 @@ use rand_chacha::ChaCha20Rng;
 use rand_core::SeedableRng;
 use std::alloc::Global;
 
+/// An opening with salts, lent.
+pub type SaltedOpeningRef<'a> = BatchOpeningRef<'a, u32, SaltedProof<u32, u32, 1>>;
+
 /// An opening of the leaf `index` with its salts.
 #[derive(Drop)]
 pub struct SaltedLeaf {
@@ -76,6 +79,20 @@ impl SaltedLeaves {
     }
 }
 
+/// What two openings lead to. It stands apart, since the prover finds what the call asks where the scheme is an
+/// argument, and not where it is a field.
+pub fn collision_of<const N: usize, const SALT_ELEMS: usize>(
+    alloc: Global,
+    scheme: &SaltedScheme<N, SALT_ELEMS>,
+    cap: &FoldCap,
+    dimensions: &[Dimensions],
+    first: (usize, SaltedOpeningRef<'_>),
+    second: (usize, SaltedOpeningRef<'_>),
+) -> Result<Option<Collision<u32, u32, 1>>, MerkleTreeError> {
+    let ((index1, first), (index2, second)) = (first, second);
+    scheme.extract_collision(alloc, cap, dimensions, index1, first, index2, second)
+}
+
 /// What a verifier has.
 #[derive(Drop)]
 pub struct SaltedVerifier<const N: usize, const SALT_ELEMS: usize> {
@@ -111,14 +128,15 @@ impl<const N: usize, const SALT_ELEMS: usize> SaltedVerifier<N, SALT_ELEMS> {
         first: &SaltedLeaf,
         second: &SaltedLeaf,
     ) -> Result<Option<Collision<u32, u32, 1>>, MerkleTreeError> {
-        self.scheme.extract_collision(
+        let lent = (first.index, BatchOpeningRef::from(&first.opening));
+        let other = (second.index, BatchOpeningRef::from(&second.opening));
+        collision_of(
             alloc,
+            &self.scheme,
             &self.cap,
             &self.dimensions,
-            first.index,
-            BatchOpeningRef::from(&first.opening),
-            second.index,
-            BatchOpeningRef::from(&second.opening),
+            lent,
+            other,
         )
     }
 

@@ -7,6 +7,7 @@ use crate::batches::batches_of;
 use crate::fields::{Fault, Fields};
 use crate::reader::Reader;
 use crate::salted::SaltedScheme;
+use crate::salted::extract::collision_of;
 use crate::salted::open::{Opened, Opening, SaltedCommitted, seeded};
 use crate::scheme::{Cap, fold_scheme};
 use crate::sweep::{Counts, Swept, count_lists};
@@ -58,8 +59,15 @@ impl<'a, const N: usize, const SALT_ELEMS: usize> Swept for SaltedCommitted<'a, 
     ) -> Result<Option<Collision<u32, u32, 1>>, MerkleTreeError> {
         let twin = BatchOpeningRef::new(rows, &leaf.opening_proof);
         let honest = BatchOpeningRef::from(leaf);
-        let (scheme, cap, dimensions) = (self.scheme, &self.cap, &self.dimensions);
-        scheme.extract_collision(alloc, cap, dimensions, index, honest, index, twin)
+        let (cap, dimensions) = (&self.cap, &self.dimensions);
+        collision_of(
+            alloc,
+            self.scheme,
+            cap,
+            dimensions,
+            (index, honest),
+            (index, twin),
+        )
     }
 
     fn collision_of_leaves(
