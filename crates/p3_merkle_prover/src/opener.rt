@@ -59,7 +59,26 @@ pub fn rows_of_index<F: Copy, X, G, M: Matrix<F>, const N: usize>(
         IfOk result (λ rows. row_lists rows.items ≡ honest) }
     ensures memory { AnswersUnlessMemory result None }
 {
-    let max_height = max_height(tree);
+    rows_of_leaf(alloc, tree, max_height(tree), index)
+}
+
+/// The same as [`rows_of_index`], where [`max_height`] is known. Looks once at each matrix.
+///
+/// # Errors
+///
+/// `OutOfMemory` alone.
+pub(crate) fn rows_of_leaf<F: Copy, X, G, M: Matrix<F>, const N: usize>(
+    alloc: Global,
+    tree: &Tree<F, X, G, M, N>,
+    max_height: usize,
+    index: usize,
+) -> Result<Vec<Vec<F>>, MerkleTreeError>
+    requires tallest { max_height ≡ greatest (heights (shape (tree_batch tree.now))) }
+    requires index { index < greatest (heights (shape (tree_batch tree.now))) }
+    ensures rows { let honest = honest_rows (tree_batch tree.now) index in
+        IfOk result (λ rows. row_lists rows.items ≡ honest) }
+    ensures memory { AnswersUnlessMemory result None }
+{
     let mut rows = Vec::with_capacity(alloc, tree.matrices.len())?;
     for matrix in &tree.matrices {
         let row = index >> bits_reduced_of(max_height, matrix.height());

@@ -13,7 +13,7 @@ ghost use Rattle.p3_merkle_prover.specs.Parts.{layers_of, tree_batch};
 ghost use Rattle.p3_merkle_core.specs.Pruning.{boundary_by};
 ghost use Rattle.p3_merkle_core.specs.Refusals.{AnswersUnlessMemory};
 
-use crate::opener::{rows_of_index, steps_in};
+use crate::opener::{max_height, rows_of_leaf, steps_in};
 use crate::tree::Tree;
 use p3_merkle_core::error::MerkleTreeError;
 use p3_merkle_core::pruning::{climb, covered_leaves};
@@ -36,9 +36,10 @@ pub fn rows_of_indices<F: Copy, X, G, M: Matrix<F>, const N: usize>(
         IfOk result (λ rows. row_sets rows.items ≡ honest) }
     ensures memory { AnswersUnlessMemory result None }
 {
+    let max_height = max_height(tree);
     let mut rows = Vec::with_capacity(alloc, indices.len())?;
     for index in indices {
-        rows.push(rows_of_index(alloc, tree, *index)?)?;
+        rows.push(rows_of_leaf(alloc, tree, max_height, *index)?)?;
     }
     Ok(rows)
 }

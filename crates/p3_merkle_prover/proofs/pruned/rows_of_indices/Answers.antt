@@ -8,5 +8,5 @@ use Rattle.p3_merkle_prover.proofs.pruned.rows_of_indices.Goals as goal
 pub loop-index-preserved : goal.loop-index-preserved
 loop-index-preserved g c =
     sets_more (honest_rows (tree_batch c.args.tree.now)) c.args.indices.now c.loop-index.index-index
-    c.loop-index.rows.items c.push.new.self.items c.in_ok-rows_of_index.field-0 (omega arith)
-    c.loop-index.invariant c.in_ok-push.ensures.items c.in_ok-rows_of_index.ensures.rows
+    c.loop-index.rows.items c.push.new.self.items c.in_ok-rows_of_leaf.field-0 (omega arith)
+    c.loop-index.invariant c.in_ok-push.ensures.items c.in_ok-rows_of_leaf.ensures.rows
