@@ -1,21 +1,20 @@
 -- The digests of a layer's nodes are the restored ones.
-use Rattle.std.proofs.Common.{◌≡◌, ◌∙◌, ℕ, zero, suc, ◌+◌, ◌*◌, ◌/◌, ◌<◌, ◌≤◌, true, false, List, [], ◌∷◌, ◌++◌, map, refl, ap, sym, arith, inl, inr, length, length-append, take, drop, zip, All, append_assoc}
+use Rattle.std.proofs.Common.{◌≡◌, ◌∙◌, ℕ, zero, suc, ◌+◌, ◌*◌, ◌/◌, ◌<◌, ◌≤◌, Bool, true, false, List, [], ◌∷◌, ◌++◌, map, refl, ap, sym, arith, inl, inr, length, length-append, take, drop, zip, All, append_assoc}
 use Rattle.std.specs.List.{flat_map, range_with_len}
 use Rattle.std.proofs.lemmas.Bool.{cases_Bool}
 use Rattle.std.proofs.lemmas.List.{drop_at, length-map, map-id, take_at}
 use Rattle.std.proofs.lemmas.List.FromFn.{length-range_with_len}
 use Rattle.p3_merkle_core.specs.Geometry.{Shape, has_rows, heights, layer_exponent, step}
 use Rattle.p3_merkle_core.specs.Nodes.{Functions, compress}
-use Rattle.p3_merkle_core.specs.Pruning.{CanQuery, IsAgreed, PrunedOpening, boundary, covered_at, restored_node, value_of}
+use Rattle.p3_merkle_core.specs.Pruning.{CanQuery, IsAgreed, PrunedOpening, boundary, covered_at, pruned_of, restored_node, value_of}
 use Rattle.p3_merkle_core.proofs.Covered.Equivalence.{restored_leaf, restored_next, rows_agree}
 use Rattle.p3_merkle_core.proofs.Checks.PathFacts.{group_values}
 use Rattle.p3_merkle_core.proofs.Covered.ValueFacts.{IsLevel, children_are}
 use Rattle.p3_merkle_multiproof.proofs.WalkFacts.{same_map}
-use Rattle.p3_merkle_multiproof.specs.Inner.Groups.{group_digest, layer_digests, pair_digest, query_digest}
-use Rattle.p3_merkle_multiproof.specs.Inner.Walks.{AreRestored, IsCoveredAt, IsRestoredRise, IsNextLevel, child_values, node_of_query}
-use Rattle.p3_merkle_multiproof.specs.declared.queries.Covered.{Covered}
-use Rattle.p3_merkle_multiproof.specs.declared.queries.NextLevel.{NextLevel}
-use Rattle.p3_merkle_core.specs.Openings.{children_by}
+use Rattle.p3_merkle_multiproof.specs.Inner.NodeDigests.{group_digest, layer_digests, pair_digest, query_digest}
+use Rattle.p3_merkle_multiproof.specs.Inner.RestoredLevels.{AreRestored, IsCoveredAt, IsNextLevel, IsValuedLevel, node_of_query}
+use Rattle.p3_merkle_multiproof.specs.declared.covered.Covered.{Covered}
+use Rattle.p3_merkle_multiproof.specs.declared.covered.NextLevel.{NextLevel}
 use Rattle.p3_merkle_core.specs.Checks.{terms}
 
 -- ---- lists
@@ -89,15 +88,15 @@ module _ {T W : Type 0} (f : Functions T W) (s : Shape) (t : ℕ) (p : PrunedOpe
   without_rows none j = let next = rw none at (restored_next f s t p l j) in below_is j ∙ sym next
 
   -- the layer above, from the children's values
-  layer_next : IsAgreed s t p → suc l ≤ t → (n x : ℕ) (leads : List ℕ) (children : List (List W)) → n ≡ step s l → x
-      ≡ layer_exponent s (suc l) →
+  layer_next : IsAgreed s t p → suc l ≤ t → (n : ℕ) (has : Bool) (x : ℕ) (leads : List ℕ)
+      (children : List (List W)) → n ≡ step s l → has ≡ has_rows s (suc l) → x ≡ layer_exponent s (suc l) →
       covered_at s p.indices (suc l) ≡ map (node_of_query s p.indices (suc l)) leads →
       All (λ k. k < length p.indices) leads → length children / n ≡ length (covered_at s p.indices (suc l)) →
       children ≡ flat_map (λ j. map (value_of (terms f s t) p l) (range_with_len (step s l * j) (step s l)))
       (covered_at s p.indices (suc l)) →
-      layer_digests f s.arity n (heights s) x p.rows leads children
+      layer_digests f s.arity n has (heights s) x p.rows leads children
       ≡ map (restored_node (terms f s t) p (suc l)) (covered_at s p.indices (suc l))
-  layer_next agreed le n x leads children is_step is_x are among count values =
+  layer_next agreed le n has x leads children is_step is_has is_x are among count values =
       let parents = covered_at s p.indices (suc l) in
       let group = λ (j : ℕ). map (value_of (terms f s t) p l) (range_with_len (step s l * j) (step s l)) in
       let node = node_of_query s p.indices (suc l) in
@@ -111,16 +110,16 @@ module _ {T W : Type 0} (f : Functions T W) (s : Shape) (t : ℕ) (p : PrunedOpe
       let all : map (group_digest f.compression s.arity f.default_digest n children)
       (range_with_len 0 (length children / n)) ≡ map below_digest parents = rw (count, is_step, values) nodes in
       elim (cases_Bool (has_rows s (suc l))) [
-        | inl has ↦
-            rw (all, is_x, has)
+        | inl present ↦
+            rw (all, is_x, is_has, present)
             (ap (λ ys. map pair (zip (map below_digest ys) (map digest leads))) are
             ∙ ap (λ ys. map pair (zip ys (map digest leads))) (map_map below_digest node leads)
             ∙ zip_maps pair (λ k. below_digest (node k)) digest leads
             ∙ map_on (λ k. k < length p.indices) (λ k. pair (below_digest (node k), digest k))
-            (λ k. restored_node (terms f s t) p (suc l) (node k)) (with_lead agreed le has) leads among
+            (λ k. restored_node (terms f s t) p (suc l) (node k)) (with_lead agreed le present) leads among
             ∙ sym (map_map (restored_node (terms f s t) p (suc l)) node leads)
             ∙ ap (map (restored_node (terms f s t) p (suc l))) (sym are))
-        | inr none ↦ rw (all, is_x, none)
+        | inr none ↦ rw (all, is_x, is_has, none)
             (same_map below_digest (restored_node (terms f s t) p (suc l)) (without_rows none) parents)
       ]
 
@@ -160,15 +159,22 @@ start_restored f s t p agreed covered digests at e =
       restored = is;
     }
 
+-- the rows of an opening agree whatever digests it sends
+pub agreed_with : {T W V : Type 0} (s : Shape) (t : ℕ) (indices : List ℕ) (rows : List (List (List T)))
+    (digests : List (List W)) (others : List (List V)) →
+    IsAgreed s t (pruned_of indices rows digests) → IsAgreed s t (pruned_of indices rows others)
+agreed_with s t indices rows digests others a =
+    record { in_pairs = a.in_pairs; repeats = a.repeats; groups = a.groups }
+
 -- ---- one level up
 
 -- the children have their values
-level_values : {T W : Type 0} (f : Functions T W) (s : Shape) (t : ℕ) (p : PrunedOpening T W) → CanQuery s p.indices t →
-    length p.digests ≡ length (boundary s p.indices t) → (l : ℕ) → l < t →
+pub level_valued : {T W : Type 0} (f : Functions T W) (s : Shape) (t : ℕ) (p : PrunedOpening T W) →
+    CanQuery s p.indices t → length p.digests ≡ length (boundary s p.indices t) → (l : ℕ) → l < t →
     (covered : Covered) (next_level : NextLevel (List W)) (digests : List (List W)) →
     AreRestored f s t p l covered digests → IsNextLevel s p.indices l covered digests p.digests next_level →
-    next_level.children.items ≡ child_values f s t p l
-level_values f s t p w count l h covered next_level digests here up =
+    IsValuedLevel f s t p l next_level
+level_valued f s t p w count l h covered next_level digests here up =
     let same : IsLevel f s t p l (λ (d : List _). d) next_level.step next_level.above.nodes.items covered.nodes.items
     digests (drop covered.used p.digests) =
     record {
@@ -178,36 +184,35 @@ level_values f s t p w count l h covered next_level digests here up =
       digests_are = map-id digests ∙ here.restored;
       sent_is = map-id (drop covered.used p.digests) ∙ ap (λ k. drop k p.digests) here.stands.sent_below;
     } in
-    sym (map-id next_level.children.items) ∙ children_are f s t p w count l h (λ (d : List _). d) next_level.step
-    next_level.above.nodes.items covered.nodes.items digests (drop covered.used p.digests) next_level.children.items
-    same up.values
-
--- so the nodes above have their digests
-pub level_restored : {T W : Type 0} (f : Functions T W) (s : Shape) (t : ℕ) (p : PrunedOpening T W) →
-    CanQuery s p.indices t → IsAgreed s t p → length p.digests ≡ length (boundary s p.indices t) → (l : ℕ) → l < t →
-    (n : ℕ) → s.arity ≡ n →
-    (covered : Covered) (next_level : NextLevel (List W)) (digests next : List (List W)) →
-    AreRestored f s t p l covered digests → IsNextLevel s p.indices l covered digests p.digests next_level →
-    next ≡ layer_digests f n next_level.step (heights s) next_level.above.exponent p.rows next_level.above.leads.items
-    next_level.children.items → IsRestoredRise f s t p l next_level next
-level_restored f s t p w agreed count l h n is_n covered next_level digests next here up e =
-    let values = level_values f s t p w count l h covered next_level digests here up in
-    let are = sym up.stands.nodes_are ∙ up.stands.leads_are in
-    let long = sym up.in_groups ∙ sym (length-map next_level.above.leads.items (node_of_query s p.indices (suc l)))
-    ∙ sym (ap length are) in
-    let is = e ∙ ap (λ a. layer_digests f a next_level.step (heights s) next_level.above.exponent p.rows
-    next_level.above.leads.items next_level.children.items) (sym is_n)
-    ∙ layer_next f s t p l agreed (omega arith) next_level.step next_level.above.exponent next_level.above.leads.items
-    next_level.children.items up.step_is up.stands.at_exponent are up.stands.among long values in
     record {
       step_is = up.step_is;
       wide = up.wide;
       full = up.values.each;
-      values_are = values;
-      above_are = record {
-        stands = up.stands;
-        each = digests_long s p.indices (suc l) next_level.above (restored_node (terms f s t) p (suc l)) next
-            up.stands is;
-        restored = is;
-      };
+      stands = up.stands;
+      values_are =
+          sym (map-id next_level.children.items) ∙ children_are f s t p w count l h (λ (d : List _). d) next_level.step
+          next_level.above.nodes.items covered.nodes.items digests (drop covered.used p.digests)
+          next_level.children.items same up.values;
+    }
+
+-- so the nodes above have their digests
+pub above_restored : {T W : Type 0} (f : Functions T W) (s : Shape) (t : ℕ) (p : PrunedOpening T W) →
+    IsAgreed s t p → (l : ℕ) → l < t → (n : ℕ) → s.arity ≡ n →
+    (covered : Covered) (next_level : NextLevel (List W)) (digests next : List (List W)) →
+    IsNextLevel s p.indices l covered digests p.digests next_level → IsValuedLevel f s t p l next_level →
+    next ≡ layer_digests f n next_level.step next_level.has_rows (heights s) next_level.above.exponent p.rows
+    next_level.above.leads.items next_level.children.items → AreRestored f s t p (suc l) next_level.above next
+above_restored f s t p agreed l h n is_n covered next_level digests next up valued e =
+    let above = next_level.above in
+    let are = sym up.stands.nodes_are ∙ up.stands.leads_are in
+    let long = sym up.in_groups ∙ sym (length-map above.leads.items (node_of_query s p.indices (suc l)))
+    ∙ sym (ap length are) in
+    let is = e ∙ ap (λ a. layer_digests f a next_level.step next_level.has_rows (heights s) above.exponent p.rows
+    above.leads.items next_level.children.items) (sym is_n)
+    ∙ layer_next f s t p l agreed (omega arith) next_level.step next_level.has_rows above.exponent above.leads.items
+    next_level.children.items up.step_is up.rows_are up.stands.at_exponent are up.stands.among long valued.values_are in
+    record {
+      stands = up.stands;
+      each = digests_long s p.indices (suc l) above (restored_node (terms f s t) p (suc l)) next up.stands is;
+      restored = is;
     }

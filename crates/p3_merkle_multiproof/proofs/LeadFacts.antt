@@ -59,6 +59,27 @@ parent_dropped (x ∷ ys) (suc k) h p e =
     ∙ from_more x (take k ys) z ∙ ap (λ b. dedup_from eqb x (take k ys) ++ cond b [] (z ∷ [])) same
     ∙ append-nil (dedup_from eqb x (take k ys))
 
+-- what one more node leaves of the parents: its own, if it is not that of the node before
+pub parents_next : (nodes parents next : List ℕ) (step i : ℕ) → i < length nodes →
+    parents ≡ dedup eqb (take i (map (λ j. j / step) nodes)) →
+    ((next ≡ parents ++ get_or nodes i 0 / step ∷ []) ×
+    (0 < i → get_or nodes (i - 1) 0 / step ≡ get_or nodes i 0 / step → ⊥)) ⊎
+    ((next ≡ parents) × (0 < i) × (get_or nodes (i - 1) 0 / step ≡ get_or nodes i 0 / step)) →
+    next ≡ dedup eqb (take (i + 1) (map (λ j. j / step) nodes))
+parents_next nodes parents next step i h so_far turn =
+    let ys = map (λ j. j / step) nodes in
+    let long : length ys ≡ length nodes = length-map nodes (λ j. j / step) in
+    let at : (k : ℕ) → k < length nodes → get_or ys k 0 ≡ get_or nodes k 0 / step =
+    λ k l. get_or-map (λ j. j / step) nodes k 0 0 l in
+    let here : get_or ys i 0 ≡ get_or nodes i 0 / step = at i h in
+    let before : get_or ys (i - 1) 0 ≡ get_or nodes (i - 1) 0 / step = at (i - 1) (omega arith) in
+    elim turn [
+      | inl k ↦
+          let stays = parent_stays ys i (omega arith) (λ p q. k.1 p (sym before ∙ q ∙ here)) in
+          rw (k.0, so_far) (sym (stays ∙ ap (λ y. dedup eqb (take i ys) ++ y ∷ []) here))
+      | inr k ↦ rw (k.0, so_far) (sym (parent_dropped ys i (omega arith) k.1 (before ∙ k.2 ∙ sym here)))
+    ]
+
 -- what one more node leaves of the leads: its own, if its parent is not that of the node before
 pub leads_next : (nodes leads above next : List ℕ) (step i : ℕ) (node : ℕ → ℕ) → i < length leads → length leads
     ≡ length nodes → nodes ≡ map node leads →

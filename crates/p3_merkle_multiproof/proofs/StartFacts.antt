@@ -5,7 +5,7 @@ use Rattle.p3_support.specs.Lists.{is_among}
 use Rattle.p3_merkle_core.specs.Geometry.{Shape, ancestor}
 use Rattle.p3_merkle_core.proofs.Pruned.LeadFacts.{first_there}
 use Rattle.p3_merkle_core.proofs.Shapes.StepFacts.{anc_start}
-use Rattle.p3_merkle_multiproof.specs.Inner.Walks.{node_of_query}
+use Rattle.p3_merkle_multiproof.specs.Inner.RestoredLevels.{node_of_query}
 
 pub led_by_firsts : (s : Shape) (indices xs : List ℕ) →
     ((k : ℕ) → k < length xs → is_among indices (get_or xs k 0) ≡ true) → xs

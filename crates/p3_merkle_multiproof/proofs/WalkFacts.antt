@@ -13,9 +13,8 @@ use Rattle.p3_merkle_core.proofs.Covered.CoveredFacts.{covered_above}
 use Rattle.p3_merkle_core.proofs.Lists.ListFacts.{length-joined_le}
 use Rattle.p3_merkle_core.proofs.Shapes.StepFacts.{anc_next, step_above_1}
 use Rattle.p3_merkle_core.proofs.Covered.ValueFacts.{family_by_counts}
-use Rattle.p3_merkle_multiproof.specs.Inner.Walks.{IsCoveredAt, node_of_query}
-use Rattle.p3_merkle_multiproof.specs.declared.queries.Covered.{Covered}
-use Rattle.p3_merkle_core.specs.Openings.{children_by}
+use Rattle.p3_merkle_multiproof.specs.Inner.RestoredLevels.{IsCoveredAt, node_of_query}
+use Rattle.p3_merkle_multiproof.specs.declared.covered.Covered.{Covered}
 
 -- equal functions, mapped
 pub same_map : {X : Type 0} (f g : ℕ → X) → ((k : ℕ) → f k ≡ g k) → (xs : List ℕ) → map f xs ≡ map g xs

@@ -10,10 +10,9 @@ ghost use Rattle.p3_merkle_core.specs.declared.error.MerkleTreeError.TheVariants
 ghost use Rattle.p3_merkle_verifier.specs.Inner.Paths.{CanCheck};
 ghost use Rattle.p3_merkle_core.specs.Checks.{terms};
 
-use crate::leaves::{leaves_of, tell_restorable};
-use crate::queries::Queries;
-use crate::restored::check_cap;
-use p3_merkle_core::agreement::check_pruned;
+use crate::restorable::LentOpening;
+use crate::restored::levels_under_cap;
+use crate::start::start_of;
 use p3_merkle_core::error::MerkleTreeError;
 use p3_merkle_verifier::level::Checker;
 use p3_support::compress::PseudoCompressionFunction;
@@ -22,16 +21,27 @@ use p3_support::matrix::Dimensions;
 use p3_support::packed::PackedValue;
 use std::alloc::Global;
 
-/// Checks a pruned opening against the roots of a cap, which is layer `t`: whether its form is right, and the digests
+/// What openings are checked against: the roots of a cap, the dimensions of the matrices, and the cap's layer.
+#[derive_where(Clone, Copy)]
+pub(crate) struct Commitment<'a, X> {
+    /// The roots of the cap.
+    pub roots: &'a [X],
+    /// The dimensions of all matrices.
+    pub dimensions: &'a [Dimensions],
+    /// The cap's layer.
+    pub cap_layer: usize,
+}
+
+/// Checks a pruned opening against the roots of a cap, which is this layer: whether its form is right, and the digests
 /// that its rows and the digests that were sent lead to are the roots of their places. `sets` has the rows of each
 /// query.
 ///
-/// `N` is a power of two from 2 to 2^62, and `t` is at most the number of levels.
+/// `N` is a power of two from 2 to 2^62, and the cap's layer is at most the number of levels.
 ///
 /// # Errors
 ///
-/// What [`check_pruned`] answers; else `CapMismatch` where a root is another, or is not there. `OutOfMemory` may come
-/// at any time.
+/// What `Steps::check_pruned` answers; else `CapMismatch` where a root is another, or is not there. `OutOfMemory` may
+/// come at any time.
 pub fn check_pruned_opening<
     P: PackedValue,
     PW: PackedValue,
@@ -44,26 +54,24 @@ pub fn check_pruned_opening<
     checker: &Checker<'_, P, PW, H, C, [[PW::Value; D]; N]>,
     roots: &[[PW::Value; D]],
     dimensions: &[Dimensions],
-    t: usize,
+    cap_layer: usize,
     indices: &[usize],
     sets: &[Vec<Vec<P::Value>>],
     sent: &[[PW::Value; D]],
 ) -> Result<(), MerkleTreeError>
-    requires { CanCheck (shape_of N dimensions.now) t }
+    requires { CanCheck (shape_of N dimensions.now) cap_layer }
     ensures { let f = functions_of (H.hash checker.now.hash.now) (C.compression checker.now.compress.now)
         (replicate D PW.default_value) in
         let p = pruned_of indices.now (row_sets sets.now) sent.now in
-        let refusal = pruned_refusal_under P.Value.eq PW.Value.eq (terms f (shape_of N dimensions.now) t) roots.now p in
-        AnswersUnlessMemory result refusal }
+        let c = terms f (shape_of N dimensions.now) cap_layer in
+        AnswersUnlessMemory result (pruned_refusal_under P.Value.eq PW.Value.eq c roots.now p) }
 {
-    let queried = check_pruned(alloc, dimensions, N, t, indices, sets, sent.len())?;
-    tell_restorable::<P, PW, D>(dimensions, N, t, indices, sets, sent);
-    let queries = Queries {
-        dimensions,
-        arity: N,
-        t,
+    let opening = LentOpening {
         indices,
+        sets,
+        sent,
     };
-    let leaves = leaves_of(dimensions, N, indices, queried);
-    check_cap::<P, PW, H, C, N, D>(alloc, checker, roots, &queries, sets, sent, leaves)
+    let start = start_of::<P, [PW::Value; D]>(alloc, dimensions, N, cap_layer, opening)?;
+    levels_under_cap::<P, PW, H, C, N, D>(alloc, checker, start, roots, false)?;
+    Ok(())
 }

@@ -12,8 +12,9 @@ ghost use Rattle.p3_merkle_verifier.specs.Inner.Checks.{opening_in};
 ghost use Rattle.p3_merkle_verifier.specs.Inner.Paths.{CanCheck, CanReach};
 ghost use Rattle.p3_merkle_multiproof.specs.Inner.Pairs.{query_difference, first_place, pruned_in, query_in, AreQueriesOf, CanCompare, ShowsAt, ShowsPair};
 
-use crate::check::check_pruned_opening;
-use crate::paths::restored_paths_of;
+use crate::check::Commitment;
+use crate::paths::checked_paths_of;
+use crate::restorable::LentOpening;
 use p3_merkle_core::collision::Collision;
 use p3_merkle_core::error::MerkleTreeError;
 use p3_merkle_core::pruning::{AuthPath, PrunedMerklePaths};
@@ -67,27 +68,28 @@ fn differing_query<
 >(
     alloc: Global,
     checker: &Checker<'_, P, PW, H, C, [[PW::Value; D]; N]>,
-    dimensions: &[Dimensions],
-    t: usize,
+    commitment: &Commitment<'_, [PW::Value; D]>,
     first: IndexedOpening<'_, P::Value, [PW::Value; D]>,
     queries: &RestoredQueries<'_, P::Value, [PW::Value; D]>,
 ) -> Result<Option<(usize, Collision<P::Value, PW::Value, D>)>, AllocError>
-    requires first { CanReach (shape_of N dimensions.now) t (length first.siblings.now) }
-    requires queries { CanCompare (shape_of N dimensions.now) t queries.now }
+    requires first { CanReach (shape_of N commitment.now.dimensions.now) commitment.now.cap_layer
+        (length first.siblings.now) }
+    requires queries { CanCompare (shape_of N commitment.now.dimensions.now) commitment.now.cap_layer queries.now }
     ensures { let f = functions_of (H.hash checker.now.hash.now) (C.compression checker.now.compress.now)
         (replicate D PW.default_value) in
-        let s = shape_of N dimensions.now in
+        let s = shape_of N commitment.now.dimensions.now in
+        let cap_layer = commitment.now.cap_layer in
         let o = opening_in first.entry in
         let differs = first_place
-        (λ b. query_difference P.Value.eq PW.Value.eq f s t o (query_in queries.now b))
+        (λ b. query_difference P.Value.eq PW.Value.eq f s cap_layer o (query_in queries.now b))
         (length queries.now.paths.items) in
         IfOk result (λ found. ShowsAt found differs) }
 {
     for place in 0..queries.paths.len() {
         let second = queries.opening(place);
         let openings = OpeningPair::<P::Value, [PW::Value; D], N> {
-            dimensions,
-            cap_layer: t,
+            dimensions: commitment.dimensions,
+            cap_layer: commitment.cap_layer,
             first,
             second,
         };
@@ -114,25 +116,25 @@ fn differing_pair<
 >(
     alloc: Global,
     checker: &Checker<'_, P, PW, H, C, [[PW::Value; D]; N]>,
-    dimensions: &[Dimensions],
-    t: usize,
+    commitment: &Commitment<'_, [PW::Value; D]>,
     first: &RestoredQueries<'_, P::Value, [PW::Value; D]>,
     second: &RestoredQueries<'_, P::Value, [PW::Value; D]>,
 ) -> Result<Option<(usize, usize, Collision<P::Value, PW::Value, D>)>, AllocError>
-    requires first { CanCompare (shape_of N dimensions.now) t first.now }
-    requires second { CanCompare (shape_of N dimensions.now) t second.now }
+    requires first { CanCompare (shape_of N commitment.now.dimensions.now) commitment.now.cap_layer first.now }
+    requires second { CanCompare (shape_of N commitment.now.dimensions.now) commitment.now.cap_layer second.now }
     ensures { let f = functions_of (H.hash checker.now.hash.now) (C.compression checker.now.compress.now)
         (replicate D PW.default_value) in
-        let s = shape_of N dimensions.now in
+        let s = shape_of N commitment.now.dimensions.now in
+        let cap_layer = commitment.now.cap_layer in
         let differ = first_pair
-        (λ a b. query_difference P.Value.eq PW.Value.eq f s t (query_in first.now a) (query_in second.now b))
+        (λ a b. query_difference P.Value.eq PW.Value.eq f s cap_layer (query_in first.now a) (query_in second.now b))
         (length first.now.paths.items) (length second.now.paths.items) in
         IfOk result (λ found. ShowsPair found differ) }
 {
     for place in 0..first.paths.len() {
         let opening = first.opening(place);
         let found = differing_query::<P, PW, H, C, N, D>(
-            alloc, checker, dimensions, t, opening, second,
+            alloc, checker, commitment, opening, second,
         )?;
         if let Some((other, collision)) = found {
             return Ok(Some((place, other, collision)));
@@ -141,11 +143,11 @@ fn differing_pair<
     Ok(None)
 }
 
-/// Checks a pruned opening as [`check_pruned_opening`] does, and restores the path of each query.
+/// The queries of a pruned opening that is checked, each with its restored path.
 ///
 /// # Errors
 ///
-/// Those of [`check_pruned_opening`].
+/// Those of [`checked_paths_of`].
 fn checked_queries<
     'a,
     P: PackedValue,
@@ -157,48 +159,48 @@ fn checked_queries<
 >(
     alloc: Global,
     checker: &Checker<'_, P, PW, H, C, [[PW::Value; D]; N]>,
-    roots: &[[PW::Value; D]],
-    dimensions: &[Dimensions],
-    t: usize,
+    commitment: &Commitment<'_, [PW::Value; D]>,
     opening: PrunedOpeningRef<'a, P::Value, PrunedMerklePaths<PW::Value, D>>,
 ) -> Result<RestoredQueries<'a, P::Value, [PW::Value; D]>, MerkleTreeError>
-    requires { CanCheck (shape_of N dimensions.now) t }
+    requires { CanCheck (shape_of N commitment.now.dimensions.now) commitment.now.cap_layer }
     ensures answer { let f = functions_of (H.hash checker.now.hash.now) (C.compression checker.now.compress.now)
         (replicate D PW.default_value) in
-        let refusal = pruned_refusal_under P.Value.eq PW.Value.eq (terms f (shape_of N dimensions.now) t) roots.now
-        (pruned_in opening.entry) in
-        AnswersUnlessMemory result refusal }
-    ensures comparable { IfOk result (λ queries. CanCompare (shape_of N dimensions.now) t queries) }
+        let c = terms f (shape_of N commitment.now.dimensions.now) commitment.now.cap_layer in
+        let p = pruned_in opening.entry in
+        AnswersUnlessMemory result (pruned_refusal_under P.Value.eq PW.Value.eq c commitment.now.roots.now p) }
+    ensures comparable { let s = shape_of N commitment.now.dimensions.now in
+        IfOk result (λ queries. CanCompare s commitment.now.cap_layer queries) }
     ensures restored { let f = functions_of (H.hash checker.now.hash.now) (C.compression checker.now.compress.now)
         (replicate D PW.default_value) in
-        IfOk result (λ queries. AreQueriesOf f (shape_of N dimensions.now) t (pruned_in opening.entry) queries) }
+        let s = shape_of N commitment.now.dimensions.now in
+        let cap_layer = commitment.now.cap_layer in
+        IfOk result (λ queries. AreQueriesOf f s cap_layer (pruned_in opening.entry) queries) }
 {
     let PrunedOpeningRef {
         indices,
         opened_values: sets,
         opening_proof,
     } = opening;
-    let sent = opening_proof.sibling_hashes.as_slice();
-    check_pruned_opening::<P, PW, H, C, N, D>(
-        alloc, checker, roots, dimensions, t, indices, sets, sent,
-    )?;
-    let paths = restored_paths_of::<P, PW, H, C, N, D>(
-        alloc, checker, dimensions, t, indices, sets, sent,
-    )?;
+    let opening = LentOpening {
+        indices,
+        sets,
+        sent: opening_proof.sibling_hashes.as_slice(),
+    };
+    let paths = checked_paths_of::<P, PW, H, C, N, D>(alloc, checker, commitment, opening)?;
     Ok(RestoredQueries { sets, paths })
 }
 
-/// What two pruned openings under the roots of a cap, which is layer `t`, lead to: nothing where the checks of all
+/// What two pruned openings under the roots of a cap, which is this layer, lead to: nothing where the checks of all
 /// pairs of their queries agree, and else the first pair that differs, by the first list, then by the second: the place
 /// of each in its list, and the last place that both checks share and at which their inputs differ.
 ///
-/// `N` is a power of two from 2 to 2^62, and `t` is at most the number of levels. It takes the time of a check for each
-/// pair of queries.
+/// `N` is a power of two from 2 to 2^62, and the cap's layer is at most the number of levels. It takes the time of a
+/// check for each pair of queries.
 ///
 /// # Errors
 ///
-/// What [`check_pruned_opening`] answers to the first opening, else what it answers to the second; `OutOfMemory` may
-/// come at any time.
+/// What `check_pruned_opening` answers to the first opening, else what it answers to the second; `OutOfMemory` may come
+/// at any time.
 pub fn extraction<
     P: PackedValue,
     PW: PackedValue,
@@ -211,18 +213,19 @@ pub fn extraction<
     checker: &Checker<'_, P, PW, H, C, [[PW::Value; D]; N]>,
     roots: &[[PW::Value; D]],
     dimensions: &[Dimensions],
-    t: usize,
+    cap_layer: usize,
     first: PrunedOpeningRef<'_, P::Value, PrunedMerklePaths<PW::Value, D>>,
     second: PrunedOpeningRef<'_, P::Value, PrunedMerklePaths<PW::Value, D>>,
 ) -> Result<Option<(usize, usize, Collision<P::Value, PW::Value, D>)>, MerkleTreeError>
-    requires { CanCheck (shape_of N dimensions.now) t }
+    requires { CanCheck (shape_of N dimensions.now) cap_layer }
     ensures answer { let f = functions_of (H.hash checker.now.hash.now) (C.compression checker.now.compress.now)
         (replicate D PW.default_value) in
-        let refusal = pruned_refusal_under P.Value.eq PW.Value.eq (terms f (shape_of N dimensions.now) t) roots.now in
+        let refusal = pruned_refusal_under P.Value.eq PW.Value.eq (terms f (shape_of N dimensions.now) cap_layer)
+        roots.now in
         AnswersUnlessMemory result (option_or (refusal (pruned_in first.entry)) (refusal (pruned_in second.entry))) }
     ensures found { let f = functions_of (H.hash checker.now.hash.now) (C.compression checker.now.compress.now)
         (replicate D PW.default_value) in
-        let c = terms f (shape_of N dimensions.now) t in
+        let c = terms f (shape_of N dimensions.now) cap_layer in
         let p = pruned_in first.entry in
         let r = pruned_in second.entry in
         let difference = first_pair
@@ -230,12 +233,13 @@ pub fn extraction<
         (length r.indices) in
         IfOk result (λ found. ShowsPair found difference) }
 {
-    let first = checked_queries::<P, PW, H, C, N, D>(alloc, checker, roots, dimensions, t, first)?;
-    let second = checked_queries::<P, PW, H, C, N, D>(
-        alloc, checker, roots, dimensions, t, second,
-    )?;
-    let found = differing_pair::<P, PW, H, C, N, D>(
-        alloc, checker, dimensions, t, &first, &second,
-    )?;
+    let commitment = Commitment {
+        roots,
+        dimensions,
+        cap_layer,
+    };
+    let first = checked_queries::<P, PW, H, C, N, D>(alloc, checker, &commitment, first)?;
+    let second = checked_queries::<P, PW, H, C, N, D>(alloc, checker, &commitment, second)?;
+    let found = differing_pair::<P, PW, H, C, N, D>(alloc, checker, &commitment, &first, &second)?;
     Ok(found)
 }

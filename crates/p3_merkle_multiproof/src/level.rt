@@ -4,21 +4,21 @@ ghost use Rattle.std.specs.Prelude.{◌≡◌, ◌/◌, ◌<◌, ◌≤◌, All,
 ghost use Rattle.p3_support.specs.Batches.{heights_of};
 ghost use Rattle.p3_merkle_core.specs.Nodes.{functions_of};
 ghost use Rattle.p3_support.specs.Shown.{row_sets};
-ghost use Rattle.p3_merkle_multiproof.specs.Inner.Groups.{layer_digests};
+ghost use Rattle.p3_merkle_multiproof.specs.Inner.NodeDigests.{layer_digests};
 
-use crate::groups::Compressor;
+use crate::compressor::Compressor;
+use crate::covered::NextLevel;
+use crate::restorable::Restorable;
 use crate::rows::row_digests;
-use p3_merkle_core::geometry::has_exponent;
 use p3_merkle_verifier::level::Checker;
 use p3_support::compress::PseudoCompressionFunction;
 use p3_support::hasher::CryptographicHasher;
-use p3_support::matrix::Dimensions;
 use p3_support::packed::PackedValue;
 use std::alloc::{AllocError, Global};
 use std::marker::PhantomData;
 
-/// The digests of the covered nodes of a layer of the exponent `x`: `children` has the values of their children, `step`
-/// of each, and `leads` a query under each, whose rows are hashed where matrices have that exponent.
+/// The digests of the covered nodes above a level, out of the values of their children. The rows of a query under each
+/// are hashed where matrices belong to the layer.
 ///
 /// # Errors
 ///
@@ -33,31 +33,29 @@ pub(crate) fn node_digests<
 >(
     alloc: Global,
     checker: &Checker<'_, P, PW, H, C, [[PW::Value; D]; N]>,
-    dimensions: &[Dimensions],
-    x: usize,
-    sets: &[Vec<Vec<P::Value>>],
-    leads: &[usize],
-    step: usize,
-    children: &[[PW::Value; D]],
+    restorable: &Restorable<'_, P::Value, [PW::Value; D]>,
+    next_level: &NextLevel<[PW::Value; D]>,
 ) -> Result<Vec<[PW::Value; D]>, AllocError>
-    requires room { 2 ≤ N }
-    requires wide { 0 < step }
-    requires narrow { step ≤ N }
-    requires leads { All (λ k. k < length sets.now) leads.now }
-    requires pairs { length leads.now ≡ length children.now / step }
+    requires arity { restorable.now.steps.arity ≡ N }
+    requires wide { 0 < next_level.now.step }
+    requires narrow { next_level.now.step ≤ restorable.now.steps.arity }
+    requires among { All (λ k. k < length restorable.now.opening.indices.now) next_level.now.above.leads.items }
+    requires pairs { length next_level.now.above.leads.items
+        ≡ length next_level.now.children.items / next_level.now.step }
     ensures { let f = functions_of (H.hash checker.now.hash.now) (C.compression checker.now.compress.now)
         (replicate D PW.default_value) in
-        IfOk result (λ digests. digests.items ≡ layer_digests f N step (heights_of dimensions.now) x
-        (row_sets sets.now) leads.now children.now) }
+        IfOk result (λ digests. digests.items ≡ layer_digests f N next_level.now.step next_level.now.has_rows
+        (heights_of restorable.now.steps.dimensions.now) next_level.now.above.exponent
+        (row_sets restorable.now.opening.sets.now) next_level.now.above.leads.items next_level.now.children.items) }
 {
     let compressor = Compressor::<PW, C, [[PW::Value; D]; N]> {
         compress: checker.compress,
         item: PhantomData,
     };
-    let nodes = compressor.group_digests(alloc, children, step)?;
-    if !has_exponent(dimensions, x) {
+    let nodes = compressor.group_digests(alloc, &next_level.children, next_level.step)?;
+    if !next_level.has_rows {
         return Ok(nodes);
     }
-    let rows = row_digests::<P, PW, H, D>(alloc, checker.hash, dimensions, x, sets, leads)?;
+    let rows = row_digests::<P, PW, H, D>(alloc, checker.hash, restorable, &next_level.above)?;
     compressor.pair_digests(alloc, &nodes, &rows)
 }

@@ -4,12 +4,13 @@
 #![tactic(auto)]
 
 pub mod check;
+mod compressor;
+mod covered;
 pub mod extraction;
-mod groups;
-mod leads;
-mod leaves;
 mod level;
+mod parents;
 pub mod paths;
-mod queries;
+mod restorable;
 mod restored;
 mod rows;
+mod start;

@@ -5,18 +5,18 @@ ghost use Rattle.p3_merkle_core.specs.Views.{shown_paths};
 ghost use Rattle.p3_merkle_core.specs.Geometry.{shape_of};
 ghost use Rattle.p3_merkle_core.specs.Nodes.{functions_of};
 ghost use Rattle.p3_support.specs.Shown.{row_sets};
-ghost use Rattle.p3_merkle_core.specs.Pruning.{boundary, pruned_of, IsAgreed, restored_paths};
-ghost use Rattle.p3_merkle_core.specs.Refusals.{pruned_refusal, AnswersUnlessMemory};
+ghost use Rattle.p3_merkle_core.specs.Pruning.{pruned_of, restored_paths};
+ghost use Rattle.p3_merkle_core.specs.Refusals.{pruned_refusal, pruned_refusal_under, AnswersUnlessMemory};
 ghost use Rattle.p3_merkle_core.specs.declared.error.MerkleTreeError.TheVariants.{OutOfMemory};
 ghost use Rattle.p3_merkle_verifier.specs.Inner.Paths.{CanCheck};
-ghost use Rattle.p3_merkle_multiproof.specs.Inner.Walks.{AreKept, IsCoveredAt};
+ghost use Rattle.p3_merkle_multiproof.specs.Inner.RestoredLevels.{opened_by, tree_of, AreKept};
 ghost use Rattle.p3_merkle_core.specs.Checks.{terms};
 
-use crate::leaves::{leaves_of, tell_restorable};
-use crate::queries::{Covered, NextLevel, Queries};
-use crate::restored::{restored_above, tell_leads};
-use crate::rows::row_digests;
-use p3_merkle_core::agreement::check_pruned;
+use crate::check::Commitment;
+use crate::covered::NextLevel;
+use crate::restorable::LentOpening;
+use crate::restored::{Reach, levels_under_cap, restored_layer};
+use crate::start::{Start, start_of};
 use p3_merkle_core::error::MerkleTreeError;
 use p3_merkle_core::pruning::{AuthPath, KeptLevel, paths_out_of};
 use p3_merkle_verifier::level::Checker;
@@ -26,14 +26,14 @@ use p3_support::matrix::Dimensions;
 use p3_support::packed::PackedValue;
 use std::alloc::{AllocError, Global};
 
-/// The path of each query up to the cap's layer `t`, in query order, out of a pruned opening: the siblings are digests
+/// The path of each query up to the cap's layer, in query order, out of a pruned opening: the siblings are digests
 /// that were sent, or that its rows and these lead to. `sets` has the rows of each query. No cap is looked at.
 ///
-/// `N` is a power of two from 2 to 2^62, and `t` is at most the number of levels.
+/// `N` is a power of two from 2 to 2^62, and the cap's layer is at most the number of levels.
 ///
 /// # Errors
 ///
-/// What [`check_pruned`] answers; `OutOfMemory` may come at any time.
+/// What `Steps::check_pruned` answers; `OutOfMemory` may come at any time.
 pub fn restored_paths_of<
     P: PackedValue,
     PW: PackedValue,
@@ -45,40 +45,38 @@ pub fn restored_paths_of<
     alloc: Global,
     checker: &Checker<'_, P, PW, H, C, [[PW::Value; D]; N]>,
     dimensions: &[Dimensions],
-    t: usize,
+    cap_layer: usize,
     indices: &[usize],
     sets: &[Vec<Vec<P::Value>>],
     sent: &[[PW::Value; D]],
 ) -> Result<Vec<AuthPath<[PW::Value; D]>>, MerkleTreeError>
-    requires { CanCheck (shape_of N dimensions.now) t }
+    requires { CanCheck (shape_of N dimensions.now) cap_layer }
     ensures answer { let p = pruned_of indices.now (row_sets sets.now) sent.now in
-        let refusal = pruned_refusal P.Value.eq (shape_of N dimensions.now) t p in
+        let refusal = pruned_refusal P.Value.eq (shape_of N dimensions.now) cap_layer p in
         AnswersUnlessMemory result refusal }
     ensures paths { let f = functions_of (H.hash checker.now.hash.now) (C.compression checker.now.compress.now)
         (replicate D PW.default_value) in
         let p = pruned_of indices.now (row_sets sets.now) sent.now in
-        IfOk result (λ paths. shown_paths paths.items ≡ restored_paths (terms f (shape_of N dimensions.now) t) p) }
+        let c = terms f (shape_of N dimensions.now) cap_layer in
+        IfOk result (λ paths. shown_paths paths.items ≡ restored_paths c p) }
 {
-    let queried = check_pruned(alloc, dimensions, N, t, indices, sets, sent.len())?;
-    tell_restorable::<P, PW, D>(dimensions, N, t, indices, sets, sent);
-    let queries = Queries {
-        dimensions,
-        arity: N,
-        t,
+    let opening = LentOpening {
         indices,
+        sets,
+        sent,
     };
-    let leaves = leaves_of(dimensions, N, indices, queried);
-    let levels = kept_levels::<P, PW, H, C, N, D>(alloc, checker, &queries, sets, sent, leaves)?;
+    let start = start_of::<P, [PW::Value; D]>(alloc, dimensions, N, cap_layer, opening)?;
+    let levels = levels_below_cap::<P, PW, H, C, N, D>(alloc, checker, start)?;
     Ok(paths_out_of(alloc, &levels, indices)?)
 }
 
-/// The levels of the walk up to layer `t`, each with the values of its nodes' children, restored from the rows of the
-/// queries and the digests that were sent. `leaves` are the covered leaves.
+/// The path of each query, as [`restored_paths_of`], where the roots of the cap have the restored digests.
 ///
 /// # Errors
 ///
-/// `AllocError` where there is no memory.
-fn kept_levels<
+/// What `Steps::check_pruned` answers; else `CapMismatch` where a root is another, or is not there. `OutOfMemory` may
+/// come at any time.
+pub(crate) fn checked_paths_of<
     P: PackedValue,
     PW: PackedValue,
     H: CryptographicHasher<P, PW, D>,
@@ -88,48 +86,80 @@ fn kept_levels<
 >(
     alloc: Global,
     checker: &Checker<'_, P, PW, H, C, [[PW::Value; D]; N]>,
-    queries: &Queries<'_>,
-    sets: &[Vec<Vec<P::Value>>],
-    sent: &[[PW::Value; D]],
-    leaves: Covered,
+    commitment: &Commitment<'_, [PW::Value; D]>,
+    opening: LentOpening<'_, P::Value, [PW::Value; D]>,
+) -> Result<Vec<AuthPath<[PW::Value; D]>>, MerkleTreeError>
+    requires { CanCheck (shape_of N commitment.now.dimensions.now) commitment.now.cap_layer }
+    ensures answer { let f = functions_of (H.hash checker.now.hash.now) (C.compression checker.now.compress.now)
+        (replicate D PW.default_value) in
+        let c = terms f (shape_of N commitment.now.dimensions.now) commitment.now.cap_layer in
+        let p = pruned_of opening.entry.indices.now (row_sets opening.entry.sets.now) opening.entry.sent.now in
+        AnswersUnlessMemory result (pruned_refusal_under P.Value.eq PW.Value.eq c commitment.now.roots.now p) }
+    ensures paths { let f = functions_of (H.hash checker.now.hash.now) (C.compression checker.now.compress.now)
+        (replicate D PW.default_value) in
+        let c = terms f (shape_of N commitment.now.dimensions.now) commitment.now.cap_layer in
+        let p = pruned_of opening.entry.indices.now (row_sets opening.entry.sets.now) opening.entry.sent.now in
+        IfOk result (λ paths. shown_paths paths.items ≡ restored_paths c p) }
+{
+    let Commitment {
+        roots,
+        dimensions,
+        cap_layer,
+    } = *commitment;
+    let indices = opening.indices;
+    let start = start_of::<P, [PW::Value; D]>(alloc, dimensions, N, cap_layer, opening)?;
+    let levels = levels_under_cap::<P, PW, H, C, N, D>(alloc, checker, start, roots, true)?;
+    Ok(paths_out_of(alloc, &levels, indices)?)
+}
+
+/// The levels below the cap's layer, each with the values of its nodes' children. The nodes of the cap's layer are not
+/// digested, since no path has a digest of theirs.
+///
+/// # Errors
+///
+/// `AllocError` where there is no memory.
+fn levels_below_cap<
+    P: PackedValue,
+    PW: PackedValue,
+    H: CryptographicHasher<P, PW, D>,
+    C: PseudoCompressionFunction<PW, N, D>,
+    const N: usize,
+    const D: usize,
+>(
+    alloc: Global,
+    checker: &Checker<'_, P, PW, H, C, [[PW::Value; D]; N]>,
+    start: Start<'_, P::Value, [PW::Value; D]>,
 ) -> Result<Vec<KeptLevel<[PW::Value; D]>>, AllocError>
-    requires arity { queries.now.arity ≡ N }
-    requires pairs { length sets.now ≡ length queries.now.indices.now }
-    requires sent { length sent.now ≡ length
-        (boundary (shape_of queries.now.arity queries.now.dimensions.now) queries.now.indices.now queries.now.t) }
-    requires agreed { IsAgreed (shape_of queries.now.arity queries.now.dimensions.now) queries.now.t
-        (pruned_of queries.now.indices.now (row_sets sets.now) sent.now) }
-    requires leaves { IsCoveredAt (shape_of queries.now.arity queries.now.dimensions.now) queries.now.indices.now 0
-        leaves }
+    requires { start.restorable.steps.arity ≡ N }
     ensures { let f = functions_of (H.hash checker.now.hash.now) (C.compression checker.now.compress.now)
         (replicate D PW.default_value) in
-        let p = pruned_of queries.now.indices.now (row_sets sets.now) sent.now in
-        IfOk result (λ levels. AreKept f (shape_of queries.now.arity queries.now.dimensions.now) queries.now.t p
-        queries.now.t levels.items) }
+        let restorable = start.entry.restorable in
+        let cap_layer = restorable.cap_layer in
+        IfOk result (λ levels. AreKept f (tree_of restorable) cap_layer (opened_by restorable) cap_layer levels.items) }
 {
-    let mut covered = leaves;
-    tell_leads(queries.indices, sets, &covered.leads);
-    let (dimensions, x) = (queries.dimensions, covered.exponent);
-    let leads = covered.leads.as_slice();
-    let mut digests = row_digests::<P, PW, H, D>(alloc, checker.hash, dimensions, x, sets, leads)?;
-    let mut levels = Vec::with_capacity(alloc, queries.t)?;
-    for level in 0..queries.t {
-        let (next_level, nodes) = restored_above::<P, PW, H, C, N, D>(
-            alloc, checker, queries, sets, sent, level, &covered, &digests,
-        )?;
-        let NextLevel {
-            step,
-            above,
-            children,
-        } = next_level;
-        let parents = Vec::from_slice(alloc, &above.nodes)?;
-        levels.push(KeptLevel {
-            parents,
-            step,
-            children,
-        })?;
-        covered = above;
-        digests = nodes;
+    let Start { restorable, leaves } = start;
+    if restorable.cap_layer == 0 {
+        return Ok(Vec::new(alloc));
     }
+    let layer = restorable.cap_layer - 1;
+    let reach = Reach { layer, keeps: true };
+    let (below, mut levels) = restored_layer::<P, PW, H, C, N, D>(
+        alloc,
+        checker,
+        &restorable,
+        leaves,
+        reach,
+    )?;
+    let NextLevel {
+        step,
+        above,
+        children,
+        ..
+    } = restorable.next_level(alloc, layer, &below)?;
+    levels.push(KeptLevel {
+        parents: above.nodes,
+        step,
+        children,
+    })?;
     Ok(levels)
 }

@@ -1,19 +1,20 @@
-//! The walk up: the digests of the covered nodes of the cap's layer.
+//! The walk up a pruned opening: the digests of the covered nodes of each layer, out of the rows and the digests that
+//! were sent, and their comparison with a cap.
 
-ghost use Rattle.std.specs.Prelude.{◌≡◌, ◌/◌, ◌<◌, ◌≤◌, ◌⊎◌, All, IfOk, MatchResult, None, Some, length, map, replicate};
-ghost use Rattle.p3_merkle_core.specs.Geometry.{shape_of};
+ghost use Rattle.std.specs.Prelude.{◌≡◌, ◌<◌, ◌≤◌, ◌⊎◌, suc, IfOk, IsTrue, MatchResult, None, Some, length, replicate};
+ghost use Rattle.p3_merkle_core.specs.Checks.{terms};
 ghost use Rattle.p3_merkle_core.specs.Nodes.{functions_of};
-ghost use Rattle.p3_merkle_core.specs.Pruning.{boundary, covered_at, pruned_of, restored_node, IsAgreed};
-ghost use Rattle.p3_support.specs.Shown.{row_sets};
 ghost use Rattle.p3_merkle_core.specs.Refusals.{cap_refusal, AnswersUnlessMemory};
 ghost use Rattle.p3_merkle_core.specs.declared.error.MerkleTreeError.TheVariants.{OutOfMemory};
-ghost use Rattle.p3_merkle_multiproof.specs.Inner.Walks.{AreRestored, IsCoveredAt, IsRestoredRise};
-ghost use Rattle.p3_merkle_core.specs.Checks.{terms};
+ghost use Rattle.p3_merkle_multiproof.specs.Inner.RestoredLevels.{opened_by, tree_of, AreKept, AreRestored, IsCoveredAt, IsValuedLevel};
 
+use crate::covered::{Covered, NextLevel, Restored};
 use crate::level::node_digests;
-use crate::queries::{Covered, NextLevel, Queries};
+use crate::restorable::Restorable;
 use crate::rows::row_digests;
+use crate::start::Start;
 use p3_merkle_core::error::MerkleTreeError;
+use p3_merkle_core::pruning::KeptLevel;
 use p3_merkle_verifier::level::Checker;
 use p3_merkle_verifier::roots::are_entries;
 use p3_support::compress::PseudoCompressionFunction;
@@ -21,43 +22,29 @@ use p3_support::hasher::CryptographicHasher;
 use p3_support::packed::PackedValue;
 use std::alloc::{AllocError, Global};
 
-/// Tells that leads have row sets where each query has one. It does nothing at run time.
-pub(crate) fn tell_leads<T>(indices: &[usize], sets: &[Vec<T>], leads: &[usize])
-    requires pairs { length sets.now ≡ length indices.now }
-    requires among { All (λ k. k < length indices.now) leads.now }
-    ensures { All (λ k. k < length sets.now) leads.now }
-{}
+/// How far a walk goes, and what it keeps.
+#[derive(Clone, Copy)]
+pub struct Reach {
+    /// The layer where it ends, at most the cap's.
+    pub layer: usize,
+    /// Whether it keeps the levels below that layer.
+    pub keeps: bool,
+}
 
-/// Tells what the digests of a level's nodes ask of its leads and children. It does nothing at run time.
-fn tell_level<T, X>(
-    queries: &Queries<'_>,
-    arity: usize,
-    sets: &[Vec<T>],
-    next_level: &NextLevel<X>,
-    leads: &[usize],
-    children: &[X],
-)
-    requires arity { queries.now.arity ≡ arity }
-    requires pairs { length sets.now ≡ length queries.now.indices.now }
-    requires narrow { next_level.now.step ≤ queries.now.arity }
-    requires among { All (λ k. k < length queries.now.indices.now) next_level.now.above.leads.items }
-    requires groups { length next_level.now.above.leads.items
-        ≡ length next_level.now.children.items / next_level.now.step }
-    requires leads { leads.now ≡ next_level.now.above.leads.items }
-    requires children { children.now ≡ next_level.now.children.items }
-    ensures room { 2 ≤ arity }
-    ensures narrow { next_level.now.step ≤ arity }
-    ensures among { All (λ k. k < length sets.now) leads.now }
-    ensures groups { length leads.now ≡ length children.now / next_level.now.step }
-{}
+impl Reach {
+    /// For how many levels it needs room, where so many are below the cap.
+    fn room(&self, levels: usize) -> usize {
+        if self.keeps { levels } else { 0 }
+    }
+}
 
-/// One level of the walk: the layer above `level`, which is below layer `t`, with the values of its nodes' children,
-/// and the digests of its nodes. `covered` are the nodes of this layer, and `digests` has the digest of each.
+/// One level of the walk: the layer above `level`, which is below the cap's layer, with the values of its nodes'
+/// children, and the digests of its nodes, out of the nodes below.
 ///
 /// # Errors
 ///
 /// `AllocError` where there is no memory.
-pub(crate) fn restored_above<
+fn restored_above<
     P: PackedValue,
     PW: PackedValue,
     H: CryptographicHasher<P, PW, D>,
@@ -67,53 +54,38 @@ pub(crate) fn restored_above<
 >(
     alloc: Global,
     checker: &Checker<'_, P, PW, H, C, [[PW::Value; D]; N]>,
-    queries: &Queries<'_>,
-    sets: &[Vec<Vec<P::Value>>],
-    sent: &[[PW::Value; D]],
+    restorable: &Restorable<'_, P::Value, [PW::Value; D]>,
     level: usize,
-    covered: &Covered,
-    digests: &[[PW::Value; D]],
+    below: &Restored<[PW::Value; D]>,
 ) -> Result<(NextLevel<[PW::Value; D]>, Vec<[PW::Value; D]>), AllocError>
-    requires arity { queries.now.arity ≡ N }
-    requires pairs { length sets.now ≡ length queries.now.indices.now }
-    requires sent { length sent.now ≡ length
-        (boundary (shape_of queries.now.arity queries.now.dimensions.now) queries.now.indices.now queries.now.t) }
-    requires agreed { IsAgreed (shape_of queries.now.arity queries.now.dimensions.now) queries.now.t
-        (pruned_of queries.now.indices.now (row_sets sets.now) sent.now) }
-    requires below { level < queries.now.t }
+    requires arity { restorable.now.steps.arity ≡ N }
+    requires level { level < restorable.now.cap_layer }
     requires restored { let f = functions_of (H.hash checker.now.hash.now) (C.compression checker.now.compress.now)
         (replicate D PW.default_value) in
-        let p = pruned_of queries.now.indices.now (row_sets sets.now) sent.now in
-        AreRestored f (shape_of queries.now.arity queries.now.dimensions.now) queries.now.t p level covered.now
-        digests.now }
-    ensures { let f = functions_of (H.hash checker.now.hash.now) (C.compression checker.now.compress.now)
+        AreRestored f (tree_of restorable.now) restorable.now.cap_layer (opened_by restorable.now) level
+        below.now.covered below.now.digests.items }
+    ensures level { let f = functions_of (H.hash checker.now.hash.now) (C.compression checker.now.compress.now)
         (replicate D PW.default_value) in
-        let s = shape_of queries.now.arity queries.now.dimensions.now in
-        let p = pruned_of queries.now.indices.now (row_sets sets.now) sent.now in
-        IfOk result (λ pair. IsRestoredRise f s queries.now.t p level (pair.0) pair.1.items) }
+        IfOk result (λ pair. IsValuedLevel f (tree_of restorable.now) restorable.now.cap_layer
+        (opened_by restorable.now) level (pair.0)) }
+    ensures restored { let f = functions_of (H.hash checker.now.hash.now) (C.compression checker.now.compress.now)
+        (replicate D PW.default_value) in
+        IfOk result (λ pair. AreRestored f (tree_of restorable.now) restorable.now.cap_layer (opened_by restorable.now)
+        (suc level) pair.0.above pair.1.items) }
 {
-    let next_level = queries.next_level(alloc, level, covered, digests, sent)?;
-    let (dimensions, x, step) = (
-        queries.dimensions,
-        next_level.above.exponent,
-        next_level.step,
-    );
-    let leads = next_level.above.leads.as_slice();
-    let children = next_level.children.as_slice();
-    tell_level(queries, N, sets, &next_level, leads, children);
-    let above = node_digests::<P, PW, H, C, N, D>(
-        alloc, checker, dimensions, x, sets, leads, step, children,
-    )?;
-    Ok((next_level, above))
+    let next_level = restorable.next_level(alloc, level, below)?;
+    let digests = node_digests::<P, PW, H, C, N, D>(alloc, checker, restorable, &next_level)?;
+    Ok((next_level, digests))
 }
 
-/// The digests of the covered nodes of layer `t`, restored from the rows of the queries and the digests that were sent,
-/// with these nodes. `leaves` are the covered leaves. Each level's children are let go once they are compressed.
+/// The covered nodes of a layer with their digests, restored from the rows of the queries and the digests that were
+/// sent, and, where they are kept, the levels below it. `leaves` are the covered leaves. The children of a level that
+/// isn't kept are let go once they are compressed.
 ///
 /// # Errors
 ///
 /// `AllocError` where there is no memory.
-pub(crate) fn restored_cap<
+pub(crate) fn restored_layer<
     P: PackedValue,
     PW: PackedValue,
     H: CryptographicHasher<P, PW, D>,
@@ -123,58 +95,62 @@ pub(crate) fn restored_cap<
 >(
     alloc: Global,
     checker: &Checker<'_, P, PW, H, C, [[PW::Value; D]; N]>,
-    queries: &Queries<'_>,
-    sets: &[Vec<Vec<P::Value>>],
-    sent: &[[PW::Value; D]],
+    restorable: &Restorable<'_, P::Value, [PW::Value; D]>,
     leaves: Covered,
-) -> Result<(Covered, Vec<[PW::Value; D]>), AllocError>
-    requires arity { queries.now.arity ≡ N }
-    requires pairs { length sets.now ≡ length queries.now.indices.now }
-    requires sent { length sent.now ≡ length
-        (boundary (shape_of queries.now.arity queries.now.dimensions.now) queries.now.indices.now queries.now.t) }
-    requires agreed { IsAgreed (shape_of queries.now.arity queries.now.dimensions.now) queries.now.t
-        (pruned_of queries.now.indices.now (row_sets sets.now) sent.now) }
-    requires leaves { IsCoveredAt (shape_of queries.now.arity queries.now.dimensions.now) queries.now.indices.now 0
-        leaves }
-    ensures covered { IfOk result
-        (λ cap. IsCoveredAt (shape_of queries.now.arity queries.now.dimensions.now) queries.now.indices.now
-        queries.now.t (cap.0)) }
-    ensures digests { let f = functions_of (H.hash checker.now.hash.now) (C.compression checker.now.compress.now)
+    reach: Reach,
+) -> Result<(Restored<[PW::Value; D]>, Vec<KeptLevel<[PW::Value; D]>>), AllocError>
+    requires arity { restorable.now.steps.arity ≡ N }
+    requires leaves { IsCoveredAt (tree_of restorable.now) restorable.now.opening.indices.now 0 leaves }
+    requires layer { reach.layer ≤ restorable.now.cap_layer }
+    ensures restored { let f = functions_of (H.hash checker.now.hash.now) (C.compression checker.now.compress.now)
         (replicate D PW.default_value) in
-        let s = shape_of queries.now.arity queries.now.dimensions.now in
-        let t = queries.now.t in
-        let p = pruned_of queries.now.indices.now (row_sets sets.now) sent.now in
-        let restored = map (restored_node (terms f s t) p t) (covered_at s queries.now.indices.now t) in
-        IfOk result (λ cap. cap.1.items ≡ restored) }
+        IfOk result (λ walked. AreRestored f (tree_of restorable.now) restorable.now.cap_layer
+        (opened_by restorable.now) reach.layer walked.0.covered walked.0.digests.items) }
+    ensures kept { let f = functions_of (H.hash checker.now.hash.now) (C.compression checker.now.compress.now)
+        (replicate D PW.default_value) in
+        IsTrue reach.keeps →
+        IfOk result (λ walked. AreKept f (tree_of restorable.now) restorable.now.cap_layer (opened_by restorable.now)
+        reach.layer walked.1.items) }
 {
-    let mut covered = leaves;
-    tell_leads(queries.indices, sets, &covered.leads);
-    let (dimensions, x) = (queries.dimensions, covered.exponent);
-    let mut digests = row_digests::<P, PW, H, D>(
-        alloc,
-        checker.hash,
-        dimensions,
-        x,
-        sets,
-        &covered.leads,
-    )?;
-    for level in 0..queries.t {
-        let (next_level, above) = restored_above::<P, PW, H, C, N, D>(
-            alloc, checker, queries, sets, sent, level, &covered, &digests,
+    let digests = row_digests::<P, PW, H, D>(alloc, checker.hash, restorable, &leaves)?;
+    let mut restored = Restored {
+        covered: leaves,
+        digests,
+    };
+    let mut levels = Vec::with_capacity(alloc, reach.room(restorable.cap_layer))?;
+    for level in 0..reach.layer {
+        let (next_level, digests) = restored_above::<P, PW, H, C, N, D>(
+            alloc, checker, restorable, level, &restored,
         )?;
-        covered = next_level.above;
-        digests = above;
+        let NextLevel {
+            step,
+            above,
+            children,
+            ..
+        } = next_level;
+        if reach.keeps {
+            let parents = Vec::from_slice(alloc, &above.nodes)?;
+            levels.push(KeptLevel {
+                parents,
+                step,
+                children,
+            })?;
+        }
+        restored = Restored {
+            covered: above,
+            digests,
+        };
     }
-    Ok((covered, digests))
+    Ok((restored, levels))
 }
 
-/// Whether the roots of a cap, which is layer `t`, have the restored digest of each covered node in its place. `leaves`
-/// are the covered leaves.
+/// The levels below the cap's layer, where they are kept, and else none, if the roots of the cap have the restored
+/// digest of each covered node in its place.
 ///
 /// # Errors
 ///
 /// `CapMismatch` where some root is another or is not there; `OutOfMemory` where there is no memory.
-pub(crate) fn check_cap<
+pub(crate) fn levels_under_cap<
     P: PackedValue,
     PW: PackedValue,
     H: CryptographicHasher<P, PW, D>,
@@ -184,31 +160,38 @@ pub(crate) fn check_cap<
 >(
     alloc: Global,
     checker: &Checker<'_, P, PW, H, C, [[PW::Value; D]; N]>,
+    start: Start<'_, P::Value, [PW::Value; D]>,
     roots: &[[PW::Value; D]],
-    queries: &Queries<'_>,
-    sets: &[Vec<Vec<P::Value>>],
-    sent: &[[PW::Value; D]],
-    leaves: Covered,
-) -> Result<(), MerkleTreeError>
-    requires arity { queries.now.arity ≡ N }
-    requires pairs { length sets.now ≡ length queries.now.indices.now }
-    requires sent { length sent.now ≡ length
-        (boundary (shape_of queries.now.arity queries.now.dimensions.now) queries.now.indices.now queries.now.t) }
-    requires agreed { IsAgreed (shape_of queries.now.arity queries.now.dimensions.now) queries.now.t
-        (pruned_of queries.now.indices.now (row_sets sets.now) sent.now) }
-    requires leaves { IsCoveredAt (shape_of queries.now.arity queries.now.dimensions.now) queries.now.indices.now 0
-        leaves }
-    ensures { let f = functions_of (H.hash checker.now.hash.now) (C.compression checker.now.compress.now)
+    keeps: bool,
+) -> Result<Vec<KeptLevel<[PW::Value; D]>>, MerkleTreeError>
+    requires { start.restorable.steps.arity ≡ N }
+    ensures answer { let f = functions_of (H.hash checker.now.hash.now) (C.compression checker.now.compress.now)
         (replicate D PW.default_value) in
-        let p = pruned_of queries.now.indices.now (row_sets sets.now) sent.now in
-        let refusal = cap_refusal PW.Value.eq
-        (terms f (shape_of queries.now.arity queries.now.dimensions.now) queries.now.t) roots.now p in
+        let restorable = start.entry.restorable in
+        let refusal = cap_refusal PW.Value.eq (terms f (tree_of restorable) restorable.cap_layer) roots.now
+        (opened_by restorable) in
         AnswersUnlessMemory result refusal }
+    ensures kept { let f = functions_of (H.hash checker.now.hash.now) (C.compression checker.now.compress.now)
+        (replicate D PW.default_value) in
+        let restorable = start.entry.restorable in
+        let cap_layer = restorable.cap_layer in
+        IsTrue keeps →
+        IfOk result (λ levels. AreKept f (tree_of restorable) cap_layer (opened_by restorable) cap_layer levels.items) }
 {
-    let restored = restored_cap::<P, PW, H, C, N, D>(alloc, checker, queries, sets, sent, leaves)?;
-    let (covered, digests) = restored;
-    if are_entries(roots, &covered.nodes, &digests) {
-        Ok(())
+    let Start { restorable, leaves } = start;
+    let reach = Reach {
+        layer: restorable.cap_layer,
+        keeps,
+    };
+    let (cap, levels) = restored_layer::<P, PW, H, C, N, D>(
+        alloc,
+        checker,
+        &restorable,
+        leaves,
+        reach,
+    )?;
+    if are_entries(roots, &cap.covered.nodes, &cap.digests) {
+        Ok(levels)
     } else {
         Err(MerkleTreeError::CapMismatch)
     }

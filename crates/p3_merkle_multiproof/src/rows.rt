@@ -3,16 +3,16 @@
 ghost use Rattle.std.specs.Prelude.{◌≡◌, ◌<◌, All, IfOk, length, map};
 ghost use Rattle.p3_support.specs.Batches.{heights_of};
 ghost use Rattle.p3_support.specs.Shown.{row_sets};
-ghost use Rattle.p3_merkle_multiproof.specs.Inner.Groups.{query_digest};
+ghost use Rattle.p3_merkle_multiproof.specs.Inner.NodeDigests.{query_digest};
 
+use crate::covered::Covered;
+use crate::restorable::Restorable;
 use p3_merkle_verifier::level::opened_rows_digest;
 use p3_support::hasher::CryptographicHasher;
-use p3_support::matrix::Dimensions;
 use p3_support::packed::PackedValue;
 use std::alloc::{AllocError, Global};
 
-/// For each of some queries, the digest of its rows of the matrices of the exponent `x`. `sets` has the rows of all
-/// queries, of each a row of each matrix.
+/// For each of some covered nodes the digest of its lead's rows, of the matrices that have the layer's exponent.
 ///
 /// # Errors
 ///
@@ -25,19 +25,21 @@ pub(crate) fn row_digests<
 >(
     alloc: Global,
     hash: &H,
-    dimensions: &[Dimensions],
-    x: usize,
-    sets: &[Vec<Vec<P::Value>>],
-    queries: &[usize],
+    restorable: &Restorable<'_, P::Value, [PW::Value; D]>,
+    covered: &Covered,
 ) -> Result<Vec<[PW::Value; D]>, AllocError>
-    requires { All (λ k. k < length sets.now) queries.now }
-    ensures count { IfOk result (λ digests. length digests.items ≡ length queries.now) }
-    ensures digests { let digest = query_digest (H.hash hash.now) x (heights_of dimensions.now) (row_sets sets.now) in
-        IfOk result (λ digests. digests.items ≡ map digest queries.now) }
+    requires { All (λ k. k < length restorable.now.opening.indices.now) covered.now.leads.items }
+    ensures count { IfOk result (λ digests. length digests.items ≡ length covered.now.leads.items) }
+    ensures digests { let digest = query_digest (H.hash hash.now) covered.now.exponent
+        (heights_of restorable.now.steps.dimensions.now) (row_sets restorable.now.opening.sets.now) in
+        IfOk result (λ digests. digests.items ≡ map digest covered.now.leads.items) }
 {
-    let mut digests = Vec::with_capacity(alloc, queries.len())?;
-    for query in queries {
-        let digest = opened_rows_digest::<P, PW, H, D>(hash, dimensions, &sets[*query], x);
+    let dimensions = restorable.steps.dimensions;
+    let sets = restorable.opening.sets;
+    let exponent = covered.exponent;
+    let mut digests = Vec::with_capacity(alloc, covered.leads.len())?;
+    for query in &covered.leads {
+        let digest = opened_rows_digest::<P, PW, H, D>(hash, dimensions, &sets[*query], exponent);
         digests.push(digest)?;
     }
     Ok(digests)

@@ -2,17 +2,15 @@
 use Rattle.std.specs.Prelude.{◌≡◌, ◌<◌, ℕ, Bool, List, [], Option, length, option_map, slice_index_or}
 use Rattle.std.specs.List.{range_with_len}
 use Rattle.p3_merkle_core.specs.Views.{shown_paths, inputs_in, pruned_lent}
-use Rattle.p3_merkle_core.specs.Extraction.{input_eq, last_difference, difference_of}
+use Rattle.p3_merkle_core.specs.Extraction.{difference_of}
 use Rattle.p3_merkle_core.specs.Geometry.{Shape}
 use Rattle.p3_merkle_core.specs.Nodes.{Functions}
 use Rattle.p3_merkle_core.specs.Openings.{Opening, opening_of}
-use Rattle.p3_merkle_core.specs.Checks.{AgreeWhereShared, Input, shared_inputs, terms}
+use Rattle.p3_merkle_core.specs.Checks.{Input, terms}
 use Rattle.p3_support.specs.Shown.{row_sets}
 use Rattle.p3_support.specs.declared.opening.PrunedOpeningRef.{PrunedOpeningRef}
 use Rattle.p3_merkle_core.specs.Pruning.{PrunedOpening, opening_at}
 use Rattle.p3_merkle_core.specs.Refusals.{first_of}
-use Rattle.p3_merkle_core.specs.declared.error.MerkleTreeError.{MerkleTreeError}
-use Rattle.p3_merkle_core.specs.declared.error.MerkleTreeError.TheVariants.{OutOfMemory}
 use Rattle.p3_merkle_core.specs.declared.pruning.PrunedProof.{PrunedProof}
 use Rattle.p3_merkle_verifier.specs.Inner.Paths.{CanReach}
 use Rattle.p3_merkle_core.specs.declared.collision.InputPair.{InputPair}
@@ -28,21 +26,21 @@ query_in queries k =
     let (index, siblings) = slice_index_or (shown_paths queries.paths.items) k (0, []) in
     opening_of index (slice_index_or (row_sets queries.sets.now) k []) siblings
 
--- the queries can be checked up to layer t: each has a row set, and a path with its siblings
-pub record CanCompare {T W : Type 0} (s : Shape) (t : ℕ) (queries : RestoredQueries T (List W)) : Type 0 where
+-- the queries can be checked up to the cap's layer: each has a row set, and a path with its siblings
+pub record CanCompare {T W : Type 0} (s : Shape) (cap_layer : ℕ) (queries : RestoredQueries T (List W)) : Type 0 where
   pub in_pairs : length queries.sets.now ≡ length queries.paths.items
-  pub reach : (k : ℕ) → k < length queries.paths.items → CanReach s t (length (query_in queries k).siblings)
+  pub reach : (k : ℕ) → k < length queries.paths.items → CanReach s cap_layer (length (query_in queries k).siblings)
 
 -- the queries are those of a pruned opening, each with its restored path
-pub record AreQueriesOf {T W : Type 0} (f : Functions T W) (s : Shape) (t : ℕ) (p : PrunedOpening T W)
+pub record AreQueriesOf {T W : Type 0} (f : Functions T W) (s : Shape) (cap_layer : ℕ) (p : PrunedOpening T W)
     (queries : RestoredQueries T (List W)) : Type 0 where
   pub as_many : length queries.paths.items ≡ length p.indices
-  pub each : (k : ℕ) → k < length p.indices → query_in queries k ≡ opening_at (terms f s t) p k
+  pub each : (k : ℕ) → k < length p.indices → query_in queries k ≡ opening_at (terms f s cap_layer) p k
 
 -- the last inputs that the checks of two openings share and that differ, kept folded
 unfoldable pub query_difference : {T W : Type 0} → (T → T → Bool) → (W → W → Bool) → Functions T W → Shape → ℕ →
     Opening T W → Opening T W → Option (Input T W × Input T W)
-query_difference row_eq digest_eq f s t o u = difference_of row_eq digest_eq (terms f s t) o u
+query_difference row_eq digest_eq f s cap_layer o u = difference_of row_eq digest_eq (terms f s cap_layer) o u
 
 -- the first place below n at which d answers
 abbrev pub first_place : {X : Type 0} → (ℕ → Option X) → ℕ → Option (ℕ × X)

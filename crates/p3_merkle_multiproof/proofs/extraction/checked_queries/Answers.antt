@@ -11,24 +11,28 @@ use Rattle.p3_merkle_multiproof.proofs.extraction.checked_queries.Goals as goal
 
 pub returns-clause-comparable : goal.returns-clause-comparable
 returns-clause-comparable g c =
+    let commitment = c.args.commitment.now in
     let f = functions_of (g.H.CryptographicHasher.hash c.args.checker.now.hash.now)
     (g.C.PseudoCompressionFunction.compression c.args.checker.now.compress.now)
     (replicate g.row.D g.PW.PackedValue.default_value) in
     let opening = pruned_of c.args.opening.indices.now (row_sets c.args.opening.opened_values.now)
-    c.as_slice-sent.result.now in
-    comparable g.P.Value.PartialEq.eq g.PW.Value.PartialEq.eq f (shape_of g.row.N c.args.dimensions.now) c.args.t
-    c.args.roots.now opening (record { sets = c.args.opening.opened_values; paths = c.in_ok-paths.paths })
+    c.as_slice.result.now in
+    comparable g.P.Value.PartialEq.eq g.PW.Value.PartialEq.eq f (shape_of g.row.N commitment.dimensions.now)
+    commitment.cap_layer commitment.roots.now opening
+    (record { sets = c.args.opening.opened_values; paths = c.in_ok-paths.paths })
     g.met.P.PackedValue.eq_is_equality g.met.PW.PackedValue.eq_is_equality c.requires
-    c.in_ok-check_pruned_opening.ensures refl c.in_ok-paths.ensures.paths
+    c.in_ok-paths.ensures.answer refl c.in_ok-paths.ensures.paths
 
 pub returns-clause-restored : goal.returns-clause-restored
 returns-clause-restored g c =
+    let commitment = c.args.commitment.now in
     let f = functions_of (g.H.CryptographicHasher.hash c.args.checker.now.hash.now)
     (g.C.PseudoCompressionFunction.compression c.args.checker.now.compress.now)
     (replicate g.row.D g.PW.PackedValue.default_value) in
-    let s = shape_of g.row.N c.args.dimensions.now in
+    let s = shape_of g.row.N commitment.dimensions.now in
     let queries : RestoredQueries _ _ = record { sets = c.args.opening.opened_values; paths = c.in_ok-paths.paths } in
     let opening_by = pruned_of c.args.opening.indices.now (row_sets c.args.opening.opened_values.now) in
-    subst (λ sent. AreQueriesOf f s c.args.t (opening_by sent) queries) c.as_slice-sent.ensures.value
-    (restored g.P.Value.PartialEq.eq g.PW.Value.PartialEq.eq f s c.args.t (opening_by c.as_slice-sent.result.now)
-    queries refl c.in_ok-paths.ensures.paths)
+    subst (λ sent. AreQueriesOf f s commitment.cap_layer (opening_by sent) queries)
+    c.as_slice.ensures.value
+    (restored g.P.Value.PartialEq.eq g.PW.Value.PartialEq.eq f s commitment.cap_layer
+    (opening_by c.as_slice.result.now) queries refl c.in_ok-paths.ensures.paths)

@@ -11,6 +11,6 @@ invariant-loop-place g l =
     first_place (λ b. query_difference g.P.Value.PartialEq.eq g.PW.Value.PartialEq.eq
     (functions_of (g.H.CryptographicHasher.hash l.checker.hash.now)
     (g.C.PseudoCompressionFunction.compression l.checker.compress.now)
-    (replicate g.row.D g.PW.PackedValue.default_value)) (shape_of g.row.N l.dimensions) l.t
-    (query_in l.first k) (query_in l.second b)) (length l.second.paths.items)
+    (replicate g.row.D g.PW.PackedValue.default_value)) (shape_of g.row.N l.commitment.dimensions.now)
+    l.commitment.cap_layer (query_in l.first k) (query_in l.second b)) (length l.second.paths.items)
     ≡ None

@@ -12,6 +12,6 @@ invariant-loop-place g l =
     query_difference g.P.Value.PartialEq.eq g.PW.Value.PartialEq.eq
     (functions_of (g.H.CryptographicHasher.hash l.checker.hash.now)
     (g.C.PseudoCompressionFunction.compression l.checker.compress.now)
-    (replicate g.row.D g.PW.PackedValue.default_value)) (shape_of g.row.N l.dimensions) l.t
-    (opening_in l.first) (query_in l.queries k)
+    (replicate g.row.D g.PW.PackedValue.default_value)) (shape_of g.row.N l.commitment.dimensions.now)
+    l.commitment.cap_layer (opening_in l.first) (query_in l.queries k)
     ≡ None

@@ -1,0 +1,13 @@
+use Rattle.std.proofs.Common.{◌≡◌, ◌<◌, ◌/◌, ◌-◌, ℕ, All, eqb, get_or, map, take}
+use Rattle.std.specs.List.{dedup}
+use Rattle.p3_merkle_multiproof.proofs.parents.parents_of.Given as goal
+
+-- the parents so far, their leads, and the parent of the node before
+abbrev pub invariant-loop-slot : goal.invariant-loop-slot
+invariant-loop-slot l = record {
+  parents : l.parents.items ≡ dedup eqb (take l.slot (map (λ j. j / l.step) l.nodes));
+  leads : (node : ℕ → ℕ) → l.nodes ≡ map node l.leads → map (λ k. node k / l.step) l.above.items
+      ≡ dedup eqb (take l.slot (map (λ j. j / l.step) l.nodes));
+  among : (n : ℕ) → All (λ k. k < n) l.leads → All (λ k. k < n) l.above.items;
+  before : 0 < l.slot → l.previous ≡ get_or l.nodes (l.slot - 1) 0 / l.step;
+}

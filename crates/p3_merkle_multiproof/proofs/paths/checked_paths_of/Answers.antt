@@ -1,0 +1,20 @@
+-- The paths out of the kept levels are the restored ones.
+use Rattle.std.proofs.Common.{◌≡◌, replicate, refl}
+use Rattle.p3_merkle_core.specs.Geometry.{shape_of}
+use Rattle.p3_merkle_core.specs.Nodes.{functions_of}
+use Rattle.p3_merkle_multiproof.specs.Inner.RestoredLevels.{tree_of}
+use Rattle.p3_merkle_multiproof.proofs.PathFacts.{paths_by_levels}
+use Rattle.p3_merkle_multiproof.proofs.paths.checked_paths_of.Goals as goal
+
+pub returns-clause-paths : goal.returns-clause-paths
+returns-clause-paths g c =
+    let f = functions_of (g.H.CryptographicHasher.hash c.args.checker.now.hash.now)
+    (g.C.PseudoCompressionFunction.compression c.args.checker.now.compress.now)
+    (replicate g.row.D g.PW.PackedValue.default_value) in
+    let s = shape_of g.row.N c.args.commitment.now.dimensions.now in
+    let restorable = c.in_ok-start.start.restorable in
+    let made = c.in_ok-start.ensures in
+    let tree : tree_of restorable ≡ s = λ i. shape_of (made.arity i) (made.dimensions i) in
+    paths_by_levels f s c.args.commitment.now.cap_layer restorable c.args.opening
+    c.in_ok-levels.levels.items _ tree made.layer made.opening (c.in_ok-levels.ensures.kept refl)
+    (rw c.deref.ensures.value at c.in_ok-paths_out_of.ensures)

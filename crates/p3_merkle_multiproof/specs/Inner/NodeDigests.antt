@@ -1,0 +1,28 @@
+-- Digests of rows, of groups of children, and of both.
+use Rattle.std.specs.Prelude.{ℕ, ◌*◌, ◌/◌, Bool, if◌then◌else◌, List, map, [], ◌∷◌, length, take, drop, zip, slice_index_or}
+use Rattle.std.specs.List.{range_with_len}
+use Rattle.p3_merkle_core.specs.Checks.{words_of_exponent}
+use Rattle.p3_merkle_core.specs.Nodes.{Functions, padded}
+
+-- the digest of the group k of some children, where a group has so many of them
+abbrev pub group_digest : {W : Type 0} → (List (List W) → List W) → ℕ → List W → ℕ → List (List W) → ℕ → List W
+group_digest compression n default_digest step children k =
+    compression (padded n default_digest (take step (drop (step * k) children)))
+
+-- the digest of a node's children and that of its rows, compressed
+abbrev pub pair_digest : {W : Type 0} → (List (List W) → List W) → ℕ → List W → List W × List W → List W
+pair_digest compression n default_digest pair = compression (padded n default_digest (pair.0 ∷ pair.1 ∷ []))
+
+-- the digest of the rows of query k, of the matrices of this exponent
+abbrev pub query_digest : {T W : Type 0} → (List T → List W) → ℕ → List ℕ → List (List (List T)) → ℕ → List W
+query_digest hash exponent heights sets k = hash (words_of_exponent exponent (zip heights (slice_index_or sets k [])))
+
+-- the digests of a layer's covered nodes: of the groups of children, each compressed once more with that of its lead's
+-- rows where the layer, of this exponent, has any
+abbrev pub layer_digests : {T W : Type 0} → Functions T W → ℕ → ℕ → Bool → List ℕ → ℕ → List (List (List T)) →
+    List ℕ → List (List W) → List (List W)
+layer_digests f n step has heights exponent sets leads children =
+    let nodes = map (group_digest f.compression n f.default_digest step children)
+    (range_with_len 0 (length children / step)) in
+    if has then map (pair_digest f.compression n f.default_digest)
+    (zip nodes (map (query_digest f.hash exponent heights sets) leads)) else nodes
