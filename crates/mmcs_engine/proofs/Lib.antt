@@ -1,9 +1,9 @@
 pub mod FaultFacts
 pub mod GateFacts
+pub mod NumberFacts
 pub mod TextFacts
 pub mod Outcomes
 pub mod ReplyFacts
-pub mod SchemeFacts
 pub mod WordCases
 pub mod LineCases
 pub mod SomeOutcome

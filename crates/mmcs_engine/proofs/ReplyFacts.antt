@@ -2,45 +2,72 @@
 use Rattle.std.proofs.Common.{◌≡◌, ◌⊎◌, ⊎_elim, inl, inr, ℕ, ◌+◌, List, Option, Some, None, Result, Ok, Err, sym, refl, ap, ◌∙◌, subst}
 use Rattle.std.specs.Prelude.{◌↔◌, ◌<◌, All, IfErr, OnOk}
 use Rattle.std.specs.Io.KnownBytes.{Appends}
-use Rattle.p3_merkle_core.specs.Geometry.{IsLawful}
+use Rattle.p3_merkle_core.specs.Geometry.{IsLawful, Shape}
 use Rattle.p3_support.specs.Batches.{greatest}
-use Rattle.p3_merkle_core.specs.Refusals.{pruned_len_refusal}
+use Rattle.p3_merkle_core.specs.Refusals.{pruned_len_refusal, AnswersUnlessMemory}
 use Rattle.p3_merkle_core.specs.Nodes.{shape, Batch}
+use Rattle.p3_merkle_core.specs.declared.error.MerkleTreeError.{MerkleTreeError}
 use Rattle.p3_merkle_core.specs.declared.error.MerkleTreeError.TheVariants.{OutOfMemory}
 use Rattle.mmcs_text.specs.declared.command.Command.{Command}
-use Rattle.mmcs_text.specs.declared.command.HashName.{HashName}
 use Rattle.mmcs_text.specs.declared.fault.Fault.{Fault}
 use Rattle.mmcs_text.specs.declared.fault.Fault.TheVariants.{Usage, Tree, Write}
 use Rattle.mmcs_text.specs.Input.{StandsFor}
 use Rattle.mmcs_text.specs.Matrices.{batch_of_rows}
 use Rattle.mmcs_text.specs.Words.{arity_number, max_word, AreNoCommand}
-use Rattle.mmcs_engine.specs.Program.{batch_asked, layer_of_cap, text_of, IsAnswer, IsReply, IsTold, Prints}
+use Rattle.mmcs_engine.specs.Program.{batch_asked, layer_of_cap, refusal_of, text_of, IsAnswer, IsReply, IsTold, Prints}
 use Rattle.mmcs_engine.proofs.GateFacts.{heights_are, taken_from_none}
 use Rattle.mmcs_engine.proofs.Outcomes.{ends_in}
 
-module _ (command : Command) (indices input : List ℕ) (b : Batch ℕ) (n : ℕ) (hash : HashName) (hash_is : hash
-    ≡ command.hash) (n_is : n ≡ arity_number command.arity)
-    (found : (matrices : List (List (List ℕ))) × StandsFor (max_word hash + 1) input matrices ×
-    (b ≡ batch_of_rows n matrices)) where
-  stands : StandsFor (max_word command.hash + 1) input found.0
-  stands = subst (λ (h : HashName). StandsFor (max_word h + 1) input found.0) hash_is found.1
+-- a refusal of one shape and indices is that of equal ones
+pub refused : {V : Type 0} (result : Result V MerkleTreeError) (e : MerkleTreeError) (s t : Shape) (is js : List ℕ) →
+    result ≡ Err e → s ≡ t → is ≡ js → (e ≡ OutOfMemory) ⊎ (pruned_len_refusal s is ≡ Some e) →
+    AnswersUnlessMemory result (pruned_len_refusal t js)
+refused {V} result e s t is js result_is same_shape same_indices told =
+    subst (λ (r : Result V MerkleTreeError). AnswersUnlessMemory r (pruned_len_refusal t js)) (sym result_is)
+    (subst (λ (r : Option MerkleTreeError). (e ≡ OutOfMemory) ⊎ (r ≡ Some e))
+    (λ i. pruned_len_refusal (same_shape i) (same_indices i)) told)
 
-  batch_is : b ≡ batch_asked command found.0
-  batch_is = found.2 ∙ ap (λ a. batch_of_rows a found.0) n_is
+-- and where they are taken, there is none
+pub unrefused : {V : Type 0} (result : Result V MerkleTreeError) (s t : Shape) (is js : List ℕ) →
+    s ≡ t → is ≡ js → pruned_len_refusal s is ≡ None → AnswersUnlessMemory result None →
+    AnswersUnlessMemory result (pruned_len_refusal t js)
+unrefused result s t is js same_shape same_indices taken answer =
+    subst (λ (r : Option MerkleTreeError). AnswersUnlessMemory result r)
+    (sym taken ∙ (λ i. pruned_len_refusal (same_shape i) (same_indices i))) answer
 
-  pub reply_text : (text : List ℕ) → pruned_len_refusal (shape b) indices ≡ None → text
-      ≡ text_of hash command.action indices b (layer_of_cap command.cap (shape b)) →
+-- a batch of numbers is that of the matrices that an input stands for
+module _ (command : Command) (indices input : List ℕ) (max n : ℕ) (max_is : max ≡ max_word command.hash)
+    (n_is : n ≡ arity_number command.arity) (matrices : List (List (List ℕ))) (read : StandsFor (max + 1) input matrices)
+    (b : Batch ℕ) (b_is : b ≡ batch_of_rows n matrices) (s : Shape) (s_is : s ≡ shape b) where
+  stands : StandsFor (max_word command.hash + 1) input matrices
+  stands = subst (λ (m : ℕ). StandsFor (m + 1) input matrices) max_is read
+
+  batch_is : b ≡ batch_asked command matrices
+  batch_is = b_is ∙ ap (λ a. batch_of_rows a matrices) n_is
+
+  refusal_is : pruned_len_refusal s indices ≡ refusal_of command indices matrices
+  refusal_is = ap (λ (t : Shape). pruned_len_refusal t indices) (s_is ∙ ap shape batch_is)
+
+  pub reply_text : (text : List ℕ) → pruned_len_refusal s indices ≡ None → text
+      ≡ text_of command.hash command.action indices b (layer_of_cap command.cap (shape b)) →
       IsReply command indices input (Ok text)
   reply_text text none text_is =
-      let there = taken_from_none (shape (batch_asked command found.0)) indices
-      (ap (λ c. pruned_len_refusal (shape c) indices) (sym batch_is) ∙ none) in (
-        found.0,
+      let there = taken_from_none (shape (batch_asked command matrices)) indices (sym refusal_is ∙ none) in (
+        matrices,
         stands,
         subst (λ (hs : List ℕ). IsLawful hs × All (λ i. i < greatest hs) indices)
-            (heights_are found.0 (arity_number command.arity)) there,
-        text_is ∙ (λ i. text_of (hash_is i) command.action indices (batch_is i)
+            (heights_are matrices (arity_number command.arity)) there,
+        text_is ∙ (λ i. text_of command.hash command.action indices (batch_is i)
             (layer_of_cap command.cap (shape (batch_is i)))),
       )
+
+  pub reply_fault : {V : Type 0} (result : Result V Fault) (e : MerkleTreeError) → result ≡ Err (Tree e) →
+      (e ≡ OutOfMemory) ⊎ (pruned_len_refusal s indices ≡ Some e) →
+      IfErr result (λ f. (f ≡ Tree OutOfMemory) ⊎ IsReply command indices input (Err f))
+  reply_fault {V} result e result_is told =
+      subst (λ (r : Result V Fault). IfErr r (λ f. (f ≡ Tree OutOfMemory) ⊎ IsReply command indices input (Err f)))
+      (sym result_is)
+      (⊎_elim (λ memory. inl (ap Tree memory)) (λ due. inr (matrices, stands, sym refusal_is ∙ due)) told)
 
 -- ---- the outcome
 

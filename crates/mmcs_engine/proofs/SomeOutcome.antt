@@ -1,6 +1,7 @@
 -- There is an outcome by definition.
 use Rattle.std.proofs.Common.{◌≡◌, ⊎_elim, ℕ, ◌+◌, List, Option, Some, None, Result, Ok, Err, refl}
 use Rattle.p3_merkle_core.specs.declared.error.MerkleTreeError.{MerkleTreeError}
+use Rattle.p3_merkle_core.specs.Nodes.{shape}
 use Rattle.mmcs_text.specs.declared.command.Command.{Command}
 use Rattle.mmcs_text.specs.declared.fault.Fault.{Fault}
 use Rattle.mmcs_text.specs.declared.fault.Fault.TheVariants.{Usage, Read, Number, Count, Tree, Write}
@@ -26,8 +27,9 @@ module _ (words : List (List ℕ)) (input : List ℕ) where
         command,
         indices,
         are,
-        reply_text command indices input (batch_asked command matrices) (arity_number command.arity) command.hash refl
-            refl (matrices, stands, refl) (output_of command indices matrices) taken refl,
+        reply_text command indices input (max_word command.hash) (arity_number command.arity) refl refl matrices stands
+            (batch_asked command matrices) refl (shape (batch_asked command matrices)) refl
+            (output_of command indices matrices) taken refl,
       ),
     )
     of_matrices matrices stands (Some e) refused = (Err (Tree e), (command, indices, are, (matrices, stands, refused)))

@@ -5,3 +5,4 @@ pub use Rattle.mmcs_text.specs.Words
 pub use Rattle.mmcs_text.specs.Text
 pub use Rattle.mmcs_text.specs.Matrices
 pub mod Program
+pub mod Inner

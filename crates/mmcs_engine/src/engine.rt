@@ -1,27 +1,36 @@
 //! From words and an input to an output.
 
-ghost use Rattle.std.specs.Prelude.{◌≡◌, ◌⊎◌, ℕ, ◌++◌, ◌<◌, ◌↔◌, All, Ok, Err, IfOk, IfErr, IfSome, IsTrue, None, OnOk, flat_map, length, map};
+ghost use Rattle.std.specs.Prelude.{◌≡◌, ◌⊎◌, ℕ, ◌++◌, ◌<◌, ◌↔◌, All, Ok, Err, IfOk, IfErr, IfSome, None, OnOk, flat_map, length, map};
 ghost use Rattle.std.specs.Io.KnownBytes.{Appends};
-ghost use Rattle.p3_merkle_core.specs.Geometry.{heights, shape_of};
 ghost use Rattle.p3_support.specs.Batches.{greatest};
-ghost use Rattle.p3_merkle_core.specs.Refusals.{pruned_len_refusal, AnswersUnlessMemory};
-ghost use Rattle.p3_merkle_core.specs.Nodes.{layer, layers, shape, Batch};
+ghost use Rattle.p3_support.specs.Shown.{roots_of, row_sets};
+ghost use Rattle.p3_merkle_core.specs.Commitments.{IsCommitment};
+ghost use Rattle.p3_merkle_core.specs.Geometry.{heights, shape_of};
+ghost use Rattle.p3_merkle_core.specs.Nodes.{shape, Batch};
 ghost use Rattle.p3_merkle_core.specs.Openings.{honest_rows};
+ghost use Rattle.p3_merkle_core.specs.Pruning.{pruned_len};
+ghost use Rattle.p3_merkle_core.specs.Refusals.{pruned_len_refusal, AnswersUnlessMemory};
 ghost use Rattle.p3_merkle_core.specs.declared.error.MerkleTreeError.TheVariants.{OutOfMemory};
-ghost use Rattle.mmcs_text.specs.declared.command.Action.TheVariants.{Open, Check};
+ghost use Rattle.p3_merkle_tree.specs.Parts.{layers_of, tree_batch};
+ghost use Rattle.p3_merkle_tree.specs.Schemes.{cap_height_of, cap_layer_over, cap_rule_of, scheme_functions, terms_over};
 ghost use Rattle.mmcs_text.specs.declared.fault.Fault.TheVariants.{Usage, Read, Tree, Write};
-ghost use Rattle.mmcs_text.specs.Text.{hex_lines, query_lines};
-ghost use Rattle.mmcs_text.specs.Words.{arity_number, is_taken_arity, texts_of, AreNoCommand};
-ghost use Rattle.mmcs_engine.specs.Program.{functions_of_hash, hex_digits, layer_of_cap, text_of, IsAnswer, IsReply, IsTold, Prints};
+ghost use Rattle.mmcs_text.specs.Matrices.{stored_batch};
+ghost use Rattle.mmcs_text.specs.Text.{hex_lines, ok_line};
+ghost use Rattle.mmcs_text.specs.Words.{arity_number, texts_of, AreNoCommand};
+ghost use Rattle.mmcs_engine.specs.Program.{layer_of_cap, text_of, IsAnswer, IsReply, IsTold, Prints};
+ghost use Rattle.mmcs_engine.specs.Inner.Alike.{batch_in_numbers, opened_lines, opened_text, IsSchemeOf};
 
-use crate::fold::Fold;
-use crate::sha256::Sha256;
-use crate::suite::Suite;
-use mmcs_text::command::{Action, Arity, CapChoice, HashName, Request};
+use crate::schemes::{fold_scheme, sha_scheme};
+use mmcs_text::command::{Action, Arity, HashName, Request};
 use mmcs_text::fault::Fault;
-use mmcs_text::text::push_labelled;
-use p3_merkle_tree::MerkleTreeError;
-use p3_support::matrix::Dimensions;
+use mmcs_text::input::read_matrices;
+use mmcs_text::text::{push_digests, push_labelled, push_rows};
+use mmcs_text::word::Word;
+use p3_merkle_tree::{MerkleCap, MerkleTree, MerkleTreeError, MerkleTreeMmcs};
+use p3_support::compress::PseudoCompressionFunction;
+use p3_support::hasher::CryptographicHasher;
+use p3_support::matrix::{Dimensions, RowMajorMatrix, dimensions_of};
+use p3_support::packed::PackedValue;
 use std::alloc::{AllocError, Global};
 use std::io::{ErrorKind, Read, Write};
 
@@ -126,64 +135,116 @@ fn reply(alloc: Global, request: &Request, input: &[u8]) -> Result<Vec<u8>, Faul
     ensures fault { IfErr result (λ fault. (fault ≡ Fault.Tree OutOfMemory) ⊎
         IsReply request.now.command request.now.indices.items input.now (Err fault)) }
 {
+    let cap = request.command.cap;
     match (request.command.hash, request.command.arity) {
-        (HashName::Fold, Arity::Two) => reply_by::<Fold, 2>(alloc, request, input),
-        (HashName::Fold, Arity::Four) => reply_by::<Fold, 4>(alloc, request, input),
-        (HashName::Fold, Arity::Eight) => reply_by::<Fold, 8>(alloc, request, input),
-        (HashName::Sha256, Arity::Two) => reply_by::<Sha256, 2>(alloc, request, input),
-        (HashName::Sha256, Arity::Four) => reply_by::<Sha256, 4>(alloc, request, input),
-        (HashName::Sha256, Arity::Eight) => reply_by::<Sha256, 8>(alloc, request, input),
+        (HashName::Fold, Arity::Two) => reply_by(alloc, &fold_scheme::<2>(cap), request, input),
+        (HashName::Fold, Arity::Four) => reply_by(alloc, &fold_scheme::<4>(cap), request, input),
+        (HashName::Fold, Arity::Eight) => reply_by(alloc, &fold_scheme::<8>(cap), request, input),
+        (HashName::Sha256, Arity::Two) => reply_by(alloc, &sha_scheme::<2>(cap), request, input),
+        (HashName::Sha256, Arity::Four) => reply_by(alloc, &sha_scheme::<4>(cap), request, input),
+        (HashName::Sha256, Arity::Eight) => reply_by(alloc, &sha_scheme::<8>(cap), request, input),
     }
 }
 
-/// The same under a hash and an arity, which are those of the command.
+/// The same under the scheme of the command.
 ///
 /// # Errors
 ///
 /// Those of [`reply`].
-fn reply_by<S: Suite<N>, const N: usize>(
+fn reply_by<
+    W: Word + PackedValue<Value = W>,
+    H: CryptographicHasher<W, W, D>,
+    C: PseudoCompressionFunction<W, N, D>,
+    const N: usize,
+    const D: usize,
+>(
     alloc: Global,
+    scheme: &MerkleTreeMmcs<W, W, H, C, N, D>,
     request: &Request,
     input: &[u8],
 ) -> Result<Vec<u8>, Fault>
-    requires hash { S.name ≡ request.now.command.hash }
+    requires scheme { IsSchemeOf request.now.command.hash request.now.command.cap W.value W.MAX W.HEX_DIGITS
+        (scheme_functions H.hash C.compression D scheme.now) (cap_height_of scheme.now) (cap_rule_of scheme.now) }
     requires arity { N ≡ arity_number request.now.command.arity }
     ensures text { IfOk result
         (λ text. IsReply request.now.command request.now.indices.items input.now (Ok text.items)) }
     ensures fault { IfErr result (λ fault. (fault ≡ Fault.Tree OutOfMemory) ⊎
         IsReply request.now.command request.now.indices.items input.now (Err fault)) }
 {
-    let matrices = S::read(alloc, input)?;
-    Ok(act::<S, N>(alloc, request, matrices)?)
+    let matrices = read_matrices::<W>(alloc, input)?;
+    Ok(act(alloc, scheme, request, matrices)?)
 }
 
-/// The text that a command prints of some matrices.
+/// The text that a command prints of some matrices, under its scheme.
 ///
 /// # Errors
 ///
 /// Why the tree refuses the heights; else `IndexOutOfBounds` for the highest index, where it is not below the tallest
 /// height; or `OutOfMemory`.
-fn act<S: Suite<N>, const N: usize>(
+fn act<
+    W: Word + PackedValue<Value = W>,
+    H: CryptographicHasher<W, W, D>,
+    C: PseudoCompressionFunction<W, N, D>,
+    const N: usize,
+    const D: usize,
+>(
     alloc: Global,
+    scheme: &MerkleTreeMmcs<W, W, H, C, N, D>,
     request: &Request,
-    matrices: S::Matrices,
+    matrices: Vec<RowMajorMatrix<W>>,
 ) -> Result<Vec<u8>, MerkleTreeError>
-    requires { IsTrue (is_taken_arity N) }
-    ensures text { let b = S.given matrices in
-        IfOk result (λ text. text.items ≡ text_of S.name request.now.command.action request.now.indices.items b
+    requires scheme { IsSchemeOf request.now.command.hash request.now.command.cap W.value W.MAX W.HEX_DIGITS
+        (scheme_functions H.hash C.compression D scheme.now) (cap_height_of scheme.now) (cap_rule_of scheme.now) }
+    ensures text { let b = batch_in_numbers W.value (stored_batch N matrices.items) in
+        IfOk result (λ text. text.items
+        ≡ text_of request.now.command.hash request.now.command.action request.now.indices.items b
         (layer_of_cap request.now.command.cap (shape b))) }
     ensures answer { AnswersUnlessMemory result
-        (pruned_len_refusal (shape (S.given matrices)) request.now.indices.items) }
+        (pruned_len_refusal (shape (stored_batch N matrices.items)) request.now.indices.items) }
 {
-    let cap = request.command.cap;
-    let indices = request.indices.as_slice();
-    let dimensions = S::dimensions(alloc, &matrices)?;
-    S::pruned_len(alloc, cap, &dimensions, indices)?;
-    let (roots, tree) = S::commit(alloc, cap, matrices)?;
+    let dimensions = dimensions_of(alloc, &matrices)?;
+    scheme.pruned_len(alloc, &dimensions, &request.indices)?;
+    let (roots, tree) = scheme.commit(alloc, matrices)?;
+    text_of_tree(alloc, scheme, request, &dimensions, &roots, &tree)
+}
+
+/// The text that a command prints of a tree, whose matrices have these dimensions.
+///
+/// # Errors
+///
+/// `OutOfMemory` alone.
+fn text_of_tree<
+    W: Word + PackedValue<Value = W>,
+    H: CryptographicHasher<W, W, D>,
+    C: PseudoCompressionFunction<W, N, D>,
+    const N: usize,
+    const D: usize,
+>(
+    alloc: Global,
+    scheme: &MerkleTreeMmcs<W, W, H, C, N, D>,
+    request: &Request,
+    dimensions: &[Dimensions],
+    roots: &MerkleCap<W, [W; D]>,
+    tree: &MerkleTree<W, W, RowMajorMatrix<W>, N, D>,
+) -> Result<Vec<u8>, MerkleTreeError>
+    requires scheme { IsSchemeOf request.now.command.hash request.now.command.cap W.value W.MAX W.HEX_DIGITS
+        (scheme_functions H.hash C.compression D scheme.now) (cap_height_of scheme.now) (cap_rule_of scheme.now) }
+    requires indices { All (λ i. i < greatest (heights (shape (tree_batch tree.now)))) request.now.indices.items }
+    requires dimensions { shape_of N dimensions.now ≡ shape (tree_batch tree.now) }
+    requires committed { let b = tree_batch tree.now in
+        IsCommitment (terms_over H.hash C.compression D scheme.now (shape b)) (roots_of roots.now) b
+        (layers_of tree.now) }
+    ensures text { let b = batch_in_numbers W.value (tree_batch tree.now) in
+        IfOk result (λ text. text.items
+        ≡ text_of request.now.command.hash request.now.command.action request.now.indices.items b
+        (layer_of_cap request.now.command.cap (shape b))) }
+    ensures memory { AnswersUnlessMemory result None }
+{
+    let indices = &request.indices;
     match request.command.action {
-        Action::Commit => cap_text::<S, N>(alloc, &roots),
-        Action::Open => open_text::<S, N>(alloc, cap, indices, &tree),
-        Action::Check => check_text::<S, N>(alloc, cap, &dimensions, indices, &roots, &tree),
+        Action::Commit => cap_text(alloc, roots),
+        Action::Open => open_text(alloc, scheme, indices, tree),
+        Action::Check => check_text(alloc, scheme, dimensions, indices, roots, tree),
     }
 }
 
@@ -192,15 +253,15 @@ fn act<S: Suite<N>, const N: usize>(
 /// # Errors
 ///
 /// `OutOfMemory` alone.
-fn cap_text<S: Suite<N>, const N: usize>(
+fn cap_text<W: Word, const D: usize>(
     alloc: Global,
-    roots: &S::Cap,
+    roots: &MerkleCap<W, [W; D]>,
 ) -> Result<Vec<u8>, MerkleTreeError>
-    ensures text { IfOk result (λ text. text.items ≡ hex_lines (hex_digits S.name) (S.roots roots.now)) }
+    ensures text { IfOk result (λ text. text.items ≡ hex_lines W.HEX_DIGITS (map (map W.value) (roots_of roots.now))) }
     ensures memory { AnswersUnlessMemory result None }
 {
     let mut text = Vec::new(alloc);
-    S::push_cap(&mut text, roots)?;
+    push_digests(&mut text, roots.roots())?;
     Ok(text)
 }
 
@@ -209,24 +270,30 @@ fn cap_text<S: Suite<N>, const N: usize>(
 /// # Errors
 ///
 /// `OutOfMemory` alone.
-fn open_text<S: Suite<N>, const N: usize>(
+fn open_text<
+    W: Word + PackedValue<Value = W>,
+    H: CryptographicHasher<W, W, D>,
+    C: PseudoCompressionFunction<W, N, D>,
+    const N: usize,
+    const D: usize,
+>(
     alloc: Global,
-    cap: CapChoice,
+    scheme: &MerkleTreeMmcs<W, W, H, C, N, D>,
     indices: &[usize],
-    tree: &S::Tree,
+    tree: &MerkleTree<W, W, RowMajorMatrix<W>, N, D>,
 ) -> Result<Vec<u8>, MerkleTreeError>
-    requires arity { IsTrue (is_taken_arity N) }
-    requires indices { All (λ i. i < greatest (heights (shape (S.batch tree.now)))) indices.now }
-    requires built { S.nodes tree.now ≡ layers (functions_of_hash S.name) (S.batch tree.now) }
-    ensures text { let b = S.batch tree.now in
-        IfOk result (λ text. text.items ≡ text_of S.name Open indices.now b (layer_of_cap cap (shape b))) }
+    requires { All (λ i. i < greatest (heights (shape (tree_batch tree.now)))) indices.now }
+    ensures text { let b = tree_batch tree.now in
+        IfOk result (λ text. text.items ≡ opened_text W.value W.HEX_DIGITS b (layers_of tree.now) indices.now
+        (cap_layer_over scheme.now (shape b))) }
     ensures memory { AnswersUnlessMemory result None }
 {
-    let opening = S::open(alloc, cap, indices, tree)?;
+    let opening = scheme.open_batch_pruned(alloc, indices, tree)?;
+    let digests = &opening.pruned_proof.sibling_hashes;
     let mut text = Vec::new(alloc);
-    push_queries::<S, N>(alloc, &mut text, indices, &opening)?;
-    push_labelled(alloc, &mut text, "digests", S::num_digests(&opening))?;
-    S::push_digests(&mut text, &opening)?;
+    push_queries(alloc, &mut text, indices, &opening.opened_values)?;
+    push_labelled(alloc, &mut text, "digests", digests.len())?;
+    push_digests(&mut text, digests)?;
     Ok(text)
 }
 
@@ -235,19 +302,19 @@ fn open_text<S: Suite<N>, const N: usize>(
 /// # Errors
 ///
 /// `AllocError` where there is no memory.
-fn push_queries<S: Suite<N>, const N: usize>(
+fn push_queries<W: Word>(
     alloc: Global,
     text: &mut Vec<u8>,
     indices: &[usize],
-    opening: &S::Opening,
+    opened: &[Vec<Vec<W>>],
 ) -> Result<(), AllocError>
-    requires { length (S.rows opening.now) ≡ length indices.now }
-    ensures { (b : Batch ℕ) → S.rows opening.now ≡ map (honest_rows b) indices.now →
-        OnOk result (text.new.items ≡ text.old.items ++ flat_map (λ i. query_lines i (honest_rows b i)) indices.now) }
+    requires { length opened.now ≡ length indices.now }
+    ensures { (b : Batch W) → row_sets opened.now ≡ map (honest_rows b) indices.now → OnOk result
+        (text.new.items ≡ text.old.items ++ flat_map (opened_lines W.value b) indices.now) }
 {
-    for (place, index) in indices.iter().enumerate() {
+    for (query, index) in indices.iter().enumerate() {
         push_labelled(alloc, text, "index", *index)?;
-        S::push_rows(alloc, text, opening, place)?;
+        push_rows(alloc, text, &opened[query])?;
     }
     Ok(())
 }
@@ -257,27 +324,33 @@ fn push_queries<S: Suite<N>, const N: usize>(
 /// # Errors
 ///
 /// `OutOfMemory` alone.
-fn check_text<S: Suite<N>, const N: usize>(
+fn check_text<
+    W: Word + PackedValue<Value = W>,
+    H: CryptographicHasher<W, W, D>,
+    C: PseudoCompressionFunction<W, N, D>,
+    const N: usize,
+    const D: usize,
+>(
     alloc: Global,
-    cap: CapChoice,
+    scheme: &MerkleTreeMmcs<W, W, H, C, N, D>,
     dimensions: &[Dimensions],
     indices: &[usize],
-    roots: &S::Cap,
-    tree: &S::Tree,
+    roots: &MerkleCap<W, [W; D]>,
+    tree: &MerkleTree<W, W, RowMajorMatrix<W>, N, D>,
 ) -> Result<Vec<u8>, MerkleTreeError>
-    requires arity { IsTrue (is_taken_arity N) }
-    requires indices { All (λ i. i < greatest (heights (shape (S.batch tree.now)))) indices.now }
-    requires built { S.nodes tree.now ≡ layers (functions_of_hash S.name) (S.batch tree.now) }
-    requires dimensions { shape_of N dimensions.now ≡ shape (S.batch tree.now) }
-    requires roots { let b = S.batch tree.now in
-        S.roots roots.now ≡ layer (functions_of_hash S.name) b (layer_of_cap cap (shape b)) }
-    ensures text { let b = S.batch tree.now in
-        IfOk result (λ text. text.items ≡ text_of S.name Check indices.now b (layer_of_cap cap (shape b))) }
+    requires indices { All (λ i. i < greatest (heights (shape (tree_batch tree.now)))) indices.now }
+    requires dimensions { shape_of N dimensions.now ≡ shape (tree_batch tree.now) }
+    requires committed { let b = tree_batch tree.now in
+        IsCommitment (terms_over H.hash C.compression D scheme.now (shape b)) (roots_of roots.now) b
+        (layers_of tree.now) }
+    ensures text { let s = shape (tree_batch tree.now) in
+        IfOk result (λ text. text.items ≡ ok_line (pruned_len s indices.now (cap_layer_over scheme.now s))) }
     ensures memory { AnswersUnlessMemory result None }
 {
-    let opening = S::open(alloc, cap, indices, tree)?;
-    S::verify(alloc, cap, roots, dimensions, indices, &opening)?;
+    let opening = scheme.open_batch_pruned(alloc, indices, tree)?;
+    let (rows, proof) = (&opening.opened_values, &opening.pruned_proof);
+    scheme.verify_batch_pruned(alloc, roots, dimensions, indices, rows, proof)?;
     let mut text = Vec::new(alloc);
-    push_labelled(alloc, &mut text, "ok", S::num_digests(&opening))?;
+    push_labelled(alloc, &mut text, "ok", proof.sibling_hashes.len())?;
     Ok(text)
 }

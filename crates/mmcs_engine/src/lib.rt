@@ -2,9 +2,7 @@
 #![tactic(auto)]
 
 pub mod engine;
-pub mod fold;
 pub mod laws;
-pub mod sha256;
-pub mod suite;
+pub mod schemes;
 
 pub use mmcs_text::fault;

@@ -3,6 +3,8 @@ pub use Rattle.mmcs_text.specs.Input
 pub use Rattle.mmcs_text.specs.Words
 pub mod Faults
 pub mod Lines
+pub mod Printing
 pub mod Readings
 pub mod Requests
 pub mod Examples
+pub mod PrintingExamples

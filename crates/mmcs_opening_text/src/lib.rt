@@ -4,6 +4,7 @@
 
 pub mod digest;
 pub mod fault;
+pub mod laws;
 mod line;
 pub mod reader;
 pub mod request;

@@ -1,5 +1,6 @@
 pub mod WordFacts
 pub mod NumberFacts
+pub mod ByNumber
 pub mod Runs
 pub mod BlankFacts
 pub mod RowsCut

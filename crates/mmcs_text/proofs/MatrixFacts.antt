@@ -2,7 +2,6 @@
 use Rattle.std.proofs.Common.{◌≡◌, ℕ, ◌+◌, ◌-◌, ◌*◌, ◌/◌, ◌<◌, ◌≤◌, cond, nat_lt, List, [], ◌∷◌, length, map, take, sym, ap, ◌∙◌, refl, arith, inl, inr}
 use Rattle.std.specs.Prelude.{slice_index_or, flat_map}
 use Rattle.std.specs.List.{AllZip}
-use Rattle.std.specs.declared.vec.Vec.{Vec}
 use Rattle.p3_support.specs.declared.matrix.RowMajorMatrix.{RowMajorMatrix}
 use Rattle.p3_support.specs.Batches.{dimensions_in}
 use Rattle.p3_support.specs.Lists.{message}
@@ -98,20 +97,14 @@ pub stored_plain : (stored : List (RowMajorMatrix ℕ)) → map batched stored �
 stored_plain [] = refl
 stored_plain (m ∷ stored) = λ i. batched_is m i ∷ stored_plain stored i
 
--- rows of numbers are read as they are
-pub rows_plain : {A : Type 0} (rows : List (Vec ℕ A)) → map (λ (row : Vec ℕ A). map (λ n. n) row.items) rows
-    ≡ map (λ (row : Vec ℕ A). row.items) rows
-rows_plain [] = refl
-rows_plain (row ∷ rows) = λ i. map-id row.items i ∷ rows_plain rows i
-
--- and so are digests
+-- digests of numbers are read as they are
 pub digests_plain : (digests : List (List ℕ)) → map (map (λ n. n)) digests ≡ digests
 digests_plain [] = refl
 digests_plain (digest ∷ digests) = λ i. map-id digest i ∷ digests_plain digests i
 
 -- the dimensions of stored matrices
-pub stored_dimensions : (stored : List (RowMajorMatrix ℕ)) (arity : ℕ) → dimensions_in row_count row_width stored
-    ≡ (shape (stored_batch arity stored)).dimensions
+pub stored_dimensions : {W : Type 0} (stored : List (RowMajorMatrix W)) (arity : ℕ) →
+    dimensions_in row_count row_width stored ≡ (shape (stored_batch arity stored)).dimensions
 stored_dimensions [] arity = refl
 stored_dimensions (m ∷ stored) arity = ap (λ ds. record { width = row_width m; height = row_count m } ∷ ds)
     (stored_dimensions stored arity)

@@ -19,7 +19,7 @@ texts_more text value items i item old before after within item_is before_is aft
     (sym (map_more value items i item within ∙ ap (λ r. map value (take i items) ++ value r ∷ []) (sym item_is)))
 
 -- a word is printed with so many digits
-length-hex_word : (width word : ℕ) → length (hex_word width word) ≡ width
+pub length-hex_word : (width word : ℕ) → length (hex_word width word) ≡ width
 length-hex_word zero word = refl
 length-hex_word (suc width) word =
     length-append (hex_word width (word / 16)) (hex_digit (word % 16) ∷ [])

@@ -20,6 +20,6 @@ abbrev pub stored_matrix : {W : Type 0} → (List W → List ℕ) → RowMajorMa
 stored_matrix numbers m =
     record { height = row_count m; width = row_width m; row = λ r. message (row_width m) (numbers (values_of m)) r }
 
--- stored matrices of numbers, under an arity
-abbrev pub stored_batch : ℕ → List (RowMajorMatrix ℕ) → Batch ℕ
+-- stored matrices, under an arity
+abbrev pub stored_batch : {W : Type 0} → ℕ → List (RowMajorMatrix W) → Batch W
 stored_batch = batch_of row_count row_width (λ m r. message (row_width m) (values_of m) r)

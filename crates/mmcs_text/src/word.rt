@@ -1,6 +1,6 @@
 //! The words of rows and of digests.
 
-ghost use Rattle.std.specs.Prelude.{◌≡◌, ℕ, ◌≤◌};
+ghost use Rattle.std.specs.Prelude.{◌≡◌, ℕ, ◌≤◌, refl};
 ghost use Rattle.std.proofs.Common.{rules};
 
 /// A word of a row or of a digest: a number from 0 to `MAX`.
@@ -28,6 +28,11 @@ pub trait Word: Copy {
 
     // Its digits are among those of 32 bits.
     ghost at_most_eight: { HEX_DIGITS ≤ 8 };
+
+    // To a proof, where a type bounds no number, each number is the number of one word.
+    ghost some_word: { (n : ℕ) → (w : Self) × (value w ≡ n) };
+
+    ghost one_word: { (v w : Self) → value v ≡ value w → v ≡ w };
 }
 
 impl Word for u8 {
@@ -50,6 +55,10 @@ impl Word for u8 {
     }
 
     ghost at_most_eight = { Prim.search rules };
+
+    ghost some_word = { λ n. (n, refl) };
+
+    ghost one_word = { λ v w same. same };
 }
 
 impl Word for u32 {
@@ -72,4 +81,8 @@ impl Word for u32 {
     }
 
     ghost at_most_eight = { Prim.search rules };
+
+    ghost some_word = { λ n. (n, refl) };
+
+    ghost one_word = { λ v w same. same };
 }

@@ -8,7 +8,7 @@ use Rattle.mmcs_text.specs.declared.command.HashName.{HashName}
 use Rattle.mmcs_opening_text.specs.Readings.{after_line, expected_after, shown_by, shown_in, unread, whole_at, Reading, Shown}
 use Rattle.mmcs_opening_text.specs.declared.fault.Expected.{Expected}
 use Rattle.mmcs_opening_text.specs.declared.fault.Fault.{Fault}
-use Rattle.mmcs_opening_text.specs.declared.fault.Fault.TheVariants.{Usage, Line, Tree}
+use Rattle.mmcs_opening_text.specs.declared.fault.Fault.TheVariants.{Usage, Line}
 use Rattle.mmcs_opening_text.specs.declared.request.Setting.{Setting}
 use Rattle.mmcs_text.specs.Input.{pieces_of}
 use Rattle.mmcs_verify_engine.specs.Outcomes.{answer_to, outcome_of, refusal_asked, told}

@@ -2,7 +2,6 @@
 //! fault.
 #![tactic(auto)]
 
-mod claim;
 pub mod engine;
 pub mod laws;
 

@@ -1,38 +1,50 @@
-use Rattle.std.proofs.Common.{◌≡◌, ◌∙◌, List, ℕ, sym, ap, subst}
-use Rattle.std.specs.Prelude.{IfOk}
+use Rattle.std.proofs.Common.{◌≡◌, ◌∙◌, Err, sym, ap, rules, subst}
+use Rattle.std.proofs.lemmas.Result.{err_from_is_err_and}
+use Rattle.p3_support.specs.Shown.{roots_of}
+use Rattle.p3_merkle_core.specs.Commitments.{IsCommitment}
 use Rattle.p3_merkle_core.specs.Geometry.{shape_of}
 use Rattle.p3_merkle_core.specs.Nodes.{shape, Batch}
-use Rattle.mmcs_text.specs.declared.command.Action.{Action}
-use Rattle.mmcs_text.specs.declared.command.Action.TheVariants.{Open}
-use Rattle.mmcs_engine.specs.Program.{layer_of_cap, text_of}
+use Rattle.p3_merkle_tree.specs.Parts.{layers_of, tree_batch}
+use Rattle.p3_merkle_tree.specs.Schemes.{terms_over}
+use Rattle.p3_merkle_core.specs.Refusals.{pruned_len_refusal}
+use Rattle.mmcs_text.specs.Matrices.{stored_batch}
 use Rattle.mmcs_engine.proofs.GateFacts.{below_of}
+use Rattle.mmcs_engine.proofs.NumberFacts.{stored_shape}
+use Rattle.mmcs_engine.proofs.ReplyFacts.{refused, unrefused}
 use Rattle.mmcs_engine.proofs.engine.act.Goals as goal
 
--- what was taken is below the tallest height of the tree
-pub open_text-requires-clause-indices : goal.open_text-requires-clause-indices
-open_text-requires-clause-indices g c =
-    below_of _ _ _ (ap (shape_of g.row.N) c.deref.ensures.value ∙ c.in_ok-dimensions.ensures
-    ∙ ap shape (sym c.in_ok-roots.ensures.batch)) c.in_ok-pruned_len.ensures
-
-pub check_text-requires-clause-indices : goal.check_text-requires-clause-indices
-check_text-requires-clause-indices g c =
-    below_of _ _ _ (ap (shape_of g.row.N) c.deref.ensures.value ∙ c.in_ok-dimensions.ensures
-    ∙ ap shape (sym c.in_ok-roots.ensures.batch)) c.in_ok-pruned_len.ensures
+pub returns-in_err-pruned_len-clause-answer : goal.returns-in_err-pruned_len-clause-answer
+returns-in_err-pruned_len-clause-answer g c =
+    let left = err_from_is_err_and c.from_residual-in_err-pruned_len.result
+    c.from_residual-in_err-pruned_len.ensures.1 in
+    refused c.from_residual-in_err-pruned_len.result _ _ _ _ _ (left.1 ∙ ap Err left.2)
+    (stored_shape c.deref.result.now c.args.matrices.items c.in_ok-dimensions.dimensions.items c.deref-2.result.now
+    g.row.N c.deref-2.ensures.value c.in_ok-dimensions.ensures c.deref.ensures.value) c.deref-3.ensures.value
+    c.in_err-pruned_len.ensures.answer
 
 -- the tree's matrices are those that were given
-pub returns-in-Open-clause-text : goal.returns-in-Open-clause-text
-returns-in-Open-clause-text g c =
-    let command = c.args.request.now.command in
-    subst (λ (a : Action). IfOk c.open_text.result (λ text. text.items
-    ≡ text_of g.S.Suite.name a c.args.request.now.indices.items (g.S.Suite.given c.args.matrices)
-    (layer_of_cap command.cap (shape (g.S.Suite.given c.args.matrices))))) (sym c.in-Open.is)
-    (subst (λ (is : List ℕ). IfOk c.open_text.result (λ text. text.items
-    ≡ text_of g.S.Suite.name Open is (g.S.Suite.given c.args.matrices)
-    (layer_of_cap command.cap (shape (g.S.Suite.given c.args.matrices))))) c.as_slice-indices.ensures.value
-    (subst (λ (b : Batch ℕ). IfOk c.open_text.result (λ text. text.items
-    ≡ text_of g.S.Suite.name Open c.as_slice-indices.result.now b (layer_of_cap command.cap (shape b))))
-    c.in_ok-roots.ensures.batch c.open_text.ensures.text))
+pub text_of_tree-requires : goal.text_of_tree-requires
+text_of_tree-requires g c =
+    let given = stored_batch g.row.N c.args.matrices.items in
+    let same : given ≡ tree_batch c.in_ok-roots.tree = ap (stored_batch g.row.N) (sym c.in_ok-roots.ensures.matrices) in
+    let told = stored_shape c.deref.result.now c.args.matrices.items c.in_ok-dimensions.dimensions.items
+    c.deref-2.result.now g.row.N c.deref-2.ensures.value c.in_ok-dimensions.ensures c.deref.ensures.value in
+    let kept = stored_shape c.deref.result.now c.args.matrices.items c.in_ok-dimensions.dimensions.items
+    c.deref-4.result.now g.row.N c.deref-4.ensures.value c.in_ok-dimensions.ensures c.deref.ensures.value in
+    let taken = below_of _ _ _ (told ∙ ap shape same)
+    (ap (pruned_len_refusal (shape_of g.row.N c.deref-2.result.now)) (sym c.deref-3.ensures.value)
+    ∙ c.in_ok-pruned_len.ensures.answer) in
+    let committed = subst (λ (b : Batch g.row.W.Denot).
+    IsCommitment (terms_over g.H.CryptographicHasher.hash g.C.PseudoCompressionFunction.compression g.row.D
+    c.args.scheme.now (shape b)) (roots_of c.in_ok-roots.roots) b (layers_of c.in_ok-roots.tree))
+    same c.in_ok-roots.ensures.committed in (
+      search rules,
+      (search rules, (search rules, (search rules, (c.requires.scheme, (taken, (kept ∙ ap shape same, committed)))))),
+    )
 
-pub check_text-requires-clause-dimensions : goal.check_text-requires-clause-dimensions
-check_text-requires-clause-dimensions g c = ap (shape_of g.row.N) c.deref-in-Check.ensures.value
-    ∙ c.in_ok-dimensions.ensures ∙ ap shape (sym c.in_ok-roots.ensures.batch)
+pub returns-clause-answer : goal.returns-clause-answer
+returns-clause-answer g c =
+    unrefused c.text_of_tree.result _ _ _ _
+    (stored_shape c.deref.result.now c.args.matrices.items c.in_ok-dimensions.dimensions.items c.deref-2.result.now
+    g.row.N c.deref-2.ensures.value c.in_ok-dimensions.ensures c.deref.ensures.value) c.deref-3.ensures.value
+    c.in_ok-pruned_len.ensures.answer c.text_of_tree.ensures.memory

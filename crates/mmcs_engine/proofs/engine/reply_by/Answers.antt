@@ -1,7 +1,31 @@
-use Rattle.mmcs_engine.proofs.ReplyFacts.{reply_text}
+use Rattle.std.proofs.Common.{◌∙◌, Err, ap}
+use Rattle.std.proofs.lemmas.Result.{err_from_is_err_and}
+use Rattle.p3_merkle_core.specs.Nodes.{shape}
+use Rattle.mmcs_text.specs.Matrices.{stored_batch}
+use Rattle.mmcs_engine.specs.Inner.Alike.{batch_in_numbers}
+use Rattle.mmcs_engine.proofs.NumberFacts.{shape_in_numbers, stored_in_numbers}
+use Rattle.mmcs_engine.proofs.ReplyFacts.{reply_fault, reply_text}
 use Rattle.mmcs_engine.proofs.engine.reply_by.Goals as goal
+
+pub returns-in_err-act-clause-fault : goal.returns-in_err-act-clause-fault
+returns-in_err-act-clause-fault g c =
+    let w = g.met.W.Word in
+    let given = stored_batch g.row.N c.in_ok-matrices.matrices.items in
+    let found = c.in_ok-matrices.ensures.matrices in
+    let left = err_from_is_err_and c.from_residual-in_err-act.result c.from_residual-in_err-act.ensures.1 in
+    reply_fault c.args.request.now.command c.args.request.now.indices.items c.args.input.now g.W.Word.MAX g.row.N
+    c.requires.scheme.greatest_word c.requires.arity found.0 found.1 (batch_in_numbers g.W.Word.value given)
+    (stored_in_numbers g.W.Word.value w.some_word w.one_word c.in_ok-matrices.matrices.items found.0 g.row.N found.2)
+    (shape given) (shape_in_numbers g.W.Word.value w.some_word w.one_word given) c.from_residual-in_err-act.result _
+    (left.1 ∙ ap Err left.2) c.in_err-act.ensures.answer
 
 pub returns-clause-text : goal.returns-clause-text
 returns-clause-text g c =
-    reply_text c.args.request.now.command c.args.request.now.indices.items c.args.input.now _ g.row.N _ c.requires.hash
-    c.requires.arity c.in_ok-matrices.ensures.matrices _ c.in_ok-act.ensures.answer c.in_ok-act.ensures.text
+    let w = g.met.W.Word in
+    let given = stored_batch g.row.N c.in_ok-matrices.matrices.items in
+    let found = c.in_ok-matrices.ensures.matrices in
+    reply_text c.args.request.now.command c.args.request.now.indices.items c.args.input.now g.W.Word.MAX g.row.N
+    c.requires.scheme.greatest_word c.requires.arity found.0 found.1 (batch_in_numbers g.W.Word.value given)
+    (stored_in_numbers g.W.Word.value w.some_word w.one_word c.in_ok-matrices.matrices.items found.0 g.row.N found.2)
+    (shape given) (shape_in_numbers g.W.Word.value w.some_word w.one_word given) c.in_ok-act.field-0.items
+    c.in_ok-act.ensures.answer c.in_ok-act.ensures.text

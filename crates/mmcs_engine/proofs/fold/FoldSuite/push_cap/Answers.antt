@@ -1,5 +1,0 @@
-use Rattle.mmcs_engine.proofs.TextFacts.{digests_plainly}
-use Rattle.mmcs_engine.proofs.fold.FoldSuite.push_cap.Goals as goal
-
-pub returns : goal.returns
-returns g c = digests_plainly 8 _ _ _ _ c.push_digests.result c.roots.ensures c.push_digests.ensures

@@ -1,0 +1,47 @@
+-- That what the program `mmcs` prints of matrices is accepted.
+use Rattle.std.specs.Prelude.{◌≡◌, ℕ, ◌+◌, List, [], ◌∷◌, ◌++◌, map, Ok}
+use Rattle.p3_support.specs.declared.matrix.Dimensions.{Dimensions}
+use Rattle.p3_merkle_core.specs.Nodes.{dimensions_of}
+use Rattle.mmcs_text.specs.Input.{StandsFor}
+use Rattle.mmcs_text.specs.Matrices.{matrix_of_rows}
+use Rattle.mmcs_text.specs.Words.{max_word, AreWords}
+use Rattle.mmcs_text.specs.declared.command.Action.{Action}
+use Rattle.mmcs_text.specs.declared.command.Action.TheVariants.{Commit, Open, Check}
+use Rattle.mmcs_text.specs.declared.command.Command.{Command}
+use Rattle.mmcs_engine.specs.Program.{output_of, AreTaken, IsOutcome}
+use Rattle.mmcs_opening_text.specs.declared.request.Setting.{Setting}
+use Rattle.mmcs_verify_engine.specs.Outcomes.{outcome_of}
+
+-- the command of `mmcs` for an action, with the hash, the arity and the cap of a verifier's setting
+abbrev pub command_for : Setting → Action → Command
+command_for setting action =
+    record { hash = setting.hash; arity = setting.arity; cap = setting.cap; action = action }
+
+-- the dimensions of matrices, each by its rows
+abbrev pub dimensions_of_rows : List (List (List ℕ)) → List Dimensions
+dimensions_of_rows matrices = dimensions_of (map matrix_of_rows matrices)
+
+-- what `commit` prints of matrices, a blank line, and what `open` prints of some indices of them
+abbrev pub cap_and_opening : Setting → List ℕ → List (List (List ℕ)) → List ℕ
+cap_and_opening setting indices matrices =
+    output_of (command_for setting Commit) [] matrices ++ 10 ∷ output_of (command_for setting Open) indices matrices
+
+-- what is printed is accepted: of an input that stands for matrices which the tree takes, with these indices, the cap
+-- and the opening are answered by `ok` and the number of digests that were sent, which is what `check` prints of them
+abbrev pub PrintedIsAccepted : Type 0
+PrintedIsAccepted =
+    (setting : Setting) (indices input : List ℕ) (matrices : List (List (List ℕ))) →
+    StandsFor (max_word setting.hash + 1) input matrices → AreTaken indices matrices →
+    outcome_of setting (dimensions_of_rows matrices) (cap_and_opening setting indices matrices) ≡ Ok
+    (output_of (command_for setting Check) indices matrices)
+
+-- the same by the outcomes of `mmcs`: where words for `commit` and words for `open` have texts as their outcomes on one
+-- input, it stands for matrices, and under their dimensions both texts are answered in this way
+abbrev pub OutcomesAreAccepted : Type 0
+OutcomesAreAccepted =
+    (setting : Setting) (indices : List ℕ) (for_cap for_opening : List (List ℕ)) (input cap opening : List ℕ) →
+    AreWords for_cap (command_for setting Commit) [] → AreWords for_opening (command_for setting Open) indices →
+    IsOutcome for_cap input (Ok cap) → IsOutcome for_opening input (Ok opening) →
+    (matrices : List (List (List ℕ))) × StandsFor (max_word setting.hash + 1) input matrices ×
+    (outcome_of setting (dimensions_of_rows matrices) (cap ++ 10 ∷ opening) ≡ Ok
+    (output_of (command_for setting Check) indices matrices))
