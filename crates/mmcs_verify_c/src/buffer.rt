@@ -1,0 +1,16 @@
+//! Buffers that the caller lends.
+
+ghost use Rattle.std.specs.Prelude.{◌≡◌, length};
+ghost use Rattle.mmcs_verify_c.specs.Copies.{IsCopied};
+
+/// Copies as much of a line as there is room for, and tells its length and a status.
+pub fn told(line: &[u8], status: u8, text: &mut [u8], size: &mut usize) -> u8
+    ensures status { result ≡ status }
+    ensures size { size.new ≡ length line.now }
+    ensures text { IsCopied line.now text.old text.new }
+{
+    let room = line.len().min(text.len());
+    text[..room].copy_from_slice(&line[..room]);
+    *size = line.len();
+    status
+}

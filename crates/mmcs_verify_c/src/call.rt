@@ -1,0 +1,61 @@
+//! The call.
+
+ghost use Rattle.std.specs.Prelude.{◌≡◌, ◌↔◌, map, None, Some};
+ghost use Rattle.mmcs_opening_text.specs.declared.request.Setting.{Setting};
+ghost use Rattle.mmcs_verify_engine.specs.Outcomes.{outcome_of};
+ghost use Rattle.mmcs_verify_c.specs.Copies.{IsStatus};
+ghost use Rattle.mmcs_verify_c.specs.Settings.{dimensions_of_size, setting_shown};
+
+use crate::buffer::told;
+use crate::setting::{MatrixSize, TreeSetting, request_of};
+use mmcs_opening_text::fault::Fault;
+use mmcs_verify_engine::engine::reply;
+use p3_merkle_tree::MerkleTreeError;
+use std::alloc::Global;
+
+/// The opening is accepted.
+const ACCEPTED: u8 = 0;
+/// The opening is refused, or a line of it is faulty.
+const REFUSED: u8 = 1;
+/// There is no such setting.
+const WRONG_SETTING: u8 = 2;
+/// There is no memory.
+const OUT_OF_MEMORY: u8 = 3;
+
+/// Verifies a cap and an opening of it from memory, and keeps nothing: the program `mmcs_verify` as a call.
+///
+/// `input` is what `mmcs .. commit` printed, a blank line, and what `mmcs .. open I..` printed; `sizes` has the
+/// dimensions of each matrix, in their order. The text is what the program prints, or its fault. As much of it as there
+/// is room for goes to `text`, and how long all of it is to `size`, in bytes.
+///
+/// It returns 0 where the opening is accepted, and 1 where it is refused or a line of it is faulty. With no text it
+/// returns 2 where there is no such setting, and 3 where there is no memory.
+#[unsafe(no_mangle)]
+pub extern "C" fn mmcs_verify_text(
+    alloc: Global,
+    setting: &TreeSetting,
+    sizes: &[MatrixSize],
+    input: &[u8],
+    text: &mut [u8],
+    size: &mut usize,
+) -> u8
+    ensures setting { (result ≡ 2) ↔ (setting_shown setting.now ≡ None) }
+    ensures no_text { result ≡ 2 → size.new ≡ 0 }
+    ensures status { (shown : Setting) → setting_shown setting.now ≡ Some shown →
+        IsStatus (outcome_of shown (map dimensions_of_size sizes.now) input.now) text.old text.new size.new result }
+{
+    let Some(shown) = setting.shown() else {
+        return told(&[], WRONG_SETTING, text, size);
+    };
+    let Ok(request) = request_of(alloc, shown, sizes) else {
+        return told(&[], OUT_OF_MEMORY, text, size);
+    };
+    match reply(alloc, &request, input) {
+        Ok(line) => told(&line, ACCEPTED, text, size),
+        Err(Fault::Tree(MerkleTreeError::OutOfMemory)) => told(&[], OUT_OF_MEMORY, text, size),
+        Err(fault) => match format!(in alloc; "{fault}\n") {
+            Ok(line) => told(line.as_bytes(), REFUSED, text, size),
+            Err(_) => told(&[], OUT_OF_MEMORY, text, size),
+        },
+    }
+}

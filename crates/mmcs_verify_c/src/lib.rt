@@ -1,0 +1,6 @@
+//! The verifier of `mmcs_verify` as a static library for C: `examples/c/mmcs_verify.h` declares it.
+#![tactic(auto)]
+
+mod buffer;
+pub mod call;
+pub mod setting;
