@@ -96,14 +96,19 @@ def hexadecimal(name, digest):
     return digest.hex() if name == "sha256" else f"{digest:08x}"
 
 
+def answer(words, data):
+    """What is printed for some words and an input; else a fault."""
+    name, scheme, asked, indices = command_of(words)
+    lines = lines_of(name, scheme, asked, indices, matrices_of(data, HASHES[name][1]))
+    return "".join(line + "\n" for line in lines)
+
+
 def output(words, data):
-    """What is printed for some words and an input, with the line and the status of a fault."""
+    """The same as one text, with the line and the status of a fault."""
     try:
-        name, scheme, asked, indices = command_of(words)
-        lines = lines_of(name, scheme, asked, indices, matrices_of(data, HASHES[name][1]))
+        return answer(words, data)
     except Fault as fault:
         return f"{fault.line} (status {fault.status})"
-    return "".join(line + "\n" for line in lines)
 
 
 def bytes_of(written):
@@ -131,8 +136,8 @@ def words_of(written):
     return ["" if word == '""' else word for word in written.split()]
 
 
-def answer_of_line(line):
-    """What the program answers to a case, and what its line says."""
+def case_of_line(line):
+    """The words and the input of a case, and what its line says of the answer."""
     words, rest = line.split('| "', 1)
     data, expected = rest.split('" | ', 1)
-    return output(words_of(words), bytes_of(data)), bytes_of(expected).decode()
+    return words_of(words), bytes_of(data), bytes_of(expected).decode()

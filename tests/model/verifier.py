@@ -1,0 +1,140 @@
+"""The verifier's program: words and an input to what it prints, or a fault with its line and status."""
+
+import re
+
+from geometry import FIXED, LOWERED
+from program import HASHES, Fault, number_of
+from refusals import PRUNED, Claim, refusal
+from schemes import Scheme
+
+USAGE = "usage: mmcs_verify fold|sha256 2|4|8 CAP[f] HEIGHTxWIDTH.."
+QUERY = "`index I` or `digests K`"
+
+
+def size_of(word):
+    """The width and the height that a word tells."""
+    height, mark, width = word.partition("x")
+    numbers = [number_of(width), number_of(height)]
+    if not mark or None in numbers:
+        raise Fault(USAGE, 2)
+    return tuple(numbers)
+
+
+def command_of(words):
+    """The hash, the scheme and the dimensions of a command."""
+    if len(words) < 3 or words[0] not in HASHES or words[1] not in ("2", "4", "8"):
+        raise Fault(USAGE, 2)
+    rule = FIXED if words[2].endswith("f") else LOWERED
+    cap_height = number_of(words[2].removesuffix("f"))
+    sizes = [size_of(word) for word in words[3:]]
+    if cap_height is None:
+        raise Fault(USAGE, 2)
+    return words[0], Scheme(int(words[1]), cap_height, rule, functions=HASHES[words[0]][0]), sizes
+
+
+class Lines:
+    """The lines of an input, taken one by one; a line that is not what may stand there is a fault."""
+
+    def __init__(self, data):
+        self.rest = [line.removesuffix(b"\r") for line in data.split(b"\n")]
+        self.taken = 0
+
+    def is_blank(self):
+        return bool(self.rest) and not self.rest[0].strip(b" \t")
+
+    def take(self):
+        self.taken += 1
+        return self.rest.pop(0)
+
+    def take_as(self, read, expected):
+        """What a reading makes of the next line."""
+        found = read(self.rest[0]) if self.rest else None
+        if found is None:
+            raise Fault(f"line {self.taken + 1}: expected {expected}")
+        self.take()
+        return found
+
+
+class Reader:
+    """What stands in the lines of an input, for one hash."""
+
+    def __init__(self, name, sizes, data):
+        _, self.greatest, self.digits = HASHES[name]
+        self.name, self.sizes, self.lines = name, sizes, Lines(data)
+
+    def digest(self, line):
+        if re.fullmatch(rb"[0-9a-fA-F]{%d}" % self.digits, line) is None:
+            return None
+        return bytes.fromhex(line.decode()) if self.name == "sha256" else int(line, 16)
+
+    def row(self, width):
+        def read(line):
+            numerals = line.replace(b"\t", b" ").split(b" ")
+            found = [decimal(run, self.greatest) for run in numerals if run]
+            return found if None not in found and len(found) == width else None
+
+        return self.lines.take_as(read, f"{width} numbers from 0 to {self.greatest}")
+
+    def cap(self):
+        roots = []
+        while not self.lines.is_blank():
+            expected = f"a digest of {self.digits} hexadecimal digits, or a blank line"
+            roots.append(self.lines.take_as(self.digest, expected))
+        self.lines.take()
+        return roots
+
+    def opening(self):
+        """Indices, the rows of each, and the digests."""
+        indices, sets = [], []
+        while True:
+            label, number = self.lines.take_as(labelled, QUERY)
+            if label == b"digests":
+                break
+            indices.append(number)
+            sets.append([self.row(width) for width, _ in self.sizes])
+        expected = f"a digest of {self.digits} hexadecimal digits"
+        return indices, sets, [self.lines.take_as(self.digest, expected) for _ in range(number)]
+
+    def end(self):
+        while self.lines.is_blank():
+            self.lines.take()
+        if self.lines.rest:
+            raise Fault(f"line {self.lines.taken + 1}: expected the end")
+
+
+def decimal(digits, greatest):
+    """The number of some digits, with any zeros in front, up to a greatest one."""
+    if re.fullmatch(rb"[0-9]+", digits) is None:
+        return None
+    digits = digits.lstrip(b"0") or b"0"
+    return int(digits) if len(digits) <= 20 and int(digits) <= greatest else None
+
+
+def labelled(line):
+    """The label and the number of a line."""
+    for label in (b"index", b"digests"):
+        if line.startswith(label + b" "):
+            number = decimal(line[len(label) + 1 :], (1 << 64) - 1)
+            return None if number is None else (label, number)
+    return None
+
+
+def answer(words, data):
+    """What is printed for some words and an input; else a fault."""
+    name, scheme, sizes = command_of(words)
+    reader = Reader(name, sizes, data)
+    roots = reader.cap()
+    indices, sets, digests = reader.opening()
+    reader.end()
+    refused = refusal(PRUNED, Claim(scheme, roots, sizes, indices, sets, digests))
+    if refused:
+        raise Fault(refused)
+    return f"ok {len(digests)}\n"
+
+
+def output(words, data):
+    """The same as one text, with the line and the status of a fault."""
+    try:
+        return answer(words, data)
+    except Fault as fault:
+        return f"{fault.line} (status {fault.status})"
