@@ -25,21 +25,29 @@ def time_a_word(row):
     return float(row["least_us"]) * 1000 / int(row["words"])
 
 
+def compared_with(row):
+    """What a row's time is set beside: the scalar commit for other builders and raw hashes, the plain scheme's work."""
+    form = "plain" if row["form"] in ("plain", "salted") else "scalar"
+    work = "commit" if row["work"] in ("raw", "draw") else row["work"]
+    same = ("part", "functions", "arity", "digest_words", "rows", "width", "matrices", "queries")
+    return work, form, *(row[name] for name in same)
+
+
 def ratios(rows):
-    """Of each row, its time beside that of the scalar commit on the same matrices in the same part."""
-    same = ("part", "functions", "arity", "digest_words", "rows", "width", "matrices")
-    scalar = {}
+    """Of each row, its time beside that of the scalar builder or the plain scheme on the same matrices and queries."""
+    first = {}
     for row in rows:
-        if (row["work"], row["form"]) == ("commit", "scalar"):
-            scalar[tuple(row[name] for name in same)] = float(row["least_us"])
+        key = compared_with(row)
+        if (row["work"], row["form"]) == key[:2]:
+            first[key] = float(row["least_us"])
     for row in rows:
-        base = scalar.get(tuple(row[name] for name in same))
-        beside = row["work"] in ("commit", "raw") and base
-        yield f"{float(row['least_us']) / base:.2f}" if beside else ""
+        base = first.get(compared_with(row))
+        beside = row["work"] in ("commit", "raw") or row["form"] == "salted"
+        yield f"{float(row['least_us']) / base:.2f}" if beside and base else ""
 
 
 def print_table(rows):
-    head = "part,work,functions,form,N,D,rows,width,matrices,queries,digests,times,least us,spread %,ns a word,to scalar"
+    head = "part,work,functions,form,N,D,rows,width,matrices,queries,digests,times,least us,spread %,ns a word,ratio"
     lines = [head.split(",")]
     for row, ratio in zip(rows, ratios(rows)):
         least, most = float(row["least_us"]), float(row["most_us"])
