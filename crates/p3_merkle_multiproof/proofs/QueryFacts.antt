@@ -21,7 +21,7 @@ use Rattle.p3_merkle_core.proofs.Pruned.NoneFacts.{none_parts}
 use Rattle.p3_merkle_core.proofs.Checks.Verdicts.{pruned_accepted}
 use Rattle.p3_merkle_verifier.specs.Inner.Collisions.{Shows}
 use Rattle.p3_merkle_core.specs.declared.collision.InputPair.{InputPair}
-use Rattle.p3_merkle_multiproof.specs.Inner.Pairs.{query_difference, query_in, AreQueriesOf, CanCompare, ShowsPair}
+use Rattle.p3_merkle_multiproof.specs.Inner.QueryPairs.{query_difference, query_in, AreQueriesOf, CanCompare, ShowsPair}
 use Rattle.p3_merkle_multiproof.specs.declared.extraction.RestoredQueries.{RestoredQueries}
 use Rattle.p3_merkle_multiproof.proofs.GroupFacts.{set_read}
 use Rattle.p3_merkle_multiproof.proofs.PlaceFacts.{pairs_alike}

@@ -2,7 +2,7 @@
 use Rattle.std.proofs.Common.{replicate}
 use Rattle.p3_merkle_core.specs.Geometry.{shape_of}
 use Rattle.p3_merkle_core.specs.Nodes.{functions_of}
-use Rattle.p3_merkle_multiproof.specs.Inner.Pairs.{pruned_in}
+use Rattle.p3_merkle_multiproof.specs.Inner.QueryPairs.{pruned_in}
 use Rattle.p3_merkle_multiproof.proofs.QueryFacts.{found_in_both}
 use Rattle.p3_merkle_multiproof.proofs.extraction.extraction.Goals as goal
 
