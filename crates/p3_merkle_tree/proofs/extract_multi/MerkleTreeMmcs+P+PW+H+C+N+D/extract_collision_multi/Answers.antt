@@ -7,7 +7,7 @@ use Rattle.p3_merkle_core.specs.Extraction.{difference_of, first_pair}
 use Rattle.p3_merkle_core.specs.Geometry.{shape_of}
 use Rattle.p3_merkle_core.specs.Pruning.{opening_at}
 use Rattle.p3_merkle_core.specs.Refusals.{AnswersUnlessMemory, pruned_refusal_under}
-use Rattle.p3_merkle_core.proofs.Collisions.ExtractionFacts.{all_authenticated, extracted_pair, pruned_presented}
+use Rattle.p3_merkle_core.proofs.Collisions.ExtractionFacts.{all_authenticated, extracted_pair}
 use Rattle.p3_merkle_multiproof.specs.Inner.QueryPairs.{pruned_in, ShowsPair}
 use Rattle.p3_merkle_tree.specs.Schemes.{cap_layer_over, compression_of, hash_of, terms_of}
 use Rattle.p3_merkle_tree.proofs.CheckFacts.{terms_alike}
