@@ -1,7 +1,9 @@
 pub mod WordFacts
 pub mod FaultFacts
 pub mod AnswerFacts
+pub mod CollisionFacts
 pub mod VerdictFacts
 pub mod DigestFacts
 pub mod RowFacts
 pub mod AcceptedFacts
+pub mod BindingFacts
