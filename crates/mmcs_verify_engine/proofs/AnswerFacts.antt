@@ -70,15 +70,16 @@ module _ {S D V : Type 0} (remaining : S → Option (List ℕ)) (contents : D �
   -- a text that is written
   module _ (output_left : D) (value : V) (text : List ℕ) (answer_is : answer ≡ Ok value)
       (due : (setting : Setting) (task : Task) (dimensions : List Dimensions) (bytes : List ℕ) →
-      AreWords words setting task dimensions → remaining input ≡ Some bytes → outcome_of setting task dimensions bytes ≡ Ok text)
+      AreWords words setting task dimensions → remaining input ≡ Some bytes →
+      outcome_of setting task dimensions bytes ≡ Ok text)
     where
       no_usage : (result : Result (Unit {0}) Fault) → (result ≡ Err Usage → ⊥) →
           (result ≡ Err Usage) ↔ AreNoCommand words
       no_usage result never = (λ is. absurd (never is), λ none. absurd (let same = sym answer_is ∙ usage.1 none in cc))
 
       ends : (result : Result (Unit {0}) Fault) → EndsIn (contents output) (contents output_left) (Ok text) result →
-          (setting : Setting) (task : Task) (dimensions : List Dimensions) (bytes : List ℕ) → AreWords words setting task dimensions →
-          remaining input ≡ Some bytes →
+          (setting : Setting) (task : Task) (dimensions : List Dimensions) (bytes : List ℕ) →
+          AreWords words setting task dimensions → remaining input ≡ Some bytes →
           EndsIn (contents output) (contents output_left) (outcome_of setting task dimensions bytes) result
       ends result end setting task dimensions bytes are known =
           subst (λ (o : Result (List ℕ) Fault). EndsIn (contents output) (contents output_left) o result)
@@ -115,8 +116,8 @@ module _ {S D V : Type 0} (remaining : S → Option (List ℕ)) (contents : D �
 -- the words are no command, or there was no memory for them
 pub request_fault : {S : Type 0} (remaining : S → Option (List ℕ)) (words : List (List ℕ)) (input : S) (fault : Fault) →
     ((fault ≡ Usage) × AreNoCommand words) ⊎ ((fault ≡ Tree OutOfMemory) × (AreNoCommand words → ⊥)) →
-    (setting : Setting) (task : Task) (dimensions : List Dimensions) (bytes : List ℕ) → AreWords words setting task dimensions →
-    remaining input ≡ Some bytes →
+    (setting : Setting) (task : Task) (dimensions : List Dimensions) (bytes : List ℕ) →
+    AreWords words setting task dimensions → remaining input ≡ Some bytes →
     (fault ≡ Read) ⊎ ((fault ≡ Tree OutOfMemory) ⊎ (outcome_of setting task dimensions bytes ≡ Err fault))
 request_fault remaining words input fault told setting task dimensions bytes are known =
     ⊎_elim (λ usage. absurd (usage.1 setting task dimensions are)) (λ memory. inr (inl memory.0)) told

@@ -2,6 +2,7 @@ pub mod WordFacts
 pub mod FaultFacts
 pub mod AnswerFacts
 pub mod CollisionFacts
+pub mod CompareFacts
 pub mod VerdictFacts
 pub mod DigestFacts
 pub mod RowFacts

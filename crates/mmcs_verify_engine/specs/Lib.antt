@@ -6,5 +6,6 @@ pub mod Collisions
 pub mod Outcomes
 pub mod Accepted
 pub mod AcceptedExamples
+pub mod CollisionExamples
 pub mod Binding
 pub mod Inner

@@ -77,10 +77,12 @@ fn answer_to<Src: Read>(alloc: Global, words: &[String], input: &mut Src) -> Res
     ensures usage { (result ≡ Err Fault.Usage) ↔ AreNoCommand (texts_of words.now) }
     ensures unread { result ≡ Err Fault.Usage → input.new ≡ input.old }
     ensures text { IfOk result (λ text. (setting : Setting) (task : Task) (dimensions : List Dimensions)
-        (bytes : List ℕ) → AreWords (texts_of words.now) setting task dimensions → Src.remaining input.old ≡ Some bytes →
+        (bytes : List ℕ) → AreWords (texts_of words.now) setting task dimensions →
+        Src.remaining input.old ≡ Some bytes →
         outcome_of setting task dimensions bytes ≡ Ok text.items) }
     ensures fault { IfErr result (λ fault. (setting : Setting) (task : Task) (dimensions : List Dimensions)
-        (bytes : List ℕ) → AreWords (texts_of words.now) setting task dimensions → Src.remaining input.old ≡ Some bytes →
+        (bytes : List ℕ) → AreWords (texts_of words.now) setting task dimensions →
+        Src.remaining input.old ≡ Some bytes →
         (fault ≡ Fault.Read) ⊎ ((fault ≡ Fault.Tree OutOfMemory) ⊎
         (outcome_of setting task dimensions bytes ≡ Err fault))) }
 {

@@ -23,7 +23,7 @@ pub fn printed_is_accepted()
     ensures outcomes { OutcomesAreAccepted }
 {}
 
-/// A cap fixes rows up to a collision that is printed. Where two openings of one cap are each answered by `ok`, and they
+/// A cap fixes rows up to a collision that is printed. Where two openings of one cap are each answered by `ok`, and
 /// answer one row in two ways, the cap with both openings is answered under `collide` by two different inputs of one
 /// digest, at one place of both checks. The row is one that the cap fixes; under the lowered rule it is any.
 pub fn caps_are_binding()

@@ -1,5 +1,5 @@
-//! The engine of the program `mmcs_verify`: from the words of a command, a cap and one opening or two to an answer, or to a
-//! fault.
+//! The engine of the program `mmcs_verify`: from the words of a command, a cap and one opening or two to an answer, or
+//! to a fault.
 #![tactic(auto)]
 
 mod collision;

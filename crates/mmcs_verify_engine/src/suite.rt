@@ -16,8 +16,8 @@ use p3_merkle_tree::MerkleTreeMmcs;
 use p3_support::compress::PseudoCompressionFunction;
 use p3_support::hasher::CryptographicHasher;
 
-/// A scheme, with the hasher and the compression that it is made of. The scheme keeps these to itself, and the digest of
-/// a collision is told by them.
+/// A scheme, with the hasher and the compression that it is made of. The scheme keeps these to itself, and the digest
+/// of a collision is theirs.
 #[derive(Clone, Copy)]
 pub(crate) struct Suite<S, H, C> {
     /// The scheme.
