@@ -1,6 +1,5 @@
 -- The text of a collision.
-use Rattle.std.specs.Prelude.{ℕ, List, [], ◌∷◌, ◌++◌, codes, slice_index, Option, None, Some}
-use Rattle.std.specs.List.{concat}
+use Rattle.std.specs.Prelude.{ℕ, List, [], ◌∷◌, ◌++◌, codes, flat_map, slice_index, Option, None, Some}
 use Rattle.p3_merkle_core.specs.Checks.{input_digest, Content, Digests, Input, Words}
 use Rattle.p3_merkle_core.specs.declared.collision.Place.{Place}
 use Rattle.p3_merkle_core.specs.declared.collision.Place.TheVariants.{Leaf, Group, Rows, Pair}
@@ -11,7 +10,7 @@ use Rattle.mmcs_engine.specs.Program.{functions_of_hash, hex_digits}
 -- the words of an input as they are hashed: those of rows, or those of digests, one digest after another
 abbrev pub hashed_words : {T : Type 0} → Content T T → List T
 hashed_words (Words words) = words
-hashed_words (Digests digests) = concat digests
+hashed_words (Digests digests) = flat_map (λ digest. digest) digests
 
 -- where an input stands: at the leaf, or on a level, by what is hashed there
 abbrev pub place_line : Place → List ℕ

@@ -1,7 +1,6 @@
 //! The text of a collision.
 
-ghost use Rattle.std.specs.Prelude.{◌≡◌, ◌++◌, ◌∷◌, [], ℕ, ◌<◌, IfOk, IfSome, List, OnOk, length, map};
-ghost use Rattle.std.specs.List.{concat};
+ghost use Rattle.std.specs.Prelude.{◌≡◌, ◌++◌, ◌∷◌, [], ℕ, ◌<◌, IfOk, IfSome, List, OnOk, flat_map, length, map};
 ghost use Rattle.std.specs.Option.{option_map};
 ghost use Rattle.p3_merkle_core.specs.Checks.{HasDigests};
 ghost use Rattle.p3_merkle_core.specs.Nodes.{functions_of};
@@ -153,7 +152,7 @@ fn push_digests<W: Word, const D: usize>(
     digests: &[[W; D]],
 ) -> Result<(), AllocError>
     ensures { OnOk result
-        (text.new.items ≡ text.old.items ++ hex_line W.HEX_DIGITS (map W.value (concat digests.now))) }
+        (text.new.items ≡ text.old.items ++ hex_line W.HEX_DIGITS (map W.value (flat_map (λ digest. digest) digests.now))) }
 {
     for digest in digests {
         push_hex_words(text, digest)?;
