@@ -1,5 +1,5 @@
 -- A cap fixes rows, up to a collision that is printed.
-use Rattle.std.proofs.Common.{◌≡◌, ◌⊎◌, ⊎_elim, ℕ, List, Option, Some, None, Result, Ok, Err, refl, sym, ap, ◌∙◌, subst}
+use Rattle.std.proofs.Common.{◌≡◌, ◌⊎◌, ⊎_elim, ℕ, List, Option, Some, None, Result, Ok, refl, sym, ap, ◌∙◌, subst}
 use Rattle.std.specs.Prelude.{nat_eq, IfSome, IsOk, IsSome, length}
 use Rattle.std.specs.Option.{option_or}
 use Rattle.std.proofs.lemmas.Bool.Decides.{Decides-eqb}
@@ -15,14 +15,12 @@ use Rattle.p3_merkle_core.specs.declared.error.MerkleTreeError.{MerkleTreeError}
 use Rattle.p3_merkle_core.proofs.Collisions.ExtractionFacts.{all_authenticated, answer_is_extraction, pruned_presented}
 use Rattle.mmcs_text.specs.Words.{arity_number}
 use Rattle.mmcs_opening_text.specs.Printing.{text_of_pair, text_shown}
-use Rattle.mmcs_opening_text.specs.Readings.{pair_in, shown_in, Shown, ShownPair}
+use Rattle.mmcs_opening_text.specs.Readings.{shown_in, Shown}
 use Rattle.mmcs_opening_text.specs.declared.fault.Fault.{Fault}
 use Rattle.mmcs_opening_text.specs.declared.request.Setting.{Setting}
-use Rattle.mmcs_opening_text.specs.declared.request.Task.TheVariants.{Verify, Collide}
 use Rattle.mmcs_opening_text.proofs.PrintedFacts.{pair_is_read, printed_is_read}
-use Rattle.mmcs_verify_engine.specs.Binding.{AnswerTwice, CapIsBinding, IsAnsweredOk, PrintedCapIsBinding, PrintsCollision}
-use Rattle.mmcs_verify_engine.specs.Collisions.{collision_text}
-use Rattle.mmcs_verify_engine.specs.Outcomes.{answer_to, answer_to_pair, extraction_asked, outcome_of, presented_asked, refusal_asked, terms_asked, told, told_of_pair}
+use Rattle.mmcs_verify_engine.specs.Binding.{CapIsBinding, IsAnsweredOk, PrintedCapIsBinding}
+use Rattle.mmcs_verify_engine.specs.Outcomes.{answer_to, answer_to_pair, refusal_asked, terms_asked, told, told_of_pair}
 use Rattle.mmcs_verify_engine.proofs.AcceptedFacts.{arity_lawful}
 
 -- what is found is something

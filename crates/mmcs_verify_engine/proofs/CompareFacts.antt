@@ -1,13 +1,12 @@
 -- What an extraction of two openings that were read tells.
 use Rattle.std.proofs.Common.{◌≡◌, ◌⊎◌, ◌<◌, ℕ, Bool, List, length, Option, Some, None, Result, Ok, Err, ap, subst}
-use Rattle.std.specs.Prelude.{IfOk, IfSome}
+use Rattle.std.specs.Prelude.{IfSome}
 use Rattle.std.specs.Option.{option_map}
 use Rattle.p3_merkle_core.specs.Checks.{HasDigests, Input, Terms}
 use Rattle.p3_merkle_core.specs.Extraction.{IsExtraction, IsFirstCollision}
 use Rattle.p3_merkle_core.specs.Nodes.{Functions}
 use Rattle.p3_merkle_core.specs.Presented.{presented_pruned, Presented}
 use Rattle.p3_merkle_core.specs.Pruning.{PrunedOpening}
-use Rattle.p3_merkle_core.specs.Refusals.{AnswersUnlessMemory}
 use Rattle.p3_merkle_core.specs.Views.{found_pair, inputs_in}
 use Rattle.p3_merkle_core.specs.declared.cap.CapRule.{CapRule}
 use Rattle.p3_merkle_core.specs.declared.collision.InputPair.{InputPair}

@@ -8,11 +8,9 @@ use Rattle.p3_support.specs.Shown.{row_sets}
 use Rattle.p3_support.specs.declared.matrix.Dimensions.{Dimensions}
 use Rattle.p3_merkle_core.specs.Caps.{cap_layer}
 use Rattle.p3_merkle_core.specs.Checks.{terms, Input, Terms}
-use Rattle.p3_merkle_core.specs.Extraction.{extraction}
 use Rattle.p3_merkle_core.specs.Geometry.{shape_of, Shape}
 use Rattle.p3_merkle_core.specs.Nodes.{Functions}
-use Rattle.p3_merkle_core.specs.Presented.{presented_pruned}
-use Rattle.p3_merkle_core.specs.Pruning.{pruned_of, PrunedOpening}
+use Rattle.p3_merkle_core.specs.Pruning.{pruned_of}
 use Rattle.p3_merkle_core.specs.Refusals.{ok_unless, pruned_refusal_under, IsEquality}
 use Rattle.p3_merkle_core.specs.declared.cap.CapRule.{CapRule}
 use Rattle.p3_merkle_core.specs.declared.error.MerkleTreeError.{MerkleTreeError}
@@ -20,10 +18,10 @@ use Rattle.p3_merkle_core.specs.declared.error.MerkleTreeError.TheVariants.{OutO
 use Rattle.mmcs_text.specs.Text.{ok_line}
 use Rattle.mmcs_text.specs.Words.{arity_number}
 use Rattle.mmcs_text.specs.declared.command.HashName.{HashName}
-use Rattle.mmcs_engine.specs.Program.{functions_of_hash, hex_digits}
+use Rattle.mmcs_engine.specs.Program.{functions_of_hash}
 use Rattle.mmcs_engine.specs.Inner.Alike.{pruned_in_numbers, IsSchemeOf}
 use Rattle.mmcs_engine.proofs.NumberFacts.{refusal_in_numbers}
-use Rattle.mmcs_opening_text.specs.Readings.{pair_in, pair_of, shown_in, shown_of, shown_under, Shown, ShownPair}
+use Rattle.mmcs_opening_text.specs.Readings.{pair_in, pair_of, shown_in, shown_of, shown_under, ShownPair}
 use Rattle.mmcs_opening_text.specs.declared.fault.Fault.{Fault}
 use Rattle.mmcs_opening_text.specs.declared.fault.Fault.TheVariants.{Tree}
 use Rattle.mmcs_opening_text.specs.declared.reader.Opening.{Opening}
@@ -37,7 +35,7 @@ use Rattle.mmcs_verify_engine.specs.Inner.TypedCollisions.{difference_read, open
 use Rattle.mmcs_verify_engine.proofs.CollisionFacts.{difference_in, text_in_numbers}
 
 -- the text if nothing is refused
-told_text : Option MerkleTreeError → List ℕ → Result (List ℕ) Fault
+abbrev told_text : Option MerkleTreeError → List ℕ → Result (List ℕ) Fault
 told_text None text = Ok text
 told_text (Some e) text = Err (Tree e)
 

@@ -5,7 +5,7 @@ use Rattle.p3_merkle_core.specs.Checks.{Input}
 use Rattle.p3_merkle_core.specs.Extraction.{AnswerAnyRowTwice, AnswerOneRowTwice, IsFirstCollision, SomePair}
 use Rattle.p3_merkle_core.specs.declared.cap.CapRule.TheVariants.{Lowered}
 use Rattle.mmcs_opening_text.specs.Printing.{text_of_pair, text_shown, IsShownOf}
-use Rattle.mmcs_opening_text.specs.Readings.{pair_in, shown_in, Shown, ShownPair}
+use Rattle.mmcs_opening_text.specs.Readings.{pair_in, shown_in, ShownPair}
 use Rattle.mmcs_opening_text.specs.declared.request.Setting.{Setting}
 use Rattle.mmcs_opening_text.specs.declared.request.Task.TheVariants.{Verify, Collide}
 use Rattle.mmcs_verify_engine.specs.Collisions.{collision_text}
