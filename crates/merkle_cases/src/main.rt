@@ -1,9 +1,9 @@
 //! Reads cases from standard input, one a line, and says which are not answered as their line says.
 //!
 //! A line is a keyword, fields and the expected answer, with `|` between them. A blank line is no case, nor is one that
-//! begins with `#`. All trees are those of the fold functions with digests of one word. A new kind of case is an arm of
-//! [`answer`], or of [`answer_at`] where its first field is an arity, and a function that reads all its fields and then
-//! answers.
+//! begins with `#`. All trees but those of `sha256_commit` are those of the fold functions with digests of one word. A
+//! new kind of case is an arm of [`answer`], or of [`answer_at`] where its first field is an arity, and a function that
+//! reads all its fields and then answers.
 #![tactic(auto)]
 
 ghost use Rattle.std.specs.Prelude.{◌≤◌, IsTrue};
@@ -27,6 +27,7 @@ mod reader;
 mod replay;
 mod salted;
 mod scheme;
+mod sha256;
 mod sweep;
 mod text;
 mod twin;
@@ -53,6 +54,7 @@ fn answer_at<const N: usize>(
 {
     match keyword {
         "compress" => hash::compress::<N>(fields, answer),
+        "sha256_groups" => sha256::groups::<N>(fields, answer),
         "padding" => geometry::padding::<N>(fields, answer),
         "siblings" => geometry::siblings::<N>(fields, answer),
         "authenticated" => authenticated::authenticated::<N>(fields, answer),
@@ -75,6 +77,7 @@ fn answer_of_tree<const N: usize>(
     match keyword {
         "shape" => heights::shape::<N>(alloc, fields, answer),
         "commit" => commit::commit::<N>(alloc, fields, answer),
+        "sha256_commit" => sha256::commit::<N>(alloc, fields, answer),
         "layers" => commit::layers::<N>(alloc, fields, answer),
         "builders" => builders::builders::<N>(alloc, fields, answer),
         "open" => open::open::<N>(alloc, fields, answer),
@@ -111,6 +114,8 @@ fn answer_to_opening<const N: usize>(
 fn answer(alloc: Global, fields: &mut Fields<'_>, answer: &mut Answer) -> Result<(), Fault> {
     match fields.take() {
         "hash" => hash::hash(fields, answer),
+        "sha256" => sha256::message(fields, answer),
+        "sha256_rows" => sha256::rows(fields, answer),
         "exponent" => geometry::exponent(fields, answer),
         "halving" => geometry::halving(fields, answer),
         "step" => geometry::step(fields, answer),

@@ -1,0 +1,250 @@
+//! SHA-256 of messages, of groups and of trees, one at a time and in eights.
+
+ghost use Rattle.std.specs.Prelude.{◌≡◌, ◌*◌, ◌≤◌, length, IsTrue};
+ghost use Rattle.p3_merkle_core.specs.Geometry.{is_arity};
+
+use crate::fields::{Fault, Fields};
+use crate::reader::Reader;
+use crate::scheme::Cap;
+use crate::text::Answer;
+use p3_instances::sha::{Sha256Nodes, Sha256Rows};
+use p3_instances::sha_eights::{Sha256NodesInEights, Sha256RowsInEights};
+use p3_merkle_tree::{MerkleCap, MerkleTreeError, MerkleTreeMmcs};
+use p3_support::compress::PseudoCompressionFunction;
+use p3_support::hasher::CryptographicHasher;
+use p3_support::matrix::{Dimensions, RowMajorMatrix};
+use std::alloc::Global;
+
+/// A digest.
+type Digest = [u8; 32];
+
+/// How many messages, or groups, are taken together at the most: two whole eights and one.
+const MOST: usize = 17;
+
+/// The length of the longest messages that are taken together.
+const LONGEST: usize = 128;
+
+/// How many bytes there are: those of as many such messages, which are as many groups of four digests.
+const BYTES: usize = 2176;
+
+/// The byte at a place: its number modulo 251.
+fn byte_at(place: usize) -> u8 {
+    (place % 251) as u8
+}
+
+/// The first bytes.
+fn first_bytes() -> [u8; BYTES] {
+    let mut bytes = [0; BYTES];
+    for (place, byte) in bytes.iter_mut().enumerate() {
+        *byte = byte_at(place);
+    }
+    bytes
+}
+
+/// The digest of a message by each call of a hasher.
+fn by_each_call<H: CryptographicHasher<u8, u8, 32>>(hasher: &H, message: &[u8]) -> [Digest; 5] {
+    let parts = [&message[..message.len() / 2], &message[message.len() / 2..]];
+    let mut many = [[0; 32]; 1];
+    hasher.hash_many(message, &mut many);
+    [
+        hasher.hash_slice(message),
+        hasher.hash_iter(message.iter().copied()),
+        hasher.hash_iter_slices(parts.iter().copied()),
+        hasher.hash_packed(message.iter().copied()),
+        many[0],
+    ]
+}
+
+/// `sha256 | MESSAGE | DIGEST`: the digest of a text, `-` if it is empty, which each call of both hashers gives.
+pub fn message(fields: &mut Fields<'_>, answer: &mut Answer) -> Result<(), Fault> {
+    let text = fields.take();
+    let message = if text == "-" { "" } else { text }.as_bytes();
+    let digests = by_each_call(&Sha256Rows, message);
+    if digests != [digests[0]; 5] || digests != by_each_call(&Sha256RowsInEights, message) {
+        return Err(Fault::Wrong("another call gives another digest"));
+    }
+    answer.hexadecimal(&[digests[0]]);
+    Ok(())
+}
+
+/// The first `count` messages of a length.
+fn messages(bytes: &[u8; BYTES], len: usize, count: usize) -> &[u8]
+    requires short { len ≤ 128 }
+    requires few { count ≤ 17 }
+    ensures { length result.now ≡ len * count }
+{
+    &bytes[..len * count]
+}
+
+/// The digests of all messages of a length, one by one.
+fn digests_of_rows(bytes: &[u8; BYTES], len: usize) -> [Digest; MOST]
+    requires { len ≤ 128 }
+{
+    let mut digests = [[0; 32]; MOST];
+    for (place, digest) in digests.iter_mut().enumerate() {
+        let before = messages(bytes, len, place).len();
+        *digest = Sha256Rows.hash_slice(&messages(bytes, len, place + 1)[before..]);
+    }
+    digests
+}
+
+/// Whether a hasher gives the first messages of a length, however many, these digests when it takes them together.
+fn hashes_many<H: CryptographicHasher<u8, u8, 32>>(
+    hasher: &H,
+    bytes: &[u8; BYTES],
+    len: usize,
+    digests: &[Digest; MOST],
+) -> bool
+    requires { len ≤ 128 }
+{
+    for count in 0..MOST + 1 {
+        let mut found = [[0; 32]; MOST];
+        hasher.hash_many(messages(bytes, len, count), &mut found[..count]);
+        if found[..count] != digests[..count] {
+            return false;
+        }
+    }
+    true
+}
+
+/// `sha256_rows | LENGTH | DIGESTS`: the digests of 17 messages of a length, one after another the bytes 0, 1, 2 and so
+/// on modulo 251. Both hashers give them to the first messages together, to none of them and to each number up to all.
+pub fn rows(fields: &mut Fields<'_>, answer: &mut Answer) -> Result<(), Fault> {
+    let len = fields.number();
+    if len > LONGEST {
+        return Err(Fault::Unreadable("a message is too long"));
+    }
+    let bytes = first_bytes();
+    let digests = digests_of_rows(&bytes, len);
+    if !hashes_many(&Sha256Rows, &bytes, len, &digests)
+        || !hashes_many(&Sha256RowsInEights, &bytes, len, &digests)
+    {
+        return Err(Fault::Wrong("messages have other digests together"));
+    }
+    answer.hexadecimal(&digests);
+    Ok(())
+}
+
+/// The digest of each group, and whether each call of a compression gives it.
+fn by_each_group<C: PseudoCompressionFunction<u8, N, 32>, const N: usize>(
+    compress: &C,
+    groups: &[[Digest; N]; MOST],
+) -> ([Digest; MOST], bool) {
+    let mut digests = [[0; 32]; MOST];
+    let mut is_alike = true;
+    for (digest, group) in digests.iter_mut().zip(groups) {
+        *digest = compress.compress(*group);
+        is_alike = is_alike && *digest == compress.compress_packed(*group);
+    }
+    (digests, is_alike)
+}
+
+/// Whether a compression gives the first groups, however many, these digests when it takes them together.
+fn compresses_many<C: PseudoCompressionFunction<u8, N, 32>, const N: usize>(
+    compress: &C,
+    groups: &[[Digest; N]; MOST],
+    digests: &[Digest; MOST],
+) -> bool {
+    for count in 0..MOST + 1 {
+        let mut found = [[0; 32]; MOST];
+        compress.compress_many(&groups[..count], &mut found[..count]);
+        if found[..count] != digests[..count] {
+            return false;
+        }
+    }
+    true
+}
+
+/// `sha256_groups | ARITY | DIGESTS`: the digests of 17 groups, whose bytes are those of `sha256_rows`. Both
+/// compressions give them to each group, and to the first groups together, to none of them and to each number up to all.
+pub fn groups<const N: usize>(fields: &mut Fields<'_>, answer: &mut Answer) -> Result<(), Fault>
+    requires { N ≤ 16 }
+{
+    let bytes = first_bytes();
+    let (children, _) = bytes.as_chunks::<32>();
+    let (groups, _) = children.as_chunks::<N>();
+    let Some(groups) = groups.first_chunk::<MOST>() else {
+        return Err(Fault::Unreadable("the groups are too large"));
+    };
+    let (one, eights) = (Sha256Nodes::<N>, Sha256NodesInEights::<N>);
+    let (digests, is_alike) = by_each_group(&one, groups);
+    if !is_alike
+        || by_each_group(&eights, groups) != (digests, true)
+        || !compresses_many(&one, groups, &digests)
+        || !compresses_many(&eights, groups, &digests)
+    {
+        return Err(Fault::Wrong("groups have other digests"));
+    }
+    answer.hexadecimal(&digests);
+    Ok(())
+}
+
+/// Matrices of these dimensions, each of the bytes 0, 1, 2 and so on modulo 251, row by row.
+fn byte_matrices(reader: &mut Reader, dimensions: &[Dimensions]) -> Vec<RowMajorMatrix<u8>> {
+    let mut matrices = reader.none();
+    for Dimensions { width, height } in dimensions {
+        let bytes = bytes(reader, width.saturating_mul(*height));
+        let matrix = reader.matrix_from(bytes, *width);
+        reader.push(&mut matrices, matrix);
+    }
+    matrices
+}
+
+/// So many bytes from the first on.
+fn bytes(reader: &mut Reader, count: usize) -> Vec<u8> {
+    let mut bytes = reader.none();
+    for place in 0..count {
+        reader.push(&mut bytes, byte_at(place));
+    }
+    bytes
+}
+
+/// The cap of matrices by a hasher and a compression.
+fn cap_by<
+    H: CryptographicHasher<u8, u8, 32> + Drop,
+    C: PseudoCompressionFunction<u8, N, 32> + Drop,
+    const N: usize,
+>(
+    alloc: Global,
+    hasher: H,
+    compress: C,
+    cap: Cap,
+    matrices: Vec<RowMajorMatrix<u8>>,
+) -> Result<MerkleCap<u8, Digest>, MerkleTreeError>
+    requires arity { IsTrue (is_arity N) }
+{
+    let scheme = MerkleTreeMmcs::<u8, u8, H, C, N, 32>::new_with_rule(
+        hasher, compress, cap.height, cap.rule,
+    );
+    let (cap, _) = scheme.commit(alloc, matrices)?;
+    Ok(cap)
+}
+
+/// `sha256_commit | ARITY | CAP | DIMENSIONS | ROOTS`: the cap of matrices, each of the bytes 0, 1, 2 and so on modulo
+/// 251, which is one and the same one at a time and in eights.
+pub fn commit<const N: usize>(
+    alloc: Global,
+    fields: &mut Fields<'_>,
+    answer: &mut Answer,
+) -> Result<(), Fault>
+    requires arity { IsTrue (is_arity N) }
+    requires few { N ≤ 16 }
+{
+    let cap = fields.cap();
+    let dimensions = fields.dimensions();
+    let plain = byte_matrices(&mut fields.reader, &dimensions);
+    let plain = cap_by(alloc, Sha256Rows, Sha256Nodes::<N>, cap, plain)?;
+    let eights = byte_matrices(&mut fields.reader, &dimensions);
+    let eights = cap_by(
+        alloc,
+        Sha256RowsInEights,
+        Sha256NodesInEights::<N>,
+        cap,
+        eights,
+    )?;
+    if plain != eights {
+        return Err(Fault::Wrong("the caps differ"));
+    }
+    answer.hexadecimal(plain.roots());
+    Ok(())
+}
