@@ -5,7 +5,7 @@ ghost use Rattle.p3_merkle_core.specs.Geometry.{is_arity};
 ghost use Rattle.p3_merkle_prover.specs.Parts.{layers_of};
 
 use crate::fields::{Fault, Fields};
-use crate::scheme::{FoldTree, Rows, committed, fold_scheme, fold_tree};
+use crate::scheme::{FoldTree, Rows, commit_to, fold_scheme, fold_tree};
 use crate::text::Answer;
 use p3_merkle_tree::MerkleTreeError;
 use std::alloc::Global;
@@ -20,7 +20,7 @@ pub fn commit<const N: usize>(
     requires few { N ≤ 16 }
 {
     let scheme = fold_scheme::<N>(fields.cap());
-    let (cap, _) = committed(alloc, &scheme, fields.matrices())?;
+    let (cap, _) = commit_to(alloc, &scheme, fields.matrices())?;
     answer.digests(cap.roots());
     Ok(())
 }

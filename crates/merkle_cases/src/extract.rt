@@ -5,11 +5,9 @@ ghost use Rattle.p3_merkle_core.specs.Geometry.{is_arity};
 
 use crate::fields::{Fault, Fields};
 use crate::pruned::LeavesOpening;
-use crate::scheme::{FoldCap, FoldScheme, fold_scheme};
 use crate::text::Answer;
-use crate::verify::LeafOpening;
-use p3_merkle_tree::{BatchOpeningRef, Collision, MerkleCap, MerkleTreeError, Place};
-use p3_support::matrix::Dimensions;
+use crate::verify::{LeafOpening, Verifier};
+use p3_merkle_tree::{Collision, Place};
 use std::alloc::Global;
 
 /// Writes a place by its name, and the level that it is on.
@@ -63,12 +61,10 @@ pub fn extract_pruned<const N: usize>(
     requires arity { IsTrue (is_arity N) }
     requires few { N ≤ 16 }
 {
-    let scheme = fold_scheme::<N>(fields.cap());
-    let cap = MerkleCap::new(fields.digests());
-    let dimensions = fields.dimensions();
+    let verifier = Verifier::<N>::of(fields);
     let first = LeavesOpening::of(fields);
     let second = LeavesOpening::of(fields);
-    let found = collision_of_leaves(alloc, &scheme, &cap, &dimensions, &first, &second)?;
+    let found = verifier.collision_of_leaves(alloc, &first, &second)?;
     write_found_pair(&found, answer);
     Ok(())
 }
@@ -88,18 +84,6 @@ pub fn write_found_pair(
     }
 }
 
-/// What two openings of several leaves lead to.
-pub fn collision_of_leaves<const N: usize>(
-    alloc: Global,
-    scheme: &FoldScheme<N>,
-    cap: &FoldCap,
-    dimensions: &[Dimensions],
-    first: &LeavesOpening,
-    second: &LeavesOpening,
-) -> Result<Option<(usize, usize, Collision<u32, u32, 1>)>, MerkleTreeError> {
-    scheme.extract_collision_multi(alloc, cap, dimensions, first.lent(), second.lent())
-}
-
 /// `extract | ARITY | CAP | CAP | DIMENSIONS | INDEX | ROWS | SIBLINGS | INDEX | ROWS | SIBLINGS | ANSWER`: what
 /// two openings lead to, which is `none`, or a place with the input of the first and that of the second.
 pub fn extract<const N: usize>(
@@ -110,12 +94,10 @@ pub fn extract<const N: usize>(
     requires arity { IsTrue (is_arity N) }
     requires few { N ≤ 16 }
 {
-    let scheme = fold_scheme::<N>(fields.cap());
-    let cap = MerkleCap::new(fields.digests());
-    let dimensions = fields.dimensions();
+    let verifier = Verifier::<N>::of(fields);
     let first = LeafOpening::of(fields);
     let second = LeafOpening::of(fields);
-    let found = collision_of(alloc, &scheme, &cap, &dimensions, &first, &second)?;
+    let found = verifier.collision(alloc, &first, &second)?;
     write_found(&found, answer);
     Ok(())
 }
@@ -126,24 +108,4 @@ pub fn write_found(found: &Option<Collision<u32, u32, 1>>, answer: &mut Answer) 
         Some(collision) => write_collision(collision, answer),
         None => answer.push("none"),
     }
-}
-
-/// What two openings lead to.
-pub fn collision_of<const N: usize>(
-    alloc: Global,
-    scheme: &FoldScheme<N>,
-    cap: &FoldCap,
-    dimensions: &[Dimensions],
-    first: &LeafOpening,
-    second: &LeafOpening,
-) -> Result<Option<Collision<u32, u32, 1>>, MerkleTreeError> {
-    scheme.extract_collision(
-        alloc,
-        cap,
-        dimensions,
-        first.index,
-        BatchOpeningRef::from(&first.opening),
-        second.index,
-        BatchOpeningRef::from(&second.opening),
-    )
 }

@@ -8,7 +8,7 @@ use crate::fields::{Fault, Fields};
 use crate::reader::Reader;
 use crate::replay::write_steps;
 use crate::scheme::{
-    Column, FoldOpening, FoldTree, ROOT, Rows, committed, fold_scheme, fold_tree, tall_columns,
+    Column, FoldOpening, FoldTree, ROOT, Rows, commit_to, fold_scheme, fold_tree, tall_columns,
 };
 use crate::text::Answer;
 use p3_merkle_core::geometry::check_heights;
@@ -148,7 +148,7 @@ pub fn shape<const N: usize>(
     let dimensions = fields.columns();
     let matrices = fields.reader.numbered(&dimensions);
     write_steps(alloc, &scheme, &dimensions, answer)?;
-    let (_, tree) = committed(alloc, &scheme, matrices)?;
+    let (_, tree) = commit_to(alloc, &scheme, matrices)?;
     write_lens(alloc, &tree, answer)?;
     Ok(())
 }

@@ -158,7 +158,8 @@ fn compresses_many<C: PseudoCompressionFunction<u8, N, 32>, const N: usize>(
 /// `sha256_groups | ARITY | DIGESTS`: the digests of 17 groups, whose bytes are those of `sha256_rows`. Both
 /// compressions give them to each group, and to the first groups together, to none of them and to each number up to all.
 pub fn groups<const N: usize>(fields: &mut Fields<'_>, answer: &mut Answer) -> Result<(), Fault>
-    requires { N ≤ 16 }
+    requires several { 2 ≤ N }
+    requires few { N ≤ 16 }
 {
     let bytes = first_bytes();
     let (children, _) = bytes.as_chunks::<32>();
