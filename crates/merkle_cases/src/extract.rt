@@ -3,12 +3,12 @@
 ghost use Rattle.std.specs.Prelude.{◌≤◌, IsTrue};
 ghost use Rattle.p3_merkle_core.specs.Geometry.{is_arity};
 
-use crate::fields::{Fault, Fields};
+use crate::case::Case;
+use crate::fields::Fault;
 use crate::pruned::LeavesOpening;
 use crate::text::Answer;
 use crate::verify::{LeafOpening, Verifier};
 use p3_merkle_tree::{Collision, Place};
-use std::alloc::Global;
 
 /// Writes a place by its name, and the level that it is on.
 fn write_place(place: &Place, answer: &mut Answer) {
@@ -53,19 +53,15 @@ fn write_collision(collision: &Collision<u32, u32, 1>, answer: &mut Answer) {
 /// `extract_pruned | ARITY | CAP | ROOTS | DIMENSIONS | INDICES | ROW SETS | DIGESTS | INDICES | ROW SETS | DIGESTS |
 /// ANSWER`: what two openings of several leaves lead to, which is `none`, or the places of two queries in their lists,
 /// and then a place with the input of the first and that of the second.
-pub fn extract_pruned<const N: usize>(
-    alloc: Global,
-    fields: &mut Fields<'_>,
-    answer: &mut Answer,
-) -> Result<(), Fault>
+pub fn extract_pruned<const N: usize>(case: &mut Case<'_>) -> Result<(), Fault>
     requires arity { IsTrue (is_arity N) }
     requires few { N ≤ 16 }
 {
-    let verifier = Verifier::<N>::of(fields);
-    let first = LeavesOpening::of(fields);
-    let second = LeavesOpening::of(fields);
-    let found = verifier.collision_of_leaves(alloc, &first, &second)?;
-    write_found_pair(&found, answer);
+    let verifier = Verifier::<N>::of(&mut case.fields);
+    let first = LeavesOpening::of(&mut case.fields);
+    let second = LeavesOpening::of(&mut case.fields);
+    let found = verifier.collision_of_leaves(case.alloc, &first, &second)?;
+    write_found_pair(&found, &mut case.answer);
     Ok(())
 }
 
@@ -86,19 +82,15 @@ pub fn write_found_pair(
 
 /// `extract | ARITY | CAP | CAP | DIMENSIONS | INDEX | ROWS | SIBLINGS | INDEX | ROWS | SIBLINGS | ANSWER`: what
 /// two openings lead to, which is `none`, or a place with the input of the first and that of the second.
-pub fn extract<const N: usize>(
-    alloc: Global,
-    fields: &mut Fields<'_>,
-    answer: &mut Answer,
-) -> Result<(), Fault>
+pub fn extract<const N: usize>(case: &mut Case<'_>) -> Result<(), Fault>
     requires arity { IsTrue (is_arity N) }
     requires few { N ≤ 16 }
 {
-    let verifier = Verifier::<N>::of(fields);
-    let first = LeafOpening::of(fields);
-    let second = LeafOpening::of(fields);
-    let found = verifier.collision(alloc, &first, &second)?;
-    write_found(&found, answer);
+    let verifier = Verifier::<N>::of(&mut case.fields);
+    let first = LeafOpening::of(&mut case.fields);
+    let second = LeafOpening::of(&mut case.fields);
+    let found = verifier.collision(case.alloc, &first, &second)?;
+    write_found(&found, &mut case.answer);
     Ok(())
 }
 

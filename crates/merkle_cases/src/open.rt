@@ -3,45 +3,41 @@
 ghost use Rattle.std.specs.Prelude.{◌≤◌, IsTrue};
 ghost use Rattle.p3_merkle_core.specs.Geometry.{is_arity};
 
-use crate::fields::{Fault, Fields};
+use crate::case::Case;
+use crate::fields::Fault;
 use crate::scheme::{Committed, ROOT, fold_scheme};
-use crate::text::Answer;
 use p3_merkle_tree::MerkleTreeError;
 use std::alloc::Global;
 
 /// `open | ARITY | CAP | MATRICES | INDEX | ROWS | SIBLINGS`: the opening of a leaf, which is accepted.
-pub fn open<const N: usize>(
-    alloc: Global,
-    fields: &mut Fields<'_>,
-    answer: &mut Answer,
-) -> Result<(), Fault>
+pub fn open<const N: usize>(case: &mut Case<'_>) -> Result<(), Fault>
     requires arity { IsTrue (is_arity N) }
     requires few { N ≤ 16 }
 {
-    let scheme = fold_scheme::<N>(fields.cap());
-    let matrices = fields.matrices();
-    let index = fields.number();
-    let opening = Committed::new(alloc, &scheme, matrices)?.accepted(alloc, index)?;
-    answer.rows(&opening.opened_values);
-    answer.push(" | ");
-    answer.digests(&opening.opening_proof);
+    let scheme = fold_scheme::<N>(case.fields.cap());
+    let matrices = case.fields.matrices();
+    let index = case.fields.number();
+    let opening = Committed::new(case.alloc, &scheme, matrices)?.accepted(case.alloc, index)?;
+    case.answer.rows(&opening.opened_values);
+    case.answer.push(" | ");
+    case.answer.digests(&opening.opening_proof);
     Ok(())
 }
 
 /// `leaves | ARITY | CAP | HEIGHTS | LEAVES accepted`: the opening of each leaf is accepted.
-pub fn leaves<const N: usize>(
-    alloc: Global,
-    fields: &mut Fields<'_>,
-    answer: &mut Answer,
-) -> Result<(), Fault>
+pub fn leaves<const N: usize>(case: &mut Case<'_>) -> Result<(), Fault>
     requires arity { IsTrue (is_arity N) }
     requires few { N ≤ 16 }
 {
-    let scheme = fold_scheme::<N>(fields.cap());
-    let dimensions = fields.columns();
-    let committed = Committed::new(alloc, &scheme, fields.reader.numbered(&dimensions))?;
-    answer.number(accepted_leaves(alloc, &committed)?);
-    answer.push(" accepted");
+    let scheme = fold_scheme::<N>(case.fields.cap());
+    let dimensions = case.fields.columns();
+    let committed = Committed::new(
+        case.alloc,
+        &scheme,
+        case.fields.reader.numbered(&dimensions),
+    )?;
+    case.answer.number(accepted_leaves(case.alloc, &committed)?);
+    case.answer.push(" accepted");
     Ok(())
 }
 
@@ -58,19 +54,15 @@ fn accepted_leaves<const N: usize>(
 }
 
 /// `kept | ARITY | HEIGHTS | GREATEST HEIGHT | DIMENSIONS`: what a tree over columns shows of them.
-pub fn kept<const N: usize>(
-    alloc: Global,
-    fields: &mut Fields<'_>,
-    answer: &mut Answer,
-) -> Result<(), Fault>
+pub fn kept<const N: usize>(case: &mut Case<'_>) -> Result<(), Fault>
     requires arity { IsTrue (is_arity N) }
     requires few { N ≤ 16 }
 {
     let scheme = fold_scheme::<N>(ROOT);
-    let columns = fields.columns();
-    let committed = Committed::new(alloc, &scheme, fields.reader.numbered(&columns))?;
-    answer.number(scheme.get_max_height(&committed.tree));
-    answer.push(" | ");
-    answer.dimensions(&committed.dimensions);
+    let columns = case.fields.columns();
+    let committed = Committed::new(case.alloc, &scheme, case.fields.reader.numbered(&columns))?;
+    case.answer.number(scheme.get_max_height(&committed.tree));
+    case.answer.push(" | ");
+    case.answer.dimensions(&committed.dimensions);
     Ok(())
 }

@@ -4,6 +4,7 @@ ghost use Rattle.std.specs.Prelude.{◌≤◌, IsTrue};
 ghost use Rattle.p3_merkle_core.specs.Geometry.{is_arity};
 
 use crate::agreement::agrees;
+use crate::case::Case;
 use crate::fields::{Fault, Fields};
 use crate::scheme::{FoldScheme, FoldTree, Rows, commit_to, fold_scheme};
 use crate::text::Answer;
@@ -16,36 +17,29 @@ use p3_merkle_tree::{
 use std::alloc::Global;
 
 /// `pruned_len | ARITY | CAP | HEIGHTS | INDICES | DIGESTS`: how many digests a pruned proof of some indices has.
-pub fn pruned_len<const N: usize>(
-    alloc: Global,
-    fields: &mut Fields<'_>,
-    answer: &mut Answer,
-) -> Result<(), Fault>
+pub fn pruned_len<const N: usize>(case: &mut Case<'_>) -> Result<(), Fault>
     requires arity { IsTrue (is_arity N) }
     requires few { N ≤ 16 }
 {
-    let scheme = fold_scheme::<N>(fields.cap());
-    let dimensions = fields.columns();
-    let indices = fields.numbers();
-    answer.number(scheme.pruned_len(alloc, &dimensions, &indices)?);
+    let scheme = fold_scheme::<N>(case.fields.cap());
+    let dimensions = case.fields.columns();
+    let indices = case.fields.numbers();
+    case.answer
+        .number(scheme.pruned_len(case.alloc, &dimensions, &indices)?);
     Ok(())
 }
 
 /// `pruned | ARITY | CAP | MATRICES | INDICES | ROW SETS | DIGESTS`: the rows of each query, and the digests of the
 /// proof for all of them.
-pub fn pruned<const N: usize>(
-    alloc: Global,
-    fields: &mut Fields<'_>,
-    answer: &mut Answer,
-) -> Result<(), Fault>
+pub fn pruned<const N: usize>(case: &mut Case<'_>) -> Result<(), Fault>
     requires arity { IsTrue (is_arity N) }
     requires few { N ≤ 16 }
 {
-    let scheme = fold_scheme::<N>(fields.cap());
-    let matrices = fields.matrices();
-    let indices = fields.numbers();
-    let (_, tree) = commit_to(alloc, &scheme, matrices)?;
-    write_opened(alloc, &scheme, &tree, &indices, answer)?;
+    let scheme = fold_scheme::<N>(case.fields.cap());
+    let matrices = case.fields.matrices();
+    let indices = case.fields.numbers();
+    let (_, tree) = commit_to(case.alloc, &scheme, matrices)?;
+    write_opened(case.alloc, &scheme, &tree, &indices, &mut case.answer)?;
     Ok(())
 }
 
@@ -172,43 +166,35 @@ impl<const N: usize> Verifier<N> {
 
 /// `verify_pruned | ARITY | CAP | ROOTS | DIMENSIONS | INDICES | ROW SETS | DIGESTS | ANSWER`: the check of a pruned
 /// opening, which answers what the checks of its queries with their restored paths do, and what the extractions do.
-pub fn verify_pruned<const N: usize>(
-    alloc: Global,
-    fields: &mut Fields<'_>,
-    answer: &mut Answer,
-) -> Result<(), Fault>
+pub fn verify_pruned<const N: usize>(case: &mut Case<'_>) -> Result<(), Fault>
     requires arity { IsTrue (is_arity N) }
     requires few { N ≤ 16 }
 {
-    let verifier = Verifier::<N>::of(fields);
-    let opening = LeavesOpening::of(fields);
-    let verdict = verifier.verdict(alloc, &opening);
-    if verdict != verifier.restored_verdict(alloc, &opening) {
+    let verifier = Verifier::<N>::of(&mut case.fields);
+    let opening = LeavesOpening::of(&mut case.fields);
+    let verdict = verifier.verdict(case.alloc, &opening);
+    if verdict != verifier.restored_verdict(case.alloc, &opening) {
         return Err(Fault::Wrong("the restored paths are answered otherwise"));
     }
-    if !verifier.extracts_alike(alloc, &opening, &verdict) {
+    if !verifier.extracts_alike(case.alloc, &opening, &verdict) {
         return Err(Fault::Wrong("an extraction is answered otherwise"));
     }
-    answer.verdict(&verdict);
+    case.answer.verdict(&verdict);
     Ok(())
 }
 
 /// `restore | ARITY | CAP | DIMENSIONS | INDICES | ROW SETS | DIGESTS | PATHS`: the index and the siblings of each
 /// query.
-pub fn restore<const N: usize>(
-    alloc: Global,
-    fields: &mut Fields<'_>,
-    answer: &mut Answer,
-) -> Result<(), Fault>
+pub fn restore<const N: usize>(case: &mut Case<'_>) -> Result<(), Fault>
     requires arity { IsTrue (is_arity N) }
     requires few { N ≤ 16 }
 {
-    let scheme = fold_scheme::<N>(fields.cap());
+    let scheme = fold_scheme::<N>(case.fields.cap());
     let verifier = Verifier {
         scheme,
-        cap: MerkleCap::new(fields.reader.none()),
-        dimensions: fields.dimensions(),
+        cap: MerkleCap::new(case.fields.reader.none()),
+        dimensions: case.fields.dimensions(),
     };
-    answer.paths(&verifier.paths(alloc, &LeavesOpening::of(fields))?);
+    case.answer.paths(&verifier.paths(case.alloc, &LeavesOpening::of(&mut case.fields))?);
     Ok(())
 }

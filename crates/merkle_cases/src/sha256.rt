@@ -3,10 +3,10 @@
 ghost use Rattle.std.specs.Prelude.{◌≡◌, ◌*◌, ◌≤◌, length, IsTrue};
 ghost use Rattle.p3_merkle_core.specs.Geometry.{is_arity};
 
-use crate::fields::{Fault, Fields};
+use crate::case::Case;
+use crate::fields::Fault;
 use crate::reader::Reader;
 use crate::scheme::Cap;
-use crate::text::Answer;
 use p3_instances::sha::{Sha256Nodes, Sha256Rows};
 use p3_instances::sha_eights::{Sha256NodesInEights, Sha256RowsInEights};
 use p3_merkle_tree::{MerkleCap, MerkleTreeError, MerkleTreeMmcs};
@@ -56,14 +56,14 @@ fn by_each_call<H: CryptographicHasher<u8, u8, 32>>(hasher: &H, message: &[u8]) 
 }
 
 /// `sha256 | MESSAGE | DIGEST`: the digest of a text, `-` if it is empty, which each call of both hashers gives.
-pub fn message(fields: &mut Fields<'_>, answer: &mut Answer) -> Result<(), Fault> {
-    let text = fields.take();
+pub fn message(case: &mut Case<'_>) -> Result<(), Fault> {
+    let text = case.fields.take();
     let message = if text == "-" { "" } else { text }.as_bytes();
     let digests = by_each_call(&Sha256Rows, message);
     if digests != [digests[0]; 5] || digests != by_each_call(&Sha256RowsInEights, message) {
         return Err(Fault::Wrong("another call gives another digest"));
     }
-    answer.hexadecimal(&[digests[0]]);
+    case.answer.hexadecimal(&[digests[0]]);
     Ok(())
 }
 
@@ -109,8 +109,8 @@ fn hashes_many<H: CryptographicHasher<u8, u8, 32>>(
 
 /// `sha256_rows | LENGTH | DIGESTS`: the digests of 17 messages of a length, one after another the bytes 0, 1, 2 and so
 /// on modulo 251. Both hashers give them to the first messages together, to none of them and to each number up to all.
-pub fn rows(fields: &mut Fields<'_>, answer: &mut Answer) -> Result<(), Fault> {
-    let len = fields.number();
+pub fn rows(case: &mut Case<'_>) -> Result<(), Fault> {
+    let len = case.fields.number();
     if len > LONGEST {
         return Err(Fault::Unreadable("a message is too long"));
     }
@@ -121,7 +121,7 @@ pub fn rows(fields: &mut Fields<'_>, answer: &mut Answer) -> Result<(), Fault> {
     {
         return Err(Fault::Wrong("messages have other digests together"));
     }
-    answer.hexadecimal(&digests);
+    case.answer.hexadecimal(&digests);
     Ok(())
 }
 
@@ -157,7 +157,7 @@ fn compresses_many<C: PseudoCompressionFunction<u8, N, 32>, const N: usize>(
 
 /// `sha256_groups | ARITY | DIGESTS`: the digests of 17 groups, whose bytes are those of `sha256_rows`. Both
 /// compressions give them to each group, and to the first groups together, to none of them and to each number up to all.
-pub fn groups<const N: usize>(fields: &mut Fields<'_>, answer: &mut Answer) -> Result<(), Fault>
+pub fn groups<const N: usize>(case: &mut Case<'_>) -> Result<(), Fault>
     requires several { 2 ≤ N }
     requires few { N ≤ 16 }
 {
@@ -176,7 +176,7 @@ pub fn groups<const N: usize>(fields: &mut Fields<'_>, answer: &mut Answer) -> R
     {
         return Err(Fault::Wrong("groups have other digests"));
     }
-    answer.hexadecimal(&digests);
+    case.answer.hexadecimal(&digests);
     Ok(())
 }
 
@@ -223,21 +223,17 @@ fn cap_by<
 
 /// `sha256_commit | ARITY | CAP | DIMENSIONS | ROOTS`: the cap of matrices, each of the bytes 0, 1, 2 and so on modulo
 /// 251, which is one and the same one at a time and in eights.
-pub fn commit<const N: usize>(
-    alloc: Global,
-    fields: &mut Fields<'_>,
-    answer: &mut Answer,
-) -> Result<(), Fault>
+pub fn commit<const N: usize>(case: &mut Case<'_>) -> Result<(), Fault>
     requires arity { IsTrue (is_arity N) }
     requires few { N ≤ 16 }
 {
-    let cap = fields.cap();
-    let dimensions = fields.dimensions();
-    let plain = byte_matrices(&mut fields.reader, &dimensions);
-    let plain = cap_by(alloc, Sha256Rows, Sha256Nodes::<N>, cap, plain)?;
-    let eights = byte_matrices(&mut fields.reader, &dimensions);
+    let cap = case.fields.cap();
+    let dimensions = case.fields.dimensions();
+    let plain = byte_matrices(&mut case.fields.reader, &dimensions);
+    let plain = cap_by(case.alloc, Sha256Rows, Sha256Nodes::<N>, cap, plain)?;
+    let eights = byte_matrices(&mut case.fields.reader, &dimensions);
     let eights = cap_by(
-        alloc,
+        case.alloc,
         Sha256RowsInEights,
         Sha256NodesInEights::<N>,
         cap,
@@ -246,6 +242,6 @@ pub fn commit<const N: usize>(
     if plain != eights {
         return Err(Fault::Wrong("the caps differ"));
     }
-    answer.hexadecimal(plain.roots());
+    case.answer.hexadecimal(plain.roots());
     Ok(())
 }

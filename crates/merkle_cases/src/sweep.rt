@@ -4,10 +4,11 @@ ghost use Rattle.std.specs.Prelude.{◌≤◌, IsTrue};
 ghost use Rattle.p3_merkle_core.specs.Geometry.{is_arity};
 
 use crate::batches::batches_of;
+use crate::case::Case;
 use crate::fields::{Fault, Fields};
 use crate::queries::lists_of;
 use crate::reader::Reader;
-use crate::scheme::{Committed, FoldOpening, FoldScheme, fold_scheme};
+use crate::scheme::{Committed, FoldOpening, fold_scheme};
 use crate::text::Answer;
 use crate::twin::{
     collides_at, collides_first_at, has_twins, place_of, place_of_first, twin_rows, twin_sets,
@@ -173,20 +174,40 @@ fn check_list<S: Swept>(
     }
 }
 
-/// Opens the leaves of each of the lists of queries that a text names, and counts. The steps lead from the leaves up to
-/// the cap.
-pub fn count_lists<S: Swept>(
-    alloc: Global,
-    reader: &mut Reader,
-    swept: &S,
-    steps: &[usize],
-    queries: &str,
-    counts: &mut Counts,
-) -> Result<(), Fault> {
-    for indices in &lists_of(reader, queries, tallest_of(swept.dimensions())) {
-        check_list(alloc, swept, steps, indices, counts)?;
+/// What a sweep goes over.
+#[derive(Drop)]
+pub struct Plan<'a> {
+    /// The dimensions of the matrices of each batch.
+    pub batches: Vec<Vec<Dimensions>>,
+    /// Which lists of queries are opened of each.
+    queries: &'a str,
+}
+
+impl<'a> Plan<'a> {
+    /// What the next two fields name: batches and queries.
+    pub fn of(fields: &mut Fields<'a>) -> Plan<'a> {
+        let batches = fields.take();
+        let queries = fields.take();
+        Plan {
+            batches: batches_of(&mut fields.reader, batches),
+            queries,
+        }
     }
-    Ok(())
+
+    /// Opens the leaves of each list of queries, and counts. The steps lead from the leaves up to the cap.
+    pub fn count<S: Swept>(
+        &self,
+        alloc: Global,
+        reader: &mut Reader,
+        swept: &S,
+        steps: &[usize],
+        counts: &mut Counts,
+    ) -> Result<(), Fault> {
+        for indices in &lists_of(reader, self.queries, tallest_of(swept.dimensions())) {
+            check_list(alloc, swept, steps, indices, counts)?;
+        }
+        Ok(())
+    }
 }
 
 /// How many paths of a list of queries are compared with those that leaf by leaf are opened.
@@ -294,46 +315,23 @@ impl<'a, const N: usize> Swept for Committed<'a, N> {
     }
 }
 
-/// Opens the leaves of each of some lists of queries of a batch of these dimensions, and counts.
-fn count_for<const N: usize>(
-    alloc: Global,
-    reader: &mut Reader,
-    scheme: &FoldScheme<N>,
-    dimensions: &[Dimensions],
-    queries: &str,
-    counts: &mut Counts,
-) -> Result<(), Fault> {
-    let committed = Committed::new(alloc, scheme, reader.numbered(dimensions))?;
-    let steps = scheme.proof_arity_schedule(alloc, dimensions)?;
-    count_lists(alloc, reader, &committed, &steps, queries, counts)
-}
-
 /// `sweep | ARITY | CAP | BATCHES | QUERIES | LISTS DIGESTS COLLISIONS NONES`: of each batch of matrices, many lists of
 /// queries are opened, accepted and restored, and so is the first leaf of each. Where all rows have twins, each opening
 /// is compared with its twin, matrix by matrix. How many lists there are, how many digests their proofs have, how many
 /// openings collide with a twin, and how many do not, since the matrix is not authenticated or there is no query.
-pub fn sweep<const N: usize>(
-    alloc: Global,
-    fields: &mut Fields<'_>,
-    answer: &mut Answer,
-) -> Result<(), Fault>
+pub fn sweep<const N: usize>(case: &mut Case<'_>) -> Result<(), Fault>
     requires arity { IsTrue (is_arity N) }
     requires few { N ≤ 16 }
 {
-    let scheme = fold_scheme::<N>(fields.cap());
-    let batches = fields.take();
-    let queries = fields.take();
+    let scheme = fold_scheme::<N>(case.fields.cap());
+    let plan = Plan::of(&mut case.fields);
     let mut counts = Counts::none();
-    for dimensions in &batches_of(&mut fields.reader, batches) {
-        count_for(
-            alloc,
-            &mut fields.reader,
-            &scheme,
-            dimensions,
-            queries,
-            &mut counts,
-        )?;
+    for dimensions in &plan.batches {
+        let reader = &mut case.fields.reader;
+        let committed = Committed::new(case.alloc, &scheme, reader.numbered(dimensions))?;
+        let steps = scheme.proof_arity_schedule(case.alloc, dimensions)?;
+        plan.count(case.alloc, reader, &committed, &steps, &mut counts)?;
     }
-    counts.write(answer);
+    counts.write(&mut case.answer);
     Ok(())
 }

@@ -4,10 +4,10 @@ ghost use Rattle.std.specs.Prelude.{◌≤◌, IsTrue};
 ghost use Rattle.p3_merkle_core.specs.Geometry.{is_arity};
 
 use crate::agreement::agrees;
+use crate::case::Case;
 use crate::fields::{Fault, Fields};
 use crate::pruned::LeavesOpening;
 use crate::scheme::{FoldCap, FoldOpening, FoldScheme, fold_scheme};
-use crate::text::Answer;
 use p3_merkle_tree::{BatchOpening, BatchOpeningRef, Collision, MerkleCap, MerkleTreeError};
 use p3_support::matrix::Dimensions;
 use std::alloc::Global;
@@ -92,16 +92,12 @@ impl LeafOpening {
 
 /// `verify | ARITY | CAP | CAP | DIMENSIONS | INDEX | ROWS | SIBLINGS | ANSWER`: the check of an opening, which the
 /// extraction from it and itself answers, too.
-pub fn verify<const N: usize>(
-    alloc: Global,
-    fields: &mut Fields<'_>,
-    answer: &mut Answer,
-) -> Result<(), Fault>
+pub fn verify<const N: usize>(case: &mut Case<'_>) -> Result<(), Fault>
     requires arity { IsTrue (is_arity N) }
     requires few { N ≤ 16 }
 {
-    let verifier = Verifier::<N>::of(fields);
-    let leaf = LeafOpening::of(fields);
+    let verifier = Verifier::<N>::of(&mut case.fields);
+    let leaf = LeafOpening::of(&mut case.fields);
     let lent = BatchOpeningRef::from(&leaf.opening);
     let Verifier {
         scheme,
@@ -109,8 +105,8 @@ pub fn verify<const N: usize>(
         dimensions,
     } = &verifier;
     let verdict = scheme.verify_batch(cap, dimensions, leaf.index, lent);
-    if agrees(&verdict, &verifier.collision(alloc, &leaf, &leaf)) {
-        answer.verdict(&verdict);
+    if agrees(&verdict, &verifier.collision(case.alloc, &leaf, &leaf)) {
+        case.answer.verdict(&verdict);
         Ok(())
     } else {
         Err(Fault::Wrong("the extraction is answered otherwise"))

@@ -4,10 +4,10 @@ ghost use Rattle.std.specs.Prelude.{◌≤◌, IsTrue};
 ghost use Rattle.p3_merkle_core.specs.Geometry.{is_arity};
 
 use crate::agreement::agrees;
-use crate::fields::{Fault, Fields};
+use crate::case::Case;
+use crate::fields::Fault;
 use crate::salted::extract::{SaltedLeaf, SaltedLeaves, SaltedVerifier};
 use crate::scheme::Cap;
-use crate::text::Answer;
 use p3_merkle_tree::{BatchOpeningRef, MerkleTreeError};
 use std::alloc::Global;
 
@@ -56,43 +56,39 @@ impl<const N: usize, const SALT_ELEMS: usize> SaltedVerifier<N, SALT_ELEMS> {
 /// `verify_salted | ARITY | CAP | SALTS A ROW | ROOTS | DIMENSIONS | INDEX | ROWS | SALTS | SIBLINGS | ANSWER`: the
 /// check of an opening, which the extraction from it and itself answers, too.
 pub fn verify<const N: usize, const SALT_ELEMS: usize>(
-    alloc: Global,
+    case: &mut Case<'_>,
     cap: Cap,
-    fields: &mut Fields<'_>,
-    answer: &mut Answer,
 ) -> Result<(), Fault>
     requires arity { IsTrue (is_arity N) }
     requires few { N ≤ 16 }
     requires some_salt { 1 ≤ SALT_ELEMS }
 {
-    let verifier = SaltedVerifier::<N, SALT_ELEMS>::of(cap, fields);
-    let leaf = SaltedLeaf::of(fields);
-    let verdict = verifier.verdict(alloc, &leaf);
-    if !agrees(&verdict, &verifier.collision(alloc, &leaf, &leaf)) {
+    let verifier = SaltedVerifier::<N, SALT_ELEMS>::of(cap, &mut case.fields);
+    let leaf = SaltedLeaf::of(&mut case.fields);
+    let verdict = verifier.verdict(case.alloc, &leaf);
+    if !agrees(&verdict, &verifier.collision(case.alloc, &leaf, &leaf)) {
         return Err(Fault::Wrong("the extraction is answered otherwise"));
     }
-    answer.verdict(&verdict);
+    case.answer.verdict(&verdict);
     Ok(())
 }
 
 /// `verify_salted_pruned | ARITY | CAP | SALTS A ROW | ROOTS | DIMENSIONS | INDICES | ROW SETS | SALT SETS | DIGESTS |
 /// ANSWER`: the check of an opening of several leaves, which the extractions answer, too.
 pub fn verify_pruned<const N: usize, const SALT_ELEMS: usize>(
-    alloc: Global,
+    case: &mut Case<'_>,
     cap: Cap,
-    fields: &mut Fields<'_>,
-    answer: &mut Answer,
 ) -> Result<(), Fault>
     requires arity { IsTrue (is_arity N) }
     requires few { N ≤ 16 }
     requires some_salt { 1 ≤ SALT_ELEMS }
 {
-    let verifier = SaltedVerifier::<N, SALT_ELEMS>::of(cap, fields);
-    let opening = SaltedLeaves::of(fields);
-    let verdict = verifier.verdict_on_leaves(alloc, &opening);
-    if !verifier.extracts_alike(alloc, &opening, &verdict) {
+    let verifier = SaltedVerifier::<N, SALT_ELEMS>::of(cap, &mut case.fields);
+    let opening = SaltedLeaves::of(&mut case.fields);
+    let verdict = verifier.verdict_on_leaves(case.alloc, &opening);
+    if !verifier.extracts_alike(case.alloc, &opening, &verdict) {
         return Err(Fault::Wrong("an extraction is answered otherwise"));
     }
-    answer.verdict(&verdict);
+    case.answer.verdict(&verdict);
     Ok(())
 }

@@ -3,12 +3,12 @@
 ghost use Rattle.std.specs.Prelude.{◌≤◌, IsTrue};
 ghost use Rattle.p3_merkle_core.specs.Geometry.{is_arity};
 
+use crate::case::Case;
 use crate::extract::{write_found, write_found_pair};
 use crate::fields::{Fault, Fields};
 use crate::pruned::LONG;
 use crate::salted::{SaltedScheme, salted_scheme};
 use crate::scheme::{Cap, FoldCap};
-use crate::text::Answer;
 use p3_merkle_core::pruning::PrunedProof;
 use p3_merkle_hiding::hiding_mmcs::{SaltedMultiProof, SaltedProof};
 use p3_merkle_tree::{
@@ -163,20 +163,18 @@ impl<const N: usize, const SALT_ELEMS: usize> SaltedVerifier<N, SALT_ELEMS> {
 /// `extract_salted | ARITY | CAP | SALTS A ROW | ROOTS | DIMENSIONS | INDEX | ROWS | SALTS | SIBLINGS | INDEX | ROWS |
 /// SALTS | SIBLINGS | ANSWER`: what two openings lead to, which is `none`, or a place with both inputs.
 pub fn extract<const N: usize, const SALT_ELEMS: usize>(
-    alloc: Global,
+    case: &mut Case<'_>,
     cap: Cap,
-    fields: &mut Fields<'_>,
-    answer: &mut Answer,
 ) -> Result<(), Fault>
     requires arity { IsTrue (is_arity N) }
     requires few { N ≤ 16 }
     requires some_salt { 1 ≤ SALT_ELEMS }
 {
-    let verifier = SaltedVerifier::<N, SALT_ELEMS>::of(cap, fields);
-    let first = SaltedLeaf::of(fields);
-    let second = SaltedLeaf::of(fields);
-    let found = verifier.collision(alloc, &first, &second)?;
-    write_found(&found, answer);
+    let verifier = SaltedVerifier::<N, SALT_ELEMS>::of(cap, &mut case.fields);
+    let first = SaltedLeaf::of(&mut case.fields);
+    let second = SaltedLeaf::of(&mut case.fields);
+    let found = verifier.collision(case.alloc, &first, &second)?;
+    write_found(&found, &mut case.answer);
     Ok(())
 }
 
@@ -184,19 +182,17 @@ pub fn extract<const N: usize, const SALT_ELEMS: usize>(
 /// INDICES | ROW SETS | SALT SETS | DIGESTS | ANSWER`: what two openings of several leaves lead to, which is `none`, or
 /// the places of two queries in their lists, and then a place with both inputs.
 pub fn extract_pruned<const N: usize, const SALT_ELEMS: usize>(
-    alloc: Global,
+    case: &mut Case<'_>,
     cap: Cap,
-    fields: &mut Fields<'_>,
-    answer: &mut Answer,
 ) -> Result<(), Fault>
     requires arity { IsTrue (is_arity N) }
     requires few { N ≤ 16 }
     requires some_salt { 1 ≤ SALT_ELEMS }
 {
-    let verifier = SaltedVerifier::<N, SALT_ELEMS>::of(cap, fields);
-    let first = SaltedLeaves::of(fields);
-    let second = SaltedLeaves::of(fields);
-    let found = verifier.collision_of_leaves(alloc, &first, &second)?;
-    write_found_pair(&found, answer);
+    let verifier = SaltedVerifier::<N, SALT_ELEMS>::of(cap, &mut case.fields);
+    let first = SaltedLeaves::of(&mut case.fields);
+    let second = SaltedLeaves::of(&mut case.fields);
+    let found = verifier.collision_of_leaves(case.alloc, &first, &second)?;
+    write_found_pair(&found, &mut case.answer);
     Ok(())
 }

@@ -4,11 +4,11 @@
 ghost use Rattle.std.specs.Prelude.{◌≤◌, IsTrue};
 ghost use Rattle.p3_merkle_core.specs.Geometry.{is_arity};
 
+use crate::case::Case;
 use crate::fields::{Fault, Fields};
 use crate::queries::generator_of;
 use crate::salted::{SaltedScheme, salted_scheme};
 use crate::scheme::{Cap, FoldCap, Rows};
-use crate::text::Answer;
 use p3_merkle_core::pruning::check_indices;
 use p3_merkle_hiding::hiding_mmcs::{SaltedMultiProof, SaltedProof, SaltedTree};
 use p3_merkle_tree::{BatchOpening, BatchOpeningRef, MerkleTreeError};
@@ -102,53 +102,49 @@ impl<'a, const N: usize, const SALT_ELEMS: usize> SaltedCommitted<'a, N, SALT_EL
 /// `open_salted | ARITY | CAP | SALTS A ROW | SEED | MATRICES | INDEX | ROOTS | ROWS | SALTS | SIBLINGS`: the cap and
 /// the opening of a leaf, which is accepted.
 pub fn open<const N: usize, const SALT_ELEMS: usize>(
-    alloc: Global,
+    case: &mut Case<'_>,
     cap: Cap,
-    fields: &mut Fields<'_>,
-    answer: &mut Answer,
 ) -> Result<(), Fault>
     requires arity { IsTrue (is_arity N) }
     requires few { N ≤ 16 }
     requires some_salt { 1 ≤ SALT_ELEMS }
 {
-    let mut scheme = seeded::<N, SALT_ELEMS>(cap, fields);
-    let matrices = fields.matrices();
-    let index = fields.number();
-    let committed = SaltedCommitted::new(alloc, &mut scheme, matrices)?;
-    answer.digests(committed.cap.roots());
-    answer.push(" | ");
-    let opening = committed.accepted(alloc, index)?;
-    answer.rows(&opening.opened_values);
-    answer.push(" | ");
-    answer.rows(&opening.opening_proof.0);
-    answer.push(" | ");
-    answer.digests(&opening.opening_proof.1);
+    let mut scheme = seeded::<N, SALT_ELEMS>(cap, &mut case.fields);
+    let matrices = case.fields.matrices();
+    let index = case.fields.number();
+    let committed = SaltedCommitted::new(case.alloc, &mut scheme, matrices)?;
+    case.answer.digests(committed.cap.roots());
+    case.answer.push(" | ");
+    let opening = committed.accepted(case.alloc, index)?;
+    case.answer.rows(&opening.opened_values);
+    case.answer.push(" | ");
+    case.answer.rows(&opening.opening_proof.0);
+    case.answer.push(" | ");
+    case.answer.digests(&opening.opening_proof.1);
     Ok(())
 }
 
 /// `pruned_salted | ARITY | CAP | SALTS A ROW | SEED | MATRICES | INDICES | ROOTS | ROW SETS | SALT SETS | DIGESTS`:
 /// the cap and the opening of several leaves, which is accepted.
 pub fn pruned<const N: usize, const SALT_ELEMS: usize>(
-    alloc: Global,
+    case: &mut Case<'_>,
     cap: Cap,
-    fields: &mut Fields<'_>,
-    answer: &mut Answer,
 ) -> Result<(), Fault>
     requires arity { IsTrue (is_arity N) }
     requires few { N ≤ 16 }
     requires some_salt { 1 ≤ SALT_ELEMS }
 {
-    let mut scheme = seeded::<N, SALT_ELEMS>(cap, fields);
-    let matrices = fields.matrices();
-    let indices = fields.numbers();
-    let committed = SaltedCommitted::new(alloc, &mut scheme, matrices)?;
-    answer.digests(committed.cap.roots());
-    answer.push(" | ");
-    let (rows, proof) = committed.accepted_leaves(alloc, &indices)?;
-    answer.row_sets(&rows);
-    answer.push(" | ");
-    answer.row_sets(&proof.0);
-    answer.push(" | ");
-    answer.digests(&proof.1.sibling_hashes);
+    let mut scheme = seeded::<N, SALT_ELEMS>(cap, &mut case.fields);
+    let matrices = case.fields.matrices();
+    let indices = case.fields.numbers();
+    let committed = SaltedCommitted::new(case.alloc, &mut scheme, matrices)?;
+    case.answer.digests(committed.cap.roots());
+    case.answer.push(" | ");
+    let (rows, proof) = committed.accepted_leaves(case.alloc, &indices)?;
+    case.answer.row_sets(&rows);
+    case.answer.push(" | ");
+    case.answer.row_sets(&proof.0);
+    case.answer.push(" | ");
+    case.answer.digests(&proof.1.sibling_hashes);
     Ok(())
 }

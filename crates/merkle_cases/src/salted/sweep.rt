@@ -3,15 +3,12 @@
 ghost use Rattle.std.specs.Prelude.{◌≤◌, IsTrue};
 ghost use Rattle.p3_merkle_core.specs.Geometry.{is_arity};
 
-use crate::batches::batches_of;
-use crate::fields::{Fault, Fields};
-use crate::reader::Reader;
-use crate::salted::SaltedScheme;
+use crate::case::Case;
+use crate::fields::Fault;
 use crate::salted::extract::collision_of;
 use crate::salted::open::{Opened, Opening, SaltedCommitted, seeded};
 use crate::scheme::{Cap, fold_scheme};
-use crate::sweep::{Counts, Swept, count_lists};
-use crate::text::Answer;
+use crate::sweep::{Counts, Plan, Swept};
 use p3_merkle_tree::{BatchOpeningRef, Collision, MerkleTreeError, PrunedOpeningRef};
 use p3_support::matrix::Dimensions;
 use std::alloc::Global;
@@ -85,48 +82,25 @@ impl<'a, const N: usize, const SALT_ELEMS: usize> Swept for SaltedCommitted<'a, 
     }
 }
 
-/// Opens the leaves of each of some lists of queries of a batch of these dimensions, and counts.
-fn count_for<const N: usize, const SALT_ELEMS: usize>(
-    alloc: Global,
-    reader: &mut Reader,
-    scheme: &mut SaltedScheme<N, SALT_ELEMS>,
-    dimensions: &[Dimensions],
-    steps: &[usize],
-    queries: &str,
-    counts: &mut Counts,
-) -> Result<(), Fault> {
-    let committed = SaltedCommitted::new(alloc, scheme, reader.numbered(dimensions))?;
-    count_lists(alloc, reader, &committed, steps, queries, counts)
-}
-
 /// `sweep_salted | ARITY | CAP | SALTS A ROW | SEED | BATCHES | QUERIES | LISTS DIGESTS COLLISIONS NONES`: the same as
 /// `sweep` of the salted scheme, which counts and restores nothing.
 pub fn sweep<const N: usize, const SALT_ELEMS: usize>(
-    alloc: Global,
+    case: &mut Case<'_>,
     cap: Cap,
-    fields: &mut Fields<'_>,
-    answer: &mut Answer,
 ) -> Result<(), Fault>
     requires arity { IsTrue (is_arity N) }
     requires few { N ≤ 16 }
     requires some_salt { 1 ≤ SALT_ELEMS }
 {
-    let mut scheme = seeded::<N, SALT_ELEMS>(cap, fields);
-    let batches = fields.take();
-    let queries = fields.take();
+    let mut scheme = seeded::<N, SALT_ELEMS>(cap, &mut case.fields);
+    let plan = Plan::of(&mut case.fields);
     let mut counts = Counts::none();
-    for dimensions in &batches_of(&mut fields.reader, batches) {
-        let steps = fold_scheme::<N>(cap).proof_arity_schedule(alloc, dimensions)?;
-        count_for(
-            alloc,
-            &mut fields.reader,
-            &mut scheme,
-            dimensions,
-            &steps,
-            queries,
-            &mut counts,
-        )?;
+    for dimensions in &plan.batches {
+        let reader = &mut case.fields.reader;
+        let committed = SaltedCommitted::new(case.alloc, &mut scheme, reader.numbered(dimensions))?;
+        let steps = fold_scheme::<N>(cap).proof_arity_schedule(case.alloc, dimensions)?;
+        plan.count(case.alloc, reader, &committed, &steps, &mut counts)?;
     }
-    counts.write(answer);
+    counts.write(&mut case.answer);
     Ok(())
 }
