@@ -1,9 +1,9 @@
 //! Reads cases from standard input, one a line, and says which are not answered as their line says.
 //!
 //! A line is a keyword, fields and the expected answer, with `|` between them. A blank line is no case, nor is one that
-//! begins with `#`. All trees but those of `sha256_commit` are those of the fold functions with digests of one word. A
-//! new kind of case is an arm of [`answer`], or of [`answer_at`] where its first field is an arity, and a function that
-//! reads all its fields and then answers.
+//! begins with `#`. Trees are those of the fold functions with digests of one word, but for the kinds whose keyword
+//! begins with `sha256`. A new kind of case is an arm of [`answer`], or of [`answer_at`] where its first field is an
+//! arity, and a function that reads all its fields and then answers.
 #![tactic(auto)]
 
 ghost use Rattle.std.specs.Prelude.{◌≤◌, IsTrue};
@@ -52,6 +52,9 @@ fn answer_at<const N: usize>(case: &mut Case<'_>, keyword: &str) -> Result<(), F
     match keyword {
         "compress" => hash::compress::<N>(case),
         "sha256_groups" => sha256::groups::<N>(case),
+        "sha256_commit" => sha256::commit::<N>(case),
+        "sha256_open" => sha256::open::<N>(case),
+        "sha256_pruned" => sha256::pruned::<N>(case),
         "padding" => geometry::padding::<N>(case),
         "siblings" => geometry::siblings::<N>(case),
         "authenticated" => authenticated::authenticated::<N>(case),
@@ -69,7 +72,6 @@ fn answer_of_tree<const N: usize>(case: &mut Case<'_>, keyword: &str) -> Result<
     match keyword {
         "shape" => heights::shape::<N>(case),
         "commit" => commit::commit::<N>(case),
-        "sha256_commit" => sha256::commit::<N>(case),
         "layers" => commit::layers::<N>(case),
         "builders" => builders::builders::<N>(case),
         "open" => open::open::<N>(case),

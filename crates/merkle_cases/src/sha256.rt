@@ -1,19 +1,16 @@
 //! SHA-256 of messages, of groups and of trees, one at a time and in eights.
 
-ghost use Rattle.std.specs.Prelude.{◌≡◌, ◌*◌, ◌≤◌, length, IsTrue};
-ghost use Rattle.p3_merkle_core.specs.Geometry.{is_arity};
+ghost use Rattle.std.specs.Prelude.{◌≡◌, ◌*◌, ◌≤◌, length};
+
+mod trees;
 
 use crate::case::Case;
 use crate::fields::Fault;
-use crate::reader::Reader;
-use crate::scheme::Cap;
+pub use crate::sha256::trees::{commit, open, pruned};
 use p3_instances::sha::{Sha256Nodes, Sha256Rows};
 use p3_instances::sha_eights::{Sha256NodesInEights, Sha256RowsInEights};
-use p3_merkle_tree::{MerkleCap, MerkleTreeError, MerkleTreeMmcs};
 use p3_support::compress::PseudoCompressionFunction;
 use p3_support::hasher::CryptographicHasher;
-use p3_support::matrix::{Dimensions, RowMajorMatrix};
-use std::alloc::Global;
 
 /// A digest.
 type Digest = [u8; 32];
@@ -24,8 +21,8 @@ const MOST: usize = 17;
 /// The length of the longest messages that are taken together.
 const LONGEST: usize = 128;
 
-/// How many bytes there are: those of as many such messages, which are as many groups of four digests.
-const BYTES: usize = 2176;
+/// How many bytes there are: those of as many groups of eight digests.
+const BYTES: usize = 4352;
 
 /// The byte at a place: its number modulo 251.
 fn byte_at(place: usize) -> u8 {
@@ -177,71 +174,5 @@ pub fn groups<const N: usize>(case: &mut Case<'_>) -> Result<(), Fault>
         return Err(Fault::Wrong("groups have other digests"));
     }
     case.answer.hexadecimal(&digests);
-    Ok(())
-}
-
-/// Matrices of these dimensions, each of the bytes 0, 1, 2 and so on modulo 251, row by row.
-fn byte_matrices(reader: &mut Reader, dimensions: &[Dimensions]) -> Vec<RowMajorMatrix<u8>> {
-    let mut matrices = reader.none();
-    for Dimensions { width, height } in dimensions {
-        let bytes = bytes(reader, width.saturating_mul(*height));
-        let matrix = reader.matrix_from(bytes, *width);
-        reader.push(&mut matrices, matrix);
-    }
-    matrices
-}
-
-/// So many bytes from the first on.
-fn bytes(reader: &mut Reader, count: usize) -> Vec<u8> {
-    let mut bytes = reader.none();
-    for place in 0..count {
-        reader.push(&mut bytes, byte_at(place));
-    }
-    bytes
-}
-
-/// The cap of matrices by a hasher and a compression.
-fn cap_by<
-    H: CryptographicHasher<u8, u8, 32> + Drop,
-    C: PseudoCompressionFunction<u8, N, 32> + Drop,
-    const N: usize,
->(
-    alloc: Global,
-    hasher: H,
-    compress: C,
-    cap: Cap,
-    matrices: Vec<RowMajorMatrix<u8>>,
-) -> Result<MerkleCap<u8, Digest>, MerkleTreeError>
-    requires arity { IsTrue (is_arity N) }
-{
-    let scheme = MerkleTreeMmcs::<u8, u8, H, C, N, 32>::new_with_rule(
-        hasher, compress, cap.height, cap.rule,
-    );
-    let (cap, _) = scheme.commit(alloc, matrices)?;
-    Ok(cap)
-}
-
-/// `sha256_commit | ARITY | CAP | DIMENSIONS | ROOTS`: the cap of matrices, each of the bytes 0, 1, 2 and so on modulo
-/// 251, which is one and the same one at a time and in eights.
-pub fn commit<const N: usize>(case: &mut Case<'_>) -> Result<(), Fault>
-    requires arity { IsTrue (is_arity N) }
-    requires few { N ≤ 16 }
-{
-    let cap = case.fields.cap();
-    let dimensions = case.fields.dimensions();
-    let plain = byte_matrices(&mut case.fields.reader, &dimensions);
-    let plain = cap_by(case.alloc, Sha256Rows, Sha256Nodes::<N>, cap, plain)?;
-    let eights = byte_matrices(&mut case.fields.reader, &dimensions);
-    let eights = cap_by(
-        case.alloc,
-        Sha256RowsInEights,
-        Sha256NodesInEights::<N>,
-        cap,
-        eights,
-    )?;
-    if plain != eights {
-        return Err(Fault::Wrong("the caps differ"));
-    }
-    case.answer.hexadecimal(plain.roots());
     Ok(())
 }
