@@ -1,6 +1,6 @@
 //! Schemes, rows and proofs that are tried.
 
-use crate::hiding::counting::Counting;
+use crate::counting::Counting;
 use p3_instances::fold::{FoldCompress, FoldHash};
 use p3_merkle_core::pruning::check_indices;
 use p3_merkle_hiding::MerkleTreeHidingMmcs;

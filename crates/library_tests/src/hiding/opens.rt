@@ -1,7 +1,7 @@
 //! What is opened, under which cap, and what two openings of one cap lead to.
 
+use crate::counting::Counting;
 use crate::fixtures::{columns, dimensions_with};
-use crate::hiding::counting::Counting;
 use crate::hiding::fixtures::{
     Cap, OneSalt, Opening, Salted, Tree, cap_of, one_salt, opened, opened_together, opening, sets,
     values_of,

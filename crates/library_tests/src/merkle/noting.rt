@@ -184,9 +184,7 @@ static IN_LANES: [Call; 16] = [
 ];
 
 /// Three rows, and two rows that come in above them: children, row, pair.
-static WITH_ROWS: [Call; 10] = [
-    Row, Row, Row, Group, Row, Group, Group, Row, Group, Group,
-];
+static WITH_ROWS: [Call; 10] = [Row, Row, Row, Group, Row, Group, Group, Row, Group, Group];
 
 #[test]
 fn groups_of_lanes_come_first_and_the_rest_one_by_one(rt: HostRuntime) -> Result<(), Fail> {

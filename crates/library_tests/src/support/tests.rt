@@ -359,15 +359,20 @@ fn compresses_bytes(rt: HostRuntime) {
 }
 
 /// How many messages a hasher and how many groups a compression says it takes at a time.
-fn lanes<H: CryptographicHasher<u8, u8, 32>, C: PseudoCompressionFunction<u8, 2, 32>>()
--> (usize, usize) {
+fn lanes<H: CryptographicHasher<u8, u8, 32>, C: PseudoCompressionFunction<u8, 2, 32>>() -> (
+    usize,
+    usize,
+) {
     (H::LANES, C::LANES)
 }
 
 #[test]
 fn says_how_many_it_takes_at_a_time(rt: HostRuntime) {
     assert_eq!(rt; lanes::<Sha256Rows, Sha256Nodes<2>>(), (1, 1));
-    assert_eq!(rt; lanes::<Sha256RowsInEights, Sha256NodesInEights<2>>(), (8, 8));
+    assert_eq!(rt;
+        lanes::<Sha256RowsInEights, Sha256NodesInEights<2>>(),
+        (8, 8)
+    );
     assert!(rt; <Sha256Rows as CryptographicHasher<u8, u8, 32>>::PREFER_CONTIGUOUS_INPUT);
 }
 
