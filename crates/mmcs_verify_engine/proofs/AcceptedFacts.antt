@@ -7,7 +7,7 @@ use Rattle.std.proofs.lemmas.List.{length-map}
 use Rattle.std.proofs.lemmas.List.Elements.{All-head, All-tail, All-weaker}
 use Rattle.p3_support.specs.Batches.{greatest}
 use Rattle.p3_support.specs.declared.matrix.Dimensions.{Dimensions}
-use Rattle.p3_merkle_core.specs.Caps.{room}
+use Rattle.p3_merkle_core.specs.Caps.{max_cap_height}
 use Rattle.p3_merkle_core.specs.Geometry.{expected_height, halved_index, height_limit, heights, levels, IsArity, IsLawful, Shape}
 use Rattle.p3_merkle_core.specs.Nodes.{layer, node, shape, Batch}
 use Rattle.p3_merkle_core.specs.Openings.{honest_rows}
@@ -57,7 +57,7 @@ below_root a b = omega arith
 
 -- a tree has the layer of its cap
 cap_in_tree : (cap : CapChoice) (s : Shape) → layer_of_cap cap s ≤ levels s
-cap_in_tree cap s = below_root (levels s) (min cap.height (room s cap.rule))
+cap_in_tree cap s = below_root (levels s) (min cap.height (max_cap_height s cap.rule))
 
 -- no height is too large
 greatest_low : (hs : List ℕ) → All (λ h. h ≤ height_limit) hs → greatest hs ≤ height_limit

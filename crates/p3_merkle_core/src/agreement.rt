@@ -17,7 +17,7 @@ ghost use Rattle.p3_merkle_core.specs.Refusals.{digest_count_refusal, first_of, 
 use crate::error::{MerkleTreeError, PrunedProofError};
 use crate::geometry::{check_widths, exponent_of};
 use crate::pruning::{check_indices, covered_leaves, to_parents};
-use crate::steps::{Steps, steps_of};
+use crate::steps::Steps;
 use p3_support::matrix::Dimensions;
 use std::alloc::{AllocError, Global};
 
@@ -288,30 +288,6 @@ fn check_groups<T: Eq>(
         }
     }
     Ok(())
-}
-
-/// As [`Steps::check_pruned`], of dimensions.
-///
-/// # Errors
-///
-/// The same.
-pub fn check_pruned<T: Eq>(
-    alloc: Global,
-    dimensions: &[Dimensions],
-    arity: usize,
-    cap_layer: usize,
-    indices: &[usize],
-    rows: &[Vec<Vec<T>>],
-    num_digests: usize,
-) -> Result<DistinctIndices, MerkleTreeError>
-    requires arity { IsArity arity }
-    requires layer { cap_layer ≤ levels (shape_of arity dimensions.now) }
-    ensures { let refusal = pruned_refusal T.eq (shape_of arity dimensions.now) cap_layer
-        (opened_with indices.now (row_sets rows.now) num_digests) in
-        MatchResult result (λ queried. (refusal ≡ None) × AreDistinctOf queried indices.now)
-        (λ e. (e ≡ OutOfMemory) ⊎ (refusal ≡ Some e)) }
-{
-    steps_of(dimensions, arity).check_pruned(alloc, cap_layer, indices, rows, num_digests)
 }
 
 impl<'a> Steps<'a> {

@@ -4,7 +4,7 @@ ghost use Rattle.std.specs.Prelude.{◌≡◌, ◌+◌, ◌<◌, ◌≤◌, ◌+
 ghost use Rattle.p3_merkle_core.specs.Nodes.{padded};
 
 /// Writes a value at its place among others into the first slots.
-pub fn place<X: Copy>(slots: &mut [X], position: usize, value: X, others: &[X])
+fn insert_into<X: Copy>(slots: &mut [X], position: usize, value: X, others: &[X])
     requires placed { position ≤ length others.now }
     requires room { length others.now < length slots.old }
     ensures { slots.new ≡ insert others.now position value ++ drop (length others.now + 1) slots.old }
@@ -30,7 +30,7 @@ pub fn group_with<W: Copy, const N: usize, const D: usize>(
     ensures { result ≡ padded N default_digest (insert siblings.now position digest) }
 {
     let mut group = [default_digest; N];
-    place(&mut group, position, digest, siblings);
+    insert_into(&mut group, position, digest, siblings);
     group
 }
 

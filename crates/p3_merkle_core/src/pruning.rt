@@ -226,7 +226,7 @@ fn num_siblings<X>(levels: &[KeptLevel<X>]) -> usize {
 
 /// The siblings on the path of a leaf, out of the levels that a walk kept, from the leaves on: of each group on the
 /// path all values but the path's own, ascending. The path of a leaf that the walk did not cover has no siblings on the
-/// levels where no covered node is above it. Takes memory for `room` siblings at once, and for more where there are
+/// levels where no covered node is above it. Takes memory for `capacity` siblings at once, and for more where there are
 /// more.
 ///
 /// # Errors
@@ -235,14 +235,14 @@ fn num_siblings<X>(levels: &[KeptLevel<X>]) -> usize {
 fn path_out_of<X: Copy>(
     alloc: Global,
     levels: &[KeptLevel<X>],
-    room: usize,
+    capacity: usize,
     index: usize,
 ) -> Result<Vec<X>, AllocError>
     ensures { IfOk result (λ path.
         path.items ≡ path_out_of (map (λ level. (level.parents.items, level.step, level.children.items)) levels.now)
         index) }
 {
-    let mut path = Vec::with_capacity(alloc, room)?;
+    let mut path = Vec::with_capacity(alloc, capacity)?;
     let mut node = index;
     for level in levels {
         node = extend_with_siblings(&mut path, level, node)?;
@@ -265,10 +265,10 @@ pub fn paths_out_of<X: Copy>(
         ≡ paths_out_of (map (λ level. (level.parents.items, level.step, level.children.items)) levels.now)
         indices.now) }
 {
-    let room = num_siblings(levels);
+    let capacity = num_siblings(levels);
     let mut paths = Vec::with_capacity(alloc, indices.len())?;
     for index in indices {
-        let siblings = path_out_of(alloc, levels, room, *index)?;
+        let siblings = path_out_of(alloc, levels, capacity, *index)?;
         paths.push(AuthPath {
             leaf_index: *index,
             siblings,

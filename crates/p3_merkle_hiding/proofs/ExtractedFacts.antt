@@ -1,5 +1,5 @@
 -- What the answer to two salted openings means.
-use Rattle.std.proofs.Common.{◌≡◌, ◌↔◌, ◌∙◌, ◌++◌, ◌⊎◌, ℕ, Bool, List, [], ◌∷◌, ap, arith, inl, inr, length, map, refl, subst, sym, None, Some, Option, Result}
+use Rattle.std.proofs.Common.{◌≡◌, ◌↔◌, ◌∙◌, ◌++◌, ◌⊎◌, ℕ, Bool, List, [], ◌∷◌, ap, arith, inl, inr, length, map, refl, sym, None, Some, Option, Result}
 use Rattle.std.specs.Prelude.{Ok, Err, IfOk, IsErr, IsNone}
 use Rattle.std.specs.Option.{option_or, unwrap_or}
 use Rattle.std.specs.Result.{result_err}

@@ -1,5 +1,5 @@
 -- What the answers of the salted calls say in the words of the trait.
-use Rattle.std.proofs.Common.{◌≡◌, ◌∙◌, ℕ, List, Result, None, ap, inl, inr, map, subst, sym}
+use Rattle.std.proofs.Common.{◌≡◌, ℕ, List, Result, None, inl, inr, map, subst, sym}
 use Rattle.std.specs.Prelude.{Ok, Err, IfErr, IfOk}
 use Rattle.p3_merkle_core.specs.Refusals.{AnswersUnlessMemory}
 use Rattle.p3_merkle_core.specs.Commitments.{IsCommitment}

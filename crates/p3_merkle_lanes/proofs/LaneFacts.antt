@@ -1,5 +1,5 @@
 -- Slots that are filled in groups, and what each lane of packed digests shows.
-use Rattle.std.proofs.Common.{◌≡◌, ℕ, zero, suc, ◌+◌, ◌-◌, ◌*◌, ◌<◌, ◌≤◌, List, [], ◌∷◌, ◌++◌, length, map, take, drop, get_or, set, replicate, cond, min, ◌^◌, All, refl, sym, ap, ◌∙◌, arith, inl, inr, append-nil, length-drop}
+use Rattle.std.proofs.Common.{◌≡◌, ℕ, zero, suc, ◌+◌, ◌-◌, ◌*◌, ◌<◌, ◌≤◌, List, [], ◌∷◌, ◌++◌, length, map, take, drop, get_or, set, replicate, min, ◌^◌, All, refl, sym, ap, ◌∙◌, arith, inl, inr, append-nil, length-drop}
 use Rattle.std.specs.List.{flat_map}
 use Rattle.std.proofs.lemmas.Bool.{cases_lt, cases_eq, eq-eqb}
 use Rattle.std.proofs.lemmas.Grind.{flat_map-append}
@@ -191,8 +191,3 @@ array_fits outer inner s h =
     let size : inner * capped s ≤ inner * s = mul-le-mul_left inner (capped_le s) in
     let less : outer * part ≤ outer * (inner * s) = mul-le-mul_left outer (omega (arith, size)) in
     omega (arith, less, h)
-
--- so the inner array fits, where there is one
-pub inner_small : (outer inner s : ℕ) → 0 < outer → outer * (inner * s) < 2 ^ 63 → inner * s < 2 ^ 63
-inner_small outer inner s some h = let more : 1 * (inner * s) ≤ outer * (inner * s) =
-    mul-le-mul_right (inner * s) (omega arith) in omega arith

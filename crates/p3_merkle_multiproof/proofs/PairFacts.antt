@@ -5,7 +5,7 @@ use Rattle.p3_merkle_core.specs.Checks.{Input}
 use Rattle.p3_merkle_core.specs.Views.{inputs_in}
 use Rattle.p3_merkle_core.specs.declared.collision.InputPair.{InputPair}
 use Rattle.p3_merkle_verifier.specs.Inner.Collisions.{Shows}
-use Rattle.p3_merkle_multiproof.specs.Inner.Pairs.{first_place, ShowsAt, ShowsPair}
+use Rattle.p3_merkle_multiproof.specs.Inner.QueryPairs.{first_place, ShowsAt, ShowsPair}
 use Rattle.p3_merkle_multiproof.proofs.PlaceFacts.{no_pair, no_place, pair_found, place_found}
 
 module _ {T W : Type 0} where

@@ -6,7 +6,7 @@ use Rattle.std.proofs.lemmas.Bool.{cases_eq}
 use Rattle.p3_merkle_core.specs.Extraction.{first_pair}
 use Rattle.p3_merkle_core.specs.Refusals.{first_of}
 use Rattle.p3_merkle_core.proofs.Pruned.Unrefused.{all_in_range}
-use Rattle.p3_merkle_multiproof.specs.Inner.Pairs.{first_place}
+use Rattle.p3_merkle_multiproof.specs.Inner.QueryPairs.{first_place}
 
 -- an answer, and none before it
 first_there : {E : Type 0} (h : ℕ → Option E) (a n i : ℕ) (y : E) → a ≤ i → i < a + n →

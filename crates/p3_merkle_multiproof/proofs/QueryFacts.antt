@@ -1,8 +1,6 @@
 -- The queries of a pruned opening that is accepted, each with its restored path.
-use Rattle.std.proofs.Common.{◌≡◌, ◌∙◌, ◌⊎◌, ℕ, ◌<◌, Bool, List, [], refl, ap, sym, arith, inl, inr, length, subst, Option, Some, None}
-use Rattle.std.specs.Prelude.{Ok, Err, Result, MatchResult, slice_index_or}
-use Rattle.std.specs.Option.{option_or}
-use Rattle.std.specs.declared.vec.Vec.{Vec}
+use Rattle.std.proofs.Common.{◌≡◌, ◌∙◌, ℕ, ◌<◌, Bool, List, [], refl, ap, sym, arith, length, subst, Option, None}
+use Rattle.std.specs.Prelude.{slice_index_or}
 use Rattle.std.proofs.lemmas.List.{get_or-map, length-map}
 use Rattle.p3_support.specs.Shown.{row_lists, row_sets}
 use Rattle.p3_merkle_core.specs.Views.{shown_path, shown_paths}
@@ -14,31 +12,12 @@ use Rattle.p3_merkle_core.specs.Openings.{Opening, opening_of}
 use Rattle.p3_merkle_core.specs.Checks.{Input, terms}
 use Rattle.p3_merkle_core.specs.Pruning.{PrunedOpening, opening_at, restored_path, restored_paths}
 use Rattle.p3_merkle_core.specs.Refusals.{IsEquality, pruned_refusal_under, ok_unless}
-use Rattle.p3_merkle_core.specs.declared.error.MerkleTreeError.{MerkleTreeError}
-use Rattle.p3_merkle_core.specs.declared.error.MerkleTreeError.TheVariants.{OutOfMemory}
-use Rattle.p3_merkle_core.specs.declared.pruning.AuthPath.{AuthPath}
-use Rattle.p3_merkle_core.proofs.Pruned.NoneFacts.{none_parts}
 use Rattle.p3_merkle_core.proofs.Checks.Verdicts.{pruned_accepted}
 use Rattle.p3_merkle_verifier.specs.Inner.Collisions.{Shows}
 use Rattle.p3_merkle_core.specs.declared.collision.InputPair.{InputPair}
-use Rattle.p3_merkle_multiproof.specs.Inner.Pairs.{query_difference, query_in, AreQueriesOf, CanCompare, ShowsPair}
+use Rattle.p3_merkle_multiproof.specs.Inner.QueryPairs.{query_difference, query_in, AreQueriesOf, CanCompare, ShowsPair}
 use Rattle.p3_merkle_multiproof.specs.declared.extraction.RestoredQueries.{RestoredQueries}
-use Rattle.p3_merkle_multiproof.proofs.GroupFacts.{set_read}
 use Rattle.p3_merkle_multiproof.proofs.PlaceFacts.{pairs_alike}
-
--- a query that is read out of its row set and its path
-pub query_read : {T W A B : Type 0} (sets : List (Vec (Vec T A) B)) (paths : List (AuthPath (List W))) (k : ℕ)
-    (rows : Vec (Vec T A) B) (path : AuthPath (List W)) → k < length sets → k < length paths →
-    rows ≡ slice_index_or sets k rows → path ≡ slice_index_or paths k path →
-    opening_of path.leaf_index (row_lists rows.items) path.siblings.items
-    ≡ opening_of (slice_index_or (shown_paths paths) k (0, [])).0 (slice_index_or (row_sets sets) k [])
-    (slice_index_or (shown_paths paths) k (0, [])).1
-query_read {T} {W} sets paths k rows path in_sets in_paths is_rows is_path =
-    let at : slice_index_or (shown_paths paths) k (0, [])
-    ≡ shown_path path = get_or-map shown_path paths k path (0, []) in_paths ∙ ap shown_path (sym is_path) in
-    let set : slice_index_or (row_sets sets) k [] ≡ row_lists rows.items = set_read sets k rows in_sets is_rows in
-    ap (λ (z : List (List T)). opening_of path.leaf_index z path.siblings.items) (sym set)
-    ∙ ap (λ (z : ℕ × List (List W)). opening_of z.0 (slice_index_or (row_sets sets) k []) z.1) (sym at)
 
 module _ {T W : Type 0} (eq : T → T → Bool) (same : W → W → Bool) (f : Functions T W) (s : Shape) (t : ℕ) where
   -- the last difference of two checks
@@ -121,14 +100,6 @@ module _ {T W : Type 0} (eq : T → T → Bool) (same : W → W → Bool) (f : F
       ∙ pair_difference_is p r a b)
 
 -- ---- answers
-
--- what is restored of an opening that is accepted is refused for want of memory alone
-pub restored_answer : {V : Type 0} (r : Result V MerkleTreeError) (x y : Option MerkleTreeError) → option_or x y
-    ≡ None → MatchResult r (λ v. x ≡ None) (λ e. (e ≡ OutOfMemory) ⊎ (x ≡ Some e)) →
-    MatchResult r (λ v. option_or x y ≡ None) (λ e. (e ≡ OutOfMemory) ⊎ (option_or x y ≡ Some e))
-restored_answer (Ok v) x y none a = none
-restored_answer (Err e) x y none (inl m) = inl m
-restored_answer (Err e) x y none (inr some) = let first = (none_parts x y none).0 in absurd cc
 
 -- what is found in the queries of both is the first difference
 pub found_in_both : {T W : Type 0} (eq : T → T → Bool) (same : W → W → Bool) (f : Functions T W) (s : Shape) (t : ℕ)

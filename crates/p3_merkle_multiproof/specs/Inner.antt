@@ -1,4 +1,4 @@
 -- What only proofs, and calls that no public contract speaks of, cite.
 pub mod NodeDigests
 pub mod RestoredLevels
-pub mod Pairs
+pub mod QueryPairs

@@ -23,7 +23,7 @@ use std::alloc::Global;
 
 /// What openings are checked against: the roots of a cap, the dimensions of the matrices, and the cap's layer.
 #[derive_where(Clone, Copy)]
-pub(crate) struct Commitment<'a, X> {
+pub struct Commitment<'a, X> {
     /// The roots of the cap.
     pub roots: &'a [X],
     /// The dimensions of all matrices.
@@ -32,9 +32,8 @@ pub(crate) struct Commitment<'a, X> {
     pub cap_layer: usize,
 }
 
-/// Checks a pruned opening against the roots of a cap, which is this layer: whether its form is right, and the digests
-/// that its rows and the digests that were sent lead to are the roots of their places. `sets` has the rows of each
-/// query.
+/// Checks a pruned opening against the roots of a cap: whether its form is right, and the digests that its rows and the
+/// digests that were sent lead to are the roots of their places.
 ///
 /// `N` is a power of two from 2 to 2^62, and the cap's layer is at most the number of levels.
 ///
@@ -52,25 +51,21 @@ pub fn check_pruned_opening<
 >(
     alloc: Global,
     checker: &Checker<'_, P, PW, H, C, [[PW::Value; D]; N]>,
-    roots: &[[PW::Value; D]],
-    dimensions: &[Dimensions],
-    cap_layer: usize,
-    indices: &[usize],
-    sets: &[Vec<Vec<P::Value>>],
-    sent: &[[PW::Value; D]],
+    commitment: &Commitment<'_, [PW::Value; D]>,
+    opening: LentOpening<'_, P::Value, [PW::Value; D]>,
 ) -> Result<(), MerkleTreeError>
-    requires { CanCheck (shape_of N dimensions.now) cap_layer }
+    requires { CanCheck (shape_of N commitment.now.dimensions.now) commitment.now.cap_layer }
     ensures { let f = functions_of (H.hash checker.now.hash.now) (C.compression checker.now.compress.now)
         (replicate D PW.default_value) in
-        let p = pruned_of indices.now (row_sets sets.now) sent.now in
-        let c = terms f (shape_of N dimensions.now) cap_layer in
-        AnswersUnlessMemory result (pruned_refusal_under P.Value.eq PW.Value.eq c roots.now p) }
+        let p = pruned_of opening.entry.indices.now (row_sets opening.entry.sets.now) opening.entry.sent.now in
+        let c = terms f (shape_of N commitment.now.dimensions.now) commitment.now.cap_layer in
+        AnswersUnlessMemory result (pruned_refusal_under P.Value.eq PW.Value.eq c commitment.now.roots.now p) }
 {
-    let opening = LentOpening {
-        indices,
-        sets,
-        sent,
-    };
+    let Commitment {
+        roots,
+        dimensions,
+        cap_layer,
+    } = *commitment;
     let start = start_of::<P, [PW::Value; D]>(alloc, dimensions, N, cap_layer, opening)?;
     levels_under_cap::<P, PW, H, C, N, D>(alloc, checker, start, roots, false)?;
     Ok(())

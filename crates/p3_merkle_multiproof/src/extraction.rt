@@ -10,7 +10,7 @@ ghost use Rattle.p3_merkle_core.specs.Refusals.{pruned_refusal_under, AnswersUnl
 ghost use Rattle.p3_merkle_core.specs.Pruning.{opening_at};
 ghost use Rattle.p3_merkle_verifier.specs.Inner.Checks.{opening_in};
 ghost use Rattle.p3_merkle_verifier.specs.Inner.Paths.{CanCheck, CanReach};
-ghost use Rattle.p3_merkle_multiproof.specs.Inner.Pairs.{query_difference, first_place, pruned_in, query_in, AreQueriesOf, CanCompare, ShowsAt, ShowsPair};
+ghost use Rattle.p3_merkle_multiproof.specs.Inner.QueryPairs.{query_difference, first_place, pruned_in, query_in, AreQueriesOf, CanCompare, ShowsAt, ShowsPair};
 
 use crate::check::Commitment;
 use crate::paths::checked_paths_of;
@@ -22,7 +22,6 @@ use p3_merkle_verifier::level::Checker;
 use p3_merkle_verifier::openings::{IndexedOpening, OpeningPair};
 use p3_support::compress::PseudoCompressionFunction;
 use p3_support::hasher::CryptographicHasher;
-use p3_support::matrix::Dimensions;
 use p3_support::opening::PrunedOpeningRef;
 use p3_support::packed::PackedValue;
 use std::alloc::{AllocError, Global};
@@ -190,7 +189,7 @@ fn checked_queries<
     Ok(RestoredQueries { sets, paths })
 }
 
-/// What two pruned openings under the roots of a cap, which is this layer, lead to: nothing where the checks of all
+/// What two pruned openings under the roots of a cap lead to: nothing where the checks of all
 /// pairs of their queries agree, and else the first pair that differs, by the first list, then by the second: the place
 /// of each in its list, and the last place that both checks share and at which their inputs differ.
 ///
@@ -211,21 +210,19 @@ pub fn extraction<
 >(
     alloc: Global,
     checker: &Checker<'_, P, PW, H, C, [[PW::Value; D]; N]>,
-    roots: &[[PW::Value; D]],
-    dimensions: &[Dimensions],
-    cap_layer: usize,
+    commitment: &Commitment<'_, [PW::Value; D]>,
     first: PrunedOpeningRef<'_, P::Value, PrunedMerklePaths<PW::Value, D>>,
     second: PrunedOpeningRef<'_, P::Value, PrunedMerklePaths<PW::Value, D>>,
 ) -> Result<Option<(usize, usize, Collision<P::Value, PW::Value, D>)>, MerkleTreeError>
-    requires { CanCheck (shape_of N dimensions.now) cap_layer }
+    requires { CanCheck (shape_of N commitment.now.dimensions.now) commitment.now.cap_layer }
     ensures answer { let f = functions_of (H.hash checker.now.hash.now) (C.compression checker.now.compress.now)
         (replicate D PW.default_value) in
-        let refusal = pruned_refusal_under P.Value.eq PW.Value.eq (terms f (shape_of N dimensions.now) cap_layer)
-        roots.now in
+        let c = terms f (shape_of N commitment.now.dimensions.now) commitment.now.cap_layer in
+        let refusal = pruned_refusal_under P.Value.eq PW.Value.eq c commitment.now.roots.now in
         AnswersUnlessMemory result (option_or (refusal (pruned_in first.entry)) (refusal (pruned_in second.entry))) }
     ensures found { let f = functions_of (H.hash checker.now.hash.now) (C.compression checker.now.compress.now)
         (replicate D PW.default_value) in
-        let c = terms f (shape_of N dimensions.now) cap_layer in
+        let c = terms f (shape_of N commitment.now.dimensions.now) commitment.now.cap_layer in
         let p = pruned_in first.entry in
         let r = pruned_in second.entry in
         let difference = first_pair
@@ -233,13 +230,8 @@ pub fn extraction<
         (length r.indices) in
         IfOk result (λ found. ShowsPair found difference) }
 {
-    let commitment = Commitment {
-        roots,
-        dimensions,
-        cap_layer,
-    };
-    let first = checked_queries::<P, PW, H, C, N, D>(alloc, checker, &commitment, first)?;
-    let second = checked_queries::<P, PW, H, C, N, D>(alloc, checker, &commitment, second)?;
-    let found = differing_pair::<P, PW, H, C, N, D>(alloc, checker, &commitment, &first, &second)?;
+    let first = checked_queries::<P, PW, H, C, N, D>(alloc, checker, commitment, first)?;
+    let second = checked_queries::<P, PW, H, C, N, D>(alloc, checker, commitment, second)?;
+    let found = differing_pair::<P, PW, H, C, N, D>(alloc, checker, commitment, &first, &second)?;
     Ok(found)
 }

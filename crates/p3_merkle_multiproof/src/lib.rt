@@ -10,7 +10,7 @@ pub mod extraction;
 mod level;
 mod parents;
 pub mod paths;
-mod restorable;
+pub mod restorable;
 mod restored;
 mod rows;
 mod start;

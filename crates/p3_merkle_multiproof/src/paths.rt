@@ -27,7 +27,7 @@ use p3_support::packed::PackedValue;
 use std::alloc::{AllocError, Global};
 
 /// The path of each query up to the cap's layer, in query order, out of a pruned opening: the siblings are digests
-/// that were sent, or that its rows and these lead to. `sets` has the rows of each query. No cap is looked at.
+/// that were sent, or that its rows and these lead to. No cap is looked at.
 ///
 /// `N` is a power of two from 2 to 2^62, and the cap's layer is at most the number of levels.
 ///
@@ -46,25 +46,20 @@ pub fn restored_paths_of<
     checker: &Checker<'_, P, PW, H, C, [[PW::Value; D]; N]>,
     dimensions: &[Dimensions],
     cap_layer: usize,
-    indices: &[usize],
-    sets: &[Vec<Vec<P::Value>>],
-    sent: &[[PW::Value; D]],
+    opening: LentOpening<'_, P::Value, [PW::Value; D]>,
 ) -> Result<Vec<AuthPath<[PW::Value; D]>>, MerkleTreeError>
     requires { CanCheck (shape_of N dimensions.now) cap_layer }
-    ensures answer { let p = pruned_of indices.now (row_sets sets.now) sent.now in
+    ensures answer { let p = pruned_of opening.entry.indices.now (row_sets opening.entry.sets.now)
+        opening.entry.sent.now in
         let refusal = pruned_refusal P.Value.eq (shape_of N dimensions.now) cap_layer p in
         AnswersUnlessMemory result refusal }
     ensures paths { let f = functions_of (H.hash checker.now.hash.now) (C.compression checker.now.compress.now)
         (replicate D PW.default_value) in
-        let p = pruned_of indices.now (row_sets sets.now) sent.now in
+        let p = pruned_of opening.entry.indices.now (row_sets opening.entry.sets.now) opening.entry.sent.now in
         let c = terms f (shape_of N dimensions.now) cap_layer in
         IfOk result (λ paths. shown_paths paths.items ≡ restored_paths c p) }
 {
-    let opening = LentOpening {
-        indices,
-        sets,
-        sent,
-    };
+    let indices = opening.indices;
     let start = start_of::<P, [PW::Value; D]>(alloc, dimensions, N, cap_layer, opening)?;
     let levels = levels_below_cap::<P, PW, H, C, N, D>(alloc, checker, start)?;
     Ok(paths_out_of(alloc, &levels, indices)?)

@@ -32,8 +32,8 @@ pub struct Reach {
 }
 
 impl Reach {
-    /// For how many levels it needs room, where so many are below the cap.
-    fn room(&self, levels: usize) -> usize {
+    /// How many levels it keeps, where `levels` are below the cap.
+    fn num_kept(&self, levels: usize) -> usize {
         if self.keeps { levels } else { 0 }
     }
 }
@@ -117,7 +117,7 @@ pub(crate) fn restored_layer<
         covered: leaves,
         digests,
     };
-    let mut levels = Vec::with_capacity(alloc, reach.room(restorable.cap_layer))?;
+    let mut levels = Vec::with_capacity(alloc, reach.num_kept(restorable.cap_layer))?;
     for level in 0..reach.layer {
         let (next_level, digests) = restored_above::<P, PW, H, C, N, D>(
             alloc, checker, restorable, level, &restored,

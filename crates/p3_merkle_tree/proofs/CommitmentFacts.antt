@@ -4,7 +4,7 @@ use Rattle.std.specs.Prelude.{Ok, Err, IfErr, IfOk, IsOk}
 use Rattle.p3_merkle_core.specs.Gate.{gate_refusal}
 use Rattle.p3_merkle_core.specs.Commitments.{IsCommitment}
 use Rattle.p3_merkle_core.specs.Geometry.{IsLawful, Shape}
-use Rattle.p3_merkle_core.specs.Nodes.{Batch, Functions, layer, layers, shape}
+use Rattle.p3_merkle_core.specs.Nodes.{Batch, shape}
 use Rattle.p3_merkle_core.specs.declared.error.MerkleTreeError.TheVariants.{OutOfMemory}
 use Rattle.p3_merkle_core.specs.declared.error.MerkleTreeError.{MerkleTreeError}
 use Rattle.p3_merkle_core.proofs.Shapes.GateFacts.{gate_lawful}

@@ -1,6 +1,6 @@
 -- What is opened of an own tree by a pruned proof is the honest pruned opening, which is accepted and restores; what an
 -- answer says.
-use Rattle.std.proofs.Common.{◌≡◌, ◌↔◌, ◌∙◌, ℕ, Bool, Option, None, Some, Result, ap, refl, inl, inr, List, map, subst, sym}
+use Rattle.std.proofs.Common.{◌≡◌, ◌↔◌, ◌∙◌, ℕ, Bool, Option, None, Result, ap, List, map, subst, sym}
 use Rattle.std.specs.Prelude.{Ok, Err, IsOk}
 use Rattle.p3_merkle_core.specs.Checks.{Terms, terms}
 use Rattle.p3_merkle_core.specs.Commitments.{IsOwn, cap_over}

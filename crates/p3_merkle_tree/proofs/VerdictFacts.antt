@@ -1,5 +1,5 @@
 -- What the answer to an opening means.
-use Rattle.std.proofs.Common.{◌≡◌, ◌↔◌, ℕ, List, Bool, sym, ◌∙◌, refl, IsOk, Result}
+use Rattle.std.proofs.Common.{◌≡◌, ◌↔◌, List, Bool, sym, ◌∙◌, refl, IsOk, Result}
 use Rattle.std.specs.Prelude.{Ok, Err}
 use Rattle.p3_merkle_core.specs.Openings.{Opening}
 use Rattle.p3_merkle_core.specs.Checks.{IsAccepted, Terms}

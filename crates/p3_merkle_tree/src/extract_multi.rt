@@ -10,6 +10,7 @@ use crate::mmcs::MerkleTreeMmcs;
 use p3_merkle_core::collision::Collision;
 use p3_merkle_core::error::MerkleTreeError;
 use p3_merkle_core::pruning::PrunedMerklePaths;
+use p3_merkle_multiproof::check::Commitment;
 use p3_merkle_multiproof::extraction::extraction;
 use p3_support::compress::PseudoCompressionFunction;
 use p3_support::hasher::CryptographicHasher;
@@ -56,16 +57,11 @@ impl<
             let second = presented (pruned_lent b.indices.now b.opened_values.now b.opening_proof.now) in
             IsExtraction P.Value.eq PW.Value.eq (cap_rule_of self.now) c first second (found_pair result) }
     {
-        let cap_layer = self.cap_layer(dimensions);
-        let checker = self.checker();
-        extraction::<P, PW, H, C, N, D>(
-            alloc,
-            &checker,
-            commit.roots(),
+        let commitment = Commitment {
+            roots: commit.roots(),
             dimensions,
-            cap_layer,
-            first,
-            second,
-        )
+            cap_layer: self.cap_layer(dimensions),
+        };
+        extraction::<P, PW, H, C, N, D>(alloc, &self.checker(), &commitment, first, second)
     }
 }

@@ -21,8 +21,9 @@ use p3_merkle_core::pruning::{
     MerkleAuthPath, PrunedBatchOpening, PrunedMerklePaths, PrunedProof, PrunedRows, check_indices,
     pruned_len_of,
 };
-use p3_merkle_multiproof::check::check_pruned_opening;
+use p3_merkle_multiproof::check::{Commitment, check_pruned_opening};
 use p3_merkle_multiproof::paths::restored_paths_of;
+use p3_merkle_multiproof::restorable::LentOpening;
 use p3_merkle_prover::opener::cap_layer_in;
 use p3_merkle_prover::pruned::{digests_of_boundary, rows_of_indices};
 use p3_merkle_prover::tree::MerkleTree;
@@ -207,19 +208,17 @@ impl<
             let count = pruned_len (shape_of N dimensions.now) indices.now cap_layer in
             IsOk result → length proof.now.sibling_hashes.items ≡ count }
     {
-        let cap_layer = self.cap_layer(dimensions);
-        let checker = self.checker();
-        let sent = proof.sibling_hashes.as_slice();
-        check_pruned_opening::<P, PW, H, C, N, D>(
-            alloc,
-            &checker,
-            commit.roots(),
+        let commitment = Commitment {
+            roots: commit.roots(),
             dimensions,
-            cap_layer,
+            cap_layer: self.cap_layer(dimensions),
+        };
+        let opening = LentOpening {
             indices,
-            rows,
-            sent,
-        )
+            sets: rows,
+            sent: proof.sibling_hashes.as_slice(),
+        };
+        check_pruned_opening::<P, PW, H, C, N, D>(alloc, &self.checker(), &commitment, opening)
     }
 
     /// The same as [`verify_batch_pruned`](Self::verify_batch_pruned).
@@ -289,10 +288,12 @@ impl<
             IfOk result (λ paths. shown_paths paths.items ≡ restored_paths c p) }
     {
         let cap_layer = self.cap_layer(dimensions);
+        let opening = LentOpening {
+            indices,
+            sets: rows,
+            sent: proof.sibling_hashes.as_slice(),
+        };
         let checker = self.checker();
-        let sent = proof.sibling_hashes.as_slice();
-        restored_paths_of::<P, PW, H, C, N, D>(
-            alloc, &checker, dimensions, cap_layer, indices, rows, sent,
-        )
+        restored_paths_of::<P, PW, H, C, N, D>(alloc, &checker, dimensions, cap_layer, opening)
     }
 }

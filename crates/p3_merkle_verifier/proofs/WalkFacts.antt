@@ -5,13 +5,12 @@ use Rattle.std.specs.Option.{option_or}
 use Rattle.std.specs.declared.vec.Vec.{Vec}
 use Rattle.std.proofs.lemmas.Bool.{cases_Bool, eq-eqb, ne_eqb}
 use Rattle.p3_merkle_core.specs.Extraction.{input_eq, last_difference}
-use Rattle.p3_support.specs.Batches.{heights_of, greatest}
-use Rattle.p3_merkle_core.specs.Geometry.{Shape, ancestor, exponent, heights, layer_exponent}
+use Rattle.p3_support.specs.Batches.{heights_of}
+use Rattle.p3_merkle_core.specs.Geometry.{Shape, ancestor}
 use Rattle.p3_merkle_core.specs.Nodes.{Functions}
 use Rattle.p3_merkle_core.specs.Openings.{Opening}
 use Rattle.p3_merkle_core.specs.Checks.{Input, inputs_at, layer_words, leaf_input, words_at, words_of_exponent}
 use Rattle.p3_merkle_core.specs.Refusals.{unless}
-use Rattle.p3_merkle_core.proofs.Shapes.StepFacts.{layer_start}
 use Rattle.p3_merkle_verifier.specs.Inner.Checks.{IsLevelOfCheck, StandsAt, leaf_difference, level_difference}
 use Rattle.p3_merkle_verifier.specs.Inner.Collisions.{IsDifference, Shows, level_inputs}
 use Rattle.p3_merkle_core.specs.declared.collision.Place.TheVariants.{Leaf}

@@ -26,9 +26,6 @@ byte_after m p q e =
     let rest : p - length m ≡ q = omega arith in
     get_or-append_right m (padding (length m)) (length m) p 0 refl high ∙ ap (slice_index (padding (length m))) rest
 
-pub byte_mark : (m : List ℕ) (p : ℕ) → p ≡ length m → slice_index (padded_message m) p ≡ 0x80
-byte_mark m p e = byte_after m p 0 (omega arith)
-
 -- the padding after its mark
 abbrev after_mark : ℕ → List ℕ
 after_mark n = replicate (zeros n) 0 ++ to_be_bytes w64 (n * 8 % 2 ^ 64)

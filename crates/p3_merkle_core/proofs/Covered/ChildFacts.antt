@@ -187,18 +187,6 @@ pub record IsCounted (known count : ℕ) : Type 0 where
   pub within : known ≤ count
   pub more : known + 1 < 2 ^ 64
 
-pub is_counted : {X : Type 0} (n : ℕ) (parents covered : List ℕ) (digests sent : List X) →
-    IsFamily n parents covered digests sent → (place known : ℕ) (values : List X) → place < n * length parents →
-    IsWalked covered (children_under n parents) digests sent place known values → known < length covered →
-    IsCounted known (length digests)
-is_counted n parents covered digests sent w place known values h k below =
-    let split = split_at n parents covered digests sent place known values (omega arith) k in
-    record {
-      inside = omega (arith, w.one_each);
-      within = omega (arith, w.one_each);
-      more = omega (arith, w.few);
-    }
-
 -- there is no next one
 pub none_next : {P : Type 0} (known count : ℕ) → count ≤ known → known < count → P
 none_next known count h k = absurd (omega arith)

@@ -117,7 +117,7 @@ small_children s queries t w low l h =
 
 -- what a level of the walk starts from: the steps, the covered nodes above and here, their values, and what is left of
 -- the digests that were sent
-pub record IsLevel {T W X : Type 0} (f : Functions T W) (s : Shape) (t : ℕ) (p : PrunedOpening T W) (l : ℕ) (view : X →
+pub record IsWalkedLevel {T W X : Type 0} (f : Functions T W) (s : Shape) (t : ℕ) (p : PrunedOpening T W) (l : ℕ) (view : X →
     List W) (n : ℕ) (parents covered : List ℕ) (digests sent : List X) : Type 0 where
   pub step_is : n ≡ step s l
   pub parents_are : parents ≡ covered_at s p.indices (suc l)
@@ -155,7 +155,7 @@ family_by_counts s queries t w low l h n parents covered digests sent is_step is
 pub children_are : {T W X : Type 0} (f : Functions T W) (s : Shape) (t : ℕ) (p : PrunedOpening T W) →
     CanQuery s p.indices t → length p.digests ≡ length (boundary s p.indices t) →
     (l : ℕ) → l < t → (view : X → List W) (n : ℕ) (parents covered : List ℕ) (digests sent values : List X) →
-    IsLevel f s t p l view n parents covered digests sent → AreChildren n parents covered digests sent values →
+    IsWalkedLevel f s t p l view n parents covered digests sent → AreChildren n parents covered digests sent values →
     map view values ≡ flat_map (λ j. map (value_of (terms f s t) p l) (range_with_len (step s l * j) (step s l)))
     (covered_at s p.indices (suc l))
 children_are f s t p w count l h view n parents covered digests sent values k a =

@@ -1,8 +1,7 @@
 -- The lowest slot under a node, and the rows that are compared with its rows.
-use Rattle.std.proofs.Common.{◌++◌, All, ◌≡◌, ◌≢◌, ℕ, zero, suc, ◌+◌, ◌-◌, ◌/◌, ◌<◌, ◌≤◌, Bool, true, false, not, eqb, List, [], ◌∷◌, map, refl, ap, sym, ◌∙◌, arith, inl, inr, length, filter, get_or, eq-eqb, Option, None, Some, Vec, drop, drop-cons, add-one}
+use Rattle.std.proofs.Common.{◌++◌, All, ◌≡◌, ◌≢◌, ℕ, zero, suc, ◌+◌, ◌-◌, ◌/◌, ◌<◌, ◌≤◌, Bool, true, false, eqb, List, [], ◌∷◌, map, refl, ap, sym, ◌∙◌, arith, inl, inr, length, filter, get_or, eq-eqb, Option, None, Some, Vec, drop, drop-cons, add-one}
 use Rattle.std.specs.List.{list_any, range_with_len}
 use Rattle.std.specs.Option.{option_or}
-use Rattle.std.specs.Cmp.Lexicographic.{pointwise}
 use Rattle.std.proofs.lemmas.Bool.{cases_Bool, eqb-true, eqb-false, false_from_ne_true, ne_eqb, true≢false, cases_lt}
 use Rattle.std.proofs.lemmas.List.Folds.{list_any_at}
 use Rattle.std.specs.Cmp.{IsEquivalence}
@@ -139,20 +138,6 @@ levels_next h t l total below so_far =
 
 -- ---- what the code reads
 
-pub true_of_not : (b d : Bool) → d ≡ not b → d ≡ false → b ≡ true
-true_of_not true d e f = refl
-true_of_not false d e f = absurd (true≢false (sym e ∙ f))
-
-pub false_of_not : (b d : Bool) → d ≡ not b → d ≡ true → b ≡ false
-false_of_not false d e t = refl
-false_of_not true d e t = absurd (true≢false (sym t ∙ e))
-
-pub row_differs : {T A : Type 0} (row_eq : T → T → Bool) (rows lead : List (Vec T A)) (m : ℕ) (v u : Vec T A)
-    (differ : Bool) → m < length rows → m < length lead → v ≡ get_or rows m v → u ≡ get_or lead m u →
-    differ ≡ not (pointwise row_eq v.items u.items) → differ
-    ≡ not (pointwise row_eq (get_or (row_lists rows) m []) (get_or (row_lists lead) m []))
-row_differs row_eq rows lead m v u differ h l e f is = rw (row_read rows m v h e, row_read lead m u l f) is
-
 pub firsts_next : (h : ℕ → Option MerkleTreeError) (xs : List ℕ) (n : ℕ) (total : Option MerkleTreeError) →
     n < length xs → first_of h (drop n xs) ≡ total → option_or (h (get_or xs n 0)) (first_of h (drop (n + 1) xs))
     ≡ total
@@ -201,10 +186,6 @@ no_matrix row_eq hs x nodes firsts sets none =
     (λ t. true≢false (sym (list_any_at (λ h. eqb (exponent h) x) hs m 0 (omega (arith, high)) t) ∙ none))) in
     none_of (slot_fault row_eq (matrices_with hs x) nodes firsts sets) (range_with_len 0 (length nodes))
     (λ k. rw kept refl)
-
-pub lead_start : (nodes : List ℕ) → 0 ≡ first_query nodes (get_or nodes 0 0)
-lead_start [] = refl
-lead_start (x ∷ nodes) = rw (eq-eqb x x refl) refl
 
 pub slot_read : {T : Type 0} (row_eq : T → T → Bool) (matrices nodes firsts : List ℕ)
     (sets : List (List (List T))) (k lead : ℕ) (mine theirs : List (List T)) (o : Option MerkleTreeError) →

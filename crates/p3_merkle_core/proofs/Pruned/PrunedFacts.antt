@@ -14,11 +14,6 @@ use Rattle.p3_merkle_core.specs.declared.error.MerkleTreeError.TheVariants.{Inde
 use Rattle.p3_merkle_core.proofs.Pruned.NoneFacts.{below_from, each_none, fit_from, none_of_both, none_parts, unless_none}
 use Rattle.p3_merkle_core.proofs.Pruned.AgreeFacts.{groups_are, widths_are}
 
--- the digests count by their number alone
-pub digests_counted : {T W : Type 0} (row_eq : T → T → Bool) (s : Shape) (t : ℕ) (p : PrunedOpening T W) →
-    pruned_refusal row_eq s t p ≡ pruned_refusal row_eq s t (opened_with p.indices p.rows (length p.digests))
-digests_counted row_eq s t p = rw (length-replicate {A = List ℕ} (length p.digests) []) refl
-
 -- where none of some reasons holds, those after them decide
 past_none : {E : Type 0} (xs ys : List (Option E)) → first_some xs ≡ None → first_some (xs ++ ys) ≡ first_some ys
 past_none [] ys e = refl

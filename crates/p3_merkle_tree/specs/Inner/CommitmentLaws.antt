@@ -1,5 +1,5 @@
 -- What follows of what a scheme commits to, and of what it shows.
-use Rattle.std.specs.Prelude.{◌≡◌, ℕ, suc, ◌<◌, max, List, [], ◌∷◌, length, map, slice_index, slice_index_or, All}
+use Rattle.std.specs.Prelude.{◌≡◌, ℕ, suc, ◌<◌, List, [], ◌∷◌, length, map, slice_index, slice_index_or, All}
 use Rattle.std.specs.List.{AllZip}
 use Rattle.std.proofs.Common.{◌∙◌, ap, arith, refl, subst, sym}
 use Rattle.std.proofs.Math.Nat.{div-one}
@@ -8,12 +8,12 @@ use Rattle.std.proofs.lemmas.List.{get_or_default}
 use Rattle.p3_merkle_core.specs.Geometry.{IsLawful, Shape, bits_reduced, shape_of, halved_index}
 use Rattle.p3_merkle_core.specs.Commitments.{IsShown}
 use Rattle.p3_merkle_core.specs.Views.{batch_of, heights_in, matrix_of}
-use Rattle.p3_merkle_core.specs.Nodes.{Functions, dimensions_of, functions_of}
+use Rattle.p3_merkle_core.specs.Nodes.{Functions, functions_of}
 use Rattle.p3_merkle_core.specs.Openings.{honest_rows}
 use Rattle.p3_merkle_core.specs.Pruning.{PrunedOpening, restored_path, IsPrunedAccepted}
 use Rattle.p3_merkle_core.specs.Caps.{cap_layer}
 use Rattle.p3_merkle_prover.proofs.RowFacts.{row_inside}
-use Rattle.p3_support.specs.Batches.{FitDimensions, IsEquivalence, dimensions_in, rows_in, heights_of, greatest}
+use Rattle.p3_support.specs.Batches.{FitDimensions, IsEquivalence, rows_in, greatest}
 use Rattle.p3_support.specs.declared.matrix.Dimensions.{Dimensions}
 use Rattle.p3_support.specs.declared.packed.PackedValue as packed
 use Rattle.std.specs.declared.default.Default as default

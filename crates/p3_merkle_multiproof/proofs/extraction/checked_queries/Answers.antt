@@ -4,7 +4,7 @@ use Rattle.p3_support.specs.Shown.{row_sets}
 use Rattle.p3_merkle_core.specs.Geometry.{shape_of}
 use Rattle.p3_merkle_core.specs.Nodes.{functions_of}
 use Rattle.p3_merkle_core.specs.Pruning.{pruned_of}
-use Rattle.p3_merkle_multiproof.specs.Inner.Pairs.{AreQueriesOf}
+use Rattle.p3_merkle_multiproof.specs.Inner.QueryPairs.{AreQueriesOf}
 use Rattle.p3_merkle_multiproof.specs.declared.extraction.RestoredQueries.{RestoredQueries}
 use Rattle.p3_merkle_multiproof.proofs.QueryFacts.{comparable, restored}
 use Rattle.p3_merkle_multiproof.proofs.extraction.checked_queries.Goals as goal

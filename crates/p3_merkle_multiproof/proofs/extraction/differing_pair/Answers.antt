@@ -4,7 +4,7 @@ use Rattle.std.proofs.lemmas.Bool.{cases_eq}
 use Rattle.p3_merkle_core.specs.Geometry.{shape_of}
 use Rattle.p3_merkle_core.specs.Nodes.{functions_of}
 use Rattle.p3_merkle_core.specs.Openings.{Opening}
-use Rattle.p3_merkle_multiproof.specs.Inner.Pairs.{query_difference, first_place, query_in, ShowsAt}
+use Rattle.p3_merkle_multiproof.specs.Inner.QueryPairs.{query_difference, first_place, query_in, ShowsAt}
 use Rattle.p3_merkle_multiproof.proofs.PairFacts.{found_no_pair, found_pair, shown_nowhere}
 use Rattle.p3_merkle_multiproof.proofs.extraction.differing_pair.Goals as goal
 

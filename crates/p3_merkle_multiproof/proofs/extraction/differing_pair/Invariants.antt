@@ -1,7 +1,7 @@
 use Rattle.std.proofs.Common.{◌≡◌, ◌<◌, ℕ, None, length, replicate}
 use Rattle.p3_merkle_core.specs.Geometry.{shape_of}
 use Rattle.p3_merkle_core.specs.Nodes.{functions_of}
-use Rattle.p3_merkle_multiproof.specs.Inner.Pairs.{query_difference, first_place, query_in}
+use Rattle.p3_merkle_multiproof.specs.Inner.QueryPairs.{query_difference, first_place, query_in}
 use Rattle.p3_merkle_multiproof.proofs.extraction.differing_pair.Given as goal
 
 -- no query so far differs from one of the second list

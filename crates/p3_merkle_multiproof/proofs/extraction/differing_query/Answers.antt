@@ -4,7 +4,7 @@ use Rattle.std.proofs.lemmas.Bool.{cases_eq}
 use Rattle.p3_merkle_core.specs.Geometry.{shape_of}
 use Rattle.p3_merkle_core.specs.Nodes.{functions_of}
 use Rattle.p3_merkle_verifier.specs.Inner.Checks.{opening_in}
-use Rattle.p3_merkle_multiproof.specs.Inner.Pairs.{query_difference, query_in}
+use Rattle.p3_merkle_multiproof.specs.Inner.QueryPairs.{query_difference, query_in}
 use Rattle.p3_merkle_multiproof.proofs.PairFacts.{found_nowhere, found_place, shown_none}
 use Rattle.p3_merkle_multiproof.proofs.QueryFacts.{shows_query}
 use Rattle.p3_merkle_multiproof.proofs.extraction.differing_query.Goals as goal

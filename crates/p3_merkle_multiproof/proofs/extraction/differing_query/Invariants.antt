@@ -2,7 +2,7 @@ use Rattle.std.proofs.Common.{◌≡◌, ◌<◌, ℕ, None, replicate}
 use Rattle.p3_merkle_core.specs.Geometry.{shape_of}
 use Rattle.p3_merkle_core.specs.Nodes.{functions_of}
 use Rattle.p3_merkle_verifier.specs.Inner.Checks.{opening_in}
-use Rattle.p3_merkle_multiproof.specs.Inner.Pairs.{query_difference, query_in}
+use Rattle.p3_merkle_multiproof.specs.Inner.QueryPairs.{query_difference, query_in}
 use Rattle.p3_merkle_multiproof.proofs.extraction.differing_query.Given as goal
 
 -- no query so far differs

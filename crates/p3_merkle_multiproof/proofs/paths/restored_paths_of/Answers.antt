@@ -15,7 +15,6 @@ returns-clause-paths g c =
     let restorable = c.in_ok-start.start.restorable in
     let made = c.in_ok-start.ensures in
     let tree : tree_of restorable ≡ s = λ i. shape_of (made.arity i) (made.dimensions i) in
-    paths_by_levels f s c.args.cap_layer restorable
-    (record { indices = c.args.indices; sets = c.args.sets; sent = c.args.sent })
+    paths_by_levels f s c.args.cap_layer restorable c.args.opening
     c.in_ok-levels.levels.items _ tree made.layer made.opening c.in_ok-levels.ensures
     (rw c.deref.ensures.value at c.in_ok-paths_out_of.ensures)

@@ -1,4 +1,4 @@
--- There is as much room as the rule says.
+-- The greatest cap height is that of the rule.
 use Rattle.std.proofs.Common.{◌∙◌, ◌-◌, ap, refl}
 use Rattle.p3_merkle_core.specs.Geometry.{shape_of}
 use Rattle.p3_merkle_core.proofs.Shapes.CapFacts.{lowered_by_numbers}
@@ -14,12 +14,12 @@ returns c =
       | in-Lowered w ↦
           rw (
             w.in-Lowered.is,
-            w.room-is,
-            w.div_ceil-room.ensures,
+            w.max_cap_height-is,
+            w.div_ceil-max_cap_height.ensures,
             w.exponent_of.ensures,
             w.exponent_of-in-Lowered.ensures,
           )
           (lowered_by_numbers s c.requires c.args.cap_height steps.num_levels steps.min_height steps.whole
           steps.shortest)
-      | in-Fixed w ↦ rw (w.in-Fixed.is, w.room-is, steps.whole) refl
+      | in-Fixed w ↦ rw (w.in-Fixed.is, w.max_cap_height-is, steps.whole) refl
     ]

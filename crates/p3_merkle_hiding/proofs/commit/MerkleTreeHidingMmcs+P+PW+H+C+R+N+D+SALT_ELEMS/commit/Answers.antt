@@ -1,5 +1,5 @@
 -- The plain commitment to the pairs is that to the salted matrices.
-use Rattle.std.proofs.Common.{◌≡◌, ◌∙◌, List, ap, map, refl, rules, subst, sym}
+use Rattle.std.proofs.Common.{◌∙◌, List, ap, map, refl, rules, subst, sym}
 use Rattle.std.specs.Prelude.{IfOk}
 use Rattle.std.proofs.lemmas.Result.{IfOk-weaker}
 use Rattle.p3_support.specs.Pairs.{left_of}

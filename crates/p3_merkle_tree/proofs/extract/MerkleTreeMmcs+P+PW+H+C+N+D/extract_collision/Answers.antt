@@ -5,10 +5,9 @@ use Rattle.std.specs.Option.{option_or}
 use Rattle.p3_support.specs.Shown.{roots_of, row_lists}
 use Rattle.p3_merkle_core.specs.Extraction.{difference_of}
 use Rattle.p3_merkle_core.specs.Geometry.{shape_of}
-use Rattle.p3_merkle_core.specs.Presented.{presented}
 use Rattle.p3_merkle_core.specs.Refusals.{AnswersUnlessMemory, refusal_under}
 use Rattle.p3_merkle_core.specs.Views.{opening_lent}
-use Rattle.p3_merkle_core.proofs.Collisions.ExtractionFacts.{all_authenticated, extracted_alone, single_presented}
+use Rattle.p3_merkle_core.proofs.Collisions.ExtractionFacts.{all_authenticated, extracted_alone}
 use Rattle.p3_merkle_verifier.specs.Inner.Collisions.{Shows}
 use Rattle.p3_merkle_tree.specs.Schemes.{cap_layer_over, compression_of, hash_of, terms_of}
 use Rattle.p3_merkle_tree.proofs.CheckFacts.{opening_is, terms_alike}

@@ -7,8 +7,8 @@ use Rattle.p3_merkle_core.specs.Extraction.{difference_of, first_pair}
 use Rattle.p3_merkle_core.specs.Geometry.{shape_of}
 use Rattle.p3_merkle_core.specs.Pruning.{opening_at}
 use Rattle.p3_merkle_core.specs.Refusals.{AnswersUnlessMemory, pruned_refusal_under}
-use Rattle.p3_merkle_core.proofs.Collisions.ExtractionFacts.{all_authenticated, extracted_pair, pruned_presented}
-use Rattle.p3_merkle_multiproof.specs.Inner.Pairs.{pruned_in, ShowsPair}
+use Rattle.p3_merkle_core.proofs.Collisions.ExtractionFacts.{all_authenticated, extracted_pair}
+use Rattle.p3_merkle_multiproof.specs.Inner.QueryPairs.{pruned_in, ShowsPair}
 use Rattle.p3_merkle_tree.specs.Schemes.{cap_layer_over, compression_of, hash_of, terms_of}
 use Rattle.p3_merkle_tree.proofs.CheckFacts.{terms_alike}
 use Rattle.p3_merkle_tree.proofs.extract_multi.MerkleTreeMmcs+P+PW+H+C+N+D.extract_collision_multi.Goals as goal
@@ -21,9 +21,9 @@ returns g c =
     let same = g.PW.Value.PartialEq.eq in
     let s = shape_of g.row.N c.args.dimensions.now in
     let alike = terms_alike g.H.CryptographicHasher.hash g.C.PseudoCompressionFunction.compression
-    (replicate g.row.D g.PW.PackedValue.default_value) s c.checker-checker.result.hash.now (hash_of scheme)
-    c.checker-checker.result.compress.now (compression_of scheme) c.cap_layer-cap_layer.result (cap_layer_over scheme s)
-    c.checker-checker.ensures.hash c.checker-checker.ensures.compress c.cap_layer-cap_layer.ensures in
+    (replicate g.row.D g.PW.PackedValue.default_value) s c.checker.result.hash.now (hash_of scheme)
+    c.checker.result.compress.now (compression_of scheme) c.cap_layer.result (cap_layer_over scheme s)
+    c.checker.ensures.hash c.checker.ensures.compress c.cap_layer.ensures in
     let p = pruned_in c.args.first in
     let r = pruned_in c.args.second in
     let answer = subst (AnswersUnlessMemory c.extraction.result)

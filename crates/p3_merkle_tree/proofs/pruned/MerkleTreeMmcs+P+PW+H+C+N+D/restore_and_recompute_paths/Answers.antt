@@ -22,7 +22,7 @@ returns g c =
     (replicate g.row.D g.PW.PackedValue.default_value) s c.checker-checker.result.hash.now (hash_of scheme)
     c.checker-checker.result.compress.now (compression_of scheme) c.cap_layer-cap_layer.result t
     c.checker-checker.ensures.hash c.checker-checker.ensures.compress c.cap_layer-cap_layer.ensures in
-    let sent = ap (pruned_of c.args.indices.now (row_sets c.args.rows.now)) c.as_slice-sent.ensures.value in
+    let sent = ap (pruned_of c.args.indices.now (row_sets c.args.rows.now)) c.as_slice.ensures.value in
     let restored = c.restored_paths_of.result in
     let answer = subst (AnswersUnlessMemory restored)
     (λ i. pruned_refusal eq s (c.cap_layer-cap_layer.ensures i) (sent i))

@@ -17,10 +17,10 @@ returns g c =
     let same = g.PW.Value.PartialEq.eq in
     let s = shape_of g.row.N c.args.dimensions.now in
     let alike = terms_alike g.H.CryptographicHasher.hash g.C.PseudoCompressionFunction.compression
-    (replicate g.row.D g.PW.PackedValue.default_value) s c.checker-checker.result.hash.now (hash_of scheme)
-    c.checker-checker.result.compress.now (compression_of scheme) c.cap_layer-cap_layer.result (cap_layer_over scheme s)
-    c.checker-checker.ensures.hash c.checker-checker.ensures.compress c.cap_layer-cap_layer.ensures in
-    let sent = ap (pruned_of c.args.indices.now (row_sets c.args.rows.now)) c.as_slice-sent.ensures.value in
+    (replicate g.row.D g.PW.PackedValue.default_value) s c.checker.result.hash.now (hash_of scheme)
+    c.checker.result.compress.now (compression_of scheme) c.cap_layer.result (cap_layer_over scheme s)
+    c.checker.ensures.hash c.checker.ensures.compress c.cap_layer.ensures in
+    let sent = ap (pruned_of c.args.indices.now (row_sets c.args.rows.now)) c.as_slice.ensures.value in
     let answer = subst (AnswersUnlessMemory c.check_pruned_opening.result)
     (λ i. pruned_refusal_under eq same (alike i) (c.roots.ensures i) (sent i)) c.check_pruned_opening.ensures in
     let verdict =

@@ -7,7 +7,7 @@ use Rattle.p3_support.specs.Shown.{roots_of}
 use Rattle.p3_support.specs.declared.matrix.Dimensions.{Dimensions}
 use Rattle.p3_merkle_core.specs.Geometry.{shape_of}
 use Rattle.p3_merkle_core.specs.Nodes.{shape}
-use Rattle.p3_merkle_core.specs.Checks.{IsAccepted, terms}
+use Rattle.p3_merkle_core.specs.Checks.{IsAccepted}
 use Rattle.p3_merkle_prover.specs.Parts.{matrices_of, tree_batch}
 use Rattle.p3_merkle_tree.specs.Inner.CommitmentLaws.{rows_are}
 use Rattle.p3_merkle_core.proofs.Lists.ViewFacts.{dimensions_are}

@@ -10,7 +10,6 @@ use Rattle.p3_merkle_tree.specs.Inner.CommitmentLaws.{sets_are}
 use Rattle.p3_merkle_core.proofs.Lists.ViewFacts.{dimensions_are}
 use Rattle.p3_merkle_tree.specs.Schemes.{terms_over}
 use Rattle.p3_merkle_core.specs.Views.{pruned_made}
-use Rattle.p3_merkle_core.specs.Checks.{terms}
 use Rattle.p3_merkle_tree.proofs.scheme_trait.MerkleTreeMmcsMmcsValue.open_multi_batch.Goals as goal
 
 pub returns-clause-rows : goal.returns-clause-rows

@@ -1,8 +1,8 @@
 -- Each turn writes one of the others.
 use Rattle.std.proofs.Common.{arith, ◌≡◌, ◌∙◌, length}
 use Rattle.p3_merkle_core.proofs.Lists.GroupFacts.{put_first, put_before, put_behind, put_all}
-use Rattle.p3_merkle_core.proofs.group.place.Goals as goal
-use Rattle.p3_merkle_core.proofs.group.place.Goals.{then-k-position, else-k-position}
+use Rattle.p3_merkle_core.proofs.group.insert_into.Goals as goal
+use Rattle.p3_merkle_core.proofs.group.insert_into.Goals.{then-k-position, else-k-position}
 
 pub loop-k-init : goal.loop-k-init
 loop-k-init g c = put_first c.args.slots.now c.args.others.now c.args.position c.args.value c.requires.placed

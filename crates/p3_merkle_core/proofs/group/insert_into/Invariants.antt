@@ -1,6 +1,6 @@
 use Rattle.std.proofs.Common.{◌≡◌, ◌++◌, take, drop, insert}
 use Rattle.p3_merkle_core.proofs.Lists.GroupFacts.{slot_of}
-use Rattle.p3_merkle_core.proofs.group.place.Given as goal
+use Rattle.p3_merkle_core.proofs.group.insert_into.Given as goal
 
 -- the first slots are those of the group, and the others still wait
 abbrev pub invariant-loop-k : goal.invariant-loop-k
