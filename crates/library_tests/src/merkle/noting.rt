@@ -33,11 +33,14 @@ enum Call {
     GroupLanes(usize),
 }
 
+/// A call, and how often it is made in a row.
+type Run = (Call, usize);
+
 /// The calls so far, the first call first.
 #[derive(Drop)]
 struct Notes {
     alloc: Global,
-    calls: Cell<Vec<Call>>,
+    runs: Cell<Vec<Run>>,
 }
 
 impl Notes {
@@ -45,15 +48,20 @@ impl Notes {
     fn new(alloc: Global) -> Notes {
         Notes {
             alloc,
-            calls: Cell::new(Vec::new(alloc)),
+            runs: Cell::new(Vec::new(alloc)),
         }
     }
 
     /// Notes a call. Where there is no memory for it, it is missing, which each test shows.
     fn note(&self, call: Call) {
-        let mut calls = self.calls.replace(Vec::new(self.alloc));
-        let _ = calls.push(call);
-        self.calls.set(calls);
+        let mut runs = self.runs.replace(Vec::new(self.alloc));
+        match runs.last_mut() {
+            Some((last, count)) if *last == call => *count = count.saturating_add(1),
+            _ => {
+                let _ = runs.push((call, 1));
+            }
+        }
+        self.runs.set(runs);
     }
 }
 
@@ -146,7 +154,7 @@ impl<
 fn noted<P: FoldLane, const L: usize, const G: usize>(
     alloc: Global,
     sizes: &[(usize, usize)],
-) -> Result<Vec<Call>, MerkleTreeError>
+) -> Result<Vec<Run>, MerkleTreeError>
     requires { 1 ≤ P.WIDTH }
 {
     let notes = Notes::new(alloc);
@@ -160,31 +168,21 @@ fn noted<P: FoldLane, const L: usize, const G: usize>(
     };
     let matrices = numbered(alloc, sizes)?;
     MerkleTree::<u32, u32, Numbers, 2, 1>::new::<P, P, _, _>(alloc, &hash, &compress, matrices)?;
-    Ok(notes.calls.replace(Vec::new(alloc)))
+    Ok(notes.runs.replace(Vec::new(alloc)))
 }
 
 /// 17 rows, and layers of 9, 5, 3, 2 nodes and 1, in eight lanes.
-static IN_LANES: [Call; 16] = [
-    RowLanes(8),
-    RowLanes(8),
-    Row,
-    GroupLanes(8),
-    Group,
-    Group,
-    Group,
-    Group,
-    Group,
-    Group,
-    Group,
-    Group,
-    Group,
-    Group,
-    Group,
-    Group,
-];
+static IN_LANES: [Run; 4] = [(RowLanes(8), 2), (Row, 1), (GroupLanes(8), 1), (Group, 12)];
 
 /// Three rows, and two rows that come in above them: children, row, pair.
-static WITH_ROWS: [Call; 10] = [Row, Row, Row, Group, Row, Group, Group, Row, Group, Group];
+static WITH_ROWS: [Run; 6] = [
+    (Row, 3),
+    (Group, 1),
+    (Row, 1),
+    (Group, 2),
+    (Row, 1),
+    (Group, 2),
+];
 
 #[test]
 fn groups_of_lanes_come_first_and_the_rest_one_by_one(rt: HostRuntime) -> Result<(), Fail> {
@@ -197,64 +195,54 @@ fn groups_of_lanes_come_first_and_the_rest_one_by_one(rt: HostRuntime) -> Result
 }
 
 /// 17 rows, and all nodes of each layer.
-static LAYER_BY_LAYER: [Call; 6] = [
-    Rows(17),
-    Groups(9),
-    Groups(5),
-    Groups(3),
-    Groups(2),
-    Groups(1),
+static LAYER_BY_LAYER: [Run; 6] = [
+    (Rows(17), 1),
+    (Groups(9), 1),
+    (Groups(5), 1),
+    (Groups(3), 1),
+    (Groups(2), 1),
+    (Groups(1), 1),
 ];
 
 /// The same with 9 and 3 rows that come in: the children of all nodes, then the rows, then the pairs.
-static WITH_ALL_ROWS: [Call; 10] = [
-    Rows(17),
-    Groups(9),
-    Rows(9),
-    Groups(9),
-    Groups(5),
-    Groups(3),
-    Rows(3),
-    Groups(3),
-    Groups(2),
-    Groups(1),
+static WITH_ALL_ROWS: [Run; 10] = [
+    (Rows(17), 1),
+    (Groups(9), 1),
+    (Rows(9), 1),
+    (Groups(9), 1),
+    (Groups(5), 1),
+    (Groups(3), 1),
+    (Rows(3), 1),
+    (Groups(3), 1),
+    (Groups(2), 1),
+    (Groups(1), 1),
 ];
 
-/// Five rows together and three that come in above them: one by one, since the compression takes one at a time.
-static GROUP_BY_GROUP: [Call; 13] = [
-    Rows(5),
-    Group,
-    Row,
-    Group,
-    Group,
-    Row,
-    Group,
-    Group,
-    Row,
-    Group,
-    Group,
-    Group,
-    Group,
+/// Five rows together and three that come in above them, one by one, since the compression takes one at a time. Layers
+/// of 3 nodes with rows, of 2 and 1.
+static GROUP_BY_GROUP: [Run; 8] = [
+    (Rows(5), 1),
+    (Group, 1),
+    (Row, 1),
+    (Group, 2),
+    (Row, 1),
+    (Group, 2),
+    (Row, 1),
+    (Group, 4),
 ];
 
 /// The same where the hasher takes one at a time.
-static ROW_BY_ROW: [Call; 16] = [
-    Row,
-    Row,
-    Row,
-    Row,
-    Row,
-    Group,
-    Row,
-    Group,
-    Group,
-    Row,
-    Group,
-    Group,
-    Row,
-    Group,
-    Groups(2),
-    Groups(1),
+static ROW_BY_ROW: [Run; 10] = [
+    (Row, 5),
+    (Group, 1),
+    (Row, 1),
+    (Group, 2),
+    (Row, 1),
+    (Group, 2),
+    (Row, 1),
+    (Group, 1),
+    (Groups(2), 1),
+    (Groups(1), 1),
 ];
 
 #[test]
@@ -272,36 +260,22 @@ fn many_are_taken_together_where_both_functions_do(rt: HostRuntime) -> Result<()
 }
 
 /// 16384 bytes hold 256 rows of 64 bytes: 300 rows take two calls, and each of the nine layers above them one.
-static SMALL_ROWS: [Call; 11] = [
-    Rows(256),
-    Rows(44),
-    Groups(150),
-    Groups(75),
-    Groups(38),
-    Groups(19),
-    Groups(10),
-    Groups(5),
-    Groups(3),
-    Groups(2),
-    Groups(1),
+static SMALL_ROWS: [Run; 11] = [
+    (Rows(256), 1),
+    (Rows(44), 1),
+    (Groups(150), 1),
+    (Groups(75), 1),
+    (Groups(38), 1),
+    (Groups(19), 1),
+    (Groups(10), 1),
+    (Groups(5), 1),
+    (Groups(3), 1),
+    (Groups(2), 1),
+    (Groups(1), 1),
 ];
 
 /// Rows of 16400 bytes go in the smallest group, of eight: ten rows take two calls. Layers of 5, 3, 2 nodes and 1.
-static LARGE_ROWS: [Call; 13] = [
-    Rows(8),
-    Rows(2),
-    Group,
-    Group,
-    Group,
-    Group,
-    Group,
-    Group,
-    Group,
-    Group,
-    Group,
-    Group,
-    Group,
-];
+static LARGE_ROWS: [Run; 3] = [(Rows(8), 1), (Rows(2), 1), (Group, 11)];
 
 #[test]
 fn rows_are_laid_side_by_side_in_whole_groups_of_lanes(rt: HostRuntime) -> Result<(), Fail> {
