@@ -2,7 +2,7 @@
 use Rattle.std.proofs.Common.{◌≡◌, ℕ, Bool, List, ◌∷◌, [], ◌++◌, map, Option, Some, None, refl, sym, ap, ◌∙◌, append_assoc}
 use Rattle.std.specs.Prelude.{flat_map, nat_eq, slice_index}
 use Rattle.std.proofs.lemmas.Grind.{flat_map-append}
-use Rattle.std.proofs.lemmas.List.{append-nil, map-append}
+use Rattle.std.proofs.lemmas.List.{map-append}
 use Rattle.p3_merkle_core.specs.Checks.{input_digest, terms, Input, Terms}
 use Rattle.p3_merkle_core.specs.Extraction.{first_difference}
 use Rattle.p3_merkle_core.specs.Geometry.{Shape}
@@ -89,24 +89,3 @@ joined_line value text digests old before after before_is after_is =
     after_is
     ∙ ap (λ t. t ++ 10 ∷ []) (before_is ∙ ap (λ t. old ++ t) (words_joined value text digests))
     ∙ append_assoc old (flat_map text (map value (flat_map (λ digest. digest) digests))) (10 ∷ [])
-
--- three lines behind a text
-pub three_lines : (old one two three first second third : List ℕ) → one ≡ old ++ first → two ≡ one ++ second →
-    three ≡ two ++ third → three ≡ old ++ (first ++ (second ++ (third ++ [])))
-three_lines old one two three first second third one_is two_is three_is =
-    three_is
-    ∙ ap (λ t. t ++ third) (two_is ∙ ap (λ t. t ++ second) one_is)
-    ∙ append_assoc (old ++ first) second third
-    ∙ append_assoc old first (second ++ third)
-    ∙ ap (λ t. old ++ (first ++ (second ++ t))) (sym (append-nil third))
-
--- the parts of the text of a collision
-pub four_parts : (zero one two three four place first second lines : List ℕ) → zero ≡ [] → one ≡ zero ++ place →
-    two ≡ one ++ first → three ≡ two ++ second → four ≡ three ++ lines →
-    four ≡ (place ++ (first ++ second)) ++ lines
-four_parts zero one two three four place first second lines zero_is one_is two_is three_is four_is =
-    four_is
-    ∙ ap (λ t. t ++ lines)
-    (three_is
-    ∙ ap (λ t. t ++ second) (two_is ∙ ap (λ t. t ++ first) (one_is ∙ ap (λ t. t ++ place) zero_is))
-    ∙ append_assoc place first second)
