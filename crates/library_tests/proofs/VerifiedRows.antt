@@ -1,5 +1,6 @@
 -- Words of rows that fit dimensions.
-use Rattle.std.proofs.Common.{◌≡◌, ◌∙◌, ℕ, zero, suc, ◌<◌, List, [], ◌∷◌, Vec, ap, arith, get_or, length, map, sym, subst}
+use Rattle.std.proofs.Common.{◌≡◌, ◌∙◌, ℕ, zero, suc, ◌<◌, List, [], ◌∷◌, Vec, ap, arith, get_or, length, map, sym}
+use Rattle.std.proofs.Common.{subst}
 use Rattle.std.specs.Prelude.{slice_index}
 use Rattle.std.specs.List.{AllZip}
 use Rattle.std.specs.Vec.{vec_len}

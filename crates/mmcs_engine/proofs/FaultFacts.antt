@@ -1,13 +1,16 @@
 -- There is one first faulty line at most, and none where the lines stand for matrices.
-use Rattle.std.proofs.Common.{◌≡◌, ℕ, ◌+◌, ◌⊎◌, ⊎_elim, inl, inr, Bool, true, false, List, [], ◌∷◌, ◌++◌, length, get_or, sym, refl, ap, ◌∙◌, subst, arith, append_assoc}
+use Rattle.std.proofs.Common.{◌≡◌, ℕ, ◌+◌, ◌⊎◌, ⊎_elim, inl, inr, Bool, true, false, List, [], ◌∷◌, ◌++◌, length}
+use Rattle.std.proofs.Common.{get_or, sym, refl, ap, ◌∙◌, subst, arith, append_assoc}
 use Rattle.std.specs.Prelude.{All}
 use Rattle.std.specs.List.{AllZip}
 use Rattle.std.proofs.lemmas.List.{length_push}
-use Rattle.std.proofs.lemmas.List.Elements.{All-nil, All-cons, All-push, All-contains, Contains-append_left, Contains-push, Contains-get_or}
+use Rattle.std.proofs.lemmas.List.Elements.{All-nil, All-cons, All-push, All-contains, Contains-append_left}
+use Rattle.std.proofs.lemmas.List.Elements.{Contains-push, Contains-get_or}
 use Rattle.mmcs_text.specs.Numbers.{IsNumberBelow}
 use Rattle.mmcs_text.specs.declared.fault.Fault.{Fault}
 use Rattle.mmcs_text.specs.declared.fault.Fault.TheVariants.{Usage, Read, Number, Count, Tree, Write}
-use Rattle.mmcs_text.specs.Input.{is_blank, numerals_of, numbers_of, rows_at_end, runs_between, AreLinesOf, IsFirstFault, IsLineFault, IsMatrix}
+use Rattle.mmcs_text.specs.Input.{is_blank, numerals_of, numbers_of, rows_at_end, runs_between, AreLinesOf}
+use Rattle.mmcs_text.specs.Input.{IsFirstFault, IsLineFault, IsMatrix}
 use Rattle.mmcs_text.proofs.Runs.{first_run}
 use Rattle.mmcs_text.proofs.BlockFacts.{all_from_map}
 use Rattle.mmcs_text.proofs.InputFacts.{zip_at, rows_are_last, runs_ended, IsEnded}

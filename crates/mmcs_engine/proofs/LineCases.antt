@@ -1,5 +1,6 @@
 -- Lines stand for matrices, or one of them is the first faulty one.
-use Rattle.std.proofs.Common.{◌≡◌, ◌<◌, ◌+◌, ◌⊎◌, ⊎_elim, inl, inr, Bool, true, false, ℕ, zero, suc, List, [], ◌∷◌, ◌++◌, length, sym, refl, ◌∙◌, subst, arith, append_assoc, append-nil}
+use Rattle.std.proofs.Common.{◌≡◌, ◌<◌, ◌+◌, ◌⊎◌, ⊎_elim, inl, inr, Bool, true, false, ℕ, zero, suc, List, [], ◌∷◌}
+use Rattle.std.proofs.Common.{◌++◌, length, sym, refl, ◌∙◌, subst, arith, append_assoc, append-nil}
 use Rattle.std.specs.Prelude.{All}
 use Rattle.std.proofs.lemmas.Bool.{cases_eq}
 use Rattle.std.proofs.lemmas.List.Elements.{All-nil, All-get_or}
@@ -9,7 +10,8 @@ use Rattle.mmcs_text.specs.Numbers.{IsNumberBelow}
 use Rattle.mmcs_text.specs.Input.{is_blank, numerals_of, numbers_of, AreLinesOf, IsFirstFault}
 use Rattle.mmcs_text.specs.Inner.Blocks.{IsBlock}
 use Rattle.mmcs_text.proofs.BlockFacts.{block_more}
-use Rattle.mmcs_text.proofs.InputFacts.{LinesSoFar, lines_start, lines_blank, lines_ended, lines_row, lines_fault, lines_end, lines_end_block}
+use Rattle.mmcs_text.proofs.InputFacts.{LinesSoFar, lines_start, lines_blank, lines_ended, lines_row, lines_fault}
+use Rattle.mmcs_text.proofs.InputFacts.{lines_end, lines_end_block}
 use Rattle.mmcs_engine.proofs.WordCases.{settled_each, settled_number}
 
 module _ (max : ℕ) (lines : List (List ℕ)) where
@@ -81,7 +83,8 @@ module _ (max : ℕ) (lines : List (List ℕ)) where
             let block = so_far.block in
             let some = block.some_above_0 above in (
               Count at width got,
-              lines_fault Shows (max + 1) seen found values width so_far line lines below at (Count at width got) cut refl
+              lines_fault Shows (max + 1) seen found values width so_far line lines below at (Count at width got) cut
+                  refl
                   full (
                     refl,
                     some,

@@ -25,7 +25,8 @@ use Rattle.mmcs_text.specs.Text.{digest_lines, hex_lines, ok_line, query_lines}
 use Rattle.mmcs_text.proofs.ByNumber.{by_number}
 use Rattle.mmcs_text.proofs.MatrixFacts.{digests_plain, stored_dimensions, stored_plain}
 use Rattle.mmcs_engine.specs.Program.{functions_of_hash, hex_digits, layer_of_cap, text_of}
-use Rattle.mmcs_engine.specs.Inner.Alike.{batch_in_numbers, matrix_in_numbers, opened_text, pruned_in_numbers, ComputeAlike, IsSchemeOf}
+use Rattle.mmcs_engine.specs.Inner.Alike.{batch_in_numbers, matrix_in_numbers, opened_text, pruned_in_numbers}
+use Rattle.mmcs_engine.specs.Inner.Alike.{ComputeAlike, IsSchemeOf}
 
 -- ---- numbers stand for themselves
 

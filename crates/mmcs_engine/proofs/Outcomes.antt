@@ -1,5 +1,6 @@
 -- There is one outcome by definition.
-use Rattle.std.proofs.Common.{◌≡◌, ◌⊎◌, ⊎_elim, inl, inr, ℕ, ◌+◌, List, [], ◌∷◌, Option, Some, None, Result, Ok, Err, sym, refl, ap, ◌∙◌, subst}
+use Rattle.std.proofs.Common.{◌≡◌, ◌⊎◌, ⊎_elim, inl, inr, ℕ, ◌+◌, List, [], ◌∷◌, Option, Some, None, Result, Ok, Err}
+use Rattle.std.proofs.Common.{sym, refl, ap, ◌∙◌, subst}
 use Rattle.std.specs.Prelude.{◌<◌, All, IfSome, IfErr, OnOk}
 use Rattle.std.specs.Io.KnownBytes.{Appends}
 use Rattle.std.specs.List.{AllZip}
@@ -14,7 +15,8 @@ use Rattle.mmcs_text.specs.declared.fault.Fault.TheVariants.{Usage, Read, Number
 use Rattle.mmcs_text.specs.Input.{pieces_of, runs_between, is_blank, IsFirstFault, IsMatrix, StandsFor}
 use Rattle.mmcs_text.specs.Words.{max_word, AreNoCommand, AreWords}
 use Rattle.mmcs_text.specs.Words.{arity_number}
-use Rattle.mmcs_engine.specs.Program.{batch_asked, output_of, refusal_of, AreTaken, EndsIn, IsOutcome, IsReply, IsTold, Prints}
+use Rattle.mmcs_engine.specs.Program.{batch_asked, output_of, refusal_of, AreTaken, EndsIn, IsOutcome, IsReply, IsTold}
+use Rattle.mmcs_engine.specs.Program.{Prints}
 use Rattle.mmcs_text.proofs.WordFacts.{same_command}
 use Rattle.mmcs_engine.proofs.FaultFacts.{fault_excludes, one_first_fault}
 use Rattle.mmcs_engine.proofs.GateFacts.{heights_are, taken_unrefused}

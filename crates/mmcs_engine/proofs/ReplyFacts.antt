@@ -1,5 +1,6 @@
 -- What is said of a batch is said of the input's matrices, and what is told of them is the outcome.
-use Rattle.std.proofs.Common.{◌≡◌, ◌⊎◌, ⊎_elim, inl, inr, ℕ, ◌+◌, List, Option, Some, None, Result, Ok, Err, sym, refl, ap, ◌∙◌, subst}
+use Rattle.std.proofs.Common.{◌≡◌, ◌⊎◌, ⊎_elim, inl, inr, ℕ, ◌+◌, List, Option, Some, None, Result, Ok, Err, sym, refl}
+use Rattle.std.proofs.Common.{ap, ◌∙◌, subst}
 use Rattle.std.specs.Prelude.{◌↔◌, ◌<◌, All, IfErr, OnOk}
 use Rattle.std.specs.Io.KnownBytes.{Appends}
 use Rattle.p3_merkle_core.specs.Geometry.{IsLawful, Shape}
@@ -37,7 +38,8 @@ unrefused result s t is js same_shape same_indices taken answer =
 
 -- a batch of numbers is that of the matrices that an input stands for
 module _ (command : Command) (indices input : List ℕ) (max n : ℕ) (max_is : max ≡ max_word command.hash)
-    (n_is : n ≡ arity_number command.arity) (matrices : List (List (List ℕ))) (read : StandsFor (max + 1) input matrices)
+    (n_is : n ≡ arity_number command.arity) (matrices : List (List (List ℕ)))
+    (read : StandsFor (max + 1) input matrices)
     (b : Batch ℕ) (b_is : b ≡ batch_of_rows n matrices) (s : Shape) (s_is : s ≡ shape b) where
   stands : StandsFor (max_word command.hash + 1) input matrices
   stands = subst (λ (m : ℕ). StandsFor (m + 1) input matrices) max_is read

@@ -1,5 +1,6 @@
 -- Words are a command, or they are none.
-use Rattle.std.proofs.Common.{◌≡◌, ◌<◌, ◌^◌, ◌⊎◌, ⊎_elim, inl, inr, Bool, true, false, Decides, ℕ, List, [], ◌∷◌, ◌++◌, length, map, sym, refl, ap, subst, arith, append-nil}
+use Rattle.std.proofs.Common.{◌≡◌, ◌<◌, ◌^◌, ◌⊎◌, ⊎_elim, inl, inr, Bool, true, false, Decides, ℕ, List, [], ◌∷◌, ◌++◌}
+use Rattle.std.proofs.Common.{length, map, sym, refl, ap, subst, arith, append-nil}
 use Rattle.std.specs.Prelude.{nat_eq, All}
 use Rattle.std.specs.Str.Parse.{AllDigits, digits_value}
 use Rattle.std.specs.Char.{digit_value}

@@ -1,5 +1,6 @@
 -- What the program answers.
-use Rattle.std.specs.Prelude.{◌≡◌, ◌⊎◌, ◌↔◌, ℕ, ◌+◌, ◌<◌, List, [], ◌∷◌, ◌++◌, length, map, replicate, flat_map, All, Option, Some, IfSome, IfErr, OnOk, OnErr, Result, Ok, Err}
+use Rattle.std.specs.Prelude.{◌≡◌, ◌⊎◌, ◌↔◌, ℕ, ◌+◌, ◌<◌, List, [], ◌∷◌, ◌++◌, length, map, replicate, flat_map, All}
+use Rattle.std.specs.Prelude.{Option, Some, IfSome, IfErr, OnOk, OnErr, Result, Ok, Err}
 use Rattle.std.specs.Io.KnownBytes.{Appends}
 use Rattle.p3_support.specs.Fold.{fold_hash, fold_compress}
 use Rattle.p3_support.specs.Batches.{greatest}

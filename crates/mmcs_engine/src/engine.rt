@@ -1,6 +1,7 @@
 //! From words and an input to an output.
 
-ghost use Rattle.std.specs.Prelude.{◌≡◌, ◌⊎◌, ℕ, ◌++◌, ◌<◌, ◌↔◌, All, Ok, Err, IfOk, IfErr, IfSome, None, OnOk, flat_map, length, map};
+ghost use Rattle.std.specs.Prelude.{◌≡◌, ◌⊎◌, ℕ, ◌++◌, ◌<◌, ◌↔◌, All, Ok, Err, IfOk, IfErr, IfSome, None, OnOk};
+ghost use Rattle.std.specs.Prelude.{flat_map, length, map};
 ghost use Rattle.std.specs.Io.KnownBytes.{Appends};
 ghost use Rattle.p3_support.specs.Batches.{greatest};
 ghost use Rattle.p3_support.specs.Shown.{roots_of, row_sets};
@@ -12,7 +13,8 @@ ghost use Rattle.p3_merkle_core.specs.Pruning.{pruned_len};
 ghost use Rattle.p3_merkle_core.specs.Refusals.{pruned_len_refusal, AnswersUnlessMemory};
 ghost use Rattle.p3_merkle_core.specs.declared.error.MerkleTreeError.TheVariants.{OutOfMemory};
 ghost use Rattle.p3_merkle_tree.specs.Parts.{layers_of, tree_batch};
-ghost use Rattle.p3_merkle_tree.specs.Schemes.{cap_height_of, cap_layer_over, cap_rule_of, scheme_functions, terms_over};
+ghost use Rattle.p3_merkle_tree.specs.Schemes.{cap_height_of, cap_layer_over, cap_rule_of, scheme_functions};
+ghost use Rattle.p3_merkle_tree.specs.Schemes.{terms_over};
 ghost use Rattle.mmcs_text.specs.declared.fault.Fault.TheVariants.{Usage, Read, Tree, Write};
 ghost use Rattle.mmcs_text.specs.Matrices.{stored_batch};
 ghost use Rattle.mmcs_text.specs.Text.{hex_lines, ok_line};

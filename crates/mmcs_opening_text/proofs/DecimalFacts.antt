@@ -1,5 +1,6 @@
 -- Numbers and rows that are printed in decimal are read back.
-use Rattle.std.proofs.Common.{◌≡◌, ◌<◌, ◌≤◌, ◌^◌, ◌==◌, true, ℕ, List, [], ◌∷◌, length, map, None, Some, refl, sym, ap, ◌∙◌, arith, append-nil}
+use Rattle.std.proofs.Common.{◌≡◌, ◌<◌, ◌≤◌, ◌^◌, ◌==◌, true, ℕ, List, [], ◌∷◌, length, map, None, Some, refl, sym, ap}
+use Rattle.std.proofs.Common.{◌∙◌, arith, append-nil}
 use Rattle.std.specs.Prelude.{◌&&◌, if◌then◌else◌, decimal, All}
 use Rattle.std.specs.List.{list_all}
 use Rattle.std.specs.Str.Parse.{digits_value}

@@ -1,5 +1,7 @@
 -- Numbers, rows and digests of lines.
-use Rattle.std.proofs.Common.{◌≡◌, ◌<◌, ◌≤◌, ◌+◌, ◌-◌, ◌*◌, ◌^◌, ◌==◌, Bool, true, false, Decides, ℕ, zero, suc, List, [], ◌∷◌, ◌++◌, length, take, drop, get_or, add-one, mul-suc, Option, Some, None, sym, refl, ap, ◌∙◌, subst, arith}
+use Rattle.std.proofs.Common.{◌≡◌, ◌<◌, ◌≤◌, ◌+◌, ◌-◌, ◌*◌, ◌^◌, ◌==◌, Bool, true, false, Decides, ℕ, zero, suc, List}
+use Rattle.std.proofs.Common.{[], ◌∷◌, ◌++◌, length, take, drop, get_or, add-one, mul-suc, Option, Some, None, sym}
+use Rattle.std.proofs.Common.{refl, ap, ◌∙◌, subst, arith}
 use Rattle.std.specs.Prelude.{◌&&◌, if◌then◌else◌, nat_eq, nat_lt, position, slice_set, All, IfSome, IfNone}
 use Rattle.std.specs.Option.{option_and_then, option_eq, SomeIff}
 use Rattle.std.specs.Char.{digit_value, is_digit}
@@ -17,7 +19,8 @@ use Rattle.p3_support.specs.declared.matrix.Dimensions.{Dimensions}
 use Rattle.mmcs_text.specs.Numbers.{IsNumberBelow}
 use Rattle.mmcs_text.specs.declared.command.HashName.{HashName}
 use Rattle.mmcs_text.specs.Input.{numbers_of, numerals_of}
-use Rattle.mmcs_opening_text.specs.Lines.{digest_digits, digest_of, digest_words, is_number_below, number_behind, row_of, word_digits, words_of}
+use Rattle.mmcs_opening_text.specs.Lines.{digest_digits, digest_of, digest_words, is_number_below, number_behind}
+use Rattle.mmcs_opening_text.specs.Lines.{row_of, word_digits, words_of}
 use Rattle.mmcs_opening_text.specs.Requests.{dimensions_of_word}
 
 -- ---- tests

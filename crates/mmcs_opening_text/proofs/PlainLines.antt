@@ -1,5 +1,6 @@
 -- Lines that are printed hold no control characters, so they are cut out as they are.
-use Rattle.std.proofs.Common.{◌≡◌, ◌<◌, ◌≤◌, ◌-◌, ◌==◌, Bool, true, false, ℕ, List, [], ◌∷◌, ◌++◌, length, get_or, map, refl, ap, ◌∙◌, arith}
+use Rattle.std.proofs.Common.{◌≡◌, ◌<◌, ◌≤◌, ◌-◌, ◌==◌, Bool, true, false, ℕ, List, [], ◌∷◌, ◌++◌, length, get_or, map}
+use Rattle.std.proofs.Common.{refl, ap, ◌∙◌, arith}
 use Rattle.std.specs.Prelude.{◌&&◌, if◌then◌else◌, take, All}
 use Rattle.std.specs.Char.{digit_value}
 use Rattle.std.specs.List.{list_all}

@@ -1,5 +1,6 @@
 -- Lines of which some are read.
-use Rattle.std.proofs.Common.{◌≡◌, ◌<◌, ◌≤◌, ◌+◌, ◌==◌, ℕ, List, [], ◌∷◌, ◌++◌, length, Option, Some, None, Result, Ok, Err, Bool, true, false, sym, refl, ap, ◌∙◌, subst, arith}
+use Rattle.std.proofs.Common.{◌≡◌, ◌<◌, ◌≤◌, ◌+◌, ◌==◌, ℕ, List, [], ◌∷◌, ◌++◌, length, Option, Some, None, Result, Ok}
+use Rattle.std.proofs.Common.{Err, Bool, true, false, sym, refl, ap, ◌∙◌, subst, arith}
 use Rattle.std.specs.Prelude.{if◌then◌else◌, map, slice_get, IfNone, IfSome, option_map}
 use Rattle.std.specs.Option.{option_and_then, option_map_or}
 use Rattle.std.specs.List.{slice_split, ItemBy}
@@ -13,7 +14,8 @@ use Rattle.mmcs_text.specs.Input.{pieces_of}
 use Rattle.mmcs_text.specs.declared.command.HashName.{HashName}
 use Rattle.mmcs_text.proofs.InputFacts.{lines_fit}
 use Rattle.mmcs_opening_text.specs.Lines.{row_of}
-use Rattle.mmcs_opening_text.specs.Readings.{after_line, after_row, expected_after, settled, shown_by, shown_in, whole_at, Reading, Shown}
+use Rattle.mmcs_opening_text.specs.Readings.{after_line, after_row, expected_after, settled, shown_by, shown_in}
+use Rattle.mmcs_opening_text.specs.Readings.{whole_at, Reading, Shown}
 use Rattle.mmcs_opening_text.specs.declared.fault.Fault.{Fault}
 use Rattle.mmcs_opening_text.specs.declared.fault.Fault.TheVariants.{Line}
 

@@ -4,7 +4,9 @@ ghost use Rattle.std.specs.Prelude.{◌≡◌, ◌⊎◌, ◌+◌, ℕ, if◌the
 ghost use Rattle.p3_merkle_core.specs.declared.error.MerkleTreeError.TheVariants.{OutOfMemory};
 ghost use Rattle.mmcs_text.specs.Words.{max_word};
 ghost use Rattle.mmcs_opening_text.specs.declared.fault.Fault.TheVariants.{Line, Tree};
-ghost use Rattle.mmcs_opening_text.specs.Readings.{after_cap_line, after_digest, after_line, after_query, after_row, expected_after, reading_of, settled, shown_in, shown_of, unread, whole_at};
+ghost use Rattle.mmcs_opening_text.specs.Readings.{after_cap_line, after_digest, after_line, after_query, after_row};
+ghost use Rattle.mmcs_opening_text.specs.Readings.{expected_after, reading_of, settled, shown_in, shown_of, unread};
+ghost use Rattle.mmcs_opening_text.specs.Readings.{whole_at};
 
 use crate::digest::LineDigest;
 use crate::fault::{Expected, Fault};

@@ -1,9 +1,12 @@
 -- An input that is read line by line.
-use Rattle.std.proofs.Common.{◌≡◌, ℕ, zero, suc, ◌+◌, ◌-◌, ◌<◌, ◌≤◌, ◌==◌, ◌⊎◌, ⊎_elim, inl, inr, true, false, List, Option, Some, None, [], ◌∷◌, ◌++◌, length, get_or, take, drop, map, sym, refl, ap, ◌∙◌, subst, arith, append_assoc, append-nil}
+use Rattle.std.proofs.Common.{◌≡◌, ℕ, zero, suc, ◌+◌, ◌-◌, ◌<◌, ◌≤◌, ◌==◌, ◌⊎◌, ⊎_elim, inl, inr, true, false, List}
+use Rattle.std.proofs.Common.{Option, Some, None, [], ◌∷◌, ◌++◌, length, get_or, take, drop, map, sym, refl, ap, ◌∙◌}
+use Rattle.std.proofs.Common.{subst, arith, append_assoc, append-nil}
 use Rattle.std.specs.Prelude.{All, IfNone, IfSome}
 use Rattle.std.specs.List.{slice_split, AllZip}
 use Rattle.std.specs.Str.Lines.{strip_carriage_return}
-use Rattle.std.proofs.lemmas.List.{take_more, take_all, take-append-drop, drop_more, get_or-map, length-drop, length-map, length-take-le}
+use Rattle.std.proofs.lemmas.List.{take_more, take_all, take-append-drop, drop_more, get_or-map, length-drop}
+use Rattle.std.proofs.lemmas.List.{length-map, length-take-le}
 use Rattle.std.proofs.lemmas.List.Splits.{slice_split_at, slice_split_none, length-slice_split}
 use Rattle.std.proofs.lemmas.Bool.Decides.{eqb_tells}
 use Rattle.std.proofs.Math.Bool.{Bool, ◌||◌}
@@ -13,7 +16,8 @@ use Rattle.p3_merkle_core.specs.Checks.{last_of}
 use Rattle.p3_merkle_core.specs.declared.error.MerkleTreeError.TheVariants.{OutOfMemory}
 use Rattle.mmcs_text.specs.declared.fault.Fault.{Fault}
 use Rattle.mmcs_text.specs.declared.fault.Fault.TheVariants.{Tree}
-use Rattle.mmcs_text.specs.Input.{is_blank, numbers_of, runs_between, pieces_of, rows_at_end, AreLinesOf, IsFirstFault, IsLineFault, IsMatrix}
+use Rattle.mmcs_text.specs.Input.{is_blank, numbers_of, runs_between, pieces_of, rows_at_end, AreLinesOf, IsFirstFault}
+use Rattle.mmcs_text.specs.Input.{IsLineFault, IsMatrix}
 use Rattle.mmcs_text.specs.Inner.Blocks.{IsBlock}
 use Rattle.mmcs_text.proofs.Runs.{run_whole}
 use Rattle.mmcs_text.proofs.InputLaws.{runs_apart, split_apart}

@@ -1,5 +1,7 @@
 -- The numbers of a line, byte by byte.
-use Rattle.std.proofs.Common.{Bool, MatchBool, ⊎_elim, ◌≡◌, ℕ, ◌+◌, ◌-◌, ◌*◌, ◌<◌, ◌≤◌, true, false, List, [], ◌∷◌, ◌++◌, length, get_or, drop, map, Option, Some, None, sym, ap, ◌∙◌, subst, arith, refl, append_assoc, append-nil, length-append}
+use Rattle.std.proofs.Common.{Bool, MatchBool, ⊎_elim, ◌≡◌, ℕ, ◌+◌, ◌-◌, ◌*◌, ◌<◌, ◌≤◌, true, false, List, [], ◌∷◌}
+use Rattle.std.proofs.Common.{◌++◌, length, get_or, drop, map, Option, Some, None, sym, ap, ◌∙◌, subst, arith, refl}
+use Rattle.std.proofs.Common.{append_assoc, append-nil, length-append}
 use Rattle.std.specs.Prelude.{All, IfSome, IfNone}
 use Rattle.std.specs.Option.{is_some, unwrap_or}
 use Rattle.std.specs.Char.{digit_value, IsAsciiDigit, IsNotAsciiDigit}

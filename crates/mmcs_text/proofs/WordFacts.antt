@@ -1,5 +1,7 @@
 -- Words of commands.
-use Rattle.std.proofs.Common.{eqb, get_or, ◌≡◌, ◌<◌, ◌≤◌, ◌+◌, ◌-◌, Bool, true, false, MatchBool, Decides, ℕ, List, [], ◌∷◌, ◌++◌, length, take, drop, Option, String, string_bytes, sym, refl, ap, ◌∙◌, subst, arith, append-nil}
+use Rattle.std.proofs.Common.{eqb, get_or, ◌≡◌, ◌<◌, ◌≤◌, ◌+◌, ◌-◌, Bool, true, false, MatchBool, Decides, ℕ, List, []}
+use Rattle.std.proofs.Common.{◌∷◌, ◌++◌, length, take, drop, Option, String, string_bytes, sym, refl, ap, ◌∙◌, subst}
+use Rattle.std.proofs.Common.{arith, append-nil}
 use Rattle.std.specs.Prelude.{map, nat_eq, All, IfSome, IfNone}
 use Rattle.std.specs.Bool.{then_some}
 use Rattle.std.specs.List.{AllWithin, HoldsAt}
@@ -20,7 +22,8 @@ use Rattle.mmcs_text.specs.declared.command.CapChoice.{CapChoice}
 use Rattle.mmcs_text.specs.declared.command.Command.{Command}
 use Rattle.mmcs_text.specs.declared.command.HashName.{HashName}
 use Rattle.mmcs_text.specs.declared.command.HashName.TheVariants.{Fold, Sha256}
-use Rattle.mmcs_text.specs.Words.{action_word, arity_word, hash_word, rule_mark, texts_of, AreNoCommand, AreWords, IsCapWord, IsNumberWord, MayFollow}
+use Rattle.mmcs_text.specs.Words.{action_word, arity_word, hash_word, rule_mark, texts_of, AreNoCommand, AreWords}
+use Rattle.mmcs_text.specs.Words.{IsCapWord, IsNumberWord, MayFollow}
 use Rattle.mmcs_text.proofs.BlockFacts.{all_from_map}
 
 -- ---- words are of one command

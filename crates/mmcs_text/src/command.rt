@@ -6,7 +6,8 @@ ghost use Rattle.p3_merkle_core.specs.declared.error.MerkleTreeError.TheVariants
 ghost use Rattle.mmcs_text.specs.declared.command.CapChoice.{CapChoice};
 ghost use Rattle.mmcs_text.specs.declared.command.HashName.{HashName};
 ghost use Rattle.mmcs_text.specs.declared.fault.Fault.TheVariants.{Usage, Tree};
-ghost use Rattle.mmcs_text.specs.Words.{action_word, arity_word, hash_word, texts_of, AreNoCommand, AreWords, IsCapWord, IsNumberWord, MayFollow};
+ghost use Rattle.mmcs_text.specs.Words.{action_word, arity_word, hash_word, texts_of, AreNoCommand, AreWords};
+ghost use Rattle.mmcs_text.specs.Words.{IsCapWord, IsNumberWord, MayFollow};
 
 use crate::fault::Fault;
 use crate::number::parse_number;

@@ -1,12 +1,14 @@
 //! Matrices, from the bytes of an input.
 
-ghost use Rattle.std.specs.Prelude.{◌≡◌, ◌⊎◌, ℕ, ◌+◌, ◌*◌, ◌<◌, ◌==◌, false, List, [], ◌∷◌, ◌++◌, map, length, take, ◌≤◌, All, IfOk, IfErr, IfSome, IfNone, OnOk};
+ghost use Rattle.std.specs.Prelude.{◌≡◌, ◌⊎◌, ℕ, ◌+◌, ◌*◌, ◌<◌, ◌==◌, false, List, [], ◌∷◌, ◌++◌, map, length, take};
+ghost use Rattle.std.specs.Prelude.{◌≤◌, All, IfOk, IfErr, IfSome, IfNone, OnOk};
 ghost use Rattle.std.specs.List.{slice_split};
 ghost use Rattle.std.specs.Str.Lines.{strip_carriage_return};
 ghost use Rattle.p3_merkle_core.specs.declared.error.MerkleTreeError.TheVariants.{OutOfMemory};
 ghost use Rattle.mmcs_text.specs.declared.fault.Fault.TheVariants.{Tree};
 ghost use Rattle.mmcs_text.specs.Numbers.{IsNumberBelow, IsRead};
-ghost use Rattle.mmcs_text.specs.Input.{is_gap, is_blank, numerals_of, numbers_of, pieces_of, IsFirstFault, IsLineFault, StandsFor};
+ghost use Rattle.mmcs_text.specs.Input.{is_gap, is_blank, numerals_of, numbers_of, pieces_of, IsFirstFault};
+ghost use Rattle.mmcs_text.specs.Input.{IsLineFault, StandsFor};
 ghost use Rattle.mmcs_text.specs.Inner.Blocks.{IsBlock};
 ghost use Rattle.mmcs_text.specs.Matrices.{matrix_of_rows, stored_matrix};
 

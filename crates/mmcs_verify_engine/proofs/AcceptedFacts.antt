@@ -1,5 +1,6 @@
 -- What is printed of matrices is accepted.
-use Rattle.std.proofs.Common.{◌≡◌, ◌<◌, ◌≤◌, ◌+◌, ◌-◌, ◌^◌, min, ℕ, zero, suc, List, [], ◌∷◌, ◌++◌, length, map, Option, Some, None, Result, Ok, refl, sym, ap, ◌∙◌, subst, arith}
+use Rattle.std.proofs.Common.{◌≡◌, ◌<◌, ◌≤◌, ◌+◌, ◌-◌, ◌^◌, min, ℕ, zero, suc, List, [], ◌∷◌, ◌++◌, length, map, Option}
+use Rattle.std.proofs.Common.{Some, None, Result, Ok, refl, sym, ap, ◌∙◌, subst, arith}
 use Rattle.std.specs.Prelude.{flat_map, nat_eq, zip, All}
 use Rattle.std.specs.List.{AllZip}
 use Rattle.std.proofs.lemmas.Bool.Decides.{Decides-eqb}
@@ -8,7 +9,8 @@ use Rattle.std.proofs.lemmas.List.Elements.{All-head, All-tail, All-weaker}
 use Rattle.p3_support.specs.Batches.{greatest}
 use Rattle.p3_support.specs.declared.matrix.Dimensions.{Dimensions}
 use Rattle.p3_merkle_core.specs.Caps.{max_cap_height}
-use Rattle.p3_merkle_core.specs.Geometry.{expected_height, halved_index, height_limit, heights, levels, IsArity, IsLawful, Shape}
+use Rattle.p3_merkle_core.specs.Geometry.{expected_height, halved_index, height_limit, heights, levels, IsArity}
+use Rattle.p3_merkle_core.specs.Geometry.{IsLawful, Shape}
 use Rattle.p3_merkle_core.specs.Nodes.{layer, node, shape, Batch}
 use Rattle.p3_merkle_core.specs.Openings.{honest_rows}
 use Rattle.p3_merkle_core.specs.Pruning.{boundary, boundary_by, pruned_len, CanQuery, IsHonestQuery}
@@ -31,7 +33,8 @@ use Rattle.mmcs_text.specs.declared.command.Command.{Command}
 use Rattle.mmcs_text.specs.declared.command.HashName.{HashName}
 use Rattle.mmcs_text.specs.declared.command.HashName.TheVariants.{Fold, Sha256}
 use Rattle.mmcs_text.proofs.WordFacts.{same_command}
-use Rattle.mmcs_engine.specs.Program.{functions_of_hash, heights_of_rows, hex_digits, layer_of_cap, output_of, AreTaken, IsOutcome, IsReply}
+use Rattle.mmcs_engine.specs.Program.{functions_of_hash, heights_of_rows, hex_digits, layer_of_cap, output_of, AreTaken}
+use Rattle.mmcs_engine.specs.Program.{IsOutcome, IsReply}
 use Rattle.mmcs_engine.proofs.GateFacts.{heights_are}
 use Rattle.mmcs_engine.proofs.Outcomes.{same_matrices}
 use Rattle.mmcs_opening_text.specs.Lines.{word_digits}
@@ -39,7 +42,8 @@ use Rattle.mmcs_opening_text.specs.Printing.{text_shown, IsQueryOf, IsRowOf, IsS
 use Rattle.mmcs_opening_text.specs.Readings.{Shown}
 use Rattle.mmcs_opening_text.specs.declared.request.Setting.{Setting}
 use Rattle.mmcs_opening_text.proofs.PrintedFacts.{printed_is_read}
-use Rattle.mmcs_verify_engine.specs.Accepted.{cap_and_opening, command_for, dimensions_of_rows, OutcomesAreAccepted, PrintedIsAccepted}
+use Rattle.mmcs_verify_engine.specs.Accepted.{cap_and_opening, command_for, dimensions_of_rows, OutcomesAreAccepted}
+use Rattle.mmcs_verify_engine.specs.Accepted.{PrintedIsAccepted}
 use Rattle.mmcs_verify_engine.specs.Outcomes.{answer_to, outcome_of, refusal_asked, told}
 use Rattle.mmcs_verify_engine.proofs.DigestFacts.{boundary_digests, layer_digests}
 use Rattle.mmcs_verify_engine.proofs.RowFacts.{batch_full, matrices_full, opened_rows, AreFull}

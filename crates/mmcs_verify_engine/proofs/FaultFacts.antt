@@ -1,11 +1,13 @@
 -- An input is never answered by the usage.
-use Rattle.std.proofs.Common.{◌≡◌, ℕ, ◌+◌, Bool, true, false, List, [], ◌∷◌, Option, Some, None, Result, Ok, Err, refl, ◌∙◌}
+use Rattle.std.proofs.Common.{◌≡◌, ℕ, ◌+◌, Bool, true, false, List, [], ◌∷◌, Option, Some, None, Result, Ok, Err, refl}
+use Rattle.std.proofs.Common.{◌∙◌}
 use Rattle.std.specs.Prelude.{if◌then◌else◌, length}
 use Rattle.std.specs.Option.{option_map_or}
 use Rattle.p3_support.specs.declared.matrix.Dimensions.{Dimensions}
 use Rattle.p3_merkle_core.specs.declared.error.MerkleTreeError.{MerkleTreeError}
 use Rattle.mmcs_text.specs.declared.command.HashName.{HashName}
-use Rattle.mmcs_opening_text.specs.Readings.{after_line, expected_after, shown_by, shown_in, unread, whole_at, Reading, Shown}
+use Rattle.mmcs_opening_text.specs.Readings.{after_line, expected_after, shown_by, shown_in, unread, whole_at, Reading}
+use Rattle.mmcs_opening_text.specs.Readings.{Shown}
 use Rattle.mmcs_opening_text.specs.declared.fault.Expected.{Expected}
 use Rattle.mmcs_opening_text.specs.declared.fault.Fault.{Fault}
 use Rattle.mmcs_opening_text.specs.declared.fault.Fault.TheVariants.{Usage, Line}

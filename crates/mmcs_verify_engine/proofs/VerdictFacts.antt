@@ -1,5 +1,6 @@
 -- What a scheme of words answers is what is due of their numbers.
-use Rattle.std.proofs.Common.{◌≡◌, ◌⊎◌, ⊎_elim, inl, inr, ℕ, Bool, List, length, map, Option, Some, None, Result, Ok, Err, sym, ap, ◌∙◌, subst}
+use Rattle.std.proofs.Common.{◌≡◌, ◌⊎◌, ⊎_elim, inl, inr, ℕ, Bool, List, length, map, Option, Some, None, Result, Ok}
+use Rattle.std.proofs.Common.{Err, sym, ap, ◌∙◌, subst}
 use Rattle.std.specs.Prelude.{nat_eq, IfErr}
 use Rattle.std.proofs.lemmas.List.{length-map}
 use Rattle.std.proofs.lemmas.Simd.{map-map}

@@ -1,6 +1,7 @@
 //! The fold functions of many messages and of many groups, eight at a time: each of the eight in a
 //! lane of its own.
-ghost use Rattle.std.specs.Prelude.{◌≡◌, ℕ, ◌+◌, ◌*◌, ◌/◌, ◌^◌, ◌<◌, ◌≤◌, [], length, map, slice_index_or, slice_range, take};
+ghost use Rattle.std.specs.Prelude.{◌≡◌, ℕ, ◌+◌, ◌*◌, ◌/◌, ◌^◌, ◌<◌, ◌≤◌, [], length, map, slice_index_or, slice_range};
+ghost use Rattle.std.specs.Prelude.{take};
 ghost use Rattle.p3_support.specs.Lists.{lane_of, message as message_of};
 ghost use Rattle.std.specs.List.{fold as folded};
 ghost use Rattle.p3_instances.specs.Inner.Eights.{lanes_of};

@@ -1,5 +1,5 @@
-//! SHA-256 (FIPS 180-4) of rows of bytes, and of digests one after another, by calls that take eight messages at a time.
-//! The functions are those of `sha`, so that a tree built with these is the tree built with those.
+//! SHA-256 (FIPS 180-4) of rows of bytes, and of digests one after another, by calls that take eight messages at a
+//! time. The functions are those of `sha`, so that a tree built with these is the tree built with those.
 ghost use Rattle.std.specs.Prelude.{◌≡◌, ℕ, ◌<◌, ◌∷◌, [], map};
 ghost use Rattle.p3_support.specs.Lists.{lane_of};
 ghost use Rattle.p3_instances.specs.Sha.{sha256_rows, sha256_nodes};

@@ -1,12 +1,15 @@
 -- What two openings of one cap lead to: the last difference of two of their checks, which is a collision.
-use Rattle.std.specs.Prelude.{◌≡◌, ◌≢◌, ◌⊎◌, ◌↔◌, ◌<◌, ℕ, ◌==◌, ◌&&◌, Bool, true, false, IsTrue, IsNone, IsSome, IfOk, IfSome, List, [], ◌∷◌, Option, None, Result, length, slice_index, option_map}
+use Rattle.std.specs.Prelude.{◌≡◌, ◌≢◌, ◌⊎◌, ◌↔◌, ◌<◌, ℕ, ◌==◌, ◌&&◌, Bool, true, false, IsTrue, IsNone, IsSome, IfOk}
+use Rattle.std.specs.Prelude.{IfSome, List, [], ◌∷◌, Option, None, Result, length, slice_index, option_map}
 use Rattle.std.specs.List.{range_with_len}
 use Rattle.std.specs.Option.{option_or}
 use Rattle.std.specs.Cmp.Lexicographic.{pointwise}
 use Rattle.p3_merkle_core.specs.Geometry.{Shape, heights, halved_index}
 use Rattle.p3_support.specs.Batches.{greatest}
 use Rattle.p3_merkle_core.specs.Openings.{Opening}
-use Rattle.p3_merkle_core.specs.Checks.{AgreeWhereShared, Content, Digests, HasDigests, Input, IsAtOnePlace, IsLastShared, Terms, Words, input_digest, is_authenticated, opened_row, shared_inputs}
+use Rattle.p3_merkle_core.specs.Checks.{AgreeWhereShared, Content, Digests, HasDigests, Input, IsAtOnePlace}
+use Rattle.p3_merkle_core.specs.Checks.{IsLastShared, Terms, Words, input_digest, is_authenticated, opened_row}
+use Rattle.p3_merkle_core.specs.Checks.{shared_inputs}
 use Rattle.p3_merkle_core.specs.Presented.{Presented}
 use Rattle.p3_merkle_core.specs.Refusals.{AnswersUnlessMemory, first_of, ok_unless, unless}
 use Rattle.p3_merkle_core.specs.declared.cap.CapRule.{CapRule}

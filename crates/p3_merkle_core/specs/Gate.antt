@@ -1,5 +1,6 @@
 -- Which heights are refused, and how.
-use Rattle.std.specs.Prelude.{ℕ, ◌==◌, nat_lt, not, if◌then◌else◌, List, Option, Some, None, find, position, slice_index}
+use Rattle.std.specs.Prelude.{ℕ, ◌==◌, nat_lt, not, if◌then◌else◌, List, Option, Some, None, find, position}
+use Rattle.std.specs.Prelude.{slice_index}
 use Rattle.p3_merkle_core.specs.Geometry.{height_limit, expected_height, bits_reduced}
 use Rattle.p3_support.specs.Batches.{greatest}
 use Rattle.p3_merkle_core.specs.declared.error.MerkleTreeError.{MerkleTreeError}

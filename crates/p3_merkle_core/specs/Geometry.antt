@@ -1,5 +1,6 @@
 -- The shape of a tree: exponents of heights, the ladder of lawful heights, steps, lengths, ancestors.
-use Rattle.std.specs.Prelude.{◌≡◌, ℕ, zero, suc, ◌+◌, ◌-◌, ◌*◌, ◌/◌, ◌%◌, ◌^◌, ◌<◌, ◌≤◌, min, Bool, true, false, ◌&&◌, ◌==◌, nat_lt, nat_le, if◌then◌else◌, List, [], ◌∷◌, map, All}
+use Rattle.std.specs.Prelude.{◌≡◌, ℕ, zero, suc, ◌+◌, ◌-◌, ◌*◌, ◌/◌, ◌%◌, ◌^◌, ◌<◌, ◌≤◌, min, Bool, true, false, ◌&&◌}
+use Rattle.std.specs.Prelude.{◌==◌, nat_lt, nat_le, if◌then◌else◌, List, [], ◌∷◌, map, All}
 use Rattle.std.specs.List.{list_any, range_with_len}
 use Rattle.std.specs.Int.{next_multiple_of}
 use Rattle.p3_support.specs.declared.matrix.Dimensions.{Dimensions}

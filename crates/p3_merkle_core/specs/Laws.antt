@@ -1,13 +1,21 @@
 -- What holds of the definitions, whatever the hash, the compression, the batch, the openings and the cap.
-use Rattle.std.specs.Prelude.{◌≡◌, ◌≢◌, ◌↔◌, ◌⊎◌, ℕ, suc, ◌<◌, ◌≤◌, true, Bool, IsTrue, List, [], ◌∷◌, ◌++◌, None, Ok, Err, length, take, slice_index, All, map}
+use Rattle.std.specs.Prelude.{◌≡◌, ◌≢◌, ◌↔◌, ◌⊎◌, ℕ, suc, ◌<◌, ◌≤◌, true, Bool, IsTrue, List, [], ◌∷◌, ◌++◌, None, Ok}
+use Rattle.std.specs.Prelude.{Err, length, take, slice_index, All, map}
 use Rattle.std.specs.List.{count_by}
-use Rattle.p3_merkle_core.specs.Geometry.{Shape, heights, levels, layer_exponent, exponent, layer_of, layer_len, halved_index, step, ancestor, arity_schedule, schedule_below, layer_below_root, is_arity, IsArity, IsLawful}
+use Rattle.p3_merkle_core.specs.Geometry.{Shape, heights, levels, layer_exponent, exponent, layer_of, layer_len}
+use Rattle.p3_merkle_core.specs.Geometry.{halved_index, step, ancestor, arity_schedule, schedule_below}
+use Rattle.p3_merkle_core.specs.Geometry.{layer_below_root, is_arity, IsArity, IsLawful}
 use Rattle.p3_support.specs.Batches.{greatest}
 use Rattle.p3_merkle_core.specs.Caps.{cap_layer}
 use Rattle.p3_merkle_core.specs.Nodes.{Functions, Batch, HasFullRows, shape, node, layer, layers}
 use Rattle.p3_merkle_core.specs.Openings.{Opening, honest, siblings_by, opening_in_layers}
-use Rattle.p3_merkle_core.specs.Checks.{Input, AgreeWhereShared, HasDigests, IsAccepted, IsAtOnePlace, IsLastShared, inputs, is_authenticated, opened_row, path_digest, input_digest, check_digest, last_input, terms, Terms}
-use Rattle.p3_merkle_core.specs.Pruning.{PrunedOpening, CanQuery, IsHonestQuery, IsCapped, IsUncovered, EachAccepted, Suffices, boundary, honest_query, is_covered, is_in, is_under, opening_at, restored_node, restored_path, IsGivenUnder, IsLeast, IsRestorable, IsPrunedAccepted, restored_paths, pruned_in_layers, pruned_len}
+use Rattle.p3_merkle_core.specs.Checks.{Input, AgreeWhereShared, HasDigests, IsAccepted, IsAtOnePlace, IsLastShared}
+use Rattle.p3_merkle_core.specs.Checks.{inputs, is_authenticated, opened_row, path_digest, input_digest, check_digest}
+use Rattle.p3_merkle_core.specs.Checks.{last_input, terms, Terms}
+use Rattle.p3_merkle_core.specs.Pruning.{PrunedOpening, CanQuery, IsHonestQuery, IsCapped, IsUncovered, EachAccepted}
+use Rattle.p3_merkle_core.specs.Pruning.{Suffices, boundary, honest_query, is_covered, is_in, is_under, opening_at}
+use Rattle.p3_merkle_core.specs.Pruning.{restored_node, restored_path, IsGivenUnder, IsLeast, IsRestorable}
+use Rattle.p3_merkle_core.specs.Pruning.{IsPrunedAccepted, restored_paths, pruned_in_layers, pruned_len}
 use Rattle.p3_merkle_core.specs.Refusals.{IsEquality, answer_under, pruned_answer, pruned_answer_under}
 use Rattle.p3_merkle_core.specs.Extraction.{IsExtraction, extraction, AnswerAlike}
 use Rattle.p3_merkle_core.specs.Presented.{presented, presented_pruned}

@@ -8,7 +8,9 @@ use Rattle.p3_merkle_core.specs.Refusals.{refusal_under}
 use Rattle.p3_merkle_core.specs.Checks.{digests_at, terms, words_at, siblings_below, path_digest, inputs, check_digest}
 use Rattle.p3_merkle_core.specs.Examples.{batch, column, narrow, fold_example, extracts}
 use Rattle.p3_merkle_core.specs.declared.collision.Place.TheVariants.{Leaf, Group, Rows, Pair}
-use Rattle.p3_merkle_core.specs.declared.error.MerkleTreeError.TheVariants.{CapMismatch, IncompatibleHeights, IndexOutOfBounds, WrongBatchSize, WrongHeight, WrongWidth}
+use Rattle.p3_merkle_core.specs.declared.error.MerkleTreeError.TheVariants.{CapMismatch, IncompatibleHeights}
+use Rattle.p3_merkle_core.specs.declared.error.MerkleTreeError.TheVariants.{IndexOutOfBounds, WrongBatchSize}
+use Rattle.p3_merkle_core.specs.declared.error.MerkleTreeError.TheVariants.{WrongHeight, WrongWidth}
 
 rows_of_index_2 : honest_rows (batch 2 (column (1 ∷ 2 ∷ 3 ∷ []) ∷ column (4 ∷ 5 ∷ []) ∷ [])) 2
     ≡ (3 ∷ []) ∷ (5 ∷ []) ∷ []

@@ -1,7 +1,10 @@
 -- Pruned openings of many indices: what is covered, what is sent, what suffices, what is restored.
-use Rattle.std.specs.Prelude.{◌≡◌, ℕ, zero, suc, ◌+◌, ◌*◌, ◌/◌, ◌<◌, ◌==◌, ◌&&◌, ◌⊎◌, Bool, false, not, if◌then◌else◌, IsTrue, List, [], map, length, filter, flat_map, zip, find, unwrap_or, option_map, slice_index, slice_index_or, slice_get, Some, ◌≤◌, All, ◌-◌, nat_le}
+use Rattle.std.specs.Prelude.{◌≡◌, ℕ, zero, suc, ◌+◌, ◌*◌, ◌/◌, ◌<◌, ◌==◌, ◌&&◌, ◌⊎◌, Bool, false, not, if◌then◌else◌}
+use Rattle.std.specs.Prelude.{IsTrue, List, [], map, length, filter, flat_map, zip, find, unwrap_or, option_map}
+use Rattle.std.specs.Prelude.{slice_index, slice_index_or, slice_get, Some, ◌≤◌, All, ◌-◌, nat_le}
 use Rattle.std.specs.List.{list_any, range_with_len}
-use Rattle.p3_merkle_core.specs.Geometry.{Shape, IsArity, IsLawful, levels, step, raw_len, layer_len, ancestor, heights, widths, has_rows}
+use Rattle.p3_merkle_core.specs.Geometry.{Shape, IsArity, IsLawful, levels, step, raw_len, layer_len, ancestor, heights}
+use Rattle.p3_merkle_core.specs.Geometry.{widths, has_rows}
 use Rattle.p3_support.specs.Batches.{greatest}
 use Rattle.p3_merkle_core.specs.Nodes.{Functions, Batch, shape, node, compress, with_rows}
 use Rattle.p3_merkle_core.specs.Openings.{Opening, honest_rows, node_in, opening_of, siblings_by}

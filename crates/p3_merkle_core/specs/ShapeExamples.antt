@@ -1,6 +1,7 @@
 -- Shapes and gates, worked out.
 use Rattle.std.specs.Prelude.{◌≡◌, ◌+◌, ◌^◌, [], ◌∷◌, map, refl, Some, None}
-use Rattle.p3_merkle_core.specs.Geometry.{exponent, layer_exponent, arity_schedule, padded_len, raw_len, layer_len, halved_index, heights, leaves_under, position_in_group}
+use Rattle.p3_merkle_core.specs.Geometry.{exponent, layer_exponent, arity_schedule, padded_len, raw_len, layer_len}
+use Rattle.p3_merkle_core.specs.Geometry.{halved_index, heights, leaves_under, position_in_group}
 use Rattle.p3_support.specs.Batches.{greatest}
 use Rattle.p3_merkle_core.specs.Caps.{cap_layer}
 use Rattle.p3_merkle_core.specs.Gate.{gate_refusal}

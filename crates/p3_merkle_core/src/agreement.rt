@@ -2,17 +2,22 @@
 //! queries of one index have one row set, and queries under one node have the same rows of the matrices that belong to
 //! the node's layer.
 
-ghost use Rattle.std.specs.Prelude.{◌≡◌, ℕ, ◌-◌, ◌/◌, ◌<◌, ◌≤◌, ◌⊎◌, Some, None, List, [], All, length, map, not, slice_index, slice_index_or, IfOk, IsTrue, MatchResult};
+ghost use Rattle.std.specs.Prelude.{◌≡◌, ℕ, ◌-◌, ◌/◌, ◌<◌, ◌≤◌, ◌⊎◌, Some, None, List, [], All, length, map, not};
+ghost use Rattle.std.specs.Prelude.{slice_index, slice_index_or, IfOk, IsTrue, MatchResult};
 ghost use Rattle.std.specs.Cmp.Lexicographic.{pointwise};
 ghost use Rattle.std.specs.List.Sorted.{IsStrictlyIncreasing};
-ghost use Rattle.p3_merkle_core.specs.Inner.Agreement.{distinct, early_refusal, first_query, late_refusal, layers_refusal, matrices_with, nodes_refusal, opened_of, opened_with, rows_refusal, slot_rows, AreDistinctOf, IsAscending, IsSlot};
+ghost use Rattle.p3_merkle_core.specs.Inner.Agreement.{distinct, early_refusal, first_query, late_refusal};
+ghost use Rattle.p3_merkle_core.specs.Inner.Agreement.{layers_refusal, matrices_with, nodes_refusal, opened_of};
+ghost use Rattle.p3_merkle_core.specs.Inner.Agreement.{opened_with, rows_refusal, slot_rows, AreDistinctOf};
+ghost use Rattle.p3_merkle_core.specs.Inner.Agreement.{IsAscending, IsSlot};
 ghost use Rattle.p3_support.specs.Lists.{is_among};
 ghost use Rattle.p3_support.specs.Batches.{heights_of, greatest};
 ghost use Rattle.p3_support.specs.Shown.{row_lists, row_sets};
 ghost use Rattle.p3_merkle_core.specs.Geometry.{levels, height_limit, shape_of, IsArity};
 ghost use Rattle.p3_merkle_core.specs.declared.error.MerkleTreeError.TheVariants.{OutOfMemory};
 ghost use Rattle.p3_merkle_core.specs.Pruning.{pruned_len};
-ghost use Rattle.p3_merkle_core.specs.Refusals.{digest_count_refusal, first_of, idle_refusal, pruned_refusal, repeat_refusal, width_refusal, AnswersUnlessMemory};
+ghost use Rattle.p3_merkle_core.specs.Refusals.{digest_count_refusal, first_of, idle_refusal, pruned_refusal};
+ghost use Rattle.p3_merkle_core.specs.Refusals.{repeat_refusal, width_refusal, AnswersUnlessMemory};
 
 use crate::error::{MerkleTreeError, PrunedProofError};
 use crate::geometry::{check_widths, exponent_of};

@@ -5,7 +5,17 @@
 ghost use Rattle.std.specs.Prelude.{◌≡◌, ◌↔◌, IsTrue};
 ghost use Rattle.p3_merkle_core.specs.Refusals.{IsEquality};
 ghost use Rattle.p3_merkle_core.specs.Views.{IsSamePair, shown_path};
-ghost use Rattle.p3_merkle_core.specs.Laws.{AnswerIsExtraction, AnsweredAsEachPath, BoundaryIsAlone, BoundaryIsLeast, BoundaryIsSmallest, BoundaryNodesAreApart, BoundaryNodesAreHeld, BoundarySuffices, CappedIsEachAccepted, FixedIsBelowRoot, HonestIsAccepted, HonestNodesAreRestored, HonestPathsAreRestored, HonestPathsInOrder, HonestQueryIsAccepted, HonestQueryIsCapped, InputsAreFull, LastDifferenceCollides, LastInputIsReached, LoweredLeavesNoneOut, MatricesHaveLayers, OkIsAccepted, OkIsCapped, OkIsEachAccepted, OkIsRestorable, OkOrCapMismatch, OneIndexIsBound, OwnOpeningIsHonest, OwnPrunedOpeningIsHonest, PrunedAnswerIsExtraction, RefusedUnderEachCap, RootIsAlone, RowsAreAncestors, RowsAreBound, RulesAgree, ScheduleStopsAtCap, TestedIsArity, UnrefusedIsLawful, WalkEnds};
+ghost use Rattle.p3_merkle_core.specs.Laws.{AnswerIsExtraction, AnsweredAsEachPath, BoundaryIsAlone, BoundaryIsLeast};
+ghost use Rattle.p3_merkle_core.specs.Laws.{BoundaryIsSmallest, BoundaryNodesAreApart, BoundaryNodesAreHeld};
+ghost use Rattle.p3_merkle_core.specs.Laws.{BoundarySuffices, CappedIsEachAccepted, FixedIsBelowRoot, HonestIsAccepted};
+ghost use Rattle.p3_merkle_core.specs.Laws.{HonestNodesAreRestored, HonestPathsAreRestored, HonestPathsInOrder};
+ghost use Rattle.p3_merkle_core.specs.Laws.{HonestQueryIsAccepted, HonestQueryIsCapped, InputsAreFull};
+ghost use Rattle.p3_merkle_core.specs.Laws.{LastDifferenceCollides, LastInputIsReached, LoweredLeavesNoneOut};
+ghost use Rattle.p3_merkle_core.specs.Laws.{MatricesHaveLayers, OkIsAccepted, OkIsCapped, OkIsEachAccepted};
+ghost use Rattle.p3_merkle_core.specs.Laws.{OkIsRestorable, OkOrCapMismatch, OneIndexIsBound, OwnOpeningIsHonest};
+ghost use Rattle.p3_merkle_core.specs.Laws.{OwnPrunedOpeningIsHonest, PrunedAnswerIsExtraction, RefusedUnderEachCap};
+ghost use Rattle.p3_merkle_core.specs.Laws.{RootIsAlone, RowsAreAncestors, RowsAreBound, RulesAgree};
+ghost use Rattle.p3_merkle_core.specs.Laws.{ScheduleStopsAtCap, TestedIsArity, UnrefusedIsLawful, WalkEnds};
 
 use crate::collision::{Collision, InputPair, Place};
 use crate::error::{MerkleTreeError, PrunedProofError};

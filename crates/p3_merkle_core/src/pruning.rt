@@ -6,7 +6,8 @@ ghost use Rattle.p3_merkle_core.specs.Inner.Agreement.{distinct, IsAscending};
 ghost use Rattle.p3_support.specs.Batches.{heights_of, greatest};
 ghost use Rattle.p3_merkle_core.specs.Pruning.{pruned_len};
 ghost use Rattle.p3_merkle_core.specs.Views.{shown_paths};
-ghost use Rattle.p3_merkle_core.specs.Inner.Children.{AreChildren, IsFamily, path_out_of, paths_out_of, siblings_out_of};
+ghost use Rattle.p3_merkle_core.specs.Inner.Children.{AreChildren, IsFamily, path_out_of, paths_out_of};
+ghost use Rattle.p3_merkle_core.specs.Inner.Children.{siblings_out_of};
 ghost use Rattle.p3_merkle_core.specs.Geometry.{levels, height_limit, shape_of, IsArity};
 ghost use Rattle.p3_merkle_core.specs.Refusals.{queries_refusal};
 

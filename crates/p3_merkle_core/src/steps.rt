@@ -1,10 +1,13 @@
 //! The steps of a tree, from the leaves to the root, walked once and kept: every walk goes by them. No call here takes
 //! memory from an allocator, but for the two that answer a list.
 
-ghost use Rattle.std.specs.Prelude.{◌≡◌, ℕ, suc, ◌+◌, ◌-◌, ◌<◌, ◌≤◌, ◌==◌, ◌↔◌, List, if◌then◌else◌, length, map, nat_lt, take, ◌&&◌, IfOk, IsOk, MatchResult, None, Some};
+ghost use Rattle.std.specs.Prelude.{◌≡◌, ℕ, suc, ◌+◌, ◌-◌, ◌<◌, ◌≤◌, ◌==◌, ◌↔◌, List, if◌then◌else◌, length, map};
+ghost use Rattle.std.specs.Prelude.{nat_lt, take, ◌&&◌, IfOk, IsOk, MatchResult, None, Some};
 ghost use Rattle.std.specs.List.{list_any, range_with_len};
 ghost use Rattle.p3_merkle_core.specs.Geometry;
-ghost use Rattle.p3_merkle_core.specs.Geometry.{exponent, has_rows, is_bridge, layer_exponent, levels, height_limit, positions_below, schedule_below, shape_of, shortest, step, IsArity, IsLawful};
+ghost use Rattle.p3_merkle_core.specs.Geometry.{exponent, has_rows, is_bridge, layer_exponent, levels, height_limit};
+ghost use Rattle.p3_merkle_core.specs.Geometry.{positions_below, schedule_below, shape_of, shortest, step, IsArity};
+ghost use Rattle.p3_merkle_core.specs.Geometry.{IsLawful};
 ghost use Rattle.p3_support.specs.Batches.{heights_of, greatest};
 ghost use Rattle.p3_merkle_core.specs.Checks.{siblings_below};
 ghost use Rattle.p3_merkle_core.specs.Gate.{gate_refusal};

@@ -1,5 +1,6 @@
 -- What the answer to two salted openings means.
-use Rattle.std.proofs.Common.{◌≡◌, ◌↔◌, ◌∙◌, ◌++◌, ◌⊎◌, ℕ, Bool, List, [], ◌∷◌, ap, arith, inl, inr, length, map, refl, sym, None, Some, Option, Result}
+use Rattle.std.proofs.Common.{◌≡◌, ◌↔◌, ◌∙◌, ◌++◌, ◌⊎◌, ℕ, Bool, List, [], ◌∷◌, ap, arith, inl, inr, length, map, refl}
+use Rattle.std.proofs.Common.{sym, None, Some, Option, Result}
 use Rattle.std.specs.Prelude.{Ok, Err, IfOk, IsErr, IsNone}
 use Rattle.std.specs.Option.{option_or, unwrap_or}
 use Rattle.std.specs.Result.{result_err}
@@ -17,7 +18,8 @@ use Rattle.p3_merkle_core.specs.declared.collision.InputPair.{InputPair}
 use Rattle.p3_merkle_core.specs.declared.error.MerkleTreeError.{MerkleTreeError}
 use Rattle.p3_merkle_core.specs.declared.error.MerkleTreeError.TheVariants.{OutOfMemory}
 use Rattle.p3_merkle_core.proofs.Collisions.ExtractionFacts.{AllAuthenticated, extracted}
-use Rattle.p3_merkle_salts.specs.SaltedOpenings.{IsSaltedAccepted, SaltedOpening, SaltedPruned, joined, salted_of, salted_rows}
+use Rattle.p3_merkle_salts.specs.SaltedOpenings.{IsSaltedAccepted, SaltedOpening, SaltedPruned, joined, salted_of}
+use Rattle.p3_merkle_salts.specs.SaltedOpenings.{salted_rows}
 use Rattle.p3_merkle_salts.specs.SaltedPresented.{presented_salted, presented_salted_pruned}
 use Rattle.p3_merkle_hiding.proofs.SaltedAnswers.{salted_presentation, salted_pruned_presentation}
 

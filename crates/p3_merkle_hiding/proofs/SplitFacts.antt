@@ -1,5 +1,6 @@
 -- Rows of pairs, taken apart where the left matrix ends.
-use Rattle.std.proofs.Common.{◌≡◌, ℕ, zero, suc, ◌+◌, ◌/◌, ◌^◌, ◌<◌, cond, nat_lt, List, [], ◌∷◌, ◌++◌, map, refl, ap, sym, subst, ◌∙◌, arith, length, get_or, take, drop, All}
+use Rattle.std.proofs.Common.{◌≡◌, ℕ, zero, suc, ◌+◌, ◌/◌, ◌^◌, ◌<◌, cond, nat_lt, List, [], ◌∷◌, ◌++◌, map, refl, ap}
+use Rattle.std.proofs.Common.{sym, subst, ◌∙◌, arith, length, get_or, take, drop, All}
 use Rattle.std.specs.List.{AllZip}
 use Rattle.std.proofs.lemmas.Bool.{lt-ltb}
 use Rattle.std.proofs.lemmas.List.{get_or_default, length-map, take-append-drop}
@@ -16,8 +17,11 @@ use Rattle.p3_merkle_core.specs.Pruning.{pruned_of, IsPrunedAccepted}
 use Rattle.p3_merkle_core.specs.Openings.{honest_rows, opening_of}
 use Rattle.p3_merkle_core.specs.Checks.{IsAccepted, Terms}
 use Rattle.p3_merkle_prover.proofs.RowFacts.{row_inside}
-use Rattle.p3_merkle_salts.specs.SaltedOpenings.{CanWiden, HaveSalts, IsSaltedAccepted, IsSaltedPrunedAccepted, salt_parts, salted_of, salted_pruned_of, salted_rows, salted_sets, unsalted_parts, widened}
-use Rattle.p3_merkle_salts.specs.SaltedTrees.{HaveSaltColumns, left_batch, pair_matrix, right_batch, unsalted_dimensions}
+use Rattle.p3_merkle_salts.specs.SaltedOpenings.{CanWiden, HaveSalts, IsSaltedAccepted, IsSaltedPrunedAccepted}
+use Rattle.p3_merkle_salts.specs.SaltedOpenings.{salt_parts, salted_of, salted_pruned_of, salted_rows, salted_sets}
+use Rattle.p3_merkle_salts.specs.SaltedOpenings.{unsalted_parts, widened}
+use Rattle.p3_merkle_salts.specs.SaltedTrees.{HaveSaltColumns, left_batch, pair_matrix, right_batch}
+use Rattle.p3_merkle_salts.specs.SaltedTrees.{unsalted_dimensions}
 use Rattle.p3_support.specs.declared.matrix.Dimensions.{Dimensions}
 
 -- ---- rows that are taken apart

@@ -2,7 +2,8 @@
 use Rattle.std.specs.Prelude.{◌≡◌, ◌^◌, ◌-◌, ℕ, List, [], ◌∷◌, refl, Some, None}
 use Rattle.p3_support.specs.declared.matrix.Dimensions.{Dimensions}
 use Rattle.p3_merkle_core.specs.Geometry.{exponent}
-use Rattle.p3_merkle_core.specs.declared.error.MerkleTreeError.TheVariants.{EmptyBatch, TooLarge, WrongBatchSize, WrongWidth}
+use Rattle.p3_merkle_core.specs.declared.error.MerkleTreeError.TheVariants.{EmptyBatch, TooLarge, WrongBatchSize}
+use Rattle.p3_merkle_core.specs.declared.error.MerkleTreeError.TheVariants.{WrongWidth}
 use Rattle.p3_merkle_salts.specs.SaltRefusals.{salted_commit_refusal, salted_rows_refusal, salted_sets_refusal}
 use Rattle.p3_merkle_salts.specs.SaltedOpenings.{salt_parts, salted_rows, unsalted_parts, widened}
 

@@ -12,9 +12,11 @@ ghost use Rattle.p3_support.specs.Batches.{greatest};
 ghost use Rattle.p3_support.specs.Pairs.{left_of};
 ghost use Rattle.p3_support.specs.Shown.{roots_of, row_lists, row_sets};
 ghost use Rattle.p3_merkle_hiding.specs.HidingSchemes.{plain_of, salted_lent, salted_terms_of};
-ghost use Rattle.p3_merkle_hiding.specs.Inner.SaltedCommitmentLaws.{each_salted_shown, left_lawful, salted_rows_fit, same_plain_is_equivalence};
+ghost use Rattle.p3_merkle_hiding.specs.Inner.SaltedCommitmentLaws.{each_salted_shown, left_lawful, salted_rows_fit};
+ghost use Rattle.p3_merkle_hiding.specs.Inner.SaltedCommitmentLaws.{same_plain_is_equivalence};
 ghost use Rattle.p3_merkle_hiding.specs.SaltedCommitments.{CanCommitSalted, IsSaltedCommitment, IsSaltedShown};
-ghost use Rattle.p3_merkle_salts.specs.SaltedOpenings.{salted_of, salted_pruned_of, widened, IsSaltedAccepted, IsSaltedPrunedAccepted};
+ghost use Rattle.p3_merkle_salts.specs.SaltedOpenings.{salted_of, salted_pruned_of, widened, IsSaltedAccepted};
+ghost use Rattle.p3_merkle_salts.specs.SaltedOpenings.{IsSaltedPrunedAccepted};
 
 use crate::hiding_mmcs::{MerkleTreeHidingMmcs, SaltedMultiProof, SaltedProof, SaltedTree};
 use p3_merkle_core::error::MerkleTreeError;
@@ -168,7 +170,8 @@ where
     ghost row_below = { λ tree. let pairs = matrices_of tree in
         row_in_matrix M.height_of M.width_of M.row_of N (map left_of pairs) (left_lawful pairs tree.lawful) };
 
-    ghost shown_by_one = { λ s cap dimensions index rows proof accepted. (row_lists proof.0.items, proof.1.items, accepted) };
+    ghost shown_by_one = { λ s cap dimensions index rows proof accepted.
+        (row_lists proof.0.items, proof.1.items, accepted) };
 
     ghost shown_by_all = { λ s cap dimensions indices sets proof accepted.
         each_salted_shown SALT_ELEMS dimensions (salted_terms_of H.hash C.compression D s dimensions) (roots_of cap)

@@ -1,6 +1,7 @@
 //! The digests of many rows or nodes by calls that take many messages at once.
 
-ghost use Rattle.std.specs.Prelude.{◌≡◌, ℕ, ◌+◌, ◌-◌, ◌*◌, ◌%◌, ◌^◌, ◌<◌, ◌≤◌, ◌++◌, [], ◌∷◌, IfOk, length, map, max, min, replicate, slice_index_or, sum_by};
+ghost use Rattle.std.specs.Prelude.{◌≡◌, ℕ, ◌+◌, ◌-◌, ◌*◌, ◌%◌, ◌^◌, ◌<◌, ◌≤◌, ◌++◌, [], ◌∷◌, IfOk, length, map, max};
+ghost use Rattle.std.specs.Prelude.{min, replicate, slice_index_or, sum_by};
 ghost use Rattle.std.specs.List.{range_with_len};
 ghost use Rattle.p3_merkle_lanes.specs.Inner.Slots.{leaf_over, rows_over, IsFilled, IsStaged};
 

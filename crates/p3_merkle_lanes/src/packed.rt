@@ -2,7 +2,8 @@
 
 ghost use Rattle.std.specs.Mem.{type_size, FitsInMemory};
 ghost use denote.Param.{ArrayAt};
-ghost use Rattle.std.specs.Prelude.{IsTrue, ◌≡◌, ℕ, ◌+◌, ◌-◌, ◌*◌, ◌^◌, ◌<◌, ◌≤◌, ◌++◌, [], ◌∷◌, IfOk, length, map, take, drop, replicate, slice_index_or};
+ghost use Rattle.std.specs.Prelude.{IsTrue, ◌≡◌, ℕ, ◌+◌, ◌-◌, ◌*◌, ◌^◌, ◌<◌, ◌≤◌, ◌++◌, [], ◌∷◌, IfOk, length, map};
+ghost use Rattle.std.specs.Prelude.{take, drop, replicate, slice_index_or};
 ghost use Rattle.p3_support.specs.Lists.{lane_of};
 ghost use Rattle.p3_merkle_lanes.specs.Inner.Slots.{leaf_over, rows_over, IsFilled};
 

@@ -1,5 +1,6 @@
 -- A tree, layer by layer.
-use Rattle.std.proofs.Common.{◌≡◌, ℕ, suc, ◌+◌, ◌-◌, ◌<◌, ◌≤◌, cond, eqb, nat_lt, List, [], ◌∷◌, ◌++◌, map, refl, ap, sym, ◌∙◌, subst, arith, length, get_or, inl, inr}
+use Rattle.std.proofs.Common.{◌≡◌, ℕ, suc, ◌+◌, ◌-◌, ◌<◌, ◌≤◌, cond, eqb, nat_lt, List, [], ◌∷◌, ◌++◌, map, refl, ap}
+use Rattle.std.proofs.Common.{sym, ◌∙◌, subst, arith, length, get_or, inl, inr}
 use Rattle.std.specs.List.{range_with_len}
 use Rattle.std.proofs.lemmas.Bool.{cases_eq, eq-eqb}
 use Rattle.std.proofs.lemmas.List.FromFn.{map-range_with_len_more, length-map-range_with_len, get_or-map-range_with_len}
@@ -8,7 +9,8 @@ use Rattle.p3_support.specs.Lists.{rows_of_height}
 use Rattle.p3_merkle_core.specs.Views.{batch_of}
 use Rattle.p3_support.specs.Batches.{heights_of, greatest}
 use Rattle.p3_support.specs.declared.matrix.Dimensions.{Dimensions}
-use Rattle.p3_merkle_core.specs.Geometry.{Shape, shape_of, heights, exponent, layer_exponent, is_bridge, step, arity_schedule, levels, raw_len, layer_len, padded_len, height_limit}
+use Rattle.p3_merkle_core.specs.Geometry.{Shape, shape_of, heights, exponent, layer_exponent, is_bridge, step}
+use Rattle.p3_merkle_core.specs.Geometry.{arity_schedule, levels, raw_len, layer_len, padded_len, height_limit}
 use Rattle.p3_merkle_core.specs.Nodes.{Functions, Batch, shape, layer, layers, node}
 use Rattle.p3_merkle_core.proofs.Shapes.LadderFacts.{exponent_at_levels}
 use Rattle.p3_merkle_core.proofs.Shapes.LeastFacts.{least_bound}

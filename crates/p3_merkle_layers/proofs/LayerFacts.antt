@@ -1,7 +1,10 @@
 -- The layers that are built are those of the definition.
-use Rattle.std.proofs.Common.{◌≡◌, ℕ, zero, suc, ◌+◌, ◌-◌, ◌*◌, ◌/◌, ◌^◌, ◌<◌, ◌≤◌, Bool, true, false, cond, eqb, nat_lt, ◌&&◌, List, [], ◌∷◌, ◌++◌, map, refl, ap, sym, ◌∙◌, subst, arith, inl, inr, length, take, drop, filter, All}
+use Rattle.std.proofs.Common.{◌≡◌, ℕ, zero, suc, ◌+◌, ◌-◌, ◌*◌, ◌/◌, ◌^◌, ◌<◌, ◌≤◌, Bool, true, false, cond, eqb}
+use Rattle.std.proofs.Common.{nat_lt, ◌&&◌, List, [], ◌∷◌, ◌++◌, map, refl, ap, sym, ◌∙◌, subst, arith, inl, inr}
+use Rattle.std.proofs.Common.{length, take, drop, filter, All}
 use Rattle.std.specs.List.{range_with_len, list_any, list_all}
-use Rattle.std.proofs.lemmas.Bool.{cases_Bool, cases_lt, cases_eq, cond-true, cond-false, le-ltb, lt-ltb, eq-eqb, ne_eqb, or_parts, eqb-true, true≢false}
+use Rattle.std.proofs.lemmas.Bool.{cases_Bool, cases_lt, cases_eq, cond-true, cond-false, le-ltb, lt-ltb, eq-eqb}
+use Rattle.std.proofs.lemmas.Bool.{ne_eqb, or_parts, eqb-true, true≢false}
 use Rattle.std.proofs.lemmas.List.FromFn.{fill_by_all, get_or-map-range_with_len, length-map-range_with_len}
 use Rattle.std.proofs.lemmas.List.{length-take-le, get_or-take, get_or-drop}
 use Rattle.std.proofs.Common.{length-drop}
@@ -10,8 +13,10 @@ use Rattle.p3_support.specs.Lists.{rows_of_height}
 use Rattle.p3_merkle_core.specs.Views.{batch_of, matrix_of}
 use Rattle.p3_support.specs.Batches.{greatest}
 use Rattle.std.proofs.lemmas.Simd.{map-map}
-use Rattle.p3_merkle_core.specs.Geometry.{heights, exponent, layer_exponent, step, raw_len, layer_len, expected_height, has_rows, IsLawful, height_at}
-use Rattle.p3_merkle_core.specs.Nodes.{Functions, Batch, shape, at_layer, joined_rows, row_digest, with_rows, compress, node, layer}
+use Rattle.p3_merkle_core.specs.Geometry.{heights, exponent, layer_exponent, step, raw_len, layer_len, expected_height}
+use Rattle.p3_merkle_core.specs.Geometry.{has_rows, IsLawful, height_at}
+use Rattle.p3_merkle_core.specs.Nodes.{Functions, Batch, shape, at_layer, joined_rows, row_digest, with_rows, compress}
+use Rattle.p3_merkle_core.specs.Nodes.{node, layer}
 use Rattle.p3_merkle_core.proofs.Checks.Completeness.{node_next}
 use Rattle.p3_merkle_core.proofs.Shapes.StepFacts.{layer_start}
 use Rattle.p3_merkle_core.specs.Inner.Levels.{IsLevel}
@@ -226,7 +231,8 @@ module _ {T W M : Type 0} (f : Functions T W) (n : ℕ) (height width_of : M →
         heights_are w.on_ladder
 
     -- a node is built as it is defined
-    built_is : (v : Level) (below : List (List W)) (j : ℕ) → IsLevel (shape whole) v → IsLawful (heights (shape whole)) →
+    built_is : (v : Level) (below : List (List W)) (j : ℕ) → IsLevel (shape whole) v →
+        IsLawful (heights (shape whole)) →
         below ≡ layer f whole v.below → j < v.raw_len →
         node_above f n (leaf_above v.height) v.has_rows j (take v.step (drop (v.step * j) below))
         ≡ node f whole (suc v.below) j

@@ -1,5 +1,6 @@
 -- A node out of the compression of its children and the digest of its rows.
-use Rattle.std.proofs.Common.{◌≡◌, ℕ, ◌-◌, ◌*◌, ◌<◌, List, ◌∷◌, ◌++◌, length, take, drop, replicate, true, false, sym, ap, ◌∙◌}
+use Rattle.std.proofs.Common.{◌≡◌, ℕ, ◌-◌, ◌*◌, ◌<◌, List, ◌∷◌, ◌++◌, length, take, drop, replicate, true, false, sym}
+use Rattle.std.proofs.Common.{ap, ◌∙◌}
 use Rattle.std.proofs.lemmas.Bool.{lt-ltb}
 use Rattle.p3_merkle_core.specs.Nodes.{Functions, compress}
 use Rattle.p3_merkle_layers.specs.Inner.Levels.{slot_above}
@@ -10,7 +11,8 @@ module _ {T W : Type 0} (f : Functions T W) (n : ℕ) (leaf : ℕ → List W) (v
     (long : length children ≡ v.step)
   where
     -- the compression of its children
-    folded_is : (folded : List W) → folded ≡ f.compression (children ++ replicate (n - v.step) f.default_digest) → folded
+    folded_is : (folded : List W) →
+        folded ≡ f.compression (children ++ replicate (n - v.step) f.default_digest) → folded
         ≡ compress f n (take v.step (drop (v.step * j) below))
     folded_is folded is = is ∙ ap (λ l. f.compression (children ++ replicate (n - l) f.default_digest)) (sym long)
         ∙ ap (compress f n) are

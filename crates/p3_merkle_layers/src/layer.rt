@@ -3,7 +3,8 @@
 //! A layer is filled from the first slot to the last: several slots at a time while there are enough, by calls that
 //! take many messages or lane by lane, and the others one by one.
 
-ghost use Rattle.std.specs.Prelude.{take, drop, ◌≡◌, ℕ, ◌+◌, ◌-◌, ◌*◌, ◌<◌, ◌≤◌, ◌++◌, [], ◌∷◌, IfOk, map, length, replicate, true};
+ghost use Rattle.std.specs.Prelude.{take, drop, ◌≡◌, ℕ, ◌+◌, ◌-◌, ◌*◌, ◌<◌, ◌≤◌, ◌++◌, [], ◌∷◌, IfOk, map, length};
+ghost use Rattle.std.specs.Prelude.{replicate, true};
 ghost use Rattle.std.specs.List.{range_with_len};
 ghost use Rattle.std.specs.Mem.{FitsInMemory};
 ghost use denote.Param.{ArrayAt};

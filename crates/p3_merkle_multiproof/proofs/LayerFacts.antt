@@ -1,18 +1,22 @@
 -- The digests of a layer's nodes are the restored ones.
-use Rattle.std.proofs.Common.{◌≡◌, ◌∙◌, ℕ, zero, suc, ◌+◌, ◌*◌, ◌/◌, ◌<◌, ◌≤◌, Bool, true, false, List, [], ◌∷◌, ◌++◌, map, refl, ap, sym, arith, inl, inr, length, length-append, take, drop, zip, All, append_assoc}
+use Rattle.std.proofs.Common.{◌≡◌, ◌∙◌, ℕ, zero, suc, ◌+◌, ◌*◌, ◌/◌, ◌<◌, ◌≤◌, Bool, true, false, List, [], ◌∷◌, ◌++◌}
+use Rattle.std.proofs.Common.{map, refl, ap, sym, arith, inl, inr, length, length-append, take, drop, zip, All}
+use Rattle.std.proofs.Common.{append_assoc}
 use Rattle.std.specs.List.{flat_map, range_with_len}
 use Rattle.std.proofs.lemmas.Bool.{cases_Bool}
 use Rattle.std.proofs.lemmas.List.{drop_at, length-map, map-id, take_at}
 use Rattle.std.proofs.lemmas.List.FromFn.{length-range_with_len}
 use Rattle.p3_merkle_core.specs.Geometry.{Shape, has_rows, heights, layer_exponent, step}
 use Rattle.p3_merkle_core.specs.Nodes.{Functions, compress}
-use Rattle.p3_merkle_core.specs.Pruning.{CanQuery, IsAgreed, PrunedOpening, boundary, covered_at, pruned_of, restored_node, value_of}
+use Rattle.p3_merkle_core.specs.Pruning.{CanQuery, IsAgreed, PrunedOpening, boundary, covered_at, pruned_of}
+use Rattle.p3_merkle_core.specs.Pruning.{restored_node, value_of}
 use Rattle.p3_merkle_core.proofs.Covered.Equivalence.{restored_leaf, restored_next, rows_agree}
 use Rattle.p3_merkle_core.proofs.Checks.PathFacts.{group_values}
 use Rattle.p3_merkle_core.proofs.Covered.ValueFacts.{IsWalkedLevel, children_are}
 use Rattle.p3_merkle_multiproof.proofs.WalkFacts.{same_map}
 use Rattle.p3_merkle_multiproof.specs.Inner.NodeDigests.{group_digest, layer_digests, pair_digest, query_digest}
-use Rattle.p3_merkle_multiproof.specs.Inner.RestoredLevels.{AreRestored, IsCoveredAt, IsNextLevel, IsValuedLevel, node_of_query}
+use Rattle.p3_merkle_multiproof.specs.Inner.RestoredLevels.{AreRestored, IsCoveredAt, IsNextLevel, IsValuedLevel}
+use Rattle.p3_merkle_multiproof.specs.Inner.RestoredLevels.{node_of_query}
 use Rattle.p3_merkle_multiproof.specs.declared.covered.Covered.{Covered}
 use Rattle.p3_merkle_multiproof.specs.declared.covered.NextLevel.{NextLevel}
 use Rattle.p3_merkle_core.specs.Checks.{terms}
@@ -175,7 +179,8 @@ pub level_valued : {T W : Type 0} (f : Functions T W) (s : Shape) (t : ℕ) (p :
     AreRestored f s t p l covered digests → IsNextLevel s p.indices l covered digests p.digests next_level →
     IsValuedLevel f s t p l next_level
 level_valued f s t p w count l h covered next_level digests here up =
-    let same : IsWalkedLevel f s t p l (λ (d : List _). d) next_level.step next_level.above.nodes.items covered.nodes.items
+    let same : IsWalkedLevel f s t p l (λ (d : List _). d) next_level.step next_level.above.nodes.items
+    covered.nodes.items
     digests (drop covered.used p.digests) =
     record {
       step_is = up.step_is;

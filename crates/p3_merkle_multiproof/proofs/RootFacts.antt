@@ -1,5 +1,6 @@
 -- The cap has the digest of each covered node if it has that of each query's.
-use Rattle.std.proofs.Common.{◌≡◌, ◌∙◌, ℕ, ◌&&◌, Bool, true, eqb, List, [], ◌∷◌, map, refl, ap, sym, arith, inl, inr, zip, eq-eqb}
+use Rattle.std.proofs.Common.{◌≡◌, ◌∙◌, ℕ, ◌&&◌, Bool, true, eqb, List, [], ◌∷◌, map, refl, ap, sym, arith, inl, inr}
+use Rattle.std.proofs.Common.{zip, eq-eqb}
 use Rattle.std.specs.List.{list_all}
 use Rattle.std.specs.Cmp.{both_ways}
 use Rattle.std.proofs.lemmas.Bool.{and_from, and_parts, eqb-true, or_cases, or_left, or_right, true≢false}

@@ -1,5 +1,6 @@
 -- One layer higher.
-use Rattle.std.proofs.Common.{◌≡◌, ◌∙◌, ℕ, suc, ◌/◌, ◌<◌, ◌≤◌, eqb, List, [], ◌∷◌, map, refl, ap, sym, arith, length, length-drop, drop, get_or}
+use Rattle.std.proofs.Common.{◌≡◌, ◌∙◌, ℕ, suc, ◌/◌, ◌<◌, ◌≤◌, eqb, List, [], ◌∷◌, map, refl, ap, sym, arith, length}
+use Rattle.std.proofs.Common.{length-drop, drop, get_or}
 use Rattle.std.specs.List.{dedup}
 use Rattle.std.specs.declared.vec.Vec.{Vec}
 use Rattle.std.proofs.lemmas.Bool.{cond_both}

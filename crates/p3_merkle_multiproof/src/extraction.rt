@@ -10,7 +10,8 @@ ghost use Rattle.p3_merkle_core.specs.Refusals.{pruned_refusal_under, AnswersUnl
 ghost use Rattle.p3_merkle_core.specs.Pruning.{opening_at};
 ghost use Rattle.p3_merkle_verifier.specs.Inner.Checks.{opening_in};
 ghost use Rattle.p3_merkle_verifier.specs.Inner.Paths.{CanCheck, CanReach};
-ghost use Rattle.p3_merkle_multiproof.specs.Inner.QueryPairs.{query_difference, first_place, pruned_in, query_in, AreQueriesOf, CanCompare, ShowsAt, ShowsPair};
+ghost use Rattle.p3_merkle_multiproof.specs.Inner.QueryPairs.{query_difference, first_place, pruned_in, query_in};
+ghost use Rattle.p3_merkle_multiproof.specs.Inner.QueryPairs.{AreQueriesOf, CanCompare, ShowsAt, ShowsPair};
 
 use crate::check::Commitment;
 use crate::paths::checked_paths_of;

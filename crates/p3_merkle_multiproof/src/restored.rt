@@ -6,7 +6,8 @@ ghost use Rattle.p3_merkle_core.specs.Checks.{terms};
 ghost use Rattle.p3_merkle_core.specs.Nodes.{functions_of};
 ghost use Rattle.p3_merkle_core.specs.Refusals.{cap_refusal, AnswersUnlessMemory};
 ghost use Rattle.p3_merkle_core.specs.declared.error.MerkleTreeError.TheVariants.{OutOfMemory};
-ghost use Rattle.p3_merkle_multiproof.specs.Inner.RestoredLevels.{opened_by, tree_of, AreKept, AreRestored, IsCoveredAt, IsValuedLevel};
+ghost use Rattle.p3_merkle_multiproof.specs.Inner.RestoredLevels.{opened_by, tree_of, AreKept, AreRestored};
+ghost use Rattle.p3_merkle_multiproof.specs.Inner.RestoredLevels.{IsCoveredAt, IsValuedLevel};
 
 use crate::covered::{Covered, NextLevel, Restored};
 use crate::level::node_digests;

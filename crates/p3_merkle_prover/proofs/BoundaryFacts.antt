@@ -1,19 +1,24 @@
 -- The digests of a boundary: layer by layer, and on each layer from one covered node to the next.
-use Rattle.std.proofs.Common.{◌≡◌, ℕ, zero, suc, ◌+◌, ◌-◌, ◌*◌, ◌/◌, ◌%◌, ◌<◌, ◌≤◌, Bool, true, false, not, eqb, List, [], ◌∷◌, ◌++◌, map, refl, ap, sym, ◌∙◌, arith, add-one, inl, inr, length, filter, get_or, take, drop, drop-cons, All, Vec, append_assoc, eq-eqb, min, max}
+use Rattle.std.proofs.Common.{◌≡◌, ℕ, zero, suc, ◌+◌, ◌-◌, ◌*◌, ◌/◌, ◌%◌, ◌<◌, ◌≤◌, Bool, true, false, not, eqb, List}
+use Rattle.std.proofs.Common.{[], ◌∷◌, ◌++◌, map, refl, ap, sym, ◌∙◌, arith, add-one, inl, inr, length, filter, get_or}
+use Rattle.std.proofs.Common.{take, drop, drop-cons, All, Vec, append_assoc, eq-eqb, min, max}
 use Rattle.std.specs.List.{list_any, range_with_len}
 use Rattle.std.specs.Cmp.{both_ways}
 use Rattle.std.specs.Prelude.{slice_index_or}
 use Rattle.std.specs.List.Sorted.{IsStrictlyIncreasing}
-use Rattle.std.proofs.lemmas.Bool.{cases_eq, cases_lt, and_from, and_parts, eqb-true, false_from_ne_true, not-true, not_from_false, true≢false}
+use Rattle.std.proofs.lemmas.Bool.{cases_eq, cases_lt, and_from, and_parts, eqb-true, false_from_ne_true, not-true}
+use Rattle.std.proofs.lemmas.Bool.{not_from_false, true≢false}
 use Rattle.std.proofs.lemmas.List.{map-append, append-nil, get_or_default, map_more, get_or-map}
 use Rattle.std.proofs.lemmas.List.Elements.{filter-append, filter_agree}
 use Rattle.std.proofs.lemmas.List.Folds.{Any-from_list_any, list_any_at}
 use Rattle.std.proofs.lemmas.List.Kept.{AllPairs-from_increasing}
 use Rattle.std.proofs.Math.Nat.{mul-le-mul_left}
 use Rattle.p3_merkle_core.specs.Geometry.{Shape, step, layer_len}
-use Rattle.p3_merkle_core.specs.Pruning.{CanQuery, is_covered, is_boundary, covered_at, boundary_at, boundary, boundary_by}
+use Rattle.p3_merkle_core.specs.Pruning.{CanQuery, is_covered, is_boundary, covered_at, boundary_at, boundary}
+use Rattle.p3_merkle_core.specs.Pruning.{boundary_by}
 use Rattle.p3_merkle_core.proofs.Lists.ListFacts.{joined_more}
-use Rattle.p3_merkle_core.proofs.Lists.RisingFacts.{all_kept, div_mono, increasing_from, is_listed, listed_at, none_kept, place_of, range_joined, rising_filter}
+use Rattle.p3_merkle_core.proofs.Lists.RisingFacts.{all_kept, div_mono, increasing_from, is_listed, listed_at}
+use Rattle.p3_merkle_core.proofs.Lists.RisingFacts.{none_kept, place_of, range_joined, rising_filter}
 use Rattle.p3_merkle_core.proofs.Covered.CoveredFacts.{covered_child, covered_listed, group_fits, listed_covered}
 use Rattle.p3_merkle_core.proofs.Covered.LeafFacts.{any_there}
 use Rattle.p3_merkle_core.proofs.Shapes.StepFacts.{step_above_1}
@@ -189,7 +194,11 @@ turned covered n place next from node end some up h gone at start ends =
       rest = λ j l k.
           beside_at covered n place j h (ap (λ m. m / n) (sym at) ∙ in_group n node j some (omega arith) (omega arith))
           (λ i m e. elim (cases_lt place i) [
-            | inl more ↦ omega (arith, above_end covered (place + 1) (node - node % n + n) end i up ends (omega arith) m)
+            | inl more ↦ omega (
+              arith,
+              above_end covered (place + 1) (node - node % n + n) end
+                  i up ends (omega arith) m,
+            )
             | inr less ↦ omega (arith, to_node i less)
           ]);
       gone = gone_more covered n place node end some up h at ends high;

@@ -1,5 +1,6 @@
 -- What the facts of a tree say of its layers.
-use Rattle.std.proofs.Common.{◌≡◌, ℕ, suc, ◌<◌, ◌≤◌, cond, nat_lt, List, map, refl, ap, sym, ◌∙◌, arith, inl, inr, length, get_or, All}
+use Rattle.std.proofs.Common.{◌≡◌, ℕ, suc, ◌<◌, ◌≤◌, cond, nat_lt, List, map, refl, ap, sym, ◌∙◌, arith, inl, inr}
+use Rattle.std.proofs.Common.{length, get_or, All}
 use Rattle.std.specs.Prelude.{[], ◌∷◌, Some, slice_get}
 use Rattle.std.specs.List.{AllZip, range_with_len}
 use Rattle.std.proofs.lemmas.Bool.{cases_lt, le-ltb}

@@ -1,6 +1,7 @@
 //! What a tree opens of several leaves at once: their rows, and the digests that these rows leave unknown.
 
-ghost use Rattle.std.specs.Prelude.{◌≡◌, ◌+◌, ◌-◌, ◌%◌, ◌^◌, ◌<◌, ◌≤◌, ◌++◌, length, map, min, slice_index, All, IfErr, IfOk, None};
+ghost use Rattle.std.specs.Prelude.{◌≡◌, ◌+◌, ◌-◌, ◌%◌, ◌^◌, ◌<◌, ◌≤◌, ◌++◌, length, map, min, slice_index, All, IfErr};
+ghost use Rattle.std.specs.Prelude.{IfOk, None};
 ghost use Rattle.std.specs.List.Sorted.{IsStrictlyIncreasing};
 ghost use Rattle.p3_merkle_core.specs.Geometry.{heights, levels};
 ghost use Rattle.p3_support.specs.Batches.{greatest};

@@ -1,8 +1,10 @@
 //! The tree over a batch of matrices.
 
-ghost use Rattle.std.specs.Prelude.{◌≡◌, ℕ, suc, ◌+◌, ◌-◌, ◌<◌, ◌≤◌, ◌⊎◌, [], ◌∷◌, IfOk, IsTrue, MatchResult, List, Some, map, length, replicate, slice_get};
+ghost use Rattle.std.specs.Prelude.{◌≡◌, ℕ, suc, ◌+◌, ◌-◌, ◌<◌, ◌≤◌, ◌⊎◌, [], ◌∷◌, IfOk, IsTrue, MatchResult, List};
+ghost use Rattle.std.specs.Prelude.{Some, map, length, replicate, slice_get};
 ghost use Rattle.std.specs.List.{range_with_len};
-ghost use Rattle.p3_merkle_core.specs.Geometry.{heights, is_arity, layer_below_root, layer_len, levels, shape_of, IsArity, IsLawful};
+ghost use Rattle.p3_merkle_core.specs.Geometry.{heights, is_arity, layer_below_root, layer_len, levels, shape_of};
+ghost use Rattle.p3_merkle_core.specs.Geometry.{IsArity, IsLawful};
 ghost use Rattle.p3_merkle_core.specs.Gate.{gate_refusal};
 ghost use Rattle.p3_merkle_core.specs.Nodes.{functions_of, layers as layers_over, shape};
 ghost use Rattle.p3_merkle_core.specs.declared.error.MerkleTreeError.TheVariants.{OutOfMemory};

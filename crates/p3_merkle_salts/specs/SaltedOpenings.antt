@@ -1,5 +1,6 @@
 -- Rows followed by their salts, and when openings of such rows are accepted.
-use Rattle.std.specs.Prelude.{◌≡◌, ◌≢◌, ◌⊎◌, ℕ, ◌+◌, ◌<◌, ◌^◌, List, [], slice_index_or, ◌++◌, map, length, zip, take, drop, All}
+use Rattle.std.specs.Prelude.{◌≡◌, ◌≢◌, ◌⊎◌, ℕ, ◌+◌, ◌<◌, ◌^◌, List, [], slice_index_or, ◌++◌, map, length, zip, take}
+use Rattle.std.specs.Prelude.{drop, All}
 use Rattle.std.specs.List.{AllZip}
 use Rattle.p3_support.specs.declared.matrix.Dimensions.{Dimensions}
 use Rattle.p3_support.specs.Batches.{widths_of}

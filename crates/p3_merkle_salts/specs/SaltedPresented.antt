@@ -5,7 +5,8 @@ use Rattle.p3_merkle_core.specs.Checks.{Terms}
 use Rattle.p3_merkle_core.specs.Presented.{Presented}
 use Rattle.p3_merkle_core.specs.Pruning.{opening_at}
 use Rattle.p3_merkle_salts.specs.SaltRefusals.{salted_pruned_refusal_under, salted_refusal_under}
-use Rattle.p3_merkle_salts.specs.SaltedOpenings.{IsSaltedAccepted, IsSaltedPrunedAccepted, SaltedOpening, SaltedPruned, joined, joined_sets}
+use Rattle.p3_merkle_salts.specs.SaltedOpenings.{IsSaltedAccepted, IsSaltedPrunedAccepted, SaltedOpening, SaltedPruned}
+use Rattle.p3_merkle_salts.specs.SaltedOpenings.{joined, joined_sets}
 
 -- a salted opening of one index, under a cap: its only query is the rows followed by their salts
 abbrev pub presented_salted : {T W : Type 0} → (W → W → Bool) → ℕ → List Dimensions → Terms T W → List (List W) →

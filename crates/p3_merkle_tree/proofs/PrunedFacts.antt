@@ -8,8 +8,10 @@ use Rattle.p3_merkle_core.specs.Geometry.{IsArity, Shape}
 use Rattle.p3_merkle_core.specs.Nodes.{Batch, HasFullRows, shape}
 use Rattle.p3_merkle_core.specs.Openings.{honest}
 use Rattle.p3_merkle_core.specs.Presented.{IsVerdict, Presented, presented_pruned, presented_to_restore}
-use Rattle.p3_merkle_core.specs.Pruning.{IsHonestQuery, IsPrunedAccepted, PrunedOpening, honest_query, pruned_in_layers, restored_paths}
-use Rattle.p3_merkle_core.specs.Refusals.{AnswersUnlessMemory, IsEquality, pruned_refusal, pruned_refusal_under, ok_unless}
+use Rattle.p3_merkle_core.specs.Pruning.{IsHonestQuery, IsPrunedAccepted, PrunedOpening, honest_query, pruned_in_layers}
+use Rattle.p3_merkle_core.specs.Pruning.{restored_paths}
+use Rattle.p3_merkle_core.specs.Refusals.{AnswersUnlessMemory, IsEquality, pruned_refusal, pruned_refusal_under}
+use Rattle.p3_merkle_core.specs.Refusals.{ok_unless}
 use Rattle.p3_merkle_core.specs.declared.error.MerkleTreeError.{MerkleTreeError}
 use Rattle.p3_merkle_core.proofs.Pruned.Answered.{restorable}
 use Rattle.p3_merkle_core.proofs.Covered.Equivalence.{equivalent}

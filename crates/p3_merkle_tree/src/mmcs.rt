@@ -121,7 +121,8 @@ impl<
     ghost use Rattle.p3_merkle_core.specs.Views.{opening_lent, opening_made, batch_of, heights_in};
     ghost use Rattle.p3_merkle_core.specs.declared.cap.CapRule.TheVariants.{Lowered};
     ghost use Rattle.p3_merkle_prover.specs.Parts.{layers_of, matrices_of, tree_batch};
-    ghost use Rattle.p3_merkle_tree.specs.Schemes.{cap_height_of, cap_layer_over, cap_rule_of, compression_of, hash_of, terms_of, terms_over};
+    ghost use Rattle.p3_merkle_tree.specs.Schemes.{cap_height_of, cap_layer_over, cap_rule_of, compression_of, hash_of};
+    ghost use Rattle.p3_merkle_tree.specs.Schemes.{terms_of, terms_over};
     ghost use Rattle.p3_support.specs.Shown.{roots_of};
 
     /// The scheme of a hasher and a compression. Its cap is `cap_height` levels below the root (0 is the root alone),

@@ -24,7 +24,8 @@ impl<P: PackedValue, PW: PackedValue, H, C, X: Copy, G, const N: usize> Scheme<
 > {
     ghost use Rattle.p3_merkle_core.specs.Gate.{gate_refusal};
     ghost use Rattle.p3_support.specs.Batches.{heights_of, greatest};
-    ghost use Rattle.p3_merkle_core.specs.Geometry.{arity_schedule as schedule_in, exponent, heights, positions_below, schedule_below, shape_of};
+    ghost use Rattle.p3_merkle_core.specs.Geometry.{arity_schedule as schedule_in, exponent, heights, positions_below};
+    ghost use Rattle.p3_merkle_core.specs.Geometry.{schedule_below, shape_of};
     ghost use Rattle.p3_merkle_core.specs.Nodes.{shape};
     ghost use Rattle.p3_merkle_core.specs.Refusals.{replay_refusal, AnswersUnlessMemory};
     ghost use Rattle.p3_merkle_core.specs.declared.error.MerkleTreeError.TheVariants.{OutOfMemory};

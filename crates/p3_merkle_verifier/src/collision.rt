@@ -4,7 +4,8 @@ ghost use Rattle.std.specs.Prelude.{IfOk};
 ghost use Rattle.std.specs.Cmp.Lexicographic.{pointwise};
 ghost use Rattle.p3_merkle_core.specs.Checks.{digests_at, words_at};
 ghost use Rattle.p3_merkle_core.specs.Extraction.{input_eq, last_difference};
-ghost use Rattle.p3_merkle_verifier.specs.Inner.Collisions.{first_words, inputs_above, level_inputs, second_words, IsDifference, Shows};
+ghost use Rattle.p3_merkle_verifier.specs.Inner.Collisions.{first_words, inputs_above, level_inputs, second_words};
+ghost use Rattle.p3_merkle_verifier.specs.Inner.Collisions.{IsDifference, Shows};
 
 use crate::level::CheckedLevel;
 use crate::opened::opened_rows;

@@ -5,7 +5,8 @@ ghost use Rattle.p3_merkle_core.specs.Geometry.{layer_exponent, shape_of};
 ghost use Rattle.p3_merkle_core.specs.Checks.{words_of_exponent};
 ghost use Rattle.p3_support.specs.Batches.{heights_of};
 ghost use Rattle.p3_merkle_core.specs.Nodes.{functions_of, padded};
-ghost use Rattle.p3_merkle_verifier.specs.Inner.Checks.{opening_in, step_siblings, CanClimb, CanStep, IsAbove, IsLevelOfCheck, StandsAt};
+ghost use Rattle.p3_merkle_verifier.specs.Inner.Checks.{opening_in, step_siblings, CanClimb, CanStep, IsAbove};
+ghost use Rattle.p3_merkle_verifier.specs.Inner.Checks.{IsLevelOfCheck, StandsAt};
 ghost use Rattle.p3_merkle_verifier.specs.Inner.Paths.{CanReach};
 ghost use Rattle.p3_support.specs.Shown.{row_lists};
 

@@ -40,9 +40,11 @@ pub(crate) fn opened_rows<'a, T>(
 impl<'a, T: Copy> Iterator for OpenedRows<'a, T> {
     type Item = T;
 
-    ghost next_gives = { YieldsFirst (λ s. opened_left s.exponent (heights_of s.dimensions.now) (row_lists s.rows.now) s.next) };
+    ghost next_gives = { YieldsFirst
+        (λ s. opened_left s.exponent (heights_of s.dimensions.now) (row_lists s.rows.now) s.next) };
 
-    ghost remaining = { item_count (λ s. opened_left s.exponent (heights_of s.dimensions.now) (row_lists s.rows.now) s.next) };
+    ghost remaining = { item_count
+        (λ s. opened_left s.exponent (heights_of s.dimensions.now) (row_lists s.rows.now) s.next) };
 
     fn next(&mut self) -> Option<T> {
         while let Some((matrix, matrices)) = self.dimensions.split_first() {
@@ -93,7 +95,8 @@ impl<'a, T> Iterator for OpenedSlices<'a, T> {
     ghost next_gives = { YieldsFirstBy (λ row. row.now)
         (λ s. rows_of_exponent s.exponent (zip (heights_of s.dimensions.now) (row_lists s.rows.now))) };
 
-    ghost remaining = { item_count (λ s. rows_of_exponent s.exponent (zip (heights_of s.dimensions.now) (row_lists s.rows.now))) };
+    ghost remaining = { item_count
+        (λ s. rows_of_exponent s.exponent (zip (heights_of s.dimensions.now) (row_lists s.rows.now))) };
 
     fn next(&mut self) -> Option<&'a [T]> {
         while let Some((matrix, matrices)) = self.dimensions.split_first() {

@@ -1,6 +1,7 @@
 //! The digests of messages of one length, which lie one after another, eight at a time: their padding (FIPS 180-4,
 //! 5.1.1), which is the same for all, their words in lanes, their hash values, and what is left one by one.
-ghost use Rattle.std.specs.Prelude.{◌≡◌, List, ℕ, [], ◌+◌, ◌*◌, ◌/◌, ◌^◌, ◌<◌, ◌≤◌, length, slice_index, slice_index_or};
+ghost use Rattle.std.specs.Prelude.{◌≡◌, List, ℕ, [], ◌+◌, ◌*◌, ◌/◌, ◌^◌, ◌<◌, ◌≤◌, length, slice_index};
+ghost use Rattle.std.specs.Prelude.{slice_index_or};
 ghost use Rattle.sha2.specs.Sha256.{digest_bytes, final_hash, initial_hash_256, padded_message, sha256, word_at};
 ghost use Rattle.p3_support.specs.Lists.{message};
 ghost use Rattle.p3_sha256_lanes.specs.Inner.Lanes.{lane};

@@ -1,5 +1,6 @@
 -- What arrays are that are made index by index.
-use Rattle.std.proofs.Common.{◌≡◌, ℕ, zero, suc, ◌+◌, ◌<◌, ◌≤◌, List, [], ◌∷◌, length, map, sym, ◌∙◌, subst, arith, get_or, inl, inr}
+use Rattle.std.proofs.Common.{◌≡◌, ℕ, zero, suc, ◌+◌, ◌<◌, ◌≤◌, List, [], ◌∷◌, length, map, sym, ◌∙◌, subst, arith}
+use Rattle.std.proofs.Common.{get_or, inl, inr}
 use Rattle.std.specs.Array.{IsFromFnResult, IsFromFnResultFrom}
 use Rattle.std.specs.Fn.{Mut, Called}
 use Rattle.std.specs.List.{range_with_len}

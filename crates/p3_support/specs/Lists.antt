@@ -1,5 +1,6 @@
 -- Parts of lists: messages, lanes, rows and columns.
-use Rattle.std.specs.Prelude.{Bool, ℕ, ◌==◌, cond, ◌++◌, drop, ◌+◌, ◌*◌, List, [], ◌∷◌, map, slice_range, slice_index_or}
+use Rattle.std.specs.Prelude.{Bool, ℕ, ◌==◌, cond, ◌++◌, drop, ◌+◌, ◌*◌, List, [], ◌∷◌, map, slice_range}
+use Rattle.std.specs.Prelude.{slice_index_or}
 use Rattle.std.specs.List.{list_any, range_with_len}
 
 -- whether a number is in a list

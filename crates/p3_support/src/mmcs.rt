@@ -188,7 +188,8 @@ pub trait Mmcs<T, M: Matrix<T>> {
         (proof : Self.Proof) →
         accepts s c ds index rows proof → is_shown s c ds index rows };
 
-    ghost shown_by_all: { (s : Self) (c : Self.Commitment) (ds : List Dimensions) (indices : List ℕ) (sets : List (List (List T)))
+    ghost shown_by_all: { (s : Self) (c : Self.Commitment) (ds : List Dimensions) (indices : List ℕ)
+        (sets : List (List (List T)))
         (proof : Self.MultiProof) →
         accepts_all s c ds indices sets proof → AllZip (is_shown s c ds) indices sets };
 
@@ -206,7 +207,8 @@ pub trait Mmcs<T, M: Matrix<T>> {
         (proof : Self.Proof) →
         agrees s t → accepts s c ds index rows proof → accepts t c ds index rows proof };
 
-    ghost agreed_proof_of_all: { (s t : Self) (c : Self.Commitment) (ds : List Dimensions) (indices : List ℕ) (sets : List (List (List T)))
+    ghost agreed_proof_of_all: { (s t : Self) (c : Self.Commitment) (ds : List Dimensions) (indices : List ℕ)
+        (sets : List (List (List T)))
         (proof : Self.MultiProof) →
         agrees s t → accepts_all s c ds indices sets proof → accepts_all t c ds indices sets proof };
 }

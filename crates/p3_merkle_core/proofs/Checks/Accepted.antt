@@ -1,5 +1,6 @@
 -- An honest opening is accepted under its cap.
-use Rattle.std.proofs.Common.{get_or, ◌≡◌, ℕ, suc, ◌<◌, ◌≤◌, nat_lt, nat_le, cond, List, [], ◌∷◌, map, refl, ap, sym, ◌∙◌, arith, length, Some, All}
+use Rattle.std.proofs.Common.{get_or, ◌≡◌, ℕ, suc, ◌<◌, ◌≤◌, nat_lt, nat_le, cond, List, [], ◌∷◌, map, refl, ap, sym}
+use Rattle.std.proofs.Common.{◌∙◌, arith, length, Some, All}
 use Rattle.std.specs.Int.{next_multiple_of}
 use Rattle.std.proofs.lemmas.Bool.{cond_both, ltb-true}
 use Rattle.std.proofs.lemmas.List.FromFn.{length-map-range_with_len, get_or-map-range_with_len}

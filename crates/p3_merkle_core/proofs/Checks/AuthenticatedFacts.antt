@@ -3,7 +3,8 @@ use Rattle.std.proofs.Common.{◌≡◌, ◌↔◌, ℕ, ◌<◌, ◌≤◌, tru
 use Rattle.std.specs.Prelude.{IsTrue}
 use Rattle.std.proofs.lemmas.Bool.{eqb-true, leb-true, le-leb}
 use Rattle.std.proofs.lemmas.List.{length-map}
-use Rattle.p3_merkle_core.specs.Geometry.{Shape, IsArity, heights, exponent, layer_exponent, layer_of, levels, ancestor, halved_index}
+use Rattle.p3_merkle_core.specs.Geometry.{Shape, IsArity, heights, exponent, layer_exponent, layer_of, levels, ancestor}
+use Rattle.p3_merkle_core.specs.Geometry.{halved_index}
 use Rattle.p3_support.specs.Batches.{greatest}
 use Rattle.p3_merkle_core.specs.Nodes.{Functions}
 use Rattle.p3_merkle_core.specs.Openings.{Opening}

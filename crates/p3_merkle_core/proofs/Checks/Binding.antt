@@ -1,12 +1,15 @@
 -- What two checks agree on where their shared inputs do: rows of the matrices up to the cap layer and, at one index,
 -- siblings.
-use Rattle.std.proofs.Common.{◌≡◌, ℕ, zero, suc, ◌+◌, ◌-◌, ◌<◌, ◌≤◌, false, eqb, List, [], ◌∷◌, ◌++◌, map, refl, sym, ◌∙◌, arith, inl, inr, length, take, drop, insert, filter, flat_map, zip, length-append, eq-eqb}
+use Rattle.std.proofs.Common.{◌≡◌, ℕ, zero, suc, ◌+◌, ◌-◌, ◌<◌, ◌≤◌, false, eqb, List, [], ◌∷◌, ◌++◌, map, refl, sym}
+use Rattle.std.proofs.Common.{◌∙◌, arith, inl, inr, length, take, drop, insert, filter, flat_map, zip, length-append}
+use Rattle.std.proofs.Common.{eq-eqb}
 use Rattle.std.specs.List.{list_any}
 use Rattle.std.proofs.lemmas.Bool.{cases_Bool, cases_eq, or_parts, ne_eqb}
 use Rattle.p3_merkle_core.specs.Geometry.{Shape, exponent, layer_exponent, ancestor, heights, has_rows}
 use Rattle.p3_merkle_core.specs.Nodes.{Functions}
 use Rattle.p3_merkle_core.specs.Openings.{Opening}
-use Rattle.p3_merkle_core.specs.Checks.{IsAccepted, inputs_at, shared_inputs, meeting_level, layer_words, layer_rows, terms}
+use Rattle.p3_merkle_core.specs.Checks.{IsAccepted, inputs_at, shared_inputs, meeting_level, layer_words, layer_rows}
+use Rattle.p3_merkle_core.specs.Checks.{terms}
 use Rattle.p3_merkle_core.specs.declared.collision.Place.TheVariants.{Leaf, Rows}
 use Rattle.p3_merkle_core.proofs.Shapes.LeastFacts.{least_bound}
 use Rattle.p3_merkle_core.proofs.Shapes.StepFacts.{anc_start}

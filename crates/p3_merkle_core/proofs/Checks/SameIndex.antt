@@ -1,13 +1,15 @@
 -- At one index, two accepted openings have the same inputs exactly if they have the same siblings and the same rows up
 -- to the cap layer.
-use Rattle.std.proofs.Common.{◌≡◌, ◌↔◌, ℕ, zero, suc, ◌-◌, ◌<◌, ◌≤◌, List, ◌++◌, refl, ap, sym, ◌∙◌, subst, arith, inl, inr, length, take, drop, insert, replicate, flat_map, eq-eqb}
+use Rattle.std.proofs.Common.{◌≡◌, ◌↔◌, ℕ, zero, suc, ◌-◌, ◌<◌, ◌≤◌, List, ◌++◌, refl, ap, sym, ◌∙◌, subst, arith, inl}
+use Rattle.std.proofs.Common.{inr, length, take, drop, insert, replicate, flat_map, eq-eqb}
 use Rattle.std.proofs.lemmas.Bool.{cases_Bool}
 use Rattle.std.proofs.lemmas.List.{take_all}
 use Rattle.std.proofs.lemmas.List.Edits.{length-insert}
 use Rattle.p3_merkle_core.specs.Geometry.{Shape, IsArity, step, ancestor, position_in_group, has_rows}
 use Rattle.p3_merkle_core.specs.Nodes.{Functions}
 use Rattle.p3_merkle_core.specs.Openings.{Opening}
-use Rattle.p3_merkle_core.specs.Checks.{IsAccepted, inputs, inputs_at, shared_inputs, group_at, path_digest, layer_words, layer_rows, siblings_at, siblings_below, terms}
+use Rattle.p3_merkle_core.specs.Checks.{IsAccepted, inputs, inputs_at, shared_inputs, group_at, path_digest}
+use Rattle.p3_merkle_core.specs.Checks.{layer_words, layer_rows, siblings_at, siblings_below, terms}
 use Rattle.p3_merkle_core.specs.declared.collision.Place.TheVariants.{Group}
 use Rattle.p3_merkle_core.proofs.Checks.CheckFacts.{same_digests, inputs_with_rows, inputs_alone, full_group}
 use Rattle.p3_merkle_core.proofs.Checks.Completeness.{reached_leaf, reached_next}

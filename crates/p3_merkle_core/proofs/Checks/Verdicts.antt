@@ -1,5 +1,6 @@
 -- The answers under a cap: what is accepted is what is not refused.
-use Rattle.std.proofs.Common.{◌≡◌, ◌↔◌, ℕ, zero, suc, ◌<◌, Bool, true, false, eqb, nat_lt, List, [], ◌∷◌, map, refl, ap, sym, ◌∙◌, arith, length, get_or, slice_get, Option, Some, None, eq-eqb}
+use Rattle.std.proofs.Common.{◌≡◌, ◌↔◌, ℕ, zero, suc, ◌<◌, Bool, true, false, eqb, nat_lt, List, [], ◌∷◌, map, refl, ap}
+use Rattle.std.proofs.Common.{sym, ◌∙◌, arith, length, get_or, slice_get, Option, Some, None, eq-eqb}
 use Rattle.std.specs.Prelude.{Ok, Decides}
 use Rattle.std.specs.Cmp.Lexicographic.{pointwise, pointwise_decides}
 use Rattle.std.specs.List.{list_all}
@@ -14,8 +15,11 @@ use Rattle.p3_merkle_core.specs.Nodes.{Functions}
 use Rattle.p3_merkle_core.specs.Openings.{Opening}
 use Rattle.p3_merkle_core.specs.Checks.{IsAccepted, siblings_below, path_digest, terms}
 use Rattle.p3_merkle_core.specs.Pruning.{PrunedOpening, restored_node, IsCapped, EachAccepted, IsRestorable}
-use Rattle.p3_merkle_core.specs.Refusals.{first_some, unless, is_entry, size_refusal, sibling_count_refusal, row_width_refusal, refusal_under, answer_under, pruned_refusal, cap_refusal, pruned_answer_under, form_refusal, ok_unless}
-use Rattle.p3_merkle_core.specs.declared.error.MerkleTreeError.TheVariants.{WrongBatchSize, WrongHeight, IndexOutOfBounds, CapMismatch}
+use Rattle.p3_merkle_core.specs.Refusals.{first_some, unless, is_entry, size_refusal, sibling_count_refusal}
+use Rattle.p3_merkle_core.specs.Refusals.{row_width_refusal, refusal_under, answer_under, pruned_refusal, cap_refusal}
+use Rattle.p3_merkle_core.specs.Refusals.{pruned_answer_under, form_refusal, ok_unless}
+use Rattle.p3_merkle_core.specs.declared.error.MerkleTreeError.TheVariants.{WrongBatchSize, WrongHeight}
+use Rattle.p3_merkle_core.specs.declared.error.MerkleTreeError.TheVariants.{IndexOutOfBounds, CapMismatch}
 use Rattle.p3_merkle_core.proofs.Pruned.NoneFacts.{none_parts, unless_none, none_unless, verdict_ok, rows_fit_from}
 use Rattle.p3_merkle_core.proofs.Pruned.Answered.{restorable}
 use Rattle.p3_merkle_core.proofs.Pruned.Unrefused.{unrefused, size_none, each_width}

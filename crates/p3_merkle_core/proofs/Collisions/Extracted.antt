@@ -1,14 +1,17 @@
 -- The last difference of two checks: there is none exactly if they agree wherever they share a place, and else it is a
 -- collision.
-use Rattle.std.proofs.Common.{◌≡◌, ◌≢◌, ◌↔◌, ℕ, ◌+◌, ◌-◌, Bool, List, [], ◌∷◌, refl, ap, sym, ◌∙◌, arith, inl, inr, length, Option, Some, None, eq-eqb}
+use Rattle.std.proofs.Common.{◌≡◌, ◌≢◌, ◌↔◌, ℕ, ◌+◌, ◌-◌, Bool, List, [], ◌∷◌, refl, ap, sym, ◌∙◌, arith, inl, inr}
+use Rattle.std.proofs.Common.{length, Option, Some, None, eq-eqb}
 use Rattle.std.specs.Option.{option_or}
 use Rattle.std.specs.Cmp.Lexicographic.{pointwise_decides}
-use Rattle.std.proofs.lemmas.Bool.{cases_Bool, cases_eq, cond-false, and_parts, and_from, eqb-true, ne_eqb, true≢false, false≢true}
+use Rattle.std.proofs.lemmas.Bool.{cases_Bool, cases_eq, cond-false, and_parts, and_from, eqb-true, ne_eqb, true≢false}
+use Rattle.std.proofs.lemmas.Bool.{false≢true}
 use Rattle.p3_merkle_core.specs.Geometry.{IsArity, Shape}
 use Rattle.p3_merkle_core.specs.declared.collision.Place.TheVariants.{Leaf, Group, Rows, Pair}
 use Rattle.p3_merkle_core.specs.Nodes.{Functions}
 use Rattle.p3_merkle_core.specs.Openings.{Opening}
-use Rattle.p3_merkle_core.specs.Checks.{AgreeWhereShared, Input, IsAccepted, IsLastDifference, inputs_at, shared_inputs, meeting_level, terms, Terms, Words, Digests, HasDigests}
+use Rattle.p3_merkle_core.specs.Checks.{AgreeWhereShared, Input, IsAccepted, IsLastDifference, inputs_at, shared_inputs}
+use Rattle.p3_merkle_core.specs.Checks.{meeting_level, terms, Terms, Words, Digests, HasDigests}
 use Rattle.p3_merkle_core.specs.Refusals.{unless, IsEquality}
 use Rattle.p3_merkle_core.specs.Extraction.{difference_of, input_eq, last_difference, IsCollision, place_eq, content_eq}
 use Rattle.p3_merkle_core.proofs.Pruned.NoneFacts.{none_parts, unless_none, none_unless, none_of_both}

@@ -1,11 +1,15 @@
 -- The last difference of two checks that reach one digest is a collision.
-use Rattle.std.proofs.Common.{◌≡◌, ℕ, zero, suc, ◌+◌, ◌-◌, ◌%◌, ◌<◌, ◌≤◌, Bool, eqb, List, [], ◌∷◌, ◌++◌, refl, ap, sym, subst, ◌∙◌, arith, inl, inr, ◌⊎◌, length, insert, replicate, length-append, length-take, length-drop, add-suc, eq-eqb, slice_get}
+use Rattle.std.proofs.Common.{◌≡◌, ℕ, zero, suc, ◌+◌, ◌-◌, ◌%◌, ◌<◌, ◌≤◌, Bool, eqb, List, [], ◌∷◌, ◌++◌, refl, ap, sym}
+use Rattle.std.proofs.Common.{subst, ◌∙◌, arith, inl, inr, ◌⊎◌, length, insert, replicate, length-append, length-take}
+use Rattle.std.proofs.Common.{length-drop, add-suc, eq-eqb, slice_get}
 use Rattle.std.proofs.lemmas.Bool.{cases_Bool, cases_lt, cases_eq, eqb-true, ne_eqb}
 use Rattle.std.specs.List.{flat_map, range_with_len}
 use Rattle.p3_merkle_core.specs.Geometry.{Shape, step, ancestor, position_in_group, has_rows, IsArity}
 use Rattle.p3_merkle_core.specs.Nodes.{Functions, pair}
 use Rattle.p3_merkle_core.specs.Openings.{Opening}
-use Rattle.p3_merkle_core.specs.Checks.{Input, input_digest, inputs_at, group_at, path_digest, siblings_at, siblings_below, IsLastDifference, shared_inputs, meeting_level, IsAccepted, terms, digests_at, layer_words}
+use Rattle.p3_merkle_core.specs.Checks.{Input, input_digest, inputs_at, group_at, path_digest, siblings_at}
+use Rattle.p3_merkle_core.specs.Checks.{siblings_below, IsLastDifference, shared_inputs, meeting_level, IsAccepted}
+use Rattle.p3_merkle_core.specs.Checks.{terms, digests_at, layer_words}
 use Rattle.p3_merkle_core.proofs.Shapes.LeastFacts.{least_passes}
 use Rattle.p3_merkle_core.proofs.Shapes.StepFacts.{anc_next, step_above_1}
 use Rattle.p3_merkle_core.proofs.Checks.Completeness.{reached_next, reached_leaf}

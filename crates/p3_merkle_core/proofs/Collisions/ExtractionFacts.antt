@@ -1,5 +1,6 @@
 -- The definition's answer to two openings of one cap, and what it means.
-use Rattle.std.proofs.Common.{◌≡◌, ◌↔◌, ℕ, ◌<◌, Bool, List, [], refl, ap, sym, subst, ◌∙◌, arith, inl, inr, length, Option, Some, None}
+use Rattle.std.proofs.Common.{◌≡◌, ◌↔◌, ℕ, ◌<◌, Bool, List, [], refl, ap, sym, subst, ◌∙◌, arith, inl, inr, length}
+use Rattle.std.proofs.Common.{Option, Some, None}
 use Rattle.std.specs.Prelude.{Ok, Err, Result, IfOk, IsTrue}
 use Rattle.std.specs.Option.{option_map, option_or}
 use Rattle.std.specs.Result.{result_map_both}
@@ -9,8 +10,10 @@ use Rattle.p3_merkle_core.specs.Geometry.{Shape, IsArity, heights}
 use Rattle.p3_merkle_core.specs.Openings.{Opening}
 use Rattle.p3_merkle_core.specs.Checks.{AgreeWhereShared, Input, IsAccepted, Terms, is_authenticated, shared_inputs}
 use Rattle.p3_merkle_core.specs.Pruning.{PrunedOpening, opening_at}
-use Rattle.p3_merkle_core.specs.Refusals.{AnswersUnlessMemory, IsEquality, ok_unless, pruned_refusal_under, refusal_under}
-use Rattle.p3_merkle_core.specs.Extraction.{AnswerAlike, AnswerOneRowTwice, EachPair, IsExtraction, IsFirstCollision, difference_of, extraction, first_difference, first_pair}
+use Rattle.p3_merkle_core.specs.Refusals.{AnswersUnlessMemory, IsEquality, ok_unless, pruned_refusal_under}
+use Rattle.p3_merkle_core.specs.Refusals.{refusal_under}
+use Rattle.p3_merkle_core.specs.Extraction.{AnswerAlike, AnswerOneRowTwice, EachPair, IsExtraction, IsFirstCollision}
+use Rattle.p3_merkle_core.specs.Extraction.{difference_of, extraction, first_difference, first_pair}
 use Rattle.p3_merkle_core.specs.Presented.{Presented, presented, presented_pruned}
 use Rattle.p3_merkle_core.specs.Views.{found_alone, found_pair, inputs_in}
 use Rattle.p3_merkle_core.specs.declared.collision.InputPair.{InputPair}

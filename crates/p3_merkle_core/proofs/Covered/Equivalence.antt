@@ -1,5 +1,6 @@
 -- A pruned opening is accepted exactly if each query is with its restored path.
-use Rattle.std.proofs.Common.{◌≡◌, ◌==◌, ◌↔◌, ℕ, zero, suc, ◌<◌, ◌≤◌, true, eqb, List, [], ◌∷◌, map, refl, ap, sym, ◌∙◌, arith, inl, inr, length, get_or, All, Some, eq-eqb, zip, flat_map}
+use Rattle.std.proofs.Common.{◌≡◌, ◌==◌, ◌↔◌, ℕ, zero, suc, ◌<◌, ◌≤◌, true, eqb, List, [], ◌∷◌, map, refl, ap, sym, ◌∙◌}
+use Rattle.std.proofs.Common.{arith, inl, inr, length, get_or, All, Some, eq-eqb, zip, flat_map}
 use Rattle.std.specs.List.{find}
 use Rattle.std.specs.Option.{unwrap_or, option_map}
 use Rattle.std.proofs.lemmas.Bool.{cases_Bool, cond-true, eqb-true, true≢false}
@@ -8,7 +9,8 @@ use Rattle.p3_merkle_core.specs.Geometry.{Shape, IsLawful, ancestor, heights, wi
 use Rattle.p3_support.specs.Batches.{greatest}
 use Rattle.p3_merkle_core.specs.Nodes.{Functions, compress, with_rows}
 use Rattle.p3_merkle_core.specs.Checks.{path_digest, layer_words, group_at, terms}
-use Rattle.p3_merkle_core.specs.Pruning.{PrunedOpening, is_covered, restored_node, value_of, opening_at, IsAgreed, IsCapped, EachAccepted, first_rows}
+use Rattle.p3_merkle_core.specs.Pruning.{PrunedOpening, is_covered, restored_node, value_of, opening_at, IsAgreed}
+use Rattle.p3_merkle_core.specs.Pruning.{IsCapped, EachAccepted, first_rows}
 use Rattle.p3_merkle_core.proofs.Checks.Completeness.{reached_next, reached_leaf}
 use Rattle.p3_merkle_core.proofs.Checks.PathFacts.{group_values, path_length, path_group}
 use Rattle.p3_merkle_core.proofs.Checks.CheckFacts.{accepted_walk, accepted_by_walk}

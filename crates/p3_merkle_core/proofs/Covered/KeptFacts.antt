@@ -1,10 +1,14 @@
 -- The paths that are read out of a walk's kept levels.
-use Rattle.std.proofs.Common.{◌≡◌, ℕ, zero, suc, ◌+◌, ◌-◌, ◌*◌, ◌/◌, ◌%◌, ◌<◌, ◌≤◌, true, eqb, nat_lt, List, [], ◌∷◌, ◌++◌, map, refl, ap, sym, ◌∙◌, arith, add-one, inl, inr, length, filter, get_or, take, drop, remove, eq-eqb, Ok, Err, append_assoc, append-nil, drop-cons, fold}
+use Rattle.std.proofs.Common.{◌≡◌, ℕ, zero, suc, ◌+◌, ◌-◌, ◌*◌, ◌/◌, ◌%◌, ◌<◌, ◌≤◌, true, eqb, nat_lt, List, [], ◌∷◌}
+use Rattle.std.proofs.Common.{◌++◌, map, refl, ap, sym, ◌∙◌, arith, add-one, inl, inr, length, filter, get_or, take}
+use Rattle.std.proofs.Common.{drop, remove, eq-eqb, Ok, Err, append_assoc, append-nil, drop-cons, fold}
 use Rattle.std.specs.List.{enumerate_from, flat_map, range_with_len, take-map, drop-map}
 use Rattle.std.specs.List.Sorted.{IsStrictlyIncreasing, IsBinarySearchResult}
 use Rattle.std.specs.Ordering.{nat_cmp}
-use Rattle.std.proofs.lemmas.Bool.{cases_eq, cases_lt, eqb-true, or_cases, or_left, or_right, true≢false, false_from_ne_true, lt-ltb, le-ltb}
-use Rattle.std.proofs.lemmas.List.{map-append, take-take, drop-take, drop-drop, drop_all, take-append-le, take_all, take_more, get_or-map, get_or_default, length-map}
+use Rattle.std.proofs.lemmas.Bool.{cases_eq, cases_lt, eqb-true, or_cases, or_left, or_right, true≢false}
+use Rattle.std.proofs.lemmas.Bool.{false_from_ne_true, lt-ltb, le-ltb}
+use Rattle.std.proofs.lemmas.List.{map-append, take-take, drop-take, drop-drop, drop_all, take-append-le, take_all}
+use Rattle.std.proofs.lemmas.List.{take_more, get_or-map, get_or_default, length-map}
 use Rattle.std.proofs.lemmas.List.{map_more}
 use Rattle.std.proofs.lemmas.List.Folds.{Any-from_list_any}
 use Rattle.std.proofs.lemmas.List.FromFn.{length-range_with_len, map-range_with_len_more, take-map-range_with_len}
@@ -14,13 +18,15 @@ use Rattle.std.proofs.Math.Nat.{div-div-eq-div-mul}
 use Rattle.std.proofs.lemmas.List.Kept.{AllPairs-from_increasing}
 use Rattle.std.proofs.lemmas.List.Sorted.{searched}
 use Rattle.std.proofs.Math.Seq.{drop-append-add}
-use Rattle.p3_merkle_core.specs.Inner.Children.{children_at, children_under, node_over, path_out_of, paths_out_of, place_among, siblings_out_of}
+use Rattle.p3_merkle_core.specs.Inner.Children.{children_at, children_under, node_over, path_out_of, paths_out_of}
+use Rattle.p3_merkle_core.specs.Inner.Children.{place_among, siblings_out_of}
 use Rattle.p3_support.specs.Lists.{is_among}
 use Rattle.p3_merkle_core.specs.Views.{shown_path, shown_paths}
 use Rattle.p3_merkle_core.specs.declared.pruning.AuthPath.{AuthPath}
 use Rattle.p3_merkle_core.specs.Geometry.{Shape, step, ancestor, layer_len, leaves_under, schedule_below}
 use Rattle.p3_merkle_core.specs.Nodes.{Functions}
-use Rattle.p3_merkle_core.specs.Pruning.{CanQuery, PrunedOpening, is_covered, covered_at, value_of, restored_path, restored_paths}
+use Rattle.p3_merkle_core.specs.Pruning.{CanQuery, PrunedOpening, is_covered, covered_at, value_of, restored_path}
+use Rattle.p3_merkle_core.specs.Pruning.{restored_paths}
 use Rattle.p3_merkle_core.proofs.Covered.CoveredFacts.{covered_listed}
 use Rattle.p3_merkle_core.proofs.Lists.ListFacts.{joined}
 use Rattle.p3_merkle_core.proofs.Checks.PathFacts.{joined_same, piece}

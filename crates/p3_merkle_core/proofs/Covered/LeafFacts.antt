@@ -1,5 +1,6 @@
 -- The covered leaves of some queries, as queries of their own: they cover the same nodes.
-use Rattle.std.proofs.Common.{◌≡◌, ℕ, zero, suc, ◌/◌, ◌<◌, Bool, true, eqb, List, [], ◌∷◌, refl, ap, sym, ◌∙◌, arith, inl, inr, get_or, All, eq-eqb}
+use Rattle.std.proofs.Common.{◌≡◌, ℕ, zero, suc, ◌/◌, ◌<◌, Bool, true, eqb, List, [], ◌∷◌, refl, ap, sym, ◌∙◌, arith}
+use Rattle.std.proofs.Common.{inl, inr, get_or, All, eq-eqb}
 use Rattle.std.specs.List.{list_any, range_with_len}
 use Rattle.std.specs.List.Sorted.{IsStrictlyIncreasing}
 use Rattle.std.specs.Cmp.{both_ways}
@@ -9,10 +10,12 @@ use Rattle.p3_merkle_core.specs.Geometry.{Shape, IsArity, ancestor, heights, lay
 use Rattle.p3_support.specs.Batches.{greatest}
 use Rattle.p3_merkle_core.specs.Pruning.{CanQuery, is_covered, is_boundary, covered_at, pruned_len}
 use Rattle.p3_merkle_core.proofs.Checks.Accepted.{padded_ge}
-use Rattle.p3_merkle_core.proofs.Lists.RisingFacts.{is_listed, filter_is, increasing_from, listed_at, rising_filter, rising_from}
+use Rattle.p3_merkle_core.proofs.Lists.RisingFacts.{is_listed, filter_is, increasing_from, listed_at, rising_filter}
+use Rattle.p3_merkle_core.proofs.Lists.RisingFacts.{rising_from}
 use Rattle.p3_merkle_core.proofs.Pruned.SlotFacts.{all_below, distinct_from}
 use Rattle.p3_merkle_core.specs.Inner.Agreement.{distinct}
-use Rattle.p3_merkle_core.proofs.Covered.CoveredFacts.{covered_leaf, covered_listed, listed_below, listed_covered, pruned_next, raw_start}
+use Rattle.p3_merkle_core.proofs.Covered.CoveredFacts.{covered_leaf, covered_listed, listed_below, listed_covered}
+use Rattle.p3_merkle_core.proofs.Covered.CoveredFacts.{pruned_next, raw_start}
 
 -- ascending leaves are those that they cover
 pub leaves_alone : (s : Shape) (leaves : List ℕ) → IsStrictlyIncreasing leaves →

@@ -1,11 +1,16 @@
 -- No set of uncovered nodes that suffices has fewer members than the boundary.
-use Rattle.std.proofs.Common.{◌≡◌, ℕ, zero, suc, ◌+◌, ◌-◌, ◌*◌, ◌/◌, ◌%◌, ◌<◌, ◌≤◌, Bool, true, false, not, eqb, nat_le, ◌&&◌, List, [], ◌∷◌, ◌++◌, map, refl, sym, ◌∙◌, arith, inl, inr, ◌⊎◌, length, filter, eq-eqb, subst, ◌≢◌, ap}
+use Rattle.std.proofs.Common.{◌≡◌, ℕ, zero, suc, ◌+◌, ◌-◌, ◌*◌, ◌/◌, ◌%◌, ◌<◌, ◌≤◌, Bool, true, false, not, eqb, nat_le}
+use Rattle.std.proofs.Common.{◌&&◌, List, [], ◌∷◌, ◌++◌, map, refl, sym, ◌∙◌, arith, inl, inr, ◌⊎◌, length, filter}
+use Rattle.std.proofs.Common.{eq-eqb, subst, ◌≢◌, ap}
 use Rattle.std.specs.List.{range_with_len, count_by}
-use Rattle.std.proofs.lemmas.Bool.{cases_Bool, eqb-true, and_parts, and_from, or_cases, or_left, or_right, leb-true, not-true, both_ways, true≢false, false_from_ne_true}
+use Rattle.std.proofs.lemmas.Bool.{cases_Bool, eqb-true, and_parts, and_from, or_cases, or_left, or_right, leb-true}
+use Rattle.std.proofs.lemmas.Bool.{not-true, both_ways, true≢false, false_from_ne_true}
 use Rattle.p3_merkle_core.specs.Geometry.{Shape, step, layer_len, IsArity}
-use Rattle.p3_merkle_core.specs.Pruning.{up, is_under, is_covered, is_boundary, boundary_at, boundary, is_in, IsKnown, Suffices, IsUncovered, IsGivenUnder}
+use Rattle.p3_merkle_core.specs.Pruning.{up, is_under, is_covered, is_boundary, boundary_at, boundary, is_in, IsKnown}
+use Rattle.p3_merkle_core.specs.Pruning.{Suffices, IsUncovered, IsGivenUnder}
 use Rattle.p3_merkle_core.proofs.Shapes.StepFacts.{step_above_1}
-use Rattle.p3_merkle_core.proofs.Covered.Under.{tally_two, tally_append, up_next, under_parent, under_one, child_parent, covered_up, member_counts, under_self}
+use Rattle.p3_merkle_core.proofs.Covered.Under.{tally_two, tally_append, up_next, under_parent, under_one, child_parent}
+use Rattle.p3_merkle_core.proofs.Covered.Under.{covered_up, member_counts, under_self}
 use Rattle.p3_merkle_core.proofs.Lists.ListFacts.{tally, tally_is, joined_more}
 
 -- a node that is known and uncovered is given, or two nodes under it are

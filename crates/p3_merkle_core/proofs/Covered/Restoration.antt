@@ -1,5 +1,6 @@
 -- The honest pruned opening restores the nodes and the honest paths.
-use Rattle.std.proofs.Common.{◌≡◌, ◌==◌, ℕ, zero, suc, ◌+◌, ◌*◌, ◌<◌, ◌≤◌, true, eqb, ◌&&◌, List, [], ◌∷◌, map, refl, ap, sym, ◌∙◌, arith, inl, inr, length, get_or, remove, Some, zip}
+use Rattle.std.proofs.Common.{◌≡◌, ◌==◌, ℕ, zero, suc, ◌+◌, ◌*◌, ◌<◌, ◌≤◌, true, eqb, ◌&&◌, List, [], ◌∷◌, map, refl}
+use Rattle.std.proofs.Common.{ap, sym, ◌∙◌, arith, inl, inr, length, get_or, remove, Some, zip}
 use Rattle.std.specs.List.{find}
 use Rattle.std.specs.Option.{unwrap_or, option_map}
 use Rattle.std.proofs.lemmas.Bool.{cases_Bool, cond-true, cond-false, eqb-true, and_parts, true≢false}
@@ -9,7 +10,8 @@ use Rattle.std.proofs.lemmas.Option.{slice_get-get_or}
 use Rattle.p3_merkle_core.specs.Geometry.{step, ancestor, raw_len, layer_len, position_in_group}
 use Rattle.p3_merkle_core.specs.Nodes.{Functions, Batch, shape, node, layer}
 use Rattle.p3_merkle_core.specs.Openings.{honest_rows, siblings_by, children_by, level_siblings}
-use Rattle.p3_merkle_core.specs.Pruning.{is_covered, boundary, is_in, sent_digest, restored_node, value_of, restored_path, honest_query, IsHonestQuery, IsCapped, first_rows}
+use Rattle.p3_merkle_core.specs.Pruning.{is_covered, boundary, is_in, sent_digest, restored_node, value_of}
+use Rattle.p3_merkle_core.specs.Pruning.{restored_path, honest_query, IsHonestQuery, IsCapped, first_rows}
 use Rattle.p3_merkle_core.proofs.Checks.Completeness.{IsHonest, rows_are, row_digest_is, node_leaf, node_next}
 use Rattle.p3_merkle_core.proofs.Checks.Accepted.{padded_ge}
 use Rattle.p3_merkle_core.proofs.Covered.Sufficient.{covered_below, child_listed}

@@ -1,5 +1,6 @@
 -- The children that a walk takes are the values of the definitions.
-use Rattle.std.proofs.Common.{◌≡◌, ℕ, suc, ◌-◌, ◌*◌, ◌^◌, ◌<◌, ◌≤◌, Bool, not, cond, List, [], ◌∷◌, ◌++◌, map, refl, ap, sym, ◌∙◌, arith, inl, inr, length, filter, get_or, take, drop}
+use Rattle.std.proofs.Common.{◌≡◌, ℕ, suc, ◌-◌, ◌*◌, ◌^◌, ◌<◌, ◌≤◌, Bool, not, cond, List, [], ◌∷◌, ◌++◌, map, refl, ap}
+use Rattle.std.proofs.Common.{sym, ◌∙◌, arith, inl, inr, length, filter, get_or, take, drop}
 use Rattle.std.specs.List.{flat_map, range_with_len}
 use Rattle.std.specs.Cmp.{both_ways}
 use Rattle.std.proofs.lemmas.Bool.{cases_Bool}
@@ -11,12 +12,16 @@ use Rattle.std.proofs.Math.Pow.{pow_mono}
 use Rattle.p3_merkle_core.specs.Inner.Children.{AreChildren, IsFamily, beside, children_under, unknown_count}
 use Rattle.p3_support.specs.Batches.{greatest}
 use Rattle.p3_support.specs.Lists.{is_among}
-use Rattle.p3_merkle_core.specs.Geometry.{Shape, step, raw_len, layer_len, leaves_under, levels, layer_exponent, exponent, heights, height_limit}
+use Rattle.p3_merkle_core.specs.Geometry.{Shape, step, raw_len, layer_len, leaves_under, levels, layer_exponent}
+use Rattle.p3_merkle_core.specs.Geometry.{exponent, heights, height_limit}
 use Rattle.p3_merkle_core.specs.Nodes.{Functions}
-use Rattle.p3_merkle_core.specs.Pruning.{CanQuery, PrunedOpening, is_covered, is_boundary, covered_at, boundary_at, boundary, sent_digest, restored_node, value_of}
+use Rattle.p3_merkle_core.specs.Pruning.{CanQuery, PrunedOpening, is_covered, is_boundary, covered_at, boundary_at}
+use Rattle.p3_merkle_core.specs.Pruning.{boundary, sent_digest, restored_node, value_of}
 use Rattle.p3_merkle_core.proofs.Lists.ListFacts.{length-joined_le}
 use Rattle.p3_merkle_core.proofs.Lists.RisingFacts.{by_groups, listed_at}
-use Rattle.p3_merkle_core.proofs.Covered.CoveredFacts.{some_leaf, leaves_above_0, padded_le, listed_covered, covered_listed, covered_by_groups, boundary_by_lists, covered_count, group_fits, counted_at}
+use Rattle.p3_merkle_core.proofs.Covered.CoveredFacts.{some_leaf, leaves_above_0, padded_le, listed_covered}
+use Rattle.p3_merkle_core.proofs.Covered.CoveredFacts.{covered_listed, covered_by_groups, boundary_by_lists}
+use Rattle.p3_merkle_core.proofs.Covered.CoveredFacts.{covered_count, group_fits, counted_at}
 use Rattle.p3_merkle_core.proofs.Shapes.LadderFacts.{exact}
 use Rattle.p3_merkle_core.proofs.Shapes.LeastFacts.{exponent_le}
 use Rattle.p3_merkle_core.proofs.Shapes.RawFacts.{filled, positive_below}
@@ -117,8 +122,8 @@ small_children s queries t w low l h =
 
 -- what a level of the walk starts from: the steps, the covered nodes above and here, their values, and what is left of
 -- the digests that were sent
-pub record IsWalkedLevel {T W X : Type 0} (f : Functions T W) (s : Shape) (t : ℕ) (p : PrunedOpening T W) (l : ℕ) (view : X →
-    List W) (n : ℕ) (parents covered : List ℕ) (digests sent : List X) : Type 0 where
+pub record IsWalkedLevel {T W X : Type 0} (f : Functions T W) (s : Shape) (t : ℕ) (p : PrunedOpening T W) (l : ℕ)
+    (view : X → List W) (n : ℕ) (parents covered : List ℕ) (digests sent : List X) : Type 0 where
   pub step_is : n ≡ step s l
   pub parents_are : parents ≡ covered_at s p.indices (suc l)
   pub covered_are : covered ≡ covered_at s p.indices l

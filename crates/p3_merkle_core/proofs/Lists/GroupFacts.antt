@@ -1,7 +1,10 @@
 -- What writes of a value and others into slots leave.
-use Rattle.std.proofs.Common.{◌≡◌, ℕ, ◌+◌, ◌<◌, ◌≤◌, List, [], ◌∷◌, ◌++◌, refl, ap, sym, ◌∙◌, arith, length, get_or, take, drop, set, insert, replicate, cond, nat_lt, inl, inr, length-append, length-take, length-drop, length-set, get_or-set_same}
+use Rattle.std.proofs.Common.{◌≡◌, ℕ, ◌+◌, ◌<◌, ◌≤◌, List, [], ◌∷◌, ◌++◌, refl, ap, sym, ◌∙◌, arith, length, get_or}
+use Rattle.std.proofs.Common.{take, drop, set, insert, replicate, cond, nat_lt, inl, inr, length-append, length-take}
+use Rattle.std.proofs.Common.{length-drop, length-set, get_or-set_same}
 use Rattle.std.proofs.lemmas.Bool.{cases_lt, lt-ltb, le-ltb}
-use Rattle.std.proofs.lemmas.List.{drop_more, take_more, take_all, append_assoc, set_at, drop-set-lt, length-take-le, drop-replicate}
+use Rattle.std.proofs.lemmas.List.{drop_more, take_more, take_all, append_assoc, set_at, drop-set-lt, length-take-le}
+use Rattle.std.proofs.lemmas.List.{drop-replicate}
 use Rattle.std.proofs.lemmas.List.Edits.{get_or-insert_at, get_or-insert_below, get_or-insert_above}
 use Rattle.p3_merkle_core.specs.Nodes.{padded}
 

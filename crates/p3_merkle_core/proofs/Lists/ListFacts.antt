@@ -1,5 +1,7 @@
 -- Facts on lists: pieces that are joined, an element taken out and put back, how many elements pass.
-use Rattle.std.proofs.Common.{◌≡◌, ℕ, zero, suc, ◌+◌, ◌-◌, ◌<◌, ◌≤◌, List, [], ◌∷◌, refl, ap, arith, inl, inr, length, get_or, take, drop, insert, remove, length-append, length-take, length-drop, cond, Bool, ◌++◌, sym, ◌∙◌, append-nil}
+use Rattle.std.proofs.Common.{◌≡◌, ℕ, zero, suc, ◌+◌, ◌-◌, ◌<◌, ◌≤◌, List, [], ◌∷◌, refl, ap, arith, inl, inr, length}
+use Rattle.std.proofs.Common.{get_or, take, drop, insert, remove, length-append, length-take, length-drop, cond, Bool}
+use Rattle.std.proofs.Common.{◌++◌, sym, ◌∙◌, append-nil}
 use Rattle.std.specs.List.{count_by, flat_map, range_with_len}
 use Rattle.std.proofs.lemmas.Bool.{cases_eq, cases_Bool}
 use Rattle.std.proofs.lemmas.List.{drop_at, drop-append-le, take-append-le, take_all, append_assoc}

@@ -7,7 +7,8 @@ use Rattle.std.proofs.lemmas.Bool.{cases_Bool}
 use Rattle.p3_merkle_core.specs.Geometry.{Shape, IsArity, ancestor}
 use Rattle.p3_merkle_core.specs.Nodes.{Functions, Batch, shape, layer, HasFullRows}
 use Rattle.p3_merkle_core.specs.Pruning.{PrunedOpening, restored_node, opening_at, honest_query, IsHonestQuery}
-use Rattle.p3_merkle_core.specs.Refusals.{unless, is_entry, answer_under, pruned_refusal, pruned_answer, cap_refusal, pruned_answer_under, IsEquality, ok_unless}
+use Rattle.p3_merkle_core.specs.Refusals.{unless, is_entry, answer_under, pruned_refusal, pruned_answer, cap_refusal}
+use Rattle.p3_merkle_core.specs.Refusals.{pruned_answer_under, IsEquality, ok_unless}
 use Rattle.p3_merkle_core.specs.declared.error.MerkleTreeError.{MerkleTreeError}
 use Rattle.p3_merkle_core.specs.declared.error.MerkleTreeError.TheVariants.{CapMismatch}
 use Rattle.p3_merkle_core.proofs.Pruned.Answered.{restorable}

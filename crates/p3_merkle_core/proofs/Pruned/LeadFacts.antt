@@ -1,5 +1,7 @@
 -- The lowest slot under a node, and the rows that are compared with its rows.
-use Rattle.std.proofs.Common.{◌++◌, All, ◌≡◌, ◌≢◌, ℕ, zero, suc, ◌+◌, ◌-◌, ◌/◌, ◌<◌, ◌≤◌, Bool, true, false, eqb, List, [], ◌∷◌, map, refl, ap, sym, ◌∙◌, arith, inl, inr, length, filter, get_or, eq-eqb, Option, None, Some, Vec, drop, drop-cons, add-one}
+use Rattle.std.proofs.Common.{◌++◌, All, ◌≡◌, ◌≢◌, ℕ, zero, suc, ◌+◌, ◌-◌, ◌/◌, ◌<◌, ◌≤◌, Bool, true, false, eqb, List}
+use Rattle.std.proofs.Common.{[], ◌∷◌, map, refl, ap, sym, ◌∙◌, arith, inl, inr, length, filter, get_or, eq-eqb, Option}
+use Rattle.std.proofs.Common.{None, Some, Vec, drop, drop-cons, add-one}
 use Rattle.std.specs.List.{list_any, range_with_len}
 use Rattle.std.specs.Option.{option_or}
 use Rattle.std.proofs.lemmas.Bool.{cases_Bool, eqb-true, eqb-false, false_from_ne_true, ne_eqb, true≢false, cases_lt}
@@ -16,7 +18,8 @@ use Rattle.p3_merkle_core.proofs.Covered.CoveredFacts.{leaves_above_0}
 use Rattle.p3_merkle_core.proofs.Shapes.StepFacts.{anc_next, anc_start}
 use Rattle.p3_support.specs.declared.matrix.Dimensions.{Dimensions}
 use Rattle.p3_merkle_core.specs.Refusals.{first_of}
-use Rattle.p3_merkle_core.specs.Inner.Agreement.{first_query, matrices_with, row_fault, rows_refusal, slot_rows, nodes_refusal, IsAscending}
+use Rattle.p3_merkle_core.specs.Inner.Agreement.{first_query, matrices_with, row_fault, rows_refusal, slot_rows}
+use Rattle.p3_merkle_core.specs.Inner.Agreement.{nodes_refusal, IsAscending}
 use Rattle.p3_merkle_core.specs.declared.error.MerkleTreeError.{MerkleTreeError}
 use Rattle.p3_merkle_core.proofs.Lists.RisingFacts.{div_mono, listed_at, listed_in, none_kept, rising_from}
 use Rattle.p3_merkle_core.proofs.Pruned.SlotFacts.{first_place, rising_order}

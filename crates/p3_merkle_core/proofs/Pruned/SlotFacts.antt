@@ -1,5 +1,7 @@
 -- The distinct indices, ascending, their places, and the first query of each.
-use Rattle.std.proofs.Common.{◌≡◌, ℕ, zero, suc, ◌+◌, ◌/◌, ◌<◌, ◌≤◌, Bool, true, false, eqb, List, [], ◌∷◌, map, refl, ap, sym, ◌∙◌, arith, inl, inr, length, filter, get_or, set, drop, eq-eqb, All, zip, replicate, ◌≢◌, drop-cons, add-one, Option, Some, not, Vec}
+use Rattle.std.proofs.Common.{◌≡◌, ℕ, zero, suc, ◌+◌, ◌/◌, ◌<◌, ◌≤◌, Bool, true, false, eqb, List, [], ◌∷◌, map, refl}
+use Rattle.std.proofs.Common.{ap, sym, ◌∙◌, arith, inl, inr, length, filter, get_or, set, drop, eq-eqb, All, zip}
+use Rattle.std.proofs.Common.{replicate, ◌≢◌, drop-cons, add-one, Option, Some, not, Vec}
 use Rattle.std.specs.Prelude.{Ok, Err}
 use Rattle.std.specs.Ordering.{nat_cmp}
 use Rattle.std.specs.Cmp.{both_ways, IsEquivalence}
@@ -23,8 +25,10 @@ use Rattle.p3_merkle_core.specs.declared.error.MerkleTreeError.{MerkleTreeError}
 use Rattle.p3_merkle_core.specs.declared.error.MerkleTreeError.TheVariants.{MalformedPrunedProof}
 use Rattle.p3_merkle_core.specs.Inner.Agreement.{distinct, first_query, opened_of, IsAscending, IsSlot}
 use Rattle.p3_merkle_core.proofs.Checks.Accepted.{padded_ge}
-use Rattle.p3_merkle_core.proofs.Lists.RisingFacts.{is_listed, IsRising, div_mono, filter_is, listed_dedup, listed_in, listed_from, listed_there, listed_at, rising_filter, rising_once}
-use Rattle.p3_merkle_core.proofs.Covered.CoveredFacts.{covered_above, covered_leaf, listed_below, listed_covered, raw_start}
+use Rattle.p3_merkle_core.proofs.Lists.RisingFacts.{is_listed, IsRising, div_mono, filter_is, listed_dedup, listed_in}
+use Rattle.p3_merkle_core.proofs.Lists.RisingFacts.{listed_from, listed_there, listed_at, rising_filter, rising_once}
+use Rattle.p3_merkle_core.proofs.Covered.CoveredFacts.{covered_above, covered_leaf, listed_below, listed_covered}
+use Rattle.p3_merkle_core.proofs.Covered.CoveredFacts.{raw_start}
 use Rattle.p3_merkle_core.proofs.Shapes.StepFacts.{step_above_1}
 
 -- ---- indices below a bound

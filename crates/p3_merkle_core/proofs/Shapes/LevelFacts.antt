@@ -1,8 +1,11 @@
 -- What is known of the layer above a layer.
-use Rattle.std.proofs.Common.{◌≡◌, ℕ, zero, suc, ◌+◌, ◌-◌, ◌/◌, ◌^◌, ◌<◌, ◌≤◌, ◌&&◌, Bool, cond, nat_lt, refl, ap, sym, ◌∙◌, arith, inl, inr}
+use Rattle.std.proofs.Common.{◌≡◌, ℕ, zero, suc, ◌+◌, ◌-◌, ◌/◌, ◌^◌, ◌<◌, ◌≤◌, ◌&&◌, Bool, cond, nat_lt, refl, ap, sym}
+use Rattle.std.proofs.Common.{◌∙◌, arith, inl, inr}
 use Rattle.std.proofs.Math.Nat.{div-le_self}
 use Rattle.std.proofs.Math.Pow.{pow_mono}
-use Rattle.p3_merkle_core.specs.Geometry.{Shape, heights, exponent, has_rows, layer_exponent, is_bridge, levels, raw_len, grouped_len_of, padded_len, height_limit, step, IsArity, IsLawful, height_at}
+use Rattle.p3_merkle_core.specs.Geometry.{Shape, heights, exponent, has_rows, layer_exponent, is_bridge, levels}
+use Rattle.p3_merkle_core.specs.Geometry.{raw_len, grouped_len_of, padded_len, height_limit, step, IsArity, IsLawful}
+use Rattle.p3_merkle_core.specs.Geometry.{height_at}
 use Rattle.p3_support.specs.Batches.{greatest}
 use Rattle.p3_merkle_core.proofs.Shapes.GateFacts.{tallest_fits, none_large_from_lawful}
 use Rattle.p3_merkle_core.proofs.Shapes.LeastFacts.{exponent_le}

@@ -1,11 +1,15 @@
 -- The lengths of layers against their exponents: layer l has more than half of 2 ^ x nodes, and at most 2 ^ x.
-use Rattle.std.proofs.Common.{◌≡◌, ℕ, zero, suc, ◌+◌, ◌-◌, ◌*◌, ◌/◌, ◌%◌, ◌^◌, ◌<◌, ◌≤◌, cond, eqb, nat_lt, nat_le, ◌&&◌, refl, ap, sym, ◌∙◌, arith, inl, inr}
+use Rattle.std.proofs.Common.{◌≡◌, ℕ, zero, suc, ◌+◌, ◌-◌, ◌*◌, ◌/◌, ◌%◌, ◌^◌, ◌<◌, ◌≤◌, cond, eqb, nat_lt, nat_le}
+use Rattle.std.proofs.Common.{◌&&◌, refl, ap, sym, ◌∙◌, arith, inl, inr}
 use Rattle.std.specs.Int.{next_multiple_of}
-use Rattle.std.proofs.lemmas.Bool.{cond-true, cond-false, cases_lt, cases_eq, lt-ltb, ltb-true, le-ltb, cond_both, and_parts, lt-leb, and_from, and_right, and_left, eqb-false}
+use Rattle.std.proofs.lemmas.Bool.{cond-true, cond-false, cases_lt, cases_eq, lt-ltb, ltb-true, le-ltb, cond_both}
+use Rattle.std.proofs.lemmas.Bool.{and_parts, lt-leb, and_from, and_right, and_left, eqb-false}
 use Rattle.std.proofs.lemmas.Nat.{pow_pos}
-use Rattle.std.proofs.Math.Nat.{mul_assoc, mul_comm, two-pow-succ, mul-le-mul_left, mul-div_cancel_left, mod-eq_of_lt, mod_self, sub-zero, le_of_mul-le-mul_left, lt_of_mul-lt-mul_left, div-lt_iff_lt-mul}
+use Rattle.std.proofs.Math.Nat.{mul_assoc, mul_comm, two-pow-succ, mul-le-mul_left, mul-div_cancel_left, mod-eq_of_lt}
+use Rattle.std.proofs.Math.Nat.{mod_self, sub-zero, le_of_mul-le-mul_left, lt_of_mul-lt-mul_left, div-lt_iff_lt-mul}
 use Rattle.std.proofs.Math.Pow.{pow_mono, pow-lt}
-use Rattle.p3_merkle_core.specs.Geometry.{Shape, exponent, layer_exponent, is_bridge, step, levels, ancestor, padded_len, raw_len, grouped_len, grouped_len_of, layer_len, heights, IsArity}
+use Rattle.p3_merkle_core.specs.Geometry.{Shape, exponent, layer_exponent, is_bridge, step, levels, ancestor}
+use Rattle.p3_merkle_core.specs.Geometry.{padded_len, raw_len, grouped_len, grouped_len_of, layer_len, heights, IsArity}
 use Rattle.p3_support.specs.Batches.{greatest}
 use Rattle.p3_merkle_core.proofs.Shapes.LeastFacts.{below_least, exponent_covers, below_exponent}
 use Rattle.p3_merkle_core.proofs.Shapes.StepFacts.{whole_step_falls, anc_next, anc_start, step_above_1, step_at}

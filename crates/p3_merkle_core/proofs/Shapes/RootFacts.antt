@@ -1,8 +1,10 @@
 -- The last layer is one node, and the last step is of the whole arity.
-use Rattle.std.proofs.Common.{◌≡◌, ℕ, zero, suc, ◌-◌, ◌<◌, false, nat_lt, ◌&&◌, List, [], ◌∷◌, refl, sym, ◌∙◌, arith, inl, inr}
+use Rattle.std.proofs.Common.{◌≡◌, ℕ, zero, suc, ◌-◌, ◌<◌, false, nat_lt, ◌&&◌, List, [], ◌∷◌, refl, sym, ◌∙◌, arith}
+use Rattle.std.proofs.Common.{inl, inr}
 use Rattle.std.specs.List.{list_any}
 use Rattle.std.proofs.lemmas.Bool.{le-ltb, and_left, and_right, false≢true}
-use Rattle.p3_merkle_core.specs.Geometry.{Shape, IsArity, heights, exponent, layer_exponent, step, levels, raw_len, layer_len}
+use Rattle.p3_merkle_core.specs.Geometry.{Shape, IsArity, heights, exponent, layer_exponent, step, levels, raw_len}
+use Rattle.p3_merkle_core.specs.Geometry.{layer_len}
 use Rattle.p3_support.specs.Batches.{greatest}
 use Rattle.p3_merkle_core.proofs.Shapes.LadderFacts.{exponent_at_levels, step_cases}
 use Rattle.p3_merkle_core.proofs.Shapes.RawFacts.{filled, positive_below}

@@ -4,7 +4,8 @@ use Rattle.std.proofs.lemmas.Bool.{cond_both}
 use Rattle.std.proofs.lemmas.Nat.{pow_pos}
 use Rattle.std.proofs.Math.Nat.{mul-le-mul_left, suc-mul}
 use Rattle.std.proofs.Math.Pow.{pow_mono}
-use Rattle.p3_merkle_core.specs.Geometry.{Shape, heights, exponent, layer_exponent, is_bridge, step, levels, leaves_under, height_limit, IsArity}
+use Rattle.p3_merkle_core.specs.Geometry.{Shape, heights, exponent, layer_exponent, is_bridge, step, levels}
+use Rattle.p3_merkle_core.specs.Geometry.{leaves_under, height_limit, IsArity}
 use Rattle.p3_support.specs.Batches.{greatest}
 use Rattle.p3_merkle_core.specs.Checks.{siblings_below}
 use Rattle.p3_merkle_core.proofs.Shapes.LeastFacts.{exponent_le}

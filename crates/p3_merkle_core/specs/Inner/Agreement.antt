@@ -1,12 +1,14 @@
 -- How a check finds the rows that must agree: the first query of each index, and the lowest slot under each node.
-use Rattle.std.specs.Prelude.{◌≡◌, ℕ, suc, ◌<◌, ◌≤◌, ◌==◌, Bool, if◌then◌else◌, List, [], ◌∷◌, map, filter, length, replicate, slice_index, slice_index_or, Option}
+use Rattle.std.specs.Prelude.{◌≡◌, ℕ, suc, ◌<◌, ◌≤◌, ◌==◌, Bool, if◌then◌else◌, List, [], ◌∷◌, map, filter, length}
+use Rattle.std.specs.Prelude.{replicate, slice_index, slice_index_or, Option}
 use Rattle.std.specs.List.{range_with_len}
 use Rattle.std.specs.Cmp.Lexicographic.{pointwise}
 use Rattle.p3_merkle_core.specs.Geometry.{Shape, ancestor, exponent, heights, layer_exponent}
 use Rattle.p3_support.specs.Batches.{greatest}
 use Rattle.p3_merkle_core.specs.Gate.{gate_refusal}
 use Rattle.p3_merkle_core.specs.Pruning.{PrunedOpening, pruned_of}
-use Rattle.p3_merkle_core.specs.Refusals.{first_of, first_some, idle_refusal, queries_refusal, size_refusal, slots_below, slot_of, unless, width_refusal}
+use Rattle.p3_merkle_core.specs.Refusals.{first_of, first_some, idle_refusal, queries_refusal, size_refusal}
+use Rattle.p3_merkle_core.specs.Refusals.{slots_below, slot_of, unless, width_refusal}
 use Rattle.p3_merkle_core.specs.declared.error.MerkleTreeError.{MerkleTreeError}
 use Rattle.p3_merkle_core.specs.declared.error.MerkleTreeError.TheVariants.{MalformedPrunedProof}
 use Rattle.p3_merkle_core.specs.declared.error.PrunedProofError.TheVariants.{InconsistentGroupOpening}

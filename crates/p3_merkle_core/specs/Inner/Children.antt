@@ -1,5 +1,6 @@
 -- The children of covered nodes, and the values that they take.
-use Rattle.std.specs.Prelude.{◌≡◌, ℕ, ◌+◌, ◌-◌, ◌*◌, ◌/◌, ◌%◌, ◌^◌, ◌<◌, ◌≤◌, Bool, not, nat_lt, if◌then◌else◌, List, [], All, drop, filter, flat_map, fold, length, map, remove, take, zip}
+use Rattle.std.specs.Prelude.{◌≡◌, ℕ, ◌+◌, ◌-◌, ◌*◌, ◌/◌, ◌%◌, ◌^◌, ◌<◌, ◌≤◌, Bool, not, nat_lt, if◌then◌else◌, List}
+use Rattle.std.specs.Prelude.{[], All, drop, filter, flat_map, fold, length, map, remove, take, zip}
 use Rattle.std.specs.List.{enumerate_from, range_with_len}
 use Rattle.p3_support.specs.Lists.{is_among}
 

@@ -20,7 +20,8 @@ use Rattle.p3_merkle_core.specs.Pruning.{restored_path}
 use Rattle.p3_merkle_tree.specs.Inner.CommitmentLaws.{all_zip, greatest_is, same_is_equivalence}
 use Rattle.p3_merkle_hiding.specs.HidingSchemes.{plain_of}
 use Rattle.p3_merkle_hiding.specs.SaltedCommitments.{IsSaltedShown}
-use Rattle.p3_merkle_salts.specs.SaltedOpenings.{HaveSalts, IsSaltedPrunedAccepted, SaltedPruned, joined_sets, salted_rows, salted_sets, widened}
+use Rattle.p3_merkle_salts.specs.SaltedOpenings.{HaveSalts, IsSaltedPrunedAccepted, SaltedPruned, joined_sets}
+use Rattle.p3_merkle_salts.specs.SaltedOpenings.{salted_rows, salted_sets, widened}
 use Rattle.p3_merkle_salts.specs.SaltedTrees.{pair_matrix}
 use Rattle.p3_merkle_hiding.specs.declared.hiding_mmcs.HidingScheme.{HidingScheme}
 

@@ -1,5 +1,6 @@
 -- Digests of rows, of groups of children, and of both.
-use Rattle.std.specs.Prelude.{ℕ, ◌*◌, ◌/◌, Bool, if◌then◌else◌, List, map, [], ◌∷◌, length, take, drop, zip, slice_index_or}
+use Rattle.std.specs.Prelude.{ℕ, ◌*◌, ◌/◌, Bool, if◌then◌else◌, List, map, [], ◌∷◌, length, take, drop, zip}
+use Rattle.std.specs.Prelude.{slice_index_or}
 use Rattle.std.specs.List.{range_with_len}
 use Rattle.p3_merkle_core.specs.Checks.{words_of_exponent}
 use Rattle.p3_merkle_core.specs.Nodes.{Functions, padded}

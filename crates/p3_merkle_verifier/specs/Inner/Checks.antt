@@ -1,5 +1,6 @@
 -- How far the checks of openings have come.
-use Rattle.std.specs.Prelude.{◌≡◌, ◌+◌, ◌-◌, ◌/◌, ◌≤◌, ◌==◌, ℕ, suc, List, [], ◌∷◌, Bool, Option, None, if◌then◌else◌, drop, take}
+use Rattle.std.specs.Prelude.{◌≡◌, ◌+◌, ◌-◌, ◌/◌, ◌≤◌, ◌==◌, ℕ, suc, List, [], ◌∷◌, Bool, Option, None, if◌then◌else◌}
+use Rattle.std.specs.Prelude.{drop, take}
 use Rattle.p3_merkle_core.specs.Extraction.{last_difference}
 use Rattle.p3_merkle_core.specs.Geometry.{Shape, IsArity, ancestor, layer_exponent}
 use Rattle.p3_merkle_core.specs.Nodes.{Functions}

@@ -5,7 +5,8 @@ use Rattle.mmcs_opening_text.specs.declared.fault.Expected.{Expected}
 use Rattle.mmcs_opening_text.specs.declared.fault.Fault.{Fault}
 use Rattle.mmcs_opening_text.specs.declared.fault.Fault.TheVariants.{Line}
 use Rattle.mmcs_opening_text.specs.Readings.{reading_of, shown_by}
-use Rattle.mmcs_opening_text.proofs.ReadingFacts.{line_fits, lines_next, pieces_left, lines_ended, shown_fault, shown_missing, shown_next, shown_whole}
+use Rattle.mmcs_opening_text.proofs.ReadingFacts.{line_fits, lines_next, pieces_left, lines_ended, shown_fault}
+use Rattle.mmcs_opening_text.proofs.ReadingFacts.{shown_missing, shown_next, shown_whole}
 use Rattle.mmcs_opening_text.proofs.reader.read_statement.Goals as goal
 
 pub overflow_add-line : goal.overflow_add-line

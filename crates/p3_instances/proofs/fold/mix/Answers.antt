@@ -13,7 +13,8 @@ loop-e-preserved g c =
     let new = c.add_to_each.result in
     let child = c.args.child.now in
     let inside : e < length old = search rules in
-    let of = λ (k : ℕ) (p : g.row.P.Denot). slice_index_or (g.P.PackedValue.lanes p) k g.P.PackedValue.default_value in (
+    let of = λ (k : ℕ) (p : g.row.P.Denot). slice_index_or (g.P.PackedValue.lanes p) k g.P.PackedValue.default_value
+    in (
       search rules,
       λ k j below inner.
           elim (cases_eq j e) [

@@ -1,6 +1,7 @@
 -- Bytes are gathered until a block is full, which is handed on; those that were gathered last are handed on after the
 -- loop.
-use Rattle.std.proofs.Common.{arith, refl, ◌≡◌, ℕ, ◌+◌, ◌<◌, List, [], ◌∷◌, ◌++◌, ◌∙◌, sym, ap, length, take, set, append_assoc, append-nil}
+use Rattle.std.proofs.Common.{arith, refl, ◌≡◌, ℕ, ◌+◌, ◌<◌, List, [], ◌∷◌, ◌++◌, ◌∙◌, sym, ap, length, take, set}
+use Rattle.std.proofs.Common.{append_assoc, append-nil}
 use Rattle.std.proofs.lemmas.Grind.{take-set_at}
 use Rattle.std.proofs.lemmas.List.{length-set, take_all}
 use Rattle.p3_instances.specs.Sha.{sha256_rows}

@@ -1,5 +1,6 @@
 -- Each turn is one level. No two slots are under one leaf.
-use Rattle.std.proofs.Common.{◌≡◌, ◌<◌, ◌-◌, ◌+◌, ◌/◌, ◌∙◌, ℕ, All, List, suc, map, length, arith, refl, None, Some, add-one, ap, subst, sym, inr}
+use Rattle.std.proofs.Common.{◌≡◌, ◌<◌, ◌-◌, ◌+◌, ◌/◌, ◌∙◌, ℕ, All, List, suc, map, length, arith, refl, None, Some}
+use Rattle.std.proofs.Common.{add-one, ap, subst, sym, inr}
 use Rattle.std.specs.List.{range_with_len}
 use Rattle.std.proofs.lemmas.List.{length-map, with_items_is}
 use Rattle.std.proofs.lemmas.Result.{err_from_is_err_and}
@@ -8,7 +9,9 @@ use Rattle.p3_support.specs.Shown.{row_sets}
 use Rattle.p3_merkle_core.specs.Inner.Agreement.{layers_refusal, slot_rows}
 use Rattle.p3_merkle_core.specs.Refusals.{first_of}
 use Rattle.p3_merkle_core.proofs.Lists.RisingFacts.{rising_from}
-use Rattle.p3_merkle_core.proofs.Pruned.LeadFacts.{ascending_above, found_or, kept_or, layer_fault, layer_read, leaves_agree, levels_next, matrices_inside, no_matrix, nodes_more, nodes_start}
+use Rattle.p3_merkle_core.proofs.Pruned.LeadFacts.{ascending_above, found_or, kept_or, layer_fault, layer_read}
+use Rattle.p3_merkle_core.proofs.Pruned.LeadFacts.{leaves_agree, levels_next, matrices_inside, no_matrix, nodes_more}
+use Rattle.p3_merkle_core.proofs.Pruned.LeadFacts.{nodes_start}
 use Rattle.p3_merkle_core.proofs.Pruned.SlotFacts.{ascending_from}
 use Rattle.p3_merkle_core.proofs.agreement.check_groups.Goals.{then-up+in_ok-list_matrices+in_ok-check_layer, else-up}
 use Rattle.p3_merkle_core.proofs.agreement.check_groups.Goals as goal

@@ -5,7 +5,8 @@ use Rattle.std.proofs.lemmas.Result.{err_from_is_err_and}
 use Rattle.p3_support.specs.Shown.{row_lists, row_sets}
 use Rattle.p3_merkle_core.specs.Inner.Agreement.{nodes_refusal}
 use Rattle.p3_merkle_core.specs.Refusals.{first_of}
-use Rattle.p3_merkle_core.proofs.Pruned.LeadFacts.{found_or, full_rows, kept_or, lead_agrees, lead_place, slot_fault, slot_read, slots_next}
+use Rattle.p3_merkle_core.proofs.Pruned.LeadFacts.{found_or, full_rows, kept_or, lead_agrees, lead_place, slot_fault}
+use Rattle.p3_merkle_core.proofs.Pruned.LeadFacts.{slot_read, slots_next}
 use Rattle.p3_merkle_core.proofs.agreement.check_layer.Goals.{then-lead-slot+in_ok-check_same_rows, else-lead-slot}
 use Rattle.p3_merkle_core.proofs.agreement.check_layer.Goals as goal
 

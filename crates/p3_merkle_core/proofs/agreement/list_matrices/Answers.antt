@@ -5,7 +5,8 @@ use Rattle.p3_support.specs.Batches.{heights_of}
 use Rattle.p3_merkle_core.specs.Geometry.{exponent}
 use Rattle.p3_merkle_core.specs.Inner.Agreement.{matrices_with}
 use Rattle.p3_merkle_core.proofs.Pruned.LeadFacts.{height_missed, height_read, matrix_turn}
-use Rattle.p3_merkle_core.proofs.agreement.list_matrices.Goals.{then-exponent_of-exponent+in_ok-push, else-exponent_of-exponent}
+use Rattle.p3_merkle_core.proofs.agreement.list_matrices.Goals.{then-exponent_of-exponent+in_ok-push}
+use Rattle.p3_merkle_core.proofs.agreement.list_matrices.Goals.{else-exponent_of-exponent}
 use Rattle.p3_merkle_core.proofs.agreement.list_matrices.Goals as goal
 
 pub loop-matrix-preserved : goal.loop-matrix-preserved

@@ -1,7 +1,8 @@
 -- The answer is the first refusal, and there is none exactly if the heights are lawful.
 use Rattle.std.proofs.Common.{arith, refl, sym, ◌∙◌}
 use Rattle.p3_support.specs.Batches.{heights_of}
-use Rattle.p3_merkle_core.proofs.Shapes.GateFacts.{tallest_fits, lawful_from_none, none_large_from_lawful, none_off_from_lawful}
+use Rattle.p3_merkle_core.proofs.Shapes.GateFacts.{tallest_fits, lawful_from_none, none_large_from_lawful}
+use Rattle.p3_merkle_core.proofs.Shapes.GateFacts.{none_off_from_lawful}
 use Rattle.p3_merkle_core.proofs.geometry.check_heights_up_to.Goals as goal
 
 pub returns-in-Some-clause-lawful : goal.returns-in-Some-clause-lawful

@@ -4,7 +4,8 @@ use Rattle.p3_merkle_core.specs.Checks.{shared_inputs, terms}
 use Rattle.p3_merkle_core.specs.Presented.{presented, presented_pruned}
 use Rattle.p3_merkle_core.proofs.Collisions.Extracted.{differs}
 use Rattle.p3_merkle_core.proofs.Collisions.Extraction.{collides}
-use Rattle.p3_merkle_core.proofs.Collisions.ExtractionFacts.{all_authenticated, answer_is_extraction, pruned_presented, single_presented}
+use Rattle.p3_merkle_core.proofs.Collisions.ExtractionFacts.{all_authenticated, answer_is_extraction, pruned_presented}
+use Rattle.p3_merkle_core.proofs.Collisions.ExtractionFacts.{single_presented}
 use Rattle.p3_merkle_core.proofs.Checks.PlaceFacts.{at_one_place}
 use Rattle.p3_merkle_core.proofs.laws.extraction.Goals as goal
 

@@ -1,10 +1,14 @@
 -- Each turn is one child: the next covered node, or another.
 use Rattle.std.proofs.Common.{◌≡◌, ◌+◌, ◌-◌, ◌*◌, ◌/◌, ◌%◌, ◌<◌, ◌∙◌, ap, sym, arith, get_or, length}
 use Rattle.p3_merkle_core.specs.Inner.Children.{children_under}
-use Rattle.p3_merkle_core.proofs.Covered.ChildFacts.{IsSent, walk_start, walk_end, known_more, unknown_more, sent_room, none_next, placed_at}
+use Rattle.p3_merkle_core.proofs.Covered.ChildFacts.{IsSent, walk_start, walk_end, known_more, unknown_more, sent_room}
+use Rattle.p3_merkle_core.proofs.Covered.ChildFacts.{none_next, placed_at}
 use Rattle.p3_merkle_core.proofs.pruning.children_of.Given.{Over}
 use Rattle.p3_merkle_core.proofs.pruning.children_of.Goals as goal
-use Rattle.p3_merkle_core.proofs.pruning.children_of.Goals.{then-known-covered+then-covered-known+in_ok-push, else-known-covered+in_ok-push-2, else-known-covered-via-then-known-covered+else-covered-known, else-known-covered-via-else-known-covered}
+use Rattle.p3_merkle_core.proofs.pruning.children_of.Goals.{then-known-covered+then-covered-known+in_ok-push}
+use Rattle.p3_merkle_core.proofs.pruning.children_of.Goals.{else-known-covered+in_ok-push-2}
+use Rattle.p3_merkle_core.proofs.pruning.children_of.Goals.{else-known-covered-via-then-known-covered+else-covered-known}
+use Rattle.p3_merkle_core.proofs.pruning.children_of.Goals.{else-known-covered-via-else-known-covered}
 
 pub loop-parent-init : goal.loop-parent-init
 loop-parent-init g c =

@@ -1,5 +1,6 @@
 -- Each turn compresses the groups of one call.
-use Rattle.std.proofs.Common.{arith, ◌≡◌, ℕ, ◌+◌, ◌-◌, ◌≤◌, List, ◌∷◌, ◌∙◌, [], ap, length, map, take, drop, replicate, slice_index_or}
+use Rattle.std.proofs.Common.{arith, ◌≡◌, ℕ, ◌+◌, ◌-◌, ◌≤◌, List, ◌∷◌, ◌∙◌, [], ap, length, map, take, drop, replicate}
+use Rattle.std.proofs.Common.{slice_index_or}
 use Rattle.std.specs.List.{range_with_len}
 use Rattle.p3_merkle_lanes.proofs.StageFacts.{join_more}
 use Rattle.p3_merkle_lanes.proofs.batched.inject_row_digests.Goals as goal

@@ -1,5 +1,6 @@
 -- Each turn puts one child into its place.
-use Rattle.std.proofs.Common.{arith, ◌≡◌, ◌+◌, ◌*◌, ◌<◌, ◌++◌, ◌∙◌, [], ap, length, take, drop, map, set, sym, List, length-set}
+use Rattle.std.proofs.Common.{arith, ◌≡◌, ◌+◌, ◌*◌, ◌<◌, ◌++◌, ◌∙◌, [], ap, length, take, drop, map, set, sym, List}
+use Rattle.std.proofs.Common.{length-set}
 use Rattle.std.proofs.lemmas.List.{map-set, length-map, take_all}
 use Rattle.p3_support.specs.Lists.{lane_of}
 use Rattle.p3_merkle_lanes.proofs.LaneFacts.{put_next, child_at, children_long}

@@ -4,7 +4,10 @@ use Rattle.std.proofs.lemmas.List.Elements.{All-push}
 use Rattle.std.specs.declared.vec.Vec.{Vec}
 use Rattle.p3_merkle_multiproof.proofs.LeadFacts.{leads_next, parents_next}
 use Rattle.p3_merkle_multiproof.proofs.parents.parents_of.Goals as goal
-use Rattle.p3_merkle_multiproof.proofs.parents.parents_of.Goals.{then-slot-eq0+in_ok-push+in_ok-push-2, then-slot-eq0-via-then-slot-eq0, then-slot-eq0-via-else-slot-eq0+then-previous-parent, else-slot-eq0+else-previous-parent}
+use Rattle.p3_merkle_multiproof.proofs.parents.parents_of.Goals.{then-slot-eq0+in_ok-push+in_ok-push-2}
+use Rattle.p3_merkle_multiproof.proofs.parents.parents_of.Goals.{then-slot-eq0-via-then-slot-eq0}
+use Rattle.p3_merkle_multiproof.proofs.parents.parents_of.Goals.{then-slot-eq0-via-else-slot-eq0+then-previous-parent}
+use Rattle.p3_merkle_multiproof.proofs.parents.parents_of.Goals.{else-slot-eq0+else-previous-parent}
 
 pub loop-slot-preserved : goal.loop-slot-preserved
 loop-slot-preserved c =

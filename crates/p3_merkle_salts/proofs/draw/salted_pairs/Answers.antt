@@ -7,7 +7,8 @@ use Rattle.p3_merkle_core.specs.Views.{matrix_of}
 use Rattle.p3_support.specs.Pairs.{left_of, right_of}
 use Rattle.p3_support.specs.RowMajor.{row_width, values_of}
 use Rattle.p3_support.specs.Salts.{after_words, salts}
-use Rattle.p3_merkle_salts.proofs.DrawFacts.{after_next, after_some, drawn_more, first_fits, others_fit, pairs_more, salted_row, same_more, stream_more}
+use Rattle.p3_merkle_salts.proofs.DrawFacts.{after_next, after_some, drawn_more, first_fits, others_fit, pairs_more}
+use Rattle.p3_merkle_salts.proofs.DrawFacts.{salted_row, same_more, stream_more}
 use Rattle.p3_merkle_salts.specs.Salted.{after_salts, salted, salted_matrices}
 use Rattle.p3_merkle_salts.specs.SaltedTrees.{HaveSaltColumns, pair_matrix}
 use Rattle.p3_merkle_salts.proofs.draw.salted_pairs.Goals as goal

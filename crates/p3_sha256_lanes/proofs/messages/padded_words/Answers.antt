@@ -2,7 +2,8 @@ use Rattle.std.proofs.Common.{◌≡◌, ◌+◌, ◌*◌, ◌/◌, ◌^◌, ◌
 use Rattle.sha2.specs.Sha256.{padded_message}
 use Rattle.p3_support.specs.Lists.{message}
 use Rattle.p3_sha256_lanes.proofs.Lanewise.{splatted}
-use Rattle.p3_sha256_lanes.proofs.Padding.{byte_at, byte_of_message, length-message, word_high, word_low, word_same, word_zero}
+use Rattle.p3_sha256_lanes.proofs.Padding.{byte_at, byte_of_message, length-message, word_high, word_low, word_same}
+use Rattle.p3_sha256_lanes.proofs.Padding.{word_zero}
 use Rattle.p3_sha256_lanes.proofs.messages.padded_words.Goals as goal
 
 pub returns-then-at-width : goal.returns-then-at-width

@@ -1,5 +1,6 @@
 use Rattle.std.proofs.Common.{rules, arith, ◌≡◌, ℕ, ◌<◌, ◌∙◌, sym, ap, length, slice_index_or, slice_set}
-use Rattle.std.proofs.lemmas.List.{map-set, get_or-map, get_or_read, length-map, get_or-set_same, get_or-set_other, set-get_or, ext_get_or}
+use Rattle.std.proofs.lemmas.List.{map-set, get_or-map, get_or_read, length-map, get_or-set_same, get_or-set_other}
+use Rattle.std.proofs.lemmas.List.{set-get_or, ext_get_or}
 use Rattle.p3_support.specs.Lists.{lane_of}
 use Rattle.p3_support.proofs.Fills.{filled_more}
 use Rattle.p3_support.proofs.packed.put_lane.Goals as goal

@@ -1,6 +1,7 @@
 use Rattle.std.proofs.Common.{◌∙◌, sym, subst, List, ℕ, ◌≡◌, true}
 use Rattle.mmcs_text.specs.Words.{texts_of, IsCapWord}
-use Rattle.mmcs_opening_text.proofs.RequestFacts.{three_elements, no_command_from_cap, no_command_from_rest, none_given, some_given, words_from_parts}
+use Rattle.mmcs_opening_text.proofs.RequestFacts.{three_elements, no_command_from_cap, no_command_from_rest, none_given}
+use Rattle.mmcs_opening_text.proofs.RequestFacts.{some_given, words_from_parts}
 use Rattle.mmcs_opening_text.proofs.request.Setting.from_words.Goals as goal
 
 pub returns-in_err-from_word-3-clause-none : goal.returns-in_err-from_word-3-clause-none

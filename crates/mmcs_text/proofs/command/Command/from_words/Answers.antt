@@ -1,6 +1,7 @@
 use Rattle.std.proofs.Common.{◌∙◌, sym, subst, List, ℕ}
 use Rattle.mmcs_text.specs.Words.{IsCapWord}
-use Rattle.mmcs_text.proofs.WordFacts.{four_elements, no_command_from_cap, no_command_from_rest, none_from_test, some_from_test, words_from_parts}
+use Rattle.mmcs_text.proofs.WordFacts.{four_elements, no_command_from_cap, no_command_from_rest, none_from_test}
+use Rattle.mmcs_text.proofs.WordFacts.{some_from_test, words_from_parts}
 use Rattle.mmcs_text.proofs.command.Command.from_words.Goals as goal
 
 pub returns-in_err-from_word-3-clause-none : goal.returns-in_err-from_word-3-clause-none

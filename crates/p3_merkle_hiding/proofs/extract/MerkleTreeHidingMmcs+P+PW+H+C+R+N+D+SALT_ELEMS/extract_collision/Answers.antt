@@ -15,7 +15,8 @@ use Rattle.p3_support.specs.Shown.{roots_of, row_lists}
 use Rattle.p3_merkle_hiding.specs.HidingSchemes.{plain_of, salted_lent}
 use Rattle.p3_merkle_salts.specs.SaltRefusals.{salted_refusal_under, salted_rows_refusal}
 use Rattle.p3_merkle_salts.specs.SaltedOpenings.{joined, salted_rows, widened}
-use Rattle.p3_merkle_hiding.proofs.ExtractedFacts.{extracted_salted, failed_salted, lowered_alike, nothing_found, second_refused}
+use Rattle.p3_merkle_hiding.proofs.ExtractedFacts.{extracted_salted, failed_salted, lowered_alike, nothing_found}
+use Rattle.p3_merkle_hiding.proofs.ExtractedFacts.{second_refused}
 use Rattle.p3_merkle_hiding.proofs.SaltedAnswers.{refusal_joined, refused_before, said}
 use Rattle.p3_merkle_hiding.proofs.extract.MerkleTreeHidingMmcs+P+PW+H+C+R+N+D+SALT_ELEMS.extract_collision.Goals as goal
 

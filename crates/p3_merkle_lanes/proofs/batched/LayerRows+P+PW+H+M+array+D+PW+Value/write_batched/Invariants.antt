@@ -7,7 +7,8 @@ abbrev pub invariant-loop-first : goal.invariant-loop-first
 invariant-loop-first g l =
     (l.first ≤ l.count)
     × IsFilled (leaf_over (g.H.CryptographicHasher.hash l.self.hash.now)
-    (replicate g.row.D g.PW.PackedValue.default_value) (rows_over g.M.Matrix.row_of l.self.matrices.now) l.self.height) l.first (length l.initial.slots) l.slots
+    (replicate g.row.D g.PW.PackedValue.default_value)
+    (rows_over g.M.Matrix.row_of l.self.matrices.now) l.self.height) l.first (length l.initial.slots) l.slots
 
 abbrev pub decreases-loop-first : goal.decreases-loop-first
 decreases-loop-first g l = l.count - l.first

@@ -6,7 +6,8 @@ use Rattle.p3_merkle_lanes.proofs.packed.LayerRows+P+PW+H+M+array+D+PW+Value.sta
 pub stage_packed_row-requires : goal.stage_packed_row-requires
 stage_packed_row-requires g c =
     let high = height_at g.M.Matrix.height_of c.args.self.now.height c.args.self.now.matrices.now
-    c.loop-matrix.matrix-index c.matrix-item.result c.args.self.now.of_height c.loop-matrix-test.true c.matrix-item.is in
+    c.loop-matrix.matrix-index c.matrix-item.result c.args.self.now.of_height c.loop-matrix-test.true
+    c.matrix-item.is in
     omega (arith, high, c.requires)
 
 pub loop-matrix-preserved : goal.loop-matrix-preserved

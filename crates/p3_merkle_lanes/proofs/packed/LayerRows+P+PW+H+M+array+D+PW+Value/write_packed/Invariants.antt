@@ -6,5 +6,6 @@ use Rattle.p3_merkle_lanes.proofs.packed.LayerRows+P+PW+H+M+array+D+PW+Value.wri
 abbrev pub invariant-loop-group : goal.invariant-loop-group
 invariant-loop-group g l =
     IsFilled (leaf_over (g.H.CryptographicHasher.hash l.self.hash.now)
-    (replicate g.row.D g.PW.PackedValue.default_value) (rows_over g.M.Matrix.row_of l.self.matrices.now) l.self.height) (l.group * g.PW.PackedValue.WIDTH)
+    (replicate g.row.D g.PW.PackedValue.default_value)
+    (rows_over g.M.Matrix.row_of l.self.matrices.now) l.self.height) (l.group * g.PW.PackedValue.WIDTH)
     (length l.initial.slots) l.slots

@@ -1,5 +1,6 @@
 -- A slot before the first stays, and each from there on has the compression of its whole group.
-use Rattle.std.proofs.Common.{arith, ◌≡◌, suc, ◌+◌, ◌*◌, ◌/◌, ◌<◌, ◌≤◌, ◌∙◌, inl, inr, [], refl, take, drop, replicate, length, slice_index_or, length-drop}
+use Rattle.std.proofs.Common.{arith, ◌≡◌, suc, ◌+◌, ◌*◌, ◌/◌, ◌<◌, ◌≤◌, ◌∙◌, inl, inr, [], refl, take, drop, replicate}
+use Rattle.std.proofs.Common.{length, slice_index_or, length-drop}
 use Rattle.std.proofs.Math.Nat.{mul-le-mul_left, mul-suc}
 use Rattle.std.proofs.lemmas.Bool.{cases_lt}
 use Rattle.std.proofs.lemmas.List.{length-take-le}

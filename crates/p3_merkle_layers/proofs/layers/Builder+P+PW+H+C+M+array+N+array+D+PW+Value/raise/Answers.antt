@@ -35,7 +35,8 @@ tell_children-requires-clause-slots g c =
     slots_are f c.requires.build c.level_above-level.result.below c.as_slice-nodes.result.now kids
 
 pub returns-clause-level : goal.returns-clause-level
-returns-clause-level g c = level_there c.requires.build c.level_above-level.result (rw c.requires.arity at c.level_above-level.ensures.level)
+returns-clause-level g c = level_there c.requires.build c.level_above-level.result
+    (rw c.requires.arity at c.level_above-level.ensures.level)
 
 pub returns-clause-nodes : goal.returns-clause-nodes
 returns-clause-nodes g c =

@@ -9,7 +9,8 @@ use Rattle.p3_merkle_verifier.proofs.LevelFacts.{stands_first}
 use Rattle.p3_merkle_verifier.proofs.SharedFacts.{difference_shared}
 use Rattle.p3_merkle_verifier.proofs.WalkFacts.{found_here, found_next, words_alike}
 use Rattle.p3_merkle_verifier.proofs.walk.Checker+P+PW+H+C+array+N+array+D+PW+Value.last_difference.Goals as goal
-use Rattle.p3_merkle_verifier.proofs.walk.Checker+P+PW+H+C+array+N+array+D+PW+Value.last_difference.Goals.{then-mine-theirs+in_ok-found, else-mine-theirs}
+use Rattle.p3_merkle_verifier.proofs.walk.Checker+P+PW+H+C+array+N+array+D+PW+Value.last_difference.Goals.{then-mine-theirs+in_ok-found}
+use Rattle.p3_merkle_verifier.proofs.walk.Checker+P+PW+H+C+array+N+array+D+PW+Value.last_difference.Goals.{else-mine-theirs}
 
 pub loop-level-init : goal.loop-level-init
 loop-level-init g c =
