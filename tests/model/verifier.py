@@ -2,12 +2,13 @@
 
 import re
 
+from extraction import extract_pruned
 from geometry import FIXED, LOWERED
-from program import HASHES, Fault, number_of
+from program import HASHES, Fault, hexadecimal, number_of
 from refusals import PRUNED, Claim, refusal
 from schemes import Scheme
 
-USAGE = "usage: mmcs_verify fold|sha256 2|4|8 CAP[f] HEIGHTxWIDTH.."
+USAGE = "usage: mmcs_verify fold|sha256 2|4|8 CAP[f] [collide] HEIGHTxWIDTH.."
 QUERY = "`index I` or `digests K`"
 
 
@@ -21,15 +22,16 @@ def size_of(word):
 
 
 def command_of(words):
-    """The hash, the scheme and the dimensions of a command."""
+    """The hash, the scheme, whether two openings are compared, and the dimensions of a command."""
     if len(words) < 3 or words[0] not in HASHES or words[1] not in ("2", "4", "8"):
         raise Fault(USAGE, 2)
     rule = FIXED if words[2].endswith("f") else LOWERED
     cap_height = number_of(words[2].removesuffix("f"))
-    sizes = [size_of(word) for word in words[3:]]
+    are_two = words[3:4] == ["collide"]
+    sizes = [size_of(word) for word in words[4 if are_two else 3 :]]
     if cap_height is None:
         raise Fault(USAGE, 2)
-    return words[0], Scheme(int(words[1]), cap_height, rule, functions=HASHES[words[0]][0]), sizes
+    return words[0], Scheme(int(words[1]), cap_height, rule, functions=HASHES[words[0]][0]), are_two, sizes
 
 
 class Lines:
@@ -95,6 +97,9 @@ class Reader:
         expected = f"a digest of {self.digits} hexadecimal digits"
         return indices, sets, [self.lines.take_as(self.digest, expected) for _ in range(number)]
 
+    def blank_line(self):
+        self.lines.take_as(lambda line: None if line.strip(b" \t") else True, "a blank line")
+
     def end(self):
         while self.lines.is_blank():
             self.lines.take()
@@ -119,10 +124,45 @@ def labelled(line):
     return None
 
 
+def hashed(name, place, content):
+    """What is hashed at a place, in hexadecimal: the words of rows, or digests."""
+    if place.split(" ")[0] in ("leaf", "rows"):
+        content = [bytes([word]) for word in content] if name == "sha256" else content
+    return "".join(hexadecimal(name, part) for part in content)
+
+
+def collision_text(name, functions, indices, found):
+    """Where two inputs collide, the indices of both queries, and both inputs and the digest of the first."""
+    place, *inputs = found
+    digest_of = functions.hash if place.split(" ")[0] in ("leaf", "rows") else functions.compress
+    lines = [f"collision at {place}", *(f"index {index}" for index in indices)]
+    lines += [hashed(name, place, content) for content in inputs] + [hexadecimal(name, digest_of(inputs[0]))]
+    return "".join(line + "\n" for line in lines)
+
+
+def comparison(name, scheme, sizes, reader):
+    """What is printed of two openings of one cap; else a fault."""
+    roots = reader.cap()
+    openings = [reader.opening()]
+    reader.blank_line()
+    openings.append(reader.opening())
+    reader.end()
+    first, second = (Claim(scheme, roots, sizes, *opening) for opening in openings)
+    refused, found = extract_pruned(first, second)
+    if refused:
+        raise Fault(refused)
+    if found is None:
+        return "no collision\n"
+    one, other, collision = found
+    return collision_text(name, scheme.functions, (first.index[one], second.index[other]), collision)
+
+
 def answer(words, data):
     """What is printed for some words and an input; else a fault."""
-    name, scheme, sizes = command_of(words)
+    name, scheme, are_two, sizes = command_of(words)
     reader = Reader(name, sizes, data)
+    if are_two:
+        return comparison(name, scheme, sizes, reader)
     roots = reader.cap()
     indices, sets, digests = reader.opening()
     reader.end()

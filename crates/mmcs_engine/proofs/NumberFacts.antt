@@ -49,7 +49,7 @@ plain_alike f g same = record {
 }
 
 -- and nothing else does
-alike_plain : (f g : Functions ℕ ℕ) → ComputeAlike (λ n. n) f g → f ≡ g
+pub alike_plain : (f g : Functions ℕ ℕ) → ComputeAlike (λ n. n) f g → f ≡ g
 alike_plain f g alike = λ i. record {
   hash = λ words. (sym (map-id (f.hash words)) ∙ alike.hash words ∙ ap g.hash (map-id words)) i;
   compression = λ digests. (sym (map-id (f.compression digests)) ∙ alike.compression digests
@@ -61,7 +61,7 @@ sets_plain : (sets : List (List (List ℕ))) → map (map (map (λ n. n))) sets 
 sets_plain [] = refl
 sets_plain (rows ∷ sets) = λ i. digests_plain rows i ∷ sets_plain sets i
 
-pruned_plain : (p : PrunedOpening ℕ ℕ) → pruned_in_numbers (λ n. n) p ≡ p
+pub pruned_plain : (p : PrunedOpening ℕ ℕ) → pruned_in_numbers (λ n. n) p ≡ p
 pruned_plain p = λ i. pruned_of p.indices (sets_plain p.rows i) (digests_plain p.digests i)
 
 -- a test that decides equality of numbers is the one of numbers
@@ -71,7 +71,7 @@ test_is true false one other = sym (other.1 (one.0 refl))
 test_is false true one other = one.1 (other.0 refl)
 test_is false false one other = refl
 
-equality_plain : (eq : ℕ → ℕ → Bool) → IsEquality eq → eq ≡ nat_eq
+pub equality_plain : (eq : ℕ → ℕ → Bool) → IsEquality eq → eq ≡ nat_eq
 equality_plain eq decides = λ i m n. test_is (eq m n) (nat_eq m n) (decides m n) (unsigned_Decides m n) i
 
 -- ---- what is said of words is said of their numbers

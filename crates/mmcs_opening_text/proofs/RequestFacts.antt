@@ -11,8 +11,10 @@ use Rattle.std.proofs.lemmas.List.{map_more, map-append, take_all}
 use Rattle.p3_support.specs.declared.matrix.Dimensions.{Dimensions}
 use Rattle.mmcs_text.specs.Words.{arity_word, hash_word, texts_of, IsCapWord}
 use Rattle.mmcs_text.specs.declared.command.CapChoice.{CapChoice}
-use Rattle.mmcs_opening_text.specs.Requests.{dimensions_of_word, AreNoCommand, AreWords}
+use Rattle.mmcs_opening_text.specs.Requests.{dimensions_of_word, task_words, AreNoCommand, AreWords}
 use Rattle.mmcs_opening_text.specs.declared.request.Setting.{Setting}
+use Rattle.mmcs_opening_text.specs.declared.request.Task.{Task}
+use Rattle.mmcs_opening_text.specs.declared.request.Task.TheVariants.{Verify, Collide}
 
 -- whether each of some words is the dimensions of a matrix
 abbrev pub are_dimensions : List (List ℕ) → Bool
@@ -65,7 +67,14 @@ dimensions_more words i word so_far new size within is so_far_is size_is new_is 
     ∙ (λ j. so_far_is j ++ (ap (λ w. dimensions_of_word (string_bytes w)) (sym is) ∙ sym size_is) j ∷ [])
     ∙ sym (ap (map Some) new_is ∙ map-append Some so_far (size ∷ []))
 
--- a list that begins with three elements
+-- a list that begins with an element, or with three
+pub one_element : {A : Type 0} (xs : List A) (x : A) → 1 ≤ length xs → x ≡ get_or xs 0 x →
+    xs ≡ x ∷ take (length xs - 1) (drop 1 xs)
+one_element [] x long x_is = absurd (omega (arith, long))
+one_element (a ∷ xs) x long x_is =
+    let shown : take (length (a ∷ xs) - 1) xs ≡ xs = take_all (length (a ∷ xs) - 1) xs (omega arith) in
+    λ i. sym x_is i ∷ sym shown i
+
 pub three_elements : {A : Type 0} (xs : List A) (x y z : A) → 3 ≤ length xs → x ≡ get_or xs 0 x → y ≡ get_or xs 1 y → z
     ≡ get_or xs 2 z → xs ≡ x ∷ y ∷ z ∷ take (length xs - 3) (drop 3 xs)
 three_elements [] x y z long x_is y_is z_is = absurd (omega (arith, long))
@@ -82,29 +91,32 @@ module _ {A : Type 0} (words : List (String A)) (hash arity cap : String A) (res
   spelled = ap (map string_bytes) parts
 
   pub words_from_parts : (setting : Setting) → string_bytes hash ≡ hash_word setting.hash → string_bytes arity
-      ≡ arity_word setting.arity → IsCapWord (string_bytes cap) setting.cap → (dimensions : List Dimensions) →
-      map dimensions_of_word (texts_of rest) ≡ map Some dimensions → AreWords (texts_of words) setting dimensions
-  words_from_parts setting hash_is arity_is cap_is dimensions are = record {
+      ≡ arity_word setting.arity → IsCapWord (string_bytes cap) setting.cap → (task : Task) (places : List (List ℕ)) →
+      texts_of rest ≡ task_words task ++ places → (dimensions : List Dimensions) →
+      map dimensions_of_word places ≡ map Some dimensions → AreWords (texts_of words) setting task dimensions
+  words_from_parts setting hash_is arity_is cap_is task places cut dimensions are = record {
     cap = string_bytes cap;
-    places = texts_of rest;
-    spelling = spelled ∙ (λ i. hash_is i ∷ arity_is i ∷ string_bytes cap ∷ texts_of rest);
+    places = places;
+    spelling = spelled ∙ (λ i. hash_is i ∷ arity_is i ∷ string_bytes cap ∷ cut i);
     cap_word = cap_is;
     dimensions_are = are;
   }
 
   -- no command, where the third word is no cap
   pub no_command_from_cap : ((c : CapChoice) → IsCapWord (string_bytes cap) c → ⊥) → AreNoCommand (texts_of words)
-  no_command_from_cap bad setting dimensions are =
+  no_command_from_cap bad setting task dimensions are =
       let both = sym spelled ∙ are.spelling in
       let same : string_bytes cap ≡ are.cap = cc in
       bad setting.cap (subst (λ (w : List ℕ). IsCapWord w setting.cap) (sym same) are.cap_word)
 
-  -- or the rest are no dimensions
-  pub no_command_from_rest : are_dimensions (texts_of rest) ≡ false → AreNoCommand (texts_of words)
-  no_command_from_rest bad setting dimensions are =
+  -- or the words behind the task are no dimensions
+  pub no_command_from_rest : (task : Task) (places : List (List ℕ)) → texts_of rest ≡ task_words task ++ places →
+      ((others : List (List ℕ)) → texts_of rest ≡ task_words Collide ++ others → task ≡ Collide) →
+      are_dimensions places ≡ false → AreNoCommand (texts_of words)
+  no_command_from_rest task places cut collide bad setting t dimensions are =
       let both = sym spelled ∙ are.spelling in
-      let same : texts_of rest ≡ are.places = cc in
-      false≢true (sym bad ∙ ap are_dimensions same ∙ all_some are.places dimensions are.dimensions_are)
+      let same : texts_of rest ≡ task_words t ++ are.places = cc in
+      by_task task t cut collide bad are.places same (all_some are.places dimensions are.dimensions_are)
     where
       all_some : (ws : List (List ℕ)) (ds : List Dimensions) → map dimensions_of_word ws ≡ map Some ds →
           are_dimensions ws ≡ true
@@ -114,6 +126,21 @@ module _ {A : Type 0} (words : List (String A)) (hash arity cap : String A) (res
           let head : dimensions_of_word w ≡ Some d = cc in
           let tail : map dimensions_of_word ws ≡ map Some ds = cc in
           λ i. is_some (head i) && all_some ws ds tail i
+
+      by_task : (own asked : Task) → texts_of rest ≡ task_words own ++ places →
+          ((others : List (List ℕ)) → texts_of rest ≡ task_words Collide ++ others → own ≡ Collide) →
+          are_dimensions places ≡ false → (others : List (List ℕ)) → texts_of rest ≡ task_words asked ++ others →
+          are_dimensions others ≡ true → ⊥
+      by_task Verify Verify own_is found bad others asked_is good =
+          false≢true (sym bad ∙ ap are_dimensions (sym own_is ∙ asked_is) ∙ good)
+      by_task Collide Verify own_is found bad others asked_is good =
+          false≢true (ap are_dimensions (sym own_is ∙ asked_is) ∙ good)
+      by_task Verify Collide own_is found bad others asked_is good =
+          let same : Verify ≡ Collide = found others asked_is in absurd cc
+      by_task Collide Collide own_is found bad others asked_is good =
+          let both = sym own_is ∙ asked_is in
+          let same : places ≡ others = cc in
+          false≢true (sym bad ∙ ap are_dimensions same ∙ good)
 
 -- what `then_some` gives
 pub some_given : {X : Type 0} (b : Bool) (value : X) (r : Option X) (Q : X → Type 0) → r ≡ then_some b value →

@@ -1,12 +1,11 @@
 -- Worked values, which the checker computes.
-use Rattle.std.specs.Prelude.{◌≡◌, ℕ, List, [], ◌∷◌, ◌++◌, codes, Option, None, Some, Result, Ok, Err, refl}
+use Rattle.std.specs.Prelude.{◌≡◌, List, [], ◌∷◌, ◌++◌, codes, None, Some, Ok, Err, refl}
 use Rattle.p3_support.specs.declared.matrix.Dimensions.{Dimensions}
 use Rattle.mmcs_text.specs.declared.command.HashName.TheVariants.{Fold}
 use Rattle.mmcs_opening_text.specs.Lines.{digest_of, number_behind, row_of, words_of}
-use Rattle.mmcs_opening_text.specs.Readings.{shown_by, shown_in, Shown}
+use Rattle.mmcs_opening_text.specs.Readings.{pair_by, pair_in, shown_by, shown_in}
 use Rattle.mmcs_opening_text.specs.Requests.{dimensions_of_word}
-use Rattle.mmcs_opening_text.specs.declared.fault.Expected.TheVariants.{Row}
-use Rattle.mmcs_opening_text.specs.declared.fault.Fault.{Fault}
+use Rattle.mmcs_opening_text.specs.declared.fault.Expected.TheVariants.{BlankLine, Query, Row}
 use Rattle.mmcs_opening_text.specs.declared.fault.Fault.TheVariants.{Line}
 
 -- a digest has its digits in either case, and nothing else
@@ -52,3 +51,25 @@ pub a_fault : shown_in Fold four_rows (codes "00008081" ++ 10 ∷ 10 ∷ codes "
     ≡ Err (Line 4 (Row 1 4294967295))
 unfolding shown_by words_of
 a_fault = refl
+
+-- two openings of a cap, each of one index with its row, and no digests
+pub a_pair : pair_in Fold four_rows
+    (codes "00008081" ++ 10 ∷ 10 ∷ codes "index 2" ++ 10 ∷ codes "3" ++ 10 ∷ codes "digests 0" ++ 10 ∷ 10 ∷
+    codes "index 1" ++ 10 ∷ codes "4" ++ 10 ∷ codes "digests 0" ++ 10 ∷ []) ≡ Ok (record {
+      first = record { cap = (32897 ∷ []) ∷ []; indices = 2 ∷ []; rows = ((3 ∷ []) ∷ []) ∷ []; digests = [] };
+      second = record { cap = (32897 ∷ []) ∷ []; indices = 1 ∷ []; rows = ((4 ∷ []) ∷ []) ∷ []; digests = [] };
+    })
+unfolding pair_by shown_by words_of
+a_pair = refl
+
+-- no blank line between them
+pub no_blank_line : pair_in Fold four_rows
+    (codes "00008081" ++ 10 ∷ 10 ∷ codes "digests 0" ++ 10 ∷ codes "digests 0" ++ 10 ∷ []) ≡ Err (Line 4 BlankLine)
+unfolding pair_by shown_by words_of
+no_blank_line = refl
+
+-- the piece behind the last line feed is the blank line, and no second opening stands behind it
+pub no_second : pair_in Fold four_rows (codes "00008081" ++ 10 ∷ 10 ∷ codes "digests 0" ++ 10 ∷ [])
+    ≡ Err (Line 5 Query)
+unfolding pair_by shown_by words_of
+no_second = refl

@@ -6,5 +6,6 @@ pub mod Lines
 pub mod Printing
 pub mod Readings
 pub mod Requests
+pub mod Inner
 pub mod Examples
 pub mod PrintingExamples

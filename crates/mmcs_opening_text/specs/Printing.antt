@@ -6,7 +6,7 @@ use Rattle.mmcs_text.specs.Text.{digest_lines, hex_lines, query_lines}
 use Rattle.mmcs_text.specs.Words.{max_word}
 use Rattle.mmcs_text.specs.declared.command.HashName.{HashName}
 use Rattle.mmcs_opening_text.specs.Lines.{digest_words, word_digits}
-use Rattle.mmcs_opening_text.specs.Readings.{shown_in, Shown}
+use Rattle.mmcs_opening_text.specs.Readings.{pair_in, shown_in, Shown}
 
 -- words that a hash takes, and that its digests have
 abbrev pub AreWordsOf : HashName → List ℕ → Type 0
@@ -48,3 +48,14 @@ abbrev pub PrintedIsRead : Type 0
 PrintedIsRead =
     (hash : HashName) (dimensions : List Dimensions) (s : Shown) → IsShownOf hash dimensions s →
     shown_in hash dimensions (text_shown hash s) ≡ Ok s
+
+-- the text of a cap and two openings of it, with blank lines between
+abbrev pub text_of_pair : HashName → Shown → Shown → List ℕ
+text_of_pair hash first second = text_shown hash first ++ 10 ∷ opening_lines hash second
+
+-- and so is the text of a cap and two openings of it
+abbrev pub PairIsRead : Type 0
+PairIsRead =
+    (hash : HashName) (dimensions : List Dimensions) (first second : Shown) → IsShownOf hash dimensions first →
+    IsShownOf hash dimensions second → second.cap ≡ first.cap →
+    pair_in hash dimensions (text_of_pair hash first second) ≡ Ok (record { first = first; second = second })

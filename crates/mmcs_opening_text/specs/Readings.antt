@@ -1,4 +1,4 @@
--- What an input shows, or its first faulty line.
+-- What an input shows of one opening or of two, or its first faulty line.
 use Rattle.std.specs.Prelude.{ℕ, ◌+◌, ◌==◌, codes, false, Bool, if◌then◌else◌, List, [], ◌∷◌, ◌++◌, length, map}
 use Rattle.std.specs.Prelude.{slice_get, Option, None, Some, option_map, Result, Ok, Err}
 use Rattle.std.specs.Option.{option_and_then, option_map_or, option_or}
@@ -8,9 +8,11 @@ use Rattle.mmcs_text.specs.Words.{max_word}
 use Rattle.mmcs_text.specs.declared.command.HashName.{HashName}
 use Rattle.mmcs_opening_text.specs.Lines.{digest_digits, digest_of, number_behind, row_of}
 use Rattle.mmcs_opening_text.specs.declared.fault.Expected.{Expected}
-use Rattle.mmcs_opening_text.specs.declared.fault.Expected.TheVariants.{CapDigest, Query, Row, Digest, End}
+use Rattle.mmcs_opening_text.specs.declared.fault.Expected.TheVariants.{CapDigest, Query, Row, Digest, BlankLine, End}
 use Rattle.mmcs_opening_text.specs.declared.fault.Fault.{Fault}
 use Rattle.mmcs_opening_text.specs.declared.fault.Fault.TheVariants.{Line}
+use Rattle.mmcs_opening_text.specs.declared.reader.Opening.{Opening}
+use Rattle.mmcs_opening_text.specs.declared.reader.Pair.{Pair}
 use Rattle.mmcs_opening_text.specs.declared.reader.Reader.{Reader}
 use Rattle.mmcs_opening_text.specs.declared.reader.Statement.{Statement}
 use Rattle.mmcs_opening_text.specs.declared.reader.Stage.{Stage}
@@ -23,15 +25,28 @@ pub record Shown : Type 0 where
   pub rows : List (List (List ℕ))
   pub digests : List (List ℕ)
 
--- what was read, by the numbers of its words
-abbrev pub shown_of : {W H : Type 0} → (W → ℕ) → (H → List ℕ) → Statement W H → Shown
-shown_of value words s =
-    record {
-      cap = map words s.cap.items;
-      indices = s.indices.items;
-      rows = map (λ set. map (λ row. map value row.items) set.items) s.rows.items;
-      digests = map words s.digests.items;
-    }
+-- two openings, each with its cap
+pub record ShownPair : Type 0 where
+  pub first : Shown
+  pub second : Shown
+
+module _ {W H : Type 0} (value : W → ℕ) (words : H → List ℕ) where
+  -- what was read of an opening under a cap, by the numbers of its words
+  abbrev pub shown_under : List H → Opening W H → Shown
+  shown_under cap o =
+      record {
+        cap = map words cap;
+        indices = o.indices.items;
+        rows = map (λ set. map (λ row. map value row.items) set.items) o.rows.items;
+        digests = map words o.digests.items;
+      }
+
+  -- what was read of one opening, or of two under one cap
+  abbrev pub shown_of : Statement W H → Shown
+  shown_of s = shown_under s.cap.items s.opening
+
+  abbrev pub pair_of : Pair W H → ShownPair
+  pair_of p = record { first = shown_under p.cap.items p.first; second = shown_under p.cap.items p.second }
 
 -- what the lines so far show, and what comes next; `row_set` has the rows of an index that has not all of them yet
 pub record Reading : Type 0 where
@@ -123,9 +138,39 @@ shown_by hash dimensions r n (line ∷ lines) =
     option_map_or (λ s. shown_by hash dimensions s (n + 1) lines) (after_line hash dimensions r line)
     (Err (Line (n + 1) (expected_after hash dimensions r)))
 
--- what an input shows, or its first faulty line
+-- before the second opening, which is read behind the cap of the first
+abbrev pub behind_first : Reading → Reading
+behind_first r =
+    record {
+      stage = Queries;
+      shown = record { cap = r.shown.cap; indices = []; rows = []; digests = [] };
+      row_set = [];
+    }
+
+-- an opening behind another one
+abbrev pub paired_with : Shown → Result Shown Fault → Result ShownPair Fault
+paired_with first (Ok second) = Ok (record { first = first; second = second })
+paired_with first (Err fault) = Err fault
+
+-- what lines show of two openings: where the first is whole, a blank line follows, and then the second
+unfoldable pub pair_by : HashName → List Dimensions → Reading → ℕ → List (List ℕ) → Result ShownPair Fault
+pair_by hash dimensions r n [] =
+    Err (Line (n + 1) (if whole_at r.stage r then BlankLine else expected_after hash dimensions r))
+pair_by hash dimensions r n (line ∷ lines) =
+    if whole_at r.stage r
+    then (if is_blank line
+    then paired_with r.shown (shown_by hash dimensions (behind_first r) (n + 1) lines)
+    else Err (Line (n + 1) BlankLine))
+    else option_map_or (λ s. pair_by hash dimensions s (n + 1) lines) (after_line hash dimensions r line)
+    (Err (Line (n + 1) (expected_after hash dimensions r)))
+
+-- what an input shows of one opening, or its first faulty line
 abbrev pub shown_in : HashName → List Dimensions → List ℕ → Result Shown Fault
 shown_in hash dimensions input = shown_by hash dimensions unread 0 (pieces_of input)
+
+-- what it shows of two openings under one cap, or its first faulty line
+abbrev pub pair_in : HashName → List Dimensions → List ℕ → Result ShownPair Fault
+pair_in hash dimensions input = pair_by hash dimensions unread 0 (pieces_of input)
 
 -- a reader, by the numbers of its words
 abbrev pub reading_of : {W H : Type 0} → (W → ℕ) → (H → List ℕ) → Reader W H → Reading

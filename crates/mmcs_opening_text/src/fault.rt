@@ -13,7 +13,7 @@ use thiserror::Error;
 #[derive(Debug, Drop, Error)]
 pub enum Fault {
     /// The words are no command.
-    #[error("usage: mmcs_verify fold|sha256 2|4|8 CAP[f] HEIGHTxWIDTH..")]
+    #[error("usage: mmcs_verify fold|sha256 2|4|8 CAP[f] [collide] HEIGHTxWIDTH..")]
     Usage,
     /// The input could not be read.
     #[error("read failed")]
@@ -60,6 +60,9 @@ pub enum Expected {
         /// How many digits a digest has.
         digits: usize,
     },
+    /// The blank line between two openings.
+    #[error("a blank line")]
+    BlankLine,
     /// Nothing but blank lines.
     #[error("the end")]
     End,

@@ -1,17 +1,22 @@
-//! A cap and an opening, from the bytes of an input.
+//! A cap and an opening, or two, from the bytes of an input.
 
-ghost use Rattle.std.specs.Prelude.{◌≡◌, ◌⊎◌, ◌+◌, ℕ, if◌then◌else◌, List, IfOk, IfErr, None, OnOk, Some, Ok, Err};
+ghost use Rattle.std.specs.Prelude.{◌≡◌, ◌⊎◌, ◌+◌, ℕ, true, false, if◌then◌else◌, List, [], ◌∷◌, IfOk, IfErr, None};
+ghost use Rattle.std.specs.Prelude.{OnOk, Some, Ok, Err};
 ghost use Rattle.p3_merkle_core.specs.declared.error.MerkleTreeError.TheVariants.{OutOfMemory};
+ghost use Rattle.mmcs_text.specs.Input.{is_blank};
 ghost use Rattle.mmcs_text.specs.Words.{max_word};
+ghost use Rattle.mmcs_opening_text.specs.declared.fault.Expected.TheVariants.{BlankLine};
 ghost use Rattle.mmcs_opening_text.specs.declared.fault.Fault.TheVariants.{Line, Tree};
+ghost use Rattle.mmcs_opening_text.specs.Inner.Left.{lines_left, AreCounted};
 ghost use Rattle.mmcs_opening_text.specs.Readings.{after_cap_line, after_digest, after_line, after_query, after_row};
-ghost use Rattle.mmcs_opening_text.specs.Readings.{expected_after, reading_of, settled, shown_in, shown_of, unread};
-ghost use Rattle.mmcs_opening_text.specs.Readings.{whole_at};
+ghost use Rattle.mmcs_opening_text.specs.Readings.{behind_first, expected_after, pair_by, pair_in, pair_of, reading_of};
+ghost use Rattle.mmcs_opening_text.specs.Readings.{settled, shown_by, shown_in, shown_of, unread, whole_at};
 
 use crate::digest::LineDigest;
 use crate::fault::{Expected, Fault};
 use crate::line::{number_behind, row_of};
-use mmcs_text::input::{cut_line, is_blank, without_return};
+use crate::lines::Lines;
+use mmcs_text::input::is_blank;
 use mmcs_text::word::Word;
 use p3_support::matrix::Dimensions;
 use std::alloc::{AllocError, Global};
@@ -22,12 +27,45 @@ use std::mem;
 pub struct Statement<W, H> {
     /// The digests of the cap.
     pub cap: Vec<H>,
+    /// The opening.
+    pub opening: Opening<W, H>,
+}
+
+/// What an input shows of two openings under one cap.
+#[derive(Drop)]
+pub struct Pair<W, H> {
+    /// The digests of the cap.
+    pub cap: Vec<H>,
+    /// The first opening.
+    pub first: Opening<W, H>,
+    /// The second.
+    pub second: Opening<W, H>,
+}
+
+/// An opening of indices.
+#[derive(Drop)]
+pub struct Opening<W, H> {
     /// The indices, in the order of their lines.
     pub indices: Vec<usize>,
     /// The rows of each index, one for each matrix.
     pub rows: Vec<Vec<Vec<W>>>,
     /// The digests of the proof.
     pub digests: Vec<H>,
+}
+
+impl<W, H> Opening<W, H> {
+    /// An opening that shows nothing yet.
+    fn new(alloc: Global) -> Opening<W, H>
+        ensures indices { result.indices.items ≡ [] }
+        ensures rows { result.rows.items ≡ [] }
+        ensures digests { result.digests.items ≡ [] }
+    {
+        Opening {
+            indices: Vec::new(alloc),
+            rows: Vec::new(alloc),
+            digests: Vec::new(alloc),
+        }
+    }
 }
 
 /// What comes next.
@@ -63,9 +101,7 @@ impl<W: Word, H: LineDigest> Reader<W, H> {
             stage: Stage::Cap,
             shown: Statement {
                 cap: Vec::new(alloc),
-                indices: Vec::new(alloc),
-                rows: Vec::new(alloc),
-                digests: Vec::new(alloc),
+                opening: Opening::new(alloc),
             },
             row_set: Vec::new(alloc),
         }
@@ -90,7 +126,7 @@ impl<W: Word, H: LineDigest> Reader<W, H> {
                     None => Expected::Row { width: 0, max },
                 }
             }
-            Stage::Digests(count) if self.shown.digests.len() == count => Expected::End,
+            Stage::Digests(count) if self.shown.opening.digests.len() == count => Expected::End,
             Stage::Digests(_) => Expected::Digest { digits },
         }
     }
@@ -100,7 +136,7 @@ impl<W: Word, H: LineDigest> Reader<W, H> {
         ensures { result ≡ whole_at self.now.stage (reading_of W.value H.words self.now) }
     {
         match self.stage {
-            Stage::Digests(count) => self.shown.digests.len() == count,
+            Stage::Digests(count) => self.shown.opening.digests.len() == count,
             _ => false,
         }
     }
@@ -190,7 +226,7 @@ impl<W: Word, H: LineDigest> Reader<W, H> {
             ≡ (if took then Some (reading_of W.value H.words self.new) else None)) }
     {
         if let Some(index) = number_behind(b"index ", text) {
-            self.shown.indices.push(index)?;
+            self.shown.opening.indices.push(index)?;
             self.stage = Stage::Rows;
             self.settle(alloc, dimensions)?;
             return Ok(true);
@@ -239,7 +275,7 @@ impl<W: Word, H: LineDigest> Reader<W, H> {
     {
         if self.row_set.len() == dimensions.len() {
             let row_set = mem::replace(&mut self.row_set, Vec::new(alloc));
-            self.shown.rows.push(row_set)?;
+            self.shown.opening.rows.push(row_set)?;
             self.stage = Stage::Queries;
         }
         Ok(())
@@ -254,14 +290,126 @@ impl<W: Word, H: LineDigest> Reader<W, H> {
         ensures { IfOk result (λ took. after_digest H.hash count (reading_of W.value H.words self.old) text.now
             ≡ (if took then Some (reading_of W.value H.words self.new) else None)) }
     {
-        if self.shown.digests.len() == count {
+        if self.shown.opening.digests.len() == count {
             return Ok(is_blank(text));
         }
         let Some(digest) = H::from_line(text) else {
             return Ok(false);
         };
-        self.shown.digests.push(digest)?;
+        self.shown.opening.digests.push(digest)?;
         Ok(true)
+    }
+
+    /// The opening that was read, and a reader of another one under the same cap.
+    fn next_opening(self, alloc: Global) -> (Opening<W, H>, Reader<W, H>)
+        ensures opening { result.0 ≡ self.shown.opening }
+        ensures reader { (result.1.shown.cap ≡ self.shown.cap) ×
+            (reading_of W.value H.words result.1 ≡ behind_first (reading_of W.value H.words self)) }
+    {
+        let Statement { cap, opening } = self.shown;
+        let reader = Reader {
+            stage: Stage::Queries,
+            shown: Statement {
+                cap,
+                opening: Opening::new(alloc),
+            },
+            row_set: Vec::new(alloc),
+        };
+        (opening, reader)
+    }
+
+    /// The fault of a line that is missing.
+    fn missing(&self, dimensions: &[Dimensions], lines: &Lines<'_>) -> Fault
+        requires words { W.MAX ≡ max_word H.hash }
+        requires counted { AreCounted lines.now }
+        ensures { result ≡ Line (lines.now.read + 1)
+            (expected_after H.hash dimensions.now (reading_of W.value H.words self.now)) }
+    {
+        let line = lines.next_number();
+        let expected = self.expected(dimensions);
+        Fault::Line { line, expected }
+    }
+
+    /// Reads lines until an opening is whole.
+    ///
+    /// # Errors
+    ///
+    /// `Line` for the first line that is not what may stand there, or `Tree(OutOfMemory)`.
+    fn read_opening(
+        &mut self,
+        alloc: Global,
+        dimensions: &[Dimensions],
+        lines: &mut Lines<'_>,
+    ) -> Result<(), Fault>
+        requires words { W.MAX ≡ max_word H.hash }
+        requires counted { AreCounted lines.now }
+        ensures counted { AreCounted lines.new }
+        ensures whole { OnOk result (whole_at self.new.stage (reading_of W.value H.words self.new) ≡ true) }
+        ensures read { OnOk result
+            (pair_by H.hash dimensions.now (reading_of W.value H.words self.old) lines.old.read (lines_left lines.old)
+            ≡ pair_by H.hash dimensions.now (reading_of W.value H.words self.new) lines.new.read (lines_left lines.new)) }
+        ensures fault { IfErr result (λ fault. (fault ≡ Tree OutOfMemory) ⊎
+            (pair_by H.hash dimensions.now (reading_of W.value H.words self.old) lines.old.read (lines_left lines.old)
+            ≡ Err fault)) }
+    {
+        while !self.is_whole() {
+            let Some(text) = lines.next_line() else {
+                return Err(self.missing(dimensions, lines));
+            };
+            self.take_line(alloc, dimensions, text, lines.number())?;
+        }
+        Ok(())
+    }
+
+    /// Reads all lines that are left.
+    ///
+    /// # Errors
+    ///
+    /// `Line` for the first line that is not what may stand there, or `Tree(OutOfMemory)`.
+    fn read_to_end(
+        &mut self,
+        alloc: Global,
+        dimensions: &[Dimensions],
+        lines: &mut Lines<'_>,
+    ) -> Result<(), Fault>
+        requires words { W.MAX ≡ max_word H.hash }
+        requires counted { AreCounted lines.now }
+        ensures shown { OnOk result
+            (shown_by H.hash dimensions.now (reading_of W.value H.words self.old) lines.old.read (lines_left lines.old)
+            ≡ Ok (shown_of W.value H.words self.new.shown)) }
+        ensures fault { IfErr result (λ fault. (fault ≡ Tree OutOfMemory) ⊎
+            (shown_by H.hash dimensions.now (reading_of W.value H.words self.old) lines.old.read (lines_left lines.old)
+            ≡ Err fault)) }
+    {
+        while let Some(text) = lines.next_line() {
+            self.take_line(alloc, dimensions, text, lines.number())?;
+        }
+        if self.is_whole() {
+            Ok(())
+        } else {
+            Err(self.missing(dimensions, lines))
+        }
+    }
+}
+
+/// Reads the blank line between two openings.
+///
+/// # Errors
+///
+/// `Line` where the next line is not blank, or is missing.
+fn take_blank_line(lines: &mut Lines<'_>) -> Result<(), Fault>
+    requires { AreCounted lines.now }
+    ensures counted { AreCounted lines.new }
+    ensures blank { OnOk result ((line : List ℕ) × (is_blank line ≡ true) ×
+        (lines_left lines.old ≡ line ∷ lines_left lines.new) × (lines.new.read ≡ lines.old.read + 1)) }
+    ensures fault { IfErr result (λ fault. (fault ≡ Line (lines.old.read + 1) BlankLine) ×
+        ((line : List ℕ) (below : List (List ℕ)) → lines_left lines.old ≡ line ∷ below → is_blank line ≡ false)) }
+{
+    let line = lines.next_number();
+    let expected = Expected::BlankLine;
+    match lines.next_line() {
+        Some(text) if is_blank(text) => Ok(()),
+        _ => Err(Fault::Line { line, expected }),
     }
 }
 
@@ -285,20 +433,40 @@ pub fn read_statement<W: Word, H: LineDigest>(
     ensures fault { IfErr result
         (λ fault. (fault ≡ Tree OutOfMemory) ⊎ (shown_in H.hash dimensions.now input.now ≡ Err fault)) }
 {
+    let mut lines = Lines::new(input);
     let mut reader = Reader::new(alloc);
-    let mut line = 0;
-    let mut rest = Some(input);
-    while let Some(left) = rest {
-        let (piece, below) = cut_line(left);
-        rest = below;
-        line += 1;
-        reader.take_line(alloc, dimensions, without_return(piece), line)?;
-    }
-    if reader.is_whole() {
-        Ok(reader.shown)
-    } else {
-        let expected = reader.expected(dimensions);
-        let line = line + 1;
-        Err(Fault::Line { line, expected })
-    }
+    reader.read_to_end(alloc, dimensions, &mut lines)?;
+    Ok(reader.shown)
+}
+
+/// What an input shows of two openings under one cap, for matrices of these dimensions.
+///
+/// A cap and an opening come first, as in [`read_statement`]; then a blank line, and another opening of that cap. Blank
+/// lines may follow.
+///
+/// # Errors
+///
+/// `Line` for the first line that is not what may stand there, or `Tree(OutOfMemory)`.
+pub fn read_pair<W: Word, H: LineDigest>(
+    alloc: Global,
+    dimensions: &[Dimensions],
+    input: &[u8],
+) -> Result<Pair<W, H>, Fault>
+    requires { W.MAX ≡ max_word H.hash }
+    ensures shown { IfOk result
+        (λ found. pair_in H.hash dimensions.now input.now ≡ Ok (pair_of W.value H.words found)) }
+    ensures fault { IfErr result
+        (λ fault. (fault ≡ Tree OutOfMemory) ⊎ (pair_in H.hash dimensions.now input.now ≡ Err fault)) }
+{
+    let mut lines = Lines::new(input);
+    let mut reader = Reader::new(alloc);
+    reader.read_opening(alloc, dimensions, &mut lines)?;
+    take_blank_line(&mut lines)?;
+    let (first, mut reader) = reader.next_opening(alloc);
+    reader.read_to_end(alloc, dimensions, &mut lines)?;
+    let Statement {
+        cap,
+        opening: second,
+    } = reader.shown;
+    Ok(Pair { cap, first, second })
 }

@@ -30,7 +30,7 @@ pub fn push_digests<W: Word, const D: usize>(
 /// # Errors
 ///
 /// `AllocError` where there is no memory.
-fn push_hex_words<W: Word>(text: &mut Vec<u8>, words: &[W]) -> Result<(), AllocError>
+pub fn push_hex_words<W: Word>(text: &mut Vec<u8>, words: &[W]) -> Result<(), AllocError>
     ensures { OnOk result
         (text.new.items ≡ text.old.items ++ flat_map (hex_word W.HEX_DIGITS) (map W.value words.now)) }
 {

@@ -1,5 +1,5 @@
-//! Checks a cap and an opening of it, without the matrices:
-//! `mmcs_verify fold|sha256 2|4|8 CAP[f] HEIGHTxWIDTH..`.
+//! Checks a cap and an opening of it, without the matrices, or compares two openings of a cap:
+//! `mmcs_verify fold|sha256 2|4|8 CAP[f] [collide] HEIGHTxWIDTH..`.
 #![tactic(auto)]
 
 use mmcs_verify_engine::engine::run;

@@ -2,6 +2,7 @@
 
 ghost use Rattle.std.specs.Prelude.{◌≡◌, ◌↔◌, map, None, Some};
 ghost use Rattle.mmcs_opening_text.specs.declared.request.Setting.{Setting};
+ghost use Rattle.mmcs_opening_text.specs.declared.request.Task.TheVariants.{Verify};
 ghost use Rattle.mmcs_verify_engine.specs.Outcomes.{outcome_of};
 ghost use Rattle.mmcs_verify_c.specs.Copies.{IsStatus};
 ghost use Rattle.mmcs_verify_c.specs.Settings.{dimensions_of_size, setting_shown};
@@ -42,7 +43,8 @@ pub extern "C" fn mmcs_verify_text(
     ensures setting { (result ≡ 2) ↔ (setting_shown setting.now ≡ None) }
     ensures no_text { result ≡ 2 → size.new ≡ 0 }
     ensures status { (shown : Setting) → setting_shown setting.now ≡ Some shown →
-        IsStatus (outcome_of shown (map dimensions_of_size sizes.now) input.now) text.old text.new size.new result }
+        IsStatus (outcome_of shown Verify (map dimensions_of_size sizes.now) input.now) text.old text.new size.new
+        result }
 {
     let Some(shown) = setting.shown() else {
         return told(&[], WRONG_SETTING, text, size);

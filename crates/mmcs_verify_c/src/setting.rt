@@ -1,9 +1,10 @@
 //! What the caller tells of a tree and its matrices.
 
 ghost use Rattle.std.specs.Prelude.{◌≡◌, map, IfOk};
+ghost use Rattle.mmcs_opening_text.specs.declared.request.Task.TheVariants.{Verify};
 ghost use Rattle.mmcs_verify_c.specs.Settings.{dimensions_of_size, setting_shown};
 
-use mmcs_opening_text::request::{Request, Setting};
+use mmcs_opening_text::request::{Request, Setting, Task};
 use mmcs_text::command::{Arity, CapChoice, HashName};
 use p3_merkle_tree::CapRule;
 use p3_support::matrix::Dimensions;
@@ -72,7 +73,7 @@ pub fn request_of(
     setting: Setting,
     sizes: &[MatrixSize],
 ) -> Result<Request, AllocError>
-    ensures { IfOk result (λ request. (request.setting ≡ setting) ×
+    ensures { IfOk result (λ request. (request.setting ≡ setting) × (request.task ≡ Verify) ×
         (request.dimensions.items ≡ map dimensions_of_size sizes.now)) }
 {
     let mut dimensions = Vec::with_capacity(alloc, sizes.len())?;
@@ -84,6 +85,7 @@ pub fn request_of(
     }
     Ok(Request {
         setting,
+        task: Task::Verify,
         dimensions,
     })
 }

@@ -41,6 +41,7 @@ use Rattle.mmcs_opening_text.specs.Lines.{word_digits}
 use Rattle.mmcs_opening_text.specs.Printing.{text_shown, IsQueryOf, IsRowOf, IsShownOf}
 use Rattle.mmcs_opening_text.specs.Readings.{Shown}
 use Rattle.mmcs_opening_text.specs.declared.request.Setting.{Setting}
+use Rattle.mmcs_opening_text.specs.declared.request.Task.TheVariants.{Verify}
 use Rattle.mmcs_opening_text.proofs.PrintedFacts.{printed_is_read}
 use Rattle.mmcs_verify_engine.specs.Accepted.{cap_and_opening, command_for, dimensions_of_rows, OutcomesAreAccepted}
 use Rattle.mmcs_verify_engine.specs.Accepted.{PrintedIsAccepted}
@@ -51,7 +52,7 @@ use Rattle.mmcs_verify_engine.proofs.RowFacts.{batch_full, matrices_full, opened
 -- ---- trees
 
 -- the arities are lawful
-arity_lawful : (arity : Arity) → IsArity (arity_number arity)
+pub arity_lawful : (arity : Arity) → IsArity (arity_number arity)
 arity_lawful Two = arity_from 2 refl
 arity_lawful Four = arity_from 4 refl
 arity_lawful Eight = arity_from 8 refl
@@ -192,10 +193,10 @@ module _ (setting : Setting) (indices input : List ℕ) (matrices : List (List (
       (honest_accepted_pruned nat_eq nat_eq (functions_of_hash hash) tree cap_at indices Decides-eqb Decides-eqb asked
       (batch_full (max_word hash + 1) (arity_number setting.arity) matrices full))
 
-  answered : outcome_of setting (dimensions_of_rows matrices) (cap_and_opening setting indices matrices) ≡ Ok
+  answered : outcome_of setting Verify (dimensions_of_rows matrices) (cap_and_opening setting indices matrices) ≡ Ok
       (output_of (command_for setting Check) indices matrices)
   answered =
-      ap (outcome_of setting (dimensions_of_rows matrices)) text_is
+      ap (outcome_of setting Verify (dimensions_of_rows matrices)) text_is
       ∙ ap (answer_to setting (dimensions_of_rows matrices))
       (printed_is_read hash (dimensions_of_rows matrices) shown is_shown)
       ∙ ap (λ refusal. told refusal (length digests)) accepted
@@ -223,6 +224,6 @@ outcomes_are_accepted setting indices for_cap for_opening input cap opening cap_
     let cap_text = first.3 ∙ ap (output_of (command_for setting Commit) []) same in (
       second.0,
       second.1,
-      ap (outcome_of setting (dimensions_of_rows second.0)) (λ i. cap_text i ++ 10 ∷ second.3 i)
+      ap (outcome_of setting Verify (dimensions_of_rows second.0)) (λ i. cap_text i ++ 10 ∷ second.3 i)
           ∙ printed_is_accepted setting indices input second.0 second.1 second.2,
     )

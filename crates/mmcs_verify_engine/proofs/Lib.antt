@@ -1,7 +1,10 @@
 pub mod WordFacts
 pub mod FaultFacts
 pub mod AnswerFacts
+pub mod CollisionFacts
+pub mod CompareFacts
 pub mod VerdictFacts
 pub mod DigestFacts
 pub mod RowFacts
 pub mod AcceptedFacts
+pub mod BindingFacts

@@ -1,17 +1,18 @@
 -- What a scheme of words answers is what is due of their numbers.
 use Rattle.std.proofs.Common.{◌≡◌, ◌⊎◌, ⊎_elim, inl, inr, ℕ, Bool, List, length, map, Option, Some, None, Result, Ok}
-use Rattle.std.proofs.Common.{Err, sym, ap, ◌∙◌, subst}
+use Rattle.std.proofs.Common.{Err, refl, sym, ap, ◌∙◌, subst}
 use Rattle.std.specs.Prelude.{nat_eq, IfErr}
+use Rattle.std.specs.Option.{option_or}
 use Rattle.std.proofs.lemmas.List.{length-map}
 use Rattle.std.proofs.lemmas.Simd.{map-map}
 use Rattle.p3_support.specs.Shown.{row_sets}
 use Rattle.p3_support.specs.declared.matrix.Dimensions.{Dimensions}
 use Rattle.p3_merkle_core.specs.Caps.{cap_layer}
-use Rattle.p3_merkle_core.specs.Checks.{terms}
+use Rattle.p3_merkle_core.specs.Checks.{terms, Input, Terms}
 use Rattle.p3_merkle_core.specs.Geometry.{shape_of, Shape}
 use Rattle.p3_merkle_core.specs.Nodes.{Functions}
-use Rattle.p3_merkle_core.specs.Pruning.{pruned_of, PrunedOpening}
-use Rattle.p3_merkle_core.specs.Refusals.{pruned_refusal_under, IsEquality}
+use Rattle.p3_merkle_core.specs.Pruning.{pruned_of}
+use Rattle.p3_merkle_core.specs.Refusals.{ok_unless, pruned_refusal_under, IsEquality}
 use Rattle.p3_merkle_core.specs.declared.cap.CapRule.{CapRule}
 use Rattle.p3_merkle_core.specs.declared.error.MerkleTreeError.{MerkleTreeError}
 use Rattle.p3_merkle_core.specs.declared.error.MerkleTreeError.TheVariants.{OutOfMemory}
@@ -19,14 +20,32 @@ use Rattle.mmcs_text.specs.Text.{ok_line}
 use Rattle.mmcs_text.specs.Words.{arity_number}
 use Rattle.mmcs_text.specs.declared.command.HashName.{HashName}
 use Rattle.mmcs_engine.specs.Program.{functions_of_hash}
-use Rattle.mmcs_engine.specs.Inner.Alike.{IsSchemeOf}
+use Rattle.mmcs_engine.specs.Inner.Alike.{pruned_in_numbers, IsSchemeOf}
 use Rattle.mmcs_engine.proofs.NumberFacts.{refusal_in_numbers}
-use Rattle.mmcs_opening_text.specs.Readings.{shown_in, shown_of, Shown}
+use Rattle.mmcs_opening_text.specs.Readings.{pair_in, pair_of, shown_in, shown_of, shown_under, ShownPair}
 use Rattle.mmcs_opening_text.specs.declared.fault.Fault.{Fault}
 use Rattle.mmcs_opening_text.specs.declared.fault.Fault.TheVariants.{Tree}
+use Rattle.mmcs_opening_text.specs.declared.reader.Opening.{Opening}
+use Rattle.mmcs_opening_text.specs.declared.reader.Pair.{Pair}
 use Rattle.mmcs_opening_text.specs.declared.reader.Statement.{Statement}
 use Rattle.mmcs_opening_text.specs.declared.request.Setting.{Setting}
-use Rattle.mmcs_verify_engine.specs.Outcomes.{answer_to, outcome_of, refusal_asked, told}
+use Rattle.mmcs_opening_text.specs.declared.request.Task.TheVariants.{Verify, Collide}
+use Rattle.mmcs_verify_engine.specs.Collisions.{collision_text}
+use Rattle.mmcs_verify_engine.specs.Outcomes.{answer_to, answer_to_pair, outcome_of, refusal_asked, terms_asked, told}
+use Rattle.mmcs_verify_engine.specs.Outcomes.{told_of_pair}
+use Rattle.mmcs_verify_engine.specs.Inner.TypedCollisions.{difference_read, opening_read, refusal_read, typed_text}
+use Rattle.mmcs_verify_engine.proofs.CollisionFacts.{difference_in, text_in_numbers}
+
+-- the text if nothing is refused
+abbrev told_text : Option MerkleTreeError → List ℕ → Result (List ℕ) Fault
+told_text None text = Ok text
+told_text (Some e) text = Err (Tree e)
+
+told_is : (hash : HashName) (p : ShownPair) (refusal : Option MerkleTreeError)
+    (found : Option (ℕ × ℕ × (Input ℕ ℕ × Input ℕ ℕ))) → told_of_pair hash p (ok_unless refusal found)
+    ≡ told_text refusal (collision_text hash p.first.indices p.second.indices found)
+told_is hash p None found = refl
+told_is hash p (Some e) found = refl
 
 module _ {T : Type 0} (value : T → ℕ) (some_word : (n : ℕ) → (w : T) × (value w ≡ n))
     (one_word : (v w : T) → value v ≡ value w → v ≡ w) (eq : T → T → Bool) (decides : IsEquality eq)
@@ -34,56 +53,111 @@ module _ {T : Type 0} (value : T → ℕ) (some_word : (n : ℕ) → (w : T) × 
     (asked : IsSchemeOf setting.hash setting.cap value max digits f cap_height rule)
     (n : ℕ) (n_is : n ≡ arity_number setting.arity) (hash : HashName) (hash_is : hash ≡ setting.hash)
     (words : List T → List ℕ) (words_are : (digest : List T) → words digest ≡ map value digest)
-    (lent dimensions : List Dimensions) (lent_is : lent ≡ dimensions) (input : List ℕ)
-    (found : Statement T (List T)) (shown_is : shown_in hash lent input ≡ Ok (shown_of value words found)) where
+    (lent dimensions : List Dimensions) (lent_is : lent ≡ dimensions) (input : List ℕ) where
   abbrev own_shape : Shape
   own_shape = shape_of n lent
 
-  abbrev opening : PrunedOpening T T
-  opening = pruned_of found.indices.items (row_sets found.rows.items) found.digests.items
+  abbrev own_terms : Terms T T
+  own_terms = terms f own_shape (cap_layer own_shape rule cap_height)
 
-  -- why the scheme refuses the opening
-  abbrev refusal : Option MerkleTreeError
-  refusal =
-      pruned_refusal_under eq eq (terms f own_shape (cap_layer own_shape rule cap_height)) found.cap.items opening
-
-  abbrev shown : Shown
-  shown = shown_of value words found
+  -- the terms of numbers
+  terms_are : terms (functions_of_hash setting.hash) own_shape (cap_layer own_shape rule cap_height)
+      ≡ terms_asked setting lent
+  terms_are = λ i. terms (functions_of_hash setting.hash) (shape_of (n_is i) lent)
+      (cap_layer (shape_of (n_is i) lent) (asked.same_rule i) (asked.same_height i))
 
   words_is : map value ≡ words
   words_is = λ i digest. sym (words_are digest) i
 
-  rows_are : map (map (map value)) (row_sets found.rows.items) ≡ shown.rows
-  rows_are =
-      map-map (map (map value)) (λ set. map (λ row. row.items) set.items) found.rows.items
-      ∙ (λ i. map (λ set. map-map (map value) (λ row. row.items) set.items i) found.rows.items)
+  rows_are : (o : Opening T (List T)) → map (map (map value)) (row_sets o.rows.items)
+      ≡ map (λ set. map (λ row. map value row.items) set.items) o.rows.items
+  rows_are o =
+      map-map (map (map value)) (λ set. map (λ row. row.items) set.items) o.rows.items
+      ∙ (λ i. map (λ set. map-map (map value) (λ row. row.items) set.items i) o.rows.items)
 
-  refusal_is : refusal ≡ refusal_asked setting lent shown
-  refusal_is =
+  -- what is shown of an opening are its numbers
+  opening_is : (o : Opening T (List T)) → pruned_in_numbers value (opening_read o)
+      ≡ pruned_of o.indices.items (map (λ set. map (λ row. map value row.items) set.items) o.rows.items)
+      (map words o.digests.items)
+  opening_is o = λ i. pruned_of o.indices.items (rows_are o i) (map (words_is i) o.digests.items)
+
+  -- the scheme refuses it where that is due
+  refusal_is : (cap : List (List T)) (o : Opening T (List T)) →
+      pruned_refusal_under eq eq own_terms cap (opening_read o)
+      ≡ refusal_asked setting lent (shown_under value words cap o)
+  refusal_is cap o =
       refusal_in_numbers value some_word one_word f (functions_of_hash setting.hash) asked.alike eq decides own_shape
-      (cap_layer own_shape rule cap_height) found.cap.items opening
-      ∙ (λ i. pruned_refusal_under nat_eq nat_eq
-      (terms (functions_of_hash setting.hash) (shape_of (n_is i) lent)
-      (cap_layer (shape_of (n_is i) lent) (asked.same_rule i) (asked.same_height i)))
-      (map (words_is i) found.cap.items)
-      (pruned_of found.indices.items (rows_are i) (map (words_is i) found.digests.items)))
+      (cap_layer own_shape rule cap_height) cap (opening_read o)
+      ∙ (λ i. pruned_refusal_under nat_eq nat_eq (terms_are i) (map (words_is i) cap) (opening_is o i))
 
-  outcome_is : outcome_of setting dimensions input ≡ told refusal (length found.digests.items)
-  outcome_is =
-      (λ i. answer_to setting (sym lent_is i) (shown_in (sym hash_is i) (sym lent_is i) input))
-      ∙ ap (answer_to setting lent) shown_is
-      ∙ (λ i. told (sym refusal_is i) (length-map found.digests.items words i))
+  -- ---- one opening
 
-  pub outcome_text : (count : ℕ) (text : List ℕ) → refusal ≡ None → count ≡ length found.digests.items →
-      text ≡ ok_line count → outcome_of setting dimensions input ≡ Ok text
-  outcome_text count text none count_is text_is =
-      outcome_is ∙ (λ i. told (none i) (sym count_is i)) ∙ ap Ok (sym text_is)
+  module _ (found : Statement T (List T)) (shown_is : shown_in hash lent input ≡ Ok (shown_of value words found)) where
+    abbrev refusal : Option MerkleTreeError
+    refusal = pruned_refusal_under eq eq own_terms found.cap.items (opening_read found.opening)
 
-  pub outcome_fault : {V : Type 0} (result : Result V Fault) (e : MerkleTreeError) → result ≡ Err (Tree e) →
-      (e ≡ OutOfMemory) ⊎ (refusal ≡ Some e) →
-      IfErr result (λ f. (f ≡ Tree OutOfMemory) ⊎ (outcome_of setting dimensions input ≡ Err f))
-  outcome_fault {V} result e result_is why =
-      subst (λ (r : Result V Fault).
-      IfErr r (λ f. (f ≡ Tree OutOfMemory) ⊎ (outcome_of setting dimensions input ≡ Err f))) (sym result_is)
-      (⊎_elim (λ memory. inl (ap Tree memory))
-      (λ refused. inr (outcome_is ∙ ap (λ r. told r (length found.digests.items)) refused)) why)
+    outcome_is : outcome_of setting Verify dimensions input ≡ told refusal (length found.opening.digests.items)
+    outcome_is =
+        (λ i. answer_to setting (sym lent_is i) (shown_in (sym hash_is i) (sym lent_is i) input))
+        ∙ ap (answer_to setting lent) shown_is
+        ∙ (λ i. told (sym (refusal_is found.cap.items found.opening) i)
+        (length-map found.opening.digests.items words i))
+
+    pub outcome_text : (count : ℕ) (text : List ℕ) → refusal ≡ None → count ≡ length found.opening.digests.items →
+        text ≡ ok_line count → outcome_of setting Verify dimensions input ≡ Ok text
+    outcome_text count text none count_is text_is =
+        outcome_is ∙ (λ i. told (none i) (sym count_is i)) ∙ ap Ok (sym text_is)
+
+    pub outcome_fault : {V : Type 0} (result : Result V Fault) (e : MerkleTreeError) → result ≡ Err (Tree e) →
+        (e ≡ OutOfMemory) ⊎ (refusal ≡ Some e) →
+        IfErr result (λ f. (f ≡ Tree OutOfMemory) ⊎ (outcome_of setting Verify dimensions input ≡ Err f))
+    outcome_fault {V} result e result_is why =
+        subst (λ (r : Result V Fault).
+        IfErr r (λ f. (f ≡ Tree OutOfMemory) ⊎ (outcome_of setting Verify dimensions input ≡ Err f))) (sym result_is)
+        (⊎_elim (λ memory. inl (ap Tree memory))
+        (λ refused. inr (outcome_is ∙ ap (λ r. told r (length found.opening.digests.items)) refused)) why)
+
+  -- ---- two openings
+
+  module _ (pair : Pair T (List T)) (pair_is : pair_in hash lent input ≡ Ok (pair_of value words pair)) where
+    abbrev own_text : List ℕ
+    own_text = typed_text value digits f pair.first.indices.items pair.second.indices.items
+        (difference_read eq own_terms pair)
+
+    abbrev shown : ShownPair
+    shown = pair_of value words pair
+
+    due_text : own_text ≡ collision_text setting.hash shown.first.indices shown.second.indices
+        (difference_in nat_eq (terms_asked setting lent) shown.first.cap
+        (pruned_of shown.first.indices shown.first.rows shown.first.digests)
+        (pruned_of shown.second.indices shown.second.rows shown.second.digests))
+    due_text =
+        (λ i. typed_text value (asked.printed_digits i) f pair.first.indices.items pair.second.indices.items
+        (difference_read eq own_terms pair))
+        ∙ text_in_numbers value some_word one_word setting.hash f asked.alike eq decides own_shape
+        (cap_layer own_shape rule cap_height) pair.cap.items (opening_read pair.first) (opening_read pair.second)
+        ∙ (λ i. collision_text setting.hash pair.first.indices.items pair.second.indices.items
+        (difference_in nat_eq (terms_are i) (map (words_is i) pair.cap.items) (opening_is pair.first i)
+        (opening_is pair.second i)))
+
+    pair_outcome_is : outcome_of setting Collide dimensions input ≡ told_text (refusal_read eq own_terms pair) own_text
+    pair_outcome_is =
+        (λ i. answer_to_pair setting (sym lent_is i) (pair_in (sym hash_is i) (sym lent_is i) input))
+        ∙ ap (answer_to_pair setting lent) pair_is
+        ∙ told_is setting.hash shown _ _
+        ∙ (λ i. told_text (option_or (sym (refusal_is pair.cap.items pair.first) i)
+        (sym (refusal_is pair.cap.items pair.second) i)) (sym due_text i))
+
+    pub pair_outcome_text : (text : List ℕ) → refusal_read eq own_terms pair ≡ None → text ≡ own_text →
+        outcome_of setting Collide dimensions input ≡ Ok text
+    pair_outcome_text text none text_is =
+        pair_outcome_is ∙ (λ i. told_text (none i) own_text) ∙ ap Ok (sym text_is)
+
+    pub pair_outcome_fault : {V : Type 0} (result : Result V Fault) (e : MerkleTreeError) → result ≡ Err (Tree e) →
+        (e ≡ OutOfMemory) ⊎ (refusal_read eq own_terms pair ≡ Some e) →
+        IfErr result (λ f. (f ≡ Tree OutOfMemory) ⊎ (outcome_of setting Collide dimensions input ≡ Err f))
+    pair_outcome_fault {V} result e result_is why =
+        subst (λ (r : Result V Fault).
+        IfErr r (λ f. (f ≡ Tree OutOfMemory) ⊎ (outcome_of setting Collide dimensions input ≡ Err f))) (sym result_is)
+        (⊎_elim (λ memory. inl (ap Tree memory))
+        (λ refused. inr (pair_outcome_is ∙ ap (λ r. told_text r own_text) refused)) why)

@@ -10,6 +10,7 @@ use Rattle.mmcs_text.specs.declared.command.Action.TheVariants.{Commit, Open, Ch
 use Rattle.mmcs_text.specs.declared.command.Command.{Command}
 use Rattle.mmcs_engine.specs.Program.{output_of, AreTaken, IsOutcome}
 use Rattle.mmcs_opening_text.specs.declared.request.Setting.{Setting}
+use Rattle.mmcs_opening_text.specs.declared.request.Task.TheVariants.{Verify}
 use Rattle.mmcs_verify_engine.specs.Outcomes.{outcome_of}
 
 -- the command of `mmcs` for an action, with the hash, the arity and the cap of a verifier's setting
@@ -32,7 +33,7 @@ abbrev pub PrintedIsAccepted : Type 0
 PrintedIsAccepted =
     (setting : Setting) (indices input : List ℕ) (matrices : List (List (List ℕ))) →
     StandsFor (max_word setting.hash + 1) input matrices → AreTaken indices matrices →
-    outcome_of setting (dimensions_of_rows matrices) (cap_and_opening setting indices matrices) ≡ Ok
+    outcome_of setting Verify (dimensions_of_rows matrices) (cap_and_opening setting indices matrices) ≡ Ok
     (output_of (command_for setting Check) indices matrices)
 
 -- the same by the outcomes of `mmcs`: where words for `commit` and words for `open` have texts as their outcomes on one
@@ -43,5 +44,5 @@ OutcomesAreAccepted =
     AreWords for_cap (command_for setting Commit) [] → AreWords for_opening (command_for setting Open) indices →
     IsOutcome for_cap input (Ok cap) → IsOutcome for_opening input (Ok opening) →
     (matrices : List (List (List ℕ))) × StandsFor (max_word setting.hash + 1) input matrices ×
-    (outcome_of setting (dimensions_of_rows matrices) (cap ++ 10 ∷ opening) ≡ Ok
+    (outcome_of setting Verify (dimensions_of_rows matrices) (cap ++ 10 ∷ opening) ≡ Ok
     (output_of (command_for setting Check) indices matrices))

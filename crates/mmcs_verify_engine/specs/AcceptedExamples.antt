@@ -13,6 +13,7 @@ use Rattle.mmcs_opening_text.specs.Lines.{words_of}
 use Rattle.mmcs_opening_text.specs.Readings.{shown_by}
 use Rattle.mmcs_opening_text.specs.declared.fault.Fault.TheVariants.{Tree}
 use Rattle.mmcs_opening_text.specs.declared.request.Setting.{Setting}
+use Rattle.mmcs_opening_text.specs.declared.request.Task.TheVariants.{Verify}
 use Rattle.mmcs_verify_engine.specs.Accepted.{cap_and_opening, dimensions_of_rows}
 use Rattle.mmcs_verify_engine.specs.Outcomes.{outcome_of}
 
@@ -30,14 +31,14 @@ pub its_text : cap_and_opening fold_2_0 (1 ∷ []) two_rows
 unfolding digits exponent layer_exponent raw_len leaves_under node fold_hash fold_compress
 its_text = refl
 
-pub is_accepted : outcome_of fold_2_0 (dimensions_of_rows two_rows) (cap_and_opening fold_2_0 (1 ∷ []) two_rows)
+pub is_accepted : outcome_of fold_2_0 Verify (dimensions_of_rows two_rows) (cap_and_opening fold_2_0 (1 ∷ []) two_rows)
     ≡ Ok (codes "ok 1" ++ 10 ∷ [])
 unfolding digits exponent layer_exponent raw_len leaves_under node restored_node fold_hash fold_compress shown_by
     words_of
 is_accepted = refl
 
 -- another row in its place is refused
-pub is_refused : outcome_of fold_2_0 (dimensions_of_rows two_rows)
+pub is_refused : outcome_of fold_2_0 Verify (dimensions_of_rows two_rows)
     (codes "00000445" ++ 10 ∷ 10 ∷ codes "index 1" ++ 10 ∷ codes "8" ++ 10 ∷ codes "digests 1" ++ 10 ∷
     codes "00000022" ++ 10 ∷ []) ≡ Err (Tree CapMismatch)
 unfolding exponent layer_exponent raw_len leaves_under restored_node fold_hash fold_compress shown_by words_of

@@ -2,20 +2,25 @@
 use Rattle.std.specs.Prelude.{◌≡◌, ◌⊎◌, ◌↔◌, ℕ, List, length, nat_eq, Option, None, Some, Result, Ok, Err, OnErr}
 use Rattle.std.specs.Io.KnownBytes.{Appends}
 use Rattle.p3_support.specs.declared.matrix.Dimensions.{Dimensions}
-use Rattle.p3_merkle_core.specs.Checks.{Terms, terms}
+use Rattle.p3_merkle_core.specs.Checks.{terms, Input, Terms}
+use Rattle.p3_merkle_core.specs.Extraction.{extraction}
 use Rattle.p3_merkle_core.specs.Geometry.{shape_of}
 use Rattle.p3_merkle_core.specs.Pruning.{pruned_of}
-use Rattle.p3_merkle_core.specs.Refusals.{pruned_refusal_under}
+use Rattle.p3_merkle_core.specs.Presented.{presented_pruned, Presented}
 use Rattle.p3_merkle_core.specs.declared.error.MerkleTreeError.{MerkleTreeError}
 use Rattle.p3_merkle_core.specs.declared.error.MerkleTreeError.TheVariants.{OutOfMemory}
 use Rattle.mmcs_text.specs.Text.{ok_line}
 use Rattle.mmcs_text.specs.Words.{arity_number}
+use Rattle.mmcs_text.specs.declared.command.HashName.{HashName}
 use Rattle.mmcs_engine.specs.Program.{functions_of_hash, layer_of_cap}
-use Rattle.mmcs_opening_text.specs.Readings.{shown_in, Shown}
+use Rattle.mmcs_opening_text.specs.Readings.{pair_in, shown_in, Shown, ShownPair}
 use Rattle.mmcs_opening_text.specs.Requests.{AreNoCommand, AreWords}
 use Rattle.mmcs_opening_text.specs.declared.fault.Fault.{Fault}
 use Rattle.mmcs_opening_text.specs.declared.fault.Fault.TheVariants.{Usage, Read, Tree, Write}
 use Rattle.mmcs_opening_text.specs.declared.request.Setting.{Setting}
+use Rattle.mmcs_opening_text.specs.declared.request.Task.{Task}
+use Rattle.mmcs_opening_text.specs.declared.request.Task.TheVariants.{Verify, Collide}
+use Rattle.mmcs_verify_engine.specs.Collisions.{collision_text}
 
 -- the terms of a check under a setting, for matrices of these dimensions
 abbrev pub terms_asked : Setting → List Dimensions → Terms ℕ ℕ
@@ -23,10 +28,14 @@ terms_asked setting dimensions =
     let s = shape_of (arity_number setting.arity) dimensions in
     terms (functions_of_hash setting.hash) s (layer_of_cap setting.cap s)
 
+-- a cap and an opening of it, as the verifier takes them
+abbrev pub presented_asked : Setting → List Dimensions → Shown → Presented ℕ ℕ
+presented_asked setting dimensions s =
+    presented_pruned nat_eq nat_eq (terms_asked setting dimensions) s.cap (pruned_of s.indices s.rows s.digests)
+
 -- why the verifier refuses what an input shows
 abbrev pub refusal_asked : Setting → List Dimensions → Shown → Option MerkleTreeError
-refusal_asked setting dimensions s =
-    pruned_refusal_under nat_eq nat_eq (terms_asked setting dimensions) s.cap (pruned_of s.indices s.rows s.digests)
+refusal_asked setting dimensions s = (presented_asked setting dimensions s).refusal
 
 -- how many digests were sent, or the refusal
 abbrev pub told : Option MerkleTreeError → ℕ → Result (List ℕ) Fault
@@ -38,9 +47,30 @@ abbrev pub answer_to : Setting → List Dimensions → Result Shown Fault → Re
 answer_to setting dimensions (Ok s) = told (refusal_asked setting dimensions s) (length s.digests)
 answer_to setting dimensions (Err fault) = Err fault
 
+-- what is found in two openings of one cap: the refusal of the first, else of the second, else the first collision of
+-- two queries, if any collide
+abbrev pub extraction_asked : Setting → List Dimensions → ShownPair →
+    Result (Option (ℕ × ℕ × (Input ℕ ℕ × Input ℕ ℕ))) MerkleTreeError
+extraction_asked setting dimensions p =
+    extraction nat_eq nat_eq (terms_asked setting dimensions) (presented_asked setting dimensions p.first)
+    (presented_asked setting dimensions p.second)
+
+-- what is told of it
+abbrev pub told_of_pair : HashName → ShownPair → Result (Option (ℕ × ℕ × (Input ℕ ℕ × Input ℕ ℕ))) MerkleTreeError →
+    Result (List ℕ) Fault
+told_of_pair hash p (Ok found) = Ok (collision_text hash p.first.indices p.second.indices found)
+told_of_pair hash p (Err e) = Err (Tree e)
+
+-- what is answered to two openings that an input shows, or to its first faulty line
+abbrev pub answer_to_pair : Setting → List Dimensions → Result ShownPair Fault → Result (List ℕ) Fault
+answer_to_pair setting dimensions (Ok p) = told_of_pair setting.hash p (extraction_asked setting dimensions p)
+answer_to_pair setting dimensions (Err fault) = Err fault
+
 -- the outcome by definition, of a command and an input: a text or a fault
-abbrev pub outcome_of : Setting → List Dimensions → List ℕ → Result (List ℕ) Fault
-outcome_of setting dimensions input = answer_to setting dimensions (shown_in setting.hash dimensions input)
+abbrev pub outcome_of : Setting → Task → List Dimensions → List ℕ → Result (List ℕ) Fault
+outcome_of setting Verify dimensions input = answer_to setting dimensions (shown_in setting.hash dimensions input)
+outcome_of setting Collide dimensions input =
+    answer_to_pair setting dimensions (pair_in setting.hash dimensions input)
 
 -- a read failed, or there was no memory
 abbrev pub HasFailed : Result (Unit {0}) Fault → Type 0
@@ -63,6 +93,6 @@ pub record IsAnswer {S D : Type 0} (remaining : S → Option (List ℕ)) (conten
   -- no fault but a failed write leaves anything written
   pub silent : OnErr result ((result ≡ Err Write) ⊎ (output_left ≡ output))
   -- the outcome by definition is what the call ends in
-  pub ends : (setting : Setting) (dimensions : List Dimensions) (bytes : List ℕ) → AreWords words setting dimensions →
-      remaining input ≡ Some bytes →
-      EndsIn (contents output) (contents output_left) (outcome_of setting dimensions bytes) result
+  pub ends : (setting : Setting) (task : Task) (dimensions : List Dimensions) (bytes : List ℕ) →
+      AreWords words setting task dimensions → remaining input ≡ Some bytes →
+      EndsIn (contents output) (contents output_left) (outcome_of setting task dimensions bytes) result

@@ -1,10 +1,10 @@
 //! From words and an input to an output.
 
 ghost use Rattle.std.specs.Prelude.{◌≡◌, ◌⊎◌, ◌↔◌, ℕ, List, Err, IfErr, IfOk, IfSome, Ok, OnOk, Some, length, map};
+ghost use Rattle.std.specs.Prelude.{replicate};
 ghost use Rattle.std.specs.Io.KnownBytes.{Appends};
 ghost use Rattle.p3_support.specs.declared.matrix.Dimensions.{Dimensions};
-ghost use Rattle.p3_support.specs.Shown.{row_sets};
-ghost use Rattle.p3_merkle_core.specs.Pruning.{pruned_of};
+ghost use Rattle.p3_merkle_core.specs.Nodes.{functions_of};
 ghost use Rattle.p3_merkle_core.specs.Refusals.{pruned_refusal_under, AnswersUnlessMemory};
 ghost use Rattle.p3_merkle_core.specs.declared.error.MerkleTreeError.TheVariants.{OutOfMemory};
 ghost use Rattle.p3_merkle_tree.specs.Schemes.{cap_height_of, cap_rule_of, scheme_functions, terms_of};
@@ -13,17 +13,24 @@ ghost use Rattle.mmcs_engine.specs.Inner.Alike.{IsSchemeOf};
 ghost use Rattle.mmcs_opening_text.specs.Requests.{AreNoCommand, AreWords};
 ghost use Rattle.mmcs_opening_text.specs.declared.fault.Fault.TheVariants.{Usage, Read, Tree, Write};
 ghost use Rattle.mmcs_opening_text.specs.declared.request.Setting.{Setting};
+ghost use Rattle.mmcs_opening_text.specs.declared.request.Task.{Task};
+ghost use Rattle.mmcs_opening_text.specs.declared.request.Task.TheVariants.{Verify, Collide};
 ghost use Rattle.mmcs_verify_engine.specs.Outcomes.{outcome_of, IsAnswer};
+ghost use Rattle.mmcs_verify_engine.specs.Inner.TypedCollisions.{difference_read, opening_read, refusal_read};
+ghost use Rattle.mmcs_verify_engine.specs.Inner.TypedCollisions.{typed_text};
 
-use mmcs_engine::schemes::{fold_scheme, sha_scheme};
+use crate::collision::collision_text;
+use crate::suite::{Suite, fold_suite, sha_suite};
 use mmcs_opening_text::digest::LineDigest;
 use mmcs_opening_text::fault::Fault;
-use mmcs_opening_text::reader::{Statement, read_statement};
-use mmcs_opening_text::request::Request;
+use mmcs_opening_text::reader::{Pair, Statement, read_pair, read_statement};
+use mmcs_opening_text::request::{Request, Task};
 use mmcs_text::command::{Arity, HashName};
 use mmcs_text::text::push_labelled;
 use mmcs_text::word::Word;
-use p3_merkle_tree::{MerkleCap, MerkleTreeError, MerkleTreeMmcs, PrunedMerklePaths};
+use p3_merkle_tree::{
+    MerkleCap, MerkleTreeError, MerkleTreeMmcs, PrunedMerklePaths, PrunedOpeningRef,
+};
 use p3_support::compress::PseudoCompressionFunction;
 use p3_support::hasher::CryptographicHasher;
 use p3_support::matrix::Dimensions;
@@ -37,6 +44,10 @@ use std::io::{ErrorKind, Read, Write};
 /// The words are `HASH ARITY CAP[f] HEIGHTxWIDTH..`: the hash, the arity and the cap that the tree was built with, and
 /// the height and the width of each matrix. A stream is lent, so that what it has left or holds can be told of.
 ///
+/// With the word `collide` behind the cap, the input is a cap and two openings of it, with blank lines between. Where
+/// both are accepted, and a query of the one and a query of the other lead to two inputs of one digest, it writes where
+/// they stand, the index of each query, both inputs and their digest, else `no collision`.
+///
 /// # Errors
 ///
 /// The first of these that holds, where `Tree(OutOfMemory)` may come at any time:
@@ -44,7 +55,7 @@ use std::io::{ErrorKind, Read, Write};
 /// - `Usage`: the words are no command. Nothing was read.
 /// - `Read`: a read failed.
 /// - `Line`, for the first line that is not what may stand there.
-/// - `Tree`: why the opening is refused.
+/// - `Tree`: why an opening is refused, the first before the second.
 /// - `Write`: a write failed. No other fault leaves anything written.
 pub fn run<Src: Read, Dst: Write>(
     alloc: Global,
@@ -67,13 +78,15 @@ pub fn run<Src: Read, Dst: Write>(
 fn answer_to<Src: Read>(alloc: Global, words: &[String], input: &mut Src) -> Result<Vec<u8>, Fault>
     ensures usage { (result ≡ Err Fault.Usage) ↔ AreNoCommand (texts_of words.now) }
     ensures unread { result ≡ Err Fault.Usage → input.new ≡ input.old }
-    ensures text { IfOk result (λ text. (setting : Setting) (dimensions : List Dimensions) (bytes : List ℕ) →
-        AreWords (texts_of words.now) setting dimensions → Src.remaining input.old ≡ Some bytes →
-        outcome_of setting dimensions bytes ≡ Ok text.items) }
-    ensures fault { IfErr result (λ fault. (setting : Setting) (dimensions : List Dimensions) (bytes : List ℕ) →
-        AreWords (texts_of words.now) setting dimensions → Src.remaining input.old ≡ Some bytes →
+    ensures text { IfOk result (λ text. (setting : Setting) (task : Task) (dimensions : List Dimensions)
+        (bytes : List ℕ) → AreWords (texts_of words.now) setting task dimensions →
+        Src.remaining input.old ≡ Some bytes →
+        outcome_of setting task dimensions bytes ≡ Ok text.items) }
+    ensures fault { IfErr result (λ fault. (setting : Setting) (task : Task) (dimensions : List Dimensions)
+        (bytes : List ℕ) → AreWords (texts_of words.now) setting task dimensions →
+        Src.remaining input.old ≡ Some bytes →
         (fault ≡ Fault.Read) ⊎ ((fault ≡ Fault.Tree OutOfMemory) ⊎
-        (outcome_of setting dimensions bytes ≡ Err fault))) }
+        (outcome_of setting task dimensions bytes ≡ Err fault))) }
 {
     let request = Request::from_words(alloc, words)?;
     let bytes = read_all(alloc, input)?;
@@ -119,30 +132,68 @@ fn write_text<Dst: Write>(output: &mut Dst, text: &[u8]) -> Result<(), Fault>
 ///
 /// # Errors
 ///
-/// `Line` for the first faulty line; else `Tree`: why the opening is refused; or `Tree(OutOfMemory)`.
+/// `Line` for the first faulty line; else `Tree`: why an opening is refused; or `Tree(OutOfMemory)`.
 pub fn reply(alloc: Global, request: &Request, input: &[u8]) -> Result<Vec<u8>, Fault>
     ensures text { IfOk result (λ text.
-        outcome_of request.now.setting request.now.dimensions.items input.now ≡ Ok text.items) }
+        outcome_of request.now.setting request.now.task request.now.dimensions.items input.now ≡ Ok text.items) }
     ensures fault { IfErr result (λ fault. (fault ≡ Fault.Tree OutOfMemory) ⊎
-        (outcome_of request.now.setting request.now.dimensions.items input.now ≡ Err fault)) }
+        (outcome_of request.now.setting request.now.task request.now.dimensions.items input.now ≡ Err fault)) }
 {
     let cap = request.setting.cap;
     match (request.setting.hash, request.setting.arity) {
-        (HashName::Fold, Arity::Two) => reply_by(alloc, &fold_scheme::<2>(cap), request, input),
-        (HashName::Fold, Arity::Four) => reply_by(alloc, &fold_scheme::<4>(cap), request, input),
-        (HashName::Fold, Arity::Eight) => reply_by(alloc, &fold_scheme::<8>(cap), request, input),
-        (HashName::Sha256, Arity::Two) => reply_by(alloc, &sha_scheme::<2>(cap), request, input),
-        (HashName::Sha256, Arity::Four) => reply_by(alloc, &sha_scheme::<4>(cap), request, input),
-        (HashName::Sha256, Arity::Eight) => reply_by(alloc, &sha_scheme::<8>(cap), request, input),
+        (HashName::Fold, Arity::Two) => reply_by(alloc, &fold_suite::<2>(cap), request, input),
+        (HashName::Fold, Arity::Four) => reply_by(alloc, &fold_suite::<4>(cap), request, input),
+        (HashName::Fold, Arity::Eight) => reply_by(alloc, &fold_suite::<8>(cap), request, input),
+        (HashName::Sha256, Arity::Two) => reply_by(alloc, &sha_suite::<2>(cap), request, input),
+        (HashName::Sha256, Arity::Four) => reply_by(alloc, &sha_suite::<4>(cap), request, input),
+        (HashName::Sha256, Arity::Eight) => reply_by(alloc, &sha_suite::<8>(cap), request, input),
     }
 }
 
-/// The same under the scheme of the request.
+/// The same by the suite of the request.
 ///
 /// # Errors
 ///
 /// Those of [`reply`].
 fn reply_by<
+    W: Word + PackedValue<Value = W>,
+    H: CryptographicHasher<W, W, D>,
+    C: PseudoCompressionFunction<W, N, D>,
+    const N: usize,
+    const D: usize,
+>(
+    alloc: Global,
+    suite: &Suite<MerkleTreeMmcs<W, W, H, C, N, D>, H, C>,
+    request: &Request,
+    input: &[u8],
+) -> Result<Vec<u8>, Fault>
+where
+    [W; D]: LineDigest,
+    requires scheme { IsSchemeOf request.now.setting.hash request.now.setting.cap W.value W.MAX W.HEX_DIGITS
+        (scheme_functions H.hash C.compression D suite.now.scheme) (cap_height_of suite.now.scheme)
+        (cap_rule_of suite.now.scheme) }
+    requires functions { scheme_functions H.hash C.compression D suite.now.scheme
+        ≡ functions_of (H.hash suite.now.hash) (C.compression suite.now.compress) (replicate D W.default_value) }
+    requires arity { N ≡ arity_number request.now.setting.arity }
+    requires hash { ⟦<[W; D] as LineDigest>⟧.hash ≡ request.now.setting.hash }
+    requires words { (digest : List W) → ⟦<[W; D] as LineDigest>⟧.words digest ≡ map W.value digest }
+    ensures text { IfOk result (λ text.
+        outcome_of request.now.setting request.now.task request.now.dimensions.items input.now ≡ Ok text.items) }
+    ensures fault { IfErr result (λ fault. (fault ≡ Fault.Tree OutOfMemory) ⊎
+        (outcome_of request.now.setting request.now.task request.now.dimensions.items input.now ≡ Err fault)) }
+{
+    match request.task {
+        Task::Verify => verify_by(alloc, &suite.scheme, request, input),
+        Task::Collide => collide_by(alloc, suite, request, input),
+    }
+}
+
+/// What is printed of one opening.
+///
+/// # Errors
+///
+/// Those of [`reply`].
+fn verify_by<
     W: Word + PackedValue<Value = W>,
     H: CryptographicHasher<W, W, D>,
     C: PseudoCompressionFunction<W, N, D>,
@@ -162,9 +213,9 @@ where
     requires hash { ⟦<[W; D] as LineDigest>⟧.hash ≡ request.now.setting.hash }
     requires words { (digest : List W) → ⟦<[W; D] as LineDigest>⟧.words digest ≡ map W.value digest }
     ensures text { IfOk result (λ text.
-        outcome_of request.now.setting request.now.dimensions.items input.now ≡ Ok text.items) }
+        outcome_of request.now.setting Task.Verify request.now.dimensions.items input.now ≡ Ok text.items) }
     ensures fault { IfErr result (λ fault. (fault ≡ Fault.Tree OutOfMemory) ⊎
-        (outcome_of request.now.setting request.now.dimensions.items input.now ≡ Err fault)) }
+        (outcome_of request.now.setting Task.Verify request.now.dimensions.items input.now ≡ Err fault)) }
 {
     let dimensions = request.dimensions.as_slice();
     let found = read_statement::<W, [W; D]>(alloc, dimensions, input)?;
@@ -191,16 +242,104 @@ fn verify<
     dimensions: &[Dimensions],
     found: Statement<W, [W; D]>,
 ) -> Result<usize, MerkleTreeError>
-    ensures count { IfOk result (λ count. count ≡ length found.digests.items) }
+    ensures count { IfOk result (λ count. count ≡ length found.opening.digests.items) }
     ensures answer { AnswersUnlessMemory result (pruned_refusal_under W.eq W.eq
-        (terms_of H.hash C.compression D scheme.now dimensions.now) found.cap.items
-        (pruned_of found.indices.items (row_sets found.rows.items) found.digests.items)) }
+        (terms_of H.hash C.compression D scheme.now dimensions.now) found.cap.items (opening_read found.opening)) }
 {
     let cap = MerkleCap::new(found.cap);
+    let opening = found.opening;
     let proof = PrunedMerklePaths {
-        sibling_hashes: found.digests,
+        sibling_hashes: opening.digests,
     };
-    let (indices, rows) = (found.indices, found.rows);
+    let (indices, rows) = (opening.indices, opening.rows);
     scheme.verify_batch_pruned(alloc, &cap, dimensions, &indices, &rows, &proof)?;
     Ok(proof.sibling_hashes.len())
+}
+
+/// What is printed of two openings of one cap.
+///
+/// # Errors
+///
+/// Those of [`reply`].
+fn collide_by<
+    W: Word + PackedValue<Value = W>,
+    H: CryptographicHasher<W, W, D>,
+    C: PseudoCompressionFunction<W, N, D>,
+    const N: usize,
+    const D: usize,
+>(
+    alloc: Global,
+    suite: &Suite<MerkleTreeMmcs<W, W, H, C, N, D>, H, C>,
+    request: &Request,
+    input: &[u8],
+) -> Result<Vec<u8>, Fault>
+where
+    [W; D]: LineDigest,
+    requires scheme { IsSchemeOf request.now.setting.hash request.now.setting.cap W.value W.MAX W.HEX_DIGITS
+        (scheme_functions H.hash C.compression D suite.now.scheme) (cap_height_of suite.now.scheme)
+        (cap_rule_of suite.now.scheme) }
+    requires functions { scheme_functions H.hash C.compression D suite.now.scheme
+        ≡ functions_of (H.hash suite.now.hash) (C.compression suite.now.compress) (replicate D W.default_value) }
+    requires arity { N ≡ arity_number request.now.setting.arity }
+    requires hash { ⟦<[W; D] as LineDigest>⟧.hash ≡ request.now.setting.hash }
+    requires words { (digest : List W) → ⟦<[W; D] as LineDigest>⟧.words digest ≡ map W.value digest }
+    ensures text { IfOk result (λ text.
+        outcome_of request.now.setting Task.Collide request.now.dimensions.items input.now ≡ Ok text.items) }
+    ensures fault { IfErr result (λ fault. (fault ≡ Fault.Tree OutOfMemory) ⊎
+        (outcome_of request.now.setting Task.Collide request.now.dimensions.items input.now ≡ Err fault)) }
+{
+    let dimensions = request.dimensions.as_slice();
+    let pair = read_pair::<W, [W; D]>(alloc, dimensions, input)?;
+    Ok(compare(alloc, suite, dimensions, pair)?)
+}
+
+/// The text of two openings that their cap accepts: a collision, or none.
+///
+/// # Errors
+///
+/// Why the first opening is refused, else the second; or `OutOfMemory`.
+fn compare<
+    W: Word + PackedValue<Value = W>,
+    H: CryptographicHasher<W, W, D>,
+    C: PseudoCompressionFunction<W, N, D>,
+    const N: usize,
+    const D: usize,
+>(
+    alloc: Global,
+    suite: &Suite<MerkleTreeMmcs<W, W, H, C, N, D>, H, C>,
+    dimensions: &[Dimensions],
+    pair: Pair<W, [W; D]>,
+) -> Result<Vec<u8>, MerkleTreeError>
+    requires functions { scheme_functions H.hash C.compression D suite.now.scheme
+        ≡ functions_of (H.hash suite.now.hash) (C.compression suite.now.compress) (replicate D W.default_value) }
+    ensures text { let c = terms_of H.hash C.compression D suite.now.scheme dimensions.now in
+        IfOk result (λ text. text.items ≡ typed_text W.value W.HEX_DIGITS c.functions pair.first.indices.items
+        pair.second.indices.items (difference_read W.eq c pair)) }
+    ensures answer { let c = terms_of H.hash C.compression D suite.now.scheme dimensions.now in
+        AnswersUnlessMemory result (refusal_read W.eq c pair) }
+{
+    let cap = MerkleCap::new(pair.cap);
+    let (first, second) = (pair.first, pair.second);
+    let first_proof = PrunedMerklePaths {
+        sibling_hashes: first.digests,
+    };
+    let second_proof = PrunedMerklePaths {
+        sibling_hashes: second.digests,
+    };
+    let found = suite.scheme.extract_collision_multi(
+        alloc,
+        &cap,
+        dimensions,
+        PrunedOpeningRef::new(&first.indices, &first.rows, &first_proof),
+        PrunedOpeningRef::new(&second.indices, &second.rows, &second_proof),
+    )?;
+    let (hash, compress) = (&suite.hash, &suite.compress);
+    Ok(collision_text(
+        alloc,
+        hash,
+        compress,
+        &first.indices,
+        &second.indices,
+        found,
+    )?)
 }

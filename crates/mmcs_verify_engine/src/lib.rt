@@ -1,8 +1,10 @@
-//! The engine of the program `mmcs_verify`: from the words of a command, a cap and an opening to an answer, or to a
-//! fault.
+//! The engine of the program `mmcs_verify`: from the words of a command, a cap and one opening or two to an answer, or
+//! to a fault.
 #![tactic(auto)]
 
+mod collision;
 pub mod engine;
 pub mod laws;
+mod suite;
 
 pub use mmcs_opening_text::fault;

@@ -1,7 +1,4 @@
-use Rattle.std.proofs.Common.{◌≡◌, ◌+◌, ◌-◌, ◌*◌, ◌<◌, ◌≤◌, ◌++◌, ◌∷◌, [], arith, length, take, drop, refl, sym, ◌∙◌}
-use Rattle.std.proofs.Common.{ap, subst, ℕ, List}
-use Rattle.std.specs.Prelude.{slice_set}
-use Rattle.std.specs.Str.Parse.{digits_value}
+use Rattle.std.proofs.Common.{◌≡◌, ◌+◌, ◌-◌, ◌*◌, arith, take, drop, refl, sym, ◌∙◌, subst, ℕ}
 use Rattle.std.proofs.lemmas.List.{take_all}
 use Rattle.std.proofs.Math.ListN.{length-set}
 use Rattle.mmcs_opening_text.specs.Lines.{words_of}

@@ -1,4 +1,4 @@
-use Rattle.std.proofs.Common.{◌≡◌, ◌^◌, ◌<◌, ◌≤◌, arith, length, take, subst, ℕ, List, rules, sym, ◌∙◌, ap}
+use Rattle.std.proofs.Common.{◌^◌, ◌<◌, ◌≤◌, arith, length, subst, ℕ, sym, ◌∙◌, ap}
 use Rattle.std.specs.Str.Parse.{digits_value}
 use Rattle.std.proofs.lemmas.List.{take_all}
 use Rattle.std.proofs.lemmas.Int.Digits.{digits_value-lt}

@@ -1,4 +1,4 @@
-use Rattle.std.proofs.Common.{◌≡◌, ◌+◌, map, ap, sym, ◌∙◌}
+use Rattle.std.proofs.Common.{◌+◌, map, ap, sym, ◌∙◌}
 use Rattle.mmcs_opening_text.proofs.LineFacts.{row_read, row_missed}
 use Rattle.mmcs_opening_text.proofs.line.row_of.Goals as goal
 

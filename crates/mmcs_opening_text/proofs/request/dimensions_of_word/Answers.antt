@@ -1,10 +1,8 @@
-use Rattle.std.proofs.Common.{◌≡◌, ◌==◌, ◌+◌, ◌-◌, ◌≤◌, ◌^◌, ℕ, List, None, Option, arith, length, take, drop, rules}
-use Rattle.std.proofs.Common.{sym, ◌∙◌, refl, subst}
+use Rattle.std.proofs.Common.{◌≡◌, ◌==◌, ◌+◌, ◌^◌, ℕ, List, rules, sym, ◌∙◌, subst}
 use Rattle.std.specs.Prelude.{position}
 use Rattle.std.specs.Str.Parse.{digits_value}
 use Rattle.std.proofs.lemmas.Iterator.{YieldsList-from_slice}
 use Rattle.std.proofs.lemmas.Iterator.Search.{position_from_yields_List}
-use Rattle.std.proofs.lemmas.List.{take_all, length-drop}
 use Rattle.mmcs_text.specs.Numbers.{IsNumberBelow}
 use Rattle.mmcs_opening_text.proofs.LineFacts.{both_parts, no_height, no_place, no_width, rest_taken}
 use Rattle.mmcs_opening_text.proofs.request.dimensions_of_word.Goals as goal

@@ -1,4 +1,4 @@
-use Rattle.std.proofs.Common.{rules, Some, ◌≡◌, ◌+◌, ◌++◌, ◌∷◌, [], length, map, ap, arith, sym, ◌∙◌}
+use Rattle.std.proofs.Common.{Some, ◌≡◌, ◌+◌, ◌∷◌, [], length, map, ap, arith, sym, ◌∙◌}
 use Rattle.std.specs.Prelude.{option_map, slice_get}
 use Rattle.std.proofs.lemmas.List.{length-map, map-append}
 use Rattle.mmcs_opening_text.specs.Readings.{reading_of, settled}

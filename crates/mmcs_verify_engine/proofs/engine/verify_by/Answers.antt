@@ -3,7 +3,7 @@ use Rattle.std.specs.Prelude.{codes}
 use Rattle.std.proofs.lemmas.Result.{err_from_is_err_and}
 use Rattle.mmcs_text.specs.Text.{labelled}
 use Rattle.mmcs_verify_engine.proofs.VerdictFacts.{outcome_fault, outcome_text}
-use Rattle.mmcs_verify_engine.proofs.engine.reply_by.Goals as goal
+use Rattle.mmcs_verify_engine.proofs.engine.verify_by.Goals as goal
 
 pub returns-in_err-count-clause-fault : goal.returns-in_err-count-clause-fault
 returns-in_err-count-clause-fault g c =

@@ -1,0 +1,2 @@
+-- Words that proofs and internal calls use.
+pub mod TypedCollisions
