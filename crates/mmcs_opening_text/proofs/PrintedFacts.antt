@@ -234,7 +234,8 @@ module _ (hash : HashName) (dimensions : List Dimensions) {Y : Type 0}
         All (IsDigestOf hash) digests → Leads (reads (Digests count) cap indices sets (done ++ digests) []) rest →
         Leads (reads (Digests count) cap indices sets done []) (hex_lines (word_digits hash) digests ++ rest)
     digests_led count cap indices sets done [] rest long are leads =
-        subst (λ (ds : List (List ℕ)). Leads (reads (Digests count) cap indices sets ds []) rest) (append-nil done) leads
+        subst (λ (ds : List (List ℕ)). Leads (reads (Digests count) cap indices sets ds []) rest) (append-nil done)
+        leads
     digests_led count cap indices sets done (d ∷ ds) rest long are leads =
         let r = reads (Digests count) cap indices sets done [] in
         let s = reads (Digests count) cap indices sets (done ++ d ∷ []) [] in

@@ -347,7 +347,8 @@ impl<W: Word, H: LineDigest> Reader<W, H> {
         ensures whole { OnOk result (whole_at self.new.stage (reading_of W.value H.words self.new) ≡ true) }
         ensures read { OnOk result
             (pair_by H.hash dimensions.now (reading_of W.value H.words self.old) lines.old.read (lines_left lines.old)
-            ≡ pair_by H.hash dimensions.now (reading_of W.value H.words self.new) lines.new.read (lines_left lines.new)) }
+            ≡ pair_by H.hash dimensions.now (reading_of W.value H.words self.new) lines.new.read
+            (lines_left lines.new)) }
         ensures fault { IfErr result (λ fault. (fault ≡ Tree OutOfMemory) ⊎
             (pair_by H.hash dimensions.now (reading_of W.value H.words self.old) lines.old.read (lines_left lines.old)
             ≡ Err fault)) }

@@ -151,8 +151,8 @@ fn push_digests<W: Word, const D: usize>(
     text: &mut Vec<u8>,
     digests: &[[W; D]],
 ) -> Result<(), AllocError>
-    ensures { OnOk result
-        (text.new.items ≡ text.old.items ++ hex_line W.HEX_DIGITS (map W.value (flat_map (λ digest. digest) digests.now))) }
+    ensures { OnOk result (text.new.items
+        ≡ text.old.items ++ hex_line W.HEX_DIGITS (map W.value (flat_map (λ digest. digest) digests.now))) }
 {
     for digest in digests {
         push_hex_words(text, digest)?;

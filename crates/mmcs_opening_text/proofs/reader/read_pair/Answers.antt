@@ -36,7 +36,8 @@ returns-in_err-read_to_end-clause-fault g c =
     c.in_ok-take_blank_line.ensures.blank.0 (lines_left c.take_blank_line.new.lines)
     c.in_ok-take_blank_line.ensures.blank.1 c.in_ok-take_blank_line.ensures.blank.2
     (reading c.next_opening-first.result.1) c.take_blank_line.new.lines.read
-    c.in_ok-take_blank_line.ensures.blank.3 c.next_opening-first.ensures.reader.1 _ fault)) c.in_err-read_to_end.ensures.fault)
+    c.in_ok-take_blank_line.ensures.blank.3 c.next_opening-first.ensures.reader.1 _ fault))
+    c.in_err-read_to_end.ensures.fault)
 
 pub returns-clause-shown : goal.returns-clause-shown
 returns-clause-shown g c =

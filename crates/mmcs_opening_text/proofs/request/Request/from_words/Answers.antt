@@ -12,4 +12,5 @@ returns-in_err-dimensions-clause-fault c =
     let found = rw c.in_ok-setting.ensures.ok_part at c.from_words.ensures.found in
     let places = rw c.in_ok-setting.ensures.ok_part at c.from_words.ensures.places in
     let some = some_dimensions (texts_of c.in_ok-setting.places.now) places in
-    rw (left.1, left.2) (inr (refl, λ none. none c.in_ok-setting.setting c.in_ok-setting.task some.0 (found some.0 some.1)))
+    rw (left.1, left.2)
+    (inr (refl, λ none. none c.in_ok-setting.setting c.in_ok-setting.task some.0 (found some.0 some.1)))
