@@ -2,6 +2,7 @@
 
 import program
 import verifier
+from forged import forged
 from trials import heights_of
 
 CAPS = ["0", "0", "0", "1", "2", "1f", "3f", "9"]
@@ -18,22 +19,35 @@ class Exchange:
         heights = heights_of(random, random.randrange(1, size + 1))
         matrices = [[[random.randrange(limit) for _ in range(width)] for _ in range(height)]
                     for height, width in ((height, random.randrange(1, 4)) for height in heights)]
+        self.matrices = matrices
         self.sizes = [f"{len(rows)}x{len(rows[0])}" for rows in matrices]
         self.input = "\n".join("".join(" ".join(map(str, row)) + "\n" for row in rows) for rows in matrices).encode()
         count = random.choice([0, 1, 1, 2, 3, 5])
-        self.indices = [str(random.randrange(max(heights))) for _ in range(count)]
+        self.indices, self.others = ([str(random.randrange(max(heights))) for _ in range(number)]
+                                     for number in (count, random.choice([0, 1, 2, 4])))
 
     def commands(self):
-        """The words of the two commands of the prover."""
-        return self.words + ["commit"], [*self.words, "open", *self.indices]
+        """The words of the commands of the prover: of the cap and of two openings."""
+        return [[*self.words, *asked] for asked in (["commit"], ["open", *self.indices], ["open", *self.others])]
 
-    def text(self):
-        """What the verifier is sent: the cap, a blank line and the opening."""
-        return "\n".join(program.output(words, self.input) for words in self.commands()).encode()
+    def forged_opening(self, random):
+        """An opening of one leaf that the cap accepts, with other rows, where the hash is `fold`."""
+        name, scheme, _, _ = program.command_of(self.words + ["commit"])
+        index = int(random.choice(self.indices or ["0"]))
+        tree = scheme.tree(self.matrices)
+        rows, siblings = forged(random, scheme, tree.shape, index, *scheme.opening(tree, index))
+        return "".join(line + "\n" for line in program.opening_lines(name, [index], [rows], siblings))
 
-    def asked(self):
-        """The words of the verifier."""
-        return self.words + self.sizes
+    def texts(self, random):
+        """What a verifier may be sent, with its words and a name: parts that the prover prints, and forged ones."""
+        cap, first, second = (program.output(words, self.input) for words in self.commands())
+        yield self.words + self.sizes, [cap, first], "one opening"
+        comparing = [*self.words, "collide", *self.sizes]
+        yield comparing, [cap, first, second], "two openings"
+        if self.words[0] == "fold":
+            parts = [first, self.forged_opening(random)]
+            random.shuffle(parts)
+            yield comparing, [cap, *parts], "two openings, one forged"
 
 
 def damaged_at(random, text, place):
@@ -47,33 +61,48 @@ def other_words(random, words):
     words = list(words)
     place = random.randrange(len(words))
     choices = [["fold", "sha256"], ["2", "4", "8", "3"], CAPS + ["f", "x"]]
-    sizes = ["4x1", "0x1", "1x0", "4611686018427387905x1", "18446744073709551616x1", "4x", "2x2"]
+    sizes = ["collide", "4x1", "0x1", "1x0", "4611686018427387905x1", "18446744073709551616x1", "4x", "2x2"]
     words[place] = random.choice(choices[place] if place < len(choices) else sizes)
     return words
 
 
 def verifications(random, exchange):
-    """Words and inputs for the verifier, each with what it is counted as: honest, damaged at each byte, other words."""
-    text, words = exchange.text(), exchange.asked()
-    yield words, text, "honest"
-    for place in range(len(text)):
-        yield words, damaged_at(random, text, place), "damaged at a byte"
-    for _ in range(5):
-        yield other_words(random, words), text, "other words"
-    lines = text.split(b"\n")
-    for _ in range(5):
-        first, second = random.randrange(len(lines)), random.randrange(len(lines))
-        lines[first], lines[second] = lines[second], lines[first]
-        yield words, b"\n".join(lines), "lines exchanged"
+    """Words and inputs for the verifier, each with what it is counted as: whole, damaged at each byte, other words."""
+    for words, parts, name in exchange.texts(random):
+        text = "\n".join(parts).encode()
+        yield words, text, f"{name}, whole"
+        for place in range(len(text)):
+            yield words, damaged_at(random, text, place), f"{name}, damaged at a byte"
+        for _ in range(5):
+            yield other_words(random, words), text, f"{name}, other words"
+        lines = text.split(b"\n")
+        for _ in range(5):
+            first, second = random.randrange(len(lines)), random.randrange(len(lines))
+            lines[first], lines[second] = lines[second], lines[first]
+            yield words, b"\n".join(lines), f"{name}, lines exchanged"
+
+
+# what an answer begins with, and what it is counted as
+BEGINNINGS = {
+    "ok": "accepted",
+    "no collision": "no collision",
+    "collision": "a collision",
+    "line": "a faulty line",
+    "usage": "no command",
+}
 
 
 def counted(kind, answer):
     """What an answer of the verifier is counted as."""
-    if answer.startswith("ok"):
-        return f"{kind}, accepted"
-    if answer.startswith("line"):
-        return f"{kind}, a faulty line"
-    return f"{kind}, no command" if answer.startswith("usage") else f"{kind}, refused"
+    for beginning, told in BEGINNINGS.items():
+        if answer.startswith(beginning):
+            return f"{kind}: {told}"
+    return f"{kind}: refused"
+
+
+def is_due(kind, answer):
+    """Whether an answer may be that to a text of this kind: the whole ones are accepted."""
+    return not kind.endswith(", whole") or answer.startswith(("ok", "no collision", "collision"))
 
 
 def cases_of(random, size=6):
@@ -81,8 +110,8 @@ def cases_of(random, size=6):
     found = []
     for words, data, kind in verifications(random, Exchange(random, size)):
         answer = verifier.output(words, data)
-        if kind == "honest" and not answer.startswith("ok"):
-            raise AssertionError(f"the model answers {answer} to the honest {data}")
+        if not is_due(kind, answer):
+            raise AssertionError(f"the model answers {answer} to the whole {data}")
         line = f'verify {" ".join(words)} | "{program.escaped(data)}"'
         shown = program.escaped(answer.encode()).replace("\\x7c", "|")
         found.append((line, shown, ("the verifier", counted(kind, answer))))

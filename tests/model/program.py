@@ -85,7 +85,11 @@ def lines_of(name, scheme, asked, indices, matrices):
     tree = scheme.tree(matrices)
     if asked == "commit":
         return [hexadecimal(name, digest) for digest in tree.cap()]
-    sets, digests = scheme.pruned_opening(tree, indices)
+    return opening_lines(name, indices, *scheme.pruned_opening(tree, indices))
+
+
+def opening_lines(name, indices, sets, digests):
+    """The lines of an opening."""
     lines = []
     for index, rows in zip(indices, sets):
         lines += [f"index {index}"] + [" ".join(map(str, row)) for row in rows]
