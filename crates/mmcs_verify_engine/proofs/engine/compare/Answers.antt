@@ -1,8 +1,11 @@
-use Rattle.std.proofs.Common.{◌∙◌, rules}
+use Rattle.std.proofs.Common.{◌∙◌, rules, sym}
+use Rattle.std.specs.Prelude.{replicate}
 use Rattle.p3_support.specs.Shown.{roots_of, row_sets}
 use Rattle.p3_merkle_core.specs.Pruning.{pruned_of}
-use Rattle.p3_merkle_tree.specs.Schemes.{cap_rule_of, terms_of}
-use Rattle.mmcs_verify_engine.proofs.CompareFacts.{as_read, inputs_full, queries_found, text_found, Extracts}
+use Rattle.p3_merkle_tree.specs.Schemes.{cap_rule_of, scheme_functions, terms_of}
+use Rattle.mmcs_verify_engine.specs.Inner.TypedCollisions.{typed_text}
+use Rattle.mmcs_verify_engine.proofs.CompareFacts.{as_read, inputs_full, queries_found, shown_inputs, text_found}
+use Rattle.mmcs_verify_engine.proofs.CompareFacts.{Extracts}
 use Rattle.mmcs_verify_engine.proofs.engine.compare.Given.{Over}
 use Rattle.mmcs_verify_engine.proofs.engine.compare.Goals as goal
 use Rattle.mmcs_verify_engine.proofs.engine.compare.Goals.{After-extract_collision_multi}
@@ -24,7 +27,22 @@ extracts g c =
     c.extract_collision_multi.ensures
 
 pub collision_text-requires : goal.collision_text-requires
-collision_text-requires g c = ?
+collision_text-requires g c =
+    let e = extracts g (goal.at.collision_text-requires g c).After-extract_collision_multi in (
+      search rules,
+      (
+        rw (c.deref-5.ensures.value, c.deref-6.ensures.value)
+            (queries_found _ _ _ c.args.pair _ e c.in_ok-found.found c.in_ok-found.was),
+        inputs_full _ _ _ c.args.pair _ e c.in_ok-found.found c.in_ok-found.was,
+      ),
+    )
 
 pub returns-clause-text : goal.returns-clause-text
-returns-clause-text g c = ?
+returns-clause-text g c =
+    let e = extracts g (goal.at.returns-clause-text g c).After-extract_collision_multi in
+    c.in_ok-collision_text.ensures (replicate g.row.D g.W.Default.default_value)
+    ∙ (λ i. typed_text g.W.Word.value g.W.Word.HEX_DIGITS (sym c.requires.functions i) (c.deref-5.ensures.value i)
+    (c.deref-6.ensures.value i) (shown_inputs c.in_ok-found.found))
+    ∙ text_found _ _ _ c.args.pair _ e c.in_ok-found.found c.in_ok-found.was g.W.Word.value g.W.Word.HEX_DIGITS
+    (scheme_functions g.H.CryptographicHasher.hash g.C.PseudoCompressionFunction.compression g.row.D
+    c.args.suite.now.scheme)
