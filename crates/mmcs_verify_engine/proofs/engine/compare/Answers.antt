@@ -40,7 +40,7 @@ collision_text-requires g c =
 pub returns-clause-text : goal.returns-clause-text
 returns-clause-text g c =
     let e = extracts g (goal.at.returns-clause-text g c).After-extract_collision_multi in
-    c.in_ok-collision_text.ensures (replicate g.row.D g.W.Default.default_value)
+    c.in_ok-collision_text.ensures (replicate g.row.D g.W.PackedValue.default_value)
     ∙ (λ i. typed_text g.W.Word.value g.W.Word.HEX_DIGITS (sym c.requires.functions i) (c.deref-5.ensures.value i)
     (c.deref-6.ensures.value i) (shown_inputs c.in_ok-found.found))
     ∙ text_found _ _ _ c.args.pair _ e c.in_ok-found.found c.in_ok-found.was g.W.Word.value g.W.Word.HEX_DIGITS
