@@ -35,7 +35,7 @@ never g c = never_usage (g.Src.Read.remaining c.args.input.now) _ c.deref.result
 pub returns-clause-usage : goal.returns-clause-usage
 returns-clause-usage g c = (
   λ is. absurd (never g (goal.at.returns-clause-usage g c).After-reply is),
-  λ none. absurd (none _ _ c.in_ok-request.ensures.request),
+  λ none. absurd (none _ _ _ c.in_ok-request.ensures.request),
 )
 
 pub returns-clause-unread : goal.returns-clause-unread
