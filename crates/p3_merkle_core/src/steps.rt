@@ -94,7 +94,7 @@ fn rung_above(dimensions: &[Dimensions], rung: Rung, exponent: usize) -> (bool, 
 }
 
 /// The step of a level, and whether matrices belong to the layer above it.
-#[derive(Clone, Copy)]
+#[derive(Debug, Clone, Copy)]
 struct LevelStep {
     /// Whether it is a bridge step of 2, and none of the whole arity.
     pub is_bridge: bool,
@@ -193,6 +193,93 @@ pub fn steps_of(dimensions: &[Dimensions], arity: usize) -> Steps<'_>
         exponent,
         num_levels,
         of_level,
+    }
+}
+
+/// The steps of a tree beside the dimensions of its matrices, which they own: a tree that keeps them walks none again.
+#[derive(Debug, Drop)]
+pub struct KeptSteps {
+    /// The dimensions of all matrices.
+    pub dimensions: Vec<Dimensions>,
+    /// How many children a node has at most.
+    pub arity: usize,
+    /// The greatest height, in rows, and 0 of no matrix.
+    pub max_height: usize,
+    min_height: usize,
+    exponent: usize,
+    num_levels: usize,
+    of_level: [LevelStep; MAX_LEVELS],
+    ghost wide: { 2 ≤ arity },
+    ghost tallest: { max_height ≡ greatest (heights_of dimensions.items) },
+    ghost shortest: { min_height ≡ shortest (heights_of dimensions.items) },
+    ghost leaves: { exponent ≡ layer_exponent (shape_of arity dimensions.items) 0 },
+    ghost whole: { num_levels ≡ levels (shape_of arity dimensions.items) },
+    ghost few: { num_levels ≤ 64 },
+    ghost long: { length of_level ≡ 64 },
+    ghost kept: { take num_levels of_level
+        ≡ map (level_step (shape_of arity dimensions.items)) (range_with_len 0 num_levels) },
+}
+
+impl KeptSteps {
+    /// The steps of the tree over matrices of these dimensions, as [`steps_of`] walks them.
+    pub fn new(dimensions: Vec<Dimensions>, arity: usize) -> KeptSteps
+        requires { 2 ≤ arity }
+        ensures dimensions { result.dimensions.items ≡ dimensions.items }
+        ensures arity { result.arity ≡ arity }
+    {
+        let Steps {
+            max_height,
+            min_height,
+            exponent,
+            num_levels,
+            of_level,
+            ..
+        } = steps_of(&dimensions, arity);
+        KeptSteps {
+            dimensions,
+            arity,
+            max_height,
+            min_height,
+            exponent,
+            num_levels,
+            of_level,
+        }
+    }
+
+    /// The steps, with no walk.
+    pub fn steps(&self) -> Steps<'_>
+        ensures dimensions { result.dimensions.now ≡ self.now.dimensions.items }
+        ensures arity { result.arity ≡ self.now.arity }
+    {
+        Steps {
+            dimensions: &self.dimensions,
+            arity: self.arity,
+            max_height: self.max_height,
+            min_height: self.min_height,
+            exponent: self.exponent,
+            num_levels: self.num_levels,
+            of_level: self.of_level,
+        }
+    }
+
+    /// The same steps, beside a copy of the dimensions.
+    ///
+    /// # Errors
+    ///
+    /// `AllocError` where there is no memory.
+    pub fn clone(&self) -> Result<KeptSteps, AllocError>
+        ensures dimensions { IfOk result (λ kept. kept.dimensions.items ≡ self.now.dimensions.items) }
+        ensures arity { IfOk result (λ kept. kept.arity ≡ self.now.arity) }
+    {
+        Ok(KeptSteps {
+            dimensions: self.dimensions.clone()?,
+            arity: self.arity,
+            max_height: self.max_height,
+            min_height: self.min_height,
+            exponent: self.exponent,
+            num_levels: self.num_levels,
+            of_level: self.of_level,
+        })
     }
 }
 

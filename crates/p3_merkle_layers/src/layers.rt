@@ -16,7 +16,7 @@ ghost use Rattle.p3_merkle_lanes.specs.Inner.Slots.{leaf_over};
 use crate::layer::LayerBuilder;
 use p3_merkle_core::geometry::padded_len;
 use p3_merkle_core::levels::Level;
-use p3_merkle_core::steps::{Steps, steps_of};
+use p3_merkle_core::steps::Steps;
 use p3_merkle_lanes::rows::LayerRows;
 use p3_support::compress::PseudoCompressionFunction;
 use p3_support::hasher::CryptographicHasher;
@@ -205,13 +205,15 @@ impl<
         Ok((level, layer))
     }
 
-    /// All layers of the tree over the matrices, whose dimensions these are.
+    /// All layers of the tree over the matrices, whose steps these are.
     pub fn layers(
         &self,
         alloc: Global,
-        dimensions: &[Dimensions],
+        steps: &Steps<'_>,
     ) -> Result<Stack<[PW::Value; D]>, AllocError>
-        requires build { CanBuild (batch_of M.height_of M.width_of M.row_of N self.now.matrices.now) dimensions.now }
+        requires build { CanBuild (batch_of M.height_of M.width_of M.row_of N self.now.matrices.now)
+            steps.now.dimensions.now }
+        requires arity { steps.now.arity ≡ N }
         requires lanes { P.WIDTH ≡ PW.WIDTH }
         ensures layers { let f = functions_of (H.hash self.now.hash.now) (C.compression self.now.compress.now)
             (replicate D PW.default_value) in
@@ -220,10 +222,9 @@ impl<
         ensures arity_schedule { let b = batch_of M.height_of M.width_of M.row_of N self.now.matrices.now in
             IfOk result (λ made. made.arity_schedule.items ≡ schedule_of (shape b)) }
     {
-        let steps = steps_of(dimensions, N);
-        let mut stack = self.bottom(alloc, &steps)?;
+        let mut stack = self.bottom(alloc, steps)?;
         while stack.exponent > 0 {
-            let (level, layer) = self.raise(alloc, &steps, &stack)?;
+            let (level, layer) = self.raise(alloc, steps, &stack)?;
             stack.layers.push(layer)?;
             stack.arity_schedule.push(level.step)?;
             stack.exponent = level.exponent;

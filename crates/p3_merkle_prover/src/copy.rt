@@ -33,7 +33,7 @@ impl<F: Copy, W: Copy, M: Matrix<F> + Clone + Drop, const N: usize, const D: usi
         let alloc = *self.matrices.allocator();
         Ok(Tree {
             matrices: self.matrices.clone()?,
-            dimensions: Vec::from_slice(alloc, &self.dimensions)?,
+            steps: self.steps.clone()?,
             layers: copies_of(alloc, &self.layers)?,
             item: PhantomData,
         })

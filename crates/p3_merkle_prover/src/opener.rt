@@ -14,23 +14,23 @@ ghost use Rattle.p3_merkle_core.specs.Refusals.{AnswersUnlessMemory};
 use crate::tree::Tree;
 use p3_merkle_core::cap::CapRule;
 use p3_merkle_core::error::MerkleTreeError;
-use p3_merkle_core::geometry::{bits_reduced_of, tallest_of};
-use p3_merkle_core::steps::{Steps, steps_of};
+use p3_merkle_core::geometry::bits_reduced_of;
+use p3_merkle_core::steps::Steps;
 use p3_support::matrix::Matrix;
 use std::alloc::{AllocError, Global};
 
-/// The steps of a tree, from the leaves to the root.
+/// The steps of a tree, from the leaves to the root, as it keeps them.
 pub fn steps_in<F, X, G, M: Matrix<F>, const N: usize>(tree: &Tree<F, X, G, M, N>) -> Steps<'_>
     ensures { shape_of result.arity result.dimensions.now ≡ shape (tree_batch tree.now) }
 {
-    steps_of(&tree.dimensions, N)
+    tree.steps.steps()
 }
 
 /// The height of the tallest matrix of a tree, in rows: how many leaves it has, padding aside.
 pub fn max_height<F, X, G, M: Matrix<F>, const N: usize>(tree: &Tree<F, X, G, M, N>) -> usize
     ensures { result ≡ greatest (heights (shape (tree_batch tree.now))) }
 {
-    tallest_of(&tree.dimensions)
+    tree.steps.max_height
 }
 
 /// The layer of a tree, counted from the leaves, that is the cap of this height.

@@ -100,9 +100,21 @@ fn extend_with_boundary<X: Copy>(
         let node = covered[place];
         let first = node - node % step;
         let end = end_before(covered, place + 1, first + step);
-        digests.extend_from_slice(&layer[first.max(next)..node])?;
-        digests.extend_from_slice(&layer[node + 1..end])?;
+        extend_with_piece(digests, &layer[first.max(next)..node])?;
+        extend_with_piece(digests, &layer[node + 1..end])?;
         next = end;
+    }
+    Ok(())
+}
+
+/// Adds a piece of a layer to the end.
+fn extend_with_piece<X: Copy>(digests: &mut Vec<X>, piece: &[X]) -> Result<(), MerkleTreeError>
+    ensures digests { IfOk result (λ done. digests.new.items ≡ digests.old.items ++ piece.now) }
+    ensures memory { AnswersUnlessMemory result None }
+{
+    // A piece mostly has one digest or none: a call that copies them would take longer.
+    for digest in piece {
+        digests.push(*digest)?;
     }
     Ok(())
 }

@@ -12,12 +12,12 @@ ghost use Rattle.p3_merkle_core.specs.Refusals.{AnswersUnlessMemory};
 ghost use Rattle.p3_merkle_core.specs.Views.{batch_of};
 
 use p3_merkle_core::error::MerkleTreeError;
-use p3_merkle_core::geometry::check_heights;
+use p3_merkle_core::steps::KeptSteps;
 use p3_merkle_layers::layers::{Builder, Stack};
 use p3_merkle_layers::levels::batch_dimensions;
 use p3_support::compress::PseudoCompressionFunction;
 use p3_support::hasher::CryptographicHasher;
-use p3_support::matrix::{Dimensions, Matrix};
+use p3_support::matrix::Matrix;
 use p3_support::opening::{Hash, MerkleCap};
 use p3_support::packed::PackedValue;
 use std::alloc::Global;
@@ -26,18 +26,19 @@ use std::marker::PhantomData;
 /// A Merkle tree over matrices `M` of values `F`: digests `X` in layers, from the leaves to the root, where each node
 /// is a compression of a group `G` of `N` digests. [`MerkleTree`] is this tree at digests of words.
 ///
-/// The heights of its matrices are lawful, and its layers have the lengths and steps that those heights give.
+/// The heights of its matrices are lawful, and its layers have the lengths that those heights give. It keeps the steps
+/// between them, so that no opening walks them again.
 #[derive(Debug, Drop)]
 pub struct Tree<F, X, G, M: Matrix<F>, const N: usize> {
     pub(crate) matrices: Vec<M>,
-    pub(crate) dimensions: Vec<Dimensions>,
+    pub(crate) steps: KeptSteps,
     pub(crate) layers: Vec<Vec<X>>,
     pub(crate) item: PhantomData<(F, G)>,
     ghost arity: { IsArity N },
     ghost lawful: { IsLawful (heights (shape (batch_of M.height_of M.width_of M.row_of N matrices.items))) },
     ghost layer_lengths: { let s = shape (batch_of M.height_of M.width_of M.row_of N matrices.items) in
         map (λ nodes. length nodes.items) layers.items ≡ map (layer_len s) (range_with_len 0 (suc (levels s))) },
-    ghost own_shape: { shape_of N dimensions.items
+    ghost own_shape: { shape_of steps.arity steps.dimensions.items
         ≡ shape (batch_of M.height_of M.width_of M.row_of N matrices.items) },
 }
 
@@ -109,17 +110,19 @@ impl<F: Copy, W: Copy, M: Matrix<F> + Drop, const N: usize, const D: usize> Merk
             IfOk result (λ tree. layers_of tree ≡ layers_over f b) }
     {
         let dimensions = batch_dimensions(alloc, &leaves)?;
-        check_heights(&dimensions)?;
+        let kept = KeptSteps::new(dimensions, N);
+        let steps = kept.steps();
+        steps.check_heights()?;
         let builder = Builder::<P, PW, H, C, M, [[W; D]; N]> {
             hash,
             compress,
             matrices: &leaves,
             item: PhantomData,
         };
-        let Stack { layers, .. } = builder.layers(alloc, &dimensions)?;
+        let Stack { layers, .. } = builder.layers(alloc, &steps)?;
         Ok(Tree {
             matrices: leaves,
-            dimensions,
+            steps: kept,
             layers,
             item: PhantomData,
         })

@@ -28,10 +28,10 @@ loop-place-preserved g c =
       inside = inside;
       so_far = λ d.
           others_more layer covered n place next c.max.result node end c.args.digests.now.items
-          c.loop-place.digests.items c.extend_from_slice.new.self.items
-          c.extend_from_slice-in-loop-place.new.self.items d w inside
-          (c.loop-place.invariant.so_far d) c.in_ok-extend_from_slice.ensures.items
-          c.in_ok-extend_from_slice-2.ensures.items;
+          c.loop-place.digests.items c.extend_with_piece.new.digests.items
+          c.extend_with_piece-in-loop-place.new.digests.items d w inside
+          (c.loop-place.invariant.so_far d) c.in_ok-extend_with_piece.ensures.digests
+          c.in_ok-extend_with_piece-2.ensures.digests;
     }
 
 pub returns-clause-digests : goal.returns-clause-digests

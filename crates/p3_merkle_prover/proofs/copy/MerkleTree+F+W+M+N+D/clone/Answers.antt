@@ -21,15 +21,15 @@ invariant_of-result-clause-layer_lengths g c =
     (batch_of g.M.Matrix.height_of g.M.Matrix.width_of g.M.Matrix.row_of g.row.N c.in_ok-clone.field-0.items)
     (λ nodes. nodes.items) (λ nodes. nodes.items)
     c.args.self.now.layers.items c.in_ok-copies_of.field-0.items (sym same)
-    (c.in_ok-copies_of.ensures ∙ ap (λ vs. map (λ nodes. nodes.items) vs) c.deref-2.ensures.value)
+    (c.in_ok-copies_of.ensures ∙ ap (λ vs. map (λ nodes. nodes.items) vs) c.deref.ensures.value)
     c.args.self.now.layer_lengths
 
 pub invariant_of-result-clause-own_shape : goal.invariant_of-result-clause-own_shape
 invariant_of-result-clause-own_shape g c =
     let same = same_batch g.M.Matrix.height_of g.M.Matrix.width_of g.M.Matrix.row_of g.row.N g.M.Clone.is_clone
     c.args.self.now.matrices.items c.in_ok-clone.field-0.items c.requires c.in_ok-clone.ensures.cases.0 in
-    ap (shape_of g.row.N) (c.in_ok-from_slice.ensures.items ∙ c.deref.ensures.value) ∙ c.args.self.now.own_shape
-    ∙ ap (λ b. shape b) (sym same)
+    rw (c.in_ok-clone-2.ensures.arity, c.in_ok-clone-2.ensures.dimensions)
+    (c.args.self.now.own_shape ∙ ap (λ b. shape b) (sym same))
 
 pub returns-clause-batch : goal.returns-clause-batch
 returns-clause-batch g c =

@@ -12,7 +12,7 @@ use Rattle.p3_merkle_prover.proofs.tree.MerkleTree+F+W+M+N+D.build.Goals as goal
 pub invariant_of-result-clause-lawful : goal.invariant_of-result-clause-lawful
 invariant_of-result-clause-lawful g c =
     subst (λ (ds : List Dimensions). IsLawful (heights_of ds))
-    (c.deref-2.ensures.value ∙ c.in_ok-dimensions.ensures
+    (c.steps-steps.ensures.dimensions ∙ c.new-kept.ensures.dimensions ∙ c.in_ok-dimensions.ensures
     ∙ ap (λ ms. dimensions_of (map (matrix_of g.M.Matrix.height_of g.M.Matrix.width_of g.M.Matrix.row_of) ms))
     c.deref.ensures.value)
     (c.in_ok-check_heights.ensures.lawful.0 refl)
@@ -26,19 +26,20 @@ invariant_of-result-clause-layer_lengths g c =
     (batch_of g.M.Matrix.height_of g.M.Matrix.width_of g.M.Matrix.row_of g.row.N c.args.leaves.items)
     (c.in_ok-layers.ensures.layers
     ∙ ap (λ ms. layers f (batch_of g.M.Matrix.height_of g.M.Matrix.width_of g.M.Matrix.row_of g.row.N ms))
-    c.deref-3.ensures.value)
+    c.deref-2.ensures.value)
 
 pub invariant_of-result-clause-own_shape : goal.invariant_of-result-clause-own_shape
 invariant_of-result-clause-own_shape g c =
-    ap (shape_of g.row.N)
+    rw (c.new-kept.ensures.arity, c.new-kept.ensures.dimensions)
+    (ap (shape_of g.row.N)
     (c.in_ok-dimensions.ensures
     ∙ ap (λ ms. dimensions_of (map (matrix_of g.M.Matrix.height_of g.M.Matrix.width_of g.M.Matrix.row_of) ms))
-    c.deref.ensures.value)
+    c.deref.ensures.value))
 
 pub returns-clause-answer : goal.returns-clause-answer
 returns-clause-answer g c =
     subst (λ (ds : List Dimensions). gate_refusal (heights_of ds) ≡ None)
-    (c.deref-2.ensures.value ∙ c.in_ok-dimensions.ensures
+    (c.steps-steps.ensures.dimensions ∙ c.new-kept.ensures.dimensions ∙ c.in_ok-dimensions.ensures
     ∙ ap (λ ms. dimensions_of (map (matrix_of g.M.Matrix.height_of g.M.Matrix.width_of g.M.Matrix.row_of) ms))
     c.deref.ensures.value)
     c.in_ok-check_heights.ensures.answer
@@ -53,4 +54,4 @@ returns-clause-layers g c =
     (replicate g.row.D g.PW.PackedValue.default_value) in
     c.in_ok-layers.ensures.layers
     ∙ ap (λ ms. layers f (batch_of g.M.Matrix.height_of g.M.Matrix.width_of g.M.Matrix.row_of g.row.N ms))
-    c.deref-3.ensures.value
+    c.deref-2.ensures.value
