@@ -1,5 +1,6 @@
 -- The rows that queries opened of the matrices of one exponent.
-use Rattle.std.proofs.Common.{◌≡◌, ◌∙◌, ℕ, ◌+◌, ◌<◌, true, false, eqb, List, [], ◌∷◌, ◌++◌, All, append-nil, ap, sym, arith, refl, length, map, get_or, take, zip}
+use Rattle.std.proofs.Common.{◌≡◌, ◌∙◌, ℕ, ◌+◌, ◌<◌, true, false, eqb, List, [], ◌∷◌, ◌++◌, All, append-nil, ap, sym}
+use Rattle.std.proofs.Common.{arith, refl, length, map, get_or, take, zip}
 use Rattle.std.specs.List.{filter, flat_map, range_with_len}
 use Rattle.std.proofs.lemmas.Bool.{eq-eqb, ne_eqb}
 use Rattle.std.proofs.lemmas.Grind.{flat_map-append}

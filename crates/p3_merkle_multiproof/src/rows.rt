@@ -19,7 +19,8 @@ use p3_support::packed::PackedValue;
 use std::alloc::{AllocError, Global};
 use std::marker::PhantomData;
 
-/// The rows that the leads of some covered nodes opened, of the matrices that have the layer's exponent, in input order.
+/// The rows that the leads of some covered nodes opened, of the matrices that have the layer's exponent, in input
+/// order.
 ///
 /// # Errors
 ///

@@ -13,7 +13,8 @@ use Rattle.p3_merkle_core.specs.Geometry.{exponent}
 use Rattle.p3_merkle_multiproof.specs.Inner.OpenedMatrices.{row_in}
 use Rattle.p3_merkle_multiproof.proofs.OpenedFacts.{have_rows, opened_more, opened_same, row_set_long}
 use Rattle.p3_merkle_multiproof.proofs.rows.opened_matrices.Goals as goal
-use Rattle.p3_merkle_multiproof.proofs.rows.opened_matrices.Goals.{then-exponent_of-covered+in_ok-push, else-exponent_of-covered}
+use Rattle.p3_merkle_multiproof.proofs.rows.opened_matrices.Goals.{then-exponent_of-covered+in_ok-push}
+use Rattle.p3_merkle_multiproof.proofs.rows.opened_matrices.Goals.{else-exponent_of-covered}
 
 pub loop-place-preserved : goal.loop-place-preserved
 loop-place-preserved g c =
