@@ -1,5 +1,5 @@
 -- The paths that are read out of a walk's kept levels.
-use Rattle.std.proofs.Common.{◌≡◌, ℕ, zero, suc, ◌+◌, ◌-◌, ◌*◌, ◌/◌, ◌%◌, ◌<◌, ◌≤◌, true, eqb, nat_lt, List, [], ◌∷◌}
+use Rattle.std.proofs.Common.{◌≡◌, ℕ, zero, suc, ◌+◌, ◌-◌, ◌*◌, ◌/◌, ◌%◌, ◌<◌, ◌≤◌, true, false, eqb, nat_lt, List, [], ◌∷◌}
 use Rattle.std.proofs.Common.{◌++◌, map, refl, ap, sym, ◌∙◌, arith, add-one, inl, inr, length, filter, get_or, take}
 use Rattle.std.proofs.Common.{drop, remove, eq-eqb, Ok, Err, append_assoc, append-nil, drop-cons, fold}
 use Rattle.std.specs.List.{enumerate_from, flat_map, range_with_len, take-map, drop-map}
@@ -113,25 +113,31 @@ beside_own old values n first p h =
     rw (a, b, c, take-take p n g (omega arith), rest, drop-drop (suc p) first values)
     (append_assoc old (take p g) (take (n - suc p) (drop (first + suc p) values)))
 
--- what a search for a node's parent leads to: its siblings, or nothing
+-- what a search leads to: the place, or that it is not listed
+pub found_place : (xs : List ℕ) (x i : ℕ) → IsStrictlyIncreasing xs → IsBinarySearchResult (λ y. nat_cmp y x) xs (Ok i) →
+    (i < length xs) × (get_or xs i 0 ≡ x)
+found_place xs x i up hit = found_by xs x i up hit
+
+pub missed_place : (xs : List ℕ) (x i : ℕ) → IsStrictlyIncreasing xs →
+    IsBinarySearchResult (λ y. nat_cmp y x) xs (Err i) → is_among xs x ≡ false
+missed_place xs x i up miss = false_from_ne_true (is_among xs x) (not_missed xs x i up miss)
+
+-- the siblings of a node whose parent is at a place
 pub found_siblings : {X : Type 0} (old values : List X) (parents : List ℕ) (n k j : ℕ) → 0 < n →
-    IsStrictlyIncreasing parents → IsBinarySearchResult (λ y. nat_cmp y (j / n)) parents (Ok k) →
+    IsStrictlyIncreasing parents → k < length parents → get_or parents k 0 ≡ j / n →
     (old ++ take (n * k + j % n - n * k) (drop (n * k) values))
     ++ take (n * k + n - (n * k + j % n + 1)) (drop (n * k + j % n + 1) values)
     ≡ old ++ siblings_out_of (parents, n, values) j
-found_siblings old values parents n k j some up hit =
+found_siblings old values parents n k j some up inside here =
     let small : j % n < n = omega arith in
-    let at = found_by parents (j / n) k up hit in
-    let there : is_among parents (j / n) ≡ true = rw at.1 at (listed_at parents k 0 at.0) in
-    let is = placed parents k (j / n) up at.0 at.1 in
+    let there : is_among parents (j / n) ≡ true = rw here at (listed_at parents k 0 inside) in
+    let is = placed parents k (j / n) up inside here in
     rw (there, is) (beside_own old values n (n * k) (j % n) small)
 
-pub missed_siblings : {X : Type 0} (old values : List X) (parents : List ℕ) (n k j : ℕ) → IsStrictlyIncreasing parents →
-    IsBinarySearchResult (λ y. nat_cmp y (j / n)) parents (Err k) →
-    old ≡ old ++ siblings_out_of (parents, n, values) j
-missed_siblings old values parents n k j up miss =
-    let none = false_from_ne_true (is_among parents (j / n)) (not_missed parents (j / n) k up miss) in
-    rw none (sym (append-nil old))
+-- and of one whose parent is not there
+pub missed_siblings : {X : Type 0} (old values : List X) (parents : List ℕ) (n j : ℕ) →
+    is_among parents (j / n) ≡ false → old ≡ old ++ siblings_out_of (parents, n, values) j
+missed_siblings old values parents n j none = rw none (sym (append-nil old))
 
 -- the group of the parent at place k
 group_of : (n : ℕ) (parents : List ℕ) (k : ℕ) → k < length parents → take n (drop (n * k) (children_under n parents))
