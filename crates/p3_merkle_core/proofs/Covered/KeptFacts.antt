@@ -65,18 +65,6 @@ found_at xs x h =
     let q = Any-from_list_any (λ y. eqb y x) xs h in
     (q.0, q.2, get_or_default xs q.0 0 q.1 q.2 ∙ q.3 ∙ eqb-true q.1 x q.4)
 
--- where a binary search finds a number
-found_by : (xs : List ℕ) (x i : ℕ) → IsStrictlyIncreasing xs → IsBinarySearchResult (λ y. nat_cmp y x) xs (Ok i) →
-    (i < length xs) × (get_or xs i 0 ≡ x)
-found_by xs x i up hit =
-    let order = AllPairs-from_increasing xs up in
-    searched xs x (Ok i) hit
-    (λ i j le k. elim (cases_eq i j) [
-      | inl e ↦ rw e (omega arith)
-      | inr ne ↦ let q = order i j 0 (omega arith) k in
-          omega arith
-    ])
-
 -- a binary search does not miss what is listed
 not_missed : (xs : List ℕ) (x i : ℕ) → IsStrictlyIncreasing xs → IsBinarySearchResult (λ y. nat_cmp y x) xs (Err i) →
     is_among xs x ≡ true → ⊥
@@ -113,11 +101,7 @@ beside_own old values n first p h =
     rw (a, b, c, take-take p n g (omega arith), rest, drop-drop (suc p) first values)
     (append_assoc old (take p g) (take (n - suc p) (drop (first + suc p) values)))
 
--- what a search leads to: the place, or that it is not listed
-pub found_place : (xs : List ℕ) (x i : ℕ) → IsStrictlyIncreasing xs → IsBinarySearchResult (λ y. nat_cmp y x) xs (Ok i) →
-    (i < length xs) × (get_or xs i 0 ≡ x)
-found_place xs x i up hit = found_by xs x i up hit
-
+-- what a search misses is not listed
 pub missed_place : (xs : List ℕ) (x i : ℕ) → IsStrictlyIncreasing xs →
     IsBinarySearchResult (λ y. nat_cmp y x) xs (Err i) → is_among xs x ≡ false
 missed_place xs x i up miss = false_from_ne_true (is_among xs x) (not_missed xs x i up miss)
@@ -133,11 +117,6 @@ found_siblings old values parents n k j some up inside here =
     let there : is_among parents (j / n) ≡ true = rw here at (listed_at parents k 0 inside) in
     let is = placed parents k (j / n) up inside here in
     rw (there, is) (beside_own old values n (n * k) (j % n) small)
-
--- and of one whose parent is not there
-pub missed_siblings : {X : Type 0} (old values : List X) (parents : List ℕ) (n j : ℕ) →
-    is_among parents (j / n) ≡ false → old ≡ old ++ siblings_out_of (parents, n, values) j
-missed_siblings old values parents n j none = rw none (sym (append-nil old))
 
 -- the group of the parent at place k
 group_of : (n : ℕ) (parents : List ℕ) (k : ℕ) → k < length parents → take n (drop (n * k) (children_under n parents))

@@ -149,6 +149,6 @@ returns g c =
     let firsts = c.args.queried.now.first_queries.items in
     let sets = row_sets c.args.rows.now in
     let t = c.args.cap_layer in
-    none_above g.T.PartialEq.eq s leaves firsts sets t c.last_with_rows.result c.loop-level.level
-    (layers_refusal g.T.PartialEq.eq s t leaves firsts sets) c.last_with_rows.ensures.rest
-    c.last_with_rows.ensures.inside (omega arith) c.loop-level.invariant.so_far
+    none_above g.T.PartialEq.eq s leaves firsts sets t c.last_with_rows-last.result c.loop-level.level
+    (layers_refusal g.T.PartialEq.eq s t leaves firsts sets) c.last_with_rows-last.ensures.rest
+    c.last_with_rows-last.ensures.inside (omega arith) c.loop-level.invariant.so_far
