@@ -11,11 +11,11 @@ loop-level-init g c =
 
 pub loop-level-preserved : goal.loop-level-preserved
 loop-level-preserved g c =
-    rw c.in_ok-extend_with_siblings.ensures.parent (path_more (λ level. (level.parents.items, level.step, level.children.items))
+    rw c.in_ok-parent.ensures.parent (path_more (λ level. (level.parents.items, level.step, level.children.items))
     c.args.levels.now c.args.index
     c.loop-level.level c.loop-level.node c.index-levels-level.result c.loop-level.path.items
     c.extend_with_siblings.new.path.items c.loop-level-test.true c.index-levels-level.is
-    c.loop-level.invariant c.in_ok-extend_with_siblings.ensures.siblings)
+    c.loop-level.invariant c.in_ok-parent.ensures.siblings)
 
 pub returns : goal.returns
 returns g c =
