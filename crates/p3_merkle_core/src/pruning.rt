@@ -346,16 +346,6 @@ fn place_of(nodes: &[usize], hint: usize, node: usize) -> Option<usize>
     }
 }
 
-/// Adds a few values to the end, one by one: to call for a copy of their memory takes longer.
-fn extend_with_few<X: Copy>(list: &mut Vec<X>, values: &[X]) -> Result<(), AllocError>
-    ensures { IfOk result (λ done. list.new.items ≡ list.old.items ++ values.now) }
-{
-    for value in values {
-        list.push(*value)?;
-    }
-    Ok(())
-}
-
 /// Adds the values of the siblings of a node to the end, where its parent is covered. The parent is looked for at the
 /// place `hint` first. Answers the parent, and its place where it is covered.
 fn extend_with_siblings<X: Copy>(
@@ -377,7 +367,11 @@ fn extend_with_siblings<X: Copy>(
     };
     let first = level.step * place;
     let own = first + (node - level.step * parent);
-    extend_with_few(path, &level.children[first..own])?;
-    extend_with_few(path, &level.children[own + 1..first + level.step])?;
+    // One by one: to call for a copy of so few values takes longer.
+    for child in first..first + level.step {
+        if child != own {
+            path.push(level.children[child])?;
+        }
+    }
     Ok((parent, place))
 }
