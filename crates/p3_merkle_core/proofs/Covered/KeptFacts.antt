@@ -107,15 +107,15 @@ removed_own (x ∷ xs) (suc i) h = ap (λ ys. x ∷ ys) (removed_own xs i (omega
 pub record HasSiblings {X : Type 0} (old values : List X) (n first p i : ℕ) (path : List X) : Type 0 where
   pub so_far : path ≡ old ++ remove (take i (take n (drop first values))) p
 
-none_removed : {X : Type 0} (p : ℕ) → remove {X} [] p ≡ []
+none_removed : {X : Type 0} (p : ℕ) → remove {X = X} [] p ≡ []
 none_removed zero = refl
 none_removed (suc p) = refl
 
 pub siblings_start : {X : Type 0} (old values : List X) (n first p i : ℕ) → i ≡ 0 →
     HasSiblings old values n first p i old
 siblings_start old values n first p i none = record {
-      so_far = rw none (sym (append-nil old) ∙ ap (λ ys. old ++ ys) (sym (none_removed p)));
-    }
+  so_far = rw none (sym (append-nil old) ∙ ap (λ ys. old ++ ys) (sym (none_removed p)));
+}
 
 group_len : {X : Type 0} (values : List X) (n first : ℕ) → first + n ≤ length values →
     length (take n (drop first values)) ≡ n

@@ -20,8 +20,8 @@ loop-child-preserved g c =
     elim c.if-child-own.branch [
       | then-child-own+in_ok-push w ↦
           sibling_more c.args.path.now.items level.children.items c.loop-child.path.items c.if-child-own.path.items n
-          first p i (c.loop-child.child + 1 - first) c.loop-child.child w.index.result full inside at next
-          (λ e. w.if-child-own.true (omega (arith, own, e))) w.index.is
+          first p i (c.loop-child.child + 1 - first) c.loop-child.child w.index.result.now full inside at next
+          (λ e. w.if-child-own.true (omega (arith, own, e))) w.index.ensures
           (ap (λ v. v.items) w.path-is ∙ w.in_ok-push.ensures.items) c.loop-child.invariant
       | else-child-own w ↦
           rw w.path-is (own_more c.args.path.now.items level.children.items c.loop-child.path.items n first p i
