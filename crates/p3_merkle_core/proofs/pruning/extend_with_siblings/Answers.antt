@@ -12,7 +12,8 @@ loop-child-preserved g c =
     let p = c.args.node % n in
     let i = c.loop-child.child - first in
     let here = rw c.deref.ensures.value at c.in-Some.ensures in
-    let full = group_fits n c.in-Some.place (length level.parents.items) (length level.children.items) here.0 level.full in
+    let full = group_fits n c.in-Some.place (length level.parents.items) (length level.children.items) here.0
+    level.full in
     let own : c.args.node - n * (c.args.node / n) ≡ p = omega arith in
     let next : c.loop-child.child + 1 - first ≡ suc i = omega arith in
     let inside : i < n = omega arith in
