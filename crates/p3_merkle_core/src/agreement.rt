@@ -2,7 +2,8 @@
 //! queries of one index have one row set, and queries under one node have the same rows of the matrices that belong to
 //! the node's layer.
 
-ghost use Rattle.std.specs.Prelude.{◌≡◌, ℕ, ◌-◌, ◌/◌, ◌<◌, ◌≤◌, ◌⊎◌, Some, None, List, [], All, length, map, not};
+ghost use Rattle.std.specs.Prelude.{◌≡◌, ℕ, ◌-◌, ◌/◌, ◌<◌, ◌≤◌, ◌⊎◌, Some, None, List, [], All, false, length, map};
+ghost use Rattle.std.specs.Prelude.{not};
 ghost use Rattle.std.specs.Prelude.{slice_index, slice_index_or, IfOk, IsTrue, MatchResult};
 ghost use Rattle.std.specs.Cmp.Lexicographic.{pointwise};
 ghost use Rattle.std.specs.List.Sorted.{IsStrictlyIncreasing};
@@ -13,7 +14,7 @@ ghost use Rattle.p3_merkle_core.specs.Inner.Agreement.{IsAscending, IsSlot};
 ghost use Rattle.p3_support.specs.Lists.{is_among};
 ghost use Rattle.p3_support.specs.Batches.{heights_of, greatest};
 ghost use Rattle.p3_support.specs.Shown.{row_lists, row_sets};
-ghost use Rattle.p3_merkle_core.specs.Geometry.{levels, height_limit, shape_of, IsArity};
+ghost use Rattle.p3_merkle_core.specs.Geometry.{has_rows, levels, height_limit, shape_of, IsArity};
 ghost use Rattle.p3_merkle_core.specs.declared.error.MerkleTreeError.TheVariants.{OutOfMemory};
 ghost use Rattle.p3_merkle_core.specs.Pruning.{pruned_len};
 ghost use Rattle.p3_merkle_core.specs.Refusals.{digest_count_refusal, first_of, idle_refusal, pruned_refusal};
@@ -250,12 +251,32 @@ fn list_matrices(
     Ok(())
 }
 
+/// The last layer above the leaves that has matrices, up to the cap's layer, and 0 where none has. `cap_layer` is at
+/// most the number of levels.
+fn last_with_rows(steps: &Steps<'_>, cap_layer: usize) -> usize
+    requires { cap_layer ≤ steps.now.num_levels }
+    ensures inside { result ≤ cap_layer }
+    ensures rest { let s = shape_of steps.now.arity steps.now.dimensions.now in
+        (l : ℕ) → result < l → l ≤ cap_layer → has_rows s l ≡ false }
+{
+    let mut last = 0;
+    let mut exponent = steps.exponent;
+    for level in 0..cap_layer {
+        let up = steps.up(steps.arity, level, exponent);
+        exponent = up.exponent;
+        if up.has_rows {
+            last = level + 1;
+        }
+    }
+    last
+}
+
 /// Checks that slots under one node have the same rows of the matrices of its layer, up to the cap's layer. The row set
 /// of each slot has a row for each matrix, `cap_layer` is at most the number of levels, and the arity is at least 2.
 ///
-/// Goes once through the levels. Each takes the time of one division a slot; one whose upper layer has matrices also
-/// that of a look at each matrix, and of the comparison of the rows of that layer. Takes memory for a number a slot,
-/// and a number for each matrix of a layer above the leaves.
+/// Goes once through the levels, and no further than the last layer that has matrices. Each level takes the time of one
+/// division a slot; one whose upper layer has matrices also that of a look at each matrix, and of the comparison of the
+/// rows of that layer. Takes memory for a number a slot, and a number for each matrix of a layer above the leaves.
 ///
 /// # Errors
 ///
@@ -282,8 +303,9 @@ fn check_groups<T: Eq>(
     let mut nodes = Vec::from_slice(alloc, &queried.indices)?;
     let mut matrices = Vec::new(alloc);
     let mut exponent = steps.exponent;
+    let last = last_with_rows(steps, cap_layer);
     // No two slots are under one leaf, so the first layer to look at is the one above the leaves.
-    for level in 0..cap_layer {
+    for level in 0..last {
         let up = steps.up(steps.arity, level, exponent);
         to_parents(&mut nodes, up.step);
         exponent = up.exponent;

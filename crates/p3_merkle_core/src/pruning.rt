@@ -1,9 +1,12 @@
 //! Which nodes a pruned opening covers, and how many digests it sends: what needs no hash.
 
-ghost use Rattle.std.specs.Prelude.{◌≡◌, ◌*◌, ◌/◌, ◌<◌, ◌≤◌, ◌++◌, Some, None, All, IfOk, MatchResult, length, map};
+ghost use Rattle.std.specs.Prelude.{◌≡◌, ◌*◌, ◌/◌, ◌<◌, ◌≤◌, ◌++◌, Some, None, false, All, IfOk, MatchOption};
+ghost use Rattle.std.specs.Prelude.{MatchResult};
+ghost use Rattle.std.specs.Prelude.{length, map, slice_index};
 ghost use Rattle.std.specs.List.Sorted.{IsStrictlyIncreasing};
 ghost use Rattle.p3_merkle_core.specs.Inner.Agreement.{distinct, IsAscending};
 ghost use Rattle.p3_support.specs.Batches.{heights_of, greatest};
+ghost use Rattle.p3_support.specs.Lists.{is_among};
 ghost use Rattle.p3_merkle_core.specs.Pruning.{pruned_len};
 ghost use Rattle.p3_merkle_core.specs.Views.{shown_paths};
 ghost use Rattle.p3_merkle_core.specs.Inner.Children.{AreChildren, IsFamily, path_out_of, paths_out_of};
@@ -225,10 +228,56 @@ fn num_siblings<X>(levels: &[KeptLevel<X>]) -> usize {
     count
 }
 
+/// Of each node of the layer below a level, in order, the place of its parent among those of the level, where `nodes`
+/// has them, ascending. They are where a search begins, so that no path depends on them.
+///
+/// # Errors
+///
+/// `AllocError` where there is no memory.
+fn places_above<X>(
+    alloc: Global,
+    nodes: &[usize],
+    level: &KeptLevel<X>,
+) -> Result<Vec<usize>, AllocError> {
+    let mut places = Vec::with_capacity(alloc, nodes.len())?;
+    let mut place = 0;
+    for node in nodes {
+        if place < level.parents.len() && level.parents[place] < *node / level.step {
+            place += 1;
+        }
+        places.push(place)?;
+    }
+    Ok(places)
+}
+
+/// For each level but the first, [`places_above`] of the nodes that the level below it keeps.
+///
+/// # Errors
+///
+/// `AllocError` where there is no memory.
+fn all_places_above<X>(
+    alloc: Global,
+    levels: &[KeptLevel<X>],
+) -> Result<Vec<Vec<usize>>, AllocError> {
+    let mut all = Vec::with_capacity(alloc, levels.len())?;
+    for level in 1..levels.len() {
+        all.push(places_above(alloc, &levels[level - 1].parents, &levels[level])?)?;
+    }
+    Ok(all)
+}
+
+/// Where the parent of the node at `place` of a level stands in the next level, as far as `places` tells.
+fn hint_at(places: &[Vec<usize>], level: usize, place: usize) -> usize {
+    match places.get(level) {
+        Some(of_level) => of_level.get(place).copied().unwrap_or(0),
+        None => 0,
+    }
+}
+
 /// The siblings on the path of a leaf, out of the levels that a walk kept, from the leaves on: of each group on the
 /// path all values but the path's own, ascending. The path of a leaf that the walk did not cover has no siblings on the
-/// levels where no covered node is above it. Takes memory for `capacity` siblings at once, and for more where there are
-/// more.
+/// levels where no covered node is above it. `places` has those of [`all_places_above`]. Takes memory for `capacity`
+/// siblings at once, and for more where there are more.
 ///
 /// # Errors
 ///
@@ -236,6 +285,7 @@ fn num_siblings<X>(levels: &[KeptLevel<X>]) -> usize {
 fn path_out_of<X: Copy>(
     alloc: Global,
     levels: &[KeptLevel<X>],
+    places: &[Vec<usize>],
     capacity: usize,
     index: usize,
 ) -> Result<Vec<X>, AllocError>
@@ -245,8 +295,11 @@ fn path_out_of<X: Copy>(
 {
     let mut path = Vec::with_capacity(alloc, capacity)?;
     let mut node = index;
-    for level in levels {
-        node = extend_with_siblings(&mut path, level, node)?;
+    let mut hint = 0;
+    for level in 0..levels.len() {
+        let (parent, place) = extend_with_siblings(&mut path, &levels[level], hint, node)?;
+        node = parent;
+        hint = hint_at(places, level, place);
     }
     Ok(path)
 }
@@ -267,9 +320,10 @@ pub fn paths_out_of<X: Copy>(
         indices.now) }
 {
     let capacity = num_siblings(levels);
+    let places = all_places_above(alloc, levels)?;
     let mut paths = Vec::with_capacity(alloc, indices.len())?;
     for index in indices {
-        let siblings = path_out_of(alloc, levels, capacity, *index)?;
+        let siblings = path_out_of(alloc, levels, &places, capacity, *index)?;
         paths.push(AuthPath {
             leaf_index: *index,
             siblings,
@@ -278,25 +332,47 @@ pub fn paths_out_of<X: Copy>(
     Ok(paths)
 }
 
-/// Adds the values of the siblings of a node to the end, where its parent is covered, and answers the parent.
+/// The place of a node among ascending ones, and none where it is not one of them. It is looked for at `hint` first.
+fn place_of(nodes: &[usize], hint: usize, node: usize) -> Option<usize>
+    requires { IsStrictlyIncreasing nodes.now }
+    ensures { MatchOption result (is_among nodes.now node ≡ false)
+        (λ place. (place < length nodes.now) × (slice_index nodes.now place ≡ node)) }
+{
+    if hint < nodes.len() && nodes[hint] == node {
+        return Some(hint);
+    }
+    match nodes.binary_search(&node) {
+        Ok(place) => Some(place),
+        Err(_) => None,
+    }
+}
+
+/// Adds the values of the siblings of a node to the end, where its parent is covered. The parent is looked for at the
+/// place `hint` first. Answers the parent, and its place where it is covered.
 fn extend_with_siblings<X: Copy>(
     path: &mut Vec<X>,
     level: &KeptLevel<X>,
+    hint: usize,
     node: usize,
-) -> Result<usize, AllocError>
-    ensures siblings { IfOk result (λ parent.
+) -> Result<(usize, usize), AllocError>
+    ensures siblings { IfOk result (λ above.
         path.new.items
         ≡ path.old.items ++ siblings_out_of (level.now.parents.items, level.now.step, level.now.children.items)
         node) }
-    ensures parent { IfOk result (λ parent. parent ≡ node / level.now.step) }
+    ensures parent { IfOk result (λ above. above.0 ≡ node / level.now.step) }
 {
     // The parent is divided for once: a division takes longer than the copies of a small group.
     let parent = node / level.step;
-    if let Ok(place) = level.parents.binary_search(&parent) {
-        let first = level.step * place;
-        let own = first + (node - level.step * parent);
-        path.extend_from_slice(&level.children[first..own])?;
-        path.extend_from_slice(&level.children[own + 1..first + level.step])?;
+    let Some(place) = place_of(&level.parents, hint, parent) else {
+        return Ok((parent, 0));
+    };
+    let first = level.step * place;
+    let own = first + (node - level.step * parent);
+    // One by one: to call for a copy of so few values takes longer.
+    for child in first..first + level.step {
+        if child != own {
+            path.push(level.children[child])?;
+        }
     }
-    Ok(parent)
+    Ok((parent, place))
 }

@@ -1,5 +1,6 @@
 mod LeadFacts
 pub mod GroupFacts
+mod OpenedFacts
 mod WalkFacts
 mod LayerFacts
 mod PathFacts

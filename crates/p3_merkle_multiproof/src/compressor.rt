@@ -1,11 +1,10 @@
-//! The compression of children, group by group.
+//! The compression of children, the groups of a level together.
 
 ghost use Rattle.std.specs.Prelude.{◌≡◌, ◌*◌, ◌/◌, ◌<◌, ◌≤◌, IfOk, drop, length, map, replicate, take, zip};
 ghost use Rattle.std.specs.List.{range_with_len};
-ghost use Rattle.p3_merkle_multiproof.specs.Inner.NodeDigests.{group_digest, pair_digest};
-ghost use Rattle.p3_merkle_core.specs.Nodes.{padded};
+ghost use Rattle.p3_merkle_multiproof.specs.Inner.NodeDigests.{child_group, digest_pair, group_digest, pair_digest};
 
-use p3_merkle_core::group::group_with;
+use p3_merkle_core::group::{padded_group, pair_group};
 use p3_support::compress::PseudoCompressionFunction;
 use p3_support::packed::PackedValue;
 use std::alloc::{AllocError, Global};
@@ -27,19 +26,46 @@ impl<
     const N: usize,
     const D: usize,
 > Compressor<'a, PW, C, [[PW::Value; D]; N]> {
-    /// The digest of some digests, at least one and at most `N`, with default digests behind them.
-    fn padded_digest(&self, digests: &[[PW::Value; D]]) -> [PW::Value; D]
-        requires some { 0 < length digests.now }
-        requires few { length digests.now ≤ N }
-        ensures { result ≡ C.compression self.now.compress.now (padded N (replicate D PW.default_value) digests.now) }
+    /// The compressions of some groups, made together.
+    ///
+    /// # Errors
+    ///
+    /// `AllocError` where there is no memory.
+    fn digests_of(
+        &self,
+        alloc: Global,
+        groups: &[[[PW::Value; D]; N]],
+    ) -> Result<Vec<[PW::Value; D]>, AllocError>
+        ensures { IfOk result (λ digests. digests.items ≡ map (C.compression self.now.compress.now) groups.now) }
     {
-        // A group without default digests is copied as a whole.
-        if let Some(group) = digests.first_chunk::<N>() {
-            return self.compress.compress(*group);
+        let mut digests = vec![in alloc; [PW::Value::default(); D]; groups.len()]?;
+        self.compress.compress_many(groups, &mut digests);
+        Ok(digests)
+    }
+
+    /// The groups of `step` children, at least one and at most `N`, with default digests behind them.
+    ///
+    /// # Errors
+    ///
+    /// `AllocError` where there is no memory.
+    fn padded_groups(
+        &self,
+        alloc: Global,
+        children: &[[PW::Value; D]],
+        step: usize,
+    ) -> Result<Vec<[[PW::Value; D]; N]>, AllocError>
+        requires step { 0 < step }
+        requires few { step ≤ N }
+        ensures { let group = child_group N (replicate D PW.default_value) step children.now in
+            IfOk result (λ groups. groups.items ≡ map group (range_with_len 0 (length children.now / step))) }
+    {
+        let parents = children.len() / step;
+        let mut groups = Vec::with_capacity(alloc, parents)?;
+        for parent in 0..parents {
+            let group = group_of(children, step, parent);
+            groups.push(padded_group::<PW::Value, N, D>([PW::Value::default(); D], group))?;
         }
-        let (first, others) = (digests[0], &digests[1..]);
-        let group = group_with::<PW::Value, N, D>([PW::Value::default(); D], first, 0, others);
-        self.compress.compress(group)
+        Ok(groups)
     }
 
     /// The digests of groups of `step` children, at least one and at most `N`, one group after another.
@@ -60,13 +86,41 @@ impl<
             (replicate D PW.default_value) step children.now in
             IfOk result (λ digests. digests.items ≡ map digest (range_with_len 0 (length children.now / step))) }
     {
-        let parents = children.len() / step;
-        let mut digests = Vec::with_capacity(alloc, parents)?;
-        for parent in 0..parents {
-            let group = group_of(children, step, parent);
-            digests.push(self.padded_digest(group))?;
+        // Children of whole groups lie as the compression takes them, so that none is copied.
+        if step == N {
+            let (groups, _) = children.as_chunks::<N>();
+            return self.digests_of(alloc, groups);
         }
-        Ok(digests)
+        let groups = self.padded_groups(alloc, children, step)?;
+        self.digests_of(alloc, &groups)
+    }
+
+    /// The groups of a node's digest and that of its rows, with default digests behind them. `N` is at least 2.
+    ///
+    /// # Errors
+    ///
+    /// `AllocError` where there is no memory.
+    fn pair_groups(
+        &self,
+        alloc: Global,
+        nodes: &[[PW::Value; D]],
+        rows: &[[PW::Value; D]],
+    ) -> Result<Vec<[[PW::Value; D]; N]>, AllocError>
+        requires room { 2 ≤ N }
+        requires pairs { length rows.now ≡ length nodes.now }
+        ensures { let group = digest_pair N (replicate D PW.default_value) in
+            IfOk result (λ groups. groups.items ≡ map group (zip nodes.now rows.now)) }
+    {
+        let mut groups = Vec::with_capacity(alloc, nodes.len())?;
+        for node in 0..nodes.len() {
+            let group = pair_group::<PW::Value, N, D>(
+                [PW::Value::default(); D],
+                nodes[node],
+                rows[node],
+            );
+            groups.push(group)?;
+        }
+        Ok(groups)
     }
 
     /// The digests of some nodes, each compressed once more with that of its rows. `N` is at least 2.
@@ -85,11 +139,8 @@ impl<
         ensures { let digest = pair_digest (C.compression self.now.compress.now) N (replicate D PW.default_value) in
             IfOk result (λ digests. digests.items ≡ map digest (zip nodes.now rows.now)) }
     {
-        let mut digests = Vec::with_capacity(alloc, nodes.len())?;
-        for node in 0..nodes.len() {
-            digests.push(self.padded_digest(&[nodes[node], rows[node]]))?;
-        }
-        Ok(digests)
+        let groups = self.pair_groups(alloc, nodes, rows)?;
+        self.digests_of(alloc, &groups)
     }
 }
 

@@ -8,6 +8,7 @@ mod compressor;
 mod covered;
 pub mod extraction;
 mod level;
+mod opened_matrix;
 mod parents;
 pub mod paths;
 pub mod restorable;

@@ -1,10 +1,10 @@
 //! A pruned opening as the crate reads it: first as it is lent, then as one that restores.
 
-ghost use Rattle.std.specs.Prelude.{◌≡◌, ◌≤◌, length};
+ghost use Rattle.std.specs.Prelude.{◌≡◌, ◌≤◌, All, length, map};
 ghost use Rattle.p3_merkle_core.specs.Geometry.{height_limit, shape_of};
 ghost use Rattle.p3_merkle_core.specs.Inner.Agreement.{opened_of};
 ghost use Rattle.p3_merkle_core.specs.Pruning.{boundary, CanQuery, IsAgreed};
-ghost use Rattle.p3_support.specs.Batches.{heights_of, greatest};
+ghost use Rattle.p3_support.specs.Batches.{heights_of, greatest, widths_of};
 ghost use Rattle.p3_support.specs.Shown.{row_sets};
 
 use p3_merkle_core::steps::Steps;
@@ -36,4 +36,5 @@ pub struct Restorable<'a, T, X> {
         ≡ length (boundary (shape_of steps.arity steps.dimensions.now) opening.indices.now cap_layer) },
     ghost agreed: { IsAgreed (shape_of steps.arity steps.dimensions.now) cap_layer
         (opened_of opening.indices.now (row_sets opening.sets.now)) },
+    ghost fit: { All (λ rows. map length rows ≡ widths_of steps.dimensions.now) (row_sets opening.sets.now) },
 }

@@ -1,6 +1,6 @@
 //! Where a walk begins: a pruned opening that restores, and its covered leaves.
 
-ghost use Rattle.std.specs.Prelude.{◌≡◌, ◌<◌, ◌≤◌, ◌⊎◌, IfOk, MatchResult, None, Some, length};
+ghost use Rattle.std.specs.Prelude.{◌≡◌, ◌<◌, ◌≤◌, ◌⊎◌, All, IfOk, MatchResult, None, Some, length, map};
 ghost use Rattle.p3_merkle_core.specs.Geometry.{height_limit, shape_of};
 ghost use Rattle.p3_merkle_core.specs.Inner.Agreement.{opened_of, opened_with, AreDistinctOf};
 ghost use Rattle.p3_merkle_core.specs.Pruning.{boundary, CanQuery, IsAgreed};
@@ -8,7 +8,7 @@ ghost use Rattle.p3_merkle_core.specs.Refusals.{pruned_refusal, AnswersUnlessMem
 ghost use Rattle.p3_merkle_core.specs.declared.error.MerkleTreeError.TheVariants.{OutOfMemory};
 ghost use Rattle.p3_merkle_multiproof.specs.Inner.RestoredLevels.{tree_of, IsCoveredAt};
 ghost use Rattle.p3_merkle_verifier.specs.Inner.Paths.{CanCheck};
-ghost use Rattle.p3_support.specs.Batches.{heights_of, greatest};
+ghost use Rattle.p3_support.specs.Batches.{heights_of, greatest, widths_of};
 ghost use Rattle.p3_support.specs.Shown.{row_sets};
 
 use crate::covered::Covered;
@@ -66,6 +66,8 @@ fn tell_restorable<P: PackedValue, X>(
         ≡ length (boundary (shape_of steps.now.arity steps.now.dimensions.now) opening.entry.indices.now cap_layer) }
     ensures agreed { IsAgreed (shape_of steps.now.arity steps.now.dimensions.now) cap_layer
         (opened_of opening.entry.indices.now (row_sets opening.entry.sets.now)) }
+    ensures fit { All (λ rows. map length rows ≡ widths_of steps.now.dimensions.now)
+        (row_sets opening.entry.sets.now) }
 {}
 
 /// A pruned opening that restores, under a cap that is a layer of the tree, and its covered leaves. A node has at most

@@ -1,7 +1,8 @@
 -- The paths that are read out of a walk's kept levels.
-use Rattle.std.proofs.Common.{◌≡◌, ℕ, zero, suc, ◌+◌, ◌-◌, ◌*◌, ◌/◌, ◌%◌, ◌<◌, ◌≤◌, true, eqb, nat_lt, List, [], ◌∷◌}
+use Rattle.std.proofs.Common.{◌≡◌, ℕ, zero, suc, ◌+◌, ◌-◌, ◌*◌, ◌/◌, ◌%◌, ◌<◌, ◌≤◌, true, false, eqb, nat_lt, List, []}
+use Rattle.std.proofs.Common.{◌∷◌}
 use Rattle.std.proofs.Common.{◌++◌, map, refl, ap, sym, ◌∙◌, arith, add-one, inl, inr, length, filter, get_or, take}
-use Rattle.std.proofs.Common.{drop, remove, eq-eqb, Ok, Err, append_assoc, append-nil, drop-cons, fold}
+use Rattle.std.proofs.Common.{drop, remove, length-drop, eq-eqb, Ok, Err, append_assoc, append-nil, drop-cons, fold}
 use Rattle.std.specs.List.{enumerate_from, flat_map, range_with_len, take-map, drop-map}
 use Rattle.std.specs.List.Sorted.{IsStrictlyIncreasing, IsBinarySearchResult}
 use Rattle.std.specs.Ordering.{nat_cmp}
@@ -9,12 +10,12 @@ use Rattle.std.proofs.lemmas.Bool.{cases_eq, cases_lt, eqb-true, or_cases, or_le
 use Rattle.std.proofs.lemmas.Bool.{false_from_ne_true, lt-ltb, le-ltb}
 use Rattle.std.proofs.lemmas.List.{map-append, take-take, drop-take, drop-drop, drop_all, take-append-le, take_all}
 use Rattle.std.proofs.lemmas.List.{take_more, get_or-map, get_or_default, length-map}
-use Rattle.std.proofs.lemmas.List.{map_more}
+use Rattle.std.proofs.lemmas.List.{map_more, get_or-take, get_or-drop, length-take-le}
 use Rattle.std.proofs.lemmas.List.Folds.{Any-from_list_any}
 use Rattle.std.proofs.lemmas.List.FromFn.{length-range_with_len, map-range_with_len_more, take-map-range_with_len}
 use Rattle.std.proofs.lemmas.List.Sums.{fold-append}
 use Rattle.std.proofs.lemmas.Simd.{map-map}
-use Rattle.std.proofs.Math.Nat.{div-div-eq-div-mul}
+use Rattle.std.proofs.Math.Nat.{div-div-eq-div-mul, mul-le-mul_left, mul-suc}
 use Rattle.std.proofs.lemmas.List.Kept.{AllPairs-from_increasing}
 use Rattle.std.proofs.lemmas.List.Sorted.{searched}
 use Rattle.std.proofs.Math.Seq.{drop-append-add}
@@ -65,18 +66,6 @@ found_at xs x h =
     let q = Any-from_list_any (λ y. eqb y x) xs h in
     (q.0, q.2, get_or_default xs q.0 0 q.1 q.2 ∙ q.3 ∙ eqb-true q.1 x q.4)
 
--- where a binary search finds a number
-found_by : (xs : List ℕ) (x i : ℕ) → IsStrictlyIncreasing xs → IsBinarySearchResult (λ y. nat_cmp y x) xs (Ok i) →
-    (i < length xs) × (get_or xs i 0 ≡ x)
-found_by xs x i up hit =
-    let order = AllPairs-from_increasing xs up in
-    searched xs x (Ok i) hit
-    (λ i j le k. elim (cases_eq i j) [
-      | inl e ↦ rw e (omega arith)
-      | inr ne ↦ let q = order i j 0 (omega arith) k in
-          omega arith
-    ])
-
 -- a binary search does not miss what is listed
 not_missed : (xs : List ℕ) (x i : ℕ) → IsStrictlyIncreasing xs → IsBinarySearchResult (λ y. nat_cmp y x) xs (Err i) →
     is_among xs x ≡ true → ⊥
@@ -97,41 +86,88 @@ not_missed xs x i up miss h =
 
 -- ---- one group
 
--- the two slices beside a node of a group
-beside_own : {X : Type 0} (old values : List X) (n first p : ℕ) → p < n →
-    (old ++ take (first + p - first) (drop first values))
-    ++ take (first + n - (first + p + 1)) (drop (first + p + 1) values)
-    ≡ old ++ remove (take n (drop first values)) p
-beside_own old values n first p h =
-    let g = drop first values in
-    let a : first + p - first ≡ p = omega arith in
-    let b : first + n - (first + p + 1) ≡ n - suc p = omega arith in
-    let c : first + p + 1 ≡ first + suc p = omega arith in
-    let whole : suc p + (n - suc p) ≡ n = omega arith in
-    let rest : drop (suc p) (take n g) ≡ take (n - suc p) (drop (suc p) g) =
-    rw whole at (drop-take (suc p) (n - suc p) g) in
-    rw (a, b, c, take-take p n g (omega arith), rest, drop-drop (suc p) first values)
-    (append_assoc old (take p g) (take (n - suc p) (drop (first + suc p) values)))
+-- a list without one of its elements, with one more at its end
+removed_more : {X : Type 0} (xs : List X) (i p : ℕ) (d : X) → i < length xs → (i ≡ p → ⊥) →
+    remove (take (suc i) xs) p ≡ remove (take i xs) p ++ get_or xs i d ∷ []
+removed_more [] i p d h ne = absurd (omega arith)
+removed_more (x ∷ xs) zero zero d h ne = absurd (ne refl)
+removed_more (x ∷ xs) zero (suc zero) d h ne = refl
+removed_more (x ∷ xs) zero (suc (suc p)) d h ne = refl
+removed_more (x ∷ xs) (suc i) zero d h ne = rw add-one at (take_more xs i d (omega arith))
+removed_more (x ∷ xs) (suc i) (suc p) d h ne =
+    ap (λ ys. x ∷ ys) (removed_more xs i p d (omega arith) (λ e. ne (ap suc e)))
 
--- what a search for a node's parent leads to: its siblings, or nothing
-pub found_siblings : {X : Type 0} (old values : List X) (parents : List ℕ) (n k j : ℕ) → 0 < n →
-    IsStrictlyIncreasing parents → IsBinarySearchResult (λ y. nat_cmp y (j / n)) parents (Ok k) →
-    (old ++ take (n * k + j % n - n * k) (drop (n * k) values))
-    ++ take (n * k + n - (n * k + j % n + 1)) (drop (n * k + j % n + 1) values)
-    ≡ old ++ siblings_out_of (parents, n, values) j
-found_siblings old values parents n k j some up hit =
-    let small : j % n < n = omega arith in
-    let at = found_by parents (j / n) k up hit in
-    let there : is_among parents (j / n) ≡ true = rw at.1 at (listed_at parents k 0 at.0) in
-    let is = placed parents k (j / n) up at.0 at.1 in
-    rw (there, is) (beside_own old values n (n * k) (j % n) small)
+-- the one itself adds nothing
+removed_own : {X : Type 0} (xs : List X) (i : ℕ) → i < length xs →
+    remove (take (suc i) xs) i ≡ remove (take i xs) i
+removed_own [] i h = absurd (omega arith)
+removed_own (x ∷ xs) zero h = refl
+removed_own (x ∷ xs) (suc i) h = ap (λ ys. x ∷ ys) (removed_own xs i (omega arith))
 
-pub missed_siblings : {X : Type 0} (old values : List X) (parents : List ℕ) (n k j : ℕ) → IsStrictlyIncreasing parents →
-    IsBinarySearchResult (λ y. nat_cmp y (j / n)) parents (Err k) →
-    old ≡ old ++ siblings_out_of (parents, n, values) j
-missed_siblings old values parents n k j up miss =
-    let none = false_from_ne_true (is_among parents (j / n)) (not_missed parents (j / n) k up miss) in
-    rw none (sym (append-nil old))
+-- the values so far are the old ones and the siblings, of place p, among the first i values of a group
+pub record HasSiblings {X : Type 0} (old values : List X) (n first p i : ℕ) (path : List X) : Type 0 where
+  pub so_far : path ≡ old ++ remove (take i (take n (drop first values))) p
+
+none_removed : {X : Type 0} (p : ℕ) → remove {X = X} [] p ≡ []
+none_removed zero = refl
+none_removed (suc p) = refl
+
+pub siblings_start : {X : Type 0} (old values : List X) (n first p i : ℕ) → i ≡ 0 →
+    HasSiblings old values n first p i old
+siblings_start old values n first p i none = record {
+  so_far = rw none (sym (append-nil old) ∙ ap (λ ys. old ++ ys) (sym (none_removed p)));
+}
+
+group_len : {X : Type 0} (values : List X) (n first : ℕ) → first + n ≤ length values →
+    length (take n (drop first values)) ≡ n
+group_len values n first h = length-take-le n (drop first values) (omega (arith, length-drop first values))
+
+pub sibling_more : {X : Type 0} (old values before after : List X) (n first p i next child : ℕ) (x : X) →
+    first + n ≤ length values → i < n → child ≡ first + i → next ≡ suc i → (i ≡ p → ⊥) →
+    x ≡ get_or values child x → after ≡ before ++ x ∷ [] → HasSiblings old values n first p i before →
+    HasSiblings old values n first p next after
+sibling_more old values before after n first p i next child x full inside at is_next other read pushed w =
+    let g = take n (drop first values) in
+    let here : get_or g i x ≡ x = get_or-take n (drop first values) i x inside ∙ get_or-drop first values i x
+    ∙ ap (λ k. get_or values k x) (sym at) ∙ sym read in
+    record {
+      so_far = rw is_next (pushed ∙ ap (λ ys. ys ++ x ∷ []) w.so_far
+          ∙ append_assoc old (remove (take i g) p) (x ∷ [])
+          ∙ ap (λ y. old ++ (remove (take i g) p ++ y ∷ [])) (sym here)
+          ∙ ap (λ ys. old ++ ys)
+          (sym (removed_more g i p x (omega (arith, group_len values n first full)) other)));
+    }
+
+pub own_more : {X : Type 0} (old values path : List X) (n first p i next : ℕ) →
+    first + n ≤ length values → i < n → next ≡ suc i → i ≡ p → HasSiblings old values n first p i path →
+    HasSiblings old values n first p next path
+own_more old values path n first p i next full inside is_next same w =
+    let g = take n (drop first values) in
+    record {
+      so_far = rw (is_next, same) (rw same at w.so_far
+          ∙ ap (λ ys. old ++ ys) (sym (removed_own g p (omega (arith, group_len values n first full)))));
+    }
+
+-- what a search misses is not listed
+pub missed_place : (xs : List ℕ) (x i : ℕ) → IsStrictlyIncreasing xs →
+    IsBinarySearchResult (λ y. nat_cmp y x) xs (Err i) → is_among xs x ≡ false
+missed_place xs x i up miss = false_from_ne_true (is_among xs x) (not_missed xs x i up miss)
+
+-- the group of a parent at place k is whole
+pub group_fits : (n k count total : ℕ) → k < count → total ≡ n * count → n * k + n ≤ total
+group_fits n k count total h full = omega (arith, mul-le-mul_left n h, mul-suc n k)
+
+-- the siblings of a node whose parent is at a place
+pub found_siblings : {X : Type 0} (old values path : List X) (parents : List ℕ) (n k j first p i : ℕ) → 0 < n →
+    IsStrictlyIncreasing parents → k < length parents → get_or parents k 0 ≡ j / n → first ≡ n * k → p ≡ j % n →
+    first + n ≤ length values → n ≤ i → HasSiblings old values n first p i path →
+    path ≡ old ++ siblings_out_of (parents, n, values) j
+found_siblings old values path parents n k j first p i some up inside here is_first is_p full all w =
+    let there : is_among parents (j / n) ≡ true = rw here at (listed_at parents k 0 inside) in
+    let is = placed parents k (j / n) up inside here in
+    let g = take n (drop first values) in
+    let whole : take i g ≡ g = take_all i g (omega (arith, group_len values n first full)) in
+    rw (there, is, ← is_first, ← is_p) (w.so_far ∙ ap (λ ys. old ++ remove ys p) whole)
 
 -- the group of the parent at place k
 group_of : (n : ℕ) (parents : List ℕ) (k : ℕ) → k < length parents → take n (drop (n * k) (children_under n parents))

@@ -13,7 +13,8 @@ use Rattle.std.proofs.lemmas.List.{append_assoc, get_or_default, get_or-map, len
 use Rattle.p3_support.specs.Shown.{row_lists}
 use Rattle.p3_support.specs.Lists.{is_among}
 use Rattle.p3_support.specs.Batches.{heights_of}
-use Rattle.p3_merkle_core.specs.Geometry.{Shape, ancestor, exponent, heights, layer_exponent, leaves_under, step}
+use Rattle.p3_merkle_core.specs.Geometry.{Shape, ancestor, exponent, has_rows, heights, layer_exponent, leaves_under}
+use Rattle.p3_merkle_core.specs.Geometry.{step}
 use Rattle.p3_merkle_core.proofs.Covered.CoveredFacts.{leaves_above_0}
 use Rattle.p3_merkle_core.proofs.Shapes.StepFacts.{anc_next, anc_start}
 use Rattle.p3_support.specs.declared.matrix.Dimensions.{Dimensions}
@@ -221,6 +222,13 @@ none_within g a zero none = refl
 none_within g a (suc n) none =
     rw (none a (omega arith)) (none_within g (a + 1) n (λ k h. none k (omega arith)))
 
+none_between : (g : ℕ → Option MerkleTreeError) (a n : ℕ) → ((k : ℕ) → a ≤ k → k < a + n → g k ≡ None) →
+    first_of g (range_with_len a n) ≡ None
+none_between g a zero none = refl
+none_between g a (suc n) none =
+    rw (none a (omega arith) (omega arith))
+    (none_between g (a + 1) n (λ k low high. none k (omega arith) (omega arith)))
+
 pub full_rows : {T A : Type 0} (rows : List (Vec T A)) (set : List (List T)) (n : ℕ) → row_lists rows ≡ set → length set
     ≡ n → length rows ≡ n
 full_rows rows set n e l = sym (length-map rows (λ row. row.items)) ∙ ap length e ∙ l
@@ -236,6 +244,16 @@ abbrev pub layer_fault : {T : Type 0} → (T → T → Bool) → Shape → List 
     Option MerkleTreeError
 layer_fault row_eq s leaves firsts sets l =
     nodes_refusal row_eq (matrices_with (heights s) (layer_exponent s l)) (map (ancestor s l) leaves) firsts sets
+
+-- no row is refused above the last layer that has matrices
+pub none_above : {T : Type 0} (row_eq : T → T → Bool) (s : Shape) (leaves firsts : List ℕ)
+    (sets : List (List (List T))) (t last l : ℕ) (total : Option MerkleTreeError) →
+    ((k : ℕ) → last < k → k ≤ t → has_rows s k ≡ false) → last ≤ t → l ≡ last →
+    first_of (layer_fault row_eq s leaves firsts sets) (range_with_len (l + 1) (t - l)) ≡ total → total ≡ None
+none_above row_eq s leaves firsts sets t last l total rest inside here so_far =
+    sym so_far ∙ none_between (layer_fault row_eq s leaves firsts sets) (l + 1) (t - l)
+    (λ k low high. no_matrix row_eq (heights s) (layer_exponent s k) (map (ancestor s k) leaves) firsts sets
+    (rest k (omega arith) (omega arith)))
 
 pub nodes_start : (s : Shape) (leaves : List ℕ) → leaves ≡ map (ancestor s 0) leaves
 nodes_start s [] = refl

@@ -5,14 +5,21 @@ use Rattle.std.specs.List.{range_with_len}
 use Rattle.p3_merkle_core.specs.Checks.{words_of_exponent}
 use Rattle.p3_merkle_core.specs.Nodes.{Functions, padded}
 
--- the digest of the group k of some children, where a group has so many of them
-abbrev pub group_digest : {W : Type 0} → (List (List W) → List W) → ℕ → List W → ℕ → List (List W) → ℕ → List W
-group_digest compression n default_digest step children k =
-    compression (padded n default_digest (take step (drop (step * k) children)))
+-- the group k of some children, where a group has so many of them, with default digests up to n
+abbrev pub child_group : {W : Type 0} → ℕ → List W → ℕ → List (List W) → ℕ → List (List W)
+child_group n default_digest step children k = padded n default_digest (take step (drop (step * k) children))
 
--- the digest of a node's children and that of its rows, compressed
+-- its digest
+abbrev pub group_digest : {W : Type 0} → (List (List W) → List W) → ℕ → List W → ℕ → List (List W) → ℕ → List W
+group_digest compression n default_digest step children k = compression (child_group n default_digest step children k)
+
+-- the digest of a node's children beside that of its rows, with default digests up to n
+abbrev pub digest_pair : {W : Type 0} → ℕ → List W → List W × List W → List (List W)
+digest_pair n default_digest pair = padded n default_digest (pair.0 ∷ pair.1 ∷ [])
+
+-- their digest
 abbrev pub pair_digest : {W : Type 0} → (List (List W) → List W) → ℕ → List W → List W × List W → List W
-pair_digest compression n default_digest pair = compression (padded n default_digest (pair.0 ∷ pair.1 ∷ []))
+pair_digest compression n default_digest pair = compression (digest_pair n default_digest pair)
 
 -- the digest of the rows of query k, of the matrices of this exponent
 abbrev pub query_digest : {T W : Type 0} → (List T → List W) → ℕ → List ℕ → List (List (List T)) → ℕ → List W

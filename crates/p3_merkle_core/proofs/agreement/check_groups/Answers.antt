@@ -11,7 +11,7 @@ use Rattle.p3_merkle_core.specs.Refusals.{first_of}
 use Rattle.p3_merkle_core.proofs.Lists.RisingFacts.{rising_from}
 use Rattle.p3_merkle_core.proofs.Pruned.LeadFacts.{ascending_above, found_or, kept_or, layer_fault, layer_read}
 use Rattle.p3_merkle_core.proofs.Pruned.LeadFacts.{leaves_agree, levels_next, matrices_inside, no_matrix, nodes_more}
-use Rattle.p3_merkle_core.proofs.Pruned.LeadFacts.{nodes_start}
+use Rattle.p3_merkle_core.proofs.Pruned.LeadFacts.{nodes_start, none_above}
 use Rattle.p3_merkle_core.proofs.Pruned.SlotFacts.{ascending_from}
 use Rattle.p3_merkle_core.proofs.agreement.check_groups.Goals.{then-up+in_ok-list_matrices+in_ok-check_layer, else-up}
 use Rattle.p3_merkle_core.proofs.agreement.check_groups.Goals as goal
@@ -141,3 +141,14 @@ loop-level-preserved g c =
       so_far = kept_or (h (l + 1)) (first_of h (range_with_len (l + 1 + 1) (t - (l + 1)))) total
           (levels_next h t l total (omega arith) c.loop-level.invariant.so_far) none;
     }
+
+pub returns : goal.returns
+returns g c =
+    let s = shape_of c.args.steps.now.arity c.args.steps.now.dimensions.now in
+    let leaves = c.args.queried.now.indices.items in
+    let firsts = c.args.queried.now.first_queries.items in
+    let sets = row_sets c.args.rows.now in
+    let t = c.args.cap_layer in
+    none_above g.T.PartialEq.eq s leaves firsts sets t c.last_with_rows-last.result c.loop-level.level
+    (layers_refusal g.T.PartialEq.eq s t leaves firsts sets) c.last_with_rows-last.ensures.rest
+    c.last_with_rows-last.ensures.inside (omega arith) c.loop-level.invariant.so_far

@@ -11,14 +11,14 @@ loop-level-init g c =
 
 pub loop-level-preserved : goal.loop-level-preserved
 loop-level-preserved g c =
-    rw c.in_ok-node.ensures.parent (path_more (λ level. (level.parents.items, level.step, level.children.items))
+    rw c.in_ok-parent.ensures.parent (path_more (λ level. (level.parents.items, level.step, level.children.items))
     c.args.levels.now c.args.index
-    c.loop-level.level-index c.loop-level.node c.level-item.result c.loop-level.path.items
-    c.extend_with_siblings.new.path.items c.loop-level-test.true c.level-item.is
-    c.loop-level.invariant c.in_ok-node.ensures.siblings)
+    c.loop-level.level c.loop-level.node c.index-levels-level.result c.loop-level.path.items
+    c.extend_with_siblings.new.path.items c.loop-level-test.true c.index-levels-level.is
+    c.loop-level.invariant c.in_ok-parent.ensures.siblings)
 
 pub returns : goal.returns
 returns g c =
     path_end (map (λ level. (level.parents.items, level.step, level.children.items)) c.args.levels.now) c.args.index
-    c.loop-level.level-index c.loop-level.path.items c.loop-level.node
+    c.loop-level.level c.loop-level.path.items c.loop-level.node
     (simp length-map (omega arith)) c.loop-level.invariant

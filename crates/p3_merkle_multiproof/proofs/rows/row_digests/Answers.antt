@@ -1,43 +1,35 @@
--- Each turn hashes the rows of one more query.
-use Rattle.std.proofs.Common.{◌≡◌, ◌∙◌, ◌<◌, arith, ap, sym, length, get_or, map, zip}
-use Rattle.std.proofs.lemmas.List.{length-map, take_all}
-use Rattle.p3_merkle_core.specs.Checks.{words_of_exponent}
+-- The digests of the opened rows are those of the leads.
+use Rattle.std.proofs.Common.{◌≡◌, ◌∙◌, ℕ, ap, length, map, rules}
+use Rattle.std.specs.Prelude.{slice_index_or, zip}
+use Rattle.std.specs.List.{range_with_len}
+use Rattle.std.specs.declared.vec.Vec.{Vec}
+use Rattle.std.proofs.lemmas.List.{length-map}
+use Rattle.std.proofs.lemmas.Result.{IfOk-weaker}
 use Rattle.p3_support.specs.Batches.{heights_of}
 use Rattle.p3_support.specs.Shown.{row_sets}
+use Rattle.p3_merkle_lanes.specs.Inner.Slots.{rows_over}
 use Rattle.p3_merkle_multiproof.specs.Inner.NodeDigests.{query_digest}
-use Rattle.p3_merkle_multiproof.proofs.GroupFacts.{mapped_more, set_read}
+use Rattle.p3_merkle_multiproof.specs.Inner.OpenedMatrices.{row_in}
+use Rattle.p3_merkle_multiproof.proofs.OpenedFacts.{by_places}
 use Rattle.p3_merkle_multiproof.proofs.rows.row_digests.Goals as goal
 
-pub loop-query-preserved : goal.loop-query-preserved
-loop-query-preserved g c =
+pub returns : goal.returns
+returns g c =
     let restorable = c.args.restorable.now in
+    let leads = c.args.covered.now.leads.items in
     let hash = g.H.CryptographicHasher.hash c.args.hash.now in
-    let exponent = c.args.covered.now.exponent in
-    let leads = c.args.covered.now.leads.items in
-    let heights = heights_of restorable.steps.dimensions.now in
-    let sets = restorable.opening.sets.now in
-    let place = c.loop-query.query-index in
-    let k = get_or leads place 0 in
-    let set = c.index-sets-query in
-    let inside : k < length sets = rw restorable.pairs (c.requires place 0 (omega arith)) in
-    let words = rw c.deref.ensures.value at c.opened_rows_digest-digest.ensures in
-    mapped_more (query_digest hash exponent heights (row_sets sets)) leads place 0 c.loop-query.digests.items
-    c.push.new.self.items c.opened_rows_digest-digest.result (omega arith) c.loop-query.invariant
-    c.in_ok-push.ensures.items
-    (words ∙ ap (λ rows. hash (words_of_exponent exponent (zip heights rows)))
-    (sym (set_read sets k set.result inside (rw c.deref-query-items.ensures.value at set.is))))
-
-pub returns-clause-count : goal.returns-clause-count
-returns-clause-count g c =
-    let restorable = c.args.restorable.now in
-    let leads = c.args.covered.now.leads.items in
-    let digest = query_digest (g.H.CryptographicHasher.hash c.args.hash.now) c.args.covered.now.exponent
-    (heights_of restorable.steps.dimensions.now) (row_sets restorable.opening.sets.now) in
-    let all = take_all c.loop-query.query-index leads (omega arith) in
-    let here : c.loop-query.digests.items ≡ map digest leads = rw all at c.loop-query.invariant in
-    ap length here ∙ length-map leads digest
-
-pub returns-clause-digests : goal.returns-clause-digests
-returns-clause-digests g c =
-    let all = take_all c.loop-query.query-index c.args.covered.now.leads.items (omega arith) in
-    rw all at c.loop-query.invariant
+    let words = rows_over row_in c.deref.result.now in
+    let digest = query_digest hash c.args.covered.now.exponent (heights_of restorable.steps.dimensions.now)
+    (row_sets restorable.opening.sets.now) in
+    let opened = rw (← c.deref.ensures.value) at c.in_ok-matrices.ensures.rows in
+    let n = c.len.result in
+    let same : n ≡ length leads = search rules in
+    let rows = λ (k : ℕ). map (λ (j : ℕ). hash (words j)) (range_with_len 0 k) in
+    let are = ap rows same ∙ by_places (λ (j : ℕ). hash (words j)) digest leads (λ j h. ap hash (opened j h)) in
+    let made = λ (digests : Vec _ _). digests.items ≡ rows n in
+    record {
+      count = IfOk-weaker c.digests_of.result made (λ digests. length digests.items ≡ length leads)
+          (λ digests is. ap length (is ∙ are) ∙ length-map leads digest) c.digests_of.ensures;
+      digests = IfOk-weaker c.digests_of.result made (λ digests. digests.items ≡ map digest leads)
+          (λ digests is. is ∙ are) c.digests_of.ensures;
+    }

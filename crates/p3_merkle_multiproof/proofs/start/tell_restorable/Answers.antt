@@ -33,4 +33,5 @@ returns g c =
       pairs = sym (length-map opening.sets.now (λ rows. row_lists rows.items)) ∙ sym asked.pairs;
       sent = sym (length-replicate (length opening.sent.now) []) ∙ r.count;
       agreed = agreed_with s t opening.indices.now rows (replicate (length opening.sent.now) []) [] r.agreed;
+      fit = r.rows_fit;
     }

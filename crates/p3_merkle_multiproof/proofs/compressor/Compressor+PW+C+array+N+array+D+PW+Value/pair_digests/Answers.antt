@@ -1,20 +1,18 @@
--- Each turn compresses one more pair.
-use Rattle.std.proofs.Common.{arith, replicate, zip}
-use Rattle.std.proofs.lemmas.List.{take_all}
-use Rattle.p3_merkle_multiproof.specs.Inner.NodeDigests.{pair_digest}
-use Rattle.p3_merkle_multiproof.proofs.GroupFacts.{pairs_more, pairs_long}
+-- The groups of all pairs are compressed together.
+use Rattle.std.proofs.Common.{◌≡◌, ◌∙◌, ap, map, replicate, zip}
+use Rattle.std.specs.declared.vec.Vec.{Vec}
+use Rattle.std.proofs.lemmas.Result.{IfOk-weaker}
+use Rattle.std.proofs.lemmas.Simd.{map-map}
+use Rattle.p3_merkle_multiproof.specs.Inner.NodeDigests.{digest_pair, pair_digest}
 use Rattle.p3_merkle_multiproof.proofs.compressor.Compressor+PW+C+array+N+array+D+PW+Value.pair_digests.Goals as goal
-
-pub loop-node-preserved : goal.loop-node-preserved
-loop-node-preserved g c =
-    pairs_more (pair_digest (g.C.PseudoCompressionFunction.compression c.args.self.now.compress.now) g.row.N
-    (replicate g.row.D g.PW.PackedValue.default_value)) c.args.nodes.now c.args.rows.now c.loop-node.node
-    c.loop-node.digests.items c.push.new.self.items c.padded_digest.result c.index-nodes-node.result
-    c.index-rows-node.result (omega arith) (omega arith) c.index-nodes-node.is c.index-rows-node.is
-    c.loop-node.invariant c.in_ok-push.ensures.items c.padded_digest.ensures
 
 pub returns : goal.returns
 returns g c =
-    let all = take_all c.loop-node.node (zip c.args.nodes.now c.args.rows.now)
-    (omega (arith, pairs_long c.args.nodes.now c.args.rows.now c.requires.pairs)) in
-    rw all at c.loop-node.invariant
+    let pairs = zip c.args.nodes.now c.args.rows.now in
+    let compression = g.C.PseudoCompressionFunction.compression c.args.self.now.compress.now in
+    let default = replicate g.row.D g.PW.PackedValue.default_value in
+    let are = ap (map compression) (c.deref.ensures.value ∙ c.in_ok-groups.ensures)
+    ∙ map-map compression (digest_pair g.row.N default) pairs in
+    IfOk-weaker c.digests_of.result (λ (digests : Vec _ _). digests.items ≡ map compression c.deref.result.now)
+    (λ digests. digests.items ≡ map (pair_digest compression g.row.N default) pairs) (λ digests is. is ∙ are)
+    c.digests_of.ensures
