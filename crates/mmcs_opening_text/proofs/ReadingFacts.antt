@@ -1,7 +1,7 @@
 -- Lines of which some are read.
 use Rattle.std.proofs.Common.{◌≡◌, ◌≤◌, ◌+◌, ◌==◌, ℕ, List, [], ◌∷◌, ◌++◌, length, Option, Some, None, Result, Ok, Err}
 use Rattle.std.proofs.Common.{Bool, true, false, sym, refl, ap, ◌∙◌, subst, arith}
-use Rattle.std.specs.Prelude.{codes, if◌then◌else◌, map, slice_get, IfNone, IfOk, IfSome, option_map}
+use Rattle.std.specs.Prelude.{codes, if◌then◌else◌, slice_get, IfOk, IfSome, option_map}
 use Rattle.std.specs.Option.{option_and_then, option_map_or, option_or}
 use Rattle.std.specs.List.{slice_split, ItemBy}
 use Rattle.std.specs.Str.Lines.{strip_carriage_return}
@@ -24,16 +24,6 @@ use Rattle.mmcs_opening_text.specs.declared.reader.Stage.{Stage}
 use Rattle.mmcs_opening_text.specs.declared.reader.Stage.TheVariants.{Cap, Queries, Rows, Digests}
 
 -- ---- lines
-
--- a line is cut off
-pub left_cut : {B : Type 0} (bytes : B → List ℕ) (below : Option B) (left piece text : List ℕ) →
-    IfSome below (λ rest. slice_split (λ b. b == 10) left ≡ piece ∷ slice_split (λ b. b == 10) (bytes rest)) →
-    IfNone below (slice_split (λ b. b == 10) left ≡ piece ∷ []) → text ≡ strip_carriage_return piece →
-    pieces_of left ≡ text ∷ option_map_or (λ rest. pieces_of (bytes rest)) below []
-left_cut bytes None left piece text more last text_is =
-    ap (map strip_carriage_return) last ∙ (λ i. sym text_is i ∷ [])
-left_cut bytes (Some rest) left piece text more last text_is =
-    ap (map strip_carriage_return) more ∙ (λ i. sym text_is i ∷ pieces_of (bytes rest))
 
 -- an input has at most one line more than it has bytes
 pub few_pieces : (input : List ℕ) → length (pieces_of input) ≤ length input + 1

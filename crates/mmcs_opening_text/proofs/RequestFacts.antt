@@ -7,7 +7,7 @@ use Rattle.std.specs.Bool.{then_some}
 use Rattle.std.specs.List.{list_all}
 use Rattle.std.specs.Option.{is_some}
 use Rattle.std.proofs.lemmas.Bool.{false≢true}
-use Rattle.std.proofs.lemmas.List.{map_more, map-append, take_all}
+use Rattle.std.proofs.lemmas.List.{take_all}
 use Rattle.p3_support.specs.declared.matrix.Dimensions.{Dimensions}
 use Rattle.mmcs_text.specs.Words.{arity_word, hash_word, texts_of, IsCapWord}
 use Rattle.mmcs_text.specs.declared.command.CapChoice.{CapChoice}
@@ -54,18 +54,6 @@ some_dimensions (w ∷ words) all =
         (dimensions : List Dimensions) × (map dimensions_of_word (w ∷ words) ≡ map Some dimensions)
     by_first None is some rest = absurd (false≢true (sym (ap is_some is) ∙ some))
     by_first (Some d) is some rest = (d ∷ rest.0, λ i. is i ∷ rest.1 i)
-
--- one more
-pub dimensions_more : {A : Type 0} (words : List (String A)) (i : ℕ) (word : String A) (so_far new : List Dimensions)
-    (size : Dimensions) → i < length words → word ≡ get_or words i word →
-    map dimensions_of_word (texts_of (take i words)) ≡ map Some so_far →
-    Some size ≡ dimensions_of_word (string_bytes word) → new ≡ so_far ++ size ∷ [] →
-    map dimensions_of_word (texts_of (take (i + 1) words)) ≡ map Some new
-dimensions_more words i word so_far new size within is so_far_is size_is new_is =
-    ap (map dimensions_of_word) (map_more string_bytes words i word within)
-    ∙ map-append dimensions_of_word (texts_of (take i words)) (string_bytes (get_or words i word) ∷ [])
-    ∙ (λ j. so_far_is j ++ (ap (λ w. dimensions_of_word (string_bytes w)) (sym is) ∙ sym size_is) j ∷ [])
-    ∙ sym (ap (map Some) new_is ∙ map-append Some so_far (size ∷ []))
 
 -- a list that begins with an element, or with three
 pub one_element : {A : Type 0} (xs : List A) (x : A) → 1 ≤ length xs → x ≡ get_or xs 0 x →
