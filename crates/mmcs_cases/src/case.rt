@@ -9,7 +9,7 @@ use std::alloc::{AllocError, Global};
 ///
 /// # Errors
 ///
-/// `AllocError` where there is no memory; that of an output that is no text.
+/// `AllocError` if memory runs out; that of an output that is no text.
 pub fn mistake(alloc: Global, line: &str) -> Result<Option<String>, Error> {
     let Some((words, input, answer)) = parts_of(line) else {
         return Ok(Some(format!(in alloc; "is no case")?));

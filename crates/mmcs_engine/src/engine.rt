@@ -95,7 +95,7 @@ fn answer_to<Src: Read>(alloc: Global, words: &[String], input: &mut Src) -> Res
 ///
 /// # Errors
 ///
-/// `Read` where a read fails, but `Tree(OutOfMemory)` where that is for want of memory.
+/// `Read` if a read fails, but `Tree(OutOfMemory)` if it fails since memory runs out.
 fn read_all<Src: Read>(alloc: Global, input: &mut Src) -> Result<Vec<u8>, Fault>
     ensures bytes { IfOk result (λ bytes. IfSome (Src.remaining input.old) (λ all. bytes.items ≡ all)) }
     ensures fault { IfErr result (λ fault. (fault ≡ Fault.Read) ⊎ (fault ≡ Fault.Tree OutOfMemory)) }
@@ -114,7 +114,7 @@ fn read_all<Src: Read>(alloc: Global, input: &mut Src) -> Result<Vec<u8>, Fault>
 ///
 /// # Errors
 ///
-/// `Write` where a write or the flush fails.
+/// `Write` if a write or the flush fails.
 fn write_text<Dst: Write>(output: &mut Dst, text: &[u8]) -> Result<(), Fault>
     ensures text { OnOk result (Appends (Dst.contents output.old) (Dst.contents output.new) text.now) }
     ensures fault { IfErr result (λ fault. fault ≡ Fault.Write) }
@@ -214,7 +214,7 @@ fn act<
 ///
 /// # Errors
 ///
-/// `OutOfMemory` alone.
+/// Only `OutOfMemory`.
 fn text_of_tree<
     W: Word + PackedValue<Value = W>,
     H: CryptographicHasher<W, W, D>,
@@ -254,7 +254,7 @@ fn text_of_tree<
 ///
 /// # Errors
 ///
-/// `OutOfMemory` alone.
+/// Only `OutOfMemory`.
 fn cap_text<W: Word, const D: usize>(
     alloc: Global,
     roots: &MerkleCap<W, [W; D]>,
@@ -271,7 +271,7 @@ fn cap_text<W: Word, const D: usize>(
 ///
 /// # Errors
 ///
-/// `OutOfMemory` alone.
+/// Only `OutOfMemory`.
 fn open_text<
     W: Word + PackedValue<Value = W>,
     H: CryptographicHasher<W, W, D>,
@@ -303,7 +303,7 @@ fn open_text<
 ///
 /// # Errors
 ///
-/// `AllocError` where there is no memory.
+/// `AllocError` if memory runs out.
 fn push_queries<W: Word>(
     alloc: Global,
     text: &mut Vec<u8>,
@@ -325,7 +325,7 @@ fn push_queries<W: Word>(
 ///
 /// # Errors
 ///
-/// `OutOfMemory` alone.
+/// Only `OutOfMemory`.
 fn check_text<
     W: Word + PackedValue<Value = W>,
     H: CryptographicHasher<W, W, D>,

@@ -20,7 +20,7 @@ pub(crate) fn number_behind(label: &[u8], line: &[u8]) -> Option<usize>
 ///
 /// # Errors
 ///
-/// `AllocError` where there is no memory.
+/// `AllocError` if memory runs out.
 pub(crate) fn row_of<W: Word>(
     alloc: Global,
     width: usize,

@@ -172,7 +172,7 @@ impl<W: Word, H: LineDigest> Reader<W, H> {
     ///
     /// # Errors
     ///
-    /// `AllocError` where there is no memory.
+    /// `AllocError` if memory runs out.
     fn took(
         &mut self,
         alloc: Global,
@@ -195,7 +195,7 @@ impl<W: Word, H: LineDigest> Reader<W, H> {
     ///
     /// # Errors
     ///
-    /// `AllocError` where there is no memory.
+    /// `AllocError` if memory runs out.
     fn took_cap_line(&mut self, text: &[u8]) -> Result<bool, AllocError>
         ensures { IfOk result (λ took. after_cap_line H.hash (reading_of W.value H.words self.old) text.now
             ≡ (if took then Some (reading_of W.value H.words self.new) else None)) }
@@ -215,7 +215,7 @@ impl<W: Word, H: LineDigest> Reader<W, H> {
     ///
     /// # Errors
     ///
-    /// `AllocError` where there is no memory.
+    /// `AllocError` if memory runs out.
     fn took_query(
         &mut self,
         alloc: Global,
@@ -242,7 +242,7 @@ impl<W: Word, H: LineDigest> Reader<W, H> {
     ///
     /// # Errors
     ///
-    /// `AllocError` where there is no memory.
+    /// `AllocError` if memory runs out.
     fn took_row(
         &mut self,
         alloc: Global,
@@ -268,7 +268,7 @@ impl<W: Word, H: LineDigest> Reader<W, H> {
     ///
     /// # Errors
     ///
-    /// `AllocError` where there is no memory.
+    /// `AllocError` if memory runs out.
     fn settle(&mut self, alloc: Global, dimensions: &[Dimensions]) -> Result<(), AllocError>
         ensures { OnOk result
             (reading_of W.value H.words self.new ≡ settled dimensions.now (reading_of W.value H.words self.old)) }
@@ -285,7 +285,7 @@ impl<W: Word, H: LineDigest> Reader<W, H> {
     ///
     /// # Errors
     ///
-    /// `AllocError` where there is no memory.
+    /// `AllocError` if memory runs out.
     fn took_digest(&mut self, count: usize, text: &[u8]) -> Result<bool, AllocError>
         ensures { IfOk result (λ took. after_digest H.hash count (reading_of W.value H.words self.old) text.now
             ≡ (if took then Some (reading_of W.value H.words self.new) else None)) }

@@ -132,7 +132,7 @@ fn dimensions_of_word(word: &[u8]) -> Option<Dimensions>
 ///
 /// # Errors
 ///
-/// `AllocError` where there is no memory.
+/// `AllocError` if memory runs out.
 fn dimensions_of(alloc: Global, words: &[String]) -> Result<Vec<Dimensions>, AllocError>
     requires { list_all (λ word. is_some (dimensions_of_word word)) (texts_of words.now) ≡ true }
     ensures { IfOk result

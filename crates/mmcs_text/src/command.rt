@@ -107,7 +107,7 @@ fn are_numbers(words: &[String]) -> bool
 ///
 /// # Errors
 ///
-/// `AllocError` where there is no memory.
+/// `AllocError` if memory runs out.
 fn indices_of(alloc: Global, words: &[String]) -> Result<Vec<usize>, AllocError>
     requires { All IsNumberWord (texts_of words.now) }
     ensures { IfOk result (λ indices. indices.items ≡ map (digits_value 10) (texts_of words.now)) }

@@ -104,7 +104,7 @@ fn with_digit(before: Option<u32>, digit: u8, max: u32) -> Option<u32>
 ///
 /// # Errors
 ///
-/// `AllocError` where there is no memory.
+/// `AllocError` if memory runs out.
 pub fn append_row<W: Word>(values: &mut Vec<W>, line: &[u8]) -> Result<Option<usize>, AllocError>
     ensures row { IfOk result (λ count. IfSome count (λ n.
         (map W.value values.new.items ≡ map W.value values.old.items ++ numbers_of line.now) ×

@@ -10,7 +10,7 @@ use std::alloc::{AllocError, Global};
 ///
 /// # Errors
 ///
-/// `AllocError` where there is no memory.
+/// `AllocError` if memory runs out.
 pub fn push_digests<W: Word, const D: usize>(
     text: &mut Vec<u8>,
     digests: &[[W; D]],
@@ -29,7 +29,7 @@ pub fn push_digests<W: Word, const D: usize>(
 ///
 /// # Errors
 ///
-/// `AllocError` where there is no memory.
+/// `AllocError` if memory runs out.
 pub fn push_hex_words<W: Word>(text: &mut Vec<u8>, words: &[W]) -> Result<(), AllocError>
     ensures { OnOk result
         (text.new.items ≡ text.old.items ++ flat_map (hex_word W.HEX_DIGITS) (map W.value words.now)) }
@@ -74,7 +74,7 @@ fn hex_digit(digit: u32) -> u8
 ///
 /// # Errors
 ///
-/// `AllocError` where there is no memory.
+/// `AllocError` if memory runs out.
 pub fn push_rows<W: Word>(
     alloc: Global,
     text: &mut Vec<u8>,
@@ -93,7 +93,7 @@ pub fn push_rows<W: Word>(
 ///
 /// # Errors
 ///
-/// `AllocError` where there is no memory.
+/// `AllocError` if memory runs out.
 fn push_row<W: Word>(alloc: Global, text: &mut Vec<u8>, row: &[W]) -> Result<(), AllocError>
     ensures { OnOk result (text.new.items ≡ text.old.items ++ row_line (map W.value row.now)) }
 {
@@ -105,7 +105,7 @@ fn push_row<W: Word>(alloc: Global, text: &mut Vec<u8>, row: &[W]) -> Result<(),
 ///
 /// # Errors
 ///
-/// `AllocError` where there is no memory.
+/// `AllocError` if memory runs out.
 fn row_line<W: Word>(alloc: Global, row: &[W]) -> Result<String, AllocError>
     ensures { IfOk result (λ line. string_bytes line ≡ row_line (map W.value row.now)) }
 {
@@ -123,7 +123,7 @@ fn row_line<W: Word>(alloc: Global, row: &[W]) -> Result<String, AllocError>
 ///
 /// # Errors
 ///
-/// `AllocError` where there is no memory.
+/// `AllocError` if memory runs out.
 fn push_spaced<W: Word>(line: &mut String, words: &[W]) -> Result<(), AllocError>
     ensures { OnOk result
         (string_bytes line.new ≡ string_bytes line.old ++ flat_map (λ w. 32 ∷ decimal w) (map W.value words.now)) }
@@ -139,7 +139,7 @@ fn push_spaced<W: Word>(line: &mut String, words: &[W]) -> Result<(), AllocError
 ///
 /// # Errors
 ///
-/// `AllocError` where there is no memory.
+/// `AllocError` if memory runs out.
 pub fn push_labelled(
     alloc: Global,
     text: &mut Vec<u8>,

@@ -67,7 +67,7 @@ impl TreeSetting {
 ///
 /// # Errors
 ///
-/// `AllocError` where there is no memory for the dimensions.
+/// `AllocError` if memory runs out.
 pub fn request_of(
     alloc: Global,
     setting: Setting,

@@ -22,7 +22,7 @@ use std::alloc::{AllocError, Global};
 ///
 /// # Errors
 ///
-/// `AllocError` where there is no memory.
+/// `AllocError` if memory runs out.
 pub(crate) fn collision_text<
     W: Word + PackedValue<Value = W>,
     H: CryptographicHasher<W, W, D>,
@@ -70,7 +70,7 @@ fn place_of<W, const D: usize>(pair: &Collision<W, W, D>) -> &Place
 ///
 /// # Errors
 ///
-/// `AllocError` where there is no memory.
+/// `AllocError` if memory runs out.
 fn push_place(alloc: Global, text: &mut Vec<u8>, place: &Place) -> Result<(), AllocError>
     ensures { OnOk result (text.new.items ≡ text.old.items ++ place_line place.now) }
 {
@@ -86,7 +86,7 @@ fn push_place(alloc: Global, text: &mut Vec<u8>, place: &Place) -> Result<(), Al
 ///
 /// # Errors
 ///
-/// `AllocError` where there is no memory.
+/// `AllocError` if memory runs out.
 fn push_inputs<
     W: Word + PackedValue<Value = W>,
     H: CryptographicHasher<W, W, D>,
@@ -133,7 +133,7 @@ fn compressed<
 ///
 /// # Errors
 ///
-/// `AllocError` where there is no memory.
+/// `AllocError` if memory runs out.
 fn push_words<W: Word>(text: &mut Vec<u8>, words: &[W]) -> Result<(), AllocError>
     ensures { OnOk result (text.new.items ≡ text.old.items ++ hex_line W.HEX_DIGITS (map W.value words.now)) }
 {
@@ -146,7 +146,7 @@ fn push_words<W: Word>(text: &mut Vec<u8>, words: &[W]) -> Result<(), AllocError
 ///
 /// # Errors
 ///
-/// `AllocError` where there is no memory.
+/// `AllocError` if memory runs out.
 fn push_digests<W: Word, const D: usize>(
     text: &mut Vec<u8>,
     digests: &[[W; D]],

@@ -97,7 +97,7 @@ fn answer_to<Src: Read>(alloc: Global, words: &[String], input: &mut Src) -> Res
 ///
 /// # Errors
 ///
-/// `Read` where a read fails, but `Tree(OutOfMemory)` where that is for want of memory.
+/// `Read` if a read fails, but `Tree(OutOfMemory)` if it fails since memory runs out.
 fn read_all<Src: Read>(alloc: Global, input: &mut Src) -> Result<Vec<u8>, Fault>
     ensures bytes { IfOk result (λ bytes. IfSome (Src.remaining input.old) (λ all. bytes.items ≡ all)) }
     ensures fault { IfErr result (λ fault. (fault ≡ Fault.Read) ⊎ (fault ≡ Fault.Tree OutOfMemory)) }
@@ -116,7 +116,7 @@ fn read_all<Src: Read>(alloc: Global, input: &mut Src) -> Result<Vec<u8>, Fault>
 ///
 /// # Errors
 ///
-/// `Write` where a write or the flush fails.
+/// `Write` if a write or the flush fails.
 fn write_text<Dst: Write>(output: &mut Dst, text: &[u8]) -> Result<(), Fault>
     ensures text { OnOk result (Appends (Dst.contents output.old) (Dst.contents output.new) text.now) }
     ensures fault { IfErr result (λ fault. fault ≡ Fault.Write) }

@@ -37,11 +37,11 @@ pub struct DistinctIndices {
     pub first_queries: Vec<usize>,
 }
 
-/// The distinct indices of some queries. Sorts them once. Takes memory for two numbers an index.
+/// The distinct indices of some queries. It sorts them once, and allocates two numbers for each index.
 ///
 /// # Errors
 ///
-/// `AllocError` where there is no memory.
+/// `AllocError` if memory runs out.
 fn distinct_indices_of(alloc: Global, indices: &[usize]) -> Result<DistinctIndices, AllocError>
     ensures { IfOk result (λ queried. AreDistinctOf queried indices.now) }
 {
@@ -57,7 +57,7 @@ fn distinct_indices_of(alloc: Global, indices: &[usize]) -> Result<DistinctIndic
 ///
 /// # Errors
 ///
-/// `AllocError` where there is no memory.
+/// `AllocError` if memory runs out.
 fn first_queries(
     alloc: Global,
     leaves: &[usize],
@@ -124,7 +124,7 @@ fn check_repeats<T: Eq>(
 ///
 /// # Errors
 ///
-/// What [`check_widths`] answers, for the first query that it refuses.
+/// The error of [`check_widths`], for the first query that it refuses.
 fn check_first_widths<T>(
     dimensions: &[Dimensions],
     rows: &[Vec<Vec<T>>],
@@ -234,7 +234,7 @@ fn check_layer<T: Eq>(
 ///
 /// # Errors
 ///
-/// `AllocError` where there is no memory.
+/// `AllocError` if memory runs out.
 fn list_matrices(
     matrices: &mut Vec<usize>,
     dimensions: &[Dimensions],
@@ -281,7 +281,7 @@ fn last_with_rows(steps: &Steps<'_>, cap_layer: usize) -> usize
 /// # Errors
 ///
 /// `InconsistentGroupOpening` for the first row that differs: layers from the leaves up, slots ascending, matrices in
-/// input order; `OutOfMemory` where there is no memory.
+/// input order; `OutOfMemory` if memory runs out.
 fn check_groups<T: Eq>(
     alloc: Global,
     steps: &Steps<'_>,
@@ -319,7 +319,7 @@ fn check_groups<T: Eq>(
 
 impl<'a> Steps<'a> {
     /// Checks a pruned opening of some indices for all that doesn't depend on the cap, which is layer `cap_layer`:
-    /// whether paths can be restored from it. Answers its distinct indices. `cap_layer` is at most the number of
+    /// whether paths can be restored from it. Returns its distinct indices. `cap_layer` is at most the number of
     /// levels, and the arity a power of two from 2 to 2^62.
     ///
     /// Sorts the indices once. Takes memory for four numbers an index, and a number for each matrix of a layer above
@@ -329,13 +329,13 @@ impl<'a> Steps<'a> {
     ///
     /// The first of these that holds, where `OutOfMemory` may come once the indices are known to be in range:
     ///
-    /// - what [`check_heights`](Self::check_heights) answers;
+    /// - the error of [`check_heights`](Self::check_heights);
     /// - `WrongBatchSize`: there are not as many row sets as indices;
     /// - `SiblingCountMismatch`: there is a digest, and no index;
     /// - `IndexOutOfBounds`: the highest index is not below the tallest height;
     /// - `InconsistentDuplicateOpenings`: a query has not the row set of the first query of its index;
     /// - `SiblingCountMismatch`: there are not as many digests as the indices leave unknown;
-    /// - `WrongBatchSize`, `WrongWidth`: by ascending indices, what [`check_widths`] answers for the first query of the
+    /// - `WrongBatchSize`, `WrongWidth`: by ascending indices, the error of [`check_widths`] for the first query of the
     ///   index;
     /// - `InconsistentGroupOpening`: layer by layer, by ascending indices and in the order of the matrices, a row is
     ///   not that of the lowest index under the same node.
@@ -364,12 +364,12 @@ impl<'a> Steps<'a> {
     }
 }
 
-/// How many digests a pruned proof of some indices sends under the cap of layer `cap_layer`. Takes a copy of the
-/// distinct indices, so that they aren't sorted again.
+/// How many digests a pruned proof of some indices sends under the cap of layer `cap_layer`. It copies the distinct
+/// indices, so that they are not sorted again.
 ///
 /// # Errors
 ///
-/// `AllocError` where there is no memory.
+/// `AllocError` if memory runs out.
 fn pruned_len_of_distinct(
     alloc: Global,
     steps: &Steps<'_>,
@@ -389,11 +389,11 @@ fn pruned_len_of_distinct(
     Ok(steps.boundary_len(cap_layer, leaves))
 }
 
-/// Checks whether some indices can be queried with so many row sets and digests. Takes no memory.
+/// Checks whether some indices can be queried with so many row sets and digests. It does not allocate.
 ///
 /// # Errors
 ///
-/// In this order: what [`Steps::check_heights`] answers; `WrongBatchSize` where there are not as many row sets as
+/// In this order: the error of [`Steps::check_heights`]; `WrongBatchSize` where there are not as many row sets as
 /// indices; `SiblingCountMismatch` for a digest where there is no index; `IndexOutOfBounds` for the highest index.
 fn check_queries(
     steps: &Steps<'_>,

@@ -21,7 +21,7 @@ pub enum CapRule {
 
 impl<'a> Steps<'a> {
     /// The layer, counted from the leaves, that is the cap of this height over matrices of these dimensions. The arity
-    /// is a power of two from 2 to 2^62. It takes no memory.
+    /// is a power of two from 2 to 2^62. It does not allocate.
     pub fn cap_layer(&self, rule: CapRule, cap_height: usize) -> usize
         requires { IsArity self.now.arity }
         ensures { result ≡ cap_layer (shape_of self.now.arity self.now.dimensions.now) rule cap_height }

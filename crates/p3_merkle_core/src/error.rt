@@ -36,7 +36,8 @@ pub enum PrunedProofError {
 /// Why a batch of matrices, an index or an opening is refused.
 #[derive(Debug, PartialEq, Eq, Drop, Error)]
 pub enum MerkleTreeError {
-    /// The number of rows is not that of the matrices.
+    /// Two lists that belong together differ in length: rows and matrices, row sets and indices, salts and rows, or
+    /// salt sets and row sets.
     #[error("batch size mismatch: expected {expected} entries, got {got}")]
     WrongBatchSize {
         /// How many there should be.
@@ -69,9 +70,9 @@ pub enum MerkleTreeError {
         height: usize,
         /// The tallest height.
         max_height: usize,
-        /// The tallest height after that many halvings, each rounded up.
+        /// The tallest height after `bits_reduced` halvings, each rounded up.
         expected_height: usize,
-        /// How many halvings lead from the tallest height to this one.
+        /// The exponent of the tallest height less that of this one. An exponent is log2, rounded up.
         bits_reduced: usize,
     },
     /// An index is not below the tallest height.

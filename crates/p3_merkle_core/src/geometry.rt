@@ -1,7 +1,7 @@
 //! The shape of a tree, computed from the dimensions of its matrices: which heights are taken, how many children
 //! a node has on each level, how long the layers are, and where the ancestors of an index stand.
 //!
-//! No call here takes memory.
+//! Nothing here allocates.
 
 ghost use Rattle.std.specs.Prelude.{◌≡◌, ◌+◌, ◌-◌, ◌*◌, ◌^◌, ◌<◌, ◌≤◌, ◌==◌, ◌↔◌, Some, None, IfOk, IsOk, MatchResult};
 ghost use Rattle.std.specs.Prelude.{List, map, if◌then◌else◌, nat_lt, ◌&&◌};
@@ -186,7 +186,7 @@ pub fn check_widths<T>(dimensions: &[Dimensions], rows: &[Vec<T>]) -> Result<(),
 }
 
 /// How many slots a layer of `len` nodes has: `len` up to 1, else the least multiple of `arity` that is not below it.
-/// The arity is above 0, and the answer is below 2^64.
+/// The arity is above 0, and the result is below 2^64.
 pub fn padded_len(len: usize, arity: usize) -> usize
     requires positive { 0 < arity }
     requires fits { padded_len len arity < 2 ^ 64 }

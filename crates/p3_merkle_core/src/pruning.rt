@@ -101,12 +101,11 @@ fn highest_of(indices: &[usize]) -> usize
     highest
 }
 
-/// The leaves that some indices cover: each index once, ascending. Takes memory for all indices, and the time of a
-/// sort.
+/// The leaves that some indices cover: each index once, ascending. It allocates a copy of the indices and sorts it.
 ///
 /// # Errors
 ///
-/// `AllocError` where there is no memory.
+/// `AllocError` if memory runs out.
 pub fn covered_leaves(alloc: Global, indices: &[usize]) -> Result<Vec<usize>, AllocError>
     ensures { IfOk result (λ leaves. leaves.items ≡ distinct indices.now) }
 {
@@ -139,11 +138,11 @@ pub fn climb(covered: &mut Vec<usize>, step: usize)
 /// How many digests a pruned proof of some indices sends under the cap of layer `cap_layer`: on each level, the
 /// children of covered nodes that are not covered. `cap_layer` is at most the number of levels, the arity a power of
 /// two from 2 to 2^62, no height above [`MAX_HEIGHT`](crate::geometry::MAX_HEIGHT), and each index below the tallest
-/// height. Takes memory for all indices, and beside their sort the time of one step for each index and level.
+/// height. It allocates and sorts a copy of the indices, and takes one step for each index and level.
 ///
 /// # Errors
 ///
-/// `AllocError` where there is no memory.
+/// `AllocError` if memory runs out.
 pub fn pruned_len_of(
     alloc: Global,
     dimensions: &[Dimensions],
@@ -163,7 +162,7 @@ pub fn pruned_len_of(
 
 impl<'a> Steps<'a> {
     /// The same as [`pruned_len_of`] from the leaves that the indices cover, each once, ascending, as
-    /// [`covered_leaves`] has them. Takes no memory beside theirs, and the time of one step for each leaf and level.
+    /// [`covered_leaves`] has them. It does not allocate, and takes one step for each leaf and level.
     pub fn boundary_len(&self, layer: usize, leaves: Vec<usize>) -> usize
         requires arity { IsArity self.now.arity }
         requires low { greatest (heights_of self.now.dimensions.now) ≤ height_limit }
@@ -187,11 +186,11 @@ impl<'a> Steps<'a> {
 
 /// The values of the children of some parents, `step` of each, parent by parent: of a covered child its digest, and of
 /// another the next of those that were sent. The covered nodes, each with its digest, are those of the children, in the
-/// same order. Takes memory and time for all children.
+/// same order. It allocates the list of all children.
 ///
 /// # Errors
 ///
-/// `AllocError` where there is no memory.
+/// `AllocError` if memory runs out.
 pub fn children_of<X: Copy>(
     alloc: Global,
     covered: &[usize],
@@ -233,7 +232,7 @@ fn num_siblings<X>(levels: &[KeptLevel<X>]) -> usize {
 ///
 /// # Errors
 ///
-/// `AllocError` where there is no memory.
+/// `AllocError` if memory runs out.
 fn places_above<X>(
     alloc: Global,
     nodes: &[usize],
@@ -254,7 +253,7 @@ fn places_above<X>(
 ///
 /// # Errors
 ///
-/// `AllocError` where there is no memory.
+/// `AllocError` if memory runs out.
 fn all_places_above<X>(
     alloc: Global,
     levels: &[KeptLevel<X>],
@@ -276,12 +275,12 @@ fn hint_at(places: &[Vec<usize>], level: usize, place: usize) -> usize {
 
 /// The siblings on the path of a leaf, out of the levels that a walk kept, from the leaves on: of each group on the
 /// path all values but the path's own, ascending. The path of a leaf that the walk did not cover has no siblings on the
-/// levels where no covered node is above it. `places` has those of [`all_places_above`]. Takes memory for `capacity`
-/// siblings at once, and for more where there are more.
+/// levels where no covered node is above it. `places` has those of [`all_places_above`]. It allocates `capacity`
+/// siblings at once, and grows if there are more.
 ///
 /// # Errors
 ///
-/// `AllocError` where there is no memory.
+/// `AllocError` if memory runs out.
 fn path_out_of<X: Copy>(
     alloc: Global,
     levels: &[KeptLevel<X>],
@@ -308,7 +307,7 @@ fn path_out_of<X: Copy>(
 ///
 /// # Errors
 ///
-/// `AllocError` where there is no memory.
+/// `AllocError` if memory runs out.
 pub fn paths_out_of<X: Copy>(
     alloc: Global,
     levels: &[KeptLevel<X>],

@@ -1,5 +1,5 @@
-//! The steps of a tree, from the leaves to the root, walked once and kept: every walk goes by them. No call here takes
-//! memory from an allocator, but for the two that answer a list.
+//! The steps of a tree, from the leaves to the root, walked once and kept: every walk goes by them. Nothing here
+//! allocates except the two functions that return a list.
 
 ghost use Rattle.std.specs.Prelude.{◌≡◌, ℕ, suc, ◌+◌, ◌-◌, ◌<◌, ◌≤◌, ◌==◌, ◌↔◌, List, if◌then◌else◌, length, map};
 ghost use Rattle.std.specs.Prelude.{nat_lt, take, ◌&&◌, IfOk, IsOk, MatchResult, None, Some};
@@ -266,7 +266,7 @@ impl KeptSteps {
     ///
     /// # Errors
     ///
-    /// `AllocError` where there is no memory.
+    /// `AllocError` if memory runs out.
     pub fn clone(&self) -> Result<KeptSteps, AllocError>
         ensures dimensions { IfOk result (λ kept. kept.dimensions.items ≡ self.now.dimensions.items) }
         ensures arity { IfOk result (λ kept. kept.arity ≡ self.now.arity) }
@@ -369,11 +369,11 @@ impl<'a> Steps<'a> {
     }
 
     /// The steps of the levels below a layer, from the leaves up, in children a node. The layer is at most the number
-    /// of levels. Takes memory for a number a level.
+    /// of levels. It allocates a list of one number for each level.
     ///
     /// # Errors
     ///
-    /// `AllocError` where there is no memory.
+    /// `AllocError` if memory runs out.
     pub fn schedule_below(&self, alloc: Global, layer: usize) -> Result<Vec<usize>, AllocError>
         requires { layer ≤ self.now.num_levels }
         ensures { let s = shape_of self.now.arity self.now.dimensions.now in
@@ -387,11 +387,11 @@ impl<'a> Steps<'a> {
     }
 
     /// The place of the index's ancestor among the children of its parent, for each level below a layer, from the
-    /// leaves up. The layer is at most the number of levels. Takes memory for a number a level.
+    /// leaves up. The layer is at most the number of levels. It allocates a list of one number for each level.
     ///
     /// # Errors
     ///
-    /// `AllocError` where there is no memory.
+    /// `AllocError` if memory runs out.
     pub fn positions_below(
         &self,
         alloc: Global,

@@ -117,7 +117,7 @@ impl<
     ///
     /// # Errors
     ///
-    /// `AllocError` where there is no memory for one buffer of rows.
+    /// `AllocError` if memory runs out.
     pub fn write_batched(
         &self,
         alloc: Global,
@@ -187,7 +187,7 @@ fn stage_pairs<W: Copy, const N: usize, const D: usize>(
 ///
 /// # Errors
 ///
-/// `AllocError` where there is no memory for that buffer.
+/// `AllocError` if memory runs out.
 #[tactic(auto, using(crate::proofs::StageFacts::made_long))]
 pub fn inject_row_digests<
     PW: PackedValue,

@@ -20,7 +20,7 @@ impl<
     M: Matrix<P::Value>,
     const D: usize,
 > LayerRows<'a, P, PW, H, M, [PW::Value; D]> {
-    /// Writes the digests of rows into as many of the first slots as are filled several at a time, and answers how many
+    /// Writes the digests of rows into as many of the first slots as are filled several at a time, and returns how many
     /// these are.
     fn write_together(
         &self,
@@ -75,7 +75,7 @@ impl<
     ///
     /// # Errors
     ///
-    /// `AllocError` where there is no memory for the slots, or to stage rows.
+    /// `AllocError` if memory runs out.
     pub fn leaves(&self, alloc: Global, len: usize) -> Result<Vec<[PW::Value; D]>, AllocError>
         requires { P.WIDTH ≡ PW.WIDTH }
         ensures { let leaf = leaf_over (H.hash self.now.hash.now) (replicate D PW.default_value)

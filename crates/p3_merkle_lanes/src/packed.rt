@@ -100,7 +100,7 @@ impl<
     ///
     /// # Errors
     ///
-    /// `AllocError` where there is no memory to stage them.
+    /// `AllocError` if memory runs out.
     pub fn packed_digest(&self, row: usize, staged: &mut Vec<P>) -> Result<[PW; D], AllocError>
         requires { row + P.WIDTH ≤ self.now.height }
         ensures { IfOk result (λ digests. (k : ℕ) → k < P.WIDTH → k < PW.WIDTH →
@@ -121,7 +121,7 @@ impl<
     ///
     /// # Errors
     ///
-    /// `AllocError` where there is no memory to stage rows.
+    /// `AllocError` if memory runs out.
     #[tactic(auto, using(crate::proofs::LaneFacts::group_end))]
     pub fn write_packed(
         &self,
@@ -186,7 +186,7 @@ fn packed_element<PW: PackedValue, const D: usize>(
 }
 
 /// Child `n` of each node `first + k` over a layer, where each node has `step` children, has as many elements as its
-/// type says. It tells this alone, and does nothing.
+/// type says. It does nothing at run time.
 #[tactic(auto, using(crate::proofs::LaneFacts::child_below, crate::proofs::LaneFacts::node_below))]
 fn tell_lengths<PW: PackedValue, const D: usize>(
     below: &[[PW::Value; D]],

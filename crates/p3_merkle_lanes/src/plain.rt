@@ -69,7 +69,7 @@ impl<
     M: Matrix<P::Value>,
     const D: usize,
 > LayerRows<'a, P, PW, H, M, [PW::Value; D]> {
-    /// Fills `pieces` from its start with row `row` of each matrix, and answers how many there are, if `pieces` has
+    /// Fills `pieces` from its start with row `row` of each matrix, and returns how many there are, if `pieces` has
     /// room and each matrix lends its row. The row is below the height.
     fn lend_rows<'b>(
         &'b self,
@@ -127,8 +127,7 @@ impl<
     }
 
     /// Writes the digests of rows into the slots of their numbers, from slot `first` on, if the layer has one matrix,
-    /// which lends its rows in one piece. The answer is how many slots are written then, those before `first` among
-    /// them.
+    /// which lends its rows in one piece. Returns how many slots are written then, with those before `first`.
     pub fn write_lent(&self, first: usize, slots: &mut [[PW::Value; D]]) -> usize
         requires { let leaf = leaf_over (H.hash self.now.hash.now) (replicate D PW.default_value)
             (rows_over M.row_of self.now.matrices.now) self.now.height in

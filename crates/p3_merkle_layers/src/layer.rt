@@ -244,7 +244,7 @@ impl<
     }
 
     /// Writes nodes into the slots of their numbers, from slot `done` on, if each has `N` children and no matrices
-    /// belong to the layer. The answer is how many slots are written then, those before `done` among them.
+    /// belong to the layer. Returns how many slots are written then, with those before `done`.
     fn write_whole_nodes(
         &self,
         level: &Level,

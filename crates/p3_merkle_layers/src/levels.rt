@@ -11,7 +11,7 @@ use std::alloc::{AllocError, Global};
 ///
 /// # Errors
 ///
-/// `AllocError` where there is no memory.
+/// `AllocError` if memory runs out.
 pub fn batch_dimensions<T, M: Matrix<T>>(
     alloc: Global,
     matrices: &[M],

@@ -39,7 +39,7 @@ pub struct Commitment<'a, X> {
 ///
 /// # Errors
 ///
-/// What `Steps::check_pruned` answers; else `CapMismatch` where a root is another, or is not there. `OutOfMemory` may
+/// The error of `Steps::check_pruned`; else `CapMismatch` where a root is another, or is not there. `OutOfMemory` may
 /// come at any time.
 pub fn check_pruned_opening<
     P: PackedValue,

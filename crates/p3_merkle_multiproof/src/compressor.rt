@@ -30,7 +30,7 @@ impl<
     ///
     /// # Errors
     ///
-    /// `AllocError` where there is no memory.
+    /// `AllocError` if memory runs out.
     fn digests_of(
         &self,
         alloc: Global,
@@ -47,7 +47,7 @@ impl<
     ///
     /// # Errors
     ///
-    /// `AllocError` where there is no memory.
+    /// `AllocError` if memory runs out.
     fn padded_groups(
         &self,
         alloc: Global,
@@ -72,7 +72,7 @@ impl<
     ///
     /// # Errors
     ///
-    /// `AllocError` where there is no memory.
+    /// `AllocError` if memory runs out.
     pub(crate) fn group_digests(
         &self,
         alloc: Global,
@@ -99,7 +99,7 @@ impl<
     ///
     /// # Errors
     ///
-    /// `AllocError` where there is no memory.
+    /// `AllocError` if memory runs out.
     fn pair_groups(
         &self,
         alloc: Global,
@@ -127,7 +127,7 @@ impl<
     ///
     /// # Errors
     ///
-    /// `AllocError` where there is no memory.
+    /// `AllocError` if memory runs out.
     pub(crate) fn pair_digests(
         &self,
         alloc: Global,

@@ -50,7 +50,7 @@ impl<'a, T, X: Copy> Restorable<'a, T, X> {
     ///
     /// # Errors
     ///
-    /// `AllocError` where there is no memory.
+    /// `AllocError` if memory runs out.
     fn covered_above(
         &self,
         alloc: Global,
@@ -82,7 +82,7 @@ impl<'a, T, X: Copy> Restorable<'a, T, X> {
     ///
     /// # Errors
     ///
-    /// `AllocError` where there is no memory.
+    /// `AllocError` if memory runs out.
     pub(crate) fn next_level(
         &self,
         alloc: Global,

@@ -57,7 +57,7 @@ impl<'a, T, W, const D: usize> RestoredQueries<'a, T, [W; D]> {
 ///
 /// # Errors
 ///
-/// `AllocError` where there is no memory.
+/// `AllocError` if memory runs out.
 fn differing_query<
     P: PackedValue,
     PW: PackedValue,
@@ -105,7 +105,7 @@ fn differing_query<
 ///
 /// # Errors
 ///
-/// `AllocError` where there is no memory.
+/// `AllocError` if memory runs out.
 fn differing_pair<
     P: PackedValue,
     PW: PackedValue,
@@ -199,8 +199,8 @@ fn checked_queries<
 ///
 /// # Errors
 ///
-/// What `check_pruned_opening` answers to the first opening, else what it answers to the second; `OutOfMemory` may come
-/// at any time.
+/// The error of `check_pruned_opening` for the first opening, else that for the second; `OutOfMemory` may come at any
+/// time.
 pub fn extraction<
     P: PackedValue,
     PW: PackedValue,

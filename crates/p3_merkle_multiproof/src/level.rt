@@ -22,7 +22,7 @@ use std::marker::PhantomData;
 ///
 /// # Errors
 ///
-/// `AllocError` where there is no memory.
+/// `AllocError` if memory runs out.
 pub(crate) fn node_digests<
     P: PackedValue,
     PW: PackedValue,

@@ -33,7 +33,7 @@ use std::alloc::{AllocError, Global};
 ///
 /// # Errors
 ///
-/// What `Steps::check_pruned` answers; `OutOfMemory` may come at any time.
+/// The error of `Steps::check_pruned`; `OutOfMemory` may come at any time.
 pub fn restored_paths_of<
     P: PackedValue,
     PW: PackedValue,
@@ -69,7 +69,7 @@ pub fn restored_paths_of<
 ///
 /// # Errors
 ///
-/// What `Steps::check_pruned` answers; else `CapMismatch` where a root is another, or is not there. `OutOfMemory` may
+/// The error of `Steps::check_pruned`; else `CapMismatch` where a root is another, or is not there. `OutOfMemory` may
 /// come at any time.
 pub(crate) fn checked_paths_of<
     P: PackedValue,
@@ -112,7 +112,7 @@ pub(crate) fn checked_paths_of<
 ///
 /// # Errors
 ///
-/// `AllocError` where there is no memory.
+/// `AllocError` if memory runs out.
 fn levels_below_cap<
     P: PackedValue,
     PW: PackedValue,

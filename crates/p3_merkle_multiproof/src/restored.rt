@@ -44,7 +44,7 @@ impl Reach {
 ///
 /// # Errors
 ///
-/// `AllocError` where there is no memory.
+/// `AllocError` if memory runs out.
 fn restored_above<
     P: PackedValue,
     PW: PackedValue,
@@ -85,7 +85,7 @@ fn restored_above<
 ///
 /// # Errors
 ///
-/// `AllocError` where there is no memory.
+/// `AllocError` if memory runs out.
 pub(crate) fn restored_layer<
     P: PackedValue,
     PW: PackedValue,
@@ -150,7 +150,7 @@ pub(crate) fn restored_layer<
 ///
 /// # Errors
 ///
-/// `CapMismatch` where some root is another or is not there; `OutOfMemory` where there is no memory.
+/// `CapMismatch` where some root is another or is not there; `OutOfMemory` if memory runs out.
 pub(crate) fn levels_under_cap<
     P: PackedValue,
     PW: PackedValue,

@@ -24,7 +24,7 @@ use std::marker::PhantomData;
 ///
 /// # Errors
 ///
-/// `AllocError` where there is no memory.
+/// `AllocError` if memory runs out.
 fn opened_matrices<'a, T, X>(
     alloc: Global,
     restorable: &'a Restorable<'_, T, X>,
@@ -59,7 +59,7 @@ fn opened_matrices<'a, T, X>(
 ///
 /// # Errors
 ///
-/// `AllocError` where there is no memory.
+/// `AllocError` if memory runs out.
 fn digests_of<P: PackedValue, PW: PackedValue, H: CryptographicHasher<P, PW, D>, const D: usize>(
     alloc: Global,
     rows: &LayerRows<'_, P, PW, H, OpenedMatrix<'_, P::Value>, [PW::Value; D]>,
@@ -84,7 +84,7 @@ fn digests_of<P: PackedValue, PW: PackedValue, H: CryptographicHasher<P, PW, D>,
 ///
 /// # Errors
 ///
-/// `AllocError` where there is no memory.
+/// `AllocError` if memory runs out.
 pub(crate) fn row_digests<
     P: PackedValue,
     PW: PackedValue,

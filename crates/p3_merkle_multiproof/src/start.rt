@@ -75,7 +75,7 @@ fn tell_restorable<P: PackedValue, X>(
 ///
 /// # Errors
 ///
-/// What [`Steps::check_pruned`] answers.
+/// The error of [`Steps::check_pruned`].
 pub(crate) fn start_of<'a, P: PackedValue, X>(
     alloc: Global,
     dimensions: &'a [Dimensions],

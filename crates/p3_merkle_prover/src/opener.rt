@@ -48,7 +48,7 @@ pub fn cap_layer_in<F, X, G, M: Matrix<F>, const N: usize>(
 ///
 /// # Errors
 ///
-/// `OutOfMemory` alone.
+/// Only `OutOfMemory`.
 pub fn rows_of_index<F: Copy, X, G, M: Matrix<F>, const N: usize>(
     alloc: Global,
     tree: &Tree<F, X, G, M, N>,
@@ -72,7 +72,7 @@ pub fn rows_of_index<F: Copy, X, G, M: Matrix<F>, const N: usize>(
 ///
 /// # Errors
 ///
-/// `OutOfMemory` alone.
+/// Only `OutOfMemory`.
 pub fn matrix_refs<'a, F, X, G, M: Matrix<F>, const N: usize>(
     alloc: Global,
     tree: &'a Tree<F, X, G, M, N>,
@@ -93,7 +93,7 @@ pub fn matrix_refs<'a, F, X, G, M: Matrix<F>, const N: usize>(
 ///
 /// # Errors
 ///
-/// `OutOfMemory` alone.
+/// Only `OutOfMemory`.
 pub fn siblings_of_index<F, X: Copy, G, M: Matrix<F>, const N: usize>(
     alloc: Global,
     tree: &Tree<F, X, G, M, N>,

@@ -26,7 +26,7 @@ use std::alloc::Global;
 ///
 /// # Errors
 ///
-/// `OutOfMemory` alone.
+/// Only `OutOfMemory`.
 pub fn rows_of_indices<F: Copy, X, G, M: Matrix<F>, const N: usize>(
     alloc: Global,
     tree: &Tree<F, X, G, M, N>,
@@ -46,13 +46,12 @@ pub fn rows_of_indices<F: Copy, X, G, M: Matrix<F>, const N: usize>(
 
 /// The digests of the boundary of some leaves below the cap's layer, in wire order: level by level from the leaves, and
 /// ascending, those of the children of covered nodes that are not covered. Each index is below
-/// [`max_height`](crate::opener::max_height), and `cap_layer` at most the number of levels. Takes memory for all
-/// indices, and beside their sort the time of one step for each index and level, and of a copy of the digests. These
-/// are allocated once, at their number.
+/// [`max_height`](crate::opener::max_height), and `cap_layer` at most the number of levels. It allocates and sorts a
+/// copy of the indices, and allocates the digests once, at their number. It takes one step for each index and level.
 ///
 /// # Errors
 ///
-/// `OutOfMemory` alone.
+/// Only `OutOfMemory`.
 pub fn digests_of_boundary<F, X: Copy, G, M: Matrix<F>, const N: usize>(
     alloc: Global,
     tree: &Tree<F, X, G, M, N>,

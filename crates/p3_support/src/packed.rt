@@ -130,12 +130,12 @@ impl PackedValue for u8 {
     ghost default_is_unique = { λ a h. h };
 }
 
-/// A row has as many elements as its type says. It tells this alone, and does nothing.
+/// A row has as many elements as its type says. It does nothing at run time.
 pub fn tell_row<T, const D: usize>(row: &[T; D])
     ensures { length row.now ≡ D }
 {}
 
-/// Each row of a slice has as many elements as its type says. It tells this alone, and does nothing.
+/// Each row of a slice has as many elements as its type says. It does nothing at run time.
 pub fn tell_rows<T, const D: usize>(rows: &[[T; D]])
     ensures { (k : ℕ) → k < length rows.now → length (slice_index_or rows.now k []) ≡ D }
 {
