@@ -244,7 +244,7 @@ impl Reader {
     }
 
     /// The matrix of these values with rows of this width.
-    fn matrix_from(&mut self, values: Vec<u32>, width: usize) -> RowMajorMatrix<u32> {
+    pub fn matrix_from<T: Drop>(&mut self, values: Vec<T>, width: usize) -> RowMajorMatrix<T> {
         if width == 0 || values.len() % width != 0 {
             self.fail("a matrix has no words");
             return RowMajorMatrix::new(self.none(), 1);

@@ -3,12 +3,13 @@
 ghost use Rattle.std.specs.Prelude.{◌%◌, ◌^◌, ◌≤◌, ◌∷◌, [], refl, IsTrue};
 ghost use Rattle.p3_merkle_core.specs.Geometry.{is_arity};
 
+use crate::fields::Fault;
 use crate::reader::Reader;
 use p3_instances::fold::{FoldCompress, FoldHash};
 use p3_merkle_tree::{
-    BatchOpening, CapRule, MerkleCap, MerkleTree, MerkleTreeError, MerkleTreeMmcs,
+    BatchOpening, BatchOpeningRef, CapRule, MerkleCap, MerkleTree, MerkleTreeError, MerkleTreeMmcs,
 };
-use p3_support::matrix::{Matrix, RowMajorMatrix};
+use p3_support::matrix::{Dimensions, Matrix, RowMajorMatrix, dimensions_of};
 use std::alloc::Global;
 
 /// The scheme of the fold functions with digests of one word.
@@ -57,12 +58,60 @@ pub fn fold_scheme<const N: usize>(cap: Cap) -> FoldScheme<N>
 }
 
 /// What a scheme commits to, and its cap.
-pub fn committed<const N: usize>(
+pub fn commit_to<const N: usize>(
     alloc: Global,
     scheme: &FoldScheme<N>,
     matrices: Vec<Rows>,
 ) -> Result<(FoldCap, FoldTree<Rows, N>), MerkleTreeError> {
     scheme.commit(alloc, matrices)
+}
+
+/// What a scheme has committed to.
+#[derive(Drop)]
+pub struct Committed<'a, const N: usize> {
+    /// The scheme.
+    pub scheme: &'a FoldScheme<N>,
+    /// The cap.
+    pub cap: FoldCap,
+    /// The tree.
+    pub tree: FoldTree<Rows, N>,
+    /// The dimensions of its matrices.
+    pub dimensions: Vec<Dimensions>,
+}
+
+impl<'a, const N: usize> Committed<'a, N> {
+    /// What a scheme commits to. The tree has to show matrices of the same dimensions.
+    pub fn new(
+        alloc: Global,
+        scheme: &'a FoldScheme<N>,
+        matrices: Vec<Rows>,
+    ) -> Result<Committed<'a, N>, Fault> {
+        let dimensions = dimensions_of(alloc, &matrices)?;
+        let (cap, tree) = scheme.commit(alloc, matrices)?;
+        let shown = dimensions_of(alloc, &scheme.get_matrices(alloc, &tree)?)?;
+        if shown != dimensions {
+            return Err(Fault::Wrong("the tree shows other matrices"));
+        }
+        Ok(Committed {
+            scheme,
+            cap,
+            tree,
+            dimensions,
+        })
+    }
+
+    /// The opening of a leaf, where there is such a leaf and its opening is accepted.
+    pub fn accepted(&self, alloc: Global, index: usize) -> Result<FoldOpening, MerkleTreeError> {
+        let max_height = self.scheme.get_max_height(&self.tree);
+        if index >= max_height {
+            return Err(MerkleTreeError::IndexOutOfBounds { max_height, index });
+        }
+        let opening = self.scheme.open_batch(alloc, index, &self.tree)?;
+        let lent = BatchOpeningRef::from(&opening);
+        self.scheme
+            .verify_batch(&self.cap, &self.dimensions, index, lent)?;
+        Ok(opening)
+    }
 }
 
 /// The tree over matrices, built without a scheme.

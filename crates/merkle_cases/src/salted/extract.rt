@@ -3,20 +3,24 @@
 ghost use Rattle.std.specs.Prelude.{◌≤◌, IsTrue};
 ghost use Rattle.p3_merkle_core.specs.Geometry.{is_arity};
 
+use crate::case::Case;
 use crate::extract::{write_found, write_found_pair};
 use crate::fields::{Fault, Fields};
 use crate::pruned::LONG;
-use crate::salted::check::unused;
 use crate::salted::{SaltedScheme, salted_scheme};
 use crate::scheme::{Cap, FoldCap};
-use crate::text::Answer;
 use p3_merkle_core::pruning::PrunedProof;
 use p3_merkle_hiding::hiding_mmcs::{SaltedMultiProof, SaltedProof};
 use p3_merkle_tree::{
     BatchOpening, BatchOpeningRef, Collision, MerkleCap, MerkleTreeError, PrunedOpeningRef,
 };
 use p3_support::matrix::Dimensions;
+use rand_chacha::ChaCha20Rng;
+use rand_core::SeedableRng;
 use std::alloc::Global;
+
+/// An opening with salts, lent.
+pub type SaltedOpeningRef<'a> = BatchOpeningRef<'a, u32, SaltedProof<u32, u32, 1>>;
 
 /// An opening of the leaf `index` with its salts.
 #[derive(Drop)]
@@ -82,87 +86,113 @@ impl SaltedLeaves {
     }
 }
 
-/// What two openings lead to.
+/// What two openings lead to. It stands apart, since the prover finds what the call asks where the scheme is an
+/// argument, and not where it is a field.
 pub fn collision_of<const N: usize, const SALT_ELEMS: usize>(
     alloc: Global,
     scheme: &SaltedScheme<N, SALT_ELEMS>,
     cap: &FoldCap,
     dimensions: &[Dimensions],
-    first: &SaltedLeaf,
-    second: &SaltedLeaf,
+    first: (usize, SaltedOpeningRef<'_>),
+    second: (usize, SaltedOpeningRef<'_>),
 ) -> Result<Option<Collision<u32, u32, 1>>, MerkleTreeError> {
-    scheme.extract_collision(
-        alloc,
-        cap,
-        dimensions,
-        first.index,
-        BatchOpeningRef::from(&first.opening),
-        second.index,
-        BatchOpeningRef::from(&second.opening),
-    )
+    let ((index1, first), (index2, second)) = (first, second);
+    scheme.extract_collision(alloc, cap, dimensions, index1, first, index2, second)
 }
 
-/// What two openings of several leaves lead to.
-pub fn collision_of_leaves<const N: usize, const SALT_ELEMS: usize>(
-    alloc: Global,
-    scheme: &SaltedScheme<N, SALT_ELEMS>,
-    cap: &FoldCap,
-    dimensions: &[Dimensions],
-    first: &SaltedLeaves,
-    second: &SaltedLeaves,
-) -> Result<Option<(usize, usize, Collision<u32, u32, 1>)>, MerkleTreeError> {
-    scheme.extract_collision_multi(alloc, cap, dimensions, first.lent(), second.lent())
+/// What a verifier has.
+#[derive(Drop)]
+pub struct SaltedVerifier<const N: usize, const SALT_ELEMS: usize> {
+    /// The scheme. It draws no salts.
+    pub scheme: SaltedScheme<N, SALT_ELEMS>,
+    /// The cap.
+    pub cap: FoldCap,
+    /// The dimensions of the matrices.
+    pub dimensions: Vec<Dimensions>,
+}
+
+impl<const N: usize, const SALT_ELEMS: usize> SaltedVerifier<N, SALT_ELEMS> {
+    /// What the next two fields are under such a cap: its roots, and dimensions.
+    pub fn of(cap: Cap, fields: &mut Fields<'_>) -> SaltedVerifier<N, SALT_ELEMS>
+        requires arity { IsTrue (is_arity N) }
+        requires few { N ≤ 16 }
+        requires some_salt { 1 ≤ SALT_ELEMS }
+    {
+        let scheme = salted_scheme::<N, SALT_ELEMS>(cap, ChaCha20Rng::from_seed([0; 32]));
+        let cap = MerkleCap::new(fields.digests());
+        let dimensions = fields.dimensions();
+        SaltedVerifier {
+            scheme,
+            cap,
+            dimensions,
+        }
+    }
+
+    /// What two openings lead to.
+    pub fn collision(
+        &self,
+        alloc: Global,
+        first: &SaltedLeaf,
+        second: &SaltedLeaf,
+    ) -> Result<Option<Collision<u32, u32, 1>>, MerkleTreeError> {
+        let lent = (first.index, BatchOpeningRef::from(&first.opening));
+        let other = (second.index, BatchOpeningRef::from(&second.opening));
+        collision_of(
+            alloc,
+            &self.scheme,
+            &self.cap,
+            &self.dimensions,
+            lent,
+            other,
+        )
+    }
+
+    /// What two openings of several leaves lead to.
+    pub fn collision_of_leaves(
+        &self,
+        alloc: Global,
+        first: &SaltedLeaves,
+        second: &SaltedLeaves,
+    ) -> Result<Option<(usize, usize, Collision<u32, u32, 1>)>, MerkleTreeError> {
+        let (first, second) = (first.lent(), second.lent());
+        self.scheme
+            .extract_collision_multi(alloc, &self.cap, &self.dimensions, first, second)
+    }
 }
 
 /// `extract_salted | ARITY | CAP | SALTS A ROW | ROOTS | DIMENSIONS | INDEX | ROWS | SALTS | SIBLINGS | INDEX | ROWS |
 /// SALTS | SIBLINGS | ANSWER`: what two openings lead to, which is `none`, or a place with both inputs.
 pub fn extract<const N: usize, const SALT_ELEMS: usize>(
-    alloc: Global,
+    case: &mut Case<'_>,
     cap: Cap,
-    fields: &mut Fields<'_>,
-    answer: &mut Answer,
 ) -> Result<(), Fault>
     requires arity { IsTrue (is_arity N) }
     requires few { N ≤ 16 }
     requires some_salt { 1 ≤ SALT_ELEMS }
 {
-    let scheme = salted_scheme::<N, SALT_ELEMS>(cap, unused());
-    let cap = MerkleCap::new(fields.digests());
-    let dimensions = fields.dimensions();
-    let first = SaltedLeaf::of(fields);
-    let second = SaltedLeaf::of(fields);
-    match collision_of(alloc, &scheme, &cap, &dimensions, &first, &second) {
-        Ok(found) => {
-            write_found(&found, answer);
-            Ok(())
-        }
-        Err(error) => Err(Fault::Refused(error)),
-    }
+    let verifier = SaltedVerifier::<N, SALT_ELEMS>::of(cap, &mut case.fields);
+    let first = SaltedLeaf::of(&mut case.fields);
+    let second = SaltedLeaf::of(&mut case.fields);
+    let found = verifier.collision(case.alloc, &first, &second)?;
+    write_found(&found, &mut case.answer);
+    Ok(())
 }
 
 /// `extract_salted_pruned | ARITY | CAP | SALTS A ROW | ROOTS | DIMENSIONS | INDICES | ROW SETS | SALT SETS | DIGESTS |
 /// INDICES | ROW SETS | SALT SETS | DIGESTS | ANSWER`: what two openings of several leaves lead to, which is `none`, or
 /// the places of two queries in their lists, and then a place with both inputs.
 pub fn extract_pruned<const N: usize, const SALT_ELEMS: usize>(
-    alloc: Global,
+    case: &mut Case<'_>,
     cap: Cap,
-    fields: &mut Fields<'_>,
-    answer: &mut Answer,
 ) -> Result<(), Fault>
     requires arity { IsTrue (is_arity N) }
     requires few { N ≤ 16 }
     requires some_salt { 1 ≤ SALT_ELEMS }
 {
-    let scheme = salted_scheme::<N, SALT_ELEMS>(cap, unused());
-    let cap = MerkleCap::new(fields.digests());
-    let dimensions = fields.dimensions();
-    let first = SaltedLeaves::of(fields);
-    let second = SaltedLeaves::of(fields);
-    match collision_of_leaves(alloc, &scheme, &cap, &dimensions, &first, &second) {
-        Ok(found) => {
-            write_found_pair(&found, answer);
-            Ok(())
-        }
-        Err(error) => Err(Fault::Refused(error)),
-    }
+    let verifier = SaltedVerifier::<N, SALT_ELEMS>::of(cap, &mut case.fields);
+    let first = SaltedLeaves::of(&mut case.fields);
+    let second = SaltedLeaves::of(&mut case.fields);
+    let found = verifier.collision_of_leaves(case.alloc, &first, &second)?;
+    write_found_pair(&found, &mut case.answer);
+    Ok(())
 }

@@ -4,21 +4,22 @@
 ghost use Rattle.std.specs.Prelude.{◌≤◌, IsTrue};
 ghost use Rattle.p3_merkle_core.specs.Geometry.{is_arity};
 
+use crate::case::Case;
 use crate::fields::{Fault, Fields};
-use crate::open::dimensions_of;
 use crate::queries::generator_of;
-use crate::reader::Reader;
 use crate::salted::{SaltedScheme, salted_scheme};
 use crate::scheme::{Cap, FoldCap, Rows};
-use crate::text::Answer;
 use p3_merkle_core::pruning::check_indices;
 use p3_merkle_hiding::hiding_mmcs::{SaltedMultiProof, SaltedProof, SaltedTree};
 use p3_merkle_tree::{BatchOpening, BatchOpeningRef, MerkleTreeError};
-use p3_support::matrix::Dimensions;
+use p3_support::matrix::{Dimensions, dimensions_of};
 use std::alloc::Global;
 
 /// A tree of the salted scheme.
 pub type Tree<const N: usize> = SaltedTree<u32, u32, Rows, N, 1>;
+
+/// An opening of a leaf.
+pub type Opening = BatchOpening<u32, SaltedProof<u32, u32, 1>>;
 
 /// The rows of several leaves, and what proves them.
 pub type Opened = (Vec<Vec<Vec<u32>>>, SaltedMultiProof<u32, u32, 1>);
@@ -36,144 +37,114 @@ pub fn seeded<const N: usize, const SALT_ELEMS: usize>(
     salted_scheme::<N, SALT_ELEMS>(cap, generator_of(&mut fields.reader, seed))
 }
 
-/// What a scheme commits to, and its cap.
-pub fn committed<const N: usize, const SALT_ELEMS: usize>(
-    alloc: Global,
-    scheme: &mut SaltedScheme<N, SALT_ELEMS>,
-    matrices: Vec<Rows>,
-) -> Result<(FoldCap, Tree<N>), MerkleTreeError> {
-    scheme.commit(alloc, matrices)
+/// What a scheme has committed to.
+#[derive(Drop)]
+pub struct SaltedCommitted<'a, const N: usize, const SALT_ELEMS: usize> {
+    /// The scheme.
+    pub scheme: &'a SaltedScheme<N, SALT_ELEMS>,
+    /// The cap.
+    pub cap: FoldCap,
+    /// The tree.
+    pub tree: Tree<N>,
+    /// The dimensions of its matrices, without their salts.
+    pub dimensions: Vec<Dimensions>,
 }
 
-/// The opening of a leaf, where there is such a leaf and its opening is accepted.
-pub fn accepted<const N: usize, const SALT_ELEMS: usize>(
-    alloc: Global,
-    scheme: &SaltedScheme<N, SALT_ELEMS>,
-    cap: &FoldCap,
-    tree: &Tree<N>,
-    dimensions: &[Dimensions],
-    index: usize,
-) -> Result<BatchOpening<u32, SaltedProof<u32, u32, 1>>, MerkleTreeError> {
-    let max_height = scheme.get_max_height(tree);
-    if index >= max_height {
-        return Err(MerkleTreeError::IndexOutOfBounds { max_height, index });
+impl<'a, const N: usize, const SALT_ELEMS: usize> SaltedCommitted<'a, N, SALT_ELEMS> {
+    /// What a scheme commits to. The tree has to show matrices of the same dimensions.
+    pub fn new(
+        alloc: Global,
+        scheme: &'a mut SaltedScheme<N, SALT_ELEMS>,
+        matrices: Vec<Rows>,
+    ) -> Result<SaltedCommitted<'a, N, SALT_ELEMS>, Fault> {
+        let dimensions = dimensions_of(alloc, &matrices)?;
+        let (cap, tree) = scheme.commit(alloc, matrices)?;
+        let shown = dimensions_of(alloc, &scheme.get_matrices(alloc, &tree)?)?;
+        if shown != dimensions {
+            return Err(Fault::Wrong("the tree shows other matrices"));
+        }
+        Ok(SaltedCommitted {
+            scheme: &*scheme,
+            cap,
+            tree,
+            dimensions,
+        })
     }
-    let opening = scheme.open_batch(alloc, index, tree)?;
-    scheme.verify_batch(
-        alloc,
-        cap,
-        dimensions,
-        index,
-        BatchOpeningRef::from(&opening),
-    )?;
-    Ok(opening)
-}
 
-/// The opening of several leaves, where there are such leaves and it is accepted.
-pub fn accepted_leaves<const N: usize, const SALT_ELEMS: usize>(
-    alloc: Global,
-    scheme: &SaltedScheme<N, SALT_ELEMS>,
-    cap: &FoldCap,
-    tree: &Tree<N>,
-    dimensions: &[Dimensions],
-    indices: &[usize],
-) -> Result<Opened, MerkleTreeError> {
-    check_indices(scheme.get_max_height(tree), indices)?;
-    let (rows, proof) = scheme.open_multi_batch(alloc, indices, tree)?;
-    scheme.verify_multi_batch(alloc, cap, dimensions, indices, &rows, &proof)?;
-    Ok((rows, proof))
-}
+    /// The opening of a leaf, where there is such a leaf and its opening is accepted.
+    pub fn accepted(&self, alloc: Global, index: usize) -> Result<Opening, MerkleTreeError> {
+        let max_height = self.scheme.get_max_height(&self.tree);
+        if index >= max_height {
+            return Err(MerkleTreeError::IndexOutOfBounds { max_height, index });
+        }
+        let opening = self.scheme.open_batch(alloc, index, &self.tree)?;
+        let lent = BatchOpeningRef::from(&opening);
+        self.scheme
+            .verify_batch(alloc, &self.cap, &self.dimensions, index, lent)?;
+        Ok(opening)
+    }
 
-/// The dimensions of the matrices of a tree, without their salts.
-fn shown_dimensions<const N: usize, const SALT_ELEMS: usize>(
-    alloc: Global,
-    reader: &mut Reader,
-    scheme: &SaltedScheme<N, SALT_ELEMS>,
-    tree: &Tree<N>,
-) -> Result<Vec<Dimensions>, MerkleTreeError> {
-    Ok(dimensions_of(reader, &scheme.get_matrices(alloc, tree)?))
+    /// The opening of several leaves, where there are such leaves and it is accepted.
+    pub fn accepted_leaves(
+        &self,
+        alloc: Global,
+        indices: &[usize],
+    ) -> Result<Opened, MerkleTreeError> {
+        check_indices(self.scheme.get_max_height(&self.tree), indices)?;
+        let (rows, proof) = self.scheme.open_multi_batch(alloc, indices, &self.tree)?;
+        let (cap, dimensions) = (&self.cap, &self.dimensions);
+        self.scheme
+            .verify_multi_batch(alloc, cap, dimensions, indices, &rows, &proof)?;
+        Ok((rows, proof))
+    }
 }
 
 /// `open_salted | ARITY | CAP | SALTS A ROW | SEED | MATRICES | INDEX | ROOTS | ROWS | SALTS | SIBLINGS`: the cap and
 /// the opening of a leaf, which is accepted.
 pub fn open<const N: usize, const SALT_ELEMS: usize>(
-    alloc: Global,
+    case: &mut Case<'_>,
     cap: Cap,
-    fields: &mut Fields<'_>,
-    answer: &mut Answer,
 ) -> Result<(), Fault>
     requires arity { IsTrue (is_arity N) }
     requires few { N ≤ 16 }
     requires some_salt { 1 ≤ SALT_ELEMS }
 {
-    let mut scheme = seeded::<N, SALT_ELEMS>(cap, fields);
-    let matrices = fields.matrices();
-    let index = fields.number();
-    let (cap, tree) = committed(alloc, &mut scheme, matrices)?;
-    let dimensions = shown_dimensions(alloc, &mut fields.reader, &scheme, &tree)?;
-    answer.digests(cap.roots());
-    answer.push(" | ");
-    write_accepted(alloc, &scheme, &cap, &tree, &dimensions, index, answer)?;
-    Ok(())
-}
-
-/// Writes the opening of a leaf, which is accepted.
-fn write_accepted<const N: usize, const SALT_ELEMS: usize>(
-    alloc: Global,
-    scheme: &SaltedScheme<N, SALT_ELEMS>,
-    cap: &FoldCap,
-    tree: &Tree<N>,
-    dimensions: &[Dimensions],
-    index: usize,
-    answer: &mut Answer,
-) -> Result<(), MerkleTreeError> {
-    let opening = accepted(alloc, scheme, cap, tree, dimensions, index)?;
-    answer.rows(&opening.opened_values);
-    answer.push(" | ");
-    answer.rows(&opening.opening_proof.0);
-    answer.push(" | ");
-    answer.digests(&opening.opening_proof.1);
+    let mut scheme = seeded::<N, SALT_ELEMS>(cap, &mut case.fields);
+    let matrices = case.fields.matrices();
+    let index = case.fields.number();
+    let committed = SaltedCommitted::new(case.alloc, &mut scheme, matrices)?;
+    case.answer.digests(committed.cap.roots());
+    case.answer.push(" | ");
+    let opening = committed.accepted(case.alloc, index)?;
+    case.answer.rows(&opening.opened_values);
+    case.answer.push(" | ");
+    case.answer.rows(&opening.opening_proof.0);
+    case.answer.push(" | ");
+    case.answer.digests(&opening.opening_proof.1);
     Ok(())
 }
 
 /// `pruned_salted | ARITY | CAP | SALTS A ROW | SEED | MATRICES | INDICES | ROOTS | ROW SETS | SALT SETS | DIGESTS`:
 /// the cap and the opening of several leaves, which is accepted.
 pub fn pruned<const N: usize, const SALT_ELEMS: usize>(
-    alloc: Global,
+    case: &mut Case<'_>,
     cap: Cap,
-    fields: &mut Fields<'_>,
-    answer: &mut Answer,
 ) -> Result<(), Fault>
     requires arity { IsTrue (is_arity N) }
     requires few { N ≤ 16 }
     requires some_salt { 1 ≤ SALT_ELEMS }
 {
-    let mut scheme = seeded::<N, SALT_ELEMS>(cap, fields);
-    let matrices = fields.matrices();
-    let indices = fields.numbers();
-    let (cap, tree) = committed(alloc, &mut scheme, matrices)?;
-    let dimensions = shown_dimensions(alloc, &mut fields.reader, &scheme, &tree)?;
-    answer.digests(cap.roots());
-    answer.push(" | ");
-    write_leaves(alloc, &scheme, &cap, &tree, &dimensions, &indices, answer)?;
-    Ok(())
-}
-
-/// Writes the opening of several leaves, which is accepted.
-fn write_leaves<const N: usize, const SALT_ELEMS: usize>(
-    alloc: Global,
-    scheme: &SaltedScheme<N, SALT_ELEMS>,
-    cap: &FoldCap,
-    tree: &Tree<N>,
-    dimensions: &[Dimensions],
-    indices: &[usize],
-    answer: &mut Answer,
-) -> Result<(), MerkleTreeError> {
-    let (rows, proof) = accepted_leaves(alloc, scheme, cap, tree, dimensions, indices)?;
-    answer.row_sets(&rows);
-    answer.push(" | ");
-    answer.row_sets(&proof.0);
-    answer.push(" | ");
-    answer.digests(&proof.1.sibling_hashes);
+    let mut scheme = seeded::<N, SALT_ELEMS>(cap, &mut case.fields);
+    let matrices = case.fields.matrices();
+    let indices = case.fields.numbers();
+    let committed = SaltedCommitted::new(case.alloc, &mut scheme, matrices)?;
+    case.answer.digests(committed.cap.roots());
+    case.answer.push(" | ");
+    let (rows, proof) = committed.accepted_leaves(case.alloc, &indices)?;
+    case.answer.row_sets(&rows);
+    case.answer.push(" | ");
+    case.answer.row_sets(&proof.0);
+    case.answer.push(" | ");
+    case.answer.digests(&proof.1.sibling_hashes);
     Ok(())
 }
