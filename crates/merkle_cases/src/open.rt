@@ -5,7 +5,7 @@ ghost use Rattle.p3_merkle_core.specs.Geometry.{is_arity};
 
 use crate::case::Case;
 use crate::fields::Fault;
-use crate::scheme::{Committed, ROOT, fold_scheme};
+use crate::scheme::{Committed, FoldScheme, ROOT, accepted, committed, fold_scheme};
 use p3_merkle_tree::MerkleTreeError;
 use std::alloc::Global;
 
@@ -17,7 +17,8 @@ pub fn open<const N: usize>(case: &mut Case<'_>) -> Result<(), Fault>
     let scheme = fold_scheme::<N>(case.fields.cap());
     let matrices = case.fields.matrices();
     let index = case.fields.number();
-    let opening = Committed::new(case.alloc, &scheme, matrices)?.accepted(case.alloc, index)?;
+    let committed = committed(case.alloc, &scheme, matrices)?;
+    let opening = accepted(case.alloc, &scheme, &committed, index)?;
     case.answer.rows(&opening.opened_values);
     case.answer.push(" | ");
     case.answer.digests(&opening.opening_proof);
@@ -31,12 +32,10 @@ pub fn leaves<const N: usize>(case: &mut Case<'_>) -> Result<(), Fault>
 {
     let scheme = fold_scheme::<N>(case.fields.cap());
     let dimensions = case.fields.columns();
-    let committed = Committed::new(
-        case.alloc,
-        &scheme,
-        case.fields.reader.numbered(&dimensions),
-    )?;
-    case.answer.number(accepted_leaves(case.alloc, &committed)?);
+    let matrices = case.fields.reader.numbered(&dimensions);
+    let committed = committed(case.alloc, &scheme, matrices)?;
+    case.answer
+        .number(accepted_leaves(case.alloc, &scheme, &committed)?);
     case.answer.push(" accepted");
     Ok(())
 }
@@ -44,11 +43,12 @@ pub fn leaves<const N: usize>(case: &mut Case<'_>) -> Result<(), Fault>
 /// How many leaves a tree has, where the opening of each is accepted.
 fn accepted_leaves<const N: usize>(
     alloc: Global,
-    committed: &Committed<'_, N>,
+    scheme: &FoldScheme<N>,
+    committed: &Committed<N>,
 ) -> Result<usize, MerkleTreeError> {
-    let leaves = committed.scheme.get_max_height(&committed.tree);
+    let leaves = scheme.get_max_height(&committed.tree);
     for index in 0..leaves {
-        committed.accepted(alloc, index)?;
+        accepted(alloc, scheme, committed, index)?;
     }
     Ok(leaves)
 }
@@ -60,7 +60,8 @@ pub fn kept<const N: usize>(case: &mut Case<'_>) -> Result<(), Fault>
 {
     let scheme = fold_scheme::<N>(ROOT);
     let columns = case.fields.columns();
-    let committed = Committed::new(case.alloc, &scheme, case.fields.reader.numbered(&columns))?;
+    let matrices = case.fields.reader.numbered(&columns);
+    let committed = committed(case.alloc, &scheme, matrices)?;
     case.answer.number(scheme.get_max_height(&committed.tree));
     case.answer.push(" | ");
     case.answer.dimensions(&committed.dimensions);

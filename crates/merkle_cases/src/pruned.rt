@@ -5,15 +5,16 @@ ghost use Rattle.p3_merkle_core.specs.Geometry.{is_arity};
 
 use crate::agreement::agrees;
 use crate::case::Case;
+use crate::extract::collision_of_leaves;
 use crate::fields::{Fault, Fields};
 use crate::scheme::{FoldScheme, FoldTree, Rows, commit_to, fold_scheme};
 use crate::text::Answer;
-use crate::verify::Verifier;
+use crate::verify::Statement;
 use p3_merkle_core::pruning::{PrunedProof, check_indices};
 use p3_merkle_tree::{
-    BatchOpeningRef, MerkleAuthPath, MerkleCap, MerkleTreeError, PrunedMerklePaths,
-    PrunedOpeningRef,
+    BatchOpeningRef, MerkleAuthPath, MerkleTreeError, PrunedMerklePaths, PrunedOpeningRef,
 };
+use p3_support::matrix::Dimensions;
 use std::alloc::Global;
 
 /// `pruned_len | ARITY | CAP | HEIGHTS | INDICES | DIGESTS`: how many digests a pruned proof of some indices has.
@@ -104,64 +105,58 @@ impl LeavesOpening {
     }
 }
 
-impl<const N: usize> Verifier<N> {
-    /// The path of each query of an opening of several leaves.
-    fn paths(
-        &self,
-        alloc: Global,
-        opening: &LeavesOpening,
-    ) -> Result<Vec<MerkleAuthPath<u32, 1>>, MerkleTreeError> {
-        self.scheme.restore_and_recompute_paths(
-            alloc,
-            &self.dimensions,
-            &opening.indices,
-            &opening.rows,
-            &opening.proof,
-        )
-    }
+/// The path of each query of an opening of several leaves.
+fn paths_of<const N: usize>(
+    alloc: Global,
+    scheme: &FoldScheme<N>,
+    dimensions: &[Dimensions],
+    opening: &LeavesOpening,
+) -> Result<Vec<MerkleAuthPath<u32, 1>>, MerkleTreeError> {
+    scheme.restore_and_recompute_paths(
+        alloc,
+        dimensions,
+        &opening.indices,
+        &opening.rows,
+        &opening.proof,
+    )
+}
 
-    /// What the opening of several leaves is answered.
-    fn verdict(&self, alloc: Global, opening: &LeavesOpening) -> Result<(), MerkleTreeError> {
-        self.scheme.verify_batch_pruned(
-            alloc,
-            &self.cap,
-            &self.dimensions,
-            &opening.indices,
-            &opening.rows,
-            &opening.proof,
-        )
+/// What the opening of several leaves is answered, query by query: why no paths are restored, or the verdict on each
+/// query with its path, where not all are accepted: the first refusal.
+fn restored_verdict<const N: usize>(
+    alloc: Global,
+    scheme: &FoldScheme<N>,
+    statement: &Statement,
+    opening: &LeavesOpening,
+) -> Result<(), MerkleTreeError> {
+    let Statement { cap, dimensions } = statement;
+    let paths = paths_of(alloc, scheme, dimensions, opening)?;
+    for (rows, path) in opening.rows.iter().zip(&paths) {
+        let lent = BatchOpeningRef::new(rows, &path.siblings);
+        scheme.verify_batch(cap, dimensions, path.leaf_index, lent)?;
     }
+    Ok(())
+}
 
-    /// What it is answered query by query: why no paths are restored, or the verdict on each query with its path, where
-    /// not all are accepted: the first refusal.
-    fn restored_verdict(
-        &self,
-        alloc: Global,
-        opening: &LeavesOpening,
-    ) -> Result<(), MerkleTreeError> {
-        let paths = self.paths(alloc, opening)?;
-        for (rows, path) in opening.rows.iter().zip(&paths) {
-            let lent = BatchOpeningRef::new(rows, &path.siblings);
-            self.scheme
-                .verify_batch(&self.cap, &self.dimensions, path.leaf_index, lent)?;
-        }
-        Ok(())
-    }
-
-    /// Whether the extractions from an opening and that of no leaf, in either order, and from it and itself answer what
-    /// its check does.
-    fn extracts_alike(
-        &self,
-        alloc: Global,
-        opening: &LeavesOpening,
-        verdict: &Result<(), MerkleTreeError>,
-    ) -> bool {
-        let none = LeavesOpening::none(alloc);
-        agrees(verdict, &self.collision_of_leaves(alloc, opening, &none))
-            && agrees(verdict, &self.collision_of_leaves(alloc, &none, opening))
-            && (opening.is_long()
-                || agrees(verdict, &self.collision_of_leaves(alloc, opening, opening)))
-    }
+/// Whether the extractions from an opening and that of no leaf, in either order, and from it and itself answer what its
+/// check does.
+fn extracts_alike<const N: usize>(
+    alloc: Global,
+    scheme: &FoldScheme<N>,
+    statement: &Statement,
+    opening: &LeavesOpening,
+    verdict: &Result<(), MerkleTreeError>,
+) -> bool {
+    let none = LeavesOpening::none(alloc);
+    let first = collision_of_leaves(alloc, scheme, statement, opening, &none);
+    let second = collision_of_leaves(alloc, scheme, statement, &none, opening);
+    agrees(verdict, &first)
+        && agrees(verdict, &second)
+        && (opening.is_long()
+            || agrees(
+                verdict,
+                &collision_of_leaves(alloc, scheme, statement, opening, opening),
+            ))
 }
 
 /// `verify_pruned | ARITY | CAP | ROOTS | DIMENSIONS | INDICES | ROW SETS | DIGESTS | ANSWER`: the check of a pruned
@@ -170,13 +165,21 @@ pub fn verify_pruned<const N: usize>(case: &mut Case<'_>) -> Result<(), Fault>
     requires arity { IsTrue (is_arity N) }
     requires few { N ≤ 16 }
 {
-    let verifier = Verifier::<N>::of(&mut case.fields);
+    let scheme = fold_scheme::<N>(case.fields.cap());
+    let statement = Statement::of(&mut case.fields);
     let opening = LeavesOpening::of(&mut case.fields);
-    let verdict = verifier.verdict(case.alloc, &opening);
-    if verdict != verifier.restored_verdict(case.alloc, &opening) {
+    let verdict = scheme.verify_batch_pruned(
+        case.alloc,
+        &statement.cap,
+        &statement.dimensions,
+        &opening.indices,
+        &opening.rows,
+        &opening.proof,
+    );
+    if verdict != restored_verdict(case.alloc, &scheme, &statement, &opening) {
         return Err(Fault::Wrong("the restored paths are answered otherwise"));
     }
-    if !verifier.extracts_alike(case.alloc, &opening, &verdict) {
+    if !extracts_alike(case.alloc, &scheme, &statement, &opening, &verdict) {
         return Err(Fault::Wrong("an extraction is answered otherwise"));
     }
     case.answer.verdict(&verdict);
@@ -190,11 +193,9 @@ pub fn restore<const N: usize>(case: &mut Case<'_>) -> Result<(), Fault>
     requires few { N ≤ 16 }
 {
     let scheme = fold_scheme::<N>(case.fields.cap());
-    let verifier = Verifier {
-        scheme,
-        cap: MerkleCap::new(case.fields.reader.none()),
-        dimensions: case.fields.dimensions(),
-    };
-    case.answer.paths(&verifier.paths(case.alloc, &LeavesOpening::of(&mut case.fields))?);
+    let dimensions = case.fields.dimensions();
+    let opening = LeavesOpening::of(&mut case.fields);
+    case.answer
+        .paths(&paths_of(case.alloc, &scheme, &dimensions, &opening)?);
     Ok(())
 }

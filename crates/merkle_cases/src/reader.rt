@@ -244,9 +244,18 @@ impl Reader {
     }
 
     /// The matrix of these values with rows of this width.
-    pub fn matrix_from<T: Drop>(&mut self, values: Vec<T>, width: usize) -> RowMajorMatrix<T> {
+    fn matrix_from(&mut self, values: Vec<u32>, width: usize) -> RowMajorMatrix<u32> {
         if width == 0 || values.len() % width != 0 {
             self.fail("a matrix has no words");
+            return RowMajorMatrix::new(self.none(), 1);
+        }
+        RowMajorMatrix::new(values, width)
+    }
+
+    /// The same of bytes. It stands apart, since `auto` proves that rows divide words of one type alone.
+    pub fn matrix_of_bytes(&mut self, values: Vec<u8>, width: usize) -> RowMajorMatrix<u8> {
+        if width == 0 || values.len() % width != 0 {
+            self.fail("a matrix has no bytes");
             return RowMajorMatrix::new(self.none(), 1);
         }
         RowMajorMatrix::new(values, width)

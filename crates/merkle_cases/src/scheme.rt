@@ -68,9 +68,7 @@ pub fn commit_to<const N: usize>(
 
 /// What a scheme has committed to.
 #[derive(Drop)]
-pub struct Committed<'a, const N: usize> {
-    /// The scheme.
-    pub scheme: &'a FoldScheme<N>,
+pub struct Committed<const N: usize> {
     /// The cap.
     pub cap: FoldCap,
     /// The tree.
@@ -79,39 +77,52 @@ pub struct Committed<'a, const N: usize> {
     pub dimensions: Vec<Dimensions>,
 }
 
-impl<'a, const N: usize> Committed<'a, N> {
-    /// What a scheme commits to. The tree has to show matrices of the same dimensions.
-    pub fn new(
-        alloc: Global,
-        scheme: &'a FoldScheme<N>,
-        matrices: Vec<Rows>,
-    ) -> Result<Committed<'a, N>, Fault> {
-        let dimensions = dimensions_of(alloc, &matrices)?;
-        let (cap, tree) = scheme.commit(alloc, matrices)?;
-        let shown = dimensions_of(alloc, &scheme.get_matrices(alloc, &tree)?)?;
-        if shown != dimensions {
-            return Err(Fault::Wrong("the tree shows other matrices"));
-        }
-        Ok(Committed {
-            scheme,
-            cap,
-            tree,
-            dimensions,
-        })
-    }
+/// The dimensions of the matrices that a tree shows.
+fn shown_dimensions<const N: usize>(
+    alloc: Global,
+    scheme: &FoldScheme<N>,
+    tree: &FoldTree<Rows, N>,
+) -> Result<Vec<Dimensions>, MerkleTreeError> {
+    Ok(dimensions_of(alloc, &scheme.get_matrices(alloc, tree)?)?)
+}
 
-    /// The opening of a leaf, where there is such a leaf and its opening is accepted.
-    pub fn accepted(&self, alloc: Global, index: usize) -> Result<FoldOpening, MerkleTreeError> {
-        let max_height = self.scheme.get_max_height(&self.tree);
-        if index >= max_height {
-            return Err(MerkleTreeError::IndexOutOfBounds { max_height, index });
-        }
-        let opening = self.scheme.open_batch(alloc, index, &self.tree)?;
-        let lent = BatchOpeningRef::from(&opening);
-        self.scheme
-            .verify_batch(&self.cap, &self.dimensions, index, lent)?;
-        Ok(opening)
+/// What a scheme commits to, where the tree shows matrices of the same dimensions.
+pub fn committed<const N: usize>(
+    alloc: Global,
+    scheme: &FoldScheme<N>,
+    matrices: Vec<Rows>,
+) -> Result<Committed<N>, Fault> {
+    let dimensions = dimensions_of(alloc, &matrices)?;
+    let (cap, tree) = commit_to(alloc, scheme, matrices)?;
+    if shown_dimensions(alloc, scheme, &tree)? != dimensions {
+        return Err(Fault::Wrong("the tree shows other matrices"));
     }
+    Ok(Committed {
+        cap,
+        tree,
+        dimensions,
+    })
+}
+
+/// The opening of a leaf, where there is such a leaf and its opening is accepted.
+pub fn accepted<const N: usize>(
+    alloc: Global,
+    scheme: &FoldScheme<N>,
+    committed: &Committed<N>,
+    index: usize,
+) -> Result<FoldOpening, MerkleTreeError> {
+    let Committed {
+        cap,
+        tree,
+        dimensions,
+    } = committed;
+    let max_height = scheme.get_max_height(tree);
+    if index >= max_height {
+        return Err(MerkleTreeError::IndexOutOfBounds { max_height, index });
+    }
+    let opening = scheme.open_batch(alloc, index, tree)?;
+    scheme.verify_batch(cap, dimensions, index, BatchOpeningRef::from(&opening))?;
+    Ok(opening)
 }
 
 /// The tree over matrices, built without a scheme.

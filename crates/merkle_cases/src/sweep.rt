@@ -8,7 +8,7 @@ use crate::case::Case;
 use crate::fields::{Fault, Fields};
 use crate::queries::lists_of;
 use crate::reader::Reader;
-use crate::scheme::{Committed, FoldOpening, fold_scheme};
+use crate::scheme::{Committed, FoldOpening, FoldScheme, accepted, committed, fold_scheme};
 use crate::text::Answer;
 use crate::twin::{
     collides_at, collides_first_at, has_twins, place_of, place_of_first, twin_rows, twin_sets,
@@ -22,8 +22,11 @@ use p3_merkle_tree::{
 use p3_support::matrix::Dimensions;
 use std::alloc::Global;
 
-/// What a scheme has committed to, with what a sweep asks of it.
+/// A scheme, with what a sweep asks of it.
 pub trait Swept {
+    /// What it has committed to.
+    type Committed: Drop;
+
     /// An opening of a leaf.
     type Leaf: Drop;
 
@@ -31,13 +34,23 @@ pub trait Swept {
     type Leaves: Drop;
 
     /// The dimensions of the matrices.
-    fn dimensions(&self) -> &[Dimensions];
+    fn dimensions<'c>(&self, committed: &'c Self::Committed) -> &'c [Dimensions];
 
     /// The opening of a leaf, where there is such a leaf and its opening is accepted.
-    fn leaf(&self, alloc: Global, index: usize) -> Result<Self::Leaf, MerkleTreeError>;
+    fn leaf(
+        &self,
+        alloc: Global,
+        committed: &Self::Committed,
+        index: usize,
+    ) -> Result<Self::Leaf, MerkleTreeError>;
 
     /// The opening of several leaves, where there are such leaves and it is accepted.
-    fn leaves(&self, alloc: Global, indices: &[usize]) -> Result<Self::Leaves, MerkleTreeError>;
+    fn leaves(
+        &self,
+        alloc: Global,
+        committed: &Self::Committed,
+        indices: &[usize],
+    ) -> Result<Self::Leaves, MerkleTreeError>;
 
     /// The rows of an opening.
     fn rows<'o>(&self, leaf: &'o Self::Leaf) -> &'o [Vec<u32>];
@@ -49,12 +62,19 @@ pub trait Swept {
     fn digests(&self, leaves: &Self::Leaves) -> usize;
 
     /// Fails where the opening of several leaves is not as it should be, though it is accepted.
-    fn check(&self, alloc: Global, indices: &[usize], leaves: &Self::Leaves) -> Result<(), Fault>;
+    fn check(
+        &self,
+        alloc: Global,
+        committed: &Self::Committed,
+        indices: &[usize],
+        leaves: &Self::Leaves,
+    ) -> Result<(), Fault>;
 
     /// What the opening of a leaf and the same with other rows lead to.
     fn collision(
         &self,
         alloc: Global,
+        committed: &Self::Committed,
         index: usize,
         leaf: &Self::Leaf,
         rows: &[Vec<u32>],
@@ -64,6 +84,7 @@ pub trait Swept {
     fn collision_of_leaves(
         &self,
         alloc: Global,
+        committed: &Self::Committed,
         indices: &[usize],
         leaves: &Self::Leaves,
         rows: &[Vec<Vec<u32>>],
@@ -119,16 +140,19 @@ impl Counts {
 /// Fails where a leaf whose row of a matrix has a twin collides elsewhere than where this row is hashed.
 fn check_leaf_twins<S: Swept>(
     alloc: Global,
-    swept: &S,
+    scheme: &S,
+    committed: &S::Committed,
     steps: &[usize],
     index: usize,
     counts: &mut Counts,
 ) -> Result<(), Fault> {
-    let leaf = swept.leaf(alloc, index)?;
-    for (matrix, Dimensions { height, .. }) in swept.dimensions().iter().enumerate() {
-        let place = place_of(swept.dimensions(), steps, *height);
-        let twin = twin_rows(alloc, swept.rows(&leaf), matrix)?;
-        if !collides_at(&swept.collision(alloc, index, &leaf, &twin)?, &place) {
+    let leaf = scheme.leaf(alloc, committed, index)?;
+    let dimensions = scheme.dimensions(committed);
+    for (matrix, Dimensions { height, .. }) in dimensions.iter().enumerate() {
+        let place = place_of(dimensions, steps, *height);
+        let twin = twin_rows(alloc, scheme.rows(&leaf), matrix)?;
+        let found = scheme.collision(alloc, committed, index, &leaf, &twin)?;
+        if !collides_at(&found, &place) {
             return Err(Fault::Wrong("a leaf collides elsewhere with its twin"));
         }
         counts.add_twins(&place);
@@ -140,16 +164,18 @@ fn check_leaf_twins<S: Swept>(
 /// where there is no query.
 fn check_twins<S: Swept>(
     alloc: Global,
-    swept: &S,
+    scheme: &S,
+    committed: &S::Committed,
     steps: &[usize],
     indices: &[usize],
     leaves: &S::Leaves,
     counts: &mut Counts,
 ) -> Result<(), Fault> {
-    for (matrix, Dimensions { height, .. }) in swept.dimensions().iter().enumerate() {
-        let place = place_of_first(indices, swept.dimensions(), steps, *height);
-        let twin = twin_sets(alloc, swept.row_sets(leaves), matrix)?;
-        let found = swept.collision_of_leaves(alloc, indices, leaves, &twin)?;
+    let dimensions = scheme.dimensions(committed);
+    for (matrix, Dimensions { height, .. }) in dimensions.iter().enumerate() {
+        let place = place_of_first(indices, dimensions, steps, *height);
+        let twin = twin_sets(alloc, scheme.row_sets(leaves), matrix)?;
+        let found = scheme.collision_of_leaves(alloc, committed, indices, leaves, &twin)?;
         if !collides_first_at(&found, &place) {
             return Err(Fault::Wrong("leaves collide elsewhere with their twins"));
         }
@@ -161,20 +187,21 @@ fn check_twins<S: Swept>(
 /// Fails where the opening of some queries, or its twins or those of its first leaf, are not as they should be.
 fn check_list<S: Swept>(
     alloc: Global,
-    swept: &S,
+    scheme: &S,
+    committed: &S::Committed,
     steps: &[usize],
     indices: &[usize],
     counts: &mut Counts,
 ) -> Result<(), Fault> {
-    let leaves = swept.leaves(alloc, indices)?;
-    swept.check(alloc, indices, &leaves)?;
-    counts.add_list(swept.digests(&leaves));
-    if !has_twins(swept.dimensions()) {
+    let leaves = scheme.leaves(alloc, committed, indices)?;
+    scheme.check(alloc, committed, indices, &leaves)?;
+    counts.add_list(scheme.digests(&leaves));
+    if !has_twins(scheme.dimensions(committed)) {
         return Ok(());
     }
-    check_twins(alloc, swept, steps, indices, &leaves, counts)?;
+    check_twins(alloc, scheme, committed, steps, indices, &leaves, counts)?;
     match indices.first() {
-        Some(index) => check_leaf_twins(alloc, swept, steps, *index, counts),
+        Some(index) => check_leaf_twins(alloc, scheme, committed, steps, *index, counts),
         None => Ok(()),
     }
 }
@@ -209,12 +236,13 @@ impl<'a> Plan<'a> {
         &self,
         alloc: Global,
         reader: &mut Reader,
-        swept: &S,
+        scheme: &S,
+        committed: &S::Committed,
         steps: &[usize],
         counts: &mut Counts,
     ) -> Result<(), Fault> {
-        for indices in &self.lists(reader, swept.dimensions()) {
-            check_list(alloc, swept, steps, indices, counts)?;
+        for indices in &self.lists(reader, scheme.dimensions(committed)) {
+            check_list(alloc, scheme, committed, steps, indices, counts)?;
         }
         Ok(())
     }
@@ -226,7 +254,8 @@ const MOST_PATHS: usize = 64;
 /// Fails where the path of a query is not that of its leaf.
 fn check_paths<const N: usize>(
     alloc: Global,
-    committed: &Committed<'_, N>,
+    scheme: &FoldScheme<N>,
+    committed: &Committed<N>,
     indices: &[usize],
     paths: &[MerkleAuthPath<u32, 1>],
 ) -> Result<(), Fault> {
@@ -234,7 +263,7 @@ fn check_paths<const N: usize>(
         return Err(Fault::Wrong("a proof has another number of paths"));
     }
     for (index, path) in indices.iter().zip(paths).take(MOST_PATHS) {
-        let opening = committed.accepted(alloc, *index)?;
+        let opening = accepted(alloc, scheme, committed, *index)?;
         if path.leaf_index != *index || path.siblings != opening.opening_proof {
             return Err(Fault::Wrong("a path is not that of its leaf"));
         }
@@ -242,29 +271,44 @@ fn check_paths<const N: usize>(
     Ok(())
 }
 
-impl<'a, const N: usize> Swept for Committed<'a, N> {
+/// An opening of several leaves.
+type Leaves = PrunedBatchOpening<u32, u32, 1>;
+
+impl<const N: usize> Swept for FoldScheme<N> {
+    type Committed = Committed<N>;
+
     type Leaf = FoldOpening;
 
-    type Leaves = PrunedBatchOpening<u32, u32, 1>;
+    type Leaves = Leaves;
 
-    fn dimensions(&self) -> &[Dimensions] {
-        &self.dimensions
+    fn dimensions<'c>(&self, committed: &'c Committed<N>) -> &'c [Dimensions] {
+        &committed.dimensions
     }
 
-    fn leaf(&self, alloc: Global, index: usize) -> Result<FoldOpening, MerkleTreeError> {
-        self.accepted(alloc, index)
+    fn leaf(
+        &self,
+        alloc: Global,
+        committed: &Committed<N>,
+        index: usize,
+    ) -> Result<FoldOpening, MerkleTreeError> {
+        accepted(alloc, self, committed, index)
     }
 
     fn leaves(
         &self,
         alloc: Global,
+        committed: &Committed<N>,
         indices: &[usize],
-    ) -> Result<PrunedBatchOpening<u32, u32, 1>, MerkleTreeError> {
-        check_indices(self.scheme.get_max_height(&self.tree), indices)?;
-        let leaves = self.scheme.open_batch_pruned(alloc, indices, &self.tree)?;
+    ) -> Result<Leaves, MerkleTreeError> {
+        let Committed {
+            cap,
+            tree,
+            dimensions,
+        } = committed;
+        check_indices(self.get_max_height(tree), indices)?;
+        let leaves = self.open_batch_pruned(alloc, indices, tree)?;
         let (rows, proof) = (&leaves.opened_values, &leaves.pruned_proof);
-        self.scheme
-            .verify_batch_pruned(alloc, &self.cap, &self.dimensions, indices, rows, proof)?;
+        self.verify_batch_pruned(alloc, cap, dimensions, indices, rows, proof)?;
         Ok(leaves)
     }
 
@@ -272,25 +316,26 @@ impl<'a, const N: usize> Swept for Committed<'a, N> {
         &leaf.opened_values
     }
 
-    fn row_sets<'o>(&self, leaves: &'o PrunedBatchOpening<u32, u32, 1>) -> &'o [Vec<Vec<u32>>] {
+    fn row_sets<'o>(&self, leaves: &'o Leaves) -> &'o [Vec<Vec<u32>>] {
         &leaves.opened_values
     }
 
-    fn digests(&self, leaves: &PrunedBatchOpening<u32, u32, 1>) -> usize {
+    fn digests(&self, leaves: &Leaves) -> usize {
         leaves.pruned_proof.sibling_hashes.len()
     }
 
     fn check(
         &self,
         alloc: Global,
+        committed: &Committed<N>,
         indices: &[usize],
-        leaves: &PrunedBatchOpening<u32, u32, 1>,
+        leaves: &Leaves,
     ) -> Result<(), Fault> {
-        let (scheme, dimensions) = (self.scheme, &self.dimensions);
+        let dimensions = &committed.dimensions;
         let (rows, proof) = (&leaves.opened_values, &leaves.pruned_proof);
-        let paths = scheme.restore_and_recompute_paths(alloc, dimensions, indices, rows, proof)?;
-        check_paths(alloc, self, indices, &paths)?;
-        if scheme.pruned_len(alloc, dimensions, indices)? == proof.sibling_hashes.len() {
+        let paths = self.restore_and_recompute_paths(alloc, dimensions, indices, rows, proof)?;
+        check_paths(alloc, self, committed, indices, &paths)?;
+        if self.pruned_len(alloc, dimensions, indices)? == proof.sibling_hashes.len() {
             Ok(())
         } else {
             Err(Fault::Wrong("a proof has another number of digests"))
@@ -300,28 +345,34 @@ impl<'a, const N: usize> Swept for Committed<'a, N> {
     fn collision(
         &self,
         alloc: Global,
+        committed: &Committed<N>,
         index: usize,
         leaf: &FoldOpening,
         rows: &[Vec<u32>],
     ) -> Result<Option<Collision<u32, u32, 1>>, MerkleTreeError> {
+        let Committed {
+            cap, dimensions, ..
+        } = committed;
         let twin = BatchOpeningRef::new(rows, &leaf.opening_proof);
         let honest = BatchOpeningRef::from(leaf);
-        let (scheme, cap, dimensions) = (self.scheme, &self.cap, &self.dimensions);
-        scheme.extract_collision(alloc, cap, dimensions, index, honest, index, twin)
+        self.extract_collision(alloc, cap, dimensions, index, honest, index, twin)
     }
 
     fn collision_of_leaves(
         &self,
         alloc: Global,
+        committed: &Committed<N>,
         indices: &[usize],
-        leaves: &PrunedBatchOpening<u32, u32, 1>,
+        leaves: &Leaves,
         rows: &[Vec<Vec<u32>>],
     ) -> Result<Option<(usize, usize, Collision<u32, u32, 1>)>, MerkleTreeError> {
-        let (scheme, cap, dimensions) = (self.scheme, &self.cap, &self.dimensions);
+        let Committed {
+            cap, dimensions, ..
+        } = committed;
         let (own, proof) = (&leaves.opened_values, &leaves.pruned_proof);
         let honest = PrunedOpeningRef::new(indices, own, proof);
         let twin = PrunedOpeningRef::new(indices, rows, proof);
-        scheme.extract_collision_multi(alloc, cap, dimensions, honest, twin)
+        self.extract_collision_multi(alloc, cap, dimensions, honest, twin)
     }
 }
 
@@ -337,10 +388,17 @@ pub fn sweep<const N: usize>(case: &mut Case<'_>) -> Result<(), Fault>
     let plan = Plan::of(&mut case.fields);
     let mut counts = Counts::none();
     for dimensions in &plan.batches {
-        let reader = &mut case.fields.reader;
-        let committed = Committed::new(case.alloc, &scheme, reader.numbered(dimensions))?;
+        let matrices = case.fields.reader.numbered(dimensions);
+        let committed = committed(case.alloc, &scheme, matrices)?;
         let steps = scheme.proof_arity_schedule(case.alloc, dimensions)?;
-        plan.count(case.alloc, reader, &committed, &steps, &mut counts)?;
+        plan.count(
+            case.alloc,
+            &mut case.fields.reader,
+            &scheme,
+            &committed,
+            &steps,
+            &mut counts,
+        )?;
     }
     counts.write(&mut case.answer);
     Ok(())

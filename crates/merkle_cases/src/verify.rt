@@ -5,68 +5,27 @@ ghost use Rattle.p3_merkle_core.specs.Geometry.{is_arity};
 
 use crate::agreement::agrees;
 use crate::case::Case;
+use crate::extract::collision_of;
 use crate::fields::{Fault, Fields};
-use crate::pruned::LeavesOpening;
-use crate::scheme::{FoldCap, FoldOpening, FoldScheme, fold_scheme};
-use p3_merkle_tree::{BatchOpening, BatchOpeningRef, Collision, MerkleCap, MerkleTreeError};
+use crate::scheme::{FoldCap, FoldOpening, fold_scheme};
+use p3_merkle_tree::{BatchOpening, BatchOpeningRef, MerkleCap};
 use p3_support::matrix::Dimensions;
-use std::alloc::Global;
 
-/// What a verifier has.
+/// What an opening is checked against.
 #[derive(Drop)]
-pub struct Verifier<const N: usize> {
-    /// The scheme.
-    pub scheme: FoldScheme<N>,
+pub struct Statement {
     /// The cap.
     pub cap: FoldCap,
     /// The dimensions of the matrices.
     pub dimensions: Vec<Dimensions>,
 }
 
-impl<const N: usize> Verifier<N> {
-    /// What the next three fields are: how far below the root the cap is, its roots, and dimensions.
-    pub fn of(fields: &mut Fields<'_>) -> Verifier<N>
-        requires arity { IsTrue (is_arity N) }
-        requires few { N ≤ 16 }
-    {
-        let scheme = fold_scheme::<N>(fields.cap());
+impl Statement {
+    /// What the next two fields are: the roots of the cap, and dimensions.
+    pub fn of(fields: &mut Fields<'_>) -> Statement {
         let cap = MerkleCap::new(fields.digests());
         let dimensions = fields.dimensions();
-        Verifier {
-            scheme,
-            cap,
-            dimensions,
-        }
-    }
-
-    /// What two openings lead to.
-    pub fn collision(
-        &self,
-        alloc: Global,
-        first: &LeafOpening,
-        second: &LeafOpening,
-    ) -> Result<Option<Collision<u32, u32, 1>>, MerkleTreeError> {
-        self.scheme.extract_collision(
-            alloc,
-            &self.cap,
-            &self.dimensions,
-            first.index,
-            BatchOpeningRef::from(&first.opening),
-            second.index,
-            BatchOpeningRef::from(&second.opening),
-        )
-    }
-
-    /// What two openings of several leaves lead to.
-    pub fn collision_of_leaves(
-        &self,
-        alloc: Global,
-        first: &LeavesOpening,
-        second: &LeavesOpening,
-    ) -> Result<Option<(usize, usize, Collision<u32, u32, 1>)>, MerkleTreeError> {
-        let (first, second) = (first.lent(), second.lent());
-        self.scheme
-            .extract_collision_multi(alloc, &self.cap, &self.dimensions, first, second)
+        Statement { cap, dimensions }
     }
 }
 
@@ -96,16 +55,13 @@ pub fn verify<const N: usize>(case: &mut Case<'_>) -> Result<(), Fault>
     requires arity { IsTrue (is_arity N) }
     requires few { N ≤ 16 }
 {
-    let verifier = Verifier::<N>::of(&mut case.fields);
+    let scheme = fold_scheme::<N>(case.fields.cap());
+    let statement = Statement::of(&mut case.fields);
     let leaf = LeafOpening::of(&mut case.fields);
     let lent = BatchOpeningRef::from(&leaf.opening);
-    let Verifier {
-        scheme,
-        cap,
-        dimensions,
-    } = &verifier;
-    let verdict = scheme.verify_batch(cap, dimensions, leaf.index, lent);
-    if agrees(&verdict, &verifier.collision(case.alloc, &leaf, &leaf)) {
+    let verdict = scheme.verify_batch(&statement.cap, &statement.dimensions, leaf.index, lent);
+    let found = collision_of(case.alloc, &scheme, &statement, &leaf, &leaf);
+    if agrees(&verdict, &found) {
         case.answer.verdict(&verdict);
         Ok(())
     } else {

@@ -97,24 +97,18 @@ fn sent<
     Ok(opening.pruned_proof.sibling_hashes)
 }
 
-/// What is asked of matrices under such a cap, by a hasher and a compression.
+/// What is asked of matrices that a scheme commits to.
 fn answer_by<
-    H: CryptographicHasher<u8, u8, 32> + Drop,
-    C: PseudoCompressionFunction<u8, N, 32> + Drop,
+    H: CryptographicHasher<u8, u8, 32>,
+    C: PseudoCompressionFunction<u8, N, 32>,
     const N: usize,
 >(
     alloc: Global,
-    hasher: H,
-    compress: C,
-    cap: Cap,
+    scheme: &Sha256Scheme<H, C, N>,
     matrices: Vec<Bytes>,
     asked: Asked<'_>,
-) -> Result<Vec<Digest>, MerkleTreeError>
-    requires arity { IsTrue (is_arity N) }
-    requires few { N ≤ 16 }
-{
+) -> Result<Vec<Digest>, MerkleTreeError> {
     let dimensions = dimensions_of(alloc, &matrices)?;
-    let scheme = Sha256Scheme::<H, C, N>::new_with_rule(hasher, compress, cap.height, cap.rule);
     let (cap, tree) = scheme.commit(alloc, matrices)?;
     let committed = Committed {
         cap,
@@ -123,9 +117,32 @@ fn answer_by<
     };
     match asked {
         Asked::Cap => Ok(Vec::from_slice(alloc, committed.cap.roots())?),
-        Asked::Leaf(index) => siblings(alloc, &scheme, &committed, index),
-        Asked::Leaves(indices) => sent(alloc, &scheme, &committed, indices),
+        Asked::Leaf(index) => siblings(alloc, scheme, &committed, index),
+        Asked::Leaves(indices) => sent(alloc, scheme, &committed, indices),
     }
+}
+
+/// The scheme that hashes one message at a time, with such a cap.
+fn plain_scheme<const N: usize>(cap: Cap) -> Sha256Scheme<Sha256Rows, Sha256Nodes<N>, N>
+    requires arity { IsTrue (is_arity N) }
+    requires few { N ≤ 16 }
+{
+    MerkleTreeMmcs::new_with_rule(Sha256Rows, Sha256Nodes::<N>, cap.height, cap.rule)
+}
+
+/// The scheme that hashes in eights.
+fn scheme_in_eights<const N: usize>(
+    cap: Cap,
+) -> Sha256Scheme<Sha256RowsInEights, Sha256NodesInEights<N>, N>
+    requires arity { IsTrue (is_arity N) }
+    requires few { N ≤ 16 }
+{
+    MerkleTreeMmcs::new_with_rule(
+        Sha256RowsInEights,
+        Sha256NodesInEights::<N>,
+        cap.height,
+        cap.rule,
+    )
 }
 
 /// So many bytes: 0, 1, 2 and so on modulo 251.
@@ -142,7 +159,7 @@ fn byte_matrices(reader: &mut Reader, dimensions: &[Dimensions]) -> Vec<Bytes> {
     let mut matrices = reader.none();
     for Dimensions { width, height } in dimensions {
         let bytes = bytes(reader, width.saturating_mul(*height));
-        let matrix = reader.matrix_from(bytes, *width);
+        let matrix = reader.matrix_of_bytes(bytes, *width);
         reader.push(&mut matrices, matrix);
     }
     matrices
@@ -159,11 +176,9 @@ fn answer_of<const N: usize>(
     requires few { N ≤ 16 }
 {
     let matrices = byte_matrices(&mut case.fields.reader, dimensions);
-    let (hash, compress) = (Sha256Rows, Sha256Nodes::<N>);
-    let plain = answer_by(case.alloc, hash, compress, cap, matrices, asked);
+    let plain = answer_by(case.alloc, &plain_scheme::<N>(cap), matrices, asked);
     let matrices = byte_matrices(&mut case.fields.reader, dimensions);
-    let (hash, compress) = (Sha256RowsInEights, Sha256NodesInEights::<N>);
-    let in_eights = answer_by(case.alloc, hash, compress, cap, matrices, asked);
+    let in_eights = answer_by(case.alloc, &scheme_in_eights::<N>(cap), matrices, asked);
     if plain != in_eights {
         return Err(Fault::Wrong("the answers differ"));
     }
