@@ -6,51 +6,54 @@ ghost use Rattle.p3_merkle_core.specs.Geometry.{is_arity};
 use crate::agreement::agrees;
 use crate::case::Case;
 use crate::fields::Fault;
-use crate::salted::extract::{SaltedLeaf, SaltedLeaves, SaltedVerifier};
+use crate::salted::SaltedScheme;
+use crate::salted::extract::{
+    SaltedLeaf, SaltedLeaves, checking_scheme, collision_of, collision_of_leaves,
+};
 use crate::scheme::Cap;
+use crate::verify::Statement;
 use p3_merkle_tree::{BatchOpeningRef, MerkleTreeError};
 use std::alloc::Global;
 
-impl<const N: usize, const SALT_ELEMS: usize> SaltedVerifier<N, SALT_ELEMS> {
-    /// What is answered to an opening.
-    fn verdict(&self, alloc: Global, leaf: &SaltedLeaf) -> Result<(), MerkleTreeError> {
-        let lent = BatchOpeningRef::from(&leaf.opening);
-        self.scheme
-            .verify_batch(alloc, &self.cap, &self.dimensions, leaf.index, lent)
-    }
+/// What is answered to the opening of several leaves.
+fn verdict_on_leaves<const N: usize, const SALT_ELEMS: usize>(
+    alloc: Global,
+    scheme: &SaltedScheme<N, SALT_ELEMS>,
+    statement: &Statement,
+    opening: &SaltedLeaves,
+) -> Result<(), MerkleTreeError> {
+    let Statement { cap, dimensions } = statement;
+    scheme.verify_multi_batch(
+        alloc,
+        cap,
+        dimensions,
+        &opening.indices,
+        &opening.rows,
+        &opening.proof,
+    )
+}
 
-    /// What is answered to the opening of several leaves.
-    fn verdict_on_leaves(
-        &self,
-        alloc: Global,
-        opening: &SaltedLeaves,
-    ) -> Result<(), MerkleTreeError> {
-        self.scheme.verify_multi_batch(
-            alloc,
-            &self.cap,
-            &self.dimensions,
-            &opening.indices,
-            &opening.rows,
-            &opening.proof,
-        )
-    }
-
-    /// Whether the extractions from an opening and that of no leaf, in either order, and where it is accepted that from
-    /// it and itself answer what the checks do.
-    fn extracts_alike(
-        &self,
-        alloc: Global,
-        opening: &SaltedLeaves,
-        verdict: &Result<(), MerkleTreeError>,
-    ) -> bool {
-        let none = SaltedLeaves::none(alloc);
-        let of_none = self.verdict_on_leaves(alloc, &none);
-        let of_second = if of_none.is_err() { &of_none } else { verdict };
-        agrees(verdict, &self.collision_of_leaves(alloc, opening, &none))
-            && agrees(of_second, &self.collision_of_leaves(alloc, &none, opening))
-            && (opening.is_long()
-                || agrees(verdict, &self.collision_of_leaves(alloc, opening, opening)))
-    }
+/// Whether the extractions from an opening and that of no leaf, in either order, and where it is accepted that from it
+/// and itself answer what the checks do.
+fn extracts_alike<const N: usize, const SALT_ELEMS: usize>(
+    alloc: Global,
+    scheme: &SaltedScheme<N, SALT_ELEMS>,
+    statement: &Statement,
+    opening: &SaltedLeaves,
+    verdict: &Result<(), MerkleTreeError>,
+) -> bool {
+    let none = SaltedLeaves::none(alloc);
+    let of_none = verdict_on_leaves(alloc, scheme, statement, &none);
+    let first = collision_of_leaves(alloc, scheme, statement, opening, &none);
+    let second = collision_of_leaves(alloc, scheme, statement, &none, opening);
+    let of_second = if of_none.is_err() { &of_none } else { verdict };
+    agrees(verdict, &first)
+        && agrees(of_second, &second)
+        && (opening.is_long()
+            || agrees(
+                verdict,
+                &collision_of_leaves(alloc, scheme, statement, opening, opening),
+            ))
 }
 
 /// `verify_salted | ARITY | CAP | SALTS A ROW | ROOTS | DIMENSIONS | INDEX | ROWS | SALTS | SIBLINGS | ANSWER`: the
@@ -63,10 +66,14 @@ pub fn verify<const N: usize, const SALT_ELEMS: usize>(
     requires few { N ≤ 16 }
     requires some_salt { 1 ≤ SALT_ELEMS }
 {
-    let verifier = SaltedVerifier::<N, SALT_ELEMS>::of(cap, &mut case.fields);
+    let scheme = checking_scheme::<N, SALT_ELEMS>(cap);
+    let statement = Statement::of(&mut case.fields);
     let leaf = SaltedLeaf::of(&mut case.fields);
-    let verdict = verifier.verdict(case.alloc, &leaf);
-    if !agrees(&verdict, &verifier.collision(case.alloc, &leaf, &leaf)) {
+    let lent = BatchOpeningRef::from(&leaf.opening);
+    let Statement { cap, dimensions } = &statement;
+    let verdict = scheme.verify_batch(case.alloc, cap, dimensions, leaf.index, lent);
+    let found = collision_of(case.alloc, &scheme, &statement, &leaf, &leaf);
+    if !agrees(&verdict, &found) {
         return Err(Fault::Wrong("the extraction is answered otherwise"));
     }
     case.answer.verdict(&verdict);
@@ -83,10 +90,11 @@ pub fn verify_pruned<const N: usize, const SALT_ELEMS: usize>(
     requires few { N ≤ 16 }
     requires some_salt { 1 ≤ SALT_ELEMS }
 {
-    let verifier = SaltedVerifier::<N, SALT_ELEMS>::of(cap, &mut case.fields);
+    let scheme = checking_scheme::<N, SALT_ELEMS>(cap);
+    let statement = Statement::of(&mut case.fields);
     let opening = SaltedLeaves::of(&mut case.fields);
-    let verdict = verifier.verdict_on_leaves(case.alloc, &opening);
-    if !verifier.extracts_alike(case.alloc, &opening, &verdict) {
+    let verdict = verdict_on_leaves(case.alloc, &scheme, &statement, &opening);
+    if !extracts_alike(case.alloc, &scheme, &statement, &opening, &verdict) {
         return Err(Fault::Wrong("an extraction is answered otherwise"));
     }
     case.answer.verdict(&verdict);

@@ -8,19 +8,16 @@ use crate::extract::{write_found, write_found_pair};
 use crate::fields::{Fault, Fields};
 use crate::pruned::LONG;
 use crate::salted::{SaltedScheme, salted_scheme};
-use crate::scheme::{Cap, FoldCap};
+use crate::scheme::Cap;
+use crate::verify::Statement;
 use p3_merkle_core::pruning::PrunedProof;
 use p3_merkle_hiding::hiding_mmcs::{SaltedMultiProof, SaltedProof};
 use p3_merkle_tree::{
-    BatchOpening, BatchOpeningRef, Collision, MerkleCap, MerkleTreeError, PrunedOpeningRef,
+    BatchOpening, BatchOpeningRef, Collision, MerkleTreeError, PrunedOpeningRef,
 };
-use p3_support::matrix::Dimensions;
 use rand_chacha::ChaCha20Rng;
 use rand_core::SeedableRng;
 use std::alloc::Global;
-
-/// An opening with salts, lent.
-pub type SaltedOpeningRef<'a> = BatchOpeningRef<'a, u32, SaltedProof<u32, u32, 1>>;
 
 /// An opening of the leaf `index` with its salts.
 #[derive(Drop)]
@@ -86,78 +83,47 @@ impl SaltedLeaves {
     }
 }
 
-/// What two openings lead to. It stands apart, since the prover finds what the call asks where the scheme is an
-/// argument, and not where it is a field.
+/// A scheme with such a cap that only checks openings. It draws no salts.
+pub fn checking_scheme<const N: usize, const SALT_ELEMS: usize>(
+    cap: Cap,
+) -> SaltedScheme<N, SALT_ELEMS>
+    requires arity { IsTrue (is_arity N) }
+    requires few { N ≤ 16 }
+    requires some_salt { 1 ≤ SALT_ELEMS }
+{
+    salted_scheme::<N, SALT_ELEMS>(cap, ChaCha20Rng::from_seed([0; 32]))
+}
+
+/// What two openings lead to.
 pub fn collision_of<const N: usize, const SALT_ELEMS: usize>(
     alloc: Global,
     scheme: &SaltedScheme<N, SALT_ELEMS>,
-    cap: &FoldCap,
-    dimensions: &[Dimensions],
-    first: (usize, SaltedOpeningRef<'_>),
-    second: (usize, SaltedOpeningRef<'_>),
+    statement: &Statement,
+    first: &SaltedLeaf,
+    second: &SaltedLeaf,
 ) -> Result<Option<Collision<u32, u32, 1>>, MerkleTreeError> {
-    let ((index1, first), (index2, second)) = (first, second);
-    scheme.extract_collision(alloc, cap, dimensions, index1, first, index2, second)
+    let Statement { cap, dimensions } = statement;
+    scheme.extract_collision(
+        alloc,
+        cap,
+        dimensions,
+        first.index,
+        BatchOpeningRef::from(&first.opening),
+        second.index,
+        BatchOpeningRef::from(&second.opening),
+    )
 }
 
-/// What a verifier has.
-#[derive(Drop)]
-pub struct SaltedVerifier<const N: usize, const SALT_ELEMS: usize> {
-    /// The scheme. It draws no salts.
-    pub scheme: SaltedScheme<N, SALT_ELEMS>,
-    /// The cap.
-    pub cap: FoldCap,
-    /// The dimensions of the matrices.
-    pub dimensions: Vec<Dimensions>,
-}
-
-impl<const N: usize, const SALT_ELEMS: usize> SaltedVerifier<N, SALT_ELEMS> {
-    /// What the next two fields are under such a cap: its roots, and dimensions.
-    pub fn of(cap: Cap, fields: &mut Fields<'_>) -> SaltedVerifier<N, SALT_ELEMS>
-        requires arity { IsTrue (is_arity N) }
-        requires few { N ≤ 16 }
-        requires some_salt { 1 ≤ SALT_ELEMS }
-    {
-        let scheme = salted_scheme::<N, SALT_ELEMS>(cap, ChaCha20Rng::from_seed([0; 32]));
-        let cap = MerkleCap::new(fields.digests());
-        let dimensions = fields.dimensions();
-        SaltedVerifier {
-            scheme,
-            cap,
-            dimensions,
-        }
-    }
-
-    /// What two openings lead to.
-    pub fn collision(
-        &self,
-        alloc: Global,
-        first: &SaltedLeaf,
-        second: &SaltedLeaf,
-    ) -> Result<Option<Collision<u32, u32, 1>>, MerkleTreeError> {
-        let lent = (first.index, BatchOpeningRef::from(&first.opening));
-        let other = (second.index, BatchOpeningRef::from(&second.opening));
-        collision_of(
-            alloc,
-            &self.scheme,
-            &self.cap,
-            &self.dimensions,
-            lent,
-            other,
-        )
-    }
-
-    /// What two openings of several leaves lead to.
-    pub fn collision_of_leaves(
-        &self,
-        alloc: Global,
-        first: &SaltedLeaves,
-        second: &SaltedLeaves,
-    ) -> Result<Option<(usize, usize, Collision<u32, u32, 1>)>, MerkleTreeError> {
-        let (first, second) = (first.lent(), second.lent());
-        self.scheme
-            .extract_collision_multi(alloc, &self.cap, &self.dimensions, first, second)
-    }
+/// What two openings of several leaves lead to.
+pub fn collision_of_leaves<const N: usize, const SALT_ELEMS: usize>(
+    alloc: Global,
+    scheme: &SaltedScheme<N, SALT_ELEMS>,
+    statement: &Statement,
+    first: &SaltedLeaves,
+    second: &SaltedLeaves,
+) -> Result<Option<(usize, usize, Collision<u32, u32, 1>)>, MerkleTreeError> {
+    let Statement { cap, dimensions } = statement;
+    scheme.extract_collision_multi(alloc, cap, dimensions, first.lent(), second.lent())
 }
 
 /// `extract_salted | ARITY | CAP | SALTS A ROW | ROOTS | DIMENSIONS | INDEX | ROWS | SALTS | SIBLINGS | INDEX | ROWS |
@@ -170,10 +136,11 @@ pub fn extract<const N: usize, const SALT_ELEMS: usize>(
     requires few { N ≤ 16 }
     requires some_salt { 1 ≤ SALT_ELEMS }
 {
-    let verifier = SaltedVerifier::<N, SALT_ELEMS>::of(cap, &mut case.fields);
+    let scheme = checking_scheme::<N, SALT_ELEMS>(cap);
+    let statement = Statement::of(&mut case.fields);
     let first = SaltedLeaf::of(&mut case.fields);
     let second = SaltedLeaf::of(&mut case.fields);
-    let found = verifier.collision(case.alloc, &first, &second)?;
+    let found = collision_of(case.alloc, &scheme, &statement, &first, &second)?;
     write_found(&found, &mut case.answer);
     Ok(())
 }
@@ -189,10 +156,11 @@ pub fn extract_pruned<const N: usize, const SALT_ELEMS: usize>(
     requires few { N ≤ 16 }
     requires some_salt { 1 ≤ SALT_ELEMS }
 {
-    let verifier = SaltedVerifier::<N, SALT_ELEMS>::of(cap, &mut case.fields);
+    let scheme = checking_scheme::<N, SALT_ELEMS>(cap);
+    let statement = Statement::of(&mut case.fields);
     let first = SaltedLeaves::of(&mut case.fields);
     let second = SaltedLeaves::of(&mut case.fields);
-    let found = verifier.collision_of_leaves(case.alloc, &first, &second)?;
+    let found = collision_of_leaves(case.alloc, &scheme, &statement, &first, &second)?;
     write_found_pair(&found, &mut case.answer);
     Ok(())
 }

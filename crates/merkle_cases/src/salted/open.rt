@@ -39,9 +39,7 @@ pub fn seeded<const N: usize, const SALT_ELEMS: usize>(
 
 /// What a scheme has committed to.
 #[derive(Drop)]
-pub struct SaltedCommitted<'a, const N: usize, const SALT_ELEMS: usize> {
-    /// The scheme.
-    pub scheme: &'a SaltedScheme<N, SALT_ELEMS>,
+pub struct SaltedCommitted<const N: usize> {
     /// The cap.
     pub cap: FoldCap,
     /// The tree.
@@ -50,53 +48,80 @@ pub struct SaltedCommitted<'a, const N: usize, const SALT_ELEMS: usize> {
     pub dimensions: Vec<Dimensions>,
 }
 
-impl<'a, const N: usize, const SALT_ELEMS: usize> SaltedCommitted<'a, N, SALT_ELEMS> {
-    /// What a scheme commits to. The tree has to show matrices of the same dimensions.
-    pub fn new(
-        alloc: Global,
-        scheme: &'a mut SaltedScheme<N, SALT_ELEMS>,
-        matrices: Vec<Rows>,
-    ) -> Result<SaltedCommitted<'a, N, SALT_ELEMS>, Fault> {
-        let dimensions = dimensions_of(alloc, &matrices)?;
-        let (cap, tree) = scheme.commit(alloc, matrices)?;
-        let shown = dimensions_of(alloc, &scheme.get_matrices(alloc, &tree)?)?;
-        if shown != dimensions {
-            return Err(Fault::Wrong("the tree shows other matrices"));
-        }
-        Ok(SaltedCommitted {
-            scheme: &*scheme,
-            cap,
-            tree,
-            dimensions,
-        })
-    }
+/// The dimensions of the matrices that a tree shows.
+fn shown_dimensions<const N: usize, const SALT_ELEMS: usize>(
+    alloc: Global,
+    scheme: &SaltedScheme<N, SALT_ELEMS>,
+    tree: &Tree<N>,
+) -> Result<Vec<Dimensions>, MerkleTreeError> {
+    Ok(dimensions_of(alloc, &scheme.get_matrices(alloc, tree)?)?)
+}
 
-    /// The opening of a leaf, where there is such a leaf and its opening is accepted.
-    pub fn accepted(&self, alloc: Global, index: usize) -> Result<Opening, MerkleTreeError> {
-        let max_height = self.scheme.get_max_height(&self.tree);
-        if index >= max_height {
-            return Err(MerkleTreeError::IndexOutOfBounds { max_height, index });
-        }
-        let opening = self.scheme.open_batch(alloc, index, &self.tree)?;
-        let lent = BatchOpeningRef::from(&opening);
-        self.scheme
-            .verify_batch(alloc, &self.cap, &self.dimensions, index, lent)?;
-        Ok(opening)
-    }
+/// What a scheme commits to, and its cap.
+fn commit_to<const N: usize, const SALT_ELEMS: usize>(
+    alloc: Global,
+    scheme: &mut SaltedScheme<N, SALT_ELEMS>,
+    matrices: Vec<Rows>,
+) -> Result<(FoldCap, Tree<N>), MerkleTreeError> {
+    scheme.commit(alloc, matrices)
+}
 
-    /// The opening of several leaves, where there are such leaves and it is accepted.
-    pub fn accepted_leaves(
-        &self,
-        alloc: Global,
-        indices: &[usize],
-    ) -> Result<Opened, MerkleTreeError> {
-        check_indices(self.scheme.get_max_height(&self.tree), indices)?;
-        let (rows, proof) = self.scheme.open_multi_batch(alloc, indices, &self.tree)?;
-        let (cap, dimensions) = (&self.cap, &self.dimensions);
-        self.scheme
-            .verify_multi_batch(alloc, cap, dimensions, indices, &rows, &proof)?;
-        Ok((rows, proof))
+/// What a scheme commits to, where the tree shows matrices of the same dimensions.
+pub fn committed<const N: usize, const SALT_ELEMS: usize>(
+    alloc: Global,
+    scheme: &mut SaltedScheme<N, SALT_ELEMS>,
+    matrices: Vec<Rows>,
+) -> Result<SaltedCommitted<N>, Fault> {
+    let dimensions = dimensions_of(alloc, &matrices)?;
+    let (cap, tree) = commit_to(alloc, scheme, matrices)?;
+    if shown_dimensions(alloc, scheme, &tree)? != dimensions {
+        return Err(Fault::Wrong("the tree shows other matrices"));
     }
+    Ok(SaltedCommitted {
+        cap,
+        tree,
+        dimensions,
+    })
+}
+
+/// The opening of a leaf, where there is such a leaf and its opening is accepted.
+pub fn accepted<const N: usize, const SALT_ELEMS: usize>(
+    alloc: Global,
+    scheme: &SaltedScheme<N, SALT_ELEMS>,
+    committed: &SaltedCommitted<N>,
+    index: usize,
+) -> Result<Opening, MerkleTreeError> {
+    let SaltedCommitted {
+        cap,
+        tree,
+        dimensions,
+    } = committed;
+    let max_height = scheme.get_max_height(tree);
+    if index >= max_height {
+        return Err(MerkleTreeError::IndexOutOfBounds { max_height, index });
+    }
+    let opening = scheme.open_batch(alloc, index, tree)?;
+    let lent = BatchOpeningRef::from(&opening);
+    scheme.verify_batch(alloc, cap, dimensions, index, lent)?;
+    Ok(opening)
+}
+
+/// The opening of several leaves, where there are such leaves and it is accepted.
+pub fn accepted_leaves<const N: usize, const SALT_ELEMS: usize>(
+    alloc: Global,
+    scheme: &SaltedScheme<N, SALT_ELEMS>,
+    committed: &SaltedCommitted<N>,
+    indices: &[usize],
+) -> Result<Opened, MerkleTreeError> {
+    let SaltedCommitted {
+        cap,
+        tree,
+        dimensions,
+    } = committed;
+    check_indices(scheme.get_max_height(tree), indices)?;
+    let (rows, proof) = scheme.open_multi_batch(alloc, indices, tree)?;
+    scheme.verify_multi_batch(alloc, cap, dimensions, indices, &rows, &proof)?;
+    Ok((rows, proof))
 }
 
 /// `open_salted | ARITY | CAP | SALTS A ROW | SEED | MATRICES | INDEX | ROOTS | ROWS | SALTS | SIBLINGS`: the cap and
@@ -112,10 +137,10 @@ pub fn open<const N: usize, const SALT_ELEMS: usize>(
     let mut scheme = seeded::<N, SALT_ELEMS>(cap, &mut case.fields);
     let matrices = case.fields.matrices();
     let index = case.fields.number();
-    let committed = SaltedCommitted::new(case.alloc, &mut scheme, matrices)?;
+    let committed = committed(case.alloc, &mut scheme, matrices)?;
     case.answer.digests(committed.cap.roots());
     case.answer.push(" | ");
-    let opening = committed.accepted(case.alloc, index)?;
+    let opening = accepted(case.alloc, &scheme, &committed, index)?;
     case.answer.rows(&opening.opened_values);
     case.answer.push(" | ");
     case.answer.rows(&opening.opening_proof.0);
@@ -137,10 +162,10 @@ pub fn pruned<const N: usize, const SALT_ELEMS: usize>(
     let mut scheme = seeded::<N, SALT_ELEMS>(cap, &mut case.fields);
     let matrices = case.fields.matrices();
     let indices = case.fields.numbers();
-    let committed = SaltedCommitted::new(case.alloc, &mut scheme, matrices)?;
+    let committed = committed(case.alloc, &mut scheme, matrices)?;
     case.answer.digests(committed.cap.roots());
     case.answer.push(" | ");
-    let (rows, proof) = committed.accepted_leaves(case.alloc, &indices)?;
+    let (rows, proof) = accepted_leaves(case.alloc, &scheme, &committed, &indices)?;
     case.answer.row_sets(&rows);
     case.answer.push(" | ");
     case.answer.row_sets(&proof.0);

@@ -5,29 +5,43 @@ ghost use Rattle.p3_merkle_core.specs.Geometry.{is_arity};
 
 use crate::case::Case;
 use crate::fields::Fault;
-use crate::salted::extract::collision_of;
-use crate::salted::open::{Opened, Opening, SaltedCommitted, seeded};
+use crate::salted::SaltedScheme;
+use crate::salted::open::{
+    Opened, Opening, SaltedCommitted, accepted, accepted_leaves, committed, seeded,
+};
 use crate::scheme::{Cap, fold_scheme};
 use crate::sweep::{Counts, Plan, Swept};
 use p3_merkle_tree::{BatchOpeningRef, Collision, MerkleTreeError, PrunedOpeningRef};
 use p3_support::matrix::Dimensions;
 use std::alloc::Global;
 
-impl<'a, const N: usize, const SALT_ELEMS: usize> Swept for SaltedCommitted<'a, N, SALT_ELEMS> {
+impl<const N: usize, const SALT_ELEMS: usize> Swept for SaltedScheme<N, SALT_ELEMS> {
+    type Committed = SaltedCommitted<N>;
+
     type Leaf = Opening;
 
     type Leaves = Opened;
 
-    fn dimensions(&self) -> &[Dimensions] {
-        &self.dimensions
+    fn dimensions<'c>(&self, committed: &'c SaltedCommitted<N>) -> &'c [Dimensions] {
+        &committed.dimensions
     }
 
-    fn leaf(&self, alloc: Global, index: usize) -> Result<Opening, MerkleTreeError> {
-        self.accepted(alloc, index)
+    fn leaf(
+        &self,
+        alloc: Global,
+        committed: &SaltedCommitted<N>,
+        index: usize,
+    ) -> Result<Opening, MerkleTreeError> {
+        accepted(alloc, self, committed, index)
     }
 
-    fn leaves(&self, alloc: Global, indices: &[usize]) -> Result<Opened, MerkleTreeError> {
-        self.accepted_leaves(alloc, indices)
+    fn leaves(
+        &self,
+        alloc: Global,
+        committed: &SaltedCommitted<N>,
+        indices: &[usize],
+    ) -> Result<Opened, MerkleTreeError> {
+        accepted_leaves(alloc, self, committed, indices)
     }
 
     fn rows<'o>(&self, leaf: &'o Opening) -> &'o [Vec<u32>] {
@@ -43,42 +57,47 @@ impl<'a, const N: usize, const SALT_ELEMS: usize> Swept for SaltedCommitted<'a, 
     }
 
     // A salted scheme counts no digests and restores no paths.
-    fn check(&self, _alloc: Global, _indices: &[usize], _leaves: &Opened) -> Result<(), Fault> {
+    fn check(
+        &self,
+        _alloc: Global,
+        _committed: &SaltedCommitted<N>,
+        _indices: &[usize],
+        _leaves: &Opened,
+    ) -> Result<(), Fault> {
         Ok(())
     }
 
     fn collision(
         &self,
         alloc: Global,
+        committed: &SaltedCommitted<N>,
         index: usize,
         leaf: &Opening,
         rows: &[Vec<u32>],
     ) -> Result<Option<Collision<u32, u32, 1>>, MerkleTreeError> {
+        let SaltedCommitted {
+            cap, dimensions, ..
+        } = committed;
         let twin = BatchOpeningRef::new(rows, &leaf.opening_proof);
         let honest = BatchOpeningRef::from(leaf);
-        let (cap, dimensions) = (&self.cap, &self.dimensions);
-        collision_of(
-            alloc,
-            self.scheme,
-            cap,
-            dimensions,
-            (index, honest),
-            (index, twin),
-        )
+        self.extract_collision(alloc, cap, dimensions, index, honest, index, twin)
     }
 
     fn collision_of_leaves(
         &self,
         alloc: Global,
+        committed: &SaltedCommitted<N>,
         indices: &[usize],
         leaves: &Opened,
         rows: &[Vec<Vec<u32>>],
     ) -> Result<Option<(usize, usize, Collision<u32, u32, 1>)>, MerkleTreeError> {
-        let (scheme, cap, dimensions) = (self.scheme, &self.cap, &self.dimensions);
+        let SaltedCommitted {
+            cap, dimensions, ..
+        } = committed;
         let (own, proof) = leaves;
         let honest = PrunedOpeningRef::new(indices, own, proof);
         let twin = PrunedOpeningRef::new(indices, rows, proof);
-        scheme.extract_collision_multi(alloc, cap, dimensions, honest, twin)
+        self.extract_collision_multi(alloc, cap, dimensions, honest, twin)
     }
 }
 
@@ -96,10 +115,17 @@ pub fn sweep<const N: usize, const SALT_ELEMS: usize>(
     let plan = Plan::of(&mut case.fields);
     let mut counts = Counts::none();
     for dimensions in &plan.batches {
-        let reader = &mut case.fields.reader;
-        let committed = SaltedCommitted::new(case.alloc, &mut scheme, reader.numbered(dimensions))?;
+        let matrices = case.fields.reader.numbered(dimensions);
+        let committed = committed(case.alloc, &mut scheme, matrices)?;
         let steps = fold_scheme::<N>(cap).proof_arity_schedule(case.alloc, dimensions)?;
-        plan.count(case.alloc, reader, &committed, &steps, &mut counts)?;
+        plan.count(
+            case.alloc,
+            &mut case.fields.reader,
+            &scheme,
+            &committed,
+            &steps,
+            &mut counts,
+        )?;
     }
     counts.write(&mut case.answer);
     Ok(())
