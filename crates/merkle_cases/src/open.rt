@@ -5,7 +5,7 @@ ghost use Rattle.p3_merkle_core.specs.Geometry.{is_arity};
 
 use crate::case::Case;
 use crate::fields::Fault;
-use crate::scheme::{Committed, FoldScheme, ROOT, accepted, committed, fold_scheme};
+use crate::scheme::{Committed, FoldScheme, ROOT, accepted, commit_shown, fold_scheme};
 use p3_merkle_tree::MerkleTreeError;
 use std::alloc::Global;
 
@@ -17,7 +17,7 @@ pub fn open<const N: usize>(case: &mut Case<'_>) -> Result<(), Fault>
     let scheme = fold_scheme::<N>(case.fields.cap());
     let matrices = case.fields.matrices();
     let index = case.fields.number();
-    let committed = committed(case.alloc, &scheme, matrices)?;
+    let committed = commit_shown(case.alloc, &scheme, matrices)?;
     let opening = accepted(case.alloc, &scheme, &committed, index)?;
     case.answer.rows(&opening.opened_values);
     case.answer.push(" | ");
@@ -33,7 +33,7 @@ pub fn leaves<const N: usize>(case: &mut Case<'_>) -> Result<(), Fault>
     let scheme = fold_scheme::<N>(case.fields.cap());
     let dimensions = case.fields.columns();
     let matrices = case.fields.reader.numbered(&dimensions);
-    let committed = committed(case.alloc, &scheme, matrices)?;
+    let committed = commit_shown(case.alloc, &scheme, matrices)?;
     case.answer
         .number(accepted_leaves(case.alloc, &scheme, &committed)?);
     case.answer.push(" accepted");
@@ -61,7 +61,7 @@ pub fn kept<const N: usize>(case: &mut Case<'_>) -> Result<(), Fault>
     let scheme = fold_scheme::<N>(ROOT);
     let columns = case.fields.columns();
     let matrices = case.fields.reader.numbered(&columns);
-    let committed = committed(case.alloc, &scheme, matrices)?;
+    let committed = commit_shown(case.alloc, &scheme, matrices)?;
     case.answer.number(scheme.get_max_height(&committed.tree));
     case.answer.push(" | ");
     case.answer.dimensions(&committed.dimensions);

@@ -87,7 +87,7 @@ fn shown_dimensions<const N: usize>(
 }
 
 /// What a scheme commits to, where the tree shows matrices of the same dimensions.
-pub fn committed<const N: usize>(
+pub fn commit_shown<const N: usize>(
     alloc: Global,
     scheme: &FoldScheme<N>,
     matrices: Vec<Rows>,

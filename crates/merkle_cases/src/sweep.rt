@@ -8,7 +8,7 @@ use crate::case::Case;
 use crate::fields::{Fault, Fields};
 use crate::queries::lists_of;
 use crate::reader::Reader;
-use crate::scheme::{Committed, FoldOpening, FoldScheme, accepted, committed, fold_scheme};
+use crate::scheme::{Committed, FoldOpening, FoldScheme, accepted, commit_shown, fold_scheme};
 use crate::text::Answer;
 use crate::twin::{
     collides_at, collides_first_at, has_twins, place_of, place_of_first, twin_rows, twin_sets,
@@ -351,7 +351,9 @@ impl<const N: usize> Swept for FoldScheme<N> {
         rows: &[Vec<u32>],
     ) -> Result<Option<Collision<u32, u32, 1>>, MerkleTreeError> {
         let Committed {
-            cap, dimensions, ..
+            cap,
+            dimensions,
+            ..
         } = committed;
         let twin = BatchOpeningRef::new(rows, &leaf.opening_proof);
         let honest = BatchOpeningRef::from(leaf);
@@ -367,7 +369,9 @@ impl<const N: usize> Swept for FoldScheme<N> {
         rows: &[Vec<Vec<u32>>],
     ) -> Result<Option<(usize, usize, Collision<u32, u32, 1>)>, MerkleTreeError> {
         let Committed {
-            cap, dimensions, ..
+            cap,
+            dimensions,
+            ..
         } = committed;
         let (own, proof) = (&leaves.opened_values, &leaves.pruned_proof);
         let honest = PrunedOpeningRef::new(indices, own, proof);
@@ -389,7 +393,7 @@ pub fn sweep<const N: usize>(case: &mut Case<'_>) -> Result<(), Fault>
     let mut counts = Counts::none();
     for dimensions in &plan.batches {
         let matrices = case.fields.reader.numbered(dimensions);
-        let committed = committed(case.alloc, &scheme, matrices)?;
+        let committed = commit_shown(case.alloc, &scheme, matrices)?;
         let steps = scheme.proof_arity_schedule(case.alloc, dimensions)?;
         plan.count(
             case.alloc,

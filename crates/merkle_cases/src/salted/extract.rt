@@ -12,9 +12,7 @@ use crate::scheme::Cap;
 use crate::verify::Statement;
 use p3_merkle_core::pruning::PrunedProof;
 use p3_merkle_hiding::hiding_mmcs::{SaltedMultiProof, SaltedProof};
-use p3_merkle_tree::{
-    BatchOpening, BatchOpeningRef, Collision, MerkleTreeError, PrunedOpeningRef,
-};
+use p3_merkle_tree::{BatchOpening, BatchOpeningRef, Collision, MerkleTreeError, PrunedOpeningRef};
 use rand_chacha::ChaCha20Rng;
 use rand_core::SeedableRng;
 use std::alloc::Global;

@@ -67,7 +67,7 @@ fn commit_to<const N: usize, const SALT_ELEMS: usize>(
 }
 
 /// What a scheme commits to, where the tree shows matrices of the same dimensions.
-pub fn committed<const N: usize, const SALT_ELEMS: usize>(
+pub fn commit_shown<const N: usize, const SALT_ELEMS: usize>(
     alloc: Global,
     scheme: &mut SaltedScheme<N, SALT_ELEMS>,
     matrices: Vec<Rows>,
@@ -137,7 +137,7 @@ pub fn open<const N: usize, const SALT_ELEMS: usize>(
     let mut scheme = seeded::<N, SALT_ELEMS>(cap, &mut case.fields);
     let matrices = case.fields.matrices();
     let index = case.fields.number();
-    let committed = committed(case.alloc, &mut scheme, matrices)?;
+    let committed = commit_shown(case.alloc, &mut scheme, matrices)?;
     case.answer.digests(committed.cap.roots());
     case.answer.push(" | ");
     let opening = accepted(case.alloc, &scheme, &committed, index)?;
@@ -162,7 +162,7 @@ pub fn pruned<const N: usize, const SALT_ELEMS: usize>(
     let mut scheme = seeded::<N, SALT_ELEMS>(cap, &mut case.fields);
     let matrices = case.fields.matrices();
     let indices = case.fields.numbers();
-    let committed = committed(case.alloc, &mut scheme, matrices)?;
+    let committed = commit_shown(case.alloc, &mut scheme, matrices)?;
     case.answer.digests(committed.cap.roots());
     case.answer.push(" | ");
     let (rows, proof) = accepted_leaves(case.alloc, &scheme, &committed, &indices)?;

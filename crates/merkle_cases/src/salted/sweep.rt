@@ -7,7 +7,7 @@ use crate::case::Case;
 use crate::fields::Fault;
 use crate::salted::SaltedScheme;
 use crate::salted::open::{
-    Opened, Opening, SaltedCommitted, accepted, accepted_leaves, committed, seeded,
+    Opened, Opening, SaltedCommitted, accepted, accepted_leaves, commit_shown, seeded,
 };
 use crate::scheme::{Cap, fold_scheme};
 use crate::sweep::{Counts, Plan, Swept};
@@ -76,7 +76,9 @@ impl<const N: usize, const SALT_ELEMS: usize> Swept for SaltedScheme<N, SALT_ELE
         rows: &[Vec<u32>],
     ) -> Result<Option<Collision<u32, u32, 1>>, MerkleTreeError> {
         let SaltedCommitted {
-            cap, dimensions, ..
+            cap,
+            dimensions,
+            ..
         } = committed;
         let twin = BatchOpeningRef::new(rows, &leaf.opening_proof);
         let honest = BatchOpeningRef::from(leaf);
@@ -92,7 +94,9 @@ impl<const N: usize, const SALT_ELEMS: usize> Swept for SaltedScheme<N, SALT_ELE
         rows: &[Vec<Vec<u32>>],
     ) -> Result<Option<(usize, usize, Collision<u32, u32, 1>)>, MerkleTreeError> {
         let SaltedCommitted {
-            cap, dimensions, ..
+            cap,
+            dimensions,
+            ..
         } = committed;
         let (own, proof) = leaves;
         let honest = PrunedOpeningRef::new(indices, own, proof);
@@ -116,7 +120,7 @@ pub fn sweep<const N: usize, const SALT_ELEMS: usize>(
     let mut counts = Counts::none();
     for dimensions in &plan.batches {
         let matrices = case.fields.reader.numbered(dimensions);
-        let committed = committed(case.alloc, &mut scheme, matrices)?;
+        let committed = commit_shown(case.alloc, &mut scheme, matrices)?;
         let steps = fold_scheme::<N>(cap).proof_arity_schedule(case.alloc, dimensions)?;
         plan.count(
             case.alloc,
