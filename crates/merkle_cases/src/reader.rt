@@ -252,7 +252,8 @@ impl Reader {
         RowMajorMatrix::new(values, width)
     }
 
-    /// The same of bytes. It stands apart, since `auto` proves that rows divide words of one type alone.
+    // Not one function of any type: the search finds that the width divides the words only where their type is written.
+    /// The same of bytes.
     pub fn matrix_of_bytes(&mut self, values: Vec<u8>, width: usize) -> RowMajorMatrix<u8> {
         if width == 0 || values.len() % width != 0 {
             self.fail("a matrix has no bytes");
