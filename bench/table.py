@@ -98,7 +98,8 @@ class Axes:
         yield f'<text x="{middle}" y="{below}" text-anchor="middle">rows</text>'
         x, y = self.left - 50, self.top + PANEL_HEIGHT / 2
         yield f'<text x="{x}" y="{y}" text-anchor="middle" transform="rotate(-90 {x} {y})">ns a word</text>'
-        yield f'<rect x="{self.left}" y="{self.top}" width="{PANEL_WIDTH}" height="{PANEL_HEIGHT}" fill="none" stroke="#444"/>'
+        size = f'width="{PANEL_WIDTH}" height="{PANEL_HEIGHT}"'
+        yield f'<rect x="{self.left}" y="{self.top}" {size} fill="none" stroke="#444"/>'
 
 
 def line(points, colour, form):
@@ -139,7 +140,8 @@ def plot(rows):
     lanes = math.ceil(len(widths) / columns)
     across = LEFT + columns * (PANEL_WIDTH + GAP_X) + LEGEND
     down = TOP + lanes * (PANEL_HEIGHT + GAP_Y)
-    yield f'<svg xmlns="http://www.w3.org/2000/svg" width="{across}" height="{down}" font-family="sans-serif" font-size="12">'
+    font = 'font-family="sans-serif" font-size="12"'
+    yield f'<svg xmlns="http://www.w3.org/2000/svg" width="{across}" height="{down}" {font}>'
     yield f'<rect width="{across}" height="{down}" fill="white"/>'
     yield f'<text x="{LEFT}" y="24" font-size="16">Least time of a commit for each word of its matrix</text>'
     for place, width in enumerate(widths):
