@@ -47,8 +47,8 @@ use std::io::{ErrorKind, Read, Write};
 ///
 /// `commit` writes the cap of the matrices' tree, a line for each digest in hexadecimal. `open` writes for each index a
 /// line `index I` and the rows that belong to it, a line for each matrix, and then `digests K` and the `K` digests of
-/// one pruned proof for all of them. `check` opens the same, verifies it, and writes `ok K`. A stream is lent, so that
-/// what it has left or holds can be told of.
+/// one pruned proof for all of them. `check` opens the same, verifies it, and writes `ok K`. The streams are borrowed,
+/// so that the contract can say what is left of the input and what the output holds.
 ///
 /// # Errors
 ///

@@ -26,7 +26,7 @@ pub enum Fault {
         /// What may stand there.
         expected: Expected,
     },
-    /// The verifier refuses the opening, or memory was refused.
+    /// The verifier refuses the opening, or memory ran out.
     #[error("{0}")]
     Tree(MerkleTreeError),
     /// The output could not be written.

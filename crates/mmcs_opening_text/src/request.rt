@@ -17,7 +17,7 @@ use mmcs_text::number::parse_number;
 use p3_support::matrix::Dimensions;
 use std::alloc::{AllocError, Global};
 
-/// What the program is asked for: a task, and the matrices of which it reads openings.
+/// What the program is asked for: a task, the setting of a tree, and the dimensions of its matrices.
 #[derive(Drop)]
 pub struct Request {
     /// What the tree was built with.
@@ -50,11 +50,11 @@ pub enum Task {
 
 impl Request {
     /// What the words after the program's name ask for: a hash, an arity, a cap, `collide` or not, and a height and a
-    /// width with an `x` between for each matrix. Numbers are one or more ASCII digits, and fit usize.
+    /// width with an `x` between for each matrix. Numbers are one or more ASCII digits, and fit `usize`.
     ///
     /// # Errors
     ///
-    /// `Usage` where the words are no command; else `Tree(OutOfMemory)` where there is no memory for the dimensions.
+    /// `Usage` where the words are no command; else `Tree(OutOfMemory)` if memory runs out.
     pub fn from_words(alloc: Global, words: &[String]) -> Result<Request, Fault>
         ensures request { IfOk result
             (λ request. AreWords (texts_of words.now) request.setting request.task request.dimensions.items) }

@@ -78,11 +78,11 @@ pub enum Action {
 
 impl Request {
     /// What the words after the program's name ask for: a hash, an arity, a cap, an action, and the indices. Numbers
-    /// are one or more ASCII digits, and fit usize.
+    /// are one or more ASCII digits, and fit `usize`.
     ///
     /// # Errors
     ///
-    /// `Usage` where the words are no command; else `Tree(OutOfMemory)` where there is no memory for the indices.
+    /// `Usage` where the words are no command; else `Tree(OutOfMemory)` if memory runs out.
     pub fn from_words(alloc: Global, words: &[String]) -> Result<Request, Fault>
         ensures request { IfOk result (λ request. AreWords (texts_of words.now) request.command request.indices.items) }
         ensures fault { IfErr result (λ fault. ((fault ≡ Usage) × AreNoCommand (texts_of words.now)) ⊎

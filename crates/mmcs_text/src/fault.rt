@@ -36,7 +36,7 @@ pub enum Fault {
         /// How many this one has.
         got: usize,
     },
-    /// The tree refuses the matrices or the indices, or memory was refused.
+    /// The tree refuses the matrices or the indices, or memory ran out.
     #[error("{0}")]
     Tree(MerkleTreeError),
     /// The output could not be written.

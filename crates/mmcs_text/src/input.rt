@@ -72,7 +72,7 @@ pub fn is_blank(line: &[u8]) -> bool
     line.iter().all(|byte| is_gap(*byte))
 }
 
-/// The line less one carriage return at its end.
+/// The line without the carriage return at its end, if there is one.
 pub fn without_return(line: &[u8]) -> &[u8]
     ensures { result.now ≡ strip_carriage_return line.now }
 {
@@ -99,8 +99,8 @@ fn with_digit(before: Option<u32>, digit: u8, max: u32) -> Option<u32>
     }
 }
 
-/// Appends the numbers of a line, each at most `W::MAX`, and says how many there are; or nothing, where a part of the
-/// line is no such number.
+/// Appends the numbers of a line, each at most `W::MAX`, and returns how many there are. It returns `None` if a part of
+/// the line is no such number; the numbers before that part may be appended then.
 ///
 /// # Errors
 ///
@@ -156,7 +156,7 @@ impl<W: Word> Block<W> {
     /// # Errors
     ///
     /// `Number` where a part of the line is no such number, else `Count` where the row is of another width than the
-    /// rows before it; `Tree(OutOfMemory)` where there is no memory.
+    /// rows before it; `Tree(OutOfMemory)` if memory runs out.
     fn push_row(&mut self, text: &[u8], line: usize) -> Result<(), Fault>
         requires full { is_blank text.now ≡ false }
         ensures row { (lines : List (List ℕ)) →
@@ -217,7 +217,7 @@ impl<W: Word> Block<W> {
 ///
 /// # Errors
 ///
-/// `Number` or `Count` for the first line that is no row of its matrix; `Tree(OutOfMemory)` where there is no memory.
+/// `Number` or `Count` for the first line that is no row of its matrix; `Tree(OutOfMemory)` if memory runs out.
 pub fn read_matrices<W: Word>(alloc: Global, input: &[u8]) -> Result<Vec<RowMajorMatrix<W>>, Fault>
     ensures matrices { IfOk result (λ found.
         (matrices : List (List (List ℕ))) × StandsFor (W.MAX + 1) input.now matrices ×

@@ -5,7 +5,7 @@ ghost use Rattle.std.specs.Option.{SomeIff};
 ghost use Rattle.std.specs.Str.Parse.{digits_value};
 ghost use Rattle.mmcs_text.specs.Numbers.{IsNumberBelow};
 
-/// The number that one or more ASCII digits stand for, if it fits usize.
+/// The number that one or more ASCII digits stand for, if it fits `usize`. There is none for any other text.
 pub fn parse_number(digits: &[u8]) -> Option<usize>
     ensures { SomeIff result (IsNumberBelow (2 ^ 64) digits.now) (digits_value 10 digits.now) }
 {

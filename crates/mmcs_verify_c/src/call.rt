@@ -20,17 +20,17 @@ const ACCEPTED: u8 = 0;
 const REFUSED: u8 = 1;
 /// There is no such setting.
 const WRONG_SETTING: u8 = 2;
-/// There is no memory.
+/// Memory ran out.
 const OUT_OF_MEMORY: u8 = 3;
 
 /// Verifies a cap and an opening of it from memory, and keeps nothing: the program `mmcs_verify` as a call.
 ///
 /// `input` is what `mmcs .. commit` printed, a blank line, and what `mmcs .. open I..` printed; `sizes` has the
-/// dimensions of each matrix, in their order. The text is what the program prints, or its fault. As much of it as there
-/// is room for goes to `text`, and how long all of it is to `size`, in bytes.
+/// dimensions of each matrix, in their order. The answer is the text that the program prints, or the text of its fault.
+/// As much of it as fits is copied to `text`, and `size` becomes the length of the whole text, in bytes.
 ///
-/// It returns 0 where the opening is accepted, and 1 where it is refused or a line of it is faulty. With no text it
-/// returns 2 where there is no such setting, and 3 where there is no memory.
+/// It returns 0 if the opening is accepted, 1 if it is refused or a line of the input is faulty, 2 if there is no such
+/// setting, and 3 if memory runs out. The statuses 2 and 3 have no text.
 #[unsafe(no_mangle)]
 pub extern "C" fn mmcs_verify_text(
     alloc: Global,

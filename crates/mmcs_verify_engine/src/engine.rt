@@ -42,7 +42,8 @@ use std::io::{ErrorKind, Read, Write};
 /// them with a blank line between, and writes `ok K`, where the opening is accepted and `K` digests were sent.
 ///
 /// The words are `HASH ARITY CAP[f] HEIGHTxWIDTH..`: the hash, the arity and the cap that the tree was built with, and
-/// the height and the width of each matrix. A stream is lent, so that what it has left or holds can be told of.
+/// the height and the width of each matrix. The streams are borrowed, so that the contract can say what is left of the
+/// input and what the output holds.
 ///
 /// With the word `collide` behind the cap, the input is a cap and two openings of it, with blank lines between. Where
 /// both are accepted, and a query of the one and a query of the other lead to two inputs of one digest, it writes where
@@ -127,8 +128,7 @@ fn write_text<Dst: Write>(output: &mut Dst, text: &[u8]) -> Result<(), Fault>
     Ok(())
 }
 
-/// The text that is printed of an input. What calls the verifier with no words and no streams, as the library for C,
-/// calls this.
+/// The text that is printed of an input. The library for C calls this, since it has no words and no streams.
 ///
 /// # Errors
 ///

@@ -1,4 +1,4 @@
-//! A hasher or a compression that says it takes three at a time.
+//! A hasher or a compression whose `LANES` are 3.
 ghost use Rattle.std.specs.Prelude.{◌≡◌, ℕ, ◌<◌, map};
 ghost use Rattle.p3_support.specs.Lists.{lane_of};
 
@@ -7,9 +7,9 @@ use p3_support::hasher::CryptographicHasher;
 use p3_support::packed::PackedValue;
 use std::convert::AsSlice;
 
-/// The function of `X`, with `LANES` 3: for tests of staging by a number of lanes that is no power of
-/// two. Of many messages, or many groups, `X` digests one after another by its calls for one, so
-/// that trees by `X` and by this are built by different calls.
+/// The function of `X`, with `LANES` 3: for tests of batches by a number of lanes that is no power of two. `hash_many`
+/// and `compress_many` call `X` once for each message or group, so that trees by `X` and by this are built by different
+/// calls.
 #[derive(Clone, Copy, Debug)]
 pub struct Batched3<X>(pub X);
 

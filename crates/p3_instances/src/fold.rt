@@ -103,9 +103,8 @@ pub(crate) fn hash_words<const D: usize>(words: &[u32]) -> [u32; D]
     state
 }
 
-/// The fold hash: element `e` of the state starts at `1 + e`, each word `x` makes it `31 * state +
-/// x`, and the digest is the state, all modulo 2^32. `L` is the number of messages that it says it
-/// takes together.
+/// The fold hash: element `e` of the state starts at `1 + e`, each word `x` makes it `31 * state + x`, and the digest
+/// is the state, all modulo 2^32. `L` is its `LANES`; the digests don't depend on it.
 #[derive(Clone, Copy, Debug)]
 pub struct FoldHash<const L: usize>;
 
@@ -184,9 +183,8 @@ pub(crate) fn compress_group<const N: usize, const D: usize>(children: &[[u32; D
     compress_lanes(children)
 }
 
-/// The fold compression: element `e` starts at 0, and each child `i`, from 0, makes it `31 *
-/// element + child[e] + i`, modulo 2^32. `L` is the number of groups that it says it takes
-/// together.
+/// The fold compression: element `e` starts at 0, and each child `i`, from 0, makes it `31 * element + child[e] + i`,
+/// modulo 2^32. `L` is its `LANES`; the digests don't depend on it.
 #[derive(Clone, Copy, Debug)]
 pub struct FoldCompress<const N: usize, const L: usize>;
 

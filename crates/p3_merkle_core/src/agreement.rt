@@ -274,9 +274,9 @@ fn last_with_rows(steps: &Steps<'_>, cap_layer: usize) -> usize
 /// Checks that slots under one node have the same rows of the matrices of its layer, up to the cap's layer. The row set
 /// of each slot has a row for each matrix, `cap_layer` is at most the number of levels, and the arity is at least 2.
 ///
-/// Goes once through the levels, and no further than the last layer that has matrices. Each level takes the time of one
-/// division a slot; one whose upper layer has matrices also that of a look at each matrix, and of the comparison of the
-/// rows of that layer. Takes memory for a number a slot, and a number for each matrix of a layer above the leaves.
+/// It goes once through the levels, up to the last layer that has matrices. Each level takes the time of one division
+/// for each slot; one whose upper layer has matrices also that of a look at each matrix, and of the comparison of the
+/// rows of that layer. It allocates a number for each slot, and one for each matrix of a layer above the leaves.
 ///
 /// # Errors
 ///
@@ -318,11 +318,11 @@ fn check_groups<T: Eq>(
 }
 
 impl<'a> Steps<'a> {
-    /// Checks a pruned opening of some indices for all that doesn't depend on the cap, which is layer `cap_layer`:
-    /// whether paths can be restored from it. Returns its distinct indices. `cap_layer` is at most the number of
-    /// levels, and the arity a power of two from 2 to 2^62.
+    /// Checks all of a pruned opening that doesn't depend on the cap, which is layer `cap_layer`: whether paths can be
+    /// restored from it. Returns its distinct indices. `cap_layer` must be at most the number of levels, and the arity
+    /// a power of two from 2 to 2^62.
     ///
-    /// Sorts the indices once. Takes memory for four numbers an index, and a number for each matrix of a layer above
+    /// It sorts the indices once, and allocates four numbers for each index, and one for each matrix of a layer above
     /// the leaves. How many requests it makes doesn't depend on the indices.
     ///
     /// # Errors
@@ -330,11 +330,11 @@ impl<'a> Steps<'a> {
     /// The first of these that holds, where `OutOfMemory` may come once the indices are known to be in range:
     ///
     /// - the error of [`check_heights`](Self::check_heights);
-    /// - `WrongBatchSize`: there are not as many row sets as indices;
+    /// - `WrongBatchSize`: the number of row sets is not that of the indices;
     /// - `SiblingCountMismatch`: there is a digest, and no index;
     /// - `IndexOutOfBounds`: the highest index is not below the tallest height;
-    /// - `InconsistentDuplicateOpenings`: a query has not the row set of the first query of its index;
-    /// - `SiblingCountMismatch`: there are not as many digests as the indices leave unknown;
+    /// - `InconsistentDuplicateOpenings`: the row set of a query is not that of the first query of its index;
+    /// - `SiblingCountMismatch`: the number of digests is not that of the boundary nodes;
     /// - `WrongBatchSize`, `WrongWidth`: by ascending indices, the error of [`check_widths`] for the first query of the
     ///   index;
     /// - `InconsistentGroupOpening`: layer by layer, by ascending indices and in the order of the matrices, a row is

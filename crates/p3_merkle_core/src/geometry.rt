@@ -23,7 +23,7 @@ pub const MAX_HEIGHT: usize = 1 << 62;
 /// the place of the index's ancestor among them.
 #[derive(Debug, Clone, Drop)]
 pub struct ArityAndPositions {
-    /// The step of each level, in children a node.
+    /// The step of each level, in children per node.
     pub arity_schedule: Vec<usize>,
     /// The place of the ancestor on each level, from 0.
     pub query_positions: Vec<usize>,
@@ -36,7 +36,8 @@ pub fn exponent_of(height: usize) -> usize
     (usize::BITS - height.saturating_sub(1).leading_zeros()) as usize
 }
 
-/// The greatest and the least height of the matrices, in rows, and 0 of none. Each matrix is looked at once.
+/// The greatest and the least height of the matrices, in rows; both are 0 if there are none. Each matrix is looked at
+/// once.
 pub(crate) fn extremes_of(dimensions: &[Dimensions]) -> (usize, usize)
     ensures greatest { result.0 ≡ greatest (heights_of dimensions.now) }
     ensures least { result.1 ≡ shortest (heights_of dimensions.now) }
@@ -53,7 +54,7 @@ pub(crate) fn extremes_of(dimensions: &[Dimensions]) -> (usize, usize)
     (tallest, shortest)
 }
 
-/// The greatest height of the matrices, in rows, and 0 of none.
+/// The greatest height of the matrices, in rows, or 0 if there are none.
 pub fn tallest_of(dimensions: &[Dimensions]) -> usize
     ensures { result ≡ greatest (heights_of dimensions.now) }
 {
@@ -110,8 +111,8 @@ fn first_off_ladder_of(dimensions: &[Dimensions], tallest: usize) -> Option<usiz
         .find(|height| *height != expected_height_of(tallest, *height))
 }
 
-/// Whether a tree can be built over matrices of these heights: the Rust crate's
-/// `validate_commit_reachable_heights`, which panics where this is an error.
+/// Checks that a tree can be built over matrices of these heights (`validate_commit_reachable_heights` in the Rust
+/// crate).
 ///
 /// # Errors
 ///
@@ -155,7 +156,7 @@ pub(crate) fn check_heights_up_to(
     Ok(())
 }
 
-/// Whether an opening has one row for each matrix, each as wide as its matrix (`check_widths` in the Rust crate).
+/// Checks that an opening has one row for each matrix, each as wide as its matrix (`check_widths` in the Rust crate).
 ///
 /// # Errors
 ///
@@ -185,8 +186,8 @@ pub fn check_widths<T>(dimensions: &[Dimensions], rows: &[Vec<T>]) -> Result<(),
     Ok(())
 }
 
-/// How many slots a layer of `len` nodes has: `len` up to 1, else the least multiple of `arity` that is not below it.
-/// The arity is above 0, and the result is below 2^64.
+/// How many slots a layer of `len` nodes has: `len` if that is at most 1, else the least multiple of `arity` that is
+/// not below it. The arity must be above 0, and the result must fit `usize`.
 pub fn padded_len(len: usize, arity: usize) -> usize
     requires positive { 0 < arity }
     requires fits { padded_len len arity < 2 ^ 64 }
@@ -243,7 +244,7 @@ pub fn is_bridge_step(dimensions: &[Dimensions], arity: usize, exponent: usize) 
     })
 }
 
-/// The step from a layer of this exponent, in children a node, and the exponent of the next layer
+/// The step from a layer of this exponent, in children per node, and the exponent of the next layer
 /// (`select_arity_step` in the Rust crate).
 pub fn select_arity_step(dimensions: &[Dimensions], arity: usize, exponent: usize) -> (usize, usize)
     ensures step { result.0 ≡ (if is_bridge (shape_of arity dimensions.now) exponent then 2 else arity) }
@@ -253,7 +254,7 @@ pub fn select_arity_step(dimensions: &[Dimensions], arity: usize, exponent: usiz
     step_from(arity, is_bridge_step(dimensions, arity, exponent), exponent)
 }
 
-/// The step from a layer of this exponent, in children a node, and the exponent of the next layer: a bridge step, or
+/// The step from a layer of this exponent, in children per node, and the exponent of the next layer: a bridge step, or
 /// one of the whole arity.
 pub(crate) fn step_from(arity: usize, is_bridge: bool, exponent: usize) -> (usize, usize)
     ensures step { result.0 ≡ (if is_bridge then 2 else arity) }

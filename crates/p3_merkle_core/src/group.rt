@@ -18,7 +18,7 @@ fn insert_into<X: Copy>(slots: &mut [X], position: usize, value: X, others: &[X]
 }
 
 /// A digest at its place among its siblings, then default digests: what a compression of `N` digests takes where a
-/// node has fewer children.
+/// node has fewer children. There must be fewer siblings than `N`, and `position` must be at most their number.
 pub fn group_with<W: Copy, const N: usize, const D: usize>(
     default_digest: [W; D],
     digest: [W; D],
@@ -34,7 +34,7 @@ pub fn group_with<W: Copy, const N: usize, const D: usize>(
     group
 }
 
-/// The children of a node, then default digests. There is at least one child, and there are at most `N`.
+/// The children of a node, then default digests. There must be at least one child, and at most `N`.
 pub fn padded_group<W: Copy, const N: usize, const D: usize>(
     default_digest: [W; D],
     children: &[[W; D]],
@@ -50,7 +50,7 @@ pub fn padded_group<W: Copy, const N: usize, const D: usize>(
     group_with(default_digest, children[0], 0, &children[1..])
 }
 
-/// Two digests, then default digests: the digest of a node's children beside that of its rows.
+/// Two digests, then default digests: the digest of a node's children beside that of its rows. `N` must be at least 2.
 pub fn pair_group<W: Copy, const N: usize, const D: usize>(
     default_digest: [W; D],
     left: [W; D],

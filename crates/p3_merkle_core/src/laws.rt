@@ -29,7 +29,7 @@ pub fn errors(a: &MerkleTreeError, b: &MerkleTreeError) -> bool
     *a == *b
 }
 
-/// The same of errors of pruned proofs.
+/// Equality of errors of pruned proofs is equality of values.
 pub fn pruned_proof_errors(a: &PrunedProofError, b: &PrunedProofError) -> bool
     ensures { IsTrue result ↔ (a.now ≡ b.now) }
 {

@@ -27,7 +27,7 @@ pub struct Level {
 }
 
 impl<'a> Steps<'a> {
-    /// The layer above the layer `below`, which has `len` nodes and this exponent.
+    /// The layer above the layer `below`, which must be below the root and have `len` nodes and this exponent.
     pub fn level_above(&self, below: usize, exponent: usize, len: usize) -> Level
         requires { IsBelowTop (shape_of self.now.arity self.now.dimensions.now) below exponent len }
         ensures level { IsLevel (shape_of self.now.arity self.now.dimensions.now) result }

@@ -1,5 +1,5 @@
-//! The steps of a tree, from the leaves to the root, walked once and kept: every walk goes by them. Nothing here
-//! allocates except the two functions that return a list.
+//! The steps of a tree, from the leaves to the root, walked once and kept: every walk goes by them. Only `clone` and
+//! the two calls that return a list allocate.
 
 ghost use Rattle.std.specs.Prelude.{◌≡◌, ℕ, suc, ◌+◌, ◌-◌, ◌<◌, ◌≤◌, ◌==◌, ◌↔◌, List, if◌then◌else◌, length, map};
 ghost use Rattle.std.specs.Prelude.{nat_lt, take, ◌&&◌, IfOk, IsOk, MatchResult, None, Some};
@@ -141,9 +141,9 @@ pub struct Steps<'a> {
     pub dimensions: &'a [Dimensions],
     /// How many children a node has at most.
     pub arity: usize,
-    /// The greatest height, in rows, and 0 of no matrix.
+    /// The greatest height, in rows, or 0 if there are no matrices.
     pub max_height: usize,
-    /// The least height, in rows, and 0 of no matrix.
+    /// The least height, in rows, or 0 if there are no matrices.
     pub min_height: usize,
     /// The exponent of the leaves.
     pub exponent: usize,
@@ -162,7 +162,7 @@ pub struct Steps<'a> {
 }
 
 /// The steps of the tree over matrices of these dimensions, where a node has at most `arity` children. They end for all
-/// dimensions and every arity of at least 2. Each matrix is looked at once for its height, and once for each layer to
+/// dimensions. The arity must be at least 2. Each matrix is looked at once for its height, and once for each layer to
 /// which one belongs.
 pub fn steps_of(dimensions: &[Dimensions], arity: usize) -> Steps<'_>
     requires { 2 ≤ arity }
@@ -196,14 +196,15 @@ pub fn steps_of(dimensions: &[Dimensions], arity: usize) -> Steps<'_>
     }
 }
 
-/// The steps of a tree beside the dimensions of its matrices, which they own: a tree that keeps them walks none again.
+/// The steps of a tree, which own the dimensions of its matrices. A tree keeps them, so that no opening walks them
+/// again.
 #[derive(Debug, Drop)]
 pub struct KeptSteps {
     /// The dimensions of all matrices.
     pub dimensions: Vec<Dimensions>,
     /// How many children a node has at most.
     pub arity: usize,
-    /// The greatest height, in rows, and 0 of no matrix.
+    /// The greatest height, in rows, or 0 if there are no matrices.
     pub max_height: usize,
     min_height: usize,
     exponent: usize,
@@ -221,7 +222,8 @@ pub struct KeptSteps {
 }
 
 impl KeptSteps {
-    /// The steps of the tree over matrices of these dimensions, as [`steps_of`] walks them.
+    /// The steps of the tree over matrices of these dimensions, as [`steps_of`] walks them. The arity must be at least
+    /// 2.
     pub fn new(dimensions: Vec<Dimensions>, arity: usize) -> KeptSteps
         requires { 2 ≤ arity }
         ensures dimensions { result.dimensions.items ≡ dimensions.items }
@@ -246,7 +248,7 @@ impl KeptSteps {
         }
     }
 
-    /// The steps, with no walk.
+    /// The steps, which are not walked again.
     pub fn steps(&self) -> Steps<'_>
         ensures dimensions { result.dimensions.now ≡ self.now.dimensions.items }
         ensures arity { result.arity ≡ self.now.arity }
@@ -284,7 +286,7 @@ impl KeptSteps {
 }
 
 impl<'a> Steps<'a> {
-    /// Whether a tree can be built over matrices of these heights, as
+    /// Checks that a tree can be built over matrices of these heights, as
     /// [`check_heights`](crate::geometry::check_heights). Each matrix is looked at once.
     ///
     /// # Errors
@@ -307,7 +309,7 @@ impl<'a> Steps<'a> {
         self.of_level[level].is_bridge
     }
 
-    /// The step of a level below the root, in children a node.
+    /// The step of a level, in children per node. The level must be below the root.
     pub fn step(&self, level: usize) -> usize
         requires { level < self.now.num_levels }
         ensures { result ≡ step (shape_of self.now.arity self.now.dimensions.now) level }
@@ -315,8 +317,9 @@ impl<'a> Steps<'a> {
         if self.is_bridge(level) { 2 } else { self.arity }
     }
 
-    /// The step of a level below the root, from a layer of this exponent. The arity is the one that the steps are for:
-    /// a caller that knows it when it is compiled divides by it as such.
+    /// The step of a level, and what is known of the layer above it. The level must be below the root, `exponent` must
+    /// be that of the layer below the level, and `arity` that of the steps: a caller that knows it at compile time then
+    /// divides by a constant.
     pub fn up(&self, arity: usize, level: usize, exponent: usize) -> StepUp
         requires arity { arity ≡ self.now.arity }
         requires level { level < self.now.num_levels }
@@ -337,7 +340,7 @@ impl<'a> Steps<'a> {
         }
     }
 
-    /// The exponent of a layer, counted from the leaves. The layer is at most the number of levels.
+    /// The exponent of a layer, counted from the leaves. The layer must be at most the number of levels.
     pub fn layer_exponent(&self, layer: usize) -> usize
         requires { layer ≤ self.now.num_levels }
         ensures { result ≡ layer_exponent (shape_of self.now.arity self.now.dimensions.now) layer }
@@ -350,8 +353,8 @@ impl<'a> Steps<'a> {
     }
 
     /// How many siblings the levels below a layer have, in digests: one less than the step of each
-    /// (`total_siblings_for_levels` in the Rust crate). The layer is at most the number of levels, the arity a power of
-    /// two from 2 to 2^62, and no height is above [`MAX_HEIGHT`](crate::geometry::MAX_HEIGHT).
+    /// (`total_siblings_for_levels` in the Rust crate). The layer must be at most the number of levels, the arity a
+    /// power of two from 2 to 2^62, and no height above [`MAX_HEIGHT`](crate::geometry::MAX_HEIGHT).
     pub fn siblings_below(&self, layer: usize) -> usize
         requires arity { IsArity self.now.arity }
         requires low { greatest (heights_of self.now.dimensions.now) ≤ height_limit }
@@ -368,8 +371,8 @@ impl<'a> Steps<'a> {
         count
     }
 
-    /// The steps of the levels below a layer, from the leaves up, in children a node. The layer is at most the number
-    /// of levels. It allocates a list of one number for each level.
+    /// The steps of the levels below a layer, from the leaves up, in children per node. The layer must be at most the
+    /// number of levels. It allocates a list of one number for each level.
     ///
     /// # Errors
     ///
@@ -387,7 +390,7 @@ impl<'a> Steps<'a> {
     }
 
     /// The place of the index's ancestor among the children of its parent, for each level below a layer, from the
-    /// leaves up. The layer is at most the number of levels. It allocates a list of one number for each level.
+    /// leaves up. The layer must be at most the number of levels. It allocates a list of one number for each level.
     ///
     /// # Errors
     ///

@@ -23,7 +23,7 @@ pub struct SaltedRows<T> {
 }
 
 impl<T: Copy> SaltedRows<T> {
-    /// Checks and joins the rows and the salts of matrices of these dimensions, with `salt_elems` salts a row.
+    /// Checks and joins the rows and the salts of matrices of these dimensions, with `salt_elems` salts per row.
     ///
     /// # Errors
     ///
@@ -61,7 +61,8 @@ pub struct SaltedSets<T> {
 }
 
 impl<T: Copy> SaltedSets<T> {
-    /// Checks and joins the row sets and the salt sets of matrices of these dimensions, with `salt_elems` salts a row.
+    /// Checks and joins the row sets and the salt sets of matrices of these dimensions, with `salt_elems` salts per
+    /// row.
     ///
     /// # Errors
     ///

@@ -112,8 +112,8 @@ impl<
         Ok(())
     }
 
-    /// Writes the digests of the rows into the first `count` slots, as many rows a call as [`rows_per_call`] says. They
-    /// are no more than there are slots, nor than the height.
+    /// Writes the digests of the rows into the first `count` slots, as many rows per call as [`rows_per_call`] says.
+    /// `count` must be at most the number of slots, and at most the height.
     ///
     /// # Errors
     ///
@@ -145,7 +145,7 @@ impl<
 }
 
 /// Writes the compressions of whole groups of a layer into the first `count` slots: slot `j` is that of group `j`.
-/// There are at least `count` groups, and as many slots.
+/// There must be at least `count` groups, and as many slots.
 pub fn compress_groups_batched<
     PW: PackedValue,
     C: PseudoCompressionFunction<PW, N, D>,
@@ -182,8 +182,8 @@ fn stage_pairs<W: Copy, const N: usize, const D: usize>(
 }
 
 /// Compresses digests once more, each with the digest of its rows and default digests behind them: slot `j` with
-/// `rows[j]`, as many a call as [`rows_per_call`] says. There are no more rows than slots, and `pairs` is the buffer
-/// that groups are laid in.
+/// `rows[j]`, as many per call as [`rows_per_call`] says. There must be at most as many rows as slots, and `N` must be
+/// at least 2. `pairs` is a buffer for the groups.
 ///
 /// # Errors
 ///

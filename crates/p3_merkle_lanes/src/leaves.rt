@@ -71,7 +71,8 @@ impl<
         Ok(())
     }
 
-    /// The digests of the rows, in `len` slots. Past the height there are default digests.
+    /// The digests of the rows, in `len` slots. Past the height there are default digests. Both packings must have
+    /// equally many lanes.
     ///
     /// # Errors
     ///

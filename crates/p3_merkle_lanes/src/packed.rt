@@ -25,8 +25,8 @@ fn array_fits<T>(item: &T, outer: usize, inner: usize) -> bool
     bytes < 0x8000_0000_0000_0000
 }
 
-/// How many groups of as many slots as there are lanes are filled lane by lane, of `count` slots: none where a slot
-/// would be a group, or a packed group of children would be too large for any memory.
+/// How many groups of `PW::WIDTH` slots are filled lane by lane, of `count` slots. There are none if there is one lane,
+/// or if a packed group of `N` children would have 2^63 bytes or more. `N` must be above 0.
 pub fn packed_groups<PW: PackedValue, const N: usize, const D: usize>(count: usize) -> usize
     requires { 0 < N }
     ensures count { result * PW.WIDTH ≤ count }
@@ -96,7 +96,7 @@ impl<
     }
 
     /// The digests of the rows from `row` on: lane `k` is that of row `row + k`, for each lane that both packings have.
-    /// As many rows as `P` has lanes are below the height. The rows of several matrices are staged first.
+    /// `row + P::WIDTH` must be at most the height. `staged` is a buffer for the rows of several matrices.
     ///
     /// # Errors
     ///
@@ -117,7 +117,8 @@ impl<
     }
 
     /// Writes the digests of the rows into the first slots: `groups` groups, each of as many slots as there are lanes.
-    /// Both packings have equally many lanes, and these slots are no more than there are, nor than the height.
+    /// Both packings must have equally many lanes, and `groups * PW::WIDTH` must be at most the number of slots, and at
+    /// most the height.
     ///
     /// # Errors
     ///
@@ -172,7 +173,7 @@ fn packed_element<PW: PackedValue, const D: usize>(
         slice_index_or (PW.lanes result) k PW.default_value
         ≡ slice_index_or (slice_index_or below.now (step * (first + k) + n) []) e PW.default_value }
 {
-    // A length is a usize, so that the nodes' numbers are.
+    // The length is a usize, and so is the number of each node.
     let _len = below.len();
     PW::from_fn(
         |k| -> PW::Value
@@ -198,7 +199,7 @@ fn tell_lengths<PW: PackedValue, const D: usize>(
     requires inside { step * (first + PW.WIDTH) ≤ length below.now }
     ensures { (k : ℕ) → k < PW.WIDTH → length (slice_index_or below.now (step * (first + k) + n) []) ≡ D }
 {
-    // A length is a usize, so that the nodes' numbers are.
+    // The length is a usize, and so is the number of each node.
     let _len = below.len();
     for k in 0..PW::WIDTH {
         tell_row(&below[step * (first + k) + n]);
@@ -281,7 +282,8 @@ fn packed_pair<PW: PackedValue, const N: usize, const D: usize>(
 }
 
 /// The compressions of the children of the nodes from `first` on over a layer, with default digests behind them: lane
-/// `k` is that of node `first + k`.
+/// `k` is that of node `first + k`. Each node has `step` children, at most `N`; those of the last one must be in the
+/// layer.
 pub fn compress_children_packed<
     PW: PackedValue,
     C: PseudoCompressionFunction<PW, N, D>,
@@ -299,7 +301,7 @@ pub fn compress_children_packed<
     compress.compress_packed(packed_children::<PW, N, D>(below, step, first))
 }
 
-/// The compressions of two packed digests, lane by lane, with default digests behind them.
+/// The compressions of two packed digests, lane by lane, with default digests behind them. `N` must be at least 2.
 pub fn compress_pairs_packed<
     PW: PackedValue,
     C: PseudoCompressionFunction<PW, N, D>,

@@ -36,7 +36,7 @@ fn row_digest<
     }
 }
 
-/// Room for pieces, each empty until a row is lent. A function of its own gives them the lifetime of these rows.
+/// An array of pieces, each empty until a row is lent. A function of its own gives them the lifetime of these rows.
 fn no_pieces<'a, T>() -> [&'a [T]; MAX_PIECES] {
     [&[]; MAX_PIECES]
 }
@@ -152,7 +152,7 @@ impl<
 }
 
 /// Writes the compressions of whole groups of a layer into the slots from `first` to `end`: slot `j` is that of group
-/// `j`. There are at least `end` groups, and as many slots.
+/// `j`. There must be at least `end` groups, and as many slots.
 pub fn compress_groups<
     PW: PackedValue,
     C: PseudoCompressionFunction<PW, N, D>,

@@ -205,7 +205,12 @@ impl<
         Ok((level, layer))
     }
 
-    /// All layers of the tree over the matrices, whose steps these are.
+    /// All layers of the tree over the matrices, from the leaves to the root, with the steps between them. The heights
+    /// must be lawful, `steps` those of the matrices at the arity `N`, and both packings must have equally many lanes.
+    ///
+    /// # Errors
+    ///
+    /// `AllocError` if memory runs out.
     pub fn layers(
         &self,
         alloc: Global,

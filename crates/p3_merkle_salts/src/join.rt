@@ -92,7 +92,7 @@ pub fn check_widening(dimensions: &[Dimensions], salt_elems: usize) -> Result<()
     Ok(())
 }
 
-/// The dimensions, each with `salt_elems` more columns.
+/// The dimensions, each with `salt_elems` more columns. [`check_widening`] must accept them.
 ///
 /// # Errors
 ///
@@ -115,7 +115,7 @@ pub fn widened_dimensions(
     Ok(wider)
 }
 
-/// Each row followed by its salts.
+/// Each row followed by its salts. Rows and lists of salts are paired in order, up to the end of the shorter list.
 ///
 /// # Errors
 ///
@@ -144,7 +144,8 @@ fn joined_row<T: Copy>(alloc: Global, row: &[T], salt: &[T]) -> Result<Vec<T>, A
     Ok(joined)
 }
 
-/// Each row of several queries followed by its salts. Each query has a row set and a salt set.
+/// Each row of several queries followed by its salts, as [`joined_rows`] pairs them. Each query has a row set and a
+/// salt set.
 ///
 /// # Errors
 ///
@@ -163,7 +164,7 @@ pub fn joined_row_sets<T: Copy>(
     Ok(joined)
 }
 
-/// Splits each row at its width: the first parts, and the rests.
+/// Splits each row at its width, and returns the first parts and the rests. `widths` has a width for each row.
 ///
 /// # Errors
 ///
@@ -186,7 +187,7 @@ pub fn split_rows<T: Copy>(
     Ok((unsalted, salts))
 }
 
-/// Splits the row sets of several queries as [`split_rows`].
+/// Splits each of several row sets as [`split_rows`] does.
 ///
 /// # Errors
 ///

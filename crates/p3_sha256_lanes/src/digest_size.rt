@@ -3,9 +3,9 @@ ghost use Rattle.std.specs.Prelude.{◌≡◌, refl};
 
 use sha2::Sha256;
 
-/// That a digest has `D` bytes, which holds of `Sha256` at 32 alone. Calls that are generic in `D`
-/// ask for it in place of writing 32, since an `impl` that leaves one number of its trait open and
-/// writes another is not proved.
+/// A hash with digests of `D` bytes. `Sha256` has this trait at 32 alone. Calls that are generic in `D` ask for it in
+/// place of writing 32, since the checker refuses an `impl` that leaves one number of its trait open and writes
+/// another.
 pub trait DigestSize<const D: usize> {
     /// The digest, as an array of `D` bytes.
     fn array(digest: [u8; 32]) -> [u8; D]

@@ -1,5 +1,4 @@
-//! SHA-256 of many rows of bytes and of many groups of digests, eight at a time: what `hash_many` and
-//! `compress_many` of a hash ask.
+//! SHA-256 of many rows of bytes and of many groups of digests, eight at a time, for `hash_many` and `compress_many`.
 ghost use Rattle.std.specs.Prelude.{◌≡◌, ℕ, ◌*◌, ◌<◌, [], length, map, slice_index_or};
 ghost use Rattle.std.specs.List.{concat};
 ghost use Rattle.p3_support.specs.Lists.{messages as messages_of};
@@ -10,8 +9,8 @@ use crate::messages::hash_all;
 use p3_support::packed::tell_rows;
 use sha2::Sha256;
 
-/// Writes into `out[i]` the digest of message `i`. The messages lie one after another, as many as
-/// `out` has places, of the same number `w` of bytes each, which may be 0.
+/// Writes into `out[i]` the digest of message `i`. The messages lie one after another, as many as `out` has places. All
+/// have the same number of bytes, which may be 0.
 pub fn hash_rows(messages: &[u8], out: &mut [[u8; 32]])
     requires { (w : ℕ) × (length messages.now ≡ w * length out.old) }
     ensures { (w : ℕ) → length messages.now ≡ w * length out.old →
@@ -35,8 +34,8 @@ fn tell_digests<const N: usize, const D: usize>(groups: &[[[u8; D]; N]])
     }
 }
 
-/// Writes into `out[i]` the digest of the `N` digests of `groups[i]`, of `D` bytes each, one after
-/// another. There is a place for each group.
+/// Writes into `out[i]` the digest of the `N` digests of `groups[i]`, of `D` bytes each, one after another. `out` must
+/// be as long as `groups`.
 pub fn hash_groups<const N: usize, const D: usize>(groups: &[[[u8; D]; N]], out: &mut [[u8; D]])
 where
     Sha256: DigestSize<D>,

@@ -116,8 +116,7 @@ pub trait Matrix<T> {
         length (row_of m r) ≡ width_of m };
 }
 
-// A reference to a matrix is one too: what reads a slice of matrices also reads some of them that
-// were picked out.
+// A reference to a matrix is a matrix, too: a call that reads a slice of matrices also reads references to some.
 impl<T, M: Matrix<T>> Matrix<T> for &M {
     ghost height_of = { λ m. M.height_of m.now };
 
@@ -235,7 +234,7 @@ fn packed_column<T, P: PackedValue<Value = T>, M: Matrix<T>>(
     ensures { P.lanes result
         ≡ column_of_rows (M.row_of matrix.now) P.default_value row P.WIDTH column }
 {
-    // A height is a usize, so that the rows' indices are.
+    // The height is a usize, and so is the index of each row.
     let _height = matrix.height();
     P::from_fn(
         |k| -> T
@@ -261,8 +260,8 @@ pub struct RowMajorMatrix<T> {
 impl<T> RowMajorMatrix<T> {
     ghost use Rattle.p3_support.specs.RowMajor.{values_of, row_width, row_count};
 
-    /// The matrix of these values, with `width` of them in a row. The width must divide the number of values. Width 0
-    /// is allowed without values alone, and makes no rows.
+    /// The matrix of these values, with `width` of them in a row. The width must divide the number of values. A width
+    /// of 0 needs an empty list of values, and the matrix then has no rows.
     pub fn new(values: Vec<T>, width: usize) -> RowMajorMatrix<T>
         requires divides { (n : ℕ) × (length values.items ≡ n * width) }
         ensures values { values_of result ≡ values.items }

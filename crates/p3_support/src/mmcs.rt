@@ -31,7 +31,7 @@ pub trait Mmcs<T, M: Matrix<T>> {
     /// Why a call refuses its input, or fails.
     type Error: Drop;
 
-    // An error that is for want of memory.
+    // An error that says that memory ran out.
     ghost is_out_of_memory: { Self.Error → Type 0 };
 
     // Two schemes are the same in all but what they draw at random: they commit to the same, and accept the same.
@@ -175,15 +175,15 @@ pub trait Mmcs<T, M: Matrix<T>> {
         ensures memory { accepts_all self.now commitment.now dimensions.now indices.now (row_sets rows.now) proof.now →
             IfErr result is_out_of_memory };
 
-    // To an index belongs the row of that number of the tallest matrix.
+    // In the tallest matrix, the row that belongs to an index has the number of the index.
     ghost row_of_tallest: { (height index : ℕ) → row_at height height index ≡ index };
 
-    // It belongs to each matrix as one of its rows.
+    // In each matrix, the row that belongs to an index is one of its rows.
     ghost row_below: { (d : Self.ProverData) → let tallest = greatest (map M.height_of (matrices_in d)) in
         All (λ m. (index : ℕ) → index < tallest → row_at tallest (M.height_of m) index < M.height_of m)
         (matrices_in d) };
 
-    // What one proof shows, and what one proof shows of several indices, each is shown.
+    // Rows that a proof shows are shown, of one index and of several.
     ghost shown_by_one: { (s : Self) (c : Self.Commitment) (ds : List Dimensions) (index : ℕ) (rows : List (List T))
         (proof : Self.Proof) →
         accepts s c ds index rows proof → is_shown s c ds index rows };
@@ -197,7 +197,7 @@ pub trait Mmcs<T, M: Matrix<T>> {
     ghost shown_fits: { (s : Self) (c : Self.Commitment) (ds : List Dimensions) (index : ℕ) (rows : List (List T)) →
         is_shown s c ds index rows → FitDimensions ds index rows };
 
-    // Schemes that agree are as good as each other.
+    // Schemes that agree have the same commitments, and accept the same proofs.
     ghost agreement: { IsEquivalence agrees };
 
     ghost agreed_commitment: { (s t : Self) (c : Self.Commitment) (d : Self.ProverData) →

@@ -9,11 +9,9 @@ ghost use Rattle.p3_support.specs.Lists.{lane_of};
 use std::cmp::Eq;
 use std::convert::AsSlice;
 
-/// `WIDTH` values that are worked on together, each in a lane. A contract sees the list of the
-/// lanes.
+/// `WIDTH` values that are worked on together, each in a lane. Contracts speak of the list of lanes.
 pub trait PackedValue: Copy {
-    /// What a lane holds. Its `==` is equality of values, and every call of its `default` gives one
-    /// value.
+    /// What a lane holds. Its `==` is equality of values, and each call of its `default` gives the same value.
     type Value: Copy + Default + Eq;
 
     /// The number of lanes.
@@ -42,8 +40,7 @@ pub trait PackedValue: Copy {
         requires { k < WIDTH }
         ensures { lanes result ≡ slice_set (lanes self) k value };
 
-    /// The packed value whose lane `k` is `f(k)`, for each `k` below `WIDTH`. `f` may be called at
-    /// each of them.
+    /// The packed value whose lane `k` is `f(k)`, for each `k` below `WIDTH`. `f` must accept each of these `k`.
     final fn from_fn<F: Fn(usize) -> Self::Value>(f: F) -> Self
     where
         Self: Sized,
@@ -99,7 +96,7 @@ impl PackedValue for u32 {
     ghost default_is_unique = { λ a h. h };
 }
 
-/// A single byte likewise.
+/// A single byte is packed alone, too.
 impl PackedValue for u8 {
     type Value = u8;
 
@@ -130,12 +127,12 @@ impl PackedValue for u8 {
     ghost default_is_unique = { λ a h. h };
 }
 
-/// A row has as many elements as its type says. It does nothing at run time.
+/// Tells the prover that a row has `D` elements. It does nothing at run time.
 pub fn tell_row<T, const D: usize>(row: &[T; D])
     ensures { length row.now ≡ D }
 {}
 
-/// Each row of a slice has as many elements as its type says. It does nothing at run time.
+/// Tells the prover that each row of a slice has `D` elements. It does nothing else.
 pub fn tell_rows<T, const D: usize>(rows: &[[T; D]])
     ensures { (k : ℕ) → k < length rows.now → length (slice_index_or rows.now k []) ≡ D }
 {
@@ -157,22 +154,21 @@ fn put_lanes<PW: PackedValue, const D: usize>(value: PW, e: usize, rows: &mut [[
     }
 }
 
-/// Takes packed values apart: `rows[k][e]` becomes lane `k` of `packed[e]`. There is a row for each
-/// lane.
+/// Takes packed values apart: `rows[k][e]` becomes lane `k` of `packed[e]`. `rows` must have `PW::WIDTH` rows.
 pub fn unpack_into<PW: PackedValue, const D: usize>(packed: &[PW; D], rows: &mut [[PW::Value; D]])
     requires { length rows.old ≡ PW.WIDTH }
     ensures { rows.new
         ≡ map (λ k. lane_of PW.lanes PW.default_value k packed.now) (range_with_len 0 PW.WIDTH) }
 {
     tell_rows(rows);
-    // The lanes are the inner loop, since their number is a constant: no lane's place is looked up.
+    // The lanes are the inner loop: their number is a constant, so no lane's place is looked up.
     for (e, value) in packed.iter().enumerate() {
         put_lanes(*value, e, rows);
     }
 }
 
-/// Takes packed values apart into the rows from `first` on, a row for each lane: `rows[first + k][e]`
-/// becomes lane `k` of `packed[e]`. `first + PW::WIDTH` is at most the number of rows.
+/// Takes packed values apart into the rows from `first` on, a row for each lane: `rows[first + k][e]` becomes lane `k`
+/// of `packed[e]`. `first + PW::WIDTH` must be at most the number of rows.
 pub fn unpack_at<PW: PackedValue, const D: usize>(
     packed: &[PW; D],
     rows: &mut [[PW::Value; D]],
@@ -202,8 +198,8 @@ fn put_lane<PW: PackedValue, const D: usize>(packed: &mut [PW; D], k: usize, col
     }
 }
 
-/// Packs columns, which are arrays or slices of `D` values: lane `k` of element `e` is `f(k)[e]`,
-/// for each `k` below `WIDTH`. `f` may be called at each of them.
+/// Packs columns, which are arrays or slices of `D` values: lane `k` of element `e` is `f(k)[e]`, for each `k` below
+/// `PW::WIDTH`. `f` must accept each of these `k`, and return `D` values.
 pub fn pack_columns_fn<
     PW: PackedValue,
     X: AsSlice<PW::Value> + Drop,
