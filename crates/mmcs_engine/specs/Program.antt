@@ -110,11 +110,11 @@ IsTold words known Write = Unit {0}
 IsTold words known (Tree e) = (e ≡ OutOfMemory) ⊎ IfSome known (λ input. IsOutcome words input (Err (Tree e)))
 IsTold words known fault = IfSome known (λ input. IsOutcome words input (Err fault))
 
--- the outcome by definition for known bytes of the input is a text, of which a fact holds
+-- a fact holds of the text that is the outcome by definition, for known bytes of the input
 abbrev pub Prints : List (List ℕ) → Option (List ℕ) → (List ℕ → Type 0) → Type 0
 Prints words known Holds = IfSome known (λ input. (text : List ℕ) × IsOutcome words input (Ok text) × Holds text)
 
--- the result is this one, unless a read failed or there was no memory
+-- the result is this one, unless a read failed or memory ran out
 abbrev pub IsUnlessFailed : Result (Unit {0}) Fault → Result (Unit {0}) Fault → Type 0
 IsUnlessFailed result due = (result ≡ due) ⊎ ((result ≡ Err Read) ⊎ (result ≡ Err (Tree OutOfMemory)))
 

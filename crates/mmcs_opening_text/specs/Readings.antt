@@ -129,8 +129,8 @@ whole_at Queries r = false
 whole_at Rows r = false
 whole_at (Digests count) r = length r.shown.digests == count
 
--- what lines show behind those that were read, of which there are n; or the first faulty line, numbered from 1: it is
--- not what may stand there, or it is missing
+-- what lines show behind the n lines that were read; or the first faulty line, numbered from 1: it is not what may
+-- stand there, or it is missing
 unfoldable pub shown_by : HashName → List Dimensions → Reading → ℕ → List (List ℕ) → Result Shown Fault
 shown_by hash dimensions r n [] =
     if whole_at r.stage r then Ok r.shown else Err (Line (n + 1) (expected_after hash dimensions r))

@@ -17,13 +17,13 @@ pub trait LineDigest: Copy {
     // The constant above.
     ghost DIGITS: { ℕ };
 
-    // The hash of which it is a digest.
+    // The hash that makes such digests.
     ghost hash: { HashName };
 
     // Its words.
     ghost words: { Self → List ℕ };
 
-    /// The digest of a line: its digits, in lower or upper case, and nothing else.
+    /// The digest of a line, if the line has its digits, in lower or upper case, and nothing else.
     fn from_line(line: &[u8]) -> Option<Self>
         ensures { option_map words result ≡ digest_of hash line.now };
 

@@ -88,7 +88,7 @@ struct Reader<W, H> {
     stage: Stage,
     /// What is whole.
     shown: Statement<W, H>,
-    /// The rows of an index that has not all of them yet.
+    /// The rows of an index whose rows are not all read yet.
     row_set: Vec<Vec<W>>,
 }
 

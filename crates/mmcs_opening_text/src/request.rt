@@ -128,7 +128,7 @@ fn dimensions_of_word(word: &[u8]) -> Option<Dimensions>
     Some(Dimensions { width, height })
 }
 
-/// The dimensions of words, each of which is that of a matrix.
+/// The dimensions that words name. Each word must name the dimensions of a matrix.
 ///
 /// # Errors
 ///

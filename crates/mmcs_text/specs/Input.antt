@@ -9,7 +9,7 @@ use Rattle.mmcs_text.specs.declared.fault.Fault.{Fault}
 use Rattle.mmcs_text.specs.declared.fault.Fault.TheVariants.{Number, Count}
 use Rattle.mmcs_text.specs.Numbers.{IsNumberBelow}
 
--- the longest runs of elements of which none passes
+-- the longest runs of elements that do not pass
 abbrev pub runs_between : {X : Type 0} → (X → Bool) → List X → List (List X)
 runs_between p xs = filter (λ run. not (length run == 0)) (slice_split p xs)
 

@@ -6,7 +6,7 @@ use Rattle.std.specs.Prelude.{codes, decimal}
 abbrev pub hex_digit : ℕ → ℕ
 hex_digit d = if nat_lt d 10 then 48 + d else 87 + d
 
--- so many digits in lower case hexadecimal, the last of which counts ones
+-- so many digits in lower case hexadecimal; the last digit counts ones
 abbrev pub hex_word : ℕ → ℕ → List ℕ
 hex_word zero word = []
 hex_word (suc width) word = hex_word width (word / 16) ++ hex_digit (word % 16) ∷ []

@@ -103,7 +103,7 @@ fn are_numbers(words: &[String]) -> bool
         .all(|word| parse_number(word.as_bytes()).is_some())
 }
 
-/// The numbers of words, each of which is one.
+/// The numbers of words. Each word must be a number.
 ///
 /// # Errors
 ///

@@ -26,7 +26,7 @@ pub enum Fault {
         /// The greatest word of a row.
         max: usize,
     },
-    /// A line of the input, the first faulty one, has not as many numbers as the first row of its matrix.
+    /// A line of the input, the first faulty one, has another count of numbers than the first row of its matrix.
     #[error("line {line}: expected {expected} numbers, got {got}")]
     Count {
         /// Which line, counted from 1.

@@ -79,7 +79,7 @@ pub fn without_return(line: &[u8]) -> &[u8]
     line.strip_suffix(b"\r").unwrap_or(line)
 }
 
-/// The number, at most `max`, that a digit makes with those in front of it, of which `before` is the number.
+/// The number, at most `max`, that a digit makes with the digits in front of it, whose number is `before`.
 fn with_digit(before: Option<u32>, digit: u8, max: u32) -> Option<u32>
     ensures some { IfSome result
         (λ number. (digits : List ℕ) → IsRead (max + 1) digits before →

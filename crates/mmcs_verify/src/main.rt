@@ -9,7 +9,7 @@ use std::env;
 use std::io::{Error, ErrorKind};
 use std::process::ExitCode;
 
-/// Why the words cannot be had: memory, or a word that is no text and so of no command.
+/// Why the words cannot be read: memory ran out, or a word is no text, so that the words are no command.
 fn word_fault(error: Error) -> Fault {
     if error.kind() == ErrorKind::OutOfMemory {
         Fault::from(AllocError)
@@ -18,7 +18,7 @@ fn word_fault(error: Error) -> Fault {
     }
 }
 
-/// Passes the words after the program's name and the standard streams on.
+/// Passes on the words after the program's name, and the standard streams.
 ///
 /// # Errors
 ///
@@ -35,7 +35,7 @@ fn main(rt: HostRuntime) -> ExitCode {
     match answer_process(&rt) {
         Ok(()) => ExitCode::SUCCESS,
         Err(fault) => {
-            // A line that cannot be written leaves the status to tell.
+            // Where the line cannot be written, the status alone tells of the fault.
             let _ = eprintln!(rt; "{fault}");
             ExitCode::from(fault.status())
         }

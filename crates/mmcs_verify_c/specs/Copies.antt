@@ -2,15 +2,15 @@
 use Rattle.std.specs.Prelude.{◌≡◌, ◌⊎◌, ℕ, List, length, take, Result, Ok, Err}
 use Rattle.mmcs_opening_text.specs.declared.fault.Fault.{Fault}
 
--- a buffer has as much of a line in front as there is room for
+-- a buffer begins with as much of a line as fits
 abbrev pub IsCopied : List ℕ → List ℕ → List ℕ → Type 0
 IsCopied line old new = take (length line) new ≡ take (length old) line
 
--- there is no memory, and no text
+-- memory ran out, and there is no text
 abbrev pub HasNoMemory : ℕ → ℕ → Type 0
 HasNoMemory size status = (status ≡ 3) × (size ≡ 0)
 
--- what a status tells of an outcome: 0 of a text, which is copied, with its length; 1 of a fault; 3 of want of memory
+-- what a status tells of an outcome: 0 of a text, which is copied, with its length; 1 of a fault; 3 that memory ran out
 abbrev pub IsStatus : Result (List ℕ) Fault → List ℕ → List ℕ → ℕ → ℕ → Type 0
 IsStatus (Ok text) old new size status =
     ((status ≡ 0) × (size ≡ length text) × IsCopied text old new) ⊎ HasNoMemory size status

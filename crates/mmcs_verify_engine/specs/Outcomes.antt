@@ -72,7 +72,7 @@ outcome_of setting Verify dimensions input = answer_to setting dimensions (shown
 outcome_of setting Collide dimensions input =
     answer_to_pair setting dimensions (pair_in setting.hash dimensions input)
 
--- a read failed, or there was no memory
+-- a read failed, or memory ran out
 abbrev pub HasFailed : Result (Unit {0}) Fault → Type 0
 HasFailed result = (result ≡ Err Read) ⊎ (result ≡ Err (Tree OutOfMemory))
 

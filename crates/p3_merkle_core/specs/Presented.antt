@@ -42,7 +42,7 @@ presented_to_restore row_eq s t p =
     }
 
 -- what a verifier answers to an opening: the definition's refusal; Ok only where the opening is accepted, and an
--- accepted one is answered Ok unless there is no memory
+-- accepted one is answered Ok unless memory runs out
 pub record IsVerdict {T W V : Type 0} (presented : Presented T W) (result : Result V MerkleTreeError) : Type 0 where
   pub answer : AnswersUnlessMemory result presented.refusal
   pub accepted : IsOk result → presented.accepted

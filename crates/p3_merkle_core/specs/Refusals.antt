@@ -45,7 +45,7 @@ ok_unless (Some e) v = Err e
 
 -- ---- what a call returns
 
--- Ok only where nothing is refused; an error is the refusal, or tells that there is no memory
+-- Ok only where nothing is refused; an error is the refusal, or tells that memory ran out
 abbrev pub AnswersUnlessMemory : {V : Type 0} → Result V MerkleTreeError → Option MerkleTreeError → Type 0
 AnswersUnlessMemory result refusal =
     MatchResult result (λ v. refusal ≡ None) (λ e. (e ≡ OutOfMemory) ⊎ (refusal ≡ Some e))
@@ -100,7 +100,7 @@ digest_count_refusal expected got = unless (expected == got) (MalformedPrunedPro
 abbrev pub idle_refusal : ℕ → ℕ → Option MerkleTreeError
 idle_refusal queries digests = if queries == 0 then digest_count_refusal 0 digests else None
 
--- indices of which the highest is not below the tallest height m
+-- indices whose highest is not below the tallest height m
 abbrev pub queries_refusal : ℕ → List ℕ → Option MerkleTreeError
 queries_refusal m indices = unless (nat_lt (greatest indices) m) (IndexOutOfBounds m (greatest indices))
 

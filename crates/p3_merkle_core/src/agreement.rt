@@ -393,7 +393,7 @@ fn pruned_len_of_distinct(
 ///
 /// # Errors
 ///
-/// In this order: the error of [`Steps::check_heights`]; `WrongBatchSize` where there are not as many row sets as
+/// In this order: the error of [`Steps::check_heights`]; `WrongBatchSize` if the number of row sets is not that of the
 /// indices; `SiblingCountMismatch` for a digest where there is no index; `IndexOutOfBounds` for the highest index.
 fn check_queries(
     steps: &Steps<'_>,

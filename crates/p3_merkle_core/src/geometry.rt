@@ -160,8 +160,8 @@ pub(crate) fn check_heights_up_to(
 ///
 /// # Errors
 ///
-/// `WrongBatchSize` where there are not as many rows as matrices; else `WrongWidth` for the first row whose
-/// length is not its matrix's width.
+/// `WrongBatchSize` if the number of rows is not that of the matrices; else `WrongWidth` for the first row whose length
+/// is not its matrix's width.
 pub fn check_widths<T>(dimensions: &[Dimensions], rows: &[Vec<T>]) -> Result<(), MerkleTreeError>
     ensures { MatchResult result (λ ok. width_refusal dimensions.now (map (λ r. r.items) rows.now) ≡ None)
         (λ e. width_refusal dimensions.now (map (λ r. r.items) rows.now) ≡ Some e) }

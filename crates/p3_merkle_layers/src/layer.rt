@@ -174,9 +174,9 @@ impl<
         Ok(())
     }
 
-    /// Writes the nodes of the layer above a layer, each of which has `N` children, into the first `count` slots: first
-    /// the compressions of their children; then, where matrices belong to the layer, the digests of their rows, and the
-    /// compressions of both.
+    /// Writes the nodes of the layer above a layer into the first `count` slots: first the compressions of their
+    /// children; then, where matrices belong to the layer, the digests of their rows, and the compressions of both.
+    /// Each node must have `N` children.
     #[tactic(auto, using(p3_merkle_lanes::proofs::StageFacts::made_long))]
     fn write_batched_nodes(
         &self,

@@ -10,7 +10,7 @@ use Rattle.p3_merkle_core.specs.declared.error.MerkleTreeError.{MerkleTreeError}
 use Rattle.p3_merkle_core.specs.declared.error.MerkleTreeError.TheVariants.{TooLarge}
 use Rattle.p3_merkle_salts.specs.SaltedOpenings.{SaltedOpening, SaltedPruned, joined, joined_sets}
 
--- the place of the first matrix of which the width with e more columns is no usize
+-- the place of the first matrix whose width with e more columns does not fit usize
 abbrev pub first_too_wide : ℕ → List ℕ → Option ℕ
 first_too_wide e widths = position (λ w. nat_le (2 ^ 64) (w + e)) widths
 
@@ -19,7 +19,7 @@ abbrev pub widening_refusal : ℕ → List Dimensions → Option MerkleTreeError
 widening_refusal e dimensions =
     option_map (λ m. TooLarge m (slice_index (widths_of dimensions) m)) (first_too_wide e (widths_of dimensions))
 
--- rows that have not the form that the dimensions give them, else salts that are not as many as rows
+-- rows without the form that the dimensions give them, else salts that are not as many as rows
 abbrev pub salt_refusal : {T : Type 0} → List Dimensions → List (List T) → List (List T) → Option MerkleTreeError
 salt_refusal dimensions rows salts =
     option_or (width_refusal dimensions rows) (size_refusal (length rows) (length salts))
@@ -31,7 +31,7 @@ salt_sets_refusal dimensions sets salts =
     option_or (size_refusal (length sets) (length salts))
     (first_of (λ (rows, salt). salt_refusal dimensions rows salt) (zip sets salts))
 
--- why matrices are refused that are to be committed to with e salts a row: their heights, else a width
+-- why a commitment to matrices with e salts for each row is refused: their heights, else a width
 abbrev pub salted_commit_refusal : ℕ → List Dimensions → Option MerkleTreeError
 salted_commit_refusal e dimensions = option_or (gate_refusal (heights_of dimensions)) (widening_refusal e dimensions)
 

@@ -3,7 +3,7 @@ use Rattle.std.specs.Prelude.{◌≡◌, ℕ, ◌*◌, ◌<◌, List, [], length
 use Rattle.std.specs.List.{flat_map, range_with_len}
 use Rattle.p3_support.specs.Lists.{messages}
 
--- as many slots as there were, of which the first n have what they should
+-- as many slots as there were, and the first n of them have what they should
 pub record IsFilled {W : Type 0} (digest : ℕ → List W) (n len : ℕ) (slots : List (List W)) : Type 0 where
   pub long : length slots ≡ len
   pub filled : (j : ℕ) → j < n → slice_index_or slots j [] ≡ digest j
