@@ -44,7 +44,7 @@ pub fn cap_layer_in<F, X, G, M: Matrix<F>, const N: usize>(
     steps_in(tree).cap_layer(rule, cap_height)
 }
 
-/// The row of each matrix that belongs to leaf `index`, in input order. The index is below [`max_height`].
+/// The row of each matrix that belongs to leaf `index`, in input order. The index must be below [`max_height`].
 ///
 /// # Errors
 ///
@@ -87,9 +87,9 @@ pub fn matrix_refs<'a, F, X, G, M: Matrix<F>, const N: usize>(
     Ok(matrices)
 }
 
-/// The siblings on the path of leaf `index` up to a layer, by the tree's own steps: of each group on it all digests but
-/// the path's own, level by level from the leaves, ascending. The index is below [`max_height`], and the layer at most
-/// the number of levels.
+/// The siblings on the path of leaf `index` up to a layer: of each group on it all digests but the path's own, level by
+/// level from the leaves, ascending. `steps` must be those of the tree, the index below [`max_height`], and the layer
+/// at most the number of levels.
 ///
 /// # Errors
 ///

@@ -21,7 +21,7 @@ use p3_merkle_core::pruning::{climb, covered_leaves};
 use p3_support::matrix::Matrix;
 use std::alloc::Global;
 
-/// The rows of each of some leaves, in the order of the indices. Each index is below
+/// The rows of each of some leaves, in the order of the indices. Each index must be below
 /// [`max_height`](crate::opener::max_height).
 ///
 /// # Errors
@@ -45,7 +45,7 @@ pub fn rows_of_indices<F: Copy, X, G, M: Matrix<F>, const N: usize>(
 }
 
 /// The digests of the boundary of some leaves below the cap's layer, in wire order: level by level from the leaves, and
-/// ascending, those of the children of covered nodes that are not covered. Each index is below
+/// ascending, those of the children of covered nodes that are not covered. Each index must be below
 /// [`max_height`](crate::opener::max_height), and `cap_layer` at most the number of levels. It allocates and sorts a
 /// copy of the indices, and allocates the digests once, at their number. It takes one step for each index and level.
 ///

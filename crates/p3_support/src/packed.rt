@@ -127,12 +127,12 @@ impl PackedValue for u8 {
     ghost default_is_unique = { λ a h. h };
 }
 
-/// Tells the prover that a row has `D` elements. It does nothing at run time.
+/// Tells that a row has `D` elements. It does nothing at run time.
 pub fn tell_row<T, const D: usize>(row: &[T; D])
     ensures { length row.now ≡ D }
 {}
 
-/// Tells the prover that each row of a slice has `D` elements. It does nothing else.
+/// Tells that each row of a slice has `D` elements. It does nothing else.
 pub fn tell_rows<T, const D: usize>(rows: &[[T; D]])
     ensures { (k : ℕ) → k < length rows.now → length (slice_index_or rows.now k []) ≡ D }
 {
