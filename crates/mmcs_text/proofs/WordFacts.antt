@@ -137,15 +137,6 @@ module _ (word : List ℕ) where
       let end = (bytes_decides (drop (length word - 1) word) (102 ∷ [])).0 cases.0 in
       sym (take-append-drop (length word - 1) word) ∙ (λ i. sym cases.1 i ++ end i)
 
-  pub without_mark : (digits : List ℕ) → pointwise nat_eq (drop (length word - 1) word) (102 ∷ []) ≡ false → word
-      ≡ digits ++ 102 ∷ [] → ⊥
-  without_mark digits differs is =
-      let long : length word - 1 ≡ length digits + 0 = omega (arith, ap length is, length_push digits 102) in
-      let end : drop (length word - 1) word ≡ 102 ∷ [] = (λ i. drop (long i) (is i))
-      ∙ drop-append-add digits (102 ∷ []) 0 in
-      let same = (bytes_decides (drop (length word - 1) word) (102 ∷ [])).1 end in
-      absurd (false≢true (sym differs ∙ same))
-
 -- a cap of a word with the mark
 pub cap_fixed : (word digits : List ℕ) (height : ℕ) → word ≡ digits ++ 102 ∷ [] → IsNumberWord digits ×
     (height ≡ digits_value 10 digits) → IsCapWord word (record { height = height; rule = Fixed })
