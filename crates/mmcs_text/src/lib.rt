@@ -6,5 +6,6 @@ pub mod command;
 pub mod fault;
 pub mod input;
 pub mod number;
+pub mod streams;
 pub mod text;
 pub mod word;

@@ -26,6 +26,7 @@ use mmcs_opening_text::fault::Fault;
 use mmcs_opening_text::reader::{Pair, Statement, read_pair, read_statement};
 use mmcs_opening_text::request::{Request, Task};
 use mmcs_text::command::{Arity, HashName};
+use mmcs_text::streams::{read_all, write_text};
 use mmcs_text::text::push_labelled;
 use mmcs_text::word::Word;
 use p3_merkle_tree::{
@@ -36,7 +37,7 @@ use p3_support::hasher::CryptographicHasher;
 use p3_support::matrix::Dimensions;
 use p3_support::packed::PackedValue;
 use std::alloc::Global;
-use std::io::{ErrorKind, Read, Write};
+use std::io::{Read, Write};
 
 /// Answers the words after the program's name: reads the whole input, a cap and an opening as the program `mmcs` prints
 /// them with a blank line between, and writes `ok K`, where the opening is accepted and `K` digests were sent.
@@ -68,7 +69,7 @@ pub fn run<Src: Read, Dst: Write>(
         result }
 {
     let text = answer_to(alloc, words, input)?;
-    write_text(output, &text)
+    write_text(output, &text, Fault::Write)
 }
 
 /// What is written for some words and an input, once all of it was read.
@@ -90,42 +91,8 @@ fn answer_to<Src: Read>(alloc: Global, words: &[String], input: &mut Src) -> Res
         (outcome_of setting task dimensions bytes ≡ Err fault))) }
 {
     let request = Request::from_words(alloc, words)?;
-    let bytes = read_all(alloc, input)?;
+    let bytes = read_all(alloc, input, Fault::Read)?;
     reply(alloc, &request, &bytes)
-}
-
-/// All bytes of an input.
-///
-/// # Errors
-///
-/// `Read` if a read fails, but `Tree(OutOfMemory)` if it fails since memory runs out.
-fn read_all<Src: Read>(alloc: Global, input: &mut Src) -> Result<Vec<u8>, Fault>
-    ensures bytes { IfOk result (λ bytes. IfSome (Src.remaining input.old) (λ all. bytes.items ≡ all)) }
-    ensures fault { IfErr result (λ fault. (fault ≡ Fault.Read) ⊎ (fault ≡ Fault.Tree OutOfMemory)) }
-{
-    let mut bytes = Vec::new(alloc);
-    match input.read_to_end(&mut bytes) {
-        Ok(_) => Ok(bytes),
-        Err(error) if error.kind() == ErrorKind::OutOfMemory => {
-            Err(Fault::Tree(MerkleTreeError::OutOfMemory))
-        }
-        Err(_) => Err(Fault::Read),
-    }
-}
-
-/// Writes a text, and sees it through.
-///
-/// # Errors
-///
-/// `Write` if a write or the flush fails.
-fn write_text<Dst: Write>(output: &mut Dst, text: &[u8]) -> Result<(), Fault>
-    ensures text { OnOk result (Appends (Dst.contents output.old) (Dst.contents output.new) text.now) }
-    ensures fault { IfErr result (λ fault. fault ≡ Fault.Write) }
-{
-    if output.write_all(text).is_err() || output.flush().is_err() {
-        return Err(Fault::Write);
-    }
-    Ok(())
 }
 
 /// The text that is printed of an input. The library for C calls this, since it has no words and no streams.
