@@ -1,5 +1,5 @@
 -- The rows of a layer, one after another, that a query opened.
-use Rattle.std.specs.Prelude.{ℕ, List, map}
+use Rattle.std.specs.Prelude.{ℕ, List}
 use Rattle.p3_support.specs.Shown.{row_sets}
 use Rattle.p3_merkle_multiproof.specs.Inner.OpenedRows.{opened_row}
 use Rattle.p3_merkle_multiproof.specs.declared.opened_matrix.OpenedMatrix.{OpenedMatrix}

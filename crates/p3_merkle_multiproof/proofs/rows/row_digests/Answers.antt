@@ -1,6 +1,5 @@
 -- The digests of the opened rows are those of the leads.
 use Rattle.std.proofs.Common.{◌≡◌, ◌∙◌, ℕ, ap, length, map, rules}
-use Rattle.std.specs.Prelude.{slice_index_or, zip}
 use Rattle.std.specs.List.{range_with_len}
 use Rattle.std.specs.declared.vec.Vec.{Vec}
 use Rattle.std.proofs.lemmas.List.{length-map}

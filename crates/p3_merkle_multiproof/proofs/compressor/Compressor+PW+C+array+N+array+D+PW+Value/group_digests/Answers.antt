@@ -1,5 +1,5 @@
 -- Whole groups are compressed as they lie, others with default digests.
-use Rattle.std.proofs.Common.{◌≡◌, ◌∙◌, ◌/◌, ap, arith, length, map, replicate}
+use Rattle.std.proofs.Common.{◌≡◌, ◌∙◌, ◌/◌, ap, length, map, replicate}
 use Rattle.std.specs.List.{range_with_len}
 use Rattle.std.specs.declared.vec.Vec.{Vec}
 use Rattle.std.proofs.lemmas.List.FromFn.{length-map-range_with_len}

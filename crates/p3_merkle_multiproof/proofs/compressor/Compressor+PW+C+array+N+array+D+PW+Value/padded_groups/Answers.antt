@@ -1,6 +1,5 @@
 -- Each turn pads one more group.
-use Rattle.std.proofs.Common.{◌≡◌, ◌∙◌, ◌/◌, ap, arith, length, replicate}
-use Rattle.p3_merkle_core.specs.Nodes.{padded}
+use Rattle.std.proofs.Common.{◌≡◌, ◌/◌, arith, length, replicate}
 use Rattle.p3_merkle_multiproof.specs.Inner.NodeDigests.{child_group}
 use Rattle.p3_merkle_multiproof.proofs.GroupFacts.{one_more}
 use Rattle.p3_merkle_multiproof.proofs.compressor.Compressor+PW+C+array+N+array+D+PW+Value.padded_groups.Goals as goal

@@ -1,5 +1,5 @@
 -- The row set of the lead has a row in this place.
-use Rattle.std.proofs.Common.{◌≡◌, ◌<◌, [], arith, length, get_or, subst, vec_len}
+use Rattle.std.proofs.Common.{◌<◌, [], arith, length, get_or, subst, vec_len}
 use Rattle.std.specs.declared.vec.Vec.{Vec}
 use Rattle.std.proofs.lemmas.List.{length-map}
 use Rattle.p3_support.specs.Shown.{row_lists, row_sets}
