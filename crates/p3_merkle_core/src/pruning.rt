@@ -1,9 +1,11 @@
 //! Which nodes a pruned opening covers, and how many digests it sends: what needs no hash.
 
-ghost use Rattle.std.specs.Prelude.{◌≡◌, ◌*◌, ◌/◌, ◌<◌, ◌≤◌, ◌++◌, Some, None, false, All, IfOk, MatchOption};
-ghost use Rattle.std.specs.Prelude.{MatchResult};
+ghost use Rattle.std.specs.Prelude.{◌≡◌, ◌+◌, ◌-◌, ◌*◌, ◌/◌, ◌<◌, ◌≤◌, ◌++◌, Some, None, false, All, IfOk};
+ghost use Rattle.std.specs.Prelude.{MatchOption, MatchResult};
 ghost use Rattle.std.specs.Prelude.{length, map, slice_index};
+ghost use Rattle.std.specs.List.{sum_by};
 ghost use Rattle.std.specs.List.Sorted.{IsStrictlyIncreasing};
+ghost use Rattle.std.specs.Vec.{vec_capacity, vec_len};
 ghost use Rattle.p3_merkle_core.specs.Inner.Agreement.{distinct, IsAscending};
 ghost use Rattle.p3_support.specs.Batches.{heights_of, greatest};
 ghost use Rattle.p3_support.specs.Lists.{is_among};
@@ -115,13 +117,27 @@ pub fn covered_leaves(alloc: Global, indices: &[usize]) -> Result<Vec<usize>, Al
     Ok(leaves)
 }
 
+/// The parent of a node, where a parent has `step` children, at least one. A step that is a power of two is shifted by,
+/// since a division takes longer.
+pub fn parent_of(node: usize, step: usize) -> usize
+    requires { 0 < step }
+    ensures { result ≡ node / step }
+{
+    let bits = step.trailing_zeros();
+    if bits < usize::BITS && 1 << bits == step {
+        node >> bits
+    } else {
+        node / step
+    }
+}
+
 /// Turns the nodes of a layer into their parents, in place. A parent has `step` children, at least one.
 pub(crate) fn to_parents(nodes: &mut [usize], step: usize)
     requires { 0 < step }
     ensures { nodes.new ≡ map (λ j. j / step) nodes.old }
 {
     for node in nodes.iter_mut() {
-        *node /= step;
+        *node = parent_of(*node, step);
     }
 }
 
@@ -208,10 +224,10 @@ pub fn children_of<X: Copy>(
         let first = step * *parent;
         for child in first..first + step {
             if known < covered.len() && covered[known] == child {
-                children.push(digests[known])?;
+                children.push_reserved(digests[known]);
                 known += 1;
             } else {
-                children.push(sent[children.len() - known])?;
+                children.push_reserved(sent[children.len() - known]);
             }
         }
     }
@@ -219,64 +235,77 @@ pub fn children_of<X: Copy>(
 }
 
 /// How many siblings a path through these levels has at most.
-fn num_siblings<X>(levels: &[KeptLevel<X>]) -> usize {
+///
+/// # Errors
+///
+/// `AllocError` if they are 2^64 or more, which no memory holds.
+fn num_siblings<X>(levels: &[KeptLevel<X>]) -> Result<usize, AllocError>
+    ensures { IfOk result (λ count. count ≡ sum_by (λ level. level.step - 1) levels.now) }
+{
     let mut count = 0usize;
     for level in levels {
-        count = count.saturating_add(level.step - 1);
+        let Some(more) = count.checked_add(level.step - 1) else {
+            return Err(AllocError);
+        };
+        count = more;
+    }
+    Ok(count)
+}
+
+/// Adds for each of some nodes, in order, the place of its parent among those of a level, where it has them; both
+/// ascend. They are where a search begins, so that no path depends on them.
+///
+/// # Errors
+///
+/// `AllocError` if memory runs out.
+fn extend_with_places<X>(
+    places: &mut Vec<usize>,
+    nodes: &[usize],
+    level: &KeptLevel<X>,
+) -> Result<(), AllocError> {
+    places.reserve(nodes.len())?;
+    let mut place = 0;
+    for node in nodes {
+        // The end of the parent's children, since a division takes longer.
+        if place < level.parents.len()
+            && level.parents[place]
+                .wrapping_add(1)
+                .wrapping_mul(level.step)
+                <= *node
+        {
+            place += 1;
+        }
+        places.push_reserved(place);
+    }
+    Ok(())
+}
+
+/// How many places [`all_places`] has.
+fn num_places<X>(levels: &[KeptLevel<X>]) -> usize {
+    let mut count = 0usize;
+    for level in 1..levels.len() {
+        count = count.saturating_add(levels[level - 1].parents.len());
     }
     count
 }
 
-/// Of each node of the layer below a level, in order, the place of its parent among those of the level, where `nodes`
-/// has them, ascending. They are where a search begins, so that no path depends on them.
+/// For each level but the last, the places of the parents of its nodes in the level above, one level after another.
 ///
 /// # Errors
 ///
 /// `AllocError` if memory runs out.
-fn places_above<X>(
-    alloc: Global,
-    nodes: &[usize],
-    level: &KeptLevel<X>,
-) -> Result<Vec<usize>, AllocError> {
-    let mut places = Vec::with_capacity(alloc, nodes.len())?;
-    let mut place = 0;
-    for node in nodes {
-        if place < level.parents.len() && level.parents[place] < *node / level.step {
-            place += 1;
-        }
-        places.push(place)?;
+fn all_places<X>(alloc: Global, levels: &[KeptLevel<X>]) -> Result<Vec<usize>, AllocError> {
+    let mut places = Vec::with_capacity(alloc, num_places(levels))?;
+    for level in 1..levels.len() {
+        extend_with_places(&mut places, &levels[level - 1].parents, &levels[level])?;
     }
     Ok(places)
 }
 
-/// For each level but the first, [`places_above`] of the nodes that the level below it keeps.
-///
-/// # Errors
-///
-/// `AllocError` if memory runs out.
-fn all_places_above<X>(
-    alloc: Global,
-    levels: &[KeptLevel<X>],
-) -> Result<Vec<Vec<usize>>, AllocError> {
-    let mut all = Vec::with_capacity(alloc, levels.len())?;
-    for level in 1..levels.len() {
-        all.push(places_above(alloc, &levels[level - 1].parents, &levels[level])?)?;
-    }
-    Ok(all)
-}
-
-/// Where the parent of the node at `place` of a level stands in the next level, as far as `places` tells.
-fn hint_at(places: &[Vec<usize>], level: usize, place: usize) -> usize {
-    match places.get(level) {
-        Some(of_level) => of_level.get(place).copied().unwrap_or(0),
-        None => 0,
-    }
-}
-
 /// The siblings on the path of a leaf, out of the levels that a walk kept, from the leaves on: of each group on the
 /// path all values but the path's own, ascending. The path of a leaf that the walk did not cover has no siblings on the
-/// levels where no covered node is above it. `places` has those of [`all_places_above`]. It allocates `capacity`
-/// siblings at once, and grows if there are more.
+/// levels where no covered node is above it. `places` has those of [`all_places`], and `capacity` is how
+/// many siblings there are at most, for which it allocates at once.
 ///
 /// # Errors
 ///
@@ -284,10 +313,11 @@ fn hint_at(places: &[Vec<usize>], level: usize, place: usize) -> usize {
 fn path_out_of<X: Copy>(
     alloc: Global,
     levels: &[KeptLevel<X>],
-    places: &[Vec<usize>],
+    places: &[usize],
     capacity: usize,
     index: usize,
 ) -> Result<Vec<X>, AllocError>
+    requires { capacity ≡ sum_by (λ level. level.step - 1) levels.now }
     ensures { IfOk result (λ path.
         path.items ≡ path_out_of (map (λ level. (level.parents.items, level.step, level.children.items)) levels.now)
         index) }
@@ -295,10 +325,12 @@ fn path_out_of<X: Copy>(
     let mut path = Vec::with_capacity(alloc, capacity)?;
     let mut node = index;
     let mut hint = 0;
+    let mut below = 0usize;
     for level in 0..levels.len() {
-        let (parent, place) = extend_with_siblings(&mut path, &levels[level], hint, node)?;
+        let (parent, place) = extend_with_siblings(&mut path, &levels[level], hint, node);
         node = parent;
-        hint = hint_at(places, level, place);
+        hint = places.get(below.wrapping_add(place)).copied().unwrap_or(0);
+        below = below.wrapping_add(levels[level].parents.len());
     }
     Ok(path)
 }
@@ -318,8 +350,8 @@ pub fn paths_out_of<X: Copy>(
         ≡ paths_out_of (map (λ level. (level.parents.items, level.step, level.children.items)) levels.now)
         indices.now) }
 {
-    let capacity = num_siblings(levels);
-    let places = all_places_above(alloc, levels)?;
+    let capacity = num_siblings(levels)?;
+    let places = all_places(alloc, levels)?;
     let mut paths = Vec::with_capacity(alloc, indices.len())?;
     for index in indices {
         let siblings = path_out_of(alloc, levels, &places, capacity, *index)?;
@@ -353,25 +385,27 @@ fn extend_with_siblings<X: Copy>(
     level: &KeptLevel<X>,
     hint: usize,
     node: usize,
-) -> Result<(usize, usize), AllocError>
-    ensures siblings { IfOk result (λ above.
-        path.new.items
-        ≡ path.old.items ++ siblings_out_of (level.now.parents.items, level.now.step, level.now.children.items)
-        node) }
-    ensures parent { IfOk result (λ above. above.0 ≡ node / level.now.step) }
+) -> (usize, usize)
+    requires room { vec_len path.old + (level.now.step - 1) ≤ vec_capacity path.old }
+    ensures siblings { path.new.items
+        ≡ path.old.items ++ siblings_out_of (level.now.parents.items, level.now.step, level.now.children.items) node }
+    ensures parent { result.0 ≡ node / level.now.step }
+    ensures count { vec_len path.new ≤ vec_len path.old + (level.now.step - 1) }
+    ensures capacity { vec_capacity path.new ≡ vec_capacity path.old }
 {
     // The parent is divided for once: a division takes longer than the copies of a small group.
     let parent = node / level.step;
     let Some(place) = place_of(&level.parents, hint, parent) else {
-        return Ok((parent, 0));
+        return (parent, 0);
     };
     let first = level.step * place;
-    let own = first + (node - level.step * parent);
+    let own = node - level.step * parent;
+    let siblings = level.step - 1;
     // One by one: to call for a copy of so few values takes longer.
-    for child in first..first + level.step {
-        if child != own {
-            path.push(level.children[child])?;
-        }
+    for sibling in 0..siblings {
+        // Those from the node's own place on stand one further.
+        let child = if sibling < own { sibling } else { sibling + 1 };
+        path.push_reserved(level.children[first + child]);
     }
-    Ok((parent, place))
+    (parent, place)
 }

@@ -3,6 +3,7 @@
 ghost use Rattle.std.specs.Prelude.{◌≡◌, ◌/◌, ◌<◌, ◌==◌, ℕ, All, IfOk, length, map};
 ghost use Rattle.std.specs.List.{dedup};
 
+use p3_merkle_core::pruning::parent_of;
 use std::alloc::{AllocError, Global};
 
 /// The parents of some nodes, each once, and the lead of each: that of its first child. The nodes ascend, and
@@ -28,10 +29,10 @@ pub(crate) fn parents_of(
     let mut above = Vec::with_capacity(alloc, nodes.len())?;
     let mut previous = 0;
     for slot in 0..nodes.len() {
-        let parent = nodes[slot] / step;
+        let parent = parent_of(nodes[slot], step);
         if slot == 0 || previous != parent {
-            parents.push(parent)?;
-            above.push(leads[slot])?;
+            parents.push_reserved(parent);
+            above.push_reserved(leads[slot]);
         }
         previous = parent;
     }

@@ -1,19 +1,20 @@
 -- The paths that are read out of a walk's kept levels.
-use Rattle.std.proofs.Common.{◌≡◌, ℕ, zero, suc, ◌+◌, ◌-◌, ◌*◌, ◌/◌, ◌%◌, ◌<◌, ◌≤◌, true, false, eqb, nat_lt, List, []}
+use Rattle.std.proofs.Common.{◌≡◌, ℕ, zero, suc, ◌+◌, ◌*◌, ◌/◌, ◌%◌, ◌<◌, ◌≤◌, true, false, eqb, nat_lt, List, []}
 use Rattle.std.proofs.Common.{◌∷◌}
 use Rattle.std.proofs.Common.{◌++◌, map, refl, ap, sym, ◌∙◌, arith, add-one, inl, inr, length, filter, get_or, take}
-use Rattle.std.proofs.Common.{drop, remove, length-drop, eq-eqb, Ok, Err, append_assoc, append-nil, drop-cons, fold}
-use Rattle.std.specs.List.{enumerate_from, flat_map, range_with_len, take-map, drop-map}
+use Rattle.std.proofs.Common.{drop, remove, length-drop, eq-eqb, Err, append_assoc, append-nil, drop-cons, fold}
+use Rattle.std.specs.List.{enumerate_from, flat_map, range_with_len, take-map, drop-map, sum_by}
 use Rattle.std.specs.List.Sorted.{IsStrictlyIncreasing, IsBinarySearchResult}
 use Rattle.std.specs.Ordering.{nat_cmp}
 use Rattle.std.proofs.lemmas.Bool.{cases_eq, cases_lt, eqb-true, or_cases, or_left, or_right, true≢false}
 use Rattle.std.proofs.lemmas.Bool.{false_from_ne_true, lt-ltb, le-ltb}
-use Rattle.std.proofs.lemmas.List.{map-append, take-take, drop-take, drop-drop, drop_all, take-append-le, take_all}
+use Rattle.std.proofs.lemmas.List.{map-append, drop_all, take-append-le, take_all}
 use Rattle.std.proofs.lemmas.List.{take_more, get_or-map, get_or_default, length-map}
 use Rattle.std.proofs.lemmas.List.{map_more, get_or-take, get_or-drop, length-take-le}
+use Rattle.std.proofs.lemmas.List.Edits.{get_or-remove_above, get_or-remove_below, length-remove}
 use Rattle.std.proofs.lemmas.List.Folds.{Any-from_list_any}
 use Rattle.std.proofs.lemmas.List.FromFn.{length-range_with_len, map-range_with_len_more, take-map-range_with_len}
-use Rattle.std.proofs.lemmas.List.Sums.{fold-append}
+use Rattle.std.proofs.lemmas.List.Sums.{fold-append, sum_by-append}
 use Rattle.std.proofs.lemmas.Simd.{map-map}
 use Rattle.std.proofs.Math.Nat.{div-div-eq-div-mul, mul-le-mul_left, mul-suc}
 use Rattle.std.proofs.lemmas.List.Kept.{AllPairs-from_increasing}
@@ -86,66 +87,55 @@ not_missed xs x i up miss h =
 
 -- ---- one group
 
--- a list without one of its elements, with one more at its end
-removed_more : {X : Type 0} (xs : List X) (i p : ℕ) (d : X) → i < length xs → (i ≡ p → ⊥) →
-    remove (take (suc i) xs) p ≡ remove (take i xs) p ++ get_or xs i d ∷ []
-removed_more [] i p d h ne = absurd (omega arith)
-removed_more (x ∷ xs) zero zero d h ne = absurd (ne refl)
-removed_more (x ∷ xs) zero (suc zero) d h ne = refl
-removed_more (x ∷ xs) zero (suc (suc p)) d h ne = refl
-removed_more (x ∷ xs) (suc i) zero d h ne = rw add-one at (take_more xs i d (omega arith))
-removed_more (x ∷ xs) (suc i) (suc p) d h ne =
-    ap (λ ys. x ∷ ys) (removed_more xs i p d (omega arith) (λ e. ne (ap suc e)))
-
--- the one itself adds nothing
-removed_own : {X : Type 0} (xs : List X) (i : ℕ) → i < length xs →
-    remove (take (suc i) xs) i ≡ remove (take i xs) i
-removed_own [] i h = absurd (omega arith)
-removed_own (x ∷ xs) zero h = refl
-removed_own (x ∷ xs) (suc i) h = ap (λ ys. x ∷ ys) (removed_own xs i (omega arith))
-
--- the values so far are the old ones and the siblings, of place p, among the first i values of a group
-pub record HasSiblings {X : Type 0} (old values : List X) (n first p i : ℕ) (path : List X) : Type 0 where
-  pub so_far : path ≡ old ++ remove (take i (take n (drop first values))) p
+-- the values so far are the old ones and the first k siblings, of place p, of a group
+pub record HasSiblings {X : Type 0} (old values : List X) (n first p k : ℕ) (path : List X) : Type 0 where
+  pub so_far : path ≡ old ++ take k (remove (take n (drop first values)) p)
 
 none_removed : {X : Type 0} (p : ℕ) → remove {X = X} [] p ≡ []
 none_removed zero = refl
 none_removed (suc p) = refl
 
-pub siblings_start : {X : Type 0} (old values : List X) (n first p i : ℕ) → i ≡ 0 →
-    HasSiblings old values n first p i old
-siblings_start old values n first p i none = record {
-  so_far = rw none (sym (append-nil old) ∙ ap (λ ys. old ++ ys) (sym (none_removed p)));
+pub siblings_start : {X : Type 0} (old values : List X) (n first p k : ℕ) (path : List X) → k ≡ 0 → path ≡ old →
+    HasSiblings old values n first p k path
+siblings_start old values n first p k path none is = record {
+  so_far = rw (none, is) (sym (append-nil old));
 }
 
 group_len : {X : Type 0} (values : List X) (n first : ℕ) → first + n ≤ length values →
     length (take n (drop first values)) ≡ n
 group_len values n first h = length-take-le n (drop first values) (omega (arith, length-drop first values))
 
-pub sibling_more : {X : Type 0} (old values before after : List X) (n first p i next child : ℕ) (x : X) →
-    first + n ≤ length values → i < n → child ≡ first + i → next ≡ suc i → (i ≡ p → ⊥) →
-    x ≡ get_or values child x → after ≡ before ++ x ∷ [] → HasSiblings old values n first p i before →
-    HasSiblings old values n first p next after
-sibling_more old values before after n first p i next child x full inside at is_next other read pushed w =
+siblings_len : {X : Type 0} (values : List X) (n first p : ℕ) → first + n ≤ length values → p < n →
+    length (remove (take n (drop first values)) p) + 1 ≡ n
+siblings_len values n first p full inside =
     let g = take n (drop first values) in
-    let here : get_or g i x ≡ x = get_or-take n (drop first values) i x inside ∙ get_or-drop first values i x
-    ∙ ap (λ k. get_or values k x) (sym at) ∙ sym read in
-    record {
-      so_far = rw is_next (pushed ∙ ap (λ ys. ys ++ x ∷ []) w.so_far
-          ∙ append_assoc old (remove (take i g) p) (x ∷ [])
-          ∙ ap (λ y. old ++ (remove (take i g) p ++ y ∷ [])) (sym here)
-          ∙ ap (λ ys. old ++ ys)
-          (sym (removed_more g i p x (omega (arith, group_len values n first full)) other)));
-    }
+    let long = group_len values n first full in
+    length-remove g p (omega (arith, long)) ∙ long
 
-pub own_more : {X : Type 0} (old values path : List X) (n first p i next : ℕ) →
-    first + n ≤ length values → i < n → next ≡ suc i → i ≡ p → HasSiblings old values n first p i path →
-    HasSiblings old values n first p next path
-own_more old values path n first p i next full inside is_next same w =
+-- the place of sibling k in its group
+pub record IsSibling (p k i : ℕ) : Type 0 where
+  pub before : k < p → i ≡ k
+  pub after : p ≤ k → i ≡ k + 1
+
+pub sibling_more : {X : Type 0} (old values before after : List X) (n first p k next i child : ℕ) (x : X) →
+    first + n ≤ length values → p < n → k + 1 < n → IsSibling p k i → child ≡ first + i → next ≡ k + 1 →
+    x ≡ get_or values child x → after ≡ before ++ x ∷ [] → HasSiblings old values n first p k before →
+    HasSiblings old values n first p next after
+sibling_more old values before after n first p k next i child x full inside small is at is_next read pushed w =
     let g = take n (drop first values) in
+    let rest = remove g p in
+    let long = siblings_len values n first p full inside in
+    let inside_group : p < length g = omega (arith, group_len values n first full) in
+    let here = λ (j : ℕ) (h : j < n) (e : i ≡ j). get_or-take n (drop first values) j x h ∙ get_or-drop first values j x
+    ∙ ap (λ m. get_or values (first + m) x) (sym e) ∙ ap (λ m. get_or values m x) (sym at) ∙ sym read in
+    let sibling : get_or rest k x ≡ x = elim (cases_lt k p) [
+      | inl l ↦ get_or-remove_below g p x k l inside_group ∙ here k (omega arith) (is.before l)
+      | inr m ↦ get_or-remove_above g p x k m inside_group ∙ here (k + 1) (omega arith) (is.after m)
+    ] in
     record {
-      so_far = rw (is_next, same) (rw same at w.so_far
-          ∙ ap (λ ys. old ++ ys) (sym (removed_own g p (omega (arith, group_len values n first full)))));
+      so_far = rw is_next (pushed ∙ ap (λ ys. ys ++ x ∷ []) w.so_far ∙ append_assoc old (take k rest) (x ∷ [])
+          ∙ ap (λ y. old ++ (take k rest ++ y ∷ [])) (sym sibling)
+          ∙ ap (λ ys. old ++ ys) (sym (take_more rest k x (omega (arith, long)))));
     }
 
 -- what a search misses is not listed
@@ -158,16 +148,17 @@ pub group_fits : (n k count total : ℕ) → k < count → total ≡ n * count �
 group_fits n k count total h full = omega (arith, mul-le-mul_left n h, mul-suc n k)
 
 -- the siblings of a node whose parent is at a place
-pub found_siblings : {X : Type 0} (old values path : List X) (parents : List ℕ) (n k j first p i : ℕ) → 0 < n →
-    IsStrictlyIncreasing parents → k < length parents → get_or parents k 0 ≡ j / n → first ≡ n * k → p ≡ j % n →
-    first + n ≤ length values → n ≤ i → HasSiblings old values n first p i path →
+pub found_siblings : {X : Type 0} (old values path : List X) (parents : List ℕ) (n at j first p k : ℕ) → 0 < n →
+    IsStrictlyIncreasing parents → at < length parents → get_or parents at 0 ≡ j / n → first ≡ n * at → p ≡ j % n →
+    first + n ≤ length values → n ≤ k + 1 → HasSiblings old values n first p k path →
     path ≡ old ++ siblings_out_of (parents, n, values) j
-found_siblings old values path parents n k j first p i some up inside here is_first is_p full all w =
-    let there : is_among parents (j / n) ≡ true = rw here at (listed_at parents k 0 inside) in
-    let is = placed parents k (j / n) up inside here in
+found_siblings old values path parents n at j first p k some up inside here is_first is_p full all w =
+    let there : is_among parents (j / n) ≡ true = rw here at (listed_at parents at 0 inside) in
+    let is = placed parents at (j / n) up inside here in
     let g = take n (drop first values) in
-    let whole : take i g ≡ g = take_all i g (omega (arith, group_len values n first full)) in
-    rw (there, is, ← is_first, ← is_p) (w.so_far ∙ ap (λ ys. old ++ remove ys p) whole)
+    let long = siblings_len values n first p full (omega arith) in
+    let whole : take k (remove g p) ≡ remove g p = take_all k (remove g p) (omega (arith, long)) in
+    rw (there, is, ← is_first, ← is_p) (w.so_far ∙ ap (λ ys. old ++ ys) whole)
 
 -- the group of the parent at place k
 group_of : (n : ℕ) (parents : List ℕ) (k : ℕ) → k < length parents → take n (drop (n * k) (children_under n parents))
@@ -279,6 +270,16 @@ path_more view levels i k node level old new h is w more =
 pub path_end : {X : Type 0} (levels : List (List ℕ × ℕ × List X)) (i k : ℕ) (path : List X) (node : ℕ) →
     length levels ≤ k → IsOnPath levels i k path node → path ≡ path_out_of levels i
 path_end levels i k path node h w = sym (append-nil path) ∙ rw (drop_all k levels h) at w.so_far
+
+-- how many siblings the levels from level k on have at most: those of this one and those of the others
+pub siblings_left : {V : Type 0} (count : V → ℕ) (levels : List V) (k : ℕ) (level : V) → k < length levels → level
+    ≡ get_or levels k level → sum_by count (drop k levels) ≡ count level + sum_by count (drop (k + 1) levels)
+siblings_left count levels k level h is =
+    let rest = drop (suc k) levels in
+    let split : sum_by count (drop k levels) ≡ 0 + count level + sum_by count rest =
+    ap (λ vs. sum_by count vs) (drop-cons levels k level h ∙ ap (λ v. v ∷ rest) (sym is))
+    ∙ sum_by-append count (level ∷ []) rest in
+    rw add-one (omega (arith, split))
 
 -- one path more
 pub paths_more : {X : Type 0} (path : ℕ → List X) (queries : List ℕ) (k : ℕ) (old new : List (AuthPath X))

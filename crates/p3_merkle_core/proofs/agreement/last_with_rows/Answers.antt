@@ -1,7 +1,6 @@
 -- Each turn looks at one more layer.
-use Rattle.std.proofs.Common.{◌≡◌, ◌∙◌, ◌+◌, ◌<◌, ◌≤◌, ℕ, suc, false, add-one, arith, inl, inr, sym}
+use Rattle.std.proofs.Common.{◌∙◌, ◌+◌, add-one, arith, inl, inr, sym}
 use Rattle.std.proofs.lemmas.Bool.{cases_eq}
-use Rattle.p3_merkle_core.specs.Geometry.{has_rows, shape_of}
 use Rattle.p3_merkle_core.proofs.agreement.last_with_rows.Goals.{then-up, else-up}
 use Rattle.p3_merkle_core.proofs.agreement.last_with_rows.Goals as goal
 

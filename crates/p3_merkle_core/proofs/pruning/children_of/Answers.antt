@@ -1,20 +1,24 @@
 -- Each turn is one child: the next covered node, or another.
 use Rattle.std.proofs.Common.{◌≡◌, ◌+◌, ◌-◌, ◌*◌, ◌/◌, ◌%◌, ◌<◌, ◌∙◌, ap, sym, arith, get_or, length}
+use Rattle.std.specs.declared.vec.Vec.{Vec}
 use Rattle.p3_merkle_core.specs.Inner.Children.{children_under}
 use Rattle.p3_merkle_core.proofs.Covered.ChildFacts.{IsSent, walk_start, walk_end, known_more, unknown_more, sent_room}
 use Rattle.p3_merkle_core.proofs.Covered.ChildFacts.{none_next, placed_at}
 use Rattle.p3_merkle_core.proofs.pruning.children_of.Given.{Over}
 use Rattle.p3_merkle_core.proofs.pruning.children_of.Goals as goal
-use Rattle.p3_merkle_core.proofs.pruning.children_of.Goals.{then-known-covered+then-covered-known+in_ok-push}
-use Rattle.p3_merkle_core.proofs.pruning.children_of.Goals.{else-known-covered+in_ok-push-2}
+use Rattle.p3_merkle_core.proofs.pruning.children_of.Goals.{then-known-covered+then-covered-known}
+use Rattle.p3_merkle_core.proofs.pruning.children_of.Goals.{else-known-covered}
 use Rattle.p3_merkle_core.proofs.pruning.children_of.Goals.{else-known-covered-via-then-known-covered+else-covered-known}
 use Rattle.p3_merkle_core.proofs.pruning.children_of.Goals.{else-known-covered-via-else-known-covered}
 
 pub loop-parent-init : goal.loop-parent-init
 loop-parent-init g c =
     let none : c.args.step * 0 ≡ 0 = omega arith in
-    rw none (walk_start c.args.covered.now (children_under c.args.step c.args.parents.now) c.args.digests.now
-    c.args.sent.now c.in_ok-children.children.items c.in_ok-children.ensures.items)
+    record {
+      walked = rw none (walk_start c.args.covered.now (children_under c.args.step c.args.parents.now)
+          c.args.digests.now c.args.sent.now c.in_ok-children.children.items c.in_ok-children.ensures.items);
+      room = c.in_ok-children.ensures.exact;
+    }
 
 -- a digest is left for a child that is not covered
 room : (g : Over) (c : goal.After-len g) →
@@ -25,10 +29,10 @@ room g c =
     let first = n * get_or c.args.parents.now i 0 in
     let at = placed_at n i c.args.parents.now first c.loop-child.child (omega arith) (omega arith) (omega arith)
     (omega arith) in
-    let long : c.len.result ≡ n * i + (c.loop-child.child - first) = omega (arith, c.loop-child.invariant.each) in
+    let long : c.len.result ≡ n * i + (c.loop-child.child - first) = omega (arith, c.loop-child.invariant.walked.each) in
     rw long (sent_room n c.args.parents.now c.args.covered.now c.args.digests.now c.args.sent.now c.requires
     (n * i + (c.loop-child.child - first)) c.loop-child.known c.loop-child.children.items at.inside
-    c.loop-child.invariant
+    c.loop-child.invariant.walked
     (λ h e. elim c.else-known-covered.branch [
       | else-known-covered-via-then-known-covered+else-covered-known w ↦
           w.if-covered-known.false (e ∙ sym at.child_is)
@@ -54,29 +58,39 @@ loop-child-preserved g c =
     (omega arith) in
     let place = n * i + (c.loop-child.child - first) in
     let next : n * i + (c.loop-child.child + 1 - first) ≡ place + 1 = omega arith in
-    rw next (elim c.if-known-covered.branch [
-      | then-known-covered+then-covered-known+in_ok-push w ↦
-          known_more n c.args.parents.now c.args.covered.now c.args.digests.now c.args.sent.now c.requires
-          place c.loop-child.known c.loop-child.children.items at.inside c.loop-child.invariant
-          w.if-known-covered.true (w.if-covered-known.true ∙ at.child_is) w.index-digests-known.result
-          c.if-known-covered.known c.if-known-covered.children.items
-          w.index-digests-known.is w.known-is (ap (λ v. v.items) w.children-is ∙ w.in_ok-push.ensures.items)
-      | else-known-covered+in_ok-push-2 w ↦
-          let other : c.loop-child.known < length c.args.covered.now → get_or c.args.covered.now c.loop-child.known 0
-          ≡ n * get_or c.args.parents.now (place / n) 0 + place % n → ⊥ =
-          λ h e. elim w.else-known-covered.branch [
-            | else-known-covered-via-then-known-covered+else-covered-known v ↦
-                v.if-covered-known.false (e ∙ sym at.child_is)
-            | else-known-covered-via-else-known-covered v ↦ none_next c.loop-child.known (length c.args.covered.now)
-                v.if-known-covered.false h
-          ] in
-          let long : w.len.result ≡ place = omega (arith, c.loop-child.invariant.each) in
-          let read = rw long at w.index-sent-len.is in
-          unknown_more n c.args.parents.now c.args.covered.now c.args.digests.now c.args.sent.now c.requires
-          place c.loop-child.known c.loop-child.children.items at.inside c.loop-child.invariant
-          other w.index-sent-len.result c.if-known-covered.known c.if-known-covered.children.items
-          read w.known-is (ap (λ v. v.items) w.children-is ∙ w.in_ok-push-2.ensures.items)
-    ])
+    record {
+      walked = rw next (elim c.if-known-covered.branch [
+        | then-known-covered+then-covered-known w ↦
+            known_more n c.args.parents.now c.args.covered.now c.args.digests.now c.args.sent.now c.requires
+            place c.loop-child.known c.loop-child.children.items at.inside c.loop-child.invariant.walked
+            w.if-known-covered.true (w.if-covered-known.true ∙ at.child_is) w.index-digests-known.result
+            c.if-known-covered.known c.if-known-covered.children.items
+            w.index-digests-known.is w.known-is (ap (λ v. v.items) w.children-is ∙ w.push_reserved.ensures.items)
+        | else-known-covered w ↦
+            let other : c.loop-child.known < length c.args.covered.now → get_or c.args.covered.now c.loop-child.known 0
+            ≡ n * get_or c.args.parents.now (place / n) 0 + place % n → ⊥ =
+            λ h e. elim w.else-known-covered.branch [
+              | else-known-covered-via-then-known-covered+else-covered-known v ↦
+                  v.if-covered-known.false (e ∙ sym at.child_is)
+              | else-known-covered-via-else-known-covered v ↦ none_next c.loop-child.known (length c.args.covered.now)
+                  v.if-known-covered.false h
+            ] in
+            let long : w.len.result ≡ place = omega (arith, c.loop-child.invariant.walked.each) in
+            let read = rw long at w.index-sent-len.is in
+            unknown_more n c.args.parents.now c.args.covered.now c.args.digests.now c.args.sent.now c.requires
+            place c.loop-child.known c.loop-child.children.items at.inside c.loop-child.invariant.walked
+            other w.index-sent-len.result c.if-known-covered.known c.if-known-covered.children.items
+            read w.known-is (ap (λ v. v.items) w.children-is ∙ w.push_reserved-else-known-covered.ensures.items)
+      ]);
+      room = elim c.if-known-covered.branch [
+        | then-known-covered+then-covered-known w ↦
+            ap (λ (v : Vec _ _). v.cap) w.children-is ∙ w.push_reserved.ensures.capacity
+            ∙ c.loop-child.invariant.room
+        | else-known-covered w ↦
+            ap (λ (v : Vec _ _). v.cap) w.children-is ∙ w.push_reserved-else-known-covered.ensures.capacity
+            ∙ c.loop-child.invariant.room
+      ];
+    }
 
 pub returns : goal.returns
 returns g c =
@@ -85,4 +99,4 @@ returns g c =
     let whole : n * c.loop-parent.parent-index ≡ n * length c.args.parents.now = ap (λ k. n * k) all in
     walk_end n c.args.parents.now c.args.covered.now c.args.digests.now c.args.sent.now c.requires
     (n * c.loop-parent.parent-index) c.loop-parent.known c.loop-parent.children.items
-    (omega (arith, whole)) (omega (arith, whole)) c.loop-parent.invariant
+    (omega (arith, whole)) (omega (arith, whole)) c.loop-parent.invariant.walked

@@ -1,8 +1,12 @@
-use Rattle.std.proofs.Common.{◌-◌, ◌%◌}
+use Rattle.std.proofs.Common.{◌≡◌, ◌+◌, ◌%◌}
 use Rattle.p3_merkle_core.proofs.Covered.KeptFacts.{HasSiblings}
 use Rattle.p3_merkle_core.proofs.pruning.extend_with_siblings.Given as goal
 
--- the siblings so far
-abbrev pub invariant-loop-child : goal.invariant-loop-child
-invariant-loop-child g l = HasSiblings l.initial.path.items l.level.children.items l.level.step l.first
-    (l.node % l.level.step) (l.child - l.first) l.path.items
+-- the siblings so far, and the room for the others
+abbrev pub invariant-loop-sibling : goal.invariant-loop-sibling
+invariant-loop-sibling g l = record {
+  siblings : HasSiblings l.initial.path.items l.level.children.items l.level.step l.first (l.node % l.level.step)
+      l.sibling l.path.items;
+  count : l.path.len ≡ l.initial.path.len + l.sibling;
+  room : l.path.cap ≡ l.initial.path.cap;
+}
