@@ -74,11 +74,12 @@ pub struct KeptLevel<X> {
     ghost ascending: { IsStrictlyIncreasing parents.items },
 }
 
-/// Whether each index is below `max_height`, the tallest height of some matrices.
+/// Checks that each index is below `max_height`, the tallest height of some matrices.
 ///
 /// # Errors
 ///
-/// `IndexOutOfBounds` for the highest index; of no index, where `max_height` is 0, for the index 0.
+/// `IndexOutOfBounds` with the highest index, if that is not below `max_height`; with the index 0, if there are no
+/// indices and `max_height` is 0.
 pub fn check_indices(max_height: usize, indices: &[usize]) -> Result<(), MerkleTreeError>
     ensures answer { MatchResult result (λ ok. queries_refusal max_height indices.now ≡ None)
         (λ e. queries_refusal max_height indices.now ≡ Some e) }
@@ -92,7 +93,7 @@ pub fn check_indices(max_height: usize, indices: &[usize]) -> Result<(), MerkleT
     }
 }
 
-/// The highest index, and 0 of none.
+/// The highest index, or 0 if there are none.
 fn highest_of(indices: &[usize]) -> usize
     ensures { result ≡ greatest indices.now }
 {
@@ -117,12 +118,12 @@ pub fn covered_leaves(alloc: Global, indices: &[usize]) -> Result<Vec<usize>, Al
     Ok(leaves)
 }
 
-/// The parent of a node, where a parent has `step` children, at least one. A step that is a power of two is shifted by,
-/// since a division takes longer.
+/// The parent of a node. A parent has `step` children, which must be at least one.
 pub fn parent_of(node: usize, step: usize) -> usize
     requires { 0 < step }
     ensures { result ≡ node / step }
 {
+    // A shift takes less time than a division.
     let bits = step.trailing_zeros();
     if bits < usize::BITS && 1 << bits == step {
         node >> bits
@@ -131,7 +132,7 @@ pub fn parent_of(node: usize, step: usize) -> usize
     }
 }
 
-/// Turns the nodes of a layer into their parents, in place. A parent has `step` children, at least one.
+/// Turns the nodes of a layer into their parents, in place. A parent has `step` children, which must be at least one.
 pub(crate) fn to_parents(nodes: &mut [usize], step: usize)
     requires { 0 < step }
     ensures { nodes.new ≡ map (λ j. j / step) nodes.old }
@@ -141,8 +142,8 @@ pub(crate) fn to_parents(nodes: &mut [usize], step: usize)
     }
 }
 
-/// Turns the covered nodes of a layer, which ascend, into those of the layer above, in place: each node's parent once,
-/// ascending. A parent has `step` children, at least one.
+/// Turns the covered nodes of a layer into those of the layer above, in place: each node's parent once, ascending. The
+/// nodes must ascend, and a parent must have at least one child: it has `step`.
 pub fn climb(covered: &mut Vec<usize>, step: usize)
     requires { 0 < step }
     ensures { IsAscending covered.old.items → covered.new.items ≡ distinct (map (λ j. j / step) covered.old.items) }
@@ -152,8 +153,8 @@ pub fn climb(covered: &mut Vec<usize>, step: usize)
 }
 
 /// How many digests a pruned proof of some indices sends under the cap of layer `cap_layer`: on each level, the
-/// children of covered nodes that are not covered. `cap_layer` is at most the number of levels, the arity a power of
-/// two from 2 to 2^62, no height above [`MAX_HEIGHT`](crate::geometry::MAX_HEIGHT), and each index below the tallest
+/// children of covered nodes that are not covered. `cap_layer` must be at most the number of levels, the arity a power
+/// of two from 2 to 2^62, no height above [`MAX_HEIGHT`](crate::geometry::MAX_HEIGHT), and each index below the tallest
 /// height. It allocates and sorts a copy of the indices, and takes one step for each index and level.
 ///
 /// # Errors
@@ -252,8 +253,8 @@ fn num_siblings<X>(levels: &[KeptLevel<X>]) -> Result<usize, AllocError>
     Ok(count)
 }
 
-/// Adds for each of some nodes, in order, the place of its parent among those of a level, where it has them; both
-/// ascend. They are where a search begins, so that no path depends on them.
+/// Adds for each node, in order, the place of its parent in a level, if its parent is there. Nodes and parents ascend.
+/// A search only begins at these places, so no path depends on them.
 ///
 /// # Errors
 ///
@@ -304,8 +305,8 @@ fn all_places<X>(alloc: Global, levels: &[KeptLevel<X>]) -> Result<Vec<usize>, A
 
 /// The siblings on the path of a leaf, out of the levels that a walk kept, from the leaves on: of each group on the
 /// path all values but the path's own, ascending. The path of a leaf that the walk did not cover has no siblings on the
-/// levels where no covered node is above it. `places` has those of [`all_places`], and `capacity` is how
-/// many siblings there are at most, for which it allocates at once.
+/// levels where no covered node is above it. `places` has those of [`all_places`]. It allocates `capacity` siblings,
+/// the most that a path has.
 ///
 /// # Errors
 ///
@@ -363,7 +364,7 @@ pub fn paths_out_of<X: Copy>(
     Ok(paths)
 }
 
-/// The place of a node among ascending ones, and none where it is not one of them. It is looked for at `hint` first.
+/// The place of a node among ascending ones, or none if it is not among them. It is looked for at `hint` first.
 fn place_of(nodes: &[usize], hint: usize, node: usize) -> Option<usize>
     requires { IsStrictlyIncreasing nodes.now }
     ensures { MatchOption result (is_among nodes.now node ≡ false)
@@ -378,8 +379,8 @@ fn place_of(nodes: &[usize], hint: usize, node: usize) -> Option<usize>
     }
 }
 
-/// Adds the values of the siblings of a node to the end, where its parent is covered. The parent is looked for at the
-/// place `hint` first. Answers the parent, and its place where it is covered.
+/// Adds the values of the siblings of a node to the end, if its parent is covered. The parent is looked for at the
+/// place `hint` first. Returns the parent, and its place, or 0 if it is not covered.
 fn extend_with_siblings<X: Copy>(
     path: &mut Vec<X>,
     level: &KeptLevel<X>,

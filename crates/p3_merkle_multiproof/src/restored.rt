@@ -145,8 +145,8 @@ pub(crate) fn restored_layer<
     Ok((restored, levels))
 }
 
-/// The levels below the cap's layer, where they are kept, and else none, if the roots of the cap have the restored
-/// digest of each covered node in its place.
+/// Checks that the roots of the cap have the restored digest of each covered node in its place. Returns the levels
+/// below the cap's layer if they are kept, else no levels.
 ///
 /// # Errors
 ///
