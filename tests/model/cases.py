@@ -2,6 +2,7 @@
 
 import geometry
 import notation
+import sha256
 import texts
 from extraction import extract, extract_pruned, restored_checks
 from nodes import Fold
@@ -71,6 +72,18 @@ def hash_of(fields):
 
 def compress(fields):
     return str(Fold(fields.number()).compress(fields.numbers()))
+
+
+def sha256_message(fields):
+    return sha256.of_message(fields.take())
+
+
+def sha256_rows(fields):
+    return sha256.of_rows(fields.number())
+
+
+def sha256_groups(fields):
+    return sha256.of_groups(fields.number())
 
 
 def exponent(fields):
@@ -191,11 +204,14 @@ def pruned_len(fields):
     return refused or str(boundary_len(claim.shape, claim.index))
 
 
-def open_refusal(scheme, matrices, queries):
+def size_refusal(scheme, sizes, queries):
     """Why leaves are not opened: heights, or an index past the end."""
-    columns = [(1, len(rows)) for rows in matrices]
-    claim = Claim(scheme, [], columns, queries, [], [])
+    claim = Claim(scheme, [], sizes, queries, [], [])
     return scheme.height_refusal(claim.heights) or refusal([highest_index], claim)
+
+
+def open_refusal(scheme, matrices, queries):
+    return size_refusal(scheme, [(1, len(rows)) for rows in matrices], queries)
 
 
 def open_leaf(fields):
@@ -239,6 +255,21 @@ def open_salted_pruned(fields):
     split = [scheme.split(rows) for rows in sets]
     parts = [notation.print_row_sets([pair[side] for pair in split]) for side in (0, 1)]
     return " | ".join([notation.print_numbers(tree.cap()), *parts, notation.print_numbers(digests)])
+
+
+def sha256_commit(fields):
+    scheme, sizes = fields.scheme(), notation.dimensions(fields.take())
+    return scheme.height_refusal([height for _, height in sizes]) or sha256.roots(scheme, sizes)
+
+
+def sha256_open(fields):
+    scheme, sizes, index = fields.scheme(), notation.dimensions(fields.take()), fields.number()
+    return size_refusal(scheme, sizes, [index]) or sha256.siblings(scheme, sizes, index)
+
+
+def sha256_pruned(fields):
+    scheme, sizes, queries = fields.scheme(), notation.dimensions(fields.take()), fields.numbers()
+    return size_refusal(scheme, sizes, queries) or sha256.sent(scheme, sizes, queries)
 
 
 def leaves(fields):
@@ -384,21 +415,27 @@ def counted_sweep(scheme, fields):
                 collisions, nones = collisions + 2 * known, nones + 2 * (len(batch) - known)
             elif has_twins:
                 nones += len(batch)
-    return f"{lists} {digests} {collisions} {nones}"
+    return [lists, digests, collisions, nones]
 
 
 def sweep(fields):
-    return counted_sweep(fields.scheme(), fields)
+    return notation.print_numbers(counted_sweep(fields.scheme(), fields))
+
+
+def sha256_sweep(fields):
+    return notation.print_numbers(counted_sweep(fields.scheme(), fields)[:2])
 
 
 def sweep_salted(fields):
     scheme = fields.salted_scheme()
     fields.take()
-    return counted_sweep(scheme, fields)
+    return notation.print_numbers(counted_sweep(scheme, fields))
 
 
 KINDS = {
-    "hash": hash_of, "compress": compress, "exponent": exponent, "halving": halving, "padding": padding, "step": step,
+    "hash": hash_of, "compress": compress, "sha256": sha256_message, "sha256_rows": sha256_rows,
+    "sha256_groups": sha256_groups, "sha256_commit": sha256_commit, "sha256_open": sha256_open,
+    "sha256_pruned": sha256_pruned, "exponent": exponent, "halving": halving, "padding": padding, "step": step,
     "steps": steps, "positions": positions, "siblings": siblings, "widths": widths, "heights": heights,
     "layers": layers, "builders": builders, "commit": commit, "shape": shape, "schedule": schedule, "replay": replay,
     "authenticated": authenticated, "pruned_len": pruned_len, "open": open_leaf, "pruned": open_pruned,
@@ -407,7 +444,7 @@ KINDS = {
     "verify_salted_pruned": verify_salted_pruned, "restore": restore, "extract": extract_leaf,
     "extract_pruned": extract_leaves, "extract_salted": extract_salted,
     "extract_salted_pruned": extract_salted_leaves, "known": known, "sweep": sweep,
-    "sweep_salted": sweep_salted,
+    "sweep_salted": sweep_salted, "sha256_sweep": sha256_sweep,
 }
 
 

@@ -3,7 +3,6 @@
 
 mod collisions;
 mod commits;
-mod counting;
 mod fixtures;
 mod opens;
 mod random;

@@ -2,7 +2,11 @@
 #![tactic(auto)]
 
 #[cfg(test)]
+mod counting;
+#[cfg(test)]
 mod engine;
+#[cfg(test)]
+mod fixtures;
 #[cfg(test)]
 mod hiding;
 #[cfg(test)]

@@ -6,7 +6,6 @@ mod any_scheme;
 mod calls;
 mod clones;
 mod exclusive_or;
-mod fixtures;
 mod generic;
 mod noting;
 mod sha256;

@@ -3,10 +3,10 @@
 ghost use Rattle.std.specs.Prelude.{◌≤◌, IsTrue};
 ghost use Rattle.p3_merkle_core.specs.Geometry.{is_arity};
 
-use crate::fields::{Fault, Fields};
+use crate::case::Case;
+use crate::fields::Fault;
 use crate::reader::Reader;
 use crate::scheme::{FoldTree, Rows, fold_tree};
-use crate::text::Answer;
 use p3_instances::batched::Batched3;
 use p3_instances::fold::{FoldCompress, FoldHash};
 use p3_instances::lanes::U32x8;
@@ -78,17 +78,14 @@ fn check_builders<const N: usize>(
 
 /// `builders | ARITY | DIMENSIONS | LAYERS ROOT`: the number of layers and the root of the tree that is built one by
 /// one, where it has the same layers once more and by each other builder.
-pub fn builders<const N: usize>(
-    alloc: Global,
-    fields: &mut Fields<'_>,
-    answer: &mut Answer,
-) -> Result<(), Fault>
+pub fn builders<const N: usize>(case: &mut Case<'_>) -> Result<(), Fault>
     requires arity { IsTrue (is_arity N) }
     requires few { N ≤ 16 }
 {
-    let dimensions = fields.dimensions();
-    let tree = fold_tree::<_, N>(alloc, fields.reader.numbered(&dimensions))?;
-    check_builders(alloc, &mut fields.reader, &dimensions, &tree)?;
-    answer.numbers(&[tree.num_layers(), tree.root().value()[0] as usize]);
+    let dimensions = case.fields.dimensions();
+    let tree = fold_tree::<_, N>(case.alloc, case.fields.reader.numbered(&dimensions))?;
+    check_builders(case.alloc, &mut case.fields.reader, &dimensions, &tree)?;
+    case.answer
+        .numbers(&[tree.num_layers(), tree.root().value()[0] as usize]);
     Ok(())
 }

@@ -4,38 +4,31 @@ ghost use Rattle.std.specs.Prelude.{◌<◌, ◌≤◌, length, IsTrue};
 ghost use Rattle.p3_merkle_core.specs.Geometry.{is_arity};
 ghost use Rattle.p3_merkle_prover.specs.Parts.{layers_of};
 
-use crate::fields::{Fault, Fields};
-use crate::scheme::{FoldTree, Rows, committed, fold_scheme, fold_tree};
+use crate::case::Case;
+use crate::fields::Fault;
+use crate::scheme::{FoldTree, Rows, commit_to, fold_scheme, fold_tree};
 use crate::text::Answer;
 use p3_merkle_tree::MerkleTreeError;
 use std::alloc::Global;
 
 /// `commit | ARITY | CAP | MATRICES | CAP`.
-pub fn commit<const N: usize>(
-    alloc: Global,
-    fields: &mut Fields<'_>,
-    answer: &mut Answer,
-) -> Result<(), Fault>
+pub fn commit<const N: usize>(case: &mut Case<'_>) -> Result<(), Fault>
     requires arity { IsTrue (is_arity N) }
     requires few { N ≤ 16 }
 {
-    let scheme = fold_scheme::<N>(fields.cap());
-    let (cap, _) = committed(alloc, &scheme, fields.matrices())?;
-    answer.digests(cap.roots());
+    let scheme = fold_scheme::<N>(case.fields.cap());
+    let (cap, _) = commit_to(case.alloc, &scheme, case.fields.matrices())?;
+    case.answer.digests(cap.roots());
     Ok(())
 }
 
 /// `layers | ARITY | MATRICES | LAYERS`: the layers of the tree, leaves first, with `;` between them.
-pub fn layers<const N: usize>(
-    alloc: Global,
-    fields: &mut Fields<'_>,
-    answer: &mut Answer,
-) -> Result<(), Fault>
+pub fn layers<const N: usize>(case: &mut Case<'_>) -> Result<(), Fault>
     requires arity { IsTrue (is_arity N) }
     requires few { N ≤ 16 }
 {
-    let tree = fold_tree::<_, N>(alloc, fields.matrices())?;
-    write_layers(alloc, &tree, answer)?;
+    let tree = fold_tree::<_, N>(case.alloc, case.fields.matrices())?;
+    write_layers(case.alloc, &tree, &mut case.answer)?;
     Ok(())
 }
 

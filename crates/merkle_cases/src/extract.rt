@@ -3,13 +3,13 @@
 ghost use Rattle.std.specs.Prelude.{◌≤◌, IsTrue};
 ghost use Rattle.p3_merkle_core.specs.Geometry.{is_arity};
 
-use crate::fields::{Fault, Fields};
+use crate::case::Case;
+use crate::fields::Fault;
 use crate::pruned::LeavesOpening;
-use crate::scheme::{FoldCap, FoldScheme, fold_scheme};
+use crate::scheme::{FoldScheme, fold_scheme};
 use crate::text::Answer;
-use crate::verify::LeafOpening;
-use p3_merkle_tree::{BatchOpeningRef, Collision, MerkleCap, MerkleTreeError, Place};
-use p3_support::matrix::Dimensions;
+use crate::verify::{LeafOpening, Statement};
+use p3_merkle_tree::{BatchOpeningRef, Collision, MerkleTreeError, Place};
 use std::alloc::Global;
 
 /// Writes a place by its name, and the level that it is on.
@@ -55,21 +55,16 @@ fn write_collision(collision: &Collision<u32, u32, 1>, answer: &mut Answer) {
 /// `extract_pruned | ARITY | CAP | ROOTS | DIMENSIONS | INDICES | ROW SETS | DIGESTS | INDICES | ROW SETS | DIGESTS |
 /// ANSWER`: what two openings of several leaves lead to, which is `none`, or the places of two queries in their lists,
 /// and then a place with the input of the first and that of the second.
-pub fn extract_pruned<const N: usize>(
-    alloc: Global,
-    fields: &mut Fields<'_>,
-    answer: &mut Answer,
-) -> Result<(), Fault>
+pub fn extract_pruned<const N: usize>(case: &mut Case<'_>) -> Result<(), Fault>
     requires arity { IsTrue (is_arity N) }
     requires few { N ≤ 16 }
 {
-    let scheme = fold_scheme::<N>(fields.cap());
-    let cap = MerkleCap::new(fields.digests());
-    let dimensions = fields.dimensions();
-    let first = LeavesOpening::of(fields);
-    let second = LeavesOpening::of(fields);
-    let found = collision_of_leaves(alloc, &scheme, &cap, &dimensions, &first, &second)?;
-    write_found_pair(&found, answer);
+    let scheme = fold_scheme::<N>(case.fields.cap());
+    let statement = Statement::of(&mut case.fields);
+    let first = LeavesOpening::of(&mut case.fields);
+    let second = LeavesOpening::of(&mut case.fields);
+    let found = collision_of_leaves(case.alloc, &scheme, &statement, &first, &second)?;
+    write_found_pair(&found, &mut case.answer);
     Ok(())
 }
 
@@ -92,31 +87,26 @@ pub fn write_found_pair(
 pub fn collision_of_leaves<const N: usize>(
     alloc: Global,
     scheme: &FoldScheme<N>,
-    cap: &FoldCap,
-    dimensions: &[Dimensions],
+    statement: &Statement,
     first: &LeavesOpening,
     second: &LeavesOpening,
 ) -> Result<Option<(usize, usize, Collision<u32, u32, 1>)>, MerkleTreeError> {
+    let Statement { cap, dimensions } = statement;
     scheme.extract_collision_multi(alloc, cap, dimensions, first.lent(), second.lent())
 }
 
 /// `extract | ARITY | CAP | CAP | DIMENSIONS | INDEX | ROWS | SIBLINGS | INDEX | ROWS | SIBLINGS | ANSWER`: what
 /// two openings lead to, which is `none`, or a place with the input of the first and that of the second.
-pub fn extract<const N: usize>(
-    alloc: Global,
-    fields: &mut Fields<'_>,
-    answer: &mut Answer,
-) -> Result<(), Fault>
+pub fn extract<const N: usize>(case: &mut Case<'_>) -> Result<(), Fault>
     requires arity { IsTrue (is_arity N) }
     requires few { N ≤ 16 }
 {
-    let scheme = fold_scheme::<N>(fields.cap());
-    let cap = MerkleCap::new(fields.digests());
-    let dimensions = fields.dimensions();
-    let first = LeafOpening::of(fields);
-    let second = LeafOpening::of(fields);
-    let found = collision_of(alloc, &scheme, &cap, &dimensions, &first, &second)?;
-    write_found(&found, answer);
+    let scheme = fold_scheme::<N>(case.fields.cap());
+    let statement = Statement::of(&mut case.fields);
+    let first = LeafOpening::of(&mut case.fields);
+    let second = LeafOpening::of(&mut case.fields);
+    let found = collision_of(case.alloc, &scheme, &statement, &first, &second)?;
+    write_found(&found, &mut case.answer);
     Ok(())
 }
 
@@ -132,11 +122,11 @@ pub fn write_found(found: &Option<Collision<u32, u32, 1>>, answer: &mut Answer) 
 pub fn collision_of<const N: usize>(
     alloc: Global,
     scheme: &FoldScheme<N>,
-    cap: &FoldCap,
-    dimensions: &[Dimensions],
+    statement: &Statement,
     first: &LeafOpening,
     second: &LeafOpening,
 ) -> Result<Option<Collision<u32, u32, 1>>, MerkleTreeError> {
+    let Statement { cap, dimensions } = statement;
     scheme.extract_collision(
         alloc,
         cap,

@@ -4,11 +4,12 @@ ghost use Rattle.std.specs.Prelude.{◌<◌, ◌≤◌, length, IsTrue};
 ghost use Rattle.p3_merkle_core.specs.Geometry.{is_arity};
 ghost use Rattle.p3_merkle_prover.specs.Parts.{layers_of};
 
-use crate::fields::{Fault, Fields};
+use crate::case::Case;
+use crate::fields::Fault;
 use crate::reader::Reader;
 use crate::replay::write_steps;
 use crate::scheme::{
-    Column, FoldOpening, FoldTree, ROOT, Rows, committed, fold_scheme, fold_tree, tall_columns,
+    Column, FoldOpening, FoldTree, ROOT, Rows, commit_to, fold_scheme, fold_tree, tall_columns,
 };
 use crate::text::Answer;
 use p3_merkle_core::geometry::check_heights;
@@ -71,21 +72,21 @@ fn are_all(
 
 /// `heights | HEIGHTS | ERROR`: what each call that takes heights answers, where all answer alike, and else all their
 /// answers: of the test of heights, the commit, the tree, the schedule and the check of an opening.
-pub fn heights(alloc: Global, fields: &mut Fields<'_>, answer: &mut Answer) -> Result<(), Fault> {
-    let heights = fields.numbers();
-    let reader = &mut fields.reader;
+pub fn heights(case: &mut Case<'_>) -> Result<(), Fault> {
+    let heights = case.fields.numbers();
+    let reader = &mut case.fields.reader;
     let dimensions = reader.columns(&heights);
     let answers = [
         check_heights(&dimensions),
-        commit(alloc, tall_columns(reader, &heights)),
-        build(alloc, tall_columns(reader, &heights)),
-        scheduled(alloc, &dimensions),
+        commit(case.alloc, tall_columns(reader, &heights)),
+        build(case.alloc, tall_columns(reader, &heights)),
+        scheduled(case.alloc, &dimensions),
         checked(reader, &heights, &dimensions),
     ];
     if are_all(&answers, &answers[0]) {
-        answer.verdict(&answers[0]);
+        case.answer.verdict(&answers[0]);
     } else {
-        answer.verdicts(&answers);
+        case.answer.verdicts(&answers);
     }
     Ok(())
 }
@@ -136,19 +137,15 @@ fn write_lens<const N: usize>(
 
 /// `shape | ARITY | CAP | HEIGHTS | STEPS | LENGTHS`: the steps from the leaves up to the cap, and of each layer,
 /// leaves first, how many of its slots are nodes.
-pub fn shape<const N: usize>(
-    alloc: Global,
-    fields: &mut Fields<'_>,
-    answer: &mut Answer,
-) -> Result<(), Fault>
+pub fn shape<const N: usize>(case: &mut Case<'_>) -> Result<(), Fault>
     requires arity { IsTrue (is_arity N) }
     requires few { N ≤ 16 }
 {
-    let scheme = fold_scheme::<N>(fields.cap());
-    let dimensions = fields.columns();
-    let matrices = fields.reader.numbered(&dimensions);
-    write_steps(alloc, &scheme, &dimensions, answer)?;
-    let (_, tree) = committed(alloc, &scheme, matrices)?;
-    write_lens(alloc, &tree, answer)?;
+    let scheme = fold_scheme::<N>(case.fields.cap());
+    let dimensions = case.fields.columns();
+    let matrices = case.fields.reader.numbered(&dimensions);
+    write_steps(case.alloc, &scheme, &dimensions, &mut case.answer)?;
+    let (_, tree) = commit_to(case.alloc, &scheme, matrices)?;
+    write_lens(case.alloc, &tree, &mut case.answer)?;
     Ok(())
 }

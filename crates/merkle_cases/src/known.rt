@@ -2,7 +2,8 @@
 
 ghost use Rattle.std.specs.Prelude.{◌<◌};
 
-use crate::fields::{Fault, Fields};
+use crate::case::Case;
+use crate::fields::Fault;
 use crate::text::Answer;
 use p3_merkle_core::steps::steps_of;
 use std::alloc::{AllocError, Global};
@@ -76,17 +77,17 @@ fn is_root_known(
 
 /// `known | ARITY | HEIGHTS | INDICES | LAYERS | NUMBERS | ANSWERS`: whether the root is known from the leaves of some
 /// indices and from nodes of these layers and numbers, without each of the nodes in turn and then with all.
-pub fn known(alloc: Global, fields: &mut Fields<'_>, answer: &mut Answer) -> Result<(), Fault> {
-    let arity = fields.number().max(2);
-    let dimensions = fields.columns();
-    let indices = fields.numbers();
+pub fn known(case: &mut Case<'_>) -> Result<(), Fault> {
+    let arity = case.fields.number().max(2);
+    let dimensions = case.fields.columns();
+    let indices = case.fields.numbers();
     let nodes = Given {
-        layers: fields.numbers(),
-        numbers: fields.numbers(),
+        layers: case.fields.numbers(),
+        numbers: case.fields.numbers(),
     };
     let steps = steps_of(&dimensions, arity);
-    let steps = steps.schedule_below(alloc, steps.num_levels)?;
-    write_known(alloc, &steps, &indices, &nodes, answer)?;
+    let steps = steps.schedule_below(case.alloc, steps.num_levels)?;
+    write_known(case.alloc, &steps, &indices, &nodes, &mut case.answer)?;
     Ok(())
 }
 

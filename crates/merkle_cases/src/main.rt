@@ -1,9 +1,9 @@
 //! Reads cases from standard input, one a line, and says which are not answered as their line says.
 //!
 //! A line is a keyword, fields and the expected answer, with `|` between them. A blank line is no case, nor is one that
-//! begins with `#`. All trees are those of the fold functions with digests of one word. A new kind of case is an arm of
-//! [`answer`], or of [`answer_at`] where its first field is an arity, and a function that reads all its fields and then
-//! answers.
+//! begins with `#`. Trees are those of the fold functions with digests of one word, but for the kinds whose keyword
+//! begins with `sha256`. A new kind of case is an arm of [`answer`], or of [`answer_at`] where its first field is an
+//! arity, and a function that reads all its fields and then answers.
 #![tactic(auto)]
 
 ghost use Rattle.std.specs.Prelude.{◌≤◌, IsTrue};
@@ -13,6 +13,7 @@ mod agreement;
 mod authenticated;
 mod batches;
 mod builders;
+mod case;
 mod commit;
 mod extract;
 mod fields;
@@ -27,13 +28,15 @@ mod reader;
 mod replay;
 mod salted;
 mod scheme;
+mod sha256;
 mod sweep;
 mod text;
 mod twin;
 mod verify;
 mod widest;
 
-use crate::fields::{Fault, Fields};
+use crate::case::Case;
+use crate::fields::Fault;
 use crate::text::Answer;
 use p3_merkle_tree::CapRule;
 use std::alloc::Global;
@@ -41,158 +44,144 @@ use std::io;
 use std::process::ExitCode;
 
 /// Writes what the calls of a kind of case answer at an arity.
-fn answer_at<const N: usize>(
-    alloc: Global,
-    keyword: &str,
-    fields: &mut Fields<'_>,
-    answer: &mut Answer,
-) -> Result<(), Fault>
+fn answer_at<const N: usize>(case: &mut Case<'_>, keyword: &str) -> Result<(), Fault>
     requires arity { IsTrue (is_arity N) }
     requires several { 2 ≤ N }
     requires few { N ≤ 16 }
 {
     match keyword {
-        "compress" => hash::compress::<N>(fields, answer),
-        "padding" => geometry::padding::<N>(fields, answer),
-        "siblings" => geometry::siblings::<N>(fields, answer),
-        "authenticated" => authenticated::authenticated::<N>(fields, answer),
-        "schedule" => replay::schedule::<N>(alloc, fields, answer),
-        "replay" => replay::replay::<N>(alloc, fields, answer),
-        _ => answer_of_tree::<N>(alloc, keyword, fields, answer),
+        "compress" => hash::compress::<N>(case),
+        "sha256_groups" => sha256::groups::<N>(case),
+        "sha256_commit" => sha256::commit::<N>(case),
+        "sha256_open" => sha256::open::<N>(case),
+        "sha256_pruned" => sha256::pruned::<N>(case),
+        "sha256_sweep" => sha256::sweep::<N>(case),
+        "padding" => geometry::padding::<N>(case),
+        "siblings" => geometry::siblings::<N>(case),
+        "authenticated" => authenticated::authenticated::<N>(case),
+        "schedule" => replay::schedule::<N>(case),
+        "replay" => replay::replay::<N>(case),
+        _ => answer_of_tree::<N>(case, keyword),
     }
 }
 
 /// The same of the kinds that build a tree.
-fn answer_of_tree<const N: usize>(
-    alloc: Global,
-    keyword: &str,
-    fields: &mut Fields<'_>,
-    answer: &mut Answer,
-) -> Result<(), Fault>
+fn answer_of_tree<const N: usize>(case: &mut Case<'_>, keyword: &str) -> Result<(), Fault>
     requires arity { IsTrue (is_arity N) }
     requires few { N ≤ 16 }
 {
     match keyword {
-        "shape" => heights::shape::<N>(alloc, fields, answer),
-        "commit" => commit::commit::<N>(alloc, fields, answer),
-        "layers" => commit::layers::<N>(alloc, fields, answer),
-        "builders" => builders::builders::<N>(alloc, fields, answer),
-        "open" => open::open::<N>(alloc, fields, answer),
-        "leaves" => open::leaves::<N>(alloc, fields, answer),
-        "kept" => open::kept::<N>(alloc, fields, answer),
-        "pruned" => pruned::pruned::<N>(alloc, fields, answer),
-        "sweep" => sweep::sweep::<N>(alloc, fields, answer),
-        _ => answer_to_opening::<N>(alloc, keyword, fields, answer),
+        "shape" => heights::shape::<N>(case),
+        "commit" => commit::commit::<N>(case),
+        "layers" => commit::layers::<N>(case),
+        "builders" => builders::builders::<N>(case),
+        "open" => open::open::<N>(case),
+        "leaves" => open::leaves::<N>(case),
+        "kept" => open::kept::<N>(case),
+        "pruned" => pruned::pruned::<N>(case),
+        "sweep" => sweep::sweep::<N>(case),
+        _ => answer_to_opening::<N>(case, keyword),
     }
 }
 
 /// The same of the kinds that check openings.
-fn answer_to_opening<const N: usize>(
-    alloc: Global,
-    keyword: &str,
-    fields: &mut Fields<'_>,
-    answer: &mut Answer,
-) -> Result<(), Fault>
+fn answer_to_opening<const N: usize>(case: &mut Case<'_>, keyword: &str) -> Result<(), Fault>
     requires arity { IsTrue (is_arity N) }
     requires few { N ≤ 16 }
 {
     match keyword {
-        "pruned_len" => pruned::pruned_len::<N>(alloc, fields, answer),
-        "verify_pruned" => pruned::verify_pruned::<N>(alloc, fields, answer),
-        "restore" => pruned::restore::<N>(alloc, fields, answer),
-        "verify" => verify::verify::<N>(alloc, fields, answer),
-        "extract" => extract::extract::<N>(alloc, fields, answer),
-        "extract_pruned" => extract::extract_pruned::<N>(alloc, fields, answer),
-        _ => salted::salted::<N>(alloc, keyword, fields, answer),
+        "pruned_len" => pruned::pruned_len::<N>(case),
+        "verify_pruned" => pruned::verify_pruned::<N>(case),
+        "restore" => pruned::restore::<N>(case),
+        "verify" => verify::verify::<N>(case),
+        "extract" => extract::extract::<N>(case),
+        "extract_pruned" => extract::extract_pruned::<N>(case),
+        _ => salted::salted::<N>(case, keyword),
     }
 }
 
 /// Writes what the calls of a kind of case answer to the fields of a line.
-fn answer(alloc: Global, fields: &mut Fields<'_>, answer: &mut Answer) -> Result<(), Fault> {
-    match fields.take() {
-        "hash" => hash::hash(fields, answer),
-        "exponent" => geometry::exponent(fields, answer),
-        "halving" => geometry::halving(fields, answer),
-        "step" => geometry::step(fields, answer),
-        "steps" => geometry::steps(alloc, fields, answer),
-        "positions" => geometry::positions(alloc, fields, answer),
-        "widths" => geometry::widths(fields, answer),
-        "heights" => heights::heights(alloc, fields, answer),
-        "known" => known::known(alloc, fields, answer),
-        keyword => answer_at_next(alloc, keyword, fields, answer),
+fn answer(case: &mut Case<'_>) -> Result<(), Fault> {
+    match case.fields.take() {
+        "hash" => hash::hash(case),
+        "sha256" => sha256::message(case),
+        "sha256_rows" => sha256::rows(case),
+        "exponent" => geometry::exponent(case),
+        "halving" => geometry::halving(case),
+        "step" => geometry::step(case),
+        "steps" => geometry::steps(case),
+        "positions" => geometry::positions(case),
+        "widths" => geometry::widths(case),
+        "heights" => heights::heights(case),
+        "known" => known::known(case),
+        keyword => answer_at_next(case, keyword),
     }
 }
 
 /// Writes what the calls of a kind of case answer at the arity that the next field is.
-fn answer_at_next(
-    alloc: Global,
-    keyword: &str,
-    fields: &mut Fields<'_>,
-    answer: &mut Answer,
-) -> Result<(), Fault> {
-    match fields.take() {
-        "2" => answer_at::<2>(alloc, keyword, fields, answer),
-        "4" => answer_at::<4>(alloc, keyword, fields, answer),
-        "8" => answer_at::<8>(alloc, keyword, fields, answer),
-        "16" => answer_at::<16>(alloc, keyword, fields, answer),
-        "4611686018427387904" => widest::widest(alloc, keyword, fields, answer),
+fn answer_at_next(case: &mut Case<'_>, keyword: &str) -> Result<(), Fault> {
+    match case.fields.take() {
+        "2" => answer_at::<2>(case, keyword),
+        "4" => answer_at::<4>(case, keyword),
+        "8" => answer_at::<8>(case, keyword),
+        "16" => answer_at::<16>(case, keyword),
+        "4611686018427387904" => widest::widest(case, keyword),
         _ => Err(Fault::Unreadable("the arity is not 2, 4, 8, 16 or 2^62")),
     }
 }
 
 /// The answer that a line expects: what is left of its fields.
-fn expected(alloc: Global, fields: &Fields<'_>) -> Answer {
-    let mut expected = Answer::new(alloc);
-    for (place, field) in fields.rest().iter().enumerate() {
+fn expected(case: &Case<'_>) -> Answer {
+    let mut expected = Answer::new(case.alloc);
+    for (place, field) in case.fields.rest().iter().enumerate() {
         expected.separate(place, " | ");
         expected.push(field.trim());
     }
     expected
 }
 
-/// What a case is answered: an answer, or the text of what is refused or wrong. Else why it can't be read.
-fn answered(alloc: Global, fields: &mut Fields<'_>) -> Result<Answer, &'static str> {
-    let mut whole = Answer::new(alloc);
-    let fault = answer(alloc, fields, &mut whole);
-    if let Some(reason) = fields.reader.fault() {
+/// Answers a case: by an answer, or by the text of what is refused or wrong. Else why it can't be read.
+fn answer_or_refuse(case: &mut Case<'_>) -> Result<(), &'static str> {
+    let fault = answer(case);
+    if let Some(reason) = case.fields.reader.fault() {
         return Err(reason);
     }
-    let mut refusal = Answer::new(alloc);
+    let Err(fault) = fault else {
+        return Ok(());
+    };
+    // What has been written before a refusal is no part of it.
+    case.answer = Answer::new(case.alloc);
     match fault {
-        Ok(()) => return Ok(whole),
-        Err(Fault::Refused(error)) => refusal.error(&error),
-        Err(Fault::Wrong(way)) => refusal.push(way),
-        Err(Fault::Unreadable(reason)) => return Err(reason),
+        Fault::Refused(error) => case.answer.error(&error),
+        Fault::Wrong(way) => case.answer.push(way),
+        Fault::Unreadable(reason) => return Err(reason),
     }
-    Ok(refusal)
+    Ok(())
 }
 
-/// Whether an answer is the one that is expected.
-fn is_expected(got: &Answer, expected: &Answer) -> Result<bool, &'static str> {
-    if got.is_cut() || expected.is_cut() {
+/// Whether a case is answered as its line says.
+fn is_as_expected(case: &mut Case<'_>) -> Result<bool, &'static str> {
+    answer_or_refuse(case)?;
+    let expected = expected(case);
+    if case.answer.is_cut() || expected.is_cut() {
         return Err("there is no memory");
     }
     if expected.as_str().is_empty() {
         return Err("the answer is missing");
     }
-    Ok(got.as_str() == expected.as_str())
+    Ok(case.answer.as_str() == expected.as_str())
 }
 
-/// What a case is answered, where that is not what its line says.
-fn wrong_text(alloc: Global, fields: &mut Fields<'_>) -> Result<Option<Answer>, &'static str> {
-    let got = answered(alloc, fields)?;
-    let is_right = is_expected(&got, &expected(alloc, fields))?;
-    Ok(if is_right { None } else { Some(got) })
-}
-
-/// The same of the pieces of a line. Where its cap names no rule, it is answered alike under each.
+/// What the case of a line is answered, where that is not what its line says. Where its cap names no rule, it has to be
+/// answered so under each.
 fn wrong_answer(alloc: Global, pieces: &[&str]) -> Result<Option<Answer>, &'static str> {
-    let mut fields = Fields::of(alloc, pieces, CapRule::Lowered);
-    let wrong = wrong_text(alloc, &mut fields)?;
-    if wrong.is_some() || !fields.is_for_any_rule() {
-        return Ok(wrong);
+    let mut case = Case::of(alloc, pieces, CapRule::Lowered);
+    let mut is_right = is_as_expected(&mut case)?;
+    if is_right && case.fields.is_for_any_rule() {
+        case = Case::of(alloc, pieces, CapRule::Fixed);
+        is_right = is_as_expected(&mut case)?;
     }
-    wrong_text(alloc, &mut Fields::of(alloc, pieces, CapRule::Fixed))
+    Ok(if is_right { None } else { Some(case.answer) })
 }
 
 /// Whether a line is a case, and no comment or blank.

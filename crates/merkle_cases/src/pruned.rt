@@ -4,49 +4,43 @@ ghost use Rattle.std.specs.Prelude.{◌≤◌, IsTrue};
 ghost use Rattle.p3_merkle_core.specs.Geometry.{is_arity};
 
 use crate::agreement::agrees;
+use crate::case::Case;
 use crate::extract::collision_of_leaves;
 use crate::fields::{Fault, Fields};
-use crate::scheme::{FoldCap, FoldScheme, FoldTree, Rows, committed, fold_scheme};
+use crate::scheme::{FoldScheme, FoldTree, Rows, commit_to, fold_scheme};
 use crate::text::Answer;
+use crate::verify::Statement;
 use p3_merkle_core::pruning::{PrunedProof, check_indices};
 use p3_merkle_tree::{
-    BatchOpeningRef, MerkleAuthPath, MerkleCap, MerkleTreeError, PrunedMerklePaths,
-    PrunedOpeningRef,
+    BatchOpeningRef, MerkleAuthPath, MerkleTreeError, PrunedMerklePaths, PrunedOpeningRef,
 };
 use p3_support::matrix::Dimensions;
 use std::alloc::Global;
 
 /// `pruned_len | ARITY | CAP | HEIGHTS | INDICES | DIGESTS`: how many digests a pruned proof of some indices has.
-pub fn pruned_len<const N: usize>(
-    alloc: Global,
-    fields: &mut Fields<'_>,
-    answer: &mut Answer,
-) -> Result<(), Fault>
+pub fn pruned_len<const N: usize>(case: &mut Case<'_>) -> Result<(), Fault>
     requires arity { IsTrue (is_arity N) }
     requires few { N ≤ 16 }
 {
-    let scheme = fold_scheme::<N>(fields.cap());
-    let dimensions = fields.columns();
-    let indices = fields.numbers();
-    answer.number(scheme.pruned_len(alloc, &dimensions, &indices)?);
+    let scheme = fold_scheme::<N>(case.fields.cap());
+    let dimensions = case.fields.columns();
+    let indices = case.fields.numbers();
+    case.answer
+        .number(scheme.pruned_len(case.alloc, &dimensions, &indices)?);
     Ok(())
 }
 
 /// `pruned | ARITY | CAP | MATRICES | INDICES | ROW SETS | DIGESTS`: the rows of each query, and the digests of the
 /// proof for all of them.
-pub fn pruned<const N: usize>(
-    alloc: Global,
-    fields: &mut Fields<'_>,
-    answer: &mut Answer,
-) -> Result<(), Fault>
+pub fn pruned<const N: usize>(case: &mut Case<'_>) -> Result<(), Fault>
     requires arity { IsTrue (is_arity N) }
     requires few { N ≤ 16 }
 {
-    let scheme = fold_scheme::<N>(fields.cap());
-    let matrices = fields.matrices();
-    let indices = fields.numbers();
-    let (_, tree) = committed(alloc, &scheme, matrices)?;
-    write_opened(alloc, &scheme, &tree, &indices, answer)?;
+    let scheme = fold_scheme::<N>(case.fields.cap());
+    let matrices = case.fields.matrices();
+    let indices = case.fields.numbers();
+    let (_, tree) = commit_to(case.alloc, &scheme, matrices)?;
+    write_opened(case.alloc, &scheme, &tree, &indices, &mut case.answer)?;
     Ok(())
 }
 
@@ -132,10 +126,10 @@ fn paths_of<const N: usize>(
 fn restored_verdict<const N: usize>(
     alloc: Global,
     scheme: &FoldScheme<N>,
-    cap: &FoldCap,
-    dimensions: &[Dimensions],
+    statement: &Statement,
     opening: &LeavesOpening,
 ) -> Result<(), MerkleTreeError> {
+    let Statement { cap, dimensions } = statement;
     let paths = paths_of(alloc, scheme, dimensions, opening)?;
     for (rows, path) in opening.rows.iter().zip(&paths) {
         let lent = BatchOpeningRef::new(rows, &path.siblings);
@@ -144,73 +138,64 @@ fn restored_verdict<const N: usize>(
     Ok(())
 }
 
-/// `verify_pruned | ARITY | CAP | ROOTS | DIMENSIONS | INDICES | ROW SETS | DIGESTS | ANSWER`: the check of a pruned
-/// opening, which answers what the checks of its queries with their restored paths do, and what the extractions do.
-pub fn verify_pruned<const N: usize>(
-    alloc: Global,
-    fields: &mut Fields<'_>,
-    answer: &mut Answer,
-) -> Result<(), Fault>
-    requires arity { IsTrue (is_arity N) }
-    requires few { N ≤ 16 }
-{
-    let scheme = fold_scheme::<N>(fields.cap());
-    let cap = MerkleCap::new(fields.digests());
-    let dimensions = fields.dimensions();
-    let opening = LeavesOpening::of(fields);
-    let verdict = scheme.verify_batch_pruned(
-        alloc,
-        &cap,
-        &dimensions,
-        &opening.indices,
-        &opening.rows,
-        &opening.proof,
-    );
-    if verdict != restored_verdict(alloc, &scheme, &cap, &dimensions, &opening) {
-        return Err(Fault::Wrong("the restored paths are answered otherwise"));
-    }
-    if !extracts_alike(alloc, &scheme, &cap, &dimensions, &opening, &verdict) {
-        return Err(Fault::Wrong("an extraction is answered otherwise"));
-    }
-    answer.verdict(&verdict);
-    Ok(())
-}
-
 /// Whether the extractions from an opening and that of no leaf, in either order, and from it and itself answer what its
 /// check does.
 fn extracts_alike<const N: usize>(
     alloc: Global,
     scheme: &FoldScheme<N>,
-    cap: &FoldCap,
-    dimensions: &[Dimensions],
+    statement: &Statement,
     opening: &LeavesOpening,
     verdict: &Result<(), MerkleTreeError>,
 ) -> bool {
     let none = LeavesOpening::none(alloc);
-    let first = collision_of_leaves(alloc, scheme, cap, dimensions, opening, &none);
-    let second = collision_of_leaves(alloc, scheme, cap, dimensions, &none, opening);
+    let first = collision_of_leaves(alloc, scheme, statement, opening, &none);
+    let second = collision_of_leaves(alloc, scheme, statement, &none, opening);
     agrees(verdict, &first)
         && agrees(verdict, &second)
         && (opening.is_long()
             || agrees(
                 verdict,
-                &collision_of_leaves(alloc, scheme, cap, dimensions, opening, opening),
+                &collision_of_leaves(alloc, scheme, statement, opening, opening),
             ))
+}
+
+/// `verify_pruned | ARITY | CAP | ROOTS | DIMENSIONS | INDICES | ROW SETS | DIGESTS | ANSWER`: the check of a pruned
+/// opening, which answers what the checks of its queries with their restored paths do, and what the extractions do.
+pub fn verify_pruned<const N: usize>(case: &mut Case<'_>) -> Result<(), Fault>
+    requires arity { IsTrue (is_arity N) }
+    requires few { N ≤ 16 }
+{
+    let scheme = fold_scheme::<N>(case.fields.cap());
+    let statement = Statement::of(&mut case.fields);
+    let opening = LeavesOpening::of(&mut case.fields);
+    let verdict = scheme.verify_batch_pruned(
+        case.alloc,
+        &statement.cap,
+        &statement.dimensions,
+        &opening.indices,
+        &opening.rows,
+        &opening.proof,
+    );
+    if verdict != restored_verdict(case.alloc, &scheme, &statement, &opening) {
+        return Err(Fault::Wrong("the restored paths are answered otherwise"));
+    }
+    if !extracts_alike(case.alloc, &scheme, &statement, &opening, &verdict) {
+        return Err(Fault::Wrong("an extraction is answered otherwise"));
+    }
+    case.answer.verdict(&verdict);
+    Ok(())
 }
 
 /// `restore | ARITY | CAP | DIMENSIONS | INDICES | ROW SETS | DIGESTS | PATHS`: the index and the siblings of each
 /// query.
-pub fn restore<const N: usize>(
-    alloc: Global,
-    fields: &mut Fields<'_>,
-    answer: &mut Answer,
-) -> Result<(), Fault>
+pub fn restore<const N: usize>(case: &mut Case<'_>) -> Result<(), Fault>
     requires arity { IsTrue (is_arity N) }
     requires few { N ≤ 16 }
 {
-    let scheme = fold_scheme::<N>(fields.cap());
-    let dimensions = fields.dimensions();
-    let opening = LeavesOpening::of(fields);
-    answer.paths(&paths_of(alloc, &scheme, &dimensions, &opening)?);
+    let scheme = fold_scheme::<N>(case.fields.cap());
+    let dimensions = case.fields.dimensions();
+    let opening = LeavesOpening::of(&mut case.fields);
+    case.answer
+        .paths(&paths_of(case.alloc, &scheme, &dimensions, &opening)?);
     Ok(())
 }

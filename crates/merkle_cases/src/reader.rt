@@ -252,6 +252,16 @@ impl Reader {
         RowMajorMatrix::new(values, width)
     }
 
+    // Not one function of any type: the search finds that the width divides the words only where their type is written.
+    /// The same of bytes.
+    pub fn matrix_of_bytes(&mut self, values: Vec<u8>, width: usize) -> RowMajorMatrix<u8> {
+        if width == 0 || values.len() % width != 0 {
+            self.fail("a matrix has no bytes");
+            return RowMajorMatrix::new(self.none(), 1);
+        }
+        RowMajorMatrix::new(values, width)
+    }
+
     /// The matrix whose rows stand in a text, with `,` between them, and are all as wide.
     fn matrix(&mut self, text: &str) -> RowMajorMatrix<u32> {
         let mut values = self.none();

@@ -3,12 +3,13 @@
 ghost use Rattle.std.specs.Prelude.{◌%◌, ◌^◌, ◌≤◌, ◌∷◌, [], refl, IsTrue};
 ghost use Rattle.p3_merkle_core.specs.Geometry.{is_arity};
 
+use crate::fields::Fault;
 use crate::reader::Reader;
 use p3_instances::fold::{FoldCompress, FoldHash};
 use p3_merkle_tree::{
-    BatchOpening, CapRule, MerkleCap, MerkleTree, MerkleTreeError, MerkleTreeMmcs,
+    BatchOpening, BatchOpeningRef, CapRule, MerkleCap, MerkleTree, MerkleTreeError, MerkleTreeMmcs,
 };
-use p3_support::matrix::{Matrix, RowMajorMatrix};
+use p3_support::matrix::{Dimensions, Matrix, RowMajorMatrix, dimensions_of};
 use std::alloc::Global;
 
 /// The scheme of the fold functions with digests of one word.
@@ -57,12 +58,71 @@ pub fn fold_scheme<const N: usize>(cap: Cap) -> FoldScheme<N>
 }
 
 /// What a scheme commits to, and its cap.
-pub fn committed<const N: usize>(
+pub fn commit_to<const N: usize>(
     alloc: Global,
     scheme: &FoldScheme<N>,
     matrices: Vec<Rows>,
 ) -> Result<(FoldCap, FoldTree<Rows, N>), MerkleTreeError> {
     scheme.commit(alloc, matrices)
+}
+
+/// What a scheme has committed to.
+#[derive(Drop)]
+pub struct Committed<const N: usize> {
+    /// The cap.
+    pub cap: FoldCap,
+    /// The tree.
+    pub tree: FoldTree<Rows, N>,
+    /// The dimensions of its matrices.
+    pub dimensions: Vec<Dimensions>,
+}
+
+/// The dimensions of the matrices that a tree shows.
+fn shown_dimensions<const N: usize>(
+    alloc: Global,
+    scheme: &FoldScheme<N>,
+    tree: &FoldTree<Rows, N>,
+) -> Result<Vec<Dimensions>, MerkleTreeError> {
+    Ok(dimensions_of(alloc, &scheme.get_matrices(alloc, tree)?)?)
+}
+
+/// What a scheme commits to, where the tree shows matrices of the same dimensions.
+pub fn commit_shown<const N: usize>(
+    alloc: Global,
+    scheme: &FoldScheme<N>,
+    matrices: Vec<Rows>,
+) -> Result<Committed<N>, Fault> {
+    let dimensions = dimensions_of(alloc, &matrices)?;
+    let (cap, tree) = commit_to(alloc, scheme, matrices)?;
+    if shown_dimensions(alloc, scheme, &tree)? != dimensions {
+        return Err(Fault::Wrong("the tree shows other matrices"));
+    }
+    Ok(Committed {
+        cap,
+        tree,
+        dimensions,
+    })
+}
+
+/// The opening of a leaf, where there is such a leaf and its opening is accepted.
+pub fn accepted<const N: usize>(
+    alloc: Global,
+    scheme: &FoldScheme<N>,
+    committed: &Committed<N>,
+    index: usize,
+) -> Result<FoldOpening, MerkleTreeError> {
+    let Committed {
+        cap,
+        tree,
+        dimensions,
+    } = committed;
+    let max_height = scheme.get_max_height(tree);
+    if index >= max_height {
+        return Err(MerkleTreeError::IndexOutOfBounds { max_height, index });
+    }
+    let opening = scheme.open_batch(alloc, index, tree)?;
+    scheme.verify_batch(cap, dimensions, index, BatchOpeningRef::from(&opening))?;
+    Ok(opening)
 }
 
 /// The tree over matrices, built without a scheme.

@@ -1,32 +1,94 @@
-//! Honest openings of many lists of queries, by one pruned proof each.
+//! Honest openings of many lists of queries, by one pruned proof each, beside their twins.
 
 ghost use Rattle.std.specs.Prelude.{◌≤◌, IsTrue};
 ghost use Rattle.p3_merkle_core.specs.Geometry.{is_arity};
 
 use crate::batches::batches_of;
+use crate::case::Case;
 use crate::fields::{Fault, Fields};
-use crate::open::accepted;
 use crate::queries::lists_of;
 use crate::reader::Reader;
-use crate::scheme::{FoldCap, FoldOpening, FoldScheme, FoldTree, Rows, committed, fold_scheme};
+use crate::scheme::{Committed, FoldOpening, FoldScheme, accepted, commit_shown, fold_scheme};
 use crate::text::Answer;
 use crate::twin::{
     collides_at, collides_first_at, has_twins, place_of, place_of_first, twin_rows, twin_sets,
 };
-use crate::verify::LeafOpening;
 use p3_merkle_core::geometry::tallest_of;
 use p3_merkle_core::pruning::check_indices;
 use p3_merkle_tree::{
-    BatchOpeningRef, MerkleAuthPath, Place, PrunedBatchOpening, PrunedOpeningRef,
+    BatchOpeningRef, Collision, MerkleAuthPath, MerkleTreeError, Place, PrunedBatchOpening,
+    PrunedOpeningRef,
 };
 use p3_support::matrix::Dimensions;
 use std::alloc::Global;
 
-/// Queries with their opening by one proof.
-#[derive(Clone, Copy)]
-struct Opened<'a> {
-    indices: &'a [usize],
-    opening: &'a PrunedBatchOpening<u32, u32, 1>,
+/// A scheme, with what a sweep asks of it.
+pub trait Swept {
+    /// What it has committed to.
+    type Committed: Drop;
+
+    /// An opening of a leaf.
+    type Leaf: Drop;
+
+    /// An opening of several leaves.
+    type Leaves: Drop;
+
+    /// The dimensions of the matrices.
+    fn dimensions<'c>(&self, committed: &'c Self::Committed) -> &'c [Dimensions];
+
+    /// The opening of a leaf, where there is such a leaf and its opening is accepted.
+    fn leaf(
+        &self,
+        alloc: Global,
+        committed: &Self::Committed,
+        index: usize,
+    ) -> Result<Self::Leaf, MerkleTreeError>;
+
+    /// The opening of several leaves, where there are such leaves and it is accepted.
+    fn leaves(
+        &self,
+        alloc: Global,
+        committed: &Self::Committed,
+        indices: &[usize],
+    ) -> Result<Self::Leaves, MerkleTreeError>;
+
+    /// The rows of an opening.
+    fn rows<'o>(&self, leaf: &'o Self::Leaf) -> &'o [Vec<u32>];
+
+    /// The row sets of an opening of several leaves.
+    fn row_sets<'o>(&self, leaves: &'o Self::Leaves) -> &'o [Vec<Vec<u32>>];
+
+    /// How many digests the proof of several leaves has.
+    fn digests(&self, leaves: &Self::Leaves) -> usize;
+
+    /// Fails where the opening of several leaves is not as it should be, though it is accepted.
+    fn check(
+        &self,
+        alloc: Global,
+        committed: &Self::Committed,
+        indices: &[usize],
+        leaves: &Self::Leaves,
+    ) -> Result<(), Fault>;
+
+    /// What the opening of a leaf and the same with other rows lead to.
+    fn collision(
+        &self,
+        alloc: Global,
+        committed: &Self::Committed,
+        index: usize,
+        leaf: &Self::Leaf,
+        rows: &[Vec<u32>],
+    ) -> Result<Option<Collision<u32, u32, 1>>, MerkleTreeError>;
+
+    /// What the opening of several leaves and the same with other rows lead to.
+    fn collision_of_leaves(
+        &self,
+        alloc: Global,
+        committed: &Self::Committed,
+        indices: &[usize],
+        leaves: &Self::Leaves,
+        rows: &[Vec<Vec<u32>>],
+    ) -> Result<Option<(usize, usize, Collision<u32, u32, 1>)>, MerkleTreeError>;
 }
 
 /// What a sweep has tried.
@@ -56,12 +118,17 @@ impl Counts {
     }
 
     /// One more opening beside its twin, which collide at this place, or nowhere.
-    pub fn add_twins(&mut self, place: &Option<Place>) {
+    fn add_twins(&mut self, place: &Option<Place>) {
         if place.is_some() {
             self.collisions = self.collisions.saturating_add(1);
         } else {
             self.nones = self.nones.saturating_add(1);
         }
+    }
+
+    /// Writes `LISTS DIGESTS`.
+    pub fn write_lists(&self, answer: &mut Answer) {
+        answer.numbers(&[self.lists, self.digests]);
     }
 
     /// Writes `LISTS DIGESTS COLLISIONS NONES`.
@@ -70,232 +137,273 @@ impl Counts {
     }
 }
 
-/// How many paths of a list of queries are compared with those that leaf by leaf are opened.
+/// Fails where a leaf whose row of a matrix has a twin collides elsewhere than where this row is hashed.
+fn check_leaf_twins<S: Swept>(
+    alloc: Global,
+    scheme: &S,
+    committed: &S::Committed,
+    steps: &[usize],
+    index: usize,
+    counts: &mut Counts,
+) -> Result<(), Fault> {
+    let leaf = scheme.leaf(alloc, committed, index)?;
+    let dimensions = scheme.dimensions(committed);
+    for (matrix, Dimensions { height, .. }) in dimensions.iter().enumerate() {
+        let place = place_of(dimensions, steps, *height);
+        let twin = twin_rows(alloc, scheme.rows(&leaf), matrix)?;
+        let found = scheme.collision(alloc, committed, index, &leaf, &twin)?;
+        if !collides_at(&found, &place) {
+            return Err(Fault::Wrong("a leaf collides elsewhere with its twin"));
+        }
+        counts.add_twins(&place);
+    }
+    Ok(())
+}
+
+/// The same of the leaves of some queries that are opened by one proof: the first of them collides, and nothing does
+/// where there is no query.
+fn check_twins<S: Swept>(
+    alloc: Global,
+    scheme: &S,
+    committed: &S::Committed,
+    steps: &[usize],
+    indices: &[usize],
+    leaves: &S::Leaves,
+    counts: &mut Counts,
+) -> Result<(), Fault> {
+    let dimensions = scheme.dimensions(committed);
+    for (matrix, Dimensions { height, .. }) in dimensions.iter().enumerate() {
+        let place = place_of_first(indices, dimensions, steps, *height);
+        let twin = twin_sets(alloc, scheme.row_sets(leaves), matrix)?;
+        let found = scheme.collision_of_leaves(alloc, committed, indices, leaves, &twin)?;
+        if !collides_first_at(&found, &place) {
+            return Err(Fault::Wrong("leaves collide elsewhere with their twins"));
+        }
+        counts.add_twins(&place);
+    }
+    Ok(())
+}
+
+/// Fails where the opening of some queries, or its twins or those of its first leaf, are not as they should be.
+fn check_list<S: Swept>(
+    alloc: Global,
+    scheme: &S,
+    committed: &S::Committed,
+    steps: &[usize],
+    indices: &[usize],
+    counts: &mut Counts,
+) -> Result<(), Fault> {
+    let leaves = scheme.leaves(alloc, committed, indices)?;
+    scheme.check(alloc, committed, indices, &leaves)?;
+    counts.add_list(scheme.digests(&leaves));
+    if !has_twins(scheme.dimensions(committed)) {
+        return Ok(());
+    }
+    check_twins(alloc, scheme, committed, steps, indices, &leaves, counts)?;
+    match indices.first() {
+        Some(index) => check_leaf_twins(alloc, scheme, committed, steps, *index, counts),
+        None => Ok(()),
+    }
+}
+
+/// What a sweep goes over.
+#[derive(Drop)]
+pub struct Plan<'a> {
+    /// The dimensions of the matrices of each batch.
+    pub batches: Vec<Vec<Dimensions>>,
+    /// Which lists of queries are opened of each.
+    queries: &'a str,
+}
+
+impl<'a> Plan<'a> {
+    /// What the next two fields name: batches and queries.
+    pub fn of(fields: &mut Fields<'a>) -> Plan<'a> {
+        let batches = fields.take();
+        let queries = fields.take();
+        Plan {
+            batches: batches_of(&mut fields.reader, batches),
+            queries,
+        }
+    }
+
+    /// The lists of queries that are opened of matrices of these dimensions.
+    pub fn lists(&self, reader: &mut Reader, dimensions: &[Dimensions]) -> Vec<Vec<usize>> {
+        lists_of(reader, self.queries, tallest_of(dimensions))
+    }
+
+    /// Opens the leaves of each list of queries, and counts. The steps lead from the leaves up to the cap.
+    pub fn count<S: Swept>(
+        &self,
+        alloc: Global,
+        reader: &mut Reader,
+        scheme: &S,
+        committed: &S::Committed,
+        steps: &[usize],
+        counts: &mut Counts,
+    ) -> Result<(), Fault> {
+        for indices in &self.lists(reader, scheme.dimensions(committed)) {
+            check_list(alloc, scheme, committed, steps, indices, counts)?;
+        }
+        Ok(())
+    }
+}
+
+/// How many paths of a list of queries are compared, each with that of its leaf opened by itself.
 const MOST_PATHS: usize = 64;
 
 /// Fails where the path of a query is not that of its leaf.
 fn check_paths<const N: usize>(
     alloc: Global,
     scheme: &FoldScheme<N>,
-    cap: &FoldCap,
-    tree: &FoldTree<Rows, N>,
-    dimensions: &[Dimensions],
+    committed: &Committed<N>,
     indices: &[usize],
     paths: &[MerkleAuthPath<u32, 1>],
 ) -> Result<(), Fault> {
-    for (index, path) in indices.iter().zip(paths).take(MOST_PATHS) {
-        let opening = accepted(alloc, scheme, cap, tree, dimensions, *index)?;
-        check_path(*index, path, &opening)?;
-    }
-    Ok(())
-}
-
-/// Fails where a path is not that of this leaf, as it is opened.
-fn check_path(
-    index: usize,
-    path: &MerkleAuthPath<u32, 1>,
-    opening: &FoldOpening,
-) -> Result<(), Fault> {
-    if path.leaf_index == index && path.siblings == opening.opening_proof {
-        Ok(())
-    } else {
-        Err(Fault::Wrong("a path is not that of its leaf"))
-    }
-}
-
-/// Fails where a leaf whose row of a matrix has a twin collides elsewhere than where this row is hashed.
-fn check_leaf_twins<const N: usize>(
-    alloc: Global,
-    scheme: &FoldScheme<N>,
-    cap: &FoldCap,
-    tree: &FoldTree<Rows, N>,
-    dimensions: &[Dimensions],
-    index: usize,
-    counts: &mut Counts,
-) -> Result<(), Fault> {
-    let opening = accepted(alloc, scheme, cap, tree, dimensions, index)?;
-    let leaf = LeafOpening { index, opening };
-    let steps = scheme.proof_arity_schedule(alloc, dimensions)?;
-    for (matrix, Dimensions { height, .. }) in dimensions.iter().enumerate() {
-        let place = place_of(dimensions, &steps, *height);
-        let twin = twin_rows(alloc, &leaf.opening.opened_values, matrix)?;
-        check_leaf_twin(alloc, scheme, cap, dimensions, &leaf, &twin, &place)?;
-        counts.add_twins(&place);
-    }
-    Ok(())
-}
-
-/// Fails where a leaf collides elsewhere than at this place with these rows, its twin.
-fn check_leaf_twin<const N: usize>(
-    alloc: Global,
-    scheme: &FoldScheme<N>,
-    cap: &FoldCap,
-    dimensions: &[Dimensions],
-    leaf: &LeafOpening,
-    twin: &[Vec<u32>],
-    place: &Option<Place>,
-) -> Result<(), Fault> {
-    let LeafOpening { index, opening } = leaf;
-    let twin = BatchOpeningRef::new(twin, &opening.opening_proof);
-    let honest = BatchOpeningRef::from(opening);
-    let found = scheme.extract_collision(alloc, cap, dimensions, *index, honest, *index, twin)?;
-    if collides_at(&found, place) {
-        Ok(())
-    } else {
-        Err(Fault::Wrong("a leaf collides elsewhere with its twin"))
-    }
-}
-
-/// The same of the leaves of some queries that are opened by one proof: the first of them collides, and nothing does
-/// where there is no query.
-fn check_twins<const N: usize>(
-    alloc: Global,
-    scheme: &FoldScheme<N>,
-    cap: &FoldCap,
-    dimensions: &[Dimensions],
-    opened: Opened<'_>,
-    counts: &mut Counts,
-) -> Result<(), Fault> {
-    let steps = scheme.proof_arity_schedule(alloc, dimensions)?;
-    for (matrix, Dimensions { height, .. }) in dimensions.iter().enumerate() {
-        let place = place_of_first(opened.indices, dimensions, &steps, *height);
-        let twin = twin_sets(alloc, &opened.opening.opened_values, matrix)?;
-        check_twin(alloc, scheme, cap, dimensions, opened, &twin, &place)?;
-        counts.add_twins(&place);
-    }
-    Ok(())
-}
-
-/// Fails where leaves collide elsewhere than at this place with these rows, their twins.
-fn check_twin<const N: usize>(
-    alloc: Global,
-    scheme: &FoldScheme<N>,
-    cap: &FoldCap,
-    dimensions: &[Dimensions],
-    opened: Opened<'_>,
-    twin: &[Vec<Vec<u32>>],
-    place: &Option<Place>,
-) -> Result<(), Fault> {
-    let Opened { indices, opening } = opened;
-    let (rows, proof) = (&opening.opened_values, &opening.pruned_proof);
-    let honest = PrunedOpeningRef::new(indices, rows, proof);
-    let forged = PrunedOpeningRef::new(indices, twin, proof);
-    let found = scheme.extract_collision_multi(alloc, cap, dimensions, honest, forged)?;
-    if collides_first_at(&found, place) {
-        Ok(())
-    } else {
-        Err(Fault::Wrong("leaves collide elsewhere with their twins"))
-    }
-}
-
-/// Fails where the twins of the leaves of some queries collide elsewhere, where all rows have twins.
-fn check_all_twins<const N: usize>(
-    alloc: Global,
-    scheme: &FoldScheme<N>,
-    cap: &FoldCap,
-    tree: &FoldTree<Rows, N>,
-    dimensions: &[Dimensions],
-    opened: Opened<'_>,
-    counts: &mut Counts,
-) -> Result<(), Fault> {
-    if !has_twins(dimensions) {
-        return Ok(());
-    }
-    check_twins(alloc, scheme, cap, dimensions, opened, counts)?;
-    match opened.indices.first() {
-        Some(index) => check_leaf_twins(alloc, scheme, cap, tree, dimensions, *index, counts),
-        None => Ok(()),
-    }
-}
-
-/// Fails where the opening of some queries is not accepted, or restores another path than one for each.
-fn check_opening<const N: usize>(
-    alloc: Global,
-    scheme: &FoldScheme<N>,
-    cap: &FoldCap,
-    tree: &FoldTree<Rows, N>,
-    dimensions: &[Dimensions],
-    opened: Opened<'_>,
-) -> Result<(), Fault> {
-    let Opened { indices, opening } = opened;
-    let (rows, proof) = (&opening.opened_values, &opening.pruned_proof);
-    scheme.verify_batch_pruned(alloc, cap, dimensions, indices, rows, proof)?;
-    let paths = scheme.restore_and_recompute_paths(alloc, dimensions, indices, rows, proof)?;
     if paths.len() != indices.len() {
         return Err(Fault::Wrong("a proof has another number of paths"));
     }
-    check_paths(alloc, scheme, cap, tree, dimensions, indices, &paths)
-}
-
-/// Fails where the opening of some queries, its twins or the number of its digests is not as it should be.
-fn check_list<const N: usize>(
-    alloc: Global,
-    scheme: &FoldScheme<N>,
-    cap: &FoldCap,
-    tree: &FoldTree<Rows, N>,
-    dimensions: &[Dimensions],
-    indices: &[usize],
-    counts: &mut Counts,
-) -> Result<(), Fault> {
-    check_indices(scheme.get_max_height(tree), indices)?;
-    let opening = scheme.open_batch_pruned(alloc, indices, tree)?;
-    let opened = Opened {
-        indices,
-        opening: &opening,
-    };
-    check_opening(alloc, scheme, cap, tree, dimensions, opened)?;
-    check_all_twins(alloc, scheme, cap, tree, dimensions, opened, counts)?;
-    let count = scheme.pruned_len(alloc, dimensions, indices)?;
-    counts.add_list(count);
-    if count == opening.pruned_proof.sibling_hashes.len() {
-        Ok(())
-    } else {
-        Err(Fault::Wrong("a proof has another number of digests"))
-    }
-}
-
-/// Opens the leaves of each of some lists of queries of a batch of these dimensions, and counts.
-fn count_for<const N: usize>(
-    alloc: Global,
-    reader: &mut Reader,
-    scheme: &FoldScheme<N>,
-    dimensions: &[Dimensions],
-    queries: &str,
-    counts: &mut Counts,
-) -> Result<(), Fault> {
-    let (cap, tree) = committed(alloc, scheme, reader.numbered(dimensions))?;
-    for indices in &lists_of(reader, queries, tallest_of(dimensions)) {
-        check_list(alloc, scheme, &cap, &tree, dimensions, indices, counts)?;
+    for (index, path) in indices.iter().zip(paths).take(MOST_PATHS) {
+        let opening = accepted(alloc, scheme, committed, *index)?;
+        if path.leaf_index != *index || path.siblings != opening.opening_proof {
+            return Err(Fault::Wrong("a path is not that of its leaf"));
+        }
     }
     Ok(())
+}
+
+/// An opening of several leaves.
+type Leaves = PrunedBatchOpening<u32, u32, 1>;
+
+impl<const N: usize> Swept for FoldScheme<N> {
+    type Committed = Committed<N>;
+
+    type Leaf = FoldOpening;
+
+    type Leaves = Leaves;
+
+    fn dimensions<'c>(&self, committed: &'c Committed<N>) -> &'c [Dimensions] {
+        &committed.dimensions
+    }
+
+    fn leaf(
+        &self,
+        alloc: Global,
+        committed: &Committed<N>,
+        index: usize,
+    ) -> Result<FoldOpening, MerkleTreeError> {
+        accepted(alloc, self, committed, index)
+    }
+
+    fn leaves(
+        &self,
+        alloc: Global,
+        committed: &Committed<N>,
+        indices: &[usize],
+    ) -> Result<Leaves, MerkleTreeError> {
+        let Committed {
+            cap,
+            tree,
+            dimensions,
+        } = committed;
+        check_indices(self.get_max_height(tree), indices)?;
+        let leaves = self.open_batch_pruned(alloc, indices, tree)?;
+        let (rows, proof) = (&leaves.opened_values, &leaves.pruned_proof);
+        self.verify_batch_pruned(alloc, cap, dimensions, indices, rows, proof)?;
+        Ok(leaves)
+    }
+
+    fn rows<'o>(&self, leaf: &'o FoldOpening) -> &'o [Vec<u32>] {
+        &leaf.opened_values
+    }
+
+    fn row_sets<'o>(&self, leaves: &'o Leaves) -> &'o [Vec<Vec<u32>>] {
+        &leaves.opened_values
+    }
+
+    fn digests(&self, leaves: &Leaves) -> usize {
+        leaves.pruned_proof.sibling_hashes.len()
+    }
+
+    fn check(
+        &self,
+        alloc: Global,
+        committed: &Committed<N>,
+        indices: &[usize],
+        leaves: &Leaves,
+    ) -> Result<(), Fault> {
+        let dimensions = &committed.dimensions;
+        let (rows, proof) = (&leaves.opened_values, &leaves.pruned_proof);
+        let paths = self.restore_and_recompute_paths(alloc, dimensions, indices, rows, proof)?;
+        check_paths(alloc, self, committed, indices, &paths)?;
+        if self.pruned_len(alloc, dimensions, indices)? == proof.sibling_hashes.len() {
+            Ok(())
+        } else {
+            Err(Fault::Wrong("a proof has another number of digests"))
+        }
+    }
+
+    fn collision(
+        &self,
+        alloc: Global,
+        committed: &Committed<N>,
+        index: usize,
+        leaf: &FoldOpening,
+        rows: &[Vec<u32>],
+    ) -> Result<Option<Collision<u32, u32, 1>>, MerkleTreeError> {
+        let Committed {
+            cap,
+            dimensions,
+            ..
+        } = committed;
+        let twin = BatchOpeningRef::new(rows, &leaf.opening_proof);
+        let honest = BatchOpeningRef::from(leaf);
+        self.extract_collision(alloc, cap, dimensions, index, honest, index, twin)
+    }
+
+    fn collision_of_leaves(
+        &self,
+        alloc: Global,
+        committed: &Committed<N>,
+        indices: &[usize],
+        leaves: &Leaves,
+        rows: &[Vec<Vec<u32>>],
+    ) -> Result<Option<(usize, usize, Collision<u32, u32, 1>)>, MerkleTreeError> {
+        let Committed {
+            cap,
+            dimensions,
+            ..
+        } = committed;
+        let (own, proof) = (&leaves.opened_values, &leaves.pruned_proof);
+        let honest = PrunedOpeningRef::new(indices, own, proof);
+        let twin = PrunedOpeningRef::new(indices, rows, proof);
+        self.extract_collision_multi(alloc, cap, dimensions, honest, twin)
+    }
 }
 
 /// `sweep | ARITY | CAP | BATCHES | QUERIES | LISTS DIGESTS COLLISIONS NONES`: of each batch of matrices, many lists of
 /// queries are opened, accepted and restored, and so is the first leaf of each. Where all rows have twins, each opening
 /// is compared with its twin, matrix by matrix. How many lists there are, how many digests their proofs have, how many
 /// openings collide with a twin, and how many do not, since the matrix is not authenticated or there is no query.
-pub fn sweep<const N: usize>(
-    alloc: Global,
-    fields: &mut Fields<'_>,
-    answer: &mut Answer,
-) -> Result<(), Fault>
+pub fn sweep<const N: usize>(case: &mut Case<'_>) -> Result<(), Fault>
     requires arity { IsTrue (is_arity N) }
     requires few { N ≤ 16 }
 {
-    let scheme = fold_scheme::<N>(fields.cap());
-    let batches = fields.take();
-    let queries = fields.take();
+    let scheme = fold_scheme::<N>(case.fields.cap());
+    let plan = Plan::of(&mut case.fields);
     let mut counts = Counts::none();
-    for dimensions in &batches_of(&mut fields.reader, batches) {
-        count_for(
-            alloc,
-            &mut fields.reader,
+    for dimensions in &plan.batches {
+        let matrices = case.fields.reader.numbered(dimensions);
+        let committed = commit_shown(case.alloc, &scheme, matrices)?;
+        let steps = scheme.proof_arity_schedule(case.alloc, dimensions)?;
+        plan.count(
+            case.alloc,
+            &mut case.fields.reader,
             &scheme,
-            dimensions,
-            queries,
+            &committed,
+            &steps,
             &mut counts,
         )?;
     }
-    counts.write(answer);
+    counts.write(&mut case.answer);
     Ok(())
 }

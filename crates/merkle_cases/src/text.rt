@@ -114,6 +114,24 @@ impl Answer {
         self.end(digests.is_empty());
     }
 
+    /// Writes bytes as two hexadecimal digits each.
+    fn bytes(&mut self, bytes: &[u8; 32]) {
+        for byte in bytes {
+            if write!(self.text, "{byte:02x}").is_err() {
+                self.is_cut = true;
+            }
+        }
+    }
+
+    /// Writes digests of bytes in hexadecimal digits with blanks between them.
+    pub fn hexadecimal(&mut self, digests: &[[u8; 32]]) {
+        for (place, digest) in digests.iter().enumerate() {
+            self.separate(place, " ");
+            self.bytes(digest);
+        }
+        self.end(digests.is_empty());
+    }
+
     /// Writes rows with `;` between them.
     pub fn rows(&mut self, rows: &[Vec<u32>]) {
         for (place, row) in rows.iter().enumerate() {

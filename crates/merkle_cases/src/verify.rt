@@ -4,12 +4,30 @@ ghost use Rattle.std.specs.Prelude.{◌≤◌, IsTrue};
 ghost use Rattle.p3_merkle_core.specs.Geometry.{is_arity};
 
 use crate::agreement::agrees;
+use crate::case::Case;
 use crate::extract::collision_of;
 use crate::fields::{Fault, Fields};
-use crate::scheme::{FoldOpening, fold_scheme};
-use crate::text::Answer;
+use crate::scheme::{FoldCap, FoldOpening, fold_scheme};
 use p3_merkle_tree::{BatchOpening, BatchOpeningRef, MerkleCap};
-use std::alloc::Global;
+use p3_support::matrix::Dimensions;
+
+/// What an opening is checked against.
+#[derive(Drop)]
+pub struct Statement {
+    /// The cap.
+    pub cap: FoldCap,
+    /// The dimensions of the matrices.
+    pub dimensions: Vec<Dimensions>,
+}
+
+impl Statement {
+    /// What the next two fields are: the roots of the cap, and dimensions.
+    pub fn of(fields: &mut Fields<'_>) -> Statement {
+        let cap = MerkleCap::new(fields.digests());
+        let dimensions = fields.dimensions();
+        Statement { cap, dimensions }
+    }
+}
 
 /// An opening of the leaf `index`.
 #[derive(Drop)]
@@ -33,23 +51,18 @@ impl LeafOpening {
 
 /// `verify | ARITY | CAP | CAP | DIMENSIONS | INDEX | ROWS | SIBLINGS | ANSWER`: the check of an opening, which the
 /// extraction from it and itself answers, too.
-pub fn verify<const N: usize>(
-    alloc: Global,
-    fields: &mut Fields<'_>,
-    answer: &mut Answer,
-) -> Result<(), Fault>
+pub fn verify<const N: usize>(case: &mut Case<'_>) -> Result<(), Fault>
     requires arity { IsTrue (is_arity N) }
     requires few { N ≤ 16 }
 {
-    let scheme = fold_scheme::<N>(fields.cap());
-    let cap = MerkleCap::new(fields.digests());
-    let dimensions = fields.dimensions();
-    let leaf = LeafOpening::of(fields);
+    let scheme = fold_scheme::<N>(case.fields.cap());
+    let statement = Statement::of(&mut case.fields);
+    let leaf = LeafOpening::of(&mut case.fields);
     let lent = BatchOpeningRef::from(&leaf.opening);
-    let verdict = scheme.verify_batch(&cap, &dimensions, leaf.index, lent);
-    let found = collision_of(alloc, &scheme, &cap, &dimensions, &leaf, &leaf);
+    let verdict = scheme.verify_batch(&statement.cap, &statement.dimensions, leaf.index, lent);
+    let found = collision_of(case.alloc, &scheme, &statement, &leaf, &leaf);
     if agrees(&verdict, &found) {
-        answer.verdict(&verdict);
+        case.answer.verdict(&verdict);
         Ok(())
     } else {
         Err(Fault::Wrong("the extraction is answered otherwise"))

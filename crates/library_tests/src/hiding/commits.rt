@@ -1,7 +1,8 @@
 //! What is committed to, and what is refused before a salt is drawn.
 
+use crate::fixtures::{columns, numbered};
 use crate::hiding::commits::Answer::{Empty, Heights, Large};
-use crate::hiding::fixtures::{columns, numbered, one_salt};
+use crate::hiding::fixtures::one_salt;
 use p3_merkle_tree::MerkleTreeError;
 use std::test::Fail;
 

@@ -1,15 +1,12 @@
-//! Schemes, matrices, rows and proofs that are tried.
+//! Schemes, rows and proofs that are tried.
 
-ghost use Rattle.std.specs.Prelude.{◌≤◌, ◌%◌, ◌^◌, replicate};
-ghost use Rattle.std.proofs.lemmas.List.{length-replicate};
-
-use crate::hiding::counting::Counting;
+use crate::counting::Counting;
 use p3_instances::fold::{FoldCompress, FoldHash};
 use p3_merkle_core::pruning::check_indices;
 use p3_merkle_hiding::MerkleTreeHidingMmcs;
 use p3_merkle_hiding::hiding_mmcs::{SaltedMultiProof, SaltedProof, SaltedTree};
 use p3_merkle_tree::{BatchOpening, MerkleCap, MerkleTreeError, PrunedMerklePaths};
-use p3_support::matrix::{Dimensions, Matrix, RowMajorMatrix};
+use p3_support::matrix::RowMajorMatrix;
 use std::alloc::{AllocError, Global};
 
 /// A salted scheme of two children over the fold functions, with salts out of a generator.
@@ -42,71 +39,6 @@ pub type MultiProof = SaltedMultiProof<u32, u32, 1>;
 /// The scheme with one salt for each row, whose salts are 10, 20, 30 and so on.
 pub fn one_salt() -> OneSalt {
     OneSalt::new(FoldHash, FoldCompress, 0, Counting(0))
-}
-
-/// A matrix whose every word is the number of its row, from 0. It takes no memory, however wide or high it is.
-#[derive(Drop)]
-pub struct Numbers {
-    pub words: usize,
-    pub rows: usize,
-}
-
-impl Matrix<u32> for Numbers {
-    ghost height_of = { λ m. m.rows };
-
-    ghost width_of = { λ m. m.words };
-
-    ghost row_of = { λ m r. replicate m.words (r % 2 ^ 32) };
-
-    fn height(&self) -> usize {
-        self.rows
-    }
-
-    fn width(&self) -> usize {
-        self.words
-    }
-
-    fn get(&self, row: usize, column: usize) -> u32 {
-        (row % 4_294_967_296) as u32
-    }
-
-    ghost length_row_of = { λ m r h. length-replicate m.words (r % 2 ^ 32) };
-}
-
-/// Matrices of these widths and heights, whose rows are their own numbers.
-pub fn numbered(alloc: Global, sizes: &[(usize, usize)]) -> Result<Vec<Numbers>, AllocError> {
-    let mut matrices = Vec::with_capacity(alloc, sizes.len())?;
-    for (words, rows) in sizes {
-        matrices.push(Numbers {
-            words: *words,
-            rows: *rows,
-        })?;
-    }
-    Ok(matrices)
-}
-
-/// The dimensions of matrices of these widths and heights.
-pub fn dimensions_with(
-    alloc: Global,
-    sizes: &[(usize, usize)],
-) -> Result<Vec<Dimensions>, AllocError> {
-    let mut dimensions = Vec::with_capacity(alloc, sizes.len())?;
-    for (width, height) in sizes {
-        dimensions.push(Dimensions {
-            width: *width,
-            height: *height,
-        })?;
-    }
-    Ok(dimensions)
-}
-
-/// A matrix of one column for each list of rows.
-pub fn columns(alloc: Global, lists: &[&[u32]]) -> Result<Vec<RowMajorMatrix<u32>>, AllocError> {
-    let mut matrices = Vec::with_capacity(alloc, lists.len())?;
-    for rows in lists {
-        matrices.push(RowMajorMatrix::new(Vec::from_slice(alloc, *rows)?, 1))?;
-    }
-    Ok(matrices)
 }
 
 /// The words of each matrix.

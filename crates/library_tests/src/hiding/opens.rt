@@ -1,9 +1,10 @@
 //! What is opened, under which cap, and what two openings of one cap lead to.
 
-use crate::hiding::counting::Counting;
+use crate::counting::Counting;
+use crate::fixtures::{columns, dimensions_with};
 use crate::hiding::fixtures::{
-    Cap, OneSalt, Opening, Salted, Tree, cap_of, columns, dimensions_with, one_salt, opened,
-    opened_together, opening, sets, values_of,
+    Cap, OneSalt, Opening, Salted, Tree, cap_of, one_salt, opened, opened_together, opening, sets,
+    values_of,
 };
 use p3_instances::fold::{FoldCompress, FoldHash};
 use p3_merkle_tree::{BatchOpeningRef, CapRule, MerkleTreeError, PrunedProofError};

@@ -1,6 +1,7 @@
 //! Random rows and random salts, from seeds that are written here.
 
-use crate::hiding::fixtures::{Salted, columns, dimensions_with, opened, opened_together};
+use crate::fixtures::{columns, dimensions_with};
+use crate::hiding::fixtures::{Salted, opened, opened_together};
 use p3_instances::fold::{FoldCompress, FoldHash};
 use p3_merkle_tree::BatchOpeningRef;
 use p3_support::matrix::RowMajorMatrix;

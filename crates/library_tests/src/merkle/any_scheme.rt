@@ -3,7 +3,7 @@
 ghost use Rattle.std.specs.Prelude.{◌≡◌, ◌<◌, ◌↔◌, IfErr, IfOk, IsTrue, map};
 ghost use Rattle.p3_support.specs.Batches.{dimensions_in, greatest};
 
-use crate::merkle::fixtures::numbered;
+use crate::fixtures::numbered;
 use p3_instances::fold::{FoldCompress, FoldHash};
 use p3_merkle_tree::MerkleTreeMmcs;
 use p3_support::matrix::{Dimensions, Matrix, dimensions_of};
@@ -53,7 +53,7 @@ fn a_generic_caller_opens_each_index(rt: HostRuntime) -> Result<(), Fail> {
     for index in 0..6 {
         let mut prover = BinaryScheme::new(FoldHash, FoldCompress, 1);
         let verifier = prover;
-        let matrices = numbered(alloc, &[5, 3])?;
+        let matrices = numbered(alloc, &[(1, 5), (1, 3)])?;
         let dimensions = dimensions_of(alloc, &matrices)?;
         let opened = is_opened(alloc, &mut prover, &verifier, &dimensions, matrices, index)?;
         assert_eq!(rt; opened, index < 5);

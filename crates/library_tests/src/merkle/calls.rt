@@ -1,10 +1,10 @@
 //! Generic calls of schemes and trees.
 
-use crate::merkle::fixtures::{column_dimensions, numbered};
+use crate::fixtures::numbered;
 use p3_merkle_tree::{BatchOpeningRef, MerkleCap, MerkleTree, MerkleTreeError, MerkleTreeMmcs};
 use p3_support::compress::PseudoCompressionFunction;
 use p3_support::hasher::CryptographicHasher;
-use p3_support::matrix::Matrix;
+use p3_support::matrix::{Matrix, dimensions_of};
 use p3_support::packed::PackedValue;
 use std::alloc::Global;
 
@@ -20,8 +20,8 @@ pub fn layers_in<F: Copy, W: Copy, M: Matrix<F> + Drop, const N: usize, const D:
     Ok(layers)
 }
 
-/// Commits to columns of these heights, whose rows are their own numbers, opens a leaf and checks the opening: the cap,
-/// where there is such a leaf and its opening is accepted.
+/// Commits to matrices of these widths and heights, whose rows are their own numbers, opens a leaf and checks the
+/// opening: the cap, where there is such a leaf and its opening is accepted.
 pub fn accepted_cap<
     P: PackedValue<Value = u32>,
     PW: PackedValue,
@@ -32,11 +32,12 @@ pub fn accepted_cap<
 >(
     alloc: Global,
     scheme: &MerkleTreeMmcs<P, PW, H, C, N, D>,
-    heights: &[usize],
+    sizes: &[(usize, usize)],
     index: usize,
 ) -> Result<MerkleCap<u32, [PW::Value; D]>, MerkleTreeError> {
-    let dimensions = column_dimensions(alloc, heights)?;
-    let (cap, tree) = scheme.commit(alloc, numbered(alloc, heights)?)?;
+    let matrices = numbered(alloc, sizes)?;
+    let dimensions = dimensions_of(alloc, &matrices)?;
+    let (cap, tree) = scheme.commit(alloc, matrices)?;
     let max_height = scheme.get_max_height(&tree);
     if index >= max_height {
         return Err(MerkleTreeError::IndexOutOfBounds { max_height, index });

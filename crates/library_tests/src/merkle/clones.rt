@@ -1,7 +1,7 @@
 //! Clones of trees: what a clone shows is what its tree shows.
 
+use crate::fixtures::{Numbers, columns};
 use crate::merkle::calls::layers_in;
-use crate::merkle::fixtures::{Numbers, columns};
 use p3_instances::fold::{FoldCompress, FoldHash};
 use p3_merkle_tree::{MerkleTree, MerkleTreeError, MerkleTreeMmcs};
 use p3_support::matrix::{Matrix, RowMajorMatrix};

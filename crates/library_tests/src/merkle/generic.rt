@@ -12,8 +12,8 @@ use std::test::Fail;
 /// A cap of digests of one word.
 type WordCap = MerkleCap<u32, [u32; 1]>;
 
-/// The heights of the matrices that are committed to in different ways.
-static HEIGHTS: [usize; 4] = [17, 9, 5, 3];
+/// The widths and the heights of the matrices that are committed to in different ways.
+static SIZES: [(usize, usize); 4] = [(1, 17), (1, 9), (1, 5), (1, 3)];
 
 /// The cap of the fold functions at arity 4 in one lane, each message and each group on its own, where an opening is
 /// accepted.
@@ -24,7 +24,7 @@ fn plain_cap(alloc: Global, cap_height: usize) -> Result<WordCap, MerkleTreeErro
         cap_height,
         CapRule::Fixed,
     );
-    accepted_cap(alloc, &scheme, &HEIGHTS, 2)
+    accepted_cap(alloc, &scheme, &SIZES, 2)
 }
 
 /// That cap at arity 4, in eight lanes.
@@ -37,7 +37,7 @@ fn cap_by_eight(alloc: Global, cap_height: usize) -> Result<WordCap, MerkleTreeE
         4,
         1,
     >::new_with_rule(FoldHash, FoldCompress, cap_height, CapRule::Fixed);
-    accepted_cap(alloc, &scheme, &HEIGHTS, 16)
+    accepted_cap(alloc, &scheme, &SIZES, 16)
 }
 
 /// That cap at arity 4, by functions that take three at a time.
@@ -55,7 +55,7 @@ fn cap_by_three(alloc: Global, cap_height: usize) -> Result<WordCap, MerkleTreeE
         cap_height,
         CapRule::Fixed,
     );
-    accepted_cap(alloc, &scheme, &HEIGHTS, 5)
+    accepted_cap(alloc, &scheme, &SIZES, 5)
 }
 
 /// A cap of digests of two words.
@@ -70,13 +70,13 @@ type LanesScheme = MerkleTreeMmcs<Lanes<u32>, Lanes<u32>, FoldHash<8>, FoldCompr
 /// The cap at arity 2 and digests of two words, in one lane.
 fn pair_cap(alloc: Global, cap_height: usize) -> Result<PairCap, MerkleTreeError> {
     let scheme = PairScheme::new_with_rule(FoldHash, FoldCompress, cap_height, CapRule::Fixed);
-    accepted_cap(alloc, &scheme, &HEIGHTS, 2)
+    accepted_cap(alloc, &scheme, &SIZES, 2)
 }
 
 /// That cap in two lanes.
 fn pair_cap_by_two(alloc: Global, cap_height: usize) -> Result<PairCap, MerkleTreeError> {
     let scheme = LanesScheme::new_with_rule(FoldHash, FoldCompress, cap_height, CapRule::Fixed);
-    accepted_cap(alloc, &scheme, &HEIGHTS, 7)
+    accepted_cap(alloc, &scheme, &SIZES, 7)
 }
 
 #[test]
@@ -101,7 +101,7 @@ fn lanes_commit_alike_to_digests_of_two_words(rt: HostRuntime) -> Result<(), Fai
 
 /// The cap of the rows 0 and 1, where the opening of row 1 is accepted.
 fn cap_of_two_rows(alloc: Global, scheme: &PairScheme) -> Result<PairCap, MerkleTreeError> {
-    accepted_cap(alloc, scheme, &[2], 1)
+    accepted_cap(alloc, scheme, &[(1, 2)], 1)
 }
 
 #[test]

@@ -3,7 +3,8 @@
 ghost use Rattle.std.specs.Prelude.{◌≡◌, ℕ, ◌<◌, ◌≤◌, map};
 ghost use Rattle.p3_support.specs.Lists.{lane_of};
 
-use crate::merkle::fixtures::{Numbers, numbered};
+use crate::fixtures::{Numbers, numbered};
+use crate::merkle::noting::Call::{Group, GroupLanes, Groups, Row, RowLanes, Rows};
 use p3_instances::fold::{FoldCompress, FoldHash, FoldLane};
 use p3_instances::lanes::U32x8;
 use p3_merkle_tree::{MerkleTree, MerkleTreeError};
@@ -15,37 +16,55 @@ use std::cell::Cell;
 use std::convert::AsSlice;
 use std::test::Fail;
 
-/// The digit of a call for one row.
-const ROW: u64 = 1;
+/// A call, with how many places it fills where that can be more than one.
+#[derive(Clone, Copy, Debug, PartialEq, Eq)]
+enum Call {
+    /// The digest of a row by itself.
+    Row,
+    /// `hash_many`.
+    Rows(usize),
+    /// `hash_packed`.
+    RowLanes(usize),
+    /// `compress`.
+    Group,
+    /// `compress_many`.
+    Groups(usize),
+    /// `compress_packed`.
+    GroupLanes(usize),
+}
 
-/// That of `hash_many`.
-const ROWS: u64 = 2;
+/// A call, and how often it is made in a row.
+type Run = (Call, usize);
 
-/// That of `hash_packed`.
-const ROW_LANES: u64 = 3;
-
-/// That of `compress`.
-const GROUP: u64 = 4;
-
-/// That of `compress_many`.
-const GROUPS: u64 = 5;
-
-/// That of `compress_packed`.
-const GROUP_LANES: u64 = 6;
-
-/// The calls, as the digits of a hexadecimal number, the first call first; and the most places that one call filled.
+/// The calls so far, the first call first.
 #[derive(Drop)]
 struct Notes {
-    calls: Cell<u64>,
-    most: Cell<usize>,
+    alloc: Global,
+    runs: Cell<Vec<Run>>,
 }
 
 impl Notes {
-    /// Notes a call that fills so many places.
-    fn note(&self, call: u64, places: usize) {
-        self.calls
-            .set(self.calls.get().wrapping_mul(16).wrapping_add(call));
-        self.most.set(self.most.get().max(places));
+    /// No call yet.
+    fn new(alloc: Global) -> Notes {
+        Notes {
+            alloc,
+            runs: Cell::new(Vec::new(alloc)),
+        }
+    }
+
+    /// Notes a call. Where there is no memory for it, it is missing, which each test shows.
+    fn note(&self, call: Call) {
+        let mut runs = self.runs.replace(Vec::new(self.alloc));
+        let mut count = 1_usize;
+        if let Some((last, before)) = runs.pop() {
+            if last == call {
+                count = before.saturating_add(1);
+            } else {
+                let _ = runs.push((last, before));
+            }
+        }
+        let _ = runs.push((call, count));
+        self.runs.set(runs);
     }
 }
 
@@ -71,12 +90,12 @@ impl<
     ghost hash = { λ h xs. X.hash h.functions xs };
 
     fn hash_iter<I: Iterator<Item = P::Value>>(&self, input: I) -> [PW::Value; D] {
-        self.notes.note(ROW, 1);
+        self.notes.note(Row);
         self.functions.hash_iter(input)
     }
 
     fn hash_slice(&self, input: &[P::Value]) -> [PW::Value; D] {
-        self.notes.note(ROW, 1);
+        self.notes.note(Row);
         self.functions.hash_slice(input)
     }
 
@@ -84,17 +103,17 @@ impl<
         &self,
         input: I,
     ) -> [PW::Value; D] {
-        self.notes.note(ROW, 1);
+        self.notes.note(Row);
         self.functions.hash_iter_slices(input)
     }
 
     fn hash_many(&self, messages: &[P::Value], out: &mut [[PW::Value; D]]) {
-        self.notes.note(ROWS, out.len());
+        self.notes.note(Rows(out.len()));
         self.functions.hash_many(messages, out)
     }
 
     fn hash_packed<I: Iterator<Item = P>>(&self, input: I) -> [PW; D] {
-        self.notes.note(ROW_LANES, P::WIDTH);
+        self.notes.note(RowLanes(P::WIDTH));
         self.functions.hash_packed(input)
     }
 }
@@ -114,12 +133,12 @@ impl<
     fn compress(&self, input: [[PW::Value; D]; N]) -> [PW::Value; D]
         ensures { result ≡ X.compression self.now.functions input }
     {
-        self.notes.note(GROUP, 1);
+        self.notes.note(Group);
         self.functions.compress(input)
     }
 
     fn compress_many(&self, groups: &[[[PW::Value; D]; N]], out: &mut [[PW::Value; D]]) {
-        self.notes.note(GROUPS, out.len());
+        self.notes.note(Groups(out.len()));
         self.functions.compress_many(groups, out)
     }
 
@@ -128,23 +147,20 @@ impl<
             lane_of PW.lanes PW.default_value k result
             ≡ X.compression self.now.functions (map (lane_of PW.lanes PW.default_value k) input) }
     {
-        self.notes.note(GROUP_LANES, PW::WIDTH);
+        self.notes.note(GroupLanes(PW::WIDTH));
         self.functions.compress_packed(input)
     }
 }
 
-/// What is noted where a tree of arity 2 is built over matrices, by a hasher and a compression that say they take `L`
-/// rows and `G` groups at a time.
+/// The calls that build a tree of arity 2 over matrices of these widths and heights, by a hasher and a compression that
+/// say they take `L` rows and `G` groups at a time.
 fn noted<P: FoldLane, const L: usize, const G: usize>(
     alloc: Global,
-    matrices: Vec<Numbers>,
-) -> Result<(u64, usize), MerkleTreeError>
+    sizes: &[(usize, usize)],
+) -> Result<Vec<Run>, MerkleTreeError>
     requires { 1 ≤ P.WIDTH }
 {
-    let notes = Notes {
-        calls: Cell::new(0),
-        most: Cell::new(0),
-    };
+    let notes = Notes::new(alloc);
     let hash = Noting::<_, L> {
         functions: FoldHash::<1>,
         notes: &notes,
@@ -153,56 +169,123 @@ fn noted<P: FoldLane, const L: usize, const G: usize>(
         functions: FoldCompress::<2, 1>,
         notes: &notes,
     };
-    MerkleTree::<u32, u32, _, 2, 1>::new::<P, P, _, _>(alloc, &hash, &compress, matrices)?;
-    Ok((notes.calls.get(), notes.most.get()))
+    let matrices = numbered(alloc, sizes)?;
+    MerkleTree::<u32, u32, Numbers, 2, 1>::new::<P, P, _, _>(alloc, &hash, &compress, matrices)?;
+    Ok(notes.runs.replace(Vec::new(alloc)))
 }
+
+/// 17 rows, and layers of 9, 5, 3, 2 nodes and 1, in eight lanes.
+static IN_LANES: [Run; 4] = [(RowLanes(8), 2), (Row, 1), (GroupLanes(8), 1), (Group, 12)];
+
+/// Three rows, and two rows that come in above them: children, row, pair.
+static WITH_ROWS: [Run; 6] = [
+    (Row, 3),
+    (Group, 1),
+    (Row, 1),
+    (Group, 2),
+    (Row, 1),
+    (Group, 2),
+];
 
 #[test]
 fn groups_of_lanes_come_first_and_the_rest_one_by_one(rt: HostRuntime) -> Result<(), Fail> {
     let alloc = rt.alloc();
-    // 17 rows, and layers of 9, 5, 3, 2 nodes and 1: a group has eight lanes.
-    let (calls, most) = noted::<U32x8, 1, 1>(alloc, numbered(alloc, &[17])?)?;
-    assert_eq!(rt; calls, 0x331_64_44444_444_44_4);
-    assert_eq!(rt; most, 8);
-    // Both nodes above three rows have a row of their own: children, row, pair.
-    let (calls, _) = noted::<u32, 1, 1>(alloc, numbered(alloc, &[3, 2])?)?;
-    assert_eq!(rt; calls, 0x111_414_414_4);
+    let calls = noted::<U32x8, 1, 1>(alloc, &[(1, 17)])?;
+    assert_eq!(rt; calls.as_slice(), IN_LANES.as_slice());
+    let calls = noted::<u32, 1, 1>(alloc, &[(1, 3), (1, 2)])?;
+    assert_eq!(rt; calls.as_slice(), WITH_ROWS.as_slice());
     Ok(())
 }
+
+/// 17 rows, and all nodes of each layer.
+static LAYER_BY_LAYER: [Run; 6] = [
+    (Rows(17), 1),
+    (Groups(9), 1),
+    (Groups(5), 1),
+    (Groups(3), 1),
+    (Groups(2), 1),
+    (Groups(1), 1),
+];
+
+/// The same with 9 and 3 rows that come in: the children of all nodes, then the rows, then the pairs.
+static WITH_ALL_ROWS: [Run; 10] = [
+    (Rows(17), 1),
+    (Groups(9), 1),
+    (Rows(9), 1),
+    (Groups(9), 1),
+    (Groups(5), 1),
+    (Groups(3), 1),
+    (Rows(3), 1),
+    (Groups(3), 1),
+    (Groups(2), 1),
+    (Groups(1), 1),
+];
+
+/// Five rows together and three that come in above them, one by one, since the compression takes one at a time. Layers
+/// of 3 nodes with rows, of 2 and 1.
+static GROUP_BY_GROUP: [Run; 8] = [
+    (Rows(5), 1),
+    (Group, 1),
+    (Row, 1),
+    (Group, 2),
+    (Row, 1),
+    (Group, 2),
+    (Row, 1),
+    (Group, 4),
+];
+
+/// The same where the hasher takes one at a time.
+static ROW_BY_ROW: [Run; 10] = [
+    (Row, 5),
+    (Group, 1),
+    (Row, 1),
+    (Group, 2),
+    (Row, 1),
+    (Group, 2),
+    (Row, 1),
+    (Group, 1),
+    (Groups(2), 1),
+    (Groups(1), 1),
+];
 
 #[test]
 fn many_are_taken_together_where_both_functions_do(rt: HostRuntime) -> Result<(), Fail> {
     let alloc = rt.alloc();
-    let (calls, most) = noted::<u32, 8, 8>(alloc, numbered(alloc, &[17])?)?;
-    assert_eq!(rt; (calls, most), (0x2_5_5_5_5_5, 17));
-    // Where rows come in: the children of all nodes, then the rows, then the pairs.
-    let (calls, _) = noted::<u32, 8, 8>(alloc, numbered(alloc, &[17, 9, 3])?)?;
-    assert_eq!(rt; calls, 0x2_525_5_525_5_5);
-    // A layer with rows goes one by one where either function takes one at a time.
-    let (calls, _) = noted::<u32, 8, 1>(alloc, numbered(alloc, &[5, 3])?)?;
-    assert_eq!(rt; calls, 0x2_414414414_44_4);
-    let (calls, _) = noted::<u32, 1, 8>(alloc, numbered(alloc, &[5, 3])?)?;
-    assert_eq!(rt; calls, 0x11111_414414414_5_5);
+    let calls = noted::<u32, 8, 8>(alloc, &[(1, 17)])?;
+    assert_eq!(rt; calls.as_slice(), LAYER_BY_LAYER.as_slice());
+    let calls = noted::<u32, 8, 8>(alloc, &[(1, 17), (1, 9), (1, 3)])?;
+    assert_eq!(rt; calls.as_slice(), WITH_ALL_ROWS.as_slice());
+    let calls = noted::<u32, 8, 1>(alloc, &[(1, 5), (1, 3)])?;
+    assert_eq!(rt; calls.as_slice(), GROUP_BY_GROUP.as_slice());
+    let calls = noted::<u32, 1, 8>(alloc, &[(1, 5), (1, 3)])?;
+    assert_eq!(rt; calls.as_slice(), ROW_BY_ROW.as_slice());
     Ok(())
 }
+
+/// 16384 bytes hold 256 rows of 64 bytes: 300 rows take two calls, and each of the nine layers above them one.
+static SMALL_ROWS: [Run; 11] = [
+    (Rows(256), 1),
+    (Rows(44), 1),
+    (Groups(150), 1),
+    (Groups(75), 1),
+    (Groups(38), 1),
+    (Groups(19), 1),
+    (Groups(10), 1),
+    (Groups(5), 1),
+    (Groups(3), 1),
+    (Groups(2), 1),
+    (Groups(1), 1),
+];
+
+/// Rows of 16400 bytes go in the smallest group, of eight: ten rows take two calls. Layers of 5, 3, 2 nodes and 1.
+static LARGE_ROWS: [Run; 3] = [(Rows(8), 1), (Rows(2), 1), (Group, 11)];
 
 #[test]
 fn rows_are_laid_side_by_side_in_whole_groups_of_lanes(rt: HostRuntime) -> Result<(), Fail> {
     let alloc = rt.alloc();
-    // 16384 bytes hold 256 rows of 64 bytes: 300 rows take two calls, and each of the nine
-    // layers above them one.
-    let small = Numbers {
-        words: 16,
-        rows: 300,
-    };
-    let (calls, most) = noted::<u32, 8, 8>(alloc, vec![in alloc; small]?)?;
-    assert_eq!(rt; (calls, most), (0x22_555_555_555, 256));
-    // Rows of 16400 bytes go in the smallest group, of eight: ten rows take two calls.
-    let large = Numbers {
-        words: 4100,
-        rows: 10,
-    };
-    let (calls, most) = noted::<u32, 8, 1>(alloc, vec![in alloc; large]?)?;
-    assert_eq!(rt; (calls, most), (0x22_44444_444_44_4, 8));
+    let calls = noted::<u32, 8, 8>(alloc, &[(16, 300)])?;
+    assert_eq!(rt; calls.as_slice(), SMALL_ROWS.as_slice());
+    let calls = noted::<u32, 8, 1>(alloc, &[(4100, 10)])?;
+    assert_eq!(rt; calls.as_slice(), LARGE_ROWS.as_slice());
     Ok(())
 }

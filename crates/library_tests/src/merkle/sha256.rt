@@ -3,6 +3,7 @@
 ghost use Rattle.std.specs.Prelude.{◌≤◌, IsTrue};
 ghost use Rattle.p3_merkle_core.specs.Geometry.{is_arity};
 
+use crate::fixtures::DIGEST_OF_ABC;
 use p3_instances::sha::{Sha256Nodes, Sha256Rows};
 use p3_merkle_core::pruning::{PrunedRows, check_indices};
 use p3_merkle_tree::{
@@ -13,12 +14,6 @@ use p3_support::matrix::{Dimensions, RowMajorMatrix};
 use std::alloc::{AllocError, Global};
 use std::process::Abort;
 use std::test::Fail;
-
-/// The SHA-256 of "abc", NIST's example for FIPS 180-4.
-const DIGEST_OF_ABC: [u8; 32] = [
-    0xba, 0x78, 0x16, 0xbf, 0x8f, 0x01, 0xcf, 0xea, 0x41, 0x41, 0x40, 0xde, 0x5d, 0xae, 0x22, 0x23,
-    0xb0, 0x03, 0x61, 0xa3, 0x96, 0x17, 0x7a, 0x9c, 0xb4, 0x10, 0xff, 0x61, 0xf2, 0x00, 0x15, 0xad,
-];
 
 /// The root over the rows [1, 2], [3, 4], [5, 6] and, halfway up, [7], [8], at arity 2, by python3 from
 ///

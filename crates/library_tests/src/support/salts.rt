@@ -1,51 +1,13 @@
 //! Salt words, random matrices and pairs of matrices.
-ghost use Rattle.std.specs.Prelude.{◌≡◌, ℕ, ◌+◌, ◌%◌, ◌^◌};
-ghost use Rattle.rand_core.specs.Steps.{stream_of, steps_u64_low};
 
+use crate::counting::Counting;
 use p3_instances::fold::FoldHash;
 use p3_support::hasher::CryptographicHasher;
 use p3_support::matrix::{Dimensions, Matrix, RowMajorMatrix};
 use p3_support::pair::HorizontalPair;
 use p3_support::salts::SaltWord;
-use rand_core::utils::NextWord;
-use rand_core::{Rng, utils};
-use std::marker::Model;
+use rand_core::Rng;
 use std::test::Fail;
-
-/// A generator whose words are 10, 20, 30 and so on. It holds the last one.
-#[derive(Drop)]
-struct Tens(u64);
-
-impl Model for Tens {
-    ghost Value = { ℕ };
-
-    ghost view = { λ tens. tens.0 };
-}
-
-impl NextWord<u64> for Tens {
-    ghost step = { λ last. ((last + 10) % 2 ^ 64, (last + 10) % 2 ^ 64) };
-
-    fn next_word(&mut self) -> u64 {
-        self.0 = self.0.wrapping_add(10);
-        self.0
-    }
-}
-
-impl Rng for Tens {
-    ghost stream = { stream_of (steps_u64_low (λ last. ((last + 10) % 2 ^ 64, (last + 10) % 2 ^ 64))) };
-
-    fn next_u32(&mut self) -> u32 {
-        (self.next_word() % 4_294_967_296) as u32
-    }
-
-    fn next_u64(&mut self) -> u64 {
-        self.next_word()
-    }
-
-    fn fill_bytes(&mut self, dst: &mut [u8]) {
-        utils::fill_bytes_via_u64(self, dst)
-    }
-}
 
 #[test]
 fn takes_the_low_bits(rt: HostRuntime) {
@@ -56,7 +18,7 @@ fn takes_the_low_bits(rt: HostRuntime) {
 
 #[test]
 fn draws_row_after_row(rt: HostRuntime) -> Result<(), Fail> {
-    let mut rng = Tens(0);
+    let mut rng = Counting::<10>(0);
     let matrix = RowMajorMatrix::<u32>::rand(rt.alloc(), &mut rng, 2, 3)?;
     assert_eq!(rt;
         matrix.dimensions(),
@@ -75,7 +37,7 @@ fn draws_row_after_row(rt: HostRuntime) -> Result<(), Fail> {
 #[test]
 fn joins_rows(rt: HostRuntime) -> Result<(), Fail> {
     let left = RowMajorMatrix::new(vec![in rt.alloc(); 1u32, 2, 3, 4]?, 2);
-    let right = RowMajorMatrix::<u32>::rand(rt.alloc(), &mut Tens(0), 2, 1)?;
+    let right = RowMajorMatrix::<u32>::rand(rt.alloc(), &mut Counting::<10>(0), 2, 1)?;
     let pair = HorizontalPair::<u32, _, _>::new(left, right);
     assert_eq!(rt;
         pair.dimensions(),

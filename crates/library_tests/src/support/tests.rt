@@ -2,10 +2,12 @@
 ghost use Rattle.std.specs.Prelude.{◌≡◌, ℕ, ◌+◌, ◌<◌, ◌≤◌, length};
 ghost use Rattle.p3_support.specs.Lists.{lane_of, rows_of_height};
 
+use crate::fixtures::DIGEST_OF_ABC;
 use p3_instances::batched::Batched3;
 use p3_instances::fold::{FoldCompress, FoldHash};
 use p3_instances::lanes::{Lanes, U32x8};
 use p3_instances::sha::{Sha256Nodes, Sha256Rows};
+use p3_instances::sha_eights::{Sha256NodesInEights, Sha256RowsInEights};
 use p3_support::compress::PseudoCompressionFunction;
 use p3_support::hasher::CryptographicHasher;
 use p3_support::matrix::{Dimensions, Matrix, RowMajorMatrix};
@@ -309,34 +311,10 @@ fn hands_out_what_it_has(rt: HostRuntime) -> Result<(), Fail> {
     Ok(())
 }
 
-/// The digest of "abc", NIST's example for FIPS 180-4.
-const DIGEST_OF_ABC: [u8; 32] = [
-    0xba, 0x78, 0x16, 0xbf, 0x8f, 0x01, 0xcf, 0xea, 0x41, 0x41, 0x40, 0xde, 0x5d, 0xae, 0x22, 0x23,
-    0xb0, 0x03, 0x61, 0xa3, 0x96, 0x17, 0x7a, 0x9c, 0xb4, 0x10, 0xff, 0x61, 0xf2, 0x00, 0x15, 0xad,
-];
-
 /// The digest of no bytes, by python3's `hashlib.sha256`.
 const DIGEST_OF_NOTHING: [u8; 32] = [
     0xe3, 0xb0, 0xc4, 0x42, 0x98, 0xfc, 0x1c, 0x14, 0x9a, 0xfb, 0xf4, 0xc8, 0x99, 0x6f, 0xb9, 0x24,
     0x27, 0xae, 0x41, 0xe4, 0x64, 0x9b, 0x93, 0x4c, 0xa4, 0x95, 0x99, 0x1b, 0x78, 0x52, 0xb8, 0x55,
-];
-
-/// A message that its padding carries into a second block, and its digest, NIST's example for FIPS
-/// 180-4.
-const TWO_BLOCKS: &[u8; 56] = b"abcdbcdecdefdefgefghfghighijhijkijkljklmklmnlmnomnopnopq";
-
-const DIGEST_OF_TWO_BLOCKS: [u8; 32] = [
-    0x24, 0x8d, 0x6a, 0x61, 0xd2, 0x06, 0x38, 0xb8, 0xe5, 0xc0, 0x26, 0x93, 0x0c, 0x3e, 0x60, 0x39,
-    0xa3, 0x3c, 0xe4, 0x59, 0x64, 0xff, 0x21, 0x67, 0xf6, 0xec, 0xed, 0xd4, 0x19, 0xdb, 0x06, 0xc1,
-];
-
-/// A message of more bytes than a block, and its digest by python3's `hashlib.sha256`.
-const OVER_A_BLOCK: &[u8; 112] = b"abcdefghbcdefghicdefghijdefghijkefghijklfghijklmghijklmn\
-    hijklmnoijklmnopjklmnopqklmnopqrlmnopqrsmnopqrstnopqrstu";
-
-const DIGEST_OVER_A_BLOCK: [u8; 32] = [
-    0xcf, 0x5b, 0x16, 0xa7, 0x78, 0xaf, 0x83, 0x80, 0x03, 0x6c, 0xe5, 0x9e, 0x7b, 0x04, 0x92, 0x37,
-    0x0b, 0x24, 0x9b, 0x11, 0xe8, 0xf0, 0x7a, 0x51, 0xaf, 0xac, 0x45, 0x03, 0x7a, 0xfe, 0xe9, 0xd1,
 ];
 
 /// The digest of the digest of "abc" followed by that of no bytes, by python3:
@@ -345,32 +323,6 @@ const DIGEST_OF_A_NODE: [u8; 32] = [
     0x6f, 0x12, 0x90, 0x89, 0x6e, 0xe8, 0x1a, 0x03, 0x49, 0x17, 0x4d, 0x19, 0xf4, 0x47, 0x3d, 0x26,
     0x7a, 0x10, 0x28, 0x9c, 0x40, 0x48, 0x08, 0x61, 0xd5, 0xc4, 0x2a, 0xff, 0xff, 0xbd, 0x79, 0xf9,
 ];
-
-/// The digest of a message by each call of the hasher.
-fn sha256_by_each_call(message: &[u8]) -> [[u8; 32]; 5] {
-    let middle = message.len() / 2;
-    let parts = [&message[..middle], &message[middle..]];
-    let mut many = [[0; 32]; 1];
-    Sha256Rows.hash_many(message, &mut many);
-    [
-        Sha256Rows.hash_slice(message),
-        Sha256Rows.hash_iter(message.iter().copied()),
-        Sha256Rows.hash_iter_slices(parts.iter().copied()),
-        many[0],
-        Sha256Rows.hash_packed(message.iter().copied()),
-    ]
-}
-
-#[test]
-fn hashes_bytes(rt: HostRuntime) {
-    assert_eq!(rt; sha256_by_each_call(b"abc"), [DIGEST_OF_ABC; 5]);
-    assert_eq!(rt; sha256_by_each_call(b""), [DIGEST_OF_NOTHING; 5]);
-    assert_eq!(rt; sha256_by_each_call(TWO_BLOCKS), [DIGEST_OF_TWO_BLOCKS; 5]);
-    assert_eq!(rt; sha256_by_each_call(OVER_A_BLOCK), [DIGEST_OVER_A_BLOCK; 5]);
-    let mut two = [[0; 32]; 2];
-    Sha256Rows.hash_many(b"abcabc", &mut two);
-    assert_eq!(rt; two, [DIGEST_OF_ABC; 2]);
-}
 
 #[test]
 fn hashes_a_row_of_bytes(rt: HostRuntime) -> Result<(), Fail> {
@@ -406,14 +358,22 @@ fn compresses_bytes(rt: HostRuntime) {
     assert_eq!(rt; Sha256Nodes::<0>.compress([]), DIGEST_OF_NOTHING);
 }
 
+/// How many messages a hasher and how many groups a compression says it takes at a time.
+fn lanes<H: CryptographicHasher<u8, u8, 32>, C: PseudoCompressionFunction<u8, 2, 32>>() -> (
+    usize,
+    usize,
+) {
+    (H::LANES, C::LANES)
+}
+
 #[test]
-fn takes_one_message_at_a_time(rt: HostRuntime) {
-    assert_eq!(rt; <Sha256Rows as CryptographicHasher<u8, u8, 32>>::LANES, 1);
-    assert!(rt; <Sha256Rows as CryptographicHasher<u8, u8, 32>>::PREFER_CONTIGUOUS_INPUT);
+fn says_how_many_it_takes_at_a_time(rt: HostRuntime) {
+    assert_eq!(rt; lanes::<Sha256Rows, Sha256Nodes<2>>(), (1, 1));
     assert_eq!(rt;
-        <Sha256Nodes<2> as PseudoCompressionFunction<u8, 2, 32>>::LANES,
-        1
+        lanes::<Sha256RowsInEights, Sha256NodesInEights<2>>(),
+        (8, 8)
     );
+    assert!(rt; <Sha256Rows as CryptographicHasher<u8, u8, 32>>::PREFER_CONTIGUOUS_INPUT);
 }
 
 #[test]

@@ -4,88 +4,33 @@ ghost use Rattle.std.specs.Prelude.{◌≤◌, IsTrue};
 ghost use Rattle.p3_merkle_core.specs.Geometry.{is_arity};
 
 use crate::agreement::agrees;
-use crate::fields::{Fault, Fields};
-use crate::salted::extract::{SaltedLeaf, SaltedLeaves, collision_of, collision_of_leaves};
-use crate::salted::{SaltedScheme, salted_scheme};
-use crate::scheme::{Cap, FoldCap};
-use crate::text::Answer;
-use p3_merkle_tree::{BatchOpeningRef, MerkleCap, MerkleTreeError};
-use p3_support::matrix::Dimensions;
-use rand_chacha::ChaCha20Rng;
-use rand_core::SeedableRng;
+use crate::case::Case;
+use crate::fields::Fault;
+use crate::salted::SaltedScheme;
+use crate::salted::extract::{
+    SaltedLeaf, SaltedLeaves, checking_scheme, collision_of, collision_of_leaves,
+};
+use crate::scheme::Cap;
+use crate::verify::Statement;
+use p3_merkle_tree::{BatchOpeningRef, MerkleTreeError};
 use std::alloc::Global;
 
-/// The generator of a scheme that only checks: no salts are drawn.
-pub fn unused() -> ChaCha20Rng {
-    ChaCha20Rng::from_seed([0; 32])
-}
-
-/// `verify_salted | ARITY | CAP | SALTS A ROW | ROOTS | DIMENSIONS | INDEX | ROWS | SALTS | SIBLINGS | ANSWER`: the
-/// check of an opening, which the extraction from it and itself answers, too.
-pub fn verify<const N: usize, const SALT_ELEMS: usize>(
-    alloc: Global,
-    cap: Cap,
-    fields: &mut Fields<'_>,
-    answer: &mut Answer,
-) -> Result<(), Fault>
-    requires arity { IsTrue (is_arity N) }
-    requires few { N ≤ 16 }
-    requires some_salt { 1 ≤ SALT_ELEMS }
-{
-    let scheme = salted_scheme::<N, SALT_ELEMS>(cap, unused());
-    let cap = MerkleCap::new(fields.digests());
-    let dimensions = fields.dimensions();
-    let leaf = SaltedLeaf::of(fields);
-    let lent = BatchOpeningRef::from(&leaf.opening);
-    let verdict = scheme.verify_batch(alloc, &cap, &dimensions, leaf.index, lent);
-    let found = collision_of(alloc, &scheme, &cap, &dimensions, &leaf, &leaf);
-    if agrees(&verdict, &found) {
-        answer.verdict(&verdict);
-        Ok(())
-    } else {
-        Err(Fault::Wrong("the extraction is answered otherwise"))
-    }
-}
-
-/// `verify_salted_pruned | ARITY | CAP | SALTS A ROW | ROOTS | DIMENSIONS | INDICES | ROW SETS | SALT SETS | DIGESTS |
-/// ANSWER`: the check of an opening of several leaves, which the extractions answer, too.
-pub fn verify_pruned<const N: usize, const SALT_ELEMS: usize>(
-    alloc: Global,
-    cap: Cap,
-    fields: &mut Fields<'_>,
-    answer: &mut Answer,
-) -> Result<(), Fault>
-    requires arity { IsTrue (is_arity N) }
-    requires few { N ≤ 16 }
-    requires some_salt { 1 ≤ SALT_ELEMS }
-{
-    let scheme = salted_scheme::<N, SALT_ELEMS>(cap, unused());
-    let cap = MerkleCap::new(fields.digests());
-    let dimensions = fields.dimensions();
-    let opening = SaltedLeaves::of(fields);
-    let verdict = verdict_on(alloc, &scheme, &cap, &dimensions, &opening);
-    if extracts_alike(alloc, &scheme, &cap, &dimensions, &opening, &verdict) {
-        answer.verdict(&verdict);
-        Ok(())
-    } else {
-        Err(Fault::Wrong("an extraction is answered otherwise"))
-    }
-}
-
 /// What is answered to the opening of several leaves.
-fn verdict_on<const N: usize, const SALT_ELEMS: usize>(
+fn verdict_on_leaves<const N: usize, const SALT_ELEMS: usize>(
     alloc: Global,
     scheme: &SaltedScheme<N, SALT_ELEMS>,
-    cap: &FoldCap,
-    dimensions: &[Dimensions],
+    statement: &Statement,
     opening: &SaltedLeaves,
 ) -> Result<(), MerkleTreeError> {
-    let SaltedLeaves {
-        indices,
-        rows,
-        proof,
-    } = opening;
-    scheme.verify_multi_batch(alloc, cap, dimensions, indices, rows, proof)
+    let Statement { cap, dimensions } = statement;
+    scheme.verify_multi_batch(
+        alloc,
+        cap,
+        dimensions,
+        &opening.indices,
+        &opening.rows,
+        &opening.proof,
+    )
 }
 
 /// Whether the extractions from an opening and that of no leaf, in either order, and where it is accepted that from it
@@ -93,21 +38,65 @@ fn verdict_on<const N: usize, const SALT_ELEMS: usize>(
 fn extracts_alike<const N: usize, const SALT_ELEMS: usize>(
     alloc: Global,
     scheme: &SaltedScheme<N, SALT_ELEMS>,
-    cap: &FoldCap,
-    dimensions: &[Dimensions],
+    statement: &Statement,
     opening: &SaltedLeaves,
     verdict: &Result<(), MerkleTreeError>,
 ) -> bool {
     let none = SaltedLeaves::none(alloc);
-    let first = collision_of_leaves(alloc, scheme, cap, dimensions, opening, &none);
-    let second = collision_of_leaves(alloc, scheme, cap, dimensions, &none, opening);
-    let of_none = verdict_on(alloc, scheme, cap, dimensions, &none);
+    let of_none = verdict_on_leaves(alloc, scheme, statement, &none);
+    let first = collision_of_leaves(alloc, scheme, statement, opening, &none);
+    let second = collision_of_leaves(alloc, scheme, statement, &none, opening);
     let of_second = if of_none.is_err() { &of_none } else { verdict };
     agrees(verdict, &first)
         && agrees(of_second, &second)
         && (opening.is_long()
             || agrees(
                 verdict,
-                &collision_of_leaves(alloc, scheme, cap, dimensions, opening, opening),
+                &collision_of_leaves(alloc, scheme, statement, opening, opening),
             ))
+}
+
+/// `verify_salted | ARITY | CAP | SALTS A ROW | ROOTS | DIMENSIONS | INDEX | ROWS | SALTS | SIBLINGS | ANSWER`: the
+/// check of an opening, which the extraction from it and itself answers, too.
+pub fn verify<const N: usize, const SALT_ELEMS: usize>(
+    case: &mut Case<'_>,
+    cap: Cap,
+) -> Result<(), Fault>
+    requires arity { IsTrue (is_arity N) }
+    requires few { N ≤ 16 }
+    requires some_salt { 1 ≤ SALT_ELEMS }
+{
+    let scheme = checking_scheme::<N, SALT_ELEMS>(cap);
+    let statement = Statement::of(&mut case.fields);
+    let leaf = SaltedLeaf::of(&mut case.fields);
+    let lent = BatchOpeningRef::from(&leaf.opening);
+    let Statement { cap, dimensions } = &statement;
+    let verdict = scheme.verify_batch(case.alloc, cap, dimensions, leaf.index, lent);
+    let found = collision_of(case.alloc, &scheme, &statement, &leaf, &leaf);
+    if !agrees(&verdict, &found) {
+        return Err(Fault::Wrong("the extraction is answered otherwise"));
+    }
+    case.answer.verdict(&verdict);
+    Ok(())
+}
+
+/// `verify_salted_pruned | ARITY | CAP | SALTS A ROW | ROOTS | DIMENSIONS | INDICES | ROW SETS | SALT SETS | DIGESTS |
+/// ANSWER`: the check of an opening of several leaves, which the extractions answer, too.
+pub fn verify_pruned<const N: usize, const SALT_ELEMS: usize>(
+    case: &mut Case<'_>,
+    cap: Cap,
+) -> Result<(), Fault>
+    requires arity { IsTrue (is_arity N) }
+    requires few { N ≤ 16 }
+    requires some_salt { 1 ≤ SALT_ELEMS }
+{
+    let scheme = checking_scheme::<N, SALT_ELEMS>(cap);
+    let statement = Statement::of(&mut case.fields);
+    let opening = SaltedLeaves::of(&mut case.fields);
+    let verdict = verdict_on_leaves(case.alloc, &scheme, &statement, &opening);
+    if !extracts_alike(case.alloc, &scheme, &statement, &opening, &verdict) {
+        return Err(Fault::Wrong("an extraction is answered otherwise"));
+    }
+    case.answer.verdict(&verdict);
+    Ok(())
 }

@@ -3,19 +3,18 @@
 ghost use Rattle.std.specs.Prelude.{◌≤◌, IsTrue};
 ghost use Rattle.p3_merkle_core.specs.Geometry.{is_arity};
 
+use crate::case::Case;
 use crate::extract::{write_found, write_found_pair};
 use crate::fields::{Fault, Fields};
 use crate::pruned::LONG;
-use crate::salted::check::unused;
 use crate::salted::{SaltedScheme, salted_scheme};
-use crate::scheme::{Cap, FoldCap};
-use crate::text::Answer;
+use crate::scheme::Cap;
+use crate::verify::Statement;
 use p3_merkle_core::pruning::PrunedProof;
 use p3_merkle_hiding::hiding_mmcs::{SaltedMultiProof, SaltedProof};
-use p3_merkle_tree::{
-    BatchOpening, BatchOpeningRef, Collision, MerkleCap, MerkleTreeError, PrunedOpeningRef,
-};
-use p3_support::matrix::Dimensions;
+use p3_merkle_tree::{BatchOpening, BatchOpeningRef, Collision, MerkleTreeError, PrunedOpeningRef};
+use rand_chacha::ChaCha20Rng;
+use rand_core::SeedableRng;
 use std::alloc::Global;
 
 /// An opening of the leaf `index` with its salts.
@@ -82,15 +81,26 @@ impl SaltedLeaves {
     }
 }
 
+/// A scheme with such a cap that only checks openings. It draws no salts.
+pub fn checking_scheme<const N: usize, const SALT_ELEMS: usize>(
+    cap: Cap,
+) -> SaltedScheme<N, SALT_ELEMS>
+    requires arity { IsTrue (is_arity N) }
+    requires few { N ≤ 16 }
+    requires some_salt { 1 ≤ SALT_ELEMS }
+{
+    salted_scheme::<N, SALT_ELEMS>(cap, ChaCha20Rng::from_seed([0; 32]))
+}
+
 /// What two openings lead to.
 pub fn collision_of<const N: usize, const SALT_ELEMS: usize>(
     alloc: Global,
     scheme: &SaltedScheme<N, SALT_ELEMS>,
-    cap: &FoldCap,
-    dimensions: &[Dimensions],
+    statement: &Statement,
     first: &SaltedLeaf,
     second: &SaltedLeaf,
 ) -> Result<Option<Collision<u32, u32, 1>>, MerkleTreeError> {
+    let Statement { cap, dimensions } = statement;
     scheme.extract_collision(
         alloc,
         cap,
@@ -106,63 +116,49 @@ pub fn collision_of<const N: usize, const SALT_ELEMS: usize>(
 pub fn collision_of_leaves<const N: usize, const SALT_ELEMS: usize>(
     alloc: Global,
     scheme: &SaltedScheme<N, SALT_ELEMS>,
-    cap: &FoldCap,
-    dimensions: &[Dimensions],
+    statement: &Statement,
     first: &SaltedLeaves,
     second: &SaltedLeaves,
 ) -> Result<Option<(usize, usize, Collision<u32, u32, 1>)>, MerkleTreeError> {
+    let Statement { cap, dimensions } = statement;
     scheme.extract_collision_multi(alloc, cap, dimensions, first.lent(), second.lent())
 }
 
 /// `extract_salted | ARITY | CAP | SALTS A ROW | ROOTS | DIMENSIONS | INDEX | ROWS | SALTS | SIBLINGS | INDEX | ROWS |
 /// SALTS | SIBLINGS | ANSWER`: what two openings lead to, which is `none`, or a place with both inputs.
 pub fn extract<const N: usize, const SALT_ELEMS: usize>(
-    alloc: Global,
+    case: &mut Case<'_>,
     cap: Cap,
-    fields: &mut Fields<'_>,
-    answer: &mut Answer,
 ) -> Result<(), Fault>
     requires arity { IsTrue (is_arity N) }
     requires few { N ≤ 16 }
     requires some_salt { 1 ≤ SALT_ELEMS }
 {
-    let scheme = salted_scheme::<N, SALT_ELEMS>(cap, unused());
-    let cap = MerkleCap::new(fields.digests());
-    let dimensions = fields.dimensions();
-    let first = SaltedLeaf::of(fields);
-    let second = SaltedLeaf::of(fields);
-    match collision_of(alloc, &scheme, &cap, &dimensions, &first, &second) {
-        Ok(found) => {
-            write_found(&found, answer);
-            Ok(())
-        }
-        Err(error) => Err(Fault::Refused(error)),
-    }
+    let scheme = checking_scheme::<N, SALT_ELEMS>(cap);
+    let statement = Statement::of(&mut case.fields);
+    let first = SaltedLeaf::of(&mut case.fields);
+    let second = SaltedLeaf::of(&mut case.fields);
+    let found = collision_of(case.alloc, &scheme, &statement, &first, &second)?;
+    write_found(&found, &mut case.answer);
+    Ok(())
 }
 
 /// `extract_salted_pruned | ARITY | CAP | SALTS A ROW | ROOTS | DIMENSIONS | INDICES | ROW SETS | SALT SETS | DIGESTS |
 /// INDICES | ROW SETS | SALT SETS | DIGESTS | ANSWER`: what two openings of several leaves lead to, which is `none`, or
 /// the places of two queries in their lists, and then a place with both inputs.
 pub fn extract_pruned<const N: usize, const SALT_ELEMS: usize>(
-    alloc: Global,
+    case: &mut Case<'_>,
     cap: Cap,
-    fields: &mut Fields<'_>,
-    answer: &mut Answer,
 ) -> Result<(), Fault>
     requires arity { IsTrue (is_arity N) }
     requires few { N ≤ 16 }
     requires some_salt { 1 ≤ SALT_ELEMS }
 {
-    let scheme = salted_scheme::<N, SALT_ELEMS>(cap, unused());
-    let cap = MerkleCap::new(fields.digests());
-    let dimensions = fields.dimensions();
-    let first = SaltedLeaves::of(fields);
-    let second = SaltedLeaves::of(fields);
-    match collision_of_leaves(alloc, &scheme, &cap, &dimensions, &first, &second) {
-        Ok(found) => {
-            write_found_pair(&found, answer);
-            Ok(())
-        }
-        Err(error) => Err(Fault::Refused(error)),
-    }
+    let scheme = checking_scheme::<N, SALT_ELEMS>(cap);
+    let statement = Statement::of(&mut case.fields);
+    let first = SaltedLeaves::of(&mut case.fields);
+    let second = SaltedLeaves::of(&mut case.fields);
+    let found = collision_of_leaves(case.alloc, &scheme, &statement, &first, &second)?;
+    write_found_pair(&found, &mut case.answer);
+    Ok(())
 }
