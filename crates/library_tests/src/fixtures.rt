@@ -1,71 +1,7 @@
-//! Matrices that trees of both schemes are tried on, and a digest that tests of hashers and of trees share.
-
-ghost use Rattle.std.specs.Prelude.{◌%◌, ◌^◌, replicate};
-ghost use Rattle.std.proofs.lemmas.List.{length-replicate};
-
-use p3_support::matrix::{Dimensions, Matrix, RowMajorMatrix, dimensions_of};
-use std::alloc::{AllocError, Global};
+//! A digest that tests of hashers and of trees share.
 
 /// The SHA-256 of "abc", NIST's example for FIPS 180-4.
 pub const DIGEST_OF_ABC: [u8; 32] = [
     0xba, 0x78, 0x16, 0xbf, 0x8f, 0x01, 0xcf, 0xea, 0x41, 0x41, 0x40, 0xde, 0x5d, 0xae, 0x22, 0x23,
     0xb0, 0x03, 0x61, 0xa3, 0x96, 0x17, 0x7a, 0x9c, 0xb4, 0x10, 0xff, 0x61, 0xf2, 0x00, 0x15, 0xad,
 ];
-
-/// A matrix whose every word is the number of its row, from 0. It takes no memory, whatever its height.
-#[derive(Clone, Copy, Debug)]
-pub struct Numbers {
-    pub words: usize,
-    pub rows: usize,
-}
-
-impl Matrix<u32> for Numbers {
-    ghost height_of = { λ m. m.rows };
-
-    ghost width_of = { λ m. m.words };
-
-    ghost row_of = { λ m r. replicate m.words (r % 2 ^ 32) };
-
-    fn height(&self) -> usize {
-        self.rows
-    }
-
-    fn width(&self) -> usize {
-        self.words
-    }
-
-    fn get(&self, row: usize, column: usize) -> u32 {
-        (row % 4_294_967_296) as u32
-    }
-
-    ghost length_row_of = { λ m r h. length-replicate m.words (r % 2 ^ 32) };
-}
-
-/// Matrices of these widths and heights, whose rows are their own numbers.
-pub fn numbered(alloc: Global, sizes: &[(usize, usize)]) -> Result<Vec<Numbers>, AllocError> {
-    let mut matrices = Vec::with_capacity(alloc, sizes.len())?;
-    for (words, rows) in sizes {
-        matrices.push(Numbers {
-            words: *words,
-            rows: *rows,
-        })?;
-    }
-    Ok(matrices)
-}
-
-/// The dimensions of matrices of these widths and heights.
-pub fn dimensions_with(
-    alloc: Global,
-    sizes: &[(usize, usize)],
-) -> Result<Vec<Dimensions>, AllocError> {
-    dimensions_of(alloc, &numbered(alloc, sizes)?)
-}
-
-/// A matrix of one column for each list of rows.
-pub fn columns(alloc: Global, lists: &[&[u32]]) -> Result<Vec<RowMajorMatrix<u32>>, AllocError> {
-    let mut matrices = Vec::with_capacity(alloc, lists.len())?;
-    for rows in lists {
-        matrices.push(RowMajorMatrix::new(Vec::from_slice(alloc, *rows)?, 1))?;
-    }
-    Ok(matrices)
-}

@@ -3,7 +3,6 @@
 ghost use Rattle.std.specs.Prelude.{◌≡◌, ◌<◌, ◌↔◌, IfErr, IfOk, IsTrue, map};
 ghost use Rattle.p3_support.specs.Batches.{dimensions_in, greatest};
 
-use crate::fixtures::numbered;
 use p3_instances::fold::{FoldCompress, FoldHash};
 use p3_merkle_tree::MerkleTreeMmcs;
 use p3_support::matrix::{Dimensions, Matrix, dimensions_of};
@@ -11,6 +10,7 @@ use p3_support::mmcs::Mmcs;
 use p3_support::opening::BatchOpeningRef;
 use std::alloc::Global;
 use std::test::Fail;
+use test_fixtures::matrices::numbered;
 
 /// Commits to matrices of these dimensions, opens an index alone and among others, and has both openings checked by a
 /// scheme that agrees with the committer's: whether the matrices have such an index.

@@ -1,12 +1,12 @@
 //! Generic calls of schemes and trees.
 
-use crate::fixtures::numbered;
 use p3_merkle_tree::{BatchOpeningRef, MerkleCap, MerkleTree, MerkleTreeError, MerkleTreeMmcs};
 use p3_support::compress::PseudoCompressionFunction;
 use p3_support::hasher::CryptographicHasher;
 use p3_support::matrix::{Matrix, dimensions_of};
 use p3_support::packed::PackedValue;
 use std::alloc::Global;
+use test_fixtures::matrices::numbered;
 
 /// The layers of a tree, leaves first.
 pub fn layers_in<F: Copy, W: Copy, M: Matrix<F> + Drop, const N: usize, const D: usize>(

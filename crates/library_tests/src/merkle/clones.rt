@@ -1,6 +1,5 @@
 //! Clones of trees: what a clone shows is what its tree shows.
 
-use crate::fixtures::{Numbers, columns};
 use crate::merkle::calls::layers_in;
 use p3_instances::fold::{FoldCompress, FoldHash};
 use p3_merkle_tree::{MerkleTree, MerkleTreeError, MerkleTreeMmcs};
@@ -8,6 +7,7 @@ use p3_support::matrix::{Matrix, RowMajorMatrix};
 use std::alloc::{AllocError, Global};
 use std::process::Abort;
 use std::test::Fail;
+use test_fixtures::matrices::{Numbers, columns};
 
 /// A scheme of two children over the fold functions.
 type BinaryScheme = MerkleTreeMmcs<u32, u32, FoldHash<1>, FoldCompress<2, 1>, 2, 1>;

@@ -3,7 +3,6 @@
 ghost use Rattle.std.specs.Prelude.{◌≡◌, ℕ, ◌<◌, ◌≤◌, map};
 ghost use Rattle.p3_support.specs.Lists.{lane_of};
 
-use crate::fixtures::{Numbers, numbered};
 use crate::merkle::noting::Call::{Group, GroupLanes, Groups, Row, RowLanes, Rows};
 use p3_instances::fold::{FoldCompress, FoldHash, FoldLane};
 use p3_instances::lanes::U32x8;
@@ -15,6 +14,7 @@ use std::alloc::Global;
 use std::cell::Cell;
 use std::convert::AsSlice;
 use std::test::Fail;
+use test_fixtures::matrices::{Numbers, numbered};
 
 /// A call, with how many places it fills where that can be more than one.
 #[derive(Clone, Copy, Debug, PartialEq, Eq)]

@@ -1,8 +1,6 @@
 //! What is opened, under which cap, and what two openings of one cap lead to.
 
-use crate::counting::Counting;
-use crate::fixtures::{columns, dimensions_with};
-use crate::hiding::fixtures::{
+use crate::fixtures::{
     Cap, OneSalt, Opening, Salted, Tree, cap_of, one_salt, opened, opened_together, opening, sets,
     values_of,
 };
@@ -12,6 +10,8 @@ use p3_support::matrix::Dimensions;
 use std::alloc::{AllocError, Global};
 use std::process::Abort;
 use std::test::Fail;
+use test_fixtures::counting::Counting;
+use test_fixtures::matrices::{columns, dimensions_with};
 
 /// The dimensions of the matrix of the rows 1 and 2.
 const TWO: [Dimensions; 1] = [Dimensions {

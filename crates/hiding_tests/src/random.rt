@@ -1,7 +1,6 @@
 //! Random rows and random salts, from seeds that are written here.
 
-use crate::fixtures::{columns, dimensions_with};
-use crate::hiding::fixtures::{Salted, opened, opened_together};
+use crate::fixtures::{Salted, opened, opened_together};
 use p3_instances::fold::{FoldCompress, FoldHash};
 use p3_merkle_tree::BatchOpeningRef;
 use p3_support::matrix::RowMajorMatrix;
@@ -9,6 +8,7 @@ use rand_chacha::ChaCha20Rng;
 use rand_core::SeedableRng;
 use std::alloc::{AllocError, Global};
 use std::test::Fail;
+use test_fixtures::matrices::{columns, dimensions_with};
 
 /// A scheme with four salts for each row.
 type FourSalts = Salted<ChaCha20Rng, 4>;

@@ -1,6 +1,5 @@
 //! Salt words, random matrices and pairs of matrices.
 
-use crate::counting::Counting;
 use p3_instances::fold::FoldHash;
 use p3_support::hasher::CryptographicHasher;
 use p3_support::matrix::{Dimensions, Matrix, RowMajorMatrix};
@@ -8,6 +7,7 @@ use p3_support::pair::HorizontalPair;
 use p3_support::salts::SaltWord;
 use rand_core::Rng;
 use std::test::Fail;
+use test_fixtures::counting::Counting;
 
 #[test]
 fn takes_the_low_bits(rt: HostRuntime) {

@@ -1,6 +1,5 @@
 //! Schemes, rows and proofs that are tried.
 
-use crate::counting::Counting;
 use p3_instances::fold::{FoldCompress, FoldHash};
 use p3_merkle_core::pruning::check_indices;
 use p3_merkle_hiding::MerkleTreeHidingMmcs;
@@ -8,6 +7,7 @@ use p3_merkle_hiding::hiding_mmcs::{SaltedMultiProof, SaltedProof, SaltedTree};
 use p3_merkle_tree::{BatchOpening, MerkleCap, MerkleTreeError, PrunedMerklePaths};
 use p3_support::matrix::RowMajorMatrix;
 use std::alloc::{AllocError, Global};
+use test_fixtures::counting::Counting;
 
 /// A salted scheme of two children over the fold functions, with salts out of a generator.
 pub type Salted<R, const SALT_ELEMS: usize> = MerkleTreeHidingMmcs<

@@ -1,10 +1,10 @@
 //! What is committed to, and what is refused before a salt is drawn.
 
-use crate::fixtures::{columns, numbered};
-use crate::hiding::commits::Answer::{Empty, Heights, Large};
-use crate::hiding::fixtures::one_salt;
+use crate::commits::Answer::{Empty, Heights, Large};
+use crate::fixtures::one_salt;
 use p3_merkle_tree::MerkleTreeError;
 use std::test::Fail;
+use test_fixtures::matrices::{columns, numbered};
 
 /// The greatest width.
 const MAX: usize = usize::MAX;

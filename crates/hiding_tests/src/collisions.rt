@@ -1,6 +1,6 @@
 //! What two openings of one cap lead to.
 
-use crate::hiding::fixtures::{cap_of, multi_proof, one_salt, opening, sets};
+use crate::fixtures::{cap_of, multi_proof, one_salt, opening, sets};
 use p3_merkle_tree::{BatchOpeningRef, Collision, MerkleTreeError, Place, PrunedOpeningRef};
 use p3_support::matrix::Dimensions;
 use std::alloc::{AllocError, Global};

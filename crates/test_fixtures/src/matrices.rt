@@ -1,0 +1,65 @@
+//! Matrices that trees of both schemes are tried on.
+
+ghost use Rattle.std.specs.Prelude.{◌%◌, ◌^◌, replicate};
+ghost use Rattle.std.proofs.lemmas.List.{length-replicate};
+
+use p3_support::matrix::{Dimensions, Matrix, RowMajorMatrix, dimensions_of};
+use std::alloc::{AllocError, Global};
+
+/// A matrix whose every word is the number of its row, from 0. It takes no memory, whatever its height.
+#[derive(Clone, Copy, Debug)]
+pub struct Numbers {
+    pub words: usize,
+    pub rows: usize,
+}
+
+impl Matrix<u32> for Numbers {
+    ghost height_of = { λ m. m.rows };
+
+    ghost width_of = { λ m. m.words };
+
+    ghost row_of = { λ m r. replicate m.words (r % 2 ^ 32) };
+
+    fn height(&self) -> usize {
+        self.rows
+    }
+
+    fn width(&self) -> usize {
+        self.words
+    }
+
+    fn get(&self, row: usize, column: usize) -> u32 {
+        (row % 4_294_967_296) as u32
+    }
+
+    ghost length_row_of = { λ m r h. length-replicate m.words (r % 2 ^ 32) };
+}
+
+/// Matrices of these widths and heights, whose rows are their own numbers.
+pub fn numbered(alloc: Global, sizes: &[(usize, usize)]) -> Result<Vec<Numbers>, AllocError> {
+    let mut matrices = Vec::with_capacity(alloc, sizes.len())?;
+    for (words, rows) in sizes {
+        matrices.push(Numbers {
+            words: *words,
+            rows: *rows,
+        })?;
+    }
+    Ok(matrices)
+}
+
+/// The dimensions of matrices of these widths and heights.
+pub fn dimensions_with(
+    alloc: Global,
+    sizes: &[(usize, usize)],
+) -> Result<Vec<Dimensions>, AllocError> {
+    dimensions_of(alloc, &numbered(alloc, sizes)?)
+}
+
+/// A matrix of one column for each list of rows.
+pub fn columns(alloc: Global, lists: &[&[u32]]) -> Result<Vec<RowMajorMatrix<u32>>, AllocError> {
+    let mut matrices = Vec::with_capacity(alloc, lists.len())?;
+    for rows in lists {
+        matrices.push(RowMajorMatrix::new(Vec::from_slice(alloc, *rows)?, 1))?;
+    }
+    Ok(matrices)
+}
