@@ -9,8 +9,8 @@ pub fn told(line: &[u8], status: u8, text: &mut [u8], size: &mut usize) -> u8
     ensures size { size.new ≡ length line.now }
     ensures text { IsCopied line.now text.old text.new }
 {
-    let room = line.len().min(text.len());
-    text[..room].copy_from_slice(&line[..room]);
+    let copied = line.len().min(text.len());
+    text[..copied].copy_from_slice(&line[..copied]);
     *size = line.len();
     status
 }

@@ -33,7 +33,7 @@ fn word_at(messages: &[u32], width: usize, message: usize, column: usize) -> u32
 /// The words at a column of as many messages as `P` has lanes, from message `first` on.
 fn column_of<P: FoldLane>(messages: &[u32], width: usize, first: usize, column: usize) -> P
     requires full { (n : ℕ) × (first + P.WIDTH ≤ n) × (length messages.now ≡ n * width) }
-    requires room { first + P.WIDTH < 2 ^ 64 }
+    requires fits { first + P.WIDTH < 2 ^ 64 }
     requires inside { column < width }
     ensures { (k : ℕ) → k < P.WIDTH →
         slice_index_or (P.lanes result) k P.default_value
@@ -42,7 +42,7 @@ fn column_of<P: FoldLane>(messages: &[u32], width: usize, first: usize, column: 
     P::from_fn(
         |k| -> u32
             requires full { (n : ℕ) × (first + k < n) × (length messages.now ≡ n * width) }
-            requires room { first + k < 2 ^ 64 }
+            requires fits { first + k < 2 ^ 64 }
             requires inside { column < width }
             ensures { result
                 ≡ slice_index_or (message_of width messages.entry.now (first + k)) column 0 }
@@ -59,7 +59,7 @@ fn absorb_columns<P: FoldLane, const D: usize>(
     from: usize,
 )
     requires full { (n : ℕ) × (first + P.WIDTH ≤ n) × (length messages.now ≡ n * width) }
-    requires room { first + P.WIDTH < 2 ^ 64 }
+    requires fits { first + P.WIDTH < 2 ^ 64 }
     requires inside { from ≤ width }
     requires before { (k : ℕ) → k < P.WIDTH →
         lane_of P.lanes P.default_value k state.old
@@ -100,7 +100,7 @@ fn words_at(messages: &[u32], width: usize, message: usize, column: usize) -> &[
 /// Four columns of four messages, from message `first` and from `column` on.
 fn four_columns(messages: &[u32], width: usize, first: usize, column: usize) -> [u32x4; 4]
     requires full { (n : ℕ) × (first + 4 ≤ n) × (length messages.now ≡ n * width) }
-    requires room { first + 4 < 2 ^ 64 }
+    requires fits { first + 4 < 2 ^ 64 }
     requires inside { column + 4 ≤ width }
     ensures columns { let row =
         (λ (k : ℕ). slice_range (message_of width messages.now (first + k)) column (column + 4)) in
@@ -119,7 +119,7 @@ fn four_columns(messages: &[u32], width: usize, first: usize, column: usize) -> 
 /// Four columns of eight messages, from message `first` and from `column` on.
 fn columns_of_eight(messages: &[u32], width: usize, first: usize, column: usize) -> [U32x8; 4]
     requires full { (n : ℕ) × (first + 8 ≤ n) × (length messages.now ≡ n * width) }
-    requires room { first + 8 < 2 ^ 64 }
+    requires fits { first + 8 < 2 ^ 64 }
     requires inside { column + 4 ≤ width }
     ensures { (k : ℕ) → k < 8 → lane_of lanes_of 0 k result
         ≡ slice_range (message_of width messages.now (first + k)) column (column + 4) }
@@ -143,7 +143,7 @@ fn absorb_fours<const D: usize>(
     first: usize,
 )
     requires full { (n : ℕ) × (first + 8 ≤ n) × (length messages.now ≡ n * width) }
-    requires room { first + 8 < 2 ^ 64 }
+    requires fits { first + 8 < 2 ^ 64 }
     requires before { (k : ℕ) → k < 8 → lane_of lanes_of 0 k state.old ≡ fold_hash D [] }
     ensures { (k : ℕ) → k < 8 → lane_of lanes_of 0 k state.new
         ≡ fold_hash D (take (4 * (width / 4)) (message_of width messages.now (first + k))) }
@@ -156,7 +156,7 @@ fn absorb_fours<const D: usize>(
 /// The digests of eight messages, from message `first` on.
 fn hash_eight<const D: usize>(messages: &[u32], width: usize, first: usize) -> [U32x8; D]
     requires full { (n : ℕ) × (first + 8 ≤ n) × (length messages.now ≡ n * width) }
-    requires room { first + 8 < 2 ^ 64 }
+    requires fits { first + 8 < 2 ^ 64 }
     ensures { (k : ℕ) → k < 8 → lane_of lanes_of 0 k result
         ≡ fold_hash D (message_of width messages.now (first + k)) }
 {

@@ -6,7 +6,7 @@ ghost use Rattle.p3_merkle_core.specs.Nodes.{padded};
 /// Writes a value at its place among others into the first slots.
 fn insert_into<X: Copy>(slots: &mut [X], position: usize, value: X, others: &[X])
     requires placed { position ≤ length others.now }
-    requires room { length others.now < length slots.old }
+    requires fits { length others.now < length slots.old }
     ensures { slots.new ≡ insert others.now position value ++ drop (length others.now + 1) slots.old }
 {
     // Groups are so small that one write each costs less than two copies of parts.
@@ -26,7 +26,7 @@ pub fn group_with<W: Copy, const N: usize, const D: usize>(
     siblings: &[[W; D]],
 ) -> [[W; D]; N]
     requires placed { position ≤ length siblings.now }
-    requires room { length siblings.now < N }
+    requires fits { length siblings.now < N }
     ensures { result ≡ padded N default_digest (insert siblings.now position digest) }
 {
     let mut group = [default_digest; N];

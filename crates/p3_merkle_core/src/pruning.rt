@@ -387,7 +387,7 @@ fn extend_with_siblings<X: Copy>(
     hint: usize,
     node: usize,
 ) -> (usize, usize)
-    requires room { vec_len path.old + (level.now.step - 1) ≤ vec_capacity path.old }
+    requires capacity { vec_len path.old + (level.now.step - 1) ≤ vec_capacity path.old }
     ensures siblings { path.new.items
         ≡ path.old.items ++ siblings_out_of (level.now.parents.items, level.now.step, level.now.children.items) node }
     ensures parent { result.0 ≡ node / level.now.step }

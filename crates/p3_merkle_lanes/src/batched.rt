@@ -125,7 +125,7 @@ impl<
         slots: &mut [[PW::Value; D]],
     ) -> Result<(), AllocError>
         requires rows { count ≤ self.now.height }
-        requires room { count ≤ length slots.old }
+        requires fits { count ≤ length slots.old }
         ensures { let leaf = leaf_over (H.hash self.now.hash.now) (replicate D PW.default_value)
             (rows_over M.row_of self.now.matrices.now) self.now.height in
             IfOk result (λ done. IsFilled leaf count (length slots.old) slots.new) }
@@ -153,7 +153,7 @@ pub fn compress_groups_batched<
     const D: usize,
 >(compress: &C, groups: &[[[PW::Value; D]; N]], count: usize, slots: &mut [[PW::Value; D]])
     requires groups { count ≤ length groups.now }
-    requires room { count ≤ length slots.old }
+    requires fits { count ≤ length slots.old }
     ensures { IsFilled (λ j. C.compression compress.now (slice_index_or groups.now j [])) count
         (length slots.old) slots.new }
 {

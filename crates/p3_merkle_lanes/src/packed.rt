@@ -133,7 +133,7 @@ impl<
         requires lanes { P.WIDTH ≡ PW.WIDTH }
         requires digest { 0 < groups → FitsInMemory (ArrayAt PW.row D.row) }
         requires rows { groups * PW.WIDTH ≤ self.now.height }
-        requires room { groups * PW.WIDTH ≤ length slots.old }
+        requires fits { groups * PW.WIDTH ≤ length slots.old }
         ensures { let leaf = leaf_over (H.hash self.now.hash.now) (replicate D PW.default_value)
             (rows_over M.row_of self.now.matrices.now) self.now.height in
             IfOk result (λ done. IsFilled leaf (groups * PW.WIDTH) (length slots.old) slots.new) }
@@ -238,7 +238,7 @@ fn pack_children<PW: PackedValue, const D: usize>(
     step: usize,
     first: usize,
 )
-    requires room { step ≤ length places.old }
+    requires fits { step ≤ length places.old }
     requires inside { step * (first + PW.WIDTH) ≤ length below.now }
     ensures { (k : ℕ) → k < PW.WIDTH →
         map (lane_of PW.lanes PW.default_value k) places.new

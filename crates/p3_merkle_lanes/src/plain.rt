@@ -69,15 +69,15 @@ impl<
     M: Matrix<P::Value>,
     const D: usize,
 > LayerRows<'a, P, PW, H, M, [PW::Value; D]> {
-    /// Fills `pieces` from its start with row `row` of each matrix, and returns how many there are, if `pieces` has
-    /// room and each matrix lends its row. The row is below the height.
+    /// Fills `pieces` from its start with row `row` of each matrix, and returns how many there are, if `pieces` is
+    /// long enough and each matrix lends its row. The row is below the height.
     fn lend_rows<'b>(
         &'b self,
         row: usize,
         pieces: &mut [&'b [P::Value]; MAX_PIECES],
     ) -> Option<usize>
         requires { row < self.now.height }
-        ensures room { IfSome result (λ count. count ≤ length pieces.new) }
+        ensures fits { IfSome result (λ count. count ≤ length pieces.new) }
         ensures lent { IfSome result (λ count. flat_map (λ piece. piece.now) (take count pieces.new)
             ≡ rows_over M.row_of self.now.matrices.now row) }
     {
@@ -166,7 +166,7 @@ pub fn compress_groups<
     slots: &mut [[PW::Value; D]],
 )
     requires groups { end ≤ length groups.now }
-    requires room { end ≤ length slots.old }
+    requires fits { end ≤ length slots.old }
     requires ends { first ≤ end }
     ensures long { length slots.new ≡ length slots.old }
     ensures before { (j : ℕ) → j < first → slice_index_or slots.new j [] ≡ slice_index_or slots.old j [] }

@@ -157,7 +157,7 @@ impl<
         requires group { 0 < groups → FitsInMemory (ArrayAt (ArrayAt PW.row D.row) N.row) }
         requires nodes { groups * PW.WIDTH ≤ level.now.raw_len }
         requires rows { level.now.has_rows ≡ true → groups * PW.WIDTH ≤ self.now.rows.height }
-        requires room { groups * PW.WIDTH ≤ length slots.old }
+        requires fits { groups * PW.WIDTH ≤ length slots.old }
         ensures { let f = functions_of (H.hash self.now.rows.hash.now) (C.compression self.now.compress.now)
             (replicate D PW.default_value) in
             let leaf = leaf_over f.hash f.default_digest (rows_over M.row_of self.now.rows.matrices.now)
@@ -190,7 +190,7 @@ impl<
         requires lanes { P.WIDTH ≡ PW.WIDTH }
         requires whole { level.now.step ≡ N }
         requires nodes { count ≤ level.now.raw_len }
-        requires room { count ≤ length slots.old }
+        requires fits { count ≤ length slots.old }
         ensures { let f = functions_of (H.hash self.now.rows.hash.now) (C.compression self.now.compress.now)
             (replicate D PW.default_value) in
             let leaf = leaf_over f.hash f.default_digest (rows_over M.row_of self.now.rows.matrices.now)

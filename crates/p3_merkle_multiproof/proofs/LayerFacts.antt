@@ -158,7 +158,7 @@ pub start_restored : {T W : Type 0} (f : Functions T W) (s : Shape) (t : ℕ) (p
 start_restored f s t p agreed covered digests at e =
     let is = leaves_are f s t p agreed covered digests at e in
     record {
-      stands = at;
+      coverage = at;
       each = digests_long s p.indices 0 covered (restored_node (terms f s t) p 0) digests at is;
       restored = is;
     }
@@ -184,16 +184,16 @@ level_valued f s t p w count l h covered next_level digests here up =
     digests (drop covered.used p.digests) =
     record {
       step_is = up.step_is;
-      parents_are = up.stands.nodes_are;
-      covered_are = here.stands.nodes_are;
+      parents_are = up.coverage.nodes_are;
+      covered_are = here.coverage.nodes_are;
       digests_are = map-id digests ∙ here.restored;
-      sent_is = map-id (drop covered.used p.digests) ∙ ap (λ k. drop k p.digests) here.stands.sent_below;
+      sent_is = map-id (drop covered.used p.digests) ∙ ap (λ k. drop k p.digests) here.coverage.sent_below;
     } in
     record {
       step_is = up.step_is;
       wide = up.wide;
       full = up.values.each;
-      stands = up.stands;
+      coverage = up.coverage;
       values_are =
           sym (map-id next_level.children.items) ∙ children_are f s t p w count l h (λ (d : List _). d) next_level.step
           next_level.above.nodes.items covered.nodes.items digests (drop covered.used p.digests)
@@ -209,15 +209,16 @@ pub above_restored : {T W : Type 0} (f : Functions T W) (s : Shape) (t : ℕ) (p
     next_level.above.leads.items next_level.children.items → AreRestored f s t p (suc l) next_level.above next
 above_restored f s t p agreed l h n is_n covered next_level digests next up valued e =
     let above = next_level.above in
-    let are = sym up.stands.nodes_are ∙ up.stands.leads_are in
+    let are = sym up.coverage.nodes_are ∙ up.coverage.leads_are in
     let long = sym up.in_groups ∙ sym (length-map above.leads.items (node_of_query s p.indices (suc l)))
     ∙ sym (ap length are) in
     let is = e ∙ ap (λ a. layer_digests f a next_level.step next_level.has_rows (heights s) above.exponent p.rows
     above.leads.items next_level.children.items) (sym is_n)
     ∙ layer_next f s t p l agreed (omega arith) next_level.step next_level.has_rows above.exponent above.leads.items
-    next_level.children.items up.step_is up.rows_are up.stands.at_exponent are up.stands.among long valued.values_are in
+    next_level.children.items up.step_is up.rows_are up.coverage.at_exponent are up.coverage.among long
+    valued.values_are in
     record {
-      stands = up.stands;
-      each = digests_long s p.indices (suc l) above (restored_node (terms f s t) p (suc l)) next up.stands is;
+      coverage = up.coverage;
+      each = digests_long s p.indices (suc l) above (restored_node (terms f s t) p (suc l)) next up.coverage is;
       restored = is;
     }

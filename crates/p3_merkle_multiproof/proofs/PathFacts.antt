@@ -35,7 +35,7 @@ kept_next f s t p l old new level next_level k up is a b c =
     let z : 0 + l ≡ l = omega arith in
     let here = level_of s p.indices (value_of (terms f s t) p) in
     let last : shown_level level
-    ≡ here l = λ i. ((b ∙ up.stands.nodes_are) i, (a ∙ up.step_is) i, (c ∙ up.values_are) i) in
+    ≡ here l = λ i. ((b ∙ up.coverage.nodes_are) i, (a ∙ up.step_is) i, (c ∙ up.values_are) i) in
     record {
       levels_are = ap (map shown_level) is ∙ map-append shown_level old (level ∷ [])
           ∙ rw (k.levels_are, last) (sym (map-range_with_len_more here 0 l l z));

@@ -106,7 +106,7 @@ impl<
         nodes: &[[PW::Value; D]],
         rows: &[[PW::Value; D]],
     ) -> Result<Vec<[[PW::Value; D]; N]>, AllocError>
-        requires room { 2 ≤ N }
+        requires two { 2 ≤ N }
         requires pairs { length rows.now ≡ length nodes.now }
         ensures { let group = digest_pair N (replicate D PW.default_value) in
             IfOk result (λ groups. groups.items ≡ map group (zip nodes.now rows.now)) }
@@ -134,7 +134,7 @@ impl<
         nodes: &[[PW::Value; D]],
         rows: &[[PW::Value; D]],
     ) -> Result<Vec<[PW::Value; D]>, AllocError>
-        requires room { 2 ≤ N }
+        requires two { 2 ≤ N }
         requires pairs { length rows.now ≡ length nodes.now }
         ensures { let digest = pair_digest (C.compression self.now.compress.now) N (replicate D PW.default_value) in
             IfOk result (λ digests. digests.items ≡ map digest (zip nodes.now rows.now)) }

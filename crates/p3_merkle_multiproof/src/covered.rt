@@ -58,7 +58,7 @@ impl<'a, T, X: Copy> Restorable<'a, T, X> {
         below: &Covered,
     ) -> Result<(StepUp, Covered), AllocError>
         requires level { level < self.now.cap_layer }
-        requires stands { IsCoveredAt (tree_of self.now) self.now.opening.indices.now level below.now }
+        requires coverage { IsCoveredAt (tree_of self.now) self.now.opening.indices.now level below.now }
         ensures step { IfOk result (λ pair. pair.0.step ≡ step_in (tree_of self.now) level) }
         ensures rows { IfOk result (λ pair. pair.0.has_rows ≡ has_rows (tree_of self.now) (suc level)) }
         ensures above { IfOk result (λ pair. IsCoveredAt (tree_of self.now) self.now.opening.indices.now (suc level)
@@ -90,7 +90,7 @@ impl<'a, T, X: Copy> Restorable<'a, T, X> {
         below: &Restored<X>,
     ) -> Result<NextLevel<X>, AllocError>
         requires level { level < self.now.cap_layer }
-        requires stands { IsCoveredAt (tree_of self.now) self.now.opening.indices.now level below.now.covered }
+        requires coverage { IsCoveredAt (tree_of self.now) self.now.opening.indices.now level below.now.covered }
         requires digests { length below.now.digests.items ≡ length below.now.covered.nodes.items }
         ensures { IfOk result (λ next_level. IsNextLevel (tree_of self.now) self.now.opening.indices.now level
             below.now.covered below.now.digests.items self.now.opening.sent.now next_level) }

@@ -53,7 +53,7 @@ impl<F: Copy, W: Copy, M: Matrix<F> + Drop, const N: usize, const D: usize> Merk
     N,
     D,
 > {
-    ghost use Rattle.p3_support.specs.Shown.{lent_digest, roots_of};
+    ghost use Rattle.p3_support.specs.Shown.{digest_of_ref, roots_of};
     ghost use Rattle.p3_merkle_prover.specs.Parts.{layers_of, matrices_of, tree_batch};
 
     /// The tree over matrices, which it keeps in input order. Leaf `i` is the hash of the rows `i` of the tallest
@@ -131,7 +131,7 @@ impl<F: Copy, W: Copy, M: Matrix<F> + Drop, const N: usize, const D: usize> Merk
     /// The root: the one node of the last layer.
     pub fn root(&self) -> Hash<'_, F, W, D>
         ensures { slice_get (layers_of self.now) (levels (shape (tree_batch self.now))) ≡
-            Some (lent_digest result ∷ []) }
+            Some (digest_of_ref result ∷ []) }
     {
         let top = &self.layers[self.num_layers() - 1];
         Hash::from(&top[0])

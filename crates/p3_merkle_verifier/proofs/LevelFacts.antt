@@ -11,7 +11,7 @@ use Rattle.p3_merkle_core.specs.Checks.{layer_words, path_digest, siblings_below
 use Rattle.p3_merkle_core.proofs.Checks.Completeness.{reached_leaf, reached_next}
 use Rattle.p3_merkle_core.proofs.Shapes.SiblingFacts.{siblings_next, siblings_start}
 use Rattle.p3_merkle_core.proofs.Shapes.StepFacts.{anc_next, anc_start, step_above_1}
-use Rattle.p3_merkle_verifier.specs.Inner.Checks.{CanStep, IsAbove, IsLevelOfCheck, StandsAt, step_siblings}
+use Rattle.p3_merkle_verifier.specs.Inner.Checks.{CanStep, IsAbove, IsLevelOfCheck, IsProgress, step_siblings}
 use Rattle.p3_merkle_verifier.specs.Inner.Paths.{CanReach, rows_of_exponent}
 use Rattle.p3_merkle_verifier.specs.declared.level.Progress.{Progress}
 use Rattle.p3_merkle_core.proofs.Checks.CheckFacts.{full_group, inputs_with_rows, inputs_alone}
@@ -24,10 +24,11 @@ words_read now x pairs rows e =
     ∙ flat_map-map (λ row. row) (λ (h, row). row) (filter (λ (h, row). eqb (exponent h) x) pairs)
 
 -- a check begins at its leaf
-pub stands_first : {T W : Type 0} (f : Functions T W) (s : Shape) (o : Opening T W) (standing : Progress (List W)) →
-    standing.exponent ≡ layer_exponent s 0 → standing.node ≡ o.index → standing.used ≡ 0 →
-    standing.digest ≡ f.hash (words_of_exponent standing.exponent (zip (heights s) o.rows)) → StandsAt f s o 0 standing
-stands_first f s o standing is node used digest =
+pub progress_first : {T W : Type 0} (f : Functions T W) (s : Shape) (o : Opening T W) (progress : Progress (List W)) →
+    progress.exponent ≡ layer_exponent s 0 → progress.node ≡ o.index → progress.used ≡ 0 →
+    progress.digest ≡ f.hash (words_of_exponent progress.exponent (zip (heights s) o.rows)) →
+    IsProgress f s o 0 progress
+progress_first f s o progress is node used digest =
     record {
       at_exponent = is;
       at_node = node ∙ sym (anc_start s o.index);
@@ -64,19 +65,19 @@ enough_below s t l count w h =
     let more = rw rest at (siblings_mono s (suc l) (t - suc l)) in
     omega (arith, more, w.all_siblings)
 
-module _ {T W : Type 0} (f : Functions T W) (s : Shape) (o : Opening T W) (l n y : ℕ) (standing above :
+module _ {T W : Type 0} (f : Functions T W) (s : Shape) (o : Opening T W) (l n y : ℕ) (progress above :
     Progress (List W)) (group : List (List W)) where
   -- the group of the level
-  group_is : IsStepFrom s l n y → StandsAt f s o l standing →
+  group_is : IsStepFrom s l n y → IsProgress f s o l progress →
       group ≡ padded s.arity f.default_digest
-      (insert (step_siblings n o.siblings standing.used) (standing.node % n) standing.digest) → group
+      (insert (step_siblings n o.siblings progress.used) (progress.node % n) progress.digest) → group
       ≡ full_group f s o l
   group_is from at e = e ∙ rw (from.is_step, at.taken, at.at_node, at.reached) refl
 
   -- the check stands at the next layer, if the digest there is the one that the path reaches
-  stands_above : IsStepFrom s l n y → StandsAt f s o l standing → {digest : List W} →
-      IsAbove n y digest standing above → digest ≡ path_digest f s o (suc l) → StandsAt f s o (suc l) above
-  stands_above from at up reached =
+  progress_above : IsStepFrom s l n y → IsProgress f s o l progress → {digest : List W} →
+      IsAbove n y digest progress above → digest ≡ path_digest f s o (suc l) → IsProgress f s o (suc l) above
+  progress_above from at up reached =
       record {
         at_exponent = up.at_exponent ∙ from.above;
         at_node = up.at_node ∙ rw (at.at_node, from.is_step) (sym (anc_next s l o.index));
@@ -85,13 +86,13 @@ module _ {T W : Type 0} (f : Functions T W) (s : Shape) (o : Opening T W) (l n y
       }
 
   -- a level with rows above it
-  pub level_with_rows : IsStepFrom s l n y → StandsAt f s o l standing →
+  pub level_with_rows : IsStepFrom s l n y → IsProgress f s o l progress →
       group ≡ padded s.arity f.default_digest
-      (insert (step_siblings n o.siblings standing.used) (standing.node % n) standing.digest) → has_rows s (suc l)
+      (insert (step_siblings n o.siblings progress.used) (progress.node % n) progress.digest) → has_rows s (suc l)
       ≡ true →
       (pair : List (List W)) → pair
       ≡ padded s.arity f.default_digest (f.compression group ∷ f.hash (words_of_exponent y (zip (heights s) o.rows))
-      ∷ []) → IsAbove n y (f.compression pair) standing above →
+      ∷ []) → IsAbove n y (f.compression pair) progress above →
       IsLevelOfCheck f s o l (record { level = l; group = group; pair = Some pair; above = above })
   level_with_rows from at e has pair p up =
       let whole = group_is from at e in
@@ -102,15 +103,15 @@ module _ {T W : Type 0} (f : Functions T W) (s : Shape) (o : Opening T W) (l n y
       record {
         at_level = refl;
         inputs_are = rw (whole, full) (sym (inputs_with_rows f s o l has));
-        stands = stands_above from at up (ap f.compression full ∙ sym next);
+        progress = progress_above from at up (ap f.compression full ∙ sym next);
       }
 
   -- a level without
-  pub level_alone : IsStepFrom s l n y → StandsAt f s o l standing →
+  pub level_alone : IsStepFrom s l n y → IsProgress f s o l progress →
       group ≡ padded s.arity f.default_digest
-      (insert (step_siblings n o.siblings standing.used) (standing.node % n) standing.digest) → has_rows s (suc l)
+      (insert (step_siblings n o.siblings progress.used) (progress.node % n) progress.digest) → has_rows s (suc l)
       ≡ false →
-      IsAbove n y (f.compression group) standing above →
+      IsAbove n y (f.compression group) progress above →
       IsLevelOfCheck f s o l (record { level = l; group = group; pair = None; above = above })
   level_alone from at e has up =
       let whole = group_is from at e in
@@ -118,5 +119,5 @@ module _ {T W : Type 0} (f : Functions T W) (s : Shape) (o : Opening T W) (l n y
       record {
         at_level = refl;
         inputs_are = rw whole (sym (inputs_alone f s o l has));
-        stands = stands_above from at up (ap f.compression whole ∙ sym next);
+        progress = progress_above from at up (ap f.compression whole ∙ sym next);
       }

@@ -11,7 +11,7 @@ use Rattle.p3_merkle_core.specs.Nodes.{Functions}
 use Rattle.p3_merkle_core.specs.Openings.{Opening}
 use Rattle.p3_merkle_core.specs.Checks.{Input, inputs_at, layer_words, leaf_input, words_at, words_of_exponent}
 use Rattle.p3_merkle_core.specs.Refusals.{unless}
-use Rattle.p3_merkle_verifier.specs.Inner.Checks.{IsLevelOfCheck, StandsAt, leaf_difference, level_difference}
+use Rattle.p3_merkle_verifier.specs.Inner.Checks.{IsLevelOfCheck, IsProgress, leaf_difference, level_difference}
 use Rattle.p3_merkle_verifier.specs.Inner.Collisions.{IsDifference, Shows, level_inputs}
 use Rattle.p3_merkle_core.specs.declared.collision.Place.TheVariants.{Leaf}
 use Rattle.p3_merkle_core.specs.declared.collision.InputPair.{InputPair}
@@ -24,8 +24,8 @@ use Rattle.p3_support.specs.Shown.{row_lists}
 -- the checks of two openings stand at layer l, and this is the last difference below it
 pub record StandTogether {T W : Type 0} (test : Input T W → Input T W → Bool) (f : Functions T W) (s : Shape)
     (o u : Opening T W) (l : ℕ) (first second : Progress (List W)) (last : Option (InputPair T (List W))) : Type 0 where
-  pub first_stands : StandsAt f s o l first
-  pub second_stands : StandsAt f s u l second
+  pub first_progress : IsProgress f s o l first
+  pub second_progress : IsProgress f s u l second
   pub found : Shows last (difference_below test f s o u l)
 
 -- the same words, by the same dimensions, exponent and rows
@@ -86,12 +86,12 @@ pub found_next : {T W : Type 0} (test : Input T W → Input T W → Bool) (f : F
     ⊎ ((mine.above.node ≡ theirs.above.node → ⊥) × (next ≡ last)) →
     Shows next (difference_below test f s o u (l + 1))
 found_next test f s l o u last next mine theirs m n below (inl k) =
-    let met = eq-eqb (ancestor s (suc l) o.index) (ancestor s (suc l) u.index) (sym m.stands.at_node ∙ k.0
-    ∙ n.stands.at_node) in
+    let met = eq-eqb (ancestor s (suc l) o.index) (ancestor s (suc l) u.index) (sym m.progress.at_node ∙ k.0
+    ∙ n.progress.at_node) in
     let here : Shows (k.1.0) (level_difference test f s l o u) = rw met (k.1.1) in
     rw (add-one, k.1.2) (shows_later (k.1.0) last (level_difference test f s l o u) (difference_below test f s o u l)
     here below)
 found_next test f s l o u last next mine theirs m n below (inr k) =
     let apart = ne_eqb (ancestor s (suc l) o.index) (ancestor s (suc l) u.index)
-    (λ e. k.0 (m.stands.at_node ∙ e ∙ sym n.stands.at_node)) in
+    (λ e. k.0 (m.progress.at_node ∙ e ∙ sym n.progress.at_node)) in
     rw (add-one, k.1, apart) below

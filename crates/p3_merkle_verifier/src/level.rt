@@ -1,4 +1,4 @@
-//! One level of a check: what it compresses, and where the check stands above it.
+//! One level of a check: what it compresses, and how far the check is above it.
 
 ghost use Rattle.std.specs.Prelude.{insert, ◌≡◌, ◌+◌, ◌-◌, ◌%◌, ◌^◌, ◌<◌, length, replicate, zip};
 ghost use Rattle.p3_merkle_core.specs.Geometry.{layer_exponent, shape_of};
@@ -6,7 +6,7 @@ ghost use Rattle.p3_merkle_core.specs.Checks.{words_of_exponent};
 ghost use Rattle.p3_support.specs.Batches.{heights_of};
 ghost use Rattle.p3_merkle_core.specs.Nodes.{functions_of, padded};
 ghost use Rattle.p3_merkle_verifier.specs.Inner.Checks.{opening_in, step_siblings, CanClimb, CanStep, IsAbove};
-ghost use Rattle.p3_merkle_verifier.specs.Inner.Checks.{IsLevelOfCheck, StandsAt};
+ghost use Rattle.p3_merkle_verifier.specs.Inner.Checks.{IsLevelOfCheck, IsProgress};
 ghost use Rattle.p3_merkle_verifier.specs.Inner.Paths.{CanReach};
 ghost use Rattle.p3_support.specs.Shown.{row_lists};
 
@@ -20,7 +20,7 @@ use p3_support::matrix::Dimensions;
 use p3_support::packed::PackedValue;
 use std::marker::PhantomData;
 
-/// How far the check of an opening has come: it stands at a node on the leaf's path.
+/// How far the check of an opening is on the path from the leaf.
 #[derive(Clone, Copy)]
 pub struct Progress<X> {
     /// The exponent of the node's layer.
@@ -67,7 +67,7 @@ impl<X: Copy> Progress<X> {
     }
 }
 
-/// One level of the check of an opening: what it compresses, and where the check stands above it.
+/// One level of the check of an opening: what it compresses, and how far the check is above it.
 #[derive(Clone, Copy)]
 pub struct CheckedLevel<X, G> {
     /// The level, counted from the leaves.
@@ -76,7 +76,7 @@ pub struct CheckedLevel<X, G> {
     pub group: G,
     /// The digests of the group and of the rows, if matrices are injected at the layer above.
     pub pair: Option<G>,
-    /// Where the check stands above the level.
+    /// How far the check is above the level.
     pub above: Progress<X>,
 }
 
@@ -93,7 +93,7 @@ pub fn opened_rows_digest<
     hash.hash_iter_slices(opened_slices(dimensions, rows, exponent))
 }
 
-/// Starts the check of an opening: it stands at the leaf.
+/// Starts the check of an opening, at the leaf.
 pub(crate) fn leaf<
     P: PackedValue,
     PW: PackedValue,
@@ -152,19 +152,19 @@ impl<
     const N: usize,
     const D: usize,
 > Checker<'a, P, PW, H, C, [[PW::Value; D]; N]> {
-    /// Checks one level: it leads from where the check stands to the layer above.
+    /// Checks one level, from the layer that the check has reached to the one above.
     pub(crate) fn checked_level(
         &self,
         steps: &Steps<'_>,
         level: usize,
         opening: IndexedOpening<'_, P::Value, [PW::Value; D]>,
-        standing: &Progress<[PW::Value; D]>,
+        progress: &Progress<[PW::Value; D]>,
     ) -> CheckedLevel<[PW::Value; D], [[PW::Value; D]; N]>
         requires arity { steps.now.arity ≡ N }
         requires level { level < steps.now.num_levels }
-        requires stands { let f = functions_of (H.hash self.now.hash.now) (C.compression self.now.compress.now)
+        requires progress { let f = functions_of (H.hash self.now.hash.now) (C.compression self.now.compress.now)
             (replicate D PW.default_value) in
-            StandsAt f (shape_of N steps.now.dimensions.now) (opening_in opening) level standing.now }
+            IsProgress f (shape_of N steps.now.dimensions.now) (opening_in opening) level progress.now }
         requires climbs { CanClimb (shape_of N steps.now.dimensions.now) level (length opening.siblings.now) }
         ensures { let f = functions_of (H.hash self.now.hash.now) (C.compression self.now.compress.now)
             (replicate D PW.default_value) in
@@ -174,9 +174,9 @@ impl<
             step,
             has_rows,
             exponent,
-        } = steps.up(N, level, standing.exponent);
+        } = steps.up(N, level, progress.exponent);
         let default_digest = [PW::Value::default(); D];
-        let group = standing.group::<N>(default_digest, step, opening.siblings);
+        let group = progress.group::<N>(default_digest, step, opening.siblings);
         let node = self.compress.compress(group);
         if has_rows {
             let rows = opened_rows_digest::<P, PW, H, D>(
@@ -190,14 +190,14 @@ impl<
                 level,
                 group,
                 pair: Some(pair),
-                above: standing.above(step, exponent, self.compress.compress(pair)),
+                above: progress.above(step, exponent, self.compress.compress(pair)),
             }
         } else {
             CheckedLevel {
                 level,
                 group,
                 pair: None,
-                above: standing.above(step, exponent, node),
+                above: progress.above(step, exponent, node),
             }
         }
     }

@@ -43,12 +43,12 @@ impl<
             result.0 ≡ path_digest f (shape_of N steps.now.dimensions.now) (opening_in opening.entry) cap_layer }
         ensures node { result.1 ≡ ancestor (shape_of N steps.now.dimensions.now) cap_layer opening.entry.index }
     {
-        let mut standing = leaf::<P, PW, H, D>(self.hash, steps, opening);
+        let mut progress = leaf::<P, PW, H, D>(self.hash, steps, opening);
         for level in 0..cap_layer {
             tell_siblings(steps.dimensions, N, cap_layer, level, opening.siblings);
-            standing = self.checked_level(steps, level, opening, &standing).above;
+            progress = self.checked_level(steps, level, opening, &progress).above;
         }
-        (standing.digest, standing.node)
+        (progress.digest, progress.node)
     }
 
     /// Checks an opening against the roots of a cap: its form, and that its path leads to the root above the leaf. It

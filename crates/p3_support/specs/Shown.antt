@@ -4,9 +4,9 @@ use Rattle.std.specs.declared.vec.Vec.{Vec}
 use Rattle.p3_support.specs.declared.opening.DigestRef.{DigestRef}
 use Rattle.p3_support.specs.declared.opening.MerkleCap.{MerkleCap}
 
--- the digest that is lent
-abbrev pub lent_digest : {F X : Type 0} → DigestRef F X → X
-lent_digest lent = lent.value.now
+-- the digest that a reference holds
+abbrev pub digest_of_ref : {F X : Type 0} → DigestRef F X → X
+digest_of_ref reference = reference.value.now
 
 -- the digests of a cap
 abbrev pub roots_of : {F X : Type 0} → MerkleCap F X → List X

@@ -17,9 +17,9 @@ pub struct DigestRef<'a, F, X> {
 pub type Hash<'a, F, W, const D: usize> = DigestRef<'a, F, [W; D]>;
 
 impl<'a, F, X> From<&'a X> for DigestRef<'a, F, X> {
-    ghost use Rattle.p3_support.specs.Shown.{lent_digest};
+    ghost use Rattle.p3_support.specs.Shown.{digest_of_ref};
 
-    ghost from_gives = { λ digest lent. lent_digest lent ≡ digest.now };
+    ghost from_gives = { λ digest lent. digest_of_ref lent ≡ digest.now };
 
     fn from(value: &'a X) -> DigestRef<'a, F, X> {
         DigestRef {
@@ -30,11 +30,11 @@ impl<'a, F, X> From<&'a X> for DigestRef<'a, F, X> {
 }
 
 impl<'a, F, X> DigestRef<'a, F, X> {
-    ghost use Rattle.p3_support.specs.Shown.{lent_digest};
+    ghost use Rattle.p3_support.specs.Shown.{digest_of_ref};
 
     /// The digest.
     pub fn value(&self) -> &'a X
-        ensures { result.now ≡ lent_digest self.now }
+        ensures { result.now ≡ digest_of_ref self.now }
     {
         self.value
     }

@@ -151,7 +151,7 @@ unknown_is n parents covered digests sent w =
 -- a place among the digests that were sent, for a child that is not the next covered node
 pub record IsSent (place known count : ℕ) : Type 0 where
   pub behind : known ≤ place
-  pub room : place - known < count
+  pub below : place - known < count
   pub within : place - known ≤ count
 
 uncovered : {X : Type 0} (n : ℕ) (parents covered : List ℕ) (digests sent : List X) →
@@ -164,22 +164,22 @@ uncovered n parents covered digests sent w place known values h k other =
     (λ t. let next = next_known n parents covered digests sent w place known values h k t in
     other next.0 (next.1 ∙ child_at n parents place h))
 
-pub sent_room : {X : Type 0} (n : ℕ) (parents covered : List ℕ) (digests sent : List X) →
+pub is_sent : {X : Type 0} (n : ℕ) (parents covered : List ℕ) (digests sent : List X) →
     IsFamily n parents covered digests sent → (place known : ℕ) (values : List X) → place < n * length parents →
     IsWalked covered (children_under n parents) digests sent place known values →
     (known < length covered → get_or covered known 0 ≡ n * get_or parents (place / n) 0 + place % n → ⊥) →
     IsSent place known (length sent)
-sent_room n parents covered digests sent w place known values h k other =
+is_sent n parents covered digests sent w place known values h k other =
     let js = children_under n parents in
     let f = uncovered n parents covered digests sent w place known values h k other in
     let split = split_at n parents covered digests sent place known values (omega arith) k in
-    let room = filter_at (λ j. not (is_among covered j)) js place (omega (arith, children_length n parents))
+    let kept = filter_at (λ j. not (is_among covered j)) js place (omega (arith, children_length n parents))
     (not_from_false (is_among covered (get_or js place 0)) f) in
     let inside : place - known < length sent =
-    omega (arith, room.0, unknown_is n parents covered digests sent w, w.enough) in
+    omega (arith, kept.0, unknown_is n parents covered digests sent w, w.enough) in
     record {
       behind = omega arith;
-      room = inside;
+      below = inside;
       within = omega arith;
     }
 
@@ -234,10 +234,10 @@ unknown_more {X} n parents covered digests sent w place known values h k other x
     let js = children_under n parents in
     let long : place < length js = omega (arith, children_length n parents) in
     let f = uncovered n parents covered digests sent w place known values h k other in
-    let room = sent_room n parents covered digests sent w place known values h k other in
-    let z : (place + 1) - known ≡ place - known + 1 = omega (arith, room.behind) in
+    let left = is_sent n parents covered digests sent w place known values h k other in
+    let z : (place + 1) - known ≡ place - known + 1 = omega (arith, left.behind) in
     let next : take (place - known + 1) sent ≡ take (place - known) sent ++ x ∷ [] =
-    take_more sent (place - known) x room.room ∙ ap (λ (y : X). take (place - known) sent ++ y ∷ []) (sym read) in
+    take_more sent (place - known) x left.below ∙ ap (λ (y : X). take (place - known) sent ++ y ∷ []) (sym read) in
     rw (more_is, items)
     record {
       count = let counted = length-filter_more (is_among covered) js place 0 long in let m = rw f at counted in

@@ -40,7 +40,7 @@ pub record IsNextLevel {X : Type 0} (s : Shape) (indices : List ℕ) (l : ℕ) (
   pub rows_are : next_level.has_rows ≡ has_rows s (suc l)
   pub wide : 0 < next_level.step
   pub narrow : next_level.step ≤ s.arity
-  pub stands : IsCoveredAt s indices (suc l) next_level.above
+  pub coverage : IsCoveredAt s indices (suc l) next_level.above
   pub in_groups : length next_level.above.leads.items ≡ length next_level.children.items / next_level.step
   pub values : AreChildren next_level.step next_level.above.nodes.items covered.nodes.items digests
       (drop covered.used sent) next_level.children.items
@@ -48,7 +48,7 @@ pub record IsNextLevel {X : Type 0} (s : Shape) (indices : List ℕ) (l : ℕ) (
 -- the covered nodes of layer l, and the digests that are restored of them
 pub record AreRestored {T W : Type 0} (f : Functions T W) (s : Shape) (cap_layer : ℕ) (p : PrunedOpening T W) (l : ℕ)
     (covered : Covered) (digests : List (List W)) : Type 0 where
-  pub stands : IsCoveredAt s p.indices l covered
+  pub coverage : IsCoveredAt s p.indices l covered
   pub each : length digests ≡ length covered.nodes.items
   pub restored : digests ≡ map (restored_node (terms f s cap_layer) p l) (covered_at s p.indices l)
 
@@ -64,7 +64,7 @@ pub record IsValuedLevel {T W : Type 0} (f : Functions T W) (s : Shape) (cap_lay
   pub step_is : next_level.step ≡ step s l
   pub wide : 0 < next_level.step
   pub full : length next_level.children.items ≡ next_level.step * length next_level.above.nodes.items
-  pub stands : IsCoveredAt s p.indices (suc l) next_level.above
+  pub coverage : IsCoveredAt s p.indices (suc l) next_level.above
   pub values_are : next_level.children.items ≡ child_values f s cap_layer p l
 
 -- the levels that a walk kept up to layer l: the covered nodes above each, its step, and the values of its children

@@ -27,19 +27,19 @@ abbrev pub step_siblings : {X : Type 0} → ℕ → List X → ℕ → List X
 step_siblings step siblings used = take (step - 1) (drop used siblings)
 
 -- one step higher, at a layer of this exponent, with this digest
-pub record IsAbove {X : Type 0} (step exponent : ℕ) (digest : X) (standing above : Progress X) : Type 0 where
+pub record IsAbove {X : Type 0} (step exponent : ℕ) (digest : X) (progress above : Progress X) : Type 0 where
   pub at_exponent : above.exponent ≡ exponent
-  pub at_node : above.node ≡ standing.node / step
-  pub taken : above.used ≡ standing.used + (step - 1)
+  pub at_node : above.node ≡ progress.node / step
+  pub taken : above.used ≡ progress.used + (step - 1)
   pub reached : above.digest ≡ digest
 
--- the check of an opening stands at layer l: at the node above the leaf, whose digest is the one that the path reaches
-pub record StandsAt {T W : Type 0} (f : Functions T W) (s : Shape) (o : Opening T W) (l : ℕ)
-    (standing : Progress (List W)) : Type 0 where
-  pub at_exponent : standing.exponent ≡ layer_exponent s l
-  pub at_node : standing.node ≡ ancestor s l o.index
-  pub taken : standing.used ≡ siblings_below s l
-  pub reached : standing.digest ≡ path_digest f s o l
+-- how far the check of an opening is at layer l: at the node above the leaf, with the digest that the path reaches
+pub record IsProgress {T W : Type 0} (f : Functions T W) (s : Shape) (o : Opening T W) (l : ℕ)
+    (progress : Progress (List W)) : Type 0 where
+  pub at_exponent : progress.exponent ≡ layer_exponent s l
+  pub at_node : progress.node ≡ ancestor s l o.index
+  pub taken : progress.used ≡ siblings_below s l
+  pub reached : progress.digest ≡ path_digest f s o l
 
 -- a check can climb level l: the arity is one, and there are siblings for this level and those below it
 pub record CanClimb (s : Shape) (l count : ℕ) : Type 0 where
@@ -51,7 +51,7 @@ pub record IsLevelOfCheck {T W : Type 0} (f : Functions T W) (s : Shape) (o : Op
     (level : CheckedLevel (List W) (List (List W))) : Type 0 where
   pub at_level : level.level ≡ l
   pub inputs_are : level_inputs l (layer_words s o.rows (suc l)) level ≡ inputs_at f s o l
-  pub stands : StandsAt f s o (suc l) level.above
+  pub progress : IsProgress f s o (suc l) level.above
 
 -- the inputs of the leaf, if the checks of o and u share it and they differ
 abbrev pub leaf_difference : {T W : Type 0} → (Input T W → Input T W → Bool) → Shape → Opening T W → Opening T W →

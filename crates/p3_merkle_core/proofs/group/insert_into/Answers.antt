@@ -6,18 +6,18 @@ use Rattle.p3_merkle_core.proofs.group.insert_into.Goals.{then-k-position, else-
 
 pub loop-k-init : goal.loop-k-init
 loop-k-init g c = put_first c.args.slots.now c.args.others.now c.args.position c.args.value c.requires.placed
-    c.requires.room
+    c.requires.fits
 
 pub loop-k-preserved : goal.loop-k-preserved
 loop-k-preserved g c =
     elim c.if-k-position.branch [
       | then-k-position w ↦
           rw (w.slot-is, c.loop-k.invariant)
-          (put_before c.args.slots.now c.args.others.now c.args.position c.args.value c.requires.placed c.requires.room
+          (put_before c.args.slots.now c.args.others.now c.args.position c.args.value c.requires.placed c.requires.fits
           c.loop-k.k c.index-others-k.result c.loop-k-test.true c.index-others-k.is w.if-k-position.true)
       | else-k-position w ↦
           rw (w.slot-is, c.loop-k.invariant)
-          (put_behind c.args.slots.now c.args.others.now c.args.position c.args.value c.requires.placed c.requires.room
+          (put_behind c.args.slots.now c.args.others.now c.args.position c.args.value c.requires.placed c.requires.fits
           c.loop-k.k c.index-others-k.result c.loop-k-test.true c.index-others-k.is w.if-k-position.false)
     ]
 
@@ -26,4 +26,4 @@ returns g c =
     let end : c.loop-k.k ≡ length c.args.others.now = omega arith in
     c.loop-k.invariant
     ∙ rw end (put_all c.args.slots.now c.args.others.now c.args.position c.args.value c.requires.placed
-    c.requires.room)
+    c.requires.fits)

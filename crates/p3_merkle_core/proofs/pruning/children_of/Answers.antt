@@ -2,7 +2,7 @@
 use Rattle.std.proofs.Common.{◌≡◌, ◌+◌, ◌-◌, ◌*◌, ◌/◌, ◌%◌, ◌<◌, ◌∙◌, ap, sym, arith, get_or, length}
 use Rattle.std.specs.declared.vec.Vec.{Vec}
 use Rattle.p3_merkle_core.specs.Inner.Children.{children_under}
-use Rattle.p3_merkle_core.proofs.Covered.ChildFacts.{IsSent, walk_start, walk_end, known_more, unknown_more, sent_room}
+use Rattle.p3_merkle_core.proofs.Covered.ChildFacts.{IsSent, walk_start, walk_end, known_more, unknown_more, is_sent}
 use Rattle.p3_merkle_core.proofs.Covered.ChildFacts.{none_next, placed_at}
 use Rattle.p3_merkle_core.proofs.pruning.children_of.Given.{Over}
 use Rattle.p3_merkle_core.proofs.pruning.children_of.Goals as goal
@@ -17,20 +17,21 @@ loop-parent-init g c =
     record {
       walked = rw none (walk_start c.args.covered.now (children_under c.args.step c.args.parents.now)
           c.args.digests.now c.args.sent.now c.in_ok-children.children.items c.in_ok-children.ensures.items);
-      room = c.in_ok-children.ensures.exact;
+      capacity = c.in_ok-children.ensures.exact;
     }
 
 -- a digest is left for a child that is not covered
-room : (g : Over) (c : goal.After-len g) →
+left : (g : Over) (c : goal.After-len g) →
     IsSent c.len.result c.loop-child.known (length c.args.sent.now)
-room g c =
+left g c =
     let n = c.args.step in
     let i = c.loop-parent.parent-index in
     let first = n * get_or c.args.parents.now i 0 in
     let at = placed_at n i c.args.parents.now first c.loop-child.child (omega arith) (omega arith) (omega arith)
     (omega arith) in
-    let long : c.len.result ≡ n * i + (c.loop-child.child - first) = omega (arith, c.loop-child.invariant.walked.each) in
-    rw long (sent_room n c.args.parents.now c.args.covered.now c.args.digests.now c.args.sent.now c.requires
+    let long : c.len.result ≡ n * i + (c.loop-child.child - first) =
+    omega (arith, c.loop-child.invariant.walked.each) in
+    rw long (is_sent n c.args.parents.now c.args.covered.now c.args.digests.now c.args.sent.now c.requires
     (n * i + (c.loop-child.child - first)) c.loop-child.known c.loop-child.children.items at.inside
     c.loop-child.invariant.walked
     (λ h e. elim c.else-known-covered.branch [
@@ -41,13 +42,13 @@ room g c =
     ]))
 
 pub overflow_sub-len : goal.overflow_sub-len
-overflow_sub-len g c = (room g c).behind
+overflow_sub-len g c = (left g c).behind
 
 pub offset_bounds-sent-len : goal.offset_bounds-sent-len
-offset_bounds-sent-len g c = (room g c).within
+offset_bounds-sent-len g c = (left g c).within
 
 pub bounds-sent-len : goal.bounds-sent-len
-bounds-sent-len g c = (room g c).room
+bounds-sent-len g c = (left g c).below
 
 pub loop-child-preserved : goal.loop-child-preserved
 loop-child-preserved g c =
@@ -82,13 +83,13 @@ loop-child-preserved g c =
             other w.index-sent-len.result c.if-known-covered.known c.if-known-covered.children.items
             read w.known-is (ap (λ v. v.items) w.children-is ∙ w.push_reserved-else-known-covered.ensures.items)
       ]);
-      room = elim c.if-known-covered.branch [
+      capacity = elim c.if-known-covered.branch [
         | then-known-covered+then-covered-known w ↦
             ap (λ (v : Vec _ _). v.cap) w.children-is ∙ w.push_reserved.ensures.capacity
-            ∙ c.loop-child.invariant.room
+            ∙ c.loop-child.invariant.capacity
         | else-known-covered w ↦
             ap (λ (v : Vec _ _). v.cap) w.children-is ∙ w.push_reserved-else-known-covered.ensures.capacity
-            ∙ c.loop-child.invariant.room
+            ∙ c.loop-child.invariant.capacity
       ];
     }
 

@@ -3,12 +3,12 @@ use Rattle.p3_merkle_core.specs.Inner.Children.{children_under}
 use Rattle.p3_merkle_core.proofs.Covered.ChildFacts.{IsWalked}
 use Rattle.p3_merkle_core.proofs.pruning.children_of.Given as goal
 
--- the values of the children of the parents so far, of which `known` are covered, and the room for all
+-- the values of the children of the parents so far, of which `known` are covered, and the capacity for all
 abbrev pub invariant-loop-parent : goal.invariant-loop-parent
 invariant-loop-parent g l = record {
   walked : IsWalked l.covered (children_under l.step l.parents) l.digests l.sent (l.step * l.parent-index) l.known
       l.children.items;
-  room : l.children.cap ≡ l.step * length l.parents;
+  capacity : l.children.cap ≡ l.step * length l.parents;
 }
 
 -- and of those of this parent so far
@@ -16,5 +16,5 @@ abbrev pub invariant-loop-child : goal.invariant-loop-child
 invariant-loop-child g l = record {
   walked : IsWalked l.covered (children_under l.step l.parents) l.digests l.sent
       (l.step * l.parent-index + (l.child - l.first)) l.known l.children.items;
-  room : l.children.cap ≡ l.step * length l.parents;
+  capacity : l.children.cap ≡ l.step * length l.parents;
 }

@@ -31,7 +31,7 @@ loop-sibling-preserved g c =
           (group_fits n c.in-Some.place (length level.parents.items) (length level.children.items) here.0 level.full)
           (omega arith) (omega arith) which refl refl c.index.ensures c.push_reserved.ensures.items so_far.siblings;
       count = omega (arith, c.push_reserved.ensures.len, so_far.count);
-      room = omega (arith, c.push_reserved.ensures.capacity, so_far.room);
+      capacity = omega (arith, c.push_reserved.ensures.capacity, so_far.capacity);
     }
 
 pub returns-clause-siblings : goal.returns-clause-siblings

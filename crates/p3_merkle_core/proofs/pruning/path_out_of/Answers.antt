@@ -8,15 +8,15 @@ pub loop-level-init : goal.loop-level-init
 loop-level-init g c = record {
   walked = path_start (map (λ level. (level.parents.items, level.step, level.children.items)) c.args.levels.now)
       c.args.index c.in_ok-path.path.items c.in_ok-path.ensures.items;
-  room = omega (arith, c.requires, c.in_ok-path.ensures.len, c.in_ok-path.ensures.exact);
+  capacity = omega (arith, c.requires, c.in_ok-path.ensures.len, c.in_ok-path.ensures.exact);
 }
 
--- room for the siblings of this level
+-- capacity for the siblings of this level
 pub extend_with_siblings-parent-requires : goal.extend_with_siblings-parent-requires
 extend_with_siblings-parent-requires g c =
     omega (
       arith,
-      c.loop-level.invariant.room,
+      c.loop-level.invariant.capacity,
       siblings_left (λ level. level.step - 1) c.args.levels.now
           c.loop-level.level c.index-levels-level.result c.loop-level-test.true c.index-levels-level.is,
     )
@@ -28,9 +28,9 @@ loop-level-preserved g c = record {
       c.loop-level.level c.loop-level.node c.index-levels-level.result c.loop-level.path.items
       c.extend_with_siblings-parent.new.path.items c.loop-level-test.true c.index-levels-level.is
       c.loop-level.invariant.walked c.extend_with_siblings-parent.ensures.siblings);
-  room = omega (
+  capacity = omega (
     arith,
-    c.loop-level.invariant.room,
+    c.loop-level.invariant.capacity,
     c.extend_with_siblings-parent.ensures.count,
     c.extend_with_siblings-parent.ensures.capacity,
     siblings_left (λ level. level.step - 1) c.args.levels.now

@@ -16,7 +16,7 @@ loop-n-preserved g c = (
       let n = c.loop-n.n in
       let child = c.packed_child.result in
       let first = map lane c.args.places.now in
-      let room : n < length first = omega (arith, length-map c.args.places.now lane, c.requires.room) in
+      let room : n < length first = omega (arith, length-map c.args.places.now lane, c.requires.fits) in
       let whole = take step (drop (step * (c.args.first + k)) below) in
       let long : n < length whole =
       omega (arith, children_long below step c.args.first k g.PW.PackedValue.WIDTH small c.requires.inside) in

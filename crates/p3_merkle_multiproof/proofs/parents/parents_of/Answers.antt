@@ -72,20 +72,20 @@ loop-slot-preserved c =
             | else-slot-eq0+else-previous-parent w ↦ rw w.above-is (so_far.among n all)
           ];
       before = λ p. let back : i + 1 - 1 ≡ i = omega arith in rw back parent;
-      parents_room = elim c.if-slot-eq0.branch [
+      parents_capacity = elim c.if-slot-eq0.branch [
         | then-slot-eq0 w ↦ rw w.parents-is (
-          omega (arith, w.push_reserved.ensures.len, so_far.parents_room.0),
-          w.push_reserved.ensures.capacity ∙ so_far.parents_room.1,
+          omega (arith, w.push_reserved.ensures.len, so_far.parents_capacity.0),
+          w.push_reserved.ensures.capacity ∙ so_far.parents_capacity.1,
         )
         | else-slot-eq0+else-previous-parent w ↦
-            rw w.parents-is (omega (arith, so_far.parents_room.0), so_far.parents_room.1)
+            rw w.parents-is (omega (arith, so_far.parents_capacity.0), so_far.parents_capacity.1)
       ];
-      leads_room = elim c.if-slot-eq0.branch [
+      leads_capacity = elim c.if-slot-eq0.branch [
         | then-slot-eq0 w ↦ rw w.above-is (
-          omega (arith, w.push_reserved-then-slot-eq0.ensures.len, so_far.leads_room.0),
-          w.push_reserved-then-slot-eq0.ensures.capacity ∙ so_far.leads_room.1,
+          omega (arith, w.push_reserved-then-slot-eq0.ensures.len, so_far.leads_capacity.0),
+          w.push_reserved-then-slot-eq0.ensures.capacity ∙ so_far.leads_capacity.1,
         )
         | else-slot-eq0+else-previous-parent w ↦
-            rw w.above-is (omega (arith, so_far.leads_room.0), so_far.leads_room.1)
+            rw w.above-is (omega (arith, so_far.leads_capacity.0), so_far.leads_capacity.1)
       ];
     }

@@ -2,7 +2,7 @@ use Rattle.std.proofs.Common.{◌≡◌, ◌<◌, ◌≤◌, ◌/◌, ◌-◌, �
 use Rattle.std.specs.List.{dedup}
 use Rattle.p3_merkle_multiproof.proofs.parents.parents_of.Given as goal
 
--- the parents so far, their leads, the parent of the node before, and the room for more
+-- the parents so far, their leads, the parent of the node before, and the capacity for more
 abbrev pub invariant-loop-slot : goal.invariant-loop-slot
 invariant-loop-slot l = record {
   parents : l.parents.items ≡ dedup eqb (take l.slot (map (λ j. j / l.step) l.nodes));
@@ -10,6 +10,6 @@ invariant-loop-slot l = record {
       ≡ dedup eqb (take l.slot (map (λ j. j / l.step) l.nodes));
   among : (n : ℕ) → All (λ k. k < n) l.leads → All (λ k. k < n) l.above.items;
   before : 0 < l.slot → l.previous ≡ get_or l.nodes (l.slot - 1) 0 / l.step;
-  parents_room : (l.parents.len ≤ l.slot) × (l.parents.cap ≡ length l.nodes);
-  leads_room : (l.above.len ≤ l.slot) × (l.above.cap ≡ length l.nodes);
+  parents_capacity : (l.parents.len ≤ l.slot) × (l.parents.cap ≡ length l.nodes);
+  leads_capacity : (l.above.len ≤ l.slot) × (l.above.cap ≡ length l.nodes);
 }

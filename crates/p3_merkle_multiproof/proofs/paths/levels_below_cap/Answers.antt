@@ -14,7 +14,7 @@ invariant_of-push g c =
     record {
       some = up.wide;
       full = up.values.each;
-      ascending = rw up.stands.nodes_are
+      ascending = rw up.coverage.nodes_are
           (covered_up_list (tree_of restorable) restorable.opening.indices.now (suc (restorable.cap_layer - 1)));
     }
 

@@ -14,7 +14,7 @@ returns-then-are_entries-clause-answer g c =
     let cap = c.in_ok-cap in
     let is = cap_settled g.PW.Value.PartialEq.eq f (tree_of restorable) restorable.cap_layer c.args.roots.now
     (opened_by restorable) restorable.queried cap.cap.covered.nodes.items cap.cap.digests.items c.are_entries.result
-    cap.ensures.restored.stands.nodes_are cap.ensures.restored.restored
+    cap.ensures.restored.coverage.nodes_are cap.ensures.restored.restored
     (rw (c.deref.ensures.value, c.deref-2.ensures.value) at c.are_entries.ensures) in
     rw c.if-are_entries.true at is
 
@@ -27,6 +27,6 @@ returns-clause-answer g c =
     let cap = c.in_ok-cap in
     let is = cap_settled g.PW.Value.PartialEq.eq f (tree_of restorable) restorable.cap_layer c.args.roots.now
     (opened_by restorable) restorable.queried cap.cap.covered.nodes.items cap.cap.digests.items c.are_entries.result
-    cap.ensures.restored.stands.nodes_are cap.ensures.restored.restored
+    cap.ensures.restored.coverage.nodes_are cap.ensures.restored.restored
     (rw (c.deref.ensures.value, c.deref-2.ensures.value) at c.are_entries.ensures) in
     inr (rw c.if-are_entries.false at is)

@@ -37,7 +37,7 @@ invariant_of-push g c =
     record {
       some = up.wide;
       full = rw parents up.full;
-      ascending = rw (parents ∙ up.stands.nodes_are)
+      ascending = rw (parents ∙ up.coverage.nodes_are)
           (covered_up_list (tree_of restorable) restorable.opening.indices.now (suc c.loop-level.level));
     }
 

@@ -17,7 +17,7 @@ loop-first-preserved g c =
     let f = leaf_over hash (replicate g.row.D g.PW.PackedValue.default_value) rows h in
     let made = λ (j : ℕ). hash (rows (first + j)) in
     let few : first + n ≤ c.args.count = omega arith in
-    let inside : first + n ≤ length xs = omega (arith, few, c.loop-first.invariant.1.long, c.requires.room) in
+    let inside : first + n ≤ length xs = omega (arith, few, c.loop-first.invariant.1.long, c.requires.fits) in
     let same : k ≡ n = omega arith in (
       few,
       fill_part f made xs c.hash_rows.new.slots first k n (length c.args.slots.now) same inside

@@ -13,7 +13,7 @@ loop-group-init g c = record { long = refl; filled = λ j none. absurd (omega (a
 pub unpack_at-requires : goal.unpack_at-requires
 unpack_at-requires g c =
     let end = group_end c.loop-group.group g.PW.PackedValue.WIDTH c.args.groups (length c.args.slots.now)
-    c.loop-group-test.true c.requires.room in
+    c.loop-group-test.true c.requires.fits in
     (c.requires.digest (omega arith), (search rules, rw (c.WIDTH.ensures, c.loop-group.invariant.long) end))
 
 pub loop-group-preserved : goal.loop-group-preserved

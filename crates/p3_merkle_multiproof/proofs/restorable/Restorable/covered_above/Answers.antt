@@ -13,14 +13,14 @@ overflow_mul-children g c =
     let s = tree_of restorable in
     let l = c.args.level in
     let below = c.args.below.now in
-    let stands = c.requires.stands in
+    let coverage = c.requires.coverage in
     let n = c.up-up.result.step in
     let up : c.in_ok-nodes.nodes.items ≡ covered_at s indices (suc l) =
-    rw (c.deref.ensures.value, stands.nodes_are, c.up-up.ensures.step) at c.in_ok-nodes.ensures.parents
+    rw (c.deref.ensures.value, coverage.nodes_are, c.up-up.ensures.step) at c.in_ok-nodes.ensures.parents
     ∙ covered_above s indices restorable.cap_layer restorable.queried l c.requires.level in
     let k = turn_at s indices restorable.cap_layer restorable.queried restorable.low l n below.used
-    (length below.nodes.items) c.len.result c.requires.level c.up-up.ensures.step stands.sent_below
-    (ap length stands.nodes_are) (omega arith ∙ ap length up) in
+    (length below.nodes.items) c.len.result c.requires.level c.up-up.ensures.step coverage.sent_below
+    (ap length coverage.nodes_are) (omega arith ∙ ap length up) in
     omega (arith, k.mul_fits)
 
 pub overflow_sub-used : goal.overflow_sub-used
@@ -30,13 +30,13 @@ overflow_sub-used g c =
     let s = tree_of restorable in
     let l = c.args.level in
     let below = c.args.below.now in
-    let stands = c.requires.stands in
+    let coverage = c.requires.coverage in
     let n = c.up-up.result.step in
     let up : c.in_ok-nodes.nodes.items ≡ covered_at s indices (suc l) =
-    rw (c.deref.ensures.value, stands.nodes_are, c.up-up.ensures.step) at c.in_ok-nodes.ensures.parents
+    rw (c.deref.ensures.value, coverage.nodes_are, c.up-up.ensures.step) at c.in_ok-nodes.ensures.parents
     ∙ covered_above s indices restorable.cap_layer restorable.queried l c.requires.level in
     let k = turn_at s indices restorable.cap_layer restorable.queried restorable.low l n below.used c.len-2.result
-    c.len.result c.requires.level c.up-up.ensures.step stands.sent_below (omega arith ∙ ap length stands.nodes_are)
+    c.len.result c.requires.level c.up-up.ensures.step coverage.sent_below (omega arith ∙ ap length coverage.nodes_are)
     (omega arith ∙ ap length up) in
     omega (arith, k.sub_fits)
 
@@ -47,13 +47,13 @@ overflow_add-used g c =
     let s = tree_of restorable in
     let l = c.args.level in
     let below = c.args.below.now in
-    let stands = c.requires.stands in
+    let coverage = c.requires.coverage in
     let n = c.up-up.result.step in
     let up : c.in_ok-nodes.nodes.items ≡ covered_at s indices (suc l) =
-    rw (c.deref.ensures.value, stands.nodes_are, c.up-up.ensures.step) at c.in_ok-nodes.ensures.parents
+    rw (c.deref.ensures.value, coverage.nodes_are, c.up-up.ensures.step) at c.in_ok-nodes.ensures.parents
     ∙ covered_above s indices restorable.cap_layer restorable.queried l c.requires.level in
     let k = turn_at s indices restorable.cap_layer restorable.queried restorable.low l n below.used c.len-2.result
-    c.len.result c.requires.level c.up-up.ensures.step stands.sent_below (omega arith ∙ ap length stands.nodes_are)
+    c.len.result c.requires.level c.up-up.ensures.step coverage.sent_below (omega arith ∙ ap length coverage.nodes_are)
     (omega arith ∙ ap length up) in
     omega (arith, k.add_fits)
 
@@ -64,22 +64,22 @@ returns-clause-above g c =
     let s = tree_of restorable in
     let l = c.args.level in
     let below = c.args.below.now in
-    let stands = c.requires.stands in
+    let coverage = c.requires.coverage in
     let n = c.up-up.result.step in
     let up : c.in_ok-nodes.nodes.items ≡ covered_at s indices (suc l) =
-    rw (c.deref.ensures.value, stands.nodes_are, c.up-up.ensures.step) at c.in_ok-nodes.ensures.parents
+    rw (c.deref.ensures.value, coverage.nodes_are, c.up-up.ensures.step) at c.in_ok-nodes.ensures.parents
     ∙ covered_above s indices restorable.cap_layer restorable.queried l c.requires.level in
     let k = turn_at s indices restorable.cap_layer restorable.queried restorable.low l n below.used c.len-2.result
-    c.len.result c.requires.level c.up-up.ensures.step stands.sent_below (omega arith ∙ ap length stands.nodes_are)
+    c.len.result c.requires.level c.up-up.ensures.step coverage.sent_below (omega arith ∙ ap length coverage.nodes_are)
     (omega arith ∙ ap length up) in
     let node = node_of_query s indices l in
-    let leads = rw c.deref.ensures.value at (c.in_ok-nodes.ensures.leads node (c.deref.ensures.value ∙ stands.leads_are
-    ∙ ap (map node) (sym c.deref-2.ensures.value))) in
+    let leads = rw c.deref.ensures.value at (c.in_ok-nodes.ensures.leads node (c.deref.ensures.value
+    ∙ coverage.leads_are ∙ ap (map node) (sym c.deref-2.ensures.value))) in
     record {
       nodes_are = up;
       leads_are = up ∙ leads_rise s indices restorable.cap_layer restorable.queried l c.requires.level n
-          below.nodes.items c.in_ok-nodes.leads.items c.up-up.ensures.step stands.nodes_are leads;
-      among = c.in_ok-nodes.ensures.among (length indices) (rw c.deref-2.ensures.value stands.among);
+          below.nodes.items c.in_ok-nodes.leads.items c.up-up.ensures.step coverage.nodes_are leads;
+      among = c.in_ok-nodes.ensures.among (length indices) (rw c.deref-2.ensures.value coverage.among);
       at_exponent = c.up-up.ensures.exponent;
       sent_below = rw add-one at k.next;
     }

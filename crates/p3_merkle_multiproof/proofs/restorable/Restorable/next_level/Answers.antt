@@ -14,8 +14,8 @@ offset_bounds-self-covered g c =
     let k = left_family (tree_of restorable) opening.indices.now restorable.cap_layer restorable.queried
     restorable.low c.args.level c.requires.level up.up.step up.above.nodes.items here.nodes.items
     c.args.below.now.digests.items opening.sent.now
-    (drop here.used opening.sent.now) here.used up.ensures.step up.ensures.above.nodes_are c.requires.stands.nodes_are
-    c.requires.digests restorable.all_sent c.requires.stands.sent_below in
+    (drop here.used opening.sent.now) here.used up.ensures.step up.ensures.above.nodes_are c.requires.coverage.nodes_are
+    c.requires.digests restorable.all_sent c.requires.coverage.sent_below in
     omega (arith, k.fits)
 
 pub slice_bounds-left-count : goal.slice_bounds-left-count
@@ -27,8 +27,8 @@ slice_bounds-left-count g c =
     let k = left_family (tree_of restorable) opening.indices.now restorable.cap_layer restorable.queried
     restorable.low c.args.level c.requires.level up.up.step up.above.nodes.items here.nodes.items
     c.args.below.now.digests.items opening.sent.now
-    (drop here.used opening.sent.now) here.used up.ensures.step up.ensures.above.nodes_are c.requires.stands.nodes_are
-    c.requires.digests restorable.all_sent c.requires.stands.sent_below in
+    (drop here.used opening.sent.now) here.used up.ensures.step up.ensures.above.nodes_are c.requires.coverage.nodes_are
+    c.requires.digests restorable.all_sent c.requires.coverage.sent_below in
     omega (arith, k.fits)
 
 pub slice_bounds-left-start : goal.slice_bounds-left-start
@@ -40,8 +40,8 @@ slice_bounds-left-start g c =
     let k = left_family (tree_of restorable) opening.indices.now restorable.cap_layer restorable.queried
     restorable.low c.args.level c.requires.level up.up.step up.above.nodes.items here.nodes.items
     c.args.below.now.digests.items opening.sent.now
-    (drop here.used opening.sent.now) here.used up.ensures.step up.ensures.above.nodes_are c.requires.stands.nodes_are
-    c.requires.digests restorable.all_sent c.requires.stands.sent_below in
+    (drop here.used opening.sent.now) here.used up.ensures.step up.ensures.above.nodes_are c.requires.coverage.nodes_are
+    c.requires.digests restorable.all_sent c.requires.coverage.sent_below in
     omega (arith, k.fits)
 
 pub children_of-requires : goal.children_of-requires
@@ -53,8 +53,8 @@ children_of-requires g c =
     let k = left_family (tree_of restorable) opening.indices.now restorable.cap_layer restorable.queried
     restorable.low c.args.level c.requires.level up.up.step up.above.nodes.items here.nodes.items
     c.args.below.now.digests.items opening.sent.now
-    (drop here.used opening.sent.now) here.used up.ensures.step up.ensures.above.nodes_are c.requires.stands.nodes_are
-    c.requires.digests restorable.all_sent c.requires.stands.sent_below in
+    (drop here.used opening.sent.now) here.used up.ensures.step up.ensures.above.nodes_are c.requires.coverage.nodes_are
+    c.requires.digests restorable.all_sent c.requires.coverage.sent_below in
     rw (
       c.deref.ensures.value,
       c.deref-2.ensures.value,
@@ -82,7 +82,7 @@ returns g c =
       rows_are = up.ensures.rows;
       wide = k.0;
       narrow = k.1;
-      stands = up.ensures.above;
+      coverage = up.ensures.above;
       in_groups = k.2;
       values = values;
     }

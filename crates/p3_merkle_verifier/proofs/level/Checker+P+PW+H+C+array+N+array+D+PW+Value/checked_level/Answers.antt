@@ -1,4 +1,4 @@
--- One step from the layer where the check stands.
+-- One step from the layer that the check has reached.
 use Rattle.std.proofs.Common.{arith, length, replicate, sym, ◌∙◌}
 use Rattle.p3_merkle_core.specs.Geometry.{shape_of}
 use Rattle.p3_merkle_core.specs.Nodes.{functions_of}
@@ -13,9 +13,9 @@ group-group-requires g c =
       omega arith,
       (
         omega arith,
-        can_step s c.args.level step.result.step step.result.exponent c.args.standing.now.used
+        can_step s c.args.level step.result.step step.result.exponent c.args.progress.now.used
             (length c.args.opening.siblings.now) c.requires.climbs.arity
-            (record { is_step = step.ensures.step; above = step.ensures.exponent }) c.requires.stands.taken
+            (record { is_step = step.ensures.step; above = step.ensures.exponent }) c.requires.progress.taken
             c.requires.climbs.enough,
       ),
     )
@@ -24,9 +24,9 @@ pub above-requires-clause-fits : goal.above-requires-clause-fits
 above-requires-clause-fits g c =
     let s = shape_of g.row.N c.args.steps.now.dimensions.now in
     let step = c.up-step in
-    let can = can_step s c.args.level step.result.step step.result.exponent c.args.standing.now.used
+    let can = can_step s c.args.level step.result.step step.result.exponent c.args.progress.now.used
     (length c.args.opening.siblings.now) c.requires.climbs.arity
-    (record { is_step = step.ensures.step; above = step.ensures.exponent }) c.requires.stands.taken
+    (record { is_step = step.ensures.step; above = step.ensures.exponent }) c.requires.progress.taken
     c.requires.climbs.enough in
     omega (arith, can.enough)
 
@@ -34,9 +34,9 @@ pub above-requires-else-has_rows-clause-fits : goal.above-requires-else-has_rows
 above-requires-else-has_rows-clause-fits g c =
     let s = shape_of g.row.N c.args.steps.now.dimensions.now in
     let step = c.up-step in
-    let can = can_step s c.args.level step.result.step step.result.exponent c.args.standing.now.used
+    let can = can_step s c.args.level step.result.step step.result.exponent c.args.progress.now.used
     (length c.args.opening.siblings.now) c.requires.climbs.arity
-    (record { is_step = step.ensures.step; above = step.ensures.exponent }) c.requires.stands.taken
+    (record { is_step = step.ensures.step; above = step.ensures.exponent }) c.requires.progress.taken
     c.requires.climbs.enough in
     omega (arith, can.enough)
 
@@ -49,8 +49,8 @@ returns-then-has_rows g c =
     let step = c.up-step in
     let one = g.met.PW.PackedValue.default_is_unique c.default-default_digest.result c.default-default_digest.ensures in
     level_with_rows f s (opening_in c.args.opening) c.args.level step.result.step step.result.exponent
-    c.args.standing.now c.above.result c.group-group.result
-    (record { is_step = step.ensures.step; above = step.ensures.exponent }) c.requires.stands
+    c.args.progress.now c.above.result c.group-group.result
+    (record { is_step = step.ensures.step; above = step.ensures.exponent }) c.requires.progress
     (rw one at c.group-group.ensures) (sym step.ensures.rows ∙ c.if-has_rows.true) c.pair_group-pair.result
     (rw (one, c.opened_rows_digest-rows.ensures, c.compress-node.ensures) at c.pair_group-pair.ensures)
     (rw c.compress.ensures at c.above.ensures)
@@ -63,8 +63,8 @@ returns-else-has_rows g c =
     let s = shape_of g.row.N c.args.steps.now.dimensions.now in
     let step = c.up-step in
     let one = g.met.PW.PackedValue.default_is_unique c.default-default_digest.result c.default-default_digest.ensures in
-    level_alone f s (opening_in c.args.opening) c.args.level step.result.step step.result.exponent c.args.standing.now
+    level_alone f s (opening_in c.args.opening) c.args.level step.result.step step.result.exponent c.args.progress.now
     c.above-else-has_rows.result c.group-group.result
-    (record { is_step = step.ensures.step; above = step.ensures.exponent }) c.requires.stands
+    (record { is_step = step.ensures.step; above = step.ensures.exponent }) c.requires.progress
     (rw one at c.group-group.ensures) (sym step.ensures.rows ∙ c.if-has_rows.false)
     (rw c.compress-node.ensures at c.above-else-has_rows.ensures)

@@ -5,7 +5,7 @@ use Rattle.p3_merkle_core.specs.Geometry.{layer_exponent, shape_of}
 use Rattle.p3_merkle_core.specs.Nodes.{functions_of}
 use Rattle.p3_merkle_verifier.specs.Inner.Checks.{opening_in}
 use Rattle.p3_merkle_verifier.specs.Inner.Collisions.{first_words, second_words}
-use Rattle.p3_merkle_verifier.proofs.LevelFacts.{stands_first}
+use Rattle.p3_merkle_verifier.proofs.LevelFacts.{progress_first}
 use Rattle.p3_merkle_verifier.proofs.SharedFacts.{difference_shared}
 use Rattle.p3_merkle_verifier.proofs.WalkFacts.{found_here, found_next, words_alike}
 use Rattle.p3_merkle_verifier.proofs.walk.Checker+P+PW+H+C+array+N+array+D+PW+Value.last_difference.Goals as goal
@@ -19,11 +19,11 @@ loop-level-init g c =
     (replicate g.row.D g.PW.PackedValue.default_value) in
     let s = shape_of g.row.N c.args.openings.now.dimensions.now in
     record {
-      first_stands = stands_first f s (opening_in c.args.openings.now.first) c.leaf-first.result
+      first_progress = progress_first f s (opening_in c.args.openings.now.first) c.leaf-first.result
           (rw (c.steps_of-steps.ensures.arity, c.steps_of-steps.ensures.dimensions) at c.leaf-first.ensures.exponent)
           c.leaf-first.ensures.node c.leaf-first.ensures.used
           (rw c.steps_of-steps.ensures.dimensions at c.leaf-first.ensures.digest);
-      second_stands = stands_first f s (opening_in c.args.openings.now.second) c.leaf-second.result
+      second_progress = progress_first f s (opening_in c.args.openings.now.second) c.leaf-second.result
           (rw (c.steps_of-steps.ensures.arity, c.steps_of-steps.ensures.dimensions) at c.leaf-second.ensures.exponent)
           c.leaf-second.ensures.node c.leaf-second.ensures.used
           (rw c.steps_of-steps.ensures.dimensions at c.leaf-second.ensures.digest);
@@ -46,15 +46,15 @@ loop-level-preserved g c =
     let my_level = rw c.steps_of-steps.ensures.dimensions at mine.ensures in
     let their_level = rw c.steps_of-steps.ensures.dimensions at theirs.ensures in
     record {
-      first_stands = rw add-one my_level.stands;
-      second_stands = rw add-one their_level.stands;
+      first_progress = rw add-one my_level.progress;
+      second_progress = rw add-one their_level.progress;
       found = found_next test f s l o u c.loop-level.last c.if-mine-theirs.last mine.result theirs.result my_level
           their_level c.loop-level.invariant.found
           (elim c.if-mine-theirs.branch [
             | then-mine-theirs+in_ok-found w ↦
                 let rows = w.rows_of_exponent-rows.result in
                 let are = w.rows_of_exponent-rows.ensures in
-                let at = are.exponent ∙ my_level.stands.at_exponent in
+                let at = are.exponent ∙ my_level.progress.at_exponent in
                 let a = words_alike rows.dimensions.now pair.dimensions.now rows.exponent (layer_exponent s (suc l))
                 rows.first.now pair.first.rows.now are.dimensions at are.first in
                 let b = words_alike rows.dimensions.now pair.dimensions.now rows.exponent (layer_exponent s (suc l))
