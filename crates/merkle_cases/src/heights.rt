@@ -9,22 +9,23 @@ use crate::fields::Fault;
 use crate::reader::Reader;
 use crate::replay::write_steps;
 use crate::scheme::{
-    Column, FoldOpening, FoldTree, ROOT, Rows, commit_to, fold_scheme, fold_tree, tall_columns,
+    FoldOpening, FoldTree, ROOT, Rows, commit_to, fold_scheme, fold_tree, tall_columns,
 };
 use crate::text::Answer;
 use p3_merkle_core::geometry::check_heights;
 use p3_merkle_tree::{BatchOpening, BatchOpeningRef, MerkleCap, MerkleTreeError};
 use p3_support::matrix::Dimensions;
 use std::alloc::Global;
+use test_fixtures::matrices::Numbers;
 
 /// What committing to columns answers.
-fn commit(alloc: Global, columns: Vec<Column>) -> Result<(), MerkleTreeError> {
+fn commit(alloc: Global, columns: Vec<Numbers>) -> Result<(), MerkleTreeError> {
     fold_scheme::<2>(ROOT).commit(alloc, columns)?;
     Ok(())
 }
 
 /// What building a tree over them answers.
-fn build(alloc: Global, columns: Vec<Column>) -> Result<(), MerkleTreeError> {
+fn build(alloc: Global, columns: Vec<Numbers>) -> Result<(), MerkleTreeError> {
     fold_tree::<_, 2>(alloc, columns)?;
     Ok(())
 }

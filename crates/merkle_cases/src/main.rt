@@ -15,6 +15,7 @@ mod batches;
 mod builders;
 mod case;
 mod commit;
+mod committed;
 mod extract;
 mod fields;
 mod geometry;

@@ -1,16 +1,17 @@
 //! Trees and schemes of the fold functions.
 
-ghost use Rattle.std.specs.Prelude.{◌%◌, ◌^◌, ◌≤◌, ◌∷◌, [], refl, IsTrue};
+ghost use Rattle.std.specs.Prelude.{◌≤◌, IsTrue};
 ghost use Rattle.p3_merkle_core.specs.Geometry.{is_arity};
 
-use crate::fields::Fault;
+use crate::committed::Committed;
 use crate::reader::Reader;
 use p3_instances::fold::{FoldCompress, FoldHash};
 use p3_merkle_tree::{
-    BatchOpening, BatchOpeningRef, CapRule, MerkleCap, MerkleTree, MerkleTreeError, MerkleTreeMmcs,
+    BatchOpening, CapRule, MerkleCap, MerkleTree, MerkleTreeError, MerkleTreeMmcs,
 };
-use p3_support::matrix::{Dimensions, Matrix, RowMajorMatrix, dimensions_of};
+use p3_support::matrix::{Matrix, RowMajorMatrix};
 use std::alloc::Global;
+use test_fixtures::matrices::Numbers;
 
 /// The scheme of the fold functions with digests of one word.
 pub type FoldScheme<const N: usize> = MerkleTreeMmcs<
@@ -66,64 +67,8 @@ pub fn commit_to<const N: usize>(
     scheme.commit(alloc, matrices)
 }
 
-/// What a scheme has committed to.
-#[derive(Drop)]
-pub struct Committed<const N: usize> {
-    /// The cap.
-    pub cap: FoldCap,
-    /// The tree.
-    pub tree: FoldTree<Rows, N>,
-    /// The dimensions of its matrices.
-    pub dimensions: Vec<Dimensions>,
-}
-
-/// The dimensions of the matrices that a tree shows.
-fn shown_dimensions<const N: usize>(
-    alloc: Global,
-    scheme: &FoldScheme<N>,
-    tree: &FoldTree<Rows, N>,
-) -> Result<Vec<Dimensions>, MerkleTreeError> {
-    Ok(dimensions_of(alloc, &scheme.get_matrices(alloc, tree)?)?)
-}
-
-/// What a scheme commits to, where the tree shows matrices of the same dimensions.
-pub fn commit_shown<const N: usize>(
-    alloc: Global,
-    scheme: &FoldScheme<N>,
-    matrices: Vec<Rows>,
-) -> Result<Committed<N>, Fault> {
-    let dimensions = dimensions_of(alloc, &matrices)?;
-    let (cap, tree) = commit_to(alloc, scheme, matrices)?;
-    if shown_dimensions(alloc, scheme, &tree)? != dimensions {
-        return Err(Fault::Wrong("the tree shows other matrices"));
-    }
-    Ok(Committed {
-        cap,
-        tree,
-        dimensions,
-    })
-}
-
-/// The opening of a leaf, where there is such a leaf and its opening is accepted.
-pub fn accepted<const N: usize>(
-    alloc: Global,
-    scheme: &FoldScheme<N>,
-    committed: &Committed<N>,
-    index: usize,
-) -> Result<FoldOpening, MerkleTreeError> {
-    let Committed {
-        cap,
-        tree,
-        dimensions,
-    } = committed;
-    let max_height = scheme.get_max_height(tree);
-    if index >= max_height {
-        return Err(MerkleTreeError::IndexOutOfBounds { max_height, index });
-    }
-    let opening = scheme.open_batch(alloc, index, tree)?;
-    scheme.verify_batch(cap, dimensions, index, BatchOpeningRef::from(&opening))?;
-    Ok(opening)
-}
+/// What that scheme has committed to.
+pub type FoldCommitted<const N: usize> = Committed<FoldCap, FoldTree<Rows, N>>;
 
 /// The tree over matrices, built without a scheme.
 pub fn fold_tree<M: Matrix<u32> + Drop, const N: usize>(
@@ -141,39 +86,17 @@ pub fn fold_tree<M: Matrix<u32> + Drop, const N: usize>(
     )
 }
 
-/// A column whose words are the numbers of its rows, from 0. It takes no memory, whatever its height.
-#[derive(Clone, Copy)]
-pub struct Column {
-    rows: usize,
-}
-
-impl Matrix<u32> for Column {
-    ghost height_of = { λ m. m.rows };
-
-    ghost width_of = { λ m. 1 };
-
-    ghost row_of = { λ m r. (r % 2 ^ 32) ∷ [] };
-
-    fn height(&self) -> usize {
-        self.rows
-    }
-
-    fn width(&self) -> usize {
-        1
-    }
-
-    fn get(&self, row: usize, _column: usize) -> u32 {
-        (row % 4_294_967_296) as u32
-    }
-
-    ghost length_row_of = { λ m r h. refl };
-}
-
-/// Such columns of these heights.
-pub fn tall_columns(reader: &mut Reader, heights: &[usize]) -> Vec<Column> {
+/// Columns of these heights, whose words are the numbers of their rows. They take no memory, whatever their heights.
+pub fn tall_columns(reader: &mut Reader, heights: &[usize]) -> Vec<Numbers> {
     let mut columns = reader.none();
     for rows in heights {
-        reader.push(&mut columns, Column { rows: *rows });
+        reader.push(
+            &mut columns,
+            Numbers {
+                words: 1,
+                rows: *rows,
+            },
+        );
     }
     columns
 }

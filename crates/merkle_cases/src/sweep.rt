@@ -5,78 +5,45 @@ ghost use Rattle.p3_merkle_core.specs.Geometry.{is_arity};
 
 use crate::batches::batches_of;
 use crate::case::Case;
+use crate::committed::{Committed, OpenedLeaves, accepted, accepted_leaves, commit_shown};
 use crate::fields::{Fault, Fields};
 use crate::queries::lists_of;
 use crate::reader::Reader;
-use crate::scheme::{Committed, FoldOpening, FoldScheme, accepted, commit_shown, fold_scheme};
+use crate::scheme::{FoldCommitted, FoldOpening, FoldScheme, Rows, fold_scheme};
 use crate::text::Answer;
 use crate::twin::{
     collides_at, collides_first_at, has_twins, place_of, place_of_first, twin_rows, twin_sets,
 };
 use p3_merkle_core::geometry::tallest_of;
-use p3_merkle_core::pruning::check_indices;
 use p3_merkle_tree::{
-    BatchOpeningRef, Collision, MerkleAuthPath, MerkleTreeError, Place, PrunedBatchOpening,
-    PrunedOpeningRef,
+    BatchOpening, BatchOpeningRef, Collision, MerkleAuthPath, MerkleTreeError, Place,
+    PrunedMerklePaths, PrunedOpeningRef,
 };
 use p3_support::matrix::Dimensions;
+use p3_support::mmcs::Mmcs;
 use std::alloc::Global;
 
-/// A scheme, with what a sweep asks of it.
-pub trait Swept {
-    /// What it has committed to.
-    type Committed: Drop;
-
-    /// An opening of a leaf.
-    type Leaf: Drop;
-
-    /// An opening of several leaves.
-    type Leaves: Drop;
-
-    /// The dimensions of the matrices.
-    fn dimensions<'c>(&self, committed: &'c Self::Committed) -> &'c [Dimensions];
-
-    /// The opening of a leaf, where there is such a leaf and its opening is accepted.
-    fn leaf(
-        &self,
-        alloc: Global,
-        committed: &Self::Committed,
-        index: usize,
-    ) -> Result<Self::Leaf, MerkleTreeError>;
-
-    /// The opening of several leaves, where there are such leaves and it is accepted.
-    fn leaves(
-        &self,
-        alloc: Global,
-        committed: &Self::Committed,
-        indices: &[usize],
-    ) -> Result<Self::Leaves, MerkleTreeError>;
-
-    /// The rows of an opening.
-    fn rows<'o>(&self, leaf: &'o Self::Leaf) -> &'o [Vec<u32>];
-
-    /// The row sets of an opening of several leaves.
-    fn row_sets<'o>(&self, leaves: &'o Self::Leaves) -> &'o [Vec<Vec<u32>>];
-
+/// A scheme, with what a sweep asks of it beside the calls that all schemes share.
+pub trait Swept: Mmcs<u32, Rows, Error = MerkleTreeError> {
     /// How many digests the proof of several leaves has.
-    fn digests(&self, leaves: &Self::Leaves) -> usize;
+    fn digests(&self, proof: &Self::MultiProof) -> usize;
 
     /// Fails where the opening of several leaves is not as it should be, though it is accepted.
     fn check(
         &self,
         alloc: Global,
-        committed: &Self::Committed,
+        committed: &Committed<Self::Commitment, Self::ProverData>,
         indices: &[usize],
-        leaves: &Self::Leaves,
+        leaves: &OpenedLeaves<u32, Self::MultiProof>,
     ) -> Result<(), Fault>;
 
     /// What the opening of a leaf and the same with other rows lead to.
     fn collision(
         &self,
         alloc: Global,
-        committed: &Self::Committed,
+        committed: &Committed<Self::Commitment, Self::ProverData>,
         index: usize,
-        leaf: &Self::Leaf,
+        leaf: &BatchOpening<u32, Self::Proof>,
         rows: &[Vec<u32>],
     ) -> Result<Option<Collision<u32, u32, 1>>, MerkleTreeError>;
 
@@ -84,9 +51,9 @@ pub trait Swept {
     fn collision_of_leaves(
         &self,
         alloc: Global,
-        committed: &Self::Committed,
+        committed: &Committed<Self::Commitment, Self::ProverData>,
         indices: &[usize],
-        leaves: &Self::Leaves,
+        leaves: &OpenedLeaves<u32, Self::MultiProof>,
         rows: &[Vec<Vec<u32>>],
     ) -> Result<Option<(usize, usize, Collision<u32, u32, 1>)>, MerkleTreeError>;
 }
@@ -141,16 +108,16 @@ impl Counts {
 fn check_leaf_twins<S: Swept>(
     alloc: Global,
     scheme: &S,
-    committed: &S::Committed,
+    committed: &Committed<S::Commitment, S::ProverData>,
     steps: &[usize],
     index: usize,
     counts: &mut Counts,
 ) -> Result<(), Fault> {
-    let leaf = scheme.leaf(alloc, committed, index)?;
-    let dimensions = scheme.dimensions(committed);
+    let leaf = accepted(alloc, scheme, committed, index)?;
+    let dimensions = &committed.dimensions;
     for (matrix, Dimensions { height, .. }) in dimensions.iter().enumerate() {
         let place = place_of(dimensions, steps, *height);
-        let twin = twin_rows(alloc, scheme.rows(&leaf), matrix)?;
+        let twin = twin_rows(alloc, &leaf.opened_values, matrix)?;
         let found = scheme.collision(alloc, committed, index, &leaf, &twin)?;
         if !collides_at(&found, &place) {
             return Err(Fault::Wrong("a leaf collides elsewhere with its twin"));
@@ -165,16 +132,16 @@ fn check_leaf_twins<S: Swept>(
 fn check_twins<S: Swept>(
     alloc: Global,
     scheme: &S,
-    committed: &S::Committed,
+    committed: &Committed<S::Commitment, S::ProverData>,
     steps: &[usize],
     indices: &[usize],
-    leaves: &S::Leaves,
+    leaves: &OpenedLeaves<u32, S::MultiProof>,
     counts: &mut Counts,
 ) -> Result<(), Fault> {
-    let dimensions = scheme.dimensions(committed);
+    let dimensions = &committed.dimensions;
     for (matrix, Dimensions { height, .. }) in dimensions.iter().enumerate() {
         let place = place_of_first(indices, dimensions, steps, *height);
-        let twin = twin_sets(alloc, scheme.row_sets(leaves), matrix)?;
+        let twin = twin_sets(alloc, &leaves.0, matrix)?;
         let found = scheme.collision_of_leaves(alloc, committed, indices, leaves, &twin)?;
         if !collides_first_at(&found, &place) {
             return Err(Fault::Wrong("leaves collide elsewhere with their twins"));
@@ -188,15 +155,15 @@ fn check_twins<S: Swept>(
 fn check_list<S: Swept>(
     alloc: Global,
     scheme: &S,
-    committed: &S::Committed,
+    committed: &Committed<S::Commitment, S::ProverData>,
     steps: &[usize],
     indices: &[usize],
     counts: &mut Counts,
 ) -> Result<(), Fault> {
-    let leaves = scheme.leaves(alloc, committed, indices)?;
+    let leaves = accepted_leaves(alloc, scheme, committed, indices)?;
     scheme.check(alloc, committed, indices, &leaves)?;
-    counts.add_list(scheme.digests(&leaves));
-    if !has_twins(scheme.dimensions(committed)) {
+    counts.add_list(scheme.digests(&leaves.1));
+    if !has_twins(&committed.dimensions) {
         return Ok(());
     }
     check_twins(alloc, scheme, committed, steps, indices, &leaves, counts)?;
@@ -237,11 +204,11 @@ impl<'a> Plan<'a> {
         alloc: Global,
         reader: &mut Reader,
         scheme: &S,
-        committed: &S::Committed,
+        committed: &Committed<S::Commitment, S::ProverData>,
         steps: &[usize],
         counts: &mut Counts,
     ) -> Result<(), Fault> {
-        for indices in &self.lists(reader, scheme.dimensions(committed)) {
+        for indices in &self.lists(reader, &committed.dimensions) {
             check_list(alloc, scheme, committed, steps, indices, counts)?;
         }
         Ok(())
@@ -255,7 +222,7 @@ const MOST_PATHS: usize = 64;
 fn check_paths<const N: usize>(
     alloc: Global,
     scheme: &FoldScheme<N>,
-    committed: &Committed<N>,
+    committed: &FoldCommitted<N>,
     indices: &[usize],
     paths: &[MerkleAuthPath<u32, 1>],
 ) -> Result<(), Fault> {
@@ -271,68 +238,23 @@ fn check_paths<const N: usize>(
     Ok(())
 }
 
-/// An opening of several leaves.
-type Leaves = PrunedBatchOpening<u32, u32, 1>;
+/// What proves several leaves.
+type MultiProof = PrunedMerklePaths<u32, 1>;
 
 impl<const N: usize> Swept for FoldScheme<N> {
-    type Committed = Committed<N>;
-
-    type Leaf = FoldOpening;
-
-    type Leaves = Leaves;
-
-    fn dimensions<'c>(&self, committed: &'c Committed<N>) -> &'c [Dimensions] {
-        &committed.dimensions
-    }
-
-    fn leaf(
-        &self,
-        alloc: Global,
-        committed: &Committed<N>,
-        index: usize,
-    ) -> Result<FoldOpening, MerkleTreeError> {
-        accepted(alloc, self, committed, index)
-    }
-
-    fn leaves(
-        &self,
-        alloc: Global,
-        committed: &Committed<N>,
-        indices: &[usize],
-    ) -> Result<Leaves, MerkleTreeError> {
-        let Committed {
-            cap,
-            tree,
-            dimensions,
-        } = committed;
-        check_indices(self.get_max_height(tree), indices)?;
-        let leaves = self.open_batch_pruned(alloc, indices, tree)?;
-        let (rows, proof) = (&leaves.opened_values, &leaves.pruned_proof);
-        self.verify_batch_pruned(alloc, cap, dimensions, indices, rows, proof)?;
-        Ok(leaves)
-    }
-
-    fn rows<'o>(&self, leaf: &'o FoldOpening) -> &'o [Vec<u32>] {
-        &leaf.opened_values
-    }
-
-    fn row_sets<'o>(&self, leaves: &'o Leaves) -> &'o [Vec<Vec<u32>>] {
-        &leaves.opened_values
-    }
-
-    fn digests(&self, leaves: &Leaves) -> usize {
-        leaves.pruned_proof.sibling_hashes.len()
+    fn digests(&self, proof: &MultiProof) -> usize {
+        proof.sibling_hashes.len()
     }
 
     fn check(
         &self,
         alloc: Global,
-        committed: &Committed<N>,
+        committed: &FoldCommitted<N>,
         indices: &[usize],
-        leaves: &Leaves,
+        leaves: &OpenedLeaves<u32, MultiProof>,
     ) -> Result<(), Fault> {
         let dimensions = &committed.dimensions;
-        let (rows, proof) = (&leaves.opened_values, &leaves.pruned_proof);
+        let (rows, proof) = leaves;
         let paths = self.restore_and_recompute_paths(alloc, dimensions, indices, rows, proof)?;
         check_paths(alloc, self, committed, indices, &paths)?;
         if self.pruned_len(alloc, dimensions, indices)? == proof.sibling_hashes.len() {
@@ -345,7 +267,7 @@ impl<const N: usize> Swept for FoldScheme<N> {
     fn collision(
         &self,
         alloc: Global,
-        committed: &Committed<N>,
+        committed: &FoldCommitted<N>,
         index: usize,
         leaf: &FoldOpening,
         rows: &[Vec<u32>],
@@ -363,9 +285,9 @@ impl<const N: usize> Swept for FoldScheme<N> {
     fn collision_of_leaves(
         &self,
         alloc: Global,
-        committed: &Committed<N>,
+        committed: &FoldCommitted<N>,
         indices: &[usize],
-        leaves: &Leaves,
+        leaves: &OpenedLeaves<u32, MultiProof>,
         rows: &[Vec<Vec<u32>>],
     ) -> Result<Option<(usize, usize, Collision<u32, u32, 1>)>, MerkleTreeError> {
         let Committed {
@@ -373,7 +295,7 @@ impl<const N: usize> Swept for FoldScheme<N> {
             dimensions,
             ..
         } = committed;
-        let (own, proof) = (&leaves.opened_values, &leaves.pruned_proof);
+        let (own, proof) = leaves;
         let honest = PrunedOpeningRef::new(indices, own, proof);
         let twin = PrunedOpeningRef::new(indices, rows, proof);
         self.extract_collision_multi(alloc, cap, dimensions, honest, twin)
@@ -388,12 +310,12 @@ pub fn sweep<const N: usize>(case: &mut Case<'_>) -> Result<(), Fault>
     requires arity { IsTrue (is_arity N) }
     requires few { N ≤ 16 }
 {
-    let scheme = fold_scheme::<N>(case.fields.cap());
+    let mut scheme = fold_scheme::<N>(case.fields.cap());
     let plan = Plan::of(&mut case.fields);
     let mut counts = Counts::none();
     for dimensions in &plan.batches {
         let matrices = case.fields.reader.numbered(dimensions);
-        let committed = commit_shown(case.alloc, &scheme, matrices)?;
+        let committed = commit_shown(case.alloc, &mut scheme, matrices)?;
         let steps = scheme.proof_arity_schedule(case.alloc, dimensions)?;
         plan.count(
             case.alloc,

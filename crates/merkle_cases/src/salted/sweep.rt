@@ -4,56 +4,28 @@ ghost use Rattle.std.specs.Prelude.{◌≤◌, IsTrue};
 ghost use Rattle.p3_merkle_core.specs.Geometry.{is_arity};
 
 use crate::case::Case;
+use crate::committed::{Committed, OpenedLeaves, commit_shown};
 use crate::fields::Fault;
 use crate::salted::SaltedScheme;
-use crate::salted::open::{
-    Opened, Opening, SaltedCommitted, accepted, accepted_leaves, commit_shown, seeded,
-};
-use crate::scheme::{Cap, fold_scheme};
+use crate::salted::open::seeded;
+use crate::scheme::{Cap, FoldCap, Rows, fold_scheme};
 use crate::sweep::{Counts, Plan, Swept};
-use p3_merkle_tree::{BatchOpeningRef, Collision, MerkleTreeError, PrunedOpeningRef};
-use p3_support::matrix::Dimensions;
+use p3_merkle_hiding::hiding_mmcs::{SaltedMultiProof, SaltedProof, SaltedTree};
+use p3_merkle_tree::{BatchOpening, BatchOpeningRef, Collision, MerkleTreeError, PrunedOpeningRef};
 use std::alloc::Global;
 
+/// An opening of a leaf.
+type Opening = BatchOpening<u32, SaltedProof<u32, u32, 1>>;
+
+/// What such a scheme has committed to.
+type SaltedCommitted<const N: usize> = Committed<FoldCap, SaltedTree<u32, u32, Rows, N, 1>>;
+
+/// What proves several leaves.
+type MultiProof = SaltedMultiProof<u32, u32, 1>;
+
 impl<const N: usize, const SALT_ELEMS: usize> Swept for SaltedScheme<N, SALT_ELEMS> {
-    type Committed = SaltedCommitted<N>;
-
-    type Leaf = Opening;
-
-    type Leaves = Opened;
-
-    fn dimensions<'c>(&self, committed: &'c SaltedCommitted<N>) -> &'c [Dimensions] {
-        &committed.dimensions
-    }
-
-    fn leaf(
-        &self,
-        alloc: Global,
-        committed: &SaltedCommitted<N>,
-        index: usize,
-    ) -> Result<Opening, MerkleTreeError> {
-        accepted(alloc, self, committed, index)
-    }
-
-    fn leaves(
-        &self,
-        alloc: Global,
-        committed: &SaltedCommitted<N>,
-        indices: &[usize],
-    ) -> Result<Opened, MerkleTreeError> {
-        accepted_leaves(alloc, self, committed, indices)
-    }
-
-    fn rows<'o>(&self, leaf: &'o Opening) -> &'o [Vec<u32>] {
-        &leaf.opened_values
-    }
-
-    fn row_sets<'o>(&self, leaves: &'o Opened) -> &'o [Vec<Vec<u32>>] {
-        &leaves.0
-    }
-
-    fn digests(&self, leaves: &Opened) -> usize {
-        leaves.1.1.sibling_hashes.len()
+    fn digests(&self, proof: &MultiProof) -> usize {
+        proof.1.sibling_hashes.len()
     }
 
     // A salted scheme counts no digests and restores no paths.
@@ -62,7 +34,7 @@ impl<const N: usize, const SALT_ELEMS: usize> Swept for SaltedScheme<N, SALT_ELE
         _alloc: Global,
         _committed: &SaltedCommitted<N>,
         _indices: &[usize],
-        _leaves: &Opened,
+        _leaves: &OpenedLeaves<u32, MultiProof>,
     ) -> Result<(), Fault> {
         Ok(())
     }
@@ -75,7 +47,7 @@ impl<const N: usize, const SALT_ELEMS: usize> Swept for SaltedScheme<N, SALT_ELE
         leaf: &Opening,
         rows: &[Vec<u32>],
     ) -> Result<Option<Collision<u32, u32, 1>>, MerkleTreeError> {
-        let SaltedCommitted {
+        let Committed {
             cap,
             dimensions,
             ..
@@ -90,10 +62,10 @@ impl<const N: usize, const SALT_ELEMS: usize> Swept for SaltedScheme<N, SALT_ELE
         alloc: Global,
         committed: &SaltedCommitted<N>,
         indices: &[usize],
-        leaves: &Opened,
+        leaves: &OpenedLeaves<u32, MultiProof>,
         rows: &[Vec<Vec<u32>>],
     ) -> Result<Option<(usize, usize, Collision<u32, u32, 1>)>, MerkleTreeError> {
-        let SaltedCommitted {
+        let Committed {
             cap,
             dimensions,
             ..

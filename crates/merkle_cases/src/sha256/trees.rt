@@ -4,6 +4,7 @@ ghost use Rattle.std.specs.Prelude.{◌≤◌, IsTrue};
 ghost use Rattle.p3_merkle_core.specs.Geometry.{is_arity};
 
 use crate::case::Case;
+use crate::committed::{Committed, accepted};
 use crate::fields::Fault;
 use crate::reader::Reader;
 use crate::scheme::Cap;
@@ -25,12 +26,10 @@ type Sha256Scheme<H, C, const N: usize> = MerkleTreeMmcs<u8, u8, H, C, N, 32>;
 type Bytes = RowMajorMatrix<u8>;
 
 /// What such a scheme has committed to.
-#[derive(Drop)]
-struct Committed<'a, const N: usize> {
-    cap: MerkleCap<u8, Digest>,
-    tree: MerkleTree<u8, u8, Bytes, N, 32>,
-    dimensions: &'a [Dimensions],
-}
+type Sha256Committed<const N: usize> = Committed<
+    MerkleCap<u8, Digest>,
+    MerkleTree<u8, u8, Bytes, N, 32>,
+>;
 
 /// What is asked of it.
 #[derive(Clone, Copy)]
@@ -43,31 +42,6 @@ enum Asked<'a> {
     Leaves(&'a [usize]),
 }
 
-/// The siblings of a leaf, where there is such a leaf and its opening is accepted.
-fn siblings<
-    H: CryptographicHasher<u8, u8, 32>,
-    C: PseudoCompressionFunction<u8, N, 32>,
-    const N: usize,
->(
-    alloc: Global,
-    scheme: &Sha256Scheme<H, C, N>,
-    committed: &Committed<'_, N>,
-    index: usize,
-) -> Result<Vec<Digest>, MerkleTreeError> {
-    let Committed {
-        cap,
-        tree,
-        dimensions,
-    } = committed;
-    let max_height = scheme.get_max_height(tree);
-    if index >= max_height {
-        return Err(MerkleTreeError::IndexOutOfBounds { max_height, index });
-    }
-    let opening = scheme.open_batch(alloc, index, tree)?;
-    scheme.verify_batch(cap, dimensions, index, BatchOpeningRef::from(&opening))?;
-    Ok(opening.opening_proof)
-}
-
 /// The digests by which several leaves are opened, where there are such leaves, and their opening is accepted, at once
 /// and leaf by leaf with the paths that it restores.
 fn sent<
@@ -77,7 +51,7 @@ fn sent<
 >(
     alloc: Global,
     scheme: &Sha256Scheme<H, C, N>,
-    committed: &Committed<'_, N>,
+    committed: &Sha256Committed<N>,
     indices: &[usize],
 ) -> Result<Vec<Digest>, MerkleTreeError> {
     let Committed {
@@ -113,11 +87,11 @@ fn answer_by<
     let committed = Committed {
         cap,
         tree,
-        dimensions: &dimensions,
+        dimensions,
     };
     match asked {
         Asked::Cap => Ok(Vec::from_slice(alloc, committed.cap.roots())?),
-        Asked::Leaf(index) => siblings(alloc, scheme, &committed, index),
+        Asked::Leaf(index) => Ok(accepted(alloc, scheme, &committed, index)?.opening_proof),
         Asked::Leaves(indices) => sent(alloc, scheme, &committed, indices),
     }
 }
