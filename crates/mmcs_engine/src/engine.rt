@@ -37,19 +37,18 @@ use p3_support::packed::PackedValue;
 use std::alloc::{AllocError, Global};
 use std::io::{Read, Write};
 
-/// Answers the words after the program's name: reads the whole input, and writes the output once all else has
-/// succeeded.
+/// Runs the command of `words`, those after the program's name: reads the whole input, and writes the output once all
+/// else has succeeded.
 ///
-/// The words are `HASH ARITY CAP[f] ACTION I..`: a hash (`fold` or `sha256`), an arity (`2`, `4` or `8`), how many
-/// levels below the root the cap is (by the rule `Lowered`, or with an `f` behind it by the rule `Fixed`), an action,
-/// and after `open` and `check` any number of indices. The lines of the input are the rows of matrices: decimal
-/// numbers, up to 4294967295 for `fold` and up to 255 for `sha256`, with spaces or tabs between; blank lines end a
-/// matrix.
+/// The words are `HASH ARITY CAP[f] ACTION I..`: a hash (`fold` or `sha256`), an arity (`2`, `4` or `8`), the cap
+/// height in levels below the root (by the rule `Lowered`, or by the rule `Fixed` if an `f` follows it), an action, and
+/// after `open` and `check` any number of indices. The lines of the input are the rows of matrices: decimal numbers, up
+/// to 4294967295 for `fold` and up to 255 for `sha256`, with spaces or tabs between; blank lines end a matrix.
 ///
 /// `commit` writes the cap of the matrices' tree, a line for each digest in hexadecimal. `open` writes for each index a
 /// line `index I` and the rows that belong to it, a line for each matrix, and then `digests K` and the `K` digests of
-/// one pruned proof for all of them. `check` opens the same, verifies it, and writes `ok K`. The streams are borrowed,
-/// so that the contract can say what is left of the input and what the output holds.
+/// one pruned proof for all of them. `check` opens the same, verifies it, and writes `ok K` for the `K` digests of the
+/// proof. The streams are borrowed, so that the contract can say what is left of the input and what the output holds.
 ///
 /// # Errors
 ///

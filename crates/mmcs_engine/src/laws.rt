@@ -7,8 +7,9 @@ ghost use Rattle.mmcs_text.specs.Input.{is_blank, pieces_of, StandsFor};
 ghost use Rattle.mmcs_text.specs.Words.{AreWords};
 ghost use Rattle.mmcs_engine.specs.Program.{IsOutcome};
 
-/// Words are of one command with its indices, an input stands for one list of matrices, and there is one outcome by
-/// definition: so a first faulty line is one line, with one fault, and only of an input that stands for no matrices.
+/// Some words are those of at most one command with its indices, an input stands for at most one list of matrices, and
+/// words and an input have at most one outcome. So an input has at most one first faulty line, with one fault, and an
+/// input that has one stands for no matrices.
 pub fn meanings_are_unique()
     ensures command { (words : List (List ℕ)) (c d : Command) (is js : List ℕ) →
         AreWords words c is → AreWords words d js → (c ≡ d) × (is ≡ js) }

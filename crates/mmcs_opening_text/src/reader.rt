@@ -418,11 +418,13 @@ fn take_blank_line(lines: &mut Lines<'_>) -> Result<(), Fault>
 ///
 /// The lines of a cap come first, a digest each, and a blank line ends them. Then come any number of queries: a line
 /// `index I`, and a line for the row of each matrix, of as many numbers as its width. Then a line `digests K`, and the
-/// `K` digests of a pruned proof, a line each. Blank lines may follow. Lines end in LF or CRLF.
+/// `K` digests of a pruned proof, a line each. Blank lines may follow. Lines end in LF or CRLF. `W::MAX` must be the
+/// greatest word of a row for the hash of `H`.
 ///
 /// # Errors
 ///
-/// `Line` for the first line that is not what may stand there, or `Tree(OutOfMemory)`.
+/// `Line` for the first line that is not what may stand there, or that is missing; `Tree(OutOfMemory)` if memory runs
+/// out.
 pub fn read_statement<W: Word, H: LineDigest>(
     alloc: Global,
     dimensions: &[Dimensions],
@@ -443,11 +445,12 @@ pub fn read_statement<W: Word, H: LineDigest>(
 /// What an input shows of two openings under one cap, for matrices of these dimensions.
 ///
 /// A cap and an opening come first, as in [`read_statement`]; then a blank line, and another opening of that cap. Blank
-/// lines may follow.
+/// lines may follow. The condition on `W::MAX` is the same.
 ///
 /// # Errors
 ///
-/// `Line` for the first line that is not what may stand there, or `Tree(OutOfMemory)`.
+/// `Line` for the first line that is not what may stand there, or that is missing; `Tree(OutOfMemory)` if memory runs
+/// out.
 pub fn read_pair<W: Word, H: LineDigest>(
     alloc: Global,
     dimensions: &[Dimensions],

@@ -39,9 +39,9 @@ pub struct Command {
 /// Which layer is the cap.
 #[derive(Clone, Copy)]
 pub struct CapChoice {
-    /// How many levels below the root it is.
+    /// The cap height, in levels below the root.
     pub height: usize,
-    /// How far down it may be.
+    /// The rule by which the height chooses the layer.
     pub rule: CapRule,
 }
 

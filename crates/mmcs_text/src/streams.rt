@@ -12,7 +12,7 @@ use std::io::{ErrorKind, Read, Write};
 ///
 /// # Errors
 ///
-/// `failed` if a read fails, but what `OutOfMemory` becomes if it fails since memory runs out.
+/// `E::from(OutOfMemory)` if a read fails because memory runs out; `failed` if it fails for another reason.
 pub fn read_all<Src: Read, E: From<MerkleTreeError> + Drop>(
     alloc: Global,
     input: &mut Src,

@@ -26,8 +26,8 @@ const OUT_OF_MEMORY: u8 = 3;
 /// Verifies a cap and an opening of it from memory, and keeps nothing: the program `mmcs_verify` as a call.
 ///
 /// `input` is what `mmcs .. commit` printed, a blank line, and what `mmcs .. open I..` printed; `sizes` has the
-/// dimensions of each matrix, in their order. The answer is the text that the program prints, or the text of its fault.
-/// As much of it as fits is copied to `text`, and `size` becomes the length of the whole text, in bytes.
+/// dimensions of each matrix, in input order. The call copies the line that the program prints, or the line of its
+/// fault, to `text`, as much of it as fits, and sets `size` to the length of the whole line, in bytes.
 ///
 /// It returns 0 if the opening is accepted, 1 if it is refused or a line of the input is faulty, 2 if there is no such
 /// setting, and 3 if memory runs out. The statuses 2 and 3 have no text.

@@ -14,7 +14,7 @@ use std::alloc::{AllocError, Global};
 #[repr(C)]
 #[derive(Clone, Copy)]
 pub struct TreeSetting {
-    /// How far below the root the cap is, in levels.
+    /// The cap height, in levels below the root. Under `Lowered` the cap may be nearer to the root.
     pub cap_height: usize,
     /// The hash: 0 for `fold`, 1 for `sha256`.
     pub hash: u8,

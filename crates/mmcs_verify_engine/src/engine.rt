@@ -39,16 +39,17 @@ use p3_support::packed::PackedValue;
 use std::alloc::Global;
 use std::io::{Read, Write};
 
-/// Answers the words after the program's name: reads the whole input, a cap and an opening as the program `mmcs` prints
-/// them with a blank line between, and writes `ok K`, where the opening is accepted and `K` digests were sent.
+/// Runs the command of `words`, those after the program's name: reads the whole input, a cap and an opening as the
+/// program `mmcs` prints them with a blank line between, and writes `ok K` if the opening is accepted and has `K`
+/// digests.
 ///
 /// The words are `HASH ARITY CAP[f] HEIGHTxWIDTH..`: the hash, the arity and the cap that the tree was built with, and
 /// the height and the width of each matrix. The streams are borrowed, so that the contract can say what is left of the
 /// input and what the output holds.
 ///
-/// With the word `collide` behind the cap, the input is a cap and two openings of it, with blank lines between. Where
-/// both are accepted, and a query of the one and a query of the other lead to two inputs of one digest, it writes where
-/// they stand, the index of each query, both inputs and their digest, else `no collision`.
+/// With the word `collide` after the cap, the input is a cap and two openings of it, with blank lines between. If both
+/// are accepted, it writes the first collision of a query of the first with a query of the second: its place, the index
+/// of each query, both inputs and their digest. If there is none, it writes `no collision`.
 ///
 /// # Errors
 ///

@@ -15,17 +15,17 @@ pub fn commands_are_unique()
         AreWords words s k ds → AreWords words t l es → (s ≡ t) × (k ≡ l) × (ds ≡ es) }
 {}
 
-/// What the program `mmcs` prints of matrices that its tree takes, the cap, a blank line and the opening of some
-/// indices, is answered by `ok` and the number of digests that were sent, under the same hash, arity and cap and the
-/// matrices' own dimensions; and so is any cap with any opening that are the outcomes of `mmcs` on one input.
+/// The verifier accepts what `mmcs` prints. For matrices and indices that the tree accepts, the text of the cap, a
+/// blank line and the opening gives `ok` and the number of digests, under the same hash, arity and cap and the
+/// dimensions of the matrices. So does any cap with any opening that `mmcs` prints for one input.
 pub fn printed_is_accepted()
     ensures texts { PrintedIsAccepted }
     ensures outcomes { OutcomesAreAccepted }
 {}
 
-/// A cap fixes rows up to a collision that is printed. Where two openings of one cap are each answered by `ok`, and
-/// answer one row in two ways, the cap with both openings is answered under `collide` by two different inputs of one
-/// digest, at one place of both checks. The row is one that the cap fixes; under the lowered rule it is any.
+/// A cap fixes rows up to a collision that is printed. If two openings of one cap each give `ok`, and have different
+/// words for one row of an authenticated matrix, the cap with both openings gives under `collide` two different inputs
+/// with one digest, at one place of both checks. Under the rule `Lowered` every matrix is authenticated.
 pub fn caps_are_binding()
     ensures readings { CapIsBinding }
     ensures texts { PrintedCapIsBinding }

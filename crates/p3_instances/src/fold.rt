@@ -103,8 +103,8 @@ pub(crate) fn hash_words<const D: usize>(words: &[u32]) -> [u32; D]
     state
 }
 
-/// The fold hash: element `e` of the state starts at `1 + e`, each word `x` makes it `31 * state + x`, and the digest
-/// is the state, all modulo 2^32. `L` is its `LANES`; the digests don't depend on it.
+/// The fold hash: element `e` of the digest starts at `1 + e`, and each word `x` makes it `31 * element + x`, modulo
+/// 2^32. It is not secure. `L` is its `LANES`; the digests don't depend on it.
 #[derive(Clone, Copy, Debug)]
 pub struct FoldHash<const L: usize>;
 

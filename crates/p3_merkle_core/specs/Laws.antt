@@ -287,7 +287,7 @@ module _ (T W : Type 0) where
       (c : Terms T W) (cap : List (List W)) (o : Opening T W) → IsArity c.shape.arity → IsAccepted c cap o →
       All (HasDigests c.shape.arity) (inputs c o)
 
-  -- the walk up the path reaches, at layer t, the digest of the check's last input, after which no other stands
+  -- the walk up the path reaches, at the cap's layer, the digest of the check's last input, and no input is after it
   abbrev pub LastInputIsReached : Type 0
   LastInputIsReached =
       (c : Terms T W) (o : Opening T W) →

@@ -15,7 +15,7 @@ pub enum CapRule {
     /// every row of every matrix is hashed on the way to the cap.
     Lowered,
     /// The layer that many levels below the root, or the leaves if there are fewer levels, as in the Rust crate. The
-    /// rows of a matrix that is injected above that layer are not verified.
+    /// rows of a matrix that is injected above that layer are not hashed: only their width is checked.
     Fixed,
 }
 

@@ -26,7 +26,8 @@ pub enum PrunedProofError {
     /// Two queries under one node have different rows of a matrix that is injected there.
     #[error("unique path slot {slot} disagrees with its group's lead on matrix {matrix}'s opened row")]
     InconsistentGroupOpening {
-        /// The place of the later index among the distinct queried indices, ascending.
+        /// The place, from 0, of an index among the distinct queried indices, ascending: the one whose row differs from
+        /// that of the lowest index under the node.
         slot: usize,
         /// The place of the matrix in input order.
         matrix: usize,

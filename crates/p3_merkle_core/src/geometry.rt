@@ -61,7 +61,8 @@ pub fn tallest_of(dimensions: &[Dimensions]) -> usize
     extremes_of(dimensions).0
 }
 
-/// How many halvings lead from the tallest height down to this one.
+/// How many halvings, each rounded up, lead from the tallest height down to this one, if both are lawful. It is the
+/// exponent of `tallest` less that of `height`, or 0 if that of `height` is greater.
 pub fn bits_reduced_of(tallest: usize, height: usize) -> usize
     ensures { result ≡ bits_reduced tallest height }
 {
@@ -78,7 +79,8 @@ pub(crate) fn height_at_of(tallest: usize, exponent: usize) -> usize
 }
 
 /// The one lawful height with the exponent of `height`: the tallest height, at most [`MAX_HEIGHT`], halved and rounded
-/// up so many times; 1 where the tallest height is 0.
+/// up until it has that exponent. It is the tallest height if `height` has the same exponent or a greater one, and 1
+/// where the tallest height is 0.
 pub fn expected_height_of(tallest: usize, height: usize) -> usize
     requires { tallest ≤ height_limit }
     ensures { result ≡ expected_height tallest height }

@@ -22,7 +22,7 @@ use crate::error::{MerkleTreeError, PrunedProofError};
 use crate::pruning::{AuthPath, MerkleAuthPath};
 use p3_support::packed::PackedValue;
 
-/// Equality of errors is equality of values. It answers what `==` answers.
+/// `==` on errors is equality of values. Returns the result of `==`.
 pub fn errors(a: &MerkleTreeError, b: &MerkleTreeError) -> bool
     ensures { IsTrue result ↔ (a.now ≡ b.now) }
 {
@@ -82,8 +82,10 @@ pub fn arities()
     ensures { TestedIsArity }
 {}
 
-/// The walk over the steps ends for each arity and each list of heights, each matrix has its layer, and the gate takes
-/// just the lawful heights.
+/// For each arity and all heights: the steps from the leaves to the root end; the root is one node, unless no matrix
+/// has a row; the steps below a cap are the first of all steps; and each matrix has a layer of its exponent. For
+/// lawful heights the row of an index in a matrix is the index's ancestor in that layer.
+/// [`check_heights`](crate::geometry::check_heights) accepts exactly the lawful heights.
 pub fn shape()
     ensures ends { WalkEnds }
     ensures root { RootIsAlone }
@@ -93,7 +95,9 @@ pub fn shape()
     ensures gate { UnrefusedIsLawful }
 {}
 
-/// Under the lowered rule a cap leaves no matrix out; where the fixed rule leaves none out, both have one cap.
+/// Under the rule `Lowered` a cap authenticates every matrix. If a cap of the rule `Fixed` does so too, both rules give
+/// the same cap. Under `Fixed` the cap is the layer `cap_height` levels below the root, or the leaves if there are
+/// fewer levels.
 pub fn caps()
     ensures lowered { LoweredLeavesNoneOut }
     ensures agree { RulesAgree }
@@ -121,7 +125,7 @@ pub fn restoration<T, W>()
     ensures capped { HonestQueryIsCapped T W }
 {}
 
-/// What an answer Ok says: of a single opening, of a pruned one, and of a pruned one under a cap.
+/// What `Ok` means: for a single opening, for a pruned one whatever the cap, and for a pruned one under a cap.
 pub fn answers<T, W>()
     ensures single { OkIsAccepted T W }
     ensures pruned { OkIsRestorable T W }
@@ -129,7 +133,8 @@ pub fn answers<T, W>()
     ensures each_path { OkIsEachAccepted T W }
 {}
 
-/// A pruned opening is answered as its queries with their restored paths are.
+/// A pruned opening that restores is accepted under a cap exactly if each query is accepted with its restored path, and
+/// is refused only with `CapMismatch`. One that does not restore is refused with the same error under each cap.
 pub fn equivalence<T, W>()
     ensures restored { CappedIsEachAccepted T W }
     ensures refused { RefusedUnderEachCap T W }
@@ -137,15 +142,18 @@ pub fn equivalence<T, W>()
     ensures mismatch { OkOrCapMismatch T W }
 {}
 
-/// Two accepted openings of one cap that differ where they meet lead to two inputs of one digest: the definition's
-/// answer to two openings, single or pruned, is what an extraction has to be.
+/// Two accepted openings of one cap that differ at a shared place have two different inputs with one digest at the last
+/// such place. The result that the definitions give for two openings, single or pruned, has all properties of an
+/// extraction.
 pub fn extraction<T, W>()
     ensures collision { LastDifferenceCollides T W }
     ensures single { AnswerIsExtraction T W }
     ensures pruned { PrunedAnswerIsExtraction T W }
 {}
 
-/// What two accepted openings have in common where they agree at each shared place.
+/// Two accepted openings of one cap that agree at each shared place have the same words in each row of an authenticated
+/// matrix that both open. Two of one index agree exactly if they have the same siblings, and the same row of each
+/// authenticated matrix.
 pub fn binding<T, W>()
     ensures rows { RowsAreBound T W }
     ensures one_index { OneIndexIsBound T W }
@@ -158,7 +166,7 @@ pub fn inputs<T, W>()
     ensures last { LastInputIsReached T W }
 {}
 
-/// The boundary suffices.
+/// The boundary nodes and the queried leaves are enough to compute each covered node of the cap's layer.
 pub fn sufficiency()
     ensures { BoundarySuffices }
 {}

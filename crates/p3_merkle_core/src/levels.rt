@@ -27,7 +27,8 @@ pub struct Level {
 }
 
 impl<'a> Steps<'a> {
-    /// The layer above the layer `below`, which must be below the root and have `len` nodes and this exponent.
+    /// The layer above the layer `below`, which must be below the root and have `len` nodes and this exponent. The
+    /// arity must be a power of two from 2 to 2^62, and [`check_heights`](Self::check_heights) must accept the heights.
     pub fn level_above(&self, below: usize, exponent: usize, len: usize) -> Level
         requires { IsBelowTop (shape_of self.now.arity self.now.dimensions.now) below exponent len }
         ensures level { IsLevel (shape_of self.now.arity self.now.dimensions.now) result }

@@ -25,8 +25,9 @@ use std::alloc::{AllocError, Global};
 /// words.
 #[derive(Debug, Clone, Drop)]
 pub struct PrunedProof<X> {
-    /// The digests of the boundary in wire order: level by level from the leaves, and ascending on each level, those of
-    /// the children of covered nodes that are not covered.
+    /// The digests of the boundary in wire order: level by level from the leaves up, ascending on each level. A node is
+    /// covered if it is a queried leaf or above one; the boundary is the children of covered nodes that are not covered
+    /// themselves.
     pub sibling_hashes: Vec<X>,
 }
 
@@ -51,9 +52,9 @@ pub type PrunedBatchOpening<T, W, const D: usize> = PrunedRows<T, [W; D]>;
 /// words.
 #[derive(Debug, Clone, PartialEq, Eq, Drop)]
 pub struct AuthPath<X> {
-    /// The leaf.
+    /// The index of the leaf, from 0.
     pub leaf_index: usize,
-    /// The siblings from the leaf's up: level by level, and ascending on each level.
+    /// The siblings on the leaf's path, level by level from the leaves up, ascending on each level.
     pub siblings: Vec<X>,
 }
 
@@ -201,9 +202,10 @@ impl<'a> Steps<'a> {
     }
 }
 
-/// The values of the children of some parents, `step` of each, parent by parent: of a covered child its digest, and of
-/// another the next of those that were sent. The covered nodes, each with its digest, are those of the children, in the
-/// same order. It allocates the list of all children.
+/// The values of the children of some parents, `step` of each, parent by parent: a covered child has its digest, and
+/// each other child has the next digest of `sent`. `covered` has the covered children in that order, and `digests` one
+/// digest for each of them; `sent` must have enough for the others. The number of children, and `step * parent + step`
+/// for each parent, must fit `usize`. It allocates the list of all children.
 ///
 /// # Errors
 ///
@@ -336,7 +338,9 @@ fn path_out_of<X: Copy>(
     Ok(path)
 }
 
-/// The path of each of some indices, in order, with the siblings that [`path_out_of`] has.
+/// The path of each of some indices, in order, from the levels that a walk kept, from the leaves up. Its siblings are,
+/// on each level, all values of the path's group but the path's own, ascending; there are none on a level where no
+/// covered node is above the leaf.
 ///
 /// # Errors
 ///

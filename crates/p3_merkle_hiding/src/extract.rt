@@ -89,9 +89,9 @@ impl<
         }
     }
 
-    /// Extracts a collision from two accepted pruned openings of one cap: the first pair of queries whose checks
-    /// differ, by their places in the two lists, from 0, with two different inputs of the hasher or of the compression
-    /// with one digest. Returns `None` if all queries agree.
+    /// Extracts a collision from two accepted pruned openings of one cap: the first pair of queries that gives a
+    /// collision, in the order of the first list, then of the second. Returns the place of each query in its list, from
+    /// 0, and two different inputs of the hasher or of the compression with one digest; or `None` if all queries agree.
     ///
     /// It is the plain scheme's [`extract_collision_multi`](p3_merkle_tree::mmcs::Scheme::extract_collision_multi) of
     /// the rows followed by their salts. Both openings are verified as by

@@ -13,9 +13,9 @@ use p3_support::matrix::RowMajorMatrix;
 use p3_support::packed::PackedValue;
 use p3_support::pair::HorizontalPair;
 
-/// The salted scheme of a hasher `H` and a compression `C`, with a generator `R` of `SALT_ELEMS` words for each row,
-/// digests `X` and groups `G` of `N` digests, packed in `P` and `PW`. [`MerkleTreeHidingMmcs`] is this scheme at
-/// digests of words.
+/// The salted scheme of a hasher `H` and a compression `C`, with digests `X` and groups `G` of `N` digests. `P` packs
+/// the words of rows, and `PW` those of digests; the generator `R` draws `SALT_ELEMS` salts for each row.
+/// [`MerkleTreeHidingMmcs`] is this scheme at digests of words.
 ///
 /// `SALT_ELEMS` is at least 1; the other parameters are as in [`Scheme`].
 #[derive(Debug, Drop)]

@@ -30,7 +30,7 @@ impl<
     /// the rows, whoever drew them.
     ///
     /// An accepted opening has one row for each of `dimensions`, of that width, `SALT_ELEMS` salts for each row, and
-    /// for each level below the cap one sibling less than a node there has children. `dimensions` are those of the
+    /// for each level below the cap one sibling fewer than a node above it has children. `dimensions` are those of the
     /// matrices without salts, in input order; they must come from the verifier, never from the proof. The call
     /// allocates the joined rows.
     ///
@@ -67,8 +67,10 @@ impl<
     /// of each row followed by its salts, under dimensions with `SALT_ELEMS` more columns.
     ///
     /// An accepted opening has a row set and a salt set for each index: one row for each of `dimensions`, of that
-    /// width, and `SALT_ELEMS` salts for each row. `dimensions` are those of the matrices without salts, in input
-    /// order; they must come from the verifier, never from the proof.
+    /// width, and `SALT_ELEMS` salts for each row. Queries of one index have the same rows and salts. Queries under
+    /// one node have the same rows and salts of the matrices that are injected there. `dimensions` are those of the
+    /// matrices without salts, in input order; they must come from the verifier, never from the proof. The call
+    /// allocates the joined rows.
     ///
     /// # Errors
     ///

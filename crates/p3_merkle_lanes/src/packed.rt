@@ -118,7 +118,7 @@ impl<
 
     /// Writes the digests of the rows into the first slots: `groups` groups, each of as many slots as there are lanes.
     /// Both packings must have equally many lanes, and `groups * PW::WIDTH` must be at most the number of slots, and at
-    /// most the height.
+    /// most the height. If `groups` is above 0, a packed digest must have fewer than 2^63 bytes.
     ///
     /// # Errors
     ///
@@ -281,9 +281,9 @@ fn packed_pair<PW: PackedValue, const N: usize, const D: usize>(
     pair_group([PW::broadcast(PW::Value::default()); D], left, right)
 }
 
-/// The compressions of the children of the nodes from `first` on over a layer, with default digests behind them: lane
-/// `k` is that of node `first + k`. Each node has `step` children, at most `N`; those of the last one must be in the
-/// layer.
+/// Compresses the children of `PW::WIDTH` nodes over a layer, from node `first` on, each group followed by default
+/// digests: lane `k` is the digest of the children of node `first + k`. Each node has `step` children, at most `N`;
+/// those of the last one must be in the layer. A packed group of `N` digests must have fewer than 2^63 bytes.
 pub fn compress_children_packed<
     PW: PackedValue,
     C: PseudoCompressionFunction<PW, N, D>,
@@ -301,7 +301,8 @@ pub fn compress_children_packed<
     compress.compress_packed(packed_children::<PW, N, D>(below, step, first))
 }
 
-/// The compressions of two packed digests, lane by lane, with default digests behind them. `N` must be at least 2.
+/// Compresses two packed digests lane by lane, each pair followed by default digests. `N` must be at least 2, and a
+/// packed group of `N` digests must have fewer than 2^63 bytes.
 pub fn compress_pairs_packed<
     PW: PackedValue,
     C: PseudoCompressionFunction<PW, N, D>,

@@ -126,8 +126,9 @@ impl<
         }
     }
 
-    /// Writes the digests of rows into the slots of their numbers, from slot `first` on, if the layer has one matrix,
-    /// which lends its rows in one piece. Returns how many slots are written then, with those before `first`.
+    /// Writes the digest of row `j` into slot `j`, from slot `first` on, if the layer has one matrix and it returns its
+    /// rows as one slice. The slots before `first` must have their digests. Returns how many of the first slots have
+    /// theirs then: `first` if nothing is written.
     pub fn write_lent(&self, first: usize, slots: &mut [[PW::Value; D]]) -> usize
         requires { let leaf = leaf_over (H.hash self.now.hash.now) (replicate D PW.default_value)
             (rows_over M.row_of self.now.matrices.now) self.now.height in
@@ -151,8 +152,8 @@ impl<
     }
 }
 
-/// Writes the compressions of whole groups of a layer into the slots from `first` to `end`: slot `j` is that of group
-/// `j`. There must be at least `end` groups, and as many slots.
+/// Writes the compressions of whole groups of a layer into the slots `first..end`: slot `j` is that of group `j`.
+/// `first` must be at most `end`, and `end` at most the number of groups and at most the number of slots.
 pub fn compress_groups<
     PW: PackedValue,
     C: PseudoCompressionFunction<PW, N, D>,

@@ -1,3 +1,3 @@
--- What only proofs, and calls that no public contract speaks of, cite.
+-- Definitions that only proofs, and calls that no public contract mentions, use.
 pub mod Levels
 pub mod Built

@@ -205,8 +205,9 @@ impl<
         Ok((level, layer))
     }
 
-    /// All layers of the tree over the matrices, from the leaves to the root, with the steps between them. The heights
-    /// must be lawful, `steps` those of the matrices at the arity `N`, and both packings must have equally many lanes.
+    /// All layers of the tree over the matrices, from the leaves to the root, with the steps between them. `N` must be
+    /// a power of two from 2 to 2^62, [`Steps::check_heights`] must accept the heights, `steps` must be those of the
+    /// matrices at the arity `N`, and both packings must have equally many lanes.
     ///
     /// # Errors
     ///

@@ -7,7 +7,7 @@ ghost use Rattle.p3_merkle_core.specs.Views.{matrix_of};
 use p3_support::matrix::{Dimensions, Matrix, dimensions_of};
 use std::alloc::{AllocError, Global};
 
-/// The dimensions of matrices, in input order, as those of the batch that they are.
+/// The dimensions of the matrices of a batch, in input order.
 ///
 /// # Errors
 ///

@@ -1,4 +1,4 @@
--- What only proofs, and calls that no public contract speaks of, cite.
+-- Definitions that only proofs, and calls that no public contract mentions, use.
 pub mod NodeDigests
 pub mod OpenedMatrices
 pub mod OpenedRows

@@ -32,8 +32,8 @@ pub struct Commitment<'a, X> {
     pub cap_layer: usize,
 }
 
-/// Checks a pruned opening against the roots of a cap: whether its form is right, and the digests that its rows and the
-/// digests that were sent lead to are the roots of their places.
+/// Checks a pruned opening against the roots of a cap: checks its form, computes the digest of each covered node of the
+/// cap's layer from the rows and the digests that were sent, and compares it with the root at that node.
 ///
 /// `N` is a power of two from 2 to 2^62, and the cap's layer is at most the number of levels.
 ///

@@ -190,9 +190,9 @@ fn checked_queries<
     Ok(RestoredQueries { sets, paths })
 }
 
-/// What two pruned openings under the roots of a cap lead to: nothing if the checks of all pairs of their queries
-/// agree, else the first pair whose checks differ, by the first list, then by the second. The answer has the place of
-/// each query in its list, and the last place that both checks share and at which their inputs differ.
+/// Extracts a collision from two pruned openings under the roots of a cap: the first pair of queries, in the order of
+/// the first list, then of the second, whose checks differ at a place that both share. Returns the place of each query
+/// in its list, from 0, and both inputs at the last such place; or `None` if there is no such pair.
 ///
 /// `N` must be a power of two from 2 to 2^62, and the cap's layer at most the number of levels. It takes the time of a
 /// check for each pair of queries.

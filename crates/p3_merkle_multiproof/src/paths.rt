@@ -26,8 +26,8 @@ use p3_support::matrix::Dimensions;
 use p3_support::packed::PackedValue;
 use std::alloc::{AllocError, Global};
 
-/// The path of each query up to the cap's layer, in query order, out of a pruned opening: the siblings are digests
-/// that were sent, or that its rows and these lead to. No cap is looked at.
+/// Restores the path of each query up to the cap's layer, in query order, from a pruned opening: each sibling is a
+/// digest that was sent, or is computed from the rows and these digests. No cap is compared.
 ///
 /// `N` is a power of two from 2 to 2^62, and the cap's layer is at most the number of levels.
 ///

@@ -9,7 +9,7 @@ ghost use Rattle.p3_support.specs.Shown.{row_sets};
 
 use p3_merkle_core::steps::Steps;
 
-/// A pruned opening that is lent, with nothing known of it.
+/// A borrowed pruned opening that is not checked yet.
 #[derive_where(Clone, Copy)]
 pub struct LentOpening<'a, T, X> {
     /// The index of each query.

@@ -87,9 +87,9 @@ pub fn matrix_refs<'a, F, X, G, M: Matrix<F>, const N: usize>(
     Ok(matrices)
 }
 
-/// The siblings on the path of leaf `index` up to a layer: of each group on it all digests but the path's own, level by
-/// level from the leaves, ascending. `steps` must be those of the tree, the index below [`max_height`], and the layer
-/// at most the number of levels.
+/// The siblings on the path of leaf `index` up to a layer, level by level from the leaves up: on each level all digests
+/// of the path's group but the path's own, ascending. `steps` must be those of the tree, the index below
+/// [`max_height`], and the layer at most the number of levels.
 ///
 /// # Errors
 ///

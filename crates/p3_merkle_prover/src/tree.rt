@@ -62,8 +62,8 @@ impl<F: Copy, W: Copy, M: Matrix<F> + Drop, const N: usize, const D: usize> Merk
     /// end of a matrix, and in the slots that pad a layer.
     ///
     /// `N` must be a power of two from 2 to 2^62, and both packings must have equally many lanes, at least one. Each
-    /// layer is allocated once. If the hash or the compression has `LANES` above 1, it works in batches; else in packed
-    /// values. The tree is the same.
+    /// layer is allocated once. `LANES` of the hash and of the compression, and the lanes of the packings, decide how
+    /// many digests one call computes; the tree does not depend on them.
     ///
     /// # Errors
     ///

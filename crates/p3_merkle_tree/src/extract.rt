@@ -27,8 +27,8 @@ use std::alloc::Global;
 
 impl<P: PackedValue, PW: PackedValue, H, C, X, G, const N: usize> Scheme<P, PW, H, C, X, G, N> {
     /// Whether a cap over matrices of these dimensions authenticates the rows of the matrix at place `matrix`, which
-    /// must be a place in `dimensions`: its rows are hashed into the cap's layer, or into a layer below it. Of any
-    /// other matrix a verifier checks the width of the row alone. Under the rule `Lowered` every matrix is
+    /// must be a place in `dimensions`: its rows are hashed into the cap's layer, or into a layer below it. For any
+    /// other matrix a verifier checks only the width of the row. Under the rule `Lowered` every matrix is
     /// authenticated. The call does not allocate.
     ///
     /// # Errors
@@ -69,8 +69,8 @@ impl<
     /// Both openings are verified as by [`verify_batch`](Self::verify_batch). A check hashes the leaf, then on each
     /// level compresses a group and, where matrices are injected above it, hashes their rows and compresses a pair (see
     /// [`Place`](crate::Place)). Checks of one index share all these places. Checks of two indices share them from the
-    /// level on at which their paths meet. The collision is at the last shared place where the inputs differ, with the
-    /// input of the first opening and that of the second. The call allocates at shared places alone.
+    /// level where their paths meet. The collision is at the last shared place where the inputs differ: it has the
+    /// input of the first opening and that of the second. The call allocates only at shared places.
     ///
     /// Two openings of one index give a collision exactly if they differ in a sibling, or in a row of an
     /// [authenticated](Self::is_authenticated) matrix. Openings of any two indices give one if they conflict in a row

@@ -32,10 +32,10 @@ impl<
     ///
     /// Both openings are verified as by [`verify_batch_pruned`](Self::verify_batch_pruned), each with its own queries,
     /// and the path of each query is restored. Then each query of the first opening is compared with each of the second
-    /// as [`extract_collision`](Self::extract_collision) compares two openings. The answer is of the first pair that
-    /// gives a collision, in the order of the first list and then of the second: the place of each query in its list,
-    /// from 0, and the collision. The call takes the time of a check for each pair, and memory for the restored paths
-    /// and for what two checks share.
+    /// as [`extract_collision`](Self::extract_collision) compares two openings. Returns the first pair that gives a
+    /// collision, in the order of the first list, then of the second: the place of each query in its list, from 0, and
+    /// the collision. The call takes the time of a check for each pair, and memory for the restored paths and for what
+    /// two checks share.
     ///
     /// # Errors
     ///

@@ -20,8 +20,8 @@ use p3_support::packed::PackedValue;
 use std::alloc::{AllocError, Global};
 use std::marker::PhantomData;
 
-/// The scheme of a hasher `H` and a compression `C`, with digests `X` and groups `G` of `N` digests, packed in `P`
-/// and `PW`. [`MerkleTreeMmcs`] is this scheme at digests of words.
+/// The scheme of a hasher `H` and a compression `C`, with digests `X` and groups `G` of `N` digests. `P` packs the
+/// words of rows, and `PW` those of digests. [`MerkleTreeMmcs`] is this scheme at digests of words.
 ///
 /// The arity `N` is a power of two from 2 to 2^62. Both packings have equally many lanes, at least one.
 #[derive(Debug)]
@@ -251,8 +251,8 @@ impl<
     /// level by level, and compares the last digest with the cap's entry above the leaf. It does not allocate.
     ///
     /// An accepted opening has one row for each of `dimensions`, of that width, and for each level below the cap one
-    /// sibling less than a node there has children. `dimensions` are those of the matrices, in input order. They must
-    /// come from the verifier, never from the proof: a cap does not fix them. Under the rule `Fixed` the rows of a
+    /// sibling fewer than a node above it has children. `dimensions` are those of the matrices, in input order. They
+    /// must come from the verifier, never from the proof: a cap does not fix them. Under the rule `Fixed` the rows of a
     /// matrix above the cap's layer are never hashed, and only their width is checked; under `Lowered` there is no such
     /// matrix.
     ///

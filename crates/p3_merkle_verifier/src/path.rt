@@ -54,7 +54,8 @@ impl<
     /// Checks an opening against the roots of a cap: its form, and that its path leads to the root above the leaf. It
     /// does not allocate.
     ///
-    /// `N` must be a power of two from 2 to 2^62, and `cap_layer` at most the number of levels.
+    /// `N` must be a power of two from 2 to 2^62 and the arity of `steps`; `cap_layer` must be at most the number of
+    /// levels.
     ///
     /// # Errors
     ///

@@ -1,2 +1,2 @@
--- What only proofs, and calls that no public contract speaks of, cite.
+-- Definitions that only proofs, and calls that no public contract mentions, use.
 pub mod Lanes

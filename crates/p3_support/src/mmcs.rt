@@ -155,8 +155,9 @@ pub trait Mmcs<T, M: Matrix<T>> {
             IfOk result (λ o. accepts_all self.now c dimensions indices.now (row_sets o.0.items) o.1) }
         ensures memory { IfErr result is_out_of_memory };
 
-    /// Verifies the rows of several indices by one proof against a commitment. An accepted opening has one row set for
-    /// each index, each of them as in [`verify_batch`](Self::verify_batch).
+    /// Verifies the rows of several indices by one proof against a commitment. `rows` has a row set for each index, in
+    /// query order; `dimensions` are as in [`verify_batch`](Self::verify_batch). In an accepted opening each index is
+    /// below the greatest height, and its row set has one row of the right width for each matrix.
     ///
     /// # Errors
     ///

@@ -28,7 +28,8 @@ impl<'a, T, M: Matrix<T>> Model for Rows<'a, T, M> {
     ghost invariant = { λ s. s.row < s.height };
 }
 
-/// The row `row` of each of the `matrices` that have `height` rows, one after another. It does not allocate.
+/// The row `row` of each of the `matrices` that have `height` rows, one after another. `row` must be below `height`. It
+/// does not allocate.
 pub fn rows_of<'a, T, M: Matrix<T>>(matrices: &'a [M], height: usize, row: usize) -> Rows<'a, T, M>
     requires { row < height }
     ensures { result ≡ rows_of_height M.height_of M.row_of height row matrices.now }

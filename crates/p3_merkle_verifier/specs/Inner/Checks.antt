@@ -41,7 +41,8 @@ pub record IsProgress {T W : Type 0} (f : Functions T W) (s : Shape) (o : Openin
   pub taken : progress.used ≡ siblings_below s l
   pub reached : progress.digest ≡ path_digest f s o l
 
--- a check can climb level l: the arity is one, and there are siblings for this level and those below it
+-- a check can climb level l: the arity is a power of two from 2 to 2 ^ 62, and there are siblings for this level and
+-- those below it
 pub record CanClimb (s : Shape) (l count : ℕ) : Type 0 where
   pub arity : IsArity s.arity
   pub enough : siblings_below s (suc l) ≤ count
