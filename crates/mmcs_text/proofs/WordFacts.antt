@@ -7,9 +7,8 @@ use Rattle.std.specs.Bool.{then_some}
 use Rattle.std.specs.List.{AllWithin, HoldsAt}
 use Rattle.std.specs.Cmp.Lexicographic.{bytes_decides, pointwise}
 use Rattle.std.proofs.lemmas.Bool.{false≢true}
-use Rattle.std.proofs.lemmas.List.{take_all, take-append-drop, length_push, map_more, map-append}
+use Rattle.std.proofs.lemmas.List.{take_all, take-append-drop, map_more, map-append}
 use Rattle.std.proofs.lemmas.List.Elements.{All-map, All-from_all_within, All-get_or}
-use Rattle.std.proofs.Math.Seq.{drop-append-add}
 use Rattle.std.specs.Char.{digit_value}
 use Rattle.std.specs.Str.Parse.{AllDigits, digits_value}
 use Rattle.p3_merkle_core.specs.declared.cap.CapRule.{CapRule}

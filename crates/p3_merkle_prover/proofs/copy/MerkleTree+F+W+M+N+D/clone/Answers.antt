@@ -1,6 +1,6 @@
 -- The copy has the facts of the tree.
 use Rattle.std.proofs.Common.{ap, subst, sym, ◌∙◌, map}
-use Rattle.p3_merkle_core.specs.Geometry.{heights, shape_of, IsLawful}
+use Rattle.p3_merkle_core.specs.Geometry.{heights, IsLawful}
 use Rattle.p3_merkle_core.specs.Views.{batch_of}
 use Rattle.p3_merkle_core.specs.Nodes.{Batch, shape}
 use Rattle.p3_merkle_prover.specs.Parts.{tree_batch}
