@@ -11,7 +11,7 @@ use Rattle.p3_merkle_core.specs.declared.pruning.KeptLevel.{KeptLevel}
 use Rattle.p3_merkle_core.proofs.Covered.KeptFacts.{level_of, paths_restored}
 use Rattle.p3_merkle_multiproof.specs.Inner.RestoredLevels.{AreKept, IsValuedLevel, opened_by, tree_of}
 use Rattle.p3_merkle_multiproof.specs.declared.covered.NextLevel.{NextLevel}
-use Rattle.p3_merkle_multiproof.specs.declared.restorable.LentOpening.{LentOpening}
+use Rattle.p3_merkle_multiproof.specs.declared.restorable.BorrowedOpening.{BorrowedOpening}
 use Rattle.p3_merkle_multiproof.specs.declared.restorable.Restorable.{Restorable}
 use Rattle.p3_merkle_core.specs.Checks.{terms}
 
@@ -43,13 +43,13 @@ kept_next f s t p l old new level next_level k up is a b c =
 
 -- the paths out of the levels of an opening are its restored ones
 pub paths_by_levels : {T W : Type 0} (f : Functions T W) (s : Shape) (t : ℕ) (restorable : Restorable T (List W))
-    (opening : LentOpening T (List W)) (levels : List (KeptLevel (List W))) (paths : List (ℕ × List (List W))) →
+    (opening : BorrowedOpening T (List W)) (levels : List (KeptLevel (List W))) (paths : List (ℕ × List (List W))) →
     tree_of restorable ≡ s → restorable.cap_layer ≡ t → restorable.opening ≡ opening →
     AreKept f (tree_of restorable) restorable.cap_layer (opened_by restorable) restorable.cap_layer levels →
     paths ≡ paths_out_of (map shown_level levels) opening.indices.now →
     paths ≡ restored_paths (terms f s t) (pruned_of opening.indices.now (row_sets opening.sets.now) opening.sent.now)
 paths_by_levels f s t restorable opening levels paths tree layer is kept out =
-    out ∙ ap (λ (o : LentOpening _ _). paths_out_of (map shown_level levels) o.indices.now) (sym is)
+    out ∙ ap (λ (o : BorrowedOpening _ _). paths_out_of (map shown_level levels) o.indices.now) (sym is)
     ∙ paths_restored f (tree_of restorable) restorable.cap_layer (opened_by restorable) restorable.queried
     (map shown_level levels) kept.levels_are
     ∙ (λ i. restored_paths (terms f (tree i) (layer i))

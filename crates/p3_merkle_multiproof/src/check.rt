@@ -10,7 +10,7 @@ ghost use Rattle.p3_merkle_core.specs.declared.error.MerkleTreeError.TheVariants
 ghost use Rattle.p3_merkle_verifier.specs.Inner.Paths.{CanCheck};
 ghost use Rattle.p3_merkle_core.specs.Checks.{terms};
 
-use crate::restorable::LentOpening;
+use crate::restorable::BorrowedOpening;
 use crate::restored::levels_under_cap;
 use crate::start::start_of;
 use p3_merkle_core::error::MerkleTreeError;
@@ -52,7 +52,7 @@ pub fn check_pruned_opening<
     alloc: Global,
     checker: &Checker<'_, P, PW, H, C, [[PW::Value; D]; N]>,
     commitment: &Commitment<'_, [PW::Value; D]>,
-    opening: LentOpening<'_, P::Value, [PW::Value; D]>,
+    opening: BorrowedOpening<'_, P::Value, [PW::Value; D]>,
 ) -> Result<(), MerkleTreeError>
     requires { CanCheck (shape_of N commitment.now.dimensions.now) commitment.now.cap_layer }
     ensures { let f = functions_of (H.hash checker.now.hash.now) (C.compression checker.now.compress.now)

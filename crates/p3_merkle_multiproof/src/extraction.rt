@@ -15,7 +15,7 @@ ghost use Rattle.p3_merkle_multiproof.specs.Inner.QueryPairs.{AreQueriesOf, CanC
 
 use crate::check::Commitment;
 use crate::paths::checked_paths_of;
-use crate::restorable::LentOpening;
+use crate::restorable::BorrowedOpening;
 use p3_merkle_core::collision::Collision;
 use p3_merkle_core::error::MerkleTreeError;
 use p3_merkle_core::pruning::{AuthPath, PrunedMerklePaths};
@@ -181,7 +181,7 @@ fn checked_queries<
         opened_values: sets,
         opening_proof,
     } = opening;
-    let opening = LentOpening {
+    let opening = BorrowedOpening {
         indices,
         sets,
         sent: opening_proof.sibling_hashes.as_slice(),

@@ -14,7 +14,7 @@ ghost use Rattle.p3_merkle_core.specs.Checks.{terms};
 
 use crate::check::Commitment;
 use crate::covered::NextLevel;
-use crate::restorable::LentOpening;
+use crate::restorable::BorrowedOpening;
 use crate::restored::{Reach, levels_under_cap, restored_layer};
 use crate::start::{Start, start_of};
 use p3_merkle_core::error::MerkleTreeError;
@@ -46,7 +46,7 @@ pub fn restored_paths_of<
     checker: &Checker<'_, P, PW, H, C, [[PW::Value; D]; N]>,
     dimensions: &[Dimensions],
     cap_layer: usize,
-    opening: LentOpening<'_, P::Value, [PW::Value; D]>,
+    opening: BorrowedOpening<'_, P::Value, [PW::Value; D]>,
 ) -> Result<Vec<AuthPath<[PW::Value; D]>>, MerkleTreeError>
     requires { CanCheck (shape_of N dimensions.now) cap_layer }
     ensures answer { let p = pruned_of opening.entry.indices.now (row_sets opening.entry.sets.now)
@@ -82,7 +82,7 @@ pub(crate) fn checked_paths_of<
     alloc: Global,
     checker: &Checker<'_, P, PW, H, C, [[PW::Value; D]; N]>,
     commitment: &Commitment<'_, [PW::Value; D]>,
-    opening: LentOpening<'_, P::Value, [PW::Value; D]>,
+    opening: BorrowedOpening<'_, P::Value, [PW::Value; D]>,
 ) -> Result<Vec<AuthPath<[PW::Value; D]>>, MerkleTreeError>
     requires { CanCheck (shape_of N commitment.now.dimensions.now) commitment.now.cap_layer }
     ensures answer { let f = functions_of (H.hash checker.now.hash.now) (C.compression checker.now.compress.now)

@@ -11,7 +11,7 @@ use p3_merkle_core::steps::Steps;
 
 /// A borrowed pruned opening that is not checked yet.
 #[derive_where(Clone, Copy)]
-pub struct LentOpening<'a, T, X> {
+pub struct BorrowedOpening<'a, T, X> {
     /// The index of each query.
     pub indices: &'a [usize],
     /// The row set of each query: one row of each matrix, in input order.
@@ -28,7 +28,7 @@ pub struct Restorable<'a, T, X> {
     /// The cap's layer.
     pub cap_layer: usize,
     /// The opening.
-    pub opening: LentOpening<'a, T, X>,
+    pub opening: BorrowedOpening<'a, T, X>,
     ghost queried: { CanQuery (shape_of steps.arity steps.dimensions.now) opening.indices.now cap_layer },
     ghost low: { greatest (heights_of steps.dimensions.now) ≤ height_limit },
     ghost pairs: { length opening.sets.now ≡ length opening.indices.now },

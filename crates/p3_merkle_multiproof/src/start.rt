@@ -12,7 +12,7 @@ ghost use Rattle.p3_support.specs.Batches.{heights_of, greatest, widths_of};
 ghost use Rattle.p3_support.specs.Shown.{row_sets};
 
 use crate::covered::Covered;
-use crate::restorable::{LentOpening, Restorable};
+use crate::restorable::{BorrowedOpening, Restorable};
 use p3_merkle_core::agreement::DistinctIndices;
 use p3_merkle_core::error::MerkleTreeError;
 use p3_merkle_core::steps::{Steps, steps_of};
@@ -52,7 +52,7 @@ fn leaves_of(steps: &Steps<'_>, indices: &[usize], queried: DistinctIndices) -> 
 fn tell_restorable<P: PackedValue, X>(
     steps: &Steps<'_>,
     cap_layer: usize,
-    opening: LentOpening<'_, P::Value, X>,
+    opening: BorrowedOpening<'_, P::Value, X>,
 )
     requires checked { CanCheck (shape_of steps.now.arity steps.now.dimensions.now) cap_layer }
     requires unrefused { pruned_refusal P.Value.eq (shape_of steps.now.arity steps.now.dimensions.now) cap_layer
@@ -81,7 +81,7 @@ pub(crate) fn start_of<'a, P: PackedValue, X>(
     dimensions: &'a [Dimensions],
     arity: usize,
     cap_layer: usize,
-    opening: LentOpening<'a, P::Value, X>,
+    opening: BorrowedOpening<'a, P::Value, X>,
 ) -> Result<Start<'a, P::Value, X>, MerkleTreeError>
     requires { CanCheck (shape_of arity dimensions.now) cap_layer }
     ensures answer { let p = opened_with opening.entry.indices.now (row_sets opening.entry.sets.now)
@@ -93,7 +93,7 @@ pub(crate) fn start_of<'a, P: PackedValue, X>(
     ensures opening { IfOk result (λ start. start.restorable.opening ≡ opening.entry) }
 {
     let steps = steps_of(dimensions, arity);
-    let LentOpening {
+    let BorrowedOpening {
         indices,
         sets,
         sent,

@@ -24,7 +24,7 @@ use p3_merkle_core::pruning::{
 };
 use p3_merkle_multiproof::check::{Commitment, check_pruned_opening};
 use p3_merkle_multiproof::paths::restored_paths_of;
-use p3_merkle_multiproof::restorable::LentOpening;
+use p3_merkle_multiproof::restorable::BorrowedOpening;
 use p3_merkle_prover::opener::cap_layer_in;
 use p3_merkle_prover::pruned::{digests_of_boundary, rows_of_indices};
 use p3_merkle_prover::tree::MerkleTree;
@@ -214,7 +214,7 @@ impl<
             dimensions,
             cap_layer: self.cap_layer(dimensions),
         };
-        let opening = LentOpening {
+        let opening = BorrowedOpening {
             indices,
             sets: rows,
             sent: proof.sibling_hashes.as_slice(),
@@ -289,7 +289,7 @@ impl<
             IfOk result (λ paths. shown_paths paths.items ≡ restored_paths c p) }
     {
         let cap_layer = self.cap_layer(dimensions);
-        let opening = LentOpening {
+        let opening = BorrowedOpening {
             indices,
             sets: rows,
             sent: proof.sibling_hashes.as_slice(),
