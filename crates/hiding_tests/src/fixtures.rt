@@ -4,7 +4,7 @@ use p3_instances::fold::{FoldCompress, FoldHash};
 use p3_merkle_core::pruning::check_indices;
 use p3_merkle_hiding::MerkleTreeHidingMmcs;
 use p3_merkle_hiding::hiding_mmcs::{SaltedMultiProof, SaltedProof, SaltedTree};
-use p3_merkle_tree::{BatchOpening, MerkleCap, MerkleTreeError, PrunedMerklePaths};
+use p3_merkle_tree::{BatchOpening, MerkleCap, MerkleTreeError};
 use p3_support::matrix::RowMajorMatrix;
 use std::alloc::{AllocError, Global};
 use test_fixtures::counting::Counting;
@@ -94,18 +94,6 @@ pub fn opening(
 ) -> Result<Opening, AllocError> {
     let proof = (lists(alloc, salts)?, digests(alloc, siblings)?);
     Ok(BatchOpening::new(lists(alloc, rows)?, proof))
-}
-
-/// What proves several openings by these salts and digests.
-pub fn multi_proof(
-    alloc: Global,
-    salts: &[&[&[u32]]],
-    sent: &[u32],
-) -> Result<MultiProof, AllocError> {
-    let pruned = PrunedMerklePaths {
-        sibling_hashes: digests(alloc, sent)?,
-    };
-    Ok((sets(alloc, salts)?, pruned))
 }
 
 /// The opening of a leaf.

@@ -1,9 +1,7 @@
 //! Tests of the salted scheme over the fold functions, at values that were worked out by hand: its salts, what it
-//! commits to, what it opens, and what is found where two openings differ.
+//! commits to, and what it opens. Two openings of one cap are compared by cases of `merkle_cases`.
 #![tactic(auto)]
 
-#[cfg(test)]
-mod collisions;
 #[cfg(test)]
 mod commits;
 #[cfg(test)]
