@@ -4,7 +4,7 @@ ghost use Rattle.std.specs.Prelude.{◌≤◌, IsTrue};
 ghost use Rattle.p3_merkle_core.specs.Geometry.{is_arity};
 
 use crate::case::Case;
-use crate::committed::{Committed, accepted};
+use crate::committed::{Committed, accepted, accepted_leaves};
 use crate::fields::Fault;
 use crate::reader::Reader;
 use crate::scheme::Cap;
@@ -12,7 +12,6 @@ use crate::sha256::{Digest, byte_at};
 use crate::sweep::{Counts, Plan};
 use p3_instances::sha::{Sha256Nodes, Sha256Rows};
 use p3_instances::sha_eights::{Sha256NodesInEights, Sha256RowsInEights};
-use p3_merkle_core::pruning::check_indices;
 use p3_merkle_tree::{BatchOpeningRef, MerkleCap, MerkleTree, MerkleTreeError, MerkleTreeMmcs};
 use p3_support::compress::PseudoCompressionFunction;
 use p3_support::hasher::CryptographicHasher;
@@ -54,21 +53,18 @@ fn sent<
     committed: &Sha256Committed<N>,
     indices: &[usize],
 ) -> Result<Vec<Digest>, MerkleTreeError> {
+    let (rows, proof) = accepted_leaves(alloc, scheme, committed, indices)?;
     let Committed {
         cap,
-        tree,
         dimensions,
+        ..
     } = committed;
-    check_indices(scheme.get_max_height(tree), indices)?;
-    let opening = scheme.open_batch_pruned(alloc, indices, tree)?;
-    let (rows, proof) = (&opening.opened_values, &opening.pruned_proof);
-    scheme.verify_batch_pruned(alloc, cap, dimensions, indices, rows, proof)?;
-    let paths = scheme.restore_and_recompute_paths(alloc, dimensions, indices, rows, proof)?;
+    let paths = scheme.restore_and_recompute_paths(alloc, dimensions, indices, &rows, &proof)?;
     for (own, path) in rows.iter().zip(&paths) {
         let lent = BatchOpeningRef::new(own, &path.siblings);
         scheme.verify_batch(cap, dimensions, path.leaf_index, lent)?;
     }
-    Ok(opening.pruned_proof.sibling_hashes)
+    Ok(proof.sibling_hashes)
 }
 
 /// What is asked of matrices that a scheme commits to.
