@@ -10,7 +10,7 @@ from pruned import boundary_len, suffices
 from refusals import (
     PRUNED, REPLAY, RESTORED, SALTED, SALTED_PRUNED, SINGLE, Claim, highest_index, refusal, width_fault,
 )
-from salts import Generator
+from salts import Generator, generator_of
 from schemes import Scheme
 
 MOST_ROWS = 1 << 40
@@ -233,28 +233,54 @@ def open_pruned(fields):
 
 
 def open_salted(fields):
-    scheme, seed = fields.salted_scheme(), fields.number()
+    scheme, generator = fields.salted_scheme(), generator_of(fields.take())
     matrices, index = notation.matrices(fields.take()), fields.number()
     refused = open_refusal(scheme, matrices, [index])
     if refused:
         return refused
-    tree = scheme.salted_tree(matrices, seed)
+    tree = scheme.salted_tree(matrices, generator)
     rows, path = scheme.opening(tree, index)
     parts = [notation.print_rows(part) for part in scheme.split(rows)]
     return " | ".join([notation.print_numbers(tree.cap()), *parts, notation.print_numbers(path)])
 
 
 def open_salted_pruned(fields):
-    scheme, seed = fields.salted_scheme(), fields.number()
+    scheme, generator = fields.salted_scheme(), generator_of(fields.take())
     matrices, queries = notation.matrices(fields.take()), fields.numbers()
     refused = open_refusal(scheme, matrices, queries)
     if refused:
         return refused
-    tree = scheme.salted_tree(matrices, seed)
+    tree = scheme.salted_tree(matrices, generator)
     sets, digests = scheme.pruned_opening(tree, queries)
     split = [scheme.split(rows) for rows in sets]
     parts = [notation.print_row_sets([pair[side] for pair in split]) for side in (0, 1)]
     return " | ".join([notation.print_numbers(tree.cap()), *parts, notation.print_numbers(digests)])
+
+
+def cap_or_refusal(scheme, generator, text):
+    """The cap over matrices, or over such of some dimensions; else why no tree has them with their salts."""
+    if text == "none" or "x" in text:
+        sizes = notation.dimensions(text)
+    else:
+        sizes = [(len(rows[0]), len(rows)) for rows in notation.matrices(text)]
+    most = geometry.MAX_NUMBER - scheme.salts
+    wide = (texts.too_large(matrix, width) for matrix, (width, _) in enumerate(sizes) if width > most)
+    refused = scheme.height_refusal([height for _, height in sizes]) or next(wide, None)
+    if refused:
+        return refused
+    matrices = notation.numbered(sizes) if "x" in text else notation.matrices(text)
+    return notation.print_numbers(scheme.salted_tree(matrices, generator).cap())
+
+
+def commits_salted(fields):
+    scheme, generator = fields.salted_scheme(), generator_of(fields.take())
+    return " / ".join(cap_or_refusal(scheme, generator, batch.strip()) for batch in fields.take().split("/"))
+
+
+def fork_salted(fields):
+    scheme, generator, text = fields.salted_scheme(), generator_of(fields.take()), fields.take()
+    fork = generator.fork()
+    return " / ".join(cap_or_refusal(scheme, source, text) for source in (generator, fork))
 
 
 def sha256_commit(fields):
@@ -439,7 +465,8 @@ KINDS = {
     "steps": steps, "positions": positions, "siblings": siblings, "widths": widths, "heights": heights,
     "layers": layers, "builders": builders, "commit": commit, "shape": shape, "schedule": schedule, "replay": replay,
     "authenticated": authenticated, "pruned_len": pruned_len, "open": open_leaf, "pruned": open_pruned,
-    "open_salted": open_salted, "pruned_salted": open_salted_pruned, "leaves": leaves, "kept": kept,
+    "open_salted": open_salted, "pruned_salted": open_salted_pruned, "commits_salted": commits_salted,
+    "fork_salted": fork_salted, "leaves": leaves, "kept": kept,
     "verify": verify, "verify_salted": verify_salted, "verify_pruned": verify_pruned,
     "verify_salted_pruned": verify_salted_pruned, "restore": restore, "extract": extract_leaf,
     "extract_pruned": extract_leaves, "extract_salted": extract_salted,

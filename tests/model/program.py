@@ -115,6 +115,24 @@ def output(words, data):
         return f"{fault.line} (status {fault.status})"
 
 
+def unread(words, data):
+    """The same where the input fails at its end."""
+    try:
+        command_of(words)
+        return "read failed (status 1)"
+    except Fault as fault:
+        return f"{fault.line} (status {fault.status})"
+
+
+def unwritten(calls, words, data):
+    """The same where the output takes a byte at each call, and fails after so many calls: a flush is the last."""
+    try:
+        text = answer(words, data)
+    except Fault as fault:
+        return f"{fault.line} (status {fault.status})"
+    return text if calls > len(text) else text[:calls] + "write failed (status 1)"
+
+
 def bytes_of(written):
     """The bytes that are written with escapes."""
     found, rest = [], written

@@ -33,10 +33,10 @@ def words_of(data):
 
 
 class Generator:
-    """The stream of a key that is one byte 32 times."""
+    """The stream of a key that is one byte 32 times, or these bytes."""
 
     def __init__(self, seed):
-        self.key = words_of(bytes([seed] * 32))
+        self.key = words_of(seed if isinstance(seed, bytes) else bytes([seed] * 32))
         self.counter = 0
         self.words = []
 
@@ -54,6 +54,27 @@ class Generator:
     def salt(self):
         """The low word of the next number."""
         return self.next_u64() & WORD
+
+    def fork(self):
+        """The generator whose key is what this one gives next."""
+        return Generator(b"".join(self.next_u64().to_bytes(8, "little") for _ in range(4)))
+
+
+class Counting:
+    """A generator whose salts go up by a step."""
+
+    def __init__(self, last, step):
+        self.last = last
+        self.step = step
+
+    def salt(self):
+        self.last += self.step
+        return self.last
+
+
+def generator_of(text):
+    """The generator that a field names: a seed, or one whose salts are told at sight."""
+    return {"tens": Counting(0, 10), "hundred": Counting(99, 1)}.get(text) or Generator(int(text))
 
 
 def salts_of(generator, matrices, count):

@@ -4,7 +4,7 @@ from geometry import shape_of
 from nodes import Fold, Tree
 from pruned import digests_of
 from refusals import HEIGHTS, Claim, refusal
-from salts import Generator, salts_of
+from salts import salts_of
 
 
 class Scheme:
@@ -36,9 +36,9 @@ class Scheme:
         """The honest opening of several leaves: row sets and digests."""
         return [tree.rows(query) for query in queries], digests_of(tree, queries)
 
-    def salted_tree(self, matrices, seed):
-        """The tree over rows followed by salts that a generator of this seed draws."""
-        salts = salts_of(Generator(seed), matrices, self.salts)
+    def salted_tree(self, matrices, generator):
+        """The tree over rows followed by salts that a generator draws."""
+        salts = salts_of(generator, matrices, self.salts)
         return self.tree([[row + own for row, own in zip(rows, drawn)] for rows, drawn in zip(matrices, salts)])
 
     def split(self, rows):

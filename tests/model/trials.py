@@ -106,6 +106,7 @@ def add_salted_tree(trial):
     head = f"{trial.head} | {trial.scheme.salts} | {trial.seed} | {matrices}"
     trial.add_honest(f"open_salted | {head} | {trial.index}")
     trial.add_honest(f"pruned_salted | {head} | {notation.print_numbers(trial.queries)}")
+    trial.add_honest(f"fork_salted | {head}")
 
 
 def extraction_line(first, second):

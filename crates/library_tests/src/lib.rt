@@ -1,9 +1,6 @@
-//! Tests of the libraries that no line of a file of cases can say, and of the program's engine. Those of the salted
-//! scheme are in `hiding_tests`.
+//! Tests of the libraries that no line of a file of cases can say.
 #![tactic(auto)]
 
-#[cfg(test)]
-mod engine;
 #[cfg(test)]
 mod fixtures;
 #[cfg(test)]

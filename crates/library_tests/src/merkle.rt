@@ -1,6 +1,5 @@
 //! Tests of trees and schemes that no line of a file of cases can say: generic code called at other packings and at
-//! longer digests, callers that are generic in the scheme, SHA-256, trees over exclusive or, random rows, clones, and
-//! the texts of the errors.
+//! longer digests, callers that are generic in the scheme, trees over exclusive or, clones, and the texts of the errors.
 
 mod any_scheme;
 mod calls;
@@ -8,6 +7,5 @@ mod clones;
 mod exclusive_or;
 mod generic;
 mod noting;
-mod sha256;
 mod texts;
 mod verified_words;

@@ -9,7 +9,7 @@ use crate::fields::Fault;
 use crate::reader::Reader;
 use crate::replay::write_steps;
 use crate::scheme::{
-    FoldOpening, FoldTree, ROOT, Rows, commit_to, fold_scheme, fold_tree, tall_columns,
+    FoldOpening, FoldTree, ROOT, Rows, commit_to, fold_scheme, fold_tree, tall_matrices,
 };
 use crate::text::Answer;
 use p3_merkle_core::geometry::check_heights;
@@ -79,8 +79,8 @@ pub fn heights(case: &mut Case<'_>) -> Result<(), Fault> {
     let dimensions = reader.columns(&heights);
     let answers = [
         check_heights(&dimensions),
-        commit(case.alloc, tall_columns(reader, &heights)),
-        build(case.alloc, tall_columns(reader, &heights)),
+        commit(case.alloc, tall_matrices(reader, &dimensions)),
+        build(case.alloc, tall_matrices(reader, &dimensions)),
         scheduled(case.alloc, &dimensions),
         checked(reader, &heights, &dimensions),
     ];

@@ -9,7 +9,7 @@ use p3_instances::fold::{FoldCompress, FoldHash};
 use p3_merkle_tree::{
     BatchOpening, CapRule, MerkleCap, MerkleTree, MerkleTreeError, MerkleTreeMmcs,
 };
-use p3_support::matrix::{Matrix, RowMajorMatrix};
+use p3_support::matrix::{Dimensions, Matrix, RowMajorMatrix};
 use std::alloc::Global;
 use test_fixtures::matrices::Numbers;
 
@@ -86,17 +86,12 @@ pub fn fold_tree<M: Matrix<u32> + Drop, const N: usize>(
     )
 }
 
-/// Columns of these heights, whose words are the numbers of their rows. They take no memory, whatever their heights.
-pub fn tall_columns(reader: &mut Reader, heights: &[usize]) -> Vec<Numbers> {
-    let mut columns = reader.none();
-    for rows in heights {
-        reader.push(
-            &mut columns,
-            Numbers {
-                words: 1,
-                rows: *rows,
-            },
-        );
+/// Matrices of these dimensions, whose words are the numbers of their rows. They take no memory, whatever their heights.
+pub fn tall_matrices(reader: &mut Reader, dimensions: &[Dimensions]) -> Vec<Numbers> {
+    let mut matrices = reader.none();
+    for Dimensions { width, height } in dimensions {
+        let (words, rows) = (*width, *height);
+        reader.push(&mut matrices, Numbers { words, rows });
     }
-    columns
+    matrices
 }

@@ -1,9 +1,11 @@
 //! One case.
 
+use crate::failing::{FailingInput, FailingOutput};
 use anyhow::Error;
 use mmcs_engine::engine::run;
 use mmcs_verify_engine::engine::run as verify;
 use std::alloc::{AllocError, Global};
+use std::fmt::Display;
 
 /// What is wrong with a line, if it is no case, or is not answered as it is written.
 ///
@@ -17,10 +19,7 @@ pub fn mistake(alloc: Global, line: &str) -> Result<Option<String>, Error> {
     let (Some(input), Some(want)) = (bytes_of(alloc, input)?, bytes_of(alloc, answer)?) else {
         return Ok(Some(format!(in alloc; "is no case")?));
     };
-    let got = match words.strip_prefix("verify ") {
-        Some(words) => verified(alloc, words, &input)?,
-        None => answer_to(alloc, words, &input)?,
-    };
+    let got = answer_to(alloc, words, &input)?;
     if got.as_bytes() == want.as_slice() {
         Ok(None)
     } else {
@@ -120,27 +119,68 @@ fn words_of(alloc: Global, text: &str) -> Result<Vec<String>, AllocError> {
     Ok(words)
 }
 
-/// What the output holds once the engine has answered, and behind it the line and the status of a fault.
-fn answer_to(alloc: Global, words: &str, mut input: &[u8]) -> Result<String, Error> {
-    let words = words_of(alloc, words)?;
-    let mut output = Vec::new(alloc);
-    let outcome = run(alloc, &words, &mut input, &mut output);
-    let mut text = String::from_str(alloc, str::from_utf8(&output)?)?;
-    if let Err(fault) = outcome {
-        let status = fault.status();
-        write!(text, "{fault} (status {status})")?;
+/// What the output holds once an engine has answered, and behind it the line and the status of a fault.
+fn answer_to(alloc: Global, words: &str, input: &[u8]) -> Result<String, Error> {
+    if let Some(words) = words.strip_prefix("verify ") {
+        return verified(alloc, words, input);
     }
-    Ok(text)
+    if let Some(words) = words.strip_prefix("unread ") {
+        return unread(alloc, words, input);
+    }
+    if let Some(words) = words.strip_prefix("unwritten ") {
+        return unwritten(alloc, words, input);
+    }
+    let mut output = Vec::new(alloc);
+    let outcome = run(alloc, &words_of(alloc, words)?, &mut &*input, &mut output);
+    told(
+        alloc,
+        &output,
+        outcome.map_err(|fault| (fault.status(), fault)),
+    )
 }
 
-/// The same of the engine of `mmcs_verify`.
+/// The answer of the engine of `mmcs_verify`.
 fn verified(alloc: Global, words: &str, mut input: &[u8]) -> Result<String, Error> {
-    let words = words_of(alloc, words)?;
     let mut output = Vec::new(alloc);
-    let outcome = verify(alloc, &words, &mut input, &mut output);
-    let mut text = String::from_str(alloc, str::from_utf8(&output)?)?;
-    if let Err(fault) = outcome {
-        let status = fault.status();
+    let outcome = verify(alloc, &words_of(alloc, words)?, &mut input, &mut output);
+    told(
+        alloc,
+        &output,
+        outcome.map_err(|fault| (fault.status(), fault)),
+    )
+}
+
+/// The answer of the engine of `mmcs` to an input that fails where its bytes end.
+fn unread(alloc: Global, words: &str, rest: &[u8]) -> Result<String, Error> {
+    let (mut input, mut output) = (FailingInput { rest }, Vec::new(alloc));
+    let outcome = run(alloc, &words_of(alloc, words)?, &mut input, &mut output);
+    told(
+        alloc,
+        &output,
+        outcome.map_err(|fault| (fault.status(), fault)),
+    )
+}
+
+/// The answer of the engine of `mmcs` where its output fails after as many calls as the first word says.
+fn unwritten(alloc: Global, words: &str, mut input: &[u8]) -> Result<String, Error> {
+    let (calls, words) = words.split_once(' ').unwrap_or(("0", words));
+    let mut output = FailingOutput::new(alloc, calls.parse()?);
+    let outcome = run(alloc, &words_of(alloc, words)?, &mut input, &mut output);
+    told(
+        alloc,
+        &output.taken,
+        outcome.map_err(|fault| (fault.status(), fault)),
+    )
+}
+
+/// An output as text, and behind it the line and the status of a fault.
+fn told<E: Display + Drop>(
+    alloc: Global,
+    output: &[u8],
+    outcome: Result<(), (u8, E)>,
+) -> Result<String, Error> {
+    let mut text = String::from_str(alloc, str::from_utf8(output)?)?;
+    if let Err((status, fault)) = outcome {
         write!(text, "{fault} (status {status})")?;
     }
     Ok(text)

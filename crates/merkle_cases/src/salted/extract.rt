@@ -89,7 +89,7 @@ pub fn checking_scheme<const N: usize, const SALT_ELEMS: usize>(
     requires few { N ≤ 16 }
     requires some_salt { 1 ≤ SALT_ELEMS }
 {
-    salted_scheme::<N, SALT_ELEMS>(cap, ChaCha20Rng::from_seed([0; 32]))
+    salted_scheme::<_, N, SALT_ELEMS>(cap, ChaCha20Rng::from_seed([0; 32]))
 }
 
 /// What two openings lead to.

@@ -7,7 +7,6 @@ use crate::case::Case;
 use crate::committed::{Committed, OpenedLeaves, commit_shown};
 use crate::fields::Fault;
 use crate::salted::SaltedScheme;
-use crate::salted::open::seeded;
 use crate::scheme::{Cap, FoldCap, Rows, fold_scheme};
 use crate::sweep::{Counts, Plan, Swept};
 use p3_merkle_hiding::hiding_mmcs::{SaltedMultiProof, SaltedProof, SaltedTree};
@@ -82,22 +81,21 @@ impl<const N: usize, const SALT_ELEMS: usize> Swept for SaltedScheme<N, SALT_ELE
 pub fn sweep<const N: usize, const SALT_ELEMS: usize>(
     case: &mut Case<'_>,
     cap: Cap,
+    scheme: &mut SaltedScheme<N, SALT_ELEMS>,
 ) -> Result<(), Fault>
     requires arity { IsTrue (is_arity N) }
     requires few { N ≤ 16 }
-    requires some_salt { 1 ≤ SALT_ELEMS }
 {
-    let mut scheme = seeded::<N, SALT_ELEMS>(cap, &mut case.fields);
     let plan = Plan::of(&mut case.fields);
     let mut counts = Counts::none();
     for dimensions in &plan.batches {
         let matrices = case.fields.reader.numbered(dimensions);
-        let committed = commit_shown(case.alloc, &mut scheme, matrices)?;
+        let committed = commit_shown(case.alloc, scheme, matrices)?;
         let steps = fold_scheme::<N>(cap).proof_arity_schedule(case.alloc, dimensions)?;
         plan.count(
             case.alloc,
             &mut case.fields.reader,
-            &scheme,
+            scheme,
             &committed,
             &steps,
             &mut counts,
