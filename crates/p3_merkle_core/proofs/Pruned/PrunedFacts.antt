@@ -26,6 +26,12 @@ past_none (x ∷ xs) ys e =
     let both = none_parts x (first_some xs) e in
     rw both.0 (past_none xs ys both.1)
 
+-- where one of some reasons holds, those after them do not matter
+at_some : {E : Type 0} (xs ys : List (Option E)) (e : E) → first_some xs ≡ Some e → first_some (xs ++ ys) ≡ Some e
+at_some [] ys e is = absurd cc
+at_some (None ∷ xs) ys e is = at_some xs ys e is
+at_some (Some x ∷ xs) ys e is = is
+
 -- ---- what is known where nothing is refused early
 
 -- as many row sets as indices, all of which are below the tallest height
@@ -72,6 +78,39 @@ late_is row_eq s t firsts indices sets is asked =
 pub late_from : {E : Type 0} (x y a : Option E) → x ≡ None → y ≡ a → first_some (x ∷ y ∷ []) ≡ a
 late_from x y None none is = rw (none, is) refl
 late_from x y (Some e) none is = rw (none, is) refl
+
+-- what is refused early decides
+pub pruned_early : {T : Type 0} (row_eq : T → T → Bool) (s : Shape) (t : ℕ) (indices : List ℕ)
+    (sets : List (List (List T))) (n : ℕ) (e : MerkleTreeError) →
+    early_refusal (heights s) indices (length sets) n ≡ Some e → pruned_refusal row_eq s t (opened_with indices sets n)
+    ≡ Some e
+pruned_early row_eq s t indices sets n e early =
+    let hs = heights s in
+    let p = opened_of indices sets in
+    let widths = first_of (λ i. width_refusal s.dimensions (rows_of p i)) (slots_below (greatest hs) indices) in
+    let number = digest_count_refusal (length (boundary s indices t)) n in
+    rw (length-replicate {A = List ℕ} n [])
+    (at_some (gate_refusal hs ∷ size_refusal (length indices) (length sets) ∷ idle_refusal (length indices) n
+    ∷ queries_refusal (greatest hs) indices ∷ [])
+    (repeat_refusal row_eq p ∷ number ∷ widths ∷ group_refusal row_eq s t p ∷ []) e early)
+
+-- where nothing is refused early, the repeats decide, and then the number of digests
+pub pruned_counted : {T : Type 0} (row_eq : T → T → Bool) (s : Shape) (t : ℕ) (indices : List ℕ)
+    (sets : List (List (List T))) (n : ℕ) (e : MerkleTreeError) →
+    early_refusal (heights s) indices (length sets) n ≡ None →
+    first_some (repeat_refusal row_eq (opened_of indices sets)
+    ∷ digest_count_refusal (length (boundary s indices t)) n ∷ []) ≡ Some e →
+    pruned_refusal row_eq s t (opened_with indices sets n) ≡ Some e
+pruned_counted row_eq s t indices sets n e early counted =
+    let hs = heights s in
+    let p = opened_of indices sets in
+    let widths = first_of (λ i. width_refusal s.dimensions (rows_of p i)) (slots_below (greatest hs) indices) in
+    let number = digest_count_refusal (length (boundary s indices t)) n in
+    let rest = widths ∷ group_refusal row_eq s t p ∷ [] in
+    rw (length-replicate {A = List ℕ} n [])
+    (past_none (gate_refusal hs ∷ size_refusal (length indices) (length sets) ∷ idle_refusal (length indices) n
+    ∷ queries_refusal (greatest hs) indices ∷ []) (repeat_refusal row_eq p ∷ number ∷ rest) early
+    ∙ at_some (repeat_refusal row_eq p ∷ number ∷ []) rest e counted)
 
 -- where nothing else is refused, the answer is the late one
 pub pruned_late : {T : Type 0} (row_eq : T → T → Bool) (s : Shape) (t : ℕ) (leaves firsts indices : List ℕ)
