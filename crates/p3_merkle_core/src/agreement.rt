@@ -356,37 +356,64 @@ impl<'a> Steps<'a> {
     {
         check_queries(self, indices, rows.len(), num_digests)?;
         let queried = distinct_indices_of(alloc, indices)?;
-        check_repeats(indices, rows, &queried)?;
-        let expected = pruned_len_of_distinct(alloc, self, cap_layer, indices, &queried)?;
-        check_digest_count(expected, num_digests)?;
-        check_rows(alloc, self, cap_layer, &queried, rows)?;
+        check_slots(alloc, self, cap_layer, indices, &queried, rows, num_digests)?;
         Ok(queried)
     }
 }
 
-/// How many digests a pruned proof of some indices sends under the cap of layer `cap_layer`. It copies the distinct
-/// indices, so that they are not sorted again.
+/// Checks the rest of a pruned opening once its indices are known to be in range: what depends on their slots.
 ///
 /// # Errors
 ///
-/// `AllocError` if memory runs out.
-fn pruned_len_of_distinct(
+/// Those of [`Steps::check_pruned`] from `InconsistentDuplicateOpenings` on, or `OutOfMemory`.
+fn check_slots<T: Eq>(
     alloc: Global,
     steps: &Steps<'_>,
     cap_layer: usize,
     indices: &[usize],
     queried: &DistinctIndices,
-) -> Result<usize, AllocError>
+    rows: &[Vec<Vec<T>>],
+    num_digests: usize,
+) -> Result<(), MerkleTreeError>
+    requires arity { IsArity steps.now.arity }
+    requires low { greatest (heights_of steps.now.dimensions.now) ≤ height_limit }
+    requires layer { cap_layer ≤ steps.now.num_levels }
+    requires queried { AreDistinctOf queried.now indices.now }
+    requires early { let heights = heights_of steps.now.dimensions.now in
+        early_refusal heights indices.now (length rows.now) num_digests ≡ None }
+    ensures { let s = shape_of steps.now.arity steps.now.dimensions.now in
+        let refusal = pruned_refusal T.eq s cap_layer (opened_with indices.now (row_sets rows.now) num_digests) in
+        AnswersUnlessMemory result refusal }
+{
+    check_repeats(indices, rows, queried)?;
+    check_boundary_len(alloc, steps, cap_layer, indices, queried, num_digests)?;
+    check_rows(alloc, steps, cap_layer, queried, rows)
+}
+
+/// Checks that a pruned proof of some indices under the cap of layer `cap_layer` has as many digests as it should have.
+/// It copies the distinct indices, so that they are not sorted again.
+///
+/// # Errors
+///
+/// The error of [`check_digest_count`]; `OutOfMemory` if memory runs out.
+fn check_boundary_len(
+    alloc: Global,
+    steps: &Steps<'_>,
+    cap_layer: usize,
+    indices: &[usize],
+    queried: &DistinctIndices,
+    num_digests: usize,
+) -> Result<(), MerkleTreeError>
     requires arity { IsArity steps.now.arity }
     requires low { greatest (heights_of steps.now.dimensions.now) ≤ height_limit }
     requires layer { cap_layer ≤ steps.now.num_levels }
     requires below { greatest indices.now < greatest (heights_of steps.now.dimensions.now) }
     requires queried { AreDistinctOf queried.now indices.now }
     ensures { let s = shape_of steps.now.arity steps.now.dimensions.now in
-        IfOk result (λ count. count ≡ pruned_len s indices.now cap_layer) }
+        AnswersUnlessMemory result (digest_count_refusal (pruned_len s indices.now cap_layer) num_digests) }
 {
     let leaves = Vec::from_slice(alloc, &queried.indices)?;
-    Ok(steps.boundary_len(cap_layer, leaves))
+    check_digest_count(steps.boundary_len(cap_layer, leaves), num_digests)
 }
 
 /// Checks whether some indices can be queried with so many row sets and digests. It does not allocate.
