@@ -1,5 +1,6 @@
 -- Each turn is one child: the next covered node, or another.
-use Rattle.std.proofs.Common.{◌≡◌, ◌+◌, ◌-◌, ◌*◌, ◌/◌, ◌%◌, ◌<◌, ◌∙◌, ap, sym, arith, get_or, length}
+use Rattle.std.proofs.Common.{◌≡◌, ◌+◌, ◌-◌, ◌*◌, ◌/◌, ◌%◌, ◌<◌, ◌∙◌, ap, sym, arith, get_or, length, refl}
+use Rattle.std.proofs.lemmas.Result.{err_from_is_err_and}
 use Rattle.std.specs.declared.vec.Vec.{Vec}
 use Rattle.p3_merkle_core.specs.Inner.Children.{children_under}
 use Rattle.p3_merkle_core.proofs.Covered.ChildFacts.{IsSent, walk_start, walk_end, known_more, unknown_more, is_sent}
@@ -11,6 +12,14 @@ use Rattle.p3_merkle_core.proofs.pruning.children_of.Goals.{else-known-covered}
 use Rattle.p3_merkle_core.proofs.pruning.children_of.Goals.{else-known-covered-via-then-known-covered+else-covered-known}
 use Rattle.p3_merkle_core.proofs.pruning.children_of.Goals.{else-known-covered-via-else-known-covered}
 
+pub overflow_mul-step : goal.overflow_mul-step
+overflow_mul-step g c = omega (arith, c.requires.few)
+
+pub returns-in_err-children : goal.returns-in_err-children
+returns-in_err-children g c =
+    let left = err_from_is_err_and c.from_residual.result c.from_residual.ensures.1 in
+    rw left.1 tt
+
 pub loop-parent-init : goal.loop-parent-init
 loop-parent-init g c =
     let none : c.args.step * 0 ≡ 0 = omega arith in
@@ -20,6 +29,51 @@ loop-parent-init g c =
       capacity = c.in_ok-children.ensures.exact;
     }
 
+pub overflow_mul-first : goal.overflow_mul-first
+overflow_mul-first g c = omega (arith, c.requires.low c.loop-parent.parent-index 0 c.loop-parent-test.true)
+
+pub overflow_add-child-end : goal.overflow_add-child-end
+overflow_add-child-end g c = omega (arith, c.requires.low c.loop-parent.parent-index 0 c.loop-parent-test.true)
+
+pub loop-child-init : goal.loop-child-init
+loop-child-init g c =
+    let n = c.args.step in
+    let i = c.loop-parent.parent-index in
+    let first = n * get_or c.args.parents.now i 0 in
+    let none : n * i + (first - first) ≡ n * i = omega arith in
+    record {
+      walked = rw none c.loop-parent.invariant.walked;
+      capacity = c.loop-parent.invariant.capacity;
+    }
+
+pub bounds-covered-known : goal.bounds-covered-known
+bounds-covered-known g c = c.if-known-covered.true
+
+pub offset_bounds-digests-known : goal.offset_bounds-digests-known
+offset_bounds-digests-known g c = omega (arith, c.requires.one_each, c.if-known-covered.true)
+
+pub bounds-digests-known : goal.bounds-digests-known
+bounds-digests-known g c = omega (arith, c.requires.one_each, c.if-known-covered.true)
+
+-- the children so far are fewer than all
+pub push_reserved-requires : goal.push_reserved-requires
+push_reserved-requires g c =
+    let n = c.args.step in
+    let i = c.loop-parent.parent-index in
+    let first = n * get_or c.args.parents.now i 0 in
+    let at = placed_at n i c.args.parents.now first c.loop-child.child refl c.loop-parent-test.true
+    c.loop-child.auto.child c.loop-child-test.true in
+    omega (arith, at.inside, c.loop-child.invariant.walked.each, c.loop-child.invariant.capacity)
+
+pub push_reserved-requires-else-known-covered : goal.push_reserved-requires-else-known-covered
+push_reserved-requires-else-known-covered g c =
+    let n = c.args.step in
+    let i = c.loop-parent.parent-index in
+    let first = n * get_or c.args.parents.now i 0 in
+    let at = placed_at n i c.args.parents.now first c.loop-child.child refl c.loop-parent-test.true
+    c.loop-child.auto.child c.loop-child-test.true in
+    omega (arith, at.inside, c.loop-child.invariant.walked.each, c.loop-child.invariant.capacity)
+
 -- a digest is left for a child that is not covered
 left : (g : Over) (c : goal.After-len g) →
     IsSent c.len.result c.loop-child.known (length c.args.sent.now)
@@ -27,8 +81,8 @@ left g c =
     let n = c.args.step in
     let i = c.loop-parent.parent-index in
     let first = n * get_or c.args.parents.now i 0 in
-    let at = placed_at n i c.args.parents.now first c.loop-child.child (omega arith) (omega arith) (omega arith)
-    (omega arith) in
+    let at = placed_at n i c.args.parents.now first c.loop-child.child refl c.loop-parent-test.true
+    c.loop-child.auto.child c.loop-child-test.true in
     let long : c.len.result ≡ n * i + (c.loop-child.child - first) =
     omega (arith, c.loop-child.invariant.walked.each) in
     rw long (is_sent n c.args.parents.now c.args.covered.now c.args.digests.now c.args.sent.now c.requires
@@ -55,8 +109,8 @@ loop-child-preserved g c =
     let n = c.args.step in
     let i = c.loop-parent.parent-index in
     let first = n * get_or c.args.parents.now i 0 in
-    let at = placed_at n i c.args.parents.now first c.loop-child.child (omega arith) (omega arith) (omega arith)
-    (omega arith) in
+    let at = placed_at n i c.args.parents.now first c.loop-child.child refl c.loop-parent-test.true
+    c.loop-child.auto.child c.loop-child-test.true in
     let place = n * i + (c.loop-child.child - first) in
     let next : n * i + (c.loop-child.child + 1 - first) ≡ place + 1 = omega arith in
     record {
@@ -91,6 +145,18 @@ loop-child-preserved g c =
             ap (λ (v : Vec _ _). v.cap) w.children-is ∙ w.push_reserved-else-known-covered.ensures.capacity
             ∙ c.loop-child.invariant.capacity
       ];
+    }
+
+pub loop-parent-preserved : goal.loop-parent-preserved
+loop-parent-preserved g c =
+    let n = c.args.step in
+    let i = c.loop-parent.parent-index in
+    let first = n * get_or c.args.parents.now i 0 in
+    let next : n * (i + 1) ≡ n * i + (c.loop-child.child - first) =
+    omega (arith, c.loop-child-test.false, c.loop-child.auto.child-end) in
+    record {
+      walked = rw next c.loop-child.invariant.walked;
+      capacity = c.loop-child.invariant.capacity;
     }
 
 pub returns : goal.returns
