@@ -9,7 +9,8 @@ use Rattle.std.proofs.lemmas.List.Folds.{list_any_at}
 use Rattle.std.specs.Cmp.{IsEquivalence}
 use Rattle.std.specs.List.Sorted.{IsStrictlyIncreasing}
 use Rattle.std.proofs.lemmas.Cmp.{lists_equiv}
-use Rattle.std.proofs.lemmas.List.{append_assoc, get_or_default, get_or-map, length-map}
+use Rattle.std.specs.Vec.{with_items}
+use Rattle.std.proofs.lemmas.List.{append_assoc, get_or_default, get_or-map, length-map, with_items_is}
 use Rattle.p3_support.specs.Shown.{row_lists}
 use Rattle.p3_support.specs.Lists.{is_among}
 use Rattle.p3_support.specs.Batches.{heights_of}
@@ -265,6 +266,30 @@ nodes_more s l n [] is = refl
 nodes_more s l n (i ∷ leaves) is =
     let here : ancestor s l i / n ≡ ancestor s (l + 1) i = rw (is, add-one) (sym (anc_next s l i)) in
     rw (here, nodes_more s l n leaves is) refl
+
+-- the nodes of the next layer, which are written in place of a layer's
+pub nodes_above : {A : Type 0} (s : Shape) (l n : ℕ) (leaves slice divided : List ℕ) (nodes : Vec ℕ A) →
+    length slice ≡ nodes.len → slice ≡ nodes.items → nodes.items ≡ map (ancestor s l) leaves → divided
+    ≡ map (λ j. j / n) slice → n ≡ step s l → (with_items nodes divided).items ≡ map (ancestor s (l + 1)) leaves
+nodes_above s l n leaves slice divided nodes long value above is_divided is =
+    let same : length divided ≡ nodes.len = ap length is_divided ∙ length-map slice (λ j. j / n) ∙ long in
+    with_items_is nodes divided same ∙ is_divided ∙ ap (λ (js : List ℕ). map (λ j. j / n) js) (value ∙ above)
+    ∙ nodes_more s l n leaves is
+
+-- what the check of a layer asks: a first query for each node, and rows of all matrices
+pub layer_pairs : (s : Shape) (l : ℕ) (leaves firsts nodes read : List ℕ) → length leaves ≡ length firsts → nodes
+    ≡ map (ancestor s l) leaves → read ≡ firsts → length nodes ≡ length read
+layer_pairs s l leaves firsts nodes read pairs is is_read =
+    ap length is ∙ length-map leaves (ancestor s l) ∙ pairs ∙ ap length (sym is_read)
+
+pub matrices_full : {T : Type 0} (dimensions : List Dimensions) (firsts read matrices : List ℕ)
+    (sets : List (List (List T))) (x : ℕ) →
+    ((k : ℕ) → k < length firsts → length (slot_rows firsts sets k) ≡ length dimensions) → matrices
+    ≡ matrices_with (heights_of dimensions) x → read ≡ firsts →
+    (k : ℕ) → k < length read → All (λ m. m < length (slot_rows read sets k)) matrices
+matrices_full dimensions firsts read matrices sets x full is is_read k h =
+    rw (is_read, is) (matrices_inside (heights_of dimensions) x (length (slot_rows firsts sets k))
+    (length-map dimensions (λ d. d.height) ∙ sym (full k (omega (arith, ap length is_read)))))
 
 -- distinct leaves are leads
 pub leaves_agree : {T : Type 0} (row_eq : T → T → Bool) → IsEquivalence row_eq → (s : Shape) (leaves firsts : List ℕ)
