@@ -360,10 +360,10 @@ pub fn paths_out_of<X: Copy>(
     let mut paths = Vec::with_capacity(alloc, indices.len())?;
     for index in indices {
         let siblings = path_out_of(alloc, levels, &places, capacity, *index)?;
-        paths.push(AuthPath {
+        paths.push_reserved(AuthPath {
             leaf_index: *index,
             siblings,
-        })?;
+        });
     }
     Ok(paths)
 }
