@@ -1,12 +1,14 @@
 -- The lowest slot under a node, and the rows that are compared with its rows.
 use Rattle.std.proofs.Common.{◌++◌, All, ◌≡◌, ◌≢◌, ℕ, zero, suc, ◌+◌, ◌-◌, ◌/◌, ◌<◌, ◌≤◌, Bool, true, false, eqb, List}
 use Rattle.std.proofs.Common.{[], ◌∷◌, map, refl, ap, sym, ◌∙◌, arith, inl, inr, length, filter, get_or, eq-eqb, Option}
-use Rattle.std.proofs.Common.{None, Some, Vec, drop, drop-cons, add-one}
+use Rattle.std.proofs.Common.{None, Some, Vec, drop, drop-cons, add-one, not}
 use Rattle.std.specs.List.{list_any, range_with_len}
 use Rattle.std.specs.Option.{option_or}
+use Rattle.std.proofs.lemmas.Bool.{not-false, not-true}
 use Rattle.std.proofs.lemmas.Bool.{cases_Bool, eqb-true, eqb-false, false_from_ne_true, ne_eqb, true≢false, cases_lt}
 use Rattle.std.proofs.lemmas.List.Folds.{list_any_at}
 use Rattle.std.specs.Cmp.{IsEquivalence}
+use Rattle.std.specs.Cmp.Lexicographic.{pointwise}
 use Rattle.std.specs.List.Sorted.{IsStrictlyIncreasing}
 use Rattle.std.proofs.lemmas.Cmp.{lists_equiv}
 use Rattle.std.specs.Vec.{with_items}
@@ -23,6 +25,8 @@ use Rattle.p3_merkle_core.specs.Refusals.{first_of}
 use Rattle.p3_merkle_core.specs.Inner.Agreement.{first_query, matrices_with, row_fault, rows_refusal, slot_rows}
 use Rattle.p3_merkle_core.specs.Inner.Agreement.{nodes_refusal, IsAscending}
 use Rattle.p3_merkle_core.specs.declared.error.MerkleTreeError.{MerkleTreeError}
+use Rattle.p3_merkle_core.specs.declared.error.MerkleTreeError.TheVariants.{MalformedPrunedProof}
+use Rattle.p3_merkle_core.specs.declared.error.PrunedProofError.TheVariants.{InconsistentGroupOpening}
 use Rattle.p3_merkle_core.proofs.Lists.RisingFacts.{div_mono, listed_at, listed_in, none_kept, rising_from}
 use Rattle.p3_merkle_core.proofs.Pruned.SlotFacts.{first_place, rising_order}
 
@@ -122,6 +126,24 @@ matrices_inside hs x n e k d h =
 pub row_read : {T A : Type 0} (rows : List (Vec T A)) (m : ℕ) (v : Vec T A) → m < length rows → v ≡ get_or rows m v →
     get_or (row_lists rows) m [] ≡ v.items
 row_read rows m v h e = get_or-map (λ row. row.items) rows m v [] h ∙ ap (λ row. row.items) (sym e)
+
+-- a row that is the lead's, and one that is not
+pub same_row : {T A : Type 0} (row_eq : T → T → Bool) (k : ℕ) (rows lead : List (Vec T A)) (m : ℕ)
+    (row theirs : Vec T A) → m < length rows → m < length lead → row ≡ get_or rows m row → theirs
+    ≡ get_or lead m theirs → false ≡ not (pointwise row_eq row.items theirs.items) →
+    row_fault row_eq k (row_lists rows) (row_lists lead) m ≡ None
+same_row row_eq k rows lead m row theirs h l is_row is_theirs same =
+    let e = not-false (pointwise row_eq row.items theirs.items) (sym same) in
+    rw (row_read rows m row h is_row, row_read lead m theirs l is_theirs, e) refl
+
+pub other_row : {T A : Type 0} (row_eq : T → T → Bool) (k : ℕ) (rows lead : List (Vec T A)) (m : ℕ)
+    (row theirs : Vec T A) → m < length rows → m < length lead → row ≡ get_or rows m row → theirs
+    ≡ get_or lead m theirs → true ≡ not (pointwise row_eq row.items theirs.items) →
+    row_fault row_eq k (row_lists rows) (row_lists lead) m
+    ≡ Some (MalformedPrunedProof (InconsistentGroupOpening k m))
+other_row row_eq k rows lead m row theirs h l is_row is_theirs other =
+    let e = not-true (pointwise row_eq row.items theirs.items) (sym other) in
+    rw (row_read rows m row h is_row, row_read lead m theirs l is_theirs, e) refl
 
 -- ---- the slots of a layer
 

@@ -77,8 +77,9 @@ check_layer-requires g c =
       ascending = ascending_above s (l + 1) leaves nodes c.args.steps.now.wide above
           (ascending_from leaves (rising_from leaves c.requires.ascending));
       queries = rw read_is c.requires.queries;
-      full = matrices_full c.args.steps.now.dimensions.now firsts read c.deref-then-up.result.now sets c.up-up.result.exponent c.requires.full
-          (c.deref-then-up.ensures.value ∙ c.in_ok-list_matrices.ensures) read_is;
+      full = matrices_full c.args.steps.now.dimensions.now firsts read c.deref-then-up.result.now sets
+          c.up-up.result.exponent c.requires.full (c.deref-then-up.ensures.value ∙ c.in_ok-list_matrices.ensures)
+          read_is;
     }
 
 pub returns-in_err-check_layer : goal.returns-in_err-check_layer

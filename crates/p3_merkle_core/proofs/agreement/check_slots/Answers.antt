@@ -85,8 +85,9 @@ returns g c =
     let firsts = c.args.queried.now.first_queries.items in
     let early = rw (← length-map c.args.rows.now (λ rows. row_lists rows.items)) at c.requires.early in
     let refusal = pruned_refusal eq s t (opened_with indices sets n) in
-    let late = λ (answer : Option MerkleTreeError). pruned_late eq s t leaves firsts indices sets n answer c.requires.queried.indices
-    c.requires.queried.first_queries early c.in_ok-check_repeats.ensures c.in_ok-check_boundary_len.ensures in
+    let late = λ (answer : Option MerkleTreeError). pruned_late eq s t leaves firsts indices sets n answer
+    c.requires.queried.indices c.requires.queried.first_queries early c.in_ok-check_repeats.ensures
+    c.in_ok-check_boundary_len.ensures in
     MatchResult-weaker c.check_rows.result c.check_rows.ensures (λ ok none. late None none)
     (λ e either. elim either as (λ _. (e ≡ OutOfMemory) ⊎ (refusal ≡ Some e)) [
       | inl memory ↦ inl memory

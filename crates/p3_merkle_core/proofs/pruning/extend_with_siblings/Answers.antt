@@ -27,9 +27,10 @@ pub overflow_mul-first : goal.overflow_mul-first
 overflow_mul-first g c =
     let level = c.args.level.now in
     let here = rw c.deref.ensures.value at c.in-Some.ensures in
+    let n = level.step in
     omega (
       arith,
-      group_fits level.step c.in-Some.place (length level.parents.items) (length level.children.items) here.0 level.full,
+      group_fits n c.in-Some.place (length level.parents.items) (length level.children.items) here.0 level.full,
     )
 
 pub overflow_mul-own : goal.overflow_mul-own
