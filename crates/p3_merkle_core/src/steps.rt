@@ -384,7 +384,7 @@ impl<'a> Steps<'a> {
     {
         let mut schedule = Vec::with_capacity(alloc, layer)?;
         for level in 0..layer {
-            schedule.push(self.step(level))?;
+            schedule.push_reserved(self.step(level));
         }
         Ok(schedule)
     }
@@ -409,7 +409,7 @@ impl<'a> Steps<'a> {
         let mut ancestor = index;
         for level in 0..layer {
             let step = self.step(level);
-            positions.push(ancestor % step)?;
+            positions.push_reserved(ancestor % step);
             ancestor /= step;
         }
         Ok(positions)

@@ -9,7 +9,18 @@ loop-level-init c =
     record {
       place = sym (anc_start (shape_of c.args.self.now.arity c.args.self.now.dimensions.now) c.args.index);
       so_far = c.in_ok-positions.ensures.items;
+      count = c.in_ok-positions.ensures.len;
+      capacity = c.in_ok-positions.ensures.exact;
     }
+
+pub push_reserved-requires : goal.push_reserved-requires
+push_reserved-requires c =
+    omega (
+      arith,
+      c.loop-level.invariant.count,
+      c.loop-level.invariant.capacity,
+      c.loop-level-test.true,
+    )
 
 pub nonzero_rem-ancestor : goal.nonzero_rem-ancestor
 nonzero_rem-ancestor c =
@@ -30,9 +41,11 @@ loop-level-preserved c =
     let invariant = c.loop-level.invariant in
     record {
       place = ancestor_more s l x step.result c.args.index c.loop-level.ancestor invariant.place refl step.ensures;
-      so_far = rw c.in_ok-push.ensures.items
+      so_far = rw c.push_reserved.ensures.items
           (position_more s l x step.result c.args.index c.loop-level.ancestor c.loop-level.positions.items
           invariant.so_far invariant.place refl step.ensures);
+      count = omega (arith, c.push_reserved.ensures.len, invariant.count);
+      capacity = omega (arith, c.push_reserved.ensures.capacity, invariant.capacity);
     }
 
 pub returns : goal.returns
