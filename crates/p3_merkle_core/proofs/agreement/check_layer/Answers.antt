@@ -10,14 +10,28 @@ use Rattle.p3_merkle_core.proofs.Pruned.LeadFacts.{slot_read, slots_next}
 use Rattle.p3_merkle_core.proofs.agreement.check_layer.Goals.{then-lead-slot+in_ok-check_same_rows, else-lead-slot}
 use Rattle.p3_merkle_core.proofs.agreement.check_layer.Goals as goal
 
-pub rows_of_slot-rows_of_lead-requires-clause-inside : goal.rows_of_slot-rows_of_lead-requires-clause-inside
-rows_of_slot-rows_of_lead-requires-clause-inside g c =
-    omega (
-      arith,
-      c.requires.pairs,
-      lead_place c.args.nodes.now c.loop-slot.slot c.lead_of-lead.result (omega arith)
-          c.lead_of-lead.ensures,
-    )
+pub lead_of-lead-requires : goal.lead_of-lead-requires
+lead_of-lead-requires g c = record {
+  inside = c.loop-slot-test.true;
+  ascending = c.requires.ascending;
+  before = c.loop-slot.invariant.is_lead;
+}
+
+pub rows_of_slot-rows_of_lead-requires : goal.rows_of_slot-rows_of_lead-requires
+rows_of_slot-rows_of_lead-requires g c = record {
+  inside = omega (
+    arith,
+    c.requires.pairs,
+    lead_place c.args.nodes.now c.loop-slot.slot c.lead_of-lead.result c.loop-slot-test.true c.lead_of-lead.ensures,
+  );
+  queries = c.requires.queries;
+}
+
+pub rows_of_slot-requires : goal.rows_of_slot-requires
+rows_of_slot-requires g c = record {
+  inside = omega (arith, c.requires.pairs, c.loop-slot-test.true);
+  queries = c.requires.queries;
+}
 
 pub check_same_rows-requires-clause-rows : goal.check_same_rows-requires-clause-rows
 check_same_rows-requires-clause-rows g c =
@@ -82,3 +96,8 @@ returns-in_err-check_same_rows g c =
     (slots_next h (length nodes) k total (omega arith) c.loop-slot.invariant.so_far) some in
     let left = err_from_is_err_and c.from_residual.result c.from_residual.ensures.1 in
     rw left.1 (found ∙ ap (λ e. Some e) (sym left.2))
+
+pub returns : goal.returns
+returns g c =
+    let none : length c.args.nodes.now - c.loop-slot.slot ≡ 0 = omega arith in
+    sym (rw none at c.loop-slot.invariant.so_far)
