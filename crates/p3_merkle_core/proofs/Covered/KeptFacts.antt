@@ -1,6 +1,6 @@
 -- The paths that are read out of a walk's kept levels.
-use Rattle.std.proofs.Common.{◌≡◌, ℕ, zero, suc, ◌+◌, ◌*◌, ◌/◌, ◌%◌, ◌<◌, ◌≤◌, true, false, eqb, nat_lt, List, []}
-use Rattle.std.proofs.Common.{◌∷◌}
+use Rattle.std.proofs.Common.{◌≡◌, ℕ, zero, suc, ◌+◌, ◌-◌, ◌*◌, ◌/◌, ◌%◌, ◌<◌, ◌≤◌, true, false, eqb, nat_lt, List, []}
+use Rattle.std.proofs.Common.{◌∷◌, ◌⊎◌}
 use Rattle.std.proofs.Common.{◌++◌, map, refl, ap, sym, ◌∙◌, arith, add-one, inl, inr, length, filter, get_or, take}
 use Rattle.std.proofs.Common.{drop, remove, length-drop, eq-eqb, Err, append_assoc, append-nil, drop-cons, fold}
 use Rattle.std.specs.List.{enumerate_from, flat_map, range_with_len, take-map, drop-map, sum_by}
@@ -118,7 +118,7 @@ pub record IsSibling (p k i : ℕ) : Type 0 where
   pub after : p ≤ k → i ≡ k + 1
 
 pub sibling_more : {X : Type 0} (old values before after : List X) (n first p k next i child : ℕ) (x : X) →
-    first + n ≤ length values → p < n → k + 1 < n → IsSibling p k i → child ≡ first + i → next ≡ k + 1 →
+    first + n ≤ length values → p < n → k < n - 1 → IsSibling p k i → child ≡ first + i → next ≡ k + 1 →
     x ≡ get_or values child x → after ≡ before ++ x ∷ [] → HasSiblings old values n first p k before →
     HasSiblings old values n first p next after
 sibling_more old values before after n first p k next i child x full inside small is at is_next read pushed w =
@@ -146,6 +146,20 @@ missed_place xs x i up miss = false_from_ne_true (is_among xs x) (not_missed xs 
 -- the group of a parent at place k is whole
 pub group_fits : (n k count total : ℕ) → k < count → total ≡ n * count → n * k + n ≤ total
 group_fits n k count total h full = omega (arith, mul-le-mul_left n h, mul-suc n k)
+
+-- and so is each of its children inside
+pub child_inside : (n at k child count total : ℕ) → at < count → total ≡ n * count → k < n - 1 →
+    (child ≡ k) ⊎ (child ≡ k + 1) → n * at + child < total
+child_inside n at k child count total inside full low which =
+    let whole = group_fits n at count total inside full in
+    elim which [ inl e ↦ omega (arith, whole) | inr e ↦ omega (arith, whole) ]
+
+-- the next sibling, from how far the node is behind the first child
+pub sibling_before : (n j k child : ℕ) → k < j - n * (j / n) → child ≡ k → IsSibling (j % n) k child
+sibling_before n j k child less is = record { before = λ h. is; after = λ h. absurd (omega arith) }
+
+pub sibling_behind : (n j k child : ℕ) → j - n * (j / n) ≤ k → child ≡ k + 1 → IsSibling (j % n) k child
+sibling_behind n j k child less is = record { before = λ h. absurd (omega arith); after = λ h. is }
 
 -- the siblings of a node whose parent is at a place
 pub found_siblings : {X : Type 0} (old values path : List X) (parents : List ℕ) (n at j first p k : ℕ) → 0 < n →

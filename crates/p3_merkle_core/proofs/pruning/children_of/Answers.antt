@@ -1,6 +1,5 @@
 -- Each turn is one child: the next covered node, or another.
 use Rattle.std.proofs.Common.{◌≡◌, ◌+◌, ◌-◌, ◌*◌, ◌/◌, ◌%◌, ◌<◌, ◌∙◌, ap, sym, arith, get_or, length, refl}
-use Rattle.std.proofs.lemmas.Result.{err_from_is_err_and}
 use Rattle.std.specs.declared.vec.Vec.{Vec}
 use Rattle.p3_merkle_core.specs.Inner.Children.{children_under}
 use Rattle.p3_merkle_core.proofs.Covered.ChildFacts.{IsSent, walk_start, walk_end, known_more, unknown_more, is_sent}
@@ -11,14 +10,6 @@ use Rattle.p3_merkle_core.proofs.pruning.children_of.Goals.{then-known-covered+t
 use Rattle.p3_merkle_core.proofs.pruning.children_of.Goals.{else-known-covered}
 use Rattle.p3_merkle_core.proofs.pruning.children_of.Goals.{else-known-covered-via-then-known-covered+else-covered-known}
 use Rattle.p3_merkle_core.proofs.pruning.children_of.Goals.{else-known-covered-via-else-known-covered}
-
-pub overflow_mul-step : goal.overflow_mul-step
-overflow_mul-step g c = omega (arith, c.requires.few)
-
-pub returns-in_err-children : goal.returns-in_err-children
-returns-in_err-children g c =
-    let left = err_from_is_err_and c.from_residual.result c.from_residual.ensures.1 in
-    rw left.1 tt
 
 pub loop-parent-init : goal.loop-parent-init
 loop-parent-init g c =
@@ -46,14 +37,11 @@ loop-child-init g c =
       capacity = c.loop-parent.invariant.capacity;
     }
 
-pub bounds-covered-known : goal.bounds-covered-known
-bounds-covered-known g c = c.if-known-covered.true
-
 pub offset_bounds-digests-known : goal.offset_bounds-digests-known
 offset_bounds-digests-known g c = omega (arith, c.requires.one_each, c.if-known-covered.true)
 
 pub bounds-digests-known : goal.bounds-digests-known
-bounds-digests-known g c = omega (arith, c.requires.one_each, c.if-known-covered.true)
+bounds-digests-known g c = rw c.requires.one_each c.if-known-covered.true
 
 -- the children so far are fewer than all
 pub push_reserved-requires : goal.push_reserved-requires

@@ -1,15 +1,9 @@
 -- Each turn adds one more sibling of the group at the place of the parent.
-use Rattle.std.proofs.Common.{◌≡◌, ◌+◌, ◌-◌, ◌*◌, ◌/◌, ◌%◌, ◌<◌, append-nil, arith, length, refl, sym}
-use Rattle.p3_merkle_core.proofs.Covered.KeptFacts.{IsSibling, found_siblings, group_fits, sibling_more}
-use Rattle.p3_merkle_core.proofs.Covered.KeptFacts.{siblings_start}
+use Rattle.std.proofs.Common.{◌≡◌, ◌+◌, ◌*◌, ◌%◌, ◌∙◌, ◌⊎◌, append-nil, arith, inl, inr, length, refl, sym}
+use Rattle.p3_merkle_core.proofs.Covered.KeptFacts.{IsSibling, child_inside, found_siblings, group_fits}
+use Rattle.p3_merkle_core.proofs.Covered.KeptFacts.{sibling_before, sibling_behind, sibling_more}
 use Rattle.p3_merkle_core.proofs.pruning.extend_with_siblings.Goals.{then-sibling-own, else-sibling-own}
 use Rattle.p3_merkle_core.proofs.pruning.extend_with_siblings.Goals as goal
-
-pub nonzero_div-parent : goal.nonzero_div-parent
-nonzero_div-parent g c = c.args.level.now.some
-
-pub place_of-requires : goal.place_of-requires
-place_of-requires g c = rw c.deref.ensures.value c.args.level.now.ascending
 
 pub returns-in_default : goal.returns-in_default
 returns-in_default g c =
@@ -33,62 +27,36 @@ overflow_mul-first g c =
       group_fits n c.in-Some.place (length level.parents.items) (length level.children.items) here.0 level.full,
     )
 
-pub overflow_mul-own : goal.overflow_mul-own
-overflow_mul-own g c = omega (arith, c.ranges.node)
-
-pub overflow_sub-own : goal.overflow_sub-own
-overflow_sub-own g c = omega (arith, c.args.level.now.some)
-
-pub overflow_sub-siblings : goal.overflow_sub-siblings
-overflow_sub-siblings g c = c.args.level.now.some
-
-pub loop-sibling-init : goal.loop-sibling-init
-loop-sibling-init g c =
-    let level = c.args.level.now in
-    let path = c.args.path.now.items in
-    record {
-      siblings = siblings_start path level.children.items level.step (level.step * c.in-Some.place)
-          (c.args.node % level.step) 0 path refl refl;
-      count = omega arith;
-      capacity = refl;
-    }
-
 pub overflow_add-first : goal.overflow_add-first
 overflow_add-first g c =
     let level = c.args.level.now in
-    let n = level.step in
     let here = rw c.deref.ensures.value at c.in-Some.ensures in
-    let low : c.if-sibling-own.child < n = elim c.if-sibling-own.branch [
-      | then-sibling-own w ↦ omega (arith, w.child-is)
-      | else-sibling-own w ↦ omega (arith, w.child-is)
+    let child = c.if-sibling-own.child in
+    let k = c.loop-sibling.sibling in
+    let which = elim c.if-sibling-own.branch as (λ _. (child ≡ k) ⊎ (child ≡ k + 1)) [
+      | then-sibling-own w ↦ inl w.child-is
+      | else-sibling-own w ↦ inr w.child-is
     ] in
     omega (
       arith,
-      group_fits n c.in-Some.place (length level.parents.items) (length level.children.items) here.0 level.full,
+      child_inside level.step c.in-Some.place k child (length level.parents.items) (length level.children.items) here.0
+          level.full c.loop-sibling-test.true which,
     )
 
 pub index-requires : goal.index-requires
 index-requires g c =
     let level = c.args.level.now in
-    let n = level.step in
     let here = rw c.deref.ensures.value at c.in-Some.ensures in
-    let low : c.if-sibling-own.child < n = elim c.if-sibling-own.branch [
-      | then-sibling-own w ↦ omega (arith, w.child-is)
-      | else-sibling-own w ↦ omega (arith, w.child-is)
+    let child = c.if-sibling-own.child in
+    let k = c.loop-sibling.sibling in
+    let which = elim c.if-sibling-own.branch as (λ _. (child ≡ k) ⊎ (child ≡ k + 1)) [
+      | then-sibling-own w ↦ inl w.child-is
+      | else-sibling-own w ↦ inr w.child-is
     ] in
     omega (
       arith,
-      group_fits n c.in-Some.place (length level.parents.items) (length level.children.items) here.0 level.full,
-    )
-
-pub push_reserved-requires : goal.push_reserved-requires
-push_reserved-requires g c =
-    omega (
-      arith,
-      c.requires.capacity,
-      c.loop-sibling.invariant.count,
-      c.loop-sibling.invariant.capacity,
-      c.loop-sibling-test.true,
+      child_inside level.step c.in-Some.place k child (length level.parents.items) (length level.children.items) here.0
+          level.full c.loop-sibling-test.true which,
     )
 
 pub loop-sibling-preserved : goal.loop-sibling-preserved
@@ -96,29 +64,24 @@ loop-sibling-preserved g c =
     let level = c.args.level.now in
     let n = level.step in
     let first = n * c.in-Some.place in
-    let p = c.args.node % n in
+    let j = c.args.node in
+    let p = j % n in
     let k = c.loop-sibling.sibling in
     let child = c.if-sibling-own.child in
     let here = rw c.deref.ensures.value at c.in-Some.ensures in
-    let own : c.args.node - n * (c.args.node / n) ≡ p = omega arith in
     let which : IsSibling p k child = elim c.if-sibling-own.branch [
-      | then-sibling-own w ↦ record {
-        before = λ h. w.child-is;
-        after = λ h. absurd (omega (arith, own, w.if-sibling-own.true));
-      }
-      | else-sibling-own w ↦ record {
-        before = λ h. absurd (omega (arith, own, w.if-sibling-own.false));
-        after = λ h. w.child-is;
-      }
+      | then-sibling-own w ↦ sibling_before n j k child w.if-sibling-own.true w.child-is
+      | else-sibling-own w ↦ sibling_behind n j k child w.if-sibling-own.false w.child-is
     ] in
     let so_far = c.loop-sibling.invariant in
     record {
       siblings = sibling_more c.args.path.now.items level.children.items c.loop-sibling.path.items
           c.push_reserved.new.self.items n first p k (k + 1) child (first + child) c.index.result.now
           (group_fits n c.in-Some.place (length level.parents.items) (length level.children.items) here.0 level.full)
-          (omega arith) (omega arith) which refl refl c.index.ensures c.push_reserved.ensures.items so_far.siblings;
+          (omega arith) c.loop-sibling-test.true which refl refl c.index.ensures c.push_reserved.ensures.items
+          so_far.siblings;
       count = omega (arith, c.push_reserved.ensures.len, so_far.count);
-      capacity = omega (arith, c.push_reserved.ensures.capacity, so_far.capacity);
+      capacity = c.push_reserved.ensures.capacity ∙ so_far.capacity;
     }
 
 pub returns : goal.returns
