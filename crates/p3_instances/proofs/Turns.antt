@@ -1,5 +1,6 @@
 -- Rows and columns that are exchanged, by their places.
 use Rattle.std.proofs.Common.{◌≡◌, ℕ, zero, suc, ◌<◌, List, [], ◌∷◌, length, get_or, slice_index, refl, ap, ◌∙◌, arith}
+use Rattle.p3_instances.specs.Inner.Turned.{turned}
 
 -- a list of four, by its elements
 pub four_of : (xs : List ℕ) → length xs ≡ 4 → slice_index xs 0 ∷ slice_index xs 1 ∷ slice_index xs 2 ∷ slice_index xs 3
@@ -10,6 +11,18 @@ four_of (a ∷ b ∷ []) h = absurd (omega (arith, h))
 four_of (a ∷ b ∷ c ∷ []) h = absurd (omega (arith, h))
 four_of (a ∷ b ∷ c ∷ d ∷ []) h = refl
 four_of (a ∷ b ∷ c ∷ d ∷ e ∷ xs) h = absurd (omega (arith, h))
+
+-- four columns of the same rows
+pub turned_same : {a b c d p q r s : List ℕ} → a ≡ p → b ≡ q → c ≡ r → d ≡ s → turned a b c d ≡ turned p q r s
+turned_same ea eb ec ed = cc
+
+-- what holds of each of four rows
+pub four_cases : (P : ℕ → Type 0) → P 0 → P 1 → P 2 → P 3 → (k : ℕ) → k < 4 → P k
+four_cases P a b c d zero below = a
+four_cases P a b c d (suc zero) below = b
+four_cases P a b c d (suc (suc zero)) below = c
+four_cases P a b c d (suc (suc (suc zero))) below = d
+four_cases P a b c d (suc (suc (suc (suc k)))) below = absurd (omega (arith, below))
 
 -- what holds of each of eight lanes
 pub lane_cases : (P : ℕ → Type 0) → P 0 → P 1 → P 2 → P 3 → P 4 → P 5 → P 6 → P 7 → (k : ℕ) → k < 8 → P k
