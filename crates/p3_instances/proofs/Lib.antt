@@ -1,2 +1,3 @@
 pub mod FoldSteps
+pub mod Parts
 pub mod Turns
