@@ -1,4 +1,4 @@
-use Rattle.std.proofs.Common.{◌≡◌, ◌+◌, ◌==◌, ◌<◌, ◌≤◌, List, ℕ, length, drop, get_or, map, sym, refl, ◌∙◌, subst}
+use Rattle.std.proofs.Common.{◌≡◌, ◌+◌, ◌==◌, ◌<◌, ◌≤◌, List, ℕ, length, drop, get_or, map, sym, refl, ◌∙◌, subst, inl}
 use Rattle.std.proofs.Common.{arith, rules}
 use Rattle.std.specs.Prelude.{IfNone, IfSome}
 use Rattle.std.specs.List.{slice_split}
@@ -138,3 +138,44 @@ returns-clause-matrices g c =
           (map g.W.Word.value c.loop-rest.block.values.items) c.loop-rest.block.width lines
           w.in_default-take_matrix-2.ensures.none))
     ]
+
+-- the rows so far are a block
+pub take_matrix-requires : goal.take_matrix-requires
+take_matrix-requires g c = (g.W.Word.MAX + 1, c.loop-rest.invariant.lines.rows, c.loop-rest.invariant.lines.block)
+
+pub take_matrix-requires-2 : goal.take_matrix-requires-2
+take_matrix-requires-2 g c = (g.W.Word.MAX + 1, c.loop-rest.invariant.lines.rows, c.loop-rest.invariant.lines.block)
+
+pub push_row-requires : goal.push_row-requires
+push_row-requires g c = record { full = sym c.is_blank.ensures ∙ c.if-is_blank.false }
+
+-- each turn is one line more
+pub loop-rest-smaller-in-Continue-1 : goal.loop-rest-smaller-in-Continue-1
+loop-rest-smaller-in-Continue-1 g c = let within = (turn g (goal.at.loop-rest-smaller-in-Continue-1 g c).After-cut_line).0 in omega arith
+
+pub loop-rest-smaller-in_default-take_matrix : goal.loop-rest-smaller-in_default-take_matrix
+loop-rest-smaller-in_default-take_matrix g c = let within = (turn g (goal.at.loop-rest-smaller-in_default-take_matrix g c).After-cut_line).0 in omega arith
+
+pub loop-rest-smaller : goal.loop-rest-smaller
+loop-rest-smaller g c = let within = (turn g (goal.at.loop-rest-smaller g c).After-cut_line).0 in omega arith
+
+-- memory has run out
+pub returns-in_err-push-clause-matrices : goal.returns-in_err-push-clause-matrices
+returns-in_err-push-clause-matrices g c =
+    rw (err_from_is_err_and c.from_residual.result c.from_residual.ensures.1).1 tt
+
+pub returns-in_err-push-clause-fault : goal.returns-in_err-push-clause-fault
+returns-in_err-push-clause-fault g c =
+    let left = err_from_is_err_and c.from_residual.result c.from_residual.ensures.1 in rw (left.1, left.2) (inl refl)
+
+pub returns-in_err-push-2-clause-matrices : goal.returns-in_err-push-2-clause-matrices
+returns-in_err-push-2-clause-matrices g c =
+    rw (err_from_is_err_and c.from_residual-in_err-push-2.result c.from_residual-in_err-push-2.ensures.1).1 tt
+
+pub returns-in_err-push-2-clause-fault : goal.returns-in_err-push-2-clause-fault
+returns-in_err-push-2-clause-fault g c =
+    let left = err_from_is_err_and c.from_residual-in_err-push-2.result c.from_residual-in_err-push-2.ensures.1 in rw (left.1, left.2) (inl refl)
+
+pub returns-in_err-push_row-clause-matrices : goal.returns-in_err-push_row-clause-matrices
+returns-in_err-push_row-clause-matrices g c =
+    rw (err_from_is_err_and c.from_residual-in_err-push_row.result c.from_residual-in_err-push_row.ensures.1).1 tt
