@@ -1,7 +1,13 @@
-use Rattle.std.proofs.Common.{◌++◌, ◌∙◌, ap, map}
+use Rattle.std.proofs.Common.{◌++◌, ◌∙◌, ap, sym, map, append-nil}
+use Rattle.std.specs.Prelude.{flat_map}
+use Rattle.std.proofs.lemmas.List.{take_all}
+use Rattle.std.proofs.lemmas.Result.{err_from_is_err_and}
 use Rattle.mmcs_text.specs.Text.{row_line}
 use Rattle.mmcs_text.proofs.TextFacts.{texts_more}
 use Rattle.mmcs_text.proofs.text.push_rows.Goals as goal
+
+pub loop-row-init : goal.loop-row-init
+loop-row-init g c = sym (append-nil c.args.text.now.items)
 
 pub loop-row-preserved : goal.loop-row-preserved
 loop-row-preserved g c =
@@ -9,3 +15,12 @@ loop-row-preserved g c =
     c.args.text.now.items c.loop-row.text.items _ c.loop-row-test.true c.row-item.is c.loop-row.invariant
     (c.in_ok-push_row.ensures
     ∙ ap (λ r. c.loop-row.text.items ++ row_line (map g.W.Word.value r)) c.deref.ensures.value)
+
+pub returns : goal.returns
+returns g c = c.loop-row.invariant
+    ∙ ap (λ rows. c.args.text.now.items ++ flat_map row_line (map (λ row. map g.W.Word.value row.items) rows))
+    (take_all c.loop-row.row-index c.args.rows.now c.loop-row-test.false)
+
+pub returns-in_err-push_row : goal.returns-in_err-push_row
+returns-in_err-push_row g c =
+    rw (err_from_is_err_and c.from_residual.result c.from_residual.ensures.1).1 tt
