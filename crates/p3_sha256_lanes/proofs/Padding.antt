@@ -29,6 +29,10 @@ byte_after m p q e =
     let rest : p - length m ≡ q = omega arith in
     get_or-append_right m (padding (length m)) (length m) p 0 refl high ∙ ap (slice_index (padding (length m))) rest
 
+-- the mark stands behind the message
+pub byte_mark : (m : List ℕ) (p : ℕ) → p ≡ length m → slice_index (padded_message m) p ≡ 128
+byte_mark m p e = byte_after m p 0 (omega arith)
+
 -- the padding after its mark
 abbrev after_mark : ℕ → List ℕ
 after_mark n = replicate (zeros n) 0 ++ to_be_bytes w64 (n * 8 % 2 ^ 64)
@@ -127,6 +131,10 @@ word_of_block p t i h =
 
 -- ---- messages one after another
 
+-- k messages of w bytes are within n
+pub messages_inside : (w k n bytes : ℕ) → k ≤ n → bytes ≡ n * w → k * w ≤ bytes
+messages_inside w k n bytes few full = omega (arith, mul-le-mul_right w few, full)
+
 -- the end of message j is w past its start
 next_start : (j w : ℕ) → (j + 1) * w ≡ j * w + w
 next_start j w = add-mul j 1 w ∙ ap (λ v. j * w + v) (one-mul w)
@@ -143,6 +151,13 @@ pub byte_at : (w : ℕ) (bytes : List ℕ) (j p : ℕ) → p < w → slice_index
 byte_at w bytes j p h =
     let span : (j + 1) * w - j * w ≡ w = omega (arith, next_start j w) in
     ap (λ (n : ℕ). slice_index (take n (drop (j * w) bytes)) p) span ∙ get_or-chunk (j * w) w bytes p 0 h
+
+-- eight messages in the midst of others
+pub length-eight : (w f : ℕ) (bytes : List ℕ) → (f + 8) * w ≤ length bytes
+    → length (slice_range bytes (f * w) ((f + 8) * w)) ≡ 8 * w
+length-eight w f bytes inside =
+    length-take-le ((f + 8) * w - f * w) (drop (f * w) bytes) (omega (arith, length-drop (f * w) bytes, inside))
+    ∙ omega arith
 
 -- a message of eight that lie in the midst of others
 pub message_of_part : (w : ℕ) (bytes : List ℕ) (f j : ℕ) → j < 8

@@ -3,8 +3,41 @@ use Rattle.std.proofs.lemmas.Bool.{cases_eq}
 use Rattle.std.proofs.lemmas.List.{get_or-set_same, get_or-set_other, length-set}
 use Rattle.sha2.specs.Sha256.{digest_bytes, sha256}
 use Rattle.p3_support.specs.Lists.{message}
-use Rattle.p3_sha256_lanes.proofs.Padding.{message_of_part}
+use Rattle.p3_sha256_lanes.proofs.Padding.{length-eight, message_of_part, messages_inside}
 use Rattle.p3_sha256_lanes.proofs.messages.hash_eight.Goals as goal
+
+pub overflow_mul-first : goal.overflow_mul-first
+overflow_mul-first g c =
+    omega (
+      arith,
+      messages_inside c.args.width (c.args.first + 8) (length c.args.out.now) (length c.args.messages.now)
+          c.requires.inside c.requires.full,
+    )
+
+pub overflow_mul-first-2 : goal.overflow_mul-first-2
+overflow_mul-first-2 g c =
+    omega (
+      arith,
+      messages_inside c.args.width (c.args.first + 8) (length c.args.out.now) (length c.args.messages.now)
+          c.requires.inside c.requires.full,
+    )
+
+pub slice_bounds-hash_states-count : goal.slice_bounds-hash_states-count
+slice_bounds-hash_states-count g c = omega arith
+
+pub slice_bounds-hash_states-start : goal.slice_bounds-hash_states-start
+slice_bounds-hash_states-start g c = omega arith
+
+pub slice_bounds-hash_states-end : goal.slice_bounds-hash_states-end
+slice_bounds-hash_states-end g c =
+    messages_inside c.args.width (c.args.first + 8) (length c.args.out.now) (length c.args.messages.now)
+    c.requires.inside c.requires.full
+
+pub hash_states-state-requires : goal.hash_states-state-requires
+hash_states-state-requires g c =
+    length-eight c.args.width c.args.first c.args.messages.now
+    (messages_inside c.args.width (c.args.first + 8) (length c.args.out.now) (length c.args.messages.now)
+    c.requires.inside c.requires.full)
 
 pub loop-j-preserved : goal.loop-j-preserved
 unfolding sha256
