@@ -1,5 +1,9 @@
--- One more value made from a word of a stream.
-use Rattle.std.proofs.Common.{◌≡◌, ℕ, suc, ◌+◌, ◌-◌, ◌<◌, List, [], ◌∷◌, ◌++◌, refl, ap, ◌∙◌, arith, append_assoc}
+-- Values made from the words of a stream: one more, and all.
+use Rattle.std.proofs.Common.{◌≡◌, ℕ, suc, ◌+◌, ◌-◌, ◌*◌, ◌/◌, ◌<◌, ◌≤◌, List, [], ◌∷◌, ◌++◌, refl, sym, ap, ◌∙◌, arith}
+use Rattle.std.proofs.Common.{append_assoc, append-nil}
+use Rattle.std.specs.Prelude.{Option, Some}
+use Rattle.std.specs.Option.{SomeIff}
+use Rattle.std.proofs.Math.Nat.{mul-div_cancel}
 use Rattle.rand_core.specs.Stream.{Stream, next_u64}
 use Rattle.p3_support.specs.Salts.{after_words, salts}
 
@@ -21,3 +25,23 @@ after_more n i w s t end below drawn before =
     let now : after_words (n - (i + 1)) t
     ≡ after_words (n - i) s = ap (λ (p : ℕ × Stream). after_words (n - (i + 1)) p.1) drawn ∙ rw count refl in
     now ∙ before
+
+-- after the last there are all
+pub salts_all : {A : Type 0} (of_word : ℕ → A) (xs all : List A) (n i : ℕ) (s : Stream) → n ≤ i
+    → xs ++ salts of_word (n - i) s ≡ all → xs ≡ all
+salts_all of_word xs all n i s over before =
+    let none : n - i ≡ 0 = omega (arith, over) in sym (append-nil xs) ∙ (rw none at before)
+
+-- and the stream is behind them
+pub after_all : (n i : ℕ) (s end : Stream) → n ≤ i → after_words (n - i) s ≡ end → s ≡ end
+after_all n i s end over before = let none : n - i ≡ 0 = omega (arith, over) in rw none at before
+
+-- a product that was made is below its limit
+pub product_made : (r : Option ℕ) (product limit n : ℕ) → SomeIff r (product < limit) product → r ≡ Some n →
+    (product < limit) × (n ≡ product)
+product_made r product limit n made some = rw some at made
+
+-- as many rows of some columns are as many values
+pub same_rows : (a b columns : ℕ) → 1 ≤ columns → a * columns ≡ b * columns → a ≡ b
+same_rows a b columns some same =
+    sym (mul-div_cancel a (omega (arith, some))) ∙ ap (λ n. n / columns) same ∙ mul-div_cancel b (omega (arith, some))
