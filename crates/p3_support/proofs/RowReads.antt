@@ -1,7 +1,7 @@
 -- What is left of a row, of columns and of the rows of several matrices, once one more element is read.
 use Rattle.std.proofs.Common.{◌≡◌, ℕ, zero, suc, take, ◌+◌, ◌-◌, ◌*◌, ◌<◌, ◌≤◌, List, [], ◌∷◌, ◌++◌, length, drop, map}
 use Rattle.std.proofs.Common.{get_or, refl, sym, ap, ◌∙◌, arith, true, add-one}
-use Rattle.std.specs.Prelude.{◌==◌, slice_get, slice_index_or, slice_range, Some}
+use Rattle.std.specs.Prelude.{Bool, false, cond, ◌==◌, slice_get, slice_index_or, slice_range, Some}
 use Rattle.std.specs.List.{flat_map, range_with_len}
 use Rattle.std.proofs.Math.Nat.{mul-le-mul_right}
 use Rattle.std.proofs.Math.Seq.{drop-cons, take-append-add}
@@ -12,7 +12,8 @@ use Rattle.std.proofs.Math.ListN.{get_or-append}
 use Rattle.std.proofs.lemmas.List.{drop_all, get_or-append_right, length-append}
 use Rattle.std.proofs.lemmas.List.FromFn.{fill_by_all, get_or-map-range_with_len, length-map-range_with_len}
 use Rattle.std.proofs.lemmas.Simd.{map-map}
-use Rattle.p3_support.specs.Lists.{message, rows_left, column_of_rows, columns, lane_of}
+use Rattle.std.proofs.lemmas.Bool.{eqb-true}
+use Rattle.p3_support.specs.Lists.{message, rows_left, rows_of_height, column_of_rows, columns, lane_of}
 use Rattle.p3_support.specs.Inner.RowLengths.{next_start, length-message}
 
 -- what is left from an element on
@@ -67,6 +68,29 @@ module _ {A M : Type 0} (height : M → ℕ) (row : M → ℕ → List A) (h r :
       slice_get (row m r) c ≡ Some x
       → rows_left height row h r xs c ≡ x ∷ rows_left height row h r xs (c + 1)
   rows_more m ms xs c x e same at = rw (e, same, drop_at (row m r) c x at) refl
+
+  -- the rows as they stand before any element is read
+  rows_from_start : (ms : List M) → rows_left height row h r ms 0 ≡ rows_of_height height row h r ms
+  rows_from_start [] = refl
+  rows_from_start (m ∷ ms) = refl
+
+  -- nothing is left of the first matrix, which is of another height or read to its end
+  pub rows_skip : (m : M) (ms xs : List M) (c : ℕ) → xs ≡ m ∷ ms → (height m ≡ h → length (row m r) ≤ c)
+      → rows_left height row h r ms 0 ≡ rows_left height row h r xs c
+  rows_skip m ms xs c e short =
+      let read : (b : Bool) → (height m == h) ≡ b → cond b (drop c (row m r)) [] ≡ [] =
+      λ b. λ tested. elim b as (λ b. (height m == h) ≡ b → cond b (drop c (row m r)) [] ≡ []) [
+        | true ↦ λ same. drop_all c (row m r) (short (eqb-true (height m) h same))
+        | false ↦ λ other. refl
+      ] tested in
+      rows_from_start ms
+      ∙ sym (ap (λ l. l ++ rows_of_height height row h r ms) (read (height m == h) refl))
+      ∙ ap (λ l. rows_left height row h r l c) (sym e)
+
+  -- nor of no matrix
+  pub rows_none : (xs : List M) (c : ℕ) → length xs ≡ 0 → rows_left height row h r xs c ≡ []
+  rows_none [] c none = refl
+  rows_none (m ∷ ms) c none = absurd (omega (arith, none))
 
 -- lane k of the packed columns of rows is row k of them
 pub lane_of_columns : {A P : Type 0} (lanes : P → List A) (row : ℕ → List A) (d : A) (r n k w : ℕ) (ps : List P) →

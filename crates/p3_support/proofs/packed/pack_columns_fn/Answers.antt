@@ -1,4 +1,4 @@
-use Rattle.std.proofs.Common.{rules, arith, ◌<◌, ◌∙◌, inl, inr}
+use Rattle.std.proofs.Common.{rules, arith, ◌<◌, ◌∙◌, ap, inl, inr, length}
 use Rattle.std.proofs.lemmas.Bool.{cases_eq}
 use Rattle.p3_support.proofs.packed.pack_columns_fn.Goals as goal
 
@@ -14,3 +14,9 @@ loop-k-preserved g c = λ j below.
 
 pub returns : goal.returns
 returns g c = λ k h. c.loop-k.invariant k (search rules)
+
+pub put_lane-requires : goal.put_lane-requires
+put_lane-requires g c =
+    let below : c.loop-k.k < g.PW.PackedValue.WIDTH = rw (← c.WIDTH-k-end.ensures) c.loop-k-test.true in
+    let long = ap length c.as_slice.ensures ∙ c.requires.long c.loop-k.k c.f-column.result below c.f-column.ensures in
+    (search rules, (below, long))
