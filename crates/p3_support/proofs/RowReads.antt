@@ -41,6 +41,10 @@ message_at xs w h r c x full below inside read =
     slice_get_read (message w xs r) w c x (sym (length-message xs w h r full below)) inside
     (read ∙ sym (get_or-between xs (r * w) ((r + 1) * w) c x (omega (arith, more))))
 
+-- n of h rows are within all their elements
+pub rows_inside : (w h n words : ℕ) → n ≤ h → words ≡ h * w → n * w ≤ words
+rows_inside w h n words few full = omega (arith, mul-le-mul_right w few, full)
+
 -- rows that stand one after another
 pub chunk_of_rows : {A : Type 0} (xs : List A) (w h a n : ℕ) → length xs ≡ h * w → a + n ≤ h
     → slice_range xs (a * w) ((a + n) * w) ≡ flat_map (message w xs) (range_with_len a n)
