@@ -1,3 +1,4 @@
+-- Each turn is one number more.
 use Rattle.std.proofs.Common.{◌∙◌, sym, ap, subst, ℕ, List, map}
 use Rattle.std.specs.Str.Parse.{digits_value}
 use Rattle.std.proofs.lemmas.List.{take_all}

@@ -1,3 +1,4 @@
+-- Each turn is one line of the input.
 use Rattle.std.proofs.Common.{◌≡◌, ◌+◌, ◌==◌, ◌<◌, ◌≤◌, List, ℕ, length, drop, get_or, map, sym, refl, ◌∙◌, subst, inl}
 use Rattle.std.proofs.Common.{arith, rules}
 use Rattle.std.specs.Prelude.{IfNone, IfSome}
@@ -151,13 +152,16 @@ push_row-requires g c = record { full = sym c.is_blank.ensures ∙ c.if-is_blank
 
 -- each turn is one line more
 pub loop-rest-smaller-in-Continue-1 : goal.loop-rest-smaller-in-Continue-1
-loop-rest-smaller-in-Continue-1 g c = let within = (turn g (goal.at.loop-rest-smaller-in-Continue-1 g c).After-cut_line).0 in omega arith
+loop-rest-smaller-in-Continue-1 g c =
+    let within = (turn g (goal.at.loop-rest-smaller-in-Continue-1 g c).After-cut_line).0 in omega arith
 
 pub loop-rest-smaller-in_default-take_matrix : goal.loop-rest-smaller-in_default-take_matrix
-loop-rest-smaller-in_default-take_matrix g c = let within = (turn g (goal.at.loop-rest-smaller-in_default-take_matrix g c).After-cut_line).0 in omega arith
+loop-rest-smaller-in_default-take_matrix g c =
+    let within = (turn g (goal.at.loop-rest-smaller-in_default-take_matrix g c).After-cut_line).0 in omega arith
 
 pub loop-rest-smaller : goal.loop-rest-smaller
-loop-rest-smaller g c = let within = (turn g (goal.at.loop-rest-smaller g c).After-cut_line).0 in omega arith
+loop-rest-smaller g c =
+    let within = (turn g (goal.at.loop-rest-smaller g c).After-cut_line).0 in omega arith
 
 -- memory has run out
 pub returns-in_err-push-clause-matrices : goal.returns-in_err-push-clause-matrices
@@ -174,7 +178,8 @@ returns-in_err-push-2-clause-matrices g c =
 
 pub returns-in_err-push-2-clause-fault : goal.returns-in_err-push-2-clause-fault
 returns-in_err-push-2-clause-fault g c =
-    let left = err_from_is_err_and c.from_residual-in_err-push-2.result c.from_residual-in_err-push-2.ensures.1 in rw (left.1, left.2) (inl refl)
+    let left = err_from_is_err_and c.from_residual-in_err-push-2.result c.from_residual-in_err-push-2.ensures.1 in
+    rw (left.1, left.2) (inl refl)
 
 pub returns-in_err-push_row-clause-matrices : goal.returns-in_err-push_row-clause-matrices
 returns-in_err-push_row-clause-matrices g c =

@@ -1,3 +1,4 @@
+-- Each turn is one line more.
 use Rattle.std.proofs.Common.{◌++◌, ◌∙◌, ap, sym, map, append-nil}
 use Rattle.std.specs.Prelude.{flat_map}
 use Rattle.std.proofs.lemmas.List.{take_all}

@@ -1,3 +1,4 @@
+-- Each turn is one number more.
 use Rattle.std.proofs.Common.{◌++◌, ◌∷◌, ◌∙◌, ap, sym, map, append-nil, string_bytes}
 use Rattle.std.specs.Prelude.{decimal, flat_map}
 use Rattle.std.proofs.lemmas.List.{take_all}
