@@ -1,3 +1,4 @@
+-- Each lane has its column.
 use Rattle.std.proofs.Common.{rules, arith, ◌<◌, ◌∙◌, ap, inl, inr, length}
 use Rattle.std.proofs.lemmas.Bool.{cases_eq}
 use Rattle.p3_support.proofs.packed.pack_columns_fn.Goals as goal

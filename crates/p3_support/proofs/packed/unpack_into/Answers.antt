@@ -1,3 +1,4 @@
+-- Each row has its lane of the packed values.
 use Rattle.std.proofs.Common.{rules, arith, ℕ, ◌≡◌, ◌<◌, ◌∙◌, ap, sym, length, slice_index_or, []}
 use Rattle.std.proofs.lemmas.List.{length-map, length-set, ext_get_or, get_or-map}
 use Rattle.std.proofs.lemmas.List.FromFn.{fill_by_all}

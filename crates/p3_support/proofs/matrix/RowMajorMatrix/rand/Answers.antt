@@ -1,3 +1,4 @@
+-- One more value is drawn each turn; nothing is drawn where it fails.
 use Rattle.std.proofs.Common.{rules, arith, ◌≡◌, ◌*◌, ◌^◌, ◌<◌, ◌∙◌, refl, sym, ap, length}
 use Rattle.std.proofs.lemmas.Result.{err_from_is_err_and}
 use Rattle.rand_core.specs.Stream.{next_u64}
@@ -44,14 +45,14 @@ returns g c =
       values =
           c.new.ensures.values
           ∙ salts_all g.T.SaltWord.of_salt_word c.loop.values.items _ c.in_ok-count.count c.loop.counter
-              (g.R.Rng.stream c.loop.rng) c.loop-test.false c.loop.invariant.0
+          (g.R.Rng.stream c.loop.rng) c.loop-test.false c.loop.invariant.0
           ∙ ap (λ n. salts g.T.SaltWord.of_salt_word n start) made.1;
       width = c.new.ensures.width;
       height = λ some. same_rows _ _ c.args.cols some (sym c.new.ensures.height ∙ long);
       no_width = c.new.ensures.no_width;
       rest =
           after_all c.in_ok-count.count c.loop.counter (g.R.Rng.stream c.loop.rng) _ c.loop-test.false
-              c.loop.invariant.1
+          c.loop.invariant.1
           ∙ ap (λ n. after_words n start) made.1;
       too_large = λ large. absurd (omega (arith, large, made.0));
       untouched = tt;

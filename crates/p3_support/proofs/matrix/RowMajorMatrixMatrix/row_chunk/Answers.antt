@@ -1,13 +1,16 @@
+-- The rows lie within the values.
 use Rattle.std.proofs.Common.{arith, ◌+◌, ◌*◌, ◌≤◌, ◌∙◌, ap, length}
 use Rattle.p3_support.proofs.RowReads.{chunk_of_rows, rows_inside}
 use Rattle.p3_support.proofs.matrix.RowMajorMatrixMatrix.row_chunk.Given.{Over}
 use Rattle.p3_support.proofs.matrix.RowMajorMatrixMatrix.row_chunk.Goals as goal
 
 -- the last row ends within the values
-inside : (g : Over) (c : goal.After-deref g) → (c.args.first + c.args.count) * c.args.self.now.width ≤ length c.deref.result.now
+inside : (g : Over) (c : goal.After-deref g) → (c.args.first + c.args.count) * c.args.self.now.width
+    ≤ length c.deref.result.now
 inside g c =
     let m = c.args.self.now in
-    rows_inside m.width m.height (c.args.first + c.args.count) (length c.deref.result.now) c.requires (ap length c.deref.ensures.value ∙ m.full)
+    rows_inside m.width m.height (c.args.first + c.args.count) (length c.deref.result.now) c.requires
+    (ap length c.deref.ensures.value ∙ m.full)
 
 pub overflow_mul-result : goal.overflow_mul-result
 overflow_mul-result g c = omega (arith, inside g c)

@@ -1,3 +1,4 @@
+-- The row lies within the values.
 use Rattle.std.proofs.Common.{arith, refl, ◌+◌, ◌*◌, ◌≤◌, ◌∙◌, ap, length}
 use Rattle.p3_support.proofs.RowReads.{rows_inside}
 use Rattle.p3_support.proofs.matrix.RowMajorMatrixMatrix.row_slice.Given.{Over}
@@ -7,7 +8,8 @@ use Rattle.p3_support.proofs.matrix.RowMajorMatrixMatrix.row_slice.Goals as goal
 inside : (g : Over) (c : goal.After-deref g) → (c.args.row + 1) * c.args.self.now.width ≤ length c.deref.result.now
 inside g c =
     let m = c.args.self.now in
-    rows_inside m.width m.height (c.args.row + 1) (length c.deref.result.now) (omega (arith, c.requires)) (ap length c.deref.ensures.value ∙ m.full)
+    rows_inside m.width m.height (c.args.row + 1) (length c.deref.result.now) (omega (arith, c.requires))
+    (ap length c.deref.ensures.value ∙ m.full)
 
 pub overflow_mul-result : goal.overflow_mul-result
 overflow_mul-result g c = omega (arith, inside g c)

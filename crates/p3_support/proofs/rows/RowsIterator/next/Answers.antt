@@ -1,3 +1,4 @@
+-- The next element of the rows, and the matrices that are left out.
 use Rattle.std.proofs.Common.{arith, ◌<◌, ◌≤◌, ◌∙◌, sym, length}
 use Rattle.std.proofs.lemmas.Bool.{eq-eqb}
 use Rattle.p3_support.proofs.RowReads.{rows_more, rows_none, rows_skip}
@@ -29,10 +30,10 @@ loop-first-preserved g c =
           omega (arith, g.met.M.Matrix.length_row_of m s.row inside, w.width.ensures, w.if-self-width.false) in
           (c.loop-first.invariant.0, skip (λ same. read) ∙ c.loop-first.invariant.1)
       | else-height-self-via-else-height-self w ↦ (
-          c.loop-first.invariant.0,
-          skip (λ same. absurd (w.if-height-self.false (c.height.ensures ∙ same)))
-              ∙ c.loop-first.invariant.1,
-        )
+        c.loop-first.invariant.0,
+        skip (λ same. absurd (w.if-height-self.false (c.height.ensures ∙ same)))
+            ∙ c.loop-first.invariant.1,
+      )
     ]
 
 pub returns-clause-steps : goal.returns-clause-steps
