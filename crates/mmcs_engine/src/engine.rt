@@ -17,7 +17,7 @@ ghost use Rattle.p3_merkle_tree.specs.Schemes.{cap_height_of, cap_layer_over, ca
 ghost use Rattle.p3_merkle_tree.specs.Schemes.{terms_over};
 ghost use Rattle.mmcs_text.specs.declared.fault.Fault.TheVariants.{Usage, Read, Tree, Write};
 ghost use Rattle.mmcs_text.specs.Matrices.{stored_batch};
-ghost use Rattle.mmcs_text.specs.Text.{hex_lines, ok_line};
+ghost use Rattle.mmcs_text.specs.Text.{digest_lines, hex_lines, ok_line};
 ghost use Rattle.mmcs_text.specs.Words.{arity_number, texts_of, AreNoCommand};
 ghost use Rattle.mmcs_engine.specs.Program.{layer_of_cap, text_of, IsAnswer, IsReply, IsTold, Prints};
 ghost use Rattle.mmcs_engine.specs.Inner.Alike.{batch_in_numbers, opened_lines, opened_text, IsSchemeOf};
@@ -258,8 +258,27 @@ fn open_text<
 {
     let opening = scheme.open_batch_pruned(alloc, indices, tree)?;
     let digests = &opening.pruned_proof.sibling_hashes;
+    Ok(text_of_opening(alloc, indices, &opening.opened_values, digests)?)
+}
+
+/// The rows of each index, and the digests that prove them.
+///
+/// # Errors
+///
+/// `AllocError` if memory runs out.
+fn text_of_opening<W: Word, const D: usize>(
+    alloc: Global,
+    indices: &[usize],
+    opened: &[Vec<Vec<W>>],
+    digests: &[[W; D]],
+) -> Result<Vec<u8>, AllocError>
+    requires { length opened.now ≡ length indices.now }
+    ensures { (b : Batch W) → row_sets opened.now ≡ map (honest_rows b) indices.now →
+        IfOk result (λ text. text.items ≡ flat_map (opened_lines W.value b) indices.now
+        ++ digest_lines W.HEX_DIGITS (map (map W.value) digests.now)) }
+{
     let mut text = Vec::new(alloc);
-    push_queries(alloc, &mut text, indices, &opening.opened_values)?;
+    push_queries(alloc, &mut text, indices, opened)?;
     push_labelled(alloc, &mut text, "digests", digests.len())?;
     push_digests(&mut text, digests)?;
     Ok(text)
@@ -318,7 +337,18 @@ fn check_text<
     let opening = scheme.open_batch_pruned(alloc, indices, tree)?;
     let (rows, proof) = (&opening.opened_values, &opening.pruned_proof);
     scheme.verify_batch_pruned(alloc, roots, dimensions, indices, rows, proof)?;
+    Ok(text_of_count(alloc, proof.sibling_hashes.len())?)
+}
+
+/// The line that tells how many digests were sent.
+///
+/// # Errors
+///
+/// `AllocError` if memory runs out.
+fn text_of_count(alloc: Global, count: usize) -> Result<Vec<u8>, AllocError>
+    ensures { IfOk result (λ text. text.items ≡ ok_line count) }
+{
     let mut text = Vec::new(alloc);
-    push_labelled(alloc, &mut text, "ok", proof.sibling_hashes.len())?;
+    push_labelled(alloc, &mut text, "ok", count)?;
     Ok(text)
 }
