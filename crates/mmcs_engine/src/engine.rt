@@ -37,6 +37,20 @@ use p3_support::packed::PackedValue;
 use std::alloc::{AllocError, Global};
 use std::io::{Read, Write};
 
+/// What was committed to: a cap and a tree, and the dimensions of its matrices.
+#[derive(Drop)]
+struct Committed<R, T> {
+    dimensions: Vec<Dimensions>,
+    roots: R,
+    tree: T,
+}
+
+/// What a scheme over words has committed to.
+type Commitment<W, const N: usize, const D: usize> = Committed<
+    MerkleCap<W, [W; D]>,
+    MerkleTree<W, W, RowMajorMatrix<W>, N, D>,
+>;
+
 /// Runs the command of `words`, those after the program's name: reads the whole input, and writes the output once all
 /// else has succeeded.
 ///
@@ -170,13 +184,48 @@ fn act<
     ensures answer { AnswersUnlessMemory result
         (pruned_len_refusal (shape (stored_batch N matrices.items)) request.now.indices.items) }
 {
+    let committed = commit(alloc, scheme, request, matrices)?;
+    text_of_tree(alloc, scheme, request, &committed)
+}
+
+/// Commits to the matrices of a command, where a tree can have their heights, and has its indices.
+///
+/// # Errors
+///
+/// Those of [`act`].
+fn commit<
+    W: Word + PackedValue<Value = W>,
+    H: CryptographicHasher<W, W, D>,
+    C: PseudoCompressionFunction<W, N, D>,
+    const N: usize,
+    const D: usize,
+>(
+    alloc: Global,
+    scheme: &MerkleTreeMmcs<W, W, H, C, N, D>,
+    request: &Request,
+    matrices: Vec<RowMajorMatrix<W>>,
+) -> Result<Commitment<W, N, D>, MerkleTreeError>
+    ensures indices { IfOk result (λ made. let b = tree_batch made.tree in
+        All (λ i. i < greatest (heights (shape b))) request.now.indices.items) }
+    ensures dimensions { IfOk result (λ made. shape_of N made.dimensions.items ≡ shape (tree_batch made.tree)) }
+    ensures committed { IfOk result (λ made. let b = tree_batch made.tree in
+        IsCommitment (terms_over H.hash C.compression D scheme.now (shape b)) (roots_of made.roots) b
+        (layers_of made.tree)) }
+    ensures matrices { IfOk result (λ made. tree_batch made.tree ≡ stored_batch N matrices.items) }
+    ensures answer { AnswersUnlessMemory result
+        (pruned_len_refusal (shape (stored_batch N matrices.items)) request.now.indices.items) }
+{
     let dimensions = dimensions_of(alloc, &matrices)?;
     scheme.pruned_len(alloc, &dimensions, &request.indices)?;
     let (roots, tree) = scheme.commit(alloc, matrices)?;
-    text_of_tree(alloc, scheme, request, &dimensions, &roots, &tree)
+    Ok(Committed {
+        dimensions,
+        roots,
+        tree,
+    })
 }
 
-/// The text that a command prints of a tree, whose matrices have these dimensions.
+/// The text that a command prints of what was committed to.
 ///
 /// # Errors
 ///
@@ -191,18 +240,17 @@ fn text_of_tree<
     alloc: Global,
     scheme: &MerkleTreeMmcs<W, W, H, C, N, D>,
     request: &Request,
-    dimensions: &[Dimensions],
-    roots: &MerkleCap<W, [W; D]>,
-    tree: &MerkleTree<W, W, RowMajorMatrix<W>, N, D>,
+    committed: &Commitment<W, N, D>,
 ) -> Result<Vec<u8>, MerkleTreeError>
     requires scheme { IsSchemeOf request.now.command.hash request.now.command.cap W.value W.MAX W.HEX_DIGITS
         (scheme_functions H.hash C.compression D scheme.now) (cap_height_of scheme.now) (cap_rule_of scheme.now) }
-    requires indices { All (λ i. i < greatest (heights (shape (tree_batch tree.now)))) request.now.indices.items }
-    requires dimensions { shape_of N dimensions.now ≡ shape (tree_batch tree.now) }
-    requires committed { let b = tree_batch tree.now in
-        IsCommitment (terms_over H.hash C.compression D scheme.now (shape b)) (roots_of roots.now) b
-        (layers_of tree.now) }
-    ensures text { let b = batch_in_numbers W.value (tree_batch tree.now) in
+    requires indices { let b = tree_batch committed.now.tree in
+        All (λ i. i < greatest (heights (shape b))) request.now.indices.items }
+    requires dimensions { shape_of N committed.now.dimensions.items ≡ shape (tree_batch committed.now.tree) }
+    requires committed { let b = tree_batch committed.now.tree in
+        IsCommitment (terms_over H.hash C.compression D scheme.now (shape b)) (roots_of committed.now.roots) b
+        (layers_of committed.now.tree) }
+    ensures text { let b = batch_in_numbers W.value (tree_batch committed.now.tree) in
         IfOk result (λ text. text.items
         ≡ text_of request.now.command.hash request.now.command.action request.now.indices.items b
         (layer_of_cap request.now.command.cap (shape b))) }
@@ -210,9 +258,9 @@ fn text_of_tree<
 {
     let indices = &request.indices;
     match request.command.action {
-        Action::Commit => cap_text(alloc, roots),
-        Action::Open => open_text(alloc, scheme, indices, tree),
-        Action::Check => check_text(alloc, scheme, dimensions, indices, roots, tree),
+        Action::Commit => cap_text(alloc, &committed.roots),
+        Action::Open => open_text(alloc, scheme, indices, &committed.tree),
+        Action::Check => check_text(alloc, scheme, indices, committed),
     }
 }
 
@@ -320,20 +368,24 @@ fn check_text<
 >(
     alloc: Global,
     scheme: &MerkleTreeMmcs<W, W, H, C, N, D>,
-    dimensions: &[Dimensions],
     indices: &[usize],
-    roots: &MerkleCap<W, [W; D]>,
-    tree: &MerkleTree<W, W, RowMajorMatrix<W>, N, D>,
+    committed: &Commitment<W, N, D>,
 ) -> Result<Vec<u8>, MerkleTreeError>
-    requires indices { All (λ i. i < greatest (heights (shape (tree_batch tree.now)))) indices.now }
-    requires dimensions { shape_of N dimensions.now ≡ shape (tree_batch tree.now) }
-    requires committed { let b = tree_batch tree.now in
-        IsCommitment (terms_over H.hash C.compression D scheme.now (shape b)) (roots_of roots.now) b
-        (layers_of tree.now) }
-    ensures text { let s = shape (tree_batch tree.now) in
+    requires indices { let b = tree_batch committed.now.tree in
+        All (λ i. i < greatest (heights (shape b))) indices.now }
+    requires dimensions { shape_of N committed.now.dimensions.items ≡ shape (tree_batch committed.now.tree) }
+    requires committed { let b = tree_batch committed.now.tree in
+        IsCommitment (terms_over H.hash C.compression D scheme.now (shape b)) (roots_of committed.now.roots) b
+        (layers_of committed.now.tree) }
+    ensures text { let s = shape (tree_batch committed.now.tree) in
         IfOk result (λ text. text.items ≡ ok_line (pruned_len s indices.now (cap_layer_over scheme.now s))) }
     ensures memory { AnswersUnlessMemory result None }
 {
+    let Committed {
+        dimensions,
+        roots,
+        tree,
+    } = committed;
     let opening = scheme.open_batch_pruned(alloc, indices, tree)?;
     let (rows, proof) = (&opening.opened_values, &opening.pruned_proof);
     scheme.verify_batch_pruned(alloc, roots, dimensions, indices, rows, proof)?;
