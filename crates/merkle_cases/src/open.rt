@@ -4,22 +4,40 @@ ghost use Rattle.std.specs.Prelude.{◌≤◌, IsTrue};
 ghost use Rattle.p3_merkle_core.specs.Geometry.{is_arity};
 
 use crate::case::Case;
-use crate::committed::{accepted, commit_shown};
+use crate::committed::{Committed, accepted, commit_shown};
 use crate::fields::Fault;
-use crate::scheme::{FoldCommitted, FoldScheme, ROOT, fold_scheme};
+use crate::scheme::{ROOT, Rows, fold_scheme};
 use p3_merkle_tree::MerkleTreeError;
+use p3_support::mmcs::Mmcs;
 use std::alloc::Global;
 
-/// `open | ARITY | CAP | MATRICES | INDEX | ROWS | SIBLINGS`: the opening of a leaf, which is accepted.
-pub fn open<const N: usize>(case: &mut Case<'_>) -> Result<(), Fault>
+/// Writes what the calls of a kind of case that opens single leaves answer at an arity.
+pub fn opened<const N: usize>(case: &mut Case<'_>, keyword: &str) -> Result<(), Fault>
     requires arity { IsTrue (is_arity N) }
     requires few { N ≤ 16 }
 {
-    let mut scheme = fold_scheme::<N>(case.fields.cap());
+    let cap = if keyword == "kept" {
+        ROOT
+    } else {
+        case.fields.cap()
+    };
+    let mut scheme = fold_scheme::<N>(cap);
+    match keyword {
+        "open" => open(case, &mut scheme),
+        "leaves" => leaves(case, &mut scheme),
+        _ => kept(case, &mut scheme),
+    }
+}
+
+/// `open | ARITY | CAP | MATRICES | INDEX | ROWS | SIBLINGS`: the opening of a leaf, which is accepted.
+fn open<S: Mmcs<u32, Rows, Error = MerkleTreeError, Proof = Vec<[u32; 1]>>>(
+    case: &mut Case<'_>,
+    scheme: &mut S,
+) -> Result<(), Fault> {
     let matrices = case.fields.matrices();
     let index = case.fields.number();
-    let committed = commit_shown(case.alloc, &mut scheme, matrices)?;
-    let opening = accepted(case.alloc, &scheme, &committed, index)?;
+    let committed = commit_shown(case.alloc, scheme, matrices)?;
+    let opening = accepted(case.alloc, &*scheme, &committed, index)?;
     case.answer.rows(&opening.opened_values);
     case.answer.push(" | ");
     case.answer.digests(&opening.opening_proof);
@@ -27,25 +45,24 @@ pub fn open<const N: usize>(case: &mut Case<'_>) -> Result<(), Fault>
 }
 
 /// `leaves | ARITY | CAP | HEIGHTS | LEAVES accepted`: the opening of each leaf is accepted.
-pub fn leaves<const N: usize>(case: &mut Case<'_>) -> Result<(), Fault>
-    requires arity { IsTrue (is_arity N) }
-    requires few { N ≤ 16 }
-{
-    let mut scheme = fold_scheme::<N>(case.fields.cap());
+fn leaves<S: Mmcs<u32, Rows, Error = MerkleTreeError>>(
+    case: &mut Case<'_>,
+    scheme: &mut S,
+) -> Result<(), Fault> {
     let dimensions = case.fields.columns();
     let matrices = case.fields.reader.numbered(&dimensions);
-    let committed = commit_shown(case.alloc, &mut scheme, matrices)?;
+    let committed = commit_shown(case.alloc, scheme, matrices)?;
     case.answer
-        .number(accepted_count(case.alloc, &scheme, &committed)?);
+        .number(accepted_count(case.alloc, &*scheme, &committed)?);
     case.answer.push(" accepted");
     Ok(())
 }
 
 /// How many leaves a tree has, where the opening of each is accepted.
-fn accepted_count<const N: usize>(
+fn accepted_count<S: Mmcs<u32, Rows, Error = MerkleTreeError>>(
     alloc: Global,
-    scheme: &FoldScheme<N>,
-    committed: &FoldCommitted<N>,
+    scheme: &S,
+    committed: &Committed<S::Commitment, S::ProverData>,
 ) -> Result<usize, MerkleTreeError> {
     let leaves = scheme.get_max_height(&committed.tree);
     for index in 0..leaves {
@@ -55,14 +72,13 @@ fn accepted_count<const N: usize>(
 }
 
 /// `kept | ARITY | HEIGHTS | GREATEST HEIGHT | DIMENSIONS`: what a tree over columns shows of them.
-pub fn kept<const N: usize>(case: &mut Case<'_>) -> Result<(), Fault>
-    requires arity { IsTrue (is_arity N) }
-    requires few { N ≤ 16 }
-{
-    let mut scheme = fold_scheme::<N>(ROOT);
+fn kept<S: Mmcs<u32, Rows, Error = MerkleTreeError>>(
+    case: &mut Case<'_>,
+    scheme: &mut S,
+) -> Result<(), Fault> {
     let columns = case.fields.columns();
     let matrices = case.fields.reader.numbered(&columns);
-    let committed = commit_shown(case.alloc, &mut scheme, matrices)?;
+    let committed = commit_shown(case.alloc, scheme, matrices)?;
     case.answer.number(scheme.get_max_height(&committed.tree));
     case.answer.push(" | ");
     case.answer.dimensions(&committed.dimensions);

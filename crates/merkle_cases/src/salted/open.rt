@@ -3,15 +3,22 @@
 use crate::case::Case;
 use crate::committed::{accepted, accepted_leaves, commit_shown};
 use crate::fields::Fault;
-use crate::salted::Salted;
-use rand_core::CryptoRng;
+use crate::scheme::{FoldCap, Rows};
+use p3_merkle_hiding::hiding_mmcs::{SaltedMultiProof, SaltedProof};
+use p3_merkle_tree::MerkleTreeError;
+use p3_support::mmcs::Mmcs;
 
 /// `open_salted | ARITY | CAP | SALTS A ROW | GENERATOR | MATRICES | INDEX | ROOTS | ROWS | SALTS | SIBLINGS`: the cap and
 /// the opening of a leaf, which is accepted.
-pub fn open<R: CryptoRng, const N: usize, const SALT_ELEMS: usize>(
-    case: &mut Case<'_>,
-    scheme: &mut Salted<R, N, SALT_ELEMS>,
-) -> Result<(), Fault> {
+pub fn open<
+    S: Mmcs<
+        u32,
+        Rows,
+        Error = MerkleTreeError,
+        Commitment = FoldCap,
+        Proof = SaltedProof<u32, u32, 1>,
+    >,
+>(case: &mut Case<'_>, scheme: &mut S) -> Result<(), Fault> {
     let matrices = case.fields.matrices();
     let index = case.fields.number();
     let committed = commit_shown(case.alloc, scheme, matrices)?;
@@ -28,10 +35,15 @@ pub fn open<R: CryptoRng, const N: usize, const SALT_ELEMS: usize>(
 
 /// `pruned_salted | ARITY | CAP | SALTS A ROW | GENERATOR | MATRICES | INDICES | ROOTS | ROW SETS | SALT SETS | DIGESTS`:
 /// the cap and the opening of several leaves, which is accepted.
-pub fn pruned<R: CryptoRng, const N: usize, const SALT_ELEMS: usize>(
-    case: &mut Case<'_>,
-    scheme: &mut Salted<R, N, SALT_ELEMS>,
-) -> Result<(), Fault> {
+pub fn pruned<
+    S: Mmcs<
+        u32,
+        Rows,
+        Error = MerkleTreeError,
+        Commitment = FoldCap,
+        MultiProof = SaltedMultiProof<u32, u32, 1>,
+    >,
+>(case: &mut Case<'_>, scheme: &mut S) -> Result<(), Fault> {
     let matrices = case.fields.matrices();
     let indices = case.fields.numbers();
     let committed = commit_shown(case.alloc, scheme, matrices)?;
