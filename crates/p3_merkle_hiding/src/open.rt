@@ -19,6 +19,7 @@ ghost use Rattle.p3_merkle_salts.specs.SaltedTrees.{left_batch, right_batch, uns
 
 use crate::hiding_mmcs::{MerkleTreeHidingMmcs, SaltedMultiProof, SaltedProof, SaltedTree};
 use p3_merkle_core::error::MerkleTreeError;
+use p3_merkle_prover::opener::matrix_refs;
 use p3_merkle_salts::join::{split_row_sets, split_rows};
 use p3_merkle_salts::pairs::{left_matrices, left_widths};
 use p3_support::compress::PseudoCompressionFunction;
@@ -27,6 +28,22 @@ use p3_support::matrix::Matrix;
 use p3_support::opening::BatchOpening;
 use p3_support::packed::PackedValue;
 use std::alloc::Global;
+
+/// The width of each matrix of a tree without its salts, in input order.
+///
+/// # Errors
+///
+/// Only `OutOfMemory`.
+fn unsalted_widths<F: Copy, W: Copy, M: Matrix<F>, const N: usize, const D: usize>(
+    alloc: Global,
+    tree: &SaltedTree<F, W, M, N, D>,
+) -> Result<Vec<usize>, MerkleTreeError>
+    ensures widths { IfOk result (λ v. v.items ≡ map (λ p. M.width_of (left_of p)) (matrices_of tree.now)) }
+    ensures memory { AnswersUnlessMemory result None }
+{
+    let pairs = matrix_refs(alloc, tree)?;
+    Ok(left_widths(alloc, &pairs)?)
+}
 
 impl<
     P: PackedValue,
@@ -71,8 +88,7 @@ impl<
             IfOk result (λ o. IsSaltedAccepted SALT_ELEMS ds c (cap_over c b) (salted_made index o)) }
         ensures memory { AnswersUnlessMemory result None }
     {
-        let pairs = self.plain.get_matrices(alloc, tree)?;
-        let widths = left_widths(alloc, &pairs)?;
+        let widths = unsalted_widths(alloc, tree)?;
         let (joined, siblings) = self.plain.open_batch(alloc, index, tree)?.unpack();
         let (rows, salts) = split_rows(alloc, &widths, &joined)?;
         Ok(BatchOpening::new(rows, (salts, siblings)))
@@ -118,8 +134,7 @@ impl<
             (salted_pruned_made indices.now o.0 o.1)) }
         ensures memory { AnswersUnlessMemory result None }
     {
-        let pairs = self.plain.get_matrices(alloc, tree)?;
-        let widths = left_widths(alloc, &pairs)?;
+        let widths = unsalted_widths(alloc, tree)?;
         let opening = self.plain.open_batch_pruned(alloc, indices, tree)?;
         let (rows, salts) = split_row_sets(alloc, &widths, &opening.opened_values)?;
         Ok((rows, (salts, opening.pruned_proof)))

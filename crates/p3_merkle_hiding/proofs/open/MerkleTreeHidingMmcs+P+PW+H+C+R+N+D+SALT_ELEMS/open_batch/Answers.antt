@@ -1,13 +1,11 @@
 -- Each row is taken apart where its left matrix ends; of an own tree the opening is accepted.
 use Rattle.std.proofs.Common.{◌∙◌, List, ap, map, subst, sym}
-use Rattle.std.proofs.lemmas.Simd.{map-map}
 use Rattle.p3_merkle_core.specs.Nodes.{dimensions_of}
 use Rattle.p3_merkle_core.specs.Commitments.{cap_over}
 use Rattle.p3_merkle_core.specs.Openings.{Opening, opening_of}
 use Rattle.p3_merkle_core.specs.Checks.{IsAccepted}
 use Rattle.p3_merkle_prover.specs.Parts.{matrices_of, tree_batch}
 use Rattle.p3_merkle_tree.specs.Schemes.{terms_of}
-use Rattle.p3_support.specs.Pairs.{left_of}
 use Rattle.p3_support.specs.Shown.{row_lists}
 use Rattle.p3_merkle_hiding.proofs.SplitFacts.{left_is, right_is, salted_from}
 use Rattle.p3_merkle_hiding.specs.HidingSchemes.{plain_of}
@@ -19,11 +17,8 @@ use Rattle.p3_merkle_hiding.proofs.open.MerkleTreeHidingMmcs+P+PW+H+C+R+N+D+SALT
 pub returns-clause-rows : goal.returns-clause-rows
 returns-clause-rows g c =
     let tree = c.args.tree.now in
-    let widths = c.deref-2.ensures.value ∙ c.in_ok-widths.ensures
-    ∙ ap (map (λ p. g.M.Matrix.width_of (left_of p.now))) c.deref.ensures.value
-    ∙ sym (map-map (λ p. g.M.Matrix.width_of (left_of p)) (λ p. p.now) c.in_ok-pairs.pairs.items)
-    ∙ ap (map (λ p. g.M.Matrix.width_of (left_of p))) c.in_ok-pairs.ensures.matrices in
-    let joined = ap row_lists (c.deref-3.ensures.value ∙ ap (λ v. v.items) c.unpack-joined.ensures.values)
+    let widths = c.deref.ensures.value ∙ c.in_ok-widths.ensures.widths in
+    let joined = ap row_lists (c.deref-2.ensures.value ∙ ap (λ v. v.items) c.unpack-joined.ensures.values)
     ∙ ap (λ (z : Opening _ _). z.rows) c.in_ok-open_batch.ensures.opened in
     ap (λ v. row_lists v.items) c.new.ensures.values ∙ c.in_ok-rows.ensures.rows
     ∙ (λ i. unsalted_parts (widths i) (joined i))
@@ -32,11 +27,8 @@ returns-clause-rows g c =
 pub returns-clause-salts : goal.returns-clause-salts
 returns-clause-salts g c =
     let tree = c.args.tree.now in
-    let widths = c.deref-2.ensures.value ∙ c.in_ok-widths.ensures
-    ∙ ap (map (λ p. g.M.Matrix.width_of (left_of p.now))) c.deref.ensures.value
-    ∙ sym (map-map (λ p. g.M.Matrix.width_of (left_of p)) (λ p. p.now) c.in_ok-pairs.pairs.items)
-    ∙ ap (map (λ p. g.M.Matrix.width_of (left_of p))) c.in_ok-pairs.ensures.matrices in
-    let joined = ap row_lists (c.deref-3.ensures.value ∙ ap (λ v. v.items) c.unpack-joined.ensures.values)
+    let widths = c.deref.ensures.value ∙ c.in_ok-widths.ensures.widths in
+    let joined = ap row_lists (c.deref-2.ensures.value ∙ ap (λ v. v.items) c.unpack-joined.ensures.values)
     ∙ ap (λ (z : Opening _ _). z.rows) c.in_ok-open_batch.ensures.opened in
     ap (λ v. row_lists v.0.items) c.new.ensures.proof ∙ c.in_ok-rows.ensures.salts
     ∙ (λ i. salt_parts (widths i) (joined i))
