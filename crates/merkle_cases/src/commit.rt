@@ -22,13 +22,13 @@ pub fn commit<const N: usize>(case: &mut Case<'_>) -> Result<(), Fault>
     Ok(())
 }
 
-/// `layers | ARITY | MATRICES | LAYERS`: the layers of the tree, leaves first, with `;` between them.
+/// `layers | ARITY | MATRICES | LAYERS`: the layers of a clone of the tree, leaves first, with `;` between them.
 pub fn layers<const N: usize>(case: &mut Case<'_>) -> Result<(), Fault>
     requires arity { IsTrue (is_arity N) }
     requires few { N ≤ 16 }
 {
     let tree = fold_tree::<_, N>(case.alloc, case.fields.matrices())?;
-    write_layers(case.alloc, &tree, &mut case.answer)?;
+    write_layers(case.alloc, &tree.clone()?, &mut case.answer)?;
     Ok(())
 }
 

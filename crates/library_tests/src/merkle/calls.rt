@@ -1,24 +1,12 @@
-//! Generic calls of schemes and trees.
+//! Generic calls of schemes.
 
-use p3_merkle_tree::{BatchOpeningRef, MerkleCap, MerkleTree, MerkleTreeError, MerkleTreeMmcs};
+use p3_merkle_tree::{BatchOpeningRef, MerkleCap, MerkleTreeError, MerkleTreeMmcs};
 use p3_support::compress::PseudoCompressionFunction;
 use p3_support::hasher::CryptographicHasher;
-use p3_support::matrix::{Matrix, dimensions_of};
+use p3_support::matrix::dimensions_of;
 use p3_support::packed::PackedValue;
 use std::alloc::Global;
 use test_fixtures::matrices::numbered;
-
-/// The layers of a tree, leaves first.
-pub fn layers_in<F: Copy, W: Copy, M: Matrix<F> + Drop, const N: usize, const D: usize>(
-    alloc: Global,
-    tree: &MerkleTree<F, W, M, N, D>,
-) -> Result<Vec<MerkleCap<F, [W; D]>>, MerkleTreeError> {
-    let mut layers = Vec::new(alloc);
-    for cap_height in (0..tree.num_layers()).rev() {
-        layers.push(tree.cap(alloc, cap_height)?)?;
-    }
-    Ok(layers)
-}
 
 /// Commits to matrices of these widths and heights, whose rows are their own numbers, opens a leaf and checks the
 /// opening: the cap, where there is such a leaf and its opening is accepted.

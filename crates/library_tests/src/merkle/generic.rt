@@ -1,62 +1,14 @@
-//! Generic code over the bounds of a scheme, called at packings of one, two and eight lanes and at digests of one and
-//! two words.
+//! Generic code over the bounds of a scheme, called at packings of one and two lanes and at digests of two words.
 
 use crate::merkle::calls::accepted_cap;
-use p3_instances::batched::Batched3;
 use p3_instances::fold::{FoldCompress, FoldHash};
-use p3_instances::lanes::{Lanes, U32x8};
+use p3_instances::lanes::Lanes;
 use p3_merkle_tree::{CapRule, MerkleCap, MerkleTreeError, MerkleTreeMmcs};
 use std::alloc::Global;
 use std::test::Fail;
 
-/// A cap of digests of one word.
-type WordCap = MerkleCap<u32, [u32; 1]>;
-
 /// The widths and the heights of the matrices that are committed to in different ways.
 static SIZES: [(usize, usize); 4] = [(1, 17), (1, 9), (1, 5), (1, 3)];
-
-/// The cap of the fold functions at arity 4 in one lane, each message and each group on its own, where an opening is
-/// accepted.
-fn plain_cap(alloc: Global, cap_height: usize) -> Result<WordCap, MerkleTreeError> {
-    let scheme = MerkleTreeMmcs::<u32, u32, FoldHash<1>, FoldCompress<4, 1>, 4, 1>::new_with_rule(
-        FoldHash,
-        FoldCompress,
-        cap_height,
-        CapRule::Fixed,
-    );
-    accepted_cap(alloc, &scheme, &SIZES, 2)
-}
-
-/// That cap at arity 4, in eight lanes.
-fn cap_by_eight(alloc: Global, cap_height: usize) -> Result<WordCap, MerkleTreeError> {
-    let scheme = MerkleTreeMmcs::<
-        U32x8,
-        U32x8,
-        FoldHash<8>,
-        FoldCompress<4, 8>,
-        4,
-        1,
-    >::new_with_rule(FoldHash, FoldCompress, cap_height, CapRule::Fixed);
-    accepted_cap(alloc, &scheme, &SIZES, 16)
-}
-
-/// That cap at arity 4, by functions that take three at a time.
-fn cap_by_three(alloc: Global, cap_height: usize) -> Result<WordCap, MerkleTreeError> {
-    let scheme = MerkleTreeMmcs::<
-        u32,
-        u32,
-        Batched3<FoldHash<1>>,
-        Batched3<FoldCompress<4, 1>>,
-        4,
-        1,
-    >::new_with_rule(
-        Batched3(FoldHash),
-        Batched3(FoldCompress),
-        cap_height,
-        CapRule::Fixed,
-    );
-    accepted_cap(alloc, &scheme, &SIZES, 5)
-}
 
 /// A cap of digests of two words.
 type PairCap = MerkleCap<u32, [u32; 2]>;
@@ -77,17 +29,6 @@ fn pair_cap(alloc: Global, cap_height: usize) -> Result<PairCap, MerkleTreeError
 fn pair_cap_by_two(alloc: Global, cap_height: usize) -> Result<PairCap, MerkleTreeError> {
     let scheme = LanesScheme::new_with_rule(FoldHash, FoldCompress, cap_height, CapRule::Fixed);
     accepted_cap(alloc, &scheme, &SIZES, 7)
-}
-
-#[test]
-fn lanes_and_batches_commit_alike(rt: HostRuntime) -> Result<(), Fail> {
-    let alloc = rt.alloc();
-    for cap_height in 0..5 {
-        let plain = plain_cap(alloc, cap_height)?;
-        assert!(rt; plain == cap_by_eight(alloc, cap_height)?);
-        assert!(rt; plain == cap_by_three(alloc, cap_height)?);
-    }
-    Ok(())
 }
 
 #[test]

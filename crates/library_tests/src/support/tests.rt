@@ -1,8 +1,7 @@
 //! Each call once, on values that were worked out by hand, and generic code through its bounds.
 ghost use Rattle.std.specs.Prelude.{◌≡◌, ℕ, ◌+◌, ◌<◌, ◌≤◌, length};
-ghost use Rattle.p3_support.specs.Lists.{lane_of, rows_of_height};
+ghost use Rattle.p3_support.specs.Lists.{lane_of};
 
-use crate::fixtures::DIGEST_OF_ABC;
 use p3_instances::batched::Batched3;
 use p3_instances::fold::{FoldCompress, FoldHash};
 use p3_instances::lanes::{Lanes, U32x8};
@@ -13,7 +12,6 @@ use p3_support::hasher::CryptographicHasher;
 use p3_support::matrix::{Dimensions, Matrix, RowMajorMatrix};
 use p3_support::opening::{BatchOpening, BatchOpeningRef, Hash, MerkleCap};
 use p3_support::packed::{PackedValue, pack_columns_fn, unpack_into};
-use p3_support::rows::rows_of;
 use std::alloc::{AllocError, Global};
 use std::test::Fail;
 
@@ -27,19 +25,6 @@ fn row_digest<P: PackedValue, H: CryptographicHasher<P, P, D>, M: Matrix<P::Valu
     ensures { result ≡ H.hash hasher.now (M.row_of matrix.now row) }
 {
     hasher.hash_iter(matrix.row(row))
-}
-
-/// The digest of the row of several matrices.
-fn leaf_digest<
-    P: PackedValue,
-    H: CryptographicHasher<P, P, D>,
-    M: Matrix<P::Value>,
-    const D: usize,
->(hasher: &H, matrices: &[M], height: usize, row: usize) -> [P::Value; D]
-    requires { row < height }
-    ensures { result ≡ H.hash hasher.now (rows_of_height M.height_of M.row_of height row matrices.now) }
-{
-    hasher.hash_iter(rows_of(matrices, height, row))
 }
 
 /// The digests of as many rows as there are lanes.
@@ -95,38 +80,6 @@ fn hashes_rows(rt: HostRuntime) -> Result<(), Fail> {
         row_digest::<u32, Batched3<FoldHash<8>>, RowMajorMatrix<u32>, 1>(&batched, &matrix, 1),
         [1058]
     );
-    Ok(())
-}
-
-#[test]
-fn hashes_rows_of_two_matrices(rt: HostRuntime) -> Result<(), Fail> {
-    let matrices = [
-        RowMajorMatrix::new(vec![in rt.alloc(); 1u32, 2]?, 1),
-        RowMajorMatrix::new(vec![in rt.alloc(); 3u32, 4]?, 1),
-    ];
-    let fold = FoldHash::<8>;
-    let leaves = [
-        leaf_digest::<u32, FoldHash<8>, RowMajorMatrix<u32>, 1>(&fold, &matrices, 2, 0),
-        leaf_digest::<u32, FoldHash<8>, RowMajorMatrix<u32>, 1>(&fold, &matrices, 2, 1),
-    ];
-    assert_eq!(rt; leaves, [[995], [1027]]);
-    Ok(())
-}
-
-#[test]
-fn hashes_rows_of_picked_matrices(rt: HostRuntime) -> Result<(), Fail> {
-    let tall = RowMajorMatrix::new(vec![in rt.alloc(); 1u32, 2]?, 1);
-    let wide = RowMajorMatrix::new(vec![in rt.alloc(); 3u32, 7, 4, 8]?, 2);
-    let picked = [&tall, &wide];
-    assert_eq!(rt; picked[1].dimensions(), wide.dimensions());
-    // 31 * 33 + 4 = 1027 is the digest of 2 and 4, and 31 * 1027 + 8 = 31845 that of 2, 4 and 8.
-    let leaf = leaf_digest::<u32, FoldHash<8>, &RowMajorMatrix<u32>, 1>(
-        &FoldHash::<8>,
-        &picked,
-        2,
-        1,
-    );
-    assert_eq!(rt; leaf, [31845]);
     Ok(())
 }
 
@@ -309,53 +262,6 @@ fn hands_out_what_it_has(rt: HostRuntime) -> Result<(), Fail> {
     let (values, _) = small_opening(rt.alloc())?.unpack();
     assert_eq!(rt; values.len(), 1);
     Ok(())
-}
-
-/// The digest of no bytes, by python3's `hashlib.sha256`.
-const DIGEST_OF_NOTHING: [u8; 32] = [
-    0xe3, 0xb0, 0xc4, 0x42, 0x98, 0xfc, 0x1c, 0x14, 0x9a, 0xfb, 0xf4, 0xc8, 0x99, 0x6f, 0xb9, 0x24,
-    0x27, 0xae, 0x41, 0xe4, 0x64, 0x9b, 0x93, 0x4c, 0xa4, 0x95, 0x99, 0x1b, 0x78, 0x52, 0xb8, 0x55,
-];
-
-/// The digest of the digest of "abc" followed by that of no bytes, by python3:
-/// `hashlib.sha256(hashlib.sha256(b"abc").digest() + hashlib.sha256(b"").digest()).digest()`.
-const DIGEST_OF_A_NODE: [u8; 32] = [
-    0x6f, 0x12, 0x90, 0x89, 0x6e, 0xe8, 0x1a, 0x03, 0x49, 0x17, 0x4d, 0x19, 0xf4, 0x47, 0x3d, 0x26,
-    0x7a, 0x10, 0x28, 0x9c, 0x40, 0x48, 0x08, 0x61, 0xd5, 0xc4, 0x2a, 0xff, 0xff, 0xbd, 0x79, 0xf9,
-];
-
-#[test]
-fn hashes_a_row_of_bytes(rt: HostRuntime) -> Result<(), Fail> {
-    let matrix = RowMajorMatrix::new(vec![in rt.alloc(); 97u8, 98, 99]?, 3);
-    assert_eq!(rt;
-        row_digest::<u8, Sha256Rows, RowMajorMatrix<u8>, 32>(&Sha256Rows, &matrix, 0),
-        DIGEST_OF_ABC
-    );
-    assert_eq!(rt;
-        packed_digest::<u8, Sha256Rows, RowMajorMatrix<u8>, 32>(&Sha256Rows, &matrix, 0),
-        DIGEST_OF_ABC
-    );
-    Ok(())
-}
-
-/// The digest of a group of two.
-fn pair_digest<C: PseudoCompressionFunction<u8, 2, 32>>(
-    compress: &C,
-    children: [[u8; 32]; 2],
-) -> [u8; 32] {
-    compress.compress(children)
-}
-
-#[test]
-fn compresses_bytes(rt: HostRuntime) {
-    let children = [DIGEST_OF_ABC, DIGEST_OF_NOTHING];
-    let nodes = Sha256Nodes::<2>;
-    assert_eq!(rt; pair_digest(&nodes, children), DIGEST_OF_A_NODE);
-    assert_eq!(rt; nodes.compress_packed(children), DIGEST_OF_A_NODE);
-    let mut many = [[0; 32]; 2];
-    nodes.compress_many(&[children, children], &mut many);
-    assert_eq!(rt; many, [DIGEST_OF_A_NODE; 2]);
-    assert_eq!(rt; Sha256Nodes::<0>.compress([]), DIGEST_OF_NOTHING);
 }
 
 /// How many messages a hasher and how many groups a compression says it takes at a time.
