@@ -43,6 +43,17 @@ pub fn packed_groups<PW: PackedValue, const N: usize, const D: usize>(count: usi
     }
 }
 
+/// The first slot of a group, one of `groups` that have `PW::WIDTH` slots each.
+#[tactic(auto, using(crate::proofs::LaneFacts::group_end))]
+fn group_start<PW: PackedValue>(group: usize, groups: usize) -> usize
+    requires inside { group < groups }
+    requires fits { groups * PW.WIDTH < 2 ^ 64 }
+    ensures start { result ≡ group * PW.WIDTH }
+    ensures end { result + PW.WIDTH ≤ groups * PW.WIDTH }
+{
+    group * PW::WIDTH
+}
+
 /// Adds the packed rows of a matrix, from `row` on, to those that are staged.
 fn stage_packed_row<P: PackedValue, M: Matrix<P::Value>>(
     staged: &mut Vec<P>,
@@ -123,7 +134,6 @@ impl<
     /// # Errors
     ///
     /// `AllocError` if memory runs out.
-    #[tactic(auto, using(crate::proofs::LaneFacts::group_end))]
     pub fn write_packed(
         &self,
         alloc: Global,
@@ -140,7 +150,7 @@ impl<
     {
         let mut staged = Vec::new(alloc);
         for group in 0..groups {
-            let first = group * PW::WIDTH;
+            let first = group_start::<PW>(group, groups);
             let digests = self.packed_digest(first, &mut staged)?;
             unpack_at(&digests, slots, first);
         }

@@ -19,14 +19,14 @@ loop-group-preserved g c =
     let seen = λ (k : ℕ). lane_of g.PW.PackedValue.lanes g.PW.PackedValue.default_value k c.in_ok-digests.digests in
     let end = group_end group w c.args.groups c.args.self.now.height c.loop-group-test.true c.requires.rows in
     let written : (k : ℕ) → k < w → slice_index_or c.unpack_at.new.rows (group * w + k) []
-    ≡ seen k = rw c.WIDTH.ensures at c.unpack_at.ensures.lanes in
+    ≡ seen k = rw c.group_start-first.ensures.start at c.unpack_at.ensures.lanes in
     let kept : (j : ℕ) → j < group * w → slice_index_or c.unpack_at.new.rows j []
-    ≡ slice_index_or c.loop-group.slots j [] = rw c.WIDTH.ensures at c.unpack_at.ensures.before in
+    ≡ slice_index_or c.loop-group.slots j [] = rw c.group_start-first.ensures.start at c.unpack_at.ensures.before in
     let hashed : (k : ℕ) → k < w → seen k ≡ f (group * w + k) =
     λ k small.
     let row : group * w + k < c.args.self.now.height = omega (arith, end, small) in
     rw (lt-ltb (group * w + k) c.args.self.now.height row)
-    ((rw (c.WIDTH.ensures, c.requires.lanes) at c.in_ok-digests.ensures) k small small) in
+    ((rw (c.group_start-first.ensures.start, c.requires.lanes) at c.in_ok-digests.ensures) k small small) in
     record {
       long = c.unpack_at.ensures.long ∙ c.loop-group.invariant.long;
       filled = group_more f seen c.loop-group.slots c.unpack_at.new.rows group w [] written hashed kept
