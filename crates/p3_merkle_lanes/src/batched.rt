@@ -182,13 +182,38 @@ fn stage_pairs<W: Copy, const N: usize, const D: usize>(
 }
 
 /// Compresses the digest in each slot `j` with `rows[j]`, the digest of its rows, followed by default digests, and
+/// writes the result into the slot, all in one call.
+#[tactic(auto, using(crate::proofs::StageFacts::made_long))]
+fn inject_part<
+    PW: PackedValue,
+    C: PseudoCompressionFunction<PW, N, D>,
+    const N: usize,
+    const D: usize,
+>(
+    compress: &C,
+    pairs: &mut Vec<[[PW::Value; D]; N]>,
+    default_digest: [PW::Value; D],
+    rows: &[[PW::Value; D]],
+    slots: &mut [[PW::Value; D]],
+) -> Result<(), AllocError>
+    requires pair { 2 ≤ N }
+    requires same { length rows.now ≡ length slots.old }
+    ensures { IfOk result (λ done. slots.new ≡ map (C.compression compress.now)
+        (map (λ j. slice_index_or slots.old j [] ∷ slice_index_or rows.now j [] ∷ replicate (N - 2) default_digest)
+        (range_with_len 0 (length slots.old)))) }
+{
+    stage_pairs(pairs, default_digest, slots, rows)?;
+    compress.compress_many(pairs, slots);
+    Ok(())
+}
+
+/// Compresses the digest in each slot `j` with `rows[j]`, the digest of its rows, followed by default digests, and
 /// writes the result into the slot, as many per call as [`rows_per_call`] says. There must be at most as many rows as
 /// slots, and `N` must be at least 2. `pairs` is a buffer for the groups.
 ///
 /// # Errors
 ///
 /// `AllocError` if memory runs out.
-#[tactic(auto, using(crate::proofs::StageFacts::made_long))]
 pub fn inject_row_digests<
     PW: PackedValue,
     C: PseudoCompressionFunction<PW, N, D>,
@@ -212,8 +237,13 @@ pub fn inject_row_digests<
     let mut first = 0;
     while first < rows.len() {
         let end = first + per_call.min(rows.len() - first);
-        stage_pairs(pairs, default_digest, &slots[first..end], &rows[first..end])?;
-        compress.compress_many(pairs, &mut slots[first..end]);
+        inject_part(
+            compress,
+            pairs,
+            default_digest,
+            &rows[first..end],
+            &mut slots[first..end],
+        )?;
         first = end;
     }
     Ok(())
