@@ -14,7 +14,7 @@ use p3_support::matrix::Dimensions;
 use std::alloc::{AllocError, Global};
 
 /// The rows of two openings, to be compared at the matrices of one exponent.
-#[derive(Clone, Copy)]
+#[derive(Drop)]
 pub(crate) struct RowPair<'a, T> {
     /// The dimensions of all matrices.
     pub dimensions: &'a [Dimensions],

@@ -21,7 +21,7 @@ use p3_support::packed::PackedValue;
 use std::marker::PhantomData;
 
 /// How far the check of an opening is on the path from the leaf.
-#[derive(Clone, Copy)]
+#[derive(Drop)]
 pub struct Progress<X> {
     /// The exponent of the node's layer.
     pub exponent: usize,
@@ -68,7 +68,7 @@ impl<X: Copy> Progress<X> {
 }
 
 /// One level of the check of an opening: what it compresses, and how far the check is above it.
-#[derive(Clone, Copy)]
+#[derive(Drop)]
 pub struct CheckedLevel<X, G> {
     /// The level, counted from the leaves.
     pub level: usize,
