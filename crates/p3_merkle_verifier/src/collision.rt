@@ -1,9 +1,11 @@
 //! Comparing two checks at one level: where their inputs differ, these are a collision.
 
-ghost use Rattle.std.specs.Prelude.{IfOk};
+ghost use Rattle.std.specs.Prelude.{◌≡◌, zip, IfOk};
 ghost use Rattle.std.specs.Cmp.Lexicographic.{pointwise};
-ghost use Rattle.p3_merkle_core.specs.Checks.{digests_at, words_at};
+ghost use Rattle.p3_merkle_core.specs.Checks.{digests_at, words_at, words_of_exponent};
 ghost use Rattle.p3_merkle_core.specs.Extraction.{input_eq, last_difference};
+ghost use Rattle.p3_support.specs.Batches.{heights_of};
+ghost use Rattle.p3_support.specs.Shown.{row_lists};
 ghost use Rattle.p3_merkle_verifier.specs.Inner.Collisions.{first_words, inputs_above, level_inputs, second_words};
 ghost use Rattle.p3_merkle_verifier.specs.Inner.Collisions.{IsDifference, Shows};
 
@@ -46,6 +48,19 @@ fn differing_digests<T, W: Copy + Eq, const D: usize>(
     }))
 }
 
+/// The words of the rows of the matrices of one exponent, one row after another.
+fn opened_words<T: Copy + Drop>(
+    alloc: Global,
+    dimensions: &[Dimensions],
+    rows: &[Vec<T>],
+    exponent: usize,
+) -> Result<Vec<T>, AllocError>
+    ensures { let pairs = zip (heights_of dimensions.now) (row_lists rows.now) in
+        IfOk result (λ words. words.items ≡ words_of_exponent exponent pairs) }
+{
+    opened_rows(dimensions, rows, exponent).collect(alloc)
+}
+
 /// Both lists of words at a place, if they differ.
 pub(crate) fn differing_words<T: Copy + Eq + Drop, W, const D: usize>(
     alloc: Global,
@@ -57,8 +72,8 @@ pub(crate) fn differing_words<T: Copy + Eq + Drop, W, const D: usize>(
         IfOk result (λ found. IsDifference found (pointwise T.eq mine theirs)
         (words_at place mine, words_at place theirs)) }
 {
-    let first: Vec<T> = opened_rows(rows.dimensions, rows.first, rows.exponent).collect(alloc)?;
-    let second: Vec<T> = opened_rows(rows.dimensions, rows.second, rows.exponent).collect(alloc)?;
+    let first = opened_words(alloc, rows.dimensions, rows.first, rows.exponent)?;
+    let second = opened_words(alloc, rows.dimensions, rows.second, rows.exponent)?;
     if first == second {
         return Ok(None);
     }
