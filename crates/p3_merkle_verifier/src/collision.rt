@@ -99,11 +99,10 @@ fn differing_above<T: Copy + Eq + Drop, W: Copy + Eq, const N: usize, const D: u
     let (Some(first_pair), Some(second_pair)) = (&first.pair, &second.pair) else {
         return Ok(None);
     };
-    let pair = differing_digests(alloc, Place::Pair(first.level), first_pair, second_pair)?;
-    if pair.is_some() {
-        return Ok(pair);
+    match differing_digests(alloc, Place::Pair(first.level), first_pair, second_pair)? {
+        Some(pair) => Ok(Some(pair)),
+        None => differing_words(alloc, Place::Rows(first.level), rows),
     }
-    differing_words(alloc, Place::Rows(first.level), rows)
 }
 
 /// The last place of a level at which two checks differ. `rows` are the rows of both openings at the layer above.
@@ -117,14 +116,13 @@ pub(crate) fn differing_level<T: Copy + Eq + Drop, W: Copy + Eq, const N: usize,
         let theirs = level_inputs first.now.level (second_words rows.now) second.now in
         IfOk result (λ found. Shows found (last_difference (input_eq T.eq W.eq) mine theirs)) }
 {
-    let above = differing_above(alloc, rows, first, second)?;
-    if above.is_some() {
-        return Ok(above);
+    match differing_above(alloc, rows, first, second)? {
+        Some(above) => Ok(Some(above)),
+        None => differing_digests(
+            alloc,
+            Place::Group(first.level),
+            &first.group,
+            &second.group,
+        ),
     }
-    differing_digests(
-        alloc,
-        Place::Group(first.level),
-        &first.group,
-        &second.group,
-    )
 }

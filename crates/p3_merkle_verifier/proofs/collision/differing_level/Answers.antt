@@ -1,8 +1,8 @@
 -- Where nothing differs above a level's group, its last difference is the group's.
-use Rattle.std.proofs.Common.{◌≡◌, Bool, false, List, ◌∷◌, Option, None, Some, ap, sym, ◌∙◌, refl}
-use Rattle.std.specs.Prelude.{◌&&◌, is_some}
+use Rattle.std.proofs.Common.{◌≡◌, Bool, List, ◌∷◌, Option, None, ap, refl}
+use Rattle.std.specs.Prelude.{◌&&◌}
 use Rattle.std.specs.Cmp.Lexicographic.{pointwise}
-use Rattle.std.proofs.lemmas.Bool.{eq-eqb, true≢false}
+use Rattle.std.proofs.lemmas.Bool.{eq-eqb}
 use Rattle.std.proofs.lemmas.Result.{IfOk-weaker}
 use Rattle.p3_merkle_core.specs.Extraction.{last_difference, input_eq}
 use Rattle.p3_merkle_core.specs.Checks.{Input, digests_at}
@@ -11,21 +11,14 @@ use Rattle.p3_merkle_core.specs.declared.collision.Place.TheVariants.{Group}
 use Rattle.p3_merkle_core.specs.declared.collision.InputPair.{InputPair}
 use Rattle.p3_merkle_verifier.proofs.collision.differing_level.Goals as goal
 
--- what shows nothing shows that there is nothing
-shows_none : {T W : Type 0} (above : Option (InputPair T (List W))) (d : Option (Input T W × Input T W)) →
-    Shows above d → is_some above ≡ false → d ≡ None
-shows_none None d s e = sym s
-shows_none (Some x) d s e = absurd (true≢false e)
-
 last_is_group : {T W : Type 0} (eq : Input T W → Input T W → Bool) (same : Bool) (x y : Input T W)
-    (xs ys : List (Input T W)) (above found : Option (InputPair T (List W))) →
-    eq x y ≡ same → Shows above (last_difference eq xs ys) → is_some above ≡ false → IsDifference found same (x, y) →
+    (xs ys : List (Input T W)) (found : Option (InputPair T (List W))) →
+    eq x y ≡ same → Shows None (last_difference eq xs ys) → IsDifference found same (x, y) →
     Shows found (last_difference eq (x ∷ xs) (y ∷ ys))
-last_is_group eq same x y xs ys above found test shown none here =
-    rw (shows_none above (last_difference eq xs ys) shown none, test) here
+last_is_group eq same x y xs ys found test none here = rw (← none, test) here
 
-pub returns : goal.returns
-returns g c =
+pub returns-in-None : goal.returns-in-None
+returns-in-None g c =
     let l = c.args.first.now.level in
     let mine = c.args.first.now.group in
     let theirs = c.args.second.now.group in
@@ -36,6 +29,6 @@ returns g c =
     IfOk-weaker c.differing_digests.result _ _
     (λ found here. last_is_group eq same (digests_at (Group l) mine) (digests_at (Group l) theirs)
     (inputs_above l (first_words c.args.rows.now) c.args.first.now.pair)
-    (inputs_above l (second_words c.args.rows.now) c.args.second.now.pair) c.in_ok-above.above found
-    test c.in_ok-above.ensures (sym c.is_some.ensures ∙ c.if-is_some.false) here)
+    (inputs_above l (second_words c.args.rows.now) c.args.second.now.pair) found test
+    (rw c.in-None.is at c.in_ok-above.ensures) here)
     c.differing_digests.ensures
