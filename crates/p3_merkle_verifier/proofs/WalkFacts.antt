@@ -1,5 +1,6 @@
 -- The checks of two openings, one level higher.
-use Rattle.std.proofs.Common.{◌≡◌, ℕ, suc, ◌+◌, ◌⊎◌, Bool, List, ap, subst, sym, ◌∙◌, inl, inr, zip, add-one, Option}
+use Rattle.std.proofs.Common.{◌≡◌, ℕ, suc, ◌+◌, Bool, List, ap, refl, subst, sym, ◌∙◌, inl, inr, zip, add-one, Option}
+use Rattle.std.proofs.Common.{None}
 use Rattle.std.specs.Cmp.Lexicographic.{pointwise}
 use Rattle.std.specs.Option.{option_or}
 use Rattle.std.specs.declared.vec.Vec.{Vec}
@@ -57,41 +58,42 @@ found_leaf eq same s o u mine theirs found e a b is =
 
 -- ---- on one more level
 
--- what is shown of the two levels is the last difference of their inputs
+-- where both checks stand at one node above the level, what is shown of the two levels is the last difference there
 pub found_here : {T W : Type 0} (test : Input T W → Input T W → Bool) (f : Functions T W) (s : Shape) (l : ℕ)
     (o u : Opening T W) (found : Option (InputPair T (List W))) (mine theirs : CheckedLevel (List W) (List (List W)))
     (a b : List T) →
     IsLevelOfCheck f s o l mine → IsLevelOfCheck f s u l theirs → a ≡ layer_words s o.rows (suc l) → b
-    ≡ layer_words s u.rows (suc l) →
+    ≡ layer_words s u.rows (suc l) → mine.above.node ≡ theirs.above.node →
     Shows found (last_difference test (level_inputs mine.level a mine) (level_inputs mine.level b theirs)) →
-    Shows found (last_difference test (inputs_at f s o l) (inputs_at f s u l))
-found_here test f s l o u found mine theirs a b m n is_a is_b shown =
+    Shows found (level_difference test f s l o u)
+found_here test f s l o u found mine theirs a b m n is_a is_b one shown =
     let mine_is : level_inputs mine.level a mine ≡ inputs_at f s o l =
     ap (λ (j : ℕ). level_inputs j a mine) m.at_level ∙ ap (λ (z : List _). level_inputs l z mine) is_a ∙ m.inputs_are in
     let theirs_is : level_inputs mine.level b theirs ≡ inputs_at f s u l =
     ap (λ (j : ℕ). level_inputs j b theirs) m.at_level ∙ ap (λ (z : List _). level_inputs l z theirs) is_b
     ∙ n.inputs_are in
-    subst (λ (ys : List (Input _ _)). Shows found (last_difference test (inputs_at f s o l) ys)) theirs_is
-    (subst (λ (xs : List (Input _ _)). Shows found (last_difference test xs (level_inputs mine.level b theirs))) mine_is
-    shown)
-
--- the last difference there, where both checks stand at one node above the level, else the one below
-pub found_next : {T W : Type 0} (test : Input T W → Input T W → Bool) (f : Functions T W) (s : Shape) (l : ℕ)
-    (o u : Opening T W) (last next : Option (InputPair T (List W))) (mine theirs :
-    CheckedLevel (List W) (List (List W))) →
-    IsLevelOfCheck f s o l mine → IsLevelOfCheck f s u l theirs → Shows last (difference_below test f s o u l) →
-    ((mine.above.node ≡ theirs.above.node) ×
-    ((found : Option (InputPair T (List W))) ×
-    Shows found (last_difference test (inputs_at f s o l) (inputs_at f s u l)) × (next ≡ option_or found last)))
-    ⊎ ((mine.above.node ≡ theirs.above.node → ⊥) × (next ≡ last)) →
-    Shows next (difference_below test f s o u (l + 1))
-found_next test f s l o u last next mine theirs m n below (inl k) =
-    let met = eq-eqb (ancestor s (suc l) o.index) (ancestor s (suc l) u.index) (sym m.progress.at_node ∙ k.0
+    let met = eq-eqb (ancestor s (suc l) o.index) (ancestor s (suc l) u.index) (sym m.progress.at_node ∙ one
     ∙ n.progress.at_node) in
-    let here : Shows (k.1.0) (level_difference test f s l o u) = rw met (k.1.1) in
-    rw (add-one, k.1.2) (shows_later (k.1.0) last (level_difference test f s l o u) (difference_below test f s o u l)
-    here below)
-found_next test f s l o u last next mine theirs m n below (inr k) =
+    rw met
+    (subst (λ (ys : List (Input _ _)). Shows found (last_difference test (inputs_at f s o l) ys)) theirs_is
+    (subst (λ (xs : List (Input _ _)). Shows found (last_difference test xs (level_inputs mine.level b theirs))) mine_is
+    shown))
+
+-- where they do not, there is none
+pub found_apart : {T W : Type 0} (test : Input T W → Input T W → Bool) (f : Functions T W) (s : Shape) (l : ℕ)
+    (o u : Opening T W) (mine theirs : CheckedLevel (List W) (List (List W))) →
+    IsLevelOfCheck f s o l mine → IsLevelOfCheck f s u l theirs → (mine.above.node ≡ theirs.above.node → ⊥) →
+    Shows None (level_difference test f s l o u)
+found_apart test f s l o u mine theirs m n other =
     let apart = ne_eqb (ancestor s (suc l) o.index) (ancestor s (suc l) u.index)
-    (λ e. k.0 (m.progress.at_node ∙ e ∙ sym n.progress.at_node)) in
-    rw (add-one, k.1, apart) below
+    (λ e. other (m.progress.at_node ∙ e ∙ sym n.progress.at_node)) in
+    rw apart refl
+
+-- the last difference there, else the one below
+pub found_next : {T W : Type 0} (test : Input T W → Input T W → Bool) (f : Functions T W) (s : Shape) (l : ℕ)
+    (o u : Opening T W) (last next found : Option (InputPair T (List W))) →
+    Shows last (difference_below test f s o u l) → Shows found (level_difference test f s l o u) →
+    next ≡ option_or found last → Shows next (difference_below test f s o u (l + 1))
+found_next test f s l o u last next found below here is =
+    rw (add-one, is) (shows_later found last (level_difference test f s l o u) (difference_below test f s o u l) here
+    below)

@@ -1,7 +1,8 @@
 //! Openings as a check reads them: each with its index, one alone or two side by side.
 
-ghost use Rattle.std.specs.Prelude.{◌≡◌, length};
+ghost use Rattle.std.specs.Prelude.{◌≡◌, ◌<◌, length};
 ghost use Rattle.p3_merkle_core.specs.Geometry.{shape_of};
+ghost use Rattle.p3_merkle_verifier.specs.Inner.Checks.{CanClimb};
 ghost use Rattle.p3_merkle_verifier.specs.Inner.Paths.{CanReach};
 
 use crate::collision::RowPair;
@@ -51,6 +52,13 @@ pub struct OpeningPair<'a, T, X, const N: usize> {
 }
 
 impl<'a, T, X, const N: usize> OpeningPair<'a, T, X, N> {
+    /// Tells that both openings have the siblings of each level below the cap. It does nothing at run time.
+    pub(crate) fn tell_siblings(&self, level: usize)
+        requires { level < self.now.cap_layer }
+        ensures first { CanClimb (shape_of N self.now.dimensions.now) level (length self.now.first.siblings.now) }
+        ensures second { CanClimb (shape_of N self.now.dimensions.now) level (length self.now.second.siblings.now) }
+    {}
+
     /// The rows of both openings, to be compared at the matrices of this exponent.
     pub(crate) fn rows_of_exponent(&self, exponent: usize) -> RowPair<'a, T>
         ensures dimensions { result.dimensions.now ≡ self.now.dimensions.now }

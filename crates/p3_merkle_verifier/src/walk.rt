@@ -5,11 +5,11 @@ ghost use Rattle.p3_merkle_core.specs.Checks.{terms};
 ghost use Rattle.p3_merkle_core.specs.Extraction.{difference_of, input_eq};
 ghost use Rattle.p3_merkle_core.specs.Geometry.{layer_exponent, shape_of};
 ghost use Rattle.p3_merkle_core.specs.Nodes.{functions_of};
-ghost use Rattle.p3_merkle_verifier.specs.Inner.Checks.{leaf_difference, opening_in};
+ghost use Rattle.p3_merkle_verifier.specs.Inner.Checks.{leaf_difference, level_difference, opening_in, IsLevelOfCheck};
 ghost use Rattle.p3_merkle_verifier.specs.Inner.Collisions.{Shows};
 
 use crate::collision::{differing_level, differing_words};
-use crate::level::{Checker, leaf, tell_siblings};
+use crate::level::{CheckedLevel, Checker, leaf};
 use crate::openings::OpeningPair;
 use p3_merkle_core::collision::{Collision, Place};
 use p3_merkle_core::steps::steps_of;
@@ -35,6 +35,26 @@ fn leaf_difference<T: Copy + Eq + Drop, W: Copy + Eq, const N: usize, const D: u
         return Ok(None);
     }
     differing_words(alloc, Place::Leaf, &openings.rows_of_exponent(exponent))
+}
+
+/// The last place of a level at which the checks of two openings differ, if they share the node above the level.
+fn level_difference<T: Copy + Eq + Drop, W: Copy + Eq, const N: usize, const D: usize>(
+    alloc: Global,
+    openings: &OpeningPair<'_, T, [W; D], N>,
+    mine: &CheckedLevel<[W; D], [[W; D]; N]>,
+    theirs: &CheckedLevel<[W; D], [[W; D]; N]>,
+) -> Result<Option<Collision<T, W, D>>, AllocError>
+    ensures { let o = opening_in openings.now.first in
+        let u = opening_in openings.now.second in
+        let s = shape_of N openings.now.dimensions.now in
+        IfOk result (λ found. (f : _) (l : _) → IsLevelOfCheck f s o l mine.now → IsLevelOfCheck f s u l theirs.now →
+        Shows found (level_difference (input_eq T.eq W.eq) f s l o u)) }
+{
+    if mine.above.node != theirs.above.node {
+        return Ok(None);
+    }
+    let rows = openings.rows_of_exponent(mine.above.exponent);
+    differing_level(alloc, &rows, mine, theirs)
 }
 
 impl<
@@ -64,33 +84,16 @@ impl<
             (opening_in openings.now.second) in
             IfOk result (λ found. Shows found difference) }
     {
-        let dimensions = openings.dimensions;
-        let steps = steps_of(dimensions, N);
+        let steps = steps_of(openings.dimensions, N);
         let mut first = leaf::<P, PW, H, D>(self.hash, &steps, openings.first);
         let mut second = leaf::<P, PW, H, D>(self.hash, &steps, openings.second);
         let mut last = leaf_difference(alloc, openings, steps.exponent)?;
         for level in 0..openings.cap_layer {
-            tell_siblings(
-                dimensions,
-                N,
-                openings.cap_layer,
-                level,
-                openings.first.siblings,
-            );
-            tell_siblings(
-                dimensions,
-                N,
-                openings.cap_layer,
-                level,
-                openings.second.siblings,
-            );
+            openings.tell_siblings(level);
             let mine = self.checked_level(&steps, level, openings.first, &first);
             let theirs = self.checked_level(&steps, level, openings.second, &second);
-            if mine.above.node == theirs.above.node {
-                let rows = openings.rows_of_exponent(mine.above.exponent);
-                let found = differing_level(alloc, &rows, &mine, &theirs)?;
-                last = found.or(last);
-            }
+            let found = level_difference(alloc, openings, &mine, &theirs)?;
+            last = found.or(last);
             first = mine.above;
             second = theirs.above;
         }
