@@ -43,6 +43,32 @@ row_passed k h c hs r rs past =
       | inr other ↦ rw (ne_eqb (exponent h) k other) refl
     ])
 
+-- with no matrix left, or no row, there are no words
+none_of_matrices : {T : Type 0} (k c : ℕ) (ds : List Dimensions) (rs : List (List T)) → length ds ≡ 0 →
+    opened_left k (heights_of ds) rs c ≡ []
+none_of_matrices k c [] rs none = refl
+none_of_matrices k c (d ∷ ds) rs none = absurd (omega arith)
+
+none_of_rows : {T A : Type 0} (k c : ℕ) (hs : List ℕ) (rs : List (Vec T A)) → length rs ≡ 0 →
+    opened_left k hs (row_lists rs) c ≡ []
+none_of_rows k c [] rs none = refl
+none_of_rows k c (h ∷ hs) [] none = refl
+none_of_rows k c (h ∷ hs) (r ∷ rs) none = absurd (omega arith)
+
+pub returns-clause-steps : goal.returns-clause-steps
+returns-clause-steps g c =
+    let self = c.loop-matrix.self in
+    let none = none_of_matrices self.exponent self.next self.dimensions.now (row_lists self.rows.now)
+    c.in_default.ensures.cases in
+    (sym c.loop-matrix.invariant.1 ∙ none, none)
+
+pub returns-in_default-split_first-clause-steps : goal.returns-in_default-split_first-clause-steps
+returns-in_default-split_first-clause-steps g c =
+    let self = c.loop-matrix.self in
+    let none = none_of_rows self.exponent self.next (heights_of self.dimensions.now) self.rows.now
+    c.in_default-split_first.ensures.cases in
+    (sym c.loop-matrix.invariant.1 ∙ none, none)
+
 pub returns-then-self-len-clause-steps : goal.returns-then-self-len-clause-steps
 returns-then-self-len-clause-steps g c =
     let next = c.loop-matrix.self.next in
