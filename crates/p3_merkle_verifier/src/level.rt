@@ -1,8 +1,8 @@
 //! One level of a check: what it compresses, and how far the check is above it.
 
-ghost use Rattle.std.specs.Prelude.{insert, ◌≡◌, ◌+◌, ◌-◌, ◌%◌, ◌^◌, ◌<◌, length, replicate, zip};
-ghost use Rattle.p3_merkle_core.specs.Geometry.{layer_exponent, shape_of};
-ghost use Rattle.p3_merkle_core.specs.Checks.{words_of_exponent};
+ghost use Rattle.std.specs.Prelude.{insert, suc, ◌≡◌, ◌+◌, ◌-◌, ◌%◌, ◌^◌, ◌<◌, length, replicate, zip};
+ghost use Rattle.p3_merkle_core.specs.Geometry.{layer_exponent, shape_of, step as step_of};
+ghost use Rattle.p3_merkle_core.specs.Checks.{siblings_below, words_of_exponent};
 ghost use Rattle.p3_support.specs.Batches.{heights_of};
 ghost use Rattle.p3_merkle_core.specs.Nodes.{functions_of, padded};
 ghost use Rattle.p3_merkle_verifier.specs.Inner.Checks.{opening_in, step_siblings, CanClimb, CanStep, IsAbove};
@@ -132,6 +132,22 @@ pub(crate) fn tell_siblings<X>(
     ensures { CanClimb (shape_of arity dimensions.now) level (length siblings.now) }
 {}
 
+/// Tells that an opening with the siblings of a level has those of the level's step. It does nothing at run time.
+fn tell_step<X>(
+    steps: &Steps<'_>,
+    level: usize,
+    step: usize,
+    exponent: usize,
+    used: usize,
+    siblings: &[X],
+)
+    requires climbs { CanClimb (shape_of steps.now.arity steps.now.dimensions.now) level (length siblings.now) }
+    requires step { step ≡ step_of (shape_of steps.now.arity steps.now.dimensions.now) level }
+    requires exponent { exponent ≡ layer_exponent (shape_of steps.now.arity steps.now.dimensions.now) (suc level) }
+    requires used { used ≡ siblings_below (shape_of steps.now.arity steps.now.dimensions.now) level }
+    ensures { CanStep steps.now.arity step used (length siblings.now) }
+{}
+
 /// Checks openings: it borrows the hash of rows and the compression of nodes.
 #[derive(Drop)]
 pub struct Checker<'a, P, PW, H, C, G> {
@@ -175,6 +191,14 @@ impl<
             has_rows,
             exponent,
         } = steps.up(N, level, progress.exponent);
+        tell_step(
+            steps,
+            level,
+            step,
+            exponent,
+            progress.used,
+            opening.siblings,
+        );
         let default_digest = [PW::Value::default(); D];
         let group = progress.group::<N>(default_digest, step, opening.siblings);
         let node = self.compress.compress(group);

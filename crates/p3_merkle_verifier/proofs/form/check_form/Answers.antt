@@ -1,4 +1,4 @@
--- Lawful heights are within the limit.
+-- The first check that fails refuses the form, and lawful heights are within the limit.
 use Rattle.std.proofs.Common.{◌≡◌, ℕ, List, None, length, refl, rules, sym}
 use Rattle.std.specs.declared.vec.Vec.{Vec}
 use Rattle.std.proofs.lemmas.Bool.{eq-eqb}
@@ -11,7 +11,8 @@ use Rattle.p3_support.specs.Shown.{row_lists}
 use Rattle.p3_merkle_verifier.proofs.form.check_form.Goals as goal
 
 -- as many rows as matrices are not refused
-sized : {T A : Type 0} (n : ℕ) (rows : List (Vec T A)) → length rows ≡ n → size_refusal n (length (row_lists rows)) ≡ None
+sized : {T A : Type 0} (n : ℕ) (rows : List (Vec T A)) → length rows ≡ n →
+    size_refusal n (length (row_lists rows)) ≡ None
 sized n rows same = rw (eq-eqb n (length (row_lists rows)) (simp length-map (sym same))) refl
 
 pub returns-in_err-check_heights : goal.returns-in_err-check_heights

@@ -1,44 +1,10 @@
 -- One step from the layer that the check has reached.
-use Rattle.std.proofs.Common.{arith, length, replicate, sym, ◌∙◌}
+use Rattle.std.proofs.Common.{replicate, sym, ◌∙◌}
 use Rattle.p3_merkle_core.specs.Geometry.{shape_of}
 use Rattle.p3_merkle_core.specs.Nodes.{functions_of}
 use Rattle.p3_merkle_verifier.specs.Inner.Checks.{opening_in}
-use Rattle.p3_merkle_verifier.proofs.LevelFacts.{can_step, level_alone, level_with_rows}
+use Rattle.p3_merkle_verifier.proofs.LevelFacts.{level_alone, level_with_rows}
 use Rattle.p3_merkle_verifier.proofs.level.Checker+P+PW+H+C+array+N+array+D+PW+Value.checked_level.Goals as goal
-
-pub group-group-requires : goal.group-group-requires
-group-group-requires g c =
-    let s = shape_of g.row.N c.args.steps.now.dimensions.now in
-    let step = c.up-step in (
-      omega arith,
-      (
-        omega arith,
-        can_step s c.args.level step.result.step step.result.exponent c.args.progress.now.used
-            (length c.args.opening.siblings.now) c.requires.climbs.arity
-            (record { is_step = step.ensures.step; above = step.ensures.exponent }) c.requires.progress.taken
-            c.requires.climbs.enough,
-      ),
-    )
-
-pub above-requires-clause-fits : goal.above-requires-clause-fits
-above-requires-clause-fits g c =
-    let s = shape_of g.row.N c.args.steps.now.dimensions.now in
-    let step = c.up-step in
-    let can = can_step s c.args.level step.result.step step.result.exponent c.args.progress.now.used
-    (length c.args.opening.siblings.now) c.requires.climbs.arity
-    (record { is_step = step.ensures.step; above = step.ensures.exponent }) c.requires.progress.taken
-    c.requires.climbs.enough in
-    omega (arith, can.enough)
-
-pub above-requires-else-has_rows-clause-fits : goal.above-requires-else-has_rows-clause-fits
-above-requires-else-has_rows-clause-fits g c =
-    let s = shape_of g.row.N c.args.steps.now.dimensions.now in
-    let step = c.up-step in
-    let can = can_step s c.args.level step.result.step step.result.exponent c.args.progress.now.used
-    (length c.args.opening.siblings.now) c.requires.climbs.arity
-    (record { is_step = step.ensures.step; above = step.ensures.exponent }) c.requires.progress.taken
-    c.requires.climbs.enough in
-    omega (arith, can.enough)
 
 pub returns-then-has_rows : goal.returns-then-has_rows
 returns-then-has_rows g c =

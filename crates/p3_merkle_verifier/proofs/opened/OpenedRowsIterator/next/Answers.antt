@@ -1,8 +1,8 @@
 -- Each turn passes one matrix, or reads the next word of its row.
-use Rattle.std.proofs.Common.{◌≡◌, ℕ, ◌+◌, ◌<◌, ◌≤◌, ◌≢◌, ◌⊎◌, ◌∷◌, ◌++◌, ◌∙◌, List, [], length, drop, get_or, zip, ap, refl}
+use Rattle.std.proofs.Common.{◌≡◌, ℕ, ◌+◌, ◌<◌, ◌≤◌, ◌∷◌, ◌++◌, ◌∙◌, List, [], length, drop, get_or, zip, ap, refl}
 use Rattle.std.proofs.Common.{sym, inl, inr, arith}
 use Rattle.std.specs.declared.vec.Vec.{Vec}
-use Rattle.std.proofs.lemmas.Bool.{cases_eq, cases_Bool, eq-eqb, ne_eqb}
+use Rattle.std.proofs.lemmas.Bool.{cases_eq, eq-eqb, ne_eqb}
 use Rattle.std.proofs.lemmas.List.{drop_more, drop_all}
 use Rattle.p3_support.specs.Batches.{heights_of}
 use Rattle.p3_support.specs.Shown.{row_lists}
@@ -13,7 +13,6 @@ use Rattle.p3_merkle_verifier.specs.Inner.Paths.{opened_left}
 use Rattle.p3_merkle_verifier.proofs.opened.OpenedRowsIterator.next.Goals as goal
 use Rattle.p3_merkle_verifier.proofs.opened.OpenedRowsIterator.next.Goals.{else-exponent_of-self-via-then-exponent_of-self+else-self-len}
 use Rattle.p3_merkle_verifier.proofs.opened.OpenedRowsIterator.next.Goals.{else-exponent_of-self-via-else-exponent_of-self}
-
 
 -- from the first word on, all words are left
 all_left : {T : Type 0} (k : ℕ) (hs : List ℕ) (rs : List (List T)) → opened_left k hs rs 0
@@ -88,8 +87,12 @@ loop-matrix-preserved g c =
     let row = c.in-Some-split_first.row.now in
     let past : exponent h ≡ k → length row.items ≤ next =
     elim c.else-exponent_of-self.branch [
-      | else-exponent_of-self-via-then-exponent_of-self+else-self-len w ↦ λ same. omega (arith, row.ok, w.len.ensures,
-          w.if-self-len.false)
+      | else-exponent_of-self-via-then-exponent_of-self+else-self-len w ↦ λ same. omega (
+        arith,
+        row.ok,
+        w.len.ensures,
+        w.if-self-len.false,
+      )
       | else-exponent_of-self-via-else-exponent_of-self w ↦ λ same. absurd (w.if-exponent_of-self.false
           (c.exponent_of.ensures ∙ same))
     ] in

@@ -11,7 +11,8 @@ returns g c =
     record {
       first = record {
         arity = pair.first_reaches.arity;
-        enough = enough_below s pair.cap_layer c.args.level (length pair.first.siblings.now) pair.first_reaches c.requires;
+        enough = enough_below s pair.cap_layer c.args.level (length pair.first.siblings.now) pair.first_reaches
+            c.requires;
       };
       second = record {
         arity = pair.second_reaches.arity;
