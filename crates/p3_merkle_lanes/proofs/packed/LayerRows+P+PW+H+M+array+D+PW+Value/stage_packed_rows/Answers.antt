@@ -1,5 +1,8 @@
 -- Each turn adds the rows of one matrix.
 use Rattle.std.proofs.Common.{arith, ℕ, ◌+◌, ◌++◌, ◌∙◌, ap, sym}
+use Rattle.std.proofs.lemmas.List.{take_all}
+use Rattle.p3_support.specs.Lists.{lane_of}
+use Rattle.p3_merkle_lanes.specs.Inner.Slots.{rows_over}
 use Rattle.p3_merkle_lanes.proofs.LaneFacts.{height_at, rows_more}
 use Rattle.p3_merkle_lanes.proofs.packed.LayerRows+P+PW+H+M+array+D+PW+Value.stage_packed_rows.Goals as goal
 
@@ -18,3 +21,13 @@ loop-matrix-preserved g c = λ k small.
     ∙ ap (λ l. l ++ g.M.Matrix.row_of m r) (c.loop-matrix.invariant k small)
     ∙ sym (rows_more g.M.Matrix.row_of r c.args.self.now.matrices.now c.loop-matrix.matrix-index m
     c.loop-matrix-test.true c.matrix-item.is)
+
+pub loop-matrix-init : goal.loop-matrix-init
+loop-matrix-init g c = λ k small.
+    ap (lane_of g.P.PackedValue.lanes g.P.PackedValue.default_value k) c.clear.ensures.items
+
+pub returns : goal.returns
+returns g c = λ k small.
+    let ms = c.args.self.now.matrices.now in
+    c.loop-matrix.invariant k small
+    ∙ ap (λ l. rows_over g.M.Matrix.row_of l (c.args.row + k)) (take_all c.loop-matrix.matrix-index ms (omega arith))
