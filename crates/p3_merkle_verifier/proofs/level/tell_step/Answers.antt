@@ -6,6 +6,7 @@ use Rattle.p3_merkle_verifier.proofs.level.tell_step.Goals as goal
 
 pub returns : goal.returns
 returns g c =
-    can_step (shape_of c.args.steps.now.arity c.args.steps.now.dimensions.now) c.args.level c.args.step c.args.exponent c.args.used
-    (length c.args.siblings.now) c.requires.climbs.arity
-    (record { is_step = c.requires.step; above = c.requires.exponent }) c.requires.used c.requires.climbs.enough
+    let s = shape_of c.args.steps.now.arity c.args.steps.now.dimensions.now in
+    can_step s c.args.level c.args.step c.args.exponent c.args.used (length c.args.siblings.now)
+    c.requires.climbs.arity (record { is_step = c.requires.step; above = c.requires.exponent }) c.requires.used
+    c.requires.climbs.enough
