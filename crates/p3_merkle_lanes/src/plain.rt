@@ -1,6 +1,7 @@
 //! The digests of rows, of those that a matrix lends in one piece, and of whole groups of a layer, one by one.
 
-ghost use Rattle.std.specs.Prelude.{◌≡◌, ℕ, ◌*◌, ◌<◌, ◌≤◌, [], length, map, replicate, slice_index_or, take, IfSome};
+ghost use Rattle.std.specs.Prelude.{◌≡◌, ℕ, ◌+◌, ◌*◌, ◌^◌, ◌<◌, ◌≤◌, [], length, map, replicate, slice_index_or};
+ghost use Rattle.std.specs.Prelude.{take, IfSome};
 ghost use Rattle.std.specs.List.{flat_map};
 ghost use Rattle.p3_support.specs.Lists.{messages as messages_of};
 ghost use Rattle.p3_merkle_lanes.specs.Inner.Slots.{leaf_over, rows_over, IsFilled};
@@ -41,6 +42,19 @@ fn no_pieces<'a, T>() -> [&'a [T]; MAX_PIECES] {
     [&[]; MAX_PIECES]
 }
 
+/// Where message `i` starts and ends among `count` messages of `width` words each, which lie one after another.
+#[tactic(auto, using(crate::proofs::LaneFacts::group_end, crate::proofs::LaneFacts::group_next))]
+fn message_bounds(i: usize, count: usize, width: usize) -> (usize, usize)
+    requires inside { i < count }
+    requires fits { count * width < 2 ^ 64 }
+    ensures start { result.0 ≡ i * width }
+    ensures end { result.1 ≡ (i + 1) * width }
+    ensures order { result.0 ≤ result.1 }
+    ensures within { result.1 ≤ count * width }
+{
+    (i * width, (i + 1) * width)
+}
+
 /// Writes into `slots[i]` the digest of message `i`. The messages lie one after another, as many as there are slots, of
 /// one length.
 fn hash_each<P: PackedValue, PW: PackedValue, H: CryptographicHasher<P, PW, D>, const D: usize>(
@@ -57,7 +71,8 @@ fn hash_each<P: PackedValue, PW: PackedValue, H: CryptographicHasher<P, PW, D>, 
     }
     let width = messages.len() / slots.len();
     for i in 0..slots.len() {
-        slots[i] = hash.hash_slice(&messages[i * width..(i + 1) * width]);
+        let (start, end) = message_bounds(i, slots.len(), width);
+        slots[i] = hash.hash_slice(&messages[start..end]);
     }
 }
 
