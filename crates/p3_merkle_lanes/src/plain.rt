@@ -1,7 +1,7 @@
 //! The digests of rows, of those that a matrix lends in one piece, and of whole groups of a layer, one by one.
 
 ghost use Rattle.std.specs.Prelude.{◌≡◌, ℕ, ◌+◌, ◌*◌, ◌^◌, ◌<◌, ◌≤◌, [], length, map, replicate, slice_index_or};
-ghost use Rattle.std.specs.Prelude.{take, IfSome};
+ghost use Rattle.std.specs.Prelude.{take, All, IfSome};
 ghost use Rattle.std.specs.List.{flat_map};
 ghost use Rattle.p3_support.specs.Lists.{messages as messages_of};
 ghost use Rattle.p3_merkle_lanes.specs.Inner.Slots.{leaf_over, rows_over, IsFilled};
@@ -34,6 +34,19 @@ fn row_digest<
     match matrix.row_slice(row) {
         Some(words) => hash.hash_slice(words),
         None => hash.hash_iter(matrix.row(row)),
+    }
+}
+
+/// The matrix that stands alone, if there is but one. Each has this height.
+fn lone_matrix<T: Copy, M: Matrix<T>>(matrices: &[M], height: usize) -> Option<&M>
+    requires { All (λ m. M.height_of m ≡ height) matrices.now }
+    ensures high { IfSome result (λ matrix. M.height_of matrix.now ≡ height) }
+    ensures alone { IfSome result (λ matrix. (j : ℕ) →
+        rows_over M.row_of matrices.now j ≡ M.row_of matrix.now j) }
+{
+    match matrices {
+        [matrix] => Some(matrix),
+        _ => None,
     }
 }
 
@@ -126,9 +139,11 @@ impl<
         if row >= self.height {
             return [PW::Value::default(); D];
         }
+        // A row that stands alone is read without a look for the next one after each word.
+        if let Some(matrix) = lone_matrix(self.matrices, self.height) {
+            return row_digest::<P, PW, H, M, D>(self.hash, matrix, row);
+        }
         let lent = match self.matrices {
-            // A row that stands alone is read without a look for the next one after each word.
-            [matrix] => return row_digest::<P, PW, H, M, D>(self.hash, matrix, row),
             // Whole pieces are hashed without a look for the next word's matrix.
             [first, ..] if first.width() >= MIN_LENT_WIDTH => self.pieces_digest(row),
             _ => None,

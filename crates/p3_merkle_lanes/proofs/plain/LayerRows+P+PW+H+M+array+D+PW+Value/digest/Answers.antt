@@ -4,22 +4,8 @@ use Rattle.std.proofs.lemmas.Bool.{lt-ltb}
 use Rattle.std.proofs.lemmas.Iterator.Consumers.{YieldsList-from_first}
 use Rattle.p3_support.proofs.Runs.{fact_of_run}
 use Rattle.p3_merkle_lanes.specs.Inner.Slots.{rows_over}
-use Rattle.p3_merkle_lanes.proofs.LaneFacts.{height_at, rows_alone, rows_of_all}
+use Rattle.p3_merkle_lanes.proofs.LaneFacts.{rows_of_all}
 use Rattle.p3_merkle_lanes.proofs.plain.LayerRows+P+PW+H+M+array+D+PW+Value.digest.Goals as goal
-
-pub row_digest-requires : goal.row_digest-requires
-row_digest-requires g c =
-    let high = height_at g.M.Matrix.height_of c.args.self.now.height c.args.self.now.matrices.now 0 c.matrix-item.result
-    c.args.self.now.of_height (omega arith) c.matrix-item.is in
-    omega (arith, high)
-
-pub returns-in-len1 : goal.returns-in-len1
-returns-in-len1 g c =
-    let below : nat_lt c.args.row c.args.self.now.height ≡ true = lt-ltb c.args.row c.args.self.now.height
-    (omega arith) in
-    let alone = rows_alone g.M.Matrix.row_of c.args.row c.args.self.now.matrices.now c.matrix-item.result (omega arith)
-    c.matrix-item.is in
-    rw (below, alone) c.row_digest.ensures
 
 pub returns-in-None : goal.returns-in-None
 returns-in-None g c =
