@@ -9,3 +9,4 @@ pub mod StartFacts
 mod PlaceFacts
 mod PairFacts
 mod QueryFacts
+mod RefusalFacts
