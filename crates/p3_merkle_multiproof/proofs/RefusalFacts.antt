@@ -16,11 +16,16 @@ use Rattle.p3_merkle_multiproof.specs.Inner.RestoredLevels.{opened_by, tree_of}
 use Rattle.p3_merkle_multiproof.specs.declared.restorable.BorrowedOpening.{BorrowedOpening}
 use Rattle.p3_merkle_multiproof.specs.declared.restorable.Restorable.{Restorable}
 
--- the error that a `?` hands on answers for what it answered before
+-- the error that a `?` hands on answers what it answered before
 handed_on : {V : Type 0} (r : Result V MerkleTreeError) (e : MerkleTreeError) (refusal : Option MerkleTreeError) →
     IsErrAnd r (λ x. x ≡ e) → (e ≡ OutOfMemory) ⊎ (refusal ≡ Some e) → AnswersUnlessMemory r refusal
 handed_on (Ok v) e refusal err a = absurd err
 handed_on (Err x) e refusal is a = rw is a
+
+-- one that tells of memory answers all
+pub out_of_memory : {V : Type 0} (r : Result V MerkleTreeError) (refusal : Option MerkleTreeError) →
+    IsErrAnd r (λ x. x ≡ OutOfMemory) → AnswersUnlessMemory r refusal
+out_of_memory r refusal is = handed_on r OutOfMemory refusal is (inl refl)
 
 -- the first of two refusals is that of both
 first_refuses : (e : MerkleTreeError) (x y : Option MerkleTreeError) → (e ≡ OutOfMemory) ⊎ (x ≡ Some e) →
@@ -36,11 +41,18 @@ abbrev counted : {T W : Type 0} → BorrowedOpening T (List W) → PrunedOpening
 counted opening = opened_with opening.indices.now (row_sets opening.sets.now) (length opening.sent.now)
 
 -- what the digests are is no matter of form
-form_counts : {T W : Type 0} (row_eq : T → T → Bool) (s : Shape) (t : ℕ) (opening : BorrowedOpening T (List W)) →
+pub form_counts : {T W : Type 0} (row_eq : T → T → Bool) (s : Shape) (t : ℕ) (opening : BorrowedOpening T (List W)) →
     pruned_refusal row_eq s t (counted opening) ≡ pruned_refusal row_eq s t (whole opening)
 form_counts row_eq s t opening = rw (length-replicate {A = List ℕ} (length opening.sent.now) []) refl
 
--- what is refused for its form is refused under each cap
+-- what is refused for its form is refused whatever its digests are, and under each cap
+pub refused_form : {T W V : Type 0} (row_eq : T → T → Bool) (s : Shape) (t : ℕ) (opening : BorrowedOpening T (List W))
+    (r : Result V MerkleTreeError) (e : MerkleTreeError) → IsErrAnd r (λ x. x ≡ e) → (e ≡ OutOfMemory) ⊎
+    (pruned_refusal row_eq s t (counted opening) ≡ Some e) →
+    AnswersUnlessMemory r (pruned_refusal row_eq s t (whole opening))
+refused_form row_eq s t opening r e is a =
+    handed_on r e (pruned_refusal row_eq s t (whole opening)) is (rw (form_counts row_eq s t opening) at a)
+
 pub refused_by_form : {T W V : Type 0} (row_eq : T → T → Bool) (digest_eq : W → W → Bool) (f : Functions T W)
     (s : Shape) (t : ℕ) (roots : List (List W)) (opening : BorrowedOpening T (List W)) (r : Result V MerkleTreeError)
     (e : MerkleTreeError) → IsErrAnd r (λ x. x ≡ e) → (e ≡ OutOfMemory) ⊎

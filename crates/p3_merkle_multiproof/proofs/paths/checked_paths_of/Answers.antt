@@ -4,7 +4,7 @@ use Rattle.p3_merkle_core.specs.Geometry.{shape_of}
 use Rattle.p3_merkle_core.specs.Nodes.{functions_of}
 use Rattle.p3_merkle_multiproof.specs.Inner.RestoredLevels.{tree_of}
 use Rattle.p3_merkle_multiproof.proofs.PathFacts.{paths_by_levels}
-use Rattle.p3_merkle_multiproof.proofs.RefusalFacts.{refusal_of_cap, refused_by_cap, refused_by_form}
+use Rattle.p3_merkle_multiproof.proofs.RefusalFacts.{out_of_memory, refusal_of_cap, refused_by_cap, refused_by_form}
 use Rattle.p3_merkle_multiproof.proofs.paths.checked_paths_of.Goals as goal
 
 pub returns-in_err-start-clause-answer : goal.returns-in_err-start-clause-answer
@@ -31,6 +31,10 @@ returns-in_err-levels-clause-answer g c =
     commitment.cap_layer commitment.roots.now c.args.opening restorable c.from_residual-in_err-levels.result
     c.in_err-levels.field-0.0 tree made.layer made.opening made.answer c.from_residual-in_err-levels.ensures.1
     c.in_err-levels.ensures.answer
+
+pub returns-in_err-paths_out_of-clause-answer : goal.returns-in_err-paths_out_of-clause-answer
+returns-in_err-paths_out_of-clause-answer g c =
+    out_of_memory c.from_residual-in_err-paths_out_of.result _ c.from_residual-in_err-paths_out_of.ensures.1
 
 pub returns-clause-answer : goal.returns-clause-answer
 returns-clause-answer g c =
