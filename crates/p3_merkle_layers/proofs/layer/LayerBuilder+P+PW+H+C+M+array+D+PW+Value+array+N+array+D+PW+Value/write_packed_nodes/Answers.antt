@@ -1,5 +1,5 @@
 -- Each turn writes the slots of one group.
-use Rattle.std.proofs.Common.{rules, arith, ◌≡◌, ℕ, ◌+◌, ◌*◌, ◌<◌, ◌∙◌, [], refl, length, replicate, slice_index_or}
+use Rattle.std.proofs.Common.{arith, ◌≡◌, ℕ, ◌+◌, ◌*◌, ◌<◌, ◌≤◌, ◌∙◌, [], refl, length, replicate, slice_index_or}
 use Rattle.p3_support.specs.Lists.{lane_of}
 use Rattle.p3_merkle_core.specs.Nodes.{functions_of}
 use Rattle.p3_merkle_lanes.specs.Inner.Slots.{leaf_over, rows_over}
@@ -7,14 +7,25 @@ use Rattle.p3_merkle_layers.specs.Inner.Levels.{slot_above}
 use Rattle.p3_merkle_lanes.proofs.LaneFacts.{group_end, group_more}
 use Rattle.p3_merkle_layers.proofs.layer.LayerBuilder+P+PW+H+C+M+array+D+PW+Value+array+N+array+D+PW+Value.write_packed_nodes.Goals as goal
 
-pub loop-group-init : goal.loop-group-init
-loop-group-init g c = record { long = refl; filled = λ j none. absurd (omega (arith, none)) }
+-- a group ends within all, whatever its width is called
+ends : (g w n m : ℕ) → n * w ≤ m → (v : ℕ) → v ≡ w → g < n → g * v + w ≤ m
+ends g w n m fits v is below = rw is (group_end g w n m below fits)
 
-pub unpack_at-requires : goal.unpack_at-requires
-unpack_at-requires g c =
-    let end = group_end c.loop-group.group g.PW.PackedValue.WIDTH c.args.groups (length c.args.slots.now)
-    c.loop-group-test.true c.requires.fits in
-    (c.requires.digest (omega arith), (search rules, rw (c.WIDTH.ensures, c.loop-group.invariant.long) end))
+pub loop-group-init : goal.loop-group-init
+loop-group-init g c =
+    let w = g.PW.PackedValue.WIDTH in
+    let n = c.args.groups in
+    record {
+      written = record { long = refl; filled = λ j none. absurd (omega (arith, none)) };
+      in_nodes = ends 0 w n c.args.level.now.raw_len c.requires.nodes;
+      in_rows = λ v is below has. ends 0 w n c.args.self.now.rows.height (c.requires.rows has) v is below;
+      in_slots = ends 0 w n (length c.args.slots.now) c.requires.fits;
+    }
+
+pub overflow_mul-first : goal.overflow_mul-first
+overflow_mul-first g c =
+    let end = c.loop-group.invariant.in_slots c.WIDTH.result c.WIDTH.ensures c.loop-group-test.true in
+    omega (arith, end)
 
 pub loop-group-preserved : goal.loop-group-preserved
 loop-group-preserved g c =
@@ -32,11 +43,19 @@ loop-group-preserved g c =
     let kept : (j : ℕ) → j < group * w → slice_index_or c.unpack_at.new.rows j []
     ≡ slice_index_or c.loop-group.slots j [] = rw c.WIDTH.ensures at c.unpack_at.ensures.before in
     let built : (k : ℕ) → k < w → seen k ≡ slot (group * w + k) = rw c.WIDTH.ensures at c.in_ok-digests.ensures in
+    let n = c.args.groups in
+    let long = c.unpack_at.ensures.long ∙ c.loop-group.invariant.written.long in
     record {
-      long = c.unpack_at.ensures.long ∙ c.loop-group.invariant.long;
-      filled = group_more slot seen c.loop-group.slots c.unpack_at.new.rows group w [] written built kept
-          c.loop-group.invariant.filled;
+      written = record {
+        long = long;
+        filled = group_more slot seen c.loop-group.slots c.unpack_at.new.rows group w [] written built kept
+            c.loop-group.invariant.written.filled;
+      };
+      in_nodes = ends (group + 1) w n c.args.level.now.raw_len c.requires.nodes;
+      in_rows = λ v is below has. ends (group + 1) w n c.args.self.now.rows.height (c.requires.rows has) v is below;
+      in_slots = ends (group + 1) w n (length c.unpack_at.new.rows) (rw long c.requires.fits);
     }
 
 pub returns : goal.returns
-returns g c = let end : c.loop-group.group ≡ c.args.groups = omega arith in rw end at c.loop-group.invariant
+returns g c =
+    let end : c.loop-group.group ≡ c.args.groups = omega arith in rw end at c.loop-group.invariant.written

@@ -1,10 +1,10 @@
-use Rattle.std.proofs.Common.{◌*◌, length, replicate}
+use Rattle.std.proofs.Common.{◌≡◌, ◌<◌, ◌≤◌, ◌+◌, ◌*◌, ℕ, length, replicate, true}
 use Rattle.p3_merkle_core.specs.Nodes.{functions_of}
 use Rattle.p3_merkle_layers.specs.Inner.Levels.{slot_above}
 use Rattle.p3_merkle_lanes.specs.Inner.Slots.{leaf_over, rows_over, IsFilled}
 use Rattle.p3_merkle_layers.proofs.layer.LayerBuilder+P+PW+H+C+M+array+D+PW+Value+array+N+array+D+PW+Value.write_packed_nodes.Given as goal
 
--- the groups so far are written
+-- the groups so far are written, and the next one ends where the nodes, the rows and the slots do or before
 abbrev pub invariant-loop-group : goal.invariant-loop-group
 invariant-loop-group g l =
     let f = functions_of (g.H.CryptographicHasher.hash l.self.rows.hash.now)
@@ -12,5 +12,11 @@ invariant-loop-group g l =
     (replicate g.row.D g.PW.PackedValue.default_value) in
     let leaf = leaf_over f.hash f.default_digest (rows_over g.M.Matrix.row_of l.self.rows.matrices.now)
     l.self.rows.height in
-    IsFilled (slot_above f g.row.N leaf l.level l.below)
-    (l.group * g.PW.PackedValue.WIDTH) (length l.initial.slots) l.slots
+    let lanes = g.PW.PackedValue.WIDTH in
+    record {
+      written : IsFilled (slot_above f g.row.N leaf l.level l.below) (l.group * lanes) (length l.initial.slots) l.slots;
+      in_nodes : (w : ℕ) → w ≡ lanes → l.group < l.groups → l.group * w + lanes ≤ l.level.raw_len;
+      in_rows : (w : ℕ) → w ≡ lanes → l.group < l.groups → l.level.has_rows ≡ true →
+          l.group * w + lanes ≤ l.self.rows.height;
+      in_slots : (w : ℕ) → w ≡ lanes → l.group < l.groups → l.group * w + lanes ≤ length l.slots;
+    }
