@@ -1,8 +1,9 @@
 -- Each turn draws the salts of one more matrix.
-use Rattle.std.proofs.Common.{◌≡◌, ◌∙◌, ◌+◌, ◌*◌, List, [], ◌∷◌, ◌++◌, ap, map, subst, sym}
+use Rattle.std.proofs.Common.{◌≡◌, ◌∙◌, ◌+◌, ◌*◌, List, [], ◌∷◌, ◌++◌, ap, append-nil, arith, map, refl, subst}
+use Rattle.std.proofs.Common.{sym}
 use Rattle.std.proofs.lemmas.List.Elements.{All-push}
 use Rattle.std.specs.Vec.Iter.{into_iter_items}
-use Rattle.std.proofs.lemmas.List.{map-append}
+use Rattle.std.proofs.lemmas.List.{map-append, nil_from_length}
 use Rattle.p3_merkle_core.specs.Views.{matrix_of}
 use Rattle.p3_support.specs.Pairs.{left_of, right_of}
 use Rattle.p3_support.specs.RowMajor.{row_width, values_of}
@@ -95,4 +96,36 @@ returns-in_err-push-clause-further g c =
     let after = c.in_ok-salts.ensures.rest ∙ ap (λ h. after_words (h * e) before) c.height.ensures in
     after_next e shown done left c.args.matrices.items c.in-Some.matrix rest start before
     (g.R.Rng.stream c.rand.new.rng) c.in-Some.ensures.steps.0 c.loop-matrix.invariant.same after
+    c.loop-matrix.invariant.drawn
+
+pub returns-in_err-pairs-clause-further : goal.returns-in_err-pairs-clause-further
+returns-in_err-pairs-clause-further g c = (0, refl)
+
+-- none is left
+pub returns-clause-matrices : goal.returns-clause-matrices
+returns-clause-matrices g c =
+    let it = c.loop-matrix.matrix-iterator in
+    let left = nil_from_length (into_iter_items it) (omega (arith, it.rest.ok.0, c.in-None.ensures.steps.0)) in
+    rw (left, append-nil) at c.loop-matrix.invariant.same
+
+pub returns-clause-columns : goal.returns-clause-columns
+returns-clause-columns g c = c.loop-matrix.invariant.columns
+
+pub returns-clause-salted : goal.returns-clause-salted
+returns-clause-salted g c =
+    let it = c.loop-matrix.matrix-iterator in
+    let left = nil_from_length (into_iter_items it) (omega (arith, it.rest.ok.0, c.in-None.ensures.steps.0)) in
+    rw (left, append-nil) at c.loop-matrix.invariant.salted
+
+pub returns-clause-rest : goal.returns-clause-rest
+returns-clause-rest g c =
+    let it = c.loop-matrix.matrix-iterator in
+    let left = nil_from_length (into_iter_items it) (omega (arith, it.rest.ok.0, c.in-None.ensures.steps.0)) in
+    rw left at c.loop-matrix.invariant.end
+
+pub returns-clause-further : goal.returns-clause-further
+returns-clause-further g c =
+    after_some c.args.salt_elems (matrix_of g.M.Matrix.height_of g.M.Matrix.width_of g.M.Matrix.row_of)
+    (map left_of c.loop-matrix.pairs.items) (into_iter_items c.loop-matrix.matrix-iterator) c.args.matrices.items
+    (g.R.Rng.stream c.args.rng.now) (g.R.Rng.stream c.loop-matrix.rng) c.loop-matrix.invariant.same
     c.loop-matrix.invariant.drawn
