@@ -23,6 +23,23 @@ new-requires-clause-width_fits g c =
     c.loop-matrix.invariant.fits in
     rw c.in_ok-salts.ensures.width fits
 
+pub loop-matrix-init : goal.loop-matrix-init
+loop-matrix-init g c =
+    let shown = map (matrix_of g.M.Matrix.height_of g.M.Matrix.width_of g.M.Matrix.row_of) in
+    let of_word = g.T.SaltWord.of_salt_word in
+    let e = c.args.salt_elems in
+    let s = g.R.Rng.stream c.args.rng.now in
+    let all = c.into_iter-matrix-iterator.ensures.into_iter_gives.0 in
+    let none = c.in_ok-pairs.ensures.items in
+    record {
+      fits = rw all c.requires.fits;
+      same = λ i. map left_of (none i) ++ all i;
+      columns = rw none (λ k d past. absurd (omega (arith, past)));
+      salted = λ i. map pair_matrix (none i) ++ salted_matrices of_word e (shown (all i)) s;
+      end = λ i. after_salts e (shown (all i)) s;
+      drawn = rw none refl;
+    }
+
 pub loop-matrix-preserved : goal.loop-matrix-preserved
 loop-matrix-preserved g c =
     let shown = matrix_of g.M.Matrix.height_of g.M.Matrix.width_of g.M.Matrix.row_of in
