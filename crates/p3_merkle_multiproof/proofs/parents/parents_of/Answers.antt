@@ -1,5 +1,8 @@
 -- Each turn is one more node: its parent and its lead are kept if it is the first one under its parent.
-use Rattle.std.proofs.Common.{◌≡◌, ◌∙◌, ℕ, ◌+◌, ◌-◌, ◌<◌, ◌++◌, ◌∷◌, [], List, arith, ap, sym, get_or, inl, inr}
+use Rattle.std.proofs.Common.{◌≡◌, ◌∙◌, ℕ, ◌+◌, ◌-◌, ◌/◌, ◌<◌, ◌++◌, ◌∷◌, [], List, arith, ap, eqb, sym, get_or, inl}
+use Rattle.std.proofs.Common.{inr, map}
+use Rattle.std.specs.List.{dedup}
+use Rattle.std.proofs.lemmas.List.{length-map, take_all}
 use Rattle.std.proofs.lemmas.List.Elements.{All-push}
 use Rattle.std.specs.declared.vec.Vec.{Vec}
 use Rattle.p3_merkle_multiproof.proofs.LeadFacts.{leads_next, parents_next}
@@ -89,3 +92,21 @@ loop-slot-preserved c =
             rw w.above-is (omega (arith, so_far.leads_capacity.0), so_far.leads_capacity.1)
       ];
     }
+
+-- all nodes are passed
+pub returns-clause-parents : goal.returns-clause-parents
+returns-clause-parents c =
+    let parent = λ (j : ℕ). j / c.args.step in
+    let nodes = c.args.nodes.now in
+    let all = take_all c.loop-slot.slot (map parent nodes) (omega (arith, length-map nodes parent)) in
+    c.loop-slot.invariant.parents ∙ ap (dedup eqb) all
+
+pub returns-clause-leads : goal.returns-clause-leads
+returns-clause-leads c = λ node are.
+    let parent = λ (j : ℕ). j / c.args.step in
+    let nodes = c.args.nodes.now in
+    let all = take_all c.loop-slot.slot (map parent nodes) (omega (arith, length-map nodes parent)) in
+    c.loop-slot.invariant.leads node are ∙ ap (dedup eqb) all
+
+pub returns-clause-among : goal.returns-clause-among
+returns-clause-among c = c.loop-slot.invariant.among
