@@ -60,7 +60,8 @@ pub refused_by_form : {T W V : Type 0} (row_eq : T → T → Bool) (digest_eq : 
     AnswersUnlessMemory r (pruned_refusal_under row_eq digest_eq (terms f s t) roots (whole opening))
 refused_by_form row_eq digest_eq f s t roots opening r e is a =
     handed_on r e (pruned_refusal_under row_eq digest_eq (terms f s t) roots (whole opening)) is
-    (first_refuses e (pruned_refusal row_eq s t (whole opening)) (cap_refusal digest_eq (terms f s t) roots (whole opening))
+    (first_refuses e (pruned_refusal row_eq s t (whole opening))
+    (cap_refusal digest_eq (terms f s t) roots (whole opening))
     (rw (form_counts row_eq s t opening) at a))
 
 -- where the form is right, the refusal is that of the cap

@@ -9,14 +9,16 @@ use Rattle.p3_merkle_multiproof.proofs.opened_matrix.OpenedMatrixMatrix.get.Goal
 pub bounds-words-column : goal.bounds-words-column
 bounds-words-column g c =
     let m = c.args.self.now in
-    rw (c.words.ensures, length-opened_row (row_sets m.sets.now) m.leads.now m.place m.width m.among m.fit c.args.row
-    c.requires.row_in) c.requires.column_in
+    let long = length-opened_row (row_sets m.sets.now) m.leads.now m.place m.width m.among m.fit c.args.row
+    c.requires.row_in in
+    rw (c.words.ensures, long) c.requires.column_in
 
 pub returns : goal.returns
 returns g c =
     let m = c.args.self.now in
+    let long = length-opened_row (row_sets m.sets.now) m.leads.now m.place m.width m.among m.fit c.args.row
+    c.requires.row_in in
     let column = c.args.column in
     let x = c.index-words-column.result in
-    slice_get_read (row_in m c.args.row) m.width column x
-    (sym (length-opened_row (row_sets m.sets.now) m.leads.now m.place m.width m.among m.fit c.args.row c.requires.row_in))
-    c.requires.column_in (c.index-words-column.is ∙ ap (λ row. get_or row column x) c.words.ensures)
+    slice_get_read (row_in m c.args.row) m.width column x (sym long) c.requires.column_in
+    (c.index-words-column.is ∙ ap (λ row. get_or row column x) c.words.ensures)
