@@ -8,6 +8,8 @@ use Rattle.std.proofs.lemmas.List.{get_or-map, length-map}
 use Rattle.std.proofs.lemmas.List.Sums.{fails_before_first}
 use Rattle.p3_support.specs.declared.matrix.Dimensions.{Dimensions}
 use Rattle.p3_support.specs.Batches.{widths_of}
+use Rattle.p3_support.specs.Shown.{row_lists, row_sets}
+use Rattle.std.specs.declared.vec.Vec.{Vec}
 use Rattle.p3_merkle_core.specs.Refusals.{first_of, size_refusal}
 use Rattle.p3_merkle_core.specs.declared.error.MerkleTreeError.{MerkleTreeError}
 use Rattle.p3_merkle_core.specs.declared.error.MerkleTreeError.TheVariants.{WrongBatchSize}
@@ -42,17 +44,40 @@ module _ {A B C : Type 0} (join : A × B → C) where
   joined_end done xs ys all end is = sym (append-nil done) ∙ ap (λ (z : List C). done ++ z) (sym (pairs_end xs ys end))
       ∙ is
 
--- as many sets, none of which is refused, are not refused
-pub sets_pass : {T : Type 0} (dimensions : List Dimensions) (sets salts : List (List (List T))) → length salts
-    ≡ length sets →
-    first_of (λ (rows, salt). salt_refusal dimensions rows salt) (zip sets salts) ≡ None →
-    salt_sets_refusal dimensions sets salts ≡ None
-sets_pass {T} dimensions sets salts same none =
+-- where there are as many sets, the first that is refused decides
+pub sets_decide : {T : Type 0} (dimensions : List Dimensions) (sets salts : List (List (List T)))
+    (refusal : Option MerkleTreeError) → length salts ≡ length sets →
+    first_of (λ (rows, salt). salt_refusal dimensions rows salt) (zip sets salts) ≡ refusal →
+    salt_sets_refusal dimensions sets salts ≡ refusal
+sets_decide dimensions sets salts refusal same is =
     let size : size_refusal (length sets) (length salts)
     ≡ None = cond-true (eqb (length sets) (length salts)) None (Some (WrongBatchSize (length sets) (length salts)))
     (eq-eqb (length sets) (length salts) (sym same)) in
     ap (λ (o : Option MerkleTreeError).
-    option_or o (first_of (λ (rows, salt). salt_refusal dimensions rows salt) (zip sets salts))) size ∙ none
+    option_or o (first_of (λ (rows, salt). salt_refusal dimensions rows salt) (zip sets salts))) size ∙ is
+
+-- one set more, which is the first of those that are left
+module _ {T A B C D : Type 0} (dimensions : List Dimensions) (x : Vec (Vec T A) B) (y : Vec (Vec T C) D)
+    (xs left : List (Vec (Vec T A) B)) (ys other : List (Vec (Vec T C) D)) (all : Option MerkleTreeError)
+    (rows : left ≡ x ∷ xs) (salts : other ≡ y ∷ ys)
+    (before : first_of (λ (rows, salt). salt_refusal dimensions rows salt) (zip (row_sets left) (row_sets other)) ≡ all)
+  where
+    -- it passes, so the others decide
+    pub set_passes : salt_refusal dimensions (row_lists x.items) (row_lists y.items) ≡ None →
+        first_of (λ (rows, salt). salt_refusal dimensions rows salt) (zip (row_sets xs) (row_sets ys)) ≡ all
+    set_passes none =
+        let now : first_of (λ (rows, salt). salt_refusal dimensions rows salt) (zip (row_sets left) (row_sets other))
+        ≡ first_of (λ (rows, salt). salt_refusal dimensions rows salt) (zip (row_sets xs) (row_sets ys)) =
+        rw (rows, salts, none) refl in
+        sym now ∙ before
+
+    -- it is refused, and so are all
+    pub set_refused : (e : MerkleTreeError) →
+        salt_refusal dimensions (row_lists x.items) (row_lists y.items) ≡ Some e → all ≡ Some e
+    set_refused e is =
+        let now : first_of (λ (rows, salt). salt_refusal dimensions rows salt) (zip (row_sets left) (row_sets other))
+        ≡ Some e = rw (rows, salts, is) refl in
+        sym before ∙ now
 
 -- a width is above what is left of the greatest number exactly if it passes it with the salts
 pub too_wide_is : (e w : ℕ) → e < 2 ^ 64 → nat_lt (2 ^ 64 - 1 - e) w ≡ nat_le (2 ^ 64) (w + e)
