@@ -1,10 +1,11 @@
 -- Rows that are joined with their salts one by one, and widths that can grow.
 use Rattle.std.proofs.Common.{◌≡◌, ℕ, ◌+◌, ◌-◌, ◌<◌, ◌^◌, ◌⊎◌, inl, inr, List, [], ◌∷◌, ◌++◌, refl, sym, ap, ◌∙◌, arith}
-use Rattle.std.proofs.Common.{length, get_or, map, zip, None, Some, nat_le, nat_lt, append-nil, eq-eqb, eqb, Option}
+use Rattle.std.proofs.Common.{length, get_or, map, zip, None, Some, nat_le, nat_lt, append-nil, append_assoc, eq-eqb}
+use Rattle.std.proofs.Common.{eqb, Option}
 use Rattle.std.specs.List.{position_or_len}
 use Rattle.std.specs.Option.{option_or}
 use Rattle.std.proofs.lemmas.Bool.{cases_lt, cond-true, lt-ltb, leb-false, le-leb, lt-leb, le-ltb}
-use Rattle.std.proofs.lemmas.List.{get_or-map, length-map}
+use Rattle.std.proofs.lemmas.List.{get_or-map, length-map, map-append}
 use Rattle.std.proofs.lemmas.List.Sums.{fails_before_first}
 use Rattle.p3_support.specs.declared.matrix.Dimensions.{Dimensions}
 use Rattle.p3_support.specs.Batches.{widths_of}
@@ -43,6 +44,16 @@ module _ {A B C : Type 0} (join : A × B → C) where
       done ++ map join (zip xs ys) ≡ all → done ≡ all
   joined_end done xs ys all end is = sym (append-nil done) ∙ ap (λ (z : List C). done ++ z) (sym (pairs_end xs ys end))
       ∙ is
+
+  -- one pair more is joined: the first of those that are left
+  pub joined_more : {V : Type 0} (shown : V → C) (old new : List V) (v : V) (x : A) (y : B) (xs left : List A)
+      (ys other : List B) (all : List C) → left ≡ x ∷ xs → other ≡ y ∷ ys → new ≡ old ++ v ∷ [] →
+      shown v ≡ join (x, y) → map shown old ++ map join (zip left other) ≡ all →
+      map shown new ++ map join (zip xs ys) ≡ all
+  joined_more shown old new v x y xs left ys other all first second pushed is before =
+      let now : map shown new ++ map join (zip xs ys) ≡ map shown old ++ map join (zip left other) =
+      rw (first, second, pushed, map-append, is, append_assoc) refl in
+      now ∙ before
 
 -- where there are as many sets, the first that is refused decides
 pub sets_decide : {T : Type 0} (dimensions : List Dimensions) (sets salts : List (List (List T)))
