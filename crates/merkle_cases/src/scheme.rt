@@ -86,7 +86,7 @@ pub fn fold_tree<M: Matrix<u32> + Drop, const N: usize>(
     )
 }
 
-/// Matrices of these dimensions, whose words are the numbers of their rows. They take no memory, whatever their heights.
+/// Matrices of these dimensions, whose words are the numbers of their rows. They take no memory for their rows.
 pub fn tall_matrices(reader: &mut Reader, dimensions: &[Dimensions]) -> Vec<Numbers> {
     let mut matrices = reader.none();
     for Dimensions { width, height } in dimensions {

@@ -37,7 +37,7 @@ fn row_digest<
     }
 }
 
-/// The matrix that stands alone, if there is but one. Each has this height.
+/// The only matrix, if there is one alone. `height` is the height of each.
 fn lone_matrix<T: Copy, M: Matrix<T>>(matrices: &[M], height: usize) -> Option<&M>
     requires { All (λ m. M.height_of m ≡ height) matrices.now }
     ensures high { IfSome result (λ matrix. M.height_of matrix.now ≡ height) }

@@ -22,8 +22,8 @@ fn write_cap<R: CryptoRng, M: Matrix<u32> + Drop, const N: usize, const SALT_ELE
     }
 }
 
-/// `commits_salted | ARITY | CAP | SALTS A ROW | GENERATOR | BATCHES | CAPS`: what a scheme answers to batches, one after
-/// another, which are dimensions or matrices: the cap, or why the batch is refused.
+/// `commits_salted | ARITY | CAP | SALTS A ROW | GENERATOR | BATCHES | CAPS`: what a scheme answers to batches of
+/// matrices or dimensions, one after another: the cap, or why the batch is refused.
 pub fn commits<R: CryptoRng, const N: usize, const SALT_ELEMS: usize>(
     case: &mut Case<'_>,
     scheme: &mut Salted<R, N, SALT_ELEMS>,

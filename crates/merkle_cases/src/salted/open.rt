@@ -8,8 +8,8 @@ use p3_merkle_hiding::hiding_mmcs::{SaltedMultiProof, SaltedProof};
 use p3_merkle_tree::MerkleTreeError;
 use p3_support::mmcs::Mmcs;
 
-/// `open_salted | ARITY | CAP | SALTS A ROW | GENERATOR | MATRICES | INDEX | ROOTS | ROWS | SALTS | SIBLINGS`: the cap and
-/// the opening of a leaf, which is accepted.
+/// `open_salted | ARITY | CAP | SALTS A ROW | GENERATOR | MATRICES | INDEX | ROOTS | ROWS | SALTS | SIBLINGS`: the cap
+/// and the opening of a leaf, which is accepted.
 pub fn open<
     S: Mmcs<
         u32,
@@ -33,8 +33,8 @@ pub fn open<
     Ok(())
 }
 
-/// `pruned_salted | ARITY | CAP | SALTS A ROW | GENERATOR | MATRICES | INDICES | ROOTS | ROW SETS | SALT SETS | DIGESTS`:
-/// the cap and the opening of several leaves, which is accepted.
+/// `pruned_salted | ARITY | CAP | SALTS A ROW | GENERATOR | MATRICES | INDICES | ROOTS | ROW SETS | SALT SETS |
+/// DIGESTS`: the cap and the opening of several leaves, which is accepted.
 pub fn pruned<
     S: Mmcs<
         u32,
