@@ -1,7 +1,8 @@
 //! Pruned openings: the rows of several leaves by one proof, with no digest that the rows give already.
 
 ghost use Rattle.std.specs.Prelude.{◌≡◌, ◌<◌, All, IfOk, IsOk, None, length, map};
-ghost use Rattle.p3_merkle_core.specs.Geometry.{heights, shape_of};
+ghost use Rattle.p3_merkle_core.specs.Caps.{cap_layer};
+ghost use Rattle.p3_merkle_core.specs.Geometry.{heights, shape_of, IsArity};
 ghost use Rattle.p3_merkle_core.specs.Commitments.{cap_over, IsOwn};
 ghost use Rattle.p3_support.specs.Batches.{greatest};
 ghost use Rattle.p3_merkle_core.specs.Nodes.{shape};
@@ -16,6 +17,7 @@ ghost use Rattle.p3_merkle_tree.specs.Schemes.{cap_layer_of, cap_layer_over, ter
 ghost use Rattle.p3_support.specs.Shown.{roots_of};
 
 use crate::mmcs::{MerkleTreeMmcs, Scheme};
+use p3_merkle_core::cap::{CapRule, cap_layer_of};
 use p3_merkle_core::error::MerkleTreeError;
 use p3_merkle_core::geometry::{check_heights, tallest_of};
 use p3_merkle_core::pruning::{
@@ -34,6 +36,31 @@ use p3_support::matrix::{Dimensions, Matrix};
 use p3_support::opening::MerkleCap;
 use p3_support::packed::PackedValue;
 use std::alloc::Global;
+
+/// The number of digests in a pruned proof, as [`Scheme::pruned_len`] says, under the cap of this height by this rule.
+/// The arity must be a power of two from 2 to 2^62.
+///
+/// # Errors
+///
+/// The same.
+fn pruned_len_under(
+    alloc: Global,
+    dimensions: &[Dimensions],
+    arity: usize,
+    rule: CapRule,
+    cap_height: usize,
+    indices: &[usize],
+) -> Result<usize, MerkleTreeError>
+    requires { IsArity arity }
+    ensures answer { AnswersUnlessMemory result (pruned_len_refusal (shape_of arity dimensions.now) indices.now) }
+    ensures least { let s = shape_of arity dimensions.now in
+        IfOk result (λ count. IsLeast s indices.now (cap_layer s rule cap_height) count) }
+{
+    check_heights(dimensions)?;
+    check_indices(tallest_of(dimensions), indices)?;
+    let cap_layer = cap_layer_of(dimensions, arity, rule, cap_height);
+    Ok(pruned_len_of(alloc, dimensions, arity, cap_layer, indices)?)
+}
 
 impl<P: PackedValue, PW: PackedValue, H, C, X, G, const N: usize> Scheme<P, PW, H, C, X, G, N> {
     /// The number of digests in a pruned proof of these indices, over matrices of these dimensions. The proof has a
@@ -57,10 +84,14 @@ impl<P: PackedValue, PW: PackedValue, H, C, X, G, const N: usize> Scheme<P, PW, 
         ensures least { let cap_layer = cap_layer_of self.now dimensions.now in
             IfOk result (λ count. IsLeast (shape_of N dimensions.now) indices.now cap_layer count) }
     {
-        check_heights(dimensions)?;
-        check_indices(tallest_of(dimensions), indices)?;
-        let cap_layer = self.cap_layer(dimensions);
-        Ok(pruned_len_of(alloc, dimensions, N, cap_layer, indices)?)
+        pruned_len_under(
+            alloc,
+            dimensions,
+            N,
+            self.cap_rule,
+            self.cap_height,
+            indices,
+        )
     }
 }
 
