@@ -9,7 +9,8 @@ ghost use Rattle.p3_merkle_core.specs.Gate.{gate_refusal};
 ghost use Rattle.p3_merkle_core.specs.Nodes.{functions_of, layers as layers_over, shape};
 ghost use Rattle.p3_merkle_core.specs.declared.error.MerkleTreeError.TheVariants.{OutOfMemory};
 ghost use Rattle.p3_merkle_core.specs.Refusals.{AnswersUnlessMemory};
-ghost use Rattle.p3_merkle_core.specs.Views.{batch_of};
+ghost use Rattle.p3_merkle_core.specs.Views.{batch_of, heights_in};
+ghost use Rattle.p3_merkle_layers.specs.Inner.Levels.{CanBuild};
 
 use p3_merkle_core::error::MerkleTreeError;
 use p3_merkle_core::steps::KeptSteps;
@@ -87,42 +88,17 @@ impl<F: Copy, W: Copy, M: Matrix<F> + Drop, const N: usize, const D: usize> Merk
             let b = batch_of M.height_of M.width_of M.row_of N leaves.items in
             IfOk result (λ tree. layers_of tree ≡ layers_over f b) }
     {
-        know_arity::<N>();
-        Self::build::<P, PW, H, C>(alloc, hash, compress, leaves)
-    }
-
-    /// The tree over matrices, as [`Tree::new`] has it.
-    fn build<
-        P: PackedValue<Value = F>,
-        PW: PackedValue<Value = W>,
-        H: CryptographicHasher<P, PW, D>,
-        C: PseudoCompressionFunction<PW, N, D>,
-    >(alloc: Global, hash: &H, compress: &C, leaves: Vec<M>) -> Result<Self, MerkleTreeError>
-        requires arity { IsArity N }
-        requires lanes { P.WIDTH ≡ PW.WIDTH }
-        requires some_lane { 1 ≤ P.WIDTH }
-        ensures answer { let b = batch_of M.height_of M.width_of M.row_of N leaves.items in
-            AnswersUnlessMemory result (gate_refusal (heights (shape b))) }
-        ensures matrices { IfOk result (λ tree. matrices_of tree ≡ leaves.items) }
-        ensures layers { let f = functions_of (H.hash hash.now) (C.compression compress.now)
-            (replicate D PW.default_value) in
-            let b = batch_of M.height_of M.width_of M.row_of N leaves.items in
-            IfOk result (λ tree. layers_of tree ≡ layers_over f b) }
-    {
-        let dimensions = batch_dimensions(alloc, &leaves)?;
-        let kept = KeptSteps::new(dimensions, N);
-        let steps = kept.steps();
-        steps.check_heights()?;
+        let steps = lawful_steps(alloc, &leaves, N)?;
         let builder = Builder::<P, PW, H, C, M, [[W; D]; N]> {
             hash,
             compress,
             matrices: &leaves,
             item: PhantomData,
         };
-        let Stack { layers, .. } = builder.layers(alloc, &steps)?;
+        let Stack { layers, .. } = builder.layers(alloc, &steps.steps())?;
         Ok(Tree {
             matrices: leaves,
-            steps: kept,
+            steps,
             layers,
             item: PhantomData,
         })
@@ -166,8 +142,23 @@ impl<F: Copy, W: Copy, M: Matrix<F> + Drop, const N: usize, const D: usize> Merk
     }
 }
 
-/// Tells what is known of a number that passes the test of arities. It does nothing at run time.
-fn know_arity<const N: usize>()
-    requires { IsTrue (is_arity N) }
-    ensures { IsArity N }
-{}
+/// The steps of the tree over matrices. The arity must be a power of two from 2 to 2^62.
+///
+/// # Errors
+///
+/// Those of [`Tree::new`].
+fn lawful_steps<F, M: Matrix<F>>(
+    alloc: Global,
+    matrices: &[M],
+    arity: usize,
+) -> Result<KeptSteps, MerkleTreeError>
+    requires { IsArity arity }
+    ensures answer { AnswersUnlessMemory result (gate_refusal (heights_in M.height_of M.width_of M.row_of matrices.now)) }
+    ensures arity { IfOk result (λ kept. kept.arity ≡ arity) }
+    ensures built { let b = batch_of M.height_of M.width_of M.row_of arity matrices.now in
+        IfOk result (λ kept. CanBuild b kept.dimensions.items) }
+{
+    let kept = KeptSteps::new(batch_dimensions(alloc, matrices)?, arity);
+    kept.steps().check_heights()?;
+    Ok(kept)
+}
