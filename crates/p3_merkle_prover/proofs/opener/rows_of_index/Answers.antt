@@ -1,5 +1,6 @@
 -- Each turn reads one more row.
-use Rattle.std.proofs.Common.{rules, ◌∙◌, refl}
+use Rattle.std.proofs.Common.{rules, ◌∙◌, refl, inl}
+use Rattle.std.proofs.lemmas.Result.{err_from_is_err_and}
 use Rattle.p3_merkle_core.specs.Geometry.{heights}
 use Rattle.p3_merkle_core.specs.Nodes.{shape}
 use Rattle.p3_merkle_prover.specs.Parts.{tree_batch}
@@ -29,3 +30,19 @@ loop-matrix-preserved g c =
     c.loop-matrix.invariant c.in_ok-push.ensures.items
     (c.in_ok-words_of_row.ensures ∙ rw (c.bits_reduced_of.ensures, c.max_height-max_height.ensures, c.height.ensures)
     refl)
+
+pub returns-in_err-rows : goal.returns-in_err-rows
+returns-in_err-rows g c =
+    let gone = err_from_is_err_and c.from_residual.result c.from_residual.ensures.1 in
+    rw (gone.1, gone.2) (record { rows = tt; memory = inl refl })
+
+pub returns-in_err-words_of_row : goal.returns-in_err-words_of_row
+returns-in_err-words_of_row g c =
+    let gone = err_from_is_err_and c.from_residual-in_err-words_of_row.result
+    c.from_residual-in_err-words_of_row.ensures.1 in
+    rw (gone.1, gone.2) (record { rows = tt; memory = inl refl })
+
+pub returns-in_err-push : goal.returns-in_err-push
+returns-in_err-push g c =
+    let gone = err_from_is_err_and c.from_residual-in_err-push.result c.from_residual-in_err-push.ensures.1 in
+    rw (gone.1, gone.2) (record { rows = tt; memory = inl refl })

@@ -1,5 +1,6 @@
 -- Each turn is one level.
-use Rattle.std.proofs.Common.{◌≡◌, ◌∙◌, ◌<◌, ◌≤◌, All, arith, add-one, ap, length, subst, sym}
+use Rattle.std.proofs.Common.{◌≡◌, ◌∙◌, ◌<◌, ◌≤◌, All, arith, add-one, ap, length, subst, sym, inl, refl}
+use Rattle.std.proofs.lemmas.Result.{err_from_is_err_and}
 use Rattle.p3_support.specs.Batches.{greatest}
 use Rattle.p3_merkle_core.specs.Geometry.{Shape, height_limit, heights, levels, step}
 use Rattle.p3_merkle_core.specs.Nodes.{shape}
@@ -118,3 +119,24 @@ pub returns-clause-digests : goal.returns-clause-digests
 returns-clause-digests g c d =
     let h : c.loop-level.level ≡ c.args.cap_layer = omega arith in
     rw h at (c.loop-level.invariant.so_far d)
+
+pub returns-in_err-covered : goal.returns-in_err-covered
+returns-in_err-covered g c =
+    let gone = err_from_is_err_and c.from_residual.result c.from_residual.ensures.1 in
+    rw (gone.1, gone.2) (record { digests = λ d. tt; memory = inl refl })
+
+pub returns-in_err-leaves : goal.returns-in_err-leaves
+returns-in_err-leaves g c =
+    let gone = err_from_is_err_and c.from_residual-in_err-leaves.result c.from_residual-in_err-leaves.ensures.1 in
+    rw (gone.1, gone.2) (record { digests = λ d. tt; memory = inl refl })
+
+pub returns-in_err-digests : goal.returns-in_err-digests
+returns-in_err-digests g c =
+    let gone = err_from_is_err_and c.from_residual-in_err-digests.result c.from_residual-in_err-digests.ensures.1 in
+    rw (gone.1, gone.2) (record { digests = λ d. tt; memory = inl refl })
+
+pub returns-in_err-extend_with_boundary : goal.returns-in_err-extend_with_boundary
+returns-in_err-extend_with_boundary g c =
+    let gone = err_from_is_err_and c.from_residual-in_err-extend_with_boundary.result
+    c.from_residual-in_err-extend_with_boundary.ensures.1 in
+    rw (gone.1, gone.2) (record { digests = λ d. tt; memory = c.in_err-extend_with_boundary.ensures.memory })

@@ -1,5 +1,6 @@
 -- Each turn adds what lies beside one covered node.
 use Rattle.std.proofs.Common.{◌≤◌, ◌++◌, ◌∙◌, ap, arith, sym, append-nil, get_or, length, refl}
+use Rattle.std.proofs.lemmas.Result.{err_from_is_err_and}
 use Rattle.p3_merkle_prover.proofs.BoundaryFacts.{gone_start, others_end, others_more, turned}
 use Rattle.p3_merkle_prover.proofs.pruned.extend_with_boundary.Goals as goal
 
@@ -39,3 +40,14 @@ returns-clause-digests g c d =
     c.loop-place.invariant.so_far d ∙ ap (λ ys. c.args.digests.now.items ++ ys)
     (sym (others_end c.args.layer.now c.args.covered.now c.args.step c.loop-place.place c.loop-place.next d
     (omega arith) c.loop-place.invariant.inside c.loop-place.invariant.gone))
+
+pub returns-in_err-extend_with_piece : goal.returns-in_err-extend_with_piece
+returns-in_err-extend_with_piece g c =
+    let gone = err_from_is_err_and c.from_residual.result c.from_residual.ensures.1 in
+    rw (gone.1, gone.2) (record { digests = λ d. tt; memory = c.in_err-extend_with_piece.ensures.memory })
+
+pub returns-in_err-extend_with_piece-2 : goal.returns-in_err-extend_with_piece-2
+returns-in_err-extend_with_piece-2 g c =
+    let gone = err_from_is_err_and c.from_residual-in_err-extend_with_piece-2.result
+    c.from_residual-in_err-extend_with_piece-2.ensures.1 in
+    rw (gone.1, gone.2) (record { digests = λ d. tt; memory = c.in_err-extend_with_piece-2.ensures.memory })
