@@ -44,6 +44,13 @@ module _ {T M : Type 0} (height width : M → ℕ) (row : M → ℕ → List T) 
       let many = heights_count ms in
       row_below s (height m) i (rw same at (w.on_ladder k (height m) (omega arith))) below
 
+  -- there is one for each matrix
+  pub rows_count : (ms : List M) (i : ℕ) → length (honest_rows (batch_of height width row n ms) i) ≡ length ms
+  rows_count ms i =
+      let b = batch_of height width row n ms in
+      length-map b.matrices (λ x. x.row (halved_index (greatest (heights (shape b))) x.height i))
+      ∙ length-map ms (matrix_of height width row)
+
   -- a row of each matrix, read in input order
   picked_read : (pick : ℕ → ℕ) (ms : List M) (k : ℕ) (m : M) → k < length ms →
       pick (height (get_or ms k m)) < height (get_or ms k m) →
@@ -64,9 +71,7 @@ module _ {T M : Type 0} (height width : M → ℕ) (row : M → ℕ → List T) 
       let b = batch_of height width row n ms in
       let pick : ℕ → ℕ = λ x. halved_index (greatest (heights (shape b))) x i in
       let all = honest_rows b i in
-      let long : length all
-      ≡ length ms = length-map b.matrices (λ x. x.row (halved_index (greatest (heights (shape b))) x.height i))
-      ∙ length-map ms (matrix_of height width row) in
+      let long = rows_count ms i in
       let read : get_or all k (row m (pick (height m))) ≡ row m (pick (height m)) =
       picked_read pick ms k m h (subst (λ x. pick (height x) < height x) is inside)
       ∙ ap (λ x. row x (pick (height x))) (sym is) in

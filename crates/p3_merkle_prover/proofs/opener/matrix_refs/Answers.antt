@@ -1,7 +1,7 @@
 -- One more matrix.
 use Rattle.std.proofs.Common.{sym, ap, ◌∙◌, ◌++◌, ◌∷◌, [], take, inl, refl}
 use Rattle.std.proofs.lemmas.Result.{err_from_is_err_and}
-use Rattle.std.proofs.lemmas.List.{take_more, map-append}
+use Rattle.std.proofs.lemmas.List.{take_more, map-append, take_all}
 use Rattle.p3_merkle_prover.proofs.opener.matrix_refs.Goals as goal
 
 pub loop-matrix-preserved : goal.loop-matrix-preserved
@@ -21,3 +21,12 @@ pub returns-in_err-push : goal.returns-in_err-push
 returns-in_err-push g c =
     let gone = err_from_is_err_and c.from_residual-in_err-push.result c.from_residual-in_err-push.ensures.1 in
     rw (gone.1, gone.2) (record { matrices = tt; memory = inl refl })
+
+pub loop-matrix-init : goal.loop-matrix-init
+loop-matrix-init g c = rw c.in_ok-matrices.ensures.items refl
+
+pub returns-clause-matrices : goal.returns-clause-matrices
+returns-clause-matrices g c =
+    c.loop-matrix.invariant
+    ∙ take_all c.loop-matrix.matrix-index c.deref-matrix-items.result.now c.loop-matrix-test.false
+    ∙ c.deref-matrix-items.ensures.value

@@ -1,10 +1,12 @@
 -- Each turn reads one more row.
-use Rattle.std.proofs.Common.{rules, ◌∙◌, refl, inl}
+use Rattle.std.proofs.Common.{◌∙◌, refl, inl}
 use Rattle.std.proofs.lemmas.Result.{err_from_is_err_and}
+use Rattle.std.proofs.lemmas.List.{take_all}
+use Rattle.p3_merkle_core.specs.Openings.{honest_rows}
 use Rattle.p3_merkle_core.specs.Geometry.{heights}
 use Rattle.p3_merkle_core.specs.Nodes.{shape}
 use Rattle.p3_merkle_prover.specs.Parts.{tree_batch}
-use Rattle.p3_merkle_prover.proofs.RowFacts.{few_halvings, row_inside, row_next}
+use Rattle.p3_merkle_prover.proofs.RowFacts.{few_halvings, row_inside, row_next, rows_count}
 use Rattle.p3_merkle_prover.proofs.opener.rows_of_index.Goals as goal
 
 pub overflow_shr-row : goal.overflow_shr-row
@@ -17,16 +19,19 @@ words_of_row-requires g c =
     rw (c.bits_reduced_of.ensures, c.max_height-max_height.ensures, c.height.ensures)
     (row_inside g.M.Matrix.height_of g.M.Matrix.width_of g.M.Matrix.row_of g.row.N c.args.tree.now.matrices.items
     c.loop-matrix.matrix-index c.args.index c.matrix-item.result
-    c.args.tree.now.lawful c.requires (search rules) (search rules))
+    c.args.tree.now.lawful c.requires (rw c.deref-matrix-items.ensures.value at c.loop-matrix-test.true)
+    (rw c.deref-matrix-items.ensures.value at c.matrix-item.is))
 
 pub loop-matrix-preserved : goal.loop-matrix-preserved
 loop-matrix-preserved g c =
+    let inside = rw c.deref-matrix-items.ensures.value at c.loop-matrix-test.true in
+    let read = rw c.deref-matrix-items.ensures.value at c.matrix-item.is in
     row_next g.M.Matrix.height_of g.M.Matrix.width_of g.M.Matrix.row_of g.row.N (λ row. row.items)
     c.args.tree.now.matrices.items c.loop-matrix.matrix-index c.args.index c.matrix-item.result
-    c.loop-matrix.rows.items c.push.new.self.items c.in_ok-words_of_row.field-0 (search rules) (search rules)
+    c.loop-matrix.rows.items c.push.new.self.items c.in_ok-words_of_row.field-0 inside read
     (row_inside g.M.Matrix.height_of g.M.Matrix.width_of g.M.Matrix.row_of g.row.N c.args.tree.now.matrices.items
     c.loop-matrix.matrix-index c.args.index c.matrix-item.result
-    c.args.tree.now.lawful c.requires (search rules) (search rules))
+    c.args.tree.now.lawful c.requires inside read)
     c.loop-matrix.invariant c.in_ok-push.ensures.items
     (c.in_ok-words_of_row.ensures ∙ rw (c.bits_reduced_of.ensures, c.max_height-max_height.ensures, c.height.ensures)
     refl)
@@ -46,3 +51,14 @@ pub returns-in_err-push : goal.returns-in_err-push
 returns-in_err-push g c =
     let gone = err_from_is_err_and c.from_residual-in_err-push.result c.from_residual-in_err-push.ensures.1 in
     rw (gone.1, gone.2) (record { rows = tt; memory = inl refl })
+
+pub loop-matrix-init : goal.loop-matrix-init
+loop-matrix-init g c = rw c.in_ok-rows.ensures.items refl
+
+pub returns-clause-rows : goal.returns-clause-rows
+returns-clause-rows g c =
+    let passed = rw c.deref-matrix-items.ensures.value at c.loop-matrix-test.false in
+    let count = rows_count g.M.Matrix.height_of g.M.Matrix.width_of g.M.Matrix.row_of g.row.N
+    c.args.tree.now.matrices.items c.args.index in
+    c.loop-matrix.invariant
+    ∙ take_all c.loop-matrix.matrix-index (honest_rows (tree_batch c.args.tree.now) c.args.index) (rw count passed)
