@@ -153,7 +153,8 @@ fn lawful_steps<F, M: Matrix<F>>(
     arity: usize,
 ) -> Result<KeptSteps, MerkleTreeError>
     requires { IsArity arity }
-    ensures answer { AnswersUnlessMemory result (gate_refusal (heights_in M.height_of M.width_of M.row_of matrices.now)) }
+    ensures answer { AnswersUnlessMemory result
+        (gate_refusal (heights_in M.height_of M.width_of M.row_of matrices.now)) }
     ensures arity { IfOk result (λ kept. kept.arity ≡ arity) }
     ensures built { let b = batch_of M.height_of M.width_of M.row_of arity matrices.now in
         IfOk result (λ kept. CanBuild b kept.dimensions.items) }

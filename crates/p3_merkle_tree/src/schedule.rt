@@ -36,8 +36,8 @@ fn schedule_to(
     Ok(steps.schedule_below(alloc, cap_layer)?)
 }
 
-/// The path of the leaf `index` to a layer, as [`Scheme::replay_arity_and_positions`] says. The arity must be a power of
-/// two from 2 to 2^62, and the layer at most the number of levels.
+/// The path of the leaf `index` to a layer, as [`Scheme::replay_arity_and_positions`] says. The arity must be a power
+/// of two from 2 to 2^62, and the layer at most the number of levels.
 ///
 /// # Errors
 ///
