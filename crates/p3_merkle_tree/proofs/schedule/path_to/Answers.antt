@@ -8,3 +8,9 @@ pub siblings_below-expected_proof_len-requires-clause-low : goal.siblings_below-
 siblings_below-expected_proof_len-requires-clause-low c =
     let heights = heights_of c.args.steps.now.dimensions.now in
     tallest_fits heights (none_large_from_lawful heights (c.in_ok-check_heights.ensures.lawful.0 refl))
+
+pub returns-clause-schedule : goal.returns-clause-schedule
+returns-clause-schedule c = c.in_ok-schedule_below.ensures
+
+pub returns-clause-positions : goal.returns-clause-positions
+returns-clause-positions c = c.in_ok-positions_below.ensures
