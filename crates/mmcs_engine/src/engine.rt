@@ -397,7 +397,7 @@ fn check_text<
 /// # Errors
 ///
 /// `AllocError` if memory runs out.
-fn text_of_count(alloc: Global, count: usize) -> Result<Vec<u8>, AllocError>
+pub fn text_of_count(alloc: Global, count: usize) -> Result<Vec<u8>, AllocError>
     ensures { IfOk result (λ text. text.items ≡ ok_line count) }
 {
     let mut text = Vec::new(alloc);

@@ -21,13 +21,13 @@ ghost use Rattle.mmcs_verify_engine.specs.Inner.TypedCollisions.{typed_text};
 
 use crate::collision::collision_text;
 use crate::suite::{Suite, fold_suite, sha_suite};
+use mmcs_engine::engine::text_of_count;
 use mmcs_opening_text::digest::LineDigest;
 use mmcs_opening_text::fault::Fault;
 use mmcs_opening_text::reader::{Pair, Statement, read_pair, read_statement};
 use mmcs_opening_text::request::{Request, Task};
 use mmcs_text::command::{Arity, HashName};
 use mmcs_text::streams::{read_all, write_text};
-use mmcs_text::text::push_labelled;
 use mmcs_text::word::Word;
 use p3_merkle_tree::{
     MerkleCap, MerkleTreeError, MerkleTreeMmcs, PrunedMerklePaths, PrunedOpeningRef,
@@ -188,9 +188,7 @@ where
     let dimensions = request.dimensions.as_slice();
     let found = read_statement::<W, [W; D]>(alloc, dimensions, input)?;
     let count = verify(alloc, scheme, dimensions, found)?;
-    let mut text = Vec::new(alloc);
-    push_labelled(alloc, &mut text, "ok", count)?;
-    Ok(text)
+    Ok(text_of_count(alloc, count)?)
 }
 
 /// How many digests an opening has that its cap accepts.

@@ -1,7 +1,5 @@
-use Rattle.std.proofs.Common.{◌∙◌, ◌++◌, Err, ap}
-use Rattle.std.specs.Prelude.{codes}
+use Rattle.std.proofs.Common.{◌∙◌, Err, ap}
 use Rattle.std.proofs.lemmas.Result.{err_from_is_err_and}
-use Rattle.mmcs_text.specs.Text.{labelled}
 use Rattle.mmcs_verify_engine.proofs.VerdictFacts.{outcome_fault, outcome_text}
 use Rattle.mmcs_verify_engine.proofs.engine.verify_by.Goals as goal
 
@@ -22,5 +20,5 @@ returns-clause-text g c =
     c.args.request.now.setting _ _ _ _ _ c.requires.scheme g.row.N c.requires.arity g.bound-9.hash c.requires.hash
     g.bound-9.words c.requires.words c.as_slice-dimensions.result.now c.args.request.now.dimensions.items
     c.as_slice-dimensions.ensures.value c.args.input.now c.in_ok-found.found c.in_ok-found.ensures.shown
-    c.in_ok-count.count c.push_labelled.new.text.items c.in_ok-count.ensures.answer c.in_ok-count.ensures.count
-    (c.in_ok-push_labelled.ensures ∙ ap (λ t. t ++ labelled (codes "ok") c.in_ok-count.count) c.new-text.ensures.items)
+    c.in_ok-count.count c.in_ok-text_of_count.field-0.items c.in_ok-count.ensures.answer c.in_ok-count.ensures.count
+    c.in_ok-text_of_count.ensures
