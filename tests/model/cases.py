@@ -232,7 +232,7 @@ def open_pruned(fields):
     return f"{notation.print_row_sets(sets)} | {notation.print_numbers(digests)}"
 
 
-def open_salted(fields):
+def salted_open(fields):
     scheme, generator = fields.salted_scheme(), generator_of(fields.take())
     matrices, index = notation.matrices(fields.take()), fields.number()
     refused = open_refusal(scheme, matrices, [index])
@@ -244,7 +244,7 @@ def open_salted(fields):
     return " | ".join([notation.print_numbers(tree.cap()), *parts, notation.print_numbers(path)])
 
 
-def open_salted_pruned(fields):
+def salted_pruned(fields):
     scheme, generator = fields.salted_scheme(), generator_of(fields.take())
     matrices, queries = notation.matrices(fields.take()), fields.numbers()
     refused = open_refusal(scheme, matrices, queries)
@@ -272,12 +272,12 @@ def cap_or_refusal(scheme, generator, text):
     return notation.print_numbers(scheme.salted_tree(matrices, generator).cap())
 
 
-def commits_salted(fields):
+def salted_commits(fields):
     scheme, generator = fields.salted_scheme(), generator_of(fields.take())
     return " / ".join(cap_or_refusal(scheme, generator, batch.strip()) for batch in fields.take().split("/"))
 
 
-def fork_salted(fields):
+def salted_fork(fields):
     scheme, generator, text = fields.salted_scheme(), generator_of(fields.take()), fields.take()
     fork = generator.fork()
     return " / ".join(cap_or_refusal(scheme, source, text) for source in (generator, fork))
@@ -318,7 +318,7 @@ def verify(fields):
     return single_with(fields, fields.scheme(), SINGLE)
 
 
-def verify_salted(fields):
+def salted_verify(fields):
     return single_with(fields, fields.salted_scheme(), SALTED)
 
 
@@ -331,7 +331,7 @@ def verify_pruned(fields):
     return pruned_with(fields, fields.scheme(), PRUNED)
 
 
-def verify_salted_pruned(fields):
+def salted_verify_pruned(fields):
     return pruned_with(fields, fields.salted_scheme(), SALTED_PRUNED)
 
 
@@ -353,7 +353,7 @@ def extract_leaf(fields):
     return extract_with(fields, fields.scheme())
 
 
-def extract_salted(fields):
+def salted_extract(fields):
     return extract_with(fields, fields.salted_scheme())
 
 
@@ -370,7 +370,7 @@ def extract_leaves(fields):
     return extract_pruned_with(fields, fields.scheme())
 
 
-def extract_salted_leaves(fields):
+def salted_extract_pruned(fields):
     return extract_pruned_with(fields, fields.salted_scheme())
 
 
@@ -452,7 +452,7 @@ def sha256_sweep(fields):
     return notation.print_numbers(counted_sweep(fields.scheme(), fields)[:2])
 
 
-def sweep_salted(fields):
+def salted_sweep(fields):
     scheme = fields.salted_scheme()
     fields.take()
     return notation.print_numbers(counted_sweep(scheme, fields))
@@ -465,13 +465,13 @@ KINDS = {
     "steps": steps, "positions": positions, "siblings": siblings, "widths": widths, "heights": heights,
     "layers": layers, "builders": builders, "commit": commit, "shape": shape, "schedule": schedule, "replay": replay,
     "authenticated": authenticated, "pruned_len": pruned_len, "open": open_leaf, "pruned": open_pruned,
-    "open_salted": open_salted, "pruned_salted": open_salted_pruned, "commits_salted": commits_salted,
-    "fork_salted": fork_salted, "leaves": leaves, "kept": kept,
-    "verify": verify, "verify_salted": verify_salted, "verify_pruned": verify_pruned,
-    "verify_salted_pruned": verify_salted_pruned, "restore": restore, "extract": extract_leaf,
-    "extract_pruned": extract_leaves, "extract_salted": extract_salted,
-    "extract_salted_pruned": extract_salted_leaves, "known": known, "sweep": sweep,
-    "sweep_salted": sweep_salted, "sha256_sweep": sha256_sweep,
+    "salted_open": salted_open, "salted_pruned": salted_pruned, "salted_commits": salted_commits,
+    "salted_fork": salted_fork, "leaves": leaves, "kept": kept,
+    "verify": verify, "salted_verify": salted_verify, "verify_pruned": verify_pruned,
+    "salted_verify_pruned": salted_verify_pruned, "restore": restore, "extract": extract_leaf,
+    "extract_pruned": extract_leaves, "salted_extract": salted_extract,
+    "salted_extract_pruned": salted_extract_pruned, "known": known, "sweep": sweep,
+    "salted_sweep": salted_sweep, "sha256_sweep": sha256_sweep,
 }
 
 

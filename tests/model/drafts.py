@@ -57,7 +57,7 @@ class Draft:
 
     def line(self):
         """The fields of its case, without the answer."""
-        kind = "verify" + ("_salted" if self.salts is not None else "") + ("_pruned" if self.is_pruned else "")
+        kind = ("salted_" if self.salts is not None else "") + "verify" + ("_pruned" if self.is_pruned else "")
         rows = notation.print_row_sets if self.is_pruned else notation.print_rows
         index = notation.print_numbers(self.index) if self.is_pruned else str(self.index)
         fields = [kind, str(self.scheme.arity), f"{self.scheme.cap_height}{self.scheme.rule}"]

@@ -16,10 +16,10 @@ verify_pruned | 2 | 0 | 1056801 | 1x8 | - | 2 | 5
 verify_pruned | 2 | 0 | 1056801 | 1x8 | 1 1 | none / 2 | -
 verify_pruned | 2 | 0 | 1056801 | 1x8 | 1 1 | none / none | 1 2 3
 verify_pruned | 2 | 0 | 1056801 | 1x8 | 5 1 | 6 6 / 2 | 32 36 1090 1218
-verify_salted | 2 | 0 | 1 | 32106 | none | 0 | none | 1 | -
-verify_salted | 2 | 0 | 1 | 32106 | none | 0 | none | none | -
-verify_salted_pruned | 2 | 0 | 1 | 32106 | 1x2 | - | - | 1 | -
-verify_salted | 2 | 0 | 1 | 32106 | 1x6 1x4 | 0 | 1 2 | 10 | 1043
+salted_verify | 2 | 0 | 1 | 32106 | none | 0 | none | 1 | -
+salted_verify | 2 | 0 | 1 | 32106 | none | 0 | none | none | -
+salted_verify_pruned | 2 | 0 | 1 | 32106 | 1x2 | - | - | 1 | -
+salted_verify | 2 | 0 | 1 | 32106 | 1x6 1x4 | 0 | 1 2 | 10 | 1043
 """
 
 CAPS = """
@@ -30,9 +30,9 @@ verify | 8 | {cap} | 34 35 | 1x2 | 1 | 4 | -
 verify_pruned | 2 | {cap} | - | 1x4 | 2 | 3 | -
 verify_pruned | 2 | {cap} | - | 1x4 | - | - | -
 verify_pruned | 4 | {cap} | 33 | 1x4 1x1 | 2 0 | 3; 5 / 1; 5 | -
-verify_salted | 2 | {cap} | 1 | - | 1x2 | 0 | 1 | 10 | 1043
-verify_salted | 4 | {cap} | 2 | 31844 | 1x2 | 0 | 1 | 10 | -
-verify_salted_pruned | 2 | {cap} | 1 | - | 1x2 | 0 | 1 | 10 | 1043
+salted_verify | 2 | {cap} | 1 | - | 1x2 | 0 | 1 | 10 | 1043
+salted_verify | 4 | {cap} | 2 | 31844 | 1x2 | 0 | 1 | 10 | -
+salted_verify_pruned | 2 | {cap} | 1 | - | 1x2 | 0 | 1 | 10 | 1043
 schedule | 2 | {cap} | 4611686018427387904 2
 schedule | 8 | {cap} | 4611686018427387904
 pruned_len | 2 | {cap} | 4611686018427387904 | 4611686018427387903 0
@@ -44,14 +44,14 @@ commit | 2 | {cap} | 1, 2, 3; 4, 5
 WIDTHS = """
 verify | 2 | 0 | 31843 | {first}x2 {second}x1 | 0 | 1; 5 | 33
 verify_pruned | 2 | 0 | 31843 | {first}x2 {second}x1 | 0 | 1; 5 | 33
-verify_salted | 2 | 0 | 1 | 0 | {first}x2 {second}x1 | 0 | -; - | 1; 2 | 33
-verify_salted_pruned | 4 | 0 | 2 | 0 | {first}x2 {second}x1 | - | - | - | -
+salted_verify | 2 | 0 | 1 | 0 | {first}x2 {second}x1 | 0 | -; - | 1; 2 | 33
+salted_verify_pruned | 4 | 0 | 2 | 0 | {first}x2 {second}x1 | - | - | - | -
 """
 
 HEIGHT_LISTS = """
 verify | {arity} | 0 | - | {sizes} | 0 | 1; 2; 3 | -
 verify_pruned | {arity} | 0 | 7 | {sizes} | - | - | -
-verify_salted | {arity} | 0 | 1 | - | {sizes} | 0 | 1; 2; 3 | 4; 5; 6 | -
+salted_verify | {arity} | 0 | 1 | - | {sizes} | 0 | 1; 2; 3 | 4; 5; 6 | -
 schedule | {arity} | 0 | {heights}
 pruned_len | {arity} | 0 | {heights} | {queries}
 """

@@ -8,8 +8,8 @@ WHY = {
     ("no rows at all", "a shared row"): "the leaves are the only layer, and each has an index of its own",
     ("verify", "no rows at all", "alone"): "no index is below a height of 0",
     ("replay", "no rows at all", "alone"): "no index is below a height of 0",
-    ("verify_salted", "no rows at all", "alone"): "no index is below a height of 0",
-    ("verify_salted", "a width past the limit", "alone"): "no row with its salts has as many words",
+    ("salted_verify", "no rows at all", "alone"): "no index is below a height of 0",
+    ("salted_verify", "a width past the limit", "alone"): "no row with its salts has as many words",
     ("digests without a query", "most"): NO_QUERY,
 }
 for later in ("the index", "a repeat", "the number of digests", "the number of rows", "a width", "a width with salts",

@@ -104,9 +104,9 @@ def add_tree(trial):
 def add_salted_tree(trial):
     matrices = notation.print_matrices(trial.matrices)
     head = f"{trial.head} | {trial.scheme.salts} | {trial.seed} | {matrices}"
-    trial.add_honest(f"open_salted | {head} | {trial.index}")
-    trial.add_honest(f"pruned_salted | {head} | {notation.print_numbers(trial.queries)}")
-    trial.add_honest(f"fork_salted | {head}")
+    trial.add_honest(f"salted_open | {head} | {trial.index}")
+    trial.add_honest(f"salted_pruned | {head} | {notation.print_numbers(trial.queries)}")
+    trial.add_honest(f"salted_fork | {head}")
 
 
 def extraction_line(first, second):

@@ -2,19 +2,19 @@
 //!
 //! A line is a keyword, fields and the expected answer, with `|` between them. A blank line is no case, nor is one that
 //! begins with `#`. Trees are those of the fold functions with digests of one word, but for the kinds whose keyword
-//! begins with `sha256`. A new kind of case is an arm of [`answer`], or of [`answer_at`] where its first field is an
-//! arity, and a function that reads all its fields and then answers.
+//! begins with `sha256`. A new kind of case is an arm of [`answer`], of [`answer_at`] where its first field is an arity,
+//! or of [`answered`] where any scheme answers it, and a function that reads all its fields and then answers.
 #![tactic(auto)]
 
 ghost use Rattle.std.specs.Prelude.{◌≤◌, IsTrue};
 ghost use Rattle.p3_merkle_core.specs.Geometry.{is_arity};
 
 mod agreement;
+mod answered;
 mod authenticated;
 mod batches;
 mod builders;
 mod case;
-mod commit;
 mod committed;
 mod extract;
 mod fields;
@@ -22,7 +22,10 @@ mod geometry;
 mod hash;
 mod heights;
 mod known;
+mod layers;
 mod open;
+mod openings;
+mod plain;
 mod pruned;
 mod queries;
 mod reader;
@@ -32,12 +35,15 @@ mod scheme;
 mod sha256;
 mod sweep;
 mod text;
+mod tried;
 mod twin;
 mod verify;
 mod widest;
 
+use crate::answered::answered;
 use crate::case::Case;
 use crate::fields::Fault;
+use crate::scheme::{ROOT, fold_scheme};
 use crate::text::Answer;
 use p3_merkle_tree::CapRule;
 use std::alloc::Global;
@@ -66,37 +72,35 @@ fn answer_at<const N: usize>(case: &mut Case<'_>, keyword: &str) -> Result<(), F
     }
 }
 
-/// The same of the kinds that build a tree.
+/// The same of the kinds that build a tree or take a pruned opening.
 fn answer_of_tree<const N: usize>(case: &mut Case<'_>, keyword: &str) -> Result<(), Fault>
     requires arity { IsTrue (is_arity N) }
     requires few { N ≤ 16 }
 {
     match keyword {
         "shape" => heights::shape::<N>(case),
-        "commit" => commit::commit::<N>(case),
-        "layers" => commit::layers::<N>(case),
+        "layers" => layers::layers::<N>(case),
         "builders" => builders::builders::<N>(case),
-        "open" | "leaves" | "kept" => open::opened::<N>(case, keyword),
-        "pruned" => pruned::pruned::<N>(case),
-        "sweep" => sweep::sweep::<N>(case),
-        _ => answer_to_opening::<N>(case, keyword),
+        "pruned_len" => pruned::pruned_len::<N>(case),
+        "restore" => pruned::restore::<N>(case),
+        _ => answer_of_scheme::<N>(case, keyword),
     }
 }
 
-/// The same of the kinds that check openings.
-fn answer_to_opening<const N: usize>(case: &mut Case<'_>, keyword: &str) -> Result<(), Fault>
+/// The same of the kinds that schemes answer with salts and without.
+fn answer_of_scheme<const N: usize>(case: &mut Case<'_>, keyword: &str) -> Result<(), Fault>
     requires arity { IsTrue (is_arity N) }
     requires few { N ≤ 16 }
 {
-    match keyword {
-        "pruned_len" => pruned::pruned_len::<N>(case),
-        "verify_pruned" => pruned::verify_pruned::<N>(case),
-        "restore" => pruned::restore::<N>(case),
-        "verify" => verify::verify::<N>(case),
-        "extract" => extract::extract::<N>(case),
-        "extract_pruned" => extract::extract_pruned::<N>(case),
-        _ => salted::salted::<N>(case, keyword),
+    if let Some(kind) = keyword.strip_prefix("salted_") {
+        return salted::salted::<N>(case, kind);
     }
+    let cap = if keyword == "kept" {
+        ROOT
+    } else {
+        case.fields.cap()
+    };
+    answered::<_, N>(case, keyword, cap, &mut fold_scheme::<N>(cap))
 }
 
 /// Writes what the calls of a kind of case answer to the fields of a line.

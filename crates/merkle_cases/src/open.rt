@@ -1,60 +1,48 @@
-//! What is opened of a tree, and that it is accepted.
-
-ghost use Rattle.std.specs.Prelude.{◌≤◌, IsTrue};
-ghost use Rattle.p3_merkle_core.specs.Geometry.{is_arity};
+//! What is committed to and opened by a scheme, and that its openings are accepted.
 
 use crate::case::Case;
-use crate::committed::{Committed, accepted, commit_shown};
+use crate::committed::{Committed, accepted, accepted_leaves, commit_shown};
 use crate::fields::Fault;
-use crate::scheme::{ROOT, Rows, fold_scheme};
+use crate::scheme::Rows;
+use crate::tried::Tried;
 use p3_merkle_tree::MerkleTreeError;
 use p3_support::mmcs::Mmcs;
 use std::alloc::Global;
 
-/// Writes what the calls of a kind of case that opens single leaves answer at an arity.
-pub fn opened<const N: usize>(case: &mut Case<'_>, keyword: &str) -> Result<(), Fault>
-    requires arity { IsTrue (is_arity N) }
-    requires few { N ≤ 16 }
-{
-    let cap = if keyword == "kept" {
-        ROOT
-    } else {
-        case.fields.cap()
-    };
-    let mut scheme = fold_scheme::<N>(cap);
-    match keyword {
-        "open" => open(case, &mut scheme),
-        "leaves" => leaves(case, &mut scheme),
-        _ => kept(case, &mut scheme),
-    }
+/// `commit | ARITY | CAP | MATRICES | CAP`.
+pub fn commit<S: Tried>(case: &mut Case<'_>, scheme: &mut S) -> Result<(), Fault> {
+    let matrices = case.fields.matrices();
+    let committed = commit_shown(case.alloc, scheme, matrices)?;
+    case.answer.digests(committed.cap.roots());
+    Ok(())
 }
 
-/// `open | ARITY | CAP | MATRICES | INDEX | ROWS | SIBLINGS`: the opening of a leaf, which is accepted.
-fn open<S: Mmcs<u32, Rows, Error = MerkleTreeError, Proof = Vec<[u32; 1]>>>(
-    case: &mut Case<'_>,
-    scheme: &mut S,
-) -> Result<(), Fault> {
+/// `open | ARITY | CAP | MATRICES | INDEX | ROWS | SIBLINGS`: the opening of a leaf, which is accepted. With salts:
+/// `salted_open | ARITY | CAP | SALTS A ROW | GENERATOR | MATRICES | INDEX | ROOTS | ROWS | SALTS | SIBLINGS`.
+pub fn open<S: Tried>(case: &mut Case<'_>, scheme: &mut S) -> Result<(), Fault> {
     let matrices = case.fields.matrices();
     let index = case.fields.number();
     let committed = commit_shown(case.alloc, scheme, matrices)?;
     let opening = accepted(case.alloc, &*scheme, &committed, index)?;
+    S::write_salted_cap(&committed.cap, &mut case.answer);
     case.answer.rows(&opening.opened_values);
     case.answer.push(" | ");
-    case.answer.digests(&opening.opening_proof);
+    S::write_proof(&opening.opening_proof, &mut case.answer);
     Ok(())
 }
 
-/// `leaves | ARITY | CAP | HEIGHTS | LEAVES accepted`: the opening of each leaf is accepted.
-fn leaves<S: Mmcs<u32, Rows, Error = MerkleTreeError>>(
-    case: &mut Case<'_>,
-    scheme: &mut S,
-) -> Result<(), Fault> {
-    let dimensions = case.fields.columns();
-    let matrices = case.fields.reader.numbered(&dimensions);
+/// `pruned | ARITY | CAP | MATRICES | INDICES | ROW SETS | DIGESTS`: the rows of each query, and the proof for all of
+/// them, which is accepted. With salts: `salted_pruned | ARITY | CAP | SALTS A ROW | GENERATOR | MATRICES | INDICES |
+/// ROOTS | ROW SETS | SALT SETS | DIGESTS`.
+pub fn pruned<S: Tried>(case: &mut Case<'_>, scheme: &mut S) -> Result<(), Fault> {
+    let matrices = case.fields.matrices();
+    let indices = case.fields.numbers();
     let committed = commit_shown(case.alloc, scheme, matrices)?;
-    case.answer
-        .number(accepted_count(case.alloc, &*scheme, &committed)?);
-    case.answer.push(" accepted");
+    let (rows, proof) = accepted_leaves(case.alloc, &*scheme, &committed, &indices)?;
+    S::write_salted_cap(&committed.cap, &mut case.answer);
+    case.answer.row_sets(&rows);
+    case.answer.push(" | ");
+    S::write_multi_proof(&proof, &mut case.answer);
     Ok(())
 }
 
@@ -71,11 +59,19 @@ fn accepted_count<S: Mmcs<u32, Rows, Error = MerkleTreeError>>(
     Ok(leaves)
 }
 
+/// `leaves | ARITY | CAP | HEIGHTS | LEAVES accepted`: the opening of each leaf is accepted.
+pub fn leaves<S: Tried>(case: &mut Case<'_>, scheme: &mut S) -> Result<(), Fault> {
+    let dimensions = case.fields.columns();
+    let matrices = case.fields.reader.numbered(&dimensions);
+    let committed = commit_shown(case.alloc, scheme, matrices)?;
+    case.answer
+        .number(accepted_count(case.alloc, &*scheme, &committed)?);
+    case.answer.push(" accepted");
+    Ok(())
+}
+
 /// `kept | ARITY | HEIGHTS | GREATEST HEIGHT | DIMENSIONS`: what a tree over columns shows of them.
-fn kept<S: Mmcs<u32, Rows, Error = MerkleTreeError>>(
-    case: &mut Case<'_>,
-    scheme: &mut S,
-) -> Result<(), Fault> {
+pub fn kept<S: Tried>(case: &mut Case<'_>, scheme: &mut S) -> Result<(), Fault> {
     let columns = case.fields.columns();
     let matrices = case.fields.reader.numbered(&columns);
     let committed = commit_shown(case.alloc, scheme, matrices)?;

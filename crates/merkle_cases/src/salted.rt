@@ -1,14 +1,12 @@
-//! Openings with salts: one or two salts a row, or the greatest number of them.
+//! Openings with salts: one, two or four salts a row, or the greatest number of them.
 
 ghost use Rattle.std.specs.Prelude.{◌≤◌, IsTrue};
 ghost use Rattle.p3_merkle_core.specs.Geometry.{is_arity};
 
-mod check;
 mod commits;
-mod extract;
-mod open;
-mod sweep;
+mod tried;
 
+use crate::answered::answered;
 use crate::case::Case;
 use crate::fields::Fault;
 use crate::queries::generator_of;
@@ -31,11 +29,8 @@ pub type Salted<R, const N: usize, const SALT_ELEMS: usize> = MerkleTreeHidingMm
     SALT_ELEMS,
 >;
 
-/// That scheme with the salts of ChaCha20.
-pub type SaltedScheme<const N: usize, const SALT_ELEMS: usize> = Salted<ChaCha20Rng, N, SALT_ELEMS>;
-
 /// The scheme with such a cap, whose salts come out of this generator.
-pub fn salted_scheme<R, const N: usize, const SALT_ELEMS: usize>(
+fn salted_scheme<R, const N: usize, const SALT_ELEMS: usize>(
     cap: Cap,
     rng: R,
 ) -> Salted<R, N, SALT_ELEMS>
@@ -54,120 +49,91 @@ pub fn salted_scheme<R, const N: usize, const SALT_ELEMS: usize>(
 
 /// Writes what the calls of a kind of case with salts answer at an arity. The next fields are the cap and the number of
 /// salts a row.
-pub fn salted<const N: usize>(case: &mut Case<'_>, keyword: &str) -> Result<(), Fault>
+pub fn salted<const N: usize>(case: &mut Case<'_>, kind: &str) -> Result<(), Fault>
     requires arity { IsTrue (is_arity N) }
     requires few { N ≤ 16 }
 {
     let cap = case.fields.cap();
     match case.fields.take() {
-        "1" => drawn_or_checked::<N, 1>(case, keyword, cap),
-        "2" => drawn_or_checked::<N, 2>(case, keyword, cap),
-        "4" => drawn_or_checked::<N, 4>(case, keyword, cap),
-        "18446744073709551615" => { checked::<N, 18_446_744_073_709_551_615>(case, keyword, cap) }
+        "1" => drawn::<N, 1>(case, kind, cap),
+        "2" => drawn::<N, 2>(case, kind, cap),
+        "4" => drawn::<N, 4>(case, kind, cap),
+        "18446744073709551615" => drawn::<N, 18_446_744_073_709_551_615>(case, kind, cap),
         _ => Err(Fault::Unreadable("there are no schemes of as many salts")),
     }
 }
 
-/// The same at a number of salts a row.
-fn drawn_or_checked<const N: usize, const SALT_ELEMS: usize>(
-    case: &mut Case<'_>,
-    keyword: &str,
-    cap: Cap,
-) -> Result<(), Fault>
-    requires arity { IsTrue (is_arity N) }
-    requires few { N ≤ 16 }
-    requires some_salt { 1 ≤ SALT_ELEMS }
-{
-    match keyword {
-        "open_salted" | "pruned_salted" | "commits_salted" => {
-            drawn_anyhow::<N, SALT_ELEMS>(case, keyword, cap)
-        }
-        "fork_salted" | "sweep_salted" => drawn_at_random::<N, SALT_ELEMS>(case, keyword, cap),
-        _ => checked::<N, SALT_ELEMS>(case, keyword, cap),
-    }
+/// Whether a kind of case only checks openings, so that no salts are drawn.
+fn is_check(kind: &str) -> bool {
+    kind.starts_with("verify") || kind.starts_with("extract")
 }
 
-/// The same of the kinds that take salts from any generator. The next field is a seed of ChaCha20, or `tens` for the
+/// The same at a number of salts a row. Where salts are drawn, the next field is a seed of ChaCha20, or `tens` for the
 /// salts 10, 20, 30 and so on, or `hundred` for 100, 101, 102 and so on.
-fn drawn_anyhow<const N: usize, const SALT_ELEMS: usize>(
+fn drawn<const N: usize, const SALT_ELEMS: usize>(
     case: &mut Case<'_>,
-    keyword: &str,
+    kind: &str,
     cap: Cap,
 ) -> Result<(), Fault>
     requires arity { IsTrue (is_arity N) }
     requires few { N ≤ 16 }
     requires some_salt { 1 ≤ SALT_ELEMS }
 {
-    match case.fields.take() {
-        "tens" => drawn(
-            case,
-            keyword,
-            &mut salted_scheme::<_, N, SALT_ELEMS>(cap, Counting::<10>(0)),
-        ),
-        "hundred" => drawn(
-            case,
-            keyword,
-            &mut salted_scheme::<_, N, SALT_ELEMS>(cap, Counting::<1>(99)),
-        ),
+    let generator = if is_check(kind) {
+        "0"
+    } else {
+        case.fields.take()
+    };
+    match generator {
+        "tens" => {
+            let mut scheme = salted_scheme::<_, N, SALT_ELEMS>(cap, Counting::<10>(0));
+            answered_or_committed(case, kind, cap, &mut scheme)
+        }
+        "hundred" => {
+            let mut scheme = salted_scheme::<_, N, SALT_ELEMS>(cap, Counting::<1>(99));
+            answered_or_committed(case, kind, cap, &mut scheme)
+        }
         seed => {
             let seed = case.fields.reader.number(seed);
             let rng = generator_of(&mut case.fields.reader, seed);
-            drawn(
+            at_random(
                 case,
-                keyword,
+                kind,
+                cap,
                 &mut salted_scheme::<_, N, SALT_ELEMS>(cap, rng),
             )
         }
     }
 }
 
-/// The same of a scheme.
-fn drawn<R: CryptoRng, const N: usize, const SALT_ELEMS: usize>(
+/// The same of a scheme that takes its salts from ChaCha20.
+fn at_random<const N: usize, const SALT_ELEMS: usize>(
     case: &mut Case<'_>,
-    keyword: &str,
+    kind: &str,
+    cap: Cap,
+    scheme: &mut Salted<ChaCha20Rng, N, SALT_ELEMS>,
+) -> Result<(), Fault>
+    requires arity { IsTrue (is_arity N) }
+    requires few { N ≤ 16 }
+{
+    match kind {
+        "fork" => commits::fork(case, scheme),
+        _ => answered_or_committed(case, kind, cap, scheme),
+    }
+}
+
+/// The same of a scheme that takes its salts from any generator.
+fn answered_or_committed<R: CryptoRng, const N: usize, const SALT_ELEMS: usize>(
+    case: &mut Case<'_>,
+    kind: &str,
+    cap: Cap,
     scheme: &mut Salted<R, N, SALT_ELEMS>,
-) -> Result<(), Fault> {
-    match keyword {
-        "open_salted" => open::open(case, scheme),
-        "pruned_salted" => open::pruned(case, scheme),
-        _ => commits::commits(case, scheme),
-    }
-}
-
-/// The same of the kinds that take salts from ChaCha20 alone. The next field is its seed.
-fn drawn_at_random<const N: usize, const SALT_ELEMS: usize>(
-    case: &mut Case<'_>,
-    keyword: &str,
-    cap: Cap,
 ) -> Result<(), Fault>
     requires arity { IsTrue (is_arity N) }
     requires few { N ≤ 16 }
-    requires some_salt { 1 ≤ SALT_ELEMS }
 {
-    let seed = case.fields.number();
-    let rng = generator_of(&mut case.fields.reader, seed);
-    let mut scheme = salted_scheme::<_, N, SALT_ELEMS>(cap, rng);
-    match keyword {
-        "fork_salted" => commits::fork(case, &mut scheme),
-        _ => sweep::sweep(case, cap, &mut scheme),
-    }
-}
-
-/// The same of the kinds that check openings.
-fn checked<const N: usize, const SALT_ELEMS: usize>(
-    case: &mut Case<'_>,
-    keyword: &str,
-    cap: Cap,
-) -> Result<(), Fault>
-    requires arity { IsTrue (is_arity N) }
-    requires few { N ≤ 16 }
-    requires some_salt { 1 ≤ SALT_ELEMS }
-{
-    match keyword {
-        "verify_salted" => check::verify::<N, SALT_ELEMS>(case, cap),
-        "verify_salted_pruned" => check::verify_pruned::<N, SALT_ELEMS>(case, cap),
-        "extract_salted" => extract::extract::<N, SALT_ELEMS>(case, cap),
-        "extract_salted_pruned" => { extract::extract_pruned::<N, SALT_ELEMS>(case, cap) }
-        _ => Err(Fault::Unreadable("there is no such kind of case")),
+    match kind {
+        "commits" => commits::commits(case, scheme),
+        _ => answered::<_, N>(case, kind, cap, scheme),
     }
 }

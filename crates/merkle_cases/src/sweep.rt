@@ -9,54 +9,16 @@ use crate::committed::{Committed, OpenedLeaves, accepted, accepted_leaves, commi
 use crate::fields::{Fault, Fields};
 use crate::queries::lists_of;
 use crate::reader::Reader;
-use crate::scheme::{FoldCommitted, FoldOpening, FoldScheme, Rows, fold_scheme};
+use crate::scheme::{Cap, FoldCap, fold_scheme};
 use crate::text::Answer;
+use crate::tried::{FoldCollision, Tried};
 use crate::twin::{
     collides_at, collides_first_at, has_twins, place_of, place_of_first, twin_rows, twin_sets,
 };
 use p3_merkle_core::geometry::tallest_of;
-use p3_merkle_tree::{
-    BatchOpening, BatchOpeningRef, Collision, MerkleAuthPath, MerkleTreeError, Place,
-    PrunedMerklePaths, PrunedOpeningRef,
-};
+use p3_merkle_tree::{BatchOpening, BatchOpeningRef, MerkleTreeError, Place, PrunedOpeningRef};
 use p3_support::matrix::Dimensions;
-use p3_support::mmcs::Mmcs;
 use std::alloc::Global;
-
-/// A scheme, with what a sweep asks of it beside the calls that all schemes share.
-pub trait Swept: Mmcs<u32, Rows, Error = MerkleTreeError> {
-    /// How many digests the proof of several leaves has.
-    fn digests(&self, proof: &Self::MultiProof) -> usize;
-
-    /// Fails where the opening of several leaves is not as it should be, though it is accepted.
-    fn check(
-        &self,
-        alloc: Global,
-        committed: &Committed<Self::Commitment, Self::ProverData>,
-        indices: &[usize],
-        leaves: &OpenedLeaves<u32, Self::MultiProof>,
-    ) -> Result<(), Fault>;
-
-    /// What the opening of a leaf and the same with other rows lead to.
-    fn collision(
-        &self,
-        alloc: Global,
-        committed: &Committed<Self::Commitment, Self::ProverData>,
-        index: usize,
-        leaf: &BatchOpening<u32, Self::Proof>,
-        rows: &[Vec<u32>],
-    ) -> Result<Option<Collision<u32, u32, 1>>, MerkleTreeError>;
-
-    /// What the opening of several leaves and the same with other rows lead to.
-    fn collision_of_leaves(
-        &self,
-        alloc: Global,
-        committed: &Committed<Self::Commitment, Self::ProverData>,
-        indices: &[usize],
-        leaves: &OpenedLeaves<u32, Self::MultiProof>,
-        rows: &[Vec<Vec<u32>>],
-    ) -> Result<Option<(usize, usize, Collision<u32, u32, 1>)>, MerkleTreeError>;
-}
 
 /// What a sweep has tried.
 #[derive(Clone, Copy)]
@@ -104,11 +66,37 @@ impl Counts {
     }
 }
 
-/// Fails where a leaf whose row of a matrix has a twin collides elsewhere than where this row is hashed.
-fn check_leaf_twins<S: Swept>(
+/// What the opening of a leaf and the same with the twin of its row of a matrix lead to.
+fn leaf_collision<S: Tried>(
     alloc: Global,
     scheme: &S,
-    committed: &Committed<S::Commitment, S::ProverData>,
+    committed: &Committed<FoldCap, S::ProverData>,
+    index: usize,
+    leaf: &BatchOpening<u32, S::Proof>,
+    matrix: usize,
+) -> Result<Option<FoldCollision>, MerkleTreeError> {
+    let rows = twin_rows(alloc, &leaf.opened_values, matrix)?;
+    let twin = BatchOpeningRef::new(&rows, &leaf.opening_proof);
+    let Committed {
+        cap,
+        dimensions,
+        ..
+    } = committed;
+    scheme.extract(
+        alloc,
+        cap,
+        dimensions,
+        [index, index],
+        BatchOpeningRef::from(leaf),
+        twin,
+    )
+}
+
+/// Fails where a leaf whose row of a matrix has a twin collides elsewhere than where this row is hashed.
+fn check_leaf_twins<S: Tried>(
+    alloc: Global,
+    scheme: &S,
+    committed: &Committed<FoldCap, S::ProverData>,
     steps: &[usize],
     index: usize,
     counts: &mut Counts,
@@ -117,8 +105,7 @@ fn check_leaf_twins<S: Swept>(
     let dimensions = &committed.dimensions;
     for (matrix, Dimensions { height, .. }) in dimensions.iter().enumerate() {
         let place = place_of(dimensions, steps, *height);
-        let twin = twin_rows(alloc, &leaf.opened_values, matrix)?;
-        let found = scheme.collision(alloc, committed, index, &leaf, &twin)?;
+        let found = leaf_collision(alloc, scheme, committed, index, &leaf, matrix)?;
         if !collides_at(&found, &place) {
             return Err(Fault::Wrong("a leaf collides elsewhere with its twin"));
         }
@@ -127,12 +114,33 @@ fn check_leaf_twins<S: Swept>(
     Ok(())
 }
 
-/// The same of the leaves of some queries that are opened by one proof: the first of them collides, and nothing does
-/// where there is no query.
-fn check_twins<S: Swept>(
+/// What the opening of several leaves and the same with the twins of their rows of a matrix lead to.
+fn collision_of_twins<S: Tried>(
     alloc: Global,
     scheme: &S,
-    committed: &Committed<S::Commitment, S::ProverData>,
+    committed: &Committed<FoldCap, S::ProverData>,
+    indices: &[usize],
+    leaves: &OpenedLeaves<u32, S::MultiProof>,
+    matrix: usize,
+) -> Result<Option<(usize, usize, FoldCollision)>, MerkleTreeError> {
+    let (own, proof) = leaves;
+    let rows = twin_sets(alloc, own, matrix)?;
+    let twin = PrunedOpeningRef::new(indices, &rows, proof);
+    let Committed {
+        cap,
+        dimensions,
+        ..
+    } = committed;
+    let honest = PrunedOpeningRef::new(indices, own, proof);
+    scheme.extract_multi(alloc, cap, dimensions, honest, twin)
+}
+
+/// The same of the leaves of some queries that are opened by one proof: the first of them collides, and nothing does
+/// where there is no query.
+fn check_twins<S: Tried>(
+    alloc: Global,
+    scheme: &S,
+    committed: &Committed<FoldCap, S::ProverData>,
     steps: &[usize],
     indices: &[usize],
     leaves: &OpenedLeaves<u32, S::MultiProof>,
@@ -141,8 +149,7 @@ fn check_twins<S: Swept>(
     let dimensions = &committed.dimensions;
     for (matrix, Dimensions { height, .. }) in dimensions.iter().enumerate() {
         let place = place_of_first(indices, dimensions, steps, *height);
-        let twin = twin_sets(alloc, &leaves.0, matrix)?;
-        let found = scheme.collision_of_leaves(alloc, committed, indices, leaves, &twin)?;
+        let found = collision_of_twins(alloc, scheme, committed, indices, leaves, matrix)?;
         if !collides_first_at(&found, &place) {
             return Err(Fault::Wrong("leaves collide elsewhere with their twins"));
         }
@@ -152,17 +159,17 @@ fn check_twins<S: Swept>(
 }
 
 /// Fails where the opening of some queries, or its twins or those of its first leaf, are not as they should be.
-fn check_list<S: Swept>(
+fn check_list<S: Tried>(
     alloc: Global,
     scheme: &S,
-    committed: &Committed<S::Commitment, S::ProverData>,
+    committed: &Committed<FoldCap, S::ProverData>,
     steps: &[usize],
     indices: &[usize],
     counts: &mut Counts,
 ) -> Result<(), Fault> {
     let leaves = accepted_leaves(alloc, scheme, committed, indices)?;
-    scheme.check(alloc, committed, indices, &leaves)?;
-    counts.add_list(scheme.digests(&leaves.1));
+    scheme.check_paths(alloc, committed, indices, &leaves)?;
+    counts.add_list(S::digests(&leaves.1));
     if !has_twins(&committed.dimensions) {
         return Ok(());
     }
@@ -199,12 +206,12 @@ impl<'a> Plan<'a> {
     }
 
     /// Opens the leaves of each list of queries, and counts. The steps lead from the leaves up to the cap.
-    pub fn count<S: Swept>(
+    pub fn count<S: Tried>(
         &self,
         alloc: Global,
         reader: &mut Reader,
         scheme: &S,
-        committed: &Committed<S::Commitment, S::ProverData>,
+        committed: &Committed<FoldCap, S::ProverData>,
         steps: &[usize],
         counts: &mut Counts,
     ) -> Result<(), Fault> {
@@ -215,112 +222,29 @@ impl<'a> Plan<'a> {
     }
 }
 
-/// How many paths of a list of queries are compared, each with that of its leaf opened by itself.
-const MOST_PATHS: usize = 64;
-
-/// Fails where the path of a query is not that of its leaf.
-fn check_paths<const N: usize>(
-    alloc: Global,
-    scheme: &FoldScheme<N>,
-    committed: &FoldCommitted<N>,
-    indices: &[usize],
-    paths: &[MerkleAuthPath<u32, 1>],
-) -> Result<(), Fault> {
-    if paths.len() != indices.len() {
-        return Err(Fault::Wrong("a proof has another number of paths"));
-    }
-    for (index, path) in indices.iter().zip(paths).take(MOST_PATHS) {
-        let opening = accepted(alloc, scheme, committed, *index)?;
-        if path.leaf_index != *index || path.siblings != opening.opening_proof {
-            return Err(Fault::Wrong("a path is not that of its leaf"));
-        }
-    }
-    Ok(())
-}
-
-/// What proves several leaves.
-type MultiProof = PrunedMerklePaths<u32, 1>;
-
-impl<const N: usize> Swept for FoldScheme<N> {
-    fn digests(&self, proof: &MultiProof) -> usize {
-        proof.sibling_hashes.len()
-    }
-
-    fn check(
-        &self,
-        alloc: Global,
-        committed: &FoldCommitted<N>,
-        indices: &[usize],
-        leaves: &OpenedLeaves<u32, MultiProof>,
-    ) -> Result<(), Fault> {
-        let dimensions = &committed.dimensions;
-        let (rows, proof) = leaves;
-        let paths = self.restore_and_recompute_paths(alloc, dimensions, indices, rows, proof)?;
-        check_paths(alloc, self, committed, indices, &paths)?;
-        if self.pruned_len(alloc, dimensions, indices)? == proof.sibling_hashes.len() {
-            Ok(())
-        } else {
-            Err(Fault::Wrong("a proof has another number of digests"))
-        }
-    }
-
-    fn collision(
-        &self,
-        alloc: Global,
-        committed: &FoldCommitted<N>,
-        index: usize,
-        leaf: &FoldOpening,
-        rows: &[Vec<u32>],
-    ) -> Result<Option<Collision<u32, u32, 1>>, MerkleTreeError> {
-        let Committed {
-            cap,
-            dimensions,
-            ..
-        } = committed;
-        let twin = BatchOpeningRef::new(rows, &leaf.opening_proof);
-        let honest = BatchOpeningRef::from(leaf);
-        self.extract_collision(alloc, cap, dimensions, index, honest, index, twin)
-    }
-
-    fn collision_of_leaves(
-        &self,
-        alloc: Global,
-        committed: &FoldCommitted<N>,
-        indices: &[usize],
-        leaves: &OpenedLeaves<u32, MultiProof>,
-        rows: &[Vec<Vec<u32>>],
-    ) -> Result<Option<(usize, usize, Collision<u32, u32, 1>)>, MerkleTreeError> {
-        let Committed {
-            cap,
-            dimensions,
-            ..
-        } = committed;
-        let (own, proof) = leaves;
-        let honest = PrunedOpeningRef::new(indices, own, proof);
-        let twin = PrunedOpeningRef::new(indices, rows, proof);
-        self.extract_collision_multi(alloc, cap, dimensions, honest, twin)
-    }
-}
-
 /// `sweep | ARITY | CAP | BATCHES | QUERIES | LISTS DIGESTS COLLISIONS NONES`: of each batch of matrices, many lists of
-/// queries are opened, accepted and restored, and so is the first leaf of each. Where all rows have twins, each opening
-/// is compared with its twin, matrix by matrix. How many lists there are, how many digests their proofs have, how many
-/// openings collide with a twin, and how many do not, since the matrix is not authenticated or there is no query.
-pub fn sweep<const N: usize>(case: &mut Case<'_>) -> Result<(), Fault>
+/// queries are opened and accepted, and without salts restored; and so is the first leaf of each. Where all rows have
+/// twins, each opening is compared with its twin, matrix by matrix. How many lists there are, how many digests their
+/// proofs have, how many openings collide with a twin, and how many do not, since the matrix is not authenticated or
+/// there is no query. With salts: `salted_sweep | ARITY | CAP | SALTS A ROW | GENERATOR | BATCHES | QUERIES | ..`.
+pub fn sweep<S: Tried, const N: usize>(
+    case: &mut Case<'_>,
+    cap: Cap,
+    scheme: &mut S,
+) -> Result<(), Fault>
     requires arity { IsTrue (is_arity N) }
     requires few { N ≤ 16 }
 {
-    let mut scheme = fold_scheme::<N>(case.fields.cap());
     let plan = Plan::of(&mut case.fields);
     let mut counts = Counts::none();
     for dimensions in &plan.batches {
         let matrices = case.fields.reader.numbered(dimensions);
-        let committed = commit_shown(case.alloc, &mut scheme, matrices)?;
-        let steps = scheme.proof_arity_schedule(case.alloc, dimensions)?;
+        let steps = fold_scheme::<N>(cap).proof_arity_schedule(case.alloc, dimensions)?;
+        let committed = commit_shown(case.alloc, scheme, matrices)?;
         plan.count(
             case.alloc,
             &mut case.fields.reader,
-            &scheme,
+            &*scheme,
             &committed,
             &steps,
             &mut counts,

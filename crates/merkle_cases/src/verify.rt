@@ -1,70 +1,84 @@
-//! What is answered to an opening.
-
-ghost use Rattle.std.specs.Prelude.{◌≤◌, IsTrue};
-ghost use Rattle.p3_merkle_core.specs.Geometry.{is_arity};
+//! What is answered to openings. Their extractions answer alike.
 
 use crate::agreement::agrees;
 use crate::case::Case;
-use crate::extract::collision_of;
-use crate::fields::{Fault, Fields};
-use crate::scheme::{FoldCap, FoldOpening, fold_scheme};
-use p3_merkle_tree::{BatchOpening, BatchOpeningRef, MerkleCap};
-use p3_support::matrix::Dimensions;
+use crate::extract::collision_of_leaves;
+use crate::fields::Fault;
+use crate::openings::{LeavesOpening, Statement, leaf_in, leaves_in};
+use crate::tried::Tried;
+use p3_merkle_tree::{BatchOpeningRef, MerkleTreeError};
+use std::alloc::Global;
 
-/// What an opening is checked against.
-#[derive(Drop)]
-pub struct Statement {
-    /// The cap.
-    pub cap: FoldCap,
-    /// The dimensions of the matrices.
-    pub dimensions: Vec<Dimensions>,
-}
-
-impl Statement {
-    /// What the next two fields are: the roots of the cap, and dimensions.
-    pub fn of(fields: &mut Fields<'_>) -> Statement {
-        let cap = MerkleCap::new(fields.digests());
-        let dimensions = fields.dimensions();
-        Statement { cap, dimensions }
-    }
-}
-
-/// An opening of the leaf `index`.
-#[derive(Drop)]
-pub struct LeafOpening {
-    pub index: usize,
-    pub opening: FoldOpening,
-}
-
-impl LeafOpening {
-    /// The opening of the next three fields: an index, rows and siblings.
-    pub fn of(fields: &mut Fields<'_>) -> LeafOpening {
-        let index = fields.number();
-        let rows = fields.rows();
-        let siblings = fields.digests();
-        LeafOpening {
-            index,
-            opening: BatchOpening::new(rows, siblings),
-        }
-    }
-}
-
-/// `verify | ARITY | CAP | CAP | DIMENSIONS | INDEX | ROWS | SIBLINGS | ANSWER`: the check of an opening, which the
-/// extraction from it and itself answers, too.
-pub fn verify<const N: usize>(case: &mut Case<'_>) -> Result<(), Fault>
-    requires arity { IsTrue (is_arity N) }
-    requires few { N ≤ 16 }
-{
-    let scheme = fold_scheme::<N>(case.fields.cap());
-    let statement = Statement::of(&mut case.fields);
-    let leaf = LeafOpening::of(&mut case.fields);
+/// `verify | ARITY | CAP | ROOTS | DIMENSIONS | INDEX | ROWS | SIBLINGS | ANSWER`: the check of an opening, which the
+/// extraction from it and itself answers, too. With salts there are `SALTS A ROW` before the roots, and the salts of
+/// the rows before the siblings.
+pub fn verify<S: Tried>(case: &mut Case<'_>, scheme: &S) -> Result<(), Fault> {
+    let Statement { cap, dimensions } = &Statement::of(&mut case.fields);
+    let leaf = leaf_in::<S>(&mut case.fields);
     let lent = BatchOpeningRef::from(&leaf.opening);
-    let verdict = scheme.verify_batch(&statement.cap, &statement.dimensions, leaf.index, lent);
-    let found = collision_of(case.alloc, &scheme, &statement, &leaf, &leaf);
-    if agrees(&verdict, &found) {
-        case.answer.verdict(&verdict);
-        Ok(())
-    } else {
-        Err(Fault::Wrong("the extraction is answered otherwise"))
+    let verdict = scheme.verify_batch(case.alloc, cap, dimensions, leaf.index, lent);
+    let indices = [leaf.index, leaf.index];
+    let found = scheme.extract(case.alloc, cap, dimensions, indices, lent, lent);
+    if !agrees(&verdict, &found) {
+        return Err(Fault::Wrong("the extraction is answered otherwise"));
     }
+    case.answer.verdict(&verdict);
+    Ok(())
+}
+
+/// What is answered to the opening of several leaves.
+fn verdict_on<S: Tried>(
+    alloc: Global,
+    scheme: &S,
+    statement: &Statement,
+    opening: &LeavesOpening<S::MultiProof>,
+) -> Result<(), MerkleTreeError> {
+    scheme.verify_multi_batch(
+        alloc,
+        &statement.cap,
+        &statement.dimensions,
+        &opening.indices,
+        &opening.rows,
+        &opening.proof,
+    )
+}
+
+/// Whether the extractions from an opening and that of no leaf, in either order, and where it is accepted that from it
+/// and itself answer what the checks do.
+fn extracts_alike<S: Tried>(
+    alloc: Global,
+    scheme: &S,
+    statement: &Statement,
+    opening: &LeavesOpening<S::MultiProof>,
+    verdict: &Result<(), MerkleTreeError>,
+) -> bool {
+    let none = LeavesOpening::none(alloc, S::proof_of_none(alloc));
+    let of_none = verdict_on(alloc, scheme, statement, &none);
+    let first = collision_of_leaves(alloc, scheme, statement, opening, &none);
+    let second = collision_of_leaves(alloc, scheme, statement, &none, opening);
+    let of_second = if of_none.is_err() { &of_none } else { verdict };
+    agrees(verdict, &first)
+        && agrees(of_second, &second)
+        && (opening.is_long()
+            || agrees(
+                verdict,
+                &collision_of_leaves(alloc, scheme, statement, opening, opening),
+            ))
+}
+
+/// `verify_pruned | ARITY | CAP | ROOTS | DIMENSIONS | INDICES | ROW SETS | DIGESTS | ANSWER`: the check of an opening
+/// of several leaves, which answers what the extractions do, and, without salts, what the checks of its queries with
+/// their restored paths do. With salts there are `SALTS A ROW` before the roots, and `SALT SETS` before the digests.
+pub fn verify_pruned<S: Tried>(case: &mut Case<'_>, scheme: &S) -> Result<(), Fault> {
+    let statement = Statement::of(&mut case.fields);
+    let opening = leaves_in::<S>(&mut case.fields);
+    let verdict = verdict_on(case.alloc, scheme, &statement, &opening);
+    if !scheme.agrees(case.alloc, &statement, opening.lent(), &verdict) {
+        return Err(Fault::Wrong("another check is answered otherwise"));
+    }
+    if !extracts_alike(case.alloc, scheme, &statement, &opening, &verdict) {
+        return Err(Fault::Wrong("an extraction is answered otherwise"));
+    }
+    case.answer.verdict(&verdict);
+    Ok(())
 }

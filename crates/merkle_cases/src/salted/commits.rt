@@ -2,10 +2,11 @@
 
 use crate::case::Case;
 use crate::fields::Fault;
-use crate::salted::{Salted, SaltedScheme};
+use crate::salted::Salted;
 use crate::scheme::tall_matrices;
 use crate::text::Answer;
 use p3_support::matrix::Matrix;
+use rand_chacha::ChaCha20Rng;
 use rand_core::CryptoRng;
 use std::alloc::Global;
 
@@ -22,7 +23,7 @@ fn write_cap<R: CryptoRng, M: Matrix<u32> + Drop, const N: usize, const SALT_ELE
     }
 }
 
-/// `commits_salted | ARITY | CAP | SALTS A ROW | GENERATOR | BATCHES | CAPS`: what a scheme answers to batches of
+/// `salted_commits | ARITY | CAP | SALTS A ROW | GENERATOR | BATCHES | CAPS`: what a scheme answers to batches of
 /// matrices or dimensions, one after another: the cap, or why the batch is refused.
 pub fn commits<R: CryptoRng, const N: usize, const SALT_ELEMS: usize>(
     case: &mut Case<'_>,
@@ -44,11 +45,11 @@ pub fn commits<R: CryptoRng, const N: usize, const SALT_ELEMS: usize>(
     Ok(())
 }
 
-/// `fork_salted | ARITY | CAP | SALTS A ROW | SEED | MATRICES | CAPS`: the caps of a scheme and of its fork over the
+/// `salted_fork | ARITY | CAP | SALTS A ROW | SEED | MATRICES | CAPS`: the caps of a scheme and of its fork over the
 /// same matrices.
 pub fn fork<const N: usize, const SALT_ELEMS: usize>(
     case: &mut Case<'_>,
-    scheme: &mut SaltedScheme<N, SALT_ELEMS>,
+    scheme: &mut Salted<ChaCha20Rng, N, SALT_ELEMS>,
 ) -> Result<(), Fault> {
     let text = case.fields.take();
     let mut fork = scheme.fork()?;

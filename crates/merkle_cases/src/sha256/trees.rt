@@ -12,10 +12,13 @@ use crate::sha256::{Digest, byte_at};
 use crate::sweep::{Counts, Plan};
 use p3_instances::sha::{Sha256Nodes, Sha256Rows};
 use p3_instances::sha_eights::{Sha256NodesInEights, Sha256RowsInEights};
-use p3_merkle_tree::{BatchOpeningRef, MerkleCap, MerkleTree, MerkleTreeError, MerkleTreeMmcs};
+use p3_merkle_tree::{
+    BatchOpeningRef, MerkleAuthPath, MerkleCap, MerkleTreeError, MerkleTreeMmcs, PrunedMerklePaths,
+};
 use p3_support::compress::PseudoCompressionFunction;
 use p3_support::hasher::CryptographicHasher;
 use p3_support::matrix::{Dimensions, RowMajorMatrix, dimensions_of};
+use p3_support::mmcs::Mmcs;
 use std::alloc::Global;
 
 /// The scheme of a hasher and a compression.
@@ -24,11 +27,48 @@ type Sha256Scheme<H, C, const N: usize> = MerkleTreeMmcs<u8, u8, H, C, N, 32>;
 /// Matrices of bytes.
 type Bytes = RowMajorMatrix<u8>;
 
-/// What such a scheme has committed to.
-type Sha256Committed<const N: usize> = Committed<
-    MerkleCap<u8, Digest>,
-    MerkleTree<u8, u8, Bytes, N, 32>,
->;
+/// A cap.
+type Cap256 = MerkleCap<u8, Digest>;
+
+/// What proves several leaves.
+type MultiProof = PrunedMerklePaths<u8, 32>;
+
+/// A scheme over SHA-256, whose openings of several leaves restore paths.
+trait Restoring: Mmcs<
+    u8,
+    Bytes,
+    Commitment = Cap256,
+    Proof = Vec<Digest>,
+    MultiProof = MultiProof,
+    Error = MerkleTreeError,
+> {
+    /// The path of each query.
+    fn paths(
+        &self,
+        alloc: Global,
+        dimensions: &[Dimensions],
+        indices: &[usize],
+        rows: &[Vec<Vec<u8>>],
+        proof: &MultiProof,
+    ) -> Result<Vec<MerkleAuthPath<u8, 32>>, MerkleTreeError>;
+}
+
+impl<
+    H: CryptographicHasher<u8, u8, 32>,
+    C: PseudoCompressionFunction<u8, N, 32>,
+    const N: usize,
+> Restoring for Sha256Scheme<H, C, N> {
+    fn paths(
+        &self,
+        alloc: Global,
+        dimensions: &[Dimensions],
+        indices: &[usize],
+        rows: &[Vec<Vec<u8>>],
+        proof: &MultiProof,
+    ) -> Result<Vec<MerkleAuthPath<u8, 32>>, MerkleTreeError> {
+        self.restore_and_recompute_paths(alloc, dimensions, indices, rows, proof)
+    }
+}
 
 /// What is asked of it.
 #[derive(Clone, Copy)]
@@ -43,14 +83,10 @@ enum Asked<'a> {
 
 /// The digests by which several leaves are opened, where there are such leaves, and their opening is accepted, at once
 /// and leaf by leaf with the paths that it restores.
-fn sent<
-    H: CryptographicHasher<u8, u8, 32>,
-    C: PseudoCompressionFunction<u8, N, 32>,
-    const N: usize,
->(
+fn sent<S: Restoring>(
     alloc: Global,
-    scheme: &Sha256Scheme<H, C, N>,
-    committed: &Sha256Committed<N>,
+    scheme: &S,
+    committed: &Committed<Cap256, S::ProverData>,
     indices: &[usize],
 ) -> Result<Vec<Digest>, MerkleTreeError> {
     let (rows, proof) = accepted_leaves(alloc, scheme, committed, indices)?;
@@ -59,22 +95,18 @@ fn sent<
         dimensions,
         ..
     } = committed;
-    let paths = scheme.restore_and_recompute_paths(alloc, dimensions, indices, &rows, &proof)?;
+    let paths = scheme.paths(alloc, dimensions, indices, &rows, &proof)?;
     for (own, path) in rows.iter().zip(&paths) {
         let lent = BatchOpeningRef::new(own, &path.siblings);
-        scheme.verify_batch(cap, dimensions, path.leaf_index, lent)?;
+        scheme.verify_batch(alloc, cap, dimensions, path.leaf_index, lent)?;
     }
     Ok(proof.sibling_hashes)
 }
 
 /// What is asked of matrices that a scheme commits to.
-fn answer_by<
-    H: CryptographicHasher<u8, u8, 32>,
-    C: PseudoCompressionFunction<u8, N, 32>,
-    const N: usize,
->(
+fn answer_by<S: Restoring>(
     alloc: Global,
-    scheme: &Sha256Scheme<H, C, N>,
+    scheme: &mut S,
     matrices: Vec<Bytes>,
     asked: Asked<'_>,
 ) -> Result<Vec<Digest>, MerkleTreeError> {
@@ -87,8 +119,8 @@ fn answer_by<
     };
     match asked {
         Asked::Cap => Ok(Vec::from_slice(alloc, committed.cap.roots())?),
-        Asked::Leaf(index) => Ok(accepted(alloc, scheme, &committed, index)?.opening_proof),
-        Asked::Leaves(indices) => sent(alloc, scheme, &committed, indices),
+        Asked::Leaf(index) => Ok(accepted(alloc, &*scheme, &committed, index)?.opening_proof),
+        Asked::Leaves(indices) => sent(alloc, &*scheme, &committed, indices),
     }
 }
 
@@ -146,9 +178,9 @@ fn answer_of<const N: usize>(
     requires few { N ≤ 16 }
 {
     let matrices = byte_matrices(&mut case.fields.reader, dimensions);
-    let plain = answer_by(case.alloc, &plain_scheme::<N>(cap), matrices, asked);
+    let plain = answer_by(case.alloc, &mut plain_scheme::<N>(cap), matrices, asked);
     let matrices = byte_matrices(&mut case.fields.reader, dimensions);
-    let in_eights = answer_by(case.alloc, &scheme_in_eights::<N>(cap), matrices, asked);
+    let in_eights = answer_by(case.alloc, &mut scheme_in_eights::<N>(cap), matrices, asked);
     if plain != in_eights {
         return Err(Fault::Wrong("the answers differ"));
     }

@@ -1,4 +1,4 @@
-//! What is committed to.
+//! The layers of trees.
 
 ghost use Rattle.std.specs.Prelude.{◌<◌, ◌≤◌, length, IsTrue};
 ghost use Rattle.p3_merkle_core.specs.Geometry.{is_arity};
@@ -6,21 +6,10 @@ ghost use Rattle.p3_merkle_prover.specs.Parts.{layers_of};
 
 use crate::case::Case;
 use crate::fields::Fault;
-use crate::scheme::{FoldTree, Rows, commit_to, fold_scheme, fold_tree};
+use crate::scheme::{FoldTree, Rows, fold_tree};
 use crate::text::Answer;
 use p3_merkle_tree::MerkleTreeError;
 use std::alloc::Global;
-
-/// `commit | ARITY | CAP | MATRICES | CAP`.
-pub fn commit<const N: usize>(case: &mut Case<'_>) -> Result<(), Fault>
-    requires arity { IsTrue (is_arity N) }
-    requires few { N ≤ 16 }
-{
-    let scheme = fold_scheme::<N>(case.fields.cap());
-    let (cap, _) = commit_to(case.alloc, &scheme, case.fields.matrices())?;
-    case.answer.digests(cap.roots());
-    Ok(())
-}
 
 /// `layers | ARITY | MATRICES | LAYERS`: the layers of a clone of the tree, leaves first, with `;` between them.
 pub fn layers<const N: usize>(case: &mut Case<'_>) -> Result<(), Fault>

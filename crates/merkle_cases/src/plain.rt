@@ -1,0 +1,155 @@
+//! How cases try the scheme without salts.
+
+use crate::committed::{Committed, OpenedLeaves, accepted};
+use crate::fields::{Fault, Fields};
+use crate::openings::Statement;
+use crate::scheme::{FoldCap, FoldCommitted, FoldScheme};
+use crate::text::Answer;
+use crate::tried::{FoldCollision, Tried};
+use p3_merkle_core::pruning::PrunedProof;
+use p3_merkle_tree::{
+    BatchOpeningRef, MerkleAuthPath, MerkleTreeError, PrunedMerklePaths, PrunedOpeningRef,
+};
+use p3_support::matrix::Dimensions;
+use std::alloc::Global;
+
+/// What proves a leaf.
+type Proof = Vec<[u32; 1]>;
+
+/// What proves several leaves.
+type MultiProof = PrunedMerklePaths<u32, 1>;
+
+/// What the opening of several leaves is answered, query by query: why no paths are restored, or the verdict on each
+/// query with its path, where not all are accepted: the first refusal.
+fn restored_verdict<const N: usize>(
+    alloc: Global,
+    scheme: &FoldScheme<N>,
+    statement: &Statement,
+    opening: PrunedOpeningRef<'_, u32, MultiProof>,
+) -> Result<(), MerkleTreeError> {
+    let Statement { cap, dimensions } = statement;
+    let PrunedOpeningRef {
+        indices,
+        opened_values,
+        opening_proof,
+    } = opening;
+    let paths = scheme.restore_and_recompute_paths(
+        alloc,
+        dimensions,
+        indices,
+        opened_values,
+        opening_proof,
+    )?;
+    for (rows, path) in opened_values.iter().zip(&paths) {
+        let lent = BatchOpeningRef::new(rows, &path.siblings);
+        scheme.verify_batch(cap, dimensions, path.leaf_index, lent)?;
+    }
+    Ok(())
+}
+
+/// How many paths of a list of queries are compared, each with that of its leaf opened by itself.
+const MOST_PATHS: usize = 64;
+
+/// Fails where the path of a query is not that of its leaf.
+fn check_each_path<const N: usize>(
+    alloc: Global,
+    scheme: &FoldScheme<N>,
+    committed: &FoldCommitted<N>,
+    indices: &[usize],
+    paths: &[MerkleAuthPath<u32, 1>],
+) -> Result<(), Fault> {
+    if paths.len() != indices.len() {
+        return Err(Fault::Wrong("a proof has another number of paths"));
+    }
+    for (index, path) in indices.iter().zip(paths).take(MOST_PATHS) {
+        let opening = accepted(alloc, scheme, committed, *index)?;
+        if path.leaf_index != *index || path.siblings != opening.opening_proof {
+            return Err(Fault::Wrong("a path is not that of its leaf"));
+        }
+    }
+    Ok(())
+}
+
+impl<const N: usize> Tried for FoldScheme<N> {
+    fn proof_in(fields: &mut Fields<'_>) -> Proof {
+        fields.digests()
+    }
+
+    fn multi_proof_in(fields: &mut Fields<'_>) -> MultiProof {
+        PrunedProof {
+            sibling_hashes: fields.digests(),
+        }
+    }
+
+    fn proof_of_none(alloc: Global) -> MultiProof {
+        PrunedProof {
+            sibling_hashes: Vec::new(alloc),
+        }
+    }
+
+    fn write_salted_cap(_cap: &FoldCap, _answer: &mut Answer) {}
+
+    fn write_proof(proof: &Proof, answer: &mut Answer) {
+        answer.digests(proof);
+    }
+
+    fn write_multi_proof(proof: &MultiProof, answer: &mut Answer) {
+        answer.digests(&proof.sibling_hashes);
+    }
+
+    fn digests(proof: &MultiProof) -> usize {
+        proof.sibling_hashes.len()
+    }
+
+    fn agrees(
+        &self,
+        alloc: Global,
+        statement: &Statement,
+        opening: PrunedOpeningRef<'_, u32, MultiProof>,
+        verdict: &Result<(), MerkleTreeError>,
+    ) -> bool {
+        *verdict == restored_verdict(alloc, self, statement, opening)
+    }
+
+    fn check_paths(
+        &self,
+        alloc: Global,
+        committed: &FoldCommitted<N>,
+        indices: &[usize],
+        leaves: &OpenedLeaves<u32, MultiProof>,
+    ) -> Result<(), Fault> {
+        let dimensions = &committed.dimensions;
+        let (rows, proof) = leaves;
+        let paths = self.restore_and_recompute_paths(alloc, dimensions, indices, rows, proof)?;
+        check_each_path(alloc, self, committed, indices, &paths)?;
+        if self.pruned_len(alloc, dimensions, indices)? == proof.sibling_hashes.len() {
+            Ok(())
+        } else {
+            Err(Fault::Wrong("a proof has another number of digests"))
+        }
+    }
+
+    fn extract(
+        &self,
+        alloc: Global,
+        cap: &FoldCap,
+        dimensions: &[Dimensions],
+        indices: [usize; 2],
+        first: BatchOpeningRef<'_, u32, Proof>,
+        second: BatchOpeningRef<'_, u32, Proof>,
+    ) -> Result<Option<FoldCollision>, MerkleTreeError> {
+        let [index1, index2] = indices;
+        self.extract_collision(alloc, cap, dimensions, index1, first, index2, second)
+    }
+
+    fn extract_multi(
+        &self,
+        alloc: Global,
+        cap: &FoldCap,
+        dimensions: &[Dimensions],
+        first: PrunedOpeningRef<'_, u32, MultiProof>,
+        second: PrunedOpeningRef<'_, u32, MultiProof>,
+    ) -> Result<Option<(usize, usize, FoldCollision)>, MerkleTreeError> {
+        self.extract_collision_multi(alloc, cap, dimensions, first, second)
+    }
+}

@@ -1,0 +1,104 @@
+//! How cases try the scheme with salts. It counts no digests and restores no paths.
+
+use crate::committed::{Committed, OpenedLeaves};
+use crate::fields::{Fault, Fields};
+use crate::openings::Statement;
+use crate::salted::Salted;
+use crate::scheme::{FoldCap, Rows};
+use crate::text::Answer;
+use crate::tried::{FoldCollision, Tried};
+use p3_merkle_core::pruning::PrunedProof;
+use p3_merkle_hiding::hiding_mmcs::{SaltedMultiProof, SaltedProof, SaltedTree};
+use p3_merkle_tree::{BatchOpeningRef, MerkleTreeError, PrunedOpeningRef};
+use p3_support::matrix::Dimensions;
+use rand_core::CryptoRng;
+use std::alloc::Global;
+
+/// What proves a leaf.
+type Proof = SaltedProof<u32, u32, 1>;
+
+/// What proves several leaves.
+type MultiProof = SaltedMultiProof<u32, u32, 1>;
+
+impl<R: CryptoRng, const N: usize, const SALT_ELEMS: usize> Tried for Salted<R, N, SALT_ELEMS> {
+    fn proof_in(fields: &mut Fields<'_>) -> Proof {
+        let salts = fields.rows();
+        (salts, fields.digests())
+    }
+
+    fn multi_proof_in(fields: &mut Fields<'_>) -> MultiProof {
+        let salts = fields.row_sets();
+        let sibling_hashes = fields.digests();
+        (salts, PrunedProof { sibling_hashes })
+    }
+
+    fn proof_of_none(alloc: Global) -> MultiProof {
+        let sibling_hashes = Vec::new(alloc);
+        (Vec::new(alloc), PrunedProof { sibling_hashes })
+    }
+
+    fn write_salted_cap(cap: &FoldCap, answer: &mut Answer) {
+        answer.digests(cap.roots());
+        answer.push(" | ");
+    }
+
+    fn write_proof(proof: &Proof, answer: &mut Answer) {
+        answer.rows(&proof.0);
+        answer.push(" | ");
+        answer.digests(&proof.1);
+    }
+
+    fn write_multi_proof(proof: &MultiProof, answer: &mut Answer) {
+        answer.row_sets(&proof.0);
+        answer.push(" | ");
+        answer.digests(&proof.1.sibling_hashes);
+    }
+
+    fn digests(proof: &MultiProof) -> usize {
+        proof.1.sibling_hashes.len()
+    }
+
+    fn agrees(
+        &self,
+        _alloc: Global,
+        _statement: &Statement,
+        _opening: PrunedOpeningRef<'_, u32, MultiProof>,
+        _verdict: &Result<(), MerkleTreeError>,
+    ) -> bool {
+        true
+    }
+
+    fn check_paths(
+        &self,
+        _alloc: Global,
+        _committed: &Committed<FoldCap, SaltedTree<u32, u32, Rows, N, 1>>,
+        _indices: &[usize],
+        _leaves: &OpenedLeaves<u32, MultiProof>,
+    ) -> Result<(), Fault> {
+        Ok(())
+    }
+
+    fn extract(
+        &self,
+        alloc: Global,
+        cap: &FoldCap,
+        dimensions: &[Dimensions],
+        indices: [usize; 2],
+        first: BatchOpeningRef<'_, u32, Proof>,
+        second: BatchOpeningRef<'_, u32, Proof>,
+    ) -> Result<Option<FoldCollision>, MerkleTreeError> {
+        let [index1, index2] = indices;
+        self.extract_collision(alloc, cap, dimensions, index1, first, index2, second)
+    }
+
+    fn extract_multi(
+        &self,
+        alloc: Global,
+        cap: &FoldCap,
+        dimensions: &[Dimensions],
+        first: PrunedOpeningRef<'_, u32, MultiProof>,
+        second: PrunedOpeningRef<'_, u32, MultiProof>,
+    ) -> Result<Option<(usize, usize, FoldCollision)>, MerkleTreeError> {
+        self.extract_collision_multi(alloc, cap, dimensions, first, second)
+    }
+}
