@@ -16,9 +16,20 @@ pub fn layers<const N: usize>(case: &mut Case<'_>) -> Result<(), Fault>
     requires arity { IsTrue (is_arity N) }
     requires few { N ≤ 16 }
 {
-    let tree = fold_tree::<_, N>(case.alloc, case.fields.matrices())?;
-    write_layers(case.alloc, &tree.clone()?, &mut case.answer)?;
+    let copy = copied_tree::<N>(case.alloc, case.fields.matrices())?;
+    write_layers(case.alloc, &copy, &mut case.answer)?;
     Ok(())
+}
+
+/// A clone of the tree over these matrices.
+fn copied_tree<const N: usize>(
+    alloc: Global,
+    matrices: Vec<Rows>,
+) -> Result<FoldTree<Rows, N>, MerkleTreeError>
+    requires arity { IsTrue (is_arity N) }
+    requires few { N ≤ 16 }
+{
+    Ok(fold_tree::<_, N>(alloc, matrices)?.clone()?)
 }
 
 /// Writes the layers of a tree, leaves first.

@@ -143,23 +143,27 @@ fn expected(case: &Case<'_>) -> Answer {
     expected
 }
 
-/// Answers a case: by an answer, or by the text of what is refused or wrong. Else why it can't be read.
-fn answer_or_refuse(case: &mut Case<'_>) -> Result<(), &'static str> {
-    let fault = answer(case);
-    if let Some(reason) = case.fields.reader.fault() {
-        return Err(reason);
-    }
-    let Err(fault) = fault else {
-        return Ok(());
-    };
-    // What has been written before a refusal is no part of it.
-    case.answer = Answer::new(case.alloc);
+/// Writes the text of what is refused or wrong. Else why the case can't be read.
+fn write_fault(fault: &Fault, answer: &mut Answer) -> Result<(), &'static str> {
     match fault {
-        Fault::Refused(error) => case.answer.error(&error),
-        Fault::Wrong(way) => case.answer.push(way),
+        Fault::Refused(error) => answer.error(error),
+        Fault::Wrong(way) => answer.push(way),
         Fault::Unreadable(reason) => return Err(reason),
     }
     Ok(())
+}
+
+/// Answers a case: by an answer, or by the text of what is refused or wrong. Else why it can't be read.
+fn answer_or_refuse(case: &mut Case<'_>) -> Result<(), &'static str> {
+    if let Err(fault) = answer(case) {
+        // What has been written before a refusal is no part of it.
+        case.answer = Answer::new(case.alloc);
+        write_fault(&fault, &mut case.answer)?;
+    }
+    match case.fields.reader.fault() {
+        Some(reason) => Err(reason),
+        None => Ok(()),
+    }
 }
 
 /// Whether a case is answered as its line says.

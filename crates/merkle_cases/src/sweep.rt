@@ -158,6 +158,24 @@ fn check_twins<S: Tried>(
     Ok(())
 }
 
+/// Fails where the opening of some queries, or its twins, are not as they should be.
+fn check_leaves<S: Tried>(
+    alloc: Global,
+    scheme: &S,
+    committed: &Committed<FoldCap, S::ProverData>,
+    steps: &[usize],
+    indices: &[usize],
+    leaves: &OpenedLeaves<u32, S::MultiProof>,
+    counts: &mut Counts,
+) -> Result<(), Fault> {
+    scheme.check_paths(alloc, committed, indices, leaves)?;
+    counts.add_list(S::digests(&leaves.1));
+    if !has_twins(&committed.dimensions) {
+        return Ok(());
+    }
+    check_twins(alloc, scheme, committed, steps, indices, leaves, counts)
+}
+
 /// Fails where the opening of some queries, or its twins or those of its first leaf, are not as they should be.
 fn check_list<S: Tried>(
     alloc: Global,
@@ -168,15 +186,12 @@ fn check_list<S: Tried>(
     counts: &mut Counts,
 ) -> Result<(), Fault> {
     let leaves = accepted_leaves(alloc, scheme, committed, indices)?;
-    scheme.check_paths(alloc, committed, indices, &leaves)?;
-    counts.add_list(S::digests(&leaves.1));
-    if !has_twins(&committed.dimensions) {
-        return Ok(());
-    }
-    check_twins(alloc, scheme, committed, steps, indices, &leaves, counts)?;
+    check_leaves(alloc, scheme, committed, steps, indices, &leaves, counts)?;
     match indices.first() {
-        Some(index) => check_leaf_twins(alloc, scheme, committed, steps, *index, counts),
-        None => Ok(()),
+        Some(index) if has_twins(&committed.dimensions) => {
+            check_leaf_twins(alloc, scheme, committed, steps, *index, counts)
+        }
+        _ => Ok(()),
     }
 }
 

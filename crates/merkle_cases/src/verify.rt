@@ -43,6 +43,21 @@ fn verdict_on<S: Tried>(
     )
 }
 
+/// Whether the extraction from two openings answers as this verdict does.
+fn extracts<S: Tried>(
+    alloc: Global,
+    scheme: &S,
+    statement: &Statement,
+    first: &LeavesOpening<S::MultiProof>,
+    second: &LeavesOpening<S::MultiProof>,
+    verdict: &Result<(), MerkleTreeError>,
+) -> bool {
+    agrees(
+        verdict,
+        &collision_of_leaves(alloc, scheme, statement, first, second),
+    )
+}
+
 /// Whether the extractions from an opening and that of no leaf, in either order, and where it is accepted that from it
 /// and itself answer what the checks do.
 fn extracts_alike<S: Tried>(
@@ -54,16 +69,27 @@ fn extracts_alike<S: Tried>(
 ) -> bool {
     let none = LeavesOpening::none(alloc, S::proof_of_none(alloc));
     let of_none = verdict_on(alloc, scheme, statement, &none);
-    let first = collision_of_leaves(alloc, scheme, statement, opening, &none);
-    let second = collision_of_leaves(alloc, scheme, statement, &none, opening);
     let of_second = if of_none.is_err() { &of_none } else { verdict };
-    agrees(verdict, &first)
-        && agrees(of_second, &second)
-        && (opening.is_long()
-            || agrees(
-                verdict,
-                &collision_of_leaves(alloc, scheme, statement, opening, opening),
-            ))
+    extracts(alloc, scheme, statement, opening, &none, verdict)
+        && extracts(alloc, scheme, statement, &none, opening, of_second)
+        && (opening.is_long() || extracts(alloc, scheme, statement, opening, opening, verdict))
+}
+
+/// Fails where another check of an opening than the one with this verdict, or an extraction, answers otherwise.
+fn check_others<S: Tried>(
+    alloc: Global,
+    scheme: &S,
+    statement: &Statement,
+    opening: &LeavesOpening<S::MultiProof>,
+    verdict: &Result<(), MerkleTreeError>,
+) -> Result<(), Fault> {
+    if !scheme.agrees(alloc, statement, opening.lent(), verdict) {
+        return Err(Fault::Wrong("another check is answered otherwise"));
+    }
+    if !extracts_alike(alloc, scheme, statement, opening, verdict) {
+        return Err(Fault::Wrong("an extraction is answered otherwise"));
+    }
+    Ok(())
 }
 
 /// `verify_pruned | ARITY | CAP | ROOTS | DIMENSIONS | INDICES | ROW SETS | DIGESTS | ANSWER`: the check of an opening
@@ -73,12 +99,6 @@ pub fn verify_pruned<S: Tried>(case: &mut Case<'_>, scheme: &S) -> Result<(), Fa
     let statement = Statement::of(&mut case.fields);
     let opening = leaves_in::<S>(&mut case.fields);
     let verdict = verdict_on(case.alloc, scheme, &statement, &opening);
-    if !scheme.agrees(case.alloc, &statement, opening.lent(), &verdict) {
-        return Err(Fault::Wrong("another check is answered otherwise"));
-    }
-    if !extracts_alike(case.alloc, scheme, &statement, &opening, &verdict) {
-        return Err(Fault::Wrong("an extraction is answered otherwise"));
-    }
     case.answer.verdict(&verdict);
-    Ok(())
+    check_others(case.alloc, scheme, &statement, &opening, &verdict)
 }

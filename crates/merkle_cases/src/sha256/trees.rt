@@ -103,6 +103,20 @@ fn sent<S: Restoring>(
     Ok(proof.sibling_hashes)
 }
 
+/// What is asked of what a scheme has committed to.
+fn answer_from<S: Restoring>(
+    alloc: Global,
+    scheme: &S,
+    committed: &Committed<Cap256, S::ProverData>,
+    asked: Asked<'_>,
+) -> Result<Vec<Digest>, MerkleTreeError> {
+    match asked {
+        Asked::Cap => Ok(Vec::from_slice(alloc, committed.cap.roots())?),
+        Asked::Leaf(index) => Ok(accepted(alloc, scheme, committed, index)?.opening_proof),
+        Asked::Leaves(indices) => sent(alloc, scheme, committed, indices),
+    }
+}
+
 /// What is asked of matrices that a scheme commits to.
 fn answer_by<S: Restoring>(
     alloc: Global,
@@ -117,11 +131,7 @@ fn answer_by<S: Restoring>(
         tree,
         dimensions,
     };
-    match asked {
-        Asked::Cap => Ok(Vec::from_slice(alloc, committed.cap.roots())?),
-        Asked::Leaf(index) => Ok(accepted(alloc, &*scheme, &committed, index)?.opening_proof),
-        Asked::Leaves(indices) => sent(alloc, &*scheme, &committed, indices),
-    }
+    answer_from(alloc, &*scheme, &committed, asked)
 }
 
 /// The scheme that hashes one message at a time, with such a cap.
