@@ -3,7 +3,7 @@
 ghost use Rattle.std.specs.Prelude.{◌%◌, ◌^◌, replicate};
 ghost use Rattle.std.proofs.lemmas.List.{length-replicate};
 
-use p3_support::matrix::{Dimensions, Matrix, RowMajorMatrix, dimensions_of};
+use p3_support::matrix::Matrix;
 use std::alloc::{AllocError, Global};
 
 /// A matrix whose every word is the number of its row, from 0. It takes no memory, whatever its height.
@@ -43,23 +43,6 @@ pub fn numbered(alloc: Global, sizes: &[(usize, usize)]) -> Result<Vec<Numbers>,
             words: *words,
             rows: *rows,
         })?;
-    }
-    Ok(matrices)
-}
-
-/// The dimensions of matrices of these widths and heights.
-pub fn dimensions_with(
-    alloc: Global,
-    sizes: &[(usize, usize)],
-) -> Result<Vec<Dimensions>, AllocError> {
-    dimensions_of(alloc, &numbered(alloc, sizes)?)
-}
-
-/// A matrix of one column for each list of rows.
-pub fn columns(alloc: Global, lists: &[&[u32]]) -> Result<Vec<RowMajorMatrix<u32>>, AllocError> {
-    let mut matrices = Vec::with_capacity(alloc, lists.len())?;
-    for rows in lists {
-        matrices.push(RowMajorMatrix::new(Vec::from_slice(alloc, *rows)?, 1))?;
     }
     Ok(matrices)
 }
