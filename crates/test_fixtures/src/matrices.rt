@@ -1,9 +1,10 @@
 //! Matrices that trees of both schemes are tried on.
 
-ghost use Rattle.std.specs.Prelude.{◌%◌, ◌^◌, replicate};
+ghost use Rattle.std.specs.Prelude.{◌≡◌, ◌%◌, ◌^◌, IfOk, replicate};
 ghost use Rattle.std.proofs.lemmas.List.{length-replicate};
+ghost use Rattle.p3_support.specs.RowMajor.{row_count, row_width, values_of};
 
-use p3_support::matrix::Matrix;
+use p3_support::matrix::{Matrix, RowMajorMatrix};
 use std::alloc::{AllocError, Global};
 
 /// A matrix whose every word is the number of its row, from 0. It takes no memory, whatever its height.
@@ -45,4 +46,13 @@ pub fn numbered(alloc: Global, sizes: &[(usize, usize)]) -> Result<Vec<Numbers>,
         })?;
     }
     Ok(matrices)
+}
+
+/// The matrix of two rows of two words.
+pub fn two_rows(alloc: Global, words: &[u32; 4]) -> Result<RowMajorMatrix<u32>, AllocError>
+    ensures words { IfOk result (λ m. values_of m ≡ words.now) }
+    ensures width { IfOk result (λ m. row_width m ≡ 2) }
+    ensures height { IfOk result (λ m. row_count m ≡ 2) }
+{
+    Ok(RowMajorMatrix::new(Vec::from_slice(alloc, words)?, 2))
 }

@@ -1,7 +1,9 @@
 //! Each call once, on values that were worked out by hand, and generic code through its bounds.
 ghost use Rattle.std.specs.Prelude.{◌≡◌, ℕ, ◌+◌, ◌<◌, ◌≤◌, length};
 ghost use Rattle.p3_support.specs.Lists.{lane_of};
+ghost use Rattle.p3_support.specs.RowMajor.{row_count, row_width};
 
+use crate::support::{assert_size, assert_words};
 use p3_instances::batched::Batched3;
 use p3_instances::fold::{FoldCompress, FoldHash};
 use p3_instances::lanes::{Lanes, U32x8};
@@ -9,11 +11,13 @@ use p3_instances::sha::{Sha256Nodes, Sha256Rows};
 use p3_instances::sha_eights::{Sha256NodesInEights, Sha256RowsInEights};
 use p3_support::compress::PseudoCompressionFunction;
 use p3_support::hasher::CryptographicHasher;
-use p3_support::matrix::{Dimensions, Matrix, RowMajorMatrix};
+use p3_support::matrix::{Matrix, RowMajorMatrix};
 use p3_support::opening::{BatchOpening, BatchOpeningRef, Hash, MerkleCap};
 use p3_support::packed::{PackedValue, pack_columns_fn, unpack_into};
 use std::alloc::{AllocError, Global};
+use std::process::Abort;
 use std::test::Fail;
+use test_fixtures::matrices::two_rows;
 
 /// The digest of a row.
 fn row_digest<P: PackedValue, H: CryptographicHasher<P, P, D>, M: Matrix<P::Value>, const D: usize>(
@@ -55,31 +59,35 @@ fn two_levels<C: PseudoCompressionFunction<u32, 2, 1>>(
     [nodes[0], nodes[1], compress.compress(nodes)]
 }
 
+/// Asserts what a matrix of the rows 1, 31 and 3, 4 hands out.
+fn assert_rows(rt: &impl Abort, matrix: &RowMajorMatrix<u32>)
+    requires height { row_count matrix.now ≡ 2 }
+    requires width { row_width matrix.now ≡ 2 }
+{
+    assert_words(rt, matrix.row_slice(1).unwrap_or(&[]), &[3, 4]);
+    assert_words(rt, matrix.row_chunk(0, 2).unwrap_or(&[]), &[1, 31, 3, 4]);
+    assert_words(rt, matrix.row_chunk(1, 1).unwrap_or(&[]), &[3, 4]);
+    assert_size(rt, matrix.dimensions(), 2, 2);
+    assert_eq!(rt; matrix.get(1, 0), 3);
+}
+
+/// The digest of row 0, and that of row 1 by a hasher that takes three at a time.
+fn row_digests(matrix: &RowMajorMatrix<u32>) -> [[u32; 1]; 2]
+    requires { row_count matrix.now ≡ 2 }
+{
+    let fold = FoldHash::<8>;
+    [
+        row_digest::<u32, _, _, 1>(&fold, matrix, 0),
+        row_digest::<u32, _, _, 1>(&Batched3(fold), matrix, 1),
+    ]
+}
+
 #[test]
 fn hashes_rows(rt: HostRuntime) -> Result<(), Fail> {
-    let matrix = RowMajorMatrix::new(vec![in rt.alloc(); 1u32, 31, 3, 4]?, 2);
-    assert_eq!(rt;
-        matrix.dimensions(),
-        Dimensions {
-            width: 2,
-            height: 2
-        }
-    );
-    assert_eq!(rt; matrix.get(1, 0), 3);
-    assert!(rt; matrix.row_slice(1) == Some([3u32, 4].as_slice()));
-    assert!(rt; matrix.row_chunk(0, 2) == Some([1u32, 31, 3, 4].as_slice()));
-    assert!(rt; matrix.row_chunk(1, 1) == Some([3u32, 4].as_slice()));
-    assert_eq!(rt; matrix.clone()?.values(), [1u32, 31, 3, 4].as_slice());
-    let fold = FoldHash::<8>;
-    assert_eq!(rt;
-        row_digest::<u32, FoldHash<8>, RowMajorMatrix<u32>, 1>(&fold, &matrix, 0),
-        [1023]
-    );
-    let batched = Batched3(fold);
-    assert_eq!(rt;
-        row_digest::<u32, Batched3<FoldHash<8>>, RowMajorMatrix<u32>, 1>(&batched, &matrix, 1),
-        [1058]
-    );
+    let matrix = two_rows(rt.alloc(), &[1, 31, 3, 4])?;
+    assert_rows(&rt, &matrix);
+    assert_eq!(rt; row_digests(&matrix), [[1023], [1058]]);
+    assert_words(&rt, matrix.clone()?.values(), &[1, 31, 3, 4]);
     Ok(())
 }
 
@@ -93,7 +101,11 @@ fn hashes_packed_rows(rt: HostRuntime) -> Result<(), Fail> {
     );
     let mut digests = [[0; 1]; 8];
     unpack_into(&packed, &mut digests);
-    assert_eq!(rt; digests, [[32], [33], [34], [35], [36], [37], [38], [39]]);
+    assert_words(
+        &rt,
+        digests.as_flattened(),
+        &[32, 33, 34, 35, 36, 37, 38, 39],
+    );
     let fives: [U32x8; 2] = FoldHash::<8>.hash_packed(std::iter::once(U32x8::broadcast(5)));
     let mut pairs = [[0; 2]; 8];
     unpack_into(&fives, &mut pairs);
@@ -109,20 +121,21 @@ fn hashes_many_messages(rt: HostRuntime) {
         &[1, 2, 3, 4, 5, 6, 7, 8, 9],
         &mut nine,
     );
-    assert_eq!(rt;
-        nine,
-        [[32], [33], [34], [35], [36], [37], [38], [39], [40]]
+    assert_words(
+        &rt,
+        nine.as_flattened(),
+        &[32, 33, 34, 35, 36, 37, 38, 39, 40],
     );
     let mut three = [[0; 1]; 3];
     CryptographicHasher::<u32, u32, 1>::hash_many(&FoldHash::<8>, &[], &mut three);
-    assert_eq!(rt; three, [[1], [1], [1]]);
+    assert_words(&rt, three.as_flattened(), &[1, 1, 1]);
     let mut two = [[0; 1]; 2];
     CryptographicHasher::<u32, u32, 1>::hash_many(
         &Batched3(FoldHash::<8>),
         &[1, 31, 2, 0],
         &mut two,
     );
-    assert_eq!(rt; two, [[1023], [1023]]);
+    assert_words(&rt, two.as_flattened(), &[1023, 1023]);
 }
 
 /// Whether many messages of six words have the digests that each has by itself.
@@ -186,27 +199,23 @@ fn hashes_slices(rt: HostRuntime) {
         &FoldHash::<8>,
         parts.iter().copied(),
     );
-    assert_eq!(rt; joined, [1023]);
+    assert_words(&rt, &joined, &[1023]);
     let whole: [u32; 1] = CryptographicHasher::<u32, u32, 1>::hash_slice(&FoldHash::<8>, &[2, 0]);
-    assert_eq!(rt; whole, [1023]);
+    assert_words(&rt, &whole, &[1023]);
 }
 
 #[test]
 fn compresses(rt: HostRuntime) {
     let leaves = [[32], [33], [34], [35]];
-    assert_eq!(rt;
-        two_levels(&FoldCompress::<2, 8>, leaves),
-        [[1026], [1090], [32897]]
-    );
-    assert_eq!(rt;
-        two_levels(&Batched3(FoldCompress::<2, 8>), leaves),
-        [[1026], [1090], [32897]]
-    );
+    let nodes = two_levels(&FoldCompress::<2, 8>, leaves);
+    assert_words(&rt, nodes.as_flattened(), &[1026, 1090, 32897]);
+    let batched = two_levels(&Batched3(FoldCompress::<2, 8>), leaves);
+    assert_words(&rt, batched.as_flattened(), &[1026, 1090, 32897]);
     let four: [u32; 1] = PseudoCompressionFunction::<u32, 4, 1>::compress(
         &FoldCompress::<4, 1>,
         [[32], [33], [0], [0]],
     );
-    assert_eq!(rt; four, [986051]);
+    assert_words(&rt, &four, &[986051]);
 }
 
 /// Two digests of one word, packed.
@@ -235,8 +244,9 @@ fn lends_a_root(rt: HostRuntime) {
 #[test]
 fn hands_out_roots(rt: HostRuntime) -> Result<(), Fail> {
     let cap: MerkleCap<u32, [u32; 1]> = MerkleCap::new(vec![in rt.alloc(); [1026], [1090]]?);
-    assert_eq!(rt; (cap.num_roots(), cap[1]), (2, [1090]));
-    assert_eq!(rt; cap.roots(), [[1026], [1090]].as_slice());
+    assert_words(&rt, cap.roots().as_flattened(), &[1026, 1090]);
+    assert_words(&rt, &cap[1], &[1090]);
+    assert_eq!(rt; cap.num_roots(), 2);
     Ok(())
 }
 
@@ -247,20 +257,25 @@ fn small_opening(alloc: Global) -> Result<BatchOpening<u32, Vec<[u32; 1]>>, Allo
     Ok(BatchOpening::new(rows, vec![in alloc; [35u32], [1026]]?))
 }
 
+/// Asserts that rows and siblings are those of that opening.
+fn assert_unpacked(rt: &impl Abort, values: &[Vec<u32>], siblings: &[[u32; 1]]) {
+    assert_eq!(rt; values.len(), 1);
+    assert_words(rt, &values[0], &[3]);
+    assert_words(rt, siblings.as_flattened(), &[35, 1026]);
+}
+
 #[test]
 fn hands_out_what_is_lent(rt: HostRuntime) -> Result<(), Fail> {
     let opening = small_opening(rt.alloc())?;
     let (values, siblings) = BatchOpeningRef::from(&opening).unpack();
-    assert_eq!(rt; values.len(), 1);
-    assert_eq!(rt; values[0].as_slice(), [3u32].as_slice());
-    assert_eq!(rt; siblings.as_slice(), [[35], [1026]].as_slice());
+    assert_unpacked(&rt, values, siblings);
     Ok(())
 }
 
 #[test]
 fn hands_out_what_it_has(rt: HostRuntime) -> Result<(), Fail> {
-    let (values, _) = small_opening(rt.alloc())?.unpack();
-    assert_eq!(rt; values.len(), 1);
+    let (values, siblings) = small_opening(rt.alloc())?.unpack();
+    assert_unpacked(&rt, &values, &siblings);
     Ok(())
 }
 
