@@ -4,7 +4,7 @@ use crate::merkle::calls::accepted_cap;
 use p3_instances::fold::{FoldCompress, FoldHash};
 use p3_instances::lanes::Lanes;
 use p3_merkle_tree::{CapRule, MerkleCap, MerkleTreeError, MerkleTreeMmcs};
-use std::alloc::Global;
+use std::alloc::{AllocError, Global};
 use std::test::Fail;
 
 /// The widths and the heights of the matrices that are committed to in different ways.
@@ -56,12 +56,17 @@ fn digests_of_two_words_have_the_root_worked_out(rt: HostRuntime) -> Result<(), 
     Ok(())
 }
 
+/// The rule of a clone.
+fn rule_of_clone(scheme: &PairScheme) -> Result<CapRule, AllocError> {
+    Ok(scheme.clone()?.cap_rule())
+}
+
 #[test]
 fn a_scheme_and_its_clone_keep_the_rule(rt: HostRuntime) -> Result<(), Fail> {
     let lowered = PairScheme::new(FoldHash, FoldCompress, 3);
     let fixed = PairScheme::new_with_rule(FoldHash, FoldCompress, 4, CapRule::Fixed);
-    assert_eq!(rt; lowered.clone()?.cap_rule(), CapRule::Lowered);
-    assert_eq!(rt; fixed.clone()?.cap_rule(), CapRule::Fixed);
+    let rules = [rule_of_clone(&lowered)?, rule_of_clone(&fixed)?];
+    assert_eq!(rt; rules, [CapRule::Lowered, CapRule::Fixed]);
     assert_eq!(rt; fixed.cap_height(), 4);
     Ok(())
 }

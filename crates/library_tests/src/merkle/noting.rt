@@ -13,6 +13,7 @@ use p3_support::packed::PackedValue;
 use std::alloc::Global;
 use std::cell::Cell;
 use std::convert::AsSlice;
+use std::process::Abort;
 use std::test::Fail;
 use test_fixtures::matrices::{Numbers, numbered};
 
@@ -174,6 +175,20 @@ fn noted<P: FoldLane, const L: usize, const G: usize>(
     Ok(notes.runs.replace(Vec::new(alloc)))
 }
 
+/// Asserts that these calls build that tree.
+fn assert_noted<P: FoldLane, const L: usize, const G: usize>(
+    rt: &impl Abort,
+    alloc: Global,
+    sizes: &[(usize, usize)],
+    expected: &[Run],
+) -> Result<(), MerkleTreeError>
+    requires { 1 ≤ P.WIDTH }
+{
+    let calls = noted::<P, L, G>(alloc, sizes)?;
+    assert_eq!(rt; calls.as_slice(), expected);
+    Ok(())
+}
+
 /// 17 rows, and layers of 9, 5, 3, 2 nodes and 1, in eight lanes.
 static IN_LANES: [Run; 4] = [(RowLanes(8), 2), (Row, 1), (GroupLanes(8), 1), (Group, 12)];
 
@@ -190,10 +205,8 @@ static WITH_ROWS: [Run; 6] = [
 #[test]
 fn groups_of_lanes_come_first_and_the_rest_one_by_one(rt: HostRuntime) -> Result<(), Fail> {
     let alloc = rt.alloc();
-    let calls = noted::<U32x8, 1, 1>(alloc, &[(1, 17)])?;
-    assert_eq!(rt; calls.as_slice(), IN_LANES.as_slice());
-    let calls = noted::<u32, 1, 1>(alloc, &[(1, 3), (1, 2)])?;
-    assert_eq!(rt; calls.as_slice(), WITH_ROWS.as_slice());
+    assert_noted::<U32x8, 1, 1>(&rt, alloc, &[(1, 17)], &IN_LANES)?;
+    assert_noted::<u32, 1, 1>(&rt, alloc, &[(1, 3), (1, 2)], &WITH_ROWS)?;
     Ok(())
 }
 
@@ -251,14 +264,10 @@ static ROW_BY_ROW: [Run; 10] = [
 #[test]
 fn many_are_taken_together_where_both_functions_do(rt: HostRuntime) -> Result<(), Fail> {
     let alloc = rt.alloc();
-    let calls = noted::<u32, 8, 8>(alloc, &[(1, 17)])?;
-    assert_eq!(rt; calls.as_slice(), LAYER_BY_LAYER.as_slice());
-    let calls = noted::<u32, 8, 8>(alloc, &[(1, 17), (1, 9), (1, 3)])?;
-    assert_eq!(rt; calls.as_slice(), WITH_ALL_ROWS.as_slice());
-    let calls = noted::<u32, 8, 1>(alloc, &[(1, 5), (1, 3)])?;
-    assert_eq!(rt; calls.as_slice(), GROUP_BY_GROUP.as_slice());
-    let calls = noted::<u32, 1, 8>(alloc, &[(1, 5), (1, 3)])?;
-    assert_eq!(rt; calls.as_slice(), ROW_BY_ROW.as_slice());
+    assert_noted::<u32, 8, 8>(&rt, alloc, &[(1, 17)], &LAYER_BY_LAYER)?;
+    assert_noted::<u32, 8, 8>(&rt, alloc, &[(1, 17), (1, 9), (1, 3)], &WITH_ALL_ROWS)?;
+    assert_noted::<u32, 8, 1>(&rt, alloc, &[(1, 5), (1, 3)], &GROUP_BY_GROUP)?;
+    assert_noted::<u32, 1, 8>(&rt, alloc, &[(1, 5), (1, 3)], &ROW_BY_ROW)?;
     Ok(())
 }
 
@@ -283,9 +292,7 @@ static LARGE_ROWS: [Run; 3] = [(Rows(8), 1), (Rows(2), 1), (Group, 11)];
 #[test]
 fn rows_are_laid_side_by_side_in_whole_groups_of_lanes(rt: HostRuntime) -> Result<(), Fail> {
     let alloc = rt.alloc();
-    let calls = noted::<u32, 8, 8>(alloc, &[(16, 300)])?;
-    assert_eq!(rt; calls.as_slice(), SMALL_ROWS.as_slice());
-    let calls = noted::<u32, 8, 1>(alloc, &[(4100, 10)])?;
-    assert_eq!(rt; calls.as_slice(), LARGE_ROWS.as_slice());
+    assert_noted::<u32, 8, 8>(&rt, alloc, &[(16, 300)], &SMALL_ROWS)?;
+    assert_noted::<u32, 8, 1>(&rt, alloc, &[(4100, 10)], &LARGE_ROWS)?;
     Ok(())
 }

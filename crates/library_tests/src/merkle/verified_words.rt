@@ -13,6 +13,7 @@ use rand_chacha::ChaCha20Rng;
 use rand_core::SeedableRng;
 use std::alloc::{AllocError, Global};
 use std::test::Fail;
+use test_fixtures::matrices::two_rows;
 
 /// Where a word stands in the rows of an index.
 #[derive(Clone, Copy)]
@@ -70,8 +71,41 @@ fn verified_word_of<T: Copy, M: Matrix<T>, S: Mmcs<T, M>>(
     Ok(rows[query][place.matrix][place.column])
 }
 
-/// Commits to matrices, opens an index alone and behind another one, and reads the word at a place out of both openings
-/// once they are verified: None where the matrices have no such index.
+/// Opens an index alone and behind another one, and reads the word at a place out of both openings once they are
+/// verified: None where the matrices have no such index.
+///
+/// # Errors
+///
+/// What the scheme answers.
+fn words_opened<T: Copy, M: Matrix<T>, S: Mmcs<T, M>>(
+    alloc: Global,
+    scheme: &S,
+    commitment: &S::Commitment,
+    prover_data: &S::ProverData,
+    dimensions: &[Dimensions],
+    index: usize,
+    place: Place,
+) -> Result<Option<(T, T)>, S::Error>
+    requires matrix { place.matrix < length dimensions.now }
+    requires column { place.column < slice_index (map (λ d. d.width) dimensions.now) place.matrix }
+{
+    if index >= scheme.get_max_height(prover_data) {
+        return Ok(None);
+    }
+    let opening = scheme.open_batch(alloc, index, prover_data)?;
+    let lent = BatchOpeningRef::from(&opening);
+    let alone = verified_word::<T, M, S>(
+        alloc, scheme, commitment, dimensions, index, lent, place,
+    )?;
+    let indices = [0, index];
+    let (rows, proof) = scheme.open_multi_batch(alloc, &indices, prover_data)?;
+    let together = verified_word_of::<T, M, S>(
+        alloc, scheme, commitment, dimensions, &indices, &rows, &proof, 1, place,
+    )?;
+    Ok(Some((alone, together)))
+}
+
+/// Commits to matrices, and reads the word at a place of an index twice, as `words_opened`.
 ///
 /// # Errors
 ///
@@ -88,34 +122,15 @@ fn words_read<T: Copy, M: Matrix<T> + Drop, S: Mmcs<T, M>>(
     requires column { place.column < slice_index (map (λ d. d.width) dimensions.now) place.matrix }
 {
     let (commitment, prover_data) = scheme.commit(alloc, matrices)?;
-    if index >= scheme.get_max_height(&prover_data) {
-        return Ok(None);
-    }
-    let opening = scheme.open_batch(alloc, index, &prover_data)?;
-    let lent = BatchOpeningRef::from(&opening);
-    let alone = verified_word::<T, M, S>(
+    words_opened::<T, M, S>(
         alloc,
         scheme,
         &commitment,
+        &prover_data,
         dimensions,
         index,
-        lent,
         place,
-    )?;
-    let indices = [0, index];
-    let (rows, proof) = scheme.open_multi_batch(alloc, &indices, &prover_data)?;
-    let together = verified_word_of::<T, M, S>(
-        alloc,
-        scheme,
-        &commitment,
-        dimensions,
-        &indices,
-        &rows,
-        &proof,
-        1,
-        place,
-    )?;
-    Ok(Some((alone, together)))
+    )
 }
 
 /// The dimensions of the matrices.
@@ -138,7 +153,7 @@ type Salted = MerkleTreeHidingMmcs<u32, u32, FoldHash<1>, FoldCompress<2, 1>, Ch
 
 /// The matrix of the rows 1, 2 and 3, 4, and that of the row 5.
 fn matrices(alloc: Global) -> Result<Vec<RowMajorMatrix<u32>>, AllocError> {
-    let rows = RowMajorMatrix::new(vec![in alloc; 1u32, 2, 3, 4]?, 2);
+    let rows = two_rows(alloc, &[1, 2, 3, 4])?;
     let row = RowMajorMatrix::new(vec![in alloc; 5u32]?, 1);
     Ok(vec![in alloc; rows, row]?)
 }
@@ -155,14 +170,28 @@ const OTHER: Place = Place {
     column: 0,
 };
 
+/// The words 4 and 5 of two commitments to these matrices, each read alone and behind another index.
+///
+/// # Errors
+///
+/// What the scheme answers.
+fn four_and_five<M: Matrix<u32> + Drop, S: Mmcs<u32, M>>(
+    alloc: Global,
+    scheme: &mut S,
+    first: Vec<M>,
+    second: Vec<M>,
+) -> Result<[Option<(u32, u32)>; 2], S::Error> {
+    let four = words_read(alloc, scheme, &DIMENSIONS, first, 1, LAST)?;
+    let five = words_read(alloc, scheme, &DIMENSIONS, second, 0, OTHER)?;
+    Ok([four, five])
+}
+
 #[test]
 fn a_generic_verifier_reads_plain_rows(rt: HostRuntime) -> Result<(), Fail> {
     let alloc = rt.alloc();
     let mut scheme = Plain::new(FoldHash, FoldCompress, 0);
-    let last = words_read(alloc, &mut scheme, &DIMENSIONS, matrices(alloc)?, 1, LAST)?;
-    assert_eq!(rt; last, Some((4, 4)));
-    let other = words_read(alloc, &mut scheme, &DIMENSIONS, matrices(alloc)?, 0, OTHER)?;
-    assert_eq!(rt; other, Some((5, 5)));
+    let words = four_and_five(alloc, &mut scheme, matrices(alloc)?, matrices(alloc)?)?;
+    assert_eq!(rt; words, [Some((4, 4)), Some((5, 5))]);
     Ok(())
 }
 
@@ -171,9 +200,7 @@ fn a_generic_verifier_reads_salted_rows(rt: HostRuntime) -> Result<(), Fail> {
     let alloc = rt.alloc();
     let rng = ChaCha20Rng::from_seed([7; 32]);
     let mut scheme = Salted::new(FoldHash, FoldCompress, 0, rng);
-    let last = words_read(alloc, &mut scheme, &DIMENSIONS, matrices(alloc)?, 1, LAST)?;
-    assert_eq!(rt; last, Some((4, 4)));
-    let other = words_read(alloc, &mut scheme, &DIMENSIONS, matrices(alloc)?, 0, OTHER)?;
-    assert_eq!(rt; other, Some((5, 5)));
+    let words = four_and_five(alloc, &mut scheme, matrices(alloc)?, matrices(alloc)?)?;
+    assert_eq!(rt; words, [Some((4, 4)), Some((5, 5))]);
     Ok(())
 }
