@@ -7,7 +7,7 @@ ghost use Rattle.std.specs.Iterator.Runs.{WholeRun};
 ghost use Rattle.std.specs.Simd.Lanes.{zip2};
 ghost use Rattle.p3_support.specs.Lists.{lane_of};
 
-use p3_merkle_tree::{MerkleCap, MerkleTreeError, MerkleTreeMmcs};
+use p3_merkle_tree::{MerkleTreeError, MerkleTreeMmcs};
 use p3_support::compress::PseudoCompressionFunction;
 use p3_support::hasher::CryptographicHasher;
 use p3_support::matrix::RowMajorMatrix;
@@ -114,29 +114,8 @@ impl PseudoCompressionFunction<u8, 2, 32> for XorNodes {
     }
 }
 
-/// The cap over these rows of one byte.
-fn cap_of(
-    alloc: Global,
-    cap_height: usize,
-    rows: &[u8],
-) -> Result<MerkleCap<u8, [u8; 32]>, MerkleTreeError> {
-    let scheme = MerkleTreeMmcs::<u8, u8, RepeatHash, XorNodes, 2, 32>::new(
-        RepeatHash, XorNodes, cap_height,
-    );
-    let matrix = RowMajorMatrix::new(Vec::from_slice(alloc, rows)?, 1);
-    let (cap, _) = scheme.commit(alloc, vec![in alloc; matrix]?)?;
-    Ok(cap)
-}
-
-/// Asserts that there is one digest for each of the bytes expected: that byte, repeated 32 times.
-fn assert_digests(rt: &impl Abort, digests: &[[u8; 32]], expected: &[u8]) {
-    assert_eq!(rt; digests.len(), expected.len());
-    for (digest, byte) in digests.iter().zip(expected) {
-        assert_eq!(rt; *digest, [*byte; 32]);
-    }
-}
-
-/// Asserts that the cap over these rows of one byte has the digests of the bytes expected.
+/// Asserts that the cap over these rows of one byte has one digest for each of the bytes expected: that byte, repeated
+/// 32 times.
 fn assert_cap(
     rt: &impl Abort,
     alloc: Global,
@@ -144,8 +123,15 @@ fn assert_cap(
     rows: &[u8],
     expected: &[u8],
 ) -> Result<(), MerkleTreeError> {
-    let cap = cap_of(alloc, cap_height, rows)?;
-    assert_digests(rt, cap.roots(), expected);
+    let scheme = MerkleTreeMmcs::<u8, u8, RepeatHash, XorNodes, 2, 32>::new(
+        RepeatHash, XorNodes, cap_height,
+    );
+    let matrix = RowMajorMatrix::new(Vec::from_slice(alloc, rows)?, 1);
+    let (cap, _) = scheme.commit(alloc, vec![in alloc; matrix]?)?;
+    assert_eq!(rt; cap.num_roots(), expected.len());
+    for entry in 0..expected.len() {
+        assert_eq!(rt; cap[entry], [expected[entry]; 32]);
+    }
     Ok(())
 }
 
