@@ -1,11 +1,11 @@
 //! The digests of many rows or nodes by calls that take many messages at once.
 
 ghost use Rattle.std.specs.Prelude.{◌≡◌, ℕ, ◌+◌, ◌-◌, ◌*◌, ◌%◌, ◌^◌, ◌<◌, ◌≤◌, ◌++◌, [], ◌∷◌, IfOk, length, map, max};
-ghost use Rattle.std.specs.Prelude.{min, replicate, slice_index_or, sum_by};
+ghost use Rattle.std.specs.Prelude.{min, replicate, slice_index_or, sum_by, All};
 ghost use Rattle.std.specs.List.{range_with_len};
 ghost use Rattle.p3_merkle_lanes.specs.Inner.Slots.{leaf_over, rows_over, IsFilled, IsStaged};
 
-use crate::rows::LayerRows;
+use crate::rows::{LayerRows, lone_rows};
 use p3_merkle_core::group::pair_group;
 use p3_support::compress::PseudoCompressionFunction;
 use p3_support::hasher::CryptographicHasher;
@@ -42,6 +42,55 @@ fn stage_row_of<T: Copy, M: Matrix<T>>(
     }
 }
 
+/// How many elements a row of the matrices has, at most 2^64 - 1.
+fn row_len<T: Copy, M: Matrix<T>>(matrices: &[M]) -> usize
+    ensures { result ≡ min (sum_by M.width_of matrices.now) (2 ^ 64 - 1) }
+{
+    let mut len = 0usize;
+    for matrix in matrices {
+        len = len.saturating_add(matrix.width());
+    }
+    len
+}
+
+/// Adds a row of the matrices, which all have this height, to the rows that are staged.
+fn stage_row<T: Copy, M: Matrix<T>>(
+    staged: &mut Vec<T>,
+    matrices: &[M],
+    height: usize,
+    row: usize,
+) -> Result<(), AllocError>
+    requires heights { All (λ m. M.height_of m ≡ height) matrices.now }
+    requires inside { row < height }
+    ensures { IfOk result (λ done. staged.new.items ≡ staged.old.items ++ rows_over M.row_of matrices.now row) }
+{
+    for matrix in matrices {
+        stage_row_of(staged, matrix, row)?;
+    }
+    Ok(())
+}
+
+/// Lays rows of the matrices side by side, `count` of them from `first` on, in place of what was staged. The matrices
+/// all have this height.
+fn stage_rows<T: Copy, M: Matrix<T>>(
+    staged: &mut Vec<T>,
+    matrices: &[M],
+    height: usize,
+    first: usize,
+    count: usize,
+) -> Result<(), AllocError>
+    requires heights { All (λ m. M.height_of m ≡ height) matrices.now }
+    requires inside { first + count ≤ height }
+    ensures { let rows = λ (j : ℕ). rows_over M.row_of matrices.now (first + j) in
+        IfOk result (λ done. IsStaged rows count staged.new.items) }
+{
+    staged.clear();
+    for j in 0..count {
+        stage_row(staged, matrices, height, first + j)?;
+    }
+    Ok(())
+}
+
 impl<
     'a,
     P: PackedValue,
@@ -50,47 +99,6 @@ impl<
     M: Matrix<P::Value>,
     const D: usize,
 > LayerRows<'a, P, PW, H, M, [PW::Value; D]> {
-    /// How many elements a row of the layer has, at most 2^64 - 1.
-    fn row_len(&self) -> usize
-        ensures { result ≡ min (sum_by M.width_of self.now.matrices.now) (2 ^ 64 - 1) }
-    {
-        let mut len = 0usize;
-        for matrix in self.matrices {
-            len = len.saturating_add(matrix.width());
-        }
-        len
-    }
-
-    /// Adds a row of the layer to the rows that are staged.
-    fn stage_row(&self, staged: &mut Vec<P::Value>, row: usize) -> Result<(), AllocError>
-        requires { row < self.now.height }
-        ensures { IfOk result (λ done. staged.new.items
-            ≡ staged.old.items ++ rows_over M.row_of self.now.matrices.now row) }
-    {
-        for matrix in self.matrices {
-            stage_row_of(staged, matrix, row)?;
-        }
-        Ok(())
-    }
-
-    /// Lays rows of the layer side by side, `count` of them from `first` on, in place of what was staged.
-    fn stage_rows(
-        &self,
-        staged: &mut Vec<P::Value>,
-        first: usize,
-        count: usize,
-    ) -> Result<(), AllocError>
-        requires { first + count ≤ self.now.height }
-        ensures { let rows = λ (j : ℕ). rows_over M.row_of self.now.matrices.now (first + j) in
-            IfOk result (λ done. IsStaged rows count staged.new.items) }
-    {
-        staged.clear();
-        for j in 0..count {
-            self.stage_row(staged, first + j)?;
-        }
-        Ok(())
-    }
-
     /// Writes into slot `j` the digest of row `first + j`. The rows are staged for that where no matrix lends them.
     fn hash_rows(
         &self,
@@ -103,11 +111,11 @@ impl<
             ≡ map (λ j. H.hash self.now.hash.now (rows_over M.row_of self.now.matrices.now (first + j)))
             (range_with_len 0 (length slots.old))) }
     {
-        if let Some(words) = self.lone_rows(first, slots.len()) {
+        if let Some(words) = lone_rows(self.matrices, self.height, first, slots.len()) {
             self.hash.hash_many(words, slots);
             return Ok(());
         }
-        self.stage_rows(staged, first, slots.len())?;
+        stage_rows(staged, self.matrices, self.height, first, slots.len())?;
         self.hash.hash_many(staged, slots);
         Ok(())
     }
@@ -130,7 +138,7 @@ impl<
             (rows_over M.row_of self.now.matrices.now) self.now.height in
             IfOk result (λ done. IsFilled leaf count (length slots.old) slots.new) }
     {
-        let len = self.row_len();
+        let len = row_len(self.matrices);
         let bytes = len.saturating_mul(std::mem::size_of_val(&P::Value::default()));
         let rows = rows_per_call(bytes, H::LANES);
         let mut staged = Vec::with_capacity(alloc, rows.min(count).saturating_mul(len))?;

@@ -3,7 +3,7 @@
 ghost use Rattle.std.specs.Mem.{type_size, FitsInMemory};
 ghost use denote.Param.{ArrayAt};
 ghost use Rattle.std.specs.Prelude.{IsTrue, ◌≡◌, ℕ, ◌+◌, ◌-◌, ◌*◌, ◌^◌, ◌<◌, ◌≤◌, ◌++◌, [], ◌∷◌, IfOk, length, map};
-ghost use Rattle.std.specs.Prelude.{take, drop, replicate, slice_index_or};
+ghost use Rattle.std.specs.Prelude.{take, drop, replicate, slice_index_or, All};
 ghost use Rattle.p3_support.specs.Lists.{lane_of};
 ghost use Rattle.p3_merkle_lanes.specs.Inner.Slots.{leaf_over, rows_over, IsFilled};
 
@@ -68,6 +68,26 @@ fn stage_packed_row<P: PackedValue, M: Matrix<P::Value>>(
     staged.extend(matrix.vertically_packed_row::<P>(row))
 }
 
+/// Lays the packed rows of the matrices one after another, from `row` on, in place of what was staged. The matrices all
+/// have this height.
+fn stage_packed_rows<P: PackedValue, M: Matrix<P::Value>>(
+    staged: &mut Vec<P>,
+    matrices: &[M],
+    height: usize,
+    row: usize,
+) -> Result<(), AllocError>
+    requires heights { All (λ m. M.height_of m ≡ height) matrices.now }
+    requires inside { row + P.WIDTH ≤ height }
+    ensures { IfOk result (λ done. (k : ℕ) → k < P.WIDTH →
+        lane_of P.lanes P.default_value k staged.new.items ≡ rows_over M.row_of matrices.now (row + k)) }
+{
+    staged.clear();
+    for matrix in matrices {
+        stage_packed_row(staged, matrix, row)?;
+    }
+    Ok(())
+}
+
 /// The digests of rows of one matrix, from `row` on: lane `k` is that of row `row + k`, for each lane
 /// that both packings have.
 fn packed_row_digest<
@@ -92,20 +112,6 @@ impl<
     M: Matrix<P::Value>,
     const D: usize,
 > LayerRows<'a, P, PW, H, M, [PW::Value; D]> {
-    /// Lays the packed rows of the matrices one after another, from `row` on, in place of what was staged.
-    fn stage_packed_rows(&self, staged: &mut Vec<P>, row: usize) -> Result<(), AllocError>
-        requires { row + P.WIDTH ≤ self.now.height }
-        ensures { IfOk result (λ done. (k : ℕ) → k < P.WIDTH →
-            lane_of P.lanes P.default_value k staged.new.items
-            ≡ rows_over M.row_of self.now.matrices.now (row + k)) }
-    {
-        staged.clear();
-        for matrix in self.matrices {
-            stage_packed_row(staged, matrix, row)?;
-        }
-        Ok(())
-    }
-
     /// The digests of the rows from `row` on: lane `k` is that of row `row + k`, for each lane that both packings have.
     /// `row + P::WIDTH` must be at most the height. `staged` is a buffer for the rows of several matrices.
     ///
@@ -121,7 +127,7 @@ impl<
         match self.matrices {
             [matrix] => Ok(packed_row_digest::<P, PW, H, M, D>(self.hash, matrix, row)),
             _ => {
-                self.stage_packed_rows(staged, row)?;
+                stage_packed_rows(staged, self.matrices, self.height, row)?;
                 Ok(self.hash.hash_packed(staged.iter().copied()))
             },
         }

@@ -6,7 +6,7 @@ ghost use Rattle.std.specs.List.{flat_map};
 ghost use Rattle.p3_support.specs.Lists.{messages as messages_of};
 ghost use Rattle.p3_merkle_lanes.specs.Inner.Slots.{leaf_over, rows_over, IsFilled};
 
-use crate::rows::LayerRows;
+use crate::rows::{LayerRows, lone_rows};
 use p3_support::compress::PseudoCompressionFunction;
 use p3_support::hasher::CryptographicHasher;
 use p3_support::matrix::Matrix;
@@ -55,6 +55,31 @@ fn no_pieces<'a, T>() -> [&'a [T]; MAX_PIECES] {
     [&[]; MAX_PIECES]
 }
 
+/// Fills `pieces` from its start with row `row` of each matrix, and returns how many there are, if `pieces` is long
+/// enough and each matrix lends its row. The row is below `height`, which is that of each matrix.
+fn lend_rows<'b, T: Copy, M: Matrix<T>>(
+    matrices: &'b [M],
+    height: usize,
+    row: usize,
+    pieces: &mut [&'b [T]; MAX_PIECES],
+) -> Option<usize>
+    requires heights { All (λ m. M.height_of m ≡ height) matrices.now }
+    requires inside { row < height }
+    ensures fits { IfSome result (λ count. count ≤ length pieces.new) }
+    ensures lent { IfSome result (λ count. flat_map (λ piece. piece.now) (take count pieces.new)
+        ≡ rows_over M.row_of matrices.now row) }
+{
+    let mut count = 0;
+    for matrix in matrices {
+        if count == MAX_PIECES {
+            return None;
+        }
+        pieces[count] = matrix.row_slice(row)?;
+        count += 1;
+    }
+    Some(count)
+}
+
 /// Where message `i` starts and ends among `count` messages of `width` words each, which lie one after another.
 #[tactic(auto, using(crate::proofs::LaneFacts::group_end, crate::proofs::LaneFacts::group_next))]
 fn message_bounds(i: usize, count: usize, width: usize) -> (usize, usize)
@@ -97,29 +122,6 @@ impl<
     M: Matrix<P::Value>,
     const D: usize,
 > LayerRows<'a, P, PW, H, M, [PW::Value; D]> {
-    /// Fills `pieces` from its start with row `row` of each matrix, and returns how many there are, if `pieces` is
-    /// long enough and each matrix lends its row. The row is below the height.
-    fn lend_rows<'b>(
-        &'b self,
-        row: usize,
-        pieces: &mut [&'b [P::Value]; MAX_PIECES],
-    ) -> Option<usize>
-        requires { row < self.now.height }
-        ensures fits { IfSome result (λ count. count ≤ length pieces.new) }
-        ensures lent { IfSome result (λ count. flat_map (λ piece. piece.now) (take count pieces.new)
-            ≡ rows_over M.row_of self.now.matrices.now row) }
-    {
-        let mut count = 0;
-        for matrix in self.matrices {
-            if count == MAX_PIECES {
-                return None;
-            }
-            pieces[count] = matrix.row_slice(row)?;
-            count += 1;
-        }
-        Some(count)
-    }
-
     /// The digest of a row, if the matrices are few and each lends its own. The row is below the height.
     fn pieces_digest(&self, row: usize) -> Option<[PW::Value; D]>
         requires { row < self.now.height }
@@ -127,7 +129,7 @@ impl<
             (λ digest. digest ≡ H.hash self.now.hash.now (rows_over M.row_of self.now.matrices.now row)) }
     {
         let mut pieces = no_pieces();
-        let count = self.lend_rows(row, &mut pieces)?;
+        let count = lend_rows(self.matrices, self.height, row, &mut pieces)?;
         Some(self.hash.hash_iter_slices(pieces[..count].iter().copied()))
     }
 
@@ -172,7 +174,7 @@ impl<
         if first >= end {
             return first;
         }
-        match self.lone_rows(first, end - first) {
+        match lone_rows(self.matrices, self.height, first, end - first) {
             Some(words) => {
                 hash_each::<P, PW, H, D>(self.hash, words, &mut slots[first..end]);
                 end

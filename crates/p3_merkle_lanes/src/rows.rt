@@ -3,7 +3,6 @@
 ghost use Rattle.std.specs.Prelude.{◌≡◌, ◌+◌, ◌≤◌, ℕ, All, IfSome};
 ghost use Rattle.p3_merkle_lanes.specs.Inner.Slots.{rows_over, IsStaged};
 
-use p3_support::hasher::CryptographicHasher;
 use p3_support::matrix::Matrix;
 use p3_support::packed::PackedValue;
 use std::marker::PhantomData;
@@ -23,24 +22,21 @@ pub struct LayerRows<'a, P: PackedValue, PW, H, M: Matrix<P::Value>, X> {
     ghost of_height: { All (λ m. M.height_of m ≡ height) matrices.now },
 }
 
-impl<
-    'a,
-    P: PackedValue,
-    PW: PackedValue,
-    H: CryptographicHasher<P, PW, D>,
-    M: Matrix<P::Value>,
-    const D: usize,
-> LayerRows<'a, P, PW, H, M, [PW::Value; D]> {
-    /// The rows from `first` on, `count` of them, if the layer has one matrix, which lends them in one piece. They are
-    /// below the height.
-    pub(crate) fn lone_rows(&self, first: usize, count: usize) -> Option<&[P::Value]>
-        requires { first + count ≤ self.now.height }
-        ensures { let rows = λ (j : ℕ). rows_over M.row_of self.now.matrices.now (first + j) in
-            IfSome result (λ words. IsStaged rows count words.now) }
-    {
-        let [matrix] = self.matrices else {
-            return None;
-        };
-        matrix.row_chunk(first, count)
-    }
+/// The rows from `first` on, `count` of them, if there is one matrix alone, which lends them in one piece. They are below
+/// `height`, which is that of each matrix.
+pub(crate) fn lone_rows<T: Copy, M: Matrix<T>>(
+    matrices: &[M],
+    height: usize,
+    first: usize,
+    count: usize,
+) -> Option<&[T]>
+    requires heights { All (λ m. M.height_of m ≡ height) matrices.now }
+    requires inside { first + count ≤ height }
+    ensures { let rows = λ (j : ℕ). rows_over M.row_of matrices.now (first + j) in
+        IfSome result (λ words. IsStaged rows count words.now) }
+{
+    let [matrix] = matrices else {
+        return None;
+    };
+    matrix.row_chunk(first, count)
 }

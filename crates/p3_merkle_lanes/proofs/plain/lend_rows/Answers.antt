@@ -1,14 +1,14 @@
 -- Each turn lends the row of one matrix.
 use Rattle.std.proofs.Common.{arith, sym, length-set}
 use Rattle.p3_merkle_lanes.proofs.LaneFacts.{height_at, piece_more, rows_more}
-use Rattle.p3_merkle_lanes.proofs.plain.LayerRows+P+PW+H+M+array+D+PW+Value.lend_rows.Goals as goal
+use Rattle.p3_merkle_lanes.proofs.plain.lend_rows.Goals as goal
 
 pub row_slice-requires : goal.row_slice-requires
 row_slice-requires g c =
-    let high = height_at g.M.Matrix.height_of c.args.self.now.height c.args.self.now.matrices.now
-    c.loop-matrix.matrix-index c.matrix-item.result c.args.self.now.of_height c.loop-matrix-test.true
+    let high = height_at g.M.Matrix.height_of c.args.height c.args.matrices.now
+    c.loop-matrix.matrix-index c.matrix-item.result c.requires.heights c.loop-matrix-test.true
     c.matrix-item.is in
-    omega (arith, high, c.requires)
+    omega (arith, high, c.requires.inside)
 
 pub loop-matrix-preserved : goal.loop-matrix-preserved
 loop-matrix-preserved g c =
@@ -21,6 +21,6 @@ loop-matrix-preserved g c =
       omega (arith, before.0, c.if-count-eq-MAX_PIECES.false),
       rw (length-set pieces count piece) before.1,
       rw (more, before.2, c.in_ok-pieces.ensures)
-          (sym (rows_more g.M.Matrix.row_of c.args.row c.args.self.now.matrices.now c.loop-matrix.matrix-index
+          (sym (rows_more g.M.Matrix.row_of c.args.row c.args.matrices.now c.loop-matrix.matrix-index
           c.matrix-item.result c.loop-matrix-test.true c.matrix-item.is)),
     )

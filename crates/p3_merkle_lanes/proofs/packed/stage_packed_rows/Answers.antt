@@ -4,14 +4,14 @@ use Rattle.std.proofs.lemmas.List.{take_all}
 use Rattle.p3_support.specs.Lists.{lane_of}
 use Rattle.p3_merkle_lanes.specs.Inner.Slots.{rows_over}
 use Rattle.p3_merkle_lanes.proofs.LaneFacts.{height_at, rows_more}
-use Rattle.p3_merkle_lanes.proofs.packed.LayerRows+P+PW+H+M+array+D+PW+Value.stage_packed_rows.Goals as goal
+use Rattle.p3_merkle_lanes.proofs.packed.stage_packed_rows.Goals as goal
 
 pub stage_packed_row-requires : goal.stage_packed_row-requires
 stage_packed_row-requires g c =
-    let high = height_at g.M.Matrix.height_of c.args.self.now.height c.args.self.now.matrices.now
-    c.loop-matrix.matrix-index c.matrix-item.result c.args.self.now.of_height c.loop-matrix-test.true
+    let high = height_at g.M.Matrix.height_of c.args.height c.args.matrices.now
+    c.loop-matrix.matrix-index c.matrix-item.result c.requires.heights c.loop-matrix-test.true
     c.matrix-item.is in
-    omega (arith, high, c.requires)
+    omega (arith, high, c.requires.inside)
 
 pub loop-matrix-preserved : goal.loop-matrix-preserved
 loop-matrix-preserved g c = λ k small.
@@ -19,7 +19,7 @@ loop-matrix-preserved g c = λ k small.
     let r : ℕ = c.args.row + k in
     c.in_ok-stage_packed_row.ensures k small
     ∙ ap (λ l. l ++ g.M.Matrix.row_of m r) (c.loop-matrix.invariant k small)
-    ∙ sym (rows_more g.M.Matrix.row_of r c.args.self.now.matrices.now c.loop-matrix.matrix-index m
+    ∙ sym (rows_more g.M.Matrix.row_of r c.args.matrices.now c.loop-matrix.matrix-index m
     c.loop-matrix-test.true c.matrix-item.is)
 
 pub loop-matrix-init : goal.loop-matrix-init
@@ -28,6 +28,6 @@ loop-matrix-init g c = λ k small.
 
 pub returns : goal.returns
 returns g c = λ k small.
-    let ms = c.args.self.now.matrices.now in
+    let ms = c.args.matrices.now in
     c.loop-matrix.invariant k small
     ∙ ap (λ l. rows_over g.M.Matrix.row_of l (c.args.row + k)) (take_all c.loop-matrix.matrix-index ms (omega arith))

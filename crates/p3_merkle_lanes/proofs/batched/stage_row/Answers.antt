@@ -3,18 +3,18 @@ use Rattle.std.proofs.Common.{arith, ◌++◌, ◌∙◌, ap, sym, take}
 use Rattle.std.proofs.lemmas.List.{append_assoc}
 use Rattle.p3_merkle_lanes.specs.Inner.Slots.{rows_over}
 use Rattle.p3_merkle_lanes.proofs.LaneFacts.{height_at, rows_more}
-use Rattle.p3_merkle_lanes.proofs.batched.LayerRows+P+PW+H+M+array+D+PW+Value.stage_row.Goals as goal
+use Rattle.p3_merkle_lanes.proofs.batched.stage_row.Goals as goal
 
 pub stage_row_of-requires : goal.stage_row_of-requires
 stage_row_of-requires g c =
-    let high = height_at g.M.Matrix.height_of c.args.self.now.height c.args.self.now.matrices.now
-    c.loop-matrix.matrix-index c.matrix-item.result c.args.self.now.of_height c.loop-matrix-test.true
+    let high = height_at g.M.Matrix.height_of c.args.height c.args.matrices.now
+    c.loop-matrix.matrix-index c.matrix-item.result c.requires.heights c.loop-matrix-test.true
     c.matrix-item.is in
-    omega (arith, high, c.requires)
+    omega (arith, high, c.requires.inside)
 
 pub loop-matrix-preserved : goal.loop-matrix-preserved
 loop-matrix-preserved g c =
-    let ms = c.args.self.now.matrices.now in
+    let ms = c.args.matrices.now in
     let m = c.matrix-item.result in
     let i = c.loop-matrix.matrix-index in
     let old = c.args.staged.now.items in

@@ -2,7 +2,7 @@
 use Rattle.std.proofs.Common.{arith, ℕ, ◌+◌, ◌<◌, ap, refl, length}
 use Rattle.p3_merkle_lanes.specs.Inner.Slots.{rows_over}
 use Rattle.p3_merkle_lanes.proofs.StageFacts.{all_widths, length-rows, staged_more, staged_all}
-use Rattle.p3_merkle_lanes.proofs.batched.LayerRows+P+PW+H+M+array+D+PW+Value.stage_rows.Goals as goal
+use Rattle.p3_merkle_lanes.proofs.batched.stage_rows.Goals as goal
 
 pub loop-j-init : goal.loop-j-init
 loop-j-init g c = let none = ap length c.clear.ensures.items in
@@ -10,19 +10,19 @@ loop-j-init g c = let none = ap length c.clear.ensures.items in
 
 pub loop-j-preserved : goal.loop-j-preserved
 loop-j-preserved g c =
-    let ms = c.args.self.now.matrices.now in
-    let h = c.args.self.now.height in
+    let ms = c.args.matrices.now in
+    let h = c.args.height in
     let f = λ (j : ℕ). rows_over g.M.Matrix.row_of ms (c.args.first + j) in
     let r : ℕ = c.args.first + c.loop-j.j in
-    let inside : r < h = omega (arith, c.requires) in
+    let inside : r < h = omega (arith, c.requires.inside) in
     rw c.in_ok-stage_row.ensures
     (staged_more f c.loop-j.staged.items (rows_over g.M.Matrix.row_of ms r) (all_widths g.M.Matrix.width_of ms)
     c.loop-j.j c.loop-j.invariant
     (length-rows g.M.Matrix.height_of g.M.Matrix.width_of g.M.Matrix.row_of h g.met.M.Matrix.length_row_of r inside ms
-    c.args.self.now.of_height) refl)
+    c.requires.heights) refl)
 
 pub returns : goal.returns
 returns g c =
-    let ms = c.args.self.now.matrices.now in
+    let ms = c.args.matrices.now in
     staged_all (λ (j : ℕ). rows_over g.M.Matrix.row_of ms (c.args.first + j)) c.loop-j.staged.items
     (all_widths g.M.Matrix.width_of ms) c.loop-j.j c.args.count c.loop-j.invariant (omega arith)
