@@ -6,7 +6,8 @@ use Rattle.std.specs.List.{flat_map, range_with_len}
 use Rattle.std.specs.Simd.{first_chunks}
 use Rattle.std.proofs.lemmas.Bool.{cases_lt, cases_eq}
 use Rattle.std.proofs.lemmas.List.{drop_at, take_all, take-append-le, drop-append-le, get_or-append_right, get_or-drop}
-use Rattle.std.proofs.lemmas.List.{get_or-take, drop-drop, flat_map_more, length-take-le}
+use Rattle.std.proofs.lemmas.List.{get_or-take, drop-drop, flat_map_more, length-take-le, length-map, get_or-map}
+use Rattle.std.proofs.lemmas.List.{get_or_append_left}
 use Rattle.std.proofs.lemmas.List.FromFn.{fill_by_all, get_or-map-range_with_len, length-map-range_with_len}
 use Rattle.std.proofs.lemmas.Simd.{map-map}
 use Rattle.std.proofs.Math.Nat.{mul-le-mul_left, mul-le-mul_right, mul_comm, mul-suc}
@@ -161,6 +162,20 @@ fill_part f made xs ys a k n len same inside is each before =
       filled = part_more f xs ys a k n [] (long ∙ part) (λ j h. ap (λ l. get_or l j []) is
           ∙ get_or-map-range_with_len made 0 (length (take k (drop a xs))) j j [] (omega (arith, part, h)) (omega arith)
           ∙ each j h) (omega arith) before.filled;
+    }
+
+-- the first slots hold what was made of the first of a list
+pub filled_front : {G W : Type 0} (C : List G → List W) (groups : List (List G)) (xs ys : List (List W)) (n : ℕ) →
+    n ≤ length groups → n ≤ length xs → ys ≡ map C (take n groups) →
+    IsFilled (λ j. C (get_or groups j [])) n (length xs) (ys ++ drop n xs)
+filled_front C groups xs ys n some room is =
+    let long : length ys ≡ n = ap length is ∙ length-map (take n groups) C ∙ length-take-le n groups some in
+    record {
+      long = omega (arith, length-append ys (drop n xs), length-drop n xs, long);
+      filled = λ j below. get_or_append_left ys (drop n xs) [] j (omega (arith, long, below))
+          ∙ ap (λ l. get_or l j []) is
+          ∙ get_or-map C (take n groups) j [] [] (omega (arith, length-take-le n groups some, below))
+          ∙ ap C (get_or-take n groups j [] below);
     }
 
 -- one more part of digests is compressed once more with the digests of rows

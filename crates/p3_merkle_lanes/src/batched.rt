@@ -91,6 +91,44 @@ fn stage_rows<T: Copy, M: Matrix<T>>(
     Ok(())
 }
 
+/// The words of `count` rows of the matrices, from `first` on, one row after another. They are lent by a matrix that
+/// stands alone and has them in one piece, and else staged. The matrices all have this height.
+fn words_of_rows<'b, T: Copy, M: Matrix<T>>(
+    staged: &'b mut Vec<T>,
+    matrices: &'b [M],
+    height: usize,
+    first: usize,
+    count: usize,
+) -> Result<&'b [T], AllocError>
+    requires heights { All (λ m. M.height_of m ≡ height) matrices.now }
+    requires inside { first + count ≤ height }
+    ensures { let rows = λ (j : ℕ). rows_over M.row_of matrices.now (first + j) in
+        IfOk result (λ words. IsStaged rows count words.now) }
+{
+    if let Some(words) = lone_rows(matrices, height, first, count) {
+        return Ok(words);
+    }
+    stage_rows(staged, matrices, height, first, count)?;
+    Ok(staged.as_slice())
+}
+
+/// A buffer for the rows that one call hashes, of `count` in all, and how many these are. The call works on `lanes` of
+/// them together.
+fn staging<P: PackedValue, M: Matrix<P::Value>>(
+    alloc: Global,
+    matrices: &[M],
+    lanes: usize,
+    count: usize,
+) -> Result<(usize, Vec<P::Value>), AllocError>
+    ensures { IfOk result (λ made. 1 ≤ made.0) }
+{
+    let len = row_len(matrices);
+    let bytes = len.saturating_mul(std::mem::size_of_val(&P::Value::default()));
+    let rows = rows_per_call(bytes, lanes);
+    let staged = Vec::with_capacity(alloc, rows.min(count).saturating_mul(len))?;
+    Ok((rows, staged))
+}
+
 impl<
     'a,
     P: PackedValue,
@@ -111,12 +149,8 @@ impl<
             ≡ map (λ j. H.hash self.now.hash.now (rows_over M.row_of self.now.matrices.now (first + j)))
             (range_with_len 0 (length slots.old))) }
     {
-        if let Some(words) = lone_rows(self.matrices, self.height, first, slots.len()) {
-            self.hash.hash_many(words, slots);
-            return Ok(());
-        }
-        stage_rows(staged, self.matrices, self.height, first, slots.len())?;
-        self.hash.hash_many(staged, slots);
+        let words = words_of_rows(staged, self.matrices, self.height, first, slots.len())?;
+        self.hash.hash_many(words, slots);
         Ok(())
     }
 
@@ -138,10 +172,7 @@ impl<
             (rows_over M.row_of self.now.matrices.now) self.now.height in
             IfOk result (λ done. IsFilled leaf count (length slots.old) slots.new) }
     {
-        let len = row_len(self.matrices);
-        let bytes = len.saturating_mul(std::mem::size_of_val(&P::Value::default()));
-        let rows = rows_per_call(bytes, H::LANES);
-        let mut staged = Vec::with_capacity(alloc, rows.min(count).saturating_mul(len))?;
+        let (rows, mut staged) = staging::<P, M>(alloc, self.matrices, H::LANES, count)?;
         let mut first = 0;
         while first < count {
             let end = first + rows.min(count - first);

@@ -1,25 +1,14 @@
--- Rows that are lent in one piece or staged are messages of one length.
+-- The rows are messages of one length.
 use Rattle.std.proofs.Common.{ℕ, ◌+◌, ◌∙◌, ap, map, length}
 use Rattle.std.specs.List.{range_with_len}
 use Rattle.std.proofs.lemmas.Simd.{map-map}
-use Rattle.p3_support.specs.Lists.{messages}
 use Rattle.p3_merkle_lanes.specs.Inner.Slots.{rows_over}
 use Rattle.p3_merkle_lanes.proofs.batched.LayerRows+P+PW+H+M+array+D+PW+Value.hash_rows.Goals as goal
 
-pub returns-in-Some : goal.returns-in-Some
-returns-in-Some g c =
-    let s = c.in-Some.ensures in
+pub returns : goal.returns
+returns g c =
+    let s = c.in_ok-words.ensures in
     let hash = g.H.CryptographicHasher.hash c.args.self.now.hash.now in
     let rows = λ (j : ℕ). rows_over g.M.Matrix.row_of c.args.self.now.matrices.now (c.args.first + j) in
     c.hash_many.ensures s.width s.long ∙ ap (map hash) s.are
     ∙ map-map hash rows (range_with_len 0 (length c.args.slots.now))
-
-pub returns : goal.returns
-returns g c =
-    let s = c.in_ok-stage_rows.ensures in
-    let n = length c.args.slots.now in
-    let hash = g.H.CryptographicHasher.hash c.args.self.now.hash.now in
-    let rows = λ (j : ℕ). rows_over g.M.Matrix.row_of c.args.self.now.matrices.now (c.args.first + j) in
-    c.hash_many-2.ensures s.width (ap length c.deref.ensures.value ∙ s.long)
-    ∙ ap (λ ws. map hash (messages s.width n ws)) c.deref.ensures.value
-    ∙ ap (map hash) s.are ∙ map-map hash rows (range_with_len 0 n)
