@@ -104,6 +104,21 @@ fn packed_row_digest<
     hash.hash_packed(matrix.vertically_packed_row::<P>(row))
 }
 
+/// The digests of messages that are packed word by word: lane `k` is that of lane `k` of the words, for each lane that
+/// both packings have.
+fn packed_words_digest<
+    P: PackedValue,
+    PW: PackedValue,
+    H: CryptographicHasher<P, PW, D>,
+    const D: usize,
+>(hash: &H, words: &[P]) -> [PW; D]
+    ensures { (k : ℕ) → k < P.WIDTH → k < PW.WIDTH →
+        lane_of PW.lanes PW.default_value k result
+        ≡ H.hash hash.now (lane_of P.lanes P.default_value k words.now) }
+{
+    hash.hash_packed(words.iter().copied())
+}
+
 impl<
     'a,
     P: PackedValue,
@@ -128,7 +143,7 @@ impl<
             [matrix] => Ok(packed_row_digest::<P, PW, H, M, D>(self.hash, matrix, row)),
             _ => {
                 stage_packed_rows(staged, self.matrices, self.height, row)?;
-                Ok(self.hash.hash_packed(staged.iter().copied()))
+                Ok(packed_words_digest::<P, PW, H, D>(self.hash, staged))
             },
         }
     }

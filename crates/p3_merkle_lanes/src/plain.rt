@@ -55,6 +55,15 @@ fn no_pieces<'a, T>() -> [&'a [T]; MAX_PIECES] {
     [&[]; MAX_PIECES]
 }
 
+/// Whether rows are lent side by side, for the width of the first matrix. Whole pieces are hashed without a look for the
+/// next word's matrix.
+fn are_wide<T: Copy, M: Matrix<T>>(matrices: &[M]) -> bool {
+    match matrices {
+        [first, ..] => first.width() >= MIN_LENT_WIDTH,
+        [] => false,
+    }
+}
+
 /// Fills `pieces` from its start with row `row` of each matrix, and returns how many there are, if `pieces` is long
 /// enough and each matrix lends its row. The row is below `height`, which is that of each matrix.
 fn lend_rows<'b, T: Copy, M: Matrix<T>>(
@@ -122,12 +131,16 @@ impl<
     M: Matrix<P::Value>,
     const D: usize,
 > LayerRows<'a, P, PW, H, M, [PW::Value; D]> {
-    /// The digest of a row, if the matrices are few and each lends its own. The row is below the height.
+    /// The digest of a row, if the matrices are few, the first is wide enough, and each lends its own. The row is below
+    /// the height.
     fn pieces_digest(&self, row: usize) -> Option<[PW::Value; D]>
         requires { row < self.now.height }
         ensures { IfSome result
             (λ digest. digest ≡ H.hash self.now.hash.now (rows_over M.row_of self.now.matrices.now row)) }
     {
+        if !are_wide(self.matrices) {
+            return None;
+        }
         let mut pieces = no_pieces();
         let count = lend_rows(self.matrices, self.height, row, &mut pieces)?;
         Some(self.hash.hash_iter_slices(pieces[..count].iter().copied()))
@@ -145,12 +158,7 @@ impl<
         if let Some(matrix) = lone_matrix(self.matrices, self.height) {
             return row_digest::<P, PW, H, M, D>(self.hash, matrix, row);
         }
-        let lent = match self.matrices {
-            // Whole pieces are hashed without a look for the next word's matrix.
-            [first, ..] if first.width() >= MIN_LENT_WIDTH => self.pieces_digest(row),
-            _ => None,
-        };
-        match lent {
+        match self.pieces_digest(row) {
             Some(digest) => digest,
             None => self
                 .hash
