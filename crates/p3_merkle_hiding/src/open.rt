@@ -14,12 +14,14 @@ ghost use Rattle.p3_merkle_tree.specs.Schemes.{cap_layer_over};
 ghost use Rattle.p3_support.specs.Pairs.{left_of};
 ghost use Rattle.p3_support.specs.Shown.{row_lists, row_sets};
 ghost use Rattle.p3_merkle_hiding.specs.HidingSchemes.{plain_of, salted_made, salted_pruned_made, salted_terms_of};
-ghost use Rattle.p3_merkle_salts.specs.SaltedOpenings.{IsSaltedAccepted, IsSaltedPrunedAccepted};
+ghost use Rattle.p3_merkle_salts.specs.SaltedOpenings.{salt_parts, unsalted_parts, IsSaltedAccepted};
+ghost use Rattle.p3_merkle_salts.specs.SaltedOpenings.{IsSaltedPrunedAccepted};
 ghost use Rattle.p3_merkle_salts.specs.SaltedTrees.{left_batch, right_batch, unsalted_dimensions, HaveSaltColumns};
 
 use crate::hiding_mmcs::{MerkleTreeHidingMmcs, SaltedMultiProof, SaltedProof, SaltedTree};
 use p3_merkle_core::error::MerkleTreeError;
 use p3_merkle_prover::opener::matrix_refs;
+use p3_merkle_prover::tree::Tree;
 use p3_merkle_salts::join::{split_row_sets, split_rows};
 use p3_merkle_salts::pairs::{left_matrices, left_widths};
 use p3_support::compress::PseudoCompressionFunction;
@@ -27,22 +29,81 @@ use p3_support::hasher::CryptographicHasher;
 use p3_support::matrix::Matrix;
 use p3_support::opening::BatchOpening;
 use p3_support::packed::PackedValue;
+use p3_support::pair::HorizontalPair;
 use std::alloc::Global;
 
-/// The width of each matrix of a tree without its salts, in input order.
+/// The matrices of a tree of pairs without their salts, in input order.
 ///
 /// # Errors
 ///
 /// Only `OutOfMemory`.
-fn unsalted_widths<F: Copy, W: Copy, M: Matrix<F>, const N: usize, const D: usize>(
+fn unsalted_matrices<'a, F, X, G, A: Matrix<F>, B: Matrix<F>, const N: usize>(
     alloc: Global,
-    tree: &SaltedTree<F, W, M, N, D>,
+    tree: &'a Tree<F, X, G, HorizontalPair<F, A, B>, N>,
+) -> Result<Vec<&'a A>, MerkleTreeError>
+    ensures matrices { IfOk result (λ v. map (λ m. m.now) v.items ≡ map left_of (matrices_of tree.now)) }
+    ensures memory { AnswersUnlessMemory result None }
+{
+    let pairs = matrix_refs(alloc, tree)?;
+    Ok(left_matrices(alloc, &pairs)?)
+}
+
+/// The width of each of these matrices.
+///
+/// # Errors
+///
+/// Only `OutOfMemory`.
+fn unsalted_widths<F, X, G, A: Matrix<F>, B: Matrix<F>, const N: usize>(
+    alloc: Global,
+    tree: &Tree<F, X, G, HorizontalPair<F, A, B>, N>,
 ) -> Result<Vec<usize>, MerkleTreeError>
-    ensures widths { IfOk result (λ v. v.items ≡ map (λ p. M.width_of (left_of p)) (matrices_of tree.now)) }
+    ensures widths { IfOk result (λ v. v.items ≡ map (λ p. A.width_of (left_of p)) (matrices_of tree.now)) }
     ensures memory { AnswersUnlessMemory result None }
 {
     let pairs = matrix_refs(alloc, tree)?;
     Ok(left_widths(alloc, &pairs)?)
+}
+
+/// Splits each row of an opening of pairs into the matrix's own words and its salts, which go beside what proves it.
+///
+/// # Errors
+///
+/// Only `OutOfMemory`.
+fn split_opening<F: Copy, S: Drop, X, G, A: Matrix<F>, B: Matrix<F>, const N: usize>(
+    alloc: Global,
+    tree: &Tree<F, X, G, HorizontalPair<F, A, B>, N>,
+    opening: BatchOpening<F, S>,
+) -> Result<BatchOpening<F, (Vec<Vec<F>>, S)>, MerkleTreeError>
+    ensures parts { let widths = map (λ p. A.width_of (left_of p)) (matrices_of tree.now) in
+        let joined = row_lists opening.opened_values.items in
+        IfOk result (λ o. (row_lists o.opened_values.items ≡ unsalted_parts widths joined)
+        × (row_lists o.opening_proof.0.items ≡ salt_parts widths joined)
+        × (o.opening_proof.1 ≡ opening.opening_proof)) }
+    ensures memory { AnswersUnlessMemory result None }
+{
+    let widths = unsalted_widths(alloc, tree)?;
+    let (joined, siblings) = opening.unpack();
+    let (rows, salts) = split_rows(alloc, &widths, &joined)?;
+    Ok(BatchOpening::new(rows, (salts, siblings)))
+}
+
+/// The same of the row sets of several indices.
+///
+/// # Errors
+///
+/// Only `OutOfMemory`.
+fn split_sets<F: Copy, X, G, A: Matrix<F>, B: Matrix<F>, const N: usize>(
+    alloc: Global,
+    tree: &Tree<F, X, G, HorizontalPair<F, A, B>, N>,
+    joined: &[Vec<Vec<F>>],
+) -> Result<(Vec<Vec<Vec<F>>>, Vec<Vec<Vec<F>>>), MerkleTreeError>
+    ensures parts { let widths = map (λ p. A.width_of (left_of p)) (matrices_of tree.now) in
+        IfOk result (λ v. (row_sets v.0.items ≡ map (unsalted_parts widths) (row_sets joined.now))
+        × (row_sets v.1.items ≡ map (salt_parts widths) (row_sets joined.now))) }
+    ensures memory { AnswersUnlessMemory result None }
+{
+    let widths = unsalted_widths(alloc, tree)?;
+    Ok(split_row_sets(alloc, &widths, joined)?)
 }
 
 impl<
@@ -88,10 +149,8 @@ impl<
             IfOk result (λ o. IsSaltedAccepted SALT_ELEMS ds c (cap_over c b) (salted_made index o)) }
         ensures memory { AnswersUnlessMemory result None }
     {
-        let widths = unsalted_widths(alloc, tree)?;
-        let (joined, siblings) = self.plain.open_batch(alloc, index, tree)?.unpack();
-        let (rows, salts) = split_rows(alloc, &widths, &joined)?;
-        Ok(BatchOpening::new(rows, (salts, siblings)))
+        let opening = self.plain.open_batch(alloc, index, tree)?;
+        split_opening(alloc, tree, opening)
     }
 
     /// Opens several leaves of a tree by one pruned proof. The indices count rows of the tallest matrix and must be
@@ -134,9 +193,8 @@ impl<
             (salted_pruned_made indices.now o.0 o.1)) }
         ensures memory { AnswersUnlessMemory result None }
     {
-        let widths = unsalted_widths(alloc, tree)?;
         let opening = self.plain.open_batch_pruned(alloc, indices, tree)?;
-        let (rows, salts) = split_row_sets(alloc, &widths, &opening.opened_values)?;
+        let (rows, salts) = split_sets(alloc, tree, &opening.opened_values)?;
         Ok((rows, (salts, opening.pruned_proof)))
     }
 
@@ -153,8 +211,7 @@ impl<
         ensures matrices { IfOk result (λ v. map (λ m. m.now) v.items ≡ map left_of (matrices_of tree.now)) }
         ensures memory { AnswersUnlessMemory result None }
     {
-        let pairs = self.plain.get_matrices(alloc, tree)?;
-        Ok(left_matrices(alloc, &pairs)?)
+        unsalted_matrices(alloc, tree)
     }
 
     /// The height of the tallest matrix of a tree, in rows: one more than the greatest index that can be opened.

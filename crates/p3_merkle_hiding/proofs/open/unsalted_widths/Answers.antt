@@ -6,6 +6,6 @@ use Rattle.p3_merkle_hiding.proofs.open.unsalted_widths.Goals as goal
 
 pub returns-clause-widths : goal.returns-clause-widths
 returns-clause-widths g c = c.in_ok-left_widths.ensures
-    ∙ ap (map (λ p. g.M.Matrix.width_of (left_of p.now))) c.deref.ensures.value
-    ∙ sym (map-map (λ p. g.M.Matrix.width_of (left_of p)) (λ p. p.now) c.in_ok-pairs.pairs.items)
-    ∙ ap (map (λ p. g.M.Matrix.width_of (left_of p))) c.in_ok-pairs.ensures.matrices
+    ∙ ap (map (λ p. g.A.Matrix.width_of (left_of p.now))) c.deref.ensures.value
+    ∙ sym (map-map (λ p. g.A.Matrix.width_of (left_of p)) (λ p. p.now) c.in_ok-pairs.pairs.items)
+    ∙ ap (map (λ p. g.A.Matrix.width_of (left_of p))) c.in_ok-pairs.ensures.matrices

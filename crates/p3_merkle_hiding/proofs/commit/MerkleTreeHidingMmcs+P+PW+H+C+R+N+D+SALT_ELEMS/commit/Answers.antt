@@ -78,5 +78,3 @@ returns g c =
       untouched = memory_or _ r memory;
       scheme = refl;
     }
-
--- x

@@ -1,12 +1,13 @@
 -- Each row is taken apart where its left matrix ends; of an own tree the opening is accepted.
 use Rattle.std.proofs.Common.{◌∙◌, List, ap, map, subst, sym}
+use Rattle.std.proofs.lemmas.Result.{IfOk-weaker}
 use Rattle.p3_merkle_core.specs.Nodes.{dimensions_of}
 use Rattle.p3_merkle_core.specs.Commitments.{cap_over}
 use Rattle.p3_merkle_core.specs.Openings.{Opening, opening_of}
 use Rattle.p3_merkle_core.specs.Checks.{IsAccepted}
 use Rattle.p3_merkle_prover.specs.Parts.{matrices_of, tree_batch}
 use Rattle.p3_merkle_tree.specs.Schemes.{terms_of}
-use Rattle.p3_support.specs.Shown.{row_lists}
+use Rattle.p3_support.specs.Pairs.{left_of}
 use Rattle.p3_merkle_hiding.proofs.SplitFacts.{left_is, right_is, salted_from}
 use Rattle.p3_merkle_hiding.specs.HidingSchemes.{plain_of}
 use Rattle.p3_merkle_salts.specs.SaltedOpenings.{IsSaltedAccepted, SaltedOpening, salt_parts, salted_of, unsalted_parts}
@@ -17,26 +18,28 @@ use Rattle.p3_merkle_hiding.proofs.open.MerkleTreeHidingMmcs+P+PW+H+C+R+N+D+SALT
 pub returns-clause-rows : goal.returns-clause-rows
 returns-clause-rows g c =
     let tree = c.args.tree.now in
-    let widths = c.deref.ensures.value ∙ c.in_ok-widths.ensures.widths in
-    let joined = ap row_lists (c.deref-2.ensures.value ∙ ap (λ v. v.items) c.unpack-joined.ensures.values)
-    ∙ ap (λ (z : Opening _ _). z.rows) c.in_ok-open_batch.ensures.opened in
-    ap (λ v. row_lists v.items) c.new.ensures.values ∙ c.in_ok-rows.ensures.rows
-    ∙ (λ i. unsalted_parts (widths i) (joined i))
-    ∙ left_is g.row.N (matrices_of tree) g.met.M.Matrix.length_row_of tree.lawful c.args.index c.requires
+    let widths = map (λ p. g.M.Matrix.width_of (left_of p)) (matrices_of tree) in
+    let joined = ap (λ (z : Opening _ _). z.rows) c.in_ok-opening.ensures.opened in
+    IfOk-weaker c.split_opening.result _ _
+    (λ o are. are.0 ∙ ap (unsalted_parts widths) joined
+    ∙ left_is g.row.N (matrices_of tree) g.met.M.Matrix.length_row_of tree.lawful c.args.index c.requires)
+    c.split_opening.ensures.parts
 
 pub returns-clause-salts : goal.returns-clause-salts
 returns-clause-salts g c =
     let tree = c.args.tree.now in
-    let widths = c.deref.ensures.value ∙ c.in_ok-widths.ensures.widths in
-    let joined = ap row_lists (c.deref-2.ensures.value ∙ ap (λ v. v.items) c.unpack-joined.ensures.values)
-    ∙ ap (λ (z : Opening _ _). z.rows) c.in_ok-open_batch.ensures.opened in
-    ap (λ v. row_lists v.0.items) c.new.ensures.proof ∙ c.in_ok-rows.ensures.salts
-    ∙ (λ i. salt_parts (widths i) (joined i))
-    ∙ right_is g.row.N (matrices_of tree) g.met.M.Matrix.length_row_of tree.lawful c.args.index c.requires
+    let widths = map (λ p. g.M.Matrix.width_of (left_of p)) (matrices_of tree) in
+    let joined = ap (λ (z : Opening _ _). z.rows) c.in_ok-opening.ensures.opened in
+    IfOk-weaker c.split_opening.result _ _
+    (λ o are. are.1 ∙ ap (salt_parts widths) joined
+    ∙ right_is g.row.N (matrices_of tree) g.met.M.Matrix.length_row_of tree.lawful c.args.index c.requires)
+    c.split_opening.ensures.parts
 
 pub returns-clause-siblings : goal.returns-clause-siblings
-returns-clause-siblings g c = ap (λ v. v.1.items) c.new.ensures.proof ∙ ap (λ v. v.items) c.unpack-joined.ensures.proof
-    ∙ ap (λ (z : Opening _ _). z.siblings) c.in_ok-open_batch.ensures.opened
+returns-clause-siblings g c =
+    IfOk-weaker c.split_opening.result _ _
+    (λ o are. ap (λ v. v.items) are.2 ∙ ap (λ (z : Opening _ _). z.siblings) c.in_ok-opening.ensures.opened)
+    c.split_opening.ensures.parts
 
 pub returns-clause-accepted : goal.returns-clause-accepted
 returns-clause-accepted g c = λ own salted.
@@ -48,14 +51,20 @@ returns-clause-accepted g c = λ own salted.
     let b = tree_batch tree in
     let ds = unsalted_dimensions n (matrices_of tree) in
     let wide = terms (widened e ds) in
-    let siblings = c.in_ok-open_batch.field-0.opening_proof.items in
+    let siblings = c.in_ok-opening.opening.opening_proof.items in
     let plain = terms (dimensions_of (map pair_matrix (matrices_of tree))) in
+    let joined = ap (λ (z : Opening _ _). z.rows) c.in_ok-opening.ensures.opened in
     let accepted =
     subst (λ (rows : List (List _)). IsAccepted plain (cap_over plain b) (opening_of c.args.index rows siblings))
-    (ap (λ (z : Opening _ _). z.rows) c.in_ok-open_batch.ensures.opened)
-    (c.in_ok-open_batch.ensures.accepted own) in
+    joined (c.in_ok-opening.ensures.accepted own) in
     let made = salted_from n (matrices_of tree) g.met.M.Matrix.length_row_of tree.lawful terms (λ k. cap_over k b) e
     c.args.index siblings c.requires salted accepted in
-    let sent = ap (λ v. v.1.items) c.new.ensures.proof ∙ ap (λ v. v.items) c.unpack-joined.ensures.proof in
-    subst (λ (o : SaltedOpening _ _). IsSaltedAccepted e ds wide (cap_over wide b) o)
-    (λ i. salted_of c.args.index (sym (returns-clause-rows g c) i) (sym (returns-clause-salts g c) i) (sym sent i)) made
+    let widths = map (λ p. g.M.Matrix.width_of (left_of p)) (matrices_of tree) in
+    let left = ap (unsalted_parts widths) joined
+    ∙ left_is n (matrices_of tree) g.met.M.Matrix.length_row_of tree.lawful c.args.index c.requires in
+    let right = ap (salt_parts widths) joined
+    ∙ right_is n (matrices_of tree) g.met.M.Matrix.length_row_of tree.lawful c.args.index c.requires in
+    IfOk-weaker c.split_opening.result _ _
+    (λ o are. subst (λ (o : SaltedOpening _ _). IsSaltedAccepted e ds wide (cap_over wide b) o)
+    (λ i. salted_of c.args.index (sym (are.0 ∙ left) i) (sym (are.1 ∙ right) i) (sym (ap (λ v. v.items) are.2) i)) made)
+    c.split_opening.ensures.parts

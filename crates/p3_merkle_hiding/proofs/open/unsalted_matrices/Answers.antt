@@ -2,7 +2,7 @@
 use Rattle.std.proofs.Common.{◌∙◌, ap, map, sym}
 use Rattle.std.proofs.lemmas.Simd.{map-map}
 use Rattle.p3_support.specs.Pairs.{left_of}
-use Rattle.p3_merkle_hiding.proofs.open.MerkleTreeHidingMmcs+P+PW+H+C+R+N+D+SALT_ELEMS.get_matrices.Goals as goal
+use Rattle.p3_merkle_hiding.proofs.open.unsalted_matrices.Goals as goal
 
 pub returns-clause-matrices : goal.returns-clause-matrices
 returns-clause-matrices g c =
