@@ -1,0 +1,40 @@
+-- The tree is the scheme's own, so that its opening is accepted, and has as many digests as it should.
+use Rattle.std.proofs.Common.{◌∙◌, Err, ap, refl}
+use Rattle.std.proofs.lemmas.Result.{err_from_is_err_and}
+use Rattle.p3_support.specs.Shown.{roots_of, row_sets}
+use Rattle.p3_merkle_core.specs.Commitments.{cap_over}
+use Rattle.p3_merkle_core.specs.Geometry.{shape_of}
+use Rattle.p3_merkle_core.specs.Nodes.{shape}
+use Rattle.p3_merkle_core.specs.Pruning.{pruned_len, pruned_of}
+use Rattle.p3_merkle_core.specs.Views.{pruned_lent, pruned_made}
+use Rattle.p3_merkle_tree.specs.Parts.{tree_batch}
+use Rattle.p3_merkle_tree.specs.Schemes.{cap_layer_over, terms_over}
+use Rattle.mmcs_text.specs.Text.{ok_line}
+use Rattle.mmcs_engine.proofs.ReplyFacts.{accepted_lent, failed_alone}
+use Rattle.mmcs_engine.proofs.engine.check_text.Goals as goal
+
+pub returns-in_err-verify_batch_pruned-clause-memory : goal.returns-in_err-verify_batch_pruned-clause-memory
+returns-in_err-verify_batch_pruned-clause-memory g c =
+    let r = c.from_residual-in_err-verify_batch_pruned.result in
+    let left = err_from_is_err_and r c.from_residual-in_err-verify_batch_pruned.ensures.1 in
+    let terms = terms_over g.H.CryptographicHasher.hash g.C.PseudoCompressionFunction.compression g.row.D
+    c.args.scheme.now in
+    let b = tree_batch c.args.committed.now.tree in
+    let opening = c.in_ok-opening.opening in
+    let is = c.args.indices.now in
+    let shapes = ap (shape_of g.row.N) c.deref.ensures.value ∙ c.requires.dimensions in
+    failed_alone r c.verify_batch_pruned.result _ (left.1 ∙ ap Err left.2) c.in_err-verify_batch_pruned.was
+    (c.verify_batch_pruned.ensures.verdict.taken
+    (accepted_lent terms (shape_of g.row.N c.deref.result.now) (shape b) (roots_of c.args.committed.now.roots)
+    (cap_over (terms (shape b)) b) (pruned_lent is c.deref-2.result.now opening.pruned_proof) (pruned_made is opening)
+    shapes c.requires.committed.own_cap
+    (ap (λ sets. pruned_of is (row_sets sets) opening.pruned_proof.sibling_hashes.items) c.deref-2.ensures.value)
+    (c.in_ok-opening.ensures.accepted c.requires.committed.own_layers)))
+
+pub returns-clause-text : goal.returns-clause-text
+returns-clause-text g c =
+    let shapes = ap (shape_of g.row.N) c.deref.ensures.value ∙ c.requires.dimensions in
+    c.in_ok-text_of_count.ensures
+    ∙ ap ok_line (c.len.ensures ∙ c.in_ok-opening.opening.pruned_proof.sibling_hashes.ok.0
+    ∙ c.in_ok-verify_batch_pruned.ensures.count refl
+    ∙ ap (λ s. pruned_len s c.args.indices.now (cap_layer_over c.args.scheme.now s)) shapes)
