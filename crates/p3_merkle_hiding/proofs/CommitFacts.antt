@@ -10,9 +10,7 @@ use Rattle.p3_merkle_core.specs.Gate.{gate_refusal}
 use Rattle.p3_merkle_core.specs.Nodes.{Matrix, dimensions_of}
 use Rattle.p3_merkle_core.specs.declared.error.MerkleTreeError.{MerkleTreeError}
 use Rattle.p3_merkle_core.specs.declared.error.MerkleTreeError.TheVariants.{OutOfMemory}
-use Rattle.p3_merkle_core.proofs.Pruned.NoneFacts.{none_of_both}
 use Rattle.p3_merkle_salts.specs.Salted.{salted_matrices}
-use Rattle.p3_merkle_salts.specs.SaltRefusals.{salted_commit_refusal, widening_refusal}
 use Rattle.p3_merkle_salts.specs.SaltedOpenings.{widened}
 
 -- salted matrices have their heights
@@ -73,8 +71,3 @@ module _ {A : Type 0} where
   pub stays : (P : Type 0) (r : Result A MerkleTreeError) → P → IfErr r (λ e. (e ≡ OutOfMemory) ⊎ P)
   stays P (Ok v) holds = tt
   stays P (Err e) holds = inr holds
-
--- matrices that pass the gate, and can be wider, are not refused
-pub commit_none : (e : ℕ) (ds : List Dimensions) → gate_refusal (heights_of ds) ≡ None → widening_refusal e ds ≡ None →
-    salted_commit_refusal e ds ≡ None
-commit_none e ds gate wide = none_of_both (gate_refusal (heights_of ds)) (widening_refusal e ds) gate wide

@@ -1,6 +1,6 @@
 //! Commitments to salted matrices: heights and widths are checked, salts are drawn, and the plain scheme commits.
 
-ghost use Rattle.std.specs.Prelude.{◌≡◌, ◌≤◌, ◌⊎◌, IfErr, IfOk, OnOk, map};
+ghost use Rattle.std.specs.Prelude.{◌≡◌, ◌≤◌, ◌⊎◌, IfErr, IfOk, MatchResult, None, OnOk, Some, map};
 ghost use Rattle.p3_merkle_core.specs.Refusals.{AnswersUnlessMemory};
 ghost use Rattle.p3_merkle_core.specs.Commitments.{IsCommitment};
 ghost use Rattle.p3_merkle_core.specs.Views.{batch_of, matrix_of};
@@ -12,6 +12,7 @@ ghost use Rattle.p3_support.specs.Shown.{roots_of};
 ghost use Rattle.p3_merkle_hiding.specs.HidingSchemes.{generator_of, plain_of, salted_terms_of};
 ghost use Rattle.p3_merkle_salts.specs.Salted.{after_salts, salted_batch, salted_matrices, IsAfterSome};
 ghost use Rattle.p3_merkle_salts.specs.SaltRefusals.{salted_commit_refusal};
+ghost use Rattle.p3_merkle_salts.specs.SaltedOpenings.{CanWiden};
 ghost use Rattle.p3_merkle_salts.specs.SaltedTrees.{pair_matrix, HaveSaltColumns};
 
 use crate::hiding_mmcs::{MerkleTreeHidingMmcs, SaltedTree};
@@ -22,7 +23,7 @@ use p3_merkle_salts::draw::salted_pairs;
 use p3_merkle_salts::join::check_widening;
 use p3_support::compress::PseudoCompressionFunction;
 use p3_support::hasher::CryptographicHasher;
-use p3_support::matrix::{Matrix, RowMajorMatrix};
+use p3_support::matrix::{Dimensions, Matrix, RowMajorMatrix};
 use p3_support::opening::MerkleCap;
 use p3_support::packed::PackedValue;
 use p3_support::pair::HorizontalPair;
@@ -122,8 +123,21 @@ fn checked_pairs<T: SaltWord, M: Matrix<T> + Drop, R: Rng>(
     ensures untouched { IfErr result (λ e. (e ≡ OutOfMemory) ⊎ (rng.new ≡ rng.old)) }
 {
     let dimensions = batch_dimensions(alloc, &matrices)?;
-    check_heights(&dimensions)?;
-    check_widening(&dimensions, salt_elems)?;
+    check_dimensions(&dimensions, salt_elems)?;
     let pairs = salted_pairs(alloc, rng, salt_elems, matrices)?;
     Ok(pairs)
+}
+
+/// Checks that a tree can have the heights of matrices, and that the width of each with its salts fits `usize`.
+///
+/// # Errors
+///
+/// `EmptyBatch`, `TooLarge` or `IncompatibleHeights` for the heights; else `TooLarge` for the first width.
+fn check_dimensions(dimensions: &[Dimensions], salt_elems: usize) -> Result<(), MerkleTreeError>
+    ensures answer { let refusal = salted_commit_refusal salt_elems dimensions.now in
+        MatchResult result (λ ok. refusal ≡ None) (λ e. refusal ≡ Some e) }
+    ensures fits { IfOk result (λ ok. CanWiden salt_elems dimensions.now) }
+{
+    check_heights(dimensions)?;
+    check_widening(dimensions, salt_elems)
 }

@@ -1,13 +1,11 @@
 -- What is refused draws nothing; else the pairs are those that are drawn.
-use Rattle.std.proofs.Common.{◌≡◌, ◌∙◌, List, ap, map, refl, rules, subst, sym}
+use Rattle.std.proofs.Common.{◌∙◌, List, ap, map, refl, rules, subst, sym}
 use Rattle.p3_support.specs.declared.matrix.Dimensions.{Dimensions}
 use Rattle.p3_merkle_core.specs.Refusals.{AnswersUnlessMemory}
-use Rattle.p3_support.specs.Batches.{heights_of}
 use Rattle.p3_merkle_core.specs.Views.{matrix_of}
-use Rattle.p3_merkle_core.specs.Gate.{gate_refusal}
 use Rattle.p3_merkle_core.specs.Nodes.{dimensions_of}
-use Rattle.p3_merkle_salts.specs.SaltRefusals.{salted_commit_refusal, widening_refusal}
-use Rattle.p3_merkle_hiding.proofs.CommitFacts.{commit_none, nothing_drawn, nothing_made, stays}
+use Rattle.p3_merkle_salts.specs.SaltRefusals.{salted_commit_refusal}
+use Rattle.p3_merkle_hiding.proofs.CommitFacts.{nothing_drawn, nothing_made, stays}
 use Rattle.p3_merkle_hiding.proofs.commit.checked_pairs.Goals as goal
 
 pub returns-in_err-dimensions : goal.returns-in_err-dimensions
@@ -24,37 +22,16 @@ returns-in_err-dimensions g c =
       untouched = stays _ r refl;
     }
 
-pub returns-in_err-check_heights : goal.returns-in_err-check_heights
-returns-in_err-check_heights g c =
-    let r = c.from_residual-in_err-check_heights.result in
-    let err = c.from_residual-in_err-check_heights.ensures.0 in
+pub returns-in_err-check_dimensions : goal.returns-in_err-check_dimensions
+returns-in_err-check_dimensions g c =
+    let r = c.from_residual-in_err-check_dimensions.result in
+    let err = c.from_residual-in_err-check_dimensions.ensures.0 in
     let shown = map (matrix_of g.M.Matrix.height_of g.M.Matrix.width_of g.M.Matrix.row_of) in
     let are = c.deref-2.ensures.value ∙ c.in_ok-dimensions.ensures
     ∙ ap (λ ms. dimensions_of (shown ms)) c.deref.ensures.value in
     record {
       answer = subst (λ (ds : List Dimensions). AnswersUnlessMemory r (salted_commit_refusal c.args.salt_elems ds)) are
           (search rules);
-      matrices = nothing_made _ r err;
-      columns = nothing_made _ r err;
-      salted = nothing_made _ r err;
-      rest = nothing_drawn _ r err;
-      further = (0, refl);
-      untouched = stays _ r refl;
-    }
-
-pub returns-in_err-check_widening : goal.returns-in_err-check_widening
-returns-in_err-check_widening g c =
-    let r = c.from_residual-in_err-check_widening.result in
-    let err = c.from_residual-in_err-check_widening.ensures.0 in
-    let shown = map (matrix_of g.M.Matrix.height_of g.M.Matrix.width_of g.M.Matrix.row_of) in
-    let are = c.deref-3.ensures.value ∙ c.in_ok-dimensions.ensures
-    ∙ ap (λ ms. dimensions_of (shown ms)) c.deref.ensures.value in
-    let gate : gate_refusal (heights_of c.deref-3.result.now)
-    ≡ _ = ap (λ (ds : List Dimensions). gate_refusal (heights_of ds)) (c.deref-3.ensures.value
-    ∙ sym c.deref-2.ensures.value) ∙ c.in_ok-check_heights.ensures.answer in
-    record {
-      answer = subst (λ (ds : List Dimensions). AnswersUnlessMemory r (salted_commit_refusal c.args.salt_elems ds)) are
-          (rw gate (search rules));
       matrices = nothing_made _ r err;
       columns = nothing_made _ r err;
       salted = nothing_made _ r err;
@@ -80,13 +57,10 @@ returns-in_err-pairs g c =
 pub returns : goal.returns
 returns g c =
     let shown = map (matrix_of g.M.Matrix.height_of g.M.Matrix.width_of g.M.Matrix.row_of) in
-    let are = c.in_ok-dimensions.ensures ∙ ap (λ ms. dimensions_of (shown ms)) c.deref.ensures.value in
-    let gate = ap (λ (ds : List Dimensions). gate_refusal (heights_of ds)) (sym (c.deref-2.ensures.value ∙ are))
-    ∙ c.in_ok-check_heights.ensures.answer in
-    let wide = ap (widening_refusal c.args.salt_elems) (sym (c.deref-3.ensures.value ∙ are))
-    ∙ c.in_ok-check_widening.ensures.answer in
+    let are = c.deref-2.ensures.value ∙ c.in_ok-dimensions.ensures
+    ∙ ap (λ ms. dimensions_of (shown ms)) c.deref.ensures.value in
     record {
-      answer = commit_none c.args.salt_elems (dimensions_of (shown c.args.matrices.items)) gate wide;
+      answer = ap (salted_commit_refusal c.args.salt_elems) (sym are) ∙ c.in_ok-check_dimensions.ensures.answer;
       matrices = c.in_ok-pairs.ensures.matrices;
       columns = c.in_ok-pairs.ensures.columns;
       salted = c.in_ok-pairs.ensures.salted;
