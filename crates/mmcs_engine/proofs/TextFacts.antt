@@ -1,7 +1,7 @@
 -- Lines behind lines.
 use Rattle.std.proofs.Common.{◌≡◌, ℕ, ◌+◌, ◌<◌, List, [], ◌++◌, length, get_or, take, map, sym, ap, ◌∙◌, append_assoc}
 use Rattle.std.specs.Prelude.{codes, flat_map}
-use Rattle.std.proofs.lemmas.List.{flat_map_more, get_or-map, take_more}
+use Rattle.std.proofs.lemmas.List.{flat_map_more, get_or-map, length-map, take_more}
 use Rattle.std.proofs.lemmas.Simd.{map-map}
 use Rattle.std.specs.declared.vec.Vec.{Vec}
 use Rattle.p3_support.specs.Shown.{row_lists, row_sets}
@@ -39,3 +39,9 @@ rows_opened value sets k set lent within set_is lent_is =
     ∙ ap (λ rows. map (map value) (row_lists rows)) lent_is
     ∙ ap (map (map value)) (ap (λ s. row_lists s.items) set_is
     ∙ sym (get_or-map (λ s. row_lists s.items) sets k set [] within))
+
+-- there are as many row sets as indices
+pub sets_long : {T A B : Type 0} (sets : List (Vec (Vec T A) B)) (f : ℕ → List (List T)) (indices : List ℕ) →
+    row_sets sets ≡ map f indices → length sets ≡ length indices
+sets_long sets f indices are =
+    sym (length-map sets (λ rows. row_lists rows.items)) ∙ ap length are ∙ length-map indices f

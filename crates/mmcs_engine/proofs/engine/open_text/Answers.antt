@@ -1,11 +1,13 @@
 -- What is opened are the rows and the digests of the tree.
-use Rattle.std.proofs.Common.{◌∙◌, ◌++◌, ap, map}
+use Rattle.std.proofs.Common.{◌∙◌, ◌++◌, ap, map, rules}
 use Rattle.std.specs.Prelude.{flat_map}
 use Rattle.p3_support.specs.Shown.{row_sets}
+use Rattle.p3_merkle_core.specs.Openings.{honest_rows}
 use Rattle.p3_merkle_core.specs.Pruning.{PrunedOpening}
 use Rattle.p3_merkle_tree.specs.Parts.{tree_batch}
 use Rattle.mmcs_text.specs.Text.{digest_lines}
 use Rattle.mmcs_engine.specs.Inner.Alike.{opened_lines}
+use Rattle.mmcs_engine.proofs.TextFacts.{sets_long}
 use Rattle.mmcs_engine.proofs.engine.open_text.Goals as goal
 
 pub returns-clause-text : goal.returns-clause-text
@@ -18,3 +20,10 @@ returns-clause-text g c =
     (ap row_sets c.deref.ensures.value ∙ ap (λ (z : PrunedOpening _ _). z.rows) opened)
     ∙ ap (λ ds. lines ++ digest_lines g.W.Word.HEX_DIGITS (map (map value) ds))
     (c.deref-2.ensures.value ∙ ap (λ (z : PrunedOpening _ _). z.digests) opened)
+
+pub text_of_opening-requires : goal.text_of_opening-requires
+text_of_opening-requires g c = (
+  search rules,
+  sets_long c.deref.result.now (honest_rows (tree_batch c.args.tree.now)) c.args.indices.now
+      (ap row_sets c.deref.ensures.value ∙ ap (λ (z : PrunedOpening _ _). z.rows) c.in_ok-opening.ensures.opened),
+)

@@ -1,4 +1,3 @@
-use Rattle.std.proofs.Common.{rules}
 use Rattle.p3_merkle_tree.specs.Parts.{layers_of, tree_batch}
 use Rattle.p3_support.specs.Shown.{roots_of}
 use Rattle.mmcs_engine.proofs.NumberFacts.{check_printed, commit_printed, open_printed}
@@ -28,25 +27,3 @@ returns-in-Check-clause-text g c =
     (tree_batch c.args.committed.now.tree)
     c.args.request.now.command.action c.args.request.now.indices.items c.check_text.result (λ text. text.items)
     c.deref-in-Check.result.now c.deref-in-Check.ensures.value c.in-Check.is c.check_text.ensures.text
-
-pub open_text-requires : goal.open_text-requires
-open_text-requires g c =
-    (search rules, (search rules, (search rules, (search rules, rw c.deref.ensures.value c.requires.indices))))
-
-pub check_text-requires : goal.check_text-requires
-check_text-requires g c = (
-  search rules,
-  (
-    search rules,
-    (
-      search rules,
-      (
-        search rules,
-        (
-          rw c.deref-in-Check.ensures.value c.requires.indices,
-          (c.requires.dimensions, c.requires.committed),
-        ),
-      ),
-    ),
-  ),
-)
