@@ -1,12 +1,13 @@
 //! The text of a collision.
 
-ghost use Rattle.std.specs.Prelude.{◌≡◌, ◌++◌, ◌∷◌, [], ℕ, ◌<◌, IfOk, IfSome, List, OnOk, flat_map, length, map};
+ghost use Rattle.std.specs.Prelude.{◌≡◌, ◌++◌, ◌∷◌, [], ℕ, ◌<◌, IfOk, IfSome, List, OnOk, codes, flat_map, length};
+ghost use Rattle.std.specs.Prelude.{map};
 ghost use Rattle.std.specs.Option.{option_map};
 ghost use Rattle.p3_merkle_core.specs.Checks.{HasDigests};
 ghost use Rattle.p3_merkle_core.specs.Nodes.{functions_of};
 ghost use Rattle.p3_merkle_core.specs.Views.{inputs_in};
 ghost use Rattle.mmcs_text.specs.Text.{hex_line};
-ghost use Rattle.mmcs_verify_engine.specs.Collisions.{place_line};
+ghost use Rattle.mmcs_verify_engine.specs.Collisions.{index_lines, place_line};
 ghost use Rattle.mmcs_verify_engine.specs.Inner.TypedCollisions.{typed_lines, typed_text};
 
 use mmcs_text::text::{push_hex_words, push_labelled};
@@ -44,15 +45,44 @@ pub(crate) fn collision_text<
         IfOk result (λ text. text.items ≡ typed_text W.value W.HEX_DIGITS f first.now second.now
         (option_map (λ (a, b, pair). (a, b, inputs_in pair)) found)) }
 {
-    let mut text = Vec::new(alloc);
     let Some((a, b, pair)) = found else {
-        text.extend_from_slice(b"no collision\n")?;
-        return Ok(text);
+        return text_of_none(alloc);
     };
-    push_place(alloc, &mut text, place_of(&pair))?;
-    push_labelled(alloc, &mut text, "index", first[a])?;
-    push_labelled(alloc, &mut text, "index", second[b])?;
+    let mut text = text_of_queries(alloc, place_of(&pair), first[a], second[b])?;
     push_inputs(&mut text, hash, compress, &pair)?;
+    Ok(text)
+}
+
+/// What is printed where there is no collision.
+///
+/// # Errors
+///
+/// `AllocError` if memory runs out.
+fn text_of_none(alloc: Global) -> Result<Vec<u8>, AllocError>
+    ensures { IfOk result (λ text. text.items ≡ codes "no collision" ++ 10 ∷ []) }
+{
+    let mut text = Vec::new(alloc);
+    text.extend_from_slice(b"no collision\n")?;
+    Ok(text)
+}
+
+/// Where two inputs stand, and an index of each opening.
+///
+/// # Errors
+///
+/// `AllocError` if memory runs out.
+fn text_of_queries(
+    alloc: Global,
+    place: &Place,
+    first: usize,
+    second: usize,
+) -> Result<Vec<u8>, AllocError>
+    ensures { IfOk result (λ text. text.items ≡ place_line place.now ++ index_lines first second) }
+{
+    let mut text = Vec::new(alloc);
+    push_place(alloc, &mut text, place)?;
+    push_labelled(alloc, &mut text, "index", first)?;
+    push_labelled(alloc, &mut text, "index", second)?;
     Ok(text)
 }
 
