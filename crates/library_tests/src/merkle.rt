@@ -1,9 +1,9 @@
 //! Tests of trees and schemes that no line of a file of cases can say: generic code called at other packings and at
-//! longer digests, callers that are generic in the scheme, trees over exclusive or, and the texts of the errors.
+//! longer digests, callers that are generic in the scheme, trees over exclusive or, and the errors of pruned proofs.
 
 mod calls;
+mod errors;
 mod exclusive_or;
 mod generic;
 mod noting;
-mod texts;
 mod verified_words;

@@ -5,6 +5,7 @@ use p3_instances::fold::{FoldCompress, FoldHash};
 use p3_instances::lanes::Lanes;
 use p3_merkle_tree::{CapRule, MerkleCap, MerkleTreeError, MerkleTreeMmcs};
 use std::alloc::{AllocError, Global};
+use std::process::Abort;
 use std::test::Fail;
 
 /// The widths and the heights of the matrices that are committed to in different ways.
@@ -19,10 +20,19 @@ type PairScheme = MerkleTreeMmcs<u32, u32, FoldHash<1>, FoldCompress<2, 1>, 2, 2
 /// That scheme in two lanes.
 type LanesScheme = MerkleTreeMmcs<Lanes<u32>, Lanes<u32>, FoldHash<8>, FoldCompress<2, 8>, 2, 2>;
 
+/// The scheme in one lane, by the rule of `new`.
+fn lowered(cap_height: usize) -> PairScheme {
+    PairScheme::new(FoldHash, FoldCompress, cap_height)
+}
+
+/// The same by the other rule.
+fn fixed(cap_height: usize) -> PairScheme {
+    PairScheme::new_with_rule(FoldHash, FoldCompress, cap_height, CapRule::Fixed)
+}
+
 /// The cap at arity 2 and digests of two words, in one lane.
 fn pair_cap(alloc: Global, cap_height: usize) -> Result<PairCap, MerkleTreeError> {
-    let scheme = PairScheme::new_with_rule(FoldHash, FoldCompress, cap_height, CapRule::Fixed);
-    accepted_cap(alloc, &scheme, &SIZES, 2)
+    accepted_cap(alloc, &fixed(cap_height), &SIZES, 2)
 }
 
 /// That cap in two lanes.
@@ -40,19 +50,20 @@ fn lanes_commit_alike_to_digests_of_two_words(rt: HostRuntime) -> Result<(), Fai
     Ok(())
 }
 
-/// The cap of the rows 0 and 1, where the opening of row 1 is accepted.
-fn cap_of_two_rows(alloc: Global, scheme: &PairScheme) -> Result<PairCap, MerkleTreeError> {
-    accepted_cap(alloc, scheme, &[(1, 2)], 1)
+/// Asserts the root over the rows 0 and 1, where the opening of row 1 is accepted.
+fn assert_root(rt: &impl Abort, alloc: Global, scheme: &PairScheme) -> Result<(), MerkleTreeError> {
+    let cap = accepted_cap(alloc, scheme, &[(1, 2)], 1)?;
+    assert_eq!(rt; cap.roots(), [[994, 1986]].as_slice());
+    Ok(())
 }
 
 #[test]
 fn digests_of_two_words_have_the_root_worked_out(rt: HostRuntime) -> Result<(), Fail> {
-    let scheme = PairScheme::new(FoldHash, FoldCompress, 0);
+    let scheme = lowered(0);
     let copied = scheme;
-    for each in [scheme, copied, copied.clone()?] {
-        let cap = cap_of_two_rows(rt.alloc(), &each)?;
-        assert_eq!(rt; cap.roots(), [[994, 1986]].as_slice());
-    }
+    assert_root(&rt, rt.alloc(), &scheme)?;
+    assert_root(&rt, rt.alloc(), &copied)?;
+    assert_root(&rt, rt.alloc(), &copied.clone()?)?;
     Ok(())
 }
 
@@ -63,10 +74,8 @@ fn rule_of_clone(scheme: &PairScheme) -> Result<CapRule, AllocError> {
 
 #[test]
 fn a_scheme_and_its_clone_keep_the_rule(rt: HostRuntime) -> Result<(), Fail> {
-    let lowered = PairScheme::new(FoldHash, FoldCompress, 3);
-    let fixed = PairScheme::new_with_rule(FoldHash, FoldCompress, 4, CapRule::Fixed);
-    let rules = [rule_of_clone(&lowered)?, rule_of_clone(&fixed)?];
+    let rules = [rule_of_clone(&lowered(3))?, rule_of_clone(&fixed(4))?];
     assert_eq!(rt; rules, [CapRule::Lowered, CapRule::Fixed]);
-    assert_eq!(rt; fixed.cap_height(), 4);
+    assert_eq!(rt; fixed(4).cap_height(), 4);
     Ok(())
 }
