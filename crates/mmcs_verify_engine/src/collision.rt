@@ -6,7 +6,7 @@ ghost use Rattle.std.specs.Option.{option_map};
 ghost use Rattle.p3_merkle_core.specs.Checks.{HasDigests};
 ghost use Rattle.p3_merkle_core.specs.Nodes.{functions_of};
 ghost use Rattle.p3_merkle_core.specs.Views.{inputs_in};
-ghost use Rattle.mmcs_text.specs.Text.{hex_line};
+ghost use Rattle.mmcs_text.specs.Text.{hex_line, hex_lines};
 ghost use Rattle.mmcs_verify_engine.specs.Collisions.{index_lines, place_line};
 ghost use Rattle.mmcs_verify_engine.specs.Inner.TypedCollisions.{typed_lines, typed_text};
 
@@ -131,16 +131,51 @@ fn push_inputs<
 {
     match pair {
         InputPair::Words { first, second, .. } => {
-            push_words(text, first)?;
-            push_words(text, second)?;
-            push_words(text, &hash.hash_slice(first))
+            push_rows(text, first, second, &hash.hash_slice(first))
         }
         InputPair::Digests { first, second, .. } => {
-            push_digests(text, first)?;
-            push_digests(text, second)?;
-            push_words(text, &compressed(compress, first))
+            push_groups(text, first, second, &compressed(compress, first))
         }
     }
+}
+
+/// Appends the words of two rows and a digest, a line each.
+///
+/// # Errors
+///
+/// `AllocError` if memory runs out.
+fn push_rows<W: Word>(
+    text: &mut Vec<u8>,
+    first: &[W],
+    second: &[W],
+    digest: &[W],
+) -> Result<(), AllocError>
+    ensures { OnOk result (text.new.items ≡ text.old.items
+        ++ hex_lines W.HEX_DIGITS (map (map W.value) (first.now ∷ second.now ∷ digest.now ∷ []))) }
+{
+    push_words(text, first)?;
+    push_words(text, second)?;
+    push_words(text, digest)
+}
+
+/// Appends the words of two groups of digests and a digest, a line each.
+///
+/// # Errors
+///
+/// `AllocError` if memory runs out.
+fn push_groups<W: Word, const D: usize>(
+    text: &mut Vec<u8>,
+    first: &[[W; D]],
+    second: &[[W; D]],
+    digest: &[W],
+) -> Result<(), AllocError>
+    ensures { let words = flat_map (λ digest. digest) in
+        OnOk result (text.new.items ≡ text.old.items
+        ++ hex_lines W.HEX_DIGITS (map (map W.value) (words first.now ∷ words second.now ∷ digest.now ∷ []))) }
+{
+    push_digests(text, first)?;
+    push_digests(text, second)?;
+    push_words(text, digest)
 }
 
 /// The digest of a group of `N` digests.
