@@ -178,8 +178,8 @@ module _ {S D V : Type 0} (remaining : S → Option (List ℕ)) (contents : D �
         }
 
 -- what fails as a call that failed for memory alone
-pub failed_alone : {U V : Type 0} (r : Result V MerkleTreeError) (checked : Result U MerkleTreeError) (e : MerkleTreeError) →
-    r ≡ Err e → checked ≡ Err e → AnswersUnlessMemory checked None → AnswersUnlessMemory r None
+pub failed_alone : {U V : Type 0} (r : Result V MerkleTreeError) (checked : Result U MerkleTreeError)
+    (e : MerkleTreeError) → r ≡ Err e → checked ≡ Err e → AnswersUnlessMemory checked None → AnswersUnlessMemory r None
 failed_alone r checked e is was told = rw is (rw was at told)
 
 -- an opening that is accepted is accepted in other words

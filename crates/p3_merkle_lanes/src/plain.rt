@@ -55,8 +55,8 @@ fn no_pieces<'a, T>() -> [&'a [T]; MAX_PIECES] {
     [&[]; MAX_PIECES]
 }
 
-/// Whether rows are lent side by side, for the width of the first matrix. Whole pieces are hashed without a look for the
-/// next word's matrix.
+/// Whether the first matrix is wide enough for rows to be lent side by side. Whole pieces are hashed without a look for
+/// the next word's matrix.
 fn are_wide<T: Copy, M: Matrix<T>>(matrices: &[M]) -> bool {
     match matrices {
         [first, ..] => first.width() >= MIN_LENT_WIDTH,

@@ -22,8 +22,8 @@ pub struct LayerRows<'a, P: PackedValue, PW, H, M: Matrix<P::Value>, X> {
     ghost of_height: { All (λ m. M.height_of m ≡ height) matrices.now },
 }
 
-/// The rows from `first` on, `count` of them, if there is one matrix alone, which lends them in one piece. They are below
-/// `height`, which is that of each matrix.
+/// The rows from `first` on, `count` of them, if there is one matrix alone, which lends them in one piece. They are
+/// below `height`, which is that of each matrix.
 pub(crate) fn lone_rows<T: Copy, M: Matrix<T>>(
     matrices: &[M],
     height: usize,

@@ -10,8 +10,9 @@ loop-k-preserved g c =
     let below = c.args.below.now in
     let k = c.loop-k.k in
     let i : ℕ = c.args.step * (c.args.first + k) + c.args.n in
-    let inside : i < length below = child_below c.args.step c.args.first k g.PW.PackedValue.WIDTH c.args.n (length below)
-    c.requires.child (omega arith) c.requires.inside in
+    let inside : i < length below =
+    child_below c.args.step c.args.first k g.PW.PackedValue.WIDTH c.args.n (length below) c.requires.child
+    (omega arith) c.requires.inside in
     below_more (λ j. length (slice_index_or below (c.args.step * (c.args.first + j) + c.args.n) []) ≡ g.row.D) k
     c.loop-k.invariant
     (ap length (sym (get_or_read below i c.index-below-step.result inside c.index-below-step.is []))
