@@ -1,7 +1,7 @@
 //! From words and an input to an output.
 
 ghost use Rattle.std.specs.Prelude.{◌≡◌, ◌⊎◌, ℕ, ◌++◌, ◌<◌, ◌↔◌, All, Ok, Err, IfOk, IfErr, IfSome, None, OnOk};
-ghost use Rattle.std.specs.Prelude.{flat_map, length, map};
+ghost use Rattle.std.specs.Prelude.{IsTrue, flat_map, length, map};
 ghost use Rattle.std.specs.Io.KnownBytes.{Appends};
 ghost use Rattle.p3_support.specs.Batches.{greatest};
 ghost use Rattle.p3_support.specs.Shown.{roots_of, row_sets};
@@ -18,7 +18,8 @@ ghost use Rattle.p3_merkle_tree.specs.Schemes.{terms_over};
 ghost use Rattle.mmcs_text.specs.declared.fault.Fault.TheVariants.{Usage, Read, Tree, Write};
 ghost use Rattle.mmcs_text.specs.Matrices.{stored_batch};
 ghost use Rattle.mmcs_text.specs.Text.{digest_lines, hex_lines, ok_line};
-ghost use Rattle.mmcs_text.specs.Words.{arity_number, texts_of, AreNoCommand};
+ghost use Rattle.mmcs_text.specs.Words.{arity_number, is_taken_arity, texts_of, AreNoCommand};
+ghost use Rattle.mmcs_text.specs.declared.command.HashName.TheVariants.{Fold, Sha256};
 ghost use Rattle.mmcs_engine.specs.Program.{layer_of_cap, text_of, IsAnswer, IsReply, IsTold, Prints};
 ghost use Rattle.mmcs_engine.specs.Inner.Alike.{batch_in_numbers, opened_lines, opened_text, IsSchemeOf};
 
@@ -117,15 +118,58 @@ fn reply(alloc: Global, request: &Request, input: &[u8]) -> Result<Vec<u8>, Faul
     ensures fault { IfErr result (λ fault. (fault ≡ Fault.Tree OutOfMemory) ⊎
         IsReply request.now.command request.now.indices.items input.now (Err fault)) }
 {
-    let cap = request.command.cap;
     match (request.command.hash, request.command.arity) {
-        (HashName::Fold, Arity::Two) => reply_by(alloc, &fold_scheme::<2>(cap), request, input),
-        (HashName::Fold, Arity::Four) => reply_by(alloc, &fold_scheme::<4>(cap), request, input),
-        (HashName::Fold, Arity::Eight) => reply_by(alloc, &fold_scheme::<8>(cap), request, input),
-        (HashName::Sha256, Arity::Two) => reply_by(alloc, &sha_scheme::<2>(cap), request, input),
-        (HashName::Sha256, Arity::Four) => reply_by(alloc, &sha_scheme::<4>(cap), request, input),
-        (HashName::Sha256, Arity::Eight) => reply_by(alloc, &sha_scheme::<8>(cap), request, input),
+        (HashName::Fold, Arity::Two) => reply_by_fold::<2>(alloc, request, input),
+        (HashName::Fold, Arity::Four) => reply_by_fold::<4>(alloc, request, input),
+        (HashName::Fold, Arity::Eight) => reply_by_fold::<8>(alloc, request, input),
+        (HashName::Sha256, Arity::Two) => reply_by_sha::<2>(alloc, request, input),
+        (HashName::Sha256, Arity::Four) => reply_by_sha::<4>(alloc, request, input),
+        (HashName::Sha256, Arity::Eight) => reply_by_sha::<8>(alloc, request, input),
     }
+}
+
+/// The same under `fold` at the arity of the command.
+///
+/// # Errors
+///
+/// Those of [`reply`].
+fn reply_by_fold<const N: usize>(
+    alloc: Global,
+    request: &Request,
+    input: &[u8],
+) -> Result<Vec<u8>, Fault>
+    requires taken { IsTrue (is_taken_arity N) }
+    requires hash { request.now.command.hash ≡ Fold }
+    requires arity { N ≡ arity_number request.now.command.arity }
+    ensures text { IfOk result
+        (λ text. IsReply request.now.command request.now.indices.items input.now (Ok text.items)) }
+    ensures fault { IfErr result (λ fault. (fault ≡ Fault.Tree OutOfMemory) ⊎
+        IsReply request.now.command request.now.indices.items input.now (Err fault)) }
+{
+    let scheme = fold_scheme::<N>(request.command.cap);
+    reply_by(alloc, &scheme, request, input)
+}
+
+/// The same under `sha256` at the arity of the command.
+///
+/// # Errors
+///
+/// Those of [`reply`].
+fn reply_by_sha<const N: usize>(
+    alloc: Global,
+    request: &Request,
+    input: &[u8],
+) -> Result<Vec<u8>, Fault>
+    requires taken { IsTrue (is_taken_arity N) }
+    requires hash { request.now.command.hash ≡ Sha256 }
+    requires arity { N ≡ arity_number request.now.command.arity }
+    ensures text { IfOk result
+        (λ text. IsReply request.now.command request.now.indices.items input.now (Ok text.items)) }
+    ensures fault { IfErr result (λ fault. (fault ≡ Fault.Tree OutOfMemory) ⊎
+        IsReply request.now.command request.now.indices.items input.now (Err fault)) }
+{
+    let scheme = sha_scheme::<N>(request.command.cap);
+    reply_by(alloc, &scheme, request, input)
 }
 
 /// The same under the scheme of the command.

@@ -1,14 +1,15 @@
 //! From words and an input to an output.
 
 ghost use Rattle.std.specs.Prelude.{◌≡◌, ◌⊎◌, ◌↔◌, ℕ, List, Err, IfErr, IfOk, IfSome, Ok, OnOk, Some, length, map};
-ghost use Rattle.std.specs.Prelude.{replicate};
+ghost use Rattle.std.specs.Prelude.{IsTrue, replicate};
 ghost use Rattle.std.specs.Io.KnownBytes.{Appends};
 ghost use Rattle.p3_support.specs.declared.matrix.Dimensions.{Dimensions};
 ghost use Rattle.p3_merkle_core.specs.Nodes.{functions_of};
 ghost use Rattle.p3_merkle_core.specs.Refusals.{pruned_refusal_under, AnswersUnlessMemory};
 ghost use Rattle.p3_merkle_core.specs.declared.error.MerkleTreeError.TheVariants.{OutOfMemory};
 ghost use Rattle.p3_merkle_tree.specs.Schemes.{cap_height_of, cap_rule_of, scheme_functions, terms_of};
-ghost use Rattle.mmcs_text.specs.Words.{arity_number, texts_of};
+ghost use Rattle.mmcs_text.specs.Words.{arity_number, is_taken_arity, texts_of};
+ghost use Rattle.mmcs_text.specs.declared.command.HashName.TheVariants.{Fold, Sha256};
 ghost use Rattle.mmcs_engine.specs.Inner.Alike.{IsSchemeOf};
 ghost use Rattle.mmcs_opening_text.specs.Requests.{AreNoCommand, AreWords};
 ghost use Rattle.mmcs_opening_text.specs.declared.fault.Fault.TheVariants.{Usage, Read, Tree, Write};
@@ -107,15 +108,58 @@ pub fn reply(alloc: Global, request: &Request, input: &[u8]) -> Result<Vec<u8>, 
     ensures fault { IfErr result (λ fault. (fault ≡ Fault.Tree OutOfMemory) ⊎
         (outcome_of request.now.setting request.now.task request.now.dimensions.items input.now ≡ Err fault)) }
 {
-    let cap = request.setting.cap;
     match (request.setting.hash, request.setting.arity) {
-        (HashName::Fold, Arity::Two) => reply_by(alloc, &fold_suite::<2>(cap), request, input),
-        (HashName::Fold, Arity::Four) => reply_by(alloc, &fold_suite::<4>(cap), request, input),
-        (HashName::Fold, Arity::Eight) => reply_by(alloc, &fold_suite::<8>(cap), request, input),
-        (HashName::Sha256, Arity::Two) => reply_by(alloc, &sha_suite::<2>(cap), request, input),
-        (HashName::Sha256, Arity::Four) => reply_by(alloc, &sha_suite::<4>(cap), request, input),
-        (HashName::Sha256, Arity::Eight) => reply_by(alloc, &sha_suite::<8>(cap), request, input),
+        (HashName::Fold, Arity::Two) => reply_by_fold::<2>(alloc, request, input),
+        (HashName::Fold, Arity::Four) => reply_by_fold::<4>(alloc, request, input),
+        (HashName::Fold, Arity::Eight) => reply_by_fold::<8>(alloc, request, input),
+        (HashName::Sha256, Arity::Two) => reply_by_sha::<2>(alloc, request, input),
+        (HashName::Sha256, Arity::Four) => reply_by_sha::<4>(alloc, request, input),
+        (HashName::Sha256, Arity::Eight) => reply_by_sha::<8>(alloc, request, input),
     }
+}
+
+/// The same under `fold` at the arity of the request.
+///
+/// # Errors
+///
+/// Those of [`reply`].
+fn reply_by_fold<const N: usize>(
+    alloc: Global,
+    request: &Request,
+    input: &[u8],
+) -> Result<Vec<u8>, Fault>
+    requires taken { IsTrue (is_taken_arity N) }
+    requires hash { request.now.setting.hash ≡ Fold }
+    requires arity { N ≡ arity_number request.now.setting.arity }
+    ensures text { IfOk result (λ text.
+        outcome_of request.now.setting request.now.task request.now.dimensions.items input.now ≡ Ok text.items) }
+    ensures fault { IfErr result (λ fault. (fault ≡ Fault.Tree OutOfMemory) ⊎
+        (outcome_of request.now.setting request.now.task request.now.dimensions.items input.now ≡ Err fault)) }
+{
+    let suite = fold_suite::<N>(request.setting.cap);
+    reply_by(alloc, &suite, request, input)
+}
+
+/// The same under `sha256` at the arity of the request.
+///
+/// # Errors
+///
+/// Those of [`reply`].
+fn reply_by_sha<const N: usize>(
+    alloc: Global,
+    request: &Request,
+    input: &[u8],
+) -> Result<Vec<u8>, Fault>
+    requires taken { IsTrue (is_taken_arity N) }
+    requires hash { request.now.setting.hash ≡ Sha256 }
+    requires arity { N ≡ arity_number request.now.setting.arity }
+    ensures text { IfOk result (λ text.
+        outcome_of request.now.setting request.now.task request.now.dimensions.items input.now ≡ Ok text.items) }
+    ensures fault { IfErr result (λ fault. (fault ≡ Fault.Tree OutOfMemory) ⊎
+        (outcome_of request.now.setting request.now.task request.now.dimensions.items input.now ≡ Err fault)) }
+{
+    let suite = sha_suite::<N>(request.setting.cap);
+    reply_by(alloc, &suite, request, input)
 }
 
 /// The same by the suite of the request.
