@@ -2,8 +2,8 @@
 //!
 //! A line is a keyword, fields and the expected answer, with `|` between them. A blank line is no case, nor is one that
 //! begins with `#`. Trees are those of the fold functions with digests of one word, but for the kinds whose keyword
-//! begins with `sha256`. A new kind of case is an arm of [`answer`], of [`answer_at`] where its first field is an arity,
-//! or of [`answered`] where any scheme answers it, and a function that reads all its fields and then answers.
+//! begins with `sha256`. A new kind of case is a function that reads all its fields and then answers, and an arm of
+//! [`answer`], of [`answer_at`] where its first field is an arity, or of [`answered`] where any scheme answers it.
 #![tactic(auto)]
 
 ghost use Rattle.std.specs.Prelude.{◌≤◌, IsTrue};
