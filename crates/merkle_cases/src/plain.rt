@@ -19,8 +19,8 @@ type Proof = Vec<[u32; 1]>;
 /// What proves several leaves.
 type MultiProof = PrunedMerklePaths<u32, 1>;
 
-/// What the opening of several leaves is answered, query by query: why no paths are restored, or the verdict on each
-/// query with its path, where not all are accepted: the first refusal.
+/// The verdict on several leaves, query by query. If paths cannot be restored, it is that error; else it is the first
+/// refusal of a query with its path, or `Ok`.
 fn restored_verdict<const N: usize>(
     alloc: Global,
     scheme: &FoldScheme<N>,

@@ -9,9 +9,9 @@ use crate::tried::Tried;
 use p3_merkle_tree::{BatchOpeningRef, MerkleTreeError};
 use std::alloc::Global;
 
-/// `verify | ARITY | CAP | ROOTS | DIMENSIONS | INDEX | ROWS | SIBLINGS | ANSWER`: the check of an opening, which the
-/// extraction from it and itself answers, too. With salts there are `SALTS A ROW` before the roots, and the salts of
-/// the rows before the siblings.
+/// `verify | ARITY | CAP | ROOTS | DIMENSIONS | INDEX | ROWS | SIBLINGS | ANSWER`: checks an opening. The extraction
+/// from the opening and itself must answer the same. With salts there are `SALTS A ROW` before the roots, and the salts
+/// of the rows before the siblings.
 pub fn verify<S: Tried>(case: &mut Case<'_>, scheme: &S) -> Result<(), Fault> {
     let Statement { cap, dimensions } = &Statement::of(&mut case.fields);
     let leaf = leaf_in::<S>(&mut case.fields);

@@ -16,7 +16,7 @@ pub(crate) fn number_behind(label: &[u8], line: &[u8]) -> Option<usize>
     parse_number(digits)
 }
 
-/// The row of a line, if it has so many numbers, each at most `W::MAX`, and nothing else.
+/// The row of a line, if it has `width` numbers, each at most `W::MAX`, and nothing else.
 ///
 /// # Errors
 ///

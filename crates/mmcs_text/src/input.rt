@@ -25,7 +25,7 @@ fn is_gap(byte: u8) -> bool
     byte == b' ' || byte == b'\t'
 }
 
-/// Whether a block has a line feed. All its bytes are looked at, so that a processor looks at them at once.
+/// Whether a block has a line feed. It tests all bytes without an early exit, so that vector instructions can do it.
 fn has_line_feed(block: &[u8; 16]) -> bool
     ensures { result ≡ false → All (λ b. (b == 10) ≡ false) block.now }
 {

@@ -14,7 +14,8 @@ use std::alloc::{AllocError, Global};
 #[repr(C)]
 #[derive(Clone, Copy)]
 pub struct TreeSetting {
-    /// The cap height, in levels below the root. Under `Lowered` the cap may be nearer to the root.
+    /// The cap height, in levels below the root. The cap is nearer to the root where the tree has fewer levels, or,
+    /// under `Lowered`, where a matrix is injected above that layer.
     pub cap_height: usize,
     /// The hash: 0 for `fold`, 1 for `sha256`.
     pub hash: u8,

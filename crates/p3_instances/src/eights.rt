@@ -13,11 +13,11 @@ use crate::lanes::{U32x8, turn_four};
 use p3_support::packed::{pack_columns_fn, unpack_at};
 use std::simd::prelude::*;
 
-/// The most words of a digest that is hashed together with seven others. A longer one leaves no
-/// registers for the words that are turned.
+/// The longest digest, in words, for which eight messages are hashed together. A longer one leaves
+/// no registers for the transposed words.
 const MOST_HASHED: usize = 4;
 
-/// The most words of a digest that is compressed together with seven others. A longer one fills
+/// The longest digest, in words, for which eight groups are compressed together. A longer one fills
 /// vectors by itself.
 const MOST_COMPRESSED: usize = 1;
 
@@ -50,7 +50,7 @@ fn column_of<P: FoldLane>(messages: &[u32], width: usize, first: usize, column: 
     )
 }
 
-/// The state after the columns from `from` on, where it is that after those before.
+/// Takes the columns from `from` on into the state, which has taken in those before them.
 fn absorb_columns<P: FoldLane, const D: usize>(
     state: &mut [P; D],
     messages: &[u32],
@@ -134,8 +134,8 @@ fn columns_of_eight(messages: &[u32], width: usize, first: usize, column: usize)
     ]
 }
 
-/// The state after the words of eight messages, four columns at a time, but for the columns after
-/// the last whole four.
+/// Takes the words of eight messages into the state, four columns at a time. The columns after the
+/// last whole four are left out.
 fn absorb_fours<const D: usize>(
     state: &mut [U32x8; D],
     messages: &[u32],
@@ -246,12 +246,13 @@ fn pack_child<P: FoldLane, const N: usize, const D: usize>(
     )
 }
 
-/// A group has `N` children.
+/// Tells that a group has `N` children. It does nothing at run time.
 fn tell_group<const N: usize, const D: usize>(group: &[[u32; D]; N])
     ensures { length group.now ≡ N }
 {}
 
-/// So has each of as many groups as `P` has lanes, from group `first` on.
+/// Tells that each of the `P::WIDTH` groups from `first` on has `N` children. It does nothing at run
+/// time.
 fn tell_groups<P: FoldLane, const N: usize, const D: usize>(groups: &[[[u32; D]; N]], first: usize)
     requires { first + P.WIDTH ≤ length groups.now }
     ensures { (k : ℕ) → k < P.WIDTH → length (slice_index_or groups.now (first + k) []) ≡ N }

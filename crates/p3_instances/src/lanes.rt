@@ -155,7 +155,7 @@ impl FoldLane for U32x8 {
     }
 }
 
-/// Four words of four rows each, turned: value `i` has word `i` of each row.
+/// Four words of each of four rows, transposed: vector `i` has word `i` of each row.
 pub(crate) fn turn_four(first: &[u32], second: &[u32], third: &[u32], fourth: &[u32]) -> [u32x4; 4]
     requires first { length first.now ≡ 4 }
     requires second { length second.now ≡ 4 }

@@ -323,7 +323,7 @@ impl<'a> Steps<'a> {
     /// a power of two from 2 to 2^62.
     ///
     /// It sorts the indices once, and allocates four numbers for each index, and one for each matrix of a layer above
-    /// the leaves. How many requests it makes doesn't depend on the indices.
+    /// the leaves. The number of allocations doesn't depend on the indices.
     ///
     /// # Errors
     ///
@@ -337,7 +337,7 @@ impl<'a> Steps<'a> {
     /// - `SiblingCountMismatch`: the number of digests is not that of the boundary nodes;
     /// - `WrongBatchSize`, `WrongWidth`: by ascending indices, the error of [`check_widths`] for the first query of the
     ///   index;
-    /// - `InconsistentGroupOpening`: layer by layer, by ascending indices and in the order of the matrices, a row is
+    /// - `InconsistentGroupOpening`: layer by layer, by ascending indices and in input order of the matrices, a row is
     ///   not that of the lowest index under the same node.
     pub fn check_pruned<T: Eq>(
         &self,
@@ -444,7 +444,11 @@ fn check_queries(
     check_indices(steps.max_height, indices)
 }
 
-/// Checks that there is no digest where there is no index.
+/// Checks that there are no digests if there are no indices.
+///
+/// # Errors
+///
+/// `SiblingCountMismatch` if there are digests, and no indices.
 fn check_idle(indices: &[usize], num_digests: usize) -> Result<(), MerkleTreeError>
     ensures { let refusal = idle_refusal (length indices.now) num_digests in
         MatchResult result (λ ok. refusal ≡ None) (λ e. refusal ≡ Some e) }
@@ -457,6 +461,10 @@ fn check_idle(indices: &[usize], num_digests: usize) -> Result<(), MerkleTreeErr
 }
 
 /// Checks that a proof has as many digests as it should have.
+///
+/// # Errors
+///
+/// `SiblingCountMismatch` if the numbers differ.
 fn check_digest_count(expected: usize, got: usize) -> Result<(), MerkleTreeError>
     ensures { MatchResult result (λ ok. digest_count_refusal expected got ≡ None)
         (λ e. digest_count_refusal expected got ≡ Some e) }

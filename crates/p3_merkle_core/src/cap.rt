@@ -11,10 +11,10 @@ use p3_support::matrix::Dimensions;
 /// The rule by which a cap height chooses the cap's layer. The height counts levels below the root.
 #[derive(Debug, Clone, Copy, PartialEq, Eq)]
 pub enum CapRule {
-    /// The layer that many levels below the root, or the last layer to which a matrix belongs if that is higher. So
-    /// every row of every matrix is hashed on the way to the cap.
+    /// The layer `cap_height` levels below the root, or the highest layer to which a matrix belongs if that is nearer
+    /// to the root. So every row of every matrix is hashed on the way to the cap.
     Lowered,
-    /// The layer that many levels below the root, or the leaves if there are fewer levels, as in the Rust crate. The
+    /// The layer `cap_height` levels below the root, or the leaves if there are fewer levels, as in the Rust crate. The
     /// rows of a matrix that is injected above that layer are not hashed: only their width is checked.
     Fixed,
 }

@@ -204,9 +204,9 @@ pub fn padded_len(len: usize, arity: usize) -> usize
     }
 }
 
-/// How many slots of a layer of `len` nodes and this exponent are grouped into nodes of the layer above: `2^exponent`
-/// where a bridge step starts from fewer nodes than the arity, since the slots that pad such a layer have no pair
-/// above; else all its slots. The arity is above 0, the exponent below 64, and the layer has fewer than 2^64 slots.
+/// How many slots of a layer of `len` nodes and this exponent are grouped into nodes of the layer above: all of them,
+/// but `2^exponent` if a bridge step starts from fewer nodes than the arity. The other slots pad the layer then. The
+/// arity is above 0, the exponent below 64, and the layer has fewer than 2^64 slots.
 pub(crate) fn grouped_len(arity: usize, is_bridge: bool, exponent: usize, len: usize) -> usize
     requires positive { 0 < arity }
     requires shift { exponent < 64 }

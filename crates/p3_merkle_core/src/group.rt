@@ -3,13 +3,13 @@
 ghost use Rattle.std.specs.Prelude.{◌≡◌, ◌+◌, ◌<◌, ◌≤◌, ◌++◌, ◌∷◌, [], length, drop, insert};
 ghost use Rattle.p3_merkle_core.specs.Nodes.{padded};
 
-/// Writes a value at its place among others into the first slots.
+/// Writes `others`, with `value` inserted at `position`, into the first slots.
 fn insert_into<X: Copy>(slots: &mut [X], position: usize, value: X, others: &[X])
     requires placed { position ≤ length others.now }
     requires fits { length others.now < length slots.old }
     ensures { slots.new ≡ insert others.now position value ++ drop (length others.now + 1) slots.old }
 {
-    // Groups are so small that one write each costs less than two copies of parts.
+    // Groups are small: one write for each digest costs less than two slice copies.
     slots[position] = value;
     for (k, other) in others.iter().enumerate() {
         let slot = if k < position { k } else { k + 1 };

@@ -1,4 +1,4 @@
-//! What is known of a layer before it is built: how many nodes and slots it has, and whose rows it takes in.
+//! What is known of a layer before it is built: how many nodes and slots it has, and which rows are injected there.
 
 ghost use Rattle.std.specs.Prelude.{◌≡◌};
 ghost use Rattle.p3_merkle_core.specs.Geometry.{shape_of};
@@ -7,12 +7,13 @@ ghost use Rattle.p3_merkle_core.specs.Inner.Levels.{IsBelowTop, IsLevel};
 use crate::geometry::{grouped_len, height_at_of, padded_len};
 use crate::steps::Steps;
 
-/// A layer above another, before it is built.
+/// A level of a tree whose upper layer is not built yet: the step from the layer `below`, and the shape of the layer
+/// above it, to which the other fields belong.
 #[derive(Debug, Clone, Copy)]
 pub struct Level {
-    /// The number of the layer below it, from the leaves on.
+    /// The number of the layer below, from the leaves on.
     pub below: usize,
-    /// How many children each of its nodes has.
+    /// How many children each node of the layer above has.
     pub step: usize,
     /// The exponent of the layer, and of the matrices that belong to it.
     pub exponent: usize,

@@ -38,7 +38,7 @@ pub type PrunedMerklePaths<W, const D: usize> = PrunedProof<[W; D]>;
 /// words.
 #[derive(Debug, Clone, Drop)]
 pub struct PrunedRows<T, X> {
-    /// For each query, in query order, a row of each matrix, in matrix order.
+    /// For each query, in query order, one row of each matrix, in input order.
     pub opened_values: Vec<Vec<Vec<T>>>,
     /// What proves that they were committed to.
     pub pruned_proof: PrunedProof<X>,
@@ -68,7 +68,7 @@ pub struct KeptLevel<X> {
     pub parents: Vec<usize>,
     /// How many children each of them has.
     pub step: usize,
-    /// The values of their children, parent by parent.
+    /// The digests of their children, parent by parent.
     pub children: Vec<X>,
     ghost some: { 0 < step },
     ghost full: { length children.items ≡ step * length parents.items },
@@ -119,7 +119,7 @@ pub fn covered_leaves(alloc: Global, indices: &[usize]) -> Result<Vec<usize>, Al
     Ok(leaves)
 }
 
-/// The parent of a node. A parent has `step` children, which must be at least one.
+/// The parent of a node. `step` is the number of a parent's children, and must be at least 1.
 pub fn parent_of(node: usize, step: usize) -> usize
     requires { 0 < step }
     ensures { result ≡ node / step }
@@ -133,7 +133,8 @@ pub fn parent_of(node: usize, step: usize) -> usize
     }
 }
 
-/// Turns the nodes of a layer into their parents, in place. A parent has `step` children, which must be at least one.
+/// Turns the nodes of a layer into their parents, in place. `step` is the number of a parent's children, and must be at
+/// least 1.
 pub(crate) fn to_parents(nodes: &mut [usize], step: usize)
     requires { 0 < step }
     ensures { nodes.new ≡ map (λ j. j / step) nodes.old }
@@ -144,7 +145,7 @@ pub(crate) fn to_parents(nodes: &mut [usize], step: usize)
 }
 
 /// Turns the covered nodes of a layer into those of the layer above, in place: each node's parent once, ascending. The
-/// nodes must ascend, and a parent must have at least one child: it has `step`.
+/// nodes must ascend. `step` is the number of a parent's children, and must be at least 1.
 pub fn climb(covered: &mut Vec<usize>, step: usize)
     requires { 0 < step }
     ensures { IsAscending covered.old.items → covered.new.items ≡ distinct (map (λ j. j / step) covered.old.items) }
@@ -202,7 +203,7 @@ impl<'a> Steps<'a> {
     }
 }
 
-/// The values of the children of some parents, `step` of each, parent by parent: a covered child has its digest, and
+/// The digests of the children of some parents, `step` of each, parent by parent: a covered child has its digest, and
 /// each other child has the next digest of `sent`. `covered` has the covered children in that order, and `digests` one
 /// digest for each of them; `sent` must have enough for the others. The number of children, and `step * parent + step`
 /// for each parent, must fit `usize`. It allocates the list of all children.
@@ -255,8 +256,8 @@ fn num_siblings<X>(levels: &[KeptLevel<X>]) -> Result<usize, AllocError>
     Ok(count)
 }
 
-/// Adds for each node, in order, the place of its parent in a level, if its parent is there. Nodes and parents ascend.
-/// A search only begins at these places, so no path depends on them.
+/// Adds one place in `level` for each node, in order: that of its parent, if each node has its parent there and each
+/// parent has a node. Nodes and parents ascend. A search only begins at these places, so no path depends on them.
 ///
 /// # Errors
 ///
@@ -292,7 +293,8 @@ fn num_places<X>(levels: &[KeptLevel<X>]) -> usize {
     count
 }
 
-/// For each level but the last, the places of the parents of its nodes in the level above, one level after another.
+/// For each level but the last, and each of its `parents`, the place of that node's parent in the next level: one level
+/// after another.
 ///
 /// # Errors
 ///
@@ -306,8 +308,8 @@ fn all_places<X>(alloc: Global, levels: &[KeptLevel<X>]) -> Result<Vec<usize>, A
 }
 
 /// The siblings on the path of a leaf, out of the levels that a walk kept, from the leaves on: of each group on the
-/// path all values but the path's own, ascending. The path of a leaf that the walk did not cover has no siblings on the
-/// levels where no covered node is above it. `places` has those of [`all_places`]. It allocates `capacity` siblings,
+/// path all digests but the path's own, ascending. The path of a leaf that the walk did not cover has no siblings on
+/// the levels where no covered node is above it. `places` has those of [`all_places`]. It allocates `capacity` siblings,
 /// the most that a path has.
 ///
 /// # Errors
@@ -339,7 +341,7 @@ fn path_out_of<X: Copy>(
 }
 
 /// The path of each of some indices, in order, from the levels that a walk kept, from the leaves up. Its siblings are,
-/// on each level, all values of the path's group but the path's own, ascending; there are none on a level where no
+/// on each level, all digests of the path's group but the path's own, ascending; there are none on a level where no
 /// covered node is above the leaf.
 ///
 /// # Errors
@@ -383,8 +385,8 @@ fn place_of(nodes: &[usize], hint: usize, node: usize) -> Option<usize>
     }
 }
 
-/// Adds the values of the siblings of a node to the end, if its parent is covered. The parent is looked for at the
-/// place `hint` first. Returns the parent, and its place, or 0 if it is not covered.
+/// Adds the digests of a node's siblings to the end, if its parent is covered. The parent is looked for at the place
+/// `hint` first. Returns the parent, and its place, or 0 if it is not covered.
 fn extend_with_siblings<X: Copy>(
     path: &mut Vec<X>,
     level: &KeptLevel<X>,
@@ -398,7 +400,7 @@ fn extend_with_siblings<X: Copy>(
     ensures count { vec_len path.new ≤ vec_len path.old + (level.now.step - 1) }
     ensures capacity { vec_capacity path.new ≡ vec_capacity path.old }
 {
-    // The parent is divided for once: a division takes longer than the copies of a small group.
+    // Divided once: a division takes longer than the copies of a small group.
     let parent = node / level.step;
     let Some(place) = place_of(&level.parents, hint, parent) else {
         return (parent, 0);
@@ -406,9 +408,9 @@ fn extend_with_siblings<X: Copy>(
     let first = level.step * place;
     let own = node - level.step * parent;
     let siblings = level.step - 1;
-    // One by one: to call for a copy of so few values takes longer.
+    // One by one: a call that copies so few digests takes longer.
     for sibling in 0..siblings {
-        // Those from the node's own place on stand one further.
+        // The siblings from the node's own place on are one place further.
         let child = if sibling < own { sibling } else { sibling + 1 };
         path.push_reserved(level.children[first + child]);
     }

@@ -22,16 +22,16 @@ use std::alloc::{AllocError, Global};
 /// How many levels a tree has at most: each halves the heights, which are below 2^64, at least.
 const MAX_LEVELS: usize = 64;
 
-/// The exponent of a layer, and the next one below it: what the steps from there on depend on.
+/// The exponent of a layer, and the next lower exponent of a matrix: the steps above the layer depend on these.
 #[derive(Clone, Copy)]
 struct Rung {
     /// The exponent of the layer.
     pub exponent: usize,
-    /// One more than the greatest exponent below that one which a matrix has, and 0 where none has one.
+    /// One more than the greatest exponent of a matrix below this one; 0 if no matrix has a lower exponent.
     pub next: usize,
 }
 
-/// This exponent with the next one below it. Each matrix is looked at once, and none for 0.
+/// The rung of this exponent. Each matrix is looked at once; at exponent 0 none is.
 fn rung_at(dimensions: &[Dimensions], exponent: usize) -> Rung
     ensures exponent { result.exponent ≡ exponent }
     ensures rung { IsRung (heights_of dimensions.now) result }
@@ -60,7 +60,8 @@ fn tell_exponent(height: usize)
     ensures { exponent height ≤ 64 }
 {}
 
-/// Whether the step from a layer is a bridge step, as [`is_bridge_step`], without a look at the matrices.
+/// Whether the step from a layer is a bridge step, as [`is_bridge_step`](crate::geometry::is_bridge_step) says. No
+/// matrix is looked at.
 fn is_bridge_from(arity: usize, rung: Rung) -> bool
     ensures { (hs : List ℕ) → IsRung hs rung → result
         ≡ list_any (λ h. nat_lt (rung.exponent - exponent arity) (exponent h) && nat_lt (exponent h) rung.exponent) hs }
@@ -291,7 +292,7 @@ impl<'a> Steps<'a> {
     ///
     /// # Errors
     ///
-    /// The same.
+    /// Those of [`check_heights`](crate::geometry::check_heights).
     pub fn check_heights(&self) -> Result<(), MerkleTreeError>
         ensures answer { MatchResult result (λ ok. gate_refusal (heights_of self.now.dimensions.now) ≡ None)
             (λ e. gate_refusal (heights_of self.now.dimensions.now) ≡ Some e) }

@@ -132,7 +132,8 @@ fn checked_pairs<T: SaltWord, M: Matrix<T> + Drop, R: Rng>(
 ///
 /// # Errors
 ///
-/// `EmptyBatch`, `TooLarge` or `IncompatibleHeights` for the heights; else `TooLarge` for the first width.
+/// `EmptyBatch`, `TooLarge` or `IncompatibleHeights` for the heights, as [`check_heights`]; else `TooLarge` for the
+/// first matrix whose width with its salts does not fit `usize`, with its width as the size.
 fn check_dimensions(dimensions: &[Dimensions], salt_elems: usize) -> Result<(), MerkleTreeError>
     ensures answer { let refusal = salted_commit_refusal salt_elems dimensions.now in
         MatchResult result (λ ok. refusal ≡ None) (λ e. refusal ≡ Some e) }

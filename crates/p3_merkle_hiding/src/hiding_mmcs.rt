@@ -106,9 +106,10 @@ impl<
     ghost use Rattle.p3_merkle_tree.specs.Schemes.{cap_height_of, cap_rule_of, compression_of, hash_of};
     ghost use Rattle.p3_merkle_hiding.specs.HidingSchemes.{generator_of, plain_of};
 
-    /// The salted scheme of a hasher and a compression. Its cap is `cap_height` levels below the root, or fewer where a
-    /// matrix is injected above that layer: the rule [`CapRule::Lowered`], under which a cap fixes every row and salt
-    /// of every matrix. `SALT_ELEMS` salts for each row are drawn from `rng`.
+    /// The salted scheme of a hasher and a compression. Its cap is the layer `cap_height` levels below the root, or the
+    /// highest layer to which a matrix belongs if that is nearer to the root. This is the rule [`CapRule::Lowered`],
+    /// under which a cap fixes every row and salt of every matrix. `SALT_ELEMS` salts for each row are drawn from
+    /// `rng`.
     ///
     /// `SALT_ELEMS` must be at least 1, `N` a power of two from 2 to 2^62, and both packings must have equally many
     /// lanes, at least one. It does not allocate.

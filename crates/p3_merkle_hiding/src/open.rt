@@ -48,7 +48,7 @@ fn unsalted_matrices<'a, F, X, G, A: Matrix<F>, B: Matrix<F>, const N: usize>(
     Ok(left_matrices(alloc, &pairs)?)
 }
 
-/// The width of each of these matrices.
+/// The width of each matrix of a tree of pairs, without its salts, in input order.
 ///
 /// # Errors
 ///
@@ -64,7 +64,7 @@ fn unsalted_widths<F, X, G, A: Matrix<F>, B: Matrix<F>, const N: usize>(
     Ok(left_widths(alloc, &pairs)?)
 }
 
-/// Splits each row of an opening of pairs into the matrix's own words and its salts, which go beside what proves it.
+/// Splits each row of an opening into the matrix's own words and its salts, and puts the salts into the proof.
 ///
 /// # Errors
 ///
@@ -87,7 +87,7 @@ fn split_opening<F: Copy, S: Drop, X, G, A: Matrix<F>, B: Matrix<F>, const N: us
     Ok(BatchOpening::new(rows, (salts, siblings)))
 }
 
-/// The same of the row sets of several indices.
+/// Splits each row of several row sets into the matrix's own words and its salts: the rows and the salts of each set.
 ///
 /// # Errors
 ///

@@ -29,9 +29,9 @@ impl<
     /// row followed by its salts, under dimensions with `SALT_ELEMS` more columns. A cap fixes the salts as it fixes
     /// the rows, whoever drew them.
     ///
-    /// An accepted opening has one row for each of `dimensions`, of that width, `SALT_ELEMS` salts for each row, and
-    /// for each level below the cap one sibling fewer than a node above it has children. `dimensions` are those of the
-    /// matrices without salts, in input order; they must come from the verifier, never from the proof. The call
+    /// An accepted opening has one row for each of `dimensions`, of that width, and `SALT_ELEMS` salts for each row.
+    /// For each level below the cap it has the digests of the path's group but the path's own. `dimensions` are those
+    /// of the matrices without salts, in input order; they must come from the verifier, never from the proof. The call
     /// allocates the joined rows.
     ///
     /// # Errors

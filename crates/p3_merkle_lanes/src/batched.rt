@@ -13,9 +13,8 @@ use p3_support::matrix::Matrix;
 use p3_support::packed::PackedValue;
 use std::alloc::{AllocError, Global};
 
-/// How many messages of `bytes` bytes each are laid side by side for one call, which works on `lanes` of them together:
-/// the most that are whole groups of lanes and have at most 16384 bytes together, or one group where it has more. A
-/// number that is 0 is read as 1.
+/// How many messages of `bytes` bytes one call takes: the greatest multiple of `lanes` with at most 16384 bytes in all,
+/// but at least `lanes`. A number of 0 counts as 1.
 fn rows_per_call(bytes: usize, lanes: usize) -> usize
     ensures whole { result % max lanes 1 ≡ 0 }
     ensures some { max lanes 1 ≤ result }
@@ -70,8 +69,8 @@ fn stage_row<T: Copy, M: Matrix<T>>(
     Ok(())
 }
 
-/// Lays rows of the matrices side by side, `count` of them from `first` on, in place of what was staged. The matrices
-/// all have this height.
+/// Replaces the staged words by `count` rows of the matrices from `first` on, one row after another. The matrices all
+/// have this height, and `first + count` is at most that.
 fn stage_rows<T: Copy, M: Matrix<T>>(
     staged: &mut Vec<T>,
     matrices: &[M],
@@ -91,8 +90,8 @@ fn stage_rows<T: Copy, M: Matrix<T>>(
     Ok(())
 }
 
-/// The words of `count` rows of the matrices, from `first` on, one row after another. They are lent by a matrix that
-/// stands alone and has them in one piece, and else staged. The matrices all have this height.
+/// The words of `count` rows of the matrices from `first` on, one row after another: a slice of the matrix if there is
+/// only one and it has these rows in one piece, else a copy in `staged`. The matrices all have this height.
 fn words_of_rows<'b, T: Copy, M: Matrix<T>>(
     staged: &'b mut Vec<T>,
     matrices: &'b [M],
@@ -112,8 +111,8 @@ fn words_of_rows<'b, T: Copy, M: Matrix<T>>(
     Ok(staged.as_slice())
 }
 
-/// A buffer for the rows that one call hashes, of `count` in all, and how many these are. The call works on `lanes` of
-/// them together.
+/// How many rows of the matrices one call hashes, and an empty buffer with room for them, or for `count` rows if that
+/// is less. `lanes` is the number of rows that the hasher works on in parallel.
 fn staging<P: PackedValue, M: Matrix<P::Value>>(
     alloc: Global,
     matrices: &[M],
@@ -199,8 +198,8 @@ pub fn compress_groups_batched<
     compress.compress_many(&groups[..count], &mut slots[..count]);
 }
 
-/// Adds the group of a node's digest and the digest of its rows, with default digests behind them, to the groups that
-/// are staged.
+/// Fills `pairs`, in place of what it has, with the group of each node: its digest in `folded`, the digest of its rows
+/// in `rows`, then default digests. Both lists must have one length, and `N` must be at least 2.
 fn stage_pairs<W: Copy, const N: usize, const D: usize>(
     pairs: &mut Vec<[[W; D]; N]>,
     default_digest: [W; D],

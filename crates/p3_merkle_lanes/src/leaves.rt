@@ -52,7 +52,7 @@ impl<
             (rows_over M.row_of self.now.matrices.now) self.now.height in
             slots.new ≡ map leaf (range_with_len 0 (length slots.old)) }
     {
-        // Rows that one matrix lends in one piece have a loop of their own, in which nothing is asked for each row.
+        // Rows that one matrix has in one piece have a loop of their own, without a test for each row.
         let done = self.write_lent(done, slots);
         for j in done..slots.len() {
             slots[j] = self.digest(j);

@@ -15,8 +15,7 @@ use p3_support::matrix::Matrix;
 use p3_support::packed::{PackedValue, tell_row, unpack_at};
 use std::alloc::{AllocError, Global};
 
-/// Whether an array of `outer` arrays of `inner` values each has fewer than 2^63 bytes, as each value has that is
-/// moved.
+/// Whether an array of `outer` arrays of `inner` values like `item` has fewer than 2^63 bytes, the limit for a value.
 fn array_fits<T>(item: &T, outer: usize, inner: usize) -> bool
     ensures small { IsTrue result → outer * (inner * type_size T.row) < 2 ^ 63 }
     ensures fits { outer * (inner * type_size T.row) < 2 ^ 63 → IsTrue result }

@@ -1,4 +1,4 @@
-//! The digests of rows, of those that a matrix lends in one piece, and of whole groups of a layer, one by one.
+//! Digests computed one by one: of rows, and of whole groups of a layer.
 
 ghost use Rattle.std.specs.Prelude.{◌≡◌, ℕ, ◌+◌, ◌*◌, ◌^◌, ◌<◌, ◌≤◌, [], length, map, replicate, slice_index_or};
 ghost use Rattle.std.specs.Prelude.{take, All, IfSome};
@@ -13,11 +13,11 @@ use p3_support::matrix::Matrix;
 use p3_support::packed::PackedValue;
 use p3_support::rows::rows_of;
 
-/// How many rows are lent side by side at most.
-// An array of pieces takes no memory from an allocator. Rows of more matrices are read word by word.
+/// The most matrices of one height whose rows are hashed slice by slice.
+// The slices are in an array, so that no row allocates. Rows of more matrices are hashed word by word.
 const MAX_PIECES: usize = 16;
 
-/// From how many words on rows are lent side by side. Shorter ones are read faster word by word.
+/// The least width of the first matrix at which rows are hashed slice by slice. Shorter rows are faster word by word.
 const MIN_LENT_WIDTH: usize = 4;
 
 /// The digest of row `row` of a matrix, which is below its height.
@@ -55,8 +55,7 @@ fn no_pieces<'a, T>() -> [&'a [T]; MAX_PIECES] {
     [&[]; MAX_PIECES]
 }
 
-/// Whether the first matrix is wide enough for rows to be lent side by side. Whole pieces are hashed without a look for
-/// the next word's matrix.
+/// Whether rows are hashed slice by slice: whether the first matrix has at least `MIN_LENT_WIDTH` columns.
 fn are_wide<T: Copy, M: Matrix<T>>(matrices: &[M]) -> bool {
     match matrices {
         [first, ..] => first.width() >= MIN_LENT_WIDTH,
@@ -154,7 +153,7 @@ impl<
         if row >= self.height {
             return [PW::Value::default(); D];
         }
-        // A row that stands alone is read without a look for the next one after each word.
+        // One matrix: no test after each word for the end of its row.
         if let Some(matrix) = lone_matrix(self.matrices, self.height) {
             return row_digest::<P, PW, H, M, D>(self.hash, matrix, row);
         }

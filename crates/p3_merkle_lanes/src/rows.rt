@@ -1,4 +1,4 @@
-//! The rows of one layer of a tree: its matrices, which have one height, and the hash of their rows.
+//! The rows of one layer of a tree: its matrices, which have one height, and the hasher of their rows.
 
 ghost use Rattle.std.specs.Prelude.{◌≡◌, ◌+◌, ◌≤◌, ℕ, All, IfSome};
 ghost use Rattle.p3_merkle_lanes.specs.Inner.Slots.{rows_over, IsStaged};
@@ -7,11 +7,11 @@ use p3_support::matrix::Matrix;
 use p3_support::packed::PackedValue;
 use std::marker::PhantomData;
 
-/// The rows of one layer, and the hash that digests them. Row `j` of the layer is row `j` of each of its matrices, one
+/// The rows of one layer, and the hasher that digests them. Row `j` of the layer is row `j` of each of its matrices, one
 /// matrix after another. `X` is the type of a digest.
 #[derive(Drop)]
 pub struct LayerRows<'a, P: PackedValue, PW, H, M: Matrix<P::Value>, X> {
-    /// The hash of rows.
+    /// The hasher of rows.
     pub hash: &'a H,
     /// The matrices of the layer, in input order.
     pub matrices: &'a [M],
@@ -22,8 +22,8 @@ pub struct LayerRows<'a, P: PackedValue, PW, H, M: Matrix<P::Value>, X> {
     ghost of_height: { All (λ m. M.height_of m ≡ height) matrices.now },
 }
 
-/// The rows from `first` on, `count` of them, if there is one matrix alone, which lends them in one piece. They are
-/// below `height`, which is that of each matrix.
+/// The `count` rows from `first` on as one slice, row after row, if there is only one matrix and it has them in one
+/// piece. Each matrix has `height` rows, and `first + count` is at most `height`.
 pub(crate) fn lone_rows<T: Copy, M: Matrix<T>>(
     matrices: &[M],
     height: usize,

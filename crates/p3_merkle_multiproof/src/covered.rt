@@ -15,7 +15,7 @@ use std::alloc::{AllocError, Global};
 pub struct Covered {
     /// The nodes, ascending.
     pub nodes: Vec<usize>,
-    /// Of each the place of a query under it.
+    /// For each node, the place of a query under it.
     pub leads: Vec<usize>,
     /// The layer's exponent.
     pub exponent: usize,
@@ -32,7 +32,7 @@ pub struct Restored<X> {
     pub digests: Vec<X>,
 }
 
-/// One level up: the covered nodes above it, and the values of their children.
+/// One level up: the covered nodes above it, and the digests of their children.
 #[derive(Debug, Drop)]
 pub struct NextLevel<X> {
     /// How many children a node has.
@@ -41,7 +41,7 @@ pub struct NextLevel<X> {
     pub has_rows: bool,
     /// The covered nodes above the level.
     pub above: Covered,
-    /// The values of their children, parent by parent.
+    /// The digests of their children, parent by parent.
     pub children: Vec<X>,
 }
 
@@ -77,8 +77,8 @@ impl<'a, T, X: Copy> Restorable<'a, T, X> {
         Ok((up, above))
     }
 
-    /// The layer above `level`, which is below the cap's layer: its covered nodes, and the values of their children,
-    /// which are the digests of the covered nodes of this layer, and were sent for the others.
+    /// The layer above `level`, which is below the cap's layer: its covered nodes, and the digests of their children. A
+    /// covered child has its digest in `below`; each other child has the next digest that was sent.
     ///
     /// # Errors
     ///

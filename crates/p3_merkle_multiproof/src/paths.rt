@@ -107,8 +107,8 @@ pub(crate) fn checked_paths_of<
     Ok(paths_out_of(alloc, &levels, indices)?)
 }
 
-/// The levels below the cap's layer, each with the values of its nodes' children. The nodes of the cap's layer are not
-/// digested, since no path has a digest of theirs.
+/// The levels below the cap's layer, each with the digests of its nodes' children. The digests of the cap's layer are
+/// not computed: no path has one of them.
 ///
 /// # Errors
 ///

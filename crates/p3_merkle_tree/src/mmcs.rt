@@ -125,9 +125,10 @@ impl<
     ghost use Rattle.p3_merkle_tree.specs.Schemes.{terms_of, terms_over};
     ghost use Rattle.p3_support.specs.Shown.{roots_of};
 
-    /// The scheme of a hasher and a compression. Its cap is `cap_height` levels below the root (0 is the root alone),
-    /// or fewer where a matrix is injected above that layer: the rule [`CapRule::Lowered`], under which a cap fixes
-    /// every row of every matrix. [`new_with_rule`](Self::new_with_rule) also takes the rule of the Rust crate.
+    /// The scheme of a hasher and a compression. Its cap is the layer `cap_height` levels below the root (0 is the root
+    /// alone), or the highest layer to which a matrix belongs if that is nearer to the root: the leaves if all matrices
+    /// have one height. This is the rule [`CapRule::Lowered`], under which a cap fixes every row of every matrix.
+    /// [`new_with_rule`](Self::new_with_rule) also takes the rule of the Rust crate.
     ///
     /// `N` must be a power of two from 2 to 2^62, and both packings must have equally many lanes, at least one.
     pub fn new(hash: H, compress: C, cap_height: usize) -> MerkleTreeMmcs<P, PW, H, C, N, D>
@@ -250,8 +251,8 @@ impl<
     /// Verifies an opening of the leaf `index` against a cap: hashes the rows, compresses the digest with its siblings
     /// level by level, and compares the last digest with the cap's entry above the leaf. It does not allocate.
     ///
-    /// An accepted opening has one row for each of `dimensions`, of that width, and for each level below the cap one
-    /// sibling fewer than a node above it has children. `dimensions` are those of the matrices, in input order. They
+    /// An accepted opening has one row for each of `dimensions`, of that width. For each level below the cap it has the
+    /// digests of the path's group but the path's own. `dimensions` are those of the matrices, in input order. They
     /// must come from the verifier, never from the proof: a cap does not fix them. Under the rule `Fixed` the rows of a
     /// matrix above the cap's layer are never hashed, and only their width is checked; under `Lowered` there is no such
     /// matrix.

@@ -257,7 +257,7 @@ impl<
     ///
     /// # Errors
     ///
-    /// The same.
+    /// Those of [`verify_batch_pruned`](Self::verify_batch_pruned).
     pub fn verify_multi_batch(
         &self,
         alloc: Global,

@@ -123,7 +123,7 @@ fn padded_words(messages: &[u8], width: usize, n: usize) -> u32x8
     if at + 8 < end {
         return u32x8::splat(0);
     }
-    // Eight messages of `width` bytes have as many bytes as one has bits, which is the length that is padded.
+    // The padding ends with a message's length in bits, which is the number of bytes of all eight messages.
     if at + 4 < end {
         return u32x8::splat((messages.len() / 4_294_967_296) as u32);
     }

@@ -184,7 +184,8 @@ impl<'a, T, M: Matrix<T>> Iterator for Row<'a, T, M> {
     }
 }
 
-/// An iterator over the columns of as many rows as `P` has lanes. Contracts speak of the lanes of those that are left.
+/// An iterator over the columns of `P::WIDTH` rows, each column packed: lane `k` is from row `k` of them. Contracts
+/// speak of the lanes of the columns that are left.
 #[derive(Drop)]
 pub struct PackedRow<'a, T, P: PackedValue<Value = T>, M: Matrix<T>> {
     matrix: &'a M,
@@ -223,7 +224,8 @@ impl<'a, T, P: PackedValue<Value = T>, M: Matrix<T>> Iterator for PackedRow<'a, 
     }
 }
 
-/// One column of several rows.
+/// One column of `P::WIDTH` rows from `row` on: lane `k` is the element of row `row + k`. `row + P::WIDTH` must be at
+/// most the height, and the column below the width.
 fn packed_column<T, P: PackedValue<Value = T>, M: Matrix<T>>(
     matrix: &M,
     row: usize,

@@ -43,7 +43,7 @@ pub trait Mmcs<T, M: Matrix<T>> {
     // The matrices that were committed to, in input order.
     ghost matrices_in: { Self.ProverData → List M };
 
-    // The scheme's commitment to what the committer keeps.
+    // The scheme's commitment to what the prover keeps.
     ghost commits_to: { Self → Self.Commitment → Self.ProverData → Type 0 };
 
     // The number of the row that belongs to an index, by the height of the tallest matrix and that of the row's own.

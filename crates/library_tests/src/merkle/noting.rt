@@ -192,7 +192,7 @@ fn assert_noted<P: FoldLane, const L: usize, const G: usize>(
 /// 17 rows, and layers of 9, 5, 3, 2 nodes and 1, in eight lanes.
 static IN_LANES: [Run; 4] = [(RowLanes(8), 2), (Row, 1), (GroupLanes(8), 1), (Group, 12)];
 
-/// Three rows, and two rows that come in above them: children, row, pair.
+/// Three rows, and two rows that are injected above them: children, row, pair.
 static WITH_ROWS: [Run; 6] = [
     (Row, 3),
     (Group, 1),
@@ -220,7 +220,7 @@ static LAYER_BY_LAYER: [Run; 6] = [
     (Groups(1), 1),
 ];
 
-/// The same with 9 and 3 rows that come in: the children of all nodes, then the rows, then the pairs.
+/// The same with 9 rows and 3 that are injected: the children of all nodes, then the rows, then the pairs.
 static WITH_ALL_ROWS: [Run; 10] = [
     (Rows(17), 1),
     (Groups(9), 1),
@@ -234,7 +234,7 @@ static WITH_ALL_ROWS: [Run; 10] = [
     (Groups(1), 1),
 ];
 
-/// Five rows together and three that come in above them, one by one, since the compression takes one at a time. Layers
+/// Five rows together and three that are injected above them, one by one, since the compression takes one at a time. Layers
 /// of 3 nodes with rows, of 2 and 1.
 static GROUP_BY_GROUP: [Run; 8] = [
     (Rows(5), 1),
