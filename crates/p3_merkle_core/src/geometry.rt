@@ -54,7 +54,7 @@ pub(crate) fn extremes_of(dimensions: &[Dimensions]) -> (usize, usize)
     (tallest, shortest)
 }
 
-/// The greatest height of the matrices, in rows, or 0 if there are none.
+/// The tallest height of the matrices, in rows, or 0 if there are none.
 pub fn tallest_of(dimensions: &[Dimensions]) -> usize
     ensures { result ≡ greatest (heights_of dimensions.now) }
 {

@@ -309,8 +309,8 @@ fn all_places<X>(alloc: Global, levels: &[KeptLevel<X>]) -> Result<Vec<usize>, A
 
 /// The siblings on the path of a leaf, out of the levels that a walk kept, from the leaves on: of each group on the
 /// path all digests but the path's own, ascending. The path of a leaf that the walk did not cover has no siblings on
-/// the levels where no covered node is above it. `places` has those of [`all_places`]. It allocates `capacity` siblings,
-/// the most that a path has.
+/// the levels where no covered node is above it. `places` has those of [`all_places`]. It allocates `capacity`
+/// siblings, the most that a path has.
 ///
 /// # Errors
 ///

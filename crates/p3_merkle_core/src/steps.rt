@@ -15,7 +15,7 @@ ghost use Rattle.p3_merkle_core.specs.Inner.Rungs.{next_below, IsRung};
 ghost use Rattle.p3_merkle_core.specs.Inner.Steps.{level_step};
 
 use crate::error::MerkleTreeError;
-use crate::geometry::{check_heights_up_to, exponent_of, extremes_of, has_exponent, step_from};
+use crate::geometry::{check_heights_up_to, exponent_of, extremes_of, step_from};
 use p3_support::matrix::Dimensions;
 use std::alloc::{AllocError, Global};
 
@@ -49,10 +49,7 @@ fn rung_at(dimensions: &[Dimensions], exponent: usize) -> Rung
             next = next.max(e + 1);
         }
     }
-    Rung {
-        exponent: exponent,
-        next,
-    }
+    Rung { exponent, next }
 }
 
 /// Tells that the exponent of a height is at most 64. It does nothing at run time.
@@ -70,25 +67,21 @@ fn is_bridge_from(arity: usize, rung: Rung) -> bool
     rung.next.saturating_sub(target) > 1
 }
 
-/// Whether matrices have this exponent, and the exponent with the next one below it. It is that of the layer above a
-/// rung: at most the rung's, and no matrix has one between them. The matrices are looked at only where one has it.
+/// Whether matrices have this exponent, and its rung. It is that of the layer above a rung: below the rung's, with no
+/// matrix's exponent between them. The matrices are looked at only if one has it.
 fn rung_above(dimensions: &[Dimensions], rung: Rung, exponent: usize) -> (bool, Rung)
     requires rung { IsRung (heights_of dimensions.now) rung }
-    requires down { exponent ≤ rung.exponent }
-    requires between { exponent < rung.exponent → rung.next ≤ exponent + 1 }
+    requires down { exponent < rung.exponent }
+    requires between { rung.next ≤ exponent + 1 }
     ensures rows { result.0 ≡ list_any (λ h. Geometry.exponent h == exponent) (heights_of dimensions.now) }
     ensures exponent { result.1.exponent ≡ exponent }
     ensures above { IsRung (heights_of dimensions.now) result.1 }
 {
-    // No step leads down from exponent 0.
-    if exponent == rung.exponent {
-        return (has_exponent(dimensions, exponent), rung);
-    }
     if rung.next == exponent + 1 {
         return (true, rung_at(dimensions, exponent));
     }
     let above = Rung {
-        exponent: exponent,
+        exponent,
         next: rung.next,
     };
     (false, above)
@@ -103,10 +96,13 @@ struct LevelStep {
     pub has_rows: bool,
 }
 
-/// The step from a layer, as [`select_arity_step`](crate::geometry::select_arity_step), whether matrices belong to the
-/// next layer, as [`has_exponent`], and that layer's rung. The matrices are looked at only where one belongs to it.
+/// The step from a layer below the root, as [`select_arity_step`](crate::geometry::select_arity_step), whether matrices
+/// belong to the next layer, as [`has_exponent`](crate::geometry::has_exponent), and that layer's rung. The arity must
+/// be at least 2. The matrices are looked at only if one belongs to the next layer.
 fn step_up(dimensions: &[Dimensions], arity: usize, rung: Rung) -> (LevelStep, Rung)
-    requires { IsRung (heights_of dimensions.now) rung }
+    requires arity { 2 ≤ arity }
+    requires below { 0 < rung.exponent }
+    requires rung { IsRung (heights_of dimensions.now) rung }
     ensures bridge { result.0.is_bridge ≡ is_bridge (shape_of arity dimensions.now) rung.exponent }
     ensures next { result.1.exponent
         ≡ (if is_bridge (shape_of arity dimensions.now) rung.exponent then rung.exponent - 1
@@ -142,7 +138,7 @@ pub struct Steps<'a> {
     pub dimensions: &'a [Dimensions],
     /// How many children a node has at most.
     pub arity: usize,
-    /// The greatest height, in rows, or 0 if there are no matrices.
+    /// The tallest height, in rows, or 0 if there are no matrices.
     pub max_height: usize,
     /// The least height, in rows, or 0 if there are no matrices.
     pub min_height: usize,
@@ -205,7 +201,7 @@ pub struct KeptSteps {
     pub dimensions: Vec<Dimensions>,
     /// How many children a node has at most.
     pub arity: usize,
-    /// The greatest height, in rows, or 0 if there are no matrices.
+    /// The tallest height, in rows, or 0 if there are no matrices.
     pub max_height: usize,
     min_height: usize,
     exponent: usize,

@@ -200,7 +200,8 @@ where
         (salted_pruned_of indices sets (row_sets proof.0.items) proof.1.sibling_hashes.items)) };
 }
 
-/// Tells that an index below the greatest height is below the tallest one of the tree. It does nothing at run time.
+/// Tells that an index below the tallest matrix's height is below the tallest height in the tree's shape. It does
+/// nothing at run time.
 fn tell_index<F, X, G, A: Matrix<F>, B: Matrix<F>, const N: usize>(
     tree: &Tree<F, X, G, HorizontalPair<F, A, B>, N>,
     index: usize,

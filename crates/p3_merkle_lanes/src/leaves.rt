@@ -5,7 +5,7 @@ ghost use Rattle.std.specs.Prelude.{◌≡◌, length, map, replicate, IfOk};
 ghost use Rattle.std.specs.List.{range_with_len};
 ghost use Rattle.p3_merkle_lanes.specs.Inner.Slots.{leaf_over, rows_over, IsFilled};
 
-use crate::packed::packed_groups;
+use crate::packed::packed_blocks;
 use crate::rows::LayerRows;
 use p3_support::hasher::CryptographicHasher;
 use p3_support::matrix::Matrix;
@@ -38,9 +38,9 @@ impl<
             self.write_batched(alloc, count, slots)?;
             return Ok(count);
         }
-        let groups = packed_groups::<PW, 1, D>(count);
-        self.write_packed(alloc, groups, slots)?;
-        Ok(groups * PW::WIDTH)
+        let blocks = packed_blocks::<PW, 1, D>(count);
+        self.write_packed(alloc, blocks, slots)?;
+        Ok(blocks * PW::WIDTH)
     }
 
     /// Writes into each slot from the first `done` on the digest of the row of its number.
@@ -77,7 +77,7 @@ impl<
     /// # Errors
     ///
     /// `AllocError` if memory runs out.
-    pub fn leaves(&self, alloc: Global, len: usize) -> Result<Vec<[PW::Value; D]>, AllocError>
+    pub fn digests(&self, alloc: Global, len: usize) -> Result<Vec<[PW::Value; D]>, AllocError>
         requires { P.WIDTH ≡ PW.WIDTH }
         ensures { let leaf = leaf_over (H.hash self.now.hash.now) (replicate D PW.default_value)
             (rows_over M.row_of self.now.matrices.now) self.now.height in

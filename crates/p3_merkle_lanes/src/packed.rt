@@ -24,9 +24,9 @@ fn array_fits<T>(item: &T, outer: usize, inner: usize) -> bool
     bytes < 0x8000_0000_0000_0000
 }
 
-/// How many groups of `PW::WIDTH` slots are filled lane by lane, of `count` slots. There are none if there is one lane,
+/// How many blocks of `PW::WIDTH` slots are filled lane by lane, of `count` slots. There are none if there is one lane,
 /// or if a packed group of `N` children would have 2^63 bytes or more. `N` must be above 0.
-pub fn packed_groups<PW: PackedValue, const N: usize, const D: usize>(count: usize) -> usize
+pub fn packed_blocks<PW: PackedValue, const N: usize, const D: usize>(count: usize) -> usize
     requires { 0 < N }
     ensures count { result * PW.WIDTH ≤ count }
     ensures whole { 1 < PW.WIDTH → FitsInMemory (ArrayAt (ArrayAt PW.row D.row) N.row) →
@@ -42,15 +42,15 @@ pub fn packed_groups<PW: PackedValue, const N: usize, const D: usize>(count: usi
     }
 }
 
-/// The first slot of a group, one of `groups` that have `PW::WIDTH` slots each.
+/// The first slot of a block, one of `blocks` that have `PW::WIDTH` slots each.
 #[tactic(auto, using(crate::proofs::LaneFacts::group_end))]
-fn group_start<PW: PackedValue>(group: usize, groups: usize) -> usize
-    requires inside { group < groups }
-    requires fits { groups * PW.WIDTH < 2 ^ 64 }
-    ensures start { result ≡ group * PW.WIDTH }
-    ensures end { result + PW.WIDTH ≤ groups * PW.WIDTH }
+fn block_start<PW: PackedValue>(block: usize, blocks: usize) -> usize
+    requires inside { block < blocks }
+    requires fits { blocks * PW.WIDTH < 2 ^ 64 }
+    ensures start { result ≡ block * PW.WIDTH }
+    ensures end { result + PW.WIDTH ≤ blocks * PW.WIDTH }
 {
-    group * PW::WIDTH
+    block * PW::WIDTH
 }
 
 /// Adds the packed rows of a matrix, from `row` on, to those that are staged.
@@ -147,9 +147,9 @@ impl<
         }
     }
 
-    /// Writes the digests of the rows into the first slots: `groups` groups, each of as many slots as there are lanes.
-    /// Both packings must have equally many lanes, and `groups * PW::WIDTH` must be at most the number of slots, and at
-    /// most the height. If `groups` is above 0, a packed digest must have fewer than 2^63 bytes.
+    /// Writes the digests of the rows into the first slots: `blocks` blocks, each of as many slots as there are lanes.
+    /// Both packings must have equally many lanes, and `blocks * PW::WIDTH` must be at most the number of slots, and at
+    /// most the height. If `blocks` is above 0, a packed digest must have fewer than 2^63 bytes.
     ///
     /// # Errors
     ///
@@ -157,20 +157,20 @@ impl<
     pub fn write_packed(
         &self,
         alloc: Global,
-        groups: usize,
+        blocks: usize,
         slots: &mut [[PW::Value; D]],
     ) -> Result<(), AllocError>
         requires lanes { P.WIDTH ≡ PW.WIDTH }
-        requires digest { 0 < groups → FitsInMemory (ArrayAt PW.row D.row) }
-        requires rows { groups * PW.WIDTH ≤ self.now.height }
-        requires fits { groups * PW.WIDTH ≤ length slots.old }
+        requires digest { 0 < blocks → FitsInMemory (ArrayAt PW.row D.row) }
+        requires rows { blocks * PW.WIDTH ≤ self.now.height }
+        requires fits { blocks * PW.WIDTH ≤ length slots.old }
         ensures { let leaf = leaf_over (H.hash self.now.hash.now) (replicate D PW.default_value)
             (rows_over M.row_of self.now.matrices.now) self.now.height in
-            IfOk result (λ done. IsFilled leaf (groups * PW.WIDTH) (length slots.old) slots.new) }
+            IfOk result (λ done. IsFilled leaf (blocks * PW.WIDTH) (length slots.old) slots.new) }
     {
         let mut staged = Vec::new(alloc);
-        for group in 0..groups {
-            let first = group_start::<PW>(group, groups);
+        for block in 0..blocks {
+            let first = block_start::<PW>(block, blocks);
             let digests = self.packed_digest(first, &mut staged)?;
             unpack_at(&digests, slots, first);
         }

@@ -7,8 +7,8 @@ use p3_support::matrix::Matrix;
 use p3_support::packed::PackedValue;
 use std::marker::PhantomData;
 
-/// The rows of one layer, and the hasher that digests them. Row `j` of the layer is row `j` of each of its matrices, one
-/// matrix after another. `X` is the type of a digest.
+/// The rows of one layer, and the hasher that digests them. Row `j` of the layer is row `j` of each of its matrices,
+/// one matrix after another. `X` is the type of a digest.
 #[derive(Drop)]
 pub struct LayerRows<'a, P: PackedValue, PW, H, M: Matrix<P::Value>, X> {
     /// The hasher of rows.

@@ -4,13 +4,13 @@ use Rattle.std.proofs.Common.{sym, ◌∙◌, subst, arith, length, get_or, inl,
 use Rattle.std.specs.List.{range_with_len}
 use Rattle.std.proofs.lemmas.Bool.{cases_eq, eq-eqb}
 use Rattle.std.proofs.lemmas.List.FromFn.{map-range_with_len_more, length-map-range_with_len, get_or-map-range_with_len}
-use Rattle.std.proofs.lemmas.List.{length_push, length-map, get_or-map}
+use Rattle.std.proofs.lemmas.List.{length-map, get_or-map}
 use Rattle.p3_support.specs.Lists.{rows_of_height}
 use Rattle.p3_merkle_core.specs.Views.{batch_of}
 use Rattle.p3_support.specs.Batches.{heights_of, greatest}
 use Rattle.p3_support.specs.declared.matrix.Dimensions.{Dimensions}
-use Rattle.p3_merkle_core.specs.Geometry.{Shape, shape_of, heights, exponent, layer_exponent, is_bridge, step}
-use Rattle.p3_merkle_core.specs.Geometry.{arity_schedule, levels, raw_len, layer_len, padded_len, height_limit}
+use Rattle.p3_merkle_core.specs.Geometry.{Shape, shape_of, heights, exponent, layer_exponent, is_bridge}
+use Rattle.p3_merkle_core.specs.Geometry.{levels, raw_len, layer_len, padded_len, height_limit}
 use Rattle.p3_merkle_core.specs.Nodes.{Functions, Batch, shape, layer, layers, node}
 use Rattle.p3_merkle_core.proofs.Shapes.LadderFacts.{exponent_at_levels}
 use Rattle.p3_merkle_core.proofs.Shapes.LeastFacts.{least_bound}
@@ -54,106 +54,95 @@ pub built_first : {T W M : Type 0} (f : Functions T W) (n : ℕ) (height width :
     (x top slots : ℕ) (nodes : List (List W)) → x ≡ exponent top → top ≡ greatest (heights_of ds) → slots
     ≡ padded_len top n →
     nodes ≡ map (λ j. cond (nat_lt j top) (f.hash (rows_of_height height row top j ms)) f.default_digest)
-    (range_with_len 0 slots) → IsBuilt f (batch_of height width row n ms) x top (nodes ∷ []) []
+    (range_with_len 0 slots) → IsBuilt f (batch_of height width row n ms) x top (nodes ∷ [])
 built_first f n height width row ms w x top slots nodes e t p d =
     let b = batch_of height width row n ms in
     let is : top ≡ greatest (heights (shape b)) = t ∙ ap (λ (s : Shape). greatest (heights s)) (same_shape w) in
     let r : top ≡ raw_len (shape b) 0 = is ∙ sym (raw_start (shape b)) in
     let first = layer_first f n height width row ms top slots is (p ∙ ap (λ q. padded_len q n) r) w.lawful in
     record {
+      top = 0;
       in_tree = omega arith;
       at_x = e ∙ ap exponent is ∙ sym (layer_start (shape b));
       at_raw = r;
       are_layers = ap (λ (z : List (List _)). z ∷ []) (d ∙ first);
-      are_steps = refl;
     }
 
-module _ {T W : Type 0} {f : Functions T W} {b : Batch T} {x len : ℕ} {so_far : List ℕ} where
+module _ {T W : Type 0} {f : Functions T W} {b : Batch T} {x len : ℕ} where
   -- above 0 there is a layer above
-  below_levels : {made : List (List (List W))} {ds : List Dimensions} → CanBuild b ds → IsBuilt f b x len made so_far →
-      0 < x → (length so_far) < levels (shape b)
+  below_levels : {made : List (List (List W))} {ds : List Dimensions} → CanBuild b ds →
+      (k : IsBuilt f b x len made) → 0 < x → k.top < levels (shape b)
   below_levels w k h =
-      elim (cases_eq (length so_far) (levels (shape b))) [
+      elim (cases_eq k.top (levels (shape b))) [
         | inl same ↦ let z : x ≡ 0 = k.at_x ∙ ap (layer_exponent (shape b)) same
             ∙ exponent_at_levels (shape b) w.arity in absurd (omega arith)
         | inr other ↦ let i = k.in_tree in omega arith
       ]
 
   -- and at 0 there is none
-  at_levels : {made : List (List (List W))} → IsBuilt f b x len made so_far → x ≡ 0 → (length so_far) ≡ levels (shape b)
+  at_levels : {made : List (List (List W))} → (k : IsBuilt f b x len made) → x ≡ 0 → k.top ≡ levels (shape b)
   at_levels k z =
       let most = least_bound (λ q. eqb (layer_exponent (shape b) q) 0) (exponent (greatest (heights (shape b))))
-      (length so_far) (eq-eqb (layer_exponent (shape b) (length so_far)) 0 (sym k.at_x ∙ z)) in
+      k.top (eq-eqb (layer_exponent (shape b) k.top) 0 (sym k.at_x ∙ z)) in
       let i = k.in_tree in
       omega arith
 
   -- so what is built is below the top
-  pub below_top : {made : List (List (List W))} {ds : List Dimensions} → CanBuild b ds → IsBuilt f b x len made so_far →
-      0 < x → IsBelowTop (shape_of b.arity ds) (length so_far) x len
+  pub below_top : {made : List (List (List W))} {ds : List Dimensions} → CanBuild b ds →
+      (k : IsBuilt f b x len made) → 0 < x → IsBelowTop (shape_of b.arity ds) k.top x len
   below_top w k h =
-      subst (λ (z : Shape). IsBelowTop z (length so_far) x len) (sym (same_shape w))
+      subst (λ (z : Shape). IsBelowTop z k.top x len) (sym (same_shape w))
       (record { arity = w.arity; lawful = w.lawful; at_x = k.at_x; at_raw = k.at_raw; in_tree = below_levels w k h })
 
   -- the exponent of the next layer
-  next_is : {made : List (List (List W))} → IsBuilt f b x len made so_far → (v : Level) → IsLevel (shape b) v → v.below
-      ≡ length so_far → v.exponent ≡ cond (is_bridge (shape b) x) (x - 1) (x - exponent b.arity)
+  next_is : {made : List (List (List W))} → (k : IsBuilt f b x len made) → (v : Level) → IsLevel (shape b) v → v.below
+      ≡ k.top → v.exponent ≡ cond (is_bridge (shape b) x) (x - 1) (x - exponent b.arity)
   next_is k v u is = u.exponent_is ∙ ap (λ q. layer_exponent (shape b) (suc q)) is
-      ∙ next_exponent (shape b) (length so_far) ∙ ap (λ z. cond (is_bridge (shape b) z) (z - 1) (z - exponent b.arity))
+      ∙ next_exponent (shape b) k.top ∙ ap (λ z. cond (is_bridge (shape b) z) (z - 1) (z - exponent b.arity))
       (sym k.at_x)
 
   -- which is smaller
   pub level_smaller : {made : List (List (List W))} {ds : List Dimensions} → CanBuild b ds →
-      IsBuilt f b x len made so_far → 0 < x → (v : Level) → IsLevel (shape b) v → v.below ≡ length so_far →
+      (k : IsBuilt f b x len made) → 0 < x → (v : Level) → IsLevel (shape b) v → v.below ≡ k.top →
       v.exponent < x
   level_smaller w k h v u is = next_falls (shape b) x v.exponent w.arity.above_1 h (next_is k v u is)
 
   -- one layer more
   pub built_more : {made : List (List (List W))} {ds : List Dimensions} → CanBuild b ds →
-      IsBuilt f b x len made so_far → 0 < x → (v : Level) → IsLevel (shape b) v → v.below ≡ length so_far →
+      (k : IsBuilt f b x len made) → 0 < x → (v : Level) → IsLevel (shape b) v → v.below ≡ k.top →
       (nodes : List (List W)) → nodes ≡ layer f b (suc v.below) →
-      IsBuilt f b v.exponent v.raw_len (made ++ nodes ∷ []) (so_far ++ v.step ∷ [])
+      IsBuilt f b v.exponent v.raw_len (made ++ nodes ∷ [])
   built_more w k h v u is nodes e =
-      let longer : length (so_far ++ v.step ∷ []) ≡ length so_far + 1 = length_push so_far v.step in
-      let more : suc (length so_far) ≡ length so_far + 1 = omega arith in
       record {
-        in_tree = omega (arith, longer, below_levels w k h);
-        at_x = rw (longer, ← more) (u.exponent_is ∙ ap (λ q. layer_exponent (shape b) (suc q)) is);
-        at_raw = rw (longer, ← more) (u.raw_is ∙ ap (λ q. raw_len (shape b) (suc q)) is);
+        top = suc k.top;
+        in_tree = omega (arith, below_levels w k h);
+        at_x = u.exponent_is ∙ ap (λ q. layer_exponent (shape b) (suc q)) is;
+        at_raw = u.raw_is ∙ ap (λ q. raw_len (shape b) (suc q)) is;
         are_layers =
-            rw longer (ap (λ (z : List (List (List W))). z ++ nodes ∷ []) k.are_layers
-            ∙ ap (λ (z : List (List W)). map (layer f b) (range_with_len 0 (suc (length so_far))) ++ z ∷ [])
+            ap (λ (z : List (List (List W))). z ++ nodes ∷ []) k.are_layers
+            ∙ ap (λ (z : List (List W)). map (layer f b) (range_with_len 0 (suc k.top)) ++ z ∷ [])
             (e ∙ ap (λ q. layer f b (suc q)) is)
-            ∙ sym (map-range_with_len_more (layer f b) 0 (suc (length so_far)) (suc (length so_far)) (omega arith))
-            ∙ ap (λ q. map (layer f b) (range_with_len 0 q)) (let q : suc (length so_far) + 1
-            ≡ suc (length so_far + 1) = omega arith in q));
-        are_steps =
-            rw longer (ap (λ (z : List ℕ). z ++ v.step ∷ []) k.are_steps
-            ∙ ap (λ (z : ℕ). map (step (shape b)) (range_with_len 0 (length so_far)) ++ z ∷ [])
-            (u.step_is ∙ ap (step (shape b)) is)
-            ∙ sym (map-range_with_len_more (step (shape b)) 0 (length so_far) (length so_far) (omega arith)));
+            ∙ sym (map-range_with_len_more (layer f b) 0 (suc k.top) (suc k.top) (omega arith))
+            ∙ ap (λ q. map (layer f b) (range_with_len 0 q))
+            (let q : suc k.top + 1 ≡ suc (suc k.top) = omega arith in q);
       }
 
   -- at 0 all layers are built
-  pub built_all : {made : List (List (List W))} → IsBuilt f b x len made so_far → x ≡ 0 → made ≡ layers f b
+  pub built_all : {made : List (List (List W))} → IsBuilt f b x len made → x ≡ 0 → made ≡ layers f b
   built_all k z = k.are_layers ∙ ap (λ q. map (layer f b) (range_with_len 0 (suc q))) (at_levels k z)
 
-  -- and all steps are known
-  pub stepped_all : {made : List (List (List W))} → IsBuilt f b x len made so_far → x ≡ 0 → so_far
-      ≡ arity_schedule (shape b)
-  stepped_all k z = k.are_steps ∙ ap (λ q. map (step (shape b)) (range_with_len 0 q)) (at_levels k z)
-
-  -- there is one layer more than steps
-  pub layers_long : {V : Type 0} (items : V → List (List W)) (vs : List V) → IsBuilt f b x len (map items vs) so_far →
-      length vs ≡ suc (length so_far)
+  -- the last layer's number is one less than the number of layers
+  pub layers_long : {V : Type 0} (items : V → List (List W)) (vs : List V) → (k : IsBuilt f b x len (map items vs)) →
+      length vs ≡ suc k.top
   layers_long items vs k = sym (length-map vs items) ∙ ap length k.are_layers
-      ∙ length-map-range_with_len (layer f b) 0 (suc (length so_far))
+      ∙ length-map-range_with_len (layer f b) 0 (suc k.top)
 
   -- the layer below, among those so far
   pub layer_at : {V : Type 0} (items : V → List (List W)) (vs : List V) (v : V) →
-      IsBuilt f b x len (map items vs) so_far → v ≡ get_or vs (length so_far) v → items v ≡ layer f b (length so_far)
+      (k : IsBuilt f b x len (map items vs)) → v ≡ get_or vs k.top v → items v ≡ layer f b k.top
   layer_at items vs v k is =
       let many = layers_long items vs k in
-      ap items is ∙ sym (get_or-map items vs (length so_far) v (items v) (omega arith))
-      ∙ ap (λ (z : List (List (List W))). get_or z (length so_far) (items v)) k.are_layers
-      ∙ get_or-map-range_with_len (layer f b) 0 (suc (length so_far)) (length so_far) (length so_far) (items v)
+      ap items is ∙ sym (get_or-map items vs k.top v (items v) (omega arith))
+      ∙ ap (λ (z : List (List (List W))). get_or z k.top (items v)) k.are_layers
+      ∙ get_or-map-range_with_len (layer f b) 0 (suc k.top) k.top k.top (items v)
       (omega arith) (omega arith)

@@ -16,7 +16,7 @@ ghost use Rattle.p3_merkle_lanes.specs.Inner.Slots.{leaf_over, rows_over, IsFill
 use p3_merkle_core::group::{padded_group, pair_group};
 use p3_merkle_core::levels::Level;
 use p3_merkle_lanes::batched::{compress_groups_batched, inject_row_digests};
-use p3_merkle_lanes::packed::{compress_children_packed, compress_pairs_packed, packed_groups};
+use p3_merkle_lanes::packed::{compress_children_packed, compress_pairs_packed, packed_blocks};
 use p3_merkle_lanes::plain::compress_groups;
 use p3_merkle_lanes::rows::LayerRows;
 use p3_support::compress::PseudoCompressionFunction;
@@ -141,33 +141,33 @@ impl<
         Ok(compress_pairs_packed::<PW, C, N, D>(self.compress, folded, rows))
     }
 
-    /// Writes the nodes of the layer above a layer into the first slots: `groups` groups, each of as many slots as
+    /// Writes the nodes of the layer above a layer into the first slots: `blocks` blocks, each of as many slots as
     /// there are lanes.
     fn write_packed_nodes(
         &self,
         alloc: Global,
         level: &Level,
         below: &[[PW::Value; D]],
-        groups: usize,
+        blocks: usize,
         slots: &mut [[PW::Value; D]],
     ) -> Result<(), AllocError>
         requires level { CanRaise N level.now (length below.now) }
         requires lanes { P.WIDTH ≡ PW.WIDTH }
-        requires digest { 0 < groups → FitsInMemory (ArrayAt PW.row D.row) }
-        requires group { 0 < groups → FitsInMemory (ArrayAt (ArrayAt PW.row D.row) N.row) }
-        requires nodes { groups * PW.WIDTH ≤ level.now.raw_len }
-        requires rows { level.now.has_rows ≡ true → groups * PW.WIDTH ≤ self.now.rows.height }
-        requires fits { groups * PW.WIDTH ≤ length slots.old }
+        requires digest { 0 < blocks → FitsInMemory (ArrayAt PW.row D.row) }
+        requires group { 0 < blocks → FitsInMemory (ArrayAt (ArrayAt PW.row D.row) N.row) }
+        requires nodes { blocks * PW.WIDTH ≤ level.now.raw_len }
+        requires rows { level.now.has_rows ≡ true → blocks * PW.WIDTH ≤ self.now.rows.height }
+        requires fits { blocks * PW.WIDTH ≤ length slots.old }
         ensures { let f = functions_of (H.hash self.now.rows.hash.now) (C.compression self.now.compress.now)
             (replicate D PW.default_value) in
             let leaf = leaf_over f.hash f.default_digest (rows_over M.row_of self.now.rows.matrices.now)
             self.now.rows.height in
             let slot = slot_above f N leaf level.now below.now in
-            IfOk result (λ done. IsFilled slot (groups * PW.WIDTH) (length slots.old) slots.new) }
+            IfOk result (λ done. IsFilled slot (blocks * PW.WIDTH) (length slots.old) slots.new) }
     {
         let mut staged = Vec::new(alloc);
-        for group in 0..groups {
-            let first = group * PW::WIDTH;
+        for block in 0..blocks {
+            let first = block * PW::WIDTH;
             let digests = self.packed_node(level, below, first, &mut staged)?;
             unpack_at(&digests, slots, first);
         }
@@ -203,7 +203,7 @@ impl<
         if !level.has_rows {
             return Ok(());
         }
-        let rows = self.rows.leaves(alloc, count)?;
+        let rows = self.rows.digests(alloc, count)?;
         let mut pairs = Vec::new(alloc);
         inject_row_digests::<PW, C, N, D>(self.compress, &mut pairs, &rows, slots)?;
         Ok(())
@@ -238,9 +238,9 @@ impl<
         } else {
             nodes
         };
-        let groups = packed_groups::<PW, N, D>(count);
-        self.write_packed_nodes(alloc, level, below, groups, slots)?;
-        Ok(groups * PW::WIDTH)
+        let blocks = packed_blocks::<PW, N, D>(count);
+        self.write_packed_nodes(alloc, level, below, blocks, slots)?;
+        Ok(blocks * PW::WIDTH)
     }
 
     /// Writes nodes into the slots of their numbers, from slot `done` on, if each has `N` children and no matrices

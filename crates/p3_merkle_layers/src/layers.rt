@@ -6,7 +6,7 @@ ghost use Rattle.std.specs.Prelude.{suc, ◌≡◌, ℕ, ◌<◌, IfOk, map, fil
 ghost use Rattle.std.specs.List.{range_with_len};
 ghost use Rattle.p3_support.specs.Lists.{rows_of_height};
 ghost use Rattle.p3_merkle_core.specs.Views.{batch_of};
-ghost use Rattle.p3_merkle_core.specs.Geometry.{arity_schedule as schedule_of, layer_len, shape_of};
+ghost use Rattle.p3_merkle_core.specs.Geometry.{layer_len, shape_of};
 ghost use Rattle.p3_merkle_core.specs.Inner.Levels.{IsLevel};
 ghost use Rattle.p3_merkle_core.specs.Nodes.{functions_of, layer, layers as layers_over, shape};
 ghost use Rattle.p3_merkle_layers.specs.Inner.Built.{IsBuilt};
@@ -25,23 +25,21 @@ use p3_support::packed::PackedValue;
 use std::alloc::{AllocError, Global};
 use std::marker::PhantomData;
 
-/// The first layers of a tree, from the leaves on, and the steps between them.
+/// The first layers of a tree, from the leaves on.
 #[derive(Debug, Drop)]
-pub struct Stack<X> {
+struct Stack<X> {
     /// The digests of each layer, padding included.
     pub layers: Vec<Vec<X>>,
-    /// How many children a node has, from layer to layer.
-    pub arity_schedule: Vec<usize>,
     /// The exponent of the last layer.
     pub exponent: usize,
     /// How many slots of the last layer are nodes.
     pub len: usize,
 }
 
-/// Builds the layers over matrices, with a hash for their rows and a compression of `N` digests for nodes.
+/// Builds the layers over matrices, with a hasher for their rows and a compression of `N` digests for nodes.
 #[derive(Drop)]
 pub struct Builder<'a, P, PW, H, C, M, G> {
-    /// The hash of rows.
+    /// The hasher of rows.
     pub hash: &'a H,
     /// The compression of the children of a node.
     pub compress: &'a C,
@@ -122,7 +120,7 @@ impl<
     {
         let picked = of_height(alloc, self.matrices, height)?;
         let builder = self.layer_builder(&picked, height);
-        let leaves = builder.rows.leaves(alloc, len)?;
+        let leaves = builder.rows.digests(alloc, len)?;
         Ok(leaves)
     }
 
@@ -158,15 +156,14 @@ impl<
             (replicate D PW.default_value) in
             let b = batch_of M.height_of M.width_of M.row_of N self.now.matrices.now in
             IfOk result (λ stack. IsBuilt f b stack.exponent stack.len
-            (map (λ nodes. nodes.items) stack.layers.items) stack.arity_schedule.items) }
+            (map (λ nodes. nodes.items) stack.layers.items)) }
     {
         let height = steps.max_height;
         let layer = self.first_layer(alloc, height, padded_len(height, N))?;
-        let mut layers = Vec::new(alloc);
+        let mut layers = Vec::with_capacity(alloc, steps.num_levels + 1)?;
         layers.push(layer)?;
         Ok(Stack {
             layers,
-            arity_schedule: Vec::new(alloc),
             exponent: steps.exponent,
             len: height,
         })
@@ -185,19 +182,18 @@ impl<
         requires built { let f = functions_of (H.hash self.now.hash.now) (C.compression self.now.compress.now)
             (replicate D PW.default_value) in
             let b = batch_of M.height_of M.width_of M.row_of N self.now.matrices.now in
-            IsBuilt f b stack.now.exponent stack.now.len
-            (map (λ nodes. nodes.items) stack.now.layers.items) stack.now.arity_schedule.items }
+            IsBuilt f b stack.now.exponent stack.now.len (map (λ nodes. nodes.items) stack.now.layers.items) }
         requires more { 0 < stack.now.exponent }
         requires lanes { P.WIDTH ≡ PW.WIDTH }
         ensures level { IfOk result
             (λ made. IsLevel (shape (batch_of M.height_of M.width_of M.row_of N self.now.matrices.now)) made.0) }
-        ensures below { IfOk result (λ made. made.0.below ≡ length stack.now.arity_schedule.items) }
+        ensures below { IfOk result (λ made. suc made.0.below ≡ length stack.now.layers.items) }
         ensures nodes { let f = functions_of (H.hash self.now.hash.now) (C.compression self.now.compress.now)
             (replicate D PW.default_value) in
             let b = batch_of M.height_of M.width_of M.row_of N self.now.matrices.now in
             IfOk result (λ made. made.1.items ≡ layer f b (suc made.0.below)) }
     {
-        let below = stack.arity_schedule.len();
+        let below = stack.layers.len() - 1;
         let level = steps.level_above(below, stack.exponent, stack.len);
         let nodes = stack.layers[below].as_slice();
         tell_children(steps.dimensions, N, &level, nodes);
@@ -205,9 +201,9 @@ impl<
         Ok((level, layer))
     }
 
-    /// All layers of the tree over the matrices, from the leaves to the root, with the steps between them. `N` must be
-    /// a power of two from 2 to 2^62, [`Steps::check_heights`] must accept the heights, `steps` must be those of the
-    /// matrices at the arity `N`, and both packings must have equally many lanes.
+    /// All layers of the tree over the matrices, from the leaves to the root. `N` must be a power of two from 2 to
+    /// 2^62, [`Steps::check_heights`] must accept the heights, `steps` must be those of the matrices at the arity `N`,
+    /// and both packings must have equally many lanes.
     ///
     /// # Errors
     ///
@@ -216,26 +212,24 @@ impl<
         &self,
         alloc: Global,
         steps: &Steps<'_>,
-    ) -> Result<Stack<[PW::Value; D]>, AllocError>
+    ) -> Result<Vec<Vec<[PW::Value; D]>>, AllocError>
         requires build { CanBuild (batch_of M.height_of M.width_of M.row_of N self.now.matrices.now)
             steps.now.dimensions.now }
         requires arity { steps.now.arity ≡ N }
         requires lanes { P.WIDTH ≡ PW.WIDTH }
-        ensures layers { let f = functions_of (H.hash self.now.hash.now) (C.compression self.now.compress.now)
+        ensures { let f = functions_of (H.hash self.now.hash.now) (C.compression self.now.compress.now)
             (replicate D PW.default_value) in
             let b = batch_of M.height_of M.width_of M.row_of N self.now.matrices.now in
-            IfOk result (λ made. map (λ nodes. nodes.items) made.layers.items ≡ layers_over f b) }
-        ensures arity_schedule { let b = batch_of M.height_of M.width_of M.row_of N self.now.matrices.now in
-            IfOk result (λ made. made.arity_schedule.items ≡ schedule_of (shape b)) }
+            IfOk result (λ layers. map (λ nodes. nodes.items) layers.items ≡ layers_over f b) }
     {
         let mut stack = self.bottom(alloc, steps)?;
         while stack.exponent > 0 {
             let (level, layer) = self.raise(alloc, steps, &stack)?;
             stack.layers.push(layer)?;
-            stack.arity_schedule.push(level.step)?;
             stack.exponent = level.exponent;
             stack.len = level.raw_len;
         }
-        Ok(stack)
+        let Stack { layers, .. } = stack;
+        Ok(layers)
     }
 }

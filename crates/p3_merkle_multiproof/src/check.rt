@@ -11,7 +11,7 @@ ghost use Rattle.p3_merkle_verifier.specs.Inner.Paths.{CanCheck};
 ghost use Rattle.p3_merkle_core.specs.Checks.{terms};
 
 use crate::restorable::BorrowedOpening;
-use crate::restored::levels_under_cap;
+use crate::restored::checked_levels;
 use crate::start::start_of;
 use p3_merkle_core::error::MerkleTreeError;
 use p3_merkle_verifier::level::Checker;
@@ -67,6 +67,6 @@ pub fn check_pruned_opening<
         cap_layer,
     } = *commitment;
     let start = start_of::<P, [PW::Value; D]>(alloc, dimensions, N, cap_layer, opening)?;
-    levels_under_cap::<P, PW, H, C, N, D>(alloc, checker, start, roots, false)?;
+    checked_levels::<P, PW, H, C, N, D>(alloc, checker, start, roots, false)?;
     Ok(())
 }

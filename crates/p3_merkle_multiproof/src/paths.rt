@@ -15,7 +15,7 @@ ghost use Rattle.p3_merkle_core.specs.Checks.{terms};
 use crate::check::Commitment;
 use crate::covered::NextLevel;
 use crate::restorable::BorrowedOpening;
-use crate::restored::{Reach, levels_under_cap, restored_layer};
+use crate::restored::{Reach, checked_levels, restored_layer};
 use crate::start::{Start, start_of};
 use p3_merkle_core::error::MerkleTreeError;
 use p3_merkle_core::pruning::{AuthPath, KeptLevel, paths_out_of};
@@ -103,7 +103,7 @@ pub(crate) fn checked_paths_of<
     } = *commitment;
     let indices = opening.indices;
     let start = start_of::<P, [PW::Value; D]>(alloc, dimensions, N, cap_layer, opening)?;
-    let levels = levels_under_cap::<P, PW, H, C, N, D>(alloc, checker, start, roots, true)?;
+    let levels = checked_levels::<P, PW, H, C, N, D>(alloc, checker, start, roots, true)?;
     Ok(paths_out_of(alloc, &levels, indices)?)
 }
 

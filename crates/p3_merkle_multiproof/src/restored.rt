@@ -151,7 +151,7 @@ pub(crate) fn restored_layer<
 /// # Errors
 ///
 /// `CapMismatch` where some root is another or is not there; `OutOfMemory` if memory runs out.
-pub(crate) fn levels_under_cap<
+pub(crate) fn checked_levels<
     P: PackedValue,
     PW: PackedValue,
     H: CryptographicHasher<P, PW, D>,

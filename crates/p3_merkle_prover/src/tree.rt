@@ -14,7 +14,7 @@ ghost use Rattle.p3_merkle_layers.specs.Inner.Levels.{CanBuild};
 
 use p3_merkle_core::error::MerkleTreeError;
 use p3_merkle_core::steps::KeptSteps;
-use p3_merkle_layers::layers::{Builder, Stack};
+use p3_merkle_layers::layers::Builder;
 use p3_merkle_layers::levels::batch_dimensions;
 use p3_support::compress::PseudoCompressionFunction;
 use p3_support::hasher::CryptographicHasher;
@@ -57,13 +57,13 @@ impl<F: Copy, W: Copy, M: Matrix<F> + Drop, const N: usize, const D: usize> Merk
     ghost use Rattle.p3_support.specs.Shown.{digest_of_ref, roots_of};
     ghost use Rattle.p3_merkle_prover.specs.Parts.{layers_of, matrices_of, tree_batch};
 
-    /// The tree over matrices, which it keeps in input order. Leaf `i` is the hash of the rows `i` of the tallest
+    /// The tree over matrices, which it keeps in input order. Leaf `i` is the digest of the rows `i` of the tallest
     /// matrices, one after another. A node compresses its children; where matrices are injected at its layer, the
-    /// result is compressed with the hash of their rows. Default digests stand for missing children, for rows past the
-    /// end of a matrix, and in the slots that pad a layer.
+    /// result is compressed with the digest of their rows. Default digests stand for missing children, for rows past
+    /// the end of a matrix, and in the slots that pad a layer.
     ///
     /// `N` must be a power of two from 2 to 2^62, and both packings must have equally many lanes, at least one. Each
-    /// layer is allocated once. `LANES` of the hash and of the compression, and the lanes of the packings, decide how
+    /// layer is allocated once. `LANES` of the hasher and of the compression, and the lanes of the packings, decide how
     /// many digests one call computes; the tree does not depend on them.
     ///
     /// # Errors
@@ -95,7 +95,7 @@ impl<F: Copy, W: Copy, M: Matrix<F> + Drop, const N: usize, const D: usize> Merk
             matrices: &leaves,
             item: PhantomData,
         };
-        let Stack { layers, .. } = builder.layers(alloc, &steps.steps())?;
+        let layers = builder.layers(alloc, &steps.steps())?;
         Ok(Tree {
             matrices: leaves,
             steps,

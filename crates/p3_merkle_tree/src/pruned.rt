@@ -42,7 +42,7 @@ use std::alloc::Global;
 ///
 /// # Errors
 ///
-/// The same.
+/// Those of [`Scheme::pruned_len`].
 fn pruned_len_under(
     alloc: Global,
     dimensions: &[Dimensions],

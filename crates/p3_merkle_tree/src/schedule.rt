@@ -21,7 +21,7 @@ use std::alloc::Global;
 ///
 /// # Errors
 ///
-/// The same.
+/// Those of [`Scheme::replay_arity_and_positions`].
 fn schedule_to(
     alloc: Global,
     steps: &Steps<'_>,
@@ -41,7 +41,7 @@ fn schedule_to(
 ///
 /// # Errors
 ///
-/// The same.
+/// Those of [`Scheme::replay_arity_and_positions`].
 fn path_to(
     alloc: Global,
     steps: &Steps<'_>,

@@ -10,7 +10,7 @@ ghost use Rattle.p3_merkle_verifier.specs.Inner.Collisions.{first_words, inputs_
 ghost use Rattle.p3_merkle_verifier.specs.Inner.Collisions.{IsDifference, Shows};
 
 use crate::level::CheckedLevel;
-use crate::opened::opened_rows;
+use crate::opened::iter_opened_words;
 use p3_merkle_core::collision::{Collision, InputPair, Place};
 use p3_support::matrix::Dimensions;
 use std::alloc::{AllocError, Global};
@@ -58,7 +58,7 @@ fn opened_words<T: Copy + Drop>(
     ensures { let pairs = zip (heights_of dimensions.now) (row_lists rows.now) in
         IfOk result (λ words. words.items ≡ words_of_exponent exponent pairs) }
 {
-    opened_rows(dimensions, rows, exponent).collect(alloc)
+    iter_opened_words(dimensions, rows, exponent).collect(alloc)
 }
 
 /// Both lists of words at a place, if they differ.

@@ -10,7 +10,7 @@ ghost use Rattle.p3_merkle_verifier.specs.Inner.Checks.{IsLevelOfCheck, IsProgre
 ghost use Rattle.p3_merkle_verifier.specs.Inner.Paths.{CanReach};
 ghost use Rattle.p3_support.specs.Shown.{row_lists};
 
-use crate::opened::opened_slices;
+use crate::opened::iter_opened_rows;
 use crate::openings::IndexedOpening;
 use p3_merkle_core::group::{group_with, pair_group};
 use p3_merkle_core::steps::{StepUp, Steps};
@@ -90,7 +90,7 @@ pub fn opened_rows_digest<
     ensures { let rows = zip (heights_of dimensions.now) (row_lists rows.now) in
         result ≡ H.hash hash.now (words_of_exponent exponent rows) }
 {
-    hash.hash_iter_slices(opened_slices(dimensions, rows, exponent))
+    hash.hash_iter_slices(iter_opened_rows(dimensions, rows, exponent))
 }
 
 /// Starts the check of an opening, at the leaf.
@@ -148,10 +148,10 @@ fn tell_step<X>(
     ensures { CanStep steps.now.arity step used (length siblings.now) }
 {}
 
-/// Checks openings: it borrows the hash of rows and the compression of nodes.
+/// Checks openings: it borrows the hasher of rows and the compression of nodes.
 #[derive(Drop)]
 pub struct Checker<'a, P, PW, H, C, G> {
-    /// The hash of rows.
+    /// The hasher of rows.
     pub hash: &'a H,
     /// The compression of the children of a node.
     pub compress: &'a C,

@@ -11,7 +11,7 @@ use p3_support::matrix::Dimensions;
 
 /// The words of the rows of the matrices of one exponent, one row after another. Nothing is copied.
 #[derive(Drop)]
-pub struct OpenedRows<'a, T> {
+pub struct OpenedWords<'a, T> {
     dimensions: &'a [Dimensions],
     rows: &'a [Vec<T>],
     exponent: usize,
@@ -19,17 +19,17 @@ pub struct OpenedRows<'a, T> {
 }
 
 /// Yields the words of the rows of the matrices of this exponent. `rows` has one row of each matrix, in input order.
-pub(crate) fn opened_rows<'a, T>(
+pub(crate) fn iter_opened_words<'a, T>(
     dimensions: &'a [Dimensions],
     rows: &'a [Vec<T>],
     exponent: usize,
-) -> OpenedRows<'a, T>
+) -> OpenedWords<'a, T>
     ensures dimensions { result.dimensions.now ≡ dimensions.now }
     ensures rows { result.rows.now ≡ rows.now }
     ensures exponent { result.exponent ≡ exponent }
     ensures start { result.next ≡ 0 }
 {
-    OpenedRows {
+    OpenedWords {
         dimensions,
         rows,
         exponent,
@@ -37,7 +37,7 @@ pub(crate) fn opened_rows<'a, T>(
     }
 }
 
-impl<'a, T: Copy> Iterator for OpenedRows<'a, T> {
+impl<'a, T: Copy> Iterator for OpenedWords<'a, T> {
     type Item = T;
 
     ghost next_gives = { YieldsFirst
@@ -66,30 +66,30 @@ impl<'a, T: Copy> Iterator for OpenedRows<'a, T> {
 
 /// The rows of the matrices of one exponent, one after another, each whole.
 #[derive(Drop)]
-pub struct OpenedSlices<'a, T> {
+pub struct OpenedRows<'a, T> {
     dimensions: &'a [Dimensions],
     rows: &'a [Vec<T>],
     exponent: usize,
 }
 
 /// Yields the rows of the matrices of this exponent. `rows` has one row of each matrix, in input order.
-pub(crate) fn opened_slices<'a, T>(
+pub(crate) fn iter_opened_rows<'a, T>(
     dimensions: &'a [Dimensions],
     rows: &'a [Vec<T>],
     exponent: usize,
-) -> OpenedSlices<'a, T>
+) -> OpenedRows<'a, T>
     ensures dimensions { result.dimensions.now ≡ dimensions.now }
     ensures rows { result.rows.now ≡ rows.now }
     ensures exponent { result.exponent ≡ exponent }
 {
-    OpenedSlices {
+    OpenedRows {
         dimensions,
         rows,
         exponent,
     }
 }
 
-impl<'a, T> Iterator for OpenedSlices<'a, T> {
+impl<'a, T> Iterator for OpenedRows<'a, T> {
     type Item = &'a [T];
 
     ghost next_gives = { YieldsFirstBy (λ row. row.now)

@@ -15,7 +15,7 @@ use std::alloc::Global;
 /// An index counts the rows of the tallest matrix, from 0. The verifier has the commitment and the dimensions of the
 /// matrices, and no matrix.
 ///
-/// An accepted opening fits the dimensions: its index is below the greatest height, and it has one row of the right
+/// An accepted opening fits the dimensions: its index is below the tallest height, and it has one row of the right
 /// width for each matrix. The trait does not promise that a commitment fixes the rows: two different openings of one
 /// index may both be accepted. Each scheme says what follows from two such openings, by a call of its own such as
 /// `extract_collision`.
@@ -75,7 +75,7 @@ pub trait Mmcs<T, M: Matrix<T>> {
         ensures commitment { IfOk result (λ made. commits_to self.new made.0 made.1) }
         ensures memory { can_commit matrices.items → IfErr result is_out_of_memory };
 
-    /// Opens an index, which must be below the greatest height. The opening has one row of each matrix, in input order,
+    /// Opens an index, which must be below the tallest height. The opening has one row of each matrix, in input order,
     /// and a proof of them. It is accepted under the commitment.
     ///
     /// # Errors
@@ -109,7 +109,7 @@ pub trait Mmcs<T, M: Matrix<T>> {
         ensures matrices { IfOk result (λ v. map (λ m. m.now) v.items ≡ matrices_in prover_data.now) }
         ensures memory { IfErr result is_out_of_memory };
 
-    /// The greatest height of the matrices, in rows.
+    /// The tallest height of the matrices, in rows.
     fn get_max_height(&self, prover_data: &Self::ProverData) -> usize
         ensures { result ≡ greatest (map M.height_of (matrices_in prover_data.now)) };
 
@@ -134,7 +134,7 @@ pub trait Mmcs<T, M: Matrix<T>> {
             (row_lists opening.entry.opened_values.now) opening.entry.opening_proof.now →
             IfErr result is_out_of_memory };
 
-    /// Opens several indices by one proof. The indices must be below the greatest height, in any order; repeats are
+    /// Opens several indices by one proof. The indices must be below the tallest height, in any order; repeats are
     /// allowed. The rows are those of [`open_batch`](Self::open_batch) for each index, in query order.
     ///
     /// # Errors
@@ -157,7 +157,7 @@ pub trait Mmcs<T, M: Matrix<T>> {
 
     /// Verifies the rows of several indices by one proof against a commitment. `rows` has a row set for each index, in
     /// query order; `dimensions` are as in [`verify_batch`](Self::verify_batch). In an accepted opening each index is
-    /// below the greatest height, and its row set has one row of the right width for each matrix.
+    /// below the tallest height, and its row set has one row of the right width for each matrix.
     ///
     /// # Errors
     ///

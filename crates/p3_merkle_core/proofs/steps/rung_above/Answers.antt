@@ -12,12 +12,12 @@ returns-then-rung-exponent-clause-rows c =
 pub returns-clause-rows : goal.returns-clause-rows
 returns-clause-rows c =
     sym (next_not_had c.args.rung.exponent c.args.exponent (heights_of c.args.dimensions.now) (omega arith)
-    (omega (arith, c.requires.rung.next_is, c.requires.between (omega arith))))
+    (omega (arith, c.requires.rung.next_is, c.requires.between)))
 
 pub returns-clause-above : goal.returns-clause-above
 returns-clause-above c =
     record {
       next_is = c.requires.rung.next_is
-          ∙ sym (next_stays c.args.rung.exponent c.args.exponent (heights_of c.args.dimensions.now) c.requires.down
-          (omega (arith, c.requires.rung.next_is, c.requires.between (omega arith))));
+          ∙ sym (next_stays c.args.rung.exponent c.args.exponent (heights_of c.args.dimensions.now) (omega arith)
+          (omega (arith, c.requires.rung.next_is, c.requires.between)));
     }

@@ -16,8 +16,8 @@ returns-in_err-start g c =
     commitment.cap_layer commitment.roots.now c.args.opening c.from_residual.result c.in_err-start.field-0.0
     c.from_residual.ensures.1 c.in_err-start.ensures.answer
 
-pub returns-in_err-levels_under_cap : goal.returns-in_err-levels_under_cap
-returns-in_err-levels_under_cap g c =
+pub returns-in_err-checked_levels : goal.returns-in_err-checked_levels
+returns-in_err-checked_levels g c =
     let f = functions_of (g.H.CryptographicHasher.hash c.args.checker.now.hash.now)
     (g.C.PseudoCompressionFunction.compression c.args.checker.now.compress.now)
     (replicate g.row.D g.PW.PackedValue.default_value) in
@@ -27,9 +27,9 @@ returns-in_err-levels_under_cap g c =
     let made = c.in_ok-start.ensures in
     let tree : tree_of restorable ≡ s = λ i. shape_of (made.arity i) (made.dimensions i) in
     refused_by_cap g.P.Value.PartialEq.eq g.PW.Value.PartialEq.eq f s
-    commitment.cap_layer commitment.roots.now c.args.opening restorable c.from_residual-in_err-levels_under_cap.result
-    c.in_err-levels_under_cap.field-0.0 tree made.layer made.opening made.answer
-    c.from_residual-in_err-levels_under_cap.ensures.1 c.in_err-levels_under_cap.ensures.answer
+    commitment.cap_layer commitment.roots.now c.args.opening restorable c.from_residual-in_err-checked_levels.result
+    c.in_err-checked_levels.field-0.0 tree made.layer made.opening made.answer
+    c.from_residual-in_err-checked_levels.ensures.1 c.in_err-checked_levels.ensures.answer
 
 pub returns : goal.returns
 returns g c =
@@ -42,4 +42,4 @@ returns g c =
     let made = c.in_ok-start.ensures in
     let tree : tree_of restorable ≡ s = λ i. shape_of (made.arity i) (made.dimensions i) in
     sym (refusal_of_cap g.P.Value.PartialEq.eq g.PW.Value.PartialEq.eq f s commitment.cap_layer commitment.roots.now
-    c.args.opening restorable tree made.layer made.opening made.answer) ∙ c.in_ok-levels_under_cap.ensures.answer
+    c.args.opening restorable tree made.layer made.opening made.answer) ∙ c.in_ok-checked_levels.ensures.answer

@@ -14,7 +14,7 @@ pub returns : goal.returns
 returns g c =
     let hash = g.H.CryptographicHasher.hash c.args.hash.now in
     let pairs = zip (heights_of c.args.dimensions.now) (row_lists c.args.rows.now) in
-    let opened = c.opened_slices.ensures in
+    let opened = c.iter_opened_rows.ensures in
     let yields = YieldsList-from_first (λ row. row.now)
     (λ s. rows_of_exponent s.exponent (zip (heights_of s.dimensions.now) (row_lists s.rows.now)))
     (rows_of_exponent c.args.exponent pairs) (rw (opened.exponent, opened.dimensions, opened.rows) refl) in

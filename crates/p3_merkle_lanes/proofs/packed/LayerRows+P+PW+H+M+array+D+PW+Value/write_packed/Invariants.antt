@@ -2,10 +2,10 @@ use Rattle.std.proofs.Common.{◌*◌, length, replicate}
 use Rattle.p3_merkle_lanes.specs.Inner.Slots.{leaf_over, rows_over, IsFilled}
 use Rattle.p3_merkle_lanes.proofs.packed.LayerRows+P+PW+H+M+array+D+PW+Value.write_packed.Given as goal
 
--- the groups so far are written
-abbrev pub invariant-loop-group : goal.invariant-loop-group
-invariant-loop-group g l =
+-- the blocks so far are written
+abbrev pub invariant-loop-block : goal.invariant-loop-block
+invariant-loop-block g l =
     IsFilled (leaf_over (g.H.CryptographicHasher.hash l.self.hash.now)
     (replicate g.row.D g.PW.PackedValue.default_value)
-    (rows_over g.M.Matrix.row_of l.self.matrices.now) l.self.height) (l.group * g.PW.PackedValue.WIDTH)
+    (rows_over g.M.Matrix.row_of l.self.matrices.now) l.self.height) (l.block * g.PW.PackedValue.WIDTH)
     (length l.initial.slots) l.slots

@@ -4,9 +4,9 @@ use Rattle.p3_merkle_layers.specs.Inner.Levels.{slot_above}
 use Rattle.p3_merkle_lanes.specs.Inner.Slots.{leaf_over, rows_over, IsFilled}
 use Rattle.p3_merkle_layers.proofs.layer.LayerBuilder+P+PW+H+C+M+array+D+PW+Value+array+N+array+D+PW+Value.write_packed_nodes.Given as goal
 
--- the groups so far are written, and the next one ends where the nodes, the rows and the slots do or before
-abbrev pub invariant-loop-group : goal.invariant-loop-group
-invariant-loop-group g l =
+-- the blocks so far are written, and the next one ends where the nodes, the rows and the slots do or before
+abbrev pub invariant-loop-block : goal.invariant-loop-block
+invariant-loop-block g l =
     let f = functions_of (g.H.CryptographicHasher.hash l.self.rows.hash.now)
     (g.C.PseudoCompressionFunction.compression l.self.compress.now)
     (replicate g.row.D g.PW.PackedValue.default_value) in
@@ -14,9 +14,9 @@ invariant-loop-group g l =
     l.self.rows.height in
     let lanes = g.PW.PackedValue.WIDTH in
     record {
-      written : IsFilled (slot_above f g.row.N leaf l.level l.below) (l.group * lanes) (length l.initial.slots) l.slots;
-      in_nodes : (w : ℕ) → w ≡ lanes → l.group < l.groups → l.group * w + lanes ≤ l.level.raw_len;
-      in_rows : (w : ℕ) → w ≡ lanes → l.group < l.groups → l.level.has_rows ≡ true →
-          l.group * w + lanes ≤ l.self.rows.height;
-      in_slots : (w : ℕ) → w ≡ lanes → l.group < l.groups → l.group * w + lanes ≤ length l.slots;
+      written : IsFilled (slot_above f g.row.N leaf l.level l.below) (l.block * lanes) (length l.initial.slots) l.slots;
+      in_nodes : (w : ℕ) → w ≡ lanes → l.block < l.blocks → l.block * w + lanes ≤ l.level.raw_len;
+      in_rows : (w : ℕ) → w ≡ lanes → l.block < l.blocks → l.level.has_rows ≡ true →
+          l.block * w + lanes ≤ l.self.rows.height;
+      in_slots : (w : ℕ) → w ≡ lanes → l.block < l.blocks → l.block * w + lanes ≤ length l.slots;
     }

@@ -19,7 +19,7 @@ padded_len-requires-clause-fits g c =
 
 pub returns : goal.returns
 returns g c =
-    rw (c.in_ok-push.ensures.items, c.new-layers.ensures.items, c.new.ensures.items)
+    rw (c.in_ok-push.ensures.items, c.in_ok-layers.ensures.items)
     (built_first (functions_of (g.H.CryptographicHasher.hash c.args.self.now.hash.now)
     (g.C.PseudoCompressionFunction.compression c.args.self.now.compress.now)
     (replicate g.row.D g.PW.PackedValue.default_value)) g.row.N g.M.Matrix.height_of g.M.Matrix.width_of

@@ -10,7 +10,7 @@ invariant-loop-stack g l =
     (g.C.PseudoCompressionFunction.compression l.self.compress.now)
     (replicate g.row.D g.PW.PackedValue.default_value))
     (batch_of g.M.Matrix.height_of g.M.Matrix.width_of g.M.Matrix.row_of g.row.N l.self.matrices.now)
-    l.stack.exponent l.stack.len (map (λ nodes. nodes.items) l.stack.layers.items) l.stack.arity_schedule.items
+    l.stack.exponent l.stack.len (map (λ nodes. nodes.items) l.stack.layers.items)
 
 abbrev pub decreases-loop-stack : goal.decreases-loop-stack
 decreases-loop-stack g l = l.stack.exponent

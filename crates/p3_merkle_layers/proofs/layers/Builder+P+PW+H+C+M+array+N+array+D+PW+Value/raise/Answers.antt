@@ -1,4 +1,4 @@
-use Rattle.std.proofs.Common.{arith, ◌≡◌, ◌∙◌, sym, ap, length, replicate}
+use Rattle.std.proofs.Common.{arith, ◌≡◌, ◌∙◌, ◌-◌, sym, ap, replicate}
 use Rattle.p3_merkle_core.specs.Nodes.{functions_of, layer}
 use Rattle.p3_merkle_core.specs.Views.{batch_of}
 use Rattle.p3_merkle_layers.proofs.LayerFacts.{layer_next}
@@ -7,15 +7,15 @@ use Rattle.p3_merkle_layers.proofs.layers.Builder+P+PW+H+C+M+array+N+array+D+PW+
 
 pub level_above-level-requires : goal.level_above-level-requires
 level_above-level-requires g c =
-    rw (c.requires.arity, c.len-below.ensures ∙ c.args.stack.now.arity_schedule.ok.0)
-    (below_top c.requires.build c.requires.built c.requires.more)
-
-pub index-requires : goal.index-requires
-index-requires g c =
-    let n = layers_long (λ nodes. nodes.items) c.args.stack.now.layers.items c.requires.built in
-    let long : c.len-below.result ≡ length c.args.stack.now.arity_schedule.items = c.len-below.ensures
-    ∙ c.args.stack.now.arity_schedule.ok.0 in
-    omega (arith, n, long, c.args.stack.now.layers.ok.0)
+    let k = c.requires.built in
+    let many = layers_long (λ nodes. nodes.items) c.args.stack.now.layers.items k in
+    let last : c.len-below.result - 1 ≡ k.top = omega (
+      arith,
+      many,
+      c.len-below.ensures,
+      c.args.stack.now.layers.ok.0,
+    ) in
+    rw (c.requires.arity, last) (below_top c.requires.build k c.requires.more)
 
 pub tell_children-requires-clause-level : goal.tell_children-requires-clause-level
 tell_children-requires-clause-level g c = rw c.requires.arity at c.level_above-level.ensures.level
@@ -26,12 +26,17 @@ tell_children-requires-clause-slots g c =
     (g.C.PseudoCompressionFunction.compression c.args.self.now.compress.now)
     (replicate g.row.D g.PW.PackedValue.default_value) in
     let b = batch_of g.M.Matrix.height_of g.M.Matrix.width_of g.M.Matrix.row_of g.row.N c.args.self.now.matrices.now in
-    let long : c.len-below.result ≡ length c.args.stack.now.arity_schedule.items = c.len-below.ensures
-    ∙ c.args.stack.now.arity_schedule.ok.0 in
+    let k = c.requires.built in
+    let many = layers_long (λ nodes. nodes.items) c.args.stack.now.layers.items k in
+    let last : c.len-below.result - 1 ≡ k.top = omega (
+      arith,
+      many,
+      c.len-below.ensures,
+      c.args.stack.now.layers.ok.0,
+    ) in
     let kids : c.as_slice-nodes.result.now ≡ layer f b c.level_above-level.result.below =
     c.as_slice-nodes.ensures.value ∙ layer_at (λ nodes. nodes.items) c.args.stack.now.layers.items c.index.result.now
-    c.requires.built (rw long at c.index.ensures)
-    ∙ ap (layer f b) (sym long ∙ sym c.level_above-level.ensures.below) in
+    k (rw last at c.index.ensures) ∙ ap (layer f b) (sym last ∙ sym c.level_above-level.ensures.below) in
     slots_are f c.requires.build c.level_above-level.result.below c.as_slice-nodes.result.now kids
 
 pub returns-clause-level : goal.returns-clause-level
@@ -44,12 +49,17 @@ returns-clause-nodes g c =
     (g.C.PseudoCompressionFunction.compression c.args.self.now.compress.now)
     (replicate g.row.D g.PW.PackedValue.default_value) in
     let b = batch_of g.M.Matrix.height_of g.M.Matrix.width_of g.M.Matrix.row_of g.row.N c.args.self.now.matrices.now in
-    let long : c.len-below.result ≡ length c.args.stack.now.arity_schedule.items = c.len-below.ensures
-    ∙ c.args.stack.now.arity_schedule.ok.0 in
+    let k = c.requires.built in
+    let many = layers_long (λ nodes. nodes.items) c.args.stack.now.layers.items k in
+    let last : c.len-below.result - 1 ≡ k.top = omega (
+      arith,
+      many,
+      c.len-below.ensures,
+      c.args.stack.now.layers.ok.0,
+    ) in
     let kids : c.as_slice-nodes.result.now ≡ layer f b c.level_above-level.result.below =
     c.as_slice-nodes.ensures.value ∙ layer_at (λ nodes. nodes.items) c.args.stack.now.layers.items c.index.result.now
-    c.requires.built (rw long at c.index.ensures)
-    ∙ ap (layer f b) (sym long ∙ sym c.level_above-level.ensures.below) in
+    k (rw last at c.index.ensures) ∙ ap (layer f b) (sym last ∙ sym c.level_above-level.ensures.below) in
     c.in_ok-layer.ensures ∙ layer_next f g.row.N g.M.Matrix.height_of g.M.Matrix.width_of g.M.Matrix.row_of
     c.args.self.now.matrices.now c.level_above-level.result c.as_slice-nodes.result.now
     (level_there c.requires.build c.level_above-level.result (rw c.requires.arity at c.level_above-level.ensures.level))

@@ -36,7 +36,7 @@ returns-clause-layers g c =
     let f = functions_of (g.H.CryptographicHasher.hash c.args.hash.now)
     (g.C.PseudoCompressionFunction.compression c.args.compress.now)
     (replicate g.row.D g.PW.PackedValue.default_value) in
-    c.in_ok-layers.ensures.layers
+    c.in_ok-layers.ensures
     ∙ ap (λ ms. layers f (batch_of g.M.Matrix.height_of g.M.Matrix.width_of g.M.Matrix.row_of g.row.N ms))
     c.deref-2.ensures.value
 
@@ -51,9 +51,9 @@ invariant_of-result-clause-layer_lengths g c =
     let f = functions_of (g.H.CryptographicHasher.hash c.args.hash.now)
     (g.C.PseudoCompressionFunction.compression c.args.compress.now)
     (replicate g.row.D g.PW.PackedValue.default_value) in
-    lengths_from (λ nodes. nodes.items) c.in_ok-layers.field-0.layers.items f
+    lengths_from (λ nodes. nodes.items) c.in_ok-layers.layers.items f
     (batch_of g.M.Matrix.height_of g.M.Matrix.width_of g.M.Matrix.row_of g.row.N c.args.leaves.items)
-    (c.in_ok-layers.ensures.layers
+    (c.in_ok-layers.ensures
     ∙ ap (λ ms. layers f (batch_of g.M.Matrix.height_of g.M.Matrix.width_of g.M.Matrix.row_of g.row.N ms))
     c.deref-2.ensures.value)
 

@@ -71,3 +71,6 @@ invariant_of-openings-clause-second_reaches g c =
     reach_from g.PW.Value.PartialEq.eq f (shape_of g.row.N c.args.dimensions.now) c.args.cap_layer c.args.roots.now
     (opening_in c.args.second) g.met.PW.PackedValue.eq_is_equality c.requires
     (rw c.steps_of-steps.ensures.dimensions at c.in_ok-check_opening-2.ensures)
+
+pub returns-clause-found : goal.returns-clause-found
+returns-clause-found g c = c.in_ok-last_difference.ensures

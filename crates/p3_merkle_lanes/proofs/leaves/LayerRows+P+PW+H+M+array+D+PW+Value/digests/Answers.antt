@@ -4,7 +4,7 @@ use Rattle.std.specs.List.{range_with_len}
 use Rattle.std.proofs.lemmas.List.{take_at}
 use Rattle.std.proofs.lemmas.List.FromFn.{length-map-range_with_len}
 use Rattle.p3_merkle_lanes.specs.Inner.Slots.{leaf_over, rows_over}
-use Rattle.p3_merkle_lanes.proofs.leaves.LayerRows+P+PW+H+M+array+D+PW+Value.leaves.Goals as goal
+use Rattle.p3_merkle_lanes.proofs.leaves.LayerRows+P+PW+H+M+array+D+PW+Value.digests.Goals as goal
 
 pub returns : goal.returns
 returns g c =

@@ -10,9 +10,9 @@ use Rattle.p3_support.specs.declared.matrix.Dimensions.{Dimensions}
 use Rattle.p3_merkle_core.specs.Geometry.{exponent}
 use Rattle.p3_merkle_core.specs.Checks.{words_of_exponent}
 use Rattle.p3_merkle_verifier.specs.Inner.Paths.{opened_left}
-use Rattle.p3_merkle_verifier.proofs.opened.OpenedRowsIterator.next.Goals as goal
-use Rattle.p3_merkle_verifier.proofs.opened.OpenedRowsIterator.next.Goals.{else-exponent_of-self-via-then-exponent_of-self+else-self-len}
-use Rattle.p3_merkle_verifier.proofs.opened.OpenedRowsIterator.next.Goals.{else-exponent_of-self-via-else-exponent_of-self}
+use Rattle.p3_merkle_verifier.proofs.opened.OpenedWordsIterator.next.Goals as goal
+use Rattle.p3_merkle_verifier.proofs.opened.OpenedWordsIterator.next.Goals.{else-exponent_of-self-via-then-exponent_of-self+else-self-len}
+use Rattle.p3_merkle_verifier.proofs.opened.OpenedWordsIterator.next.Goals.{else-exponent_of-self-via-else-exponent_of-self}
 
 -- from the first word on, all words are left
 all_left : {T : Type 0} (k : ℕ) (hs : List ℕ) (rs : List (List T)) → opened_left k hs rs 0

@@ -3,7 +3,7 @@ use Rattle.std.proofs.Common.{inr, replicate}
 use Rattle.p3_merkle_core.specs.Nodes.{functions_of}
 use Rattle.p3_merkle_multiproof.specs.Inner.RestoredLevels.{opened_by, tree_of}
 use Rattle.p3_merkle_multiproof.proofs.RootFacts.{cap_settled}
-use Rattle.p3_merkle_multiproof.proofs.restored.levels_under_cap.Goals as goal
+use Rattle.p3_merkle_multiproof.proofs.restored.checked_levels.Goals as goal
 
 pub returns-then-are_entries-clause-answer : goal.returns-then-are_entries-clause-answer
 returns-then-are_entries-clause-answer g c =
