@@ -47,63 +47,76 @@ fn salted_scheme<R, const N: usize, const SALT_ELEMS: usize>(
     )
 }
 
-/// Writes what the calls of a kind of case with salts answer at an arity. The next fields are the cap and the number of
-/// salts a row.
+/// Writes what the calls of a kind of case with salts answer at an arity. The next fields are the cap, the number of
+/// salts a row and, where salts are drawn, the generator.
+// Each number of salts and each generator is a scheme of its own to compile, at each arity.
 pub fn salted<const N: usize>(case: &mut Case<'_>, kind: &str) -> Result<(), Fault>
     requires arity { IsTrue (is_arity N) }
     requires few { N ≤ 16 }
 {
     let cap = case.fields.cap();
-    match case.fields.take() {
-        "1" => drawn::<N, 1>(case, kind, cap),
-        "2" => drawn::<N, 2>(case, kind, cap),
-        "4" => drawn::<N, 4>(case, kind, cap),
-        "18446744073709551615" => drawn::<N, 18_446_744_073_709_551_615>(case, kind, cap),
+    let salts = case.fields.take();
+    let generator = generator_in(case, kind);
+    match salts {
+        "1" => drawn::<N, 1>(case, kind, cap, generator),
+        "2" => drawn::<N, 2>(case, kind, cap, generator),
+        "4" => drawn_at_random::<N, 4>(case, kind, cap, generator),
+        "18446744073709551615" => {
+            drawn_at_random::<N, 18_446_744_073_709_551_615>(case, kind, cap, generator)
+        }
         _ => Err(Fault::Unreadable("there are no schemes of as many salts")),
     }
 }
 
-/// Whether a kind of case only checks openings, so that no salts are drawn.
-fn is_check(kind: &str) -> bool {
-    kind.starts_with("verify") || kind.starts_with("extract")
+/// The field of the generator: a seed of ChaCha20, or `tens` for the salts 10, 20, 30 and so on, or `hundred` for 100,
+/// 101, 102 and so on. Kinds that only check openings draw no salts, and have no such field.
+fn generator_in<'a>(case: &mut Case<'a>, kind: &str) -> &'a str {
+    if kind.starts_with("verify") || kind.starts_with("extract") {
+        "0"
+    } else {
+        case.fields.take()
+    }
 }
 
-/// The same at a number of salts a row. Where salts are drawn, the next field is a seed of ChaCha20, or `tens` for the
-/// salts 10, 20, 30 and so on, or `hundred` for 100, 101, 102 and so on.
+/// The same at a number of salts a row, by any generator.
 fn drawn<const N: usize, const SALT_ELEMS: usize>(
     case: &mut Case<'_>,
     kind: &str,
     cap: Cap,
+    generator: &str,
 ) -> Result<(), Fault>
     requires arity { IsTrue (is_arity N) }
     requires few { N ≤ 16 }
     requires some_salt { 1 ≤ SALT_ELEMS }
 {
-    let generator = if is_check(kind) {
-        "0"
-    } else {
-        case.fields.take()
+    let counting = match generator {
+        "tens" => Counting { step: 10, last: 0 },
+        "hundred" => Counting { step: 1, last: 99 },
+        _ => return drawn_at_random::<N, SALT_ELEMS>(case, kind, cap, generator),
     };
-    match generator {
-        "tens" => {
-            let mut scheme = salted_scheme::<_, N, SALT_ELEMS>(cap, Counting::<10>(0));
-            answered_or_committed(case, kind, cap, &mut scheme)
-        }
-        "hundred" => {
-            let mut scheme = salted_scheme::<_, N, SALT_ELEMS>(cap, Counting::<1>(99));
-            answered_or_committed(case, kind, cap, &mut scheme)
-        }
-        seed => {
-            let seed = case.fields.reader.number(seed);
-            let rng = generator_of(&mut case.fields.reader, seed);
-            at_random(
-                case,
-                kind,
-                cap,
-                &mut salted_scheme::<_, N, SALT_ELEMS>(cap, rng),
-            )
-        }
-    }
+    let mut scheme = salted_scheme::<_, N, SALT_ELEMS>(cap, counting);
+    answered_or_committed(case, kind, cap, &mut scheme)
+}
+
+/// The same by ChaCha20 alone, from a seed.
+fn drawn_at_random<const N: usize, const SALT_ELEMS: usize>(
+    case: &mut Case<'_>,
+    kind: &str,
+    cap: Cap,
+    seed: &str,
+) -> Result<(), Fault>
+    requires arity { IsTrue (is_arity N) }
+    requires few { N ≤ 16 }
+    requires some_salt { 1 ≤ SALT_ELEMS }
+{
+    let seed = case.fields.reader.number(seed);
+    let rng = generator_of(&mut case.fields.reader, seed);
+    at_random(
+        case,
+        kind,
+        cap,
+        &mut salted_scheme::<_, N, SALT_ELEMS>(cap, rng),
+    )
 }
 
 /// The same of a scheme that takes its salts from ChaCha20.

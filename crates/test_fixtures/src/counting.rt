@@ -6,27 +6,33 @@ use rand_core::utils::NextWord;
 use rand_core::{CryptoRng, Rng, utils};
 use std::marker::Model;
 
-/// A generator whose words go up by `STEP`. It holds the last one.
+/// A generator whose words go up by `step`. The first one is `last + step`.
 #[derive(Drop)]
-pub struct Counting<const STEP: u64>(pub u64);
-
-impl<const STEP: u64> Model for Counting<STEP> {
-    ghost Value = { ℕ };
-
-    ghost view = { λ counting. counting.0 };
+pub struct Counting {
+    /// By how much each word is above the one before.
+    pub step: u64,
+    /// The last word.
+    pub last: u64,
 }
 
-impl<const STEP: u64> NextWord<u64> for Counting<STEP> {
-    ghost step = { λ last. ((last + STEP) % 2 ^ 64, (last + STEP) % 2 ^ 64) };
+impl Model for Counting {
+    ghost Value = { ℕ × ℕ };
+
+    ghost view = { λ counting. (counting.step, counting.last) };
+}
+
+impl NextWord<u64> for Counting {
+    ghost step = { λ (step, last). ((last + step) % 2 ^ 64, (step, (last + step) % 2 ^ 64)) };
 
     fn next_word(&mut self) -> u64 {
-        self.0 = self.0.wrapping_add(STEP);
-        self.0
+        self.last = self.last.wrapping_add(self.step);
+        self.last
     }
 }
 
-impl<const STEP: u64> Rng for Counting<STEP> {
-    ghost stream = { stream_of (steps_u64_low (λ last. ((last + STEP) % 2 ^ 64, (last + STEP) % 2 ^ 64))) };
+impl Rng for Counting {
+    ghost stream = { stream_of (steps_u64_low
+        (λ (step, last). ((last + step) % 2 ^ 64, (step, (last + step) % 2 ^ 64)))) };
 
     fn next_u32(&mut self) -> u32 {
         (self.next_word() % 4_294_967_296) as u32
@@ -41,4 +47,4 @@ impl<const STEP: u64> Rng for Counting<STEP> {
     }
 }
 
-impl<const STEP: u64> CryptoRng for Counting<STEP> {}
+impl CryptoRng for Counting {}

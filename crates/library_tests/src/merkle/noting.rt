@@ -234,8 +234,8 @@ static WITH_ALL_ROWS: [Run; 10] = [
     (Groups(1), 1),
 ];
 
-/// Five rows together and three that are injected above them, one by one, since the compression takes one at a time. Layers
-/// of 3 nodes with rows, of 2 and 1.
+/// Five rows together and three that are injected above them, one by one, since the compression takes one at a time.
+/// Layers of 3 nodes with rows, of 2 and 1.
 static GROUP_BY_GROUP: [Run; 8] = [
     (Rows(5), 1),
     (Group, 1),

@@ -27,13 +27,13 @@ fn takes_the_low_bits(rt: HostRuntime) {
 }
 
 /// Whether a matrix of more words than there can be is refused.
-fn is_refused(alloc: Global, rng: &mut Counting<10>) -> bool {
+fn is_refused(alloc: Global, rng: &mut Counting) -> bool {
     RowMajorMatrix::<u32>::rand(alloc, rng, usize::MAX, 2).is_err()
 }
 
 #[test]
 fn draws_row_after_row(rt: HostRuntime) -> Result<(), Fail> {
-    let mut rng = Counting::<10>(0);
+    let mut rng = Counting { step: 10, last: 0 };
     let matrix = RowMajorMatrix::<u32>::rand(rt.alloc(), &mut rng, 2, 3)?;
     assert_size(&rt, matrix.dimensions(), 3, 2);
     assert_words(&rt, matrix.values(), &[10, 20, 30, 40, 50, 60]);
@@ -63,7 +63,7 @@ fn assert_pair(rt: &impl Abort, pair: &Pair)
 #[test]
 fn joins_rows(rt: HostRuntime) -> Result<(), Fail> {
     let left = two_rows(rt.alloc(), &[1, 2, 3, 4])?;
-    let right = RowMajorMatrix::<u32>::rand(rt.alloc(), &mut Counting::<10>(0), 2, 1)?;
+    let right = RowMajorMatrix::<u32>::rand(rt.alloc(), &mut Counting { step: 10, last: 0 }, 2, 1)?;
     assert_pair(&rt, &HorizontalPair::new(left, right));
     Ok(())
 }

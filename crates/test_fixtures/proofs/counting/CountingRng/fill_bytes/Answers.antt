@@ -3,4 +3,4 @@ use Rattle.rand_core.proofs.StepsLemmas.{meets_fill_bytes}
 use Rattle.test_fixtures.proofs.counting.CountingRng.fill_bytes.Goals as goal
 
 pub returns : goal.returns
-returns g c = meets_fill_bytes _ _ _ _ _ (search rules)
+returns c = meets_fill_bytes _ _ _ _ _ (search rules)

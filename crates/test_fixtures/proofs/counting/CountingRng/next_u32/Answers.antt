@@ -3,4 +3,4 @@ use Rattle.rand_core.proofs.StepsLemmas.{meets_next_u32}
 use Rattle.test_fixtures.proofs.counting.CountingRng.next_u32.Goals as goal
 
 pub returns : goal.returns
-returns g c = meets_next_u32 _ _ _ _ (search rules)
+returns c = meets_next_u32 _ _ _ _ (search rules)
