@@ -1,6 +1,6 @@
 //! Which nodes a pruned opening covers, and how many digests it sends: what needs no hash.
 
-ghost use Rattle.std.specs.Prelude.{◌≡◌, ◌+◌, ◌-◌, ◌*◌, ◌/◌, ◌<◌, ◌≤◌, ◌++◌, Some, None, false, All, IfOk};
+ghost use Rattle.std.specs.Prelude.{◌≡◌, ◌+◌, ◌-◌, ◌*◌, ◌/◌, ◌%◌, ◌<◌, ◌≤◌, ◌++◌, Some, None, false, All, IfOk};
 ghost use Rattle.std.specs.Prelude.{MatchOption, MatchResult};
 ghost use Rattle.std.specs.Prelude.{length, map, slice_index};
 ghost use Rattle.std.specs.List.{sum_by};
@@ -131,6 +131,15 @@ pub fn parent_of(node: usize, step: usize) -> usize
     } else {
         node / step
     }
+}
+
+/// The position of a node among its parent's children, from 0. `step` is the number of a parent's children, and must be
+/// at least 1.
+pub fn position_of(node: usize, step: usize) -> usize
+    requires { 0 < step }
+    ensures { result ≡ node % step }
+{
+    node - step * parent_of(node, step)
 }
 
 /// Turns the nodes of a layer into their parents, in place. `step` is the number of a parent's children, and must be at
@@ -400,8 +409,7 @@ fn extend_with_siblings<X: Copy>(
     ensures count { vec_len path.new ≤ vec_len path.old + (level.now.step - 1) }
     ensures capacity { vec_capacity path.new ≡ vec_capacity path.old }
 {
-    // Divided once: a division takes longer than the copies of a small group.
-    let parent = node / level.step;
+    let parent = parent_of(node, level.step);
     let Some(place) = place_of(&level.parents, hint, parent) else {
         return (parent, 0);
     };

@@ -15,6 +15,7 @@ use crate::tree::Tree;
 use p3_merkle_core::cap::CapRule;
 use p3_merkle_core::error::MerkleTreeError;
 use p3_merkle_core::geometry::bits_reduced_of;
+use p3_merkle_core::pruning::{parent_of, position_of};
 use p3_merkle_core::steps::Steps;
 use p3_support::matrix::Matrix;
 use std::alloc::{AllocError, Global};
@@ -113,11 +114,11 @@ pub fn siblings_of_index<F, X: Copy, G, M: Matrix<F>, const N: usize>(
     let mut ancestor = index;
     for level in 0..layer {
         let step = steps.step(level);
-        let position = ancestor % step;
+        let position = position_of(ancestor, step);
         let first = ancestor - position;
         let group = &tree.layers[level][first..first + step];
         extend_with_others(&mut siblings, group, position)?;
-        ancestor /= step;
+        ancestor = parent_of(ancestor, step);
     }
     Ok(siblings)
 }

@@ -17,7 +17,7 @@ ghost use Rattle.p3_merkle_core.specs.Refusals.{AnswersUnlessMemory};
 use crate::opener::{rows_of_index, steps_in};
 use crate::tree::Tree;
 use p3_merkle_core::error::MerkleTreeError;
-use p3_merkle_core::pruning::{climb, covered_leaves};
+use p3_merkle_core::pruning::{climb, covered_leaves, position_of};
 use p3_support::matrix::Matrix;
 use std::alloc::Global;
 
@@ -97,7 +97,7 @@ fn extend_with_boundary<X: Copy>(
     let mut next = 0;
     for place in 0..covered.len() {
         let node = covered[place];
-        let first = node - node % step;
+        let first = node - position_of(node, step);
         let end = end_before(covered, place + 1, first + step);
         extend_with_piece(digests, &layer[first.max(next)..node])?;
         extend_with_piece(digests, &layer[node + 1..end])?;

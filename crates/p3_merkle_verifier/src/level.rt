@@ -13,6 +13,7 @@ ghost use Rattle.p3_support.specs.Shown.{row_lists};
 use crate::opened::iter_opened_rows;
 use crate::openings::IndexedOpening;
 use p3_merkle_core::group::{group_with, pair_group};
+use p3_merkle_core::pruning::{parent_of, position_of};
 use p3_merkle_core::steps::{StepUp, Steps};
 use p3_support::compress::PseudoCompressionFunction;
 use p3_support::hasher::CryptographicHasher;
@@ -47,7 +48,8 @@ impl<W: Copy, const D: usize> Progress<[W; D]> {
     {
         let end = self.used + (step - 1);
         let others = &siblings[self.used..end];
-        group_with::<W, N, D>(default_digest, self.digest, self.node % step, others)
+        let position = position_of(self.node, step);
+        group_with::<W, N, D>(default_digest, self.digest, position, others)
     }
 }
 
@@ -60,7 +62,7 @@ impl<X: Copy> Progress<X> {
     {
         Progress {
             exponent,
-            node: self.node / step,
+            node: parent_of(self.node, step),
             used: self.used + (step - 1),
             digest,
         }

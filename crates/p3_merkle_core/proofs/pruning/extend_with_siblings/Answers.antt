@@ -8,10 +8,10 @@ use Rattle.p3_merkle_core.proofs.pruning.extend_with_siblings.Goals as goal
 pub returns-in_default : goal.returns-in_default
 returns-in_default g c =
     let path = c.args.path.now.items in
-    let none = rw c.deref.ensures.value at c.in_default.ensures in
+    let none = rw (c.deref.ensures.value, c.parent_of-parent.ensures) at c.in_default.ensures in
     record {
       siblings = rw none (sym (append-nil path));
-      parent = refl;
+      parent = c.parent_of-parent.ensures;
       count = omega arith;
       capacity = refl;
     }
@@ -20,7 +20,7 @@ returns-in_default g c =
 pub overflow_mul-first : goal.overflow_mul-first
 overflow_mul-first g c =
     let level = c.args.level.now in
-    let here = rw c.deref.ensures.value at c.in-Some.ensures in
+    let here = rw (c.deref.ensures.value, c.parent_of-parent.ensures) at c.in-Some.ensures in
     let n = level.step in
     omega (
       arith,
@@ -30,7 +30,7 @@ overflow_mul-first g c =
 pub overflow_add-first : goal.overflow_add-first
 overflow_add-first g c =
     let level = c.args.level.now in
-    let here = rw c.deref.ensures.value at c.in-Some.ensures in
+    let here = rw (c.deref.ensures.value, c.parent_of-parent.ensures) at c.in-Some.ensures in
     let child = c.if-sibling-own.child in
     let k = c.loop-sibling.sibling in
     let which = elim c.if-sibling-own.branch as (λ _. (child ≡ k) ⊎ (child ≡ k + 1)) [
@@ -46,7 +46,7 @@ overflow_add-first g c =
 pub index-requires : goal.index-requires
 index-requires g c =
     let level = c.args.level.now in
-    let here = rw c.deref.ensures.value at c.in-Some.ensures in
+    let here = rw (c.deref.ensures.value, c.parent_of-parent.ensures) at c.in-Some.ensures in
     let child = c.if-sibling-own.child in
     let k = c.loop-sibling.sibling in
     let which = elim c.if-sibling-own.branch as (λ _. (child ≡ k) ⊎ (child ≡ k + 1)) [
@@ -68,10 +68,12 @@ loop-sibling-preserved g c =
     let p = j % n in
     let k = c.loop-sibling.sibling in
     let child = c.if-sibling-own.child in
-    let here = rw c.deref.ensures.value at c.in-Some.ensures in
+    let here = rw (c.deref.ensures.value, c.parent_of-parent.ensures) at c.in-Some.ensures in
     let which : IsSibling p k child = elim c.if-sibling-own.branch [
-      | then-sibling-own w ↦ sibling_before n j k child w.if-sibling-own.true w.child-is
-      | else-sibling-own w ↦ sibling_behind n j k child w.if-sibling-own.false w.child-is
+      | then-sibling-own w ↦ sibling_before n j k child (rw c.parent_of-parent.ensures at w.if-sibling-own.true)
+          w.child-is
+      | else-sibling-own w ↦ sibling_behind n j k child (rw c.parent_of-parent.ensures at w.if-sibling-own.false)
+          w.child-is
     ] in
     let so_far = c.loop-sibling.invariant in
     record {
@@ -89,14 +91,14 @@ returns g c =
     let level = c.args.level.now in
     let n = level.step in
     let first = n * c.in-Some.place in
-    let here = rw c.deref.ensures.value at c.in-Some.ensures in
+    let here = rw (c.deref.ensures.value, c.parent_of-parent.ensures) at c.in-Some.ensures in
     record {
       siblings = found_siblings c.args.path.now.items level.children.items c.loop-sibling.path.items
           level.parents.items n c.in-Some.place c.args.node first (c.args.node % n) c.loop-sibling.sibling level.some
           level.ascending here.0 here.1 refl refl
           (group_fits n c.in-Some.place (length level.parents.items) (length level.children.items) here.0 level.full)
           (omega arith) c.loop-sibling.invariant.siblings;
-      parent = refl;
+      parent = c.parent_of-parent.ensures;
       count = omega (arith, c.loop-sibling.invariant.count, c.loop-sibling.auto.sibling-end);
       capacity = c.loop-sibling.invariant.capacity;
     }

@@ -31,8 +31,8 @@ siblings_below-requires-clause-layer g c = omega (arith, c.args.steps.now.whole,
 pub step-step-requires : goal.step-step-requires
 step-step-requires g c = omega (arith, c.args.steps.now.whole, ap levels c.requires.own)
 
-pub nonzero_rem-position : goal.nonzero_rem-position
-nonzero_rem-position g c =
+pub position_of-position-requires : goal.position_of-position-requires
+position_of-position-requires g c =
     let s = shape (tree_batch c.args.tree.now) in
     let is = c.step-step.ensures ∙ ap (λ (z : Shape). step z c.loop-level.level) c.requires.own in
     omega (arith, is, step_above_1 s c.loop-level.level c.args.tree.now.arity.above_1)
@@ -51,7 +51,7 @@ overflow_add-group g c =
     tree.arity tree.lawful tree.layer_lengths c.requires.index c.requires.layer c.loop-level-test.true
     c.loop-level.invariant.1 (c.step-step.ensures ∙ ap (λ (z : Shape). step z c.loop-level.level) c.requires.own)
     c.index.ensures in
-    omega (arith, w.fits)
+    omega (arith, w.fits, c.position_of-position.ensures)
 
 pub offset_bounds-deref-first : goal.offset_bounds-deref-first
 offset_bounds-deref-first g c =
@@ -61,7 +61,7 @@ offset_bounds-deref-first g c =
     tree.arity tree.lawful tree.layer_lengths c.requires.index c.requires.layer c.loop-level-test.true
     c.loop-level.invariant.1 (c.step-step.ensures ∙ ap (λ (z : Shape). step z c.loop-level.level) c.requires.own)
     c.index.ensures in
-    rw c.deref.ensures.value (omega (arith, w.fits))
+    rw c.deref.ensures.value (omega (arith, w.fits, c.position_of-position.ensures))
 
 pub slice_bounds-group-end : goal.slice_bounds-group-end
 slice_bounds-group-end g c =
@@ -71,7 +71,7 @@ slice_bounds-group-end g c =
     tree.arity tree.lawful tree.layer_lengths c.requires.index c.requires.layer c.loop-level-test.true
     c.loop-level.invariant.1 (c.step-step.ensures ∙ ap (λ (z : Shape). step z c.loop-level.level) c.requires.own)
     c.index.ensures in
-    rw c.deref.ensures.value (omega (arith, w.fits))
+    rw c.deref.ensures.value (omega (arith, w.fits, c.position_of-position.ensures))
 
 pub extend_with_others-requires : goal.extend_with_others-requires
 extend_with_others-requires g c =
@@ -81,10 +81,10 @@ extend_with_others-requires g c =
     tree.arity tree.lawful tree.layer_lengths c.requires.index c.requires.layer c.loop-level-test.true
     c.loop-level.invariant.1 (c.step-step.ensures ∙ ap (λ (z : Shape). step z c.loop-level.level) c.requires.own)
     c.index.ensures in
-    rw c.deref.ensures.value (simp (length-take, length-drop) (omega (arith, w.fits, w.wide)))
+    rw c.deref.ensures.value (simp (length-take, length-drop) (omega (arith, w.fits, w.wide, c.position_of-position.ensures)))
 
-pub nonzero_div-ancestor : goal.nonzero_div-ancestor
-nonzero_div-ancestor g c =
+pub parent_of-ancestor-requires : goal.parent_of-ancestor-requires
+parent_of-ancestor-requires g c =
     let tree = c.args.tree.now in
     let w = group_at_level (λ nodes. length nodes.items) tree.layers.items (shape (tree_batch tree)) c.args.index
     c.loop-level.level c.args.layer c.step-step.result c.loop-level.ancestor c.index.result.now
@@ -107,8 +107,9 @@ loop-level-preserved g c =
           c.loop-level.level c.step-step.result c.loop-level.ancestor c.index.result.now
           c.loop-level.siblings.items c.extend_with_others.new.siblings.items
           w (omega arith) c.index.ensures (c.loop-level.invariant.0 d)
-          (rw (← c.deref.ensures.value) (c.in_ok-extend_with_others.ensures.others)),
-      node_next (shape (tree_batch tree)) c.args.index c.loop-level.level c.step-step.result c.loop-level.ancestor
+          (rw (← c.deref.ensures.value, ← c.position_of-position.ensures)
+          (c.in_ok-extend_with_others.ensures.others)),
+      c.parent_of-ancestor.ensures ∙ node_next (shape (tree_batch tree)) c.args.index c.loop-level.level c.step-step.result c.loop-level.ancestor
           (length c.index.result.now.items) w,
     )
 

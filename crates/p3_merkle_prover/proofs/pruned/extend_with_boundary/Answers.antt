@@ -21,8 +21,11 @@ loop-place-preserved g c =
     let node = get_or covered place 0 in
     let end = c.end_before-end.result in
     let w = turned covered n place next c.max.result node end c.requires.some c.requires.ascending (omega arith)
-    c.loop-place.invariant.gone refl c.max.ensures
-    (record { next = c.end_before-end.ensures.next; last = c.end_before-end.ensures.last }) in
+    c.loop-place.invariant.gone refl (rw c.position_of.ensures at c.max.ensures)
+    (record {
+      next = rw c.position_of.ensures at c.end_before-end.ensures.next;
+      last = rw c.position_of.ensures at c.end_before-end.ensures.last;
+    }) in
     let inside : end ≤ length layer = omega (arith, w.fits, c.requires.groups place 0 (omega arith)) in
     record {
       gone = w.gone;
