@@ -171,6 +171,8 @@ impl<
     const D: usize,
 > Checker<'a, P, PW, H, C, [[PW::Value; D]; N]> {
     /// Checks one level, from the layer that the check has reached to the one above.
+    // A call passes the whole level through memory, and a verification needs only `above`.
+    #[inline(always)]
     pub(crate) fn checked_level(
         &self,
         steps: &Steps<'_>,
