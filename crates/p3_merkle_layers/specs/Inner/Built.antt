@@ -4,7 +4,7 @@ use Rattle.std.specs.List.{range_with_len}
 use Rattle.p3_merkle_core.specs.Geometry.{levels, layer_exponent, raw_len}
 use Rattle.p3_merkle_core.specs.Nodes.{Functions, Batch, shape, layer}
 
--- the first layers, of which the last has the number top, the exponent x and len nodes
+-- the first layers: the last one has the number top, the exponent x and len nodes
 pub record IsBuilt {T W : Type 0} (f : Functions T W) (b : Batch T) (x len : ℕ) (layers : List (List (List W))) :
     Type 0 where
   pub top : ℕ
