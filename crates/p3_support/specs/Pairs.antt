@@ -1,7 +1,5 @@
 -- What two matrices side by side show.
-use Rattle.std.specs.Prelude.{◌≡◌, ℕ, ◌+◌, List, ◌++◌, length}
-use Rattle.std.proofs.Common.{◌∙◌, ap}
-use Rattle.std.proofs.lemmas.List.{length-append}
+use Rattle.std.specs.Prelude.{ℕ, List, ◌++◌}
 use Rattle.p3_support.specs.declared.matrix.Matrix.{Ghosts}
 use Rattle.p3_support.specs.declared.pair.HorizontalPair.{HorizontalPair}
 
@@ -18,10 +16,3 @@ module _ {T A B : Type 0} (left_row : A → ℕ → List T) (right_row : B → �
   -- row r of the left matrix, followed by row r of the right one
   abbrev pub pair_row : A → B → ℕ → List T
   pair_row left right r = left_row left r ++ right_row right r
-
-  -- it is as long as the two together
-  pub length-pair_row : (left : A) (right : B) (r v w : ℕ) → length (left_row left r) ≡ v →
-      length (right_row right r) ≡ w → length (pair_row left right r) ≡ v + w
-  length-pair_row left right r v w long wide =
-      length-append (left_row left r) (right_row right r) ∙ ap (λ n. n + length (right_row right r)) long
-      ∙ ap (λ n. v + n) wide

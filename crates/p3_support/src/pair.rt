@@ -49,7 +49,8 @@ impl<T, A: Matrix<T>, B: Matrix<T>> HorizontalPair<T, A, B> {
 
 impl<T, A: Matrix<T>, B: Matrix<T>> Matrix<T> for HorizontalPair<T, A, B> {
     ghost use Rattle.std.proofs.Common.{subst};
-    ghost use Rattle.p3_support.specs.Pairs.{left_of, length-pair_row, pair_row, right_of};
+    ghost use Rattle.p3_support.specs.Pairs.{left_of, pair_row, right_of};
+    ghost use Rattle.p3_support.specs.Inner.PairLengths.{length-pair_row};
 
     ghost height_of = { λ p. A.height_of (left_of p) };
 
