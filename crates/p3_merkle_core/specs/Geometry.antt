@@ -1,6 +1,6 @@
 -- The shape of a tree: exponents of heights, the ladder of lawful heights, steps, lengths, ancestors.
-use Rattle.std.specs.Prelude.{◌≡◌, ℕ, zero, suc, ◌+◌, ◌-◌, ◌*◌, ◌/◌, ◌%◌, ◌^◌, ◌<◌, ◌≤◌, min, Bool, true, false, ◌&&◌}
-use Rattle.std.specs.Prelude.{◌==◌, nat_lt, nat_le, if◌then◌else◌, List, [], ◌∷◌, map, All}
+use Rattle.std.specs.Prelude.{◌≡◌, ℕ, zero, suc, ◌+◌, ◌-◌, ◌*◌, ◌/◌, ◌%◌, ◌^◌, ◌<◌, ◌≤◌, Bool, true, false, ◌&&◌}
+use Rattle.std.specs.Prelude.{◌==◌, nat_lt, nat_le, if◌then◌else◌, List, map, All}
 use Rattle.std.specs.List.{list_any, range_with_len}
 use Rattle.std.specs.Int.{next_multiple_of}
 use Rattle.p3_support.specs.declared.matrix.Dimensions.{Dimensions}
@@ -16,15 +16,6 @@ least p (suc bound) = elim (p 0) [ true ↦ 0 | false ↦ suc (least (λ k. p (s
 -- the exponent of a height: the least k with 2 ^ k ≥ h
 unfoldable pub exponent : ℕ → ℕ
 exponent h = least (λ k. nat_le h (2 ^ k)) h
-
--- the least of m and some heights
-abbrev pub least_height : ℕ → List ℕ → ℕ
-least_height m [] = m
-least_height m (h ∷ hs) = min h (least_height m hs)
-
--- the least height, and 0 of none
-abbrev pub shortest : List ℕ → ℕ
-shortest hs = least_height (greatest hs) hs
 
 -- the greatest height that is taken
 abbrev pub height_limit : ℕ
@@ -131,10 +122,6 @@ grouped_len_of s x r = if is_bridge s x && nat_lt r s.arity then 2 ^ x else padd
 unfoldable pub raw_len : Shape → ℕ → ℕ
 raw_len s zero = greatest (heights s)
 raw_len s (suc l) = grouped_len_of s (layer_exponent s l) (raw_len s l) / step s l
-
--- how many slots of layer l are grouped into nodes of layer l + 1
-abbrev pub grouped_len : Shape → ℕ → ℕ
-grouped_len s l = grouped_len_of s (layer_exponent s l) (raw_len s l)
 
 -- how many slots layer l has, padding included
 abbrev pub layer_len : Shape → ℕ → ℕ

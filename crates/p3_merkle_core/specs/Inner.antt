@@ -4,3 +4,5 @@ pub mod Children
 pub mod Rungs
 pub mod Steps
 pub mod Levels
+pub mod Shapes
+pub mod Covered

@@ -14,10 +14,6 @@ use Rattle.p3_merkle_core.specs.Checks.{IsAccepted, Terms, layer_rows, layer_wor
 abbrev pub is_covered : Shape → List ℕ → ℕ → ℕ → Bool
 is_covered s queries l j = list_any (λ q. ancestor s l q == j) queries
 
--- the covered nodes of layer l, ascending
-abbrev pub covered_at : Shape → List ℕ → ℕ → List ℕ
-covered_at s queries l = filter (is_covered s queries l) (range_with_len 0 (layer_len s l))
-
 -- not covered, and a child of a covered node
 abbrev pub is_boundary : Shape → List ℕ → ℕ → ℕ → Bool
 is_boundary s queries l j = is_covered s queries (suc l) (j / step s l) && not (is_covered s queries l j)

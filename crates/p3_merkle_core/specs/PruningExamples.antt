@@ -4,7 +4,8 @@ use Rattle.p3_support.specs.Fold.{fold_hash, fold_compress}
 use Rattle.p3_support.specs.Lists.{is_among}
 use Rattle.p3_merkle_core.specs.Geometry.{exponent, layer_exponent, raw_len, leaves_under}
 use Rattle.p3_merkle_core.specs.Nodes.{node}
-use Rattle.p3_merkle_core.specs.Pruning.{boundary, covered_at, honest_query, restored_node, restored_path}
+use Rattle.p3_merkle_core.specs.Pruning.{boundary, honest_query, restored_node, restored_path}
+use Rattle.p3_merkle_core.specs.Inner.Covered.{covered_at}
 use Rattle.p3_merkle_core.specs.Inner.Children.{beside, children_under, path_out_of}
 use Rattle.p3_merkle_core.specs.Refusals.{pruned_refusal}
 use Rattle.p3_merkle_core.specs.Checks.{digests_at, terms, siblings_below, path_digest}

@@ -8,7 +8,8 @@ ghost use Rattle.std.specs.Prelude.{List, map, if◌then◌else◌, nat_lt, ◌&
 ghost use Rattle.std.specs.List.{list_any};
 ghost use Rattle.p3_merkle_core.specs.Geometry;
 ghost use Rattle.p3_merkle_core.specs.Geometry.{bits_reduced, expected_height, exponent, height_at, height_limit};
-ghost use Rattle.p3_merkle_core.specs.Geometry.{is_bridge, padded_len, shape_of, shortest, IsLawful};
+ghost use Rattle.p3_merkle_core.specs.Geometry.{is_bridge, padded_len, shape_of, IsLawful};
+ghost use Rattle.p3_merkle_core.specs.Inner.Shapes.{shortest};
 ghost use Rattle.p3_support.specs.Batches.{heights_of, greatest};
 ghost use Rattle.p3_merkle_core.specs.Gate.{first_off_ladder, first_too_large, gate_refusal};
 ghost use Rattle.p3_merkle_core.specs.Refusals.{width_refusal};

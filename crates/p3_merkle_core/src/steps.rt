@@ -6,7 +6,8 @@ ghost use Rattle.std.specs.Prelude.{nat_lt, take, ◌&&◌, IfOk, IsOk, MatchRes
 ghost use Rattle.std.specs.List.{list_any, range_with_len};
 ghost use Rattle.p3_merkle_core.specs.Geometry;
 ghost use Rattle.p3_merkle_core.specs.Geometry.{exponent, has_rows, is_bridge, layer_exponent, levels, height_limit};
-ghost use Rattle.p3_merkle_core.specs.Geometry.{positions_below, schedule_below, shape_of, shortest, step, IsArity};
+ghost use Rattle.p3_merkle_core.specs.Geometry.{positions_below, schedule_below, shape_of, step, IsArity};
+ghost use Rattle.p3_merkle_core.specs.Inner.Shapes.{shortest};
 ghost use Rattle.p3_merkle_core.specs.Geometry.{IsLawful};
 ghost use Rattle.p3_support.specs.Batches.{heights_of, greatest};
 ghost use Rattle.p3_merkle_core.specs.Checks.{siblings_below};

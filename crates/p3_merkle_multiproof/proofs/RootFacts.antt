@@ -9,7 +9,8 @@ use Rattle.p3_merkle_core.specs.Geometry.{Shape, ancestor}
 use Rattle.p3_merkle_core.specs.Nodes.{Functions}
 use Rattle.p3_merkle_core.specs.Refusals.{cap_refusal, unless}
 use Rattle.p3_merkle_core.specs.declared.error.MerkleTreeError.TheVariants.{CapMismatch}
-use Rattle.p3_merkle_core.specs.Pruning.{CanQuery, PrunedOpening, covered_at, is_covered, restored_node}
+use Rattle.p3_merkle_core.specs.Pruning.{CanQuery, PrunedOpening, is_covered, restored_node}
+use Rattle.p3_merkle_core.specs.Inner.Covered.{covered_at}
 use Rattle.p3_merkle_core.proofs.Covered.CoveredFacts.{covered_listed, listed_covered}
 use Rattle.p3_merkle_core.proofs.Lists.RisingFacts.{is_listed}
 use Rattle.p3_merkle_core.specs.Refusals.{is_entry}

@@ -9,7 +9,8 @@ use Rattle.std.proofs.Math.Nat.{mul-div_cancel_left}
 use Rattle.p3_merkle_core.specs.Inner.Children.{AreChildren, IsFamily}
 use Rattle.p3_support.specs.Batches.{greatest}
 use Rattle.p3_merkle_core.specs.Geometry.{Shape, heights, is_bridge, layer_exponent, height_limit, step}
-use Rattle.p3_merkle_core.specs.Pruning.{CanQuery, boundary, boundary_at, covered_at}
+use Rattle.p3_merkle_core.specs.Pruning.{CanQuery, boundary, boundary_at}
+use Rattle.p3_merkle_core.specs.Inner.Covered.{covered_at}
 use Rattle.p3_merkle_core.proofs.Covered.CoveredFacts.{covered_above}
 use Rattle.p3_merkle_core.proofs.Lists.ListFacts.{length-joined_le}
 use Rattle.p3_merkle_core.proofs.Shapes.StepFacts.{anc_next, step_above_1}

@@ -13,7 +13,8 @@ use Rattle.std.proofs.Math.Pow.{pow_mono}
 use Rattle.p3_merkle_core.specs.Geometry.{Shape, is_bridge, step, ancestor, raw_len, layer_len, padded_len}
 use Rattle.p3_merkle_core.specs.Geometry.{leaves_under, levels, layer_exponent, exponent, heights, height_limit}
 use Rattle.p3_support.specs.Batches.{greatest}
-use Rattle.p3_merkle_core.specs.Pruning.{CanQuery, is_covered, is_boundary, covered_at, boundary_at, boundary}
+use Rattle.p3_merkle_core.specs.Pruning.{CanQuery, is_covered, is_boundary, boundary_at, boundary}
+use Rattle.p3_merkle_core.specs.Inner.Covered.{covered_at}
 use Rattle.p3_merkle_core.specs.Pruning.{pruned_len}
 use Rattle.p3_merkle_core.proofs.Shapes.LeastFacts.{exponent_le}
 use Rattle.p3_merkle_core.proofs.Shapes.LadderFacts.{levels_le, exact}

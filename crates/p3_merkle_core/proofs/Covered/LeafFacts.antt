@@ -8,7 +8,8 @@ use Rattle.std.proofs.lemmas.Bool.{or_cases, or_left, or_right, eqb-true, trueâ‰
 use Rattle.std.proofs.lemmas.List.Elements.{filter_agree}
 use Rattle.p3_merkle_core.specs.Geometry.{Shape, IsArity, ancestor, heights, layer_len, raw_len, step}
 use Rattle.p3_support.specs.Batches.{greatest}
-use Rattle.p3_merkle_core.specs.Pruning.{CanQuery, is_covered, is_boundary, covered_at, pruned_len}
+use Rattle.p3_merkle_core.specs.Pruning.{CanQuery, is_covered, is_boundary, pruned_len}
+use Rattle.p3_merkle_core.specs.Inner.Covered.{covered_at}
 use Rattle.p3_merkle_core.proofs.Checks.Accepted.{padded_ge}
 use Rattle.p3_merkle_core.proofs.Lists.RisingFacts.{is_listed, filter_is, increasing_from, listed_at, rising_filter}
 use Rattle.p3_merkle_core.proofs.Lists.RisingFacts.{rising_from}

@@ -15,7 +15,8 @@ use Rattle.p3_support.specs.Lists.{is_among}
 use Rattle.p3_merkle_core.specs.Geometry.{Shape, step, raw_len, layer_len, leaves_under, levels, layer_exponent}
 use Rattle.p3_merkle_core.specs.Geometry.{exponent, heights, height_limit}
 use Rattle.p3_merkle_core.specs.Nodes.{Functions}
-use Rattle.p3_merkle_core.specs.Pruning.{CanQuery, PrunedOpening, is_covered, is_boundary, covered_at, boundary_at}
+use Rattle.p3_merkle_core.specs.Pruning.{CanQuery, PrunedOpening, is_covered, is_boundary, boundary_at}
+use Rattle.p3_merkle_core.specs.Inner.Covered.{covered_at}
 use Rattle.p3_merkle_core.specs.Pruning.{boundary, sent_digest, restored_node, value_of}
 use Rattle.p3_merkle_core.proofs.Lists.ListFacts.{length-joined_le}
 use Rattle.p3_merkle_core.proofs.Lists.RisingFacts.{by_groups, listed_at}

@@ -11,7 +11,8 @@ use Rattle.std.proofs.Math.Nat.{div-add-mod, mod-lt, mul_comm, mul-le-mul_left, 
 use Rattle.p3_merkle_core.specs.Caps.{cap_layer, levels_above_rows}
 use Rattle.p3_support.specs.Batches.{greatest}
 use Rattle.p3_merkle_core.specs.Geometry.{Shape, IsArity, exponent, has_rows, heights, is_bridge, layer_below_root}
-use Rattle.p3_merkle_core.specs.Geometry.{layer_exponent, layer_of, levels, shortest}
+use Rattle.p3_merkle_core.specs.Geometry.{layer_exponent, layer_of, levels}
+use Rattle.p3_merkle_core.specs.Inner.Shapes.{shortest}
 use Rattle.p3_merkle_core.specs.Checks.{is_authenticated}
 use Rattle.p3_merkle_core.specs.declared.cap.CapRule.TheVariants.{Lowered, Fixed}
 use Rattle.p3_merkle_core.proofs.Shapes.LeastFacts.{exponent_le, exponent_mono, least_bound, least_height_below}

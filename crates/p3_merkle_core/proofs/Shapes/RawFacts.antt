@@ -9,7 +9,8 @@ use Rattle.std.proofs.Math.Nat.{mul_assoc, mul_comm, two-pow-succ, mul-le-mul_le
 use Rattle.std.proofs.Math.Nat.{mod_self, sub-zero, le_of_mul-le-mul_left, lt_of_mul-lt-mul_left, div-lt_iff_lt-mul}
 use Rattle.std.proofs.Math.Pow.{pow_mono, pow-lt}
 use Rattle.p3_merkle_core.specs.Geometry.{Shape, exponent, layer_exponent, is_bridge, step, levels, ancestor}
-use Rattle.p3_merkle_core.specs.Geometry.{padded_len, raw_len, grouped_len, grouped_len_of, layer_len, heights, IsArity}
+use Rattle.p3_merkle_core.specs.Geometry.{padded_len, raw_len, grouped_len_of, layer_len, heights, IsArity}
+use Rattle.p3_merkle_core.specs.Inner.Shapes.{grouped_len}
 use Rattle.p3_support.specs.Batches.{greatest}
 use Rattle.p3_merkle_core.proofs.Shapes.LeastFacts.{below_least, exponent_covers, below_exponent}
 use Rattle.p3_merkle_core.proofs.Shapes.StepFacts.{whole_step_falls, anc_next, anc_start, step_above_1, step_at}

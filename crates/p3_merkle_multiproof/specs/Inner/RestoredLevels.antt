@@ -4,7 +4,8 @@ use Rattle.std.specs.List.{range_with_len}
 use Rattle.p3_merkle_core.specs.Geometry.{Shape, ancestor, has_rows, layer_exponent, shape_of, step}
 use Rattle.p3_merkle_core.specs.Inner.Children.{AreChildren}
 use Rattle.p3_merkle_core.specs.Nodes.{Functions}
-use Rattle.p3_merkle_core.specs.Pruning.{PrunedOpening, boundary, covered_at, pruned_of, restored_node, value_of}
+use Rattle.p3_merkle_core.specs.Pruning.{PrunedOpening, boundary, pruned_of, restored_node, value_of}
+use Rattle.p3_merkle_core.specs.Inner.Covered.{covered_at}
 use Rattle.p3_merkle_core.specs.declared.pruning.KeptLevel.{KeptLevel}
 use Rattle.p3_merkle_multiproof.specs.declared.covered.Covered.{Covered}
 use Rattle.p3_merkle_multiproof.specs.declared.covered.NextLevel.{NextLevel}

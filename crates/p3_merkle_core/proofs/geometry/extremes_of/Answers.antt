@@ -4,7 +4,7 @@ use Rattle.std.proofs.lemmas.Grind.{common_steps}
 use Rattle.std.proofs.lemmas.List.{drop_all}
 use Rattle.p3_support.specs.declared.matrix.Dimensions.{Dimensions}
 use Rattle.p3_support.specs.Batches.{heights_of, greatest}
-use Rattle.p3_merkle_core.specs.Geometry.{shortest}
+use Rattle.p3_merkle_core.specs.Inner.Shapes.{shortest}
 use Rattle.p3_merkle_core.proofs.geometry.extremes_of.Goals as goal
 
 none_greatest : (dimensions : List Dimensions) → length dimensions ≡ 0 → 0 ≡ greatest (heights_of dimensions)

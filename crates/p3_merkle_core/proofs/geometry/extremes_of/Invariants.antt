@@ -1,5 +1,5 @@
 use Rattle.std.proofs.Common.{◌≡◌, ◌≤◌, max, min, drop}
-use Rattle.p3_merkle_core.specs.Geometry.{least_height, shortest}
+use Rattle.p3_merkle_core.specs.Inner.Shapes.{least_height, shortest}
 use Rattle.p3_support.specs.Batches.{heights_of, greatest}
 use Rattle.p3_merkle_core.proofs.geometry.extremes_of.Given as goal
 

@@ -1,6 +1,7 @@
 use Rattle.std.proofs.Common.{◌≡◌}
 use Rattle.p3_merkle_core.specs.Nodes.{shape}
-use Rattle.p3_merkle_core.specs.Pruning.{covered_at, boundary_by}
+use Rattle.p3_merkle_core.specs.Pruning.{boundary_by}
+use Rattle.p3_merkle_core.specs.Inner.Covered.{covered_at}
 use Rattle.p3_merkle_prover.specs.Parts.{layers_of, tree_batch}
 use Rattle.p3_merkle_prover.proofs.pruned.digests_of_boundary.Given as goal
 use Rattle.p3_merkle_core.specs.Openings.{node_in}

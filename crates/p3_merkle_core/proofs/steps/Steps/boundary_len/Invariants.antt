@@ -1,6 +1,7 @@
 use Rattle.std.proofs.Common.{◌≡◌}
 use Rattle.p3_merkle_core.specs.Geometry.{shape_of}
-use Rattle.p3_merkle_core.specs.Pruning.{covered_at, pruned_len}
+use Rattle.p3_merkle_core.specs.Pruning.{pruned_len}
+use Rattle.p3_merkle_core.specs.Inner.Covered.{covered_at}
 use Rattle.p3_merkle_core.proofs.steps.Steps.boundary_len.Given as goal
 
 -- the nodes that are covered on the level, and the digests of the levels so far

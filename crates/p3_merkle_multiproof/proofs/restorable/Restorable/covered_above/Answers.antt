@@ -1,6 +1,6 @@
 -- The layer above, by its nodes and their leads.
 use Rattle.std.proofs.Common.{◌≡◌, ◌∙◌, add-one, ap, arith, length, map, suc, sym}
-use Rattle.p3_merkle_core.specs.Pruning.{covered_at}
+use Rattle.p3_merkle_core.specs.Inner.Covered.{covered_at}
 use Rattle.p3_merkle_core.proofs.Covered.CoveredFacts.{covered_above, turn_at}
 use Rattle.p3_merkle_multiproof.specs.Inner.RestoredLevels.{node_of_query, tree_of}
 use Rattle.p3_merkle_multiproof.proofs.WalkFacts.{leads_rise}
