@@ -13,7 +13,8 @@ ghost use Rattle.p3_merkle_hiding.specs.HidingSchemes.{generator_of, plain_of, s
 ghost use Rattle.p3_merkle_salts.specs.Salted.{after_salts, salted_batch, salted_matrices, IsAfterSome};
 ghost use Rattle.p3_merkle_salts.specs.SaltRefusals.{salted_commit_refusal};
 ghost use Rattle.p3_merkle_salts.specs.SaltedOpenings.{CanWiden};
-ghost use Rattle.p3_merkle_salts.specs.SaltedTrees.{pair_matrix, HaveSaltColumns};
+ghost use Rattle.p3_merkle_salts.specs.SaltedTrees.{HaveSaltColumns};
+ghost use Rattle.p3_merkle_salts.specs.Inner.SaltedParts.{pair_matrix};
 
 use crate::hiding_mmcs::{MerkleTreeHidingMmcs, SaltedTree};
 use p3_merkle_core::error::MerkleTreeError;

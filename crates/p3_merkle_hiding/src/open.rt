@@ -14,7 +14,8 @@ ghost use Rattle.p3_merkle_tree.specs.Schemes.{cap_layer_over};
 ghost use Rattle.p3_support.specs.Pairs.{left_of};
 ghost use Rattle.p3_support.specs.Shown.{row_lists, row_sets};
 ghost use Rattle.p3_merkle_hiding.specs.HidingSchemes.{plain_of, salted_made, salted_pruned_made, salted_terms_of};
-ghost use Rattle.p3_merkle_salts.specs.SaltedOpenings.{salt_parts, unsalted_parts, IsSaltedAccepted};
+ghost use Rattle.p3_merkle_salts.specs.SaltedOpenings.{IsSaltedAccepted};
+ghost use Rattle.p3_merkle_salts.specs.Inner.SaltedParts.{salt_parts, unsalted_parts};
 ghost use Rattle.p3_merkle_salts.specs.SaltedOpenings.{IsSaltedPrunedAccepted};
 ghost use Rattle.p3_merkle_salts.specs.SaltedTrees.{left_batch, right_batch, unsalted_dimensions, HaveSaltColumns};
 

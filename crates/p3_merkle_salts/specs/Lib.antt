@@ -4,3 +4,4 @@ pub mod SaltedOpenings
 pub mod SaltRefusals
 pub mod SaltedTrees
 pub mod SaltedPresented
+pub mod Inner

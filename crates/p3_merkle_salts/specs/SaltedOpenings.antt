@@ -1,6 +1,6 @@
 -- Rows followed by their salts, and when openings of such rows are accepted.
-use Rattle.std.specs.Prelude.{◌≡◌, ◌≢◌, ◌⊎◌, ℕ, ◌+◌, ◌<◌, ◌^◌, List, [], slice_index_or, ◌++◌, map, length, zip, take}
-use Rattle.std.specs.Prelude.{drop, All}
+use Rattle.std.specs.Prelude.{◌≡◌, ◌≢◌, ◌⊎◌, ℕ, ◌+◌, ◌<◌, ◌^◌, List, [], slice_index_or, ◌++◌, map, length, zip}
+use Rattle.std.specs.Prelude.{All}
 use Rattle.std.specs.List.{AllZip}
 use Rattle.p3_support.specs.declared.matrix.Dimensions.{Dimensions}
 use Rattle.p3_support.specs.Batches.{widths_of}
@@ -17,14 +17,6 @@ salted_rows rows salts = map (λ (row, salt). row ++ salt) (zip rows salts)
 -- the same of several queries: a row set and a salt set for each
 abbrev pub salted_sets : {T : Type 0} → List (List (List T)) → List (List (List T)) → List (List (List T))
 salted_sets sets salts = map (λ (rows, salt). salted_rows rows salt) (zip sets salts)
-
--- the words of rows up to the widths of their matrices without salts
-abbrev pub unsalted_parts : {T : Type 0} → List ℕ → List (List T) → List (List T)
-unsalted_parts widths rows = map (λ (row, w). take w row) (zip rows widths)
-
--- the words after them
-abbrev pub salt_parts : {T : Type 0} → List ℕ → List (List T) → List (List T)
-salt_parts widths rows = map (λ (row, w). drop w row) (zip rows widths)
 
 -- matrices with e more columns
 abbrev pub widened : ℕ → List Dimensions → List Dimensions

@@ -1,10 +1,10 @@
 -- What pairs of a matrix and its salts show, and what is committed to.
-use Rattle.std.specs.Prelude.{◌≡◌, ℕ, ◌+◌, List, map, All}
+use Rattle.std.specs.Prelude.{◌≡◌, ℕ, List, map, All}
 use Rattle.p3_support.specs.declared.matrix.Matrix.{Ghosts}
 use Rattle.p3_support.specs.declared.pair.HorizontalPair.{HorizontalPair}
-use Rattle.p3_support.specs.Pairs.{left_of, pair_row, right_of}
-use Rattle.p3_merkle_core.specs.Views.{batch_of, matrix_of}
-use Rattle.p3_merkle_core.specs.Nodes.{Batch, Matrix, dimensions_of}
+use Rattle.p3_support.specs.Pairs.{left_of, right_of}
+use Rattle.p3_merkle_core.specs.Views.{batch_of}
+use Rattle.p3_merkle_core.specs.Nodes.{Batch, dimensions_of}
 use Rattle.p3_support.specs.declared.matrix.Dimensions.{Dimensions}
 
 module _ {T A B : Type 0} {a : Ghosts A T} {b : Ghosts B T} where
@@ -19,12 +19,6 @@ module _ {T A B : Type 0} {a : Ghosts A T} {b : Ghosts B T} where
   -- the right matrices: their salts
   abbrev pub right_batch : ℕ → List (HorizontalPair T A B a b) → Batch T
   right_batch n pairs = batch_of b.height_of b.width_of b.row_of n (map right_of pairs)
-
-  -- a pair, seen as one matrix
-  abbrev pub pair_matrix : HorizontalPair T A B a b → Matrix T
-  pair_matrix =
-      matrix_of (λ p. a.height_of (left_of p)) (λ p. a.width_of (left_of p) + b.width_of (right_of p))
-      (λ p. pair_row a.row_of b.row_of (left_of p) (right_of p))
 
   -- each matrix has e salts a row
   abbrev pub HaveSaltColumns : ℕ → List (HorizontalPair T A B a b) → Type 0

@@ -6,7 +6,8 @@ ghost use Rattle.p3_merkle_core.specs.Views.{matrix_of};
 ghost use Rattle.p3_support.specs.Pairs.{left_of};
 ghost use Rattle.p3_merkle_salts.specs.Salted.{after_salts, salted_matrices, IsAfterSome};
 ghost use Rattle.p3_merkle_salts.specs.SaltedOpenings.{CanWiden};
-ghost use Rattle.p3_merkle_salts.specs.SaltedTrees.{pair_matrix, HaveSaltColumns};
+ghost use Rattle.p3_merkle_salts.specs.SaltedTrees.{HaveSaltColumns};
+ghost use Rattle.p3_merkle_salts.specs.Inner.SaltedParts.{pair_matrix};
 
 use p3_support::matrix::{Matrix, RowMajorMatrix};
 use p3_support::pair::HorizontalPair;

@@ -3,7 +3,8 @@
 ghost use Rattle.std.specs.Prelude.{◌≡◌, ◌++◌, map, IfOk, MatchResult, None, Some};
 ghost use Rattle.p3_support.specs.Batches.{widths_of};
 ghost use Rattle.p3_merkle_salts.specs.SaltRefusals.{first_too_wide, salt_refusal, salt_sets_refusal, widening_refusal};
-ghost use Rattle.p3_merkle_salts.specs.SaltedOpenings.{salt_parts, salted_rows, salted_sets, unsalted_parts, widened};
+ghost use Rattle.p3_merkle_salts.specs.SaltedOpenings.{salted_rows, salted_sets, widened};
+ghost use Rattle.p3_merkle_salts.specs.Inner.SaltedParts.{salt_parts, unsalted_parts};
 ghost use Rattle.p3_merkle_salts.specs.SaltedOpenings.{CanWiden};
 ghost use Rattle.p3_support.specs.Shown.{row_lists, row_sets};
 

@@ -11,7 +11,8 @@ use Rattle.p3_support.specs.Salts.{after_words, salts}
 use Rattle.p3_merkle_salts.proofs.DrawFacts.{after_next, after_some, drawn_more, first_fits, others_fit, pairs_more}
 use Rattle.p3_merkle_salts.proofs.DrawFacts.{salted_row, same_more, stream_more}
 use Rattle.p3_merkle_salts.specs.Salted.{after_salts, salted, salted_matrices}
-use Rattle.p3_merkle_salts.specs.SaltedTrees.{HaveSaltColumns, pair_matrix}
+use Rattle.p3_merkle_salts.specs.SaltedTrees.{HaveSaltColumns}
+use Rattle.p3_merkle_salts.specs.Inner.SaltedParts.{pair_matrix}
 use Rattle.p3_merkle_salts.proofs.draw.salted_pairs.Goals as goal
 
 pub new-requires-clause-width_fits : goal.new-requires-clause-width_fits

@@ -5,7 +5,8 @@ use Rattle.p3_merkle_core.specs.Nodes.{dimensions_of}
 use Rattle.p3_support.specs.Pairs.{left_of}
 use Rattle.p3_merkle_salts.specs.Salted.{after_salts, salted_matrices}
 use Rattle.p3_merkle_salts.specs.SaltedOpenings.{CanWiden}
-use Rattle.p3_merkle_salts.specs.SaltedTrees.{HaveSaltColumns, pair_matrix}
+use Rattle.p3_merkle_salts.specs.SaltedTrees.{HaveSaltColumns}
+use Rattle.p3_merkle_salts.specs.Inner.SaltedParts.{pair_matrix}
 use Rattle.p3_merkle_salts.proofs.draw.salted_pairs.Given as goal
 
 -- the pairs so far, and what the matrices that are left will get

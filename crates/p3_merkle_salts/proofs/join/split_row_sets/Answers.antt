@@ -2,7 +2,7 @@
 use Rattle.std.proofs.Common.{◌∙◌, ap}
 use Rattle.p3_support.specs.Shown.{row_lists, row_sets}
 use Rattle.p3_merkle_salts.proofs.LoopFacts.{parted_all, parted_more}
-use Rattle.p3_merkle_salts.specs.SaltedOpenings.{salt_parts, unsalted_parts}
+use Rattle.p3_merkle_salts.specs.Inner.SaltedParts.{salt_parts, unsalted_parts}
 use Rattle.p3_merkle_salts.proofs.join.split_row_sets.Goals as goal
 
 pub loop-rows-preserved : goal.loop-rows-preserved

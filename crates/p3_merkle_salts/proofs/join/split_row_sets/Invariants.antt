@@ -1,6 +1,6 @@
 use Rattle.std.proofs.Common.{◌≡◌, map, take}
 use Rattle.p3_support.specs.Shown.{row_sets}
-use Rattle.p3_merkle_salts.specs.SaltedOpenings.{salt_parts, unsalted_parts}
+use Rattle.p3_merkle_salts.specs.Inner.SaltedParts.{salt_parts, unsalted_parts}
 use Rattle.p3_merkle_salts.proofs.join.split_row_sets.Given as goal
 
 -- the parts of the sets so far

@@ -4,7 +4,7 @@ use Rattle.std.specs.Iterator.Adapters.{zip_first, zip_second}
 use Rattle.std.specs.Slice.Iter.{iter_rest}
 use Rattle.std.proofs.lemmas.Slice.Zip.{either_empty_from_Zip}
 use Rattle.p3_support.specs.Shown.{row_lists}
-use Rattle.p3_merkle_salts.specs.SaltedOpenings.{salt_parts, unsalted_parts}
+use Rattle.p3_merkle_salts.specs.Inner.SaltedParts.{salt_parts, unsalted_parts}
 use Rattle.p3_merkle_salts.proofs.SaltFacts.{joined_end, rows_end}
 use Rattle.p3_merkle_salts.proofs.join.split_rows.Goals as goal
 

@@ -2,7 +2,7 @@ use Rattle.std.proofs.Common.{◌≡◌, ◌++◌}
 use Rattle.std.specs.Iterator.Adapters.{zip_first, zip_second}
 use Rattle.std.specs.Slice.Iter.{iter_rest}
 use Rattle.p3_support.specs.Shown.{row_lists}
-use Rattle.p3_merkle_salts.specs.SaltedOpenings.{salt_parts, unsalted_parts}
+use Rattle.p3_merkle_salts.specs.Inner.SaltedParts.{salt_parts, unsalted_parts}
 use Rattle.p3_merkle_salts.proofs.join.split_rows.Given as goal
 
 -- the parts so far, and those of the rows that are left

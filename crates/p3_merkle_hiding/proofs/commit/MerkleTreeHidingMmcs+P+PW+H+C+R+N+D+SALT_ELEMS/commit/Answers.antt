@@ -16,7 +16,8 @@ use Rattle.p3_merkle_core.specs.Nodes.{Batch, Matrix, dimensions_of, shape}
 use Rattle.p3_merkle_tree.specs.Schemes.{terms_over}
 use Rattle.p3_merkle_hiding.specs.HidingSchemes.{generator_of, plain_of}
 use Rattle.p3_merkle_salts.specs.SaltRefusals.{salted_commit_refusal, widening_refusal}
-use Rattle.p3_merkle_salts.specs.SaltedTrees.{HaveSaltColumns, pair_matrix}
+use Rattle.p3_merkle_salts.specs.SaltedTrees.{HaveSaltColumns}
+use Rattle.p3_merkle_salts.specs.Inner.SaltedParts.{pair_matrix}
 use Rattle.p3_merkle_core.proofs.Pruned.NoneFacts.{none_parts}
 use Rattle.p3_merkle_hiding.proofs.CommitFacts.{gate_stays, memory_alone, memory_or, nothing_drawn, nothing_made, on_ok}
 use Rattle.p3_merkle_hiding.proofs.CommitFacts.{salted_widened, unrefused}
