@@ -20,7 +20,8 @@ use Rattle.mmcs_text.specs.declared.command.Action.{Action}
 use Rattle.mmcs_text.specs.declared.command.Action.TheVariants.{Commit, Open, Check}
 use Rattle.mmcs_text.specs.declared.command.CapChoice.{CapChoice}
 use Rattle.mmcs_text.specs.declared.command.HashName.{HashName}
-use Rattle.mmcs_text.specs.Matrices.{batch_of_rows, matrix_of_rows, stored_batch, stored_matrix}
+use Rattle.mmcs_text.specs.Matrices.{batch_of_rows, matrix_of_rows}
+use Rattle.mmcs_text.specs.Inner.Stored.{stored_batch, stored_matrix}
 use Rattle.mmcs_text.specs.Text.{digest_lines, hex_lines, ok_line, query_lines}
 use Rattle.mmcs_text.proofs.ByNumber.{by_number}
 use Rattle.mmcs_text.proofs.MatrixFacts.{digests_plain, stored_dimensions, stored_plain}

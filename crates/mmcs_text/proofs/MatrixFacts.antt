@@ -16,7 +16,8 @@ use Rattle.mmcs_text.specs.Input.{numbers_of, StandsFor}
 use Rattle.mmcs_text.specs.Inner.Blocks.{IsBlock}
 use Rattle.p3_merkle_core.specs.Nodes.{shape, Matrix}
 use Rattle.p3_merkle_core.specs.Views.{matrix_of}
-use Rattle.mmcs_text.specs.Matrices.{matrix_of_rows, stored_batch, stored_matrix}
+use Rattle.mmcs_text.specs.Matrices.{matrix_of_rows}
+use Rattle.mmcs_text.specs.Inner.Stored.{stored_batch, stored_matrix}
 use Rattle.mmcs_text.proofs.RowsCut.{length_of_rows, row_range}
 
 module _ {W : Type 0} (value : W → ℕ) where

@@ -10,7 +10,8 @@ use Rattle.std.specs.Str.Parse.{AllDigits, digits_value, digits_value_after}
 use Rattle.std.proofs.lemmas.Str.Parse.{digit_from_value}
 use Rattle.std.proofs.lemmas.List.{at_drop_more, at_drop_all, map-append, length_push}
 use Rattle.std.proofs.lemmas.List.Elements.{All-nil, All-push, All-contains, Contains-append_right, Contains-get_or}
-use Rattle.mmcs_text.specs.Numbers.{IsNumberBelow, IsRead}
+use Rattle.mmcs_text.specs.Numbers.{IsNumberBelow}
+use Rattle.mmcs_text.specs.Inner.Stored.{IsRead}
 use Rattle.mmcs_text.specs.Input.{is_gap, numerals_of, numbers_of, runs_between}
 use Rattle.mmcs_text.proofs.Runs.{run_ends, run_skips, run_whole, first_run}
 

@@ -1,5 +1,5 @@
 -- The words of a command.
-use Rattle.std.specs.Prelude.{◌≡◌, ℕ, ◌-◌, ◌^◌, ◌==◌, ◌||◌, Bool, List, [], ◌∷◌, ◌++◌, All, codes, String, string_bytes}
+use Rattle.std.specs.Prelude.{◌≡◌, ℕ, ◌-◌, ◌^◌, List, [], ◌∷◌, ◌++◌, All, codes, String, string_bytes}
 use Rattle.std.specs.Prelude.{map}
 use Rattle.std.specs.Str.Parse.{digits_value}
 use Rattle.p3_merkle_core.specs.declared.cap.CapRule.{CapRule}
@@ -33,10 +33,6 @@ abbrev pub arity_number : Arity → ℕ
 arity_number Two = 2
 arity_number Four = 4
 arity_number Eight = 8
-
--- whether a number is 2, 4 or 8
-abbrev pub is_taken_arity : ℕ → Bool
-is_taken_arity n = n == 2 || (n == 4 || n == 8)
 
 -- the word of an arity
 abbrev pub arity_word : Arity → List ℕ

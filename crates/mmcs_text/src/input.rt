@@ -6,11 +6,12 @@ ghost use Rattle.std.specs.List.{slice_split};
 ghost use Rattle.std.specs.Str.Lines.{strip_carriage_return};
 ghost use Rattle.p3_merkle_core.specs.declared.error.MerkleTreeError.TheVariants.{OutOfMemory};
 ghost use Rattle.mmcs_text.specs.declared.fault.Fault.TheVariants.{Tree};
-ghost use Rattle.mmcs_text.specs.Numbers.{IsNumberBelow, IsRead};
+ghost use Rattle.mmcs_text.specs.Numbers.{IsNumberBelow};
+ghost use Rattle.mmcs_text.specs.Inner.Stored.{IsRead, stored_matrix};
 ghost use Rattle.mmcs_text.specs.Input.{is_gap, is_blank, numerals_of, numbers_of, pieces_of, IsFirstFault};
 ghost use Rattle.mmcs_text.specs.Input.{IsLineFault, StandsFor};
 ghost use Rattle.mmcs_text.specs.Inner.Blocks.{IsBlock};
-ghost use Rattle.mmcs_text.specs.Matrices.{matrix_of_rows, stored_matrix};
+ghost use Rattle.mmcs_text.specs.Matrices.{matrix_of_rows};
 
 use crate::fault::Fault;
 use crate::word::Word;

@@ -3,7 +3,7 @@
 ghost use Rattle.std.specs.Prelude.{◌≡◌, IsTrue, replicate};
 ghost use Rattle.p3_merkle_core.specs.Nodes.{functions_of};
 ghost use Rattle.p3_merkle_tree.specs.Schemes.{cap_height_of, cap_rule_of, scheme_functions};
-ghost use Rattle.mmcs_text.specs.Words.{is_taken_arity};
+ghost use Rattle.mmcs_text.specs.Inner.Stored.{is_taken_arity};
 ghost use Rattle.mmcs_text.specs.declared.command.HashName.TheVariants.{Fold, Sha256};
 ghost use Rattle.mmcs_engine.specs.Inner.Alike.{IsSchemeOf};
 

@@ -8,7 +8,7 @@ use Rattle.p3_merkle_core.specs.Nodes.{shape, Batch}
 use Rattle.p3_merkle_core.specs.Refusals.{pruned_len_refusal}
 use Rattle.p3_merkle_tree.specs.Parts.{layers_of}
 use Rattle.p3_merkle_tree.specs.Schemes.{terms_over}
-use Rattle.mmcs_text.specs.Matrices.{stored_batch}
+use Rattle.mmcs_text.specs.Inner.Stored.{stored_batch}
 use Rattle.mmcs_engine.proofs.GateFacts.{below_of}
 use Rattle.mmcs_engine.proofs.NumberFacts.{stored_shape}
 use Rattle.mmcs_engine.proofs.ReplyFacts.{refused}
