@@ -1,5 +1,5 @@
 -- What an input shows of one opening or of two, or its first faulty line.
-use Rattle.std.specs.Prelude.{ℕ, ◌+◌, ◌==◌, codes, false, Bool, if◌then◌else◌, List, [], ◌∷◌, ◌++◌, length, map}
+use Rattle.std.specs.Prelude.{ℕ, ◌+◌, ◌==◌, codes, false, Bool, if◌then◌else◌, List, [], ◌∷◌, ◌++◌, length}
 use Rattle.std.specs.Prelude.{slice_get, Option, None, Some, option_map, Result, Ok, Err}
 use Rattle.std.specs.Option.{option_and_then, option_map_or, option_or}
 use Rattle.p3_support.specs.declared.matrix.Dimensions.{Dimensions}
@@ -11,10 +11,6 @@ use Rattle.mmcs_opening_text.specs.declared.fault.Expected.{Expected}
 use Rattle.mmcs_opening_text.specs.declared.fault.Expected.TheVariants.{CapDigest, Query, Row, Digest, BlankLine, End}
 use Rattle.mmcs_opening_text.specs.declared.fault.Fault.{Fault}
 use Rattle.mmcs_opening_text.specs.declared.fault.Fault.TheVariants.{Line}
-use Rattle.mmcs_opening_text.specs.declared.reader.Opening.{Opening}
-use Rattle.mmcs_opening_text.specs.declared.reader.Pair.{Pair}
-use Rattle.mmcs_opening_text.specs.declared.reader.Reader.{Reader}
-use Rattle.mmcs_opening_text.specs.declared.reader.Statement.{Statement}
 use Rattle.mmcs_opening_text.specs.declared.reader.Stage.{Stage}
 use Rattle.mmcs_opening_text.specs.declared.reader.Stage.TheVariants.{Cap, Queries, Rows, Digests}
 
@@ -29,24 +25,6 @@ pub record Shown : Type 0 where
 pub record ShownPair : Type 0 where
   pub first : Shown
   pub second : Shown
-
-module _ {W H : Type 0} (value : W → ℕ) (words : H → List ℕ) where
-  -- what was read of an opening under a cap, by the numbers of its words
-  abbrev pub shown_under : List H → Opening W H → Shown
-  shown_under cap o =
-      record {
-        cap = map words cap;
-        indices = o.indices.items;
-        rows = map (λ set. map (λ row. map value row.items) set.items) o.rows.items;
-        digests = map words o.digests.items;
-      }
-
-  -- what was read of one opening, or of two under one cap
-  abbrev pub shown_of : Statement W H → Shown
-  shown_of s = shown_under s.cap.items s.opening
-
-  abbrev pub pair_of : Pair W H → ShownPair
-  pair_of p = record { first = shown_under p.cap.items p.first; second = shown_under p.cap.items p.second }
 
 -- what the lines so far show, and what comes next; `row_set` has the rows of an index that has not all of them yet
 pub record Reading : Type 0 where
@@ -171,12 +149,3 @@ shown_in hash dimensions input = shown_by hash dimensions unread 0 (pieces_of in
 -- what it shows of two openings under one cap, or its first faulty line
 abbrev pub pair_in : HashName → List Dimensions → List ℕ → Result ShownPair Fault
 pair_in hash dimensions input = pair_by hash dimensions unread 0 (pieces_of input)
-
--- a reader, by the numbers of its words
-abbrev pub reading_of : {W H : Type 0} → (W → ℕ) → (H → List ℕ) → Reader W H → Reading
-reading_of value words r =
-    record {
-      stage = r.stage;
-      shown = shown_of value words r.shown;
-      row_set = map (λ row. map value row.items) r.row_set.items;
-    }

@@ -9,8 +9,9 @@ ghost use Rattle.mmcs_opening_text.specs.declared.fault.Expected.TheVariants.{Bl
 ghost use Rattle.mmcs_opening_text.specs.declared.fault.Fault.TheVariants.{Line, Tree};
 ghost use Rattle.mmcs_opening_text.specs.Inner.Left.{lines_left, AreCounted};
 ghost use Rattle.mmcs_opening_text.specs.Readings.{after_cap_line, after_digest, after_line, after_query, after_row};
-ghost use Rattle.mmcs_opening_text.specs.Readings.{behind_first, expected_after, pair_by, pair_in, pair_of, reading_of};
-ghost use Rattle.mmcs_opening_text.specs.Readings.{settled, shown_by, shown_in, shown_of, unread, whole_at};
+ghost use Rattle.mmcs_opening_text.specs.Readings.{behind_first, expected_after, pair_by, pair_in};
+ghost use Rattle.mmcs_opening_text.specs.Inner.Typed.{pair_of, reading_of, shown_of};
+ghost use Rattle.mmcs_opening_text.specs.Readings.{settled, shown_by, shown_in, unread, whole_at};
 
 use crate::digest::LineDigest;
 use crate::fault::{Expected, Fault};

@@ -22,7 +22,8 @@ use Rattle.mmcs_text.specs.declared.command.HashName.{HashName}
 use Rattle.mmcs_engine.specs.Program.{functions_of_hash}
 use Rattle.mmcs_engine.specs.Inner.Alike.{pruned_in_numbers, IsSchemeOf}
 use Rattle.mmcs_engine.proofs.NumberFacts.{refusal_in_numbers}
-use Rattle.mmcs_opening_text.specs.Readings.{pair_in, pair_of, shown_in, shown_of, shown_under, ShownPair}
+use Rattle.mmcs_opening_text.specs.Readings.{pair_in, shown_in, ShownPair}
+use Rattle.mmcs_opening_text.specs.Inner.Typed.{pair_of, shown_of, shown_under}
 use Rattle.mmcs_opening_text.specs.declared.fault.Fault.{Fault}
 use Rattle.mmcs_opening_text.specs.declared.fault.Fault.TheVariants.{Tree}
 use Rattle.mmcs_opening_text.specs.declared.reader.Opening.{Opening}

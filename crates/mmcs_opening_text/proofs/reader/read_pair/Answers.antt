@@ -1,7 +1,7 @@
 use Rattle.std.proofs.Common.{⊎_elim, inl, inr, Err, sym, ap, ◌∙◌}
 use Rattle.std.proofs.lemmas.Result.{err_from_is_err_and}
 use Rattle.mmcs_opening_text.specs.Inner.Left.{lines_left}
-use Rattle.mmcs_opening_text.specs.Readings.{reading_of, shown_of, shown_under}
+use Rattle.mmcs_opening_text.specs.Inner.Typed.{reading_of, shown_of, shown_under}
 use Rattle.mmcs_opening_text.specs.declared.fault.Fault.{Fault}
 use Rattle.mmcs_opening_text.proofs.ReadingFacts.{pair_faulty, pair_read, pair_unparted}
 use Rattle.mmcs_opening_text.proofs.reader.read_pair.Goals as goal

@@ -1,7 +1,8 @@
 use Rattle.std.proofs.Common.{⊎_elim, inl, inr, ◌+◌, Err, sym, ap, ◌∙◌}
 use Rattle.std.proofs.lemmas.Result.{err_from_is_err_and}
 use Rattle.mmcs_opening_text.specs.Inner.Left.{lines_left}
-use Rattle.mmcs_opening_text.specs.Readings.{expected_after, reading_of, shown_by}
+use Rattle.mmcs_opening_text.specs.Readings.{expected_after, shown_by}
+use Rattle.mmcs_opening_text.specs.Inner.Typed.{reading_of}
 use Rattle.mmcs_opening_text.specs.declared.fault.Fault.{Fault}
 use Rattle.mmcs_opening_text.specs.declared.fault.Fault.TheVariants.{Line}
 use Rattle.mmcs_opening_text.proofs.ReadingFacts.{shown_goes_on, shown_missing, shown_whole, walk_fault, walk_next}

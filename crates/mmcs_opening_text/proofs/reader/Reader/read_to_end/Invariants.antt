@@ -1,6 +1,7 @@
 use Rattle.std.proofs.Common.{◌≡◌, length}
 use Rattle.mmcs_opening_text.specs.Inner.Left.{lines_left, AreCounted}
-use Rattle.mmcs_opening_text.specs.Readings.{reading_of, shown_by}
+use Rattle.mmcs_opening_text.specs.Readings.{shown_by}
+use Rattle.mmcs_opening_text.specs.Inner.Typed.{reading_of}
 use Rattle.mmcs_opening_text.proofs.reader.Reader.read_to_end.Given as goal
 
 abbrev pub invariant-loop-text : goal.invariant-loop-text

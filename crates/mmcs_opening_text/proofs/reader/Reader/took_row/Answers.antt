@@ -1,7 +1,8 @@
 use Rattle.std.proofs.Common.{Some, ◌≡◌, ◌+◌, ◌∷◌, [], length, map, ap, arith, sym, ◌∙◌}
 use Rattle.std.specs.Prelude.{option_map, slice_get}
 use Rattle.std.proofs.lemmas.List.{length-map, map-append}
-use Rattle.mmcs_opening_text.specs.Readings.{reading_of, settled}
+use Rattle.mmcs_opening_text.specs.Readings.{settled}
+use Rattle.mmcs_opening_text.specs.Inner.Typed.{reading_of}
 use Rattle.mmcs_opening_text.proofs.ReadingFacts.{item_found, row_taken}
 use Rattle.mmcs_opening_text.proofs.reader.Reader.took_row.Goals as goal
 
