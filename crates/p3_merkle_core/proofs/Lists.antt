@@ -4,3 +4,4 @@ pub mod RisingFacts
 pub mod GroupFacts
 pub mod FirstPairs
 pub mod ViewFacts
+pub mod SameRows

@@ -66,6 +66,14 @@ multi_made indices opening = pruned_of indices (row_sets opening.0.items) openin
 abbrev pub pruned_lent : {T W A B : Type 0} → List ℕ → List (Vec (Vec T A) B) → PrunedProof (List W) → PrunedOpening T W
 pruned_lent indices rows proof = pruned_of indices (row_sets rows) proof.sibling_hashes.items
 
+-- the rows and the siblings that an opening shows
+abbrev pub shown_opening : {T X A : Type 0} → BatchOpening T (Vec X A) → List (List T) × List X
+shown_opening opening = (row_lists opening.opened_values.items, opening.opening_proof.items)
+
+-- the row sets and the digests that a pruned opening shows
+abbrev pub shown_pruned : {T X : Type 0} → PrunedRows T X → List (List (List T)) × List X
+shown_pruned opening = (row_sets opening.opened_values.items, opening.pruned_proof.sibling_hashes.items)
+
 -- the leaf and the siblings that a path shows
 abbrev pub shown_path : {X : Type 0} → AuthPath X → ℕ × List X
 shown_path path = (path.leaf_index, path.siblings.items)

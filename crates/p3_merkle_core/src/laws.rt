@@ -1,10 +1,10 @@
-//! Laws of the definitions, each as the contract of a function that does nothing, and laws of equality of errors, paths
-//! and collisions. They speak of every hash, every compression, every batch and every opening; the calls of the crates
-//! above answer what the definitions say.
+//! Laws of the definitions, each as the contract of a function that does nothing, and laws of equality of errors,
+//! openings, proofs, paths and collisions. They speak of every hash, every compression, every batch and every opening;
+//! the calls of the crates above answer what the definitions say.
 
 ghost use Rattle.std.specs.Prelude.{◌≡◌, ◌↔◌, IsTrue};
 ghost use Rattle.p3_merkle_core.specs.Refusals.{IsEquality};
-ghost use Rattle.p3_merkle_core.specs.Views.{IsSamePair, shown_path};
+ghost use Rattle.p3_merkle_core.specs.Views.{IsSamePair, shown_opening, shown_path, shown_pruned};
 ghost use Rattle.p3_merkle_core.specs.Laws.{AnswerIsExtraction, AnsweredAsEachPath, BoundaryIsAlone, BoundaryIsLeast};
 ghost use Rattle.p3_merkle_core.specs.Laws.{BoundaryIsSmallest, BoundaryNodesAreApart, BoundaryNodesAreHeld};
 ghost use Rattle.p3_merkle_core.specs.Laws.{BoundarySuffices, CappedIsEachAccepted, FixedIsBelowRoot, HonestIsAccepted};
@@ -19,7 +19,10 @@ ghost use Rattle.p3_merkle_core.specs.Laws.{ScheduleStopsAtCap, TestedIsArity, U
 
 use crate::collision::{Collision, InputPair, Place};
 use crate::error::{MerkleTreeError, PrunedProofError};
-use crate::pruning::{AuthPath, MerkleAuthPath};
+use crate::pruning::{
+    AuthPath, MerkleAuthPath, PrunedBatchOpening, PrunedMerklePaths, PrunedProof, PrunedRows,
+};
+use p3_support::opening::BatchOpening;
 use p3_support::packed::PackedValue;
 
 /// `==` on errors is equality of values. Returns the result of `==`.
@@ -34,6 +37,58 @@ pub fn pruned_proof_errors(a: &PrunedProofError, b: &PrunedProofError) -> bool
     ensures { IsTrue result ↔ (a.now ≡ b.now) }
 {
     *a == *b
+}
+
+/// Equality of openings is equality of rows and siblings, where that of words and of digests is equality of values.
+fn openings<T: Eq, X: Eq>(a: &BatchOpening<T, Vec<X>>, b: &BatchOpening<T, Vec<X>>) -> bool
+    ensures { IsEquality T.eq → IsEquality X.eq → IsTrue result ↔ (shown_opening a.now ≡ shown_opening b.now) }
+{
+    *a == *b
+}
+
+/// Equality of openings of one index is equality of rows and siblings.
+pub fn batch_openings<P: PackedValue, PW: PackedValue, const D: usize>(
+    a: &BatchOpening<P::Value, Vec<[PW::Value; D]>>,
+    b: &BatchOpening<P::Value, Vec<[PW::Value; D]>>,
+) -> bool
+    ensures { IsTrue result ↔ (shown_opening a.now ≡ shown_opening b.now) }
+{
+    openings(a, b)
+}
+
+/// Equality of pruned proofs is equality of digests, where their own is equality of values.
+fn pruned_proofs<X: Eq>(a: &PrunedProof<X>, b: &PrunedProof<X>) -> bool
+    ensures { IsEquality X.eq → IsTrue result ↔ (a.now.sibling_hashes.items ≡ b.now.sibling_hashes.items) }
+{
+    *a == *b
+}
+
+/// Equality of pruned proofs is equality of digests.
+pub fn pruned_merkle_paths<PW: PackedValue, const D: usize>(
+    a: &PrunedMerklePaths<PW::Value, D>,
+    b: &PrunedMerklePaths<PW::Value, D>,
+) -> bool
+    ensures { IsTrue result ↔ (a.now.sibling_hashes.items ≡ b.now.sibling_hashes.items) }
+{
+    pruned_proofs(a, b)
+}
+
+/// Equality of pruned openings is equality of row sets and digests, where that of words and of digests is equality of
+/// values.
+fn pruned_rows<T: Eq, X: Eq>(a: &PrunedRows<T, X>, b: &PrunedRows<T, X>) -> bool
+    ensures { IsEquality T.eq → IsEquality X.eq → IsTrue result ↔ (shown_pruned a.now ≡ shown_pruned b.now) }
+{
+    *a == *b
+}
+
+/// Equality of pruned openings is equality of row sets and digests.
+pub fn pruned_batch_openings<P: PackedValue, PW: PackedValue, const D: usize>(
+    a: &PrunedBatchOpening<P::Value, PW::Value, D>,
+    b: &PrunedBatchOpening<P::Value, PW::Value, D>,
+) -> bool
+    ensures { IsTrue result ↔ (shown_pruned a.now ≡ shown_pruned b.now) }
+{
+    pruned_rows(a, b)
 }
 
 /// Equality of paths is equality of leaves and siblings, where that of digests is equality of values.

@@ -23,7 +23,7 @@ use std::alloc::{AllocError, Global};
 
 /// The digests of a pruned proof, which opens several leaves at once. [`PrunedMerklePaths`] is this proof at digests of
 /// words.
-#[derive(Debug, Clone, Drop)]
+#[derive(Debug, Clone, PartialEq, Eq, Drop)]
 pub struct PrunedProof<X> {
     /// The digests of the boundary in wire order: level by level from the leaves up, ascending on each level. A node is
     /// covered if it is a queried leaf or above one; the boundary is the children of covered nodes that are not covered
@@ -36,7 +36,7 @@ pub type PrunedMerklePaths<W, const D: usize> = PrunedProof<[W; D]>;
 
 /// The rows of several leaves, and one proof for all of them. [`PrunedBatchOpening`] is this opening at digests of
 /// words.
-#[derive(Debug, Clone, Drop)]
+#[derive(Debug, Clone, PartialEq, Eq, Drop)]
 pub struct PrunedRows<T, X> {
     /// For each query, in query order, one row of each matrix, in input order.
     pub opened_values: Vec<Vec<Vec<T>>>,

@@ -93,7 +93,7 @@ impl<F, X> Index<usize> for MerkleCap<F, X> {
 }
 
 /// The opened rows, one of each matrix, and the proof that they were committed to.
-#[derive(Clone, Debug, Drop)]
+#[derive(Clone, Debug, PartialEq, Eq, Drop)]
 pub struct BatchOpening<T, Proof> {
     /// One row of each matrix, in input order.
     pub opened_values: Vec<Vec<T>>,

@@ -1,0 +1,13 @@
+-- The derived test: rows, then siblings.
+use Rattle.std.specs.Cmp.Lexicographic.{pointwise_decides}
+use Rattle.p3_merkle_core.specs.Views.{shown_opening}
+use Rattle.p3_merkle_core.proofs.Lists.SameRows.{both_parts, same_rows}
+use Rattle.p3_merkle_core.proofs.laws.openings.Goals as goal
+
+pub returns : goal.returns
+returns g c words digests =
+    let a = c.args.a.now in
+    let b = c.args.b.now in
+    rw c.eq.ensures (both_parts _ _ (shown_opening a) (shown_opening b)
+    (same_rows words a.opened_values.items b.opened_values.items)
+    (pointwise_decides digests a.opening_proof.items b.opening_proof.items))
