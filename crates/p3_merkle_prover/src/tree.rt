@@ -63,8 +63,17 @@ impl<F: Copy, W: Copy, M: Matrix<F> + Drop, const N: usize, const D: usize> Merk
     /// the end of a matrix, and in the slots that pad a layer.
     ///
     /// `N` must be a power of two from 2 to 2^62, and both packings must have equally many lanes, at least one. Each
-    /// layer is allocated once. `LANES` of the hasher and of the compression, and the lanes of the packings, decide how
-    /// many digests one call computes; the tree does not depend on them.
+    /// layer is allocated once.
+    ///
+    /// `LANES` and the packings decide which calls fill a layer, and the tree does not depend on them:
+    ///
+    /// - The leaves are hashed in batches (`hash_many`) if the hasher's `LANES` are above 1.
+    /// - A layer above them without matrices is compressed in batches (`compress_many`) if its nodes have `N` children
+    ///   each (a bridge step gives them 2) and the compression's `LANES` are above 1.
+    /// - A layer above them with matrices is hashed and compressed in batches if its nodes have `N` children each and
+    ///   the `LANES` of both are above 1.
+    /// - Every other layer is filled lane by lane (`hash_packed`, `compress_packed`), `WIDTH` digests a call. What is
+    ///   left over is hashed and compressed one by one, and so is the whole layer if `WIDTH` is 1.
     ///
     /// # Errors
     ///
