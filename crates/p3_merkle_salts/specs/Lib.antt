@@ -4,4 +4,5 @@ pub mod SaltedOpenings
 pub mod SaltRefusals
 pub mod SaltedTrees
 pub mod SaltedPresented
+pub mod SaltedExtraction
 pub mod Inner
