@@ -3,7 +3,7 @@
 use crate::fields::Fields;
 use crate::scheme::FoldCap;
 use crate::tried::Tried;
-use p3_merkle_tree::{BatchOpening, MerkleCap, PrunedOpeningRef};
+use p3_merkle_tree::{BatchOpening, MerkleCap};
 use p3_support::matrix::Dimensions;
 use std::alloc::Global;
 
@@ -53,6 +53,14 @@ pub struct LeavesOpening<P> {
     pub proof: P,
 }
 
+/// The opening of several leaves, lent.
+#[derive_where(Clone, Copy)]
+pub struct LentLeaves<'a, P> {
+    pub indices: &'a [usize],
+    pub rows: &'a [Vec<Vec<u32>>],
+    pub proof: &'a P,
+}
+
 impl<P> LeavesOpening<P> {
     /// The opening of no leaf by this proof.
     pub fn none(alloc: Global, proof: P) -> LeavesOpening<P> {
@@ -64,8 +72,12 @@ impl<P> LeavesOpening<P> {
     }
 
     /// The opening, lent.
-    pub fn lent(&self) -> PrunedOpeningRef<'_, u32, P> {
-        PrunedOpeningRef::new(&self.indices, &self.rows, &self.proof)
+    pub fn lent(&self) -> LentLeaves<'_, P> {
+        LentLeaves {
+            indices: &self.indices,
+            rows: &self.rows,
+            proof: &self.proof,
+        }
     }
 
     /// Whether it has too many queries to compare each with each.

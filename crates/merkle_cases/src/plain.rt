@@ -2,14 +2,12 @@
 
 use crate::committed::{Committed, OpenedLeaves, accepted};
 use crate::fields::{Fault, Fields};
-use crate::openings::Statement;
+use crate::openings::{LentLeaves, Statement};
 use crate::scheme::{FoldCap, FoldCommitted, FoldScheme};
 use crate::text::Answer;
 use crate::tried::{FoldCollision, Tried};
 use p3_merkle_core::pruning::PrunedProof;
-use p3_merkle_tree::{
-    BatchOpeningRef, MerkleAuthPath, MerkleTreeError, PrunedMerklePaths, PrunedOpeningRef,
-};
+use p3_merkle_tree::{BatchOpeningRef, MerkleAuthPath, MerkleTreeError, PrunedMerklePaths};
 use p3_support::matrix::Dimensions;
 use std::alloc::Global;
 
@@ -25,23 +23,17 @@ fn restored_verdict<const N: usize>(
     alloc: Global,
     scheme: &FoldScheme<N>,
     statement: &Statement,
-    opening: PrunedOpeningRef<'_, u32, MultiProof>,
+    opening: LentLeaves<'_, MultiProof>,
 ) -> Result<(), MerkleTreeError> {
     let Statement { cap, dimensions } = statement;
-    let PrunedOpeningRef {
+    let LentLeaves {
         indices,
-        opened_values,
-        opening_proof,
+        rows,
+        proof,
     } = opening;
-    let paths = scheme.restore_and_recompute_paths(
-        alloc,
-        dimensions,
-        indices,
-        opened_values,
-        opening_proof,
-    )?;
-    for (rows, path) in opened_values.iter().zip(&paths) {
-        let lent = BatchOpeningRef::new(rows, &path.siblings);
+    let paths = scheme.restore_and_recompute_paths(alloc, dimensions, indices, rows, proof)?;
+    for (own, path) in rows.iter().zip(&paths) {
+        let lent = BatchOpeningRef::new(own, &path.siblings);
         scheme.verify_batch(cap, dimensions, path.leaf_index, lent)?;
     }
     Ok(())
@@ -105,7 +97,7 @@ impl<const N: usize> Tried for FoldScheme<N> {
         &self,
         alloc: Global,
         statement: &Statement,
-        opening: PrunedOpeningRef<'_, u32, MultiProof>,
+        opening: LentLeaves<'_, MultiProof>,
         verdict: &Result<(), MerkleTreeError>,
     ) -> bool {
         *verdict == restored_verdict(alloc, self, statement, opening)
@@ -147,9 +139,19 @@ impl<const N: usize> Tried for FoldScheme<N> {
         alloc: Global,
         cap: &FoldCap,
         dimensions: &[Dimensions],
-        first: PrunedOpeningRef<'_, u32, MultiProof>,
-        second: PrunedOpeningRef<'_, u32, MultiProof>,
+        first: LentLeaves<'_, MultiProof>,
+        second: LentLeaves<'_, MultiProof>,
     ) -> Result<Option<(usize, usize, FoldCollision)>, MerkleTreeError> {
-        self.extract_collision_multi(alloc, cap, dimensions, first, second)
+        self.extract_collision_multi(
+            alloc,
+            cap,
+            dimensions,
+            first.indices,
+            first.rows,
+            first.proof,
+            second.indices,
+            second.rows,
+            second.proof,
+        )
     }
 }

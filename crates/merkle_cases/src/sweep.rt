@@ -7,6 +7,7 @@ use crate::batches::batches_of;
 use crate::case::Case;
 use crate::committed::{Committed, OpenedLeaves, accepted, accepted_leaves, commit_shown};
 use crate::fields::{Fault, Fields};
+use crate::openings::LentLeaves;
 use crate::queries::lists_of;
 use crate::reader::Reader;
 use crate::scheme::{Cap, FoldCap, fold_scheme};
@@ -16,7 +17,7 @@ use crate::twin::{
     collides_at, collides_first_at, has_twins, place_of, place_of_first, twin_rows, twin_sets,
 };
 use p3_merkle_core::geometry::tallest_of;
-use p3_merkle_tree::{BatchOpening, BatchOpeningRef, MerkleTreeError, Place, PrunedOpeningRef};
+use p3_merkle_tree::{BatchOpening, BatchOpeningRef, MerkleTreeError, Place};
 use p3_support::matrix::Dimensions;
 use std::alloc::Global;
 
@@ -125,13 +126,21 @@ fn collision_of_twins<S: Tried>(
 ) -> Result<Option<(usize, usize, FoldCollision)>, MerkleTreeError> {
     let (own, proof) = leaves;
     let rows = twin_sets(alloc, own, matrix)?;
-    let twin = PrunedOpeningRef::new(indices, &rows, proof);
     let Committed {
         cap,
         dimensions,
         ..
     } = committed;
-    let honest = PrunedOpeningRef::new(indices, own, proof);
+    let honest = LentLeaves {
+        indices,
+        rows: own,
+        proof,
+    };
+    let twin = LentLeaves {
+        indices,
+        rows: &rows,
+        proof,
+    };
     scheme.extract_multi(alloc, cap, dimensions, honest, twin)
 }
 

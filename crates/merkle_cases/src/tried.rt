@@ -2,10 +2,10 @@
 
 use crate::committed::{Committed, OpenedLeaves};
 use crate::fields::{Fault, Fields};
-use crate::openings::Statement;
+use crate::openings::{LentLeaves, Statement};
 use crate::scheme::{FoldCap, Rows};
 use crate::text::Answer;
-use p3_merkle_tree::{BatchOpeningRef, Collision, MerkleTreeError, PrunedOpeningRef};
+use p3_merkle_tree::{BatchOpeningRef, Collision, MerkleTreeError};
 use p3_support::matrix::Dimensions;
 use p3_support::mmcs::Mmcs;
 use std::alloc::Global;
@@ -41,7 +41,7 @@ pub trait Tried: Mmcs<u32, Rows, Commitment = FoldCap, Error = MerkleTreeError> 
         &self,
         alloc: Global,
         statement: &Statement,
-        opening: PrunedOpeningRef<'_, u32, Self::MultiProof>,
+        opening: LentLeaves<'_, Self::MultiProof>,
         verdict: &Result<(), MerkleTreeError>,
     ) -> bool;
 
@@ -71,7 +71,7 @@ pub trait Tried: Mmcs<u32, Rows, Commitment = FoldCap, Error = MerkleTreeError> 
         alloc: Global,
         cap: &FoldCap,
         dimensions: &[Dimensions],
-        first: PrunedOpeningRef<'_, u32, Self::MultiProof>,
-        second: PrunedOpeningRef<'_, u32, Self::MultiProof>,
+        first: LentLeaves<'_, Self::MultiProof>,
+        second: LentLeaves<'_, Self::MultiProof>,
     ) -> Result<Option<(usize, usize, FoldCollision)>, MerkleTreeError>;
 }

@@ -31,9 +31,7 @@ use mmcs_opening_text::request::{Request, Task};
 use mmcs_text::command::{Arity, HashName};
 use mmcs_text::streams::{read_all, write_text};
 use mmcs_text::word::Word;
-use p3_merkle_tree::{
-    MerkleCap, MerkleTreeError, MerkleTreeMmcs, PrunedMerklePaths, PrunedOpeningRef,
-};
+use p3_merkle_tree::{MerkleCap, MerkleTreeError, MerkleTreeMmcs, PrunedMerklePaths};
 use p3_support::compress::PseudoCompressionFunction;
 use p3_support::hasher::CryptographicHasher;
 use p3_support::matrix::Dimensions;
@@ -341,8 +339,12 @@ fn compare<
         alloc,
         &cap,
         dimensions,
-        PrunedOpeningRef::new(&first.indices, &first.rows, &first_proof),
-        PrunedOpeningRef::new(&second.indices, &second.rows, &second_proof),
+        &first.indices,
+        &first.rows,
+        &first_proof,
+        &second.indices,
+        &second.rows,
+        &second_proof,
     )?;
     let (hash, compress) = (&suite.hash, &suite.compress);
     Ok(collision_text(

@@ -16,7 +16,7 @@ use p3_merkle_tree::Collision;
 use p3_support::compress::PseudoCompressionFunction;
 use p3_support::hasher::CryptographicHasher;
 use p3_support::matrix::Dimensions;
-use p3_support::opening::{BatchOpeningRef, MerkleCap, PrunedOpeningRef};
+use p3_support::opening::{BatchOpeningRef, MerkleCap};
 use p3_support::packed::PackedValue;
 use std::alloc::Global;
 
@@ -93,9 +93,11 @@ impl<
     /// collision, in the order of the first list, then of the second. Returns the place of each query in its list, from
     /// 0, and two different inputs of the hasher or of the compression with one digest; or `None` if all queries agree.
     ///
-    /// It is the plain scheme's [`extract_collision_multi`](p3_merkle_tree::mmcs::Scheme::extract_collision_multi) of
-    /// the rows followed by their salts. Both openings are verified as by
-    /// [`verify_multi_batch`](Self::verify_multi_batch).
+    /// The first opening is `indices1`, `rows1` and `proof1`, the second `indices2`, `rows2` and `proof2`, each as
+    /// [`verify_multi_batch`](Self::verify_multi_batch) takes it: a row set for each index, and a proof with a salt set
+    /// for each. Both are verified so. The call is the plain scheme's
+    /// [`extract_collision_multi`](p3_merkle_tree::mmcs::Scheme::extract_collision_multi) of the rows followed by their
+    /// salts.
     ///
     /// # Errors
     ///
@@ -106,35 +108,42 @@ impl<
         alloc: Global,
         commit: &MerkleCap<P::Value, [PW::Value; D]>,
         dimensions: &[Dimensions],
-        first: PrunedOpeningRef<'_, P::Value, SaltedMultiProof<P::Value, PW::Value, D>>,
-        second: PrunedOpeningRef<'_, P::Value, SaltedMultiProof<P::Value, PW::Value, D>>,
+        indices1: &[usize],
+        rows1: &[Vec<Vec<P::Value>>],
+        proof1: &SaltedMultiProof<P::Value, PW::Value, D>,
+        indices2: &[usize],
+        rows2: &[Vec<Vec<P::Value>>],
+        proof2: &SaltedMultiProof<P::Value, PW::Value, D>,
     ) -> Result<Option<(usize, usize, Collision<P::Value, PW::Value, D>)>, MerkleTreeError>
         ensures { let c = salted_terms_of H.hash C.compression D self.now dimensions.now in
             let presented = presented_salted_pruned P.Value.eq PW.Value.eq SALT_ELEMS dimensions.now c
             (roots_of commit.now) in
-            let a = first.entry in
-            let b = second.entry in
-            let first = presented (salted_pruned_lent a.indices.now a.opened_values.now a.opening_proof.now) in
-            let second = presented (salted_pruned_lent b.indices.now b.opened_values.now b.opening_proof.now) in
+            let first = presented (salted_pruned_lent indices1.now rows1.now proof1.now) in
+            let second = presented (salted_pruned_lent indices2.now rows2.now proof2.now) in
             IsExtraction P.Value.eq PW.Value.eq (cap_rule_of (plain_of self.now)) c first second (found_pair result) }
     {
-        let (salts1, pruned1) = first.opening_proof;
-        let salted1 = SaltedSets::new(alloc, dimensions, SALT_ELEMS, first.opened_values, salts1)?;
-        let joined1 = PrunedOpeningRef::new(first.indices, &salted1.sets, pruned1);
-        let (salts2, pruned2) = second.opening_proof;
-        match SaltedSets::new(alloc, dimensions, SALT_ELEMS, second.opened_values, salts2) {
-            Ok(salted2) => {
-                let joined2 = PrunedOpeningRef::new(second.indices, &salted2.sets, pruned2);
-                self.plain
-                    .extract_collision_multi(alloc, commit, &salted1.dimensions, joined1, joined2)
-            }
+        let (salts1, pruned1) = proof1;
+        let salted1 = SaltedSets::new(alloc, dimensions, SALT_ELEMS, rows1, salts1)?;
+        let (salts2, pruned2) = proof2;
+        match SaltedSets::new(alloc, dimensions, SALT_ELEMS, rows2, salts2) {
+            Ok(salted2) => self.plain.extract_collision_multi(
+                alloc,
+                commit,
+                &salted1.dimensions,
+                indices1,
+                &salted1.sets,
+                pruned1,
+                indices2,
+                &salted2.sets,
+                pruned2,
+            ),
             // A refusal of the first opening comes before one of the second.
             Err(error) => {
                 let checked = self.plain.verify_batch_pruned(
                     alloc,
                     commit,
                     &salted1.dimensions,
-                    first.indices,
+                    indices1,
                     &salted1.sets,
                     pruned1,
                 );

@@ -18,12 +18,11 @@ use crate::paths::checked_paths_of;
 use crate::restorable::BorrowedOpening;
 use p3_merkle_core::collision::Collision;
 use p3_merkle_core::error::MerkleTreeError;
-use p3_merkle_core::pruning::{AuthPath, PrunedMerklePaths};
+use p3_merkle_core::pruning::AuthPath;
 use p3_merkle_verifier::level::Checker;
 use p3_merkle_verifier::openings::{IndexedOpening, OpeningPair};
 use p3_support::compress::PseudoCompressionFunction;
 use p3_support::hasher::CryptographicHasher;
-use p3_support::opening::PrunedOpeningRef;
 use p3_support::packed::PackedValue;
 use std::alloc::{AllocError, Global};
 
@@ -160,7 +159,7 @@ fn checked_queries<
     alloc: Global,
     checker: &Checker<'_, P, PW, H, C, [[PW::Value; D]; N]>,
     commitment: &Commitment<'_, [PW::Value; D]>,
-    opening: PrunedOpeningRef<'a, P::Value, PrunedMerklePaths<PW::Value, D>>,
+    opening: BorrowedOpening<'a, P::Value, [PW::Value; D]>,
 ) -> Result<RestoredQueries<'a, P::Value, [PW::Value; D]>, MerkleTreeError>
     requires { CanCheck (shape_of N commitment.now.dimensions.now) commitment.now.cap_layer }
     ensures answer { let f = functions_of (H.hash checker.now.hash.now) (C.compression checker.now.compress.now)
@@ -176,16 +175,7 @@ fn checked_queries<
         let cap_layer = commitment.now.cap_layer in
         IfOk result (λ queries. AreQueriesOf f s cap_layer (pruned_in opening.entry) queries) }
 {
-    let PrunedOpeningRef {
-        indices,
-        opened_values: sets,
-        opening_proof,
-    } = opening;
-    let opening = BorrowedOpening {
-        indices,
-        sets,
-        sent: opening_proof.sibling_hashes.as_slice(),
-    };
+    let sets = opening.sets;
     let paths = checked_paths_of::<P, PW, H, C, N, D>(alloc, checker, commitment, opening)?;
     Ok(RestoredQueries { sets, paths })
 }
@@ -212,8 +202,8 @@ pub fn extraction<
     alloc: Global,
     checker: &Checker<'_, P, PW, H, C, [[PW::Value; D]; N]>,
     commitment: &Commitment<'_, [PW::Value; D]>,
-    first: PrunedOpeningRef<'_, P::Value, PrunedMerklePaths<PW::Value, D>>,
-    second: PrunedOpeningRef<'_, P::Value, PrunedMerklePaths<PW::Value, D>>,
+    first: BorrowedOpening<'_, P::Value, [PW::Value; D]>,
+    second: BorrowedOpening<'_, P::Value, [PW::Value; D]>,
 ) -> Result<Option<(usize, usize, Collision<P::Value, PW::Value, D>)>, MerkleTreeError>
     requires { CanCheck (shape_of N commitment.now.dimensions.now) commitment.now.cap_layer }
     ensures answer { let f = functions_of (H.hash checker.now.hash.now) (C.compression checker.now.compress.now)

@@ -26,6 +26,4 @@ pub use p3_merkle_core::pruning::{
 };
 pub use p3_merkle_prover::tree;
 pub use p3_merkle_prover::tree::{MerkleTree, Tree};
-pub use p3_support::opening::{
-    BatchOpening, BatchOpeningRef, DigestRef, Hash, MerkleCap, PrunedOpeningRef,
-};
+pub use p3_support::opening::{BatchOpening, BatchOpeningRef, DigestRef, Hash, MerkleCap};

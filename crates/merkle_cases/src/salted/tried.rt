@@ -2,14 +2,14 @@
 
 use crate::committed::{Committed, OpenedLeaves};
 use crate::fields::{Fault, Fields};
-use crate::openings::Statement;
+use crate::openings::{LentLeaves, Statement};
 use crate::salted::Salted;
 use crate::scheme::{FoldCap, Rows};
 use crate::text::Answer;
 use crate::tried::{FoldCollision, Tried};
 use p3_merkle_core::pruning::PrunedProof;
 use p3_merkle_hiding::hiding_mmcs::{SaltedMultiProof, SaltedProof, SaltedTree};
-use p3_merkle_tree::{BatchOpeningRef, MerkleTreeError, PrunedOpeningRef};
+use p3_merkle_tree::{BatchOpeningRef, MerkleTreeError};
 use p3_support::matrix::Dimensions;
 use rand_core::CryptoRng;
 use std::alloc::Global;
@@ -62,7 +62,7 @@ impl<R: CryptoRng, const N: usize, const SALT_ELEMS: usize> Tried for Salted<R, 
         &self,
         _alloc: Global,
         _statement: &Statement,
-        _opening: PrunedOpeningRef<'_, u32, MultiProof>,
+        _opening: LentLeaves<'_, MultiProof>,
         _verdict: &Result<(), MerkleTreeError>,
     ) -> bool {
         true
@@ -96,9 +96,19 @@ impl<R: CryptoRng, const N: usize, const SALT_ELEMS: usize> Tried for Salted<R, 
         alloc: Global,
         cap: &FoldCap,
         dimensions: &[Dimensions],
-        first: PrunedOpeningRef<'_, u32, MultiProof>,
-        second: PrunedOpeningRef<'_, u32, MultiProof>,
+        first: LentLeaves<'_, MultiProof>,
+        second: LentLeaves<'_, MultiProof>,
     ) -> Result<Option<(usize, usize, FoldCollision)>, MerkleTreeError> {
-        self.extract_collision_multi(alloc, cap, dimensions, first, second)
+        self.extract_collision_multi(
+            alloc,
+            cap,
+            dimensions,
+            first.indices,
+            first.rows,
+            first.proof,
+            second.indices,
+            second.rows,
+            second.proof,
+        )
     }
 }

@@ -1,24 +1,23 @@
 -- Queries of two pruned openings, and the first pair of them whose checks differ.
 use Rattle.std.specs.Prelude.{◌≡◌, ◌<◌, ℕ, Bool, List, [], Option, length, option_map, slice_index_or}
 use Rattle.std.specs.List.{range_with_len}
-use Rattle.p3_merkle_core.specs.Views.{shown_paths, inputs_in, pruned_lent}
+use Rattle.p3_merkle_core.specs.Views.{shown_paths, inputs_in}
 use Rattle.p3_merkle_core.specs.Extraction.{difference_of}
 use Rattle.p3_merkle_core.specs.Geometry.{Shape}
 use Rattle.p3_merkle_core.specs.Nodes.{Functions}
 use Rattle.p3_merkle_core.specs.Openings.{Opening, opening_of}
 use Rattle.p3_merkle_core.specs.Checks.{Input, terms}
 use Rattle.p3_support.specs.Shown.{row_sets}
-use Rattle.p3_support.specs.declared.opening.PrunedOpeningRef.{PrunedOpeningRef}
-use Rattle.p3_merkle_core.specs.Pruning.{PrunedOpening, opening_at}
+use Rattle.p3_merkle_core.specs.Pruning.{PrunedOpening, opening_at, pruned_of}
 use Rattle.p3_merkle_core.specs.Refusals.{first_of}
-use Rattle.p3_merkle_core.specs.declared.pruning.PrunedProof.{PrunedProof}
 use Rattle.p3_merkle_verifier.specs.Inner.Paths.{CanReach}
 use Rattle.p3_merkle_core.specs.declared.collision.InputPair.{InputPair}
 use Rattle.p3_merkle_multiproof.specs.declared.extraction.RestoredQueries.{RestoredQueries}
+use Rattle.p3_merkle_multiproof.specs.declared.restorable.BorrowedOpening.{BorrowedOpening}
 
 -- the pruned opening that is lent
-abbrev pub pruned_in : {T W : Type 0} → PrunedOpeningRef T (PrunedProof (List W)) → PrunedOpening T W
-pruned_in opening = pruned_lent opening.indices.now opening.opened_values.now opening.opening_proof.now
+abbrev pub pruned_in : {T W : Type 0} → BorrowedOpening T (List W) → PrunedOpening T W
+pruned_in opening = pruned_of opening.indices.now (row_sets opening.sets.now) opening.sent.now
 
 -- query k, as an opening with its path
 abbrev pub query_in : {T W : Type 0} → RestoredQueries T (List W) → ℕ → Opening T W

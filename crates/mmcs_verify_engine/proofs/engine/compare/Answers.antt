@@ -20,10 +20,8 @@ extracts g c =
     (terms_of g.H.CryptographicHasher.hash g.C.PseudoCompressionFunction.compression g.row.D c.args.suite.now.scheme
     c.args.dimensions.now) c.args.pair c.extract_collision_multi.result (roots_of c.new-cap.result) _ _
     c.new-cap.ensures
-    (λ i. pruned_of ((c.new.ensures.indices ∙ c.deref.ensures.value) i)
-    (row_sets ((c.new.ensures.values ∙ c.deref-2.ensures.value) i)) (c.new.ensures.proof i).sibling_hashes.items)
-    (λ i. pruned_of ((c.new-2.ensures.indices ∙ c.deref-3.ensures.value) i)
-    (row_sets ((c.new-2.ensures.values ∙ c.deref-4.ensures.value) i)) (c.new-2.ensures.proof i).sibling_hashes.items)
+    (λ i. pruned_of (c.deref.ensures.value i) (row_sets (c.deref-2.ensures.value i)) c.args.pair.first.digests.items)
+    (λ i. pruned_of (c.deref-3.ensures.value i) (row_sets (c.deref-4.ensures.value i)) c.args.pair.second.digests.items)
     c.extract_collision_multi.ensures
 
 pub collision_text-requires : goal.collision_text-requires

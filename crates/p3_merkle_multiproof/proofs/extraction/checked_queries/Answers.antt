@@ -1,10 +1,8 @@
 -- What is restored of an opening that is accepted can be compared.
-use Rattle.std.proofs.Common.{refl, replicate, subst}
-use Rattle.p3_support.specs.Shown.{row_sets}
+use Rattle.std.proofs.Common.{refl, replicate}
 use Rattle.p3_merkle_core.specs.Geometry.{shape_of}
 use Rattle.p3_merkle_core.specs.Nodes.{functions_of}
-use Rattle.p3_merkle_core.specs.Pruning.{pruned_of}
-use Rattle.p3_merkle_multiproof.specs.Inner.QueryPairs.{AreQueriesOf}
+use Rattle.p3_merkle_multiproof.specs.Inner.QueryPairs.{pruned_in}
 use Rattle.p3_merkle_multiproof.specs.declared.extraction.RestoredQueries.{RestoredQueries}
 use Rattle.p3_merkle_multiproof.proofs.QueryFacts.{comparable, restored}
 use Rattle.p3_merkle_multiproof.proofs.extraction.checked_queries.Goals as goal
@@ -15,11 +13,9 @@ returns-clause-comparable g c =
     let f = functions_of (g.H.CryptographicHasher.hash c.args.checker.now.hash.now)
     (g.C.PseudoCompressionFunction.compression c.args.checker.now.compress.now)
     (replicate g.row.D g.PW.PackedValue.default_value) in
-    let opening = pruned_of c.args.opening.indices.now (row_sets c.args.opening.opened_values.now)
-    c.as_slice.result.now in
     comparable g.P.Value.PartialEq.eq g.PW.Value.PartialEq.eq f (shape_of g.row.N commitment.dimensions.now)
-    commitment.cap_layer commitment.roots.now opening
-    (record { sets = c.args.opening.opened_values; paths = c.in_ok-paths.paths })
+    commitment.cap_layer commitment.roots.now (pruned_in c.args.opening)
+    (record { sets = c.args.opening.sets; paths = c.in_ok-paths.paths })
     g.met.P.PackedValue.eq_is_equality g.met.PW.PackedValue.eq_is_equality c.requires
     c.in_ok-paths.ensures.answer refl c.in_ok-paths.ensures.paths
 
@@ -30,9 +26,6 @@ returns-clause-restored g c =
     (g.C.PseudoCompressionFunction.compression c.args.checker.now.compress.now)
     (replicate g.row.D g.PW.PackedValue.default_value) in
     let s = shape_of g.row.N commitment.dimensions.now in
-    let queries : RestoredQueries _ _ = record { sets = c.args.opening.opened_values; paths = c.in_ok-paths.paths } in
-    let opening_by = pruned_of c.args.opening.indices.now (row_sets c.args.opening.opened_values.now) in
-    subst (λ sent. AreQueriesOf f s commitment.cap_layer (opening_by sent) queries)
-    c.as_slice.ensures.value
-    (restored g.P.Value.PartialEq.eq g.PW.Value.PartialEq.eq f s commitment.cap_layer
-    (opening_by c.as_slice.result.now) queries refl c.in_ok-paths.ensures.paths)
+    let queries : RestoredQueries _ _ = record { sets = c.args.opening.sets; paths = c.in_ok-paths.paths } in
+    restored g.P.Value.PartialEq.eq g.PW.Value.PartialEq.eq f s commitment.cap_layer (pruned_in c.args.opening) queries
+    refl c.in_ok-paths.ensures.paths
