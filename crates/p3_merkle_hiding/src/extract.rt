@@ -1,12 +1,14 @@
 //! Extraction of collisions from two salted openings of one cap.
 
-ghost use Rattle.std.specs.Prelude.{◌≡◌, ◌↔◌, IfOk, IsNone};
+ghost use Rattle.std.specs.Prelude.{◌≡◌, ◌↔◌, IfOk, IsNone, IsSome};
 ghost use Rattle.p3_merkle_core.specs.Extraction.{IsExtraction};
 ghost use Rattle.p3_merkle_core.specs.Views.{found_alone, found_pair};
 ghost use Rattle.p3_merkle_core.specs.declared.cap.CapRule.TheVariants.{Lowered};
 ghost use Rattle.p3_merkle_tree.specs.Schemes.{cap_rule_of};
 ghost use Rattle.p3_support.specs.Shown.{roots_of};
 ghost use Rattle.p3_merkle_hiding.specs.HidingSchemes.{plain_of, salted_lent, salted_pruned_lent, salted_terms_of};
+ghost use Rattle.p3_merkle_salts.specs.SaltedExtraction.{AgreeWhereAuthenticated, ConflictSomewhere};
+ghost use Rattle.p3_merkle_salts.specs.SaltedExtraction.{ConflictWhereAuthenticated, EachSaltedPair, SomeSaltedPair};
 ghost use Rattle.p3_merkle_salts.specs.SaltedPresented.{presented_salted, presented_salted_pruned};
 
 use crate::hiding_mmcs::{MerkleTreeHidingMmcs, SaltedMultiProof, SaltedProof};
@@ -36,7 +38,8 @@ impl<
     /// It is the plain scheme's [`extract_collision`](p3_merkle_tree::mmcs::Scheme::extract_collision) of the rows
     /// followed by their salts. Both openings are verified as by [`verify_batch`](Self::verify_batch). Two openings of
     /// one index give a collision exactly if they differ in a sibling, or in a row or the salts of an authenticated
-    /// matrix. Under the rule `Lowered` every matrix is authenticated.
+    /// matrix. Openings of any two indices give one if they conflict in a row of such a matrix, or in its salts. Under
+    /// the rule `Lowered` every matrix is authenticated.
     ///
     /// # Errors
     ///
@@ -58,9 +61,31 @@ impl<
             let second = presented (salted_lent index2 second.entry) in
             IsExtraction P.Value.eq PW.Value.eq (cap_rule_of (plain_of self.now)) c first second (found_alone result) }
 
+        // At one index nothing is found exactly where the siblings, and the rows and salts of authenticated matrices,
+        // are the same.
+        ensures one_index { let c = salted_terms_of H.hash C.compression D self.now dimensions.now in
+            let o = salted_lent index1 first.entry in
+            let u = salted_lent index2 second.entry in
+            index1 ≡ index2 → IfOk result (λ found. IsNone found ↔ AgreeWhereAuthenticated c o u) }
+
+        // At any indices something is found where one row of an authenticated matrix, or its salts, are answered in two
+        // ways.
+        ensures two_ways { let c = salted_terms_of H.hash C.compression D self.now dimensions.now in
+            let o = salted_lent index1 first.entry in
+            let u = salted_lent index2 second.entry in
+            ConflictWhereAuthenticated c o u → IfOk result (λ found. IsSome found) }
+
         // Under the lowered rule, at one index nothing is found exactly where rows, salts and siblings are the same.
         ensures lowered_one_index { cap_rule_of (plain_of self.now) ≡ Lowered → index1 ≡ index2 →
             IfOk result (λ found. IsNone found ↔ (salted_lent index1 first.entry ≡ salted_lent index2 second.entry)) }
+
+        // Under the lowered rule, at any indices something is found where one row of any matrix, or its salts, are
+        // answered in two ways.
+        ensures lowered_two_ways { let c = salted_terms_of H.hash C.compression D self.now dimensions.now in
+            let o = salted_lent index1 first.entry in
+            let u = salted_lent index2 second.entry in
+            cap_rule_of (plain_of self.now) ≡ Lowered → ConflictSomewhere c o u →
+            IfOk result (λ found. IsSome found) }
     {
         let (rows1, (salts1, siblings1)) = first.unpack();
         let salted1 = SaltedRows::new(alloc, dimensions, SALT_ELEMS, rows1, salts1)?;
@@ -97,7 +122,9 @@ impl<
     /// [`verify_multi_batch`](Self::verify_multi_batch) takes it: a row set for each index, and a proof with a salt set
     /// for each. Both are verified so. The call is the plain scheme's
     /// [`extract_collision_multi`](p3_merkle_tree::mmcs::Scheme::extract_collision_multi) of the rows followed by their
-    /// salts.
+    /// salts. It finds a collision wherever a query of the one and a query of the other answer one row of an
+    /// authenticated matrix, or the salts of that row, in two ways. Under the rule `Lowered` every matrix is
+    /// authenticated.
     ///
     /// # Errors
     ///
@@ -115,12 +142,42 @@ impl<
         rows2: &[Vec<Vec<P::Value>>],
         proof2: &SaltedMultiProof<P::Value, PW::Value, D>,
     ) -> Result<Option<(usize, usize, Collision<P::Value, PW::Value, D>)>, MerkleTreeError>
-        ensures { let c = salted_terms_of H.hash C.compression D self.now dimensions.now in
+        ensures extraction { let c = salted_terms_of H.hash C.compression D self.now dimensions.now in
             let presented = presented_salted_pruned P.Value.eq PW.Value.eq SALT_ELEMS dimensions.now c
             (roots_of commit.now) in
             let first = presented (salted_pruned_lent indices1.now rows1.now proof1.now) in
             let second = presented (salted_pruned_lent indices2.now rows2.now proof2.now) in
             IsExtraction P.Value.eq PW.Value.eq (cap_rule_of (plain_of self.now)) c first second (found_pair result) }
+
+        // Of queries of one index nothing is found exactly where the siblings, and the rows and salts of authenticated
+        // matrices, are the same.
+        ensures one_index { let c = salted_terms_of H.hash C.compression D self.now dimensions.now in
+            let p = salted_pruned_lent indices1.now rows1.now proof1.now in
+            let q = salted_pruned_lent indices2.now rows2.now proof2.now in
+            EachSaltedPair c p q (λ o u. o.index ≡ u.index) →
+            IfOk result (λ found. IsNone found ↔ EachSaltedPair c p q (AgreeWhereAuthenticated c)) }
+
+        // Something is found where two queries answer one row of an authenticated matrix, or its salts, in two ways.
+        ensures two_ways { let c = salted_terms_of H.hash C.compression D self.now dimensions.now in
+            let p = salted_pruned_lent indices1.now rows1.now proof1.now in
+            let q = salted_pruned_lent indices2.now rows2.now proof2.now in
+            SomeSaltedPair c p q (ConflictWhereAuthenticated c) → IfOk result (λ found. IsSome found) }
+
+        // Under the lowered rule, of queries of one index nothing is found exactly where rows, salts and siblings are
+        // the same.
+        ensures lowered_one_index { let c = salted_terms_of H.hash C.compression D self.now dimensions.now in
+            let p = salted_pruned_lent indices1.now rows1.now proof1.now in
+            let q = salted_pruned_lent indices2.now rows2.now proof2.now in
+            cap_rule_of (plain_of self.now) ≡ Lowered → EachSaltedPair c p q (λ o u. o.index ≡ u.index) →
+            IfOk result (λ found. IsNone found ↔ EachSaltedPair c p q (λ o u. o ≡ u)) }
+
+        // Under the lowered rule, something is found where two queries answer one row of any matrix, or its salts, in
+        // two ways.
+        ensures lowered_two_ways { let c = salted_terms_of H.hash C.compression D self.now dimensions.now in
+            let p = salted_pruned_lent indices1.now rows1.now proof1.now in
+            let q = salted_pruned_lent indices2.now rows2.now proof2.now in
+            cap_rule_of (plain_of self.now) ≡ Lowered → SomeSaltedPair c p q (ConflictSomewhere c) →
+            IfOk result (λ found. IsSome found) }
     {
         let (salts1, pruned1) = proof1;
         let salted1 = SaltedSets::new(alloc, dimensions, SALT_ELEMS, rows1, salts1)?;

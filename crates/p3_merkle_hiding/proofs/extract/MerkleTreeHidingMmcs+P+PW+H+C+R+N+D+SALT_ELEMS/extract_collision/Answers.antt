@@ -15,8 +15,8 @@ use Rattle.p3_support.specs.Shown.{roots_of, row_lists}
 use Rattle.p3_merkle_hiding.specs.HidingSchemes.{plain_of, salted_lent}
 use Rattle.p3_merkle_salts.specs.SaltRefusals.{salted_refusal_under, salted_rows_refusal}
 use Rattle.p3_merkle_salts.specs.SaltedOpenings.{joined, salted_rows, widened}
-use Rattle.p3_merkle_hiding.proofs.ExtractedFacts.{extracted_salted, failed_salted, lowered_alike, nothing_found}
-use Rattle.p3_merkle_hiding.proofs.ExtractedFacts.{second_refused}
+use Rattle.p3_merkle_salts.proofs.SaltedExtractionFacts.{salted_told}
+use Rattle.p3_merkle_hiding.proofs.ExtractedFacts.{extracted_salted, failed_salted, second_refused}
 use Rattle.p3_merkle_hiding.proofs.SaltedAnswers.{refusal_joined, refused_before, said}
 use Rattle.p3_merkle_hiding.proofs.extract.MerkleTreeHidingMmcs+P+PW+H+C+R+N+D+SALT_ELEMS.extract_collision.Goals as goal
 
@@ -43,10 +43,15 @@ returns-in_err-salted1 g c =
     before in
     let answer = refused_before r (salted_refusal_under same e ds wide cap o)
     (salted_refusal_under same e ds wide cap u) err first in
+    let extraction = failed_salted eq same (cap_rule_of plain) e ds wide cap g.met.P.PackedValue.eq_is_equality
+    g.met.PW.PackedValue.eq_is_equality plain.arity all o u r err answer in
+    let told = salted_told eq same (cap_rule_of plain) e ds wide cap o u r extraction in
     record {
-      extraction = failed_salted eq same (cap_rule_of plain) e ds wide cap g.met.P.PackedValue.eq_is_equality
-          g.met.PW.PackedValue.eq_is_equality plain.arity all o u r err answer;
-      lowered_one_index = λ lowered one. nothing_found _ r err;
+      extraction = extraction;
+      one_index = told.one_index;
+      two_ways = told.two_ways;
+      lowered_one_index = told.lowered_one_index;
+      lowered_two_ways = told.lowered_two_ways;
     }
 
 pub returns-in-Ok : goal.returns-in-Ok
@@ -93,11 +98,13 @@ returns-in-Ok g c =
     (λ i. first_pair
     (λ a b. difference_of eq same (terms (are_wide i)) (opening_of c.args.index1 (are_joined i) (siblings i))
     (opening_of c.args.index2 (are_joined2 i) (siblings2 i))) 1 1) made.found) in
+    let told = salted_told eq same (cap_rule_of plain) e ds wide cap o u r extraction in
     record {
       extraction = extraction;
-      lowered_one_index = λ lowered one. lowered_alike eq same (cap_rule_of plain) e ds wide cap
-          g.met.P.PackedValue.eq_is_equality g.met.PW.PackedValue.eq_is_equality plain.arity all o u r one
-          extraction.accepted (extraction.lowered_one_index lowered (λ i j h k. one));
+      one_index = told.one_index;
+      two_ways = told.two_ways;
+      lowered_one_index = told.lowered_one_index;
+      lowered_two_ways = told.lowered_two_ways;
     }
 
 pub returns : goal.returns
@@ -139,5 +146,8 @@ returns g c =
     record {
       extraction = failed_salted eq same (cap_rule_of plain) e ds wide cap g.met.P.PackedValue.eq_is_equality
           g.met.PW.PackedValue.eq_is_equality plain.arity all o u (Err c.unwrap_or.result) refl answer;
+      one_index = λ one. tt;
+      two_ways = λ conflict. tt;
       lowered_one_index = λ lowered one. tt;
+      lowered_two_ways = λ lowered conflict. tt;
     }

@@ -15,6 +15,7 @@ use Rattle.p3_support.specs.Shown.{roots_of, row_sets}
 use Rattle.p3_merkle_hiding.specs.HidingSchemes.{plain_of, salted_pruned_lent}
 use Rattle.p3_merkle_salts.specs.SaltRefusals.{salted_pruned_refusal_under, salted_sets_refusal}
 use Rattle.p3_merkle_salts.specs.SaltedOpenings.{joined_sets, salted_sets, widened}
+use Rattle.p3_merkle_salts.proofs.SaltedExtractionFacts.{salted_pruned_told}
 use Rattle.p3_merkle_hiding.proofs.ExtractedFacts.{extracted_salted_pruned, failed_salted_pruned, second_refused}
 use Rattle.p3_merkle_hiding.proofs.SaltedAnswers.{refusal_joined_sets, refused_before}
 use Rattle.p3_merkle_hiding.proofs.extract.MerkleTreeHidingMmcs+P+PW+H+C+R+N+D+SALT_ELEMS.extract_collision_multi.Goals as goal
@@ -42,8 +43,16 @@ returns-in_err-salted1 g c =
     (pruned_refusal_under eq same wide cap (joined_sets o)) err before in
     let answer = refused_before r (salted_pruned_refusal_under eq same e ds wide cap o)
     (salted_pruned_refusal_under eq same e ds wide cap u) err first in
-    failed_salted_pruned eq same (cap_rule_of plain) e ds wide cap g.met.P.PackedValue.eq_is_equality
-    g.met.PW.PackedValue.eq_is_equality plain.arity all o u r err answer
+    let extraction = failed_salted_pruned eq same (cap_rule_of plain) e ds wide cap g.met.P.PackedValue.eq_is_equality
+    g.met.PW.PackedValue.eq_is_equality plain.arity all o u r err answer in
+    let told = salted_pruned_told eq same (cap_rule_of plain) e ds wide cap o u r extraction in
+    record {
+      extraction = extraction;
+      one_index = told.one_index;
+      two_ways = told.two_ways;
+      lowered_one_index = told.lowered_one_index;
+      lowered_two_ways = told.lowered_two_ways;
+    }
 
 pub returns-in-Ok : goal.returns-in-Ok
 returns-in-Ok g c =
@@ -77,7 +86,7 @@ returns-in-Ok g c =
     let joined2 : q ≡ joined_sets u = λ i. pruned_of u.indices (sets2 i) u.digests in
     let r = c.extract_collision_multi.result in
     let made = c.extract_collision_multi.ensures in
-    extracted_salted_pruned eq same (cap_rule_of plain) e ds wide cap
+    let extraction = extracted_salted_pruned eq same (cap_rule_of plain) e ds wide cap
     g.met.P.PackedValue.eq_is_equality g.met.PW.PackedValue.eq_is_equality plain.arity all o u (found_pair r)
     (subst (AnswersUnlessMemory (found_pair r))
     (λ i. option_or (refusal_joined_sets eq same e ds given terms cap o p none are_wide joined1 i)
@@ -86,7 +95,15 @@ returns-in-Ok g c =
     (λ i. first_pair
     (λ a b. difference_of eq same (terms (are_wide i)) (opening_at (terms (are_wide i)) (joined1 i) a)
     (opening_at (terms (are_wide i)) (joined2 i) b))
-    (length o.indices) (length u.indices)) made.found)
+    (length o.indices) (length u.indices)) made.found) in
+    let told = salted_pruned_told eq same (cap_rule_of plain) e ds wide cap o u r extraction in
+    record {
+      extraction = extraction;
+      one_index = told.one_index;
+      two_ways = told.two_ways;
+      lowered_one_index = told.lowered_one_index;
+      lowered_two_ways = told.lowered_two_ways;
+    }
 
 pub returns : goal.returns
 returns g c =
@@ -123,5 +140,11 @@ returns g c =
     (salted_pruned_refusal_under eq same e ds wide cap o) (salted_sets_refusal e ds u.rows u.salts)
     (pruned_refusal_under eq same wide cap (joined_sets u)) passed second
     (c.unwrap_or.ensures ∙ ap (λ z. unwrap_or z c.in-Err.error) c.err.ensures.value) in
-    failed_salted_pruned eq same (cap_rule_of plain) e ds wide cap g.met.P.PackedValue.eq_is_equality
-    g.met.PW.PackedValue.eq_is_equality plain.arity all o u (Err c.unwrap_or.result) refl answer
+    record {
+      extraction = failed_salted_pruned eq same (cap_rule_of plain) e ds wide cap g.met.P.PackedValue.eq_is_equality
+          g.met.PW.PackedValue.eq_is_equality plain.arity all o u (Err c.unwrap_or.result) refl answer;
+      one_index = λ each. tt;
+      two_ways = λ some. tt;
+      lowered_one_index = λ lowered each. tt;
+      lowered_two_ways = λ lowered some. tt;
+    }
