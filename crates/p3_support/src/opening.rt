@@ -172,34 +172,3 @@ impl<'a, T, Proof> From<&'a BatchOpening<T, Proof>> for BatchOpeningRef<'a, T, P
         }
     }
 }
-
-/// A borrowed opening of several indices by one proof. Each index is a query, and has a row set.
-#[derive_where(Clone, Copy)]
-#[derive_where(Debug; T, Proof)]
-pub struct PrunedOpeningRef<'a, T, Proof> {
-    /// The index of each query.
-    pub indices: &'a [usize],
-    /// The row set of each query: one row of each matrix, in input order.
-    pub opened_values: &'a [Vec<Vec<T>>],
-    /// The proof of all rows.
-    pub opening_proof: &'a Proof,
-}
-
-impl<'a, T, Proof> PrunedOpeningRef<'a, T, Proof> {
-    /// The opening of these indices, by the row set of each and one proof.
-    pub fn new(
-        indices: &'a [usize],
-        opened_values: &'a [Vec<Vec<T>>],
-        opening_proof: &'a Proof,
-    ) -> PrunedOpeningRef<'a, T, Proof>
-        ensures indices { result.indices.now ≡ indices.now }
-        ensures values { result.opened_values.now ≡ opened_values.now }
-        ensures proof { result.opening_proof.now ≡ opening_proof.now }
-    {
-        PrunedOpeningRef {
-            indices,
-            opened_values,
-            opening_proof,
-        }
-    }
-}
