@@ -1,3 +1,4 @@
+pub mod Answers
 pub mod Batches
 pub mod Fold
 pub mod Lists
