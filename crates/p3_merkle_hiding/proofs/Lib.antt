@@ -3,3 +3,4 @@ mod SplitFacts
 mod CommitFacts
 mod ExtractedFacts
 mod SaltedCommitmentFacts
+mod SchemeFacts

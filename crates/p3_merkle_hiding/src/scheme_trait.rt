@@ -1,22 +1,34 @@
 //! The salted scheme as one of the schemes that commit to matrices.
 
-ghost use Rattle.std.specs.Prelude.{◌≡◌, ◌<◌, All, IfErr, IfOk, IsOk, map};
+ghost use Rattle.std.specs.Prelude.{◌≡◌, ◌⊎◌, ◌<◌, [], All, IfErr, IfOk, IsOk, List, OnOk, map};
 ghost use Rattle.p3_merkle_prover.specs.Parts.{layers_of, matrices_of, tree_batch};
 ghost use Rattle.p3_merkle_core.specs.Commitments.{IsCommitment};
 ghost use Rattle.p3_merkle_core.specs.Geometry.{heights, shape_of, halved_index};
-ghost use Rattle.p3_merkle_core.specs.Nodes.{shape};
+ghost use Rattle.p3_merkle_core.specs.Nodes.{dimensions_of, shape};
+ghost use Rattle.p3_merkle_core.specs.Openings.{honest_rows, node_in, siblings_by};
+ghost use Rattle.p3_merkle_core.specs.Presented.{IsVerdict};
+ghost use Rattle.p3_merkle_core.specs.Pruning.{boundary_by};
+ghost use Rattle.p3_merkle_core.specs.Refusals.{AnswersUnlessMemory};
+ghost use Rattle.p3_merkle_core.specs.Views.{batch_of};
 ghost use Rattle.p3_merkle_core.specs.declared.error.MerkleTreeError.TheVariants.{OutOfMemory};
 ghost use Rattle.p3_merkle_tree.specs.Inner.CommitmentLaws.{at_same, row_in_matrix, tallest_at_index};
-ghost use Rattle.p3_merkle_tree.specs.Schemes.{cap_layer_of, scheme_functions, terms_over, IsSameScheme};
-ghost use Rattle.p3_support.specs.Batches.{greatest};
+ghost use Rattle.p3_merkle_tree.specs.Schemes.{cap_layer_of, cap_layer_over, scheme_functions, terms_over};
+ghost use Rattle.p3_merkle_tree.specs.Schemes.{IsSameScheme};
+ghost use Rattle.p3_support.specs.Batches.{dimensions_in, greatest, rows_in};
 ghost use Rattle.p3_support.specs.Pairs.{left_of};
 ghost use Rattle.p3_support.specs.Shown.{roots_of, row_lists, row_sets};
-ghost use Rattle.p3_merkle_hiding.specs.HidingSchemes.{plain_of, salted_lent, salted_terms_of};
+ghost use Rattle.p3_merkle_hiding.specs.HidingSchemes.{generator_of, plain_of, salted_lent, salted_made};
+ghost use Rattle.p3_merkle_hiding.specs.HidingSchemes.{salted_pruned_lent, salted_pruned_made, salted_terms_of};
 ghost use Rattle.p3_merkle_hiding.specs.Inner.SaltedCommitmentLaws.{each_salted_shown, left_lawful, salted_rows_fit};
 ghost use Rattle.p3_merkle_hiding.specs.Inner.SaltedCommitmentLaws.{same_plain_is_equivalence};
 ghost use Rattle.p3_merkle_hiding.specs.SaltedCommitments.{CanCommitSalted, IsSaltedCommitment, IsSaltedShown};
+ghost use Rattle.p3_merkle_salts.specs.Salted.{after_salts, salted_batch, IsAfterSome};
+ghost use Rattle.p3_merkle_salts.specs.SaltRefusals.{salted_commit_refusal, salted_pruned_refusal_under};
+ghost use Rattle.p3_merkle_salts.specs.SaltRefusals.{salted_refusal_under};
 ghost use Rattle.p3_merkle_salts.specs.SaltedOpenings.{salted_of, salted_pruned_of, widened, IsSaltedAccepted};
 ghost use Rattle.p3_merkle_salts.specs.SaltedOpenings.{IsSaltedPrunedAccepted};
+ghost use Rattle.p3_merkle_salts.specs.SaltedPresented.{presented_salted, presented_salted_pruned};
+ghost use Rattle.p3_merkle_salts.specs.SaltedTrees.{right_batch, HaveSaltColumns};
 
 use crate::hiding_mmcs::{MerkleTreeHidingMmcs, SaltedMultiProof, SaltedProof, SaltedTree};
 use p3_merkle_core::error::MerkleTreeError;
@@ -33,7 +45,7 @@ use rand_core::CryptoRng;
 use std::alloc::Global;
 
 /// The salted scheme as an `Mmcs`. The commitment is the cap of a tree over matrices beside their salts. A commitment
-/// changes the scheme in its generator alone.
+/// changes the scheme in its generator alone. Each call is the scheme's own call of its name, with the same errors.
 impl<
     P: PackedValue,
     PW: PackedValue,
@@ -64,6 +76,9 @@ where
 
     ghost can_commit = { λ ms. CanCommitSalted M.height_of M.width_of M.row_of SALT_ELEMS ms };
 
+    ghost commit_refusal = { λ ms.
+        salted_commit_refusal SALT_ELEMS (dimensions_in M.height_of M.width_of ms) };
+
     ghost matrices_in = { λ tree. map left_of (matrices_of tree) };
 
     ghost commits_to = { λ s cap tree. let b = tree_batch tree in
@@ -85,6 +100,16 @@ where
         (roots_of cap)
         (salted_pruned_of indices sets (row_sets proof.0.items) proof.1.sibling_hashes.items) };
 
+    ghost refusal = { λ s cap dimensions index rows proof.
+        salted_refusal_under PW.Value.eq SALT_ELEMS dimensions
+        (salted_terms_of H.hash C.compression D s dimensions) (roots_of cap)
+        (salted_of index rows (row_lists proof.0.items) proof.1.items) };
+
+    ghost refusal_of_all = { λ s cap dimensions indices sets proof.
+        salted_pruned_refusal_under P.Value.eq PW.Value.eq SALT_ELEMS dimensions
+        (salted_terms_of H.hash C.compression D s dimensions) (roots_of cap)
+        (salted_pruned_of indices sets (row_sets proof.0.items) proof.1.sibling_hashes.items) };
+
     fn commit(
         &mut self,
         alloc: Global,
@@ -97,6 +122,24 @@ where
         ensures commitment { IfOk result (λ made. let b = tree_batch made.1 in
             IsSaltedCommitment SALT_ELEMS (terms_over H.hash C.compression D (plain_of self.new) (shape b))
             (roots_of made.0) b (layers_of made.1) (matrices_of made.1)) }
+        ensures answer { AnswersUnlessMemory result
+            (salted_commit_refusal SALT_ELEMS (dimensions_in M.height_of M.width_of matrices.items)) }
+        ensures columns { IfOk result (λ made. HaveSaltColumns SALT_ELEMS (matrices_of made.1)) }
+        ensures batch { let b = batch_of M.height_of M.width_of M.row_of N matrices.items in
+            let drawn = R.stream (generator_of self.old) in
+            IfOk result (λ made. tree_batch made.1 ≡ salted_batch P.Value.of_salt_word SALT_ELEMS b drawn) }
+        ensures committed { let b = batch_of M.height_of M.width_of M.row_of N matrices.items in
+            let c = salted_terms_of H.hash C.compression D self.old (dimensions_of b.matrices) in
+            let salted = salted_batch P.Value.of_salt_word SALT_ELEMS b (R.stream (generator_of self.old)) in
+            IfOk result (λ made. IsCommitment c (roots_of made.0) salted (layers_of made.1)) }
+        ensures rest { let b = batch_of M.height_of M.width_of M.row_of N matrices.items in
+            let drawn = R.stream (generator_of self.old) in
+            OnOk result (R.stream (generator_of self.new) ≡ after_salts SALT_ELEMS b.matrices drawn) }
+        ensures further { let b = batch_of M.height_of M.width_of M.row_of N matrices.items in
+            let drawn = R.stream (generator_of self.old) in
+            IsAfterSome SALT_ELEMS b.matrices drawn (R.stream (generator_of self.new)) }
+        ensures untouched { IfErr result (λ e. (e ≡ OutOfMemory) ⊎ (self.new ≡ self.old)) }
+        ensures scheme { plain_of self.new ≡ plain_of self.old }
         ensures memory { CanCommitSalted M.height_of M.width_of M.row_of SALT_ELEMS matrices.items →
             IfErr result (λ e. e ≡ OutOfMemory) }
     {
@@ -108,7 +151,27 @@ where
         alloc: Global,
         index: usize,
         prover_data: &Self::ProverData,
-    ) -> Result<BatchOpening<P::Value, Self::Proof>, Self::Error> {
+    ) -> Result<BatchOpening<P::Value, Self::Proof>, Self::Error>
+        requires { index < greatest (map M.height_of (map left_of (matrices_of prover_data.now))) }
+        ensures rows { let ms = map left_of (matrices_of prover_data.now) in
+            IfOk result (λ o. row_lists o.opened_values.items ≡
+            rows_in M.height_of M.row_of halved_index (greatest (map M.height_of ms)) ms index) }
+        ensures salts { let salts = honest_rows (right_batch N (matrices_of prover_data.now)) index in
+            IfOk result (λ o. row_lists o.opening_proof.0.items ≡ salts) }
+        ensures siblings { let s = shape (tree_batch prover_data.now) in
+            let cap_layer = cap_layer_over (plain_of self.now) s in
+            let siblings = siblings_by (node_in [] (layers_of prover_data.now)) s cap_layer index in
+            IfOk result (λ o. o.opening_proof.1.items ≡ siblings) }
+        ensures accepted { let b = tree_batch prover_data.now in
+            let pairs = matrices_of prover_data.now in
+            let dimensions = dimensions_in M.height_of M.width_of (map left_of pairs) in
+            (roots : List (List PW.Value)) →
+            IsSaltedCommitment SALT_ELEMS (terms_over H.hash C.compression D (plain_of self.now) (shape b)) roots b
+            (layers_of prover_data.now) pairs →
+            IfOk result (λ o. IsSaltedAccepted SALT_ELEMS dimensions
+            (salted_terms_of H.hash C.compression D self.now dimensions) roots (salted_made index o)) }
+        ensures memory { IfErr result (λ e. e ≡ OutOfMemory) }
+    {
         tell_index(prover_data, index);
         self.open_batch(alloc, index, prover_data)
     }
@@ -133,12 +196,9 @@ where
         index: usize,
         opening: BatchOpeningRef<'_, P::Value, Self::Proof>,
     ) -> Result<(), Self::Error>
-        ensures accepted { IsOk result → IsSaltedAccepted SALT_ELEMS dimensions.now
-            (salted_terms_of H.hash C.compression D self.now dimensions.now)
-            (roots_of commitment.now) (salted_lent index opening.entry) }
-        ensures memory { IsSaltedAccepted SALT_ELEMS dimensions.now
-            (salted_terms_of H.hash C.compression D self.now dimensions.now)
-            (roots_of commitment.now) (salted_lent index opening.entry) → IfErr result (λ e. e ≡ OutOfMemory) }
+        ensures { let c = salted_terms_of H.hash C.compression D self.now dimensions.now in
+            let o = salted_lent index opening.entry in
+            IsVerdict (presented_salted PW.Value.eq SALT_ELEMS dimensions.now c (roots_of commitment.now) o) result }
     {
         self.verify_batch(alloc, commitment, dimensions, index, opening)
     }
@@ -148,7 +208,29 @@ where
         alloc: Global,
         indices: &[usize],
         prover_data: &Self::ProverData,
-    ) -> Result<(Vec<Vec<Vec<P::Value>>>, Self::MultiProof), Self::Error> {
+    ) -> Result<(Vec<Vec<Vec<P::Value>>>, Self::MultiProof), Self::Error>
+        requires { let ms = map left_of (matrices_of prover_data.now) in
+            All (λ index. index < greatest (map M.height_of ms)) indices.now }
+        ensures rows { let ms = map left_of (matrices_of prover_data.now) in
+            IfOk result (λ o. row_sets o.0.items ≡
+            map (rows_in M.height_of M.row_of halved_index (greatest (map M.height_of ms)) ms) indices.now) }
+        ensures salts { let salts = map (honest_rows (right_batch N (matrices_of prover_data.now))) indices.now in
+            IfOk result (λ o. row_sets o.1.0.items ≡ salts) }
+        ensures digests { let s = shape (tree_batch prover_data.now) in
+            let cap_layer = cap_layer_over (plain_of self.now) s in
+            IfOk result (λ o. o.1.1.sibling_hashes.items ≡ boundary_by
+            (node_in [] (layers_of prover_data.now)) s indices.now cap_layer) }
+        ensures accepted { let b = tree_batch prover_data.now in
+            let pairs = matrices_of prover_data.now in
+            let dimensions = dimensions_in M.height_of M.width_of (map left_of pairs) in
+            (roots : List (List PW.Value)) →
+            IsSaltedCommitment SALT_ELEMS (terms_over H.hash C.compression D (plain_of self.now) (shape b)) roots b
+            (layers_of prover_data.now) pairs →
+            IfOk result (λ o. IsSaltedPrunedAccepted SALT_ELEMS dimensions
+            (salted_terms_of H.hash C.compression D self.now dimensions) roots
+            (salted_pruned_made indices.now o.0 o.1)) }
+        ensures memory { IfErr result (λ e. e ≡ OutOfMemory) }
+    {
         tell_indices(prover_data, indices);
         self.open_multi_batch(alloc, indices, prover_data)
     }
@@ -161,7 +243,12 @@ where
         indices: &[usize],
         rows: &[Vec<Vec<P::Value>>],
         proof: &Self::MultiProof,
-    ) -> Result<(), Self::Error> {
+    ) -> Result<(), Self::Error>
+        ensures { let c = salted_terms_of H.hash C.compression D self.now dimensions.now in
+            let p = salted_pruned_lent indices.now rows.now proof.now in
+            IsVerdict (presented_salted_pruned P.Value.eq PW.Value.eq SALT_ELEMS dimensions.now c
+            (roots_of commitment.now) p) result }
+    {
         self.verify_multi_batch(alloc, commitment, dimensions, indices, rows, proof)
     }
 

@@ -1,20 +1,26 @@
 //! The scheme as one of the schemes that commit to matrices.
 
-ghost use Rattle.std.specs.Prelude.{◌≡◌, ◌<◌, All, IfErr, IfOk, IsOk, map};
+ghost use Rattle.std.specs.Prelude.{◌≡◌, ◌<◌, ◌↔◌, All, IfErr, IfOk, IsOk, List, length, map};
 ghost use Rattle.p3_merkle_prover.specs.Parts.{layers_of, matrices_of, tree_batch};
-ghost use Rattle.p3_merkle_core.specs.Commitments.{IsCommitment, IsShown};
+ghost use Rattle.p3_merkle_core.specs.Commitments.{IsCommitment, IsOwn, IsShown};
+ghost use Rattle.p3_merkle_core.specs.Gate.{gate_refusal};
 ghost use Rattle.p3_merkle_core.specs.Geometry.{heights, shape_of, IsLawful, halved_index};
 ghost use Rattle.p3_merkle_core.specs.Nodes.{shape};
-ghost use Rattle.p3_merkle_core.specs.Openings.{opening_of};
+ghost use Rattle.p3_merkle_core.specs.Openings.{honest, opening_in_layers, opening_of};
 ghost use Rattle.p3_merkle_core.specs.Checks.{IsAccepted};
-ghost use Rattle.p3_merkle_core.specs.Pruning.{pruned_of, IsPrunedAccepted};
+ghost use Rattle.p3_merkle_core.specs.Presented.{presented_pruned, IsVerdict};
+ghost use Rattle.p3_merkle_core.specs.Pruning.{honest_query, pruned_in_layers, pruned_len, pruned_of, restored_paths};
+ghost use Rattle.p3_merkle_core.specs.Pruning.{IsLeast, IsPrunedAccepted};
+ghost use Rattle.p3_merkle_core.specs.Refusals.{answer_under, pruned_refusal_under, refusal_under};
+ghost use Rattle.p3_merkle_core.specs.Refusals.{AnswersUnlessMemory};
 ghost use Rattle.p3_merkle_core.specs.declared.error.MerkleTreeError.TheVariants.{OutOfMemory};
 ghost use Rattle.p3_merkle_tree.specs.Inner.CommitmentLaws.{at_same, each_shown, row_in_matrix, same_is_equivalence};
 ghost use Rattle.p3_merkle_tree.specs.Inner.CommitmentLaws.{shown_rows_fit, tallest_at_index};
-ghost use Rattle.p3_merkle_tree.specs.Schemes.{cap_layer_of, scheme_functions, terms_of, terms_over, IsSameScheme};
-ghost use Rattle.p3_support.specs.Batches.{greatest};
-ghost use Rattle.p3_support.specs.Shown.{roots_of};
-ghost use Rattle.p3_merkle_core.specs.Views.{opening_lent, heights_in};
+ghost use Rattle.p3_merkle_tree.specs.Schemes.{cap_layer_of, cap_layer_over, scheme_functions, terms_of, terms_over};
+ghost use Rattle.p3_merkle_tree.specs.Schemes.{IsSameScheme};
+ghost use Rattle.p3_support.specs.Batches.{dimensions_in, greatest, rows_in};
+ghost use Rattle.p3_support.specs.Shown.{roots_of, row_lists, row_sets};
+ghost use Rattle.p3_merkle_core.specs.Views.{batch_of, heights_in, multi_made, opening_lent, opening_made, pruned_lent};
 
 use crate::mmcs::MerkleTreeMmcs;
 use p3_merkle_core::error::MerkleTreeError;
@@ -28,7 +34,8 @@ use p3_support::opening::{BatchOpening, BatchOpeningRef, MerkleCap};
 use p3_support::packed::PackedValue;
 use std::alloc::Global;
 
-/// The scheme as an `Mmcs`. The prover keeps the tree, and the commitment is its cap.
+/// The scheme as an `Mmcs`. The prover keeps the tree, and the commitment is its cap. Each call is the scheme's own
+/// call of its name, with the same errors.
 impl<
     P: PackedValue,
     PW: PackedValue,
@@ -54,6 +61,8 @@ impl<
 
     ghost can_commit = { λ ms. IsLawful (heights_in M.height_of M.width_of M.row_of ms) };
 
+    ghost commit_refusal = { λ ms. gate_refusal (heights_in M.height_of M.width_of M.row_of ms) };
+
     ghost matrices_in = { λ tree. matrices_of tree };
 
     ghost commits_to = { λ s cap tree. let b = tree_batch tree in
@@ -72,6 +81,14 @@ impl<
         IsPrunedAccepted (terms_of H.hash C.compression D s dimensions) (roots_of cap)
         (pruned_of indices sets proof.sibling_hashes.items) };
 
+    ghost refusal = { λ s cap dimensions index rows siblings.
+        refusal_under PW.Value.eq (terms_of H.hash C.compression D s dimensions) (roots_of cap)
+        (opening_of index rows siblings.items) };
+
+    ghost refusal_of_all = { λ s cap dimensions indices sets proof.
+        pruned_refusal_under P.Value.eq PW.Value.eq (terms_of H.hash C.compression D s dimensions) (roots_of cap)
+        (pruned_of indices sets proof.sibling_hashes.items) };
+
     fn commit(
         &mut self,
         alloc: Global,
@@ -83,6 +100,12 @@ impl<
         ensures commitment { IfOk result (λ made. let b = tree_batch made.1 in
             IsCommitment (terms_over H.hash C.compression D self.new (shape b)) (roots_of made.0) b
             (layers_of made.1)) }
+        ensures answer { AnswersUnlessMemory result
+            (gate_refusal (heights_in M.height_of M.width_of M.row_of matrices.items)) }
+        ensures unchanged { self.new ≡ self.old }
+        ensures committed { let b = batch_of M.height_of M.width_of M.row_of N matrices.items in
+            let c = terms_over H.hash C.compression D self.old (shape b) in
+            IfOk result (λ made. IsCommitment c (roots_of made.0) b (layers_of made.1)) }
         ensures memory { IsLawful (heights_in M.height_of M.width_of M.row_of matrices.items) →
             IfErr result (λ e. e ≡ OutOfMemory) }
     {
@@ -94,7 +117,26 @@ impl<
         alloc: Global,
         index: usize,
         prover_data: &Self::ProverData,
-    ) -> Result<BatchOpening<P::Value, Self::Proof>, Self::Error> {
+    ) -> Result<BatchOpening<P::Value, Self::Proof>, Self::Error>
+        requires { index < greatest (map M.height_of (matrices_of prover_data.now)) }
+        ensures rows { let ms = matrices_of prover_data.now in
+            IfOk result (λ o. row_lists o.opened_values.items ≡
+            rows_in M.height_of M.row_of halved_index (greatest (map M.height_of ms)) ms index) }
+        ensures opened { let b = tree_batch prover_data.now in
+            let cap_layer = cap_layer_over self.now (shape b) in
+            IfOk result (λ o. opening_made index o ≡ opening_in_layers b (layers_of prover_data.now) cap_layer index) }
+        ensures honest { let b = tree_batch prover_data.now in
+            let c = terms_over H.hash C.compression D self.now (shape b) in
+            IsOwn c b (layers_of prover_data.now) →
+            IfOk result (λ o. opening_made index o ≡ honest c.functions b c.layer index) }
+        ensures accepted { let b = tree_batch prover_data.now in
+            let dimensions = dimensions_in M.height_of M.width_of (matrices_of prover_data.now) in
+            (roots : List (List PW.Value)) →
+            IsCommitment (terms_over H.hash C.compression D self.now (shape b)) roots b (layers_of prover_data.now) →
+            IfOk result (λ o. IsAccepted (terms_of H.hash C.compression D self.now dimensions) roots
+            (opening_made index o)) }
+        ensures memory { IfErr result (λ e. e ≡ OutOfMemory) }
+    {
         tell_index(prover_data, index);
         self.open_batch(alloc, index, prover_data)
     }
@@ -119,10 +161,10 @@ impl<
         index: usize,
         opening: BatchOpeningRef<'_, P::Value, Self::Proof>,
     ) -> Result<(), Self::Error>
-        ensures accepted { IsOk result → IsAccepted (terms_of H.hash C.compression D self.now dimensions.now)
-            (roots_of commitment.now) (opening_lent index opening.entry) }
-        ensures memory { IsAccepted (terms_of H.hash C.compression D self.now dimensions.now)
-            (roots_of commitment.now) (opening_lent index opening.entry) → IfErr result (λ e. e ≡ OutOfMemory) }
+        ensures answer { let c = terms_of H.hash C.compression D self.now dimensions.now in
+            result ≡ answer_under PW.Value.eq c (roots_of commitment.now) (opening_lent index opening.entry) }
+        ensures accepted { let c = terms_of H.hash C.compression D self.now dimensions.now in
+            IsOk result ↔ IsAccepted c (roots_of commitment.now) (opening_lent index opening.entry) }
     {
         self.verify_batch(commitment, dimensions, index, opening)
     }
@@ -132,10 +174,36 @@ impl<
         alloc: Global,
         indices: &[usize],
         prover_data: &Self::ProverData,
-    ) -> Result<(Vec<Vec<Vec<P::Value>>>, Self::MultiProof), Self::Error> {
+    ) -> Result<(Vec<Vec<Vec<P::Value>>>, Self::MultiProof), Self::Error>
+        requires { All (λ index. index < greatest (map M.height_of (matrices_of prover_data.now))) indices.now }
+        ensures rows { let ms = matrices_of prover_data.now in
+            IfOk result (λ o. row_sets o.0.items ≡
+            map (rows_in M.height_of M.row_of halved_index (greatest (map M.height_of ms)) ms) indices.now) }
+        ensures opened { let b = tree_batch prover_data.now in
+            let cap_layer = cap_layer_over self.now (shape b) in
+            let in_layers = pruned_in_layers b (layers_of prover_data.now) cap_layer indices.now in
+            IfOk result (λ o. multi_made indices.now o ≡ in_layers) }
+        ensures least { let s = shape (tree_batch prover_data.now) in
+            let cap_layer = cap_layer_over self.now s in
+            IfOk result (λ o. IsLeast s indices.now cap_layer (length (multi_made indices.now o).digests)) }
+        ensures honest { let b = tree_batch prover_data.now in
+            let c = terms_over H.hash C.compression D self.now (shape b) in
+            IsOwn c b (layers_of prover_data.now) →
+            IfOk result (λ o. multi_made indices.now o ≡ honest_query c.functions b c.layer indices.now) }
+        ensures accepted { let b = tree_batch prover_data.now in
+            let dimensions = dimensions_in M.height_of M.width_of (matrices_of prover_data.now) in
+            (roots : List (List PW.Value)) →
+            IsCommitment (terms_over H.hash C.compression D self.now (shape b)) roots b (layers_of prover_data.now) →
+            IfOk result (λ o. IsPrunedAccepted (terms_of H.hash C.compression D self.now dimensions) roots
+            (multi_made indices.now o)) }
+        ensures restored { let b = tree_batch prover_data.now in
+            let c = terms_over H.hash C.compression D self.now (shape b) in
+            IsOwn c b (layers_of prover_data.now) → IfOk result (λ o. restored_paths c (multi_made indices.now o) ≡
+            map (λ i. (i, (honest c.functions b c.layer i).siblings)) indices.now) }
+        ensures memory { IfErr result (λ e. e ≡ OutOfMemory) }
+    {
         tell_indices(prover_data, indices);
-        let opening = self.open_batch_pruned(alloc, indices, prover_data)?;
-        Ok((opening.opened_values, opening.pruned_proof))
+        self.open_multi_batch(alloc, indices, prover_data)
     }
 
     fn verify_multi_batch(
@@ -146,7 +214,14 @@ impl<
         indices: &[usize],
         rows: &[Vec<Vec<P::Value>>],
         proof: &Self::MultiProof,
-    ) -> Result<(), Self::Error> {
+    ) -> Result<(), Self::Error>
+        ensures verdict { let c = terms_of H.hash C.compression D self.now dimensions.now in
+            let p = pruned_lent indices.now rows.now proof.now in
+            IsVerdict (presented_pruned P.Value.eq PW.Value.eq c (roots_of commitment.now) p) result }
+        ensures count { let cap_layer = cap_layer_of self.now dimensions.now in
+            let count = pruned_len (shape_of N dimensions.now) indices.now cap_layer in
+            IsOk result → length proof.now.sibling_hashes.items ≡ count }
+    {
         self.verify_multi_batch(alloc, commitment, dimensions, indices, rows, proof)
     }
 

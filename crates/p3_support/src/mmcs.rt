@@ -1,6 +1,7 @@
 //! Schemes that commit to matrices of different heights.
-ghost use Rattle.std.specs.Prelude.{◌≡◌, ℕ, ◌<◌, All, IfErr, IfOk, IsOk, List, map};
+ghost use Rattle.std.specs.Prelude.{◌≡◌, ◌⊎◌, ℕ, ◌<◌, All, IfErr, IfOk, IsOk, List, Option, map};
 ghost use Rattle.std.specs.List.{AllZip};
+ghost use Rattle.p3_support.specs.Answers.{AnswersUnless};
 ghost use Rattle.p3_support.specs.Batches.{dimensions_in, greatest, rows_in, FitDimensions, IsEquivalence};
 ghost use Rattle.p3_support.specs.Shown.{row_lists, row_sets};
 ghost use Rattle.p3_support.specs.declared.matrix.Dimensions.{Dimensions};
@@ -40,6 +41,9 @@ pub trait Mmcs<T, M: Matrix<T>> {
     // Matrices that such schemes commit to.
     ghost can_commit: { List M → Type 0 };
 
+    // Why such schemes refuse to commit to some matrices, if they do.
+    ghost commit_refusal: { List M → Option Self.Error };
+
     // The matrices that were committed to, in input order.
     ghost matrices_in: { Self.ProverData → List M };
 
@@ -59,11 +63,19 @@ pub trait Mmcs<T, M: Matrix<T>> {
     ghost accepts_all: { Self → Self.Commitment → List Dimensions → List ℕ → List (List (List T)) → Self.MultiProof →
         Type 0 };
 
+    // Why a proof that rows are those of an index is refused, if it is.
+    ghost refusal: { Self → Self.Commitment → List Dimensions → ℕ → List (List T) → Self.Proof → Option Self.Error };
+
+    // Why one proof of several indices, with a row set for each, is refused, if it is.
+    ghost refusal_of_all: { Self → Self.Commitment → List Dimensions → List ℕ → List (List (List T)) →
+        Self.MultiProof → Option Self.Error };
+
     /// Commits to matrices. It changes the scheme only in its random generator, so earlier commitments stay valid.
     ///
     /// # Errors
     ///
-    /// The reason why the scheme refuses these matrices, or that memory ran out.
+    /// The scheme's refusal of these matrices, where it has one; then the scheme is as it was, its generator too. That
+    /// memory ran out may come at any time; then the generator may have drawn.
     fn commit(
         &mut self,
         alloc: Global,
@@ -73,6 +85,8 @@ pub trait Mmcs<T, M: Matrix<T>> {
         ensures taken { IfOk result (λ made. can_commit matrices.items) }
         ensures matrices { IfOk result (λ made. matrices_in made.1 ≡ matrices.items) }
         ensures commitment { IfOk result (λ made. commits_to self.new made.0 made.1) }
+        ensures answer { AnswersUnless is_out_of_memory result (commit_refusal matrices.items) }
+        ensures untouched { IfErr result (λ e. is_out_of_memory e ⊎ (self.new ≡ self.old)) }
         ensures memory { can_commit matrices.items → IfErr result is_out_of_memory };
 
     /// Opens an index, which must be below the tallest height. The opening has one row of each matrix, in input order,
@@ -119,7 +133,8 @@ pub trait Mmcs<T, M: Matrix<T>> {
     ///
     /// # Errors
     ///
-    /// The reason why the opening is refused, or that memory ran out.
+    /// The scheme's refusal of the opening, where it has one; an accepted opening has none. That memory ran out may
+    /// come at any time.
     fn verify_batch(
         &self,
         alloc: Global,
@@ -130,6 +145,8 @@ pub trait Mmcs<T, M: Matrix<T>> {
     ) -> Result<(), Self::Error>
         ensures accepted { IsOk result → accepts self.now commitment.now dimensions.now index
             (row_lists opening.entry.opened_values.now) opening.entry.opening_proof.now }
+        ensures answer { AnswersUnless is_out_of_memory result (refusal self.now commitment.now dimensions.now index
+            (row_lists opening.entry.opened_values.now) opening.entry.opening_proof.now) }
         ensures memory { accepts self.now commitment.now dimensions.now index
             (row_lists opening.entry.opened_values.now) opening.entry.opening_proof.now →
             IfErr result is_out_of_memory };
@@ -161,7 +178,8 @@ pub trait Mmcs<T, M: Matrix<T>> {
     ///
     /// # Errors
     ///
-    /// The reason why the opening is refused, or that memory ran out.
+    /// The scheme's refusal of the opening, where it has one; an accepted opening has none. That memory ran out may
+    /// come at any time.
     fn verify_multi_batch(
         &self,
         alloc: Global,
@@ -173,6 +191,8 @@ pub trait Mmcs<T, M: Matrix<T>> {
     ) -> Result<(), Self::Error>
         ensures accepted { IsOk result →
             accepts_all self.now commitment.now dimensions.now indices.now (row_sets rows.now) proof.now }
+        ensures answer { AnswersUnless is_out_of_memory result
+            (refusal_of_all self.now commitment.now dimensions.now indices.now (row_sets rows.now) proof.now) }
         ensures memory { accepts_all self.now commitment.now dimensions.now indices.now (row_sets rows.now) proof.now →
             IfErr result is_out_of_memory };
 

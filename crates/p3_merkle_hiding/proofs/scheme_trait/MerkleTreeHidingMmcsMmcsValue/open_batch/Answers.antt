@@ -3,7 +3,7 @@ use Rattle.std.proofs.Common.{◌∙◌, List, ap, map, subst, sym}
 use Rattle.std.specs.Prelude.{◌≡◌, ◌<◌, ℕ, IfOk}
 use Rattle.p3_support.specs.Pairs.{left_of}
 use Rattle.p3_merkle_core.specs.Commitments.{cap_over}
-use Rattle.p3_support.specs.Shown.{roots_of, row_lists}
+use Rattle.p3_support.specs.Shown.{row_lists}
 use Rattle.p3_support.specs.declared.matrix.Dimensions.{Dimensions}
 use Rattle.p3_merkle_prover.specs.Parts.{matrices_of, tree_batch}
 use Rattle.p3_merkle_tree.specs.Inner.CommitmentLaws.{greatest_is, rows_are}
@@ -27,7 +27,7 @@ returns-clause-rows g c =
     (left_lawful (matrices_of tree) tree.lawful) below) c.open_batch.ensures.rows
 
 pub returns-clause-accepted : goal.returns-clause-accepted
-returns-clause-accepted g c = λ commitment own.
+returns-clause-accepted g c = λ roots own.
     let n = g.row.N in
     let e = g.row.SALT_ELEMS in
     let pairs = matrices_of c.args.prover_data.now in
@@ -38,9 +38,9 @@ returns-clause-accepted g c = λ commitment own.
     let r = c.open_batch.result in
     let cap = ap (λ z. cap_over (terms z) b) (sym (wide_is n e pairs own.columns)) ∙ sym own.committed.own_cap in
     let under_cap =
-    subst (λ (roots : List (List _)).
-    IfOk r (λ o. IsSaltedAccepted e ds (terms (widened e ds)) roots (salted_made c.args.index o))) cap
+    subst (λ (cap : List (List _)).
+    IfOk r (λ o. IsSaltedAccepted e ds (terms (widened e ds)) cap (salted_made c.args.index o))) cap
     (c.open_batch.ensures.accepted own.committed.own_layers own.columns) in
     subst (λ (z : List Dimensions).
-    IfOk r (λ o. IsSaltedAccepted e z (terms (widened e z)) (roots_of commitment) (salted_made c.args.index o)))
+    IfOk r (λ o. IsSaltedAccepted e z (terms (widened e z)) roots (salted_made c.args.index o)))
     (dimensions_are g.M.Matrix.height_of g.M.Matrix.width_of g.M.Matrix.row_of (map left_of pairs)) under_cap

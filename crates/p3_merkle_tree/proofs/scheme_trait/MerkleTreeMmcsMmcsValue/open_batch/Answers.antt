@@ -3,7 +3,6 @@ use Rattle.std.proofs.Common.{◌∙◌, List, ap, subst, sym}
 use Rattle.std.proofs.lemmas.Result.{IfOk-weaker}
 use Rattle.p3_merkle_core.specs.Openings.{Opening}
 use Rattle.std.specs.Prelude.{IfOk}
-use Rattle.p3_support.specs.Shown.{roots_of}
 use Rattle.p3_support.specs.declared.matrix.Dimensions.{Dimensions}
 use Rattle.p3_merkle_core.specs.Geometry.{shape_of}
 use Rattle.p3_merkle_core.specs.Nodes.{shape}
@@ -24,7 +23,7 @@ returns-clause-rows g c =
     c.open_batch.ensures.opened
 
 pub returns-clause-accepted : goal.returns-clause-accepted
-returns-clause-accepted g c = λ commitment own.
+returns-clause-accepted g c = λ roots own.
     let scheme = c.args.self.now in
     let tree = c.args.prover_data.now in
     let over = terms_over g.H.CryptographicHasher.hash g.C.PseudoCompressionFunction.compression g.row.D scheme in
@@ -33,6 +32,5 @@ returns-clause-accepted g c = λ commitment own.
     IfOk c.open_batch.result (λ o. IsAccepted (over (shape (tree_batch tree))) cap (opening_made c.args.index o)))
     (sym own.own_cap) (c.open_batch.ensures.accepted own.own_layers) in
     subst (λ (ds : List Dimensions).
-    IfOk c.open_batch.result
-    (λ o. IsAccepted (over (shape_of g.row.N ds)) (roots_of commitment) (opening_made c.args.index o)))
+    IfOk c.open_batch.result (λ o. IsAccepted (over (shape_of g.row.N ds)) roots (opening_made c.args.index o)))
     (dimensions_are g.M.Matrix.height_of g.M.Matrix.width_of g.M.Matrix.row_of (matrices_of tree)) under_cap

@@ -1,6 +1,7 @@
 -- What is opened is what the other call opens, in the words of the trait.
 use Rattle.std.proofs.Common.{◌∙◌, List, ap, subst, sym}
-use Rattle.p3_support.specs.Shown.{roots_of}
+use Rattle.std.proofs.lemmas.Result.{IfOk-weaker}
+use Rattle.std.specs.Prelude.{IfOk}
 use Rattle.p3_support.specs.declared.matrix.Dimensions.{Dimensions}
 use Rattle.p3_merkle_core.specs.Geometry.{shape_of}
 use Rattle.p3_merkle_core.specs.Nodes.{shape}
@@ -9,23 +10,28 @@ use Rattle.p3_merkle_prover.specs.Parts.{matrices_of, tree_batch}
 use Rattle.p3_merkle_tree.specs.Inner.CommitmentLaws.{sets_are}
 use Rattle.p3_merkle_core.proofs.Lists.ViewFacts.{dimensions_are}
 use Rattle.p3_merkle_tree.specs.Schemes.{terms_over}
-use Rattle.p3_merkle_core.specs.Views.{pruned_made}
+use Rattle.p3_merkle_core.specs.Views.{multi_made}
 use Rattle.p3_merkle_tree.proofs.scheme_trait.MerkleTreeMmcsMmcsValue.open_multi_batch.Goals as goal
 
 pub returns-clause-rows : goal.returns-clause-rows
 returns-clause-rows g c =
     let tree = c.args.prover_data.now in
-    ap (λ (z : PrunedOpening _ _). z.rows) c.in_ok-opening.ensures.opened
-    ∙ sets_are g.M.Matrix.height_of g.M.Matrix.width_of g.M.Matrix.row_of g.row.N (matrices_of tree) c.args.indices.now
-    tree.lawful c.tell_indices.ensures
+    let sets = sets_are g.M.Matrix.height_of g.M.Matrix.width_of g.M.Matrix.row_of g.row.N (matrices_of tree)
+    c.args.indices.now tree.lawful c.tell_indices.ensures in
+    IfOk-weaker c.open_multi_batch.result _ _ (λ o opened. ap (λ (z : PrunedOpening _ _). z.rows) opened ∙ sets)
+    c.open_multi_batch.ensures.opened
 
 pub returns-clause-accepted : goal.returns-clause-accepted
-returns-clause-accepted g c = λ commitment own.
-    let scheme = c.args.self.now in
+returns-clause-accepted g c = λ roots own.
+    let is = c.args.indices.now in
     let tree = c.args.prover_data.now in
-    let over = terms_over g.H.CryptographicHasher.hash g.C.PseudoCompressionFunction.compression g.row.D scheme in
-    let made = pruned_made c.args.indices.now c.in_ok-opening.opening in
-    let under_cap = subst (λ (cap : List (List _)). IsPrunedAccepted (over (shape (tree_batch tree))) cap made)
-    (sym own.own_cap) (c.in_ok-opening.ensures.accepted own.own_layers) in
-    subst (λ (ds : List Dimensions). IsPrunedAccepted (over (shape_of g.row.N ds)) (roots_of commitment) made)
+    let over = terms_over g.H.CryptographicHasher.hash g.C.PseudoCompressionFunction.compression g.row.D
+    c.args.self.now in
+    let r = c.open_multi_batch.result in
+    let under_cap =
+    subst (λ (cap : List (List _)).
+    IfOk r (λ o. IsPrunedAccepted (over (shape (tree_batch tree))) cap (multi_made is o)))
+    (sym own.own_cap) (c.open_multi_batch.ensures.accepted own.own_layers) in
+    subst (λ (ds : List Dimensions).
+    IfOk r (λ o. IsPrunedAccepted (over (shape_of g.row.N ds)) roots (multi_made is o)))
     (dimensions_are g.M.Matrix.height_of g.M.Matrix.width_of g.M.Matrix.row_of (matrices_of tree)) under_cap
