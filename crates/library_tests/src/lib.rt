@@ -3,5 +3,6 @@
 
 #[cfg(test)]
 mod merkle;
+pub mod reasons;
 #[cfg(test)]
 mod support;
