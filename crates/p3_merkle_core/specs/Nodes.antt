@@ -2,6 +2,7 @@
 use Rattle.std.specs.Prelude.{◌≡◌, ℕ, zero, suc, ◌+◌, ◌-◌, ◌*◌, ◌<◌, ◌==◌, Bool, nat_lt, if◌then◌else◌, List, [], ◌∷◌}
 use Rattle.std.specs.Prelude.{◌++◌, map, length, replicate, filter, flat_map, All}
 use Rattle.std.specs.List.{list_all, range_with_len}
+use Rattle.p3_support.specs.Batches.{dimensions_in}
 use Rattle.p3_support.specs.declared.matrix.Dimensions.{Dimensions}
 use Rattle.p3_merkle_core.specs.Geometry.{Shape, exponent, layer_exponent, step, levels, raw_len, layer_len, has_rows}
 
@@ -29,7 +30,7 @@ pub record Batch (T : Type 0) : Type 0 where
 
 -- the dimensions of matrices
 abbrev pub dimensions_of : {T : Type 0} → List (Matrix T) → List Dimensions
-dimensions_of ms = map (λ m. record { width = m.width; height = m.height }) ms
+dimensions_of ms = dimensions_in (λ m. m.height) (λ m. m.width) ms
 
 -- the arity and the dimensions of a batch
 abbrev pub shape : {T : Type 0} → Batch T → Shape
