@@ -172,8 +172,9 @@ abbrev pub EachAccepted : {T W : Type 0} → Terms T W → List (List W) → Pru
 EachAccepted c cap p = (k : ℕ) → k < length p.indices → IsAccepted c cap (opening_at c p k)
 
 -- a pruned opening is accepted under a cap: it restores, and each query is accepted with its restored path
-abbrev pub IsPrunedAccepted : {T W : Type 0} → Terms T W → List (List W) → PrunedOpening T W → Type 0
-IsPrunedAccepted c cap p = IsRestorable c.shape c.layer p × EachAccepted c cap p
+pub record IsPrunedAccepted {T W : Type 0} (c : Terms T W) (cap : List (List W)) (p : PrunedOpening T W) : Type 0 where
+  pub restorable : IsRestorable c.shape c.layer p
+  pub each_accepted : EachAccepted c cap p
 
 -- ---- the honest opening
 

@@ -173,7 +173,7 @@ module _ {T W : Type 0} (same : W → W → Bool) (e : ℕ) (ds : List Dimension
   pub salted_pruned_presentation : (eq : T → T → Bool) → IsEquality eq → IsArity c.shape.arity →
       (p : SaltedPruned T W) → IsPresentation c cap (presented_salted_pruned eq same e ds c cap p)
   salted_pruned_presentation eq dec w p =
-      record { decided = salted_pruned_accepted eq dec w p; each = λ a. a.accepted.1 }
+      record { decided = salted_pruned_accepted eq dec w p; each = λ a. a.accepted.each_accepted }
 
 -- ---- the answers of the calls
 

@@ -71,14 +71,14 @@ module _ {T W : Type 0} (eq : T → T → Bool) (same : W → W → Bool) (f : F
       let are = restored p queries rows shown in
       record {
         in_pairs = sym (length-map queries.sets.now (λ set. row_lists set.items)) ∙ ap length rows
-            ∙ accepted.0.agreed.in_pairs ∙ sym are.as_many;
+            ∙ accepted.restorable.agreed.in_pairs ∙ sym are.as_many;
         reach = λ k h.
             let inside : k < length p.indices = omega (arith, are.as_many) in
             record {
               arity = w.arity;
               in_tree = w.in_tree;
               all_siblings =
-                  ap (λ (u : Opening T W). length u.siblings) (are.each k inside) ∙ (accepted.1 k inside).count;
+                  ap (λ (u : Opening T W). length u.siblings) (are.each k inside) ∙ (accepted.each_accepted k inside).count;
             };
       }
 

@@ -41,7 +41,7 @@ module _ {T W : Type 0} (c : Terms T W) (b : Batch T) (indices : List ℕ) (w : 
       let each = equivalent f (shape b) t (cap_over c b) honest_one w.queried.well_shaped restorable.lawful
       restorable.below restorable.rows_fit restorable.agreed in
       let accepted : IsPrunedAccepted (terms f (shape b) t) (cap_over c b) honest_one =
-      (restorable, each.0 (honest_capped f b t indices w)) in
+      record { restorable = restorable; each_accepted = each.0 (honest_capped f b t indices w) } in
       subst (IsPrunedAccepted c (cap_over c b)) (sym is)
       (subst (λ s. IsPrunedAccepted (terms f s t) (cap_over c b) honest_one) (sym same) accepted)
 

@@ -14,7 +14,7 @@ use Rattle.p3_merkle_core.specs.Gate.{gate_refusal}
 use Rattle.p3_merkle_core.specs.Nodes.{Functions}
 use Rattle.p3_merkle_core.specs.Openings.{Opening}
 use Rattle.p3_merkle_core.specs.Checks.{IsAccepted, siblings_below, path_digest, terms}
-use Rattle.p3_merkle_core.specs.Pruning.{PrunedOpening, restored_node, IsCapped, EachAccepted, IsRestorable}
+use Rattle.p3_merkle_core.specs.Pruning.{PrunedOpening, restored_node, IsCapped, IsPrunedAccepted, IsRestorable}
 use Rattle.p3_merkle_core.specs.Refusals.{first_some, unless, is_entry, size_refusal, sibling_count_refusal}
 use Rattle.p3_merkle_core.specs.Refusals.{row_width_refusal, refusal_under, answer_under, pruned_refusal, cap_refusal}
 use Rattle.p3_merkle_core.specs.Refusals.{pruned_answer_under, form_refusal, ok_unless}
@@ -168,9 +168,13 @@ pruned_capped row_eq digest_eq f s t cap p dec dec_w =
 pub pruned_accepted : {T W : Type 0} (row_eq : T → T → Bool) (digest_eq : W → W → Bool) (f : Functions T W) (s : Shape)
     (t : ℕ) (cap : List (List W)) (p : PrunedOpening T W) →
     ((x y : T) → Decides (row_eq x y) (x ≡ y)) → ((x y : W) → Decides (digest_eq x y) (x ≡ y)) → IsArity s.arity →
-    (pruned_answer_under row_eq digest_eq (terms f s t) cap p ≡ Ok tt) ↔ (IsRestorable s t p ×
-    EachAccepted (terms f s t) cap p)
+    (pruned_answer_under row_eq digest_eq (terms f s t) cap p ≡ Ok tt) ↔ IsPrunedAccepted (terms f s t) cap p
 pruned_accepted row_eq digest_eq f s t cap p dec dec_w w =
     let capped = pruned_capped row_eq digest_eq f s t cap p dec dec_w in
     let alike = λ (r : IsRestorable s t p). equivalent f s t cap p w r.lawful r.below r.rows_fit r.agreed in
-    (λ e. let both = capped.0 e in (both.0, (alike both.0).0 both.1), λ (r, each). capped.1 (r, (alike r).1 each))
+    (
+      λ e.
+          let both = capped.0 e in
+          record { restorable = both.0; each_accepted = (alike both.0).0 both.1 },
+      λ a. capped.1 (a.restorable, (alike a.restorable).1 a.each_accepted),
+    )

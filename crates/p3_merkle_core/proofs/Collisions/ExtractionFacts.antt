@@ -58,7 +58,7 @@ pruned_presented row_eq digest_eq c cap p dec dec_w w =
         λ none. accept.0 (ap (λ refusal. ok_unless refusal (tt {0})) none),
         λ a. verdict_ok (pruned_refusal_under row_eq digest_eq c cap p) (accept.1 a),
       );
-      each = λ a. a.1;
+      each = λ a. a.each_accepted;
     }
 
 -- ---- authenticated matrices

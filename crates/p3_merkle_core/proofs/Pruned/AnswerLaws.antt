@@ -53,11 +53,12 @@ pub answered_alike : {T W : Type 0} (row_eq : T → T → Bool) (digest_eq : W �
     answer_under digest_eq (terms f s t) cap (opening_at (terms f s t) p k) ≡ Ok tt)
 answered_alike row_eq digest_eq f s t cap p dec dec_w w ok =
     let whole = pruned_accepted row_eq digest_eq f s t cap p dec dec_w w in (
-      λ e k h. accepted_answer digest_eq f s t cap (opening_at (terms f s t) p k) dec_w ((whole.0 e).1 k h),
-      λ each. whole.1 (
-        restorable row_eq s t p dec ok,
-        λ k h. accepted_from digest_eq f s t cap (opening_at (terms f s t) p k) dec_w (each k h),
-      ),
+      λ e k h. accepted_answer digest_eq f s t cap (opening_at (terms f s t) p k) dec_w
+      ((whole.0 e).each_accepted k h),
+      λ each. whole.1 (record {
+        restorable = restorable row_eq s t p dec ok;
+        each_accepted = λ k h. accepted_from digest_eq f s t cap (opening_at (terms f s t) p k) dec_w (each k h);
+      }),
     )
 
 pub honest_accepted_pruned : {T W : Type 0} (row_eq : T → T → Bool) (digest_eq : W → W → Bool) (f : Functions T W)
@@ -70,4 +71,5 @@ honest_accepted_pruned row_eq digest_eq f b t indices dec dec_w w rows =
     let r = honest_restorable f b t indices w rows in
     let each = (equivalent f s t (layer f b t) p w.queried.well_shaped r.lawful r.below r.rows_fit r.agreed).0
     (honest_capped f b t indices w) in
-    (pruned_accepted row_eq digest_eq f s t (layer f b t) p dec dec_w w.queried.well_shaped).1 (r, each)
+    (pruned_accepted row_eq digest_eq f s t (layer f b t) p dec dec_w w.queried.well_shaped).1
+    (record { restorable = r; each_accepted = each })

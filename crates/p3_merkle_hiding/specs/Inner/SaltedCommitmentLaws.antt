@@ -86,12 +86,12 @@ pub each_salted_shown : {T W : Type 0} (e : ℕ) (ds : List Dimensions) (c : Ter
     (o : SaltedPruned T W) → IsSaltedPrunedAccepted e ds c cap o → AllZip (IsSaltedShown e ds c cap) o.indices o.rows
 each_salted_shown {T} {W} e ds c cap o w =
     let long = length_sets o.rows o.salts w.in_pairs in
-    let as_many : length o.rows ≡ length o.indices = sym long ∙ w.accepted.0.agreed.in_pairs in
+    let as_many : length o.rows ≡ length o.indices = sym long ∙ w.accepted.restorable.agreed.in_pairs in
     all_zip (IsSaltedShown e ds c cap) o.indices o.rows 0 [] as_many (λ k inside.
     let i = slice_index o.indices k in
     let path = restored_path c (joined_sets o) i in
     let here = subst (λ (rows : List (List T)). IsAccepted c cap (opening_of i rows path))
-    (set_at o.rows o.salts k w.in_pairs (omega (arith, as_many))) (w.accepted.1 k inside) in (
+    (set_at o.rows o.salts k w.in_pairs (omega (arith, as_many))) (w.accepted.each_accepted k inside) in (
       slice_index_or o.salts k [],
       path,
       record {

@@ -73,8 +73,8 @@ all_zip holds (x ∷ xs) (y ∷ ys) a b same at =
 -- of an accepted pruned opening each row set is shown to be that of its index
 pub each_shown : {T W : Type 0} (c : Terms T W) (cap : List (List W)) (o : PrunedOpening T W) →
     IsPrunedAccepted c cap o → AllZip (IsShown c cap) o.indices o.rows
-each_shown c cap o (restorable, accepted) = all_zip (IsShown c cap) o.indices o.rows 0 [] restorable.agreed.in_pairs
-    (λ k inside. (restored_path c o (slice_index o.indices k), accepted k inside))
+each_shown c cap o a = all_zip (IsShown c cap) o.indices o.rows 0 [] a.restorable.agreed.in_pairs
+    (λ k inside. (restored_path c o (slice_index o.indices k), a.each_accepted k inside))
 
 -- rows that are shown fit the dimensions
 pub shown_rows_fit : {T W : Type 0} (f : Functions T W) (n t : ℕ) (ds : List Dimensions) (cap : List (List W))
