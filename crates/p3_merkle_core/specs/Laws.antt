@@ -5,7 +5,7 @@ use Rattle.std.specs.List.{count_by}
 use Rattle.p3_merkle_core.specs.Geometry.{Shape, heights, levels, layer_exponent, exponent, layer_of, layer_len}
 use Rattle.p3_merkle_core.specs.Geometry.{halved_index, step, ancestor, arity_schedule, schedule_below}
 use Rattle.p3_merkle_core.specs.Geometry.{layer_below_root, is_arity, IsArity, IsLawful}
-use Rattle.p3_support.specs.Batches.{greatest}
+use Rattle.p3_support.specs.Batches.{dimensions_in, greatest}
 use Rattle.p3_merkle_core.specs.Caps.{cap_layer}
 use Rattle.p3_merkle_core.specs.Nodes.{Functions, Batch, HasFullRows, shape, node, layer, layers}
 use Rattle.p3_merkle_core.specs.Openings.{Opening, honest, siblings_by, opening_in_layers}
@@ -19,6 +19,7 @@ use Rattle.p3_merkle_core.specs.Pruning.{IsPrunedAccepted, restored_paths, prune
 use Rattle.p3_merkle_core.specs.Refusals.{IsEquality, answer_under, pruned_answer, pruned_answer_under}
 use Rattle.p3_merkle_core.specs.Extraction.{IsExtraction, extraction, AnswerAlike}
 use Rattle.p3_merkle_core.specs.Presented.{presented, presented_pruned}
+use Rattle.p3_merkle_core.specs.Views.{batch_of}
 use Rattle.p3_merkle_core.specs.declared.error.MerkleTreeError.{MerkleTreeError}
 use Rattle.p3_merkle_core.specs.declared.error.MerkleTreeError.TheVariants.{CapMismatch}
 use Rattle.p3_merkle_core.specs.Gate.{gate_refusal}
@@ -69,6 +70,11 @@ RowsAreAncestors =
 -- the gate refuses nothing exactly if the heights are lawful
 abbrev pub UnrefusedIsLawful : Type 0
 UnrefusedIsLawful = (hs : List ℕ) → (gate_refusal hs ≡ None) ↔ IsLawful hs
+
+-- the dimensions in the shape of a batch of matrices are those that the matrices show
+abbrev pub BatchHasDimensions : {T M : Type 0} → (M → ℕ) → (M → ℕ) → (M → ℕ → List T) → ℕ → Type 0
+BatchHasDimensions {M = M} height width row arity =
+    (ms : List M) → (shape (batch_of height width row arity ms)).dimensions ≡ dimensions_in height width ms
 
 -- ---- caps
 

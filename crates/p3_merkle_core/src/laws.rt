@@ -5,7 +5,8 @@
 ghost use Rattle.std.specs.Prelude.{◌≡◌, ◌↔◌, IsTrue};
 ghost use Rattle.p3_merkle_core.specs.Refusals.{IsEquality};
 ghost use Rattle.p3_merkle_core.specs.Views.{IsSamePair, shown_opening, shown_path, shown_pruned};
-ghost use Rattle.p3_merkle_core.specs.Laws.{AnswerIsExtraction, AnsweredAsEachPath, BoundaryIsAlone, BoundaryIsLeast};
+ghost use Rattle.p3_merkle_core.specs.Laws.{AnswerIsExtraction, AnsweredAsEachPath, BatchHasDimensions};
+ghost use Rattle.p3_merkle_core.specs.Laws.{BoundaryIsAlone, BoundaryIsLeast};
 ghost use Rattle.p3_merkle_core.specs.Laws.{BoundaryIsSmallest, BoundaryNodesAreApart, BoundaryNodesAreHeld};
 ghost use Rattle.p3_merkle_core.specs.Laws.{BoundarySuffices, CappedIsEachAccepted, FixedIsBelowRoot, HonestIsAccepted};
 ghost use Rattle.p3_merkle_core.specs.Laws.{HonestNodesAreRestored, HonestPathsAreRestored, HonestPathsInOrder};
@@ -22,6 +23,7 @@ use crate::error::{MerkleTreeError, PrunedProofError};
 use crate::pruning::{
     AuthPath, MerkleAuthPath, PrunedBatchOpening, PrunedMerklePaths, PrunedProof, PrunedRows,
 };
+use p3_support::matrix::Matrix;
 use p3_support::opening::BatchOpening;
 use p3_support::packed::PackedValue;
 
@@ -148,6 +150,12 @@ pub fn shape()
     ensures layers { MatricesHaveLayers }
     ensures rows { RowsAreAncestors }
     ensures gate { UnrefusedIsLawful }
+{}
+
+/// The dimensions that [`dimensions_of`](p3_support::matrix::dimensions_of) returns of matrices are those in the shape
+/// of their batch, under which their openings are accepted.
+pub fn dimensions<T, M: Matrix<T>, const N: usize>()
+    ensures { BatchHasDimensions M.height_of M.width_of M.row_of N }
 {}
 
 /// Under the rule `Lowered` a cap authenticates every matrix. If a cap of the rule `Fixed` does so too, both rules give
