@@ -5,4 +5,4 @@ pub mod engine;
 pub mod laws;
 pub mod schemes;
 
-pub use mmcs_text::fault;
+pub use mmcs_text::{fault, process};

@@ -5,6 +5,7 @@ ghost use Rattle.p3_merkle_core.specs.declared.error.MerkleTreeError.TheVariants
 ghost use Rattle.mmcs_text.specs.declared.fault.Fault.TheVariants.{Tree};
 ghost use Rattle.mmcs_text.specs.Faults.{status_of};
 
+use crate::process::ProgramFault;
 use p3_merkle_core::error::MerkleTreeError;
 use std::alloc::{AllocError, AllocFailed};
 use thiserror::Error;
@@ -53,6 +54,14 @@ impl Fault {
             Fault::Usage => 2,
             _ => 1,
         }
+    }
+}
+
+impl ProgramFault for Fault {
+    ghost status_of = { status_of };
+
+    fn status(&self) -> u8 {
+        self.status()
     }
 }
 

@@ -6,6 +6,7 @@ pub mod command;
 pub mod fault;
 pub mod input;
 pub mod number;
+pub mod process;
 pub mod streams;
 pub mod text;
 pub mod word;

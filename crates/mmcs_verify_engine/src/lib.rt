@@ -8,3 +8,4 @@ pub mod laws;
 mod suite;
 
 pub use mmcs_opening_text::fault;
+pub use mmcs_text::process;
