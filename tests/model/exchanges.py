@@ -66,6 +66,17 @@ def other_words(random, words):
     return words
 
 
+def provings(random, exchange):
+    """Words and inputs for the prover, each with what it is counted as: whole, damaged at a byte, other words, and an
+    index past the end."""
+    for words in exchange.commands():
+        yield words, exchange.input, "matrices, whole"
+        yield words, damaged_at(random, exchange.input, random.randrange(len(exchange.input))), "matrices, damaged"
+        yield other_words(random, words), exchange.input, "matrices, other words"
+    past = max(len(rows) for rows in exchange.matrices) + random.choice([0, 1, 1 << 40])
+    yield [*exchange.words, random.choice(["open", "check"]), "0", str(past)], exchange.input, "an index past the end"
+
+
 def verifications(random, exchange):
     """Words and inputs for the verifier, each with what it is counted as: whole, damaged at each byte, other words."""
     for words, parts, name in exchange.texts(random):
@@ -93,11 +104,11 @@ BEGINNINGS = {
 
 
 def counted(kind, answer):
-    """What an answer of the verifier is counted as."""
+    """What an answer is counted as."""
     for beginning, told in BEGINNINGS.items():
         if answer.startswith(beginning):
             return f"{kind}: {told}"
-    return f"{kind}: refused"
+    return f"{kind}: {'refused' if answer.endswith(')') else 'printed'}"
 
 
 def is_due(kind, answer):
