@@ -5,7 +5,7 @@ use Rattle.std.specs.Option.{option_or}
 use Rattle.std.proofs.lemmas.Bool.Decides.{Decides-eqb}
 use Rattle.p3_support.specs.declared.matrix.Dimensions.{Dimensions}
 use Rattle.p3_merkle_core.specs.Checks.{Input, Terms}
-use Rattle.p3_merkle_core.specs.Extraction.{extraction, first_difference, AnswerAnyRowTwice, AnswerOneRowTwice}
+use Rattle.p3_merkle_core.specs.Extraction.{extraction, first_difference, RowsConflictSomewhere, RowsConflictWhereAuthenticated}
 use Rattle.p3_merkle_core.specs.Extraction.{IsExtraction, IsFirstCollision, SomePair}
 use Rattle.p3_merkle_core.specs.Geometry.{shape_of}
 use Rattle.p3_merkle_core.specs.Presented.{presented_pruned, Presented}
@@ -58,8 +58,8 @@ module _ (setting : Setting) (dimensions : List Dimensions) where
     Binds other =
         let second = presented_pruned nat_eq nat_eq c other r in
         first.refusal ≡ None → second.refusal ≡ None →
-        SomePair first second (AnswerOneRowTwice c) ⊎
-        ((setting.cap.rule ≡ Lowered) × SomePair first second (AnswerAnyRowTwice c)) → Collides second
+        SomePair first second (RowsConflictWhereAuthenticated c) ⊎
+        ((setting.cap.rule ≡ Lowered) × SomePair first second (RowsConflictSomewhere c)) → Collides second
 
     own_cap : Binds cap
     own_cap none_first none_second twice =

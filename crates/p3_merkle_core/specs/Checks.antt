@@ -6,7 +6,7 @@ use Rattle.std.specs.List.{range_with_len}
 use Rattle.p3_merkle_core.specs.Geometry.{Shape, IsLawful, least, exponent, layer_exponent, layer_of, step, ancestor}
 use Rattle.p3_merkle_core.specs.Geometry.{position_in_group, heights, widths, has_rows}
 use Rattle.p3_support.specs.Batches.{greatest}
-use Rattle.p3_merkle_core.specs.Nodes.{Functions, compress, pair, with_rows, padded}
+use Rattle.p3_merkle_core.specs.Nodes.{Functions, compress_padded, pair, with_rows, padded}
 use Rattle.p3_merkle_core.specs.Openings.{Opening}
 use Rattle.p3_merkle_core.specs.declared.collision.Place.{Place}
 use Rattle.p3_merkle_core.specs.declared.collision.Place.TheVariants.{Leaf, Group, Rows, Pair}
@@ -52,7 +52,7 @@ group_at f s o l digest = insert (siblings_at s o l) (position_in_group s l o.in
 unfoldable pub path_digest : {T W : Type 0} → Functions T W → Shape → Opening T W → ℕ → List W
 path_digest f s o zero = f.hash (layer_words s o.rows 0)
 path_digest f s o (suc l) =
-    with_rows f s.arity (has_rows s (suc l)) (compress f s.arity (group_at f s o l (path_digest f s o l)))
+    with_rows f s.arity (has_rows s (suc l)) (compress_padded f s.arity (group_at f s o l (path_digest f s o l)))
     (f.hash (layer_words s o.rows (suc l)))
 
 -- ---- the inputs of a check
@@ -143,7 +143,7 @@ pub record IsAccepted {T W : Type 0} (c : Terms T W) (cap : List (List W)) (o : 
 
 -- ---- authenticated
 
--- whether the check of a matrix's rows leads to layer t: the matrix k belongs to that layer, or to one below it
+-- whether the rows of matrix k are hashed at layer t or below it: whether it belongs to such a layer
 abbrev pub is_authenticated : Shape → ℕ → ℕ → Bool
 is_authenticated s t k = nat_le (layer_of s (slice_index (heights s) k)) t
 
@@ -153,20 +153,20 @@ opened_row o k = slice_index_or o.rows k []
 
 -- ---- where two checks meet
 
--- the least level below t at which the paths of i and j lead into one node, else t
+-- the lowest level below t from which the paths of i and j lead into one node, else t
 abbrev pub meeting_level : Shape → ℕ → ℕ → ℕ → ℕ
 meeting_level s t i j = least (λ l. ancestor s (suc l) i == ancestor s (suc l) j) t
 
--- the inputs of o that checks of the indices i and j share: all of them, or those from where the paths meet
+-- the inputs of o from where the paths of the indices i and j meet: all of them if i and j are one
 abbrev pub shared_inputs : {T W : Type 0} → Terms T W → ℕ → ℕ → Opening T W → List (Input T W)
 shared_inputs c i j o =
     let m = meeting_level c.shape c.layer i j in
     if i == j then inputs c o
     else flat_map (λ k. inputs_at c.functions c.shape o (m + k)) (range_with_len 0 (c.layer - m))
 
--- the two checks agree wherever they share a place
+-- the two checks agree from where their paths meet
 abbrev pub AgreeWhereShared : {T W : Type 0} → Terms T W → Opening T W → Opening T W → Type 0
-AgreeWhereShared c o u = shared_inputs c o.index u.index o ≡ shared_inputs c o.index u.index u
+AgreeWhereShared c o u = let shared = shared_inputs c o.index u.index in shared o ≡ shared u
 
 -- x and y stand at one place of xs and ys, are different, and all after them agrees
 abbrev pub IsLastDifference : {X : Type 0} → List X → List X → X → X → Type 0
@@ -176,4 +176,4 @@ IsLastDifference (a ∷ xs) (b ∷ ys) x y = IsLastDifference xs ys x y ⊎ ((xs
 
 -- x and y are the last inputs that the checks of o and u share and that differ
 abbrev pub IsLastShared : {T W : Type 0} → Terms T W → Opening T W → Opening T W → Input T W → Input T W → Type 0
-IsLastShared c o u x y = IsLastDifference (shared_inputs c o.index u.index o) (shared_inputs c o.index u.index u) x y
+IsLastShared c o u x y = let shared = shared_inputs c o.index u.index in IsLastDifference (shared o) (shared u) x y

@@ -4,9 +4,9 @@ use Rattle.p3_merkle_core.specs.Checks.{IsAccepted, Terms}
 use Rattle.p3_merkle_core.specs.Nodes.{Batch, layer, layers}
 use Rattle.p3_merkle_core.specs.Openings.{opening_of}
 
--- the layers of a tree are those of a batch under these functions: it is built by them
+-- the layers that a tree has are those of a batch under these functions: it is built by them
 abbrev pub IsOwn : {T W : Type 0} → Terms T W → Batch T → List (List (List W)) → Type 0
-IsOwn c b own = own ≡ layers c.functions b
+IsOwn c b stored = stored ≡ layers c.functions b
 
 -- the cap of a batch
 abbrev pub cap_over : {T W : Type 0} → Terms T W → Batch T → List (List W)
@@ -14,10 +14,12 @@ cap_over c b = layer c.functions b c.layer
 
 -- a tree is built over a batch, and this is its cap
 pub record IsCommitment {T W : Type 0} (c : Terms T W) (cap : List (List W)) (b : Batch T)
-    (own : List (List (List W))) : Type 0 where
-  pub own_layers : IsOwn c b own
+    (stored : List (List (List W))) : Type 0 where
+  pub own_layers : IsOwn c b stored
   pub own_cap : cap ≡ cap_over c b
 
--- with some siblings the rows are accepted at an index under a cap
-abbrev pub IsShown : {T W : Type 0} → Terms T W → List (List W) → ℕ → List (List T) → Type 0
-IsShown {W = W} c cap index rows = (siblings : List (List W)) × IsAccepted c cap (opening_of index rows siblings)
+-- some siblings prove the rows at an index under a cap
+pub record HaveProof {T W : Type 0} (c : Terms T W) (cap : List (List W)) (index : ℕ)
+    (rows : List (List T)) : Type 0 where
+  pub siblings : List (List W)
+  pub is_accepted : IsAccepted c cap (opening_of index rows siblings)

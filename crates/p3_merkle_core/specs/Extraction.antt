@@ -48,8 +48,7 @@ last_difference test (x ∷ xs) (y ∷ ys) = option_or (last_difference test xs 
 abbrev pub difference_of : {T W : Type 0} → (T → T → Bool) → (W → W → Bool) → Terms T W → Opening T W → Opening T W →
     Option (Input T W × Input T W)
 difference_of row_eq digest_eq c o u =
-    last_difference (input_eq row_eq digest_eq) (shared_inputs c o.index u.index o)
-    (shared_inputs c o.index u.index u)
+    let shared = shared_inputs c o.index u.index in last_difference (input_eq row_eq digest_eq) (shared o) (shared u)
 
 -- a collision of two openings: the last inputs that their checks share and that differ; they stand at one place, have
 -- as many digests as the arity if they are made of digests, and have one digest
@@ -64,25 +63,26 @@ pub record IsCollision {T W : Type 0} (c : Terms T W) (o u : Opening T W) (found
 -- ---- rows that are answered in two ways
 
 -- two openings have the same siblings, and the same row of each authenticated matrix
-pub record AnswerAlike {T W : Type 0} (c : Terms T W) (o u : Opening T W) : Type 0 where
+pub record RowsAgreeWhereAuthenticated {T W : Type 0} (c : Terms T W) (o u : Opening T W) : Type 0 where
   pub siblings : o.siblings ≡ u.siblings
   pub rows : (k : ℕ) → k < length (heights c.shape) → IsTrue (is_authenticated c.shape c.layer k) →
       opened_row o k ≡ opened_row u k
 
--- two openings answer one row of matrix k in two ways
-pub record AnswerRowTwice {T W : Type 0} (s : Shape) (o u : Opening T W) (k : ℕ) : Type 0 where
+-- two openings conflict in matrix k: they answer one row of it in two ways
+pub record RowsConflictAt {T W : Type 0} (s : Shape) (o u : Opening T W) (k : ℕ) : Type 0 where
   pub exists : k < length (heights s)
   pub one_row : halved_index (greatest (heights s)) (slice_index (heights s) k) o.index ≡
       halved_index (greatest (heights s)) (slice_index (heights s) k) u.index
   pub two_ways : opened_row o k ≢ opened_row u k
 
--- two openings answer one row of an authenticated matrix in two ways
-abbrev pub AnswerOneRowTwice : {T W : Type 0} → Terms T W → Opening T W → Opening T W → Type 0
-AnswerOneRowTwice c o u = (k : ℕ) × IsTrue (is_authenticated c.shape c.layer k) × AnswerRowTwice c.shape o u k
+-- two openings conflict in an authenticated matrix
+abbrev pub RowsConflictWhereAuthenticated : {T W : Type 0} → Terms T W → Opening T W → Opening T W → Type 0
+RowsConflictWhereAuthenticated c o u =
+    (k : ℕ) × IsTrue (is_authenticated c.shape c.layer k) × RowsConflictAt c.shape o u k
 
--- two openings answer one row of some matrix in two ways
-abbrev pub AnswerAnyRowTwice : {T W : Type 0} → Terms T W → Opening T W → Opening T W → Type 0
-AnswerAnyRowTwice c o u = (k : ℕ) × AnswerRowTwice c.shape o u k
+-- two openings conflict in some matrix
+abbrev pub RowsConflictSomewhere : {T W : Type 0} → Terms T W → Opening T W → Opening T W → Type 0
+RowsConflictSomewhere c o u = (k : ℕ) × RowsConflictAt c.shape o u k
 
 -- ---- pairs of queries
 
@@ -130,26 +130,30 @@ abbrev pub extraction : {T W : Type 0} → (T → T → Bool) → (W → W → B
 extraction row_eq digest_eq c first second =
     ok_unless (option_or first.refusal second.refusal) (first_difference row_eq digest_eq c first second)
 
--- what a call answers to two openings under a cap of a rule: the definition's answer, and what it means
+-- what a call answers to two openings under a cap of a rule
 pub record IsExtraction {T W : Type 0} (row_eq : T → T → Bool) (digest_eq : W → W → Bool) (rule : CapRule)
     (c : Terms T W) (first second : Presented T W)
     (result : Result (Option (ℕ × ℕ × (Input T W × Input T W))) MerkleTreeError) : Type 0 where
-  -- the first opening's refusal comes before the second's, and where there is none, the first difference is answered
-  pub answer : AnswersUnlessMemory result (option_or first.refusal second.refusal)
-  pub found : IfOk result (λ found. found ≡ first_difference row_eq digest_eq c first second)
-  -- two accepted openings are answered, others are not
-  pub accepted : IfOk result (λ found. first.accepted × second.accepted)
-  pub answered : first.accepted → second.accepted → AnswersUnlessMemory result None
-  -- nothing is found exactly where all checks agree; else the first two queries that differ are found, with a collision
-  pub none : IfOk result (λ found. IsNone found ↔ EachPair first second (AgreeWhereShared c))
+  -- two accepted openings are answered Ok, unless memory runs out
+  pub answered : first.is_accepted → second.is_accepted → AnswersUnlessMemory result None
+  -- Ok means that both openings are accepted
+  pub both_accepted : IfOk result (λ found. first.is_accepted × second.is_accepted)
+  -- two different inputs with one digest are found, of the first two queries whose checks differ
   pub collision : IfOk result (λ found. IfSome found (IsFirstCollision c first second))
-  -- of openings of one index nothing is found exactly where siblings and authenticated rows agree; something is
-  -- wherever one authenticated row is answered in two ways
+  -- nothing is found exactly where all checks agree
+  pub none : IfOk result (λ found. IsNone found ↔ EachPair first second (AgreeWhereShared c))
+  -- openings that conflict in an authenticated matrix give a collision
+  pub two_ways : SomePair first second (RowsConflictWhereAuthenticated c) → IfOk result (λ found. IsSome found)
+  -- of openings of one index nothing is found exactly where siblings and authenticated rows agree
   pub one_index : EachPair first second (λ o u. o.index ≡ u.index) →
-      IfOk result (λ found. IsNone found ↔ EachPair first second (AnswerAlike c))
-  pub two_ways : SomePair first second (AnswerOneRowTwice c) → IfOk result (λ found. IsSome found)
-  -- the same under the lowered rule, where each row is authenticated
+      IfOk result (λ found. IsNone found ↔ EachPair first second (RowsAgreeWhereAuthenticated c))
+  -- under the lowered rule, openings that conflict in any matrix give a collision
+  pub lowered_two_ways : rule ≡ Lowered → SomePair first second (RowsConflictSomewhere c) →
+      IfOk result (λ found. IsSome found)
+  -- under the lowered rule, of openings of one index nothing is found exactly where they are the same
   pub lowered_one_index : rule ≡ Lowered → EachPair first second (λ o u. o.index ≡ u.index) →
       IfOk result (λ found. IsNone found ↔ EachPair first second (λ o u. o ≡ u))
-  pub lowered_two_ways : rule ≡ Lowered → SomePair first second (AnswerAnyRowTwice c) →
-      IfOk result (λ found. IsSome found)
+  -- an opening that is not accepted is refused: the first one's refusal comes before the second's
+  pub answer : AnswersUnlessMemory result (option_or first.refusal second.refusal)
+  -- what is found is the first difference, by tests on words
+  pub found : IfOk result (λ found. found ≡ first_difference row_eq digest_eq c first second)

@@ -1,4 +1,5 @@
--- The shape of a tree: exponents of heights, the ladder of lawful heights, steps, lengths, ancestors.
+-- The shape of a tree: exponents of heights, the ladder of lawful heights, steps, lengths, ancestors. Layer 0 has the
+-- leaves, and level l leads from layer l to layer l + 1.
 use Rattle.std.specs.Prelude.{◌≡◌, ℕ, zero, suc, ◌+◌, ◌-◌, ◌*◌, ◌/◌, ◌%◌, ◌^◌, ◌<◌, ◌≤◌, Bool, true, false, ◌&&◌}
 use Rattle.std.specs.Prelude.{◌==◌, nat_lt, nat_le, if◌then◌else◌, List, map, All}
 use Rattle.std.specs.List.{list_any, range_with_len}
@@ -21,7 +22,8 @@ exponent h = least (λ k. nat_le h (2 ^ k)) h
 abbrev pub height_limit : ℕ
 height_limit = 2 ^ 62
 
--- the height of the matrices of exponent x, where m is the greatest height
+-- the height of the matrices of exponent x, where m is the greatest height: m halved and rounded up, as often as leads
+-- from its exponent to x
 abbrev pub height_at : ℕ → ℕ → ℕ
 height_at m x = (m - 1) / 2 ^ (exponent m - x) + 1
 
@@ -33,7 +35,7 @@ bits_reduced m h = exponent m - exponent h
 abbrev pub expected_height : ℕ → ℕ → ℕ
 expected_height m h = height_at m (exponent h)
 
--- some height is above 0, none is too large, and each is the expected one of its exponent
+-- some height is above 0, none is too large, and each is on the ladder: the expected one of its exponent
 pub record IsLawful (heights : List ℕ) : Type 0 where
   pub some_above_0 : 0 < greatest heights
   pub none_too_large : All (λ h. h ≤ height_limit) heights
@@ -70,7 +72,8 @@ widths s = widths_of s.dimensions
 
 -- ---- steps from layer to layer
 
--- whether a matrix's exponent lies strictly between x and what a step of the whole arity leaves of x
+-- whether a step of the whole arity from the exponent x would pass the layer of a matrix: whether a matrix's exponent
+-- lies strictly between x and what that step leaves of x, where a difference stops at 0
 abbrev pub is_bridge : Shape → ℕ → Bool
 is_bridge s x = list_any (λ h. nat_lt (x - exponent s.arity) (exponent h) && nat_lt (exponent h) x) (heights s)
 
@@ -114,11 +117,12 @@ has_rows s l = list_any (λ h. exponent h == layer_exponent s l) (heights s)
 abbrev pub padded_len : ℕ → ℕ → ℕ
 padded_len r n = if nat_le r 1 then r else (if nat_lt r n then n else next_multiple_of r n)
 
--- how many slots of a layer of the exponent x are grouped, where r of them are nodes
+-- how many slots of a layer of the exponent x are children of a node, where r of them are nodes: all, padding included,
+-- but before a bridge step a layer shorter than the arity is padded to 2 ^ x alone, so that the step halves it
 abbrev pub grouped_len_of : Shape → ℕ → ℕ → ℕ
 grouped_len_of s x r = if is_bridge s x && nat_lt r s.arity then 2 ^ x else padded_len r s.arity
 
--- how many slots of layer l are nodes, and no padding
+-- how many slots of layer l are nodes; the others are padding, and a node may have padding alone under it
 unfoldable pub raw_len : Shape → ℕ → ℕ
 raw_len s zero = greatest (heights s)
 raw_len s (suc l) = grouped_len_of s (layer_exponent s l) (raw_len s l) / step s l

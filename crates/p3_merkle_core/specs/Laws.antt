@@ -17,7 +17,7 @@ use Rattle.p3_merkle_core.specs.Pruning.{Suffices, boundary, honest_query, is_co
 use Rattle.p3_merkle_core.specs.Pruning.{restored_node, restored_path, IsGivenUnder, IsLeast, IsRestorable}
 use Rattle.p3_merkle_core.specs.Pruning.{IsPrunedAccepted, restored_paths, pruned_in_layers, pruned_len}
 use Rattle.p3_merkle_core.specs.Refusals.{IsEquality, answer_under, pruned_answer, pruned_answer_under}
-use Rattle.p3_merkle_core.specs.Extraction.{IsExtraction, extraction, AnswerAlike}
+use Rattle.p3_merkle_core.specs.Extraction.{IsExtraction, extraction, RowsAgreeWhereAuthenticated}
 use Rattle.p3_merkle_core.specs.Presented.{presented, presented_pruned}
 use Rattle.p3_merkle_core.specs.Views.{batch_of}
 use Rattle.p3_merkle_core.specs.declared.error.MerkleTreeError.{MerkleTreeError}
@@ -285,7 +285,7 @@ module _ (T W : Type 0) where
   OneIndexIsBound =
       (c : Terms T W) (cap : List (List W)) (o u : Opening T W) → IsArity c.shape.arity → IsAccepted c cap o →
       IsAccepted c cap u → o.index ≡ u.index →
-      AgreeWhereShared c o u ↔ AnswerAlike c o u
+      AgreeWhereShared c o u ↔ RowsAgreeWhereAuthenticated c o u
 
   -- each input of an accepted opening that is made of digests has as many of them as the arity
   abbrev pub InputsAreFull : Type 0

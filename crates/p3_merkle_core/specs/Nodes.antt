@@ -53,8 +53,8 @@ abbrev pub padded : {X : Type 0} → ℕ → X → List X → List X
 padded n default_element xs = xs ++ replicate (n - length xs) default_element
 
 -- the compression of some digests, padded by default digests
-abbrev pub compress : {T W : Type 0} → Functions T W → ℕ → List (List W) → List W
-compress f n ds = f.compression (padded n f.default_digest ds)
+abbrev pub compress_padded : {T W : Type 0} → Functions T W → ℕ → List (List W) → List W
+compress_padded f n ds = f.compression (padded n f.default_digest ds)
 
 -- the digest of the rows j of the matrices, or the default digest past their end
 abbrev pub row_digest : {T W : Type 0} → Functions T W → List (Matrix T) → ℕ → List W
@@ -77,7 +77,7 @@ node f b (suc l) j =
     let s = step (shape b) l in
     if nat_lt j (raw_len (shape b) (suc l))
     then with_rows f b.arity (has_rows (shape b) (suc l))
-    (compress f b.arity (map (λ i. node f b l (s * j + i)) (range_with_len 0 s)))
+    (compress_padded f b.arity (map (λ i. node f b l (s * j + i)) (range_with_len 0 s)))
     (row_digest f (at_layer b (suc l)) j)
     else f.default_digest
 

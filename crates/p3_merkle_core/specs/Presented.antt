@@ -7,10 +7,10 @@ use Rattle.p3_merkle_core.specs.Pruning.{IsPrunedAccepted, IsRestorable, PrunedO
 use Rattle.p3_merkle_core.specs.Refusals.{AnswersUnlessMemory, pruned_refusal, pruned_refusal_under, refusal_under}
 use Rattle.p3_merkle_core.specs.declared.error.MerkleTreeError.{MerkleTreeError}
 
--- an opening as a verifier takes it: when it is accepted, why it is refused, and the queries that are checked, each
--- an opening of one index
+-- an opening of one index or of several, in a form that both have: when it is accepted, why it is refused, and the
+-- queries that are checked, each an opening of one index; `IsVerdict` says that a call keeps to both
 pub record Presented (T W : Type 0) : Type 1 where
-  pub accepted : Type 0
+  pub is_accepted : Type 0
   pub refusal : Option MerkleTreeError
   pub queries : ℕ
   pub query : ℕ → Opening T W
@@ -18,24 +18,25 @@ pub record Presented (T W : Type 0) : Type 1 where
 -- an opening of one index, under a cap: it is its only query
 abbrev pub presented : {T W : Type 0} → (W → W → Bool) → Terms T W → List (List W) → Opening T W → Presented T W
 presented digest_eq c cap o =
-    record { accepted = IsAccepted c cap o; refusal = refusal_under digest_eq c cap o; queries = 1; query = λ k. o }
+    record { is_accepted = IsAccepted c cap o; refusal = refusal_under digest_eq c cap o; queries = 1; query = λ k. o }
 
 -- a pruned opening, under a cap: its queries are checked with their restored paths
 abbrev pub presented_pruned : {T W : Type 0} → (T → T → Bool) → (W → W → Bool) → Terms T W → List (List W) →
     PrunedOpening T W → Presented T W
 presented_pruned row_eq digest_eq c cap p =
     record {
-      accepted = IsPrunedAccepted c cap p;
+      is_accepted = IsPrunedAccepted c cap p;
       refusal = pruned_refusal_under row_eq digest_eq c cap p;
       queries = length p.indices;
       query = opening_at c p;
     }
 
--- a pruned opening whose paths are restored, whatever the cap, which is layer t
+-- a pruned opening whose paths are restored, whatever the cap, which is layer t: here accepted means that it restores,
+-- and no query is checked
 abbrev pub presented_to_restore : {T W : Type 0} → (T → T → Bool) → Shape → ℕ → PrunedOpening T W → Presented T W
 presented_to_restore row_eq s t p =
     record {
-      accepted = IsRestorable s t p;
+      is_accepted = IsRestorable s t p;
       refusal = pruned_refusal row_eq s t p;
       queries = 0;
       query = λ k. opening_of 0 [] [];
@@ -45,5 +46,5 @@ presented_to_restore row_eq s t p =
 -- accepted one is answered Ok unless memory runs out
 pub record IsVerdict {T W V : Type 0} (presented : Presented T W) (result : Result V MerkleTreeError) : Type 0 where
   pub answer : AnswersUnlessMemory result presented.refusal
-  pub accepted : IsOk result → presented.accepted
-  pub taken : presented.accepted → AnswersUnlessMemory result None
+  pub ok_is_accepted : IsOk result → presented.is_accepted
+  pub accepted_is_ok : presented.is_accepted → AnswersUnlessMemory result None

@@ -6,7 +6,7 @@ use Rattle.std.specs.List.{list_any, range_with_len}
 use Rattle.p3_merkle_core.specs.Geometry.{Shape, IsArity, IsLawful, levels, step, raw_len, layer_len, ancestor, heights}
 use Rattle.p3_merkle_core.specs.Geometry.{widths, has_rows}
 use Rattle.p3_support.specs.Batches.{greatest}
-use Rattle.p3_merkle_core.specs.Nodes.{Functions, Batch, shape, node, compress, with_rows}
+use Rattle.p3_merkle_core.specs.Nodes.{Functions, Batch, shape, node, compress_padded, with_rows}
 use Rattle.p3_merkle_core.specs.Openings.{Opening, honest_rows, node_in, opening_of, siblings_by}
 use Rattle.p3_merkle_core.specs.Checks.{IsAccepted, Terms, layer_rows, layer_words}
 
@@ -26,7 +26,7 @@ boundary_at s queries l = map (λ j. (l, j)) (filter (is_boundary s queries l) (
 abbrev pub boundary : Shape → List ℕ → ℕ → List (ℕ × ℕ)
 boundary s queries t = flat_map (boundary_at s queries) (range_with_len 0 t)
 
--- their values
+-- the values of the boundary nodes below layer t, in wire order
 abbrev pub boundary_by : {X : Type 0} → (ℕ → ℕ → X) → Shape → List ℕ → ℕ → List X
 boundary_by value s queries t = map (λ (l, j). value l j) (boundary s queries t)
 
@@ -47,7 +47,8 @@ pub record CanQuery (s : Shape) (queries : List ℕ) (t : ℕ) : Type 0 where
 abbrev pub is_in : List (ℕ × ℕ) → ℕ → ℕ → Bool
 is_in given l j = list_any (λ (m, k). (m == l) && (k == j)) given
 
--- node j of layer l is known from the nodes in given
+-- node j of layer l is known from the nodes in given: it is one of them, or a queried leaf, or all its children are
+-- known; padding is known only if it is given, so its digests are sent like any other
 abbrev pub IsKnown : Shape → List ℕ → List (ℕ × ℕ) → ℕ → ℕ → Type 0
 IsKnown s queries given zero j = IsTrue (is_in given 0 j) ⊎ IsTrue (is_covered s queries 0 j)
 IsKnown s queries given (suc l) j =
@@ -58,7 +59,7 @@ IsKnown s queries given (suc l) j =
 abbrev pub Suffices : Shape → List ℕ → ℕ → List (ℕ × ℕ) → Type 0
 Suffices s queries t given = (j : ℕ) → IsTrue (is_covered s queries t j) → IsKnown s queries given t j
 
--- none of the nodes in given, of the layers up to t, is covered
+-- none of the nodes in given, of the layers up to t, is covered: covered nodes are computed, and never sent
 abbrev pub IsUncovered : Shape → List ℕ → ℕ → List (ℕ × ℕ) → Type 0
 IsUncovered s queries t given = (l j : ℕ) → l ≤ t → IsTrue (is_in given l j) → is_covered s queries l j ≡ false
 
@@ -122,7 +123,7 @@ restored_node c p (suc l) j =
     let f = c.functions in
     let s = c.shape in
     let child = λ (k : ℕ). if is_covered s p.indices l k then restored_node c p l k else sent_digest c p l k in
-    let digest = compress f s.arity (map (λ i. child (step s l * j + i)) (range_with_len 0 (step s l))) in
+    let digest = compress_padded f s.arity (map (λ i. child (step s l * j + i)) (range_with_len 0 (step s l))) in
     with_rows f s.arity (has_rows s (suc l)) digest (f.hash (words_under s p (suc l) j))
 
 -- the value of a covered node or a boundary node

@@ -6,6 +6,7 @@ use Rattle.std.specs.List.{list_all, range_with_len, enumerate_from}
 use Rattle.std.specs.Option.{option_or}
 use Rattle.std.specs.Cmp.Lexicographic.{pointwise}
 use Rattle.p3_merkle_core.specs.Geometry.{Shape, exponent, layer_exponent, ancestor, least, heights, widths}
+use Rattle.p3_support.specs.Answers.{AnswersUnless}
 use Rattle.p3_support.specs.Batches.{greatest, widths_of}
 use Rattle.p3_support.specs.declared.matrix.Dimensions.{Dimensions}
 use Rattle.p3_merkle_core.specs.Gate.{gate_refusal}
@@ -47,8 +48,7 @@ ok_unless (Some e) v = Err e
 
 -- Ok only where nothing is refused; an error is the refusal, or tells that memory ran out
 abbrev pub AnswersUnlessMemory : {V : Type 0} → Result V MerkleTreeError → Option MerkleTreeError → Type 0
-AnswersUnlessMemory result refusal =
-    MatchResult result (λ v. refusal ≡ None) (λ e. (e ≡ OutOfMemory) ⊎ (refusal ≡ Some e))
+AnswersUnlessMemory result refusal = AnswersUnless (λ e. e ≡ OutOfMemory) result refusal
 
 -- ---- slots
 
@@ -75,7 +75,7 @@ matrices_at s l =
 
 -- ---- the reasons
 
--- rows or row sets that are not as many as they should be
+-- the refusal of rows or row sets that are not as many as they should be
 abbrev pub size_refusal : ℕ → ℕ → Option MerkleTreeError
 size_refusal expected got = unless (expected == got) (WrongBatchSize expected got)
 
@@ -92,25 +92,25 @@ abbrev pub width_refusal : {T : Type 0} → List Dimensions → List (List T) �
 width_refusal dimensions rows =
     option_or (size_refusal (length dimensions) (length rows)) (row_width_refusal (widths_of dimensions) rows)
 
--- digests of a pruned proof that are not as many as they should be
+-- the refusal of digests of a pruned proof that are not as many as they should be
 abbrev pub digest_count_refusal : ℕ → ℕ → Option MerkleTreeError
 digest_count_refusal expected got = unless (expected == got) (MalformedPrunedProof (SiblingCountMismatch expected got))
 
--- a digest where there is no query
+-- the refusal of a digest where there is no query, before the indices are looked at
 abbrev pub idle_refusal : ℕ → ℕ → Option MerkleTreeError
 idle_refusal queries digests = if queries == 0 then digest_count_refusal 0 digests else None
 
--- indices whose highest is not below the tallest height m
+-- the refusal of the highest index, which is not below the tallest height m
 abbrev pub queries_refusal : ℕ → List ℕ → Option MerkleTreeError
 queries_refusal m indices = unless (nat_lt (greatest indices) m) (IndexOutOfBounds m (greatest indices))
 
--- a query whose row set is not that of the first query of its index
-abbrev pub repeat_refusal : {T W : Type 0} → (T → T → Bool) → PrunedOpening T W → Option MerkleTreeError
-repeat_refusal row_eq p =
+-- why a query is refused whose rows are not those of the first query of its index
+abbrev pub duplicate_refusal : {T W : Type 0} → (T → T → Bool) → PrunedOpening T W → Option MerkleTreeError
+duplicate_refusal row_eq p =
     first_of (λ (i, rows). unless (pointwise (pointwise row_eq) rows (rows_of p i))
     (MalformedPrunedProof (InconsistentDuplicateOpenings (slot_of p.indices i)))) (zip p.indices p.rows)
 
--- a row of matrix m, of layer l, that is not that of the lowest queried index under the same node
+-- the refusal of a row of matrix m, of layer l, that is not that of the lowest queried index under the same node
 abbrev pub row_refusal : {T W : Type 0} → (T → T → Bool) → Shape → PrunedOpening T W → ℕ → ℕ → ℕ →
     Option MerkleTreeError
 row_refusal row_eq s p l i m =
@@ -123,7 +123,7 @@ row_refusal row_eq s p l i m =
 abbrev pub slot_refusal : {T W : Type 0} → (T → T → Bool) → Shape → PrunedOpening T W → ℕ → ℕ → Option MerkleTreeError
 slot_refusal row_eq s p l i = first_of (row_refusal row_eq s p l i) (matrices_at s l)
 
--- the same of layer l, by ascending indices
+-- the first such row of layer l, by ascending indices
 abbrev pub layer_refusal : {T W : Type 0} → (T → T → Bool) → Shape → PrunedOpening T W → ℕ → Option MerkleTreeError
 layer_refusal row_eq s p l = first_of (slot_refusal row_eq s p l) (slots_below (greatest (heights s)) p.indices)
 
@@ -137,7 +137,7 @@ is_entry eq cap j digest = unwrap_or (option_map (λ entry. eq entry digest) (sl
 
 -- ---- single openings
 
--- siblings that are not as many as they should be
+-- the refusal of siblings that are not as many as they should be; the name of the error is the Rust crate's
 abbrev pub sibling_count_refusal : ℕ → ℕ → Option MerkleTreeError
 sibling_count_refusal expected got = unless (expected == got) (WrongHeight expected got)
 
@@ -185,7 +185,7 @@ pruned_refusal row_eq s t p =
     ∷ size_refusal (length p.indices) (length p.rows)
     ∷ idle_refusal (length p.indices) (length p.digests)
     ∷ queries_refusal (greatest (heights s)) p.indices
-    ∷ repeat_refusal row_eq p
+    ∷ duplicate_refusal row_eq p
     ∷ digest_count_refusal (length (boundary s p.indices t)) (length p.digests)
     ∷ first_of (λ i. width_refusal s.dimensions (rows_of p i)) (slots_below (greatest (heights s)) p.indices)
     ∷ group_refusal row_eq s t p

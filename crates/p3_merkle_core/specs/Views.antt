@@ -62,7 +62,7 @@ abbrev pub multi_made : {T W A B C : Type 0} → List ℕ → Vec (Vec (Vec T A)
     PrunedOpening T W
 multi_made indices opening = pruned_of indices (row_sets opening.0.items) opening.1.sibling_hashes.items
 
--- the same of row sets and a proof that are lent
+-- a pruned opening of some indices, by row sets and a proof that are lent
 abbrev pub pruned_lent : {T W A B : Type 0} → List ℕ → List (Vec (Vec T A) B) → PrunedProof (List W) → PrunedOpening T W
 pruned_lent indices rows proof = pruned_of indices (row_sets rows) proof.sibling_hashes.items
 

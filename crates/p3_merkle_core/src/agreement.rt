@@ -18,7 +18,7 @@ ghost use Rattle.p3_merkle_core.specs.Geometry.{has_rows, levels, height_limit, 
 ghost use Rattle.p3_merkle_core.specs.declared.error.MerkleTreeError.TheVariants.{OutOfMemory};
 ghost use Rattle.p3_merkle_core.specs.Pruning.{pruned_len};
 ghost use Rattle.p3_merkle_core.specs.Refusals.{digest_count_refusal, first_of, idle_refusal, pruned_refusal};
-ghost use Rattle.p3_merkle_core.specs.Refusals.{repeat_refusal, width_refusal, AnswersUnlessMemory};
+ghost use Rattle.p3_merkle_core.specs.Refusals.{duplicate_refusal, width_refusal, AnswersUnlessMemory};
 
 use crate::error::{MerkleTreeError, PrunedProofError};
 use crate::geometry::{check_widths, exponent_of};
@@ -109,7 +109,7 @@ fn check_repeats<T: Eq>(
     requires queried { AreDistinctOf queried.now indices.now }
     requires pairs { length indices.now ≡ length rows.now }
     ensures { let p = opened_of indices.now (row_sets rows.now) in
-        MatchResult result (λ ok. repeat_refusal T.eq p ≡ None) (λ e. repeat_refusal T.eq p ≡ Some e) }
+        MatchResult result (λ ok. duplicate_refusal T.eq p ≡ None) (λ e. duplicate_refusal T.eq p ≡ Some e) }
 {
     for query in 0..indices.len() {
         let slot = slot_of_index(&queried.indices, indices[query]);

@@ -21,13 +21,14 @@ pub record CanCommitSalted {T M : Type 0} (height width : M → ℕ) (row : M �
 
 -- a commitment to a batch, which is that of pairs with e salts a row
 pub record IsSaltedCommitment {T W A B : Type 0} {a : Ghosts A T} {b : Ghosts B T} (e : ℕ) (c : Terms T W)
-    (cap : List (List W)) (batch : Batch T) (own : List (List (List W)))
+    (cap : List (List W)) (batch : Batch T) (stored : List (List (List W)))
     (pairs : List (HorizontalPair T A B a b)) : Type 0 where
-  pub committed : IsCommitment c cap batch own
+  pub committed : IsCommitment c cap batch stored
   pub columns : HaveSaltColumns e pairs
 
--- with some salts and siblings the rows are accepted at an index under a cap
-abbrev pub IsSaltedShown : {T W : Type 0} → ℕ → List Dimensions → Terms T W → List (List W) → ℕ → List (List T) → Type 0
-IsSaltedShown {T =
-    T} {W = W} e dimensions c cap index rows = (salts : List (List T)) × (siblings : List (List W)) ×
-    IsSaltedAccepted e dimensions c cap (salted_of index rows salts siblings)
+-- some salts and siblings prove the rows at an index under a cap
+pub record HaveSaltedProof {T W : Type 0} (e : ℕ) (dimensions : List Dimensions) (c : Terms T W)
+    (cap : List (List W)) (index : ℕ) (rows : List (List T)) : Type 0 where
+  pub salts : List (List T)
+  pub siblings : List (List W)
+  pub is_accepted : IsSaltedAccepted e dimensions c cap (salted_of index rows salts siblings)

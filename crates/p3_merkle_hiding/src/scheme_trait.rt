@@ -21,7 +21,7 @@ ghost use Rattle.p3_merkle_hiding.specs.HidingSchemes.{generator_of, plain_of, s
 ghost use Rattle.p3_merkle_hiding.specs.HidingSchemes.{salted_pruned_lent, salted_pruned_made, salted_terms_of};
 ghost use Rattle.p3_merkle_hiding.specs.Inner.SaltedCommitmentLaws.{each_salted_shown, left_lawful, salted_rows_fit};
 ghost use Rattle.p3_merkle_hiding.specs.Inner.SaltedCommitmentLaws.{same_plain_is_equivalence};
-ghost use Rattle.p3_merkle_hiding.specs.SaltedCommitments.{CanCommitSalted, IsSaltedCommitment, IsSaltedShown};
+ghost use Rattle.p3_merkle_hiding.specs.SaltedCommitments.{CanCommitSalted, IsSaltedCommitment, HaveSaltedProof};
 ghost use Rattle.p3_merkle_salts.specs.Salted.{after_salts, salted_batch, IsAfterSome};
 ghost use Rattle.p3_merkle_salts.specs.SaltRefusals.{salted_commit_refusal, salted_pruned_refusal_under};
 ghost use Rattle.p3_merkle_salts.specs.SaltRefusals.{salted_refusal_under};
@@ -88,7 +88,7 @@ where
     ghost row_at = { halved_index };
 
     ghost is_shown = { λ s cap dimensions index rows.
-        IsSaltedShown SALT_ELEMS dimensions (salted_terms_of H.hash C.compression D s dimensions)
+        HaveSaltedProof SALT_ELEMS dimensions (salted_terms_of H.hash C.compression D s dimensions)
         (roots_of cap) index rows };
 
     ghost accepts = { λ s cap dimensions index rows proof.
@@ -258,7 +258,7 @@ where
         row_in_matrix M.height_of M.width_of M.row_of N (map left_of pairs) (left_lawful pairs tree.lawful) };
 
     ghost shown_by_one = { λ s cap dimensions index rows proof accepted.
-        (row_lists proof.0.items, proof.1.items, accepted) };
+        record { salts = row_lists proof.0.items; siblings = proof.1.items; is_accepted = accepted } };
 
     ghost shown_by_all = { λ s cap dimensions indices sets proof accepted.
         each_salted_shown SALT_ELEMS dimensions (salted_terms_of H.hash C.compression D s dimensions) (roots_of cap)

@@ -15,7 +15,7 @@ use Rattle.p3_support.specs.Batches.{greatest}
 use Rattle.std.proofs.lemmas.Simd.{map-map}
 use Rattle.p3_merkle_core.specs.Geometry.{heights, exponent, layer_exponent, step, raw_len, layer_len, expected_height}
 use Rattle.p3_merkle_core.specs.Geometry.{has_rows, IsLawful, height_at}
-use Rattle.p3_merkle_core.specs.Nodes.{Functions, Batch, shape, at_layer, joined_rows, row_digest, with_rows, compress}
+use Rattle.p3_merkle_core.specs.Nodes.{Functions, Batch, shape, at_layer, joined_rows, row_digest, with_rows, compress_padded}
 use Rattle.p3_merkle_core.specs.Nodes.{node, layer}
 use Rattle.p3_merkle_core.proofs.Checks.Completeness.{node_next}
 use Rattle.p3_merkle_core.proofs.Shapes.StepFacts.{layer_start}
@@ -199,7 +199,7 @@ node_past : {T W : Type 0} (f : Functions T W) (b : Batch T) (l j : ℕ) → raw
 unfolding node
 node_past f b l j h =
     cond-false (nat_lt j (raw_len (shape b) (suc l)))
-    (with_rows f b.arity (has_rows (shape b) (suc l)) (compress f b.arity (children_by (node f b) (shape b) l j))
+    (with_rows f b.arity (has_rows (shape b) (suc l)) (compress_padded f b.arity (children_by (node f b) (shape b) l j))
     (row_digest f (at_layer b (suc l)) j)) f.default_digest (le-ltb j (raw_len (shape b) (suc l)) h)
 
 -- a slot of the first layer
@@ -242,7 +242,7 @@ module _ {T W M : Type 0} (f : Functions T W) (n : ℕ) (height width_of : M →
         let top = greatest (heights s) in
         let x = layer_exponent s (suc l) in
         let group = children_by (node f whole) (shape whole) l j in
-        let c = compress f n group in
+        let c = compress_padded f n group in
         let more : v.step * suc j ≤ v.step * v.raw_len = mul-le-mul_left v.step h in
         let inside : step s l * j + step s l ≤ layer_len s l =
         rw (← k.step_is) (omega (arith, more, k.fits, mul-suc v.step j)) in

@@ -7,7 +7,7 @@ use Rattle.std.proofs.lemmas.Bool.{cases_Bool}
 use Rattle.std.proofs.lemmas.List.{drop_at, length-map, map-id, take_at}
 use Rattle.std.proofs.lemmas.List.FromFn.{length-range_with_len}
 use Rattle.p3_merkle_core.specs.Geometry.{Shape, has_rows, heights, layer_exponent, step}
-use Rattle.p3_merkle_core.specs.Nodes.{Functions, compress}
+use Rattle.p3_merkle_core.specs.Nodes.{Functions, compress_padded}
 use Rattle.p3_merkle_core.specs.Pruning.{CanQuery, IsAgreed, PrunedOpening, boundary, pruned_of}
 use Rattle.p3_merkle_core.specs.Inner.Covered.{covered_at}
 use Rattle.p3_merkle_core.specs.Pruning.{restored_node, value_of}
@@ -71,10 +71,10 @@ pieces_are g n h long js = pieces_from g n h long [] 0 (omega arith) js
 module _ {T W : Type 0} (f : Functions T W) (s : Shape) (t : ℕ) (p : PrunedOpening T W) (l : ℕ) where
   -- the digest of the children of node j
   abbrev below_digest : ℕ → List W
-  below_digest j = compress f s.arity (map (value_of (terms f s t) p l) (range_with_len (step s l * j) (step s l)))
+  below_digest j = compress_padded f s.arity (map (value_of (terms f s t) p l) (range_with_len (step s l * j) (step s l)))
 
-  below_is : (j : ℕ) → below_digest j ≡ compress f s.arity (group_values s (value_of (terms f s t) p) l j)
-  below_is j = ap (compress f s.arity) (group_is (value_of (terms f s t) p l) (step s l * j) (step s l))
+  below_is : (j : ℕ) → below_digest j ≡ compress_padded f s.arity (group_values s (value_of (terms f s t) p) l j)
+  below_is j = ap (compress_padded f s.arity) (group_is (value_of (terms f s t) p l) (step s l * j) (step s l))
 
   -- a node with rows, by its lead
   with_lead : IsAgreed s t p → suc l ≤ t → has_rows s (suc l) ≡ true → (k : ℕ) → k < length p.indices →
@@ -109,7 +109,7 @@ module _ {T W : Type 0} (f : Functions T W) (s : Shape) (t : ℕ) (p : PrunedOpe
       let pair = pair_digest f.compression s.arity f.default_digest in
       let nodes : map (group_digest f.compression s.arity f.default_digest (step s l) (flat_map group parents))
       (range_with_len 0 (length parents)) ≡ map below_digest parents =
-      pieces_are (compress f s.arity) (step s l) group
+      pieces_are (compress_padded f s.arity) (step s l) group
       (λ j. length-map (range_with_len (step s l * j) (step s l)) (value_of (terms f s t) p l)
       ∙ length-range_with_len (step s l * j) (step s l)) parents in
       let all : map (group_digest f.compression s.arity f.default_digest n children)

@@ -7,7 +7,7 @@ use Rattle.std.specs.Result.{result_map_both}
 use Rattle.std.proofs.lemmas.List.Elements.{AllZip-get_or}
 use Rattle.p3_support.specs.declared.matrix.Dimensions.{Dimensions}
 use Rattle.p3_merkle_core.specs.Checks.{Input, Terms, opened_row}
-use Rattle.p3_merkle_core.specs.Extraction.{AnswerAlike, AnswerRowTwice, IsExtraction}
+use Rattle.p3_merkle_core.specs.Extraction.{RowsAgreeWhereAuthenticated, RowsConflictAt, IsExtraction}
 use Rattle.p3_merkle_core.specs.Geometry.{Shape}
 use Rattle.p3_merkle_core.specs.Openings.{Opening, opening_of}
 use Rattle.p3_merkle_core.specs.Presented.{Presented}
@@ -40,7 +40,7 @@ module _ {T W : Type 0} (ds : List Dimensions) (o u : SaltedOpening T W) (a : Ha
       joined_at o.rows o.salts k a.in_pairs ∙ (λ i. row i ++ salt i) ∙ sym (joined_at u.rows u.salts k b.in_pairs)
 
   -- where rows or salts conflict, the rows followed by their salts do
-  conflict_joined : (s : Shape) (k : ℕ) → ConflictAt s o u k → AnswerRowTwice s (joined o) (joined u) k
+  conflict_joined : (s : Shape) (k : ℕ) → ConflictAt s o u k → RowsConflictAt s (joined o) (joined u) k
   conflict_joined s k conflict =
       record {
         exists = conflict.exists;
@@ -51,7 +51,7 @@ module _ {T W : Type 0} (ds : List Dimensions) (o u : SaltedOpening T W) (a : Ha
       }
 
   -- where they are joined alike, rows and salts agree, and the other way round
-  agree_joined : (c : Terms T W) → AnswerAlike c (joined o) (joined u) ↔ AgreeWhereAuthenticated c o u
+  agree_joined : (c : Terms T W) → RowsAgreeWhereAuthenticated c (joined o) (joined u) ↔ AgreeWhereAuthenticated c o u
   agree_joined c = (
     λ alike. record {
       siblings = alike.siblings;
@@ -115,33 +115,33 @@ module _ {T W : Type 0} (eq : T → T → Bool) (same : W → W → Bool) (rule 
         subst (λ (z : Opening T W × Opening T W). Holds z.0 z.1) (λ i. (sym (x.is a h) i, sym (y.is b g) i)) holds
 
     row_twice : (a b : ℕ) → a < first.queries → b < second.queries → (k : ℕ) →
-        ConflictAt c.shape (one a) (other b) k → AnswerRowTwice c.shape (first.query a) (second.query b) k
+        ConflictAt c.shape (one a) (other b) k → RowsConflictAt c.shape (first.query a) (second.query b) k
     row_twice a b h g k conflict =
-        to_queries (λ o u. AnswerRowTwice c.shape o u k) a b h g
+        to_queries (λ o u. RowsConflictAt c.shape o u k) a b h g
         (conflict_joined ds (one a) (other b) (x.salted a h) (y.salted b g) c.shape k conflict)
 
     agree : (a b : ℕ) → a < first.queries → b < second.queries →
-        AnswerAlike c (joined (one a)) (joined (other b)) ↔ AgreeWhereAuthenticated c (one a) (other b)
+        RowsAgreeWhereAuthenticated c (joined (one a)) (joined (other b)) ↔ AgreeWhereAuthenticated c (one a) (other b)
     agree a b h g = agree_joined ds (one a) (other b) (x.salted a h) (y.salted b g) c
 
     are_one : (a b : ℕ) → a < first.queries → b < second.queries → (one a).index ≡ (other b).index →
         (joined (one a) ≡ joined (other b)) ↔ (one a ≡ other b)
     are_one a b h g e = one_joined ds (one a) (other b) (x.salted a h) (y.salted b g) e
 
-  tells : (first.accepted → AreJoined ds first one) → (second.accepted → AreJoined ds second other) →
+  tells : (first.is_accepted → AreJoined ds first one) → (second.is_accepted → AreJoined ds second other) →
       (result : Result (Option (ℕ × ℕ × (Input T W × Input T W))) MerkleTreeError) →
       IsExtraction eq same rule c first second result → Tells result
   tells p q (Ok found) e =
-      let x = p e.accepted.0 in
-      let y = q e.accepted.1 in
+      let x = p e.both_accepted.0 in
+      let y = q e.both_accepted.1 in
       let indices = λ (each : EachOf (λ o u. o.index ≡ u.index)) (a b : ℕ) (h : a < first.queries)
       (g : b < second.queries). to_queries x y (λ o u. o.index ≡ u.index) a b h g (each a b h g) in
       record {
         one_index = λ each. (
           λ none a b h g. (agree x y a b h g).0
-              (from_queries x y (AnswerAlike c) a b h g ((e.one_index (indices each)).0 none a b h g)),
+              (from_queries x y (RowsAgreeWhereAuthenticated c) a b h g ((e.one_index (indices each)).0 none a b h g)),
           λ alike. (e.one_index (indices each)).1
-              (λ a b h g. to_queries x y (AnswerAlike c) a b h g ((agree x y a b h g).1 (alike a b h g))),
+              (λ a b h g. to_queries x y (RowsAgreeWhereAuthenticated c) a b h g ((agree x y a b h g).1 (alike a b h g))),
         );
         two_ways = λ (a, b, h, g, (k, there, conflict)).
             e.two_ways (a, b, h, g, (k, there, row_twice x y a b h g k conflict));
@@ -243,7 +243,7 @@ module _ {T W : Type 0} (eq : T → T → Bool) (same : W → W → Bool) (rule 
       AreJoined ds (presented_salted_pruned eq same e ds c cap p) (salted_opening_at c p)
   sets_joined p a =
       let many : length p.rows ≡ length p.indices = sym (as_many_sets p.rows p.salts a.in_pairs)
-      ∙ a.accepted.0.agreed.in_pairs in
+      ∙ a.accepted.restorable.agreed.in_pairs in
       record {
         salted = λ k h. AllZip-get_or (HaveSalts ds) p.rows p.salts k [] [] a.salted (omega (arith, many));
         is = λ k h i. opening_of (slice_index p.indices k) (sym (joined_set_at p.rows p.salts k a.in_pairs) i)

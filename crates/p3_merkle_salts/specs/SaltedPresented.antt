@@ -13,7 +13,7 @@ abbrev pub presented_salted : {T W : Type 0} → (W → W → Bool) → ℕ → 
     SaltedOpening T W → Presented T W
 presented_salted digest_eq e dimensions c cap o =
     record {
-      accepted = IsSaltedAccepted e dimensions c cap o;
+      is_accepted = IsSaltedAccepted e dimensions c cap o;
       refusal = salted_refusal_under digest_eq e dimensions c cap o;
       queries = 1;
       query = λ k. joined o;
@@ -24,7 +24,7 @@ abbrev pub presented_salted_pruned : {T W : Type 0} → (T → T → Bool) → (
     Terms T W → List (List W) → SaltedPruned T W → Presented T W
 presented_salted_pruned row_eq digest_eq e dimensions c cap p =
     record {
-      accepted = IsSaltedPrunedAccepted e dimensions c cap p;
+      is_accepted = IsSaltedPrunedAccepted e dimensions c cap p;
       refusal = salted_pruned_refusal_under row_eq digest_eq e dimensions c cap p;
       queries = length p.indices;
       query = opening_at c (joined_sets p);

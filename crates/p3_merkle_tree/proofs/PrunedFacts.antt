@@ -65,13 +65,13 @@ memory_when_unrefused : {V : Type 0} (r : Result V MerkleTreeError) (refusal : O
 memory_when_unrefused r refusal a none = subst (AnswersUnlessMemory r) none a
 
 -- an answer by the refusal is a verdict, where nothing is refused exactly of what is accepted
-pub verdict_by : {T W V : Type 0} (p : Presented T W) → (p.refusal ≡ None) ↔ p.accepted →
+pub verdict_by : {T W V : Type 0} (p : Presented T W) → (p.refusal ≡ None) ↔ p.is_accepted →
     (r : Result V MerkleTreeError) → AnswersUnlessMemory r p.refusal → IsVerdict p r
 verdict_by p decided r answer =
     record {
       answer = answer;
-      accepted = λ ok. decided.0 (unrefused_when_ok r p.refusal answer ok);
-      taken = λ accepted. memory_when_unrefused r p.refusal answer (decided.1 accepted);
+      ok_is_accepted = λ ok. decided.0 (unrefused_when_ok r p.refusal answer ok);
+      accepted_is_ok = λ accepted. memory_when_unrefused r p.refusal answer (decided.1 accepted);
     }
 
 -- so it is of a pruned opening

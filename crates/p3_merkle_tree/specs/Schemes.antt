@@ -17,40 +17,40 @@ module _ {P PW H C X G V W : Type 0} {N : ℕ} {p : packed.Ghosts P V} {pd : def
   abbrev pub hash_of : Scheme P PW H C X G N V W p pd pe q qd qe → H
   hash_of scheme = scheme.hash
 
-  -- its compression
+  -- the compression that a scheme was made of
   abbrev pub compression_of : Scheme P PW H C X G N V W p pd pe q qd qe → C
   compression_of scheme = scheme.compress
 
-  -- how many layers below the root its cap is asked for
+  -- how many layers below the root the scheme's cap is asked for
   abbrev pub cap_height_of : Scheme P PW H C X G N V W p pd pe q qd qe → ℕ
   cap_height_of scheme = scheme.cap_height
 
-  -- by which rule
+  -- the rule by which the layer of the scheme's cap is chosen
   abbrev pub cap_rule_of : Scheme P PW H C X G N V W p pd pe q qd qe → CapRule
   cap_rule_of scheme = scheme.cap_rule
 
-  -- the layer that is its cap, over a shape
+  -- the layer that is the scheme's cap over a shape
   abbrev pub cap_layer_over : Scheme P PW H C X G N V W p pd pe q qd qe → Shape → ℕ
   cap_layer_over scheme s = cap_layer s scheme.cap_rule scheme.cap_height
 
-  -- what its hasher and its compression compute, and the digest of d default words
+  -- what the scheme's hasher and compression compute, and the digest of d default words
   abbrev pub scheme_functions : (H → List V → List W) → (C → List (List W) → List W) → ℕ →
       Scheme P PW H C X G N V W p pd pe q qd qe → Functions V W
   scheme_functions hash compression d scheme =
       functions_of (hash scheme.hash) (compression scheme.compress) (replicate d q.default_value)
 
-  -- the terms of its checks over a tree of this shape
+  -- the terms of the scheme's checks over a tree of this shape
   abbrev pub terms_over : (H → List V → List W) → (C → List (List W) → List W) → ℕ →
       Scheme P PW H C X G N V W p pd pe q qd qe → Shape → Terms V W
   terms_over hash compression d scheme s =
       terms (scheme_functions hash compression d scheme) s (cap_layer_over scheme s)
 
-  -- the terms of its checks over matrices of these dimensions
+  -- the terms of the scheme's checks over matrices of these dimensions
   abbrev pub terms_of : (H → List V → List W) → (C → List (List W) → List W) → ℕ →
       Scheme P PW H C X G N V W p pd pe q qd qe → List Dimensions → Terms V W
   terms_of hash compression d scheme dimensions = terms_over hash compression d scheme (shape_of N dimensions)
 
-  -- the layer that is its cap over matrices of these dimensions
+  -- the layer that is the scheme's cap over matrices of these dimensions
   abbrev pub cap_layer_of : Scheme P PW H C X G N V W p pd pe q qd qe → List Dimensions → ℕ
   cap_layer_of scheme dimensions = cap_layer_over scheme (shape_of N dimensions)
 

@@ -2,7 +2,7 @@
 
 ghost use Rattle.std.specs.Prelude.{◌≡◌, ◌<◌, ◌↔◌, All, IfErr, IfOk, IsOk, List, length, map};
 ghost use Rattle.p3_merkle_prover.specs.Parts.{layers_of, matrices_of, tree_batch};
-ghost use Rattle.p3_merkle_core.specs.Commitments.{IsCommitment, IsOwn, IsShown};
+ghost use Rattle.p3_merkle_core.specs.Commitments.{IsCommitment, IsOwn, HaveProof};
 ghost use Rattle.p3_merkle_core.specs.Gate.{gate_refusal};
 ghost use Rattle.p3_merkle_core.specs.Geometry.{heights, shape_of, IsLawful, halved_index};
 ghost use Rattle.p3_merkle_core.specs.Nodes.{shape};
@@ -71,7 +71,7 @@ impl<
     ghost row_at = { halved_index };
 
     ghost is_shown = { λ s cap dimensions index rows.
-        IsShown (terms_of H.hash C.compression D s dimensions) (roots_of cap) index rows };
+        HaveProof (terms_of H.hash C.compression D s dimensions) (roots_of cap) index rows };
 
     ghost accepts = { λ s cap dimensions index rows siblings.
         IsAccepted (terms_of H.hash C.compression D s dimensions) (roots_of cap)
@@ -229,7 +229,8 @@ impl<
 
     ghost row_below = { λ tree. row_in_matrix M.height_of M.width_of M.row_of N (matrices_of tree) tree.lawful };
 
-    ghost shown_by_one = { λ s cap dimensions index rows siblings accepted. (siblings.items, accepted) };
+    ghost shown_by_one = { λ s cap dimensions index rows siblings accepted.
+        record { siblings = siblings.items; is_accepted = accepted } };
 
     ghost shown_by_all = { λ s cap dimensions indices sets proof accepted.
         each_shown (terms_of H.hash C.compression D s dimensions) (roots_of cap)

@@ -19,10 +19,11 @@ widths_of dimensions = map (λ d. d.width) dimensions
 abbrev pub dimensions_in : {M : Type 0} → (M → ℕ) → (M → ℕ) → List M → List Dimensions
 dimensions_in height width ms = map (λ m. record { width = width m; height = height m }) ms
 
--- of each matrix the row that belongs to an index: its number follows from the greatest height, the matrix's own and
--- the index
-abbrev pub rows_in : {T M : Type 0} → (M → ℕ) → (M → ℕ → List T) → (ℕ → ℕ → ℕ → ℕ) → ℕ → List M → ℕ → List (List T)
-rows_in height row row_at top ms index = map (λ m. row m (row_at top (height m) index)) ms
+-- the row of each matrix that belongs to an index, where `row_number top height index` says which row that is in a
+-- matrix of this height, and top is the greatest height
+abbrev pub rows_in : {T M : Type 0} → (height : M → ℕ) → (row : M → ℕ → List T) →
+    (row_number : (top height index : ℕ) → ℕ) → (top : ℕ) → List M → (index : ℕ) → List (List T)
+rows_in height row row_number top ms index = map (λ m. row m (row_number top (height m) index)) ms
 
 -- there is a row for each of the dimensions, as wide as they say, and the index is below the greatest height
 pub record FitDimensions {T : Type 0} (dimensions : List Dimensions) (index : ℕ) (rows : List (List T)) : Type 0 where

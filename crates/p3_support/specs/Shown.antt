@@ -1,4 +1,5 @@
--- What the values show that a commitment scheme hands out.
+-- What the values show that a commitment scheme hands out: `.items` is the list in a Vec, `.now` what a reference
+-- refers to.
 use Rattle.std.specs.Prelude.{List, map}
 use Rattle.std.specs.declared.vec.Vec.{Vec}
 use Rattle.p3_support.specs.declared.opening.DigestRef.{DigestRef}

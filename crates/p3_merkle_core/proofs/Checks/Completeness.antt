@@ -6,7 +6,7 @@ use Rattle.std.proofs.lemmas.Bool.{cond-true, cases_Bool, lt-ltb, eqb-true}
 use Rattle.p3_merkle_core.specs.Geometry.{Shape, IsLawful, exponent, layer_exponent, levels, ancestor, halved_index}
 use Rattle.p3_merkle_core.specs.Geometry.{heights, expected_height, raw_len, has_rows, IsArity}
 use Rattle.p3_support.specs.Batches.{greatest, heights_of}
-use Rattle.p3_merkle_core.specs.Nodes.{Functions, Batch, Matrix, shape, at_layer, joined_rows, compress, row_digest}
+use Rattle.p3_merkle_core.specs.Nodes.{Functions, Batch, Matrix, shape, at_layer, joined_rows, compress_padded, row_digest}
 use Rattle.p3_merkle_core.specs.Nodes.{with_rows, node, dimensions_of}
 use Rattle.p3_merkle_core.specs.Openings.{honest, honest_rows, Opening, siblings_by, children_by}
 use Rattle.p3_merkle_core.specs.Checks.{siblings_below, layer_words, group_at, path_digest}
@@ -86,19 +86,19 @@ node_leaf f b j h = cond-true (nat_lt j (raw_len (shape b) 0)) (f.hash (joined_r
 
 pub node_next : {T W : Type 0} (f : Functions T W) (b : Batch T) (l j : ℕ) → j < raw_len (shape b) (suc l) →
     node f b (suc l) j
-    ≡ with_rows f b.arity (has_rows (shape b) (suc l)) (compress f b.arity (children_by (node f b) (shape b) l j))
+    ≡ with_rows f b.arity (has_rows (shape b) (suc l)) (compress_padded f b.arity (children_by (node f b) (shape b) l j))
     (row_digest f (at_layer b (suc l)) j)
 unfolding node
 node_next f b l j h =
     cond-true (nat_lt j (raw_len (shape b) (suc l)))
-    (with_rows f b.arity (has_rows (shape b) (suc l)) (compress f b.arity (children_by (node f b) (shape b) l j))
+    (with_rows f b.arity (has_rows (shape b) (suc l)) (compress_padded f b.arity (children_by (node f b) (shape b) l j))
     (row_digest f (at_layer b (suc l)) j)) f.default_digest (lt-ltb j (raw_len (shape b) (suc l)) h)
 
 -- ---- the whole check
 
 pub reached_next : {T W : Type 0} (f : Functions T W) (s : Shape) (o : Opening T W) (l : ℕ) →
     path_digest f s o (suc l)
-    ≡ with_rows f s.arity (has_rows s (suc l)) (compress f s.arity (group_at f s o l (path_digest f s o l)))
+    ≡ with_rows f s.arity (has_rows s (suc l)) (compress_padded f s.arity (group_at f s o l (path_digest f s o l)))
     (f.hash (layer_words s o.rows (suc l)))
 unfolding path_digest
 reached_next f s o l = refl

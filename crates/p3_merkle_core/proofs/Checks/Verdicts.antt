@@ -171,8 +171,7 @@ pub pruned_accepted : {T W : Type 0} (row_eq : T → T → Bool) (digest_eq : W 
     (pruned_answer_under row_eq digest_eq (terms f s t) cap p ≡ Ok tt) ↔ IsPrunedAccepted (terms f s t) cap p
 pruned_accepted row_eq digest_eq f s t cap p dec dec_w w =
     let capped = pruned_capped row_eq digest_eq f s t cap p dec dec_w in
-    let alike = λ (r : IsRestorable s t p). equivalent f s t cap p w r.lawful r.below r.rows_fit r.agreed in
-    (
+    let alike = λ (r : IsRestorable s t p). equivalent f s t cap p w r.lawful r.below r.rows_fit r.agreed in (
       λ e.
           let both = capped.0 e in
           record { restorable = both.0; each_accepted = (alike both.0).0 both.1 },

@@ -12,7 +12,7 @@ use Rattle.p3_merkle_core.specs.Checks.{AgreeWhereShared, Input, IsAccepted, Ter
 use Rattle.p3_merkle_core.specs.Pruning.{PrunedOpening, opening_at}
 use Rattle.p3_merkle_core.specs.Refusals.{AnswersUnlessMemory, IsEquality, ok_unless, pruned_refusal_under}
 use Rattle.p3_merkle_core.specs.Refusals.{refusal_under}
-use Rattle.p3_merkle_core.specs.Extraction.{AnswerAlike, AnswerOneRowTwice, EachPair, IsExtraction, IsFirstCollision}
+use Rattle.p3_merkle_core.specs.Extraction.{RowsAgreeWhereAuthenticated, RowsConflictWhereAuthenticated, EachPair, IsExtraction, IsFirstCollision}
 use Rattle.p3_merkle_core.specs.Extraction.{difference_of, extraction, first_difference, first_pair}
 use Rattle.p3_merkle_core.specs.Presented.{Presented, presented, presented_pruned}
 use Rattle.p3_merkle_core.specs.Views.{found_alone, found_pair, inputs_in}
@@ -32,8 +32,8 @@ use Rattle.p3_merkle_core.proofs.Checks.Verdicts.{accepted_answer, accepted_from
 
 -- nothing is refused exactly where the opening is accepted, and then so is each query
 pub record IsPresentation {T W : Type 0} (c : Terms T W) (cap : List (List W)) (p : Presented T W) : Type 0 where
-  pub decided : (p.refusal ≡ None) ↔ p.accepted
-  pub each : p.accepted → (k : ℕ) → k < p.queries → IsAccepted c cap (p.query k)
+  pub decided : (p.refusal ≡ None) ↔ p.is_accepted
+  pub each : p.is_accepted → (k : ℕ) → k < p.queries → IsAccepted c cap (p.query k)
 
 pub single_presented : {T W : Type 0} (digest_eq : W → W → Bool) (c : Terms T W) (cap : List (List W))
     (o : Opening T W) → IsEquality digest_eq → IsPresentation c cap (presented digest_eq c cap o)
@@ -79,7 +79,7 @@ all_authenticated s rule cap_height w is k inside =
 module _ {T W : Type 0} (c : Terms T W) (cap : List (List W)) (o u : Opening T W) (w : IsArity c.shape.arity)
     (a : IsAccepted c cap o) (b : IsAccepted c cap u) where
   -- at one index they agree exactly where siblings and authenticated rows do
-  pub alike_at_one_index : o.index ≡ u.index → AgreeWhereShared c o u ↔ AnswerAlike c o u
+  pub alike_at_one_index : o.index ≡ u.index → AgreeWhereShared c o u ↔ RowsAgreeWhereAuthenticated c o u
   alike_at_one_index one =
       let both = authenticated_at_one_index c.functions c.shape c.layer cap o u w a b one in (
         λ agree. let parts = both.0 agree in record { siblings = parts.0; rows = parts.1 },
@@ -91,7 +91,7 @@ module _ {T W : Type 0} (c : Terms T W) (cap : List (List W)) (o u : Opening T W
   as_many_rows p accepted = sym (length-map p.rows length) ∙ ap length accepted.rows_fit ∙ widths_in_pairs c.shape
 
   -- where each matrix is authenticated, openings of one index that answer alike are one
-  pub one_opening : o.index ≡ u.index → AllAuthenticated c.shape c.layer → AnswerAlike c o u → o ≡ u
+  pub one_opening : o.index ≡ u.index → AllAuthenticated c.shape c.layer → RowsAgreeWhereAuthenticated c o u → o ≡ u
   one_opening one all alike =
       let first = as_many_rows o a in
       let second = as_many_rows u b in
@@ -101,7 +101,7 @@ module _ {T W : Type 0} (c : Terms T W) (cap : List (List W)) (o u : Opening T W
       λ i. record { index = one i; rows = rows i; siblings = alike.siblings i }
 
   -- where they agree, no authenticated row is answered in two ways
-  pub never_twice : AgreeWhereShared c o u → AnswerOneRowTwice c o u → ⊥
+  pub never_twice : AgreeWhereShared c o u → RowsConflictWhereAuthenticated c o u → ⊥
   never_twice agree twice =
       twice.2.two_ways (authenticated_bound c.functions c.shape c.layer cap o u w a b agree twice.0 twice.2.exists
       twice.1 twice.2.one_row)
@@ -129,7 +129,7 @@ module _ {T W : Type 0} (row_eq : T → T → Bool) (digest_eq : W → W → Boo
       (λ e a b h g. (agree a b).0 (pairs.0 e a b h g), λ each. pairs.1 (λ a b h g. (agree a b).1 (each a b h g)))
 
   -- the first difference of accepted openings is a collision, and all before it agree
-  some_is : first.accepted → second.accepted → (found : ℕ × ℕ × (Input T W × Input T W)) →
+  some_is : first.is_accepted → second.is_accepted → (found : ℕ × ℕ × (Input T W × Input T W)) →
       first_difference row_eq digest_eq c first second ≡ Some found → IsFirstCollision c first second found
   some_is a b found e =
       let one = one_pair difference first.queries second.queries found.0 found.1 found.2 e in
@@ -142,7 +142,7 @@ module _ {T W : Type 0} (row_eq : T → T → Bool) (digest_eq : W → W → Boo
             (no_difference row_eq digest_eq c (first.query i) (second.query j) dec dec_w).0 (one.3 i j before inside);
       }
 
-  memory_alone : (e : MerkleTreeError) → first.accepted → second.accepted →
+  memory_alone : (e : MerkleTreeError) → first.is_accepted → second.is_accepted →
       AnswersUnlessMemory {V = Option (ℕ × ℕ × (Input T W × Input T W))} (Err e)
       (option_or first.refusal second.refusal) →
       AnswersUnlessMemory {V = Option (ℕ × ℕ × (Input T W × Input T W))} (Err e) None
@@ -167,7 +167,7 @@ module _ {T W : Type 0} (row_eq : T → T → Bool) (digest_eq : W → W → Boo
       record {
         answer = answer;
         found = is;
-        accepted = (a, b);
+        both_accepted = (a, b);
         answered = λ x y. refl;
         none = (λ n. agree, λ each. refl);
         collision = tt;
@@ -193,7 +193,7 @@ module _ {T W : Type 0} (row_eq : T → T → Bool) (digest_eq : W → W → Boo
       record {
         answer = answer;
         found = is;
-        accepted = (a, b);
+        both_accepted = (a, b);
         answered = λ x y. refl;
         none = (λ n. absurd cc, λ each. absurd (differ each));
         collision = some_is a b found (sym is);
@@ -210,7 +210,7 @@ module _ {T W : Type 0} (row_eq : T → T → Bool) (digest_eq : W → W → Boo
       record {
         answer = answer;
         found = tt;
-        accepted = tt;
+        both_accepted = tt;
         answered = λ a b. memory_alone e a b answer;
         none = tt;
         collision = tt;

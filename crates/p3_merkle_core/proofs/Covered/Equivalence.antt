@@ -7,7 +7,7 @@ use Rattle.std.proofs.lemmas.Bool.{cases_Bool, cond-true, eqb-true, true≢false
 use Rattle.std.proofs.lemmas.List.Folds.{list_any_at}
 use Rattle.p3_merkle_core.specs.Geometry.{Shape, IsLawful, ancestor, heights, widths, has_rows, IsArity}
 use Rattle.p3_support.specs.Batches.{greatest}
-use Rattle.p3_merkle_core.specs.Nodes.{Functions, compress, with_rows}
+use Rattle.p3_merkle_core.specs.Nodes.{Functions, compress_padded, with_rows}
 use Rattle.p3_merkle_core.specs.Checks.{path_digest, layer_words, group_at, terms}
 use Rattle.p3_merkle_core.specs.Pruning.{PrunedOpening, is_covered, restored_node, value_of, opening_at, IsAgreed}
 use Rattle.p3_merkle_core.specs.Pruning.{IsCapped, EachAccepted, first_rows}
@@ -22,7 +22,7 @@ restored_leaf f s t p j = refl
 
 pub restored_next : {T W : Type 0} (f : Functions T W) (s : Shape) (t : ℕ) (p : PrunedOpening T W) (l j : ℕ) →
     restored_node (terms f s t) p (suc l) j
-    ≡ with_rows f s.arity (has_rows s (suc l)) (compress f s.arity (group_values s (value_of (terms f s t) p) l j))
+    ≡ with_rows f s.arity (has_rows s (suc l)) (compress_padded f s.arity (group_values s (value_of (terms f s t) p) l j))
     (f.hash (layer_words s (first_rows (λ i. ancestor s (suc l) i == j) p) (suc l)))
 unfolding restored_node
 restored_next f s t p l j = refl

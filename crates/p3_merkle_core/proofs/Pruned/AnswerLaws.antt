@@ -54,7 +54,7 @@ pub answered_alike : {T W : Type 0} (row_eq : T → T → Bool) (digest_eq : W �
 answered_alike row_eq digest_eq f s t cap p dec dec_w w ok =
     let whole = pruned_accepted row_eq digest_eq f s t cap p dec dec_w w in (
       λ e k h. accepted_answer digest_eq f s t cap (opening_at (terms f s t) p k) dec_w
-      ((whole.0 e).each_accepted k h),
+          ((whole.0 e).each_accepted k h),
       λ each. whole.1 (record {
         restorable = restorable row_eq s t p dec ok;
         each_accepted = λ k h. accepted_from digest_eq f s t cap (opening_at (terms f s t) p k) dec_w (each k h);

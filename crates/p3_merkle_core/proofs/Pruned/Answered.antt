@@ -13,7 +13,7 @@ use Rattle.p3_merkle_core.specs.Geometry.{Shape, exponent, layer_exponent, ances
 use Rattle.p3_merkle_core.specs.Gate.{gate_refusal}
 use Rattle.p3_merkle_core.specs.Pruning.{PrunedOpening, boundary, IsRestorable}
 use Rattle.p3_merkle_core.specs.Refusals.{first_of, first_some, lead, matrices_at, slots_below, slot_of, size_refusal}
-use Rattle.p3_merkle_core.specs.Refusals.{idle_refusal, queries_refusal, repeat_refusal, digest_count_refusal}
+use Rattle.p3_merkle_core.specs.Refusals.{idle_refusal, queries_refusal, duplicate_refusal, digest_count_refusal}
 use Rattle.p3_merkle_core.specs.Refusals.{width_refusal, row_refusal, group_refusal, pruned_refusal, pruned_answer}
 use Rattle.p3_merkle_core.specs.Refusals.{rows_of}
 use Rattle.p3_merkle_core.specs.declared.error.PrunedProofError.TheVariants.{SiblingCountMismatch}
@@ -29,7 +29,7 @@ record HasNoFault {T W : Type 0} (row_eq : T → T → Bool) (s : Shape) (t : �
   pub gate : gate_refusal (heights s) ≡ None
   pub sizes : length p.rows ≡ length p.indices
   pub index : queries_refusal (greatest (heights s)) p.indices ≡ None
-  pub repeat : repeat_refusal row_eq p ≡ None
+  pub repeat : duplicate_refusal row_eq p ≡ None
   pub count : length p.digests ≡ length (boundary s p.indices t)
   pub width : first_of (λ i. width_refusal s.dimensions (rows_of p i)) (slots_below (greatest (heights s)) p.indices)
       ≡ None
@@ -43,14 +43,14 @@ no_fault row_eq s t p e =
     let r8 = group_refusal row_eq s t p ∷ [] in
     let r7 = first_of (λ i. width_refusal s.dimensions (rows_of p i)) (slots_below m p.indices) ∷ r8 in
     let r6 = digest_count_refusal (length (boundary s p.indices t)) (length p.digests) ∷ r7 in
-    let r5 = repeat_refusal row_eq p ∷ r6 in
+    let r5 = duplicate_refusal row_eq p ∷ r6 in
     let r4 = queries_refusal m p.indices ∷ r5 in
     let r3 = idle_refusal n (length p.digests) ∷ r4 in
     let a = none_parts (gate_refusal (heights s)) (first_some (size_refusal n (length p.rows) ∷ r3)) e in
     let b = none_parts (size_refusal n (length p.rows)) (first_some r3) a.1 in
     let c = none_parts (idle_refusal n (length p.digests)) (first_some r4) b.1 in
     let d = none_parts (queries_refusal m p.indices) (first_some r5) c.1 in
-    let f = none_parts (repeat_refusal row_eq p) (first_some r6) d.1 in
+    let f = none_parts (duplicate_refusal row_eq p) (first_some r6) d.1 in
     let g = none_parts (digest_count_refusal (length (boundary s p.indices t)) (length p.digests)) (first_some r7)
     f.1 in
     let h = none_parts (first_of (λ i. width_refusal s.dimensions (rows_of p i)) (slots_below m p.indices))

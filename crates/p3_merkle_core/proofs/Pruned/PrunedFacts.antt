@@ -9,7 +9,7 @@ use Rattle.p3_support.specs.Batches.{greatest}
 use Rattle.p3_merkle_core.specs.Gate.{gate_refusal}
 use Rattle.p3_merkle_core.specs.Pruning.{PrunedOpening, boundary}
 use Rattle.p3_merkle_core.specs.Refusals.{digest_count_refusal, first_of, first_some, group_refusal, idle_refusal}
-use Rattle.p3_merkle_core.specs.Refusals.{pruned_refusal, queries_refusal, repeat_refusal, size_refusal, slots_below}
+use Rattle.p3_merkle_core.specs.Refusals.{pruned_refusal, queries_refusal, duplicate_refusal, size_refusal, slots_below}
 use Rattle.p3_merkle_core.specs.Refusals.{width_refusal, rows_of}
 use Rattle.p3_merkle_core.specs.Inner.Agreement.{distinct, early_refusal, first_query, late_refusal, layers_refusal}
 use Rattle.p3_merkle_core.specs.Inner.Agreement.{opened_of, opened_with, slot_rows}
@@ -92,13 +92,13 @@ pruned_early row_eq s t indices sets n e early =
     rw (length-replicate {A = List ℕ} n [])
     (at_some (gate_refusal hs ∷ size_refusal (length indices) (length sets) ∷ idle_refusal (length indices) n
     ∷ queries_refusal (greatest hs) indices ∷ [])
-    (repeat_refusal row_eq p ∷ number ∷ widths ∷ group_refusal row_eq s t p ∷ []) e early)
+    (duplicate_refusal row_eq p ∷ number ∷ widths ∷ group_refusal row_eq s t p ∷ []) e early)
 
 -- where nothing is refused early, the repeats decide, and then the number of digests
 pub pruned_counted : {T : Type 0} (row_eq : T → T → Bool) (s : Shape) (t : ℕ) (indices : List ℕ)
     (sets : List (List (List T))) (n : ℕ) (e : MerkleTreeError) →
     early_refusal (heights s) indices (length sets) n ≡ None →
-    first_some (repeat_refusal row_eq (opened_of indices sets)
+    first_some (duplicate_refusal row_eq (opened_of indices sets)
     ∷ digest_count_refusal (length (boundary s indices t)) n ∷ []) ≡ Some e →
     pruned_refusal row_eq s t (opened_with indices sets n) ≡ Some e
 pruned_counted row_eq s t indices sets n e early counted =
@@ -109,14 +109,14 @@ pruned_counted row_eq s t indices sets n e early counted =
     let rest = widths ∷ group_refusal row_eq s t p ∷ [] in
     rw (length-replicate {A = List ℕ} n [])
     (past_none (gate_refusal hs ∷ size_refusal (length indices) (length sets) ∷ idle_refusal (length indices) n
-    ∷ queries_refusal (greatest hs) indices ∷ []) (repeat_refusal row_eq p ∷ number ∷ rest) early
-    ∙ at_some (repeat_refusal row_eq p ∷ number ∷ []) rest e counted)
+    ∷ queries_refusal (greatest hs) indices ∷ []) (duplicate_refusal row_eq p ∷ number ∷ rest) early
+    ∙ at_some (duplicate_refusal row_eq p ∷ number ∷ []) rest e counted)
 
 -- where nothing else is refused, the answer is the late one
 pub pruned_late : {T : Type 0} (row_eq : T → T → Bool) (s : Shape) (t : ℕ) (leaves firsts indices : List ℕ)
     (sets : List (List (List T))) (n : ℕ) (answer : Option MerkleTreeError) →
     leaves ≡ distinct indices → firsts ≡ map (first_query indices) (distinct indices) →
-    early_refusal (heights s) indices (length sets) n ≡ None → repeat_refusal row_eq (opened_of indices sets)
+    early_refusal (heights s) indices (length sets) n ≡ None → duplicate_refusal row_eq (opened_of indices sets)
     ≡ None →
     digest_count_refusal (length (boundary s indices t)) n ≡ None → late_refusal row_eq s t leaves firsts sets
     ≡ answer → pruned_refusal row_eq s t (opened_with indices sets n) ≡ answer
@@ -126,7 +126,7 @@ pruned_late row_eq s t leaves firsts indices sets n answer listed is early repea
     let widths = first_of (λ i. width_refusal s.dimensions (rows_of p i)) (slots_below (greatest hs) indices) in
     let rest = widths ∷ group_refusal row_eq s t p ∷ [] in
     let number = digest_count_refusal (length (boundary s indices t)) n in
-    let counted = repeat_refusal row_eq p ∷ number ∷ rest in
+    let counted = duplicate_refusal row_eq p ∷ number ∷ rest in
     let firsts_none =
     past_none (gate_refusal hs ∷ size_refusal (length indices) (length sets) ∷ idle_refusal (length indices) n
     ∷ queries_refusal (greatest hs) indices ∷ []) counted early in
@@ -163,6 +163,6 @@ asked_of row_eq s t p e =
     let early = gate_refusal hs ∷ size_refusal (length is) (length p.rows) ∷ idle_refusal (length is) (length p.digests)
     ∷ queries_refusal (greatest hs) is ∷ [] in
     let widths = first_of (λ i. width_refusal s.dimensions (rows_of p i)) (slots_below (greatest hs) is) in
-    let rest = repeat_refusal row_eq p ∷ digest_count_refusal (length (boundary s is t)) (length p.digests) ∷ widths
+    let rest = duplicate_refusal row_eq p ∷ digest_count_refusal (length (boundary s is t)) (length p.digests) ∷ widths
     ∷ group_refusal row_eq s t p ∷ [] in
     asked_from hs is (length p.rows) (length p.digests) (front_none early rest e)

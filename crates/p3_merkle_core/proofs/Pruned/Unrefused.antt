@@ -15,7 +15,7 @@ use Rattle.p3_support.specs.Batches.{greatest, widths_of}
 use Rattle.p3_merkle_core.specs.Geometry.{Shape, exponent, layer_exponent, ancestor, least, layer_len, heights}
 use Rattle.p3_merkle_core.specs.Pruning.{PrunedOpening, is_boundary, boundary, boundary_at, IsRestorable}
 use Rattle.p3_merkle_core.specs.Refusals.{first_of, lead, matrices_at, slots_below, slot_of, unless, size_refusal}
-use Rattle.p3_merkle_core.specs.Refusals.{idle_refusal, queries_refusal, repeat_refusal, digest_count_refusal}
+use Rattle.p3_merkle_core.specs.Refusals.{idle_refusal, queries_refusal, duplicate_refusal, digest_count_refusal}
 use Rattle.p3_merkle_core.specs.Refusals.{width_refusal, row_refusal, group_refusal, pruned_refusal, pruned_answer}
 use Rattle.p3_merkle_core.specs.Refusals.{row_width_refusal, width_fault, rows_of, ok_unless}
 use Rattle.p3_merkle_core.specs.declared.error.PrunedProofError.TheVariants.{SiblingCountMismatch}
@@ -171,7 +171,7 @@ unrefused row_eq s t p dec w =
     let size = size_none (length p.indices) (length p.rows) (sym paired) in
     let idle = idle_none s t p.indices (length p.digests) w.count in
     let index = index_none top p.indices some w.below in
-    let repeat : repeat_refusal row_eq p ≡ None = all_pairs _ p.indices p.rows [] paired (λ k h.
+    let repeat : duplicate_refusal row_eq p ≡ None = all_pairs _ p.indices p.rows [] paired (λ k h.
     let i = get_or p.indices k 0 in
     let f = first i paired (query_is p.indices k h) in
     none_unless (pointwise (pointwise row_eq) (get_or p.rows k []) (rows_of p i))

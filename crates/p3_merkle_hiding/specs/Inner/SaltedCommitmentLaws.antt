@@ -19,7 +19,7 @@ use Rattle.p3_merkle_core.specs.Checks.{IsAccepted, Terms, terms}
 use Rattle.p3_merkle_core.specs.Pruning.{restored_path}
 use Rattle.p3_merkle_tree.specs.Inner.CommitmentLaws.{all_zip, greatest_is, same_is_equivalence}
 use Rattle.p3_merkle_hiding.specs.HidingSchemes.{plain_of}
-use Rattle.p3_merkle_hiding.specs.SaltedCommitments.{IsSaltedShown}
+use Rattle.p3_merkle_hiding.specs.SaltedCommitments.{HaveSaltedProof}
 use Rattle.p3_merkle_salts.specs.SaltedOpenings.{HaveSalts, IsSaltedPrunedAccepted, SaltedPruned, joined_sets}
 use Rattle.p3_merkle_salts.specs.SaltedOpenings.{salted_rows, salted_sets, widened}
 use Rattle.p3_merkle_salts.specs.Inner.SaltedParts.{pair_matrix}
@@ -83,23 +83,24 @@ module _ {T : Type 0} where
 
 -- of an accepted pruned opening each row set is shown to be that of its index
 pub each_salted_shown : {T W : Type 0} (e : ℕ) (ds : List Dimensions) (c : Terms T W) (cap : List (List W))
-    (o : SaltedPruned T W) → IsSaltedPrunedAccepted e ds c cap o → AllZip (IsSaltedShown e ds c cap) o.indices o.rows
+    (o : SaltedPruned T W) → IsSaltedPrunedAccepted e ds c cap o → AllZip (HaveSaltedProof e ds c cap) o.indices o.rows
 each_salted_shown {T} {W} e ds c cap o w =
     let long = length_sets o.rows o.salts w.in_pairs in
     let as_many : length o.rows ≡ length o.indices = sym long ∙ w.accepted.restorable.agreed.in_pairs in
-    all_zip (IsSaltedShown e ds c cap) o.indices o.rows 0 [] as_many (λ k inside.
+    all_zip (HaveSaltedProof e ds c cap) o.indices o.rows 0 [] as_many (λ k inside.
     let i = slice_index o.indices k in
     let path = restored_path c (joined_sets o) i in
     let here = subst (λ (rows : List (List T)). IsAccepted c cap (opening_of i rows path))
-    (set_at o.rows o.salts k w.in_pairs (omega (arith, as_many))) (w.accepted.each_accepted k inside) in (
-      slice_index_or o.salts k [],
-      path,
-      record {
+    (set_at o.rows o.salts k w.in_pairs (omega (arith, as_many))) (w.accepted.each_accepted k inside) in
+    record {
+      salts = slice_index_or o.salts k [];
+      siblings = path;
+      is_accepted = record {
         salted = zip_at (HaveSalts ds) o.rows o.salts [] [] k w.salted (omega (arith, as_many));
         can_widen = w.can_widen;
         accepted = here;
-      },
-    ))
+      };
+    })
 
 -- more columns leave the heights
 wide_heights : (e : ℕ) (ds : List Dimensions) → heights_of (widened e ds) ≡ heights_of ds
@@ -108,8 +109,9 @@ wide_heights e (d ∷ ds) = ap (λ (hs : List ℕ). d.height ∷ hs) (wide_heigh
 
 -- rows that are shown fit the dimensions, which are those of the matrices without salts
 pub salted_rows_fit : {T W : Type 0} (f : Functions T W) (n e t : ℕ) (ds : List Dimensions) (cap : List (List W))
-    (index : ℕ) (rows : List (List T)) → IsSaltedShown e ds (terms f (shape_of n (widened e ds)) t) cap index rows →
+    (index : ℕ) (rows : List (List T)) → HaveSaltedProof e ds (terms f (shape_of n (widened e ds)) t) cap index rows →
     FitDimensions ds index rows
-salted_rows_fit f n e t ds cap index rows (salts, siblings, w) =
+salted_rows_fit f n e t ds cap index rows proof =
+    let w = proof.is_accepted in
     let tall : greatest (heights_of (widened e ds)) ≡ greatest (heights_of ds) = ap greatest (wide_heights e ds) in
     record { rows_fit = w.salted.rows_fit; in_range = subst (λ height. index < height) tall w.accepted.in_range }

@@ -3,12 +3,12 @@ use Rattle.std.specs.Prelude.{◌≡◌, ℕ, ◌*◌, ◌≤◌, Bool, if◌the
 use Rattle.std.specs.List.{range_with_len}
 use Rattle.p3_support.specs.declared.matrix.Dimensions.{Dimensions}
 use Rattle.p3_merkle_core.specs.Geometry.{heights, IsArity, IsLawful}
-use Rattle.p3_merkle_core.specs.Nodes.{Functions, Batch, shape, compress, dimensions_of, with_rows}
+use Rattle.p3_merkle_core.specs.Nodes.{Functions, Batch, shape, compress_padded, dimensions_of, with_rows}
 use Rattle.p3_merkle_core.specs.declared.levels.Level.{Level}
 
 -- node j over some children, compressed once more with leaf j, the digest of its rows, if it has rows
 abbrev pub node_above : {T W : Type 0} → Functions T W → ℕ → (ℕ → List W) → Bool → ℕ → List (List W) → List W
-node_above f n leaf has j children = with_rows f n has (compress f n children) (leaf j)
+node_above f n leaf has j children = with_rows f n has (compress_padded f n children) (leaf j)
 
 -- a batch that is not refused, and the dimensions of its matrices
 pub record CanBuild {T : Type 0} (b : Batch T) (dimensions : List Dimensions) : Type 0 where

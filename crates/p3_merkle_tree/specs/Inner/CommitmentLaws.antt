@@ -6,7 +6,7 @@ use Rattle.std.proofs.Math.Nat.{div-one}
 use Rattle.std.proofs.lemmas.Bool.{lt-ltb}
 use Rattle.std.proofs.lemmas.List.{get_or_default}
 use Rattle.p3_merkle_core.specs.Geometry.{IsLawful, Shape, bits_reduced, shape_of, halved_index}
-use Rattle.p3_merkle_core.specs.Commitments.{IsShown}
+use Rattle.p3_merkle_core.specs.Commitments.{HaveProof}
 use Rattle.p3_merkle_core.specs.Views.{batch_of, heights_in, matrix_of}
 use Rattle.p3_merkle_core.specs.Nodes.{Functions, functions_of}
 use Rattle.p3_merkle_core.specs.Openings.{honest_rows}
@@ -72,16 +72,19 @@ all_zip holds (x ∷ xs) (y ∷ ys) a b same at =
 
 -- of an accepted pruned opening each row set is shown to be that of its index
 pub each_shown : {T W : Type 0} (c : Terms T W) (cap : List (List W)) (o : PrunedOpening T W) →
-    IsPrunedAccepted c cap o → AllZip (IsShown c cap) o.indices o.rows
-each_shown c cap o a = all_zip (IsShown c cap) o.indices o.rows 0 [] a.restorable.agreed.in_pairs
-    (λ k inside. (restored_path c o (slice_index o.indices k), a.each_accepted k inside))
+    IsPrunedAccepted c cap o → AllZip (HaveProof c cap) o.indices o.rows
+each_shown c cap o a = all_zip (HaveProof c cap) o.indices o.rows 0 [] a.restorable.agreed.in_pairs
+    (λ k inside. record {
+      siblings = restored_path c o (slice_index o.indices k);
+      is_accepted = a.each_accepted k inside;
+    })
 
 -- rows that are shown fit the dimensions
 pub shown_rows_fit : {T W : Type 0} (f : Functions T W) (n t : ℕ) (ds : List Dimensions) (cap : List (List W))
-    (index : ℕ) (rows : List (List T)) → IsShown (terms f (shape_of n ds) t) cap index rows →
+    (index : ℕ) (rows : List (List T)) → HaveProof (terms f (shape_of n ds) t) cap index rows →
     FitDimensions ds index rows
-shown_rows_fit f n t ds cap index rows (siblings, accepted) =
-    record { rows_fit = accepted.rows_fit; in_range = accepted.in_range }
+shown_rows_fit f n t ds cap index rows proof =
+    record { rows_fit = proof.is_accepted.rows_fit; in_range = proof.is_accepted.in_range }
 
 -- ---- the rows that belong to an index
 

@@ -24,7 +24,7 @@ returns-in_err-verify_batch_pruned-clause-memory g c =
     let is = c.args.indices.now in
     let shapes = ap (shape_of g.row.N) c.deref.ensures.value ∙ c.requires.dimensions in
     failed_alone r c.verify_batch_pruned.result _ (left.1 ∙ ap Err left.2) c.in_err-verify_batch_pruned.was
-    (c.verify_batch_pruned.ensures.verdict.taken
+    (c.verify_batch_pruned.ensures.verdict.accepted_is_ok
     (accepted_lent terms (shape_of g.row.N c.deref.result.now) (shape b) (roots_of c.args.committed.now.roots)
     (cap_over (terms (shape b)) b) (pruned_lent is c.deref-2.result.now opening.pruned_proof) (pruned_made is opening)
     shapes c.requires.committed.own_cap

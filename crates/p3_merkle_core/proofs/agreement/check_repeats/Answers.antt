@@ -1,6 +1,6 @@
 -- Each turn compares a query with the first one of its index.
 use Rattle.std.proofs.Common.{◌∙◌, Some, refl, ap, sym, arith}
-use Rattle.p3_merkle_core.specs.Refusals.{repeat_refusal}
+use Rattle.p3_merkle_core.specs.Refusals.{duplicate_refusal}
 use Rattle.p3_merkle_core.specs.Inner.Agreement.{opened_of}
 use Rattle.p3_support.specs.Shown.{row_sets}
 use Rattle.p3_merkle_core.proofs.Pruned.SlotFacts.{first_inside, repeat_turn, queried_at}
@@ -27,7 +27,7 @@ loop-query-preserved g c =
     let n = c.loop-query.query in
     let queried = queried_at indices n (omega arith) in
     (repeat_turn g.T.PartialEq.eq c.args.queried.now.first_queries.items indices c.args.rows.now
-    (repeat_refusal g.T.PartialEq.eq (opened_of indices (row_sets c.args.rows.now))) n
+    (duplicate_refusal g.T.PartialEq.eq (opened_of indices (row_sets c.args.rows.now))) n
     c.slot_of_index-slot.result c.index.result.now c.have_other_rows.result
     c.requires.queried.first_queries c.requires.pairs (omega arith)
     (c.slot_of_index-slot.ensures indices (c.deref.ensures.value ∙ c.requires.queried.indices) queried)
@@ -39,7 +39,7 @@ returns-then-have_other_rows g c =
     let n = c.loop-query.query in
     let queried = queried_at indices n (omega arith) in
     (repeat_turn g.T.PartialEq.eq c.args.queried.now.first_queries.items indices c.args.rows.now
-    (repeat_refusal g.T.PartialEq.eq (opened_of indices (row_sets c.args.rows.now))) n
+    (duplicate_refusal g.T.PartialEq.eq (opened_of indices (row_sets c.args.rows.now))) n
     c.slot_of_index-slot.result c.index.result.now c.have_other_rows.result
     c.requires.queried.first_queries c.requires.pairs (omega arith)
     (c.slot_of_index-slot.ensures indices (c.deref.ensures.value ∙ c.requires.queried.indices) queried)

@@ -12,9 +12,9 @@ open_batch-tells g _ _ _ _ _ c = record {
 
 pub verify_batch-tells : goal.verify_batch-tells
 verify_batch-tells g _ _ _ _ _ c = record {
-  accepted = c.ensures.accepted;
+  accepted = c.ensures.ok_is_accepted;
   answer = c.ensures.answer;
-  memory = λ accepted. memory_alone c.result (c.ensures.taken accepted);
+  memory = λ accepted. memory_alone c.result (c.ensures.accepted_is_ok accepted);
 }
 
 pub open_multi_batch-tells : goal.open_multi_batch-tells
@@ -26,7 +26,7 @@ open_multi_batch-tells g _ _ _ _ _ c = record {
 
 pub verify_multi_batch-tells : goal.verify_multi_batch-tells
 verify_multi_batch-tells g _ _ _ _ _ c = record {
-  accepted = c.ensures.accepted;
+  accepted = c.ensures.ok_is_accepted;
   answer = c.ensures.answer;
-  memory = λ accepted. memory_alone c.result (c.ensures.taken accepted);
+  memory = λ accepted. memory_alone c.result (c.ensures.accepted_is_ok accepted);
 }

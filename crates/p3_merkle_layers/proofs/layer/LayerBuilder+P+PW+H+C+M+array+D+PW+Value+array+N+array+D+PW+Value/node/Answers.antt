@@ -1,6 +1,6 @@
 -- The compression of the children, and of it with the digest of the rows.
 use Rattle.std.proofs.Common.{arith, ◌≡◌, ℕ, ◌+◌, ◌-◌, ◌*◌, ◌∷◌, ◌∙◌, ap, drop, replicate, take}
-use Rattle.p3_merkle_core.specs.Nodes.{compress, functions_of}
+use Rattle.p3_merkle_core.specs.Nodes.{compress_padded, functions_of}
 use Rattle.p3_merkle_layers.proofs.layer.LayerBuilder+P+PW+H+C+M+array+D+PW+Value+array+N+array+D+PW+Value.node.Goals as goal
 
 pub returns-then-level : goal.returns-then-level
@@ -17,8 +17,8 @@ returns-then-level g c =
     rw c.if-level.true
     (c.pair_digest.ensures
     ∙ ap (λ d. compression (d ∷ c.digest.result ∷ pad)) (c.children_digest-digest.ensures
-    ∙ ap (λ k. compress f n (take k rest)) few)
-    ∙ ap (λ r. compression (compress f n (take step rest) ∷ r ∷ pad)) c.digest.ensures)
+    ∙ ap (λ k. compress_padded f n (take k rest)) few)
+    ∙ ap (λ r. compression (compress_padded f n (take step rest) ∷ r ∷ pad)) c.digest.ensures)
 
 pub returns-else-level : goal.returns-else-level
 returns-else-level g c =
@@ -29,4 +29,4 @@ returns-else-level g c =
     let start : ℕ = step * c.args.j in
     let few : start + step - start ≡ step = omega arith in
     rw c.if-level.false (c.children_digest-digest.ensures
-    ∙ ap (λ k. compress f g.row.N (take k (drop start c.args.below.now))) few)
+    ∙ ap (λ k. compress_padded f g.row.N (take k (drop start c.args.below.now))) few)

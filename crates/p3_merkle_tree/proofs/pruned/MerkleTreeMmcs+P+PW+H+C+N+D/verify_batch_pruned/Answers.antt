@@ -29,4 +29,4 @@ returns g c =
     (pruned_lent c.args.indices.now c.args.rows.now c.args.proof.now)
     g.met.P.PackedValue.eq_is_equality g.met.PW.PackedValue.eq_is_equality scheme.arity c.check_pruned_opening.result
     answer in
-    record { verdict = verdict; count = λ ok. (verdict.accepted ok).restorable.count }
+    record { verdict = verdict; count = λ ok. (verdict.ok_is_accepted ok).restorable.count }

@@ -46,7 +46,7 @@ open_multi_batch-tells g _ _ _ _ _ c = record {
 
 pub verify_multi_batch-tells : goal.verify_multi_batch-tells
 verify_multi_batch-tells g _ _ _ _ _ c = record {
-  accepted = c.ensures.verdict.accepted;
+  accepted = c.ensures.verdict.ok_is_accepted;
   answer = c.ensures.verdict.answer;
-  memory = λ accepted. memory_alone c.result (c.ensures.verdict.taken accepted);
+  memory = λ accepted. memory_alone c.result (c.ensures.verdict.accepted_is_ok accepted);
 }
