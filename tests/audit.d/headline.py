@@ -1,4 +1,6 @@
-"""The contracts of the headline and the definitions that they need, as one text."""
+"""The contracts of the headline, the definitions that they need, and the types of these, as one text."""
+
+import re
 
 
 def headline_of(checks):
@@ -10,9 +12,8 @@ def headline_of(checks):
         words = checks.headline.of(module) if module else []
         if words:
             yield from definitions_of(module, words)
-    yield "-- ==== types of the code"
-    yield ""
-    yield from (f"-- {name}: {source}" for source, name in sorted(checks.headline.types))
+    for source, name in sorted(checks.headline.types):
+        yield from type_of(name, checks.sources.read(source).path)
 
 
 def contract_of(call, source, clauses):
@@ -39,3 +40,18 @@ def definitions_of(module, words):
         head = word.head
         yield from module.lines[word.start - 1 : word.end]
         yield ""
+
+
+def type_of(name, path):
+    """A type of the code, with its docstring; its name and where it stands, if it is no struct or enum."""
+    lines = path.read_text(encoding="utf-8").splitlines()
+    yield f"// ==== {name}: {path.relative_to(path.parents[3])}"
+    heads = [at for at, line in enumerate(lines) if re.match(rf"pub (struct|enum) {name}\b", line)]
+    for at in heads[:1]:
+        first = last = at
+        while re.match(r"///|#\[", lines[first - 1]):
+            first -= 1
+        while not re.match(r"}|.*;$", lines[last]):
+            last += 1
+        yield from lines[first : last + 1]
+    yield ""
