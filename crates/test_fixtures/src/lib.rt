@@ -1,6 +1,5 @@
-//! Matrices and a generator that the tests of several crates share, and a caller that is generic in the scheme.
+//! Matrices and a generator that the tests of several crates share.
 #![tactic(auto)]
 
-pub mod any_scheme;
 pub mod counting;
 pub mod matrices;

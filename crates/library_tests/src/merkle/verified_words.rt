@@ -1,7 +1,9 @@
-//! What a verifier that is generic in the scheme may do with rows that it has verified: read any word that their
-//! dimensions say is there.
-ghost use Rattle.std.specs.Prelude.{◌≡◌, ◌<◌, IfOk, length, map, slice_index};
-ghost use Rattle.p3_support.specs.Batches.{greatest, heights_of};
+//! What a caller that is generic in the scheme can prove: what the scheme opens is refused for want of memory alone, and
+//! any word that the dimensions say is there can be read out of verified rows.
+ghost use Rattle.std.specs.Prelude.{◌≡◌, ◌<◌, ◌↔◌, [], ◌∷◌, IfErr, IfOk, IsSome, length, map, slice_index};
+ghost use Rattle.p3_support.specs.Batches.{dimensions_in, greatest, heights_of};
+ghost use Rattle.p3_support.specs.RowMajor.{row_count, row_width};
+ghost use Rattle.p3_support.specs.Shown.{row_lists, row_sets};
 
 use p3_instances::fold::{FoldCompress, FoldHash};
 use p3_merkle_hiding::MerkleTreeHidingMmcs;
@@ -40,7 +42,10 @@ fn verified_word<T: Copy, M: Matrix<T>, S: Mmcs<T, M>>(
 ) -> Result<T, S::Error>
     requires matrix { place.matrix < length dimensions.now }
     requires column { place.column < slice_index (map (λ d. d.width) dimensions.now) place.matrix }
-    ensures { IfOk result (λ word. index < greatest (heights_of dimensions.now)) }
+    ensures index { IfOk result (λ word. index < greatest (heights_of dimensions.now)) }
+    ensures memory { S.accepts verifier.now commitment.now dimensions.now index
+        (row_lists opening.entry.opened_values.now) opening.entry.opening_proof.now →
+        IfErr result S.is_out_of_memory }
 {
     verifier.verify_batch(alloc, commitment, dimensions, index, opening)?;
     Ok(opening.opened_values[place.matrix][place.column])
@@ -65,7 +70,9 @@ fn verified_word_of<T: Copy, M: Matrix<T>, S: Mmcs<T, M>>(
     requires query { query < length indices.now }
     requires matrix { place.matrix < length dimensions.now }
     requires column { place.column < slice_index (map (λ d. d.width) dimensions.now) place.matrix }
-    ensures { IfOk result (λ word. slice_index indices.now query < greatest (heights_of dimensions.now)) }
+    ensures index { IfOk result (λ word. slice_index indices.now query < greatest (heights_of dimensions.now)) }
+    ensures memory { S.accepts_all verifier.now commitment.now dimensions.now indices.now (row_sets rows.now) proof.now →
+        IfErr result S.is_out_of_memory }
 {
     verifier.verify_multi_batch(alloc, commitment, dimensions, indices, rows, proof)?;
     Ok(rows[query][place.matrix][place.column])
@@ -76,7 +83,7 @@ fn verified_word_of<T: Copy, M: Matrix<T>, S: Mmcs<T, M>>(
 ///
 /// # Errors
 ///
-/// What the scheme answers.
+/// Only if memory runs out.
 fn words_opened<T: Copy, M: Matrix<T>, S: Mmcs<T, M>>(
     alloc: Global,
     scheme: &S,
@@ -86,8 +93,13 @@ fn words_opened<T: Copy, M: Matrix<T>, S: Mmcs<T, M>>(
     index: usize,
     place: Place,
 ) -> Result<Option<(T, T)>, S::Error>
+    requires commitment { S.commits_to scheme.now commitment.now prover_data.now }
+    requires dimensions { dimensions.now ≡ dimensions_in M.height_of M.width_of (S.matrices_in prover_data.now) }
     requires matrix { place.matrix < length dimensions.now }
     requires column { place.column < slice_index (map (λ d. d.width) dimensions.now) place.matrix }
+    ensures answer { IfOk result (λ words.
+        IsSome words ↔ (index < greatest (map M.height_of (S.matrices_in prover_data.now)))) }
+    ensures memory { IfErr result S.is_out_of_memory }
 {
     if index >= scheme.get_max_height(prover_data) {
         return Ok(None);
@@ -109,7 +121,7 @@ fn words_opened<T: Copy, M: Matrix<T>, S: Mmcs<T, M>>(
 ///
 /// # Errors
 ///
-/// What the scheme answers.
+/// Why the scheme doesn't commit to the matrices, or that there is no memory. What it opens is not refused.
 fn words_read<T: Copy, M: Matrix<T> + Drop, S: Mmcs<T, M>>(
     alloc: Global,
     scheme: &mut S,
@@ -118,8 +130,11 @@ fn words_read<T: Copy, M: Matrix<T> + Drop, S: Mmcs<T, M>>(
     index: usize,
     place: Place,
 ) -> Result<Option<(T, T)>, S::Error>
+    requires dimensions { dimensions.now ≡ dimensions_in M.height_of M.width_of matrices.items }
     requires matrix { place.matrix < length dimensions.now }
     requires column { place.column < slice_index (map (λ d. d.width) dimensions.now) place.matrix }
+    ensures answer { IfOk result (λ words. IsSome words ↔ (index < greatest (map M.height_of matrices.items))) }
+    ensures memory { S.can_commit matrices.items → IfErr result S.is_out_of_memory }
 {
     let (commitment, prover_data) = scheme.commit(alloc, matrices)?;
     words_opened::<T, M, S>(
@@ -152,7 +167,10 @@ type Plain = MerkleTreeMmcs<u32, u32, FoldHash<1>, FoldCompress<2, 1>, 2, 1>;
 type Salted = MerkleTreeHidingMmcs<u32, u32, FoldHash<1>, FoldCompress<2, 1>, ChaCha20Rng, 2, 1, 3>;
 
 /// The matrix of the rows 1, 2 and 3, 4, and that of the row 5.
-fn matrices(alloc: Global) -> Result<Vec<RowMajorMatrix<u32>>, AllocError> {
+fn matrices(alloc: Global) -> Result<Vec<RowMajorMatrix<u32>>, AllocError>
+    ensures { IfOk result (λ ms. dimensions_in row_count row_width ms.items ≡
+        record { width = 2; height = 2 } ∷ record { width = 1; height = 1 } ∷ []) }
+{
     let rows = two_rows(alloc, &[1, 2, 3, 4])?;
     let row = RowMajorMatrix::new(vec![in alloc; 5u32]?, 1);
     Ok(vec![in alloc; rows, row]?)
@@ -174,15 +192,21 @@ const OTHER: Place = Place {
 ///
 /// # Errors
 ///
-/// What the scheme answers.
+/// Why the scheme doesn't commit to the matrices, or that there is no memory. What it opens is not refused.
 fn four_and_five<M: Matrix<u32> + Drop, S: Mmcs<u32, M>>(
     alloc: Global,
     scheme: &mut S,
+    dimensions: &[Dimensions],
     first: Vec<M>,
     second: Vec<M>,
-) -> Result<[Option<(u32, u32)>; 2], S::Error> {
-    let four = words_read(alloc, scheme, &DIMENSIONS, first, 1, LAST)?;
-    let five = words_read(alloc, scheme, &DIMENSIONS, second, 0, OTHER)?;
+) -> Result<[Option<(u32, u32)>; 2], S::Error>
+    requires first { dimensions.now ≡ dimensions_in M.height_of M.width_of first.items }
+    requires second { dimensions.now ≡ dimensions_in M.height_of M.width_of second.items }
+    requires widths { map (λ d. d.width) dimensions.now ≡ 2 ∷ 1 ∷ [] }
+    ensures { S.can_commit first.items → S.can_commit second.items → IfErr result S.is_out_of_memory }
+{
+    let four = words_read(alloc, scheme, dimensions, first, 1, LAST)?;
+    let five = words_read(alloc, scheme, dimensions, second, 0, OTHER)?;
     Ok([four, five])
 }
 
@@ -190,7 +214,8 @@ fn four_and_five<M: Matrix<u32> + Drop, S: Mmcs<u32, M>>(
 fn a_generic_verifier_reads_plain_rows(rt: HostRuntime) -> Result<(), Fail> {
     let alloc = rt.alloc();
     let mut scheme = Plain::new(FoldHash, FoldCompress, 0);
-    let words = four_and_five(alloc, &mut scheme, matrices(alloc)?, matrices(alloc)?)?;
+    let (first, second) = (matrices(alloc)?, matrices(alloc)?);
+    let words = four_and_five(alloc, &mut scheme, &DIMENSIONS, first, second)?;
     assert_eq!(rt; words, [Some((4, 4)), Some((5, 5))]);
     Ok(())
 }
@@ -200,7 +225,8 @@ fn a_generic_verifier_reads_salted_rows(rt: HostRuntime) -> Result<(), Fail> {
     let alloc = rt.alloc();
     let rng = ChaCha20Rng::from_seed([7; 32]);
     let mut scheme = Salted::new(FoldHash, FoldCompress, 0, rng);
-    let words = four_and_five(alloc, &mut scheme, matrices(alloc)?, matrices(alloc)?)?;
+    let (first, second) = (matrices(alloc)?, matrices(alloc)?);
+    let words = four_and_five(alloc, &mut scheme, &DIMENSIONS, first, second)?;
     assert_eq!(rt; words, [Some((4, 4)), Some((5, 5))]);
     Ok(())
 }

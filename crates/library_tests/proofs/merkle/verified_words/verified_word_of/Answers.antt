@@ -31,8 +31,8 @@ index-requires-2 g c =
     has_column c.args.dimensions.now _ set.items c.args.place.matrix c.args.place.column c.index.result.now fit
     c.requires.matrix c.requires.column c.index.ensures
 
-pub returns : goal.returns
-returns g c =
+pub returns-clause-index : goal.returns-clause-index
+returns-clause-index g c =
     let each = g.met.S.Mmcs.shown_by_all _ _ _ _ _ _ (c.in_ok-verify_multi_batch.ensures.accepted refl) in
     let set = c.index-rows-query.result in
     (g.met.S.Mmcs.shown_fits _ _ _ _ _
