@@ -1,7 +1,8 @@
 //! Tests of trees and schemes that no line of a file of cases can say: generic code called at other packings and at
-//! longer digests, callers that are generic in the scheme or handle refusals by name, trees over exclusive or, openings
-//! and proofs that are written down and compared, and the errors of pruned proofs.
+//! longer digests, callers that are generic in the scheme or in its parts, or handle refusals by name, trees over
+//! exclusive or, openings and proofs that are written down and compared, and the errors of pruned proofs.
 
+mod accepted;
 mod calls;
 mod errors;
 mod exclusive_or;
