@@ -1,6 +1,6 @@
 //! The salted scheme as one of the schemes that commit to matrices.
 
-ghost use Rattle.std.specs.Prelude.{◌≡◌, ◌⊎◌, ◌<◌, [], All, IfErr, IfOk, IsOk, List, OnOk, map};
+ghost use Rattle.std.specs.Prelude.{◌≡◌, ◌⊎◌, ◌<◌, [], All, IfErr, IfOk, List, OnOk, map};
 ghost use Rattle.p3_merkle_prover.specs.Parts.{layers_of, matrices_of, tree_batch};
 ghost use Rattle.p3_merkle_core.specs.Commitments.{IsCommitment};
 ghost use Rattle.p3_merkle_core.specs.Geometry.{heights, shape_of, halved_index};
