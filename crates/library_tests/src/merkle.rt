@@ -3,6 +3,7 @@
 //! exclusive or, openings and proofs that are written down and compared, and the errors of pruned proofs.
 
 mod accepted;
+mod accepted_salted;
 mod calls;
 mod errors;
 mod exclusive_or;

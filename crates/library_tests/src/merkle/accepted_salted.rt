@@ -1,0 +1,257 @@
+//! Callers of the salted scheme that are generic in all that it is made of, and in the matrices: what a scheme opens of
+//! its own commitment is accepted, under the dimensions that the matrices show. They need no proof file.
+ghost use Rattle.std.specs.Prelude.{◌≡◌, IfErr, IfOk, map};
+ghost use Rattle.p3_merkle_core.specs.Commitments.{IsCommitment};
+ghost use Rattle.p3_merkle_core.specs.declared.error.MerkleTreeError.TheVariants.{OutOfMemory};
+ghost use Rattle.p3_merkle_hiding.specs.HidingSchemes.{salted_terms_of};
+ghost use Rattle.p3_merkle_hiding.specs.SaltedTrees.{HaveSaltColumns};
+ghost use Rattle.p3_merkle_tree.specs.Parts.{layers_of, matrices_of, tree_batch};
+ghost use Rattle.p3_support.specs.Batches.{dimensions_in};
+ghost use Rattle.p3_support.specs.Pairs.{left_of};
+ghost use Rattle.p3_support.specs.Shown.{roots_of};
+
+use crate::merkle::accepted::Judged;
+use p3_instances::fold::{FoldCompress, FoldHash};
+use p3_merkle_hiding::MerkleTreeHidingMmcs;
+use p3_merkle_hiding::hiding_mmcs::{SaltedMultiProof, SaltedProof, SaltedTree};
+use p3_merkle_tree::{
+    BatchOpening, BatchOpeningRef, MerkleCap, MerkleTreeError, check_indices, laws,
+};
+use p3_support::compress::PseudoCompressionFunction;
+use p3_support::hasher::CryptographicHasher;
+use p3_support::matrix::{Dimensions, Matrix, dimensions_of};
+use p3_support::packed::PackedValue;
+use p3_support::salts::SaltWord;
+use rand_core::CryptoRng;
+use std::alloc::Global;
+use std::test::Fail;
+use test_fixtures::counting::Counting;
+use test_fixtures::matrices::numbered;
+
+/// The rows of several indices, and the proof of them.
+type MultiOpening<T, W, const D: usize> = (Vec<Vec<Vec<T>>>, SaltedMultiProof<T, W, D>);
+
+/// What is committed to: the cap, the tree and the dimensions of the matrices.
+type Committed<T, W, M, const N: usize, const D: usize> = (
+    MerkleCap<T, [W; D]>,
+    SaltedTree<T, W, M, N, D>,
+    Vec<Dimensions>,
+);
+
+/// Commits to matrices, and makes their dimensions.
+///
+/// # Errors
+///
+/// Why the matrices are not committed to, or that there is no memory.
+fn committed<
+    P: PackedValue,
+    PW: PackedValue,
+    H: CryptographicHasher<P, PW, D>,
+    C: PseudoCompressionFunction<PW, N, D>,
+    R: CryptoRng,
+    M: Matrix<P::Value> + Drop,
+    const N: usize,
+    const D: usize,
+    const SALT_ELEMS: usize,
+>(
+    alloc: Global,
+    scheme: &mut MerkleTreeHidingMmcs<P, PW, H, C, R, N, D, SALT_ELEMS>,
+    matrices: Vec<M>,
+) -> Result<Committed<P::Value, PW::Value, M, N, D>, MerkleTreeError>
+where
+    P::Value: SaltWord,
+    ensures commitment { IfOk result (λ (cap, tree, dimensions).
+        IsCommitment (salted_terms_of H.hash C.compression D scheme.new dimensions.items) (roots_of cap)
+        (tree_batch tree) (layers_of tree)) }
+    ensures columns { IfOk result (λ (cap, tree, dimensions). HaveSaltColumns SALT_ELEMS (matrices_of tree)) }
+    ensures dimensions { IfOk result (λ (cap, tree, dimensions).
+        dimensions.items ≡ dimensions_in M.height_of M.width_of (map left_of (matrices_of tree))) }
+{
+    laws::dimensions::<P::Value, M, N>();
+    let dimensions = dimensions_of(alloc, &matrices)?;
+    let (cap, tree) = scheme.commit(alloc, matrices)?;
+    Ok((cap, tree, dimensions))
+}
+
+/// Opens an index of what is committed to, and verifies the opening.
+///
+/// # Errors
+///
+/// That the tree has no such index, or that there is no memory.
+fn judged_index<
+    P: PackedValue,
+    PW: PackedValue,
+    H: CryptographicHasher<P, PW, D>,
+    C: PseudoCompressionFunction<PW, N, D>,
+    R,
+    M: Matrix<P::Value>,
+    const N: usize,
+    const D: usize,
+    const SALT_ELEMS: usize,
+>(
+    alloc: Global,
+    scheme: &MerkleTreeHidingMmcs<P, PW, H, C, R, N, D, SALT_ELEMS>,
+    cap: &MerkleCap<P::Value, [PW::Value; D]>,
+    tree: &SaltedTree<P::Value, PW::Value, M, N, D>,
+    dimensions: &[Dimensions],
+    index: usize,
+) -> Result<Judged<BatchOpening<P::Value, SaltedProof<P::Value, PW::Value, D>>>, MerkleTreeError>
+    requires commitment { let c = salted_terms_of H.hash C.compression D scheme.now dimensions.now in
+        IsCommitment c (roots_of cap.now) (tree_batch tree.now) (layers_of tree.now) }
+    requires columns { HaveSaltColumns SALT_ELEMS (matrices_of tree.now) }
+    requires dimensions { dimensions.now ≡ dimensions_in M.height_of M.width_of (map left_of (matrices_of tree.now)) }
+    ensures accepted { IfOk result (λ (opening, verdict). IfErr verdict (λ e. e ≡ OutOfMemory)) }
+{
+    laws::dimensions::<P::Value, M, N>();
+    let max_height = scheme.get_max_height(tree);
+    if index >= max_height {
+        return Err(MerkleTreeError::IndexOutOfBounds { max_height, index });
+    }
+    let opening = scheme.open_batch(alloc, index, tree)?;
+    let lent = BatchOpeningRef::from(&opening);
+    let verdict = scheme.verify_batch(alloc, cap, dimensions, index, lent);
+    Ok((opening, verdict))
+}
+
+/// Commits to matrices, opens an index, and verifies the opening.
+///
+/// # Errors
+///
+/// Why the matrices are not committed to; that they have no such index; that there is no memory.
+fn judged_opening<
+    P: PackedValue,
+    PW: PackedValue,
+    H: CryptographicHasher<P, PW, D>,
+    C: PseudoCompressionFunction<PW, N, D>,
+    R: CryptoRng,
+    M: Matrix<P::Value> + Drop,
+    const N: usize,
+    const D: usize,
+    const SALT_ELEMS: usize,
+>(
+    alloc: Global,
+    scheme: &mut MerkleTreeHidingMmcs<P, PW, H, C, R, N, D, SALT_ELEMS>,
+    matrices: Vec<M>,
+    index: usize,
+) -> Result<Judged<BatchOpening<P::Value, SaltedProof<P::Value, PW::Value, D>>>, MerkleTreeError>
+where
+    P::Value: SaltWord,
+    ensures accepted { IfOk result (λ (opening, verdict). IfErr verdict (λ e. e ≡ OutOfMemory)) }
+{
+    let (cap, tree, dimensions) = committed(alloc, scheme, matrices)?;
+    judged_index(alloc, scheme, &cap, &tree, &dimensions, index)
+}
+
+/// Opens several indices of what is committed to by one proof, and verifies the opening.
+///
+/// # Errors
+///
+/// That the tree has not all the indices, or that there is no memory.
+fn judged_indices<
+    P: PackedValue,
+    PW: PackedValue,
+    H: CryptographicHasher<P, PW, D>,
+    C: PseudoCompressionFunction<PW, N, D>,
+    R,
+    M: Matrix<P::Value>,
+    const N: usize,
+    const D: usize,
+    const SALT_ELEMS: usize,
+>(
+    alloc: Global,
+    scheme: &MerkleTreeHidingMmcs<P, PW, H, C, R, N, D, SALT_ELEMS>,
+    cap: &MerkleCap<P::Value, [PW::Value; D]>,
+    tree: &SaltedTree<P::Value, PW::Value, M, N, D>,
+    dimensions: &[Dimensions],
+    indices: &[usize],
+) -> Result<Judged<MultiOpening<P::Value, PW::Value, D>>, MerkleTreeError>
+    requires commitment { let c = salted_terms_of H.hash C.compression D scheme.now dimensions.now in
+        IsCommitment c (roots_of cap.now) (tree_batch tree.now) (layers_of tree.now) }
+    requires columns { HaveSaltColumns SALT_ELEMS (matrices_of tree.now) }
+    requires dimensions { dimensions.now ≡ dimensions_in M.height_of M.width_of (map left_of (matrices_of tree.now)) }
+    ensures accepted { IfOk result (λ (opening, verdict). IfErr verdict (λ e. e ≡ OutOfMemory)) }
+{
+    laws::dimensions::<P::Value, M, N>();
+    check_indices(scheme.get_max_height(tree), indices)?;
+    let (rows, proof) = scheme.open_multi_batch(alloc, indices, tree)?;
+    let verdict = scheme.verify_multi_batch(alloc, cap, dimensions, indices, &rows, &proof);
+    Ok(((rows, proof), verdict))
+}
+
+/// Commits to matrices, opens several indices by one proof, and verifies the opening.
+///
+/// # Errors
+///
+/// Why the matrices are not committed to; that they have not all the indices; that there is no memory.
+fn judged_multi_opening<
+    P: PackedValue,
+    PW: PackedValue,
+    H: CryptographicHasher<P, PW, D>,
+    C: PseudoCompressionFunction<PW, N, D>,
+    R: CryptoRng,
+    M: Matrix<P::Value> + Drop,
+    const N: usize,
+    const D: usize,
+    const SALT_ELEMS: usize,
+>(
+    alloc: Global,
+    scheme: &mut MerkleTreeHidingMmcs<P, PW, H, C, R, N, D, SALT_ELEMS>,
+    matrices: Vec<M>,
+    indices: &[usize],
+) -> Result<Judged<MultiOpening<P::Value, PW::Value, D>>, MerkleTreeError>
+where
+    P::Value: SaltWord,
+    ensures accepted { IfOk result (λ (opening, verdict). IfErr verdict (λ e. e ≡ OutOfMemory)) }
+{
+    let (cap, tree, dimensions) = committed(alloc, scheme, matrices)?;
+    judged_indices(alloc, scheme, &cap, &tree, &dimensions, indices)
+}
+
+/// The scheme of two children over the fold functions, whose cap is the root, with one salt for each row. The salts
+/// are 1, 2, 3 and so on.
+fn scheme() -> MerkleTreeHidingMmcs<u32, u32, FoldHash<1>, FoldCompress<2, 1>, Counting, 2, 1, 1> {
+    let rng = Counting { step: 1, last: 0 };
+    MerkleTreeHidingMmcs::new(FoldHash, FoldCompress, 0, rng)
+}
+
+/// The widths and the heights of the matrices that are committed to. Each word is the number of its row.
+const SIZES: [(usize, usize); 2] = [(2, 4), (3, 2)];
+
+// The row j of the first matrix has the salt j + 1, and with it the digest 29792 + 993 * j; that of the second one has
+// the salt j + 5, and the digest 923526 + 30784 * j.
+
+#[test]
+fn an_index_is_opened_and_accepted(rt: HostRuntime) -> Result<(), Fail> {
+    let alloc = rt.alloc();
+    let (opening, verdict) = judged_opening(alloc, &mut scheme(), numbered(alloc, &SIZES)?, 3)?;
+    let (rows, (salts, siblings)) = (&opening.opened_values, &opening.opening_proof);
+    // 31778 is the digest of the row 2. That of the rows 0 and 1 is 954338 = 31 * 29792 + 30785 + 1, and with the row 0
+    // of the other matrix 31 * 954338 + 923526 + 1.
+    let shown = format!(in alloc; "{rows:?}, {salts:?}, {siblings:?}")?;
+    assert_eq!(rt;
+        shown.as_str(),
+        "[[3, 3], [1, 1, 1]], [[4], [6]], [[31778], [30508005]]"
+    );
+    assert_eq!(rt; verdict, Ok(()));
+    Ok(())
+}
+
+#[test]
+fn repeated_indices_are_opened_and_accepted(rt: HostRuntime) -> Result<(), Fail> {
+    let alloc = rt.alloc();
+    let matrices = numbered(alloc, &SIZES)?;
+    let (opening, verdict) = judged_multi_opening(alloc, &mut scheme(), matrices, &[3, 0, 3])?;
+    let (rows, (salts, proof)) = &opening;
+    let digests = &proof.sibling_hashes;
+    let shown = format!(in alloc; "{rows:?}")?;
+    let three = "[[3, 3], [1, 1, 1]]";
+    let expected = format!(in alloc; "[{three}, [[0, 0], [0, 0, 0]], {three}]")?;
+    assert_eq!(rt; shown, expected);
+    let shown = format!(in alloc; "{salts:?}, {digests:?}")?;
+    assert_eq!(rt;
+        shown.as_str(),
+        "[[[4], [6]], [[1], [5]], [[4], [6]]], [[30785], [31778]]"
+    );
+    assert_eq!(rt; verdict, Ok(()));
+    Ok(())
+}
