@@ -24,12 +24,12 @@ use p3_merkle_core::pruning::{
     MerkleAuthPath, PrunedBatchOpening, PrunedMerklePaths, PrunedProof, PrunedRows, check_indices,
     pruned_len_of,
 };
-use p3_merkle_multiproof::check::{Commitment, check_pruned_opening};
-use p3_merkle_multiproof::paths::restored_paths_of;
-use p3_merkle_multiproof::restorable::BorrowedOpening;
 use p3_merkle_prover::opener::cap_layer_in;
 use p3_merkle_prover::pruned::{digests_of_boundary, rows_of_indices};
 use p3_merkle_prover::tree::MerkleTree;
+use p3_merkle_verifier::check::{Commitment, check_pruned_opening};
+use p3_merkle_verifier::paths::restored_paths_of;
+use p3_merkle_verifier::restorable::BorrowedOpening;
 use p3_support::compress::PseudoCompressionFunction;
 use p3_support::hasher::CryptographicHasher;
 use p3_support::matrix::{Dimensions, Matrix};

@@ -2,3 +2,8 @@
 pub mod Checks
 pub mod Collisions
 pub mod Paths
+pub mod NodeDigests
+pub mod OpenedMatrices
+pub mod OpenedRows
+pub mod RestoredLevels
+pub mod QueryPairs

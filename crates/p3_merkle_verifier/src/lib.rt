@@ -1,15 +1,28 @@
-//! Checking openings of a tree, and extracting a collision from two of them.
+//! Checking openings of a tree, single and pruned, and extracting a collision from two of them.
 //!
-//! A check looks at the form of an opening first. Then it walks the leaf's path level by level up to the cap, and
-//! compares the digest there with the cap's entry. It borrows a hash and a compression, and knows no scheme.
+//! A check looks at the form of an opening first. Then it walks level by level up to the cap: over the leaf's path, or
+//! over the nodes that several indices cover, whose paths it can restore. It compares the digests there with the cap's
+//! entries. It borrows a hash and a compression, and knows no scheme.
 #![tactic(auto)]
 
+pub mod check;
 mod collision;
+mod compressor;
+mod covered;
 mod extraction;
 mod form;
 pub mod level;
 mod opened;
+mod opened_matrix;
 pub mod openings;
+mod parents;
 pub mod path;
+pub mod paths;
+pub mod pruned_extraction;
+mod pruned_level;
+pub mod restorable;
+mod restored;
 pub mod roots;
+mod rows;
+mod start;
 mod walk;

@@ -9,7 +9,7 @@ use Rattle.p3_merkle_core.specs.Pruning.{opening_at, pruned_of}
 use Rattle.p3_merkle_core.specs.Refusals.{AnswersUnlessMemory, pruned_refusal_under}
 use Rattle.p3_merkle_core.proofs.Collisions.ExtractionFacts.{all_authenticated, extracted_pair}
 use Rattle.p3_merkle_core.specs.Views.{pruned_lent}
-use Rattle.p3_merkle_multiproof.specs.Inner.QueryPairs.{ShowsPair}
+use Rattle.p3_merkle_verifier.specs.Inner.QueryPairs.{ShowsPair}
 use Rattle.p3_merkle_tree.specs.Schemes.{cap_layer_over, compression_of, hash_of, terms_of}
 use Rattle.p3_merkle_tree.proofs.CheckFacts.{terms_alike}
 use Rattle.p3_merkle_tree.proofs.extract_multi.MerkleTreeMmcs+P+PW+H+C+N+D.extract_collision_multi.Goals as goal

@@ -1,0 +1,55 @@
+-- Queries of two pruned openings, and the first pair of them whose checks differ.
+use Rattle.std.specs.Prelude.{◌≡◌, ◌<◌, ℕ, Bool, List, [], Option, length, option_map, slice_index_or}
+use Rattle.std.specs.List.{range_with_len}
+use Rattle.p3_merkle_core.specs.Views.{shown_paths, inputs_in}
+use Rattle.p3_merkle_core.specs.Extraction.{difference_of}
+use Rattle.p3_merkle_core.specs.Geometry.{Shape}
+use Rattle.p3_merkle_core.specs.Nodes.{Functions}
+use Rattle.p3_merkle_core.specs.Openings.{Opening, opening_of}
+use Rattle.p3_merkle_core.specs.Checks.{Input, terms}
+use Rattle.p3_support.specs.Shown.{row_sets}
+use Rattle.p3_merkle_core.specs.Pruning.{PrunedOpening, opening_at, pruned_of}
+use Rattle.p3_merkle_core.specs.Refusals.{first_of}
+use Rattle.p3_merkle_verifier.specs.Inner.Paths.{CanReach}
+use Rattle.p3_merkle_core.specs.declared.collision.InputPair.{InputPair}
+use Rattle.p3_merkle_verifier.specs.declared.pruned_extraction.RestoredQueries.{RestoredQueries}
+use Rattle.p3_merkle_verifier.specs.declared.restorable.BorrowedOpening.{BorrowedOpening}
+
+-- the pruned opening that is lent
+abbrev pub pruned_in : {T W : Type 0} → BorrowedOpening T (List W) → PrunedOpening T W
+pruned_in opening = pruned_of opening.indices.now (row_sets opening.sets.now) opening.sent.now
+
+-- query k, as an opening with its path
+abbrev pub query_in : {T W : Type 0} → RestoredQueries T (List W) → ℕ → Opening T W
+query_in queries k =
+    let (index, siblings) = slice_index_or (shown_paths queries.paths.items) k (0, []) in
+    opening_of index (slice_index_or (row_sets queries.sets.now) k []) siblings
+
+-- the queries can be checked up to the cap's layer: each has a row set, and a path with its siblings
+pub record CanCompare {T W : Type 0} (s : Shape) (cap_layer : ℕ) (queries : RestoredQueries T (List W)) : Type 0 where
+  pub in_pairs : length queries.sets.now ≡ length queries.paths.items
+  pub reach : (k : ℕ) → k < length queries.paths.items → CanReach s cap_layer (length (query_in queries k).siblings)
+
+-- the queries are those of a pruned opening, each with its restored path
+pub record AreQueriesOf {T W : Type 0} (f : Functions T W) (s : Shape) (cap_layer : ℕ) (p : PrunedOpening T W)
+    (queries : RestoredQueries T (List W)) : Type 0 where
+  pub as_many : length queries.paths.items ≡ length p.indices
+  pub each : (k : ℕ) → k < length p.indices → query_in queries k ≡ opening_at (terms f s cap_layer) p k
+
+-- the last inputs that the checks of two openings share and that differ, kept folded
+unfoldable pub query_difference : {T W : Type 0} → (T → T → Bool) → (W → W → Bool) → Functions T W → Shape → ℕ →
+    Opening T W → Opening T W → Option (Input T W × Input T W)
+query_difference row_eq digest_eq f s cap_layer o u = difference_of row_eq digest_eq (terms f s cap_layer) o u
+
+-- the first place below n at which d answers
+abbrev pub first_place : {X : Type 0} → (ℕ → Option X) → ℕ → Option (ℕ × X)
+first_place d n = first_of (λ b. option_map (λ x. (b, x)) (d b)) (range_with_len 0 n)
+
+module _ {T W : Type 0} where
+  -- what is found at a place shows these inputs at the same place, or there are none and nothing is found
+  abbrev pub ShowsAt : Option (ℕ × InputPair T (List W)) → Option (ℕ × (Input T W × Input T W)) → Type 0
+  ShowsAt found inputs = option_map (λ (b, pair). (b, inputs_in pair)) found ≡ inputs
+
+  -- the same at two places
+  abbrev pub ShowsPair : Option (ℕ × ℕ × InputPair T (List W)) → Option (ℕ × ℕ × (Input T W × Input T W)) → Type 0
+  ShowsPair found inputs = option_map (λ (a, b, pair). (a, b, inputs_in pair)) found ≡ inputs
