@@ -19,7 +19,7 @@ ghost use Rattle.p3_merkle_salts.specs.Inner.SaltedParts.{pair_matrix};
 use crate::hiding_mmcs::{MerkleTreeHidingMmcs, SaltedTree};
 use p3_merkle_core::error::MerkleTreeError;
 use p3_merkle_core::geometry::check_heights;
-use p3_merkle_layers::levels::batch_dimensions;
+use p3_merkle_prover::levels::batch_dimensions;
 use p3_merkle_salts::draw::salted_pairs;
 use p3_merkle_salts::join::check_widening;
 use p3_support::compress::PseudoCompressionFunction;

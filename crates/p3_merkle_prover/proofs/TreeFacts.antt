@@ -11,7 +11,7 @@ use Rattle.p3_merkle_core.specs.Geometry.{Shape, heights, layer_len, levels, raw
 use Rattle.p3_merkle_core.specs.Views.{batch_of, matrix_of, ClonesShowTheSame, ShowsTheSame}
 use Rattle.p3_merkle_core.specs.Nodes.{Functions, Batch, Matrix, shape, node, layer, layers}
 use Rattle.std.proofs.lemmas.Simd.{map-map}
-use Rattle.p3_merkle_layers.proofs.LayerFacts.{same_made}
+use Rattle.p3_merkle_prover.proofs.LayerFacts.{same_made}
 use Rattle.p3_merkle_core.proofs.Shapes.LadderFacts.{exponent_at_levels}
 use Rattle.p3_merkle_core.proofs.Shapes.RawFacts.{filled}
 

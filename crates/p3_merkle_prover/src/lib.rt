@@ -1,7 +1,11 @@
-//! The tree over a batch of matrices: how it is built, and how it opens one leaf or several.
+//! The tree over a batch of matrices: how its layers are built one above the other, and how it opens one leaf or
+//! several.
 #![tactic(auto)]
 
 mod copy;
+mod layer;
+pub mod layers;
+pub mod levels;
 pub mod opener;
 pub mod pruned;
 pub mod tree;

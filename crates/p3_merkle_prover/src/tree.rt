@@ -10,12 +10,12 @@ ghost use Rattle.p3_merkle_core.specs.Nodes.{functions_of, layers as layers_over
 ghost use Rattle.p3_merkle_core.specs.declared.error.MerkleTreeError.TheVariants.{OutOfMemory};
 ghost use Rattle.p3_merkle_core.specs.Refusals.{AnswersUnlessMemory};
 ghost use Rattle.p3_merkle_core.specs.Views.{batch_of, heights_in};
-ghost use Rattle.p3_merkle_layers.specs.Inner.Levels.{CanBuild};
+ghost use Rattle.p3_merkle_prover.specs.Inner.Levels.{CanBuild};
 
+use crate::layers::Builder;
+use crate::levels::batch_dimensions;
 use p3_merkle_core::error::MerkleTreeError;
 use p3_merkle_core::steps::KeptSteps;
-use p3_merkle_layers::layers::Builder;
-use p3_merkle_layers::levels::batch_dimensions;
 use p3_support::compress::PseudoCompressionFunction;
 use p3_support::hasher::CryptographicHasher;
 use p3_support::matrix::Matrix;

@@ -1,3 +1,0 @@
-pub mod LayerFacts
-pub mod BuildFacts
-pub mod NodeFacts
