@@ -10,8 +10,8 @@ use Rattle.p3_merkle_core.specs.Gate.{gate_refusal}
 use Rattle.p3_merkle_core.specs.Nodes.{Matrix, dimensions_of}
 use Rattle.p3_merkle_core.specs.declared.error.MerkleTreeError.{MerkleTreeError}
 use Rattle.p3_merkle_core.specs.declared.error.MerkleTreeError.TheVariants.{OutOfMemory}
-use Rattle.p3_merkle_salts.specs.Salted.{salted_matrices}
-use Rattle.p3_merkle_salts.specs.SaltedOpenings.{widened}
+use Rattle.p3_merkle_hiding.specs.Salted.{salted_matrices}
+use Rattle.p3_merkle_hiding.specs.SaltedOpenings.{widened}
 
 -- salted matrices have their heights
 heights_stay : {T : Type 0} (of_word : ℕ → T) (e : ℕ) (ms : List (Matrix T)) (s : Stream) →

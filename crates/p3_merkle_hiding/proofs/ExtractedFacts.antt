@@ -17,8 +17,8 @@ use Rattle.p3_merkle_core.specs.declared.collision.InputPair.{InputPair}
 use Rattle.p3_merkle_core.specs.declared.error.MerkleTreeError.{MerkleTreeError}
 use Rattle.p3_merkle_core.specs.declared.error.MerkleTreeError.TheVariants.{OutOfMemory}
 use Rattle.p3_merkle_core.proofs.Collisions.ExtractionFacts.{AllAuthenticated, extracted}
-use Rattle.p3_merkle_salts.specs.SaltedOpenings.{SaltedOpening, SaltedPruned}
-use Rattle.p3_merkle_salts.specs.SaltedPresented.{presented_salted, presented_salted_pruned}
+use Rattle.p3_merkle_hiding.specs.SaltedOpenings.{SaltedOpening, SaltedPruned}
+use Rattle.p3_merkle_hiding.specs.SaltedPresented.{presented_salted, presented_salted_pruned}
 use Rattle.p3_merkle_hiding.proofs.SaltedAnswers.{salted_presentation, salted_pruned_presentation}
 
 -- ---- what a call answers

@@ -19,13 +19,13 @@ use Rattle.p3_merkle_core.specs.declared.error.MerkleTreeError.TheVariants.{TooL
 use Rattle.p3_merkle_core.proofs.Pruned.NoneFacts.{fit_from, none_of_both, none_parts, unless_none}
 use Rattle.p3_merkle_core.proofs.Pruned.Unrefused.{each_width, size_none}
 use Rattle.p3_merkle_core.proofs.Checks.Verdicts.{accepted_answer, accepted_from, pruned_accepted}
-use Rattle.p3_merkle_salts.proofs.SaltFacts.{can_widen}
-use Rattle.p3_merkle_salts.specs.SaltRefusals.{first_too_wide, salt_refusal, salt_sets_refusal}
-use Rattle.p3_merkle_salts.specs.SaltRefusals.{salted_pruned_refusal_under, salted_refusal_under, salted_rows_refusal}
-use Rattle.p3_merkle_salts.specs.SaltRefusals.{salted_sets_refusal, widening_refusal}
-use Rattle.p3_merkle_salts.specs.SaltedOpenings.{CanWiden, HaveSalts, IsSaltedAccepted, IsSaltedPrunedAccepted}
-use Rattle.p3_merkle_salts.specs.SaltedOpenings.{SaltedOpening, SaltedPruned, joined, joined_sets, widened}
-use Rattle.p3_merkle_salts.specs.SaltedPresented.{presented_salted, presented_salted_pruned}
+use Rattle.p3_merkle_hiding.proofs.SaltFacts.{can_widen}
+use Rattle.p3_merkle_hiding.specs.SaltRefusals.{first_too_wide, salt_refusal, salt_sets_refusal}
+use Rattle.p3_merkle_hiding.specs.SaltRefusals.{salted_pruned_refusal_under, salted_refusal_under, salted_rows_refusal}
+use Rattle.p3_merkle_hiding.specs.SaltRefusals.{salted_sets_refusal, widening_refusal}
+use Rattle.p3_merkle_hiding.specs.SaltedOpenings.{CanWiden, HaveSalts, IsSaltedAccepted, IsSaltedPrunedAccepted}
+use Rattle.p3_merkle_hiding.specs.SaltedOpenings.{SaltedOpening, SaltedPruned, joined, joined_sets, widened}
+use Rattle.p3_merkle_hiding.specs.SaltedPresented.{presented_salted, presented_salted_pruned}
 use Rattle.p3_merkle_core.specs.Checks.{Terms}
 use Rattle.p3_merkle_core.proofs.Collisions.ExtractionFacts.{IsPresentation}
 

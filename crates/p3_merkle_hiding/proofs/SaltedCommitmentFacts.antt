@@ -10,7 +10,7 @@ use Rattle.p3_merkle_core.specs.Geometry.{Shape}
 use Rattle.p3_merkle_core.specs.Checks.{Terms}
 use Rattle.p3_support.specs.declared.matrix.Matrix.{Ghosts}
 use Rattle.p3_support.specs.declared.pair.HorizontalPair.{HorizontalPair}
-use Rattle.p3_merkle_salts.specs.SaltedTrees.{HaveSaltColumns}
+use Rattle.p3_merkle_hiding.specs.SaltedTrees.{HaveSaltColumns}
 use Rattle.p3_merkle_core.specs.Nodes.{Batch, dimensions_of, shape}
 use Rattle.p3_merkle_core.specs.declared.error.MerkleTreeError.{MerkleTreeError}
 use Rattle.p3_merkle_core.specs.declared.error.MerkleTreeError.TheVariants.{OutOfMemory}
@@ -18,9 +18,9 @@ use Rattle.p3_merkle_core.proofs.Shapes.GateFacts.{gate_lawful}
 use Rattle.p3_merkle_core.proofs.Pruned.NoneFacts.{none_of_both, none_parts}
 use Rattle.p3_merkle_core.proofs.Lists.ViewFacts.{dimensions_are}
 use Rattle.p3_merkle_hiding.proofs.SaltedAnswers.{widening}
-use Rattle.p3_merkle_salts.specs.SaltRefusals.{salted_commit_refusal, widening_refusal}
+use Rattle.p3_merkle_hiding.specs.SaltRefusals.{salted_commit_refusal, widening_refusal}
 use Rattle.p3_merkle_hiding.specs.SaltedCommitments.{CanCommitSalted, IsSaltedCommitment}
-use Rattle.p3_merkle_salts.specs.SaltedOpenings.{CanWiden}
+use Rattle.p3_merkle_hiding.specs.SaltedOpenings.{CanWiden}
 
 module _ {T M : Type 0} (height width : M → ℕ) (row : M → ℕ → List T) (e : ℕ) (ms : List M) where
   -- matrices are refused exactly if they can't be committed to

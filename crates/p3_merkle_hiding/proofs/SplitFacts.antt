@@ -17,12 +17,12 @@ use Rattle.p3_merkle_core.specs.Pruning.{pruned_of, IsPrunedAccepted}
 use Rattle.p3_merkle_core.specs.Openings.{honest_rows, opening_of}
 use Rattle.p3_merkle_core.specs.Checks.{IsAccepted, Terms}
 use Rattle.p3_merkle_prover.proofs.RowFacts.{row_inside}
-use Rattle.p3_merkle_salts.specs.SaltedOpenings.{CanWiden, HaveSalts, IsSaltedAccepted, IsSaltedPrunedAccepted}
-use Rattle.p3_merkle_salts.specs.SaltedOpenings.{salted_of, salted_pruned_of, salted_rows, salted_sets}
-use Rattle.p3_merkle_salts.specs.Inner.SaltedParts.{salt_parts, unsalted_parts, pair_matrix}
-use Rattle.p3_merkle_salts.specs.SaltedOpenings.{widened}
-use Rattle.p3_merkle_salts.specs.SaltedTrees.{HaveSaltColumns, left_batch, right_batch}
-use Rattle.p3_merkle_salts.specs.SaltedTrees.{unsalted_dimensions}
+use Rattle.p3_merkle_hiding.specs.SaltedOpenings.{CanWiden, HaveSalts, IsSaltedAccepted, IsSaltedPrunedAccepted}
+use Rattle.p3_merkle_hiding.specs.SaltedOpenings.{salted_of, salted_pruned_of, salted_rows, salted_sets}
+use Rattle.p3_merkle_hiding.specs.Inner.SaltedParts.{salt_parts, unsalted_parts, pair_matrix}
+use Rattle.p3_merkle_hiding.specs.SaltedOpenings.{widened}
+use Rattle.p3_merkle_hiding.specs.SaltedTrees.{HaveSaltColumns, left_batch, right_batch}
+use Rattle.p3_merkle_hiding.specs.SaltedTrees.{unsalted_dimensions}
 use Rattle.p3_support.specs.declared.matrix.Dimensions.{Dimensions}
 
 -- ---- rows that are taken apart

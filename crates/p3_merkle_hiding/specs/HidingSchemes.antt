@@ -12,7 +12,7 @@ use Rattle.p3_merkle_tree.specs.declared.mmcs.Scheme.{Scheme}
 use Rattle.p3_support.specs.declared.matrix.Dimensions.{Dimensions}
 use Rattle.p3_merkle_core.specs.Checks.{Terms}
 use Rattle.p3_merkle_tree.specs.Schemes.{terms_of}
-use Rattle.p3_merkle_salts.specs.SaltedOpenings.{SaltedOpening, SaltedPruned, widened}
+use Rattle.p3_merkle_hiding.specs.SaltedOpenings.{SaltedOpening, SaltedPruned, widened}
 use Rattle.p3_merkle_hiding.specs.declared.hiding_mmcs.HidingScheme.{HidingScheme}
 
 module _ {P PW H C R X G V W : Type 0} {N E : ℕ} {p : packed.Ghosts P V} {pd : default.Ghosts V}

@@ -1,9 +1,11 @@
-pub use Rattle.p3_merkle_salts.specs.Salted
-pub use Rattle.p3_merkle_salts.specs.SaltedOpenings
-pub use Rattle.p3_merkle_salts.specs.SaltRefusals
-pub use Rattle.p3_merkle_salts.specs.SaltedTrees
-pub use Rattle.p3_merkle_salts.specs.SaltedPresented
+pub mod Salted
+pub mod SaltedOpenings
+pub mod SaltRefusals
+pub mod SaltedTrees
+pub mod SaltedPresented
+pub mod SaltedExtraction
 pub mod HidingSchemes
 pub mod SaltedCommitments
+pub mod SaltExamples
 pub mod SaltedExamples
 pub mod Inner

@@ -9,8 +9,8 @@ use Rattle.p3_support.specs.declared.pair.HorizontalPair.{HorizontalPair}
 use Rattle.p3_merkle_core.specs.Geometry.{IsLawful}
 use Rattle.p3_merkle_core.specs.Nodes.{Batch}
 use Rattle.p3_merkle_core.specs.Checks.{Terms}
-use Rattle.p3_merkle_salts.specs.SaltedOpenings.{CanWiden, IsSaltedAccepted, salted_of}
-use Rattle.p3_merkle_salts.specs.SaltedTrees.{HaveSaltColumns}
+use Rattle.p3_merkle_hiding.specs.SaltedOpenings.{CanWiden, IsSaltedAccepted, salted_of}
+use Rattle.p3_merkle_hiding.specs.SaltedTrees.{HaveSaltColumns}
 
 -- matrices that can be committed to with e salts a row: their heights are lawful, and their widths with the salts are
 -- sizes

@@ -4,9 +4,9 @@ use Rattle.p3_support.specs.declared.matrix.Dimensions.{Dimensions}
 use Rattle.p3_merkle_core.specs.Geometry.{exponent}
 use Rattle.p3_merkle_core.specs.declared.error.MerkleTreeError.TheVariants.{EmptyBatch, TooLarge, WrongBatchSize}
 use Rattle.p3_merkle_core.specs.declared.error.MerkleTreeError.TheVariants.{WrongWidth}
-use Rattle.p3_merkle_salts.specs.SaltRefusals.{salted_commit_refusal, salted_rows_refusal, salted_sets_refusal}
-use Rattle.p3_merkle_salts.specs.SaltedOpenings.{salted_rows, widened}
-use Rattle.p3_merkle_salts.specs.Inner.SaltedParts.{salt_parts, unsalted_parts}
+use Rattle.p3_merkle_hiding.specs.SaltRefusals.{salted_commit_refusal, salted_rows_refusal, salted_sets_refusal}
+use Rattle.p3_merkle_hiding.specs.SaltedOpenings.{salted_rows, widened}
+use Rattle.p3_merkle_hiding.specs.Inner.SaltedParts.{salt_parts, unsalted_parts}
 
 -- one matrix of this width and height
 abbrev one : ℕ → ℕ → List Dimensions

@@ -10,18 +10,18 @@ ghost use Rattle.p3_merkle_core.specs.declared.error.MerkleTreeError.TheVariants
 ghost use Rattle.p3_support.specs.Pairs.{left_of};
 ghost use Rattle.p3_support.specs.Shown.{roots_of};
 ghost use Rattle.p3_merkle_hiding.specs.HidingSchemes.{generator_of, plain_of, salted_terms_of};
-ghost use Rattle.p3_merkle_salts.specs.Salted.{after_salts, salted_batch, salted_matrices, IsAfterSome};
-ghost use Rattle.p3_merkle_salts.specs.SaltRefusals.{salted_commit_refusal};
-ghost use Rattle.p3_merkle_salts.specs.SaltedOpenings.{CanWiden};
-ghost use Rattle.p3_merkle_salts.specs.SaltedTrees.{HaveSaltColumns};
-ghost use Rattle.p3_merkle_salts.specs.Inner.SaltedParts.{pair_matrix};
+ghost use Rattle.p3_merkle_hiding.specs.Salted.{after_salts, salted_batch, salted_matrices, IsAfterSome};
+ghost use Rattle.p3_merkle_hiding.specs.SaltRefusals.{salted_commit_refusal};
+ghost use Rattle.p3_merkle_hiding.specs.SaltedOpenings.{CanWiden};
+ghost use Rattle.p3_merkle_hiding.specs.SaltedTrees.{HaveSaltColumns};
+ghost use Rattle.p3_merkle_hiding.specs.Inner.SaltedParts.{pair_matrix};
 
+use crate::draw::salted_pairs;
 use crate::hiding_mmcs::{MerkleTreeHidingMmcs, SaltedTree};
+use crate::join::check_widening;
 use p3_merkle_core::error::MerkleTreeError;
 use p3_merkle_core::geometry::check_heights;
 use p3_merkle_prover::levels::batch_dimensions;
-use p3_merkle_salts::draw::salted_pairs;
-use p3_merkle_salts::join::check_widening;
 use p3_support::compress::PseudoCompressionFunction;
 use p3_support::hasher::CryptographicHasher;
 use p3_support::matrix::{Dimensions, Matrix, RowMajorMatrix};

@@ -7,9 +7,9 @@ ghost use Rattle.p3_merkle_core.specs.declared.cap.CapRule.TheVariants.{Lowered}
 ghost use Rattle.p3_merkle_tree.specs.Schemes.{cap_rule_of};
 ghost use Rattle.p3_support.specs.Shown.{roots_of};
 ghost use Rattle.p3_merkle_hiding.specs.HidingSchemes.{plain_of, salted_lent, salted_pruned_lent, salted_terms_of};
-ghost use Rattle.p3_merkle_salts.specs.SaltedExtraction.{AgreeWhereAuthenticated, ConflictSomewhere};
-ghost use Rattle.p3_merkle_salts.specs.SaltedExtraction.{ConflictWhereAuthenticated, EachSaltedPair, SomeSaltedPair};
-ghost use Rattle.p3_merkle_salts.specs.SaltedPresented.{presented_salted, presented_salted_pruned};
+ghost use Rattle.p3_merkle_hiding.specs.SaltedExtraction.{AgreeWhereAuthenticated, ConflictSomewhere};
+ghost use Rattle.p3_merkle_hiding.specs.SaltedExtraction.{ConflictWhereAuthenticated, EachSaltedPair, SomeSaltedPair};
+ghost use Rattle.p3_merkle_hiding.specs.SaltedPresented.{presented_salted, presented_salted_pruned};
 
 use crate::hiding_mmcs::{MerkleTreeHidingMmcs, SaltedMultiProof, SaltedProof};
 use crate::joined::{SaltedRows, SaltedSets};

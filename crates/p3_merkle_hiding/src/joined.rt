@@ -2,14 +2,14 @@
 
 ghost use Rattle.std.specs.Prelude.{◌≡◌, IfOk};
 ghost use Rattle.p3_merkle_core.specs.Refusals.{AnswersUnlessMemory};
-ghost use Rattle.p3_merkle_salts.specs.SaltRefusals.{salted_rows_refusal, salted_sets_refusal};
-ghost use Rattle.p3_merkle_salts.specs.SaltedOpenings.{salted_rows, salted_sets, widened};
+ghost use Rattle.p3_merkle_hiding.specs.SaltRefusals.{salted_rows_refusal, salted_sets_refusal};
+ghost use Rattle.p3_merkle_hiding.specs.SaltedOpenings.{salted_rows, salted_sets, widened};
 ghost use Rattle.p3_support.specs.Shown.{row_lists, row_sets};
 
-use p3_merkle_core::error::MerkleTreeError;
-use p3_merkle_salts::join::{
+use crate::join::{
     check_salt_sets, check_salts, check_widening, joined_row_sets, joined_rows, widened_dimensions,
 };
+use p3_merkle_core::error::MerkleTreeError;
 use p3_support::matrix::Dimensions;
 use std::alloc::Global;
 

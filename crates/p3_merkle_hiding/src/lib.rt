@@ -1,15 +1,21 @@
 //! Merkle commitments with salts: each row is followed by random words before it is hashed. That this hides the rows is
 //! not proved.
+//!
+//! Salts are drawn beside the matrices. Rows of an opening are joined with their salts, the plain scheme does the rest,
+//! and what it opens is split.
 #![tactic(auto)]
 
 mod commit;
+mod draw;
 mod extract;
 mod fork;
 pub mod hiding_mmcs;
+mod join;
 mod joined;
+pub mod laws;
 mod open;
+mod pairs;
 mod scheme_trait;
 mod verify;
 
 pub use hiding_mmcs::{MerkleTreeHidingMmcs, SaltedMultiProof, SaltedProof, SaltedTree};
-pub use p3_merkle_salts::laws;

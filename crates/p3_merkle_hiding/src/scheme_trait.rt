@@ -22,13 +22,13 @@ ghost use Rattle.p3_merkle_hiding.specs.HidingSchemes.{salted_pruned_lent, salte
 ghost use Rattle.p3_merkle_hiding.specs.Inner.SaltedCommitmentLaws.{each_salted_shown, left_lawful, salted_rows_fit};
 ghost use Rattle.p3_merkle_hiding.specs.Inner.SaltedCommitmentLaws.{same_plain_is_equivalence};
 ghost use Rattle.p3_merkle_hiding.specs.SaltedCommitments.{CanCommitSalted, IsSaltedCommitment, HaveSaltedProof};
-ghost use Rattle.p3_merkle_salts.specs.Salted.{after_salts, salted_batch, IsAfterSome};
-ghost use Rattle.p3_merkle_salts.specs.SaltRefusals.{salted_commit_refusal, salted_pruned_refusal_under};
-ghost use Rattle.p3_merkle_salts.specs.SaltRefusals.{salted_refusal_under};
-ghost use Rattle.p3_merkle_salts.specs.SaltedOpenings.{salted_of, salted_pruned_of, widened, IsSaltedAccepted};
-ghost use Rattle.p3_merkle_salts.specs.SaltedOpenings.{IsSaltedPrunedAccepted};
-ghost use Rattle.p3_merkle_salts.specs.SaltedPresented.{presented_salted, presented_salted_pruned};
-ghost use Rattle.p3_merkle_salts.specs.SaltedTrees.{right_batch, HaveSaltColumns};
+ghost use Rattle.p3_merkle_hiding.specs.Salted.{after_salts, salted_batch, IsAfterSome};
+ghost use Rattle.p3_merkle_hiding.specs.SaltRefusals.{salted_commit_refusal, salted_pruned_refusal_under};
+ghost use Rattle.p3_merkle_hiding.specs.SaltRefusals.{salted_refusal_under};
+ghost use Rattle.p3_merkle_hiding.specs.SaltedOpenings.{salted_of, salted_pruned_of, widened, IsSaltedAccepted};
+ghost use Rattle.p3_merkle_hiding.specs.SaltedOpenings.{IsSaltedPrunedAccepted};
+ghost use Rattle.p3_merkle_hiding.specs.SaltedPresented.{presented_salted, presented_salted_pruned};
+ghost use Rattle.p3_merkle_hiding.specs.SaltedTrees.{right_batch, HaveSaltColumns};
 
 use crate::hiding_mmcs::{MerkleTreeHidingMmcs, SaltedMultiProof, SaltedProof, SaltedTree};
 use p3_merkle_core::error::MerkleTreeError;

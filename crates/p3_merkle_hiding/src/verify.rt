@@ -3,7 +3,7 @@
 ghost use Rattle.p3_merkle_core.specs.Presented.{IsVerdict};
 ghost use Rattle.p3_support.specs.Shown.{roots_of};
 ghost use Rattle.p3_merkle_hiding.specs.HidingSchemes.{salted_lent, salted_pruned_lent, salted_terms_of};
-ghost use Rattle.p3_merkle_salts.specs.SaltedPresented.{presented_salted, presented_salted_pruned};
+ghost use Rattle.p3_merkle_hiding.specs.SaltedPresented.{presented_salted, presented_salted_pruned};
 
 use crate::hiding_mmcs::{MerkleTreeHidingMmcs, SaltedMultiProof, SaltedProof};
 use crate::joined::{SaltedRows, SaltedSets};

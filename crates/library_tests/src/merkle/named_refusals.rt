@@ -6,7 +6,7 @@ ghost use Rattle.library_tests.specs.declared.reasons.Rejection.TheVariants as r
 ghost use Rattle.library_tests.specs.declared.reasons.Unfit.TheVariants as unfit;
 ghost use Rattle.p3_merkle_core.specs.declared.error.MerkleTreeError.TheVariants.{OutOfMemory};
 ghost use Rattle.p3_merkle_hiding.specs.HidingSchemes.{generator_of};
-ghost use Rattle.p3_merkle_salts.specs.SaltRefusals.{salted_commit_refusal};
+ghost use Rattle.p3_merkle_hiding.specs.SaltRefusals.{salted_commit_refusal};
 ghost use Rattle.p3_support.specs.Answers.{AnswersUnless};
 ghost use Rattle.p3_support.specs.Batches.{dimensions_in};
 ghost use Rattle.p3_support.specs.RowMajor.{row_count, row_width};

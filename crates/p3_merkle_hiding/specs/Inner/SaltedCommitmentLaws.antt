@@ -20,9 +20,9 @@ use Rattle.p3_merkle_core.specs.Pruning.{restored_path}
 use Rattle.p3_merkle_tree.specs.Inner.CommitmentLaws.{all_zip, greatest_is, same_is_equivalence}
 use Rattle.p3_merkle_hiding.specs.HidingSchemes.{plain_of}
 use Rattle.p3_merkle_hiding.specs.SaltedCommitments.{HaveSaltedProof}
-use Rattle.p3_merkle_salts.specs.SaltedOpenings.{HaveSalts, IsSaltedPrunedAccepted, SaltedPruned, joined_sets}
-use Rattle.p3_merkle_salts.specs.SaltedOpenings.{salted_rows, salted_sets, widened}
-use Rattle.p3_merkle_salts.specs.Inner.SaltedParts.{pair_matrix}
+use Rattle.p3_merkle_hiding.specs.SaltedOpenings.{HaveSalts, IsSaltedPrunedAccepted, SaltedPruned, joined_sets}
+use Rattle.p3_merkle_hiding.specs.SaltedOpenings.{salted_rows, salted_sets, widened}
+use Rattle.p3_merkle_hiding.specs.Inner.SaltedParts.{pair_matrix}
 use Rattle.p3_merkle_hiding.specs.declared.hiding_mmcs.HidingScheme.{HidingScheme}
 
 module _ {P PW H C R X G V W : Type 0} {N E : ℕ} {p : packed.Ghosts P V} {pd : default.Ghosts V}

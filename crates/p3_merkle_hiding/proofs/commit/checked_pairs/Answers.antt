@@ -4,7 +4,7 @@ use Rattle.p3_support.specs.declared.matrix.Dimensions.{Dimensions}
 use Rattle.p3_merkle_core.specs.Refusals.{AnswersUnlessMemory}
 use Rattle.p3_merkle_core.specs.Views.{matrix_of}
 use Rattle.p3_merkle_core.specs.Nodes.{dimensions_of}
-use Rattle.p3_merkle_salts.specs.SaltRefusals.{salted_commit_refusal}
+use Rattle.p3_merkle_hiding.specs.SaltRefusals.{salted_commit_refusal}
 use Rattle.p3_merkle_hiding.proofs.CommitFacts.{nothing_drawn, nothing_made, stays}
 use Rattle.p3_merkle_hiding.proofs.commit.checked_pairs.Goals as goal
 

@@ -6,7 +6,7 @@ use Rattle.p3_support.specs.Pairs.{left_of}
 use Rattle.p3_merkle_core.specs.Commitments.{IsCommitment}
 use Rattle.p3_support.specs.Batches.{heights_of}
 use Rattle.p3_merkle_core.specs.Views.{matrix_of}
-use Rattle.p3_merkle_salts.specs.Salted.{salted_matrices}
+use Rattle.p3_merkle_hiding.specs.Salted.{salted_matrices}
 use Rattle.p3_support.specs.Shown.{roots_of}
 use Rattle.p3_merkle_prover.specs.Parts.{layers_of}
 use Rattle.p3_merkle_core.specs.Gate.{gate_refusal}
@@ -15,9 +15,9 @@ use Rattle.p3_support.specs.declared.matrix.Dimensions.{Dimensions}
 use Rattle.p3_merkle_core.specs.Nodes.{Batch, Matrix, dimensions_of, shape}
 use Rattle.p3_merkle_tree.specs.Schemes.{terms_over}
 use Rattle.p3_merkle_hiding.specs.HidingSchemes.{generator_of, plain_of}
-use Rattle.p3_merkle_salts.specs.SaltRefusals.{salted_commit_refusal, widening_refusal}
-use Rattle.p3_merkle_salts.specs.SaltedTrees.{HaveSaltColumns}
-use Rattle.p3_merkle_salts.specs.Inner.SaltedParts.{pair_matrix}
+use Rattle.p3_merkle_hiding.specs.SaltRefusals.{salted_commit_refusal, widening_refusal}
+use Rattle.p3_merkle_hiding.specs.SaltedTrees.{HaveSaltColumns}
+use Rattle.p3_merkle_hiding.specs.Inner.SaltedParts.{pair_matrix}
 use Rattle.p3_merkle_core.proofs.Pruned.NoneFacts.{none_parts}
 use Rattle.p3_merkle_hiding.proofs.CommitFacts.{gate_stays, memory_alone, memory_or, nothing_drawn, nothing_made, on_ok}
 use Rattle.p3_merkle_hiding.proofs.CommitFacts.{salted_widened, unrefused}

@@ -13,9 +13,9 @@ use Rattle.p3_merkle_core.proofs.Collisions.ExtractionFacts.{all_authenticated}
 use Rattle.p3_merkle_tree.specs.Schemes.{cap_height_of, cap_rule_of, terms_of}
 use Rattle.p3_support.specs.Shown.{roots_of, row_lists}
 use Rattle.p3_merkle_hiding.specs.HidingSchemes.{plain_of, salted_lent}
-use Rattle.p3_merkle_salts.specs.SaltRefusals.{salted_refusal_under, salted_rows_refusal}
-use Rattle.p3_merkle_salts.specs.SaltedOpenings.{joined, salted_rows, widened}
-use Rattle.p3_merkle_salts.proofs.SaltedExtractionFacts.{salted_told}
+use Rattle.p3_merkle_hiding.specs.SaltRefusals.{salted_refusal_under, salted_rows_refusal}
+use Rattle.p3_merkle_hiding.specs.SaltedOpenings.{joined, salted_rows, widened}
+use Rattle.p3_merkle_hiding.proofs.SaltedExtractionFacts.{salted_told}
 use Rattle.p3_merkle_hiding.proofs.ExtractedFacts.{extracted_salted, failed_salted, second_refused}
 use Rattle.p3_merkle_hiding.proofs.SaltedAnswers.{refusal_joined, refused_before, said}
 use Rattle.p3_merkle_hiding.proofs.extract.MerkleTreeHidingMmcs+P+PW+H+C+R+N+D+SALT_ELEMS.extract_collision.Goals as goal

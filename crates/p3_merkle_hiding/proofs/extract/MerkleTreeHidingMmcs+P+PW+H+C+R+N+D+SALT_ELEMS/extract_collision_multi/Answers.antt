@@ -13,9 +13,9 @@ use Rattle.p3_merkle_core.proofs.Collisions.ExtractionFacts.{all_authenticated}
 use Rattle.p3_merkle_tree.specs.Schemes.{cap_height_of, cap_rule_of, terms_of}
 use Rattle.p3_support.specs.Shown.{roots_of, row_sets}
 use Rattle.p3_merkle_hiding.specs.HidingSchemes.{plain_of, salted_pruned_lent}
-use Rattle.p3_merkle_salts.specs.SaltRefusals.{salted_pruned_refusal_under, salted_sets_refusal}
-use Rattle.p3_merkle_salts.specs.SaltedOpenings.{joined_sets, salted_sets, widened}
-use Rattle.p3_merkle_salts.proofs.SaltedExtractionFacts.{salted_pruned_told}
+use Rattle.p3_merkle_hiding.specs.SaltRefusals.{salted_pruned_refusal_under, salted_sets_refusal}
+use Rattle.p3_merkle_hiding.specs.SaltedOpenings.{joined_sets, salted_sets, widened}
+use Rattle.p3_merkle_hiding.proofs.SaltedExtractionFacts.{salted_pruned_told}
 use Rattle.p3_merkle_hiding.proofs.ExtractedFacts.{extracted_salted_pruned, failed_salted_pruned, second_refused}
 use Rattle.p3_merkle_hiding.proofs.SaltedAnswers.{refusal_joined_sets, refused_before}
 use Rattle.p3_merkle_hiding.proofs.extract.MerkleTreeHidingMmcs+P+PW+H+C+R+N+D+SALT_ELEMS.extract_collision_multi.Goals as goal

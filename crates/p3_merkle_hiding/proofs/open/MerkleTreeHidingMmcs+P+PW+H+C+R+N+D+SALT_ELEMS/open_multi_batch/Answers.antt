@@ -9,10 +9,10 @@ use Rattle.p3_support.specs.Pairs.{left_of}
 use Rattle.p3_support.specs.Shown.{row_sets}
 use Rattle.p3_merkle_hiding.proofs.SplitFacts.{left_sets_are, right_sets_are, salted_pruned_from}
 use Rattle.p3_merkle_hiding.specs.HidingSchemes.{plain_of}
-use Rattle.p3_merkle_salts.specs.SaltedOpenings.{IsSaltedPrunedAccepted, SaltedPruned, salted_pruned_of}
-use Rattle.p3_merkle_salts.specs.Inner.SaltedParts.{salt_parts, unsalted_parts, pair_matrix}
-use Rattle.p3_merkle_salts.specs.SaltedOpenings.{widened}
-use Rattle.p3_merkle_salts.specs.SaltedTrees.{unsalted_dimensions}
+use Rattle.p3_merkle_hiding.specs.SaltedOpenings.{IsSaltedPrunedAccepted, SaltedPruned, salted_pruned_of}
+use Rattle.p3_merkle_hiding.specs.Inner.SaltedParts.{salt_parts, unsalted_parts, pair_matrix}
+use Rattle.p3_merkle_hiding.specs.SaltedOpenings.{widened}
+use Rattle.p3_merkle_hiding.specs.SaltedTrees.{unsalted_dimensions}
 use Rattle.p3_merkle_hiding.proofs.open.MerkleTreeHidingMmcs+P+PW+H+C+R+N+D+SALT_ELEMS.open_multi_batch.Goals as goal
 
 pub returns-clause-rows : goal.returns-clause-rows

@@ -6,16 +6,16 @@ use Rattle.p3_support.specs.declared.matrix.Dimensions.{Dimensions}
 use Rattle.p3_merkle_core.proofs.Lists.ViewFacts.{dimensions_are}
 use Rattle.p3_merkle_core.specs.Refusals.{AnswersUnlessMemory}
 use Rattle.p3_merkle_core.specs.declared.error.MerkleTreeError.TheVariants.{OutOfMemory}
-use Rattle.p3_merkle_salts.specs.SaltRefusals.{salted_commit_refusal}
+use Rattle.p3_merkle_hiding.specs.SaltRefusals.{salted_commit_refusal}
 use Rattle.p3_merkle_core.specs.Views.{batch_of}
-use Rattle.p3_merkle_salts.specs.Salted.{salted_batch}
+use Rattle.p3_merkle_hiding.specs.Salted.{salted_batch}
 use Rattle.p3_merkle_prover.specs.Parts.{layers_of, matrices_of, tree_batch}
 use Rattle.p3_merkle_core.specs.Geometry.{shape_of}
 use Rattle.p3_merkle_core.specs.Nodes.{dimensions_of, shape}
 use Rattle.p3_merkle_tree.specs.Schemes.{terms_over}
 use Rattle.p3_merkle_hiding.specs.HidingSchemes.{generator_of, plain_of}
 use Rattle.p3_merkle_hiding.specs.SaltedCommitments.{IsSaltedCommitment}
-use Rattle.p3_merkle_salts.specs.SaltedOpenings.{widened}
+use Rattle.p3_merkle_hiding.specs.SaltedOpenings.{widened}
 use Rattle.p3_merkle_hiding.proofs.CommitFacts.{salted_widened}
 use Rattle.p3_merkle_hiding.proofs.SaltedCommitmentFacts.{can_when_ok, is_salted_commitment, memory_when_can}
 use Rattle.p3_merkle_hiding.proofs.SchemeFacts.{untouched_scheme}

@@ -12,8 +12,8 @@ use Rattle.p3_merkle_tree.specs.Schemes.{terms_of}
 use Rattle.p3_merkle_hiding.proofs.SplitFacts.{wide_is}
 use Rattle.p3_merkle_hiding.specs.HidingSchemes.{plain_of, salted_made}
 use Rattle.p3_merkle_hiding.specs.Inner.SaltedCommitmentLaws.{left_lawful}
-use Rattle.p3_merkle_salts.specs.SaltedOpenings.{IsSaltedAccepted, widened}
-use Rattle.p3_merkle_salts.specs.SaltedTrees.{unsalted_dimensions}
+use Rattle.p3_merkle_hiding.specs.SaltedOpenings.{IsSaltedAccepted, widened}
+use Rattle.p3_merkle_hiding.specs.SaltedTrees.{unsalted_dimensions}
 use Rattle.p3_merkle_hiding.proofs.scheme_trait.MerkleTreeHidingMmcsMmcsValue.open_batch.Goals as goal
 
 pub returns-clause-rows : goal.returns-clause-rows

@@ -7,9 +7,9 @@ use Rattle.p3_merkle_tree.specs.Schemes.{terms_of}
 use Rattle.p3_merkle_tree.proofs.PrunedFacts.{verdict_by}
 use Rattle.p3_support.specs.Shown.{roots_of, row_lists}
 use Rattle.p3_merkle_hiding.specs.HidingSchemes.{plain_of, salted_lent, salted_terms_of}
-use Rattle.p3_merkle_salts.specs.SaltRefusals.{salted_rows_refusal}
-use Rattle.p3_merkle_salts.specs.SaltedOpenings.{joined, salted_rows}
-use Rattle.p3_merkle_salts.specs.SaltedPresented.{presented_salted}
+use Rattle.p3_merkle_hiding.specs.SaltRefusals.{salted_rows_refusal}
+use Rattle.p3_merkle_hiding.specs.SaltedOpenings.{joined, salted_rows}
+use Rattle.p3_merkle_hiding.specs.SaltedPresented.{presented_salted}
 use Rattle.p3_merkle_hiding.proofs.SaltedAnswers.{refusal_joined, refused_before, said, salted_accepted}
 use Rattle.p3_merkle_hiding.proofs.verify.MerkleTreeHidingMmcs+P+PW+H+C+R+N+D+SALT_ELEMS.verify_batch.Goals as goal
 

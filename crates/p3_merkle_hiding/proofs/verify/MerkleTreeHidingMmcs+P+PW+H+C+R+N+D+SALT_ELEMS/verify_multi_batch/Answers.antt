@@ -7,9 +7,9 @@ use Rattle.p3_merkle_tree.specs.Schemes.{terms_of}
 use Rattle.p3_merkle_tree.proofs.PrunedFacts.{verdict_by}
 use Rattle.p3_support.specs.Shown.{roots_of, row_sets}
 use Rattle.p3_merkle_hiding.specs.HidingSchemes.{plain_of, salted_pruned_lent, salted_terms_of}
-use Rattle.p3_merkle_salts.specs.SaltRefusals.{salted_sets_refusal}
-use Rattle.p3_merkle_salts.specs.SaltedOpenings.{joined_sets, salted_sets}
-use Rattle.p3_merkle_salts.specs.SaltedPresented.{presented_salted_pruned}
+use Rattle.p3_merkle_hiding.specs.SaltRefusals.{salted_sets_refusal}
+use Rattle.p3_merkle_hiding.specs.SaltedOpenings.{joined_sets, salted_sets}
+use Rattle.p3_merkle_hiding.specs.SaltedPresented.{presented_salted_pruned}
 use Rattle.p3_merkle_hiding.proofs.SaltedAnswers.{refusal_joined_sets, refused_before, salted_pruned_accepted}
 use Rattle.p3_merkle_hiding.proofs.verify.MerkleTreeHidingMmcs+P+PW+H+C+R+N+D+SALT_ELEMS.verify_multi_batch.Goals as goal
 

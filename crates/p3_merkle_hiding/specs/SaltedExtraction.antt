@@ -1,0 +1,61 @@
+-- What two salted openings of one cap lead to, in the words of rows and salts.
+use Rattle.std.specs.Prelude.{◌≡◌, ◌≢◌, ◌⊎◌, ◌<◌, ℕ, IsTrue, List, [], length, slice_index, slice_index_or}
+use Rattle.p3_support.specs.Batches.{greatest}
+use Rattle.p3_merkle_core.specs.Geometry.{Shape, heights, halved_index}
+use Rattle.p3_merkle_core.specs.Checks.{Terms, is_authenticated}
+use Rattle.p3_merkle_core.specs.Pruning.{restored_path}
+use Rattle.p3_merkle_hiding.specs.SaltedOpenings.{SaltedOpening, SaltedPruned, joined_sets, salted_of}
+
+-- ---- two openings of one index each
+
+-- the row that an opening has for matrix k
+abbrev pub row_in : {T W : Type 0} → SaltedOpening T W → ℕ → List T
+row_in o k = slice_index_or o.rows k []
+
+-- the salts of that row
+abbrev pub salts_in : {T W : Type 0} → SaltedOpening T W → ℕ → List T
+salts_in o k = slice_index_or o.salts k []
+
+-- two openings answer one row of matrix k, or the salts of that row, in two ways
+pub record ConflictAt {T W : Type 0} (s : Shape) (o u : SaltedOpening T W) (k : ℕ) : Type 0 where
+  pub exists : k < length (heights s)
+  pub one_row : halved_index (greatest (heights s)) (slice_index (heights s) k) o.index ≡
+      halved_index (greatest (heights s)) (slice_index (heights s) k) u.index
+  pub two_ways : (row_in o k ≢ row_in u k) ⊎ (salts_in o k ≢ salts_in u k)
+
+-- they do so for some matrix
+abbrev pub ConflictSomewhere : {T W : Type 0} → Terms T W → SaltedOpening T W → SaltedOpening T W → Type 0
+ConflictSomewhere c o u = (k : ℕ) × ConflictAt c.shape o u k
+
+-- they do so for some authenticated matrix
+abbrev pub ConflictWhereAuthenticated : {T W : Type 0} → Terms T W → SaltedOpening T W → SaltedOpening T W → Type 0
+ConflictWhereAuthenticated c o u = (k : ℕ) × IsTrue (is_authenticated c.shape c.layer k) × ConflictAt c.shape o u k
+
+-- two openings have the same siblings, and the same row and salts of each authenticated matrix
+pub record AgreeWhereAuthenticated {T W : Type 0} (c : Terms T W) (o u : SaltedOpening T W) : Type 0 where
+  pub siblings : o.siblings ≡ u.siblings
+  pub rows : (k : ℕ) → k < length (heights c.shape) → IsTrue (is_authenticated c.shape c.layer k) →
+      row_in o k ≡ row_in u k
+  pub salts : (k : ℕ) → k < length (heights c.shape) → IsTrue (is_authenticated c.shape c.layer k) →
+      salts_in o k ≡ salts_in u k
+
+-- ---- two openings of several indices
+
+-- query k as an opening of its own: its row set and its salt set, with its restored path
+abbrev pub salted_opening_at : {T W : Type 0} → Terms T W → SaltedPruned T W → ℕ → SaltedOpening T W
+salted_opening_at c p k =
+    let i = slice_index p.indices k in
+    salted_of i (slice_index_or p.rows k []) (slice_index_or p.salts k []) (restored_path c (joined_sets p) i)
+
+-- each query of the one and each of the other
+abbrev pub EachSaltedPair : {T W : Type 0} → Terms T W → SaltedPruned T W → SaltedPruned T W →
+    (SaltedOpening T W → SaltedOpening T W → Type 0) → Type 0
+EachSaltedPair c p q Holds =
+    (a b : ℕ) → a < length p.indices → b < length q.indices → Holds (salted_opening_at c p a) (salted_opening_at c q b)
+
+-- some query of the one and some of the other
+abbrev pub SomeSaltedPair : {T W : Type 0} → Terms T W → SaltedPruned T W → SaltedPruned T W →
+    (SaltedOpening T W → SaltedOpening T W → Type 0) → Type 0
+SomeSaltedPair c p q Holds =
+    (a : ℕ) × (b : ℕ) × (a < length p.indices) × (b < length q.indices) ×
+    Holds (salted_opening_at c p a) (salted_opening_at c q b)

@@ -1,5 +1,0 @@
-mod LoopFacts
-pub mod SaltFacts
-mod DrawFacts
-pub mod JoinedFacts
-pub mod SaltedExtractionFacts
