@@ -6,7 +6,7 @@ ghost use Rattle.std.specs.Iterator.Runs.{WholeRun};
 ghost use Rattle.p3_support.specs.Lists.{lane_of};
 ghost use Rattle.p3_instances.specs.Sha.{sha256_rows, sha256_nodes};
 
-pub use p3_sha256_lanes::digest_size::DigestSize;
+pub use crate::digest_size::DigestSize;
 use p3_support::compress::PseudoCompressionFunction;
 use p3_support::hasher::CryptographicHasher;
 use sha2::{Digest, Sha256};

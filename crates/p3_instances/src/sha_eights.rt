@@ -4,8 +4,8 @@ ghost use Rattle.std.specs.Prelude.{◌≡◌, ℕ, ◌<◌, ◌∷◌, [], map}
 ghost use Rattle.p3_support.specs.Lists.{lane_of};
 ghost use Rattle.p3_instances.specs.Sha.{sha256_rows, sha256_nodes};
 
+use crate::many::{hash_groups, hash_rows};
 use crate::sha::{DigestSize, Sha256Nodes, Sha256Rows};
-use p3_sha256_lanes::many::{hash_groups, hash_rows};
 use p3_support::compress::PseudoCompressionFunction;
 use p3_support::hasher::CryptographicHasher;
 use sha2::Sha256;

@@ -4,7 +4,7 @@ use Rattle.std.proofs.Math.Nat.{mul-le-mul_right}
 use Rattle.std.proofs.lemmas.List.{length-set, get_or-set_other}
 use Rattle.p3_support.specs.Fold.{fold_hash}
 use Rattle.p3_support.specs.Lists.{message}
-use Rattle.p3_sha256_lanes.proofs.Lanewise.{filled_more}
+use Rattle.p3_instances.proofs.Lanewise.{filled_more}
 use Rattle.p3_instances.proofs.eights.hash_rest.Given.{Over}
 use Rattle.p3_instances.proofs.eights.hash_rest.Goals as goal
 
