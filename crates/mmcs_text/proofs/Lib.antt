@@ -10,3 +10,10 @@ pub mod InputLaws
 pub mod InputFacts
 pub mod RowFacts
 pub mod TextFacts
+pub mod LineFacts
+pub mod PlainLines
+pub mod HexFacts
+pub mod DecimalFacts
+pub mod ReadingFacts
+pub mod PrintedFacts
+pub mod RequestFacts

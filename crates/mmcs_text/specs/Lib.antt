@@ -4,4 +4,11 @@ pub mod Words
 pub mod Text
 pub mod Matrices
 pub mod Faults
+pub mod OpeningFaults
+pub mod Lines
+pub mod Printing
+pub mod Readings
+pub mod Requests
 pub mod Inner
+pub mod ReadingExamples
+pub mod PrintingExamples

@@ -1,4 +1,4 @@
-//! Why the program stops short.
+//! Why `mmcs` stops short.
 
 ghost use Rattle.std.specs.Prelude.{◌≡◌};
 ghost use Rattle.p3_merkle_core.specs.declared.error.MerkleTreeError.TheVariants.{OutOfMemory};

@@ -1,12 +1,20 @@
-//! What the program `mmcs` reads and writes as text: the words of a command, the matrices of an input, the lines that
-//! are printed, and the fault that ends it. No tree is known of here.
+//! What the programs read and write as text: of `mmcs` the words of a command, the matrices of an input, the lines that
+//! are printed, and the fault that ends it; of `mmcs_verify` the words of its command, a cap with an opening or two as
+//! `mmcs` prints them, and its fault. No tree is known of here.
 #![tactic(auto)]
 
 pub mod command;
+pub mod digest;
 pub mod fault;
 pub mod input;
+pub mod laws;
+mod line;
+mod lines;
 pub mod number;
+pub mod opening_fault;
 pub mod process;
+pub mod reader;
+pub mod request;
 pub mod streams;
 pub mod text;
 pub mod word;

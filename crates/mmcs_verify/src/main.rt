@@ -3,7 +3,7 @@
 #![tactic(auto)]
 
 use mmcs_verify_engine::engine::run;
-use mmcs_verify_engine::fault::Fault;
+use mmcs_verify_engine::opening_fault::Fault;
 use mmcs_verify_engine::process::{ended, words_of};
 use std::process::ExitCode;
 

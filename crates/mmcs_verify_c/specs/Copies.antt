@@ -1,6 +1,6 @@
 -- What a call leaves in the buffers that it is lent, and its status.
 use Rattle.std.specs.Prelude.{◌≡◌, ◌⊎◌, ℕ, List, length, take, Result, Ok, Err}
-use Rattle.mmcs_opening_text.specs.declared.fault.Fault.{Fault}
+use Rattle.mmcs_text.specs.declared.opening_fault.Fault.{Fault}
 
 -- a buffer begins with as much of a line as fits
 abbrev pub IsCopied : List ℕ → List ℕ → List ℕ → Type 0

@@ -8,7 +8,7 @@ use Rattle.mmcs_text.specs.declared.command.Arity.{Arity}
 use Rattle.mmcs_text.specs.declared.command.Arity.TheVariants.{Two, Four, Eight}
 use Rattle.mmcs_text.specs.declared.command.HashName.{HashName}
 use Rattle.mmcs_text.specs.declared.command.HashName.TheVariants.{Fold, Sha256}
-use Rattle.mmcs_opening_text.specs.declared.request.Setting.{Setting}
+use Rattle.mmcs_text.specs.declared.request.Setting.{Setting}
 use Rattle.mmcs_verify_c.specs.declared.setting.MatrixSize.{MatrixSize}
 use Rattle.mmcs_verify_c.specs.declared.setting.TreeSetting.{TreeSetting}
 

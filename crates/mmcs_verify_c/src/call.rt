@@ -1,15 +1,15 @@
 //! The call.
 
 ghost use Rattle.std.specs.Prelude.{◌≡◌, ◌↔◌, map, None, Some};
-ghost use Rattle.mmcs_opening_text.specs.declared.request.Setting.{Setting};
-ghost use Rattle.mmcs_opening_text.specs.declared.request.Task.TheVariants.{Verify};
+ghost use Rattle.mmcs_text.specs.declared.request.Setting.{Setting};
+ghost use Rattle.mmcs_text.specs.declared.request.Task.TheVariants.{Verify};
 ghost use Rattle.mmcs_verify_engine.specs.Outcomes.{outcome_of};
 ghost use Rattle.mmcs_verify_c.specs.Copies.{IsStatus};
 ghost use Rattle.mmcs_verify_c.specs.Settings.{dimensions_of_size, setting_shown};
 
 use crate::buffer::told;
 use crate::setting::{MatrixSize, TreeSetting, request_of};
-use mmcs_opening_text::fault::Fault;
+use mmcs_text::opening_fault::Fault;
 use mmcs_verify_engine::engine::reply;
 use p3_merkle_tree::MerkleTreeError;
 use std::alloc::Global;

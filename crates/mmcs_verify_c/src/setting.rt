@@ -1,11 +1,11 @@
 //! What the caller tells of a tree and its matrices.
 
 ghost use Rattle.std.specs.Prelude.{◌≡◌, map, IfOk};
-ghost use Rattle.mmcs_opening_text.specs.declared.request.Task.TheVariants.{Verify};
+ghost use Rattle.mmcs_text.specs.declared.request.Task.TheVariants.{Verify};
 ghost use Rattle.mmcs_verify_c.specs.Settings.{dimensions_of_size, setting_shown};
 
-use mmcs_opening_text::request::{Request, Setting, Task};
 use mmcs_text::command::{Arity, CapChoice, HashName};
+use mmcs_text::request::{Request, Setting, Task};
 use p3_merkle_tree::CapRule;
 use p3_support::matrix::Dimensions;
 use std::alloc::{AllocError, Global};

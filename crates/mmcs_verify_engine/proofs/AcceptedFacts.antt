@@ -37,12 +37,12 @@ use Rattle.mmcs_engine.specs.Program.{functions_of_hash, heights_of_rows, hex_di
 use Rattle.mmcs_engine.specs.Program.{IsOutcome, IsReply}
 use Rattle.mmcs_engine.proofs.GateFacts.{heights_are}
 use Rattle.mmcs_engine.proofs.Outcomes.{same_matrices}
-use Rattle.mmcs_opening_text.specs.Lines.{word_digits}
-use Rattle.mmcs_opening_text.specs.Printing.{text_shown, IsQueryOf, IsRowOf, IsShownOf}
-use Rattle.mmcs_opening_text.specs.Readings.{Shown}
-use Rattle.mmcs_opening_text.specs.declared.request.Setting.{Setting}
-use Rattle.mmcs_opening_text.specs.declared.request.Task.TheVariants.{Verify}
-use Rattle.mmcs_opening_text.proofs.PrintedFacts.{printed_is_read}
+use Rattle.mmcs_text.specs.Lines.{word_digits}
+use Rattle.mmcs_text.specs.Printing.{text_shown, IsQueryOf, IsRowOf, IsShownOf}
+use Rattle.mmcs_text.specs.Readings.{Shown}
+use Rattle.mmcs_text.specs.declared.request.Setting.{Setting}
+use Rattle.mmcs_text.specs.declared.request.Task.TheVariants.{Verify}
+use Rattle.mmcs_text.proofs.PrintedFacts.{printed_is_read}
 use Rattle.mmcs_verify_engine.specs.Accepted.{cap_and_opening, command_for, dimensions_of_rows, OutcomesAreAccepted}
 use Rattle.mmcs_verify_engine.specs.Accepted.{PrintedIsAccepted}
 use Rattle.mmcs_verify_engine.specs.Outcomes.{answer_to, outcome_of, refusal_asked, told}

@@ -5,11 +5,11 @@ use Rattle.std.specs.Prelude.{◌↔◌, IfErr, IfOk, IfSome, OnOk}
 use Rattle.std.specs.Io.KnownBytes.{Appends}
 use Rattle.p3_support.specs.declared.matrix.Dimensions.{Dimensions}
 use Rattle.p3_merkle_core.specs.declared.error.MerkleTreeError.TheVariants.{OutOfMemory}
-use Rattle.mmcs_opening_text.specs.Requests.{AreNoCommand, AreWords}
-use Rattle.mmcs_opening_text.specs.declared.fault.Fault.{Fault}
-use Rattle.mmcs_opening_text.specs.declared.fault.Fault.TheVariants.{Usage, Read, Tree, Write}
-use Rattle.mmcs_opening_text.specs.declared.request.Setting.{Setting}
-use Rattle.mmcs_opening_text.specs.declared.request.Task.{Task}
+use Rattle.mmcs_text.specs.Requests.{AreNoCommand, AreWords}
+use Rattle.mmcs_text.specs.declared.opening_fault.Fault.{Fault}
+use Rattle.mmcs_text.specs.declared.opening_fault.Fault.TheVariants.{Usage, Read, Tree, Write}
+use Rattle.mmcs_text.specs.declared.request.Setting.{Setting}
+use Rattle.mmcs_text.specs.declared.request.Task.{Task}
 use Rattle.mmcs_verify_engine.specs.Outcomes.{outcome_of, EndsIn, IsAnswer}
 use Rattle.mmcs_verify_engine.proofs.FaultFacts.{outcome_never}
 use Rattle.mmcs_verify_engine.proofs.WordFacts.{same_request}

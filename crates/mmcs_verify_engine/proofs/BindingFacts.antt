@@ -15,11 +15,11 @@ use Rattle.p3_merkle_core.specs.declared.cap.CapRule.TheVariants.{Lowered}
 use Rattle.p3_merkle_core.specs.declared.error.MerkleTreeError.{MerkleTreeError}
 use Rattle.p3_merkle_core.proofs.Collisions.ExtractionFacts.{all_authenticated, answer_is_extraction, pruned_presented}
 use Rattle.mmcs_text.specs.Words.{arity_number}
-use Rattle.mmcs_opening_text.specs.Printing.{text_of_pair, text_shown}
-use Rattle.mmcs_opening_text.specs.Readings.{shown_in, Shown}
-use Rattle.mmcs_opening_text.specs.declared.fault.Fault.{Fault}
-use Rattle.mmcs_opening_text.specs.declared.request.Setting.{Setting}
-use Rattle.mmcs_opening_text.proofs.PrintedFacts.{pair_is_read, printed_is_read}
+use Rattle.mmcs_text.specs.Printing.{text_of_pair, text_shown}
+use Rattle.mmcs_text.specs.Readings.{shown_in, Shown}
+use Rattle.mmcs_text.specs.declared.opening_fault.Fault.{Fault}
+use Rattle.mmcs_text.specs.declared.request.Setting.{Setting}
+use Rattle.mmcs_text.proofs.PrintedFacts.{pair_is_read, printed_is_read}
 use Rattle.mmcs_verify_engine.specs.Binding.{CapIsBinding, IsAnsweredOk, PrintedCapIsBinding}
 use Rattle.mmcs_verify_engine.specs.Outcomes.{answer_to, answer_to_pair, refusal_asked, terms_asked, told, told_of_pair}
 use Rattle.mmcs_verify_engine.proofs.AcceptedFacts.{arity_lawful}

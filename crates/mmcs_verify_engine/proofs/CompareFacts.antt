@@ -12,7 +12,7 @@ use Rattle.p3_merkle_core.specs.declared.cap.CapRule.{CapRule}
 use Rattle.p3_merkle_core.specs.declared.collision.InputPair.{InputPair}
 use Rattle.p3_merkle_core.specs.declared.error.MerkleTreeError.{MerkleTreeError}
 use Rattle.p3_merkle_core.specs.declared.error.MerkleTreeError.TheVariants.{OutOfMemory}
-use Rattle.mmcs_opening_text.specs.declared.reader.Pair.{Pair}
+use Rattle.mmcs_text.specs.declared.reader.Pair.{Pair}
 use Rattle.mmcs_verify_engine.specs.Inner.TypedCollisions.{difference_read, first_read, opening_read, refusal_read}
 use Rattle.mmcs_verify_engine.specs.Inner.TypedCollisions.{second_read, typed_text}
 

@@ -13,7 +13,7 @@ use Rattle.p3_merkle_core.specs.Pruning.{boundary, boundary_by}
 use Rattle.mmcs_text.specs.declared.command.HashName.{HashName}
 use Rattle.mmcs_text.specs.declared.command.HashName.TheVariants.{Fold, Sha256}
 use Rattle.mmcs_engine.specs.Program.{fold_functions, functions_of_hash, sha_functions}
-use Rattle.mmcs_opening_text.specs.Printing.{IsDigestOf}
+use Rattle.mmcs_text.specs.Printing.{IsDigestOf}
 
 -- ---- the fold functions
 

@@ -13,7 +13,7 @@ use Rattle.mmcs_text.specs.Matrices.{batch_of_rows, matrix_of_rows}
 use Rattle.mmcs_text.specs.Numbers.{IsNumberBelow}
 use Rattle.mmcs_text.specs.Words.{max_word}
 use Rattle.mmcs_text.specs.declared.command.HashName.{HashName}
-use Rattle.mmcs_opening_text.specs.Printing.{IsRowOf}
+use Rattle.mmcs_text.specs.Printing.{IsRowOf}
 
 -- each row is as long as the first, of numbers below the limit
 abbrev pub AreFull : ℕ → List (List ℕ) → Type 0

@@ -22,15 +22,15 @@ use Rattle.mmcs_text.specs.declared.command.HashName.{HashName}
 use Rattle.mmcs_engine.specs.Program.{functions_of_hash}
 use Rattle.mmcs_engine.specs.Inner.Alike.{pruned_in_numbers, IsSchemeOf}
 use Rattle.mmcs_engine.proofs.NumberFacts.{refusal_in_numbers}
-use Rattle.mmcs_opening_text.specs.Readings.{pair_in, shown_in, ShownPair}
-use Rattle.mmcs_opening_text.specs.Inner.Typed.{pair_of, shown_of, shown_under}
-use Rattle.mmcs_opening_text.specs.declared.fault.Fault.{Fault}
-use Rattle.mmcs_opening_text.specs.declared.fault.Fault.TheVariants.{Tree}
-use Rattle.mmcs_opening_text.specs.declared.reader.Opening.{Opening}
-use Rattle.mmcs_opening_text.specs.declared.reader.Pair.{Pair}
-use Rattle.mmcs_opening_text.specs.declared.reader.Statement.{Statement}
-use Rattle.mmcs_opening_text.specs.declared.request.Setting.{Setting}
-use Rattle.mmcs_opening_text.specs.declared.request.Task.TheVariants.{Verify, Collide}
+use Rattle.mmcs_text.specs.Readings.{pair_in, shown_in, ShownPair}
+use Rattle.mmcs_text.specs.Inner.Typed.{pair_of, shown_of, shown_under}
+use Rattle.mmcs_text.specs.declared.opening_fault.Fault.{Fault}
+use Rattle.mmcs_text.specs.declared.opening_fault.Fault.TheVariants.{Tree}
+use Rattle.mmcs_text.specs.declared.reader.Opening.{Opening}
+use Rattle.mmcs_text.specs.declared.reader.Pair.{Pair}
+use Rattle.mmcs_text.specs.declared.reader.Statement.{Statement}
+use Rattle.mmcs_text.specs.declared.request.Setting.{Setting}
+use Rattle.mmcs_text.specs.declared.request.Task.TheVariants.{Verify, Collide}
 use Rattle.mmcs_verify_engine.specs.Collisions.{collision_text}
 use Rattle.mmcs_verify_engine.specs.Outcomes.{answer_to, answer_to_pair, outcome_of, refusal_asked, terms_asked, told}
 use Rattle.mmcs_verify_engine.specs.Outcomes.{told_of_pair}

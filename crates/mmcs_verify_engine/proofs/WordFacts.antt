@@ -4,10 +4,10 @@ use Rattle.std.specs.Prelude.{codes, map}
 use Rattle.p3_support.specs.declared.matrix.Dimensions.{Dimensions}
 use Rattle.mmcs_text.specs.Words.{arity_word, hash_word}
 use Rattle.mmcs_text.proofs.WordFacts.{same_arity, same_cap, same_hash}
-use Rattle.mmcs_opening_text.specs.Requests.{dimensions_of_word, task_words, AreWords}
-use Rattle.mmcs_opening_text.specs.declared.request.Setting.{Setting}
-use Rattle.mmcs_opening_text.specs.declared.request.Task.{Task}
-use Rattle.mmcs_opening_text.specs.declared.request.Task.TheVariants.{Verify, Collide}
+use Rattle.mmcs_text.specs.Requests.{dimensions_of_word, task_words, AreWords}
+use Rattle.mmcs_text.specs.declared.request.Setting.{Setting}
+use Rattle.mmcs_text.specs.declared.request.Task.{Task}
+use Rattle.mmcs_text.specs.declared.request.Task.TheVariants.{Verify, Collide}
 
 same_somes : (ds es : List Dimensions) → map Some ds ≡ map Some es → ds ≡ es
 same_somes [] [] is = refl

@@ -9,8 +9,8 @@ use Rattle.mmcs_text.specs.declared.command.Action.{Action}
 use Rattle.mmcs_text.specs.declared.command.Action.TheVariants.{Commit, Open, Check}
 use Rattle.mmcs_text.specs.declared.command.Command.{Command}
 use Rattle.mmcs_engine.specs.Program.{output_of, AreTaken, IsOutcome}
-use Rattle.mmcs_opening_text.specs.declared.request.Setting.{Setting}
-use Rattle.mmcs_opening_text.specs.declared.request.Task.TheVariants.{Verify}
+use Rattle.mmcs_text.specs.declared.request.Setting.{Setting}
+use Rattle.mmcs_text.specs.declared.request.Task.TheVariants.{Verify}
 use Rattle.mmcs_verify_engine.specs.Outcomes.{outcome_of}
 
 -- the command of `mmcs` for an action, with the hash, the arity and the cap of a verifier's setting

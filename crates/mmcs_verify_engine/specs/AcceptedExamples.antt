@@ -9,11 +9,11 @@ use Rattle.p3_merkle_core.specs.declared.cap.CapRule.TheVariants.{Lowered}
 use Rattle.p3_merkle_core.specs.declared.error.MerkleTreeError.TheVariants.{CapMismatch}
 use Rattle.mmcs_text.specs.declared.command.Arity.TheVariants.{Two}
 use Rattle.mmcs_text.specs.declared.command.HashName.TheVariants.{Fold}
-use Rattle.mmcs_opening_text.specs.Lines.{words_of}
-use Rattle.mmcs_opening_text.specs.Readings.{shown_by}
-use Rattle.mmcs_opening_text.specs.declared.fault.Fault.TheVariants.{Tree}
-use Rattle.mmcs_opening_text.specs.declared.request.Setting.{Setting}
-use Rattle.mmcs_opening_text.specs.declared.request.Task.TheVariants.{Verify}
+use Rattle.mmcs_text.specs.Lines.{words_of}
+use Rattle.mmcs_text.specs.Readings.{shown_by}
+use Rattle.mmcs_text.specs.declared.opening_fault.Fault.TheVariants.{Tree}
+use Rattle.mmcs_text.specs.declared.request.Setting.{Setting}
+use Rattle.mmcs_text.specs.declared.request.Task.TheVariants.{Verify}
 use Rattle.mmcs_verify_engine.specs.Accepted.{cap_and_opening, dimensions_of_rows}
 use Rattle.mmcs_verify_engine.specs.Outcomes.{outcome_of}
 

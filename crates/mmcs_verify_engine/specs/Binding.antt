@@ -5,10 +5,10 @@ use Rattle.p3_merkle_core.specs.Checks.{Input}
 use Rattle.p3_merkle_core.specs.Extraction.{IsFirstCollision, RowsConflictSomewhere, RowsConflictWhereAuthenticated}
 use Rattle.p3_merkle_core.specs.Extraction.{SomePair}
 use Rattle.p3_merkle_core.specs.declared.cap.CapRule.TheVariants.{Lowered}
-use Rattle.mmcs_opening_text.specs.Printing.{text_of_pair, text_shown, IsShownOf}
-use Rattle.mmcs_opening_text.specs.Readings.{pair_in, shown_in, ShownPair}
-use Rattle.mmcs_opening_text.specs.declared.request.Setting.{Setting}
-use Rattle.mmcs_opening_text.specs.declared.request.Task.TheVariants.{Verify, Collide}
+use Rattle.mmcs_text.specs.Printing.{text_of_pair, text_shown, IsShownOf}
+use Rattle.mmcs_text.specs.Readings.{pair_in, shown_in, ShownPair}
+use Rattle.mmcs_text.specs.declared.request.Setting.{Setting}
+use Rattle.mmcs_text.specs.declared.request.Task.TheVariants.{Verify, Collide}
 use Rattle.mmcs_verify_engine.specs.Collisions.{collision_text}
 use Rattle.mmcs_verify_engine.specs.Outcomes.{outcome_of, presented_asked, terms_asked}
 

@@ -5,9 +5,9 @@ use Rattle.p3_support.specs.Fold.{fold_compress, fold_hash}
 use Rattle.p3_merkle_core.specs.Checks.{path_digest, siblings_below}
 use Rattle.p3_merkle_core.specs.Geometry.{exponent, layer_exponent, leaves_under, raw_len}
 use Rattle.p3_merkle_core.specs.Pruning.{restored_node}
-use Rattle.mmcs_opening_text.specs.Lines.{words_of}
-use Rattle.mmcs_opening_text.specs.Readings.{pair_by, shown_by}
-use Rattle.mmcs_opening_text.specs.declared.request.Task.TheVariants.{Collide}
+use Rattle.mmcs_text.specs.Lines.{words_of}
+use Rattle.mmcs_text.specs.Readings.{pair_by, shown_by}
+use Rattle.mmcs_text.specs.declared.request.Task.TheVariants.{Collide}
 use Rattle.mmcs_verify_engine.specs.Accepted.{dimensions_of_rows}
 use Rattle.mmcs_verify_engine.specs.AcceptedExamples.{fold_2_0, two_rows}
 use Rattle.mmcs_verify_engine.specs.Outcomes.{outcome_of}

@@ -1,7 +1,7 @@
-pub use Rattle.mmcs_opening_text.specs.Faults
-pub use Rattle.mmcs_opening_text.specs.Lines
-pub use Rattle.mmcs_opening_text.specs.Readings
-pub use Rattle.mmcs_opening_text.specs.Requests
+pub use Rattle.mmcs_text.specs.OpeningFaults
+pub use Rattle.mmcs_text.specs.Lines
+pub use Rattle.mmcs_text.specs.Readings
+pub use Rattle.mmcs_text.specs.Requests
 pub mod Collisions
 pub mod Outcomes
 pub mod Accepted

@@ -13,13 +13,13 @@ use Rattle.mmcs_text.specs.Text.{ok_line}
 use Rattle.mmcs_text.specs.Words.{arity_number}
 use Rattle.mmcs_text.specs.declared.command.HashName.{HashName}
 use Rattle.mmcs_engine.specs.Program.{functions_of_hash, layer_of_cap}
-use Rattle.mmcs_opening_text.specs.Readings.{pair_in, shown_in, Shown, ShownPair}
-use Rattle.mmcs_opening_text.specs.Requests.{AreNoCommand, AreWords}
-use Rattle.mmcs_opening_text.specs.declared.fault.Fault.{Fault}
-use Rattle.mmcs_opening_text.specs.declared.fault.Fault.TheVariants.{Usage, Read, Tree, Write}
-use Rattle.mmcs_opening_text.specs.declared.request.Setting.{Setting}
-use Rattle.mmcs_opening_text.specs.declared.request.Task.{Task}
-use Rattle.mmcs_opening_text.specs.declared.request.Task.TheVariants.{Verify, Collide}
+use Rattle.mmcs_text.specs.Readings.{pair_in, shown_in, Shown, ShownPair}
+use Rattle.mmcs_text.specs.Requests.{AreNoCommand, AreWords}
+use Rattle.mmcs_text.specs.declared.opening_fault.Fault.{Fault}
+use Rattle.mmcs_text.specs.declared.opening_fault.Fault.TheVariants.{Usage, Read, Tree, Write}
+use Rattle.mmcs_text.specs.declared.request.Setting.{Setting}
+use Rattle.mmcs_text.specs.declared.request.Task.{Task}
+use Rattle.mmcs_text.specs.declared.request.Task.TheVariants.{Verify, Collide}
 use Rattle.mmcs_verify_engine.specs.Collisions.{collision_text}
 
 -- the terms of a check under a setting, for matrices of these dimensions

@@ -2,9 +2,9 @@
 
 ghost use Rattle.std.specs.Prelude.{◌≡◌, ℕ, List};
 ghost use Rattle.p3_support.specs.declared.matrix.Dimensions.{Dimensions};
-ghost use Rattle.mmcs_opening_text.specs.Requests.{AreWords};
-ghost use Rattle.mmcs_opening_text.specs.declared.request.Setting.{Setting};
-ghost use Rattle.mmcs_opening_text.specs.declared.request.Task.{Task};
+ghost use Rattle.mmcs_text.specs.Requests.{AreWords};
+ghost use Rattle.mmcs_text.specs.declared.request.Setting.{Setting};
+ghost use Rattle.mmcs_text.specs.declared.request.Task.{Task};
 ghost use Rattle.mmcs_verify_engine.specs.Accepted.{OutcomesAreAccepted, PrintedIsAccepted};
 ghost use Rattle.mmcs_verify_engine.specs.Binding.{CapIsBinding, PrintedCapIsBinding};
 

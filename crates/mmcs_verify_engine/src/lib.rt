@@ -7,5 +7,4 @@ pub mod engine;
 pub mod laws;
 mod suite;
 
-pub use mmcs_opening_text::fault;
-pub use mmcs_text::process;
+pub use mmcs_text::{opening_fault, process};

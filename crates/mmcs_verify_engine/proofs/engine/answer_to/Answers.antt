@@ -2,7 +2,7 @@ use Rattle.std.proofs.Common.{◌≡◌, ℕ, List, Err, refl, sym, subst}
 use Rattle.std.specs.Prelude.{IfSome}
 use Rattle.std.proofs.lemmas.Result.{err_from_is_err_and}
 use Rattle.mmcs_verify_engine.proofs.AnswerFacts.{never_usage, reply_fault, reply_text, request_fault, usage_told}
-use Rattle.mmcs_opening_text.specs.declared.fault.Fault.TheVariants.{Usage}
+use Rattle.mmcs_text.specs.declared.opening_fault.Fault.TheVariants.{Usage}
 use Rattle.mmcs_verify_engine.proofs.engine.answer_to.Given.{Over}
 use Rattle.mmcs_verify_engine.proofs.engine.answer_to.Goals as goal
 use Rattle.mmcs_verify_engine.proofs.engine.answer_to.Goals.{After-reply}
