@@ -1,7 +1,7 @@
 //! Two openings of one cap that answer one row in two ways, and the two inputs behind them.
 
 use anyhow::Result;
-use p3_instances::fold::{FoldCompress, FoldHash};
+use p3_hashes::fold::{FoldCompress, FoldHash};
 use p3_merkle_tree::{BatchOpening, BatchOpeningRef, MerkleCap, MerkleTreeMmcs};
 use p3_support::matrix::Dimensions;
 

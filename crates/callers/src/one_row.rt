@@ -1,7 +1,7 @@
 //! Commits to four rows, opens one of them, and verifies it.
 
 use anyhow::Result;
-use p3_instances::fold::{FoldCompress, FoldHash};
+use p3_hashes::fold::{FoldCompress, FoldHash};
 use p3_merkle_tree::{BatchOpeningRef, MerkleTreeMmcs, check_indices};
 use p3_support::matrix::{Dimensions, RowMajorMatrix};
 

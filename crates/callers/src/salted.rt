@@ -1,9 +1,8 @@
 //! Commits to rows with two random words behind each, and opens one.
 
 use anyhow::Result;
-use p3_instances::fold::{FoldCompress, FoldHash};
-use p3_merkle_hiding::MerkleTreeHidingMmcs;
-use p3_merkle_tree::{BatchOpeningRef, check_indices};
+use p3_hashes::fold::{FoldCompress, FoldHash};
+use p3_merkle_tree::{BatchOpeningRef, MerkleTreeHidingMmcs, check_indices};
 use p3_support::matrix::{Dimensions, RowMajorMatrix};
 use rand_chacha::ChaCha20Rng;
 use rand_core::SeedableRng;

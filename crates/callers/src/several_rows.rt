@@ -1,7 +1,7 @@
 //! Opens three of eight rows by one proof, verifies it, and restores their paths.
 
 use anyhow::Result;
-use p3_instances::fold::{FoldCompress, FoldHash};
+use p3_hashes::fold::{FoldCompress, FoldHash};
 use p3_merkle_tree::{MerkleTreeMmcs, check_indices};
 use p3_support::matrix::{Dimensions, RowMajorMatrix};
 

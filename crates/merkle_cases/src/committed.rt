@@ -1,8 +1,7 @@
 //! What schemes commit to, and openings of it that they accept, by the calls that all schemes share.
 
 use crate::fields::Fault;
-use p3_merkle_core::pruning::check_indices;
-use p3_merkle_tree::{BatchOpening, BatchOpeningRef, MerkleTreeError};
+use p3_merkle_tree::{BatchOpening, BatchOpeningRef, MerkleTreeError, check_indices};
 use p3_support::matrix::{Dimensions, RowMajorMatrix, dimensions_of};
 use p3_support::mmcs::Mmcs;
 use std::alloc::Global;

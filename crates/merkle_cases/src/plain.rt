@@ -6,8 +6,9 @@ use crate::openings::{LentLeaves, Statement};
 use crate::scheme::{FoldCap, FoldCommitted, FoldScheme};
 use crate::text::Answer;
 use crate::tried::{FoldCollision, Tried};
-use p3_merkle_core::pruning::PrunedProof;
-use p3_merkle_tree::{BatchOpeningRef, MerkleAuthPath, MerkleTreeError, PrunedMerklePaths};
+use p3_merkle_tree::{
+    BatchOpeningRef, MerkleAuthPath, MerkleTreeError, PrunedMerklePaths, PrunedProof,
+};
 use p3_support::matrix::Dimensions;
 use std::alloc::Global;
 

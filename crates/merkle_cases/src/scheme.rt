@@ -5,7 +5,7 @@ ghost use Rattle.p3_merkle_core.specs.Geometry.{is_arity};
 
 use crate::committed::Committed;
 use crate::reader::Reader;
-use p3_instances::fold::{FoldCompress, FoldHash};
+use p3_hashes::fold::{FoldCompress, FoldHash};
 use p3_merkle_tree::{
     BatchOpening, CapRule, MerkleCap, MerkleTree, MerkleTreeError, MerkleTreeMmcs,
 };

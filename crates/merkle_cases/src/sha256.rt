@@ -7,8 +7,8 @@ mod trees;
 use crate::case::Case;
 use crate::fields::Fault;
 pub use crate::sha256::trees::{commit, open, pruned, sweep};
-use p3_instances::sha::{Sha256Nodes, Sha256Rows};
-use p3_instances::sha_eights::{Sha256NodesInEights, Sha256RowsInEights};
+use p3_hashes::sha::{Sha256Nodes, Sha256Rows};
+use p3_hashes::sha_eights::{Sha256NodesInEights, Sha256RowsInEights};
 use p3_support::compress::PseudoCompressionFunction;
 use p3_support::hasher::CryptographicHasher;
 

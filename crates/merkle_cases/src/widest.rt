@@ -3,7 +3,7 @@
 
 use crate::case::Case;
 use crate::fields::Fault;
-use p3_instances::fold::{FoldCompress, FoldHash};
+use p3_hashes::fold::{FoldCompress, FoldHash};
 use p3_merkle_tree::MerkleTreeMmcs;
 
 /// The greatest arity.

@@ -10,7 +10,7 @@ use Rattle.p3_support.specs.declared.matrix.Dimensions.{Dimensions}
 use Rattle.p3_support.specs.declared.matrix.RowMajorMatrix.{RowMajorMatrix}
 use Rattle.p3_merkle_core.specs.Caps.{cap_layer}
 use Rattle.p3_merkle_core.specs.declared.cap.CapRule.{CapRule}
-use Rattle.p3_merkle_core.specs.Checks.{terms}
+use Rattle.p3_merkle_core.specs.Checks.{params}
 use Rattle.p3_merkle_core.specs.Geometry.{shape_of, Shape}
 use Rattle.p3_merkle_core.specs.Nodes.{layer, layers, shape, Batch, Functions, Matrix}
 use Rattle.p3_merkle_core.specs.Openings.{honest_rows, node_in}
@@ -95,8 +95,8 @@ record InNumbers {T : Type 0} (value : T → ℕ) : Type 0 where
       ≡ printed digits g (batch_in_numbers value b) indices t
   pub refusal_is : (f : Functions T T) (g : Functions ℕ ℕ) → ComputeAlike value f g → (eq : T → T → Bool) →
       IsEquality eq → (s : Shape) (t : ℕ) (roots : List (List T)) (p : PrunedOpening T T) →
-      pruned_refusal_under eq eq (terms f s t) roots p
-      ≡ pruned_refusal_under nat_eq nat_eq (terms g s t) (map (map value) roots) (pruned_in_numbers value p)
+      pruned_refusal_under eq eq (params f s t) roots p
+      ≡ pruned_refusal_under nat_eq nat_eq (params g s t) (map (map value) roots) (pruned_in_numbers value p)
 
 -- this holds of numbers
 plain : InNumbers (λ n. n)
@@ -111,7 +111,7 @@ plain = record {
       ++ digest_lines digits (digests_plain (boundary_by (node_in [] (layers f b)) (shape b) indices t) i))
       ∙ (λ i. printed digits (alike_plain f g alike i) (sym (batch_plain b) i) indices t);
   refusal_is = λ f g alike eq decides s t roots p i. pruned_refusal_under (equality_plain eq decides i)
-      (equality_plain eq decides i) (terms (alike_plain f g alike i) s t) (sym (digests_plain roots) i)
+      (equality_plain eq decides i) (params (alike_plain f g alike i) s t) (sym (digests_plain roots) i)
       (sym (pruned_plain p) i);
 }
 
@@ -130,8 +130,8 @@ module _ {T : Type 0} (value : T → ℕ) (some_word : (n : ℕ) → (w : T) × 
   -- why an opening is refused
   pub refusal_in_numbers : (f : Functions T T) (g : Functions ℕ ℕ) → ComputeAlike value f g → (eq : T → T → Bool) →
       IsEquality eq → (s : Shape) (t : ℕ) (roots : List (List T)) (p : PrunedOpening T T) →
-      pruned_refusal_under eq eq (terms f s t) roots p
-      ≡ pruned_refusal_under nat_eq nat_eq (terms g s t) (map (map value) roots) (pruned_in_numbers value p)
+      pruned_refusal_under eq eq (params f s t) roots p
+      ≡ pruned_refusal_under nat_eq nat_eq (params g s t) (map (map value) roots) (pruned_in_numbers value p)
   refusal_in_numbers = in_numbers.refusal_is
 
   -- the shape of a batch

@@ -6,7 +6,7 @@ use Rattle.std.specs.Io.KnownBytes.{Appends}
 use Rattle.p3_merkle_core.specs.Geometry.{IsLawful, Shape}
 use Rattle.p3_support.specs.Batches.{greatest}
 use Rattle.p3_merkle_core.specs.Refusals.{pruned_len_refusal, AnswersUnlessMemory}
-use Rattle.p3_merkle_core.specs.Checks.{Terms}
+use Rattle.p3_merkle_core.specs.Checks.{Params}
 use Rattle.p3_merkle_core.specs.Nodes.{shape, Batch}
 use Rattle.p3_merkle_core.specs.Pruning.{IsPrunedAccepted, PrunedOpening}
 use Rattle.p3_merkle_core.specs.declared.error.MerkleTreeError.{MerkleTreeError}
@@ -183,7 +183,7 @@ pub failed_alone : {U V : Type 0} (r : Result V MerkleTreeError) (checked : Resu
 failed_alone r checked e is was told = rw is (rw was at told)
 
 -- an opening that is accepted is accepted in other words
-pub accepted_lent : {T W : Type 0} (terms : Shape → Terms T W) (s t : Shape) (roots cap : List (List W))
-    (p q : PrunedOpening T W) → s ≡ t → roots ≡ cap → p ≡ q → IsPrunedAccepted (terms t) cap q →
-    IsPrunedAccepted (terms s) roots p
-accepted_lent terms s t roots cap p q shapes caps same accepted = rw (shapes, caps, same) accepted
+pub accepted_lent : {T W : Type 0} (params : Shape → Params T W) (s t : Shape) (roots cap : List (List W))
+    (p q : PrunedOpening T W) → s ≡ t → roots ≡ cap → p ≡ q → IsPrunedAccepted (params t) cap q →
+    IsPrunedAccepted (params s) roots p
+accepted_lent params s t roots cap p q shapes caps same accepted = rw (shapes, caps, same) accepted

@@ -6,7 +6,7 @@ use Rattle.p3_support.specs.Fold.{fold_hash, fold_compress}
 use Rattle.p3_support.specs.Batches.{greatest}
 use Rattle.p3_merkle_core.specs.Refusals.{pruned_len_refusal}
 use Rattle.p3_merkle_core.specs.Pruning.{boundary_by, pruned_len}
-use Rattle.p3_instances.specs.Sha.{sha256_rows, sha256_nodes}
+use Rattle.p3_hashes.specs.Sha.{sha256_rows, sha256_nodes}
 use Rattle.p3_merkle_core.specs.Caps.{cap_layer}
 use Rattle.p3_merkle_core.specs.Geometry.{Shape, IsLawful}
 use Rattle.p3_merkle_core.specs.Nodes.{Batch, Functions, functions_of, layer, layers, shape}

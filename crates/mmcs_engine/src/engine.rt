@@ -12,9 +12,9 @@ ghost use Rattle.p3_merkle_core.specs.Openings.{honest_rows};
 ghost use Rattle.p3_merkle_core.specs.Pruning.{pruned_len};
 ghost use Rattle.p3_merkle_core.specs.Refusals.{pruned_len_refusal, AnswersUnlessMemory};
 ghost use Rattle.p3_merkle_core.specs.declared.error.MerkleTreeError.TheVariants.{OutOfMemory};
-ghost use Rattle.p3_merkle_tree.specs.Parts.{layers_of, tree_batch};
-ghost use Rattle.p3_merkle_tree.specs.Schemes.{cap_height_of, cap_layer_over, cap_rule_of, scheme_functions};
-ghost use Rattle.p3_merkle_tree.specs.Schemes.{terms_over};
+ghost use Rattle.p3_merkle_prover.specs.Parts.{layers_of, tree_batch};
+ghost use Rattle.p3_merkle_mmcs.specs.Schemes.{cap_height_of, cap_layer_over, cap_rule_of, scheme_functions};
+ghost use Rattle.p3_merkle_mmcs.specs.Schemes.{params_over};
 ghost use Rattle.mmcs_text.specs.declared.fault.Fault.TheVariants.{Usage, Read, Tree, Write};
 ghost use Rattle.mmcs_text.specs.Inner.Stored.{stored_batch, is_taken_arity};
 ghost use Rattle.mmcs_text.specs.Text.{digest_lines, hex_lines, ok_line};
@@ -30,10 +30,13 @@ use mmcs_text::input::read_matrices;
 use mmcs_text::streams::{read_all, write_text};
 use mmcs_text::text::{push_digests, push_labelled, push_rows};
 use mmcs_text::word::Word;
-use p3_merkle_tree::{MerkleCap, MerkleTree, MerkleTreeError, MerkleTreeMmcs};
+use p3_merkle_core::error::MerkleTreeError;
+use p3_merkle_mmcs::mmcs::MerkleTreeMmcs;
+use p3_merkle_prover::tree::MerkleTree;
 use p3_support::compress::PseudoCompressionFunction;
 use p3_support::hasher::CryptographicHasher;
 use p3_support::matrix::{Dimensions, RowMajorMatrix, dimensions_of};
+use p3_support::opening::MerkleCap;
 use p3_support::packed::PackedValue;
 use std::alloc::{AllocError, Global};
 use std::io::{Read, Write};
@@ -253,7 +256,7 @@ fn commit<
         All (λ i. i < greatest (heights (shape b))) request.now.indices.items) }
     ensures dimensions { IfOk result (λ made. shape_of N made.dimensions.items ≡ shape (tree_batch made.tree)) }
     ensures committed { IfOk result (λ made. let b = tree_batch made.tree in
-        IsCommitment (terms_over H.hash C.compression D scheme.now (shape b)) (roots_of made.roots) b
+        IsCommitment (params_over H.hash C.compression D scheme.now (shape b)) (roots_of made.roots) b
         (layers_of made.tree)) }
     ensures matrices { IfOk result (λ made. tree_batch made.tree ≡ stored_batch N matrices.items) }
     ensures answer { AnswersUnlessMemory result
@@ -292,7 +295,7 @@ fn text_of_tree<
         All (λ i. i < greatest (heights (shape b))) request.now.indices.items }
     requires dimensions { shape_of N committed.now.dimensions.items ≡ shape (tree_batch committed.now.tree) }
     requires committed { let b = tree_batch committed.now.tree in
-        IsCommitment (terms_over H.hash C.compression D scheme.now (shape b)) (roots_of committed.now.roots) b
+        IsCommitment (params_over H.hash C.compression D scheme.now (shape b)) (roots_of committed.now.roots) b
         (layers_of committed.now.tree) }
     ensures text { let b = batch_in_numbers W.value (tree_batch committed.now.tree) in
         IfOk result (λ text. text.items
@@ -419,7 +422,7 @@ fn check_text<
         All (λ i. i < greatest (heights (shape b))) indices.now }
     requires dimensions { shape_of N committed.now.dimensions.items ≡ shape (tree_batch committed.now.tree) }
     requires committed { let b = tree_batch committed.now.tree in
-        IsCommitment (terms_over H.hash C.compression D scheme.now (shape b)) (roots_of committed.now.roots) b
+        IsCommitment (params_over H.hash C.compression D scheme.now (shape b)) (roots_of committed.now.roots) b
         (layers_of committed.now.tree) }
     ensures text { let s = shape (tree_batch committed.now.tree) in
         IfOk result (λ text. text.items ≡ ok_line (pruned_len s indices.now (cap_layer_over scheme.now s))) }

@@ -11,7 +11,7 @@ use crate::buffer::told;
 use crate::setting::{MatrixSize, TreeSetting, request_of};
 use mmcs_text::opening_fault::Fault;
 use mmcs_verify_engine::engine::reply;
-use p3_merkle_tree::MerkleTreeError;
+use p3_merkle_core::error::MerkleTreeError;
 use std::alloc::Global;
 
 /// The opening is accepted.

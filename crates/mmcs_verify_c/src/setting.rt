@@ -6,7 +6,7 @@ ghost use Rattle.mmcs_verify_c.specs.Settings.{dimensions_of_size, setting_shown
 
 use mmcs_text::command::{Arity, CapChoice, HashName};
 use mmcs_text::request::{Request, Setting, Task};
-use p3_merkle_tree::CapRule;
+use p3_merkle_core::cap::CapRule;
 use p3_support::matrix::Dimensions;
 use std::alloc::{AllocError, Global};
 

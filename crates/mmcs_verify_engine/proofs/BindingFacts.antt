@@ -4,7 +4,7 @@ use Rattle.std.specs.Prelude.{nat_eq, IfSome, IsOk, IsSome, length}
 use Rattle.std.specs.Option.{option_or}
 use Rattle.std.proofs.lemmas.Bool.Decides.{Decides-eqb}
 use Rattle.p3_support.specs.declared.matrix.Dimensions.{Dimensions}
-use Rattle.p3_merkle_core.specs.Checks.{Input, Terms}
+use Rattle.p3_merkle_core.specs.Checks.{Input, Params}
 use Rattle.p3_merkle_core.specs.Extraction.{extraction, first_difference, RowsConflictSomewhere, RowsConflictWhereAuthenticated}
 use Rattle.p3_merkle_core.specs.Extraction.{IsExtraction, IsFirstCollision, SomePair}
 use Rattle.p3_merkle_core.specs.Geometry.{shape_of}
@@ -35,7 +35,7 @@ unrefused None count ok = refl
 unrefused (Some e) count ok = absurd cc
 
 module _ (setting : Setting) (dimensions : List Dimensions) where
-  abbrev c : Terms ℕ ℕ
+  abbrev c : Params ℕ ℕ
   c = terms_asked setting dimensions
 
   -- an input that is answered by `ok` shows an opening that is not refused

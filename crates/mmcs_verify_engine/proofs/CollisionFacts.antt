@@ -4,7 +4,7 @@ use Rattle.std.proofs.Common.{append_assoc}
 use Rattle.std.specs.Prelude.{flat_map, nat_eq, slice_index}
 use Rattle.std.proofs.lemmas.Grind.{flat_map-append}
 use Rattle.std.proofs.lemmas.List.{map-append}
-use Rattle.p3_merkle_core.specs.Checks.{input_digest, terms, Input, Terms}
+use Rattle.p3_merkle_core.specs.Checks.{input_digest, params, Input, Params}
 use Rattle.p3_merkle_core.specs.Extraction.{first_difference}
 use Rattle.p3_merkle_core.specs.Geometry.{Shape}
 use Rattle.p3_merkle_core.specs.Nodes.{Functions}
@@ -22,7 +22,7 @@ use Rattle.mmcs_verify_engine.specs.Collisions.{collision_text, hashed_words, in
 use Rattle.mmcs_verify_engine.specs.Inner.TypedCollisions.{typed_text}
 
 -- the first two queries whose checks differ, with their last difference
-abbrev pub difference_in : {T : Type 0} → (T → T → Bool) → Terms T T → List (List T) → PrunedOpening T T →
+abbrev pub difference_in : {T : Type 0} → (T → T → Bool) → Params T T → List (List T) → PrunedOpening T T →
     PrunedOpening T T → Option (ℕ × ℕ × (Input T T × Input T T))
 difference_in eq c cap p r =
     first_difference eq eq c (presented_pruned eq eq c cap p) (presented_pruned eq eq c cap r)
@@ -31,15 +31,15 @@ difference_in eq c cap p r =
 record TextInNumbers {T : Type 0} (value : T → ℕ) : Type 0 where
   pub text_is : (digits : ℕ) (f : Functions T T) (g : Functions ℕ ℕ) → ComputeAlike value f g →
       (eq : T → T → Bool) → IsEquality eq → (s : Shape) (t : ℕ) (cap : List (List T)) (p r : PrunedOpening T T) →
-      typed_text value digits f p.indices r.indices (difference_in eq (terms f s t) cap p r)
-      ≡ typed_text (λ n. n) digits g p.indices r.indices (difference_in nat_eq (terms g s t) (map (map value) cap)
+      typed_text value digits f p.indices r.indices (difference_in eq (params f s t) cap p r)
+      ≡ typed_text (λ n. n) digits g p.indices r.indices (difference_in nat_eq (params g s t) (map (map value) cap)
       (pruned_in_numbers value p) (pruned_in_numbers value r))
 
 -- this holds of numbers
 plain : TextInNumbers (λ n. n)
 plain = record {
   text_is = λ digits f g alike eq decides s t cap p r i. typed_text (λ n. n) digits (alike_plain f g alike i) p.indices
-      r.indices (difference_in (equality_plain eq decides i) (terms (alike_plain f g alike i) s t)
+      r.indices (difference_in (equality_plain eq decides i) (params (alike_plain f g alike i) s t)
       (sym (digests_plain cap) i) (sym (pruned_plain p) i) (sym (pruned_plain r) i));
 }
 
@@ -59,13 +59,13 @@ pub text_in_numbers : {T : Type 0} (value : T → ℕ) (some_word : (n : ℕ) �
     (one_word : (v w : T) → value v ≡ value w → v ≡ w) (hash : HashName) (f : Functions T T) →
     ComputeAlike value f (functions_of_hash hash) → (eq : T → T → Bool) → IsEquality eq → (s : Shape) (t : ℕ)
     (cap : List (List T)) (p r : PrunedOpening T T) →
-    typed_text value (hex_digits hash) f p.indices r.indices (difference_in eq (terms f s t) cap p r)
-    ≡ collision_text hash p.indices r.indices (difference_in nat_eq (terms (functions_of_hash hash) s t)
+    typed_text value (hex_digits hash) f p.indices r.indices (difference_in eq (params f s t) cap p r)
+    ≡ collision_text hash p.indices r.indices (difference_in nat_eq (params (functions_of_hash hash) s t)
     (map (map value) cap) (pruned_in_numbers value p) (pruned_in_numbers value r))
 text_in_numbers value some_word one_word hash f alike eq decides s t cap p r =
     let numbers = by_number value some_word one_word (λ W v. TextInNumbers v) plain in
     numbers.text_is (hex_digits hash) f (functions_of_hash hash) alike eq decides s t cap p r
-    ∙ plain_text hash p.indices r.indices (difference_in nat_eq (terms (functions_of_hash hash) s t)
+    ∙ plain_text hash p.indices r.indices (difference_in nat_eq (params (functions_of_hash hash) s t)
     (map (map value) cap) (pruned_in_numbers value p) (pruned_in_numbers value r))
 
 -- ---- lines behind lines

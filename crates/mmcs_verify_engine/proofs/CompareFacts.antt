@@ -2,7 +2,7 @@
 use Rattle.std.proofs.Common.{◌≡◌, ◌⊎◌, ◌<◌, ℕ, Bool, List, length, Option, Some, None, Result, Ok, Err, ap, subst}
 use Rattle.std.specs.Prelude.{IfSome}
 use Rattle.std.specs.Option.{option_map}
-use Rattle.p3_merkle_core.specs.Checks.{HasDigests, Input, Terms}
+use Rattle.p3_merkle_core.specs.Checks.{HasDigests, Input, Params}
 use Rattle.p3_merkle_core.specs.Extraction.{IsExtraction, IsFirstCollision}
 use Rattle.p3_merkle_core.specs.Nodes.{Functions}
 use Rattle.p3_merkle_core.specs.Presented.{presented_pruned, Presented}
@@ -21,7 +21,7 @@ abbrev pub shown_inputs : {T : Type 0} → Option (ℕ × ℕ × InputPair T (Li
     Option (ℕ × ℕ × (Input T T × Input T T))
 shown_inputs found = option_map (λ (a, b, pair). (a, b, inputs_in pair)) found
 
-module _ {T : Type 0} (c : Terms T T) (first second : Presented T T) where
+module _ {T : Type 0} (c : Params T T) (first second : Presented T T) where
   within : (found : Option (ℕ × ℕ × InputPair T (List T))) →
       IfSome (shown_inputs found) (IsFirstCollision c first second) →
       IfSome found (λ (a, b, pair). (a < first.queries) × (b < second.queries))
@@ -34,7 +34,7 @@ module _ {T : Type 0} (c : Terms T T) (first second : Presented T T) where
   full None is = tt
   full (Some (a, b, pair)) is = is.collision.first_full
 
-module _ {T : Type 0} (eq : T → T → Bool) (rule : CapRule) (c : Terms T T) (pair : Pair T (List T))
+module _ {T : Type 0} (eq : T → T → Bool) (rule : CapRule) (c : Params T T) (pair : Pair T (List T))
     (result : Result (Option (ℕ × ℕ × InputPair T (List T))) MerkleTreeError) where
   abbrev pub Extracts : Result (Option (ℕ × ℕ × InputPair T (List T))) MerkleTreeError → Type 0
   Extracts r = IsExtraction eq eq rule c (first_read eq c pair) (second_read eq c pair) (found_pair r)

@@ -8,7 +8,7 @@ use Rattle.std.proofs.lemmas.Simd.{map-map}
 use Rattle.p3_support.specs.Shown.{row_sets}
 use Rattle.p3_support.specs.declared.matrix.Dimensions.{Dimensions}
 use Rattle.p3_merkle_core.specs.Caps.{cap_layer}
-use Rattle.p3_merkle_core.specs.Checks.{terms, Input, Terms}
+use Rattle.p3_merkle_core.specs.Checks.{params, Input, Params}
 use Rattle.p3_merkle_core.specs.Geometry.{shape_of, Shape}
 use Rattle.p3_merkle_core.specs.Nodes.{Functions}
 use Rattle.p3_merkle_core.specs.Pruning.{pruned_of}
@@ -58,13 +58,13 @@ module _ {T : Type 0} (value : T → ℕ) (some_word : (n : ℕ) → (w : T) × 
   abbrev own_shape : Shape
   own_shape = shape_of n lent
 
-  abbrev own_terms : Terms T T
-  own_terms = terms f own_shape (cap_layer own_shape rule cap_height)
+  abbrev own_terms : Params T T
+  own_terms = params f own_shape (cap_layer own_shape rule cap_height)
 
-  -- the terms of numbers
-  terms_are : terms (functions_of_hash setting.hash) own_shape (cap_layer own_shape rule cap_height)
+  -- the parameters of numbers
+  params_are : params (functions_of_hash setting.hash) own_shape (cap_layer own_shape rule cap_height)
       ≡ terms_asked setting lent
-  terms_are = λ i. terms (functions_of_hash setting.hash) (shape_of (n_is i) lent)
+  params_are = λ i. params (functions_of_hash setting.hash) (shape_of (n_is i) lent)
       (cap_layer (shape_of (n_is i) lent) (asked.same_rule i) (asked.same_height i))
 
   words_is : map value ≡ words
@@ -89,7 +89,7 @@ module _ {T : Type 0} (value : T → ℕ) (some_word : (n : ℕ) → (w : T) × 
   refusal_is cap o =
       refusal_in_numbers value some_word one_word f (functions_of_hash setting.hash) asked.alike eq decides own_shape
       (cap_layer own_shape rule cap_height) cap (opening_read o)
-      ∙ (λ i. pruned_refusal_under nat_eq nat_eq (terms_are i) (map (words_is i) cap) (opening_is o i))
+      ∙ (λ i. pruned_refusal_under nat_eq nat_eq (params_are i) (map (words_is i) cap) (opening_is o i))
 
   -- ---- one opening
 
@@ -138,7 +138,7 @@ module _ {T : Type 0} (value : T → ℕ) (some_word : (n : ℕ) → (w : T) × 
         ∙ text_in_numbers value some_word one_word setting.hash f asked.alike eq decides own_shape
         (cap_layer own_shape rule cap_height) pair.cap.items (opening_read pair.first) (opening_read pair.second)
         ∙ (λ i. collision_text setting.hash pair.first.indices.items pair.second.indices.items
-        (difference_in nat_eq (terms_are i) (map (words_is i) pair.cap.items) (opening_is pair.first i)
+        (difference_in nat_eq (params_are i) (map (words_is i) pair.cap.items) (opening_is pair.first i)
         (opening_is pair.second i)))
 
     pair_outcome_is : outcome_of setting Collide dimensions input ≡ told_text (refusal_read eq own_terms pair) own_text

@@ -2,7 +2,7 @@
 use Rattle.std.specs.Prelude.{◌≡◌, ◌⊎◌, ◌↔◌, ℕ, List, length, nat_eq, Option, None, Some, Result, Ok, Err, OnErr}
 use Rattle.std.specs.Io.KnownBytes.{Appends}
 use Rattle.p3_support.specs.declared.matrix.Dimensions.{Dimensions}
-use Rattle.p3_merkle_core.specs.Checks.{terms, Input, Terms}
+use Rattle.p3_merkle_core.specs.Checks.{params, Input, Params}
 use Rattle.p3_merkle_core.specs.Extraction.{extraction}
 use Rattle.p3_merkle_core.specs.Geometry.{shape_of}
 use Rattle.p3_merkle_core.specs.Pruning.{pruned_of}
@@ -22,11 +22,11 @@ use Rattle.mmcs_text.specs.declared.request.Task.{Task}
 use Rattle.mmcs_text.specs.declared.request.Task.TheVariants.{Verify, Collide}
 use Rattle.mmcs_verify_engine.specs.Collisions.{collision_text}
 
--- the terms of a check under a setting, for matrices of these dimensions
-abbrev pub terms_asked : Setting → List Dimensions → Terms ℕ ℕ
+-- the parameters of a check under a setting, for matrices of these dimensions
+abbrev pub terms_asked : Setting → List Dimensions → Params ℕ ℕ
 terms_asked setting dimensions =
     let s = shape_of (arity_number setting.arity) dimensions in
-    terms (functions_of_hash setting.hash) s (layer_of_cap setting.cap s)
+    params (functions_of_hash setting.hash) s (layer_of_cap setting.cap s)
 
 -- a cap and an opening of it, as the verifier takes them
 abbrev pub presented_asked : Setting → List Dimensions → Shown → Presented ℕ ℕ

@@ -7,7 +7,7 @@ ghost use Rattle.p3_support.specs.declared.matrix.Dimensions.{Dimensions};
 ghost use Rattle.p3_merkle_core.specs.Nodes.{functions_of};
 ghost use Rattle.p3_merkle_core.specs.Refusals.{pruned_refusal_under, AnswersUnlessMemory};
 ghost use Rattle.p3_merkle_core.specs.declared.error.MerkleTreeError.TheVariants.{OutOfMemory};
-ghost use Rattle.p3_merkle_tree.specs.Schemes.{cap_height_of, cap_rule_of, scheme_functions, terms_of};
+ghost use Rattle.p3_merkle_mmcs.specs.Schemes.{cap_height_of, cap_rule_of, scheme_functions, params_of};
 ghost use Rattle.mmcs_text.specs.Words.{arity_number, texts_of};
 ghost use Rattle.mmcs_text.specs.Inner.Stored.{is_taken_arity};
 ghost use Rattle.mmcs_text.specs.declared.command.HashName.TheVariants.{Fold, Sha256};
@@ -31,10 +31,13 @@ use mmcs_text::reader::{Pair, Statement, read_pair, read_statement};
 use mmcs_text::request::{Request, Task};
 use mmcs_text::streams::{read_all, write_text};
 use mmcs_text::word::Word;
-use p3_merkle_tree::{MerkleCap, MerkleTreeError, MerkleTreeMmcs, PrunedMerklePaths};
+use p3_merkle_core::error::MerkleTreeError;
+use p3_merkle_core::pruning::PrunedMerklePaths;
+use p3_merkle_mmcs::mmcs::MerkleTreeMmcs;
 use p3_support::compress::PseudoCompressionFunction;
 use p3_support::hasher::CryptographicHasher;
 use p3_support::matrix::Dimensions;
+use p3_support::opening::MerkleCap;
 use p3_support::packed::PackedValue;
 use std::alloc::Global;
 use std::io::{Read, Write};
@@ -253,7 +256,7 @@ fn verify<
 ) -> Result<usize, MerkleTreeError>
     ensures count { IfOk result (λ count. count ≡ length found.opening.digests.items) }
     ensures answer { AnswersUnlessMemory result (pruned_refusal_under W.eq W.eq
-        (terms_of H.hash C.compression D scheme.now dimensions.now) found.cap.items (opening_read found.opening)) }
+        (params_of H.hash C.compression D scheme.now dimensions.now) found.cap.items (opening_read found.opening)) }
 {
     let cap = MerkleCap::new(found.cap);
     let opening = found.opening;
@@ -321,10 +324,10 @@ fn compare<
 ) -> Result<Vec<u8>, MerkleTreeError>
     requires functions { scheme_functions H.hash C.compression D suite.now.scheme
         ≡ functions_of (H.hash suite.now.hash) (C.compression suite.now.compress) (replicate D W.default_value) }
-    ensures text { let c = terms_of H.hash C.compression D suite.now.scheme dimensions.now in
+    ensures text { let c = params_of H.hash C.compression D suite.now.scheme dimensions.now in
         IfOk result (λ text. text.items ≡ typed_text W.value W.HEX_DIGITS c.functions pair.first.indices.items
         pair.second.indices.items (difference_read W.eq c pair)) }
-    ensures answer { let c = terms_of H.hash C.compression D suite.now.scheme dimensions.now in
+    ensures answer { let c = params_of H.hash C.compression D suite.now.scheme dimensions.now in
         AnswersUnlessMemory result (refusal_read W.eq c pair) }
 {
     let cap = MerkleCap::new(pair.cap);

@@ -2,7 +2,7 @@
 
 ghost use Rattle.std.specs.Prelude.{◌≡◌, IsTrue, replicate};
 ghost use Rattle.p3_merkle_core.specs.Nodes.{functions_of};
-ghost use Rattle.p3_merkle_tree.specs.Schemes.{cap_height_of, cap_rule_of, scheme_functions};
+ghost use Rattle.p3_merkle_mmcs.specs.Schemes.{cap_height_of, cap_rule_of, scheme_functions};
 ghost use Rattle.mmcs_text.specs.Inner.Stored.{is_taken_arity};
 ghost use Rattle.mmcs_text.specs.declared.command.HashName.TheVariants.{Fold, Sha256};
 ghost use Rattle.mmcs_engine.specs.Inner.Alike.{IsSchemeOf};
@@ -10,9 +10,9 @@ ghost use Rattle.mmcs_engine.specs.Inner.Alike.{IsSchemeOf};
 use mmcs_engine::schemes::{fold_scheme, sha_scheme};
 use mmcs_text::command::CapChoice;
 use mmcs_text::word::Word;
-use p3_instances::fold::{FoldCompress, FoldHash};
-use p3_instances::sha_eights::{Sha256NodesInEights, Sha256RowsInEights};
-use p3_merkle_tree::MerkleTreeMmcs;
+use p3_hashes::fold::{FoldCompress, FoldHash};
+use p3_hashes::sha_eights::{Sha256NodesInEights, Sha256RowsInEights};
+use p3_merkle_mmcs::mmcs::MerkleTreeMmcs;
 use p3_support::compress::PseudoCompressionFunction;
 use p3_support::hasher::CryptographicHasher;
 

@@ -12,14 +12,14 @@ use Rattle.p3_merkle_core.specs.declared.collision.Place.{Place}
 use Rattle.p3_merkle_core.specs.declared.collision.Place.TheVariants.{Leaf, Group, Rows, Pair}
 
 -- what openings are checked against: the functions, the shape of the tree, and the layer that is its cap
-pub record Terms (T W : Type 0) : Type 0 where
+pub record Params (T W : Type 0) : Type 0 where
   pub functions : Functions T W
   pub shape : Shape
   pub layer : ℕ
 
--- the terms of functions, a shape and a layer
-abbrev pub terms : {T W : Type 0} → Functions T W → Shape → ℕ → Terms T W
-terms f s t = record { functions = f; shape = s; layer = t }
+-- the parameters of functions, a shape and a layer
+abbrev pub params : {T W : Type 0} → Functions T W → Shape → ℕ → Params T W
+params f s t = record { functions = f; shape = s; layer = t }
 
 -- ---- the digests on a path
 
@@ -113,7 +113,7 @@ abbrev pub IsAtOnePlace : {T W : Type 0} → Input T W → Input T W → Type 0
 IsAtOnePlace x y = x.place ≡ y.place
 
 -- all inputs of a check, in order, up to the cap's layer
-abbrev pub inputs : {T W : Type 0} → Terms T W → Opening T W → List (Input T W)
+abbrev pub inputs : {T W : Type 0} → Params T W → Opening T W → List (Input T W)
 inputs c o = leaf_input c.shape o ∷ flat_map (inputs_at c.functions c.shape o) (range_with_len 0 c.layer)
 
 -- the last element of a list, or x of none
@@ -122,11 +122,11 @@ last_of x [] = x
 last_of x (y ∷ ys) = last_of y ys
 
 -- the last input of a check: there is always one, the leaf's at least
-abbrev pub last_input : {T W : Type 0} → Terms T W → Opening T W → Input T W
+abbrev pub last_input : {T W : Type 0} → Params T W → Opening T W → Input T W
 last_input c o = last_of (leaf_input c.shape o) (inputs c o)
 
 -- the digest in which a check ends: that of its last input
-abbrev pub check_digest : {T W : Type 0} → Terms T W → Opening T W → List W
+abbrev pub check_digest : {T W : Type 0} → Params T W → Opening T W → List W
 check_digest c o = input_digest c.functions (last_input c o)
 
 -- ---- accepted
@@ -134,7 +134,7 @@ check_digest c o = input_digest c.functions (last_input c o)
 -- an opening is accepted under a cap: lawful heights, rows of their widths, as many siblings as the levels below the
 -- cap have, an index below the greatest height, and the cap's entry at its ancestor is the digest in which the check
 -- ends
-pub record IsAccepted {T W : Type 0} (c : Terms T W) (cap : List (List W)) (o : Opening T W) : Type 0 where
+pub record IsAccepted {T W : Type 0} (c : Params T W) (cap : List (List W)) (o : Opening T W) : Type 0 where
   pub lawful : IsLawful (heights c.shape)
   pub rows_fit : map length o.rows ≡ widths c.shape
   pub count : length o.siblings ≡ siblings_below c.shape c.layer
@@ -158,14 +158,14 @@ abbrev pub meeting_level : Shape → ℕ → ℕ → ℕ → ℕ
 meeting_level s t i j = least (λ l. ancestor s (suc l) i == ancestor s (suc l) j) t
 
 -- the inputs of o from where the paths of the indices i and j meet: all of them if i and j are one
-abbrev pub shared_inputs : {T W : Type 0} → Terms T W → ℕ → ℕ → Opening T W → List (Input T W)
+abbrev pub shared_inputs : {T W : Type 0} → Params T W → ℕ → ℕ → Opening T W → List (Input T W)
 shared_inputs c i j o =
     let m = meeting_level c.shape c.layer i j in
     if i == j then inputs c o
     else flat_map (λ k. inputs_at c.functions c.shape o (m + k)) (range_with_len 0 (c.layer - m))
 
 -- the two checks agree from where their paths meet
-abbrev pub AgreeWhereShared : {T W : Type 0} → Terms T W → Opening T W → Opening T W → Type 0
+abbrev pub AgreeWhereShared : {T W : Type 0} → Params T W → Opening T W → Opening T W → Type 0
 AgreeWhereShared c o u = let shared = shared_inputs c o.index u.index in shared o ≡ shared u
 
 -- x and y stand at one place of xs and ys, are different, and all after them agrees
@@ -175,5 +175,5 @@ IsLastDifference (a ∷ xs) [] x y = ⊥
 IsLastDifference (a ∷ xs) (b ∷ ys) x y = IsLastDifference xs ys x y ⊎ ((xs ≡ ys) × (a ≡ x) × (b ≡ y) × (x ≢ y))
 
 -- x and y are the last inputs that the checks of o and u share and that differ
-abbrev pub IsLastShared : {T W : Type 0} → Terms T W → Opening T W → Opening T W → Input T W → Input T W → Type 0
+abbrev pub IsLastShared : {T W : Type 0} → Params T W → Opening T W → Opening T W → Input T W → Input T W → Type 0
 IsLastShared c o u x y = let shared = shared_inputs c o.index u.index in IsLastDifference (shared o) (shared u) x y

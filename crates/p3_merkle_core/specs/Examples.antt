@@ -4,7 +4,7 @@ use Rattle.p3_support.specs.Fold.{fold_hash, fold_compress}
 use Rattle.p3_merkle_core.specs.Geometry.{Shape, shape_of}
 use Rattle.p3_merkle_core.specs.Nodes.{Batch, Functions, Matrix, functions_of}
 use Rattle.p3_merkle_core.specs.Openings.{Opening}
-use Rattle.p3_merkle_core.specs.Checks.{Input, Terms}
+use Rattle.p3_merkle_core.specs.Checks.{Input, Params}
 use Rattle.p3_merkle_core.specs.Pruning.{PrunedOpening, pruned_of}
 use Rattle.p3_merkle_core.specs.Extraction.{extraction}
 use Rattle.p3_merkle_core.specs.Presented.{presented, presented_pruned}
@@ -31,12 +31,12 @@ abbrev pub pruned : List ℕ → List (List (List ℕ)) → List (List ℕ) → 
 pruned indices rows digests = pruned_of indices rows digests
 
 -- what is answered to two openings under a cap
-abbrev pub extracts : Terms ℕ ℕ → List (List ℕ) → Opening ℕ ℕ → Opening ℕ ℕ →
+abbrev pub extracts : Params ℕ ℕ → List (List ℕ) → Opening ℕ ℕ → Opening ℕ ℕ →
     Result (Option (ℕ × ℕ × (Input ℕ ℕ × Input ℕ ℕ))) MerkleTreeError
 extracts c cap o u = extraction nat_eq nat_eq c (presented nat_eq c cap o) (presented nat_eq c cap u)
 
 -- the same of two pruned openings
-abbrev pub extracts_pruned : Terms ℕ ℕ → List (List ℕ) → PrunedOpening ℕ ℕ → PrunedOpening ℕ ℕ →
+abbrev pub extracts_pruned : Params ℕ ℕ → List (List ℕ) → PrunedOpening ℕ ℕ → PrunedOpening ℕ ℕ →
     Result (Option (ℕ × ℕ × (Input ℕ ℕ × Input ℕ ℕ))) MerkleTreeError
 extracts_pruned c cap p r = extraction nat_eq nat_eq c (presented_pruned nat_eq nat_eq c cap p)
     (presented_pruned nat_eq nat_eq c cap r)

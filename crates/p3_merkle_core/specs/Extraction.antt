@@ -8,7 +8,7 @@ use Rattle.p3_merkle_core.specs.Geometry.{Shape, heights, halved_index}
 use Rattle.p3_support.specs.Batches.{greatest}
 use Rattle.p3_merkle_core.specs.Openings.{Opening}
 use Rattle.p3_merkle_core.specs.Checks.{AgreeWhereShared, Content, Digests, HasDigests, Input, IsAtOnePlace}
-use Rattle.p3_merkle_core.specs.Checks.{IsLastShared, Terms, Words, input_digest, is_authenticated, opened_row}
+use Rattle.p3_merkle_core.specs.Checks.{IsLastShared, Params, Words, input_digest, is_authenticated, opened_row}
 use Rattle.p3_merkle_core.specs.Checks.{shared_inputs}
 use Rattle.p3_merkle_core.specs.Presented.{Presented}
 use Rattle.p3_merkle_core.specs.Refusals.{AnswersUnlessMemory, first_of, ok_unless, unless}
@@ -45,14 +45,15 @@ last_difference test (x ∷ xs) [] = None
 last_difference test (x ∷ xs) (y ∷ ys) = option_or (last_difference test xs ys) (unless (test x y) (x, y))
 
 -- the last inputs that the checks of o and u share and that differ
-abbrev pub difference_of : {T W : Type 0} → (T → T → Bool) → (W → W → Bool) → Terms T W → Opening T W → Opening T W →
+abbrev pub difference_of : {T W : Type 0} → (T → T → Bool) → (W → W → Bool) → Params T W → Opening T W → Opening T W →
     Option (Input T W × Input T W)
 difference_of row_eq digest_eq c o u =
     let shared = shared_inputs c o.index u.index in last_difference (input_eq row_eq digest_eq) (shared o) (shared u)
 
 -- a collision of two openings: the last inputs that their checks share and that differ; they stand at one place, have
 -- as many digests as the arity if they are made of digests, and have one digest
-pub record IsCollision {T W : Type 0} (c : Terms T W) (o u : Opening T W) (found : Input T W × Input T W) : Type 0 where
+pub record IsCollision {T W : Type 0} (c : Params T W) (o u : Opening T W)
+    (found : Input T W × Input T W) : Type 0 where
   pub last : IsLastShared c o u found.0 found.1
   pub at_one_place : IsAtOnePlace found.0 found.1
   pub different : found.0 ≢ found.1
@@ -63,7 +64,7 @@ pub record IsCollision {T W : Type 0} (c : Terms T W) (o u : Opening T W) (found
 -- ---- rows that are answered in two ways
 
 -- two openings have the same siblings, and the same row of each authenticated matrix
-pub record RowsAgreeWhereAuthenticated {T W : Type 0} (c : Terms T W) (o u : Opening T W) : Type 0 where
+pub record RowsAgreeWhereAuthenticated {T W : Type 0} (c : Params T W) (o u : Opening T W) : Type 0 where
   pub siblings : o.siblings ≡ u.siblings
   pub rows : (k : ℕ) → k < length (heights c.shape) → IsTrue (is_authenticated c.shape c.layer k) →
       opened_row o k ≡ opened_row u k
@@ -76,12 +77,12 @@ pub record RowsConflictAt {T W : Type 0} (s : Shape) (o u : Opening T W) (k : �
   pub two_ways : opened_row o k ≢ opened_row u k
 
 -- two openings conflict in an authenticated matrix
-abbrev pub RowsConflictWhereAuthenticated : {T W : Type 0} → Terms T W → Opening T W → Opening T W → Type 0
+abbrev pub RowsConflictWhereAuthenticated : {T W : Type 0} → Params T W → Opening T W → Opening T W → Type 0
 RowsConflictWhereAuthenticated c o u =
     (k : ℕ) × IsTrue (is_authenticated c.shape c.layer k) × RowsConflictAt c.shape o u k
 
 -- two openings conflict in some matrix
-abbrev pub RowsConflictSomewhere : {T W : Type 0} → Terms T W → Opening T W → Opening T W → Type 0
+abbrev pub RowsConflictSomewhere : {T W : Type 0} → Params T W → Opening T W → Opening T W → Type 0
 RowsConflictSomewhere c o u = (k : ℕ) × RowsConflictAt c.shape o u k
 
 -- ---- pairs of queries
@@ -103,7 +104,7 @@ EachPairBefore first second a b Holds =
     (i j : ℕ) → (i < a) ⊎ ((i ≡ a) × (j < b)) → j < second.queries → Holds (first.query i) (second.query j)
 
 -- two queries collide, and each pair of queries before them agrees wherever their checks share a place
-pub record IsFirstCollision {T W : Type 0} (c : Terms T W) (first second : Presented T W)
+pub record IsFirstCollision {T W : Type 0} (c : Params T W) (first second : Presented T W)
     (found : ℕ × ℕ × (Input T W × Input T W)) : Type 0 where
   pub first_query : found.0 < first.queries
   pub second_query : found.1 < second.queries
@@ -118,21 +119,21 @@ first_pair d n m =
     first_of (λ a. first_of (λ b. option_map (λ x. (a, b, x)) (d a b)) (range_with_len 0 m)) (range_with_len 0 n)
 
 -- the first two queries whose checks differ, with their last difference
-abbrev pub first_difference : {T W : Type 0} → (T → T → Bool) → (W → W → Bool) → Terms T W → Presented T W →
+abbrev pub first_difference : {T W : Type 0} → (T → T → Bool) → (W → W → Bool) → Params T W → Presented T W →
     Presented T W → Option (ℕ × ℕ × (Input T W × Input T W))
 first_difference row_eq digest_eq c first second =
     first_pair (λ a b. difference_of row_eq digest_eq c (first.query a) (second.query b)) first.queries second.queries
 
 -- what is answered to two openings under one cap: the refusal of the first, else of the second, else the first
 -- difference
-abbrev pub extraction : {T W : Type 0} → (T → T → Bool) → (W → W → Bool) → Terms T W → Presented T W →
+abbrev pub extraction : {T W : Type 0} → (T → T → Bool) → (W → W → Bool) → Params T W → Presented T W →
     Presented T W → Result (Option (ℕ × ℕ × (Input T W × Input T W))) MerkleTreeError
 extraction row_eq digest_eq c first second =
     ok_unless (option_or first.refusal second.refusal) (first_difference row_eq digest_eq c first second)
 
 -- what a call answers to two openings under a cap of a rule
 pub record IsExtraction {T W : Type 0} (row_eq : T → T → Bool) (digest_eq : W → W → Bool) (rule : CapRule)
-    (c : Terms T W) (first second : Presented T W)
+    (c : Params T W) (first second : Presented T W)
     (result : Result (Option (ℕ × ℕ × (Input T W × Input T W))) MerkleTreeError) : Type 0 where
   -- two accepted openings are answered Ok, unless memory runs out
   pub answered : first.is_accepted → second.is_accepted → AnswersUnlessMemory result None

@@ -11,7 +11,7 @@ use Rattle.p3_merkle_core.specs.Nodes.{Functions, Batch, HasFullRows, shape, nod
 use Rattle.p3_merkle_core.specs.Openings.{Opening, honest, siblings_by, opening_in_layers}
 use Rattle.p3_merkle_core.specs.Checks.{Input, AgreeWhereShared, HasDigests, IsAccepted, IsAtOnePlace, IsLastShared}
 use Rattle.p3_merkle_core.specs.Checks.{inputs, is_authenticated, opened_row, path_digest, input_digest, check_digest}
-use Rattle.p3_merkle_core.specs.Checks.{last_input, terms, Terms}
+use Rattle.p3_merkle_core.specs.Checks.{last_input, params, Params}
 use Rattle.p3_merkle_core.specs.Pruning.{PrunedOpening, CanQuery, IsHonestQuery, IsCapped, IsUncovered, EachAccepted}
 use Rattle.p3_merkle_core.specs.Pruning.{Suffices, boundary, honest_query, is_covered, is_in, is_under, opening_at}
 use Rattle.p3_merkle_core.specs.Pruning.{restored_node, restored_path, IsGivenUnder, IsLeast, IsRestorable}
@@ -144,35 +144,35 @@ module _ (T W : Type 0) where
   HonestIsAccepted =
       (f : Functions T W) (b : Batch T) (t i : ℕ) → IsArity b.arity → IsLawful (heights (shape b)) →
       i < greatest (heights (shape b)) → t ≤ levels (shape b) → HasFullRows b →
-      IsAccepted (terms f (shape b) t) (layer f b t) (honest f b t i)
+      IsAccepted (params f (shape b) t) (layer f b t) (honest f b t i)
 
   -- the honest pruned opening of each list of indices is answered Ok
   abbrev pub HonestQueryIsAccepted : Type 0
   HonestQueryIsAccepted =
       (row_eq : T → T → Bool) (digest_eq : W → W → Bool) (f : Functions T W) (b : Batch T) (t : ℕ)
       (indices : List ℕ) → IsEquality row_eq → IsEquality digest_eq → IsHonestQuery b t indices → HasFullRows b →
-      pruned_answer_under row_eq digest_eq (terms f (shape b) t) (layer f b t) (honest_query f b t indices) ≡ Ok tt
+      pruned_answer_under row_eq digest_eq (params f (shape b) t) (layer f b t) (honest_query f b t indices) ≡ Ok tt
 
   -- an honest pruned opening restores each covered node
   abbrev pub HonestNodesAreRestored : Type 0
   HonestNodesAreRestored =
       (f : Functions T W) (b : Batch T) (t : ℕ) (indices : List ℕ) → IsHonestQuery b t indices → (l j : ℕ) → l ≤ t →
       is_covered (shape b) indices l j ≡ true →
-      restored_node (terms f (shape b) t) (honest_query f b t indices) l j ≡ node f b l j
+      restored_node (params f (shape b) t) (honest_query f b t indices) l j ≡ node f b l j
 
   -- an honest pruned opening restores the honest siblings of each query
   abbrev pub HonestPathsAreRestored : Type 0
   HonestPathsAreRestored =
       (f : Functions T W) (b : Batch T) (t : ℕ) (indices : List ℕ) → IsHonestQuery b t indices → (k : ℕ) →
       k < length indices →
-      restored_path (terms f (shape b) t) (honest_query f b t indices) (slice_index indices k) ≡ siblings_by
+      restored_path (params f (shape b) t) (honest_query f b t indices) (slice_index indices k) ≡ siblings_by
       (node f b) (shape b) t (slice_index indices k)
 
   -- so it answers the honest siblings of each query, in order
   abbrev pub HonestPathsInOrder : Type 0
   HonestPathsInOrder =
       (f : Functions T W) (b : Batch T) (t : ℕ) (indices : List ℕ) → IsHonestQuery b t indices →
-      restored_paths (terms f (shape b) t) (honest_query f b t indices) ≡ map
+      restored_paths (params f (shape b) t) (honest_query f b t indices) ≡ map
       (λ i. (i, siblings_by (node f b) (shape b) t i)) indices
 
   -- the opening of an index whose siblings are read out of the layers of a batch's tree is the honest one
@@ -192,14 +192,14 @@ module _ (T W : Type 0) where
   abbrev pub HonestQueryIsCapped : Type 0
   HonestQueryIsCapped =
       (f : Functions T W) (b : Batch T) (t : ℕ) (indices : List ℕ) → IsHonestQuery b t indices →
-      IsCapped (terms f (shape b) t) (layer f b t) (honest_query f b t indices)
+      IsCapped (params f (shape b) t) (layer f b t) (honest_query f b t indices)
 
   -- ---- what is answered Ok
 
   -- an opening is answered Ok exactly if it is accepted
   abbrev pub OkIsAccepted : Type 0
   OkIsAccepted =
-      (digest_eq : W → W → Bool) (c : Terms T W) (cap : List (List W)) (o : Opening T W) → IsEquality digest_eq →
+      (digest_eq : W → W → Bool) (c : Params T W) (cap : List (List W)) (o : Opening T W) → IsEquality digest_eq →
       (answer_under digest_eq c cap o ≡ Ok tt) ↔ IsAccepted c cap o
 
   -- a pruned opening is answered Ok, whatever the cap, exactly if it is restorable
@@ -212,7 +212,7 @@ module _ (T W : Type 0) where
   -- restored path
   abbrev pub OkIsEachAccepted : Type 0
   OkIsEachAccepted =
-      (row_eq : T → T → Bool) (digest_eq : W → W → Bool) (c : Terms T W) (cap : List (List W))
+      (row_eq : T → T → Bool) (digest_eq : W → W → Bool) (c : Params T W) (cap : List (List W))
       (p : PrunedOpening T W) → IsEquality row_eq → IsEquality digest_eq → IsArity c.shape.arity →
       (pruned_answer_under row_eq digest_eq c cap p ≡ Ok tt) ↔ IsPrunedAccepted c cap p
 
@@ -220,7 +220,7 @@ module _ (T W : Type 0) where
   -- layer
   abbrev pub OkIsCapped : Type 0
   OkIsCapped =
-      (row_eq : T → T → Bool) (digest_eq : W → W → Bool) (c : Terms T W) (cap : List (List W))
+      (row_eq : T → T → Bool) (digest_eq : W → W → Bool) (c : Params T W) (cap : List (List W))
       (p : PrunedOpening T W) → IsEquality row_eq → IsEquality digest_eq →
       (pruned_answer_under row_eq digest_eq c cap p ≡ Ok tt) ↔ (IsRestorable c.shape c.layer p × IsCapped c cap p)
 
@@ -229,21 +229,21 @@ module _ (T W : Type 0) where
   -- a restorable opening fits the cap exactly if each query is accepted with its restored path
   abbrev pub CappedIsEachAccepted : Type 0
   CappedIsEachAccepted =
-      (c : Terms T W) (cap : List (List W)) (p : PrunedOpening T W) → IsArity c.shape.arity →
+      (c : Params T W) (cap : List (List W)) (p : PrunedOpening T W) → IsArity c.shape.arity →
       IsRestorable c.shape c.layer p →
       IsCapped c cap p ↔ EachAccepted c cap p
 
   -- a pruned opening that is refused whatever the cap is refused alike under each cap
   abbrev pub RefusedUnderEachCap : Type 0
   RefusedUnderEachCap =
-      (row_eq : T → T → Bool) (digest_eq : W → W → Bool) (c : Terms T W) (cap : List (List W)) (p : PrunedOpening T W)
+      (row_eq : T → T → Bool) (digest_eq : W → W → Bool) (c : Params T W) (cap : List (List W)) (p : PrunedOpening T W)
       (e : MerkleTreeError) →
       pruned_answer row_eq c.shape c.layer p ≡ Err e → pruned_answer_under row_eq digest_eq c cap p ≡ Err e
 
   -- what is not refused whatever the cap is answered Ok under a cap exactly if each query with its restored path is
   abbrev pub AnsweredAsEachPath : Type 0
   AnsweredAsEachPath =
-      (row_eq : T → T → Bool) (digest_eq : W → W → Bool) (c : Terms T W) (cap : List (List W))
+      (row_eq : T → T → Bool) (digest_eq : W → W → Bool) (c : Params T W) (cap : List (List W))
       (p : PrunedOpening T W) → IsEquality row_eq → IsEquality digest_eq → IsArity c.shape.arity →
       pruned_answer row_eq c.shape c.layer p ≡ Ok tt →
       (pruned_answer_under row_eq digest_eq c cap p ≡ Ok tt) ↔ ((k : ℕ) → k < length p.indices →
@@ -252,7 +252,7 @@ module _ (T W : Type 0) where
   -- what is not refused whatever the cap is answered Ok under a cap, or CapMismatch
   abbrev pub OkOrCapMismatch : Type 0
   OkOrCapMismatch =
-      (row_eq : T → T → Bool) (digest_eq : W → W → Bool) (c : Terms T W) (cap : List (List W))
+      (row_eq : T → T → Bool) (digest_eq : W → W → Bool) (c : Params T W) (cap : List (List W))
       (p : PrunedOpening T W) → pruned_answer row_eq c.shape c.layer p ≡ Ok tt →
       (pruned_answer_under row_eq digest_eq c cap p ≡ Ok tt) ⊎
       (pruned_answer_under row_eq digest_eq c cap p ≡ Err CapMismatch)
@@ -262,7 +262,7 @@ module _ (T W : Type 0) where
   -- the last inputs that two accepted openings share and that differ stand at one place and have one digest
   abbrev pub LastDifferenceCollides : Type 0
   LastDifferenceCollides =
-      (c : Terms T W) (cap : List (List W)) (o u : Opening T W) → IsArity c.shape.arity → IsAccepted c cap o →
+      (c : Params T W) (cap : List (List W)) (o u : Opening T W) → IsArity c.shape.arity → IsAccepted c cap o →
       IsAccepted c cap u →
       (x y : Input T W) → IsLastShared c o u x y →
       IsAtOnePlace x y × (x ≢ y) × (input_digest c.functions x ≡ input_digest c.functions y)
@@ -271,7 +271,7 @@ module _ (T W : Type 0) where
   -- alike
   abbrev pub RowsAreBound : Type 0
   RowsAreBound =
-      (c : Terms T W) (cap : List (List W)) (o u : Opening T W) → IsArity c.shape.arity → IsAccepted c cap o →
+      (c : Params T W) (cap : List (List W)) (o u : Opening T W) → IsArity c.shape.arity → IsAccepted c cap o →
       IsAccepted c cap u →
       AgreeWhereShared c o u →
       (k : ℕ) → k < length (heights c.shape) → IsTrue (is_authenticated c.shape c.layer k) →
@@ -283,20 +283,20 @@ module _ (T W : Type 0) where
   -- of each authenticated matrix
   abbrev pub OneIndexIsBound : Type 0
   OneIndexIsBound =
-      (c : Terms T W) (cap : List (List W)) (o u : Opening T W) → IsArity c.shape.arity → IsAccepted c cap o →
+      (c : Params T W) (cap : List (List W)) (o u : Opening T W) → IsArity c.shape.arity → IsAccepted c cap o →
       IsAccepted c cap u → o.index ≡ u.index →
       AgreeWhereShared c o u ↔ RowsAgreeWhereAuthenticated c o u
 
   -- each input of an accepted opening that is made of digests has as many of them as the arity
   abbrev pub InputsAreFull : Type 0
   InputsAreFull =
-      (c : Terms T W) (cap : List (List W)) (o : Opening T W) → IsArity c.shape.arity → IsAccepted c cap o →
+      (c : Params T W) (cap : List (List W)) (o : Opening T W) → IsArity c.shape.arity → IsAccepted c cap o →
       All (HasDigests c.shape.arity) (inputs c o)
 
   -- the walk up the path reaches, at the cap's layer, the digest of the check's last input, and no input is after it
   abbrev pub LastInputIsReached : Type 0
   LastInputIsReached =
-      (c : Terms T W) (o : Opening T W) →
+      (c : Params T W) (o : Opening T W) →
       (path_digest c.functions c.shape o c.layer ≡ check_digest c o) ×
       ((before : List (Input T W)) × (inputs c o ≡ before ++ last_input c o ∷ []))
 
@@ -307,7 +307,7 @@ module _ (T W : Type 0) where
       (row_eq : T → T → Bool) (digest_eq : W → W → Bool) (f : Functions T W) (s : Shape) (rule : CapRule)
       (cap_height : ℕ) (cap : List (List W)) (o u : Opening T W) → IsEquality row_eq → IsEquality digest_eq →
       IsArity s.arity →
-      let c = terms f s (cap_layer s rule cap_height) in
+      let c = params f s (cap_layer s rule cap_height) in
       let first = presented digest_eq c cap o in
       let second = presented digest_eq c cap u in
       IsExtraction row_eq digest_eq rule c first second (extraction row_eq digest_eq c first second)
@@ -318,7 +318,7 @@ module _ (T W : Type 0) where
       (row_eq : T → T → Bool) (digest_eq : W → W → Bool) (f : Functions T W) (s : Shape) (rule : CapRule)
       (cap_height : ℕ) (cap : List (List W)) (p r : PrunedOpening T W) → IsEquality row_eq →
       IsEquality digest_eq → IsArity s.arity →
-      let c = terms f s (cap_layer s rule cap_height) in
+      let c = params f s (cap_layer s rule cap_height) in
       let first = presented_pruned row_eq digest_eq c cap p in
       let second = presented_pruned row_eq digest_eq c cap r in
       IsExtraction row_eq digest_eq rule c first second (extraction row_eq digest_eq c first second)

@@ -5,7 +5,7 @@ use Rattle.p3_merkle_core.specs.Geometry.{shape_of, exponent, layer_exponent, ra
 use Rattle.p3_merkle_core.specs.Nodes.{node, shape}
 use Rattle.p3_merkle_core.specs.Openings.{honest_rows, opening_of, siblings_by}
 use Rattle.p3_merkle_core.specs.Refusals.{refusal_under}
-use Rattle.p3_merkle_core.specs.Checks.{digests_at, terms, words_at, siblings_below, path_digest, inputs, check_digest}
+use Rattle.p3_merkle_core.specs.Checks.{digests_at, params, words_at, siblings_below, path_digest, inputs, check_digest}
 use Rattle.p3_merkle_core.specs.Examples.{batch, column, narrow, fold_example, extracts}
 use Rattle.p3_merkle_core.specs.declared.collision.Place.TheVariants.{Leaf, Group, Rows, Pair}
 use Rattle.p3_merkle_core.specs.declared.error.MerkleTreeError.TheVariants.{CapMismatch, IncompatibleHeights}
@@ -45,101 +45,102 @@ unfolding exponent layer_exponent raw_len leaves_under siblings_below path_diges
 digest_reached_from_index_2 = refl
 
 digest_at_which_the_check_of_index_2_ends :
-    check_digest (terms (fold_example 1) (narrow 2 (4 ∷ [])) 2)
+    check_digest (params (fold_example 1) (narrow 2 (4 ∷ [])) 2)
     (opening_of 2 ((3 ∷ []) ∷ []) ((35 ∷ []) ∷ (1026 ∷ []) ∷ [])) ≡ 32897 ∷ []
 unfolding exponent layer_exponent raw_len leaves_under siblings_below path_digest fold_hash fold_compress
 digest_at_which_the_check_of_index_2_ends = refl
 
-inputs_of_a_check : inputs (terms (fold_example 1) (narrow 2 (2 ∷ [])) 1) (opening_of 0 ((2 ∷ []) ∷ []) ((2 ∷ []) ∷ []))
+inputs_of_a_check : inputs (params (fold_example 1) (narrow 2 (2 ∷ [])) 1)
+    (opening_of 0 ((2 ∷ []) ∷ []) ((2 ∷ []) ∷ []))
     ≡ words_at Leaf (2 ∷ []) ∷ digests_at (Group 0) ((33 ∷ []) ∷ (2 ∷ []) ∷ []) ∷ []
 unfolding exponent layer_exponent raw_len leaves_under siblings_below path_digest fold_hash fold_compress
 inputs_of_a_check = refl
 
-honest_opening : refusal_under nat_eq (terms (fold_example 1) (narrow 2 (4 ∷ [])) 2) ((32897 ∷ []) ∷ [])
+honest_opening : refusal_under nat_eq (params (fold_example 1) (narrow 2 (4 ∷ [])) 2) ((32897 ∷ []) ∷ [])
     (opening_of 2 ((3 ∷ []) ∷ []) ((35 ∷ []) ∷ (1026 ∷ []) ∷ [])) ≡ None
 unfolding exponent layer_exponent raw_len leaves_under siblings_below path_digest fold_hash fold_compress
 honest_opening = refl
 
-honest_opening_beside_padding : refusal_under nat_eq (terms (fold_example 1) (narrow 2 (3 ∷ [])) 2) ((32862 ∷ []) ∷ [])
+honest_opening_beside_padding : refusal_under nat_eq (params (fold_example 1) (narrow 2 (3 ∷ [])) 2) ((32862 ∷ []) ∷ [])
     (opening_of 2 ((3 ∷ []) ∷ []) ((0 ∷ []) ∷ (1026 ∷ []) ∷ [])) ≡ None
 unfolding exponent layer_exponent raw_len leaves_under siblings_below path_digest fold_hash fold_compress
 honest_opening_beside_padding = refl
 
-wrong_sibling : refusal_under nat_eq (terms (fold_example 1) (narrow 2 (3 ∷ [])) 2) ((32862 ∷ []) ∷ [])
+wrong_sibling : refusal_under nat_eq (params (fold_example 1) (narrow 2 (3 ∷ [])) 2) ((32862 ∷ []) ∷ [])
     (opening_of 2 ((3 ∷ []) ∷ []) ((1 ∷ []) ∷ (1026 ∷ []) ∷ [])) ≡ Some CapMismatch
 unfolding exponent layer_exponent raw_len leaves_under siblings_below path_digest fold_hash fold_compress
 wrong_sibling = refl
 
-wrong_injected_row : refusal_under nat_eq (terms (fold_example 1) (narrow 2 (3 ∷ 2 ∷ [])) 2) ((1019845 ∷ []) ∷ [])
+wrong_injected_row : refusal_under nat_eq (params (fold_example 1) (narrow 2 (3 ∷ 2 ∷ [])) 2) ((1019845 ∷ []) ∷ [])
     (opening_of 2 ((3 ∷ []) ∷ (4 ∷ []) ∷ []) ((0 ∷ []) ∷ (31842 ∷ []) ∷ [])) ≡ Some CapMismatch
 unfolding exponent layer_exponent raw_len leaves_under siblings_below path_digest fold_hash fold_compress
 wrong_injected_row = refl
 
-wide_row_hides_no_other : refusal_under nat_eq (terms (fold_example 1) (narrow 2 (3 ∷ 2 ∷ [])) 2) ((1019845 ∷ []) ∷ [])
+wide_row_hides_no_other : refusal_under nat_eq (params (fold_example 1) (narrow 2 (3 ∷ 2 ∷ [])) 2) ((1019845 ∷ []) ∷ [])
     (opening_of 2 ((3 ∷ 5 ∷ []) ∷ ([]) ∷ []) ((0 ∷ []) ∷ (31842 ∷ []) ∷ [])) ≡ Some (WrongWidth 0 1 2)
 unfolding exponent layer_exponent raw_len leaves_under siblings_below path_digest fold_hash fold_compress
 wide_row_hides_no_other = refl
 
-too_few_siblings : refusal_under nat_eq (terms (fold_example 1) (narrow 2 (4 ∷ [])) 2) ((32897 ∷ []) ∷ [])
+too_few_siblings : refusal_under nat_eq (params (fold_example 1) (narrow 2 (4 ∷ [])) 2) ((32897 ∷ []) ∷ [])
     (opening_of 9 ((1 ∷ []) ∷ []) ((1 ∷ []) ∷ [])) ≡ Some (WrongHeight 2 1)
 unfolding exponent layer_exponent raw_len leaves_under siblings_below path_digest fold_hash fold_compress
 too_few_siblings = refl
 
-index_out_of_bounds : refusal_under nat_eq (terms (fold_example 1) (narrow 2 (4 ∷ [])) 2) ((32897 ∷ []) ∷ [])
+index_out_of_bounds : refusal_under nat_eq (params (fold_example 1) (narrow 2 (4 ∷ [])) 2) ((32897 ∷ []) ∷ [])
     (opening_of 9 ((1 ∷ []) ∷ []) ((1 ∷ []) ∷ (1 ∷ []) ∷ [])) ≡ Some (IndexOutOfBounds 4 9)
 unfolding exponent layer_exponent raw_len leaves_under siblings_below path_digest fold_hash fold_compress
 index_out_of_bounds = refl
 
 opening_under_a_cap_of_two :
-    refusal_under nat_eq (terms (fold_example 1) (narrow 2 (4 ∷ [])) 1) ((1026 ∷ []) ∷ (1090 ∷ []) ∷ [])
+    refusal_under nat_eq (params (fold_example 1) (narrow 2 (4 ∷ [])) 1) ((1026 ∷ []) ∷ (1090 ∷ []) ∷ [])
     (opening_of 2 ((3 ∷ []) ∷ []) ((35 ∷ []) ∷ [])) ≡ None
 unfolding exponent layer_exponent raw_len leaves_under siblings_below path_digest fold_hash fold_compress
 opening_under_a_cap_of_two = refl
 
-opening_past_a_cap_of_one : refusal_under nat_eq (terms (fold_example 1) (narrow 2 (4 ∷ [])) 1) ((1026 ∷ []) ∷ [])
+opening_past_a_cap_of_one : refusal_under nat_eq (params (fold_example 1) (narrow 2 (4 ∷ [])) 1) ((1026 ∷ []) ∷ [])
     (opening_of 2 ((3 ∷ []) ∷ []) ((35 ∷ []) ∷ [])) ≡ Some CapMismatch
 unfolding exponent layer_exponent raw_len leaves_under siblings_below path_digest fold_hash fold_compress
 opening_past_a_cap_of_one = refl
 
 opening_under_a_longer_cap :
-    refusal_under nat_eq (terms (fold_example 1) (narrow 2 (4 ∷ [])) 2) ((32897 ∷ []) ∷ (0 ∷ []) ∷ (7 ∷ []) ∷ [])
+    refusal_under nat_eq (params (fold_example 1) (narrow 2 (4 ∷ [])) 2) ((32897 ∷ []) ∷ (0 ∷ []) ∷ (7 ∷ []) ∷ [])
     (opening_of 2 ((3 ∷ []) ∷ []) ((35 ∷ []) ∷ (1026 ∷ []) ∷ [])) ≡ None
 unfolding exponent layer_exponent raw_len leaves_under siblings_below path_digest fold_hash fold_compress
 opening_under_a_longer_cap = refl
 
-opening_under_no_cap : refusal_under nat_eq (terms (fold_example 1) (narrow 2 (4 ∷ [])) 2) ([])
+opening_under_no_cap : refusal_under nat_eq (params (fold_example 1) (narrow 2 (4 ∷ [])) 2) ([])
     (opening_of 2 ((3 ∷ []) ∷ []) ((35 ∷ []) ∷ (1026 ∷ []) ∷ [])) ≡ Some CapMismatch
 unfolding exponent layer_exponent raw_len leaves_under siblings_below path_digest fold_hash fold_compress
 opening_under_no_cap = refl
 
-too_many_rows_before_the_gate : refusal_under nat_eq (terms (fold_example 1) (narrow 2 (0 ∷ [])) 0) ([])
+too_many_rows_before_the_gate : refusal_under nat_eq (params (fold_example 1) (narrow 2 (0 ∷ [])) 0) ([])
     (opening_of 0 ((1 ∷ []) ∷ (1 ∷ []) ∷ []) ([])) ≡ Some (WrongBatchSize 1 2)
 unfolding exponent layer_exponent raw_len leaves_under siblings_below path_digest fold_hash fold_compress
 too_many_rows_before_the_gate = refl
 
-gate_before_siblings : refusal_under nat_eq (terms (fold_example 1) (narrow 2 (7 ∷ 3 ∷ [])) 3) ([])
+gate_before_siblings : refusal_under nat_eq (params (fold_example 1) (narrow 2 (7 ∷ 3 ∷ [])) 3) ([])
     (opening_of 6 ((7 ∷ []) ∷ (4 ∷ []) ∷ []) ((1 ∷ []) ∷ [])) ≡ Some (IncompatibleHeights 3 7 4 1)
 unfolding exponent layer_exponent raw_len leaves_under siblings_below path_digest fold_hash fold_compress
 gate_before_siblings = refl
 
-row_above_the_cap_is_not_hashed : refusal_under nat_eq (terms (fold_example 1) (narrow 2 (2 ∷ 1 ∷ [])) 0)
+row_above_the_cap_is_not_hashed : refusal_under nat_eq (params (fold_example 1) (narrow 2 (2 ∷ 1 ∷ [])) 0)
     ((32 ∷ []) ∷ (33 ∷ []) ∷ []) (opening_of 0 ((1 ∷ []) ∷ (77 ∷ []) ∷ []) ([])) ≡ None
 unfolding exponent layer_exponent raw_len leaves_under siblings_below path_digest fold_hash fold_compress
 row_above_the_cap_is_not_hashed = refl
 
-row_above_the_cap_has_its_width : refusal_under nat_eq (terms (fold_example 1) (narrow 2 (2 ∷ 1 ∷ [])) 0)
+row_above_the_cap_has_its_width : refusal_under nat_eq (params (fold_example 1) (narrow 2 (2 ∷ 1 ∷ [])) 0)
     ((32 ∷ []) ∷ (33 ∷ []) ∷ []) (opening_of 0 ((1 ∷ []) ∷ (77 ∷ 78 ∷ []) ∷ []) ([])) ≡ Some (WrongWidth 1 1 2)
 unfolding exponent layer_exponent raw_len leaves_under siblings_below path_digest fold_hash fold_compress
 row_above_the_cap_has_its_width = refl
 
-collision_of_two_rows : extracts (terms (fold_example 1) (shape_of 2 (record { width = 2; height = 2 } ∷ [])) 1)
+collision_of_two_rows : extracts (params (fold_example 1) (shape_of 2 (record { width = 2; height = 2 } ∷ [])) 1)
     ((32772 ∷ []) ∷ []) (opening_of 0 ((1 ∷ 31 ∷ []) ∷ []) ((1058 ∷ []) ∷ []))
     (opening_of 0 ((2 ∷ 0 ∷ []) ∷ []) ((1058 ∷ []) ∷ []))
     ≡ Ok (Some (0, 0, (words_at Leaf (1 ∷ 31 ∷ []), words_at Leaf (2 ∷ 0 ∷ []))))
 unfolding exponent layer_exponent raw_len leaves_under siblings_below path_digest fold_hash fold_compress
 collision_of_two_rows = refl
 
-collision_of_two_groups : extracts (terms (fold_example 1) (narrow 2 (2 ∷ [])) 1) ((1026 ∷ []) ∷ [])
+collision_of_two_groups : extracts (params (fold_example 1) (narrow 2 (2 ∷ [])) 1) ((1026 ∷ []) ∷ [])
     (opening_of 0 ((1 ∷ []) ∷ []) ((33 ∷ []) ∷ [])) (opening_of 0 ((2 ∷ []) ∷ []) ((2 ∷ []) ∷ []))
     ≡ Ok (Some (
       0,
@@ -149,13 +150,13 @@ collision_of_two_groups : extracts (terms (fold_example 1) (narrow 2 (2 ∷ []))
 unfolding exponent layer_exponent raw_len leaves_under siblings_below path_digest fold_hash fold_compress
 collision_of_two_groups = refl
 
-no_collision_above_the_cap : extracts (terms (fold_example 1) (narrow 2 (2 ∷ 1 ∷ [])) 0) ((32 ∷ []) ∷ (33 ∷ []) ∷ [])
+no_collision_above_the_cap : extracts (params (fold_example 1) (narrow 2 (2 ∷ 1 ∷ [])) 0) ((32 ∷ []) ∷ (33 ∷ []) ∷ [])
     (opening_of 0 ((1 ∷ []) ∷ (77 ∷ []) ∷ []) ([])) (opening_of 0 ((1 ∷ []) ∷ (78 ∷ []) ∷ []) ([])) ≡ Ok None
 unfolding exponent layer_exponent raw_len leaves_under siblings_below path_digest fold_hash fold_compress
 no_collision_above_the_cap = refl
 
 collision_of_injected_rows :
-    extracts (terms (fold_example 1)
+    extracts (params (fold_example 1)
     (shape_of 2 (record { width = 1; height = 2 } ∷ record { width = 2; height = 1 } ∷ [])) 1) ((32830 ∷ []) ∷ [])
     (opening_of 0 ((1 ∷ []) ∷ (1 ∷ 31 ∷ []) ∷ []) ((33 ∷ []) ∷ []))
     (opening_of 0 ((1 ∷ []) ∷ (2 ∷ 0 ∷ []) ∷ []) ((33 ∷ []) ∷ []))
@@ -163,7 +164,7 @@ collision_of_injected_rows :
 unfolding exponent layer_exponent raw_len leaves_under siblings_below path_digest fold_hash fold_compress
 collision_of_injected_rows = refl
 
-collision_of_two_pairs : extracts (terms (fold_example 1) (narrow 2 (2 ∷ 1 ∷ [])) 1) ((31843 ∷ []) ∷ [])
+collision_of_two_pairs : extracts (params (fold_example 1) (narrow 2 (2 ∷ 1 ∷ [])) 1) ((31843 ∷ []) ∷ [])
     (opening_of 0 ((1 ∷ []) ∷ (5 ∷ []) ∷ []) ((33 ∷ []) ∷ []))
     (opening_of 0 ((1 ∷ []) ∷ (36 ∷ []) ∷ []) ((32 ∷ []) ∷ []))
     ≡ Ok (Some (
@@ -175,7 +176,7 @@ unfolding exponent layer_exponent raw_len leaves_under siblings_below path_diges
 collision_of_two_pairs = refl
 
 -- two indices share the places from where their paths meet
-collision_of_two_indices : extracts (terms (fold_example 1) (narrow 2 (2 ∷ 1 ∷ [])) 1) ((31843 ∷ []) ∷ [])
+collision_of_two_indices : extracts (params (fold_example 1) (narrow 2 (2 ∷ 1 ∷ [])) 1) ((31843 ∷ []) ∷ [])
     (opening_of 0 ((1 ∷ []) ∷ (5 ∷ []) ∷ []) ((33 ∷ []) ∷ []))
     (opening_of 1 ((1 ∷ []) ∷ (36 ∷ []) ∷ []) ((32 ∷ []) ∷ []))
     ≡ Ok (Some (
@@ -186,25 +187,25 @@ collision_of_two_indices : extracts (terms (fold_example 1) (narrow 2 (2 ∷ 1 �
 unfolding exponent layer_exponent raw_len leaves_under siblings_below path_digest fold_hash fold_compress
 collision_of_two_indices = refl
 
-one_opening_twice : extracts (terms (fold_example 1) (narrow 2 (2 ∷ 1 ∷ [])) 1) ((31843 ∷ []) ∷ [])
+one_opening_twice : extracts (params (fold_example 1) (narrow 2 (2 ∷ 1 ∷ [])) 1) ((31843 ∷ []) ∷ [])
     (opening_of 0 ((1 ∷ []) ∷ (5 ∷ []) ∷ []) ((33 ∷ []) ∷ []))
     (opening_of 0 ((1 ∷ []) ∷ (5 ∷ []) ∷ []) ((33 ∷ []) ∷ [])) ≡ Ok None
 unfolding exponent layer_exponent raw_len leaves_under siblings_below path_digest fold_hash fold_compress
 one_opening_twice = refl
 
-two_honest_indices : extracts (terms (fold_example 1) (narrow 2 (2 ∷ 1 ∷ [])) 1) ((31843 ∷ []) ∷ [])
+two_honest_indices : extracts (params (fold_example 1) (narrow 2 (2 ∷ 1 ∷ [])) 1) ((31843 ∷ []) ∷ [])
     (opening_of 0 ((1 ∷ []) ∷ (5 ∷ []) ∷ []) ((33 ∷ []) ∷ []))
     (opening_of 1 ((2 ∷ []) ∷ (5 ∷ []) ∷ []) ((32 ∷ []) ∷ [])) ≡ Ok None
 unfolding exponent layer_exponent raw_len leaves_under siblings_below path_digest fold_hash fold_compress
 two_honest_indices = refl
 
-first_opening_refused : extracts (terms (fold_example 1) (narrow 2 (2 ∷ 1 ∷ [])) 1) ((31843 ∷ []) ∷ [])
+first_opening_refused : extracts (params (fold_example 1) (narrow 2 (2 ∷ 1 ∷ [])) 1) ((31843 ∷ []) ∷ [])
     (opening_of 0 ((1 ∷ []) ∷ (6 ∷ []) ∷ []) ((33 ∷ []) ∷ [])) (opening_of 0 ((1 ∷ []) ∷ ([]) ∷ []) ((33 ∷ []) ∷ []))
     ≡ Err CapMismatch
 unfolding exponent layer_exponent raw_len leaves_under siblings_below path_digest fold_hash fold_compress
 first_opening_refused = refl
 
-second_opening_refused : extracts (terms (fold_example 1) (narrow 2 (2 ∷ 1 ∷ [])) 1) ((31843 ∷ []) ∷ [])
+second_opening_refused : extracts (params (fold_example 1) (narrow 2 (2 ∷ 1 ∷ [])) 1) ((31843 ∷ []) ∷ [])
     (opening_of 0 ((1 ∷ []) ∷ (5 ∷ []) ∷ []) ((33 ∷ []) ∷ [])) (opening_of 0 ((1 ∷ []) ∷ ([]) ∷ []) ((33 ∷ []) ∷ []))
     ≡ Err (WrongWidth 1 1 0)
 unfolding exponent layer_exponent raw_len leaves_under siblings_below path_digest fold_hash fold_compress

@@ -2,7 +2,7 @@
 use Rattle.std.specs.Prelude.{ℕ, Bool, IsOk, List, [], None, Option, Result, length}
 use Rattle.p3_merkle_core.specs.Geometry.{Shape}
 use Rattle.p3_merkle_core.specs.Openings.{Opening, opening_of}
-use Rattle.p3_merkle_core.specs.Checks.{IsAccepted, Terms}
+use Rattle.p3_merkle_core.specs.Checks.{IsAccepted, Params}
 use Rattle.p3_merkle_core.specs.Pruning.{IsPrunedAccepted, IsRestorable, PrunedOpening, opening_at}
 use Rattle.p3_merkle_core.specs.Refusals.{AnswersUnlessMemory, pruned_refusal, pruned_refusal_under, refusal_under}
 use Rattle.p3_merkle_core.specs.declared.error.MerkleTreeError.{MerkleTreeError}
@@ -16,12 +16,12 @@ pub record Presented (T W : Type 0) : Type 1 where
   pub query : ℕ → Opening T W
 
 -- an opening of one index, under a cap: it is its only query
-abbrev pub presented : {T W : Type 0} → (W → W → Bool) → Terms T W → List (List W) → Opening T W → Presented T W
+abbrev pub presented : {T W : Type 0} → (W → W → Bool) → Params T W → List (List W) → Opening T W → Presented T W
 presented digest_eq c cap o =
     record { is_accepted = IsAccepted c cap o; refusal = refusal_under digest_eq c cap o; queries = 1; query = λ k. o }
 
 -- a pruned opening, under a cap: its queries are checked with their restored paths
-abbrev pub presented_pruned : {T W : Type 0} → (T → T → Bool) → (W → W → Bool) → Terms T W → List (List W) →
+abbrev pub presented_pruned : {T W : Type 0} → (T → T → Bool) → (W → W → Bool) → Params T W → List (List W) →
     PrunedOpening T W → Presented T W
 presented_pruned row_eq digest_eq c cap p =
     record {

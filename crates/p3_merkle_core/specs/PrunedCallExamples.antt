@@ -10,7 +10,7 @@ use Rattle.p3_merkle_core.specs.Refusals.{pruned_answer_under, pruned_len_refusa
 use Rattle.p3_merkle_core.specs.Examples.{batch, column, narrow, pruned, fold_example}
 use Rattle.p3_merkle_core.specs.declared.error.MerkleTreeError.TheVariants.{CapMismatch, EmptyBatch, IndexOutOfBounds}
 use Rattle.p3_merkle_core.specs.Openings.{node_in}
-use Rattle.p3_merkle_core.specs.Checks.{terms}
+use Rattle.p3_merkle_core.specs.Checks.{params}
 
 second_node_over_four_rows : node_in [] (layers (fold_example 1) (batch 2 (column (1 ∷ 2 ∷ 3 ∷ 4 ∷ []) ∷ []))) 1 1
     ≡ 1090 ∷ []
@@ -46,7 +46,7 @@ gate_before_indices = refl
 
 -- one path a query, in order, repeats included
 paths_of_four_queries :
-    restored_paths (terms (fold_example 1) (narrow 2 (8 ∷ [])) 3)
+    restored_paths (params (fold_example 1) (narrow 2 (8 ∷ [])) 3)
     (pruned (5 ∷ 1 ∷ 2 ∷ 1 ∷ []) (((6 ∷ []) ∷ []) ∷ ((2 ∷ []) ∷ []) ∷ ((3 ∷ []) ∷ []) ∷ ((2 ∷ []) ∷ []) ∷ [])
     ((32 ∷ []) ∷ (35 ∷ []) ∷ (36 ∷ []) ∷ (1218 ∷ []) ∷ []))
     ≡ (5, (36 ∷ []) ∷ (1218 ∷ []) ∷ (32897 ∷ []) ∷ []) ∷ (1, (32 ∷ []) ∷ (1090 ∷ []) ∷ (36993 ∷ []) ∷ [])
@@ -55,14 +55,14 @@ unfolding exponent layer_exponent raw_len leaves_under restored_node fold_hash f
 paths_of_four_queries = refl
 
 -- an opening is answered Ok exactly if it is accepted
-four_queries_are_accepted : pruned_answer_under nat_eq nat_eq (terms (fold_example 1) (narrow 2 (8 ∷ [])) 3)
+four_queries_are_accepted : pruned_answer_under nat_eq nat_eq (params (fold_example 1) (narrow 2 (8 ∷ [])) 3)
     ((1056801 ∷ []) ∷ [])
     (pruned (5 ∷ 1 ∷ 2 ∷ 1 ∷ []) (((6 ∷ []) ∷ []) ∷ ((2 ∷ []) ∷ []) ∷ ((3 ∷ []) ∷ []) ∷ ((2 ∷ []) ∷ []) ∷ [])
     ((32 ∷ []) ∷ (35 ∷ []) ∷ (36 ∷ []) ∷ (1218 ∷ []) ∷ [])) ≡ Ok tt
 unfolding exponent layer_exponent raw_len leaves_under restored_node fold_hash fold_compress
 four_queries_are_accepted = refl
 
-one_digest_is_wrong : pruned_answer_under nat_eq nat_eq (terms (fold_example 1) (narrow 2 (8 ∷ [])) 3)
+one_digest_is_wrong : pruned_answer_under nat_eq nat_eq (params (fold_example 1) (narrow 2 (8 ∷ [])) 3)
     ((1056801 ∷ []) ∷ [])
     (pruned (5 ∷ 1 ∷ 2 ∷ 1 ∷ []) (((6 ∷ []) ∷ []) ∷ ((2 ∷ []) ∷ []) ∷ ((3 ∷ []) ∷ []) ∷ ((2 ∷ []) ∷ []) ∷ [])
     ((31 ∷ []) ∷ (35 ∷ []) ∷ (36 ∷ []) ∷ (1218 ∷ []) ∷ [])) ≡ Err CapMismatch

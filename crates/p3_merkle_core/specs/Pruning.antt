@@ -8,7 +8,7 @@ use Rattle.p3_merkle_core.specs.Geometry.{widths, has_rows}
 use Rattle.p3_support.specs.Batches.{greatest}
 use Rattle.p3_merkle_core.specs.Nodes.{Functions, Batch, shape, node, compress_padded, with_rows}
 use Rattle.p3_merkle_core.specs.Openings.{Opening, honest_rows, node_in, opening_of, siblings_by}
-use Rattle.p3_merkle_core.specs.Checks.{IsAccepted, Terms, layer_rows, layer_words}
+use Rattle.p3_merkle_core.specs.Checks.{IsAccepted, Params, layer_rows, layer_words}
 
 -- node j of layer l is a queried leaf, or above one
 abbrev pub is_covered : Shape → List ℕ → ℕ → ℕ → Bool
@@ -106,7 +106,7 @@ abbrev pub first_rows : {T W : Type 0} → (ℕ → Bool) → PrunedOpening T W 
 first_rows passes p = value_at passes (zip p.indices p.rows) []
 
 -- the digest that is sent for node j of layer l
-abbrev pub sent_digest : {T W : Type 0} → Terms T W → PrunedOpening T W → ℕ → ℕ → List W
+abbrev pub sent_digest : {T W : Type 0} → Params T W → PrunedOpening T W → ℕ → ℕ → List W
 sent_digest c p l j =
     value_at (λ (m, k). (m == l) && (k == j))
     (zip (boundary c.shape p.indices c.layer) p.digests) c.functions.default_digest
@@ -117,7 +117,7 @@ words_under s p l j = layer_words s (first_rows (λ i. ancestor s l i == j) p) l
 
 -- the value of a covered node: the hash of rows for a leaf, else the compression of its children's values, with its
 -- rows if the layer has any
-unfoldable pub restored_node : {T W : Type 0} → Terms T W → PrunedOpening T W → ℕ → ℕ → List W
+unfoldable pub restored_node : {T W : Type 0} → Params T W → PrunedOpening T W → ℕ → ℕ → List W
 restored_node c p zero j = c.functions.hash (words_under c.shape p 0 j)
 restored_node c p (suc l) j =
     let f = c.functions in
@@ -127,19 +127,19 @@ restored_node c p (suc l) j =
     with_rows f s.arity (has_rows s (suc l)) digest (f.hash (words_under s p (suc l) j))
 
 -- the value of a covered node or a boundary node
-abbrev pub value_of : {T W : Type 0} → Terms T W → PrunedOpening T W → ℕ → ℕ → List W
+abbrev pub value_of : {T W : Type 0} → Params T W → PrunedOpening T W → ℕ → ℕ → List W
 value_of c p l j = if is_covered c.shape p.indices l j then restored_node c p l j else sent_digest c p l j
 
 -- the siblings on the path of query i
-abbrev pub restored_path : {T W : Type 0} → Terms T W → PrunedOpening T W → ℕ → List (List W)
+abbrev pub restored_path : {T W : Type 0} → Params T W → PrunedOpening T W → ℕ → List (List W)
 restored_path c p i = siblings_by (value_of c p) c.shape c.layer i
 
 -- for each query, in order, its index and the siblings on its path
-abbrev pub restored_paths : {T W : Type 0} → Terms T W → PrunedOpening T W → List (ℕ × List (List W))
+abbrev pub restored_paths : {T W : Type 0} → Params T W → PrunedOpening T W → List (ℕ × List (List W))
 restored_paths c p = map (λ i. (i, restored_path c p i)) p.indices
 
 -- query k as an opening of its own, with its restored path
-abbrev pub opening_at : {T W : Type 0} → Terms T W → PrunedOpening T W → ℕ → Opening T W
+abbrev pub opening_at : {T W : Type 0} → Params T W → PrunedOpening T W → ℕ → Opening T W
 opening_at c p k = let i = slice_index p.indices k in opening_of i (slice_index_or p.rows k []) (restored_path c p i)
 
 -- ---- agreed, accepted
@@ -164,16 +164,16 @@ pub record IsRestorable {T W : Type 0} (s : Shape) (t : ℕ) (p : PrunedOpening 
   pub agreed : IsAgreed s t p
 
 -- each covered node of the cap's layer has its entry in the cap
-abbrev pub IsCapped : {T W : Type 0} → Terms T W → List (List W) → PrunedOpening T W → Type 0
+abbrev pub IsCapped : {T W : Type 0} → Params T W → List (List W) → PrunedOpening T W → Type 0
 IsCapped c cap p =
     (j : ℕ) → IsTrue (is_covered c.shape p.indices c.layer j) → slice_get cap j ≡ Some (restored_node c p c.layer j)
 
 -- each query is accepted with its restored path
-abbrev pub EachAccepted : {T W : Type 0} → Terms T W → List (List W) → PrunedOpening T W → Type 0
+abbrev pub EachAccepted : {T W : Type 0} → Params T W → List (List W) → PrunedOpening T W → Type 0
 EachAccepted c cap p = (k : ℕ) → k < length p.indices → IsAccepted c cap (opening_at c p k)
 
 -- a pruned opening is accepted under a cap: it restores, and each query is accepted with its restored path
-pub record IsPrunedAccepted {T W : Type 0} (c : Terms T W) (cap : List (List W)) (p : PrunedOpening T W) : Type 0 where
+pub record IsPrunedAccepted {T W : Type 0} (c : Params T W) (cap : List (List W)) (p : PrunedOpening T W) : Type 0 where
   pub restorable : IsRestorable c.shape c.layer p
   pub each_accepted : EachAccepted c cap p
 

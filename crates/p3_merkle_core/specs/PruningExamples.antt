@@ -8,7 +8,7 @@ use Rattle.p3_merkle_core.specs.Pruning.{boundary, honest_query, restored_node, 
 use Rattle.p3_merkle_core.specs.Inner.Covered.{covered_at}
 use Rattle.p3_merkle_core.specs.Inner.Children.{beside, children_under, path_out_of}
 use Rattle.p3_merkle_core.specs.Refusals.{pruned_refusal}
-use Rattle.p3_merkle_core.specs.Checks.{digests_at, terms, siblings_below, path_digest}
+use Rattle.p3_merkle_core.specs.Checks.{digests_at, params, siblings_below, path_digest}
 use Rattle.p3_merkle_core.specs.Examples.{batch, column, narrow, pruned, fold_example, extracts_pruned}
 use Rattle.p3_merkle_core.specs.declared.error.PrunedProofError.TheVariants.{SiblingCountMismatch}
 use Rattle.p3_merkle_core.specs.declared.error.PrunedProofError.TheVariants.{InconsistentDuplicateOpenings}
@@ -84,14 +84,14 @@ unfolding exponent layer_exponent raw_len node fold_hash fold_compress leaves_un
 digests_of_padding_slots = refl
 
 root_restored_from_four_queries :
-    restored_node (terms (fold_example 1) (narrow 2 (8 ∷ [])) 3)
+    restored_node (params (fold_example 1) (narrow 2 (8 ∷ [])) 3)
     (pruned (5 ∷ 1 ∷ 2 ∷ 1 ∷ []) (((6 ∷ []) ∷ []) ∷ ((2 ∷ []) ∷ []) ∷ ((3 ∷ []) ∷ []) ∷ ((2 ∷ []) ∷ []) ∷ [])
     ((32 ∷ []) ∷ (35 ∷ []) ∷ (36 ∷ []) ∷ (1218 ∷ []) ∷ [])) 3 0 ≡ 1056801 ∷ []
 unfolding exponent layer_exponent raw_len leaves_under restored_node fold_hash fold_compress
 root_restored_from_four_queries = refl
 
 paths_restored_from_four_queries :
-    map (restored_path (terms (fold_example 1) (narrow 2 (8 ∷ [])) 3)
+    map (restored_path (params (fold_example 1) (narrow 2 (8 ∷ [])) 3)
     (pruned (5 ∷ 1 ∷ 2 ∷ 1 ∷ []) (((6 ∷ []) ∷ []) ∷ ((2 ∷ []) ∷ []) ∷ ((3 ∷ []) ∷ []) ∷ ((2 ∷ []) ∷ []) ∷ [])
     ((32 ∷ []) ∷ (35 ∷ []) ∷ (36 ∷ []) ∷ (1218 ∷ []) ∷ []))) (5 ∷ 1 ∷ 2 ∷ [])
     ≡ ((36 ∷ []) ∷ (1218 ∷ []) ∷ (32897 ∷ []) ∷ []) ∷ ((32 ∷ []) ∷ (1090 ∷ []) ∷ (36993 ∷ []) ∷ [])
@@ -100,7 +100,7 @@ unfolding exponent layer_exponent raw_len leaves_under restored_node fold_hash f
 paths_restored_from_four_queries = refl
 
 paths_restored_from_a_wrong_digest :
-    map (restored_path (terms (fold_example 1) (narrow 2 (8 ∷ [])) 3)
+    map (restored_path (params (fold_example 1) (narrow 2 (8 ∷ [])) 3)
     (pruned (5 ∷ 1 ∷ 2 ∷ 1 ∷ []) (((6 ∷ []) ∷ []) ∷ ((2 ∷ []) ∷ []) ∷ ((3 ∷ []) ∷ []) ∷ ((2 ∷ []) ∷ []) ∷ [])
     ((31 ∷ []) ∷ (35 ∷ []) ∷ (36 ∷ []) ∷ (1218 ∷ []) ∷ []))) (5 ∷ 1 ∷ 2 ∷ [])
     ≡ ((36 ∷ []) ∷ (1218 ∷ []) ∷ (31936 ∷ []) ∷ []) ∷ ((31 ∷ []) ∷ (1090 ∷ []) ∷ (36993 ∷ []) ∷ [])
@@ -230,7 +230,7 @@ lower_layers_before_higher :
 unfolding exponent layer_exponent raw_len leaves_under
 lower_layers_before_higher = refl
 
-first_pair_of_queries_collides : extracts_pruned (terms (fold_example 1) (narrow 2 (2 ∷ [])) 1) ((1026 ∷ []) ∷ [])
+first_pair_of_queries_collides : extracts_pruned (params (fold_example 1) (narrow 2 (2 ∷ [])) 1) ((1026 ∷ []) ∷ [])
     (pruned (1 ∷ 0 ∷ []) (((2 ∷ []) ∷ []) ∷ ((1 ∷ []) ∷ []) ∷ []) ([]))
     (pruned (1 ∷ 0 ∷ []) (((4294967267 ∷ []) ∷ []) ∷ ((2 ∷ []) ∷ []) ∷ []) ([]))
     ≡ Ok (Some (
@@ -242,7 +242,7 @@ unfolding exponent layer_exponent raw_len leaves_under restored_node fold_hash f
 first_pair_of_queries_collides = refl
 
 second_pair_of_queries_collides :
-    extracts_pruned (terms (fold_example 1) (narrow 2 (4 ∷ [])) 1) ((1026 ∷ []) ∷ (1090 ∷ []) ∷ [])
+    extracts_pruned (params (fold_example 1) (narrow 2 (4 ∷ [])) 1) ((1026 ∷ []) ∷ (1090 ∷ []) ∷ [])
     (pruned (2 ∷ 0 ∷ []) (((3 ∷ []) ∷ []) ∷ ((1 ∷ []) ∷ []) ∷ []) ((33 ∷ []) ∷ (35 ∷ []) ∷ []))
     (pruned (2 ∷ 0 ∷ []) (((3 ∷ []) ∷ []) ∷ ((2 ∷ []) ∷ []) ∷ []) ((2 ∷ []) ∷ (35 ∷ []) ∷ []))
     ≡ Ok (Some (
@@ -254,14 +254,14 @@ unfolding exponent layer_exponent raw_len leaves_under restored_node fold_hash f
 second_pair_of_queries_collides = refl
 
 no_pair_of_queries_differs :
-    extracts_pruned (terms (fold_example 1) (narrow 2 (4 ∷ [])) 1) ((1026 ∷ []) ∷ (1090 ∷ []) ∷ [])
+    extracts_pruned (params (fold_example 1) (narrow 2 (4 ∷ [])) 1) ((1026 ∷ []) ∷ (1090 ∷ []) ∷ [])
     (pruned (2 ∷ 0 ∷ []) (((3 ∷ []) ∷ []) ∷ ((1 ∷ []) ∷ []) ∷ []) ((33 ∷ []) ∷ (35 ∷ []) ∷ []))
     (pruned (2 ∷ 0 ∷ []) (((3 ∷ []) ∷ []) ∷ ((1 ∷ []) ∷ []) ∷ []) ((33 ∷ []) ∷ (35 ∷ []) ∷ [])) ≡ Ok None
 unfolding exponent layer_exponent raw_len leaves_under restored_node fold_hash fold_compress siblings_below path_digest
 no_pair_of_queries_differs = refl
 
 no_queries_on_either_side :
-    extracts_pruned (terms (fold_example 1) (narrow 2 (4 ∷ [])) 1) ((1026 ∷ []) ∷ (1090 ∷ []) ∷ [])
+    extracts_pruned (params (fold_example 1) (narrow 2 (4 ∷ [])) 1) ((1026 ∷ []) ∷ (1090 ∷ []) ∷ [])
     (pruned ([]) ([]) ([])) (pruned ([]) ([]) ([])) ≡ Ok None
 unfolding exponent layer_exponent raw_len leaves_under restored_node fold_hash fold_compress siblings_below path_digest
 no_queries_on_either_side = refl

@@ -11,7 +11,7 @@ use Rattle.p3_support.specs.Batches.{greatest, widths_of}
 use Rattle.p3_support.specs.declared.matrix.Dimensions.{Dimensions}
 use Rattle.p3_merkle_core.specs.Gate.{gate_refusal}
 use Rattle.p3_merkle_core.specs.Openings.{Opening}
-use Rattle.p3_merkle_core.specs.Checks.{Terms, siblings_below, path_digest}
+use Rattle.p3_merkle_core.specs.Checks.{Params, siblings_below, path_digest}
 use Rattle.p3_merkle_core.specs.Pruning.{PrunedOpening, boundary, first_rows, restored_node}
 use Rattle.p3_merkle_core.specs.declared.error.PrunedProofError.TheVariants.{SiblingCountMismatch}
 use Rattle.p3_merkle_core.specs.declared.error.PrunedProofError.TheVariants.{InconsistentDuplicateOpenings}
@@ -154,7 +154,7 @@ form_refusal s t index rows siblings =
     ∷ [])
 
 -- why an opening is refused under a cap: its form, else a cap whose entry is not the digest that the check reaches
-abbrev pub refusal_under : {T W : Type 0} → (W → W → Bool) → Terms T W → List (List W) → Opening T W →
+abbrev pub refusal_under : {T W : Type 0} → (W → W → Bool) → Params T W → List (List W) → Opening T W →
     Option MerkleTreeError
 refusal_under digest_eq c cap o =
     option_or (form_refusal c.shape c.layer o.index o.rows (length o.siblings))
@@ -162,7 +162,7 @@ refusal_under digest_eq c cap o =
     (path_digest c.functions c.shape o c.layer)) CapMismatch)
 
 -- the answer to an opening under a cap
-abbrev pub answer_under : {T W : Type 0} → (W → W → Bool) → Terms T W → List (List W) → Opening T W →
+abbrev pub answer_under : {T W : Type 0} → (W → W → Bool) → Params T W → List (List W) → Opening T W →
     Result (Unit {0}) MerkleTreeError
 answer_under digest_eq c cap o = ok_unless (refusal_under digest_eq c cap o) tt
 
@@ -197,20 +197,20 @@ abbrev pub pruned_answer : {T W : Type 0} → (T → T → Bool) → Shape → �
 pruned_answer row_eq s t p = ok_unless (pruned_refusal row_eq s t p) tt
 
 -- a covered node of the cap's layer whose value is not the cap's entry
-abbrev pub cap_refusal : {T W : Type 0} → (W → W → Bool) → Terms T W → List (List W) → PrunedOpening T W →
+abbrev pub cap_refusal : {T W : Type 0} → (W → W → Bool) → Params T W → List (List W) → PrunedOpening T W →
     Option MerkleTreeError
 cap_refusal digest_eq c cap p =
     unless (list_all (λ i. let j = ancestor c.shape c.layer i in
     is_entry (pointwise digest_eq) cap j (restored_node c p c.layer j)) p.indices) CapMismatch
 
 -- why a pruned opening is refused under a cap
-abbrev pub pruned_refusal_under : {T W : Type 0} → (T → T → Bool) → (W → W → Bool) → Terms T W → List (List W) →
+abbrev pub pruned_refusal_under : {T W : Type 0} → (T → T → Bool) → (W → W → Bool) → Params T W → List (List W) →
     PrunedOpening T W → Option MerkleTreeError
 pruned_refusal_under row_eq digest_eq c cap p =
     option_or (pruned_refusal row_eq c.shape c.layer p) (cap_refusal digest_eq c cap p)
 
 -- the answer to a pruned opening under a cap
-abbrev pub pruned_answer_under : {T W : Type 0} → (T → T → Bool) → (W → W → Bool) → Terms T W → List (List W) →
+abbrev pub pruned_answer_under : {T W : Type 0} → (T → T → Bool) → (W → W → Bool) → Params T W → List (List W) →
     PrunedOpening T W → Result (Unit {0}) MerkleTreeError
 pruned_answer_under row_eq digest_eq c cap p = ok_unless (pruned_refusal_under row_eq digest_eq c cap p) tt
 

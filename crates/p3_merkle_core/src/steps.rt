@@ -54,7 +54,7 @@ fn rung_at(dimensions: &[Dimensions], exponent: usize) -> Rung
 }
 
 /// Tells that the exponent of a height is at most 64. It does nothing at run time.
-fn tell_exponent(height: usize)
+fn lemma_exponent(height: usize)
     ensures { exponent height ≤ 64 }
 {}
 
@@ -168,7 +168,7 @@ pub fn steps_of(dimensions: &[Dimensions], arity: usize) -> Steps<'_>
     ensures arity { result.arity ≡ arity }
 {
     let (max_height, min_height) = extremes_of(dimensions);
-    tell_exponent(max_height);
+    lemma_exponent(max_height);
     let exponent = exponent_of(max_height);
     let mut rung = rung_at(dimensions, exponent);
     let none = LevelStep {

@@ -5,7 +5,7 @@ use Rattle.std.specs.Prelude.{Ok, Err, IfOk, IsErr}
 use Rattle.std.specs.Option.{option_or, unwrap_or}
 use Rattle.std.specs.Result.{result_err}
 use Rattle.p3_support.specs.declared.matrix.Dimensions.{Dimensions}
-use Rattle.p3_merkle_core.specs.Checks.{Input, Terms}
+use Rattle.p3_merkle_core.specs.Checks.{Input, Params}
 use Rattle.p3_merkle_core.specs.Extraction.{IsExtraction, first_difference}
 use Rattle.p3_merkle_core.specs.Geometry.{IsArity}
 use Rattle.p3_merkle_core.specs.Presented.{Presented}
@@ -38,7 +38,7 @@ second_refused V (Err z) y x first before after (inr refused) b is =
     inr (λ i. option_or (plain i) (option_or before after))
 
 module _ {T W : Type 0} (eq : T → T → Bool) (same : W → W → Bool) (rule : CapRule) (e : ℕ) (ds : List Dimensions)
-    (c : Terms T W) (cap : List (List W)) (dec : IsEquality eq) (dec_w : IsEquality same) (w : IsArity c.shape.arity)
+    (c : Params T W) (cap : List (List W)) (dec : IsEquality eq) (dec_w : IsEquality same) (w : IsArity c.shape.arity)
     (all : rule ≡ Lowered → AllAuthenticated c.shape c.layer) where
   module _ (o u : SaltedOpening T W) where
     abbrev first : Presented T W

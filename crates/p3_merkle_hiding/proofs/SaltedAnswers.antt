@@ -26,7 +26,7 @@ use Rattle.p3_merkle_hiding.specs.SaltRefusals.{salted_sets_refusal, widening_re
 use Rattle.p3_merkle_hiding.specs.SaltedOpenings.{CanWiden, HaveSalts, IsSaltedAccepted, IsSaltedPrunedAccepted}
 use Rattle.p3_merkle_hiding.specs.SaltedOpenings.{SaltedOpening, SaltedPruned, joined, joined_sets, widened}
 use Rattle.p3_merkle_hiding.specs.SaltedPresented.{presented_salted, presented_salted_pruned}
-use Rattle.p3_merkle_core.specs.Checks.{Terms}
+use Rattle.p3_merkle_core.specs.Checks.{Params}
 use Rattle.p3_merkle_core.proofs.Collisions.ExtractionFacts.{IsPresentation}
 
 -- ---- widths
@@ -110,7 +110,7 @@ unrefused_from : (refusal : Option MerkleTreeError) → ok_unless refusal (tt {0
 unrefused_from None e = refl
 unrefused_from (Some x) e = absurd cc
 
-module _ {T W : Type 0} (same : W → W → Bool) (e : ℕ) (ds : List Dimensions) (c : Terms T W) (cap : List (List W))
+module _ {T W : Type 0} (same : W → W → Bool) (e : ℕ) (ds : List Dimensions) (c : Params T W) (cap : List (List W))
     (dec_w : IsEquality same) where
   -- an opening is accepted exactly if it is not refused
   pub salted_accepted : (o : SaltedOpening T W) →
@@ -185,27 +185,27 @@ said (Ok v) (Some e) is = absurd cc
 said (Err x) None is = absurd cc
 said (Err x) (Some e) is = inr (let same : e ≡ x = cc in ap (λ (z : MerkleTreeError). Some z) same)
 
--- where rows and salts are not refused, the refusal is that of the rows followed by their salts, under the terms of the
+-- where rows and salts are not refused, the refusal is that of the rows followed by their salts, under the parameters of the
 -- wider matrices
-pub refusal_joined : {T W : Type 0} (same : W → W → Bool) (e : ℕ) (ds wide : List Dimensions) (terms : List Dimensions →
-    Terms T W) (cap : List (List W)) (o : SaltedOpening T W) (p : Opening T W) →
+pub refusal_joined : {T W : Type 0} (same : W → W → Bool) (e : ℕ) (ds wide : List Dimensions) (params : List Dimensions →
+    Params T W) (cap : List (List W)) (o : SaltedOpening T W) (p : Opening T W) →
     salted_rows_refusal e ds o.rows o.salts ≡ None → wide ≡ widened e ds → p ≡ joined o →
-    refusal_under same (terms wide) cap p ≡ salted_refusal_under same e ds (terms (widened e ds)) cap o
-refusal_joined same e ds wide terms cap o p none are_wide is_joined =
-    (λ i. refusal_under same (terms (are_wide i)) cap (is_joined i))
-    ∙ ap (λ (z : Option MerkleTreeError). option_or z (refusal_under same (terms (widened e ds)) cap (joined o)))
+    refusal_under same (params wide) cap p ≡ salted_refusal_under same e ds (params (widened e ds)) cap o
+refusal_joined same e ds wide params cap o p none are_wide is_joined =
+    (λ i. refusal_under same (params (are_wide i)) cap (is_joined i))
+    ∙ ap (λ (z : Option MerkleTreeError). option_or z (refusal_under same (params (widened e ds)) cap (joined o)))
     (sym none)
 
 -- the same of several indices
 pub refusal_joined_sets : {T W : Type 0} (eq : T → T → Bool) (same : W → W → Bool) (e : ℕ) (ds wide : List Dimensions)
-    (terms : List Dimensions → Terms T W) (cap : List (List W)) (o : SaltedPruned T W) (p : PrunedOpening T W) →
+    (params : List Dimensions → Params T W) (cap : List (List W)) (o : SaltedPruned T W) (p : PrunedOpening T W) →
     salted_sets_refusal e ds o.rows o.salts ≡ None → wide ≡ widened e ds → p ≡ joined_sets o →
-    pruned_refusal_under eq same (terms wide) cap p
-    ≡ salted_pruned_refusal_under eq same e ds (terms (widened e ds)) cap o
-refusal_joined_sets eq same e ds wide terms cap o p none are_wide is_joined =
-    (λ i. pruned_refusal_under eq same (terms (are_wide i)) cap (is_joined i))
+    pruned_refusal_under eq same (params wide) cap p
+    ≡ salted_pruned_refusal_under eq same e ds (params (widened e ds)) cap o
+refusal_joined_sets eq same e ds wide params cap o p none are_wide is_joined =
+    (λ i. pruned_refusal_under eq same (params (are_wide i)) cap (is_joined i))
     ∙ ap (λ (z : Option MerkleTreeError).
-    option_or z (pruned_refusal_under eq same (terms (widened e ds)) cap (joined_sets o))) (sym none)
+    option_or z (pruned_refusal_under eq same (params (widened e ds)) cap (joined_sets o))) (sym none)
 
 -- what is refused before rows and salts are joined is the refusal
 pub refused_before : {V : Type 0} (r : Result V MerkleTreeError) (first after : Option MerkleTreeError) → IsErr r →

@@ -7,7 +7,7 @@ use Rattle.p3_support.specs.Batches.{heights_of}
 use Rattle.p3_merkle_core.specs.Views.{matrix_of}
 use Rattle.p3_merkle_core.specs.Gate.{gate_refusal}
 use Rattle.p3_merkle_core.specs.Geometry.{Shape}
-use Rattle.p3_merkle_core.specs.Checks.{Terms}
+use Rattle.p3_merkle_core.specs.Checks.{Params}
 use Rattle.p3_support.specs.declared.matrix.Matrix.{Ghosts}
 use Rattle.p3_support.specs.declared.pair.HorizontalPair.{HorizontalPair}
 use Rattle.p3_merkle_hiding.specs.SaltedTrees.{HaveSaltColumns}
@@ -60,7 +60,7 @@ module _ {T M : Type 0} (height width : M → ℕ) (row : M → ℕ → List T) 
 pub is_salted_commitment : {M T W A B : Type 0} {a : Ghosts A T} {b : Ghosts B T} (r : Result M MerkleTreeError)
     (cap : M → List (List W)) (own : M → List (List (List W))) (over : M → Batch T) (pairs : M →
     List (HorizontalPair T A B a b)) (e : ℕ)
-    (c : Shape → Terms T W) (salted : Batch T) (s : Shape) → shape salted ≡ s →
+    (c : Shape → Params T W) (salted : Batch T) (s : Shape) → shape salted ≡ s →
     IfOk r (λ made. HaveSaltColumns e (pairs made)) → IfOk r (λ made. over made ≡ salted) →
     IfOk r (λ made. IsCommitment (c s) (cap made) salted (own made)) →
     IfOk r (λ made. IsSaltedCommitment e (c (shape (over made))) (cap made) (over made) (own made) (pairs made))

@@ -6,7 +6,7 @@ use Rattle.std.specs.Option.{option_map}
 use Rattle.std.specs.Result.{result_map_both}
 use Rattle.std.proofs.lemmas.List.Elements.{AllZip-get_or}
 use Rattle.p3_support.specs.declared.matrix.Dimensions.{Dimensions}
-use Rattle.p3_merkle_core.specs.Checks.{Input, Terms, opened_row}
+use Rattle.p3_merkle_core.specs.Checks.{Input, Params, opened_row}
 use Rattle.p3_merkle_core.specs.Extraction.{RowsAgreeWhereAuthenticated, RowsConflictAt, IsExtraction}
 use Rattle.p3_merkle_core.specs.Geometry.{Shape}
 use Rattle.p3_merkle_core.specs.Openings.{Opening, opening_of}
@@ -51,7 +51,7 @@ module _ {T W : Type 0} (ds : List Dimensions) (o u : SaltedOpening T W) (a : Ha
       }
 
   -- where they are joined alike, rows and salts agree, and the other way round
-  agree_joined : (c : Terms T W) → RowsAgreeWhereAuthenticated c (joined o) (joined u) ↔ AgreeWhereAuthenticated c o u
+  agree_joined : (c : Params T W) → RowsAgreeWhereAuthenticated c (joined o) (joined u) ↔ AgreeWhereAuthenticated c o u
   agree_joined c = (
     λ alike. record {
       siblings = alike.siblings;
@@ -84,7 +84,7 @@ record AreJoined {T W : Type 0} (ds : List Dimensions) (p : Presented T W)
   is : (k : ℕ) → k < p.queries → joined (query k) ≡ p.query k
 
 module _ {T W : Type 0} (eq : T → T → Bool) (same : W → W → Bool) (rule : CapRule) (ds : List Dimensions)
-    (c : Terms T W) (first second : Presented T W) (one other : ℕ → SaltedOpening T W) where
+    (c : Params T W) (first second : Presented T W) (one other : ℕ → SaltedOpening T W) where
   -- each of the one and each of the other
   abbrev EachOf : (SaltedOpening T W → SaltedOpening T W → Type 0) → Type 0
   EachOf Holds = (a b : ℕ) → a < first.queries → b < second.queries → Holds (one a) (other b)
@@ -168,7 +168,7 @@ module _ {T W : Type 0} (eq : T → T → Bool) (same : W → W → Bool) (rule 
 -- ---- what is found, as the calls return it
 
 -- of two openings of one index each
-pub record ToldOfTwo {T W V : Type 0} (rule : CapRule) (c : Terms T W) (o u : SaltedOpening T W)
+pub record ToldOfTwo {T W V : Type 0} (rule : CapRule) (c : Params T W) (o u : SaltedOpening T W)
     (r : Result (Option V) MerkleTreeError) : Type 0 where
   pub one_index : o.index ≡ u.index → IfOk r (λ found. IsNone found ↔ AgreeWhereAuthenticated c o u)
   pub two_ways : ConflictWhereAuthenticated c o u → IfOk r (λ found. IsSome found)
@@ -176,7 +176,7 @@ pub record ToldOfTwo {T W V : Type 0} (rule : CapRule) (c : Terms T W) (o u : Sa
   pub lowered_two_ways : rule ≡ Lowered → ConflictSomewhere c o u → IfOk r (λ found. IsSome found)
 
 -- of two openings of several indices
-pub record ToldOfAll {T W V : Type 0} (rule : CapRule) (c : Terms T W) (p q : SaltedPruned T W)
+pub record ToldOfAll {T W V : Type 0} (rule : CapRule) (c : Params T W) (p q : SaltedPruned T W)
     (r : Result (Option V) MerkleTreeError) : Type 0 where
   pub one_index : EachSaltedPair c p q (λ o u. o.index ≡ u.index) →
       IfOk r (λ found. IsNone found ↔ EachSaltedPair c p q (AgreeWhereAuthenticated c))
@@ -206,7 +206,7 @@ both_meant Q R (Ok found) meant is = (λ none. meant.0 (is.0 none), λ x. is.1 (
 both_meant Q R (Err e) meant is = tt
 
 module _ {T W : Type 0} (eq : T → T → Bool) (same : W → W → Bool) (rule : CapRule) (e : ℕ) (ds : List Dimensions)
-    (c : Terms T W) (cap : List (List W)) where
+    (c : Params T W) (cap : List (List W)) where
   -- ---- two openings of one index each
   module _ (o u : SaltedOpening T W) (r : Result (Option (InputPair T (List W))) MerkleTreeError)
       (extracted : IsExtraction eq same rule c (presented_salted same e ds c cap o) (presented_salted same e ds c cap u)

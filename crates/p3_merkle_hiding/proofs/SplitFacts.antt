@@ -15,7 +15,7 @@ use Rattle.p3_merkle_core.specs.Geometry.{IsLawful, bits_reduced, heights}
 use Rattle.p3_merkle_core.specs.Nodes.{Batch, Matrix, dimensions_of, shape}
 use Rattle.p3_merkle_core.specs.Pruning.{pruned_of, IsPrunedAccepted}
 use Rattle.p3_merkle_core.specs.Openings.{honest_rows, opening_of}
-use Rattle.p3_merkle_core.specs.Checks.{IsAccepted, Terms}
+use Rattle.p3_merkle_core.specs.Checks.{IsAccepted, Params}
 use Rattle.p3_merkle_prover.proofs.RowFacts.{row_inside}
 use Rattle.p3_merkle_hiding.specs.SaltedOpenings.{CanWiden, HaveSalts, IsSaltedAccepted, IsSaltedPrunedAccepted}
 use Rattle.p3_merkle_hiding.specs.SaltedOpenings.{salted_of, salted_pruned_of, salted_rows, salted_sets}
@@ -220,22 +220,22 @@ module _ {T A B : Type 0} {a : Ghosts A T} {b : Ghosts B T} where
     }
 
     -- an accepted opening of pairs is accepted as its rows and salts
-    pub salted_from : {W : Type 0} (terms : List Dimensions → Terms T W) (cap : Terms T W → List (List W)) (e i : ℕ)
+    pub salted_from : {W : Type 0} (params : List Dimensions → Params T W) (cap : Params T W → List (List W)) (e i : ℕ)
         (siblings : List (List W)) → i < greatest (heights (shape (pair_batch n pairs))) → HaveSaltColumns e pairs →
-        (let c = terms (dimensions_of (map pair_matrix pairs)) in
+        (let c = params (dimensions_of (map pair_matrix pairs)) in
         IsAccepted c (cap c) (opening_of i (honest_rows (pair_batch n pairs) i) siblings)) →
-        let c = terms (widened e (unsalted_dimensions n pairs)) in
+        let c = params (widened e (unsalted_dimensions n pairs)) in
         IsSaltedAccepted e (unsalted_dimensions n pairs) c (cap c)
         (salted_of i (honest_rows (left_batch n pairs) i) (honest_rows (right_batch n pairs) i) siblings)
-    salted_from {W} terms cap e i siblings below w accepted =
-        let c = terms (widened e (unsalted_dimensions n pairs)) in
+    salted_from {W} params cap e i siblings below w accepted =
+        let c = params (widened e (unsalted_dimensions n pairs)) in
         record {
           salted = are_salted i below;
           can_widen = wide_fits n e pairs w;
           accepted =
               subst (λ (rs : List (List T)). IsAccepted c (cap c) (opening_of i rs siblings)) (sym (both_are i below))
               (subst (λ (ds : List Dimensions).
-              IsAccepted (terms ds) (cap (terms ds)) (opening_of i (honest_rows (pair_batch n pairs) i) siblings))
+              IsAccepted (params ds) (cap (params ds)) (opening_of i (honest_rows (pair_batch n pairs) i) siblings))
               (wide_is n e pairs w) accepted);
         }
 
@@ -268,17 +268,17 @@ module _ {T A B : Type 0} {a : Ghosts A T} {b : Ghosts B T} where
     sets_are_salted (i ∷ is) below =
         (are_salted i (below 0 i (omega arith)), sets_are_salted is (λ k d h. below (suc k) d (omega arith)))
 
-    pub salted_pruned_from : {W : Type 0} (terms : List Dimensions → Terms T W) (cap : Terms T W → List (List W))
+    pub salted_pruned_from : {W : Type 0} (params : List Dimensions → Params T W) (cap : Params T W → List (List W))
         (e : ℕ) (is : List ℕ) (digests : List (List W)) →
         All (λ i. i < greatest (heights (shape (pair_batch n pairs)))) is → HaveSaltColumns e pairs →
-        (let c = terms (dimensions_of (map pair_matrix pairs)) in
+        (let c = params (dimensions_of (map pair_matrix pairs)) in
         IsPrunedAccepted c (cap c) (pruned_of is (map (honest_rows (pair_batch n pairs)) is) digests)) →
-        let c = terms (widened e (unsalted_dimensions n pairs)) in
+        let c = params (widened e (unsalted_dimensions n pairs)) in
         IsSaltedPrunedAccepted e (unsalted_dimensions n pairs) c (cap c)
         (salted_pruned_of is (map (honest_rows (left_batch n pairs)) is)
         (map (honest_rows (right_batch n pairs)) is) digests)
-    salted_pruned_from {W} terms cap e is digests below w accepted =
-        let c = terms (widened e (unsalted_dimensions n pairs)) in
+    salted_pruned_from {W} params cap e is digests below w accepted =
+        let c = params (widened e (unsalted_dimensions n pairs)) in
         record {
           in_pairs = length-map is (honest_rows (right_batch n pairs))
               ∙ sym (length-map is (honest_rows (left_batch n pairs)));
@@ -287,6 +287,6 @@ module _ {T A B : Type 0} {a : Ghosts A T} {b : Ghosts B T} where
           accepted =
               subst (λ (rs : List (List (List T))). IsPrunedAccepted c (cap c) (pruned_of is rs digests))
               (sym (both_sets_are is below))
-              (subst (λ (ds : List Dimensions). IsPrunedAccepted (terms ds) (cap (terms ds))
+              (subst (λ (ds : List Dimensions). IsPrunedAccepted (params ds) (cap (params ds))
               (pruned_of is (map (honest_rows (pair_batch n pairs)) is) digests)) (wide_is n e pairs w) accepted);
         }

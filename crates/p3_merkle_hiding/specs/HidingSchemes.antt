@@ -8,10 +8,10 @@ use Rattle.p3_support.specs.declared.opening.BatchOpening.{BatchOpening}
 use Rattle.p3_support.specs.declared.opening.BatchOpeningRef.{BatchOpeningRef}
 use Rattle.p3_support.specs.Shown.{row_lists, row_sets}
 use Rattle.p3_merkle_core.specs.declared.pruning.PrunedProof.{PrunedProof}
-use Rattle.p3_merkle_tree.specs.declared.mmcs.Scheme.{Scheme}
+use Rattle.p3_merkle_mmcs.specs.declared.mmcs.Scheme.{Scheme}
 use Rattle.p3_support.specs.declared.matrix.Dimensions.{Dimensions}
-use Rattle.p3_merkle_core.specs.Checks.{Terms}
-use Rattle.p3_merkle_tree.specs.Schemes.{terms_of}
+use Rattle.p3_merkle_core.specs.Checks.{Params}
+use Rattle.p3_merkle_mmcs.specs.Schemes.{params_of}
 use Rattle.p3_merkle_hiding.specs.SaltedOpenings.{SaltedOpening, SaltedPruned, widened}
 use Rattle.p3_merkle_hiding.specs.declared.hiding_mmcs.HidingScheme.{HidingScheme}
 
@@ -25,10 +25,11 @@ module _ {P PW H C R X G V W : Type 0} {N E : ℕ} {p : packed.Ghosts P V} {pd :
   abbrev pub generator_of : HidingScheme P PW H C R X G N E V W p pd pe q qd qe → R
   generator_of scheme = scheme.generator
 
-  -- the terms of its checks over matrices of these dimensions without salts
-  abbrev pub salted_terms_of : (H → List V → List W) → (C → List (List W) → List W) → ℕ →
-      HidingScheme P PW H C R X G N E V W p pd pe q qd qe → List Dimensions → Terms V W
-  salted_terms_of hash compression d scheme dimensions = terms_of hash compression d scheme.plain (widened E dimensions)
+  -- the parameters of its checks over matrices of these dimensions without salts
+  abbrev pub salted_params_of : (H → List V → List W) → (C → List (List W) → List W) → ℕ →
+      HidingScheme P PW H C R X G N E V W p pd pe q qd qe → List Dimensions → Params V W
+  salted_params_of hash compression d scheme dimensions =
+      params_of hash compression d scheme.plain (widened E dimensions)
 
 -- an opening of an index that is lent, with its salts
 abbrev pub salted_lent : {T W A B D : Type 0} → ℕ → BatchOpeningRef T (Vec (Vec T A) B × Vec (List W) D) →

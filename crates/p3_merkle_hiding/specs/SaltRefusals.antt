@@ -4,7 +4,7 @@ use Rattle.std.specs.Option.{option_or}
 use Rattle.p3_support.specs.declared.matrix.Dimensions.{Dimensions}
 use Rattle.p3_merkle_core.specs.Gate.{gate_refusal}
 use Rattle.p3_support.specs.Batches.{heights_of, widths_of}
-use Rattle.p3_merkle_core.specs.Checks.{Terms}
+use Rattle.p3_merkle_core.specs.Checks.{Params}
 use Rattle.p3_merkle_core.specs.Refusals.{first_of, pruned_refusal_under, refusal_under, size_refusal, width_refusal}
 use Rattle.p3_merkle_core.specs.declared.error.MerkleTreeError.{MerkleTreeError}
 use Rattle.p3_merkle_core.specs.declared.error.MerkleTreeError.TheVariants.{TooLarge}
@@ -48,15 +48,15 @@ salted_sets_refusal e dimensions sets salts =
     option_or (salt_sets_refusal dimensions sets salts) (widening_refusal e dimensions)
 
 -- why an opening with e salts a row is refused under a cap: rows and salts, else the rows followed by their salts,
--- under the terms of matrices that have e more columns
-abbrev pub salted_refusal_under : {T W : Type 0} → (W → W → Bool) → ℕ → List Dimensions → Terms T W → List (List W) →
+-- under the parameters of matrices that have e more columns
+abbrev pub salted_refusal_under : {T W : Type 0} → (W → W → Bool) → ℕ → List Dimensions → Params T W → List (List W) →
     SaltedOpening T W → Option MerkleTreeError
 salted_refusal_under digest_eq e dimensions c cap o =
     option_or (salted_rows_refusal e dimensions o.rows o.salts) (refusal_under digest_eq c cap (joined o))
 
 -- the same of several indices
 abbrev pub salted_pruned_refusal_under : {T W : Type 0} → (T → T → Bool) → (W → W → Bool) → ℕ → List Dimensions →
-    Terms T W → List (List W) → SaltedPruned T W → Option MerkleTreeError
+    Params T W → List (List W) → SaltedPruned T W → Option MerkleTreeError
 salted_pruned_refusal_under row_eq digest_eq e dimensions c cap p =
     option_or (salted_sets_refusal e dimensions p.rows p.salts)
     (pruned_refusal_under row_eq digest_eq c cap (joined_sets p))

@@ -8,7 +8,7 @@ use Rattle.p3_support.specs.declared.matrix.Matrix.{Ghosts}
 use Rattle.p3_support.specs.declared.pair.HorizontalPair.{HorizontalPair}
 use Rattle.p3_merkle_core.specs.Geometry.{IsLawful}
 use Rattle.p3_merkle_core.specs.Nodes.{Batch}
-use Rattle.p3_merkle_core.specs.Checks.{Terms}
+use Rattle.p3_merkle_core.specs.Checks.{Params}
 use Rattle.p3_merkle_hiding.specs.SaltedOpenings.{CanWiden, IsSaltedAccepted, salted_of}
 use Rattle.p3_merkle_hiding.specs.SaltedTrees.{HaveSaltColumns}
 
@@ -20,14 +20,14 @@ pub record CanCommitSalted {T M : Type 0} (height width : M → ℕ) (row : M �
   pub can_widen : CanWiden e (dimensions_in height width matrices)
 
 -- a commitment to a batch, which is that of pairs with e salts a row
-pub record IsSaltedCommitment {T W A B : Type 0} {a : Ghosts A T} {b : Ghosts B T} (e : ℕ) (c : Terms T W)
+pub record IsSaltedCommitment {T W A B : Type 0} {a : Ghosts A T} {b : Ghosts B T} (e : ℕ) (c : Params T W)
     (cap : List (List W)) (batch : Batch T) (stored : List (List (List W)))
     (pairs : List (HorizontalPair T A B a b)) : Type 0 where
   pub committed : IsCommitment c cap batch stored
   pub columns : HaveSaltColumns e pairs
 
 -- some salts and siblings prove the rows at an index under a cap
-pub record HaveSaltedProof {T W : Type 0} (e : ℕ) (dimensions : List Dimensions) (c : Terms T W)
+pub record HaveSaltedProof {T W : Type 0} (e : ℕ) (dimensions : List Dimensions) (c : Params T W)
     (cap : List (List W)) (index : ℕ) (rows : List (List T)) : Type 0 where
   pub salts : List (List T)
   pub siblings : List (List W)

@@ -2,7 +2,7 @@
 use Rattle.std.specs.Prelude.{◌≡◌, ◌≢◌, ◌⊎◌, ◌<◌, ℕ, IsTrue, List, [], length, slice_index, slice_index_or}
 use Rattle.p3_support.specs.Batches.{greatest}
 use Rattle.p3_merkle_core.specs.Geometry.{Shape, heights, halved_index}
-use Rattle.p3_merkle_core.specs.Checks.{Terms, is_authenticated}
+use Rattle.p3_merkle_core.specs.Checks.{Params, is_authenticated}
 use Rattle.p3_merkle_core.specs.Pruning.{restored_path}
 use Rattle.p3_merkle_hiding.specs.SaltedOpenings.{SaltedOpening, SaltedPruned, joined_sets, salted_of}
 
@@ -24,15 +24,15 @@ pub record ConflictAt {T W : Type 0} (s : Shape) (o u : SaltedOpening T W) (k : 
   pub two_ways : (row_in o k ≢ row_in u k) ⊎ (salts_in o k ≢ salts_in u k)
 
 -- they do so for some matrix
-abbrev pub ConflictSomewhere : {T W : Type 0} → Terms T W → SaltedOpening T W → SaltedOpening T W → Type 0
+abbrev pub ConflictSomewhere : {T W : Type 0} → Params T W → SaltedOpening T W → SaltedOpening T W → Type 0
 ConflictSomewhere c o u = (k : ℕ) × ConflictAt c.shape o u k
 
 -- they do so for some authenticated matrix
-abbrev pub ConflictWhereAuthenticated : {T W : Type 0} → Terms T W → SaltedOpening T W → SaltedOpening T W → Type 0
+abbrev pub ConflictWhereAuthenticated : {T W : Type 0} → Params T W → SaltedOpening T W → SaltedOpening T W → Type 0
 ConflictWhereAuthenticated c o u = (k : ℕ) × IsTrue (is_authenticated c.shape c.layer k) × ConflictAt c.shape o u k
 
 -- two openings have the same siblings, and the same row and salts of each authenticated matrix
-pub record AgreeWhereAuthenticated {T W : Type 0} (c : Terms T W) (o u : SaltedOpening T W) : Type 0 where
+pub record AgreeWhereAuthenticated {T W : Type 0} (c : Params T W) (o u : SaltedOpening T W) : Type 0 where
   pub siblings : o.siblings ≡ u.siblings
   pub rows : (k : ℕ) → k < length (heights c.shape) → IsTrue (is_authenticated c.shape c.layer k) →
       row_in o k ≡ row_in u k
@@ -42,19 +42,19 @@ pub record AgreeWhereAuthenticated {T W : Type 0} (c : Terms T W) (o u : SaltedO
 -- ---- two openings of several indices
 
 -- query k as an opening of its own: its row set and its salt set, with its restored path
-abbrev pub salted_opening_at : {T W : Type 0} → Terms T W → SaltedPruned T W → ℕ → SaltedOpening T W
+abbrev pub salted_opening_at : {T W : Type 0} → Params T W → SaltedPruned T W → ℕ → SaltedOpening T W
 salted_opening_at c p k =
     let i = slice_index p.indices k in
     salted_of i (slice_index_or p.rows k []) (slice_index_or p.salts k []) (restored_path c (joined_sets p) i)
 
 -- each query of the one and each of the other
-abbrev pub EachSaltedPair : {T W : Type 0} → Terms T W → SaltedPruned T W → SaltedPruned T W →
+abbrev pub EachSaltedPair : {T W : Type 0} → Params T W → SaltedPruned T W → SaltedPruned T W →
     (SaltedOpening T W → SaltedOpening T W → Type 0) → Type 0
 EachSaltedPair c p q Holds =
     (a b : ℕ) → a < length p.indices → b < length q.indices → Holds (salted_opening_at c p a) (salted_opening_at c q b)
 
 -- some query of the one and some of the other
-abbrev pub SomeSaltedPair : {T W : Type 0} → Terms T W → SaltedPruned T W → SaltedPruned T W →
+abbrev pub SomeSaltedPair : {T W : Type 0} → Params T W → SaltedPruned T W → SaltedPruned T W →
     (SaltedOpening T W → SaltedOpening T W → Type 0) → Type 0
 SomeSaltedPair c p q Holds =
     (a : ℕ) × (b : ℕ) × (a < length p.indices) × (b < length q.indices) ×

@@ -5,7 +5,7 @@ use Rattle.std.specs.List.{AllZip}
 use Rattle.p3_support.specs.declared.matrix.Dimensions.{Dimensions}
 use Rattle.p3_support.specs.Batches.{widths_of}
 use Rattle.p3_merkle_core.specs.Openings.{Opening, opening_of}
-use Rattle.p3_merkle_core.specs.Checks.{IsAccepted, Terms}
+use Rattle.p3_merkle_core.specs.Checks.{IsAccepted, Params}
 use Rattle.p3_merkle_core.specs.Pruning.{IsPrunedAccepted, PrunedOpening, pruned_of}
 
 -- ---- what is hashed
@@ -68,16 +68,16 @@ pub record HaveSalts {T : Type 0} (dimensions : List Dimensions) (rows salts : L
   pub rows_fit : map length rows ≡ widths_of dimensions
   pub in_pairs : length salts ≡ length rows
 
--- an opening with e salts a row is accepted under a cap: its rows have their widths without the salts, the widths
--- with them are sizes, and rows followed by salts are accepted under the terms of matrices that have e more columns
-pub record IsSaltedAccepted {T W : Type 0} (e : ℕ) (dimensions : List Dimensions) (c : Terms T W)
+-- an opening with e salts a row is accepted under a cap: its rows have their widths without the salts, the widths with
+-- them are sizes, and rows followed by salts are accepted under the parameters of matrices that have e more columns
+pub record IsSaltedAccepted {T W : Type 0} (e : ℕ) (dimensions : List Dimensions) (c : Params T W)
     (cap : List (List W)) (o : SaltedOpening T W) : Type 0 where
   pub salted : HaveSalts dimensions o.rows o.salts
   pub can_widen : CanWiden e dimensions
   pub accepted : IsAccepted c cap (joined o)
 
 -- the same of several indices
-pub record IsSaltedPrunedAccepted {T W : Type 0} (e : ℕ) (dimensions : List Dimensions) (c : Terms T W)
+pub record IsSaltedPrunedAccepted {T W : Type 0} (e : ℕ) (dimensions : List Dimensions) (c : Params T W)
     (cap : List (List W)) (p : SaltedPruned T W) : Type 0 where
   pub in_pairs : length p.salts ≡ length p.rows
   pub salted : AllZip (HaveSalts dimensions) p.rows p.salts

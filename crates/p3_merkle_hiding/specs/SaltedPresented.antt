@@ -1,7 +1,7 @@
 -- A salted opening as a verifier takes it.
 use Rattle.std.specs.Prelude.{ℕ, Bool, List, length}
 use Rattle.p3_support.specs.declared.matrix.Dimensions.{Dimensions}
-use Rattle.p3_merkle_core.specs.Checks.{Terms}
+use Rattle.p3_merkle_core.specs.Checks.{Params}
 use Rattle.p3_merkle_core.specs.Presented.{Presented}
 use Rattle.p3_merkle_core.specs.Pruning.{opening_at}
 use Rattle.p3_merkle_hiding.specs.SaltRefusals.{salted_pruned_refusal_under, salted_refusal_under}
@@ -9,7 +9,7 @@ use Rattle.p3_merkle_hiding.specs.SaltedOpenings.{IsSaltedAccepted, IsSaltedPrun
 use Rattle.p3_merkle_hiding.specs.SaltedOpenings.{joined, joined_sets}
 
 -- a salted opening of one index, under a cap: its only query is the rows followed by their salts
-abbrev pub presented_salted : {T W : Type 0} → (W → W → Bool) → ℕ → List Dimensions → Terms T W → List (List W) →
+abbrev pub presented_salted : {T W : Type 0} → (W → W → Bool) → ℕ → List Dimensions → Params T W → List (List W) →
     SaltedOpening T W → Presented T W
 presented_salted digest_eq e dimensions c cap o =
     record {
@@ -21,7 +21,7 @@ presented_salted digest_eq e dimensions c cap o =
 
 -- a salted pruned opening, under a cap: the queries of the rows followed by their salts
 abbrev pub presented_salted_pruned : {T W : Type 0} → (T → T → Bool) → (W → W → Bool) → ℕ → List Dimensions →
-    Terms T W → List (List W) → SaltedPruned T W → Presented T W
+    Params T W → List (List W) → SaltedPruned T W → Presented T W
 presented_salted_pruned row_eq digest_eq e dimensions c cap p =
     record {
       is_accepted = IsSaltedPrunedAccepted e dimensions c cap p;

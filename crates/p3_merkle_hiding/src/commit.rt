@@ -9,7 +9,7 @@ ghost use Rattle.p3_merkle_core.specs.Nodes.{dimensions_of, shape};
 ghost use Rattle.p3_merkle_core.specs.declared.error.MerkleTreeError.TheVariants.{OutOfMemory};
 ghost use Rattle.p3_support.specs.Pairs.{left_of};
 ghost use Rattle.p3_support.specs.Shown.{roots_of};
-ghost use Rattle.p3_merkle_hiding.specs.HidingSchemes.{generator_of, plain_of, salted_terms_of};
+ghost use Rattle.p3_merkle_hiding.specs.HidingSchemes.{generator_of, plain_of, salted_params_of};
 ghost use Rattle.p3_merkle_hiding.specs.Salted.{after_salts, salted_batch, salted_matrices, IsAfterSome};
 ghost use Rattle.p3_merkle_hiding.specs.SaltRefusals.{salted_commit_refusal};
 ghost use Rattle.p3_merkle_hiding.specs.SaltedOpenings.{CanWiden};
@@ -77,7 +77,7 @@ where
             let drawn = R.stream (generator_of self.old) in
             IfOk result (λ (cap, tree). tree_batch tree ≡ salted_batch P.Value.of_salt_word SALT_ELEMS b drawn) }
         ensures committed { let b = batch_of M.height_of M.width_of M.row_of N matrices.items in
-            let c = salted_terms_of H.hash C.compression D self.old (dimensions_of b.matrices) in
+            let c = salted_params_of H.hash C.compression D self.old (dimensions_of b.matrices) in
             let salted = salted_batch P.Value.of_salt_word SALT_ELEMS b (R.stream (generator_of self.old)) in
             IfOk result (λ (cap, tree). IsCommitment c (roots_of cap) salted (layers_of tree)) }
         ensures rest { let b = batch_of M.height_of M.width_of M.row_of N matrices.items in

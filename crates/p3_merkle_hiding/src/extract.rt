@@ -4,17 +4,17 @@ ghost use Rattle.std.specs.Prelude.{◌≡◌, ◌↔◌, IfOk, IsNone, IsSome};
 ghost use Rattle.p3_merkle_core.specs.Extraction.{IsExtraction};
 ghost use Rattle.p3_merkle_core.specs.Views.{found_alone, found_pair};
 ghost use Rattle.p3_merkle_core.specs.declared.cap.CapRule.TheVariants.{Lowered};
-ghost use Rattle.p3_merkle_tree.specs.Schemes.{cap_rule_of};
+ghost use Rattle.p3_merkle_mmcs.specs.Schemes.{cap_rule_of};
 ghost use Rattle.p3_support.specs.Shown.{roots_of};
-ghost use Rattle.p3_merkle_hiding.specs.HidingSchemes.{plain_of, salted_lent, salted_pruned_lent, salted_terms_of};
+ghost use Rattle.p3_merkle_hiding.specs.HidingSchemes.{plain_of, salted_lent, salted_pruned_lent, salted_params_of};
 ghost use Rattle.p3_merkle_hiding.specs.SaltedExtraction.{AgreeWhereAuthenticated, ConflictSomewhere};
 ghost use Rattle.p3_merkle_hiding.specs.SaltedExtraction.{ConflictWhereAuthenticated, EachSaltedPair, SomeSaltedPair};
 ghost use Rattle.p3_merkle_hiding.specs.SaltedPresented.{presented_salted, presented_salted_pruned};
 
 use crate::hiding_mmcs::{MerkleTreeHidingMmcs, SaltedMultiProof, SaltedProof};
 use crate::joined::{SaltedRows, SaltedSets};
+use p3_merkle_core::collision::Collision;
 use p3_merkle_core::error::MerkleTreeError;
-use p3_merkle_tree::Collision;
 use p3_support::compress::PseudoCompressionFunction;
 use p3_support::hasher::CryptographicHasher;
 use p3_support::matrix::Dimensions;
@@ -35,7 +35,7 @@ impl<
     /// Extracts a collision from two accepted openings of one cap: two different inputs of the hasher or of the
     /// compression with one digest, or `None` if the openings agree.
     ///
-    /// It is the plain scheme's [`extract_collision`](p3_merkle_tree::mmcs::Scheme::extract_collision) of the rows
+    /// It is the plain scheme's [`extract_collision`](p3_merkle_mmcs::mmcs::Scheme::extract_collision) of the rows
     /// followed by their salts. Both openings are verified as by [`verify_batch`](Self::verify_batch). Two openings of
     /// one index give a collision exactly if they differ in a sibling, or in a row or the salts of an authenticated
     /// matrix. Openings of any two indices give one if they conflict in a row of such a matrix, or in its salts. Under
@@ -55,7 +55,7 @@ impl<
         index2: usize,
         second: BatchOpeningRef<'_, P::Value, SaltedProof<P::Value, PW::Value, D>>,
     ) -> Result<Option<Collision<P::Value, PW::Value, D>>, MerkleTreeError>
-        ensures extraction { let c = salted_terms_of H.hash C.compression D self.now dimensions.now in
+        ensures extraction { let c = salted_params_of H.hash C.compression D self.now dimensions.now in
             let presented = presented_salted PW.Value.eq SALT_ELEMS dimensions.now c (roots_of commit.now) in
             let first = presented (salted_lent index1 first.entry) in
             let second = presented (salted_lent index2 second.entry) in
@@ -63,14 +63,14 @@ impl<
 
         // At one index nothing is found exactly where the siblings, and the rows and salts of authenticated matrices,
         // are the same.
-        ensures one_index { let c = salted_terms_of H.hash C.compression D self.now dimensions.now in
+        ensures one_index { let c = salted_params_of H.hash C.compression D self.now dimensions.now in
             let o = salted_lent index1 first.entry in
             let u = salted_lent index2 second.entry in
             index1 ≡ index2 → IfOk result (λ found. IsNone found ↔ AgreeWhereAuthenticated c o u) }
 
         // At any indices something is found where one row of an authenticated matrix, or its salts, are answered in two
         // ways.
-        ensures two_ways { let c = salted_terms_of H.hash C.compression D self.now dimensions.now in
+        ensures two_ways { let c = salted_params_of H.hash C.compression D self.now dimensions.now in
             let o = salted_lent index1 first.entry in
             let u = salted_lent index2 second.entry in
             ConflictWhereAuthenticated c o u → IfOk result (λ found. IsSome found) }
@@ -81,7 +81,7 @@ impl<
 
         // Under the lowered rule, at any indices something is found where one row of any matrix, or its salts, are
         // answered in two ways.
-        ensures lowered_two_ways { let c = salted_terms_of H.hash C.compression D self.now dimensions.now in
+        ensures lowered_two_ways { let c = salted_params_of H.hash C.compression D self.now dimensions.now in
             let o = salted_lent index1 first.entry in
             let u = salted_lent index2 second.entry in
             cap_rule_of (plain_of self.now) ≡ Lowered → ConflictSomewhere c o u →
@@ -121,7 +121,7 @@ impl<
     /// The first opening is `indices1`, `rows1` and `proof1`, the second `indices2`, `rows2` and `proof2`, each as
     /// [`verify_multi_batch`](Self::verify_multi_batch) takes it: a row set for each index, and a proof with a salt set
     /// for each. Both are verified so. The call is the plain scheme's
-    /// [`extract_collision_multi`](p3_merkle_tree::mmcs::Scheme::extract_collision_multi) of the rows followed by their
+    /// [`extract_collision_multi`](p3_merkle_mmcs::mmcs::Scheme::extract_collision_multi) of the rows followed by their
     /// salts. It finds a collision wherever a query of the one and a query of the other answer one row of an
     /// authenticated matrix, or the salts of that row, in two ways. Under the rule `Lowered` every matrix is
     /// authenticated.
@@ -142,7 +142,7 @@ impl<
         rows2: &[Vec<Vec<P::Value>>],
         proof2: &SaltedMultiProof<P::Value, PW::Value, D>,
     ) -> Result<Option<(usize, usize, Collision<P::Value, PW::Value, D>)>, MerkleTreeError>
-        ensures extraction { let c = salted_terms_of H.hash C.compression D self.now dimensions.now in
+        ensures extraction { let c = salted_params_of H.hash C.compression D self.now dimensions.now in
             let presented = presented_salted_pruned P.Value.eq PW.Value.eq SALT_ELEMS dimensions.now c
             (roots_of commit.now) in
             let first = presented (salted_pruned_lent indices1.now rows1.now proof1.now) in
@@ -151,21 +151,21 @@ impl<
 
         // Of queries of one index nothing is found exactly where the siblings, and the rows and salts of authenticated
         // matrices, are the same.
-        ensures one_index { let c = salted_terms_of H.hash C.compression D self.now dimensions.now in
+        ensures one_index { let c = salted_params_of H.hash C.compression D self.now dimensions.now in
             let p = salted_pruned_lent indices1.now rows1.now proof1.now in
             let q = salted_pruned_lent indices2.now rows2.now proof2.now in
             EachSaltedPair c p q (λ o u. o.index ≡ u.index) →
             IfOk result (λ found. IsNone found ↔ EachSaltedPair c p q (AgreeWhereAuthenticated c)) }
 
         // Something is found where two queries answer one row of an authenticated matrix, or its salts, in two ways.
-        ensures two_ways { let c = salted_terms_of H.hash C.compression D self.now dimensions.now in
+        ensures two_ways { let c = salted_params_of H.hash C.compression D self.now dimensions.now in
             let p = salted_pruned_lent indices1.now rows1.now proof1.now in
             let q = salted_pruned_lent indices2.now rows2.now proof2.now in
             SomeSaltedPair c p q (ConflictWhereAuthenticated c) → IfOk result (λ found. IsSome found) }
 
         // Under the lowered rule, of queries of one index nothing is found exactly where rows, salts and siblings are
         // the same.
-        ensures lowered_one_index { let c = salted_terms_of H.hash C.compression D self.now dimensions.now in
+        ensures lowered_one_index { let c = salted_params_of H.hash C.compression D self.now dimensions.now in
             let p = salted_pruned_lent indices1.now rows1.now proof1.now in
             let q = salted_pruned_lent indices2.now rows2.now proof2.now in
             cap_rule_of (plain_of self.now) ≡ Lowered → EachSaltedPair c p q (λ o u. o.index ≡ u.index) →
@@ -173,7 +173,7 @@ impl<
 
         // Under the lowered rule, something is found where two queries answer one row of any matrix, or its salts, in
         // two ways.
-        ensures lowered_two_ways { let c = salted_terms_of H.hash C.compression D self.now dimensions.now in
+        ensures lowered_two_ways { let c = salted_params_of H.hash C.compression D self.now dimensions.now in
             let p = salted_pruned_lent indices1.now rows1.now proof1.now in
             let q = salted_pruned_lent indices2.now rows2.now proof2.now in
             cap_rule_of (plain_of self.now) ≡ Lowered → SomeSaltedPair c p q (ConflictSomewhere c) →

@@ -5,8 +5,8 @@ ghost use Rattle.p3_merkle_core.specs.Geometry.{is_arity};
 
 use p3_merkle_core::cap::CapRule;
 use p3_merkle_core::pruning::PrunedMerklePaths;
+use p3_merkle_mmcs::mmcs::{MerkleTreeMmcs, Scheme};
 use p3_merkle_prover::tree::MerkleTree;
-use p3_merkle_tree::mmcs::{MerkleTreeMmcs, Scheme};
 use p3_support::compress::PseudoCompressionFunction;
 use p3_support::hasher::CryptographicHasher;
 use p3_support::matrix::RowMajorMatrix;
@@ -74,7 +74,7 @@ impl<
     const N: usize,
     const SALT_ELEMS: usize,
 > HidingScheme<P, PW, H, C, R, X, G, N, SALT_ELEMS> {
-    ghost use Rattle.p3_merkle_tree.specs.Schemes.{cap_height_of, cap_rule_of};
+    ghost use Rattle.p3_merkle_mmcs.specs.Schemes.{cap_height_of, cap_rule_of};
     ghost use Rattle.p3_merkle_hiding.specs.HidingSchemes.{plain_of};
 
     /// The cap height that was given to [`new`](Self::new), in levels below the root.
@@ -103,7 +103,7 @@ impl<
     const SALT_ELEMS: usize,
 > MerkleTreeHidingMmcs<P, PW, H, C, R, N, D, SALT_ELEMS> {
     ghost use Rattle.p3_merkle_core.specs.declared.cap.CapRule.TheVariants.{Lowered};
-    ghost use Rattle.p3_merkle_tree.specs.Schemes.{cap_height_of, cap_rule_of, compression_of, hash_of};
+    ghost use Rattle.p3_merkle_mmcs.specs.Schemes.{cap_height_of, cap_rule_of, compression_of, hash_of};
     ghost use Rattle.p3_merkle_hiding.specs.HidingSchemes.{generator_of, plain_of};
 
     /// The salted scheme of a hasher and a compression. Its cap is the layer `cap_height` levels below the root, or the

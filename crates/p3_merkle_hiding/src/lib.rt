@@ -17,5 +17,3 @@ mod open;
 mod pairs;
 mod scheme_trait;
 mod verify;
-
-pub use hiding_mmcs::{MerkleTreeHidingMmcs, SaltedMultiProof, SaltedProof, SaltedTree};

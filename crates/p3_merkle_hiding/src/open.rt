@@ -10,10 +10,10 @@ ghost use Rattle.p3_merkle_core.specs.Pruning.{boundary_by};
 ghost use Rattle.p3_merkle_core.specs.Refusals.{AnswersUnlessMemory};
 ghost use Rattle.p3_merkle_core.specs.declared.error.MerkleTreeError.TheVariants.{OutOfMemory};
 ghost use Rattle.p3_merkle_prover.specs.Parts.{layers_of, matrices_of, tree_batch};
-ghost use Rattle.p3_merkle_tree.specs.Schemes.{cap_layer_over};
+ghost use Rattle.p3_merkle_mmcs.specs.Schemes.{cap_layer_over};
 ghost use Rattle.p3_support.specs.Pairs.{left_of};
 ghost use Rattle.p3_support.specs.Shown.{row_lists, row_sets};
-ghost use Rattle.p3_merkle_hiding.specs.HidingSchemes.{plain_of, salted_made, salted_pruned_made, salted_terms_of};
+ghost use Rattle.p3_merkle_hiding.specs.HidingSchemes.{plain_of, salted_made, salted_pruned_made, salted_params_of};
 ghost use Rattle.p3_merkle_hiding.specs.SaltedOpenings.{IsSaltedAccepted};
 ghost use Rattle.p3_merkle_hiding.specs.Inner.SaltedParts.{salt_parts, unsalted_parts};
 ghost use Rattle.p3_merkle_hiding.specs.SaltedOpenings.{IsSaltedPrunedAccepted};
@@ -144,7 +144,7 @@ impl<
             let siblings = siblings_by (node_in [] (layers_of tree.now)) s cap_layer index in
             IfOk result (λ o. o.opening_proof.1.items ≡ siblings) }
         ensures accepted { let ds = unsalted_dimensions N (matrices_of tree.now) in
-            let c = salted_terms_of H.hash C.compression D self.now ds in
+            let c = salted_params_of H.hash C.compression D self.now ds in
             let b = tree_batch tree.now in
             IsOwn c b (layers_of tree.now) → HaveSaltColumns SALT_ELEMS (matrices_of tree.now) →
             IfOk result (λ o. IsSaltedAccepted SALT_ELEMS ds c (cap_over c b) (salted_made index o)) }
@@ -187,7 +187,7 @@ impl<
             IfOk result (λ o. o.1.1.sibling_hashes.items ≡ boundary_by
             (node_in [] (layers_of tree.now)) s indices.now cap_layer) }
         ensures accepted { let ds = unsalted_dimensions N (matrices_of tree.now) in
-            let c = salted_terms_of H.hash C.compression D self.now ds in
+            let c = salted_params_of H.hash C.compression D self.now ds in
             let b = tree_batch tree.now in
             IsOwn c b (layers_of tree.now) → HaveSaltColumns SALT_ELEMS (matrices_of tree.now) →
             IfOk result (λ o. IsSaltedPrunedAccepted SALT_ELEMS ds c (cap_over c b)

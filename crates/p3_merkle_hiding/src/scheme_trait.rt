@@ -11,14 +11,14 @@ ghost use Rattle.p3_merkle_core.specs.Pruning.{boundary_by};
 ghost use Rattle.p3_merkle_core.specs.Refusals.{AnswersUnlessMemory};
 ghost use Rattle.p3_merkle_core.specs.Views.{batch_of};
 ghost use Rattle.p3_merkle_core.specs.declared.error.MerkleTreeError.TheVariants.{OutOfMemory};
-ghost use Rattle.p3_merkle_tree.specs.Inner.CommitmentLaws.{at_same, row_in_matrix, tallest_at_index};
-ghost use Rattle.p3_merkle_tree.specs.Schemes.{cap_layer_of, cap_layer_over, scheme_functions, terms_over};
-ghost use Rattle.p3_merkle_tree.specs.Schemes.{IsSameScheme};
+ghost use Rattle.p3_merkle_mmcs.specs.Inner.CommitmentLaws.{at_same, row_in_matrix, tallest_at_index};
+ghost use Rattle.p3_merkle_mmcs.specs.Schemes.{cap_layer_of, cap_layer_over, scheme_functions, params_over};
+ghost use Rattle.p3_merkle_mmcs.specs.Schemes.{IsSameScheme};
 ghost use Rattle.p3_support.specs.Batches.{dimensions_in, greatest, rows_in};
 ghost use Rattle.p3_support.specs.Pairs.{left_of};
 ghost use Rattle.p3_support.specs.Shown.{roots_of, row_lists, row_sets};
 ghost use Rattle.p3_merkle_hiding.specs.HidingSchemes.{generator_of, plain_of, salted_lent, salted_made};
-ghost use Rattle.p3_merkle_hiding.specs.HidingSchemes.{salted_pruned_lent, salted_pruned_made, salted_terms_of};
+ghost use Rattle.p3_merkle_hiding.specs.HidingSchemes.{salted_pruned_lent, salted_pruned_made, salted_params_of};
 ghost use Rattle.p3_merkle_hiding.specs.Inner.SaltedCommitmentLaws.{each_salted_shown, left_lawful, salted_rows_fit};
 ghost use Rattle.p3_merkle_hiding.specs.Inner.SaltedCommitmentLaws.{same_plain_is_equivalence};
 ghost use Rattle.p3_merkle_hiding.specs.SaltedCommitments.{CanCommitSalted, IsSaltedCommitment, HaveSaltedProof};
@@ -82,32 +82,32 @@ where
     ghost matrices_in = { λ tree. map left_of (matrices_of tree) };
 
     ghost commits_to = { λ s cap tree. let b = tree_batch tree in
-        IsSaltedCommitment SALT_ELEMS (terms_over H.hash C.compression D (plain_of s) (shape b)) (roots_of cap) b
+        IsSaltedCommitment SALT_ELEMS (params_over H.hash C.compression D (plain_of s) (shape b)) (roots_of cap) b
         (layers_of tree) (matrices_of tree) };
 
     ghost row_at = { halved_index };
 
     ghost is_shown = { λ s cap dimensions index rows.
-        HaveSaltedProof SALT_ELEMS dimensions (salted_terms_of H.hash C.compression D s dimensions)
+        HaveSaltedProof SALT_ELEMS dimensions (salted_params_of H.hash C.compression D s dimensions)
         (roots_of cap) index rows };
 
     ghost accepts = { λ s cap dimensions index rows proof.
-        IsSaltedAccepted SALT_ELEMS dimensions (salted_terms_of H.hash C.compression D s dimensions) (roots_of cap)
+        IsSaltedAccepted SALT_ELEMS dimensions (salted_params_of H.hash C.compression D s dimensions) (roots_of cap)
         (salted_of index rows (row_lists proof.0.items) proof.1.items) };
 
     ghost accepts_all = { λ s cap dimensions indices sets proof.
-        IsSaltedPrunedAccepted SALT_ELEMS dimensions (salted_terms_of H.hash C.compression D s dimensions)
+        IsSaltedPrunedAccepted SALT_ELEMS dimensions (salted_params_of H.hash C.compression D s dimensions)
         (roots_of cap)
         (salted_pruned_of indices sets (row_sets proof.0.items) proof.1.sibling_hashes.items) };
 
     ghost refusal = { λ s cap dimensions index rows proof.
         salted_refusal_under PW.Value.eq SALT_ELEMS dimensions
-        (salted_terms_of H.hash C.compression D s dimensions) (roots_of cap)
+        (salted_params_of H.hash C.compression D s dimensions) (roots_of cap)
         (salted_of index rows (row_lists proof.0.items) proof.1.items) };
 
     ghost refusal_of_all = { λ s cap dimensions indices sets proof.
         salted_pruned_refusal_under P.Value.eq PW.Value.eq SALT_ELEMS dimensions
-        (salted_terms_of H.hash C.compression D s dimensions) (roots_of cap)
+        (salted_params_of H.hash C.compression D s dimensions) (roots_of cap)
         (salted_pruned_of indices sets (row_sets proof.0.items) proof.1.sibling_hashes.items) };
 
     fn commit(
@@ -120,7 +120,7 @@ where
             (λ made. CanCommitSalted M.height_of M.width_of M.row_of SALT_ELEMS matrices.items) }
         ensures matrices { IfOk result (λ made. map left_of (matrices_of made.1) ≡ matrices.items) }
         ensures commitment { IfOk result (λ made. let b = tree_batch made.1 in
-            IsSaltedCommitment SALT_ELEMS (terms_over H.hash C.compression D (plain_of self.new) (shape b))
+            IsSaltedCommitment SALT_ELEMS (params_over H.hash C.compression D (plain_of self.new) (shape b))
             (roots_of made.0) b (layers_of made.1) (matrices_of made.1)) }
         ensures answer { AnswersUnlessMemory result
             (salted_commit_refusal SALT_ELEMS (dimensions_in M.height_of M.width_of matrices.items)) }
@@ -129,7 +129,7 @@ where
             let drawn = R.stream (generator_of self.old) in
             IfOk result (λ made. tree_batch made.1 ≡ salted_batch P.Value.of_salt_word SALT_ELEMS b drawn) }
         ensures committed { let b = batch_of M.height_of M.width_of M.row_of N matrices.items in
-            let c = salted_terms_of H.hash C.compression D self.old (dimensions_of b.matrices) in
+            let c = salted_params_of H.hash C.compression D self.old (dimensions_of b.matrices) in
             let salted = salted_batch P.Value.of_salt_word SALT_ELEMS b (R.stream (generator_of self.old)) in
             IfOk result (λ made. IsCommitment c (roots_of made.0) salted (layers_of made.1)) }
         ensures rest { let b = batch_of M.height_of M.width_of M.row_of N matrices.items in
@@ -166,13 +166,13 @@ where
             let pairs = matrices_of prover_data.now in
             let dimensions = dimensions_in M.height_of M.width_of (map left_of pairs) in
             (roots : List (List PW.Value)) →
-            IsSaltedCommitment SALT_ELEMS (terms_over H.hash C.compression D (plain_of self.now) (shape b)) roots b
+            IsSaltedCommitment SALT_ELEMS (params_over H.hash C.compression D (plain_of self.now) (shape b)) roots b
             (layers_of prover_data.now) pairs →
             IfOk result (λ o. IsSaltedAccepted SALT_ELEMS dimensions
-            (salted_terms_of H.hash C.compression D self.now dimensions) roots (salted_made index o)) }
+            (salted_params_of H.hash C.compression D self.now dimensions) roots (salted_made index o)) }
         ensures memory { IfErr result (λ e. e ≡ OutOfMemory) }
     {
-        tell_index(prover_data, index);
+        lemma_index(prover_data, index);
         self.open_batch(alloc, index, prover_data)
     }
 
@@ -196,7 +196,7 @@ where
         index: usize,
         opening: BatchOpeningRef<'_, P::Value, Self::Proof>,
     ) -> Result<(), Self::Error>
-        ensures { let c = salted_terms_of H.hash C.compression D self.now dimensions.now in
+        ensures { let c = salted_params_of H.hash C.compression D self.now dimensions.now in
             let o = salted_lent index opening.entry in
             IsVerdict (presented_salted PW.Value.eq SALT_ELEMS dimensions.now c (roots_of commitment.now) o) result }
     {
@@ -224,14 +224,14 @@ where
             let pairs = matrices_of prover_data.now in
             let dimensions = dimensions_in M.height_of M.width_of (map left_of pairs) in
             (roots : List (List PW.Value)) →
-            IsSaltedCommitment SALT_ELEMS (terms_over H.hash C.compression D (plain_of self.now) (shape b)) roots b
+            IsSaltedCommitment SALT_ELEMS (params_over H.hash C.compression D (plain_of self.now) (shape b)) roots b
             (layers_of prover_data.now) pairs →
             IfOk result (λ o. IsSaltedPrunedAccepted SALT_ELEMS dimensions
-            (salted_terms_of H.hash C.compression D self.now dimensions) roots
+            (salted_params_of H.hash C.compression D self.now dimensions) roots
             (salted_pruned_made indices.now o.0 o.1)) }
         ensures memory { IfErr result (λ e. e ≡ OutOfMemory) }
     {
-        tell_indices(prover_data, indices);
+        lemma_indices(prover_data, indices);
         self.open_multi_batch(alloc, indices, prover_data)
     }
 
@@ -244,7 +244,7 @@ where
         rows: &[Vec<Vec<P::Value>>],
         proof: &Self::MultiProof,
     ) -> Result<(), Self::Error>
-        ensures { let c = salted_terms_of H.hash C.compression D self.now dimensions.now in
+        ensures { let c = salted_params_of H.hash C.compression D self.now dimensions.now in
             let p = salted_pruned_lent indices.now rows.now proof.now in
             IsVerdict (presented_salted_pruned P.Value.eq PW.Value.eq SALT_ELEMS dimensions.now c
             (roots_of commitment.now) p) result }
@@ -261,7 +261,7 @@ where
         record { salts = row_lists proof.0.items; siblings = proof.1.items; is_accepted = accepted } };
 
     ghost shown_by_all = { λ s cap dimensions indices sets proof accepted.
-        each_salted_shown SALT_ELEMS dimensions (salted_terms_of H.hash C.compression D s dimensions) (roots_of cap)
+        each_salted_shown SALT_ELEMS dimensions (salted_params_of H.hash C.compression D s dimensions) (roots_of cap)
         (salted_pruned_of indices sets (row_sets proof.0.items) proof.1.sibling_hashes.items) accepted };
 
     ghost shown_fits = { λ s cap dimensions index rows.
@@ -289,7 +289,7 @@ where
 
 /// Tells that an index below the tallest matrix's height is below the tallest height in the tree's shape. It does
 /// nothing at run time.
-fn tell_index<F, X, G, A: Matrix<F>, B: Matrix<F>, const N: usize>(
+fn lemma_index<F, X, G, A: Matrix<F>, B: Matrix<F>, const N: usize>(
     tree: &Tree<F, X, G, HorizontalPair<F, A, B>, N>,
     index: usize,
 )
@@ -298,7 +298,7 @@ fn tell_index<F, X, G, A: Matrix<F>, B: Matrix<F>, const N: usize>(
 {}
 
 /// The same of several indices.
-fn tell_indices<F, X, G, A: Matrix<F>, B: Matrix<F>, const N: usize>(
+fn lemma_indices<F, X, G, A: Matrix<F>, B: Matrix<F>, const N: usize>(
     tree: &Tree<F, X, G, HorizontalPair<F, A, B>, N>,
     indices: &[usize],
 )

@@ -2,7 +2,7 @@
 
 ghost use Rattle.p3_merkle_core.specs.Presented.{IsVerdict};
 ghost use Rattle.p3_support.specs.Shown.{roots_of};
-ghost use Rattle.p3_merkle_hiding.specs.HidingSchemes.{salted_lent, salted_pruned_lent, salted_terms_of};
+ghost use Rattle.p3_merkle_hiding.specs.HidingSchemes.{salted_lent, salted_pruned_lent, salted_params_of};
 ghost use Rattle.p3_merkle_hiding.specs.SaltedPresented.{presented_salted, presented_salted_pruned};
 
 use crate::hiding_mmcs::{MerkleTreeHidingMmcs, SaltedMultiProof, SaltedProof};
@@ -42,7 +42,7 @@ impl<
     /// - `WrongWidth`, for the first row whose length is not the width of its matrix;
     /// - `WrongBatchSize`: the number of lists of salts is not that of the rows;
     /// - `TooLarge`, for the first matrix whose width with its salts does not fit `usize`;
-    /// - the error of the plain [`verify_batch`](p3_merkle_tree::mmcs::Scheme::verify_batch) for the joined rows, so
+    /// - the error of the plain [`verify_batch`](p3_merkle_mmcs::mmcs::Scheme::verify_batch) for the joined rows, so
     ///   that a wrong number of salts is a `WrongWidth` of the joined row.
     pub fn verify_batch(
         &self,
@@ -52,7 +52,7 @@ impl<
         index: usize,
         opening: BatchOpeningRef<'_, P::Value, SaltedProof<P::Value, PW::Value, D>>,
     ) -> Result<(), MerkleTreeError>
-        ensures { let c = salted_terms_of H.hash C.compression D self.now dimensions.now in
+        ensures { let c = salted_params_of H.hash C.compression D self.now dimensions.now in
             let o = salted_lent index opening.entry in
             IsVerdict (presented_salted PW.Value.eq SALT_ELEMS dimensions.now c (roots_of commit.now) o) result }
     {
@@ -81,7 +81,7 @@ impl<
     ///   dimensions, `WrongWidth` for the first row whose length is not the width of its matrix, `WrongBatchSize` if
     ///   the number of lists of salts is not that of the rows;
     /// - `TooLarge`, for the first matrix whose width with its salts does not fit `usize`;
-    /// - the error of the plain [`verify_multi_batch`](p3_merkle_tree::mmcs::Scheme::verify_multi_batch) for the joined
+    /// - the error of the plain [`verify_multi_batch`](p3_merkle_mmcs::mmcs::Scheme::verify_multi_batch) for the joined
     ///   rows.
     pub fn verify_multi_batch(
         &self,
@@ -92,7 +92,7 @@ impl<
         rows: &[Vec<Vec<P::Value>>],
         proof: &SaltedMultiProof<P::Value, PW::Value, D>,
     ) -> Result<(), MerkleTreeError>
-        ensures { let c = salted_terms_of H.hash C.compression D self.now dimensions.now in
+        ensures { let c = salted_params_of H.hash C.compression D self.now dimensions.now in
             let p = salted_pruned_lent indices.now rows.now proof.now in
             IsVerdict (presented_salted_pruned P.Value.eq PW.Value.eq SALT_ELEMS dimensions.now c
             (roots_of commit.now) p) result }

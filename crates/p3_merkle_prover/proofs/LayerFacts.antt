@@ -21,7 +21,7 @@ use Rattle.p3_merkle_core.specs.Nodes.{node, layer}
 use Rattle.p3_merkle_core.proofs.Checks.Completeness.{node_next}
 use Rattle.p3_merkle_core.proofs.Shapes.StepFacts.{layer_start}
 use Rattle.p3_merkle_core.specs.Inner.Levels.{IsLevel}
-use Rattle.p3_merkle_lanes.specs.Inner.Slots.{leaf_over, rows_over}
+use Rattle.p3_merkle_digests.specs.Inner.Slots.{leaf_over, rows_over}
 use Rattle.p3_merkle_prover.specs.Inner.Levels.{node_above}
 use Rattle.p3_merkle_core.specs.declared.levels.Level.{Level}
 use Rattle.p3_merkle_core.specs.Openings.{children_by}

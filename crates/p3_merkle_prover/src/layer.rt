@@ -11,14 +11,14 @@ ghost use denote.Param.{ArrayAt};
 ghost use Rattle.p3_support.specs.Lists.{lane_of};
 ghost use Rattle.p3_merkle_core.specs.Nodes.{functions_of};
 ghost use Rattle.p3_merkle_prover.specs.Inner.Levels.{layer_above, node_above, slot_above, CanRaise};
-ghost use Rattle.p3_merkle_lanes.specs.Inner.Slots.{leaf_over, rows_over, IsFilled};
+ghost use Rattle.p3_merkle_digests.specs.Inner.Slots.{leaf_over, rows_over, IsFilled};
 
 use p3_merkle_core::group::{padded_group, pair_group};
 use p3_merkle_core::levels::Level;
-use p3_merkle_lanes::batched::{compress_groups_batched, inject_row_digests};
-use p3_merkle_lanes::packed::{compress_children_packed, compress_pairs_packed, packed_blocks};
-use p3_merkle_lanes::plain::compress_groups;
-use p3_merkle_lanes::rows::LayerRows;
+use p3_merkle_digests::batched::{compress_groups_batched, inject_row_digests};
+use p3_merkle_digests::packed::{compress_children_packed, compress_pairs_packed, packed_blocks};
+use p3_merkle_digests::plain::compress_groups;
+use p3_merkle_digests::rows::LayerRows;
 use p3_support::compress::PseudoCompressionFunction;
 use p3_support::hasher::CryptographicHasher;
 use p3_support::matrix::Matrix;
@@ -177,7 +177,7 @@ impl<
     /// Writes the nodes of the layer above a layer into the first `count` slots: first the compressions of their
     /// children; then, where matrices belong to the layer, the digests of their rows, and the compressions of both.
     /// Each node must have `N` children.
-    #[tactic(auto, using(p3_merkle_lanes::proofs::StageFacts::made_long))]
+    #[tactic(auto, using(p3_merkle_digests::proofs::StageFacts::made_long))]
     fn write_batched_nodes(
         &self,
         alloc: Global,

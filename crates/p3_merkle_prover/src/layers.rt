@@ -11,13 +11,13 @@ ghost use Rattle.p3_merkle_core.specs.Inner.Levels.{IsLevel};
 ghost use Rattle.p3_merkle_core.specs.Nodes.{functions_of, layer, layers as layers_over, shape};
 ghost use Rattle.p3_merkle_prover.specs.Inner.Built.{IsBuilt};
 ghost use Rattle.p3_merkle_prover.specs.Inner.Levels.{layer_above, CanBuild, CanRaise};
-ghost use Rattle.p3_merkle_lanes.specs.Inner.Slots.{leaf_over};
+ghost use Rattle.p3_merkle_digests.specs.Inner.Slots.{leaf_over};
 
 use crate::layer::LayerBuilder;
 use p3_merkle_core::geometry::padded_len;
 use p3_merkle_core::levels::Level;
 use p3_merkle_core::steps::Steps;
-use p3_merkle_lanes::rows::LayerRows;
+use p3_merkle_digests::rows::LayerRows;
 use p3_support::compress::PseudoCompressionFunction;
 use p3_support::hasher::CryptographicHasher;
 use p3_support::matrix::{Dimensions, Matrix};
@@ -65,7 +65,7 @@ fn of_height<'a, T, M: Matrix<T>>(
 
 /// Tells that a layer of its whole length has the children of the nodes of the level above it. It does nothing at run
 /// time.
-fn tell_children<X>(dimensions: &[Dimensions], arity: usize, level: &Level, below: &[X])
+fn lemma_children<X>(dimensions: &[Dimensions], arity: usize, level: &Level, below: &[X])
     requires level { IsLevel (shape_of arity dimensions.now) level.now }
     requires slots { length below.now ≡ layer_len (shape_of arity dimensions.now) level.now.below }
     ensures { CanRaise arity level.now (length below.now) }
@@ -196,7 +196,7 @@ impl<
         let below = stack.layers.len() - 1;
         let level = steps.level_above(below, stack.exponent, stack.len);
         let nodes = stack.layers[below].as_slice();
-        tell_children(steps.dimensions, N, &level, nodes);
+        lemma_children(steps.dimensions, N, &level, nodes);
         let layer = self.next_layer(alloc, &level, nodes)?;
         Ok((level, layer))
     }

@@ -6,7 +6,7 @@ use Rattle.std.specs.Cmp.Lexicographic.{pointwise}
 use Rattle.p3_merkle_core.specs.Geometry.{Shape, ancestor}
 use Rattle.p3_merkle_core.specs.Nodes.{Functions}
 use Rattle.p3_merkle_core.specs.Openings.{Opening}
-use Rattle.p3_merkle_core.specs.Checks.{path_digest, terms}
+use Rattle.p3_merkle_core.specs.Checks.{path_digest, params}
 use Rattle.p3_merkle_core.specs.Refusals.{IsEquality, answer_under, form_refusal, is_entry, unless, ok_unless}
 use Rattle.p3_merkle_core.specs.declared.error.MerkleTreeError.TheVariants.{CapMismatch}
 use Rattle.p3_merkle_core.proofs.Checks.Verdicts.{accepted_from}
@@ -20,7 +20,7 @@ pub answered_by_entry : {T W : Type 0} (same : W → W → Bool) (f : Functions 
     (roots : List (List W)) (o : Opening T W) (digest : List W) (node : ℕ) (entry known : Bool) →
     form_refusal s t o.index o.rows (length o.siblings) ≡ None → digest ≡ path_digest f s o t → node
     ≡ ancestor s t o.index → entry ≡ is_entry (pointwise same) roots node digest → entry ≡ known →
-    ok_unless (unless known CapMismatch) (tt {0}) ≡ answer_under same (terms f s t) roots o
+    ok_unless (unless known CapMismatch) (tt {0}) ≡ answer_under same (params f s t) roots o
 answered_by_entry same f s t roots o digest node entry known form is_digest is_node is_known at =
     let decided : known ≡ is_entry (pointwise same) roots (ancestor s t o.index) (path_digest f s o t) =
     sym at ∙ is_known ∙ ap (λ (z : ℕ). is_entry (pointwise same) roots z digest) is_node
@@ -32,7 +32,7 @@ answered_by_entry same f s t roots o digest node entry known form is_digest is_n
 
 -- what is answered by Ok has its siblings
 pub reach_from : {T W : Type 0} (same : W → W → Bool) (f : Functions T W) (s : Shape) (t : ℕ) (roots : List (List W))
-    (o : Opening T W) → IsEquality same → CanCheck s t → Ok tt ≡ answer_under same (terms f s t) roots o →
+    (o : Opening T W) → IsEquality same → CanCheck s t → Ok tt ≡ answer_under same (params f s t) roots o →
     CanReach s t (length o.siblings)
 reach_from same f s t roots o dec w is = let a = accepted_from same f s t roots o dec (sym is) in
     record { arity = w.arity; in_tree = w.in_tree; all_siblings = a.count }

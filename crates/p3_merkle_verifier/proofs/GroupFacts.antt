@@ -10,7 +10,7 @@ use Rattle.std.proofs.lemmas.List.FromFn.{fill_by_all, map-range_with_len_more}
 use Rattle.std.proofs.lemmas.Slice.Zip.{get_or-zip, length-zip}
 use Rattle.p3_support.specs.Shown.{row_lists, row_sets}
 use Rattle.p3_merkle_core.specs.Nodes.{padded}
-use Rattle.p3_merkle_lanes.proofs.StageFacts.{chunk_at}
+use Rattle.p3_merkle_digests.proofs.StageFacts.{chunk_at}
 use Rattle.p3_merkle_verifier.specs.Inner.NodeDigests.{group_digest}
 
 -- a whole group has no default elements

@@ -20,7 +20,7 @@ use Rattle.p3_merkle_verifier.specs.Inner.RestoredLevels.{AreRestored, IsCovered
 use Rattle.p3_merkle_verifier.specs.Inner.RestoredLevels.{node_of_query}
 use Rattle.p3_merkle_verifier.specs.declared.covered.Covered.{Covered}
 use Rattle.p3_merkle_verifier.specs.declared.covered.NextLevel.{NextLevel}
-use Rattle.p3_merkle_core.specs.Checks.{terms}
+use Rattle.p3_merkle_core.specs.Checks.{params}
 
 -- ---- lists
 
@@ -72,10 +72,10 @@ module _ {T W : Type 0} (f : Functions T W) (s : Shape) (t : ℕ) (p : PrunedOpe
   -- the digest of the children of node j
   abbrev below_digest : ℕ → List W
   below_digest j =
-      compress_padded f s.arity (map (value_of (terms f s t) p l) (range_with_len (step s l * j) (step s l)))
+      compress_padded f s.arity (map (value_of (params f s t) p l) (range_with_len (step s l * j) (step s l)))
 
-  below_is : (j : ℕ) → below_digest j ≡ compress_padded f s.arity (group_values s (value_of (terms f s t) p) l j)
-  below_is j = ap (compress_padded f s.arity) (group_is (value_of (terms f s t) p l) (step s l * j) (step s l))
+  below_is : (j : ℕ) → below_digest j ≡ compress_padded f s.arity (group_values s (value_of (params f s t) p) l j)
+  below_is j = ap (compress_padded f s.arity) (group_is (value_of (params f s t) p l) (step s l * j) (step s l))
 
   -- a node with rows, by its lead
   with_lead : IsAgreed s t p → suc l ≤ t → has_rows s (suc l) ≡ true → (k : ℕ) → k < length p.indices →
@@ -83,14 +83,14 @@ module _ {T W : Type 0} (f : Functions T W) (s : Shape) (t : ℕ) (p : PrunedOpe
         below_digest (node_of_query s p.indices (suc l) k),
         query_digest f.hash (layer_exponent s (suc l)) (heights s) p.rows k,
       )
-      ≡ restored_node (terms f s t) p (suc l) (node_of_query s p.indices (suc l) k)
+      ≡ restored_node (params f s t) p (suc l) (node_of_query s p.indices (suc l) k)
   with_lead agreed le has k h =
       let j = node_of_query s p.indices (suc l) k in
       let words = rows_agree s t p agreed k (suc l) h le in
       let next = rw has at (restored_next f s t p l j) in
       rw (below_is j, words) (sym next)
 
-  without_rows : has_rows s (suc l) ≡ false → (j : ℕ) → below_digest j ≡ restored_node (terms f s t) p (suc l) j
+  without_rows : has_rows s (suc l) ≡ false → (j : ℕ) → below_digest j ≡ restored_node (params f s t) p (suc l) j
   without_rows none j = let next = rw none at (restored_next f s t p l j) in below_is j ∙ sym next
 
   -- the layer above, from the children's values
@@ -98,20 +98,20 @@ module _ {T W : Type 0} (f : Functions T W) (s : Shape) (t : ℕ) (p : PrunedOpe
       (children : List (List W)) → n ≡ step s l → has ≡ has_rows s (suc l) → x ≡ layer_exponent s (suc l) →
       covered_at s p.indices (suc l) ≡ map (node_of_query s p.indices (suc l)) leads →
       All (λ k. k < length p.indices) leads → length children / n ≡ length (covered_at s p.indices (suc l)) →
-      children ≡ flat_map (λ j. map (value_of (terms f s t) p l) (range_with_len (step s l * j) (step s l)))
+      children ≡ flat_map (λ j. map (value_of (params f s t) p l) (range_with_len (step s l * j) (step s l)))
       (covered_at s p.indices (suc l)) →
       layer_digests f s.arity n has (heights s) x p.rows leads children
-      ≡ map (restored_node (terms f s t) p (suc l)) (covered_at s p.indices (suc l))
+      ≡ map (restored_node (params f s t) p (suc l)) (covered_at s p.indices (suc l))
   layer_next agreed le n has x leads children is_step is_has is_x are among count values =
       let parents = covered_at s p.indices (suc l) in
-      let group = λ (j : ℕ). map (value_of (terms f s t) p l) (range_with_len (step s l * j) (step s l)) in
+      let group = λ (j : ℕ). map (value_of (params f s t) p l) (range_with_len (step s l * j) (step s l)) in
       let node = node_of_query s p.indices (suc l) in
       let digest = query_digest f.hash (layer_exponent s (suc l)) (heights s) p.rows in
       let pair = pair_digest f.compression s.arity f.default_digest in
       let nodes : map (group_digest f.compression s.arity f.default_digest (step s l) (flat_map group parents))
       (range_with_len 0 (length parents)) ≡ map below_digest parents =
       pieces_are (compress_padded f s.arity) (step s l) group
-      (λ j. length-map (range_with_len (step s l * j) (step s l)) (value_of (terms f s t) p l)
+      (λ j. length-map (range_with_len (step s l * j) (step s l)) (value_of (params f s t) p l)
       ∙ length-range_with_len (step s l * j) (step s l)) parents in
       let all : map (group_digest f.compression s.arity f.default_digest n children)
       (range_with_len 0 (length children / n)) ≡ map below_digest parents = rw (count, is_step, values) nodes in
@@ -122,28 +122,28 @@ module _ {T W : Type 0} (f : Functions T W) (s : Shape) (t : ℕ) (p : PrunedOpe
             ∙ ap (λ ys. map pair (zip ys (map digest leads))) (map_map below_digest node leads)
             ∙ zip_maps pair (λ k. below_digest (node k)) digest leads
             ∙ map_on (λ k. k < length p.indices) (λ k. pair (below_digest (node k), digest k))
-            (λ k. restored_node (terms f s t) p (suc l) (node k)) (with_lead agreed le present) leads among
-            ∙ sym (map_map (restored_node (terms f s t) p (suc l)) node leads)
-            ∙ ap (map (restored_node (terms f s t) p (suc l))) (sym are))
+            (λ k. restored_node (params f s t) p (suc l) (node k)) (with_lead agreed le present) leads among
+            ∙ sym (map_map (restored_node (params f s t) p (suc l)) node leads)
+            ∙ ap (map (restored_node (params f s t) p (suc l))) (sym are))
         | inr none ↦ rw (all, is_x, is_has, none)
-            (same_map below_digest (restored_node (terms f s t) p (suc l)) (without_rows none) parents)
+            (same_map below_digest (restored_node (params f s t) p (suc l)) (without_rows none) parents)
       ]
 
 -- the leaves
 leaves_are : {T W : Type 0} (f : Functions T W) (s : Shape) (t : ℕ) (p : PrunedOpening T W) → IsAgreed s t p →
     (covered : Covered) (digests : List (List W)) → IsCoveredAt s p.indices 0 covered →
     digests ≡ map (query_digest f.hash covered.exponent (heights s) p.rows) covered.leads.items → digests
-    ≡ map (restored_node (terms f s t) p 0) (covered_at s p.indices 0)
+    ≡ map (restored_node (params f s t) p 0) (covered_at s p.indices 0)
 leaves_are f s t p agreed covered digests at e =
     let node = node_of_query s p.indices 0 in
     let leads = covered.leads.items in
     let are : covered_at s p.indices 0 ≡ map node leads = sym at.nodes_are ∙ at.leads_are in
     e ∙ ap (λ x. map (query_digest f.hash x (heights s) p.rows) leads) at.at_exponent
     ∙ map_on (λ k. k < length p.indices) (query_digest f.hash (layer_exponent s 0) (heights s) p.rows)
-    (λ k. restored_node (terms f s t) p 0 (node k))
+    (λ k. restored_node (params f s t) p 0 (node k))
     (λ k h. ap f.hash (rows_agree s t p agreed k 0 h (omega arith)) ∙ sym (restored_leaf f s t p (node k))) leads
     at.among
-    ∙ sym (map_map (restored_node (terms f s t) p 0) node leads) ∙ ap (map (restored_node (terms f s t) p 0)) (sym are)
+    ∙ sym (map_map (restored_node (params f s t) p 0) node leads) ∙ ap (map (restored_node (params f s t) p 0)) (sym are)
 
 -- as many digests as nodes
 digests_long : {X : Type 0} (s : Shape) (queries : List ℕ) (l : ℕ) (covered : Covered) (value : ℕ → X)
@@ -161,7 +161,7 @@ start_restored f s t p agreed covered digests at e =
     let is = leaves_are f s t p agreed covered digests at e in
     record {
       coverage = at;
-      each = digests_long s p.indices 0 covered (restored_node (terms f s t) p 0) digests at is;
+      each = digests_long s p.indices 0 covered (restored_node (params f s t) p 0) digests at is;
       restored = is;
     }
 
@@ -221,6 +221,6 @@ above_restored f s t p agreed l h n is_n covered next_level digests next up valu
     valued.values_are in
     record {
       coverage = up.coverage;
-      each = digests_long s p.indices (suc l) above (restored_node (terms f s t) p (suc l)) next up.coverage is;
+      each = digests_long s p.indices (suc l) above (restored_node (params f s t) p (suc l)) next up.coverage is;
       restored = is;
     }

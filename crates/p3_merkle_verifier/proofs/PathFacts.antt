@@ -13,7 +13,7 @@ use Rattle.p3_merkle_verifier.specs.Inner.RestoredLevels.{AreKept, IsValuedLevel
 use Rattle.p3_merkle_verifier.specs.declared.covered.NextLevel.{NextLevel}
 use Rattle.p3_merkle_verifier.specs.declared.restorable.BorrowedOpening.{BorrowedOpening}
 use Rattle.p3_merkle_verifier.specs.declared.restorable.Restorable.{Restorable}
-use Rattle.p3_merkle_core.specs.Checks.{terms}
+use Rattle.p3_merkle_core.specs.Checks.{params}
 
 -- none at first
 pub kept_none : {T W : Type 0} (f : Functions T W) (s : Shape) (t : ℕ) (p : PrunedOpening T W)
@@ -33,7 +33,7 @@ pub kept_next : {T W : Type 0} (f : Functions T W) (s : Shape) (t : ℕ) (p : Pr
     AreKept f s t p (l + 1) new
 kept_next f s t p l old new level next_level k up is a b c =
     let z : 0 + l ≡ l = omega arith in
-    let here = level_of s p.indices (value_of (terms f s t) p) in
+    let here = level_of s p.indices (value_of (params f s t) p) in
     let last : shown_level level
     ≡ here l = λ i. ((b ∙ up.coverage.nodes_are) i, (a ∙ up.step_is) i, (c ∙ up.values_are) i) in
     record {
@@ -47,10 +47,10 @@ pub paths_by_levels : {T W : Type 0} (f : Functions T W) (s : Shape) (t : ℕ) (
     tree_of restorable ≡ s → restorable.cap_layer ≡ t → restorable.opening ≡ opening →
     AreKept f (tree_of restorable) restorable.cap_layer (opened_by restorable) restorable.cap_layer levels →
     paths ≡ paths_out_of (map shown_level levels) opening.indices.now →
-    paths ≡ restored_paths (terms f s t) (pruned_of opening.indices.now (row_sets opening.sets.now) opening.sent.now)
+    paths ≡ restored_paths (params f s t) (pruned_of opening.indices.now (row_sets opening.sets.now) opening.sent.now)
 paths_by_levels f s t restorable opening levels paths tree layer is kept out =
     out ∙ ap (λ (o : BorrowedOpening _ _). paths_out_of (map shown_level levels) o.indices.now) (sym is)
     ∙ paths_restored f (tree_of restorable) restorable.cap_layer (opened_by restorable) restorable.queried
     (map shown_level levels) kept.levels_are
-    ∙ (λ i. restored_paths (terms f (tree i) (layer i))
+    ∙ (λ i. restored_paths (params f (tree i) (layer i))
     (pruned_of (is i).indices.now (row_sets (is i).sets.now) (is i).sent.now))

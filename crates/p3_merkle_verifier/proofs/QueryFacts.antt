@@ -9,7 +9,7 @@ use Rattle.p3_merkle_core.specs.Geometry.{Shape}
 use Rattle.p3_merkle_verifier.specs.Inner.Paths.{CanCheck}
 use Rattle.p3_merkle_core.specs.Nodes.{Functions}
 use Rattle.p3_merkle_core.specs.Openings.{Opening, opening_of}
-use Rattle.p3_merkle_core.specs.Checks.{Input, terms}
+use Rattle.p3_merkle_core.specs.Checks.{Input, params}
 use Rattle.p3_merkle_core.specs.Pruning.{PrunedOpening, opening_at, restored_path, restored_paths}
 use Rattle.p3_merkle_core.specs.Refusals.{IsEquality, pruned_refusal_under, ok_unless}
 use Rattle.p3_merkle_core.proofs.Checks.Verdicts.{pruned_accepted}
@@ -21,23 +21,23 @@ use Rattle.p3_merkle_verifier.proofs.PlaceFacts.{pairs_alike}
 
 module _ {T W : Type 0} (eq : T → T → Bool) (same : W → W → Bool) (f : Functions T W) (s : Shape) (t : ℕ) where
   -- the last difference of two checks
-  difference_is : (o u v : Opening T W) → u ≡ v → difference_of eq same (terms f s t) o u
+  difference_is : (o u v : Opening T W) → u ≡ v → difference_of eq same (params f s t) o u
       ≡ query_difference eq same f s t o v
   unfolding query_difference
   difference_is o u v e = ap (query_difference eq same f s t o) e
 
   -- what is found shows it
   pub shows_query : (found : Option (InputPair T (List W))) (o u v : Opening T W) → u ≡ v →
-      Shows found (difference_of eq same (terms f s t) o u) → Shows found (query_difference eq same f s t o v)
+      Shows found (difference_of eq same (params f s t) o u) → Shows found (query_difference eq same f s t o v)
   shows_query found o u v e shown = subst (Shows found) (difference_is o u v e) shown
 
   -- the difference of two queries by their restored paths
   abbrev pair_difference : PrunedOpening T W → PrunedOpening T W → ℕ → ℕ → Option (Input T W × Input T W)
-  pair_difference p r a b = difference_of eq same (terms f s t) (opening_at (terms f s t) p a)
-      (opening_at (terms f s t) r b)
+  pair_difference p r a b = difference_of eq same (params f s t) (opening_at (params f s t) p a)
+      (opening_at (params f s t) r b)
 
   pair_difference_is : (p r : PrunedOpening T W) (a b : ℕ) →
-      query_difference eq same f s t (opening_at (terms f s t) p a) (opening_at (terms f s t) r b)
+      query_difference eq same f s t (opening_at (params f s t) p a) (opening_at (params f s t) r b)
       ≡ pair_difference p r a b
   unfolding query_difference
   pair_difference_is p r a b = refl
@@ -46,9 +46,9 @@ module _ {T W : Type 0} (eq : T → T → Bool) (same : W → W → Bool) (f : F
 
   -- what is restored is read query by query
   pub restored : (p : PrunedOpening T W) (queries : RestoredQueries T (List W)) → row_sets queries.sets.now ≡ p.rows →
-      shown_paths queries.paths.items ≡ restored_paths (terms f s t) p → AreQueriesOf f s t p queries
+      shown_paths queries.paths.items ≡ restored_paths (params f s t) p → AreQueriesOf f s t p queries
   restored p queries rows shown =
-      let both : ℕ → ℕ × List (List W) = λ i. (i, restored_path (terms f s t) p i) in
+      let both : ℕ → ℕ × List (List W) = λ i. (i, restored_path (params f s t) p i) in
       record {
         as_many = sym (length-map queries.paths.items shown_path) ∙ ap length shown ∙ length-map p.indices both;
         each = λ k h.
@@ -57,13 +57,13 @@ module _ {T W : Type 0} (eq : T → T → Bool) (same : W → W → Bool) (f : F
             ∙ get_or-map both p.indices k 0 (0, []) h in
             ap (λ (z : ℕ × List (List W)). opening_of z.0 (slice_index_or (row_sets queries.sets.now) k []) z.1) at
             ∙ ap (λ (z : List (List (List T))). opening_of (slice_index_or p.indices k 0) (slice_index_or z k [])
-            (restored_path (terms f s t) p (slice_index_or p.indices k 0))) rows;
+            (restored_path (params f s t) p (slice_index_or p.indices k 0))) rows;
       }
 
   -- so the queries can be compared where the opening is accepted
   pub comparable : (cap : List (List W)) (p : PrunedOpening T W) (queries : RestoredQueries T (List W)) →
-      IsEquality eq → IsEquality same → CanCheck s t → pruned_refusal_under eq same (terms f s t) cap p ≡ None →
-      row_sets queries.sets.now ≡ p.rows → shown_paths queries.paths.items ≡ restored_paths (terms f s t) p →
+      IsEquality eq → IsEquality same → CanCheck s t → pruned_refusal_under eq same (params f s t) cap p ≡ None →
+      row_sets queries.sets.now ≡ p.rows → shown_paths queries.paths.items ≡ restored_paths (params f s t) p →
       CanCompare s t queries
   comparable cap p queries dec dec_w w none rows shown =
       let accepted = (pruned_accepted eq same f s t cap p dec dec_w w.arity).0
@@ -97,7 +97,7 @@ module _ {T W : Type 0} (eq : T → T → Bool) (same : W → W → Bool) (f : F
       ∙ ap (λ (m : ℕ). first_pair d (length p.indices) m) are_2.as_many
       ∙ pairs_alike d (pair_difference p r) (length p.indices) (length r.indices) (λ a b h g.
       ap (λ (z : Opening T W). query_difference eq same f s t z (query_in second b)) (are.each a h)
-      ∙ ap (λ (z : Opening T W). query_difference eq same f s t (opening_at (terms f s t) p a) z) (are_2.each b g)
+      ∙ ap (λ (z : Opening T W). query_difference eq same f s t (opening_at (params f s t) p a) z) (are_2.each b g)
       ∙ pair_difference_is p r a b)
 
 -- ---- answers
@@ -110,7 +110,7 @@ pub found_in_both : {T W : Type 0} (eq : T → T → Bool) (same : W → W → B
     ShowsPair found (first_pair (λ a b. query_difference eq same f s t (query_in first a) (query_in second b))
     (length first.paths.items) (length second.paths.items)) →
     ShowsPair found
-    (first_pair (λ a b. difference_of eq same (terms f s t) (opening_at (terms f s t) p a)
-    (opening_at (terms f s t) r b)) (length p.indices) (length r.indices))
+    (first_pair (λ a b. difference_of eq same (params f s t) (opening_at (params f s t) p a)
+    (opening_at (params f s t) r b)) (length p.indices) (length r.indices))
 found_in_both eq same f s t p r first second found are are_2 shown =
     subst (ShowsPair found) (differ_alike eq same f s t p r first second are are_2) shown

@@ -4,7 +4,7 @@ use Rattle.std.proofs.Common.{IsErrAnd, None, Some, Ok, Err, Option, Result}
 use Rattle.std.specs.Option.{option_or}
 use Rattle.std.proofs.lemmas.List.{length-replicate}
 use Rattle.p3_support.specs.Shown.{row_sets}
-use Rattle.p3_merkle_core.specs.Checks.{terms}
+use Rattle.p3_merkle_core.specs.Checks.{params}
 use Rattle.p3_merkle_core.specs.Geometry.{Shape}
 use Rattle.p3_merkle_core.specs.Inner.Agreement.{opened_with}
 use Rattle.p3_merkle_core.specs.Nodes.{Functions}
@@ -57,11 +57,11 @@ pub refused_by_form : {T W V : Type 0} (row_eq : T → T → Bool) (digest_eq : 
     (s : Shape) (t : ℕ) (roots : List (List W)) (opening : BorrowedOpening T (List W)) (r : Result V MerkleTreeError)
     (e : MerkleTreeError) → IsErrAnd r (λ x. x ≡ e) → (e ≡ OutOfMemory) ⊎
     (pruned_refusal row_eq s t (counted opening) ≡ Some e) →
-    AnswersUnlessMemory r (pruned_refusal_under row_eq digest_eq (terms f s t) roots (whole opening))
+    AnswersUnlessMemory r (pruned_refusal_under row_eq digest_eq (params f s t) roots (whole opening))
 refused_by_form row_eq digest_eq f s t roots opening r e is a =
-    handed_on r e (pruned_refusal_under row_eq digest_eq (terms f s t) roots (whole opening)) is
+    handed_on r e (pruned_refusal_under row_eq digest_eq (params f s t) roots (whole opening)) is
     (first_refuses e (pruned_refusal row_eq s t (whole opening))
-    (cap_refusal digest_eq (terms f s t) roots (whole opening))
+    (cap_refusal digest_eq (params f s t) roots (whole opening))
     (rw (form_counts row_eq s t opening) at a))
 
 -- where the form is right, the refusal is that of the cap
@@ -69,11 +69,11 @@ pub refusal_of_cap : {T W : Type 0} (row_eq : T → T → Bool) (digest_eq : W �
     (t : ℕ) (roots : List (List W)) (opening : BorrowedOpening T (List W)) (restorable : Restorable T (List W)) →
     tree_of restorable ≡ s → restorable.cap_layer ≡ t → restorable.opening ≡ opening →
     pruned_refusal row_eq s t (counted opening) ≡ None →
-    cap_refusal digest_eq (terms f (tree_of restorable) restorable.cap_layer) roots (opened_by restorable)
-    ≡ pruned_refusal_under row_eq digest_eq (terms f s t) roots (whole opening)
+    cap_refusal digest_eq (params f (tree_of restorable) restorable.cap_layer) roots (opened_by restorable)
+    ≡ pruned_refusal_under row_eq digest_eq (params f s t) roots (whole opening)
 refusal_of_cap row_eq digest_eq f s t roots opening restorable tree layer is none =
-    (λ i. cap_refusal digest_eq (terms f (tree i) (layer i)) roots (whole (is i)))
-    ∙ ap (λ (z : Option MerkleTreeError). option_or z (cap_refusal digest_eq (terms f s t) roots (whole opening)))
+    (λ i. cap_refusal digest_eq (params f (tree i) (layer i)) roots (whole (is i)))
+    ∙ ap (λ (z : Option MerkleTreeError). option_or z (cap_refusal digest_eq (params f s t) roots (whole opening)))
     (sym none ∙ form_counts row_eq s t opening)
 
 pub refused_by_cap : {T W V : Type 0} (row_eq : T → T → Bool) (digest_eq : W → W → Bool) (f : Functions T W)
@@ -81,9 +81,9 @@ pub refused_by_cap : {T W V : Type 0} (row_eq : T → T → Bool) (digest_eq : W
     (restorable : Restorable T (List W)) (r : Result V MerkleTreeError) (e : MerkleTreeError) →
     tree_of restorable ≡ s → restorable.cap_layer ≡ t → restorable.opening ≡ opening →
     pruned_refusal row_eq s t (counted opening) ≡ None → IsErrAnd r (λ x. x ≡ e) → (e ≡ OutOfMemory) ⊎
-    (cap_refusal digest_eq (terms f (tree_of restorable) restorable.cap_layer) roots (opened_by restorable) ≡ Some e) →
-    AnswersUnlessMemory r (pruned_refusal_under row_eq digest_eq (terms f s t) roots (whole opening))
+    (cap_refusal digest_eq (params f (tree_of restorable) restorable.cap_layer) roots (opened_by restorable) ≡ Some e) →
+    AnswersUnlessMemory r (pruned_refusal_under row_eq digest_eq (params f s t) roots (whole opening))
 refused_by_cap row_eq digest_eq f s t roots opening restorable r e tree layer is none err a =
-    handed_on r e (pruned_refusal_under row_eq digest_eq (terms f s t) roots (whole opening)) err
+    handed_on r e (pruned_refusal_under row_eq digest_eq (params f s t) roots (whole opening)) err
     (subst (λ (z : Option MerkleTreeError). (e ≡ OutOfMemory) ⊎ (z ≡ Some e))
     (refusal_of_cap row_eq digest_eq f s t roots opening restorable tree layer is none) a)

@@ -14,7 +14,7 @@ use Rattle.p3_merkle_core.specs.Inner.Covered.{covered_at}
 use Rattle.p3_merkle_core.proofs.Covered.CoveredFacts.{covered_listed, listed_covered}
 use Rattle.p3_merkle_core.proofs.Lists.RisingFacts.{is_listed}
 use Rattle.p3_merkle_core.specs.Refusals.{is_entry}
-use Rattle.p3_merkle_core.specs.Checks.{terms}
+use Rattle.p3_merkle_core.specs.Checks.{params}
 
 listed_pass : (q : ℕ → Bool) (xs : List ℕ) (j : ℕ) → list_all q xs ≡ true → is_listed xs j ≡ true → q j ≡ true
 listed_pass q [] j a b = absurd (true≢false (sym b))
@@ -69,11 +69,11 @@ all_beside q value (j ∷ nodes) = ap (λ b. q (j, value j) && b) (all_beside q 
 pub cap_settled : {T W : Type 0} (digest_eq : W → W → Bool) (f : Functions T W) (s : Shape) (t : ℕ)
     (cap : List (List W)) (p : PrunedOpening T W) → CanQuery s p.indices t →
     (nodes : List ℕ) (digests : List (List W)) (answer : Bool) →
-    nodes ≡ covered_at s p.indices t → digests ≡ map (restored_node (terms f s t) p t) (covered_at s p.indices t) →
+    nodes ≡ covered_at s p.indices t → digests ≡ map (restored_node (params f s t) p t) (covered_at s p.indices t) →
     answer ≡ list_all (λ (node, digest). is_entry (pointwise digest_eq) cap node digest) (zip nodes digests) →
-    cap_refusal digest_eq (terms f s t) cap p ≡ unless answer CapMismatch
+    cap_refusal digest_eq (params f s t) cap p ≡ unless answer CapMismatch
 cap_settled digest_eq f s t cap p w nodes digests answer is_nodes is_digests e =
-    let value = restored_node (terms f s t) p t in
+    let value = restored_node (params f s t) p t in
     let q = λ (j : ℕ). is_entry (pointwise digest_eq) cap j (value j) in
     let all : answer ≡ list_all (λ i. q (ancestor s t i)) p.indices = e
     ∙ rw (is_nodes, is_digests) (all_beside (λ (node, digest). is_entry (pointwise digest_eq) cap node digest) value

@@ -8,7 +8,7 @@ use Rattle.p3_merkle_core.specs.Extraction.{last_difference}
 use Rattle.p3_merkle_core.specs.Geometry.{Shape, ancestor}
 use Rattle.p3_merkle_core.specs.Nodes.{Functions}
 use Rattle.p3_merkle_core.specs.Openings.{Opening}
-use Rattle.p3_merkle_core.specs.Checks.{Input, inputs_at, meeting_level, shared_inputs, terms, leaf_input}
+use Rattle.p3_merkle_core.specs.Checks.{Input, inputs_at, meeting_level, shared_inputs, params, leaf_input}
 use Rattle.p3_merkle_core.specs.Refusals.{unless}
 use Rattle.p3_merkle_core.proofs.Checks.Binding.{pieces_long}
 use Rattle.p3_merkle_core.proofs.Collisions.Extraction.{anc_same, level_lengths}
@@ -85,7 +85,7 @@ so_far_long f s i j l o u =
 
 -- below the cap it is all that is shared
 so_far_all : {T W : Type 0} (f : Functions T W) (s : Shape) (i j t : ℕ) (o : Opening T W) → so_far f s i j o t
-    ≡ shared_inputs (terms f s t) i j o
+    ≡ shared_inputs (params f s t) i j o
 so_far_all f s i j t o =
     let g = λ (k : ℕ). cond (meets s i j k) (inputs_at f s o k) [] in
     let m = meeting_level s t i j in
@@ -152,8 +152,8 @@ difference_so_far test f s o u (suc l) =
 pub difference_shared : {T W : Type 0} (test : Input T W → Input T W → Bool) (f : Functions T W) (s : Shape)
     (o u : Opening T W) (t : ℕ) →
     difference_below test f s o u t
-    ≡ last_difference test (shared_inputs (terms f s t) o.index u.index o)
-    (shared_inputs (terms f s t) o.index u.index u)
+    ≡ last_difference test (shared_inputs (params f s t) o.index u.index o)
+    (shared_inputs (params f s t) o.index u.index u)
 difference_shared test f s o u t = difference_so_far test f s o u t
     ∙ rw (so_far_all f s o.index u.index t o, so_far_all f s o.index u.index t u) refl
 

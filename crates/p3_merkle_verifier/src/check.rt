@@ -8,7 +8,7 @@ ghost use Rattle.p3_merkle_core.specs.Pruning.{pruned_of};
 ghost use Rattle.p3_merkle_core.specs.Refusals.{pruned_refusal_under, AnswersUnlessMemory};
 ghost use Rattle.p3_merkle_core.specs.declared.error.MerkleTreeError.TheVariants.{OutOfMemory};
 ghost use Rattle.p3_merkle_verifier.specs.Inner.Paths.{CanCheck};
-ghost use Rattle.p3_merkle_core.specs.Checks.{terms};
+ghost use Rattle.p3_merkle_core.specs.Checks.{params};
 
 use crate::level::Checker;
 use crate::restorable::BorrowedOpening;
@@ -58,7 +58,7 @@ pub fn check_pruned_opening<
     ensures { let f = functions_of (H.hash checker.now.hash.now) (C.compression checker.now.compress.now)
         (replicate D PW.default_value) in
         let p = pruned_of opening.entry.indices.now (row_sets opening.entry.sets.now) opening.entry.sent.now in
-        let c = terms f (shape_of N commitment.now.dimensions.now) commitment.now.cap_layer in
+        let c = params f (shape_of N commitment.now.dimensions.now) commitment.now.cap_layer in
         AnswersUnlessMemory result (pruned_refusal_under P.Value.eq PW.Value.eq c commitment.now.roots.now p) }
 {
     let Commitment {

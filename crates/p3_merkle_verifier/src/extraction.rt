@@ -2,7 +2,7 @@
 
 ghost use Rattle.std.specs.Prelude.{IfOk, replicate};
 ghost use Rattle.std.specs.Option.{option_or};
-ghost use Rattle.p3_merkle_core.specs.Checks.{terms};
+ghost use Rattle.p3_merkle_core.specs.Checks.{params};
 ghost use Rattle.p3_merkle_core.specs.Extraction.{difference_of};
 ghost use Rattle.p3_merkle_core.specs.Refusals.{refusal_under, AnswersUnlessMemory};
 ghost use Rattle.p3_merkle_core.specs.Geometry.{shape_of};
@@ -52,12 +52,12 @@ impl<
         requires { CanCheck (shape_of N dimensions.now) cap_layer }
         ensures answer { let f = functions_of (H.hash self.now.hash.now) (C.compression self.now.compress.now)
             (replicate D PW.default_value) in
-            let refusal = refusal_under PW.Value.eq (terms f (shape_of N dimensions.now) cap_layer) roots.now in
+            let refusal = refusal_under PW.Value.eq (params f (shape_of N dimensions.now) cap_layer) roots.now in
             AnswersUnlessMemory result
             (option_or (refusal (opening_in first.entry)) (refusal (opening_in second.entry))) }
         ensures found { let f = functions_of (H.hash self.now.hash.now) (C.compression self.now.compress.now)
             (replicate D PW.default_value) in
-            let c = terms f (shape_of N dimensions.now) cap_layer in
+            let c = params f (shape_of N dimensions.now) cap_layer in
             let difference = difference_of P.Value.eq PW.Value.eq c (opening_in first.entry)
             (opening_in second.entry) in
             IfOk result (λ found. Shows found difference) }

@@ -122,7 +122,7 @@ pub(crate) fn leaf<
 }
 
 /// Tells that an opening with its siblings up to the cap has those of each level below it. It does nothing at run time.
-pub(crate) fn tell_siblings<X>(
+pub(crate) fn lemma_siblings<X>(
     dimensions: &[Dimensions],
     arity: usize,
     cap_layer: usize,
@@ -135,7 +135,7 @@ pub(crate) fn tell_siblings<X>(
 {}
 
 /// Tells that an opening with the siblings of a level has those of the level's step. It does nothing at run time.
-fn tell_step<X>(
+fn lemma_step<X>(
     steps: &Steps<'_>,
     level: usize,
     step: usize,
@@ -195,7 +195,7 @@ impl<
             has_rows,
             exponent,
         } = steps.up(N, level, progress.exponent);
-        tell_step(
+        lemma_step(
             steps,
             level,
             step,

@@ -53,7 +53,7 @@ pub struct OpeningPair<'a, T, X, const N: usize> {
 
 impl<'a, T, X, const N: usize> OpeningPair<'a, T, X, N> {
     /// Tells that both openings have the siblings of each level below the cap. It does nothing at run time.
-    pub(crate) fn tell_siblings(&self, level: usize)
+    pub(crate) fn lemma_siblings(&self, level: usize)
         requires { level < self.now.cap_layer }
         ensures first { CanClimb (shape_of N self.now.dimensions.now) level (length self.now.first.siblings.now) }
         ensures second { CanClimb (shape_of N self.now.dimensions.now) level (length self.now.second.siblings.now) }

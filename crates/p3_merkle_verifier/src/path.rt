@@ -4,13 +4,13 @@ ghost use Rattle.std.specs.Prelude.{◌≡◌, ◌==◌, false, length, replicat
 ghost use Rattle.std.specs.Option.{option_map};
 ghost use Rattle.p3_merkle_core.specs.Geometry.{ancestor, shape_of};
 ghost use Rattle.p3_merkle_core.specs.Nodes.{functions_of};
-ghost use Rattle.p3_merkle_core.specs.Checks.{path_digest, terms};
+ghost use Rattle.p3_merkle_core.specs.Checks.{path_digest, params};
 ghost use Rattle.p3_merkle_core.specs.Refusals.{answer_under, is_entry as is_entry_of};
 ghost use Rattle.p3_merkle_verifier.specs.Inner.Checks.{opening_in};
 ghost use Rattle.p3_merkle_verifier.specs.Inner.Paths.{CanCheck, CanReach};
 
 use crate::form::check_form;
-use crate::level::{Checker, leaf, tell_siblings};
+use crate::level::{Checker, leaf, lemma_siblings};
 use crate::openings::IndexedOpening;
 use p3_merkle_core::error::MerkleTreeError;
 use p3_merkle_core::steps::Steps;
@@ -45,7 +45,7 @@ impl<
     {
         let mut progress = leaf::<P, PW, H, D>(self.hash, steps, opening);
         for level in 0..cap_layer {
-            tell_siblings(steps.dimensions, N, cap_layer, level, opening.siblings);
+            lemma_siblings(steps.dimensions, N, cap_layer, level, opening.siblings);
             progress = self.checked_level(steps, level, opening, &progress).above;
         }
         (progress.digest, progress.node)
@@ -72,7 +72,7 @@ impl<
         requires check { CanCheck (shape_of N steps.now.dimensions.now) cap_layer }
         ensures { let f = functions_of (H.hash self.now.hash.now) (C.compression self.now.compress.now)
             (replicate D PW.default_value) in
-            result ≡ answer_under PW.Value.eq (terms f (shape_of N steps.now.dimensions.now) cap_layer) roots.now
+            result ≡ answer_under PW.Value.eq (params f (shape_of N steps.now.dimensions.now) cap_layer) roots.now
             (opening_in opening.entry) }
     {
         let (index, num_siblings) = (opening.index, opening.siblings.len());

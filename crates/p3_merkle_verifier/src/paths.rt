@@ -10,7 +10,7 @@ ghost use Rattle.p3_merkle_core.specs.Refusals.{pruned_refusal, pruned_refusal_u
 ghost use Rattle.p3_merkle_core.specs.declared.error.MerkleTreeError.TheVariants.{OutOfMemory};
 ghost use Rattle.p3_merkle_verifier.specs.Inner.Paths.{CanCheck};
 ghost use Rattle.p3_merkle_verifier.specs.Inner.RestoredLevels.{opened_by, tree_of, AreKept};
-ghost use Rattle.p3_merkle_core.specs.Checks.{terms};
+ghost use Rattle.p3_merkle_core.specs.Checks.{params};
 
 use crate::check::Commitment;
 use crate::covered::NextLevel;
@@ -56,7 +56,7 @@ pub fn restored_paths_of<
     ensures paths { let f = functions_of (H.hash checker.now.hash.now) (C.compression checker.now.compress.now)
         (replicate D PW.default_value) in
         let p = pruned_of opening.entry.indices.now (row_sets opening.entry.sets.now) opening.entry.sent.now in
-        let c = terms f (shape_of N dimensions.now) cap_layer in
+        let c = params f (shape_of N dimensions.now) cap_layer in
         IfOk result (λ paths. shown_paths paths.items ≡ restored_paths c p) }
 {
     let indices = opening.indices;
@@ -87,12 +87,12 @@ pub(crate) fn checked_paths_of<
     requires { CanCheck (shape_of N commitment.now.dimensions.now) commitment.now.cap_layer }
     ensures answer { let f = functions_of (H.hash checker.now.hash.now) (C.compression checker.now.compress.now)
         (replicate D PW.default_value) in
-        let c = terms f (shape_of N commitment.now.dimensions.now) commitment.now.cap_layer in
+        let c = params f (shape_of N commitment.now.dimensions.now) commitment.now.cap_layer in
         let p = pruned_of opening.entry.indices.now (row_sets opening.entry.sets.now) opening.entry.sent.now in
         AnswersUnlessMemory result (pruned_refusal_under P.Value.eq PW.Value.eq c commitment.now.roots.now p) }
     ensures paths { let f = functions_of (H.hash checker.now.hash.now) (C.compression checker.now.compress.now)
         (replicate D PW.default_value) in
-        let c = terms f (shape_of N commitment.now.dimensions.now) commitment.now.cap_layer in
+        let c = params f (shape_of N commitment.now.dimensions.now) commitment.now.cap_layer in
         let p = pruned_of opening.entry.indices.now (row_sets opening.entry.sets.now) opening.entry.sent.now in
         IfOk result (λ paths. shown_paths paths.items ≡ restored_paths c p) }
 {

@@ -2,7 +2,7 @@
 
 ghost use Rattle.std.specs.Prelude.{◌≡◌, ◌<◌, IfOk, length, replicate};
 ghost use Rattle.std.specs.Option.{option_or};
-ghost use Rattle.p3_merkle_core.specs.Checks.{terms};
+ghost use Rattle.p3_merkle_core.specs.Checks.{params};
 ghost use Rattle.p3_merkle_core.specs.Extraction.{difference_of, first_pair};
 ghost use Rattle.p3_merkle_core.specs.Geometry.{shape_of};
 ghost use Rattle.p3_merkle_core.specs.Nodes.{functions_of};
@@ -164,7 +164,7 @@ fn checked_queries<
     requires { CanCheck (shape_of N commitment.now.dimensions.now) commitment.now.cap_layer }
     ensures answer { let f = functions_of (H.hash checker.now.hash.now) (C.compression checker.now.compress.now)
         (replicate D PW.default_value) in
-        let c = terms f (shape_of N commitment.now.dimensions.now) commitment.now.cap_layer in
+        let c = params f (shape_of N commitment.now.dimensions.now) commitment.now.cap_layer in
         let p = pruned_in opening.entry in
         AnswersUnlessMemory result (pruned_refusal_under P.Value.eq PW.Value.eq c commitment.now.roots.now p) }
     ensures comparable { let s = shape_of N commitment.now.dimensions.now in
@@ -208,12 +208,12 @@ pub fn extraction<
     requires { CanCheck (shape_of N commitment.now.dimensions.now) commitment.now.cap_layer }
     ensures answer { let f = functions_of (H.hash checker.now.hash.now) (C.compression checker.now.compress.now)
         (replicate D PW.default_value) in
-        let c = terms f (shape_of N commitment.now.dimensions.now) commitment.now.cap_layer in
+        let c = params f (shape_of N commitment.now.dimensions.now) commitment.now.cap_layer in
         let refusal = pruned_refusal_under P.Value.eq PW.Value.eq c commitment.now.roots.now in
         AnswersUnlessMemory result (option_or (refusal (pruned_in first.entry)) (refusal (pruned_in second.entry))) }
     ensures found { let f = functions_of (H.hash checker.now.hash.now) (C.compression checker.now.compress.now)
         (replicate D PW.default_value) in
-        let c = terms f (shape_of N commitment.now.dimensions.now) commitment.now.cap_layer in
+        let c = params f (shape_of N commitment.now.dimensions.now) commitment.now.cap_layer in
         let p = pruned_in first.entry in
         let r = pruned_in second.entry in
         let difference = first_pair

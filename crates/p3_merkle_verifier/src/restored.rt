@@ -2,7 +2,7 @@
 //! were sent, and their comparison with a cap.
 
 ghost use Rattle.std.specs.Prelude.{◌≡◌, ◌<◌, ◌≤◌, ◌⊎◌, suc, IfOk, IsTrue, MatchResult, None, Some, length, replicate};
-ghost use Rattle.p3_merkle_core.specs.Checks.{terms};
+ghost use Rattle.p3_merkle_core.specs.Checks.{params};
 ghost use Rattle.p3_merkle_core.specs.Nodes.{functions_of};
 ghost use Rattle.p3_merkle_core.specs.Refusals.{cap_refusal, AnswersUnlessMemory};
 ghost use Rattle.p3_merkle_core.specs.declared.error.MerkleTreeError.TheVariants.{OutOfMemory};
@@ -169,7 +169,7 @@ pub(crate) fn checked_levels<
     ensures answer { let f = functions_of (H.hash checker.now.hash.now) (C.compression checker.now.compress.now)
         (replicate D PW.default_value) in
         let restorable = start.entry.restorable in
-        let refusal = cap_refusal PW.Value.eq (terms f (tree_of restorable) restorable.cap_layer) roots.now
+        let refusal = cap_refusal PW.Value.eq (params f (tree_of restorable) restorable.cap_layer) roots.now
         (opened_by restorable) in
         AnswersUnlessMemory result refusal }
     ensures kept { let f = functions_of (H.hash checker.now.hash.now) (C.compression checker.now.compress.now)

@@ -5,7 +5,7 @@ ghost use Rattle.std.specs.List.{range_with_len};
 ghost use Rattle.p3_support.specs.Batches.{heights_of};
 ghost use Rattle.p3_support.specs.Shown.{row_sets};
 ghost use Rattle.p3_merkle_core.specs.Checks.{words_of_exponent};
-ghost use Rattle.p3_merkle_lanes.specs.Inner.Slots.{rows_over};
+ghost use Rattle.p3_merkle_digests.specs.Inner.Slots.{rows_over};
 ghost use Rattle.p3_merkle_verifier.specs.Inner.NodeDigests.{query_digest};
 ghost use Rattle.p3_merkle_verifier.specs.Inner.OpenedMatrices.{row_in};
 
@@ -13,7 +13,7 @@ use crate::covered::Covered;
 use crate::opened_matrix::OpenedMatrix;
 use crate::restorable::Restorable;
 use p3_merkle_core::geometry::exponent_of;
-use p3_merkle_lanes::rows::LayerRows;
+use p3_merkle_digests::rows::LayerRows;
 use p3_support::hasher::CryptographicHasher;
 use p3_support::packed::PackedValue;
 use std::alloc::{AllocError, Global};

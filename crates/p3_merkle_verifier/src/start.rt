@@ -49,7 +49,7 @@ fn leaves_of(steps: &Steps<'_>, indices: &[usize], queried: DistinctIndices) -> 
 }
 
 /// Tells what is known of a pruned opening that is not refused, whatever the cap. It does nothing at run time.
-fn tell_restorable<P: PackedValue, X>(
+fn lemma_restorable<P: PackedValue, X>(
     steps: &Steps<'_>,
     cap_layer: usize,
     opening: BorrowedOpening<'_, P::Value, X>,
@@ -99,7 +99,7 @@ pub(crate) fn start_of<'a, P: PackedValue, X>(
         sent,
     } = opening;
     let queried = steps.check_pruned(alloc, cap_layer, indices, sets, sent.len())?;
-    tell_restorable::<P, X>(&steps, cap_layer, opening);
+    lemma_restorable::<P, X>(&steps, cap_layer, opening);
     let leaves = leaves_of(&steps, indices, queried);
     let restorable = Restorable {
         steps,

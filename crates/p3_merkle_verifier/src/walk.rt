@@ -1,7 +1,7 @@
 //! Walking the checks of two openings side by side, to the last place at which they differ.
 
 ghost use Rattle.std.specs.Prelude.{◌≡◌, IfOk, replicate};
-ghost use Rattle.p3_merkle_core.specs.Checks.{terms};
+ghost use Rattle.p3_merkle_core.specs.Checks.{params};
 ghost use Rattle.p3_merkle_core.specs.Extraction.{difference_of, input_eq};
 ghost use Rattle.p3_merkle_core.specs.Geometry.{layer_exponent, shape_of};
 ghost use Rattle.p3_merkle_core.specs.Nodes.{functions_of};
@@ -79,7 +79,7 @@ impl<
     ) -> Result<Option<Collision<P::Value, PW::Value, D>>, AllocError>
         ensures { let f = functions_of (H.hash self.now.hash.now) (C.compression self.now.compress.now)
             (replicate D PW.default_value) in
-            let c = terms f (shape_of N openings.now.dimensions.now) openings.now.cap_layer in
+            let c = params f (shape_of N openings.now.dimensions.now) openings.now.cap_layer in
             let difference = difference_of P.Value.eq PW.Value.eq c (opening_in openings.now.first)
             (opening_in openings.now.second) in
             IfOk result (λ found. Shows found difference) }
@@ -89,7 +89,7 @@ impl<
         let mut second = leaf::<P, PW, H, D>(self.hash, &steps, openings.second);
         let mut last = leaf_difference(alloc, openings, steps.exponent)?;
         for level in 0..openings.cap_layer {
-            openings.tell_siblings(level);
+            openings.lemma_siblings(level);
             let mine = self.checked_level(&steps, level, openings.first, &first);
             let theirs = self.checked_level(&steps, level, openings.second, &second);
             let found = level_difference(alloc, openings, &mine, &theirs)?;

@@ -128,16 +128,16 @@ impl PackedValue for u8 {
 }
 
 /// Tells that a row has `D` elements. It does nothing at run time.
-pub fn tell_row<T, const D: usize>(row: &[T; D])
+pub fn lemma_row<T, const D: usize>(row: &[T; D])
     ensures { length row.now ≡ D }
 {}
 
 /// Tells that each row of a slice has `D` elements. It does nothing else.
-pub fn tell_rows<T, const D: usize>(rows: &[[T; D]])
+pub fn lemma_rows<T, const D: usize>(rows: &[[T; D]])
     ensures { (k : ℕ) → k < length rows.now → length (slice_index_or rows.now k []) ≡ D }
 {
     for k in 0..rows.len() {
-        tell_row(&rows[k]);
+        lemma_row(&rows[k]);
     }
 }
 
@@ -160,7 +160,7 @@ pub fn unpack_into<PW: PackedValue, const D: usize>(packed: &[PW; D], rows: &mut
     ensures { rows.new
         ≡ map (λ k. lane_of PW.lanes PW.default_value k packed.now) (range_with_len 0 PW.WIDTH) }
 {
-    tell_rows(rows);
+    lemma_rows(rows);
     // The lanes are the inner loop: their number is a constant, so no lane's place is looked up.
     for (e, value) in packed.iter().enumerate() {
         put_lanes(*value, e, rows);

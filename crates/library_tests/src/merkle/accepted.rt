@@ -7,7 +7,7 @@ ghost use Rattle.p3_merkle_core.specs.Views.{heights_in};
 ghost use Rattle.p3_merkle_core.specs.declared.error.MerkleTreeError.TheVariants.{OutOfMemory};
 ghost use Rattle.p3_support.specs.Batches.{greatest};
 
-use p3_instances::fold::{FoldCompress, FoldHash};
+use p3_hashes::fold::{FoldCompress, FoldHash};
 use p3_merkle_tree::{
     BatchOpening, BatchOpeningRef, MerkleTreeError, MerkleTreeMmcs, PrunedBatchOpening,
     check_indices, laws,

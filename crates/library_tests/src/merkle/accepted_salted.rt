@@ -3,19 +3,18 @@
 ghost use Rattle.std.specs.Prelude.{◌≡◌, IfErr, IfOk, map};
 ghost use Rattle.p3_merkle_core.specs.Commitments.{IsCommitment};
 ghost use Rattle.p3_merkle_core.specs.declared.error.MerkleTreeError.TheVariants.{OutOfMemory};
-ghost use Rattle.p3_merkle_hiding.specs.HidingSchemes.{salted_terms_of};
+ghost use Rattle.p3_merkle_hiding.specs.HidingSchemes.{salted_params_of};
 ghost use Rattle.p3_merkle_hiding.specs.SaltedTrees.{HaveSaltColumns};
-ghost use Rattle.p3_merkle_tree.specs.Parts.{layers_of, matrices_of, tree_batch};
+ghost use Rattle.p3_merkle_prover.specs.Parts.{layers_of, matrices_of, tree_batch};
 ghost use Rattle.p3_support.specs.Batches.{dimensions_in};
 ghost use Rattle.p3_support.specs.Pairs.{left_of};
 ghost use Rattle.p3_support.specs.Shown.{roots_of};
 
 use crate::merkle::accepted::Judged;
-use p3_instances::fold::{FoldCompress, FoldHash};
-use p3_merkle_hiding::MerkleTreeHidingMmcs;
-use p3_merkle_hiding::hiding_mmcs::{SaltedMultiProof, SaltedProof, SaltedTree};
+use p3_hashes::fold::{FoldCompress, FoldHash};
 use p3_merkle_tree::{
-    BatchOpening, BatchOpeningRef, MerkleCap, MerkleTreeError, check_indices, laws,
+    BatchOpening, BatchOpeningRef, MerkleCap, MerkleTreeError, MerkleTreeHidingMmcs,
+    SaltedMultiProof, SaltedProof, SaltedTree, check_indices, laws,
 };
 use p3_support::compress::PseudoCompressionFunction;
 use p3_support::hasher::CryptographicHasher;
@@ -61,7 +60,7 @@ fn committed<
 where
     P::Value: SaltWord,
     ensures commitment { IfOk result (λ (cap, tree, dimensions).
-        IsCommitment (salted_terms_of H.hash C.compression D scheme.new dimensions.items) (roots_of cap)
+        IsCommitment (salted_params_of H.hash C.compression D scheme.new dimensions.items) (roots_of cap)
         (tree_batch tree) (layers_of tree)) }
     ensures columns { IfOk result (λ (cap, tree, dimensions). HaveSaltColumns SALT_ELEMS (matrices_of tree)) }
     ensures dimensions { IfOk result (λ (cap, tree, dimensions).
@@ -96,7 +95,7 @@ fn judged_index<
     dimensions: &[Dimensions],
     index: usize,
 ) -> Result<Judged<BatchOpening<P::Value, SaltedProof<P::Value, PW::Value, D>>>, MerkleTreeError>
-    requires commitment { let c = salted_terms_of H.hash C.compression D scheme.now dimensions.now in
+    requires commitment { let c = salted_params_of H.hash C.compression D scheme.now dimensions.now in
         IsCommitment c (roots_of cap.now) (tree_batch tree.now) (layers_of tree.now) }
     requires columns { HaveSaltColumns SALT_ELEMS (matrices_of tree.now) }
     requires dimensions { dimensions.now ≡ dimensions_in M.height_of M.width_of (map left_of (matrices_of tree.now)) }
@@ -165,7 +164,7 @@ fn judged_indices<
     dimensions: &[Dimensions],
     indices: &[usize],
 ) -> Result<Judged<MultiOpening<P::Value, PW::Value, D>>, MerkleTreeError>
-    requires commitment { let c = salted_terms_of H.hash C.compression D scheme.now dimensions.now in
+    requires commitment { let c = salted_params_of H.hash C.compression D scheme.now dimensions.now in
         IsCommitment c (roots_of cap.now) (tree_batch tree.now) (layers_of tree.now) }
     requires columns { HaveSaltColumns SALT_ELEMS (matrices_of tree.now) }
     requires dimensions { dimensions.now ≡ dimensions_in M.height_of M.width_of (map left_of (matrices_of tree.now)) }

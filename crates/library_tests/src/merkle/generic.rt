@@ -1,8 +1,8 @@
 //! Generic code over the bounds of a scheme, called at packings of one and two lanes and at digests of two words.
 
 use crate::merkle::calls::accepted_cap;
-use p3_instances::fold::{FoldCompress, FoldHash};
-use p3_instances::lanes::Lanes;
+use p3_hashes::fold::{FoldCompress, FoldHash};
+use p3_hashes::lanes::Lanes;
 use p3_merkle_tree::{CapRule, MerkleCap, MerkleTreeError, MerkleTreeMmcs};
 use std::alloc::{AllocError, Global};
 use std::process::Abort;

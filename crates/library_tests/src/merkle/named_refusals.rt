@@ -13,9 +13,10 @@ ghost use Rattle.p3_support.specs.RowMajor.{row_count, row_width};
 ghost use Rattle.p3_support.specs.Shown.{row_lists};
 
 use crate::reasons::{Rejection, Unfit};
-use p3_instances::fold::{FoldCompress, FoldHash};
-use p3_merkle_hiding::{MerkleTreeHidingMmcs, SaltedTree};
-use p3_merkle_tree::{MerkleCap, MerkleTreeError, MerkleTreeMmcs};
+use p3_hashes::fold::{FoldCompress, FoldHash};
+use p3_merkle_tree::{
+    MerkleCap, MerkleTreeError, MerkleTreeHidingMmcs, MerkleTreeMmcs, SaltedTree,
+};
 use p3_support::matrix::{Dimensions, Matrix, RowMajorMatrix};
 use p3_support::mmcs::Mmcs;
 use p3_support::opening::BatchOpeningRef;

@@ -4,8 +4,8 @@ ghost use Rattle.std.specs.Prelude.{◌≡◌, ℕ, ◌<◌, ◌≤◌, map};
 ghost use Rattle.p3_support.specs.Lists.{lane_of};
 
 use crate::merkle::noting::Call::{Group, GroupLanes, Groups, Row, RowLanes, Rows};
-use p3_instances::fold::{FoldCompress, FoldHash, FoldLane};
-use p3_instances::lanes::U32x8;
+use p3_hashes::fold::{FoldCompress, FoldHash, FoldLane};
+use p3_hashes::lanes::U32x8;
 use p3_merkle_tree::{MerkleTree, MerkleTreeError};
 use p3_support::compress::PseudoCompressionFunction;
 use p3_support::hasher::CryptographicHasher;

@@ -5,9 +5,8 @@ ghost use Rattle.p3_support.specs.Batches.{dimensions_in, greatest, heights_of};
 ghost use Rattle.p3_support.specs.RowMajor.{row_count, row_width};
 ghost use Rattle.p3_support.specs.Shown.{row_lists, row_sets};
 
-use p3_instances::fold::{FoldCompress, FoldHash};
-use p3_merkle_hiding::MerkleTreeHidingMmcs;
-use p3_merkle_tree::MerkleTreeMmcs;
+use p3_hashes::fold::{FoldCompress, FoldHash};
+use p3_merkle_tree::{MerkleTreeHidingMmcs, MerkleTreeMmcs};
 use p3_support::matrix::{Dimensions, Matrix, RowMajorMatrix};
 use p3_support::mmcs::Mmcs;
 use p3_support::opening::BatchOpeningRef;

@@ -5,7 +5,7 @@ ghost use Rattle.p3_support.specs.Pairs.{left_of};
 ghost use Rattle.p3_support.specs.RowMajor.{row_count};
 
 use crate::support::{assert_size, assert_words};
-use p3_instances::fold::FoldHash;
+use p3_hashes::fold::FoldHash;
 use p3_support::hasher::CryptographicHasher;
 use p3_support::matrix::{Matrix, RowMajorMatrix};
 use p3_support::pair::HorizontalPair;

@@ -4,11 +4,11 @@ ghost use Rattle.p3_support.specs.Lists.{lane_of};
 ghost use Rattle.p3_support.specs.RowMajor.{row_count, row_width};
 
 use crate::support::{assert_size, assert_words};
-use p3_instances::batched::Batched3;
-use p3_instances::fold::{FoldCompress, FoldHash};
-use p3_instances::lanes::{Lanes, U32x8};
-use p3_instances::sha::{Sha256Nodes, Sha256Rows};
-use p3_instances::sha_eights::{Sha256NodesInEights, Sha256RowsInEights};
+use p3_hashes::batched::Batched3;
+use p3_hashes::fold::{FoldCompress, FoldHash};
+use p3_hashes::lanes::{Lanes, U32x8};
+use p3_hashes::sha::{Sha256Nodes, Sha256Rows};
+use p3_hashes::sha_eights::{Sha256NodesInEights, Sha256RowsInEights};
 use p3_support::compress::PseudoCompressionFunction;
 use p3_support::hasher::CryptographicHasher;
 use p3_support::matrix::{Matrix, RowMajorMatrix};

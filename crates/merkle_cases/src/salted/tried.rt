@@ -7,9 +7,9 @@ use crate::salted::Salted;
 use crate::scheme::{FoldCap, Rows};
 use crate::text::Answer;
 use crate::tried::{FoldCollision, Tried};
-use p3_merkle_core::pruning::PrunedProof;
-use p3_merkle_hiding::hiding_mmcs::{SaltedMultiProof, SaltedProof, SaltedTree};
-use p3_merkle_tree::{BatchOpeningRef, MerkleTreeError};
+use p3_merkle_tree::{
+    BatchOpeningRef, MerkleTreeError, PrunedProof, SaltedMultiProof, SaltedProof, SaltedTree,
+};
 use p3_support::matrix::Dimensions;
 use rand_core::CryptoRng;
 use std::alloc::Global;

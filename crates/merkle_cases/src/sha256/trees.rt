@@ -10,8 +10,8 @@ use crate::reader::Reader;
 use crate::scheme::Cap;
 use crate::sha256::{Digest, byte_at};
 use crate::sweep::{Counts, Plan};
-use p3_instances::sha::{Sha256Nodes, Sha256Rows};
-use p3_instances::sha_eights::{Sha256NodesInEights, Sha256RowsInEights};
+use p3_hashes::sha::{Sha256Nodes, Sha256Rows};
+use p3_hashes::sha_eights::{Sha256NodesInEights, Sha256RowsInEights};
 use p3_merkle_tree::{
     BatchOpeningRef, MerkleAuthPath, MerkleCap, MerkleTreeError, MerkleTreeMmcs, PrunedMerklePaths,
 };

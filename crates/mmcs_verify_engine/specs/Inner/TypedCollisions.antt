@@ -2,7 +2,7 @@
 use Rattle.std.specs.Prelude.{ℕ, Bool, List, [], ◌∷◌, ◌++◌, codes, map, slice_index, Option, None, Some}
 use Rattle.std.specs.Option.{option_or}
 use Rattle.p3_support.specs.Shown.{row_sets}
-use Rattle.p3_merkle_core.specs.Checks.{input_digest, Input, Terms}
+use Rattle.p3_merkle_core.specs.Checks.{input_digest, Input, Params}
 use Rattle.p3_merkle_core.specs.Extraction.{first_difference}
 use Rattle.p3_merkle_core.specs.Nodes.{Functions}
 use Rattle.p3_merkle_core.specs.Presented.{presented_pruned, Presented}
@@ -17,7 +17,7 @@ use Rattle.mmcs_verify_engine.specs.Collisions.{hashed_words, index_lines, place
 abbrev pub opening_read : {T : Type 0} → Opening T (List T) → PrunedOpening T T
 opening_read o = pruned_of o.indices.items (row_sets o.rows.items) o.digests.items
 
-module _ {T : Type 0} (eq : T → T → Bool) (c : Terms T T) (p : Pair T (List T)) where
+module _ {T : Type 0} (eq : T → T → Bool) (c : Params T T) (p : Pair T (List T)) where
   -- two openings that were read, as they are taken
   abbrev pub first_read : Presented T T
   first_read = presented_pruned eq eq c p.cap.items (opening_read p.first)

@@ -9,7 +9,7 @@ use Rattle.p3_merkle_core.specs.Geometry.{ancestor, raw_len, layer_len, padded_l
 use Rattle.p3_support.specs.Batches.{greatest, heights_of, widths_of}
 use Rattle.p3_merkle_core.specs.Nodes.{Functions, Batch, Matrix, shape, node, layer, dimensions_of, HasFullRows}
 use Rattle.p3_merkle_core.specs.Openings.{honest}
-use Rattle.p3_merkle_core.specs.Checks.{IsAccepted, terms}
+use Rattle.p3_merkle_core.specs.Checks.{IsAccepted, params}
 use Rattle.p3_merkle_core.proofs.Shapes.LadderFacts.{row_below}
 use Rattle.p3_merkle_core.proofs.Shapes.RawFacts.{anc_below}
 use Rattle.p3_merkle_core.proofs.Checks.Completeness.{IsHonest, honest_reaches, honest_count}
@@ -33,7 +33,7 @@ lengths_are row (m ∷ ms) e low =
     ) refl
 
 pub honest_accepted : {T W : Type 0} (f : Functions T W) (b : Batch T) (t i : ℕ) → IsHonest b t i → HasFullRows b →
-    IsAccepted (terms f (shape b) t) (layer f b t) (honest f b t i)
+    IsAccepted (params f (shape b) t) (layer f b t) (honest f b t i)
 honest_accepted f b t i w widths =
     let s = shape b in
     let j = ancestor s t i in

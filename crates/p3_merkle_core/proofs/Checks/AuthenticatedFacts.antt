@@ -8,7 +8,7 @@ use Rattle.p3_merkle_core.specs.Geometry.{halved_index}
 use Rattle.p3_support.specs.Batches.{greatest}
 use Rattle.p3_merkle_core.specs.Nodes.{Functions}
 use Rattle.p3_merkle_core.specs.Openings.{Opening}
-use Rattle.p3_merkle_core.specs.Checks.{AgreeWhereShared, IsAccepted, is_authenticated, layer_rows, opened_row, terms}
+use Rattle.p3_merkle_core.specs.Checks.{AgreeWhereShared, IsAccepted, is_authenticated, layer_rows, opened_row, params}
 use Rattle.p3_merkle_core.proofs.Shapes.LeastFacts.{least_bound}
 use Rattle.p3_merkle_core.proofs.Shapes.ShapeFacts.{widths_in_pairs}
 use Rattle.p3_merkle_core.proofs.Shapes.LadderFacts.{layer_of_is, row_is_anc}
@@ -19,7 +19,7 @@ use Rattle.p3_merkle_core.proofs.Checks.SameIndex.{same_at_one_index}
 
 -- an accepted opening has a row for each matrix
 rows_in_pairs : {T W : Type 0} (f : Functions T W) (s : Shape) (t : ℕ) (cap : List (List W)) (o : Opening T W) →
-    IsAccepted (terms f s t) cap o → length o.rows ≡ length (heights s)
+    IsAccepted (params f s t) cap o → length o.rows ≡ length (heights s)
 rows_in_pairs f s t cap o a = sym (length-map o.rows length) ∙ ap length a.rows_fit ∙ widths_in_pairs s
 
 -- rows of a layer that agree, matrix by matrix
@@ -33,8 +33,8 @@ row_alike s o u k w a b inside e =
     kept_same x (heights s) o.rows u.rows a b e k inside (eq-eqb (exponent h) x (sym (layer_of_is s w k inside)))
 
 pub authenticated_bound : {T W : Type 0} (f : Functions T W) (s : Shape) (t : ℕ) (cap : List (List W))
-    (o u : Opening T W) → IsArity s.arity → IsAccepted (terms f s t) cap o → IsAccepted (terms f s t) cap u →
-    AgreeWhereShared (terms f s t) o u →
+    (o u : Opening T W) → IsArity s.arity → IsAccepted (params f s t) cap o → IsAccepted (params f s t) cap u →
+    AgreeWhereShared (params f s t) o u →
     (k : ℕ) → k < length (heights s) → IsTrue (is_authenticated s t k) →
     halved_index (greatest (heights s)) (get_or (heights s) k 0) o.index
     ≡ halved_index (greatest (heights s)) (get_or (heights s) k 0) u.index → opened_row o k ≡ opened_row u k
@@ -58,9 +58,9 @@ layer_authenticated s t l k low here =
     le-leb (layer_of s h) t (omega arith)
 
 pub authenticated_at_one_index : {T W : Type 0} (f : Functions T W) (s : Shape) (t : ℕ) (cap : List (List W))
-    (o u : Opening T W) → IsArity s.arity → IsAccepted (terms f s t) cap o → IsAccepted (terms f s t) cap u → o.index
+    (o u : Opening T W) → IsArity s.arity → IsAccepted (params f s t) cap o → IsAccepted (params f s t) cap u → o.index
     ≡ u.index →
-    AgreeWhereShared (terms f s t) o u ↔ ((o.siblings ≡ u.siblings) ×
+    AgreeWhereShared (params f s t) o u ↔ ((o.siblings ≡ u.siblings) ×
     ((k : ℕ) → k < length (heights s) → IsTrue (is_authenticated s t k) → opened_row o k ≡ opened_row u k))
 authenticated_at_one_index f s t cap o u w a b same =
     let layers = same_at_one_index f s t cap o u w a b same in

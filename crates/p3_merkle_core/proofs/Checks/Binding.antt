@@ -9,7 +9,7 @@ use Rattle.p3_merkle_core.specs.Geometry.{Shape, exponent, layer_exponent, ances
 use Rattle.p3_merkle_core.specs.Nodes.{Functions}
 use Rattle.p3_merkle_core.specs.Openings.{Opening}
 use Rattle.p3_merkle_core.specs.Checks.{IsAccepted, inputs_at, shared_inputs, meeting_level, layer_words, layer_rows}
-use Rattle.p3_merkle_core.specs.Checks.{terms}
+use Rattle.p3_merkle_core.specs.Checks.{params}
 use Rattle.p3_merkle_core.specs.declared.collision.Place.TheVariants.{Leaf, Rows}
 use Rattle.p3_merkle_core.proofs.Shapes.LeastFacts.{least_bound}
 use Rattle.p3_merkle_core.proofs.Shapes.StepFacts.{anc_start}
@@ -104,7 +104,7 @@ level_rows {T} {W} f s o u l long e =
 
 -- the inputs of level l agree, where both checks share it
 pub level_shared : {T W : Type 0} (f : Functions T W) (s : Shape) (t : ℕ) (o u : Opening T W) →
-    shared_inputs (terms f s t) o.index u.index o ≡ shared_inputs (terms f s t) o.index u.index u →
+    shared_inputs (params f s t) o.index u.index o ≡ shared_inputs (params f s t) o.index u.index u →
     (l : ℕ) → l < t → ancestor s (suc l) o.index ≡ ancestor s (suc l) u.index → inputs_at f s o l ≡ inputs_at f s u l
 level_shared f s t o u e l h same =
     elim (cases_eq o.index u.index) [
@@ -128,8 +128,8 @@ level_shared f s t o u e l h same =
 -- where all shared inputs agree, so do the rows of each matrix up to the cap layer, wherever both indices have one row
 -- of it
 pub rows_bound : {T W : Type 0} (f : Functions T W) (s : Shape) (t : ℕ) (cap : List (List W)) (o u : Opening T W) →
-    IsAccepted (terms f s t) cap o → IsAccepted (terms f s t) cap u →
-    shared_inputs (terms f s t) o.index u.index o ≡ shared_inputs (terms f s t) o.index u.index u → (l : ℕ) → l ≤ t →
+    IsAccepted (params f s t) cap o → IsAccepted (params f s t) cap u →
+    shared_inputs (params f s t) o.index u.index o ≡ shared_inputs (params f s t) o.index u.index u → (l : ℕ) → l ≤ t →
     ancestor s l o.index ≡ ancestor s l u.index → layer_rows s o.rows l ≡ layer_rows s u.rows l
 rows_bound {T} {W} f s t cap o u a b e zero h same =
     let z : o.index ≡ u.index = sym (anc_start s o.index) ∙ same ∙ anc_start s u.index in

@@ -8,7 +8,7 @@ use Rattle.p3_support.specs.Batches.{greatest}
 use Rattle.p3_merkle_core.specs.Nodes.{Functions, pair, padded}
 use Rattle.p3_merkle_core.specs.Openings.{Opening}
 use Rattle.p3_merkle_core.specs.Checks.{Input, IsAccepted, check_digest, group_at, input_digest, inputs, inputs_at}
-use Rattle.p3_merkle_core.specs.Checks.{last_input, last_of, layer_words, path_digest, siblings_below, terms}
+use Rattle.p3_merkle_core.specs.Checks.{last_input, last_of, layer_words, path_digest, siblings_below, params}
 use Rattle.p3_merkle_core.specs.Checks.{leaf_input, words_at, digests_at, Content, Words, Digests}
 use Rattle.p3_merkle_core.proofs.Lists.ListFacts.{joined_more}
 use Rattle.p3_merkle_core.proofs.Checks.Completeness.{reached_next, reached_leaf}
@@ -58,11 +58,11 @@ inputs_alone f s o l e = rw e refl
 
 -- the last input, after which no other stands, has the digest that the walk reaches
 last_reached : {T W : Type 0} (f : Functions T W) (s : Shape) (t : ℕ) (o : Opening T W) →
-    (before : List (Input T W)) × (x : Input T W) × (inputs (terms f s t) o ≡ before ++ x ∷ []) ×
+    (before : List (Input T W)) × (x : Input T W) × (inputs (params f s t) o ≡ before ++ x ∷ []) ×
     (input_digest f x ≡ path_digest f s o t)
 last_reached f s zero o = ([], leaf_input s o, refl, sym (reached_leaf f s o))
 last_reached f s (suc t) o =
-    let below = inputs (terms f s t) o in
+    let below = inputs (params f s t) o in
     let words = layer_words s o.rows (suc t) in
     let group = full_group f s o t in
     let last = pair f s.arity (f.compression group) (f.hash words) in
@@ -89,7 +89,7 @@ last_after x y [] = refl
 last_after x y (z ∷ xs) = last_after z y xs
 
 pub last_is : {T W : Type 0} (f : Functions T W) (s : Shape) (t : ℕ) (o : Opening T W) → (before : List (Input T W)) ×
-    (inputs (terms f s t) o ≡ before ++ last_input (terms f s t) o ∷ [])
+    (inputs (params f s t) o ≡ before ++ last_input (params f s t) o ∷ [])
 last_is f s t o =
     let r = last_reached f s t o in
     let e = ap (λ xs. last_of (leaf_input s o) xs) (r.2) ∙ last_after (leaf_input s o) (r.1) (r.0) in
@@ -97,7 +97,7 @@ last_is f s t o =
 
 -- the walk reaches the digest in which the check ends
 pub walk_reaches : {T W : Type 0} (f : Functions T W) (s : Shape) (t : ℕ) (o : Opening T W) → path_digest f s o t
-    ≡ check_digest (terms f s t) o
+    ≡ check_digest (params f s t) o
 walk_reaches f s t o =
     let r = last_reached f s t o in
     let e = ap (λ xs. last_of (leaf_input s o) xs) (r.2) ∙ last_after (leaf_input s o) (r.1) (r.0) in
@@ -107,14 +107,14 @@ walk_reaches f s t o =
 
 -- the cap's entry is what the walk of an accepted opening reaches
 pub accepted_walk : {T W : Type 0} (f : Functions T W) (s : Shape) (t : ℕ) (cap : List (List W)) (o : Opening T W) →
-    IsAccepted (terms f s t) cap o → slice_get cap (ancestor s t o.index) ≡ Some (path_digest f s o t)
+    IsAccepted (params f s t) cap o → slice_get cap (ancestor s t o.index) ≡ Some (path_digest f s o t)
 accepted_walk f s t cap o a = a.authentic ∙ ap (λ d. Some d) (sym (walk_reaches f s t o))
 
 -- and where it is, and the rest fits, the opening is accepted
 pub accepted_by_walk : {T W : Type 0} (f : Functions T W) (s : Shape) (t : ℕ) (cap : List (List W)) (o : Opening T W) →
     IsLawful (heights s) → map length o.rows ≡ widths s → length o.siblings ≡ siblings_below s t →
     o.index < greatest (heights s) →
-    slice_get cap (ancestor s t o.index) ≡ Some (path_digest f s o t) → IsAccepted (terms f s t) cap o
+    slice_get cap (ancestor s t o.index) ≡ Some (path_digest f s o t) → IsAccepted (params f s t) cap o
 accepted_by_walk f s t cap o lawful rows_fit count in_range entry =
     record {
       lawful = lawful;

@@ -10,7 +10,7 @@ use Rattle.p3_merkle_core.specs.Nodes.{Functions, pair, padded}
 use Rattle.p3_merkle_core.specs.Openings.{Opening}
 use Rattle.p3_merkle_core.specs.Checks.{HasDigests, inputs, inputs_at, group_at, path_digest, siblings_at}
 use Rattle.p3_merkle_core.specs.Checks.{siblings_below, layer_words, IsLastDifference, shared_inputs, meeting_level}
-use Rattle.p3_merkle_core.specs.Checks.{terms, leaf_input, words_at, digests_at}
+use Rattle.p3_merkle_core.specs.Checks.{params, leaf_input, words_at, digests_at}
 use Rattle.p3_merkle_core.proofs.Shapes.StepFacts.{step_above_1}
 use Rattle.p3_merkle_core.proofs.Collisions.Extraction.{siblings_full, in_group}
 use Rattle.p3_merkle_core.proofs.Lists.ListFacts.{joined, joined_more}
@@ -47,7 +47,7 @@ level_full f s t o l w e h =
     ]
 
 pub inputs_full : {T W : Type 0} (f : Functions T W) (s : Shape) (t : ℕ) (o : Opening T W) → IsArity s.arity →
-    length o.siblings ≡ siblings_below s t → All (HasDigests s.arity) (inputs (terms f s t) o)
+    length o.siblings ≡ siblings_below s t → All (HasDigests s.arity) (inputs (params f s t) o)
 inputs_full f s t o w e = All-cons (HasDigests s.arity) ((leaf_input s o)) (joined (inputs_at f s o) t) tt
     (levels_full f s t o w e t (omega arith))
   where
@@ -61,7 +61,7 @@ inputs_full f s t o w e = All-cons (HasDigests s.arity) ((leaf_input s o)) (join
 
 -- so have those that two checks share
 pub shared_full : {T W : Type 0} (f : Functions T W) (s : Shape) (t i j : ℕ) (o : Opening T W) → IsArity s.arity →
-    length o.siblings ≡ siblings_below s t → All (HasDigests s.arity) (shared_inputs (terms f s t) i j o)
+    length o.siblings ≡ siblings_below s t → All (HasDigests s.arity) (shared_inputs (params f s t) i j o)
 shared_full f s t i j o w e =
     let m = meeting_level s t i j in
     elim (cases_Bool (eqb i j)) [

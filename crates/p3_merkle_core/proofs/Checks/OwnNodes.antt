@@ -18,7 +18,7 @@ use Rattle.p3_merkle_core.proofs.Lists.ListFacts.{joined_more}
 use Rattle.p3_merkle_core.proofs.Covered.Restoration.{honest_paths}
 use Rattle.p3_merkle_core.specs.Openings.{siblings_by, node_in, level_siblings, opening_in_layers, opening_of, honest}
 use Rattle.p3_merkle_core.specs.Openings.{honest_rows}
-use Rattle.p3_merkle_core.specs.Checks.{terms}
+use Rattle.p3_merkle_core.specs.Checks.{params}
 
 -- a tree's layers have its nodes
 pub own_node_is : {T W : Type 0} (f : Functions T W) (b : Batch T) (l j : ℕ) → l ≤ levels (shape b) →
@@ -104,9 +104,9 @@ map_each g h (x ∷ xs) e = rw (e 0 (omega arith), map_each g h xs (λ k l. e (s
 -- an honest pruned opening restores one honest path a query, in order
 pub honest_restored_paths : {T W : Type 0} (f : Functions T W) (b : Batch T) (t : ℕ) (indices : List ℕ) →
     IsHonestQuery b t indices →
-    restored_paths (terms f (shape b) t) (honest_query f b t indices)
+    restored_paths (params f (shape b) t) (honest_query f b t indices)
     ≡ map (λ i. (i, siblings_by (node f b) (shape b) t i)) indices
 honest_restored_paths f b t indices w =
-    map_each (λ i. (i, restored_path (terms f (shape b) t) (honest_query f b t indices) i))
+    map_each (λ i. (i, restored_path (params f (shape b) t) (honest_query f b t indices) i))
     (λ i. (i, siblings_by (node f b) (shape b) t i)) indices
     (λ k h. ap (λ path. (get_or indices k 0, path)) (honest_paths f b t indices w k h))

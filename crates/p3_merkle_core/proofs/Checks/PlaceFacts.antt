@@ -5,7 +5,7 @@ use Rattle.p3_merkle_core.specs.Geometry.{Shape, has_rows}
 use Rattle.p3_merkle_core.specs.Nodes.{Functions}
 use Rattle.p3_merkle_core.specs.Openings.{Opening}
 use Rattle.p3_merkle_core.specs.Checks.{Input, IsAtOnePlace, IsLastDifference, IsLastShared, inputs, inputs_at}
-use Rattle.p3_merkle_core.specs.Checks.{meeting_level, terms}
+use Rattle.p3_merkle_core.specs.Checks.{meeting_level, params}
 use Rattle.p3_merkle_core.proofs.Checks.CheckFacts.{inputs_with_rows, inputs_alone}
 use Rattle.p3_merkle_core.proofs.Lists.ListFacts.{joined, joined_more}
 
@@ -51,14 +51,14 @@ alike_last (p ∷ xs) (q ∷ ys) x y a (inr d) = rw (← d.1, ← d.2) a.0
 
 -- the last inputs that two checks share and that differ stand at one place
 pub at_one_place : {T W : Type 0} (f : Functions T W) (s : Shape) (t : ℕ) (o u : Opening T W) (x y : Input T W) →
-    IsLastShared (terms f s t) o u x y → IsAtOnePlace x y
+    IsLastShared (params f s t) o u x y → IsAtOnePlace x y
 unfolding AreAlike
 at_one_place f s t o u x y d =
     let m = meeting_level s t o.index u.index in
     elim (cases_eq o.index u.index) [
       | inl e ↦
           let test = eq-eqb o.index u.index e in
-          alike_last (inputs (terms f s t) o) (inputs (terms f s t) u) x y
+          alike_last (inputs (params f s t) o) (inputs (params f s t) u) x y
           (refl, alike_joined (inputs_at f s o) (inputs_at f s u) t (level_alike f s o u)) (rw test at d)
       | inr ne ↦
           let test = ne_eqb o.index u.index ne in

@@ -9,7 +9,7 @@ use Rattle.p3_merkle_core.specs.Geometry.{Shape, IsArity, step, ancestor, positi
 use Rattle.p3_merkle_core.specs.Nodes.{Functions}
 use Rattle.p3_merkle_core.specs.Openings.{Opening}
 use Rattle.p3_merkle_core.specs.Checks.{IsAccepted, inputs, inputs_at, shared_inputs, group_at, path_digest}
-use Rattle.p3_merkle_core.specs.Checks.{layer_words, layer_rows, siblings_at, siblings_below, terms}
+use Rattle.p3_merkle_core.specs.Checks.{layer_words, layer_rows, siblings_at, siblings_below, params}
 use Rattle.p3_merkle_core.specs.declared.collision.Place.TheVariants.{Group}
 use Rattle.p3_merkle_core.proofs.Checks.CheckFacts.{same_digests, inputs_with_rows, inputs_alone, full_group}
 use Rattle.p3_merkle_core.proofs.Checks.Completeness.{reached_leaf, reached_next}
@@ -96,9 +96,9 @@ level_same f s t o u same sent rows l h =
 -- ---- both ways
 
 pub same_at_one_index : {T W : Type 0} (f : Functions T W) (s : Shape) (t : ℕ) (cap : List (List W))
-    (o u : Opening T W) → IsArity s.arity → IsAccepted (terms f s t) cap o → IsAccepted (terms f s t) cap u → o.index
+    (o u : Opening T W) → IsArity s.arity → IsAccepted (params f s t) cap o → IsAccepted (params f s t) cap u → o.index
     ≡ u.index →
-    (shared_inputs (terms f s t) o.index u.index o ≡ shared_inputs (terms f s t) o.index u.index u) ↔
+    (shared_inputs (params f s t) o.index u.index o ≡ shared_inputs (params f s t) o.index u.index u) ↔
     ((o.siblings ≡ u.siblings) × ((l : ℕ) → l ≤ t → layer_rows s o.rows l ≡ layer_rows s u.rows l))
 same_at_one_index f s t cap o u w a b same = (
   λ e. (
@@ -113,6 +113,6 @@ same_at_one_index f s t cap o u w a b same = (
       let test = eq-eqb o.index u.index same in
       let leaf = words_same s o.rows u.rows 0 (rows 0 (omega arith)) in
       let rest = joined_same (inputs_at f s o) (inputs_at f s u) t (λ l h. level_same f s t o u same sent rows l h) in
-      let all : inputs (terms f s t) o ≡ inputs (terms f s t) u = rw (leaf, rest) refl in
+      let all : inputs (params f s t) o ≡ inputs (params f s t) u = rw (leaf, rest) refl in
       rw test all,
 )

@@ -13,7 +13,7 @@ use Rattle.p3_merkle_core.specs.Geometry.{Shape, IsArity, ancestor, heights, wid
 use Rattle.p3_merkle_core.specs.Gate.{gate_refusal}
 use Rattle.p3_merkle_core.specs.Nodes.{Functions}
 use Rattle.p3_merkle_core.specs.Openings.{Opening}
-use Rattle.p3_merkle_core.specs.Checks.{IsAccepted, siblings_below, path_digest, terms}
+use Rattle.p3_merkle_core.specs.Checks.{IsAccepted, siblings_below, path_digest, params}
 use Rattle.p3_merkle_core.specs.Pruning.{PrunedOpening, restored_node, IsCapped, IsPrunedAccepted, IsRestorable}
 use Rattle.p3_merkle_core.specs.Refusals.{first_some, unless, is_entry, size_refusal, sibling_count_refusal}
 use Rattle.p3_merkle_core.specs.Refusals.{row_width_refusal, refusal_under, answer_under, pruned_refusal, cap_refusal}
@@ -101,46 +101,46 @@ form_none s t index rows siblings w =
 
 pub accepted_from : {T W : Type 0} (digest_eq : W → W → Bool) (f : Functions T W) (s : Shape) (t : ℕ)
     (cap : List (List W)) (o : Opening T W) → ((x y : W) → Decides (digest_eq x y) (x ≡ y)) →
-    answer_under digest_eq (terms f s t) cap o ≡ Ok tt → IsAccepted (terms f s t) cap o
+    answer_under digest_eq (params f s t) cap o ≡ Ok tt → IsAccepted (params f s t) cap o
 accepted_from digest_eq f s t cap o dec e =
     let digest = path_digest f s o t in
     let entry = is_entry (pointwise digest_eq) cap (ancestor s t o.index) digest in
     let both = none_parts (form_refusal s t o.index o.rows (length o.siblings)) (unless entry CapMismatch)
-    (verdict_ok (refusal_under digest_eq (terms f s t) cap o) e) in
+    (verdict_ok (refusal_under digest_eq (params f s t) cap o) e) in
     let form = form_from s t o.index o.rows (length o.siblings) both.0 in
     accepted_by_walk f s t cap o form.lawful form.rows_fit form.count form.in_range
     ((entry_is digest_eq dec cap (ancestor s t o.index) digest).0 (unless_none entry CapMismatch both.1))
 
 pub accepted_answer : {T W : Type 0} (digest_eq : W → W → Bool) (f : Functions T W) (s : Shape) (t : ℕ)
     (cap : List (List W)) (o : Opening T W) → ((x y : W) → Decides (digest_eq x y) (x ≡ y)) →
-    IsAccepted (terms f s t) cap o → answer_under digest_eq (terms f s t) cap o ≡ Ok tt
+    IsAccepted (params f s t) cap o → answer_under digest_eq (params f s t) cap o ≡ Ok tt
 accepted_answer digest_eq f s t cap o dec w =
     let digest = path_digest f s o t in
     let form = form_none s t o.index o.rows (length o.siblings)
     (record { lawful = w.lawful; rows_fit = w.rows_fit; count = w.count; in_range = w.in_range }) in
     let entry = none_unless (is_entry (pointwise digest_eq) cap (ancestor s t o.index) digest) CapMismatch
     ((entry_is digest_eq dec cap (ancestor s t o.index) digest).1 (accepted_walk f s t cap o w)) in
-    let none : refusal_under digest_eq (terms f s t) cap o ≡ None = rw (form, entry) refl in
+    let none : refusal_under digest_eq (params f s t) cap o ≡ None = rw (form, entry) refl in
     ap (λ refusal. ok_unless refusal (tt {0})) none
 
 -- ---- pruned openings
 
 cap_fits : {T W : Type 0} (digest_eq : W → W → Bool) (f : Functions T W) (s : Shape) (t : ℕ) (cap : List (List W))
     (p : PrunedOpening T W) → ((x y : W) → Decides (digest_eq x y) (x ≡ y)) → length p.rows ≡ length p.indices →
-    (cap_refusal digest_eq (terms f s t) cap p ≡ None) ↔ IsCapped (terms f s t) cap p
+    (cap_refusal digest_eq (params f s t) cap p ≡ None) ↔ IsCapped (params f s t) cap p
 cap_fits digest_eq f s t cap p dec paired =
     let test : ℕ →
     Bool = λ i. is_entry (pointwise digest_eq) cap (ancestor s t i)
-    (restored_node (terms f s t) p t (ancestor s t i)) in (
+    (restored_node (params f s t) p t (ancestor s t i)) in (
       λ e j c.
           let all = each_true test p.indices (unless_none (list_all test p.indices) CapMismatch e) in
           let u = rows_under_is s p.indices p.rows t j paired c in
           let at = u.2 in
           rw (← at) ((entry_is digest_eq dec cap (ancestor s t (get_or p.indices (u.0) 0))
-          (restored_node (terms f s t) p t (ancestor s t (get_or p.indices (u.0) 0)))).0 (all (u.0) (u.1))),
+          (restored_node (params f s t) p t (ancestor s t (get_or p.indices (u.0) 0)))).0 (all (u.0) (u.1))),
       λ capped. none_unless (list_all test p.indices) CapMismatch (true_each test p.indices (λ k h.
           let j = ancestor s t (get_or p.indices k 0) in
-          (entry_is digest_eq dec cap j (restored_node (terms f s t) p t j)).1
+          (entry_is digest_eq dec cap j (restored_node (params f s t) p t j)).1
           (capped j (query_covered s p.indices k t h)))),
     )
 
@@ -148,11 +148,11 @@ cap_fits digest_eq f s t cap p dec paired =
 pub pruned_capped : {T W : Type 0} (row_eq : T → T → Bool) (digest_eq : W → W → Bool) (f : Functions T W) (s : Shape)
     (t : ℕ) (cap : List (List W)) (p : PrunedOpening T W) →
     ((x y : T) → Decides (row_eq x y) (x ≡ y)) → ((x y : W) → Decides (digest_eq x y) (x ≡ y)) →
-    (pruned_answer_under row_eq digest_eq (terms f s t) cap p ≡ Ok tt) ↔ (IsRestorable s t p ×
-    IsCapped (terms f s t) cap p)
+    (pruned_answer_under row_eq digest_eq (params f s t) cap p ≡ Ok tt) ↔ (IsRestorable s t p ×
+    IsCapped (params f s t) cap p)
 pruned_capped row_eq digest_eq f s t cap p dec dec_w =
     let first = pruned_refusal row_eq s t p in
-    let last = cap_refusal digest_eq (terms f s t) cap p in (
+    let last = cap_refusal digest_eq (params f s t) cap p in (
       λ e.
           let both = none_parts first last (verdict_ok (option_or first last) e) in
           let r = restorable row_eq s t p dec (ap (λ refusal. ok_unless refusal (tt {0})) both.0) in
@@ -168,7 +168,7 @@ pruned_capped row_eq digest_eq f s t cap p dec dec_w =
 pub pruned_accepted : {T W : Type 0} (row_eq : T → T → Bool) (digest_eq : W → W → Bool) (f : Functions T W) (s : Shape)
     (t : ℕ) (cap : List (List W)) (p : PrunedOpening T W) →
     ((x y : T) → Decides (row_eq x y) (x ≡ y)) → ((x y : W) → Decides (digest_eq x y) (x ≡ y)) → IsArity s.arity →
-    (pruned_answer_under row_eq digest_eq (terms f s t) cap p ≡ Ok tt) ↔ IsPrunedAccepted (terms f s t) cap p
+    (pruned_answer_under row_eq digest_eq (params f s t) cap p ≡ Ok tt) ↔ IsPrunedAccepted (params f s t) cap p
 pruned_accepted row_eq digest_eq f s t cap p dec dec_w w =
     let capped = pruned_capped row_eq digest_eq f s t cap p dec dec_w in
     let alike = λ (r : IsRestorable s t p). equivalent f s t cap p w r.lawful r.below r.rows_fit r.agreed in (

@@ -11,7 +11,7 @@ use Rattle.p3_merkle_core.specs.declared.collision.Place.TheVariants.{Leaf, Grou
 use Rattle.p3_merkle_core.specs.Nodes.{Functions}
 use Rattle.p3_merkle_core.specs.Openings.{Opening}
 use Rattle.p3_merkle_core.specs.Checks.{AgreeWhereShared, Input, IsAccepted, IsLastDifference, inputs_at, shared_inputs}
-use Rattle.p3_merkle_core.specs.Checks.{meeting_level, terms, Terms, Words, Digests, HasDigests}
+use Rattle.p3_merkle_core.specs.Checks.{meeting_level, params, Params, Words, Digests, HasDigests}
 use Rattle.p3_merkle_core.specs.Refusals.{unless, IsEquality}
 use Rattle.p3_merkle_core.specs.Extraction.{difference_of, input_eq, last_difference, IsCollision, place_eq, content_eq}
 use Rattle.p3_merkle_core.proofs.Pruned.NoneFacts.{none_parts, unless_none, none_unless, none_of_both}
@@ -126,7 +126,7 @@ differs (x ∷ xs) (y ∷ ys) a b (inr d) = d.3
 -- ---- extraction
 
 pub shared_long : {T W : Type 0} (f : Functions T W) (s : Shape) (t : ℕ) (o u : Opening T W) →
-    length (shared_inputs (terms f s t) o.index u.index o) ≡ length (shared_inputs (terms f s t) o.index u.index u)
+    length (shared_inputs (params f s t) o.index u.index o) ≡ length (shared_inputs (params f s t) o.index u.index u)
 shared_long f s t o u =
     let m = meeting_level s t o.index u.index in
     elim (cases_eq o.index u.index) [
@@ -142,7 +142,7 @@ shared_long f s t o u =
     ]
 
 -- two checks have no difference exactly where they agree wherever they share a place
-pub no_difference : {T W : Type 0} (row_eq : T → T → Bool) (digest_eq : W → W → Bool) (c : Terms T W)
+pub no_difference : {T W : Type 0} (row_eq : T → T → Bool) (digest_eq : W → W → Bool) (c : Params T W)
     (o u : Opening T W) → IsEquality row_eq → IsEquality digest_eq →
     (difference_of row_eq digest_eq c o u ≡ None) ↔ AgreeWhereShared c o u
 no_difference row_eq digest_eq c o u dec dec_w =
@@ -151,7 +151,7 @@ no_difference row_eq digest_eq c o u dec dec_w =
     (shared_long c.functions c.shape c.layer o u)
 
 -- and of two accepted openings it is a collision
-pub difference_collides : {T W : Type 0} (row_eq : T → T → Bool) (digest_eq : W → W → Bool) (c : Terms T W)
+pub difference_collides : {T W : Type 0} (row_eq : T → T → Bool) (digest_eq : W → W → Bool) (c : Params T W)
     (cap : List (List W)) (o u : Opening T W) → IsEquality row_eq → IsEquality digest_eq → IsArity c.shape.arity →
     IsAccepted c cap o → IsAccepted c cap u → (found : Input T W × Input T W) → difference_of row_eq digest_eq c o u
     ≡ Some found → IsCollision c o u found

@@ -9,7 +9,7 @@ use Rattle.p3_merkle_core.specs.Nodes.{Functions, pair}
 use Rattle.p3_merkle_core.specs.Openings.{Opening}
 use Rattle.p3_merkle_core.specs.Checks.{Input, input_digest, inputs_at, group_at, path_digest, siblings_at}
 use Rattle.p3_merkle_core.specs.Checks.{siblings_below, IsLastDifference, shared_inputs, meeting_level, IsAccepted}
-use Rattle.p3_merkle_core.specs.Checks.{terms, digests_at, layer_words}
+use Rattle.p3_merkle_core.specs.Checks.{params, digests_at, layer_words}
 use Rattle.p3_merkle_core.proofs.Shapes.LeastFacts.{least_passes}
 use Rattle.p3_merkle_core.proofs.Shapes.StepFacts.{anc_next, step_above_1}
 use Rattle.p3_merkle_core.proofs.Checks.Completeness.{reached_next, reached_leaf}
@@ -194,8 +194,8 @@ first_piece g h n e same =
 -- two accepted openings of one cap, and the last difference of what their checks share: one digest
 pub collides : {T W : Type 0} (f : Functions T W) (s : Shape) (t : ℕ) (cap : List (List W)) (o u : Opening T W) →
     IsArity s.arity →
-    IsAccepted (terms f s t) cap o → IsAccepted (terms f s t) cap u → (x y : Input T W) →
-    IsLastDifference (shared_inputs (terms f s t) o.index u.index o) (shared_inputs (terms f s t) o.index u.index u) x
+    IsAccepted (params f s t) cap o → IsAccepted (params f s t) cap u → (x y : Input T W) →
+    IsLastDifference (shared_inputs (params f s t) o.index u.index o) (shared_inputs (params f s t) o.index u.index u) x
     y → input_digest f x ≡ input_digest f y
 collides f s t cap o u w a b x y d =
     let m = meeting_level s t o.index u.index in

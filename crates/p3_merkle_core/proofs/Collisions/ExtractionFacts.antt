@@ -8,7 +8,7 @@ use Rattle.std.proofs.lemmas.List.{ext_get_or, length-map}
 use Rattle.p3_merkle_core.specs.Caps.{cap_layer}
 use Rattle.p3_merkle_core.specs.Geometry.{Shape, IsArity, heights}
 use Rattle.p3_merkle_core.specs.Openings.{Opening}
-use Rattle.p3_merkle_core.specs.Checks.{AgreeWhereShared, Input, IsAccepted, Terms, is_authenticated, shared_inputs}
+use Rattle.p3_merkle_core.specs.Checks.{AgreeWhereShared, Input, IsAccepted, Params, is_authenticated, shared_inputs}
 use Rattle.p3_merkle_core.specs.Pruning.{PrunedOpening, opening_at}
 use Rattle.p3_merkle_core.specs.Refusals.{AnswersUnlessMemory, IsEquality, ok_unless, pruned_refusal_under}
 use Rattle.p3_merkle_core.specs.Refusals.{refusal_under}
@@ -31,11 +31,11 @@ use Rattle.p3_merkle_core.proofs.Checks.Verdicts.{accepted_answer, accepted_from
 -- ---- what is presented
 
 -- nothing is refused exactly where the opening is accepted, and then so is each query
-pub record IsPresentation {T W : Type 0} (c : Terms T W) (cap : List (List W)) (p : Presented T W) : Type 0 where
+pub record IsPresentation {T W : Type 0} (c : Params T W) (cap : List (List W)) (p : Presented T W) : Type 0 where
   pub decided : (p.refusal ≡ None) ↔ p.is_accepted
   pub each : p.is_accepted → (k : ℕ) → k < p.queries → IsAccepted c cap (p.query k)
 
-pub single_presented : {T W : Type 0} (digest_eq : W → W → Bool) (c : Terms T W) (cap : List (List W))
+pub single_presented : {T W : Type 0} (digest_eq : W → W → Bool) (c : Params T W) (cap : List (List W))
     (o : Opening T W) → IsEquality digest_eq → IsPresentation c cap (presented digest_eq c cap o)
 single_presented digest_eq c cap o dec =
     record {
@@ -48,7 +48,7 @@ single_presented digest_eq c cap o dec =
       each = λ a k inside. a;
     }
 
-pub pruned_presented : {T W : Type 0} (row_eq : T → T → Bool) (digest_eq : W → W → Bool) (c : Terms T W)
+pub pruned_presented : {T W : Type 0} (row_eq : T → T → Bool) (digest_eq : W → W → Bool) (c : Params T W)
     (cap : List (List W)) (p : PrunedOpening T W) → IsEquality row_eq → IsEquality digest_eq → IsArity c.shape.arity →
     IsPresentation c cap (presented_pruned row_eq digest_eq c cap p)
 pruned_presented row_eq digest_eq c cap p dec dec_w w =
@@ -76,7 +76,7 @@ all_authenticated s rule cap_height w is k inside =
 
 -- ---- two accepted openings
 
-module _ {T W : Type 0} (c : Terms T W) (cap : List (List W)) (o u : Opening T W) (w : IsArity c.shape.arity)
+module _ {T W : Type 0} (c : Params T W) (cap : List (List W)) (o u : Opening T W) (w : IsArity c.shape.arity)
     (a : IsAccepted c cap o) (b : IsAccepted c cap u) where
   -- at one index they agree exactly where siblings and authenticated rows do
   pub alike_at_one_index : o.index ≡ u.index → AgreeWhereShared c o u ↔ RowsAgreeWhereAuthenticated c o u
@@ -107,12 +107,12 @@ module _ {T W : Type 0} (c : Terms T W) (cap : List (List W)) (o u : Opening T W
       twice.1 twice.2.one_row)
 
 -- one opening agrees with itself
-same_agree : {T W : Type 0} (c : Terms T W) (o u : Opening T W) → o ≡ u → AgreeWhereShared c o u
+same_agree : {T W : Type 0} (c : Params T W) (o u : Opening T W) → o ≡ u → AgreeWhereShared c o u
 same_agree c o u e = ap (λ z. shared_inputs c o.index u.index z) e
 
 -- ---- the answer
 
-module _ {T W : Type 0} (row_eq : T → T → Bool) (digest_eq : W → W → Bool) (rule : CapRule) (c : Terms T W)
+module _ {T W : Type 0} (row_eq : T → T → Bool) (digest_eq : W → W → Bool) (rule : CapRule) (c : Params T W)
     (cap : List (List W)) (first second : Presented T W) (dec : IsEquality row_eq) (dec_w : IsEquality digest_eq)
     (w : IsArity c.shape.arity)
     (all : rule ≡ Lowered → AllAuthenticated c.shape c.layer) (p : IsPresentation c cap first)
@@ -258,7 +258,7 @@ found_alike : {V U : Type 0} (r : Result V MerkleTreeError) (view : V → U) (an
 found_alike (Ok v) view answer a = a
 found_alike (Err e) view answer a = tt
 
-module _ {T W : Type 0} (row_eq : T → T → Bool) (digest_eq : W → W → Bool) (rule : CapRule) (c : Terms T W)
+module _ {T W : Type 0} (row_eq : T → T → Bool) (digest_eq : W → W → Bool) (rule : CapRule) (c : Params T W)
     (cap : List (List W)) where
   one_alike : (r : Result (Option (InputPair T (List W))) MerkleTreeError) (d : ℕ → ℕ →
       Option (Input T W × Input T W)) → IfOk r (λ found. option_map inputs_in found ≡ d 0 0) →

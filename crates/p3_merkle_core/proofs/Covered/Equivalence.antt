@@ -8,7 +8,7 @@ use Rattle.std.proofs.lemmas.List.Folds.{list_any_at}
 use Rattle.p3_merkle_core.specs.Geometry.{Shape, IsLawful, ancestor, heights, widths, has_rows, IsArity}
 use Rattle.p3_support.specs.Batches.{greatest}
 use Rattle.p3_merkle_core.specs.Nodes.{Functions, compress_padded, with_rows}
-use Rattle.p3_merkle_core.specs.Checks.{path_digest, layer_words, group_at, terms}
+use Rattle.p3_merkle_core.specs.Checks.{path_digest, layer_words, group_at, params}
 use Rattle.p3_merkle_core.specs.Pruning.{PrunedOpening, is_covered, restored_node, value_of, opening_at, IsAgreed}
 use Rattle.p3_merkle_core.specs.Pruning.{IsCapped, EachAccepted, first_rows}
 use Rattle.p3_merkle_core.proofs.Checks.Completeness.{reached_next, reached_leaf}
@@ -16,13 +16,13 @@ use Rattle.p3_merkle_core.proofs.Checks.PathFacts.{group_values, path_length, pa
 use Rattle.p3_merkle_core.proofs.Checks.CheckFacts.{accepted_walk, accepted_by_walk}
 
 pub restored_leaf : {T W : Type 0} (f : Functions T W) (s : Shape) (t : ℕ) (p : PrunedOpening T W) (j : ℕ) →
-    restored_node (terms f s t) p 0 j ≡ f.hash (layer_words s (first_rows (λ i. ancestor s 0 i == j) p) 0)
+    restored_node (params f s t) p 0 j ≡ f.hash (layer_words s (first_rows (λ i. ancestor s 0 i == j) p) 0)
 unfolding restored_node
 restored_leaf f s t p j = refl
 
 pub restored_next : {T W : Type 0} (f : Functions T W) (s : Shape) (t : ℕ) (p : PrunedOpening T W) (l j : ℕ) →
-    restored_node (terms f s t) p (suc l) j
-    ≡ with_rows f s.arity (has_rows s (suc l)) (compress_padded f s.arity (group_values s (value_of (terms f s t) p) l j))
+    restored_node (params f s t) p (suc l) j
+    ≡ with_rows f s.arity (has_rows s (suc l)) (compress_padded f s.arity (group_values s (value_of (params f s t) p) l j))
     (f.hash (layer_words s (first_rows (λ i. ancestor s (suc l) i == j) p) (suc l)))
 unfolding restored_node
 restored_next f s t p l j = refl
@@ -63,34 +63,34 @@ rows_agree s t p a k l h le =
 -- the check of a query with its restored path reaches the restored values above it
 pub path_reaches : {T W : Type 0} (f : Functions T W) (s : Shape) (t : ℕ) (p : PrunedOpening T W) → IsArity s.arity →
     IsAgreed s t p → (k : ℕ) → k < length p.indices → (l : ℕ) → l ≤ t →
-    path_digest f s (opening_at (terms f s t) p k) l
-    ≡ restored_node (terms f s t) p l (ancestor s l (get_or p.indices k 0))
+    path_digest f s (opening_at (params f s t) p k) l
+    ≡ restored_node (params f s t) p l (ancestor s l (get_or p.indices k 0))
 path_reaches f s t p w a k h zero le =
-    reached_leaf f s (opening_at (terms f s t) p k) ∙ ap f.hash (rows_agree s t p a k 0 h le)
+    reached_leaf f s (opening_at (params f s t) p k) ∙ ap f.hash (rows_agree s t p a k 0 h le)
     ∙ sym (restored_leaf f s t p (ancestor s 0 (get_or p.indices k 0)))
 path_reaches f s t p w a k h (suc l) le =
-    let o = opening_at (terms f s t) p k in
+    let o = opening_at (params f s t) p k in
     let i = get_or p.indices k 0 in
     let below = path_reaches f s t p w a k h l (omega arith) in
-    let value : restored_node (terms f s t) p l (ancestor s l i) ≡ value_of (terms f s t) p l (ancestor s l i) =
-    sym (cond-true (is_covered s p.indices l (ancestor s l i)) (restored_node (terms f s t) p l (ancestor s l i)) _
+    let value : restored_node (params f s t) p l (ancestor s l i) ≡ value_of (params f s t) p l (ancestor s l i) =
+    sym (cond-true (is_covered s p.indices l (ancestor s l i)) (restored_node (params f s t) p l (ancestor s l i)) _
     (query_covered s p.indices k l h)) in
     let group : group_at f s o l (path_digest f s o l)
-    ≡ group_values s (value_of (terms f s t) p) l (ancestor s (suc l) i) =
+    ≡ group_values s (value_of (params f s t) p) l (ancestor s (suc l) i) =
     ap (λ d. group_at f s o l d) (below ∙ value)
-    ∙ path_group f s w (value_of (terms f s t) p) t o refl l (omega arith) in
+    ∙ path_group f s w (value_of (params f s t) p) t o refl l (omega arith) in
     reached_next f s o l
     ∙ rw (group, rows_agree s t p a k (suc l) h le) (sym (restored_next f s t p l (ancestor s (suc l) i)))
 
 pub equivalent : {T W : Type 0} (f : Functions T W) (s : Shape) (t : ℕ) (cap : List (List W)) (p : PrunedOpening T W) →
     IsArity s.arity → IsLawful (heights s) →
     All (λ i. i < greatest (heights s)) p.indices → All (λ rows. map length rows ≡ widths s) p.rows → IsAgreed s t p →
-    IsCapped (terms f s t) cap p ↔ EachAccepted (terms f s t) cap p
+    IsCapped (params f s t) cap p ↔ EachAccepted (params f s t) cap p
 equivalent f s t cap p w lawful below fit a = (
   λ capped k h.
       let i = get_or p.indices k 0 in
-      accepted_by_walk f s t cap (opening_at (terms f s t) p k) lawful (fit k [] (let e = a.in_pairs in omega arith))
-      (path_length s w (value_of (terms f s t) p) i t) (below k 0 h)
+      accepted_by_walk f s t cap (opening_at (params f s t) p k) lawful (fit k [] (let e = a.in_pairs in omega arith))
+      (path_length s w (value_of (params f s t) p) i t) (below k 0 h)
       (capped (ancestor s t i) (query_covered s p.indices k t h)
       ∙ ap (λ d. Some d) (sym (path_reaches f s t p w a k h t (omega arith)))),
   λ each j c.
@@ -98,5 +98,5 @@ equivalent f s t cap p w lawful below fit a = (
       let x = each (u.0) (u.1) in
       let at = u.2 in
       let top = path_reaches f s t p w a (u.0) (u.1) t (omega arith) in
-      rw (← at) (accepted_walk f s t cap (opening_at (terms f s t) p (u.0)) x ∙ ap (λ d. Some d) top),
+      rw (← at) (accepted_walk f s t cap (opening_at (params f s t) p (u.0)) x ∙ ap (λ d. Some d) top),
 )

@@ -36,7 +36,7 @@ use Rattle.p3_merkle_core.proofs.Checks.PathFacts.{joined_same, piece}
 use Rattle.p3_merkle_core.proofs.Lists.RisingFacts.{listed_at, IsRising, rising_from, rising_filter, increasing_from}
 use Rattle.p3_merkle_core.proofs.Shapes.StepFacts.{anc_next}
 use Rattle.p3_merkle_core.proofs.Covered.ValueFacts.{map_children}
-use Rattle.p3_merkle_core.specs.Checks.{terms}
+use Rattle.p3_merkle_core.specs.Checks.{params}
 
 -- ---- places
 
@@ -378,10 +378,10 @@ same_paths g h (q ∷ queries) same =
 -- out of levels whose values are those of a pruned opening, the paths are the restored ones
 pub paths_restored : {T W : Type 0} (f : Functions T W) (s : Shape) (t : ℕ) (p : PrunedOpening T W) →
     CanQuery s p.indices t → (levels : List (List ℕ × ℕ × List (List W))) → levels
-    ≡ map (level_of s p.indices (value_of (terms f s t) p)) (range_with_len 0 t) →
-    paths_out_of levels p.indices ≡ restored_paths (terms f s t) p
+    ≡ map (level_of s p.indices (value_of (params f s t) p)) (range_with_len 0 t) →
+    paths_out_of levels p.indices ≡ restored_paths (params f s t) p
 paths_restored f s t p w levels are =
     rw are (same_paths
-    (λ i. (i, path_out_of (map (level_of s p.indices (value_of (terms f s t) p)) (range_with_len 0 t)) i))
-    (λ i. (i, restored_path (terms f s t) p i)) p.indices
-    (λ i q. ap (λ path. (i, path)) (path_kept s p.indices t w (value_of (terms f s t) p) i q)))
+    (λ i. (i, path_out_of (map (level_of s p.indices (value_of (params f s t) p)) (range_with_len 0 t)) i))
+    (λ i. (i, restored_path (params f s t) p i)) p.indices
+    (λ i q. ap (λ path. (i, path)) (path_kept s p.indices t w (value_of (params f s t) p) i q)))

@@ -17,7 +17,7 @@ use Rattle.p3_merkle_core.proofs.Checks.Accepted.{padded_ge}
 use Rattle.p3_merkle_core.proofs.Covered.Sufficient.{covered_below, child_listed}
 use Rattle.p3_merkle_core.proofs.Checks.PathFacts.{joined_same, map_same, group_values, piece}
 use Rattle.p3_merkle_core.proofs.Covered.Equivalence.{restored_leaf, restored_next, query_covered, rows_under_is}
-use Rattle.p3_merkle_core.specs.Checks.{terms}
+use Rattle.p3_merkle_core.specs.Checks.{params}
 
 -- what was sent for a node that is listed
 found : {X : Type 0} (given : List (ℕ × ℕ)) (g : ℕ × ℕ → X) (d : X) (l j : ℕ) → is_in given l j ≡ true →
@@ -58,20 +58,20 @@ honest_under f b t indices w l j h c =
 group_restored : {T W : Type 0} (f : Functions T W) (b : Batch T) (t : ℕ) (indices : List ℕ) →
     IsHonestQuery b t indices → (l j : ℕ) → l < t → is_covered (shape b) indices (suc l) j ≡ true →
     ((k : ℕ) → is_covered (shape b) indices l k ≡ true →
-    restored_node (terms f (shape b) t) (honest_query f b t indices) l k ≡ node f b l k) →
-    group_values (shape b) (value_of (terms f (shape b) t) (honest_query f b t indices)) l j
+    restored_node (params f (shape b) t) (honest_query f b t indices) l k ≡ node f b l k) →
+    group_values (shape b) (value_of (params f (shape b) t) (honest_query f b t indices)) l j
     ≡ children_by (node f b) (shape b) l j
 group_restored f b t indices w l j h c below =
     let s = shape b in
     let p = honest_query f b t indices in
-    map_same (λ i. value_of (terms f s t) p l (step s l * j + i)) (λ i. node f b l (step s l * j + i)) 0 (step s l)
+    map_same (λ i. value_of (params f s t) p l (step s l * j + i)) (λ i. node f b l (step s l * j + i)) 0 (step s l)
     (λ i low high.
     let k = step s l * j + i in
     elim (cases_Bool (is_covered s indices l k)) [
-      | inl y ↦ cond-true (is_covered s indices l k) (restored_node (terms f s t) p l k)
-          (sent_digest (terms f s t) p l k) y ∙ below k y
-      | inr n ↦ cond-false (is_covered s indices l k) (restored_node (terms f s t) p l k)
-          (sent_digest (terms f s t) p l k) n
+      | inl y ↦ cond-true (is_covered s indices l k) (restored_node (params f s t) p l k)
+          (sent_digest (params f s t) p l k) y ∙ below k y
+      | inr n ↦ cond-false (is_covered s indices l k) (restored_node (params f s t) p l k)
+          (sent_digest (params f s t) p l k) n
           ∙ found (boundary s indices t) (λ (m, k). node f b m k) f.default_digest l k
           (child_listed s indices t w.queried l j i h (omega arith) c n)
     ])
@@ -79,7 +79,7 @@ group_restored f b t indices w l j h c below =
 -- the value of a covered node
 pub honest_restores : {T W : Type 0} (f : Functions T W) (b : Batch T) (t : ℕ) (indices : List ℕ) →
     IsHonestQuery b t indices → (l j : ℕ) → l ≤ t → is_covered (shape b) indices l j ≡ true →
-    restored_node (terms f (shape b) t) (honest_query f b t indices) l j ≡ node f b l j
+    restored_node (params f (shape b) t) (honest_query f b t indices) l j ≡ node f b l j
 honest_restores f b t indices w zero j h c =
     let s = shape b in
     let u = honest_under f b t indices w 0 j h c in
@@ -99,12 +99,12 @@ honest_restores f b t indices w (suc l) j h c =
 -- each query's restored path is its honest one
 pub honest_paths : {T W : Type 0} (f : Functions T W) (b : Batch T) (t : ℕ) (indices : List ℕ) →
     IsHonestQuery b t indices → (k : ℕ) → k < length indices →
-    restored_path (terms f (shape b) t) (honest_query f b t indices) (get_or indices k 0)
+    restored_path (params f (shape b) t) (honest_query f b t indices) (get_or indices k 0)
     ≡ siblings_by (node f b) (shape b) t (get_or indices k 0)
 honest_paths f b t indices w k h =
     let s = shape b in
     let i = get_or indices k 0 in
-    joined_same (piece s (value_of (terms f s t) (honest_query f b t indices)) i)
+    joined_same (piece s (value_of (params f s t) (honest_query f b t indices)) i)
     (level_siblings (node f b) (shape b) i) t (λ l below.
     ap (λ ds. remove ds (position_in_group s l i))
     (group_restored f b t indices w l (ancestor s (suc l) i) below (query_covered s indices k (suc l) h)
@@ -112,7 +112,7 @@ honest_paths f b t indices w k h =
 
 -- and each covered node of layer t has its entry in the honest cap
 pub honest_capped : {T W : Type 0} (f : Functions T W) (b : Batch T) (t : ℕ) (indices : List ℕ) →
-    IsHonestQuery b t indices → IsCapped (terms f (shape b) t) (layer f b t) (honest_query f b t indices)
+    IsHonestQuery b t indices → IsCapped (params f (shape b) t) (layer f b t) (honest_query f b t indices)
 honest_capped f b t indices w j c =
     let s = shape b in
     let in_layer : j < layer_len s t =

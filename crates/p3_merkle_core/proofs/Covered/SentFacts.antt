@@ -10,7 +10,7 @@ use Rattle.p3_merkle_core.specs.Nodes.{Functions}
 use Rattle.p3_merkle_core.specs.Pruning.{PrunedOpening, is_boundary, boundary_at, boundary, is_in, sent_digest}
 use Rattle.p3_merkle_core.proofs.Lists.ListFacts.{tally, joined_piece}
 use Rattle.p3_merkle_core.proofs.Covered.Sufficient.{same, listed_once}
-use Rattle.p3_merkle_core.specs.Checks.{terms}
+use Rattle.p3_merkle_core.specs.Checks.{params}
 
 -- ---- nodes that stand once
 
@@ -82,7 +82,7 @@ map_pairs g l (j ∷ js) = ap (λ ys. g (l, j) ∷ ys) (map_pairs g l js)
 -- level by level, the digests that were sent are those of the boundary nodes
 pub sent_level : {T W : Type 0} (f : Functions T W) (s : Shape) (t : ℕ) (p : PrunedOpening T W) → length p.digests
     ≡ length (boundary s p.indices t) → (l : ℕ) → l < t →
-    map (sent_digest (terms f s t) p l) (filter (is_boundary s p.indices l) (range_with_len 0 (layer_len s l)))
+    map (sent_digest (params f s t) p l) (filter (is_boundary s p.indices l) (range_with_len 0 (layer_len s l)))
     ≡ take (length (boundary_at s p.indices l)) (drop (length (boundary s p.indices l)) p.digests)
 sent_level f s t p count l h =
     let all = boundary s p.indices t in

@@ -28,7 +28,7 @@ use Rattle.p3_merkle_core.proofs.Shapes.LeastFacts.{exponent_le}
 use Rattle.p3_merkle_core.proofs.Shapes.RawFacts.{filled, positive_below}
 use Rattle.p3_merkle_core.proofs.Covered.SentFacts.{sent_level}
 use Rattle.p3_merkle_core.proofs.Covered.ChildFacts.{children_length}
-use Rattle.p3_merkle_core.specs.Checks.{terms}
+use Rattle.p3_merkle_core.specs.Checks.{params}
 
 -- ---- lists
 
@@ -128,7 +128,7 @@ pub record IsWalkedLevel {T W X : Type 0} (f : Functions T W) (s : Shape) (t : �
   pub step_is : n ≡ step s l
   pub parents_are : parents ≡ covered_at s p.indices (suc l)
   pub covered_are : covered ≡ covered_at s p.indices l
-  pub digests_are : map view digests ≡ map (restored_node (terms f s t) p l) (covered_at s p.indices l)
+  pub digests_are : map view digests ≡ map (restored_node (params f s t) p l) (covered_at s p.indices l)
   pub sent_is : map view sent ≡ drop (length (boundary s p.indices l)) p.digests
 
 -- a level can be walked where there is a digest of each covered node, and what is left of those that were sent
@@ -162,15 +162,15 @@ pub children_are : {T W X : Type 0} (f : Functions T W) (s : Shape) (t : ℕ) (p
     CanQuery s p.indices t → length p.digests ≡ length (boundary s p.indices t) →
     (l : ℕ) → l < t → (view : X → List W) (n : ℕ) (parents covered : List ℕ) (digests sent values : List X) →
     IsWalkedLevel f s t p l view n parents covered digests sent → AreChildren n parents covered digests sent values →
-    map view values ≡ flat_map (λ j. map (value_of (terms f s t) p l) (range_with_len (step s l * j) (step s l)))
+    map view values ≡ flat_map (λ j. map (value_of (params f s t) p l) (range_with_len (step s l * j) (step s l)))
     (covered_at s p.indices (suc l))
 children_are f s t p w count l h view n parents covered digests sent values k a =
     let here = covered_at s p.indices l in
     let above = covered_at s p.indices (suc l) in
     let is_here = is_among here in
     let js = children_under (step s l) above in
-    let v = restored_node (terms f s t) p l in
-    let u = sent_digest (terms f s t) p l in
+    let v = restored_node (params f s t) p l in
+    let u = sent_digest (params f s t) p l in
     let m = length (boundary s p.indices l) in
     let is : AreChildren (step s l) above here digests sent values =
     rw (k.step_is, k.parents_are, k.covered_are) at a in
@@ -186,6 +186,6 @@ children_are f s t p w count l h view n parents covered digests sent values k a 
     let long : length (map view values) ≡ length js = length-map values view ∙ is.each
     ∙ sym (children_length (step s l) above) in
     mixed_is is_here v u js (map view values) long known unknown
-    ∙ map_agree (λ j. cond (is_here j) (v j) (u j)) (value_of (terms f s t) p l)
+    ∙ map_agree (λ j. cond (is_here j) (v j) (u j)) (value_of (params f s t) p l)
     (λ j. ap (λ b. cond b (v j) (u j)) (among_is s p.indices t w l (omega arith) j)) js
-    ∙ map_children (value_of (terms f s t) p l) (step s l) above
+    ∙ map_children (value_of (params f s t) p l) (step s l) above

@@ -3,7 +3,7 @@ use Rattle.std.specs.Prelude.{◌≡◌, ℕ, zero, suc, ◌<◌, List, [], ◌�
 use Rattle.std.specs.List.{AllZip}
 use Rattle.std.proofs.Common.{◌∙◌, ap, arith, refl, subst, sym}
 use Rattle.p3_support.specs.Batches.{FitDimensions, IsEquivalence, heights_of, greatest}
-use Rattle.p3_merkle_tree.specs.Schemes.{IsSameScheme}
+use Rattle.p3_merkle_mmcs.specs.Schemes.{IsSameScheme}
 use Rattle.p3_merkle_core.specs.Views.{heights_in}
 use Rattle.p3_support.specs.Pairs.{left_of}
 use Rattle.p3_support.specs.declared.matrix.Dimensions.{Dimensions}
@@ -15,9 +15,9 @@ use Rattle.std.specs.declared.cmp.PartialEq as equality
 use Rattle.p3_merkle_core.specs.Geometry.{IsLawful, shape_of}
 use Rattle.p3_merkle_core.specs.Nodes.{Functions, dimensions_of}
 use Rattle.p3_merkle_core.specs.Openings.{opening_of}
-use Rattle.p3_merkle_core.specs.Checks.{IsAccepted, Terms, terms}
+use Rattle.p3_merkle_core.specs.Checks.{IsAccepted, Params, params}
 use Rattle.p3_merkle_core.specs.Pruning.{restored_path}
-use Rattle.p3_merkle_tree.specs.Inner.CommitmentLaws.{all_zip, greatest_is, same_is_equivalence}
+use Rattle.p3_merkle_mmcs.specs.Inner.CommitmentLaws.{all_zip, greatest_is, same_is_equivalence}
 use Rattle.p3_merkle_hiding.specs.HidingSchemes.{plain_of}
 use Rattle.p3_merkle_hiding.specs.SaltedCommitments.{HaveSaltedProof}
 use Rattle.p3_merkle_hiding.specs.SaltedOpenings.{HaveSalts, IsSaltedPrunedAccepted, SaltedPruned, joined_sets}
@@ -82,7 +82,7 @@ module _ {T : Type 0} where
   set_at (rows ∷ sets) (salt ∷ salts) (suc k) same inside = set_at sets salts k (omega (arith, same)) (omega arith)
 
 -- of an accepted pruned opening each row set is shown to be that of its index
-pub each_salted_shown : {T W : Type 0} (e : ℕ) (ds : List Dimensions) (c : Terms T W) (cap : List (List W))
+pub each_salted_shown : {T W : Type 0} (e : ℕ) (ds : List Dimensions) (c : Params T W) (cap : List (List W))
     (o : SaltedPruned T W) → IsSaltedPrunedAccepted e ds c cap o → AllZip (HaveSaltedProof e ds c cap) o.indices o.rows
 each_salted_shown {T} {W} e ds c cap o w =
     let long = length_sets o.rows o.salts w.in_pairs in
@@ -109,7 +109,7 @@ wide_heights e (d ∷ ds) = ap (λ (hs : List ℕ). d.height ∷ hs) (wide_heigh
 
 -- rows that are shown fit the dimensions, which are those of the matrices without salts
 pub salted_rows_fit : {T W : Type 0} (f : Functions T W) (n e t : ℕ) (ds : List Dimensions) (cap : List (List W))
-    (index : ℕ) (rows : List (List T)) → HaveSaltedProof e ds (terms f (shape_of n (widened e ds)) t) cap index rows →
+    (index : ℕ) (rows : List (List T)) → HaveSaltedProof e ds (params f (shape_of n (widened e ds)) t) cap index rows →
     FitDimensions ds index rows
 salted_rows_fit f n e t ds cap index rows proof =
     let w = proof.is_accepted in

@@ -6,7 +6,7 @@ use Rattle.p3_merkle_core.specs.Extraction.{difference_of}
 use Rattle.p3_merkle_core.specs.Geometry.{Shape}
 use Rattle.p3_merkle_core.specs.Nodes.{Functions}
 use Rattle.p3_merkle_core.specs.Openings.{Opening, opening_of}
-use Rattle.p3_merkle_core.specs.Checks.{Input, terms}
+use Rattle.p3_merkle_core.specs.Checks.{Input, params}
 use Rattle.p3_support.specs.Shown.{row_sets}
 use Rattle.p3_merkle_core.specs.Pruning.{PrunedOpening, opening_at, pruned_of}
 use Rattle.p3_merkle_core.specs.Refusals.{first_of}
@@ -34,12 +34,12 @@ pub record CanCompare {T W : Type 0} (s : Shape) (cap_layer : ℕ) (queries : Re
 pub record AreQueriesOf {T W : Type 0} (f : Functions T W) (s : Shape) (cap_layer : ℕ) (p : PrunedOpening T W)
     (queries : RestoredQueries T (List W)) : Type 0 where
   pub as_many : length queries.paths.items ≡ length p.indices
-  pub each : (k : ℕ) → k < length p.indices → query_in queries k ≡ opening_at (terms f s cap_layer) p k
+  pub each : (k : ℕ) → k < length p.indices → query_in queries k ≡ opening_at (params f s cap_layer) p k
 
 -- the last inputs that the checks of two openings share and that differ, kept folded
 unfoldable pub query_difference : {T W : Type 0} → (T → T → Bool) → (W → W → Bool) → Functions T W → Shape → ℕ →
     Opening T W → Opening T W → Option (Input T W × Input T W)
-query_difference row_eq digest_eq f s cap_layer o u = difference_of row_eq digest_eq (terms f s cap_layer) o u
+query_difference row_eq digest_eq f s cap_layer o u = difference_of row_eq digest_eq (params f s cap_layer) o u
 
 -- the first place below n at which d answers
 abbrev pub first_place : {X : Type 0} → (ℕ → Option X) → ℕ → Option (ℕ × X)

@@ -9,7 +9,7 @@ use Rattle.p3_merkle_core.specs.Inner.Covered.{covered_at}
 use Rattle.p3_merkle_core.specs.declared.pruning.KeptLevel.{KeptLevel}
 use Rattle.p3_merkle_verifier.specs.declared.covered.Covered.{Covered}
 use Rattle.p3_merkle_verifier.specs.declared.covered.NextLevel.{NextLevel}
-use Rattle.p3_merkle_core.specs.Checks.{terms}
+use Rattle.p3_merkle_core.specs.Checks.{params}
 use Rattle.p3_merkle_verifier.specs.declared.restorable.Restorable.{Restorable}
 use Rattle.p3_support.specs.Shown.{row_sets}
 
@@ -51,12 +51,12 @@ pub record AreRestored {T W : Type 0} (f : Functions T W) (s : Shape) (cap_layer
     (covered : Covered) (digests : List (List W)) : Type 0 where
   pub coverage : IsCoveredAt s p.indices l covered
   pub each : length digests ≡ length covered.nodes.items
-  pub restored : digests ≡ map (restored_node (terms f s cap_layer) p l) (covered_at s p.indices l)
+  pub restored : digests ≡ map (restored_node (params f s cap_layer) p l) (covered_at s p.indices l)
 
 -- the values of the children of the covered nodes above layer l, parent by parent
 abbrev pub child_values : {T W : Type 0} → Functions T W → Shape → ℕ → PrunedOpening T W → ℕ → List (List W)
 child_values f s cap_layer p l =
-    flat_map (λ j. map (value_of (terms f s cap_layer) p l) (range_with_len (step s l * j) (step s l)))
+    flat_map (λ j. map (value_of (params f s cap_layer) p l) (range_with_len (step s l * j) (step s l)))
     (covered_at s p.indices (suc l))
 
 -- one level up from layer l, where the children have their values

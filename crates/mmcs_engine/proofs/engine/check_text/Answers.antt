@@ -7,8 +7,8 @@ use Rattle.p3_merkle_core.specs.Geometry.{shape_of}
 use Rattle.p3_merkle_core.specs.Nodes.{shape}
 use Rattle.p3_merkle_core.specs.Pruning.{pruned_len, pruned_of}
 use Rattle.p3_merkle_core.specs.Views.{pruned_lent, pruned_made}
-use Rattle.p3_merkle_tree.specs.Parts.{tree_batch}
-use Rattle.p3_merkle_tree.specs.Schemes.{cap_layer_over, terms_over}
+use Rattle.p3_merkle_prover.specs.Parts.{tree_batch}
+use Rattle.p3_merkle_mmcs.specs.Schemes.{cap_layer_over, params_over}
 use Rattle.mmcs_text.specs.Text.{ok_line}
 use Rattle.mmcs_engine.proofs.ReplyFacts.{accepted_lent, failed_alone}
 use Rattle.mmcs_engine.proofs.engine.check_text.Goals as goal
@@ -17,7 +17,7 @@ pub returns-in_err-verify_batch_pruned-clause-memory : goal.returns-in_err-verif
 returns-in_err-verify_batch_pruned-clause-memory g c =
     let r = c.from_residual-in_err-verify_batch_pruned.result in
     let left = err_from_is_err_and r c.from_residual-in_err-verify_batch_pruned.ensures.1 in
-    let terms = terms_over g.H.CryptographicHasher.hash g.C.PseudoCompressionFunction.compression g.row.D
+    let params = params_over g.H.CryptographicHasher.hash g.C.PseudoCompressionFunction.compression g.row.D
     c.args.scheme.now in
     let b = tree_batch c.args.committed.now.tree in
     let opening = c.in_ok-opening.opening in
@@ -25,8 +25,8 @@ returns-in_err-verify_batch_pruned-clause-memory g c =
     let shapes = ap (shape_of g.row.N) c.deref.ensures.value ∙ c.requires.dimensions in
     failed_alone r c.verify_batch_pruned.result _ (left.1 ∙ ap Err left.2) c.in_err-verify_batch_pruned.was
     (c.verify_batch_pruned.ensures.verdict.accepted_is_ok
-    (accepted_lent terms (shape_of g.row.N c.deref.result.now) (shape b) (roots_of c.args.committed.now.roots)
-    (cap_over (terms (shape b)) b) (pruned_lent is c.deref-2.result.now opening.pruned_proof) (pruned_made is opening)
+    (accepted_lent params (shape_of g.row.N c.deref.result.now) (shape b) (roots_of c.args.committed.now.roots)
+    (cap_over (params (shape b)) b) (pruned_lent is c.deref-2.result.now opening.pruned_proof) (pruned_made is opening)
     shapes c.requires.committed.own_cap
     (ap (λ sets. pruned_of is (row_sets sets) opening.pruned_proof.sibling_hashes.items) c.deref-2.ensures.value)
     (c.in_ok-opening.ensures.accepted c.requires.committed.own_layers)))

@@ -6,8 +6,8 @@ use Rattle.p3_merkle_core.specs.Commitments.{IsCommitment}
 use Rattle.p3_merkle_core.specs.Geometry.{shape_of}
 use Rattle.p3_merkle_core.specs.Nodes.{shape, Batch}
 use Rattle.p3_merkle_core.specs.Refusals.{pruned_len_refusal}
-use Rattle.p3_merkle_tree.specs.Parts.{layers_of}
-use Rattle.p3_merkle_tree.specs.Schemes.{terms_over}
+use Rattle.p3_merkle_prover.specs.Parts.{layers_of}
+use Rattle.p3_merkle_mmcs.specs.Schemes.{params_over}
 use Rattle.mmcs_text.specs.Inner.Stored.{stored_batch}
 use Rattle.mmcs_engine.proofs.GateFacts.{below_of}
 use Rattle.mmcs_engine.proofs.NumberFacts.{stored_shape}
@@ -46,7 +46,7 @@ pub returns-clause-committed : goal.returns-clause-committed
 returns-clause-committed g c =
     let same = ap (stored_batch g.row.N) (sym c.in_ok-roots.ensures.matrices) in
     subst (λ (b : Batch g.row.W.Denot).
-    IsCommitment (terms_over g.H.CryptographicHasher.hash g.C.PseudoCompressionFunction.compression g.row.D
+    IsCommitment (params_over g.H.CryptographicHasher.hash g.C.PseudoCompressionFunction.compression g.row.D
     c.args.scheme.now (shape b)) (roots_of c.in_ok-roots.roots) b (layers_of c.in_ok-roots.tree))
     same c.in_ok-roots.ensures.committed
 

@@ -4,7 +4,7 @@ use Rattle.std.specs.Prelude.{flat_map}
 use Rattle.p3_support.specs.Shown.{row_sets}
 use Rattle.p3_merkle_core.specs.Openings.{honest_rows}
 use Rattle.p3_merkle_core.specs.Pruning.{PrunedOpening}
-use Rattle.p3_merkle_tree.specs.Parts.{tree_batch}
+use Rattle.p3_merkle_prover.specs.Parts.{tree_batch}
 use Rattle.mmcs_text.specs.Text.{digest_lines}
 use Rattle.mmcs_engine.specs.Inner.Alike.{opened_lines}
 use Rattle.mmcs_engine.proofs.TextFacts.{sets_long}

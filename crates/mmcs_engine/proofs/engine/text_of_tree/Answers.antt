@@ -1,4 +1,4 @@
-use Rattle.p3_merkle_tree.specs.Parts.{layers_of, tree_batch}
+use Rattle.p3_merkle_prover.specs.Parts.{layers_of, tree_batch}
 use Rattle.p3_support.specs.Shown.{roots_of}
 use Rattle.mmcs_engine.proofs.NumberFacts.{check_printed, commit_printed, open_printed}
 use Rattle.mmcs_engine.proofs.engine.text_of_tree.Goals as goal

@@ -2,7 +2,7 @@ use Rattle.std.proofs.Common.{◌∙◌, rules, sym}
 use Rattle.std.specs.Prelude.{replicate}
 use Rattle.p3_support.specs.Shown.{roots_of, row_sets}
 use Rattle.p3_merkle_core.specs.Pruning.{pruned_of}
-use Rattle.p3_merkle_tree.specs.Schemes.{cap_rule_of, scheme_functions, terms_of}
+use Rattle.p3_merkle_mmcs.specs.Schemes.{cap_rule_of, scheme_functions, params_of}
 use Rattle.mmcs_verify_engine.specs.Inner.TypedCollisions.{typed_text}
 use Rattle.mmcs_verify_engine.proofs.CompareFacts.{as_read, inputs_full, queries_found, shown_inputs, text_found}
 use Rattle.mmcs_verify_engine.proofs.CompareFacts.{Extracts}
@@ -13,11 +13,11 @@ use Rattle.mmcs_verify_engine.proofs.engine.compare.Goals.{After-extract_collisi
 -- what is lent to the extraction is what was read
 extracts : (g : Over) (c : After-extract_collision_multi g) →
     Extracts g.W.PartialEq.eq (cap_rule_of c.args.suite.now.scheme)
-    (terms_of g.H.CryptographicHasher.hash g.C.PseudoCompressionFunction.compression g.row.D c.args.suite.now.scheme
+    (params_of g.H.CryptographicHasher.hash g.C.PseudoCompressionFunction.compression g.row.D c.args.suite.now.scheme
     c.args.dimensions.now) c.args.pair c.extract_collision_multi.result c.extract_collision_multi.result
 extracts g c =
     as_read g.W.PartialEq.eq (cap_rule_of c.args.suite.now.scheme)
-    (terms_of g.H.CryptographicHasher.hash g.C.PseudoCompressionFunction.compression g.row.D c.args.suite.now.scheme
+    (params_of g.H.CryptographicHasher.hash g.C.PseudoCompressionFunction.compression g.row.D c.args.suite.now.scheme
     c.args.dimensions.now) c.args.pair c.extract_collision_multi.result (roots_of c.new-cap.result) _ _
     c.new-cap.ensures
     (λ i. pruned_of (c.deref.ensures.value i) (row_sets (c.deref-2.ensures.value i)) c.args.pair.first.digests.items)

@@ -1,6 +1,6 @@
 -- What the definition answers to two openings, single or pruned, is an extraction.
 use Rattle.p3_merkle_core.specs.Caps.{cap_layer}
-use Rattle.p3_merkle_core.specs.Checks.{shared_inputs, terms}
+use Rattle.p3_merkle_core.specs.Checks.{shared_inputs, params}
 use Rattle.p3_merkle_core.specs.Presented.{presented, presented_pruned}
 use Rattle.p3_merkle_core.proofs.Collisions.Extracted.{differs}
 use Rattle.p3_merkle_core.proofs.Collisions.Extraction.{collides}
@@ -22,14 +22,14 @@ returns-clause-collision g x = λ c cap o u w a b x y last.
 
 pub returns-clause-single : goal.returns-clause-single
 returns-clause-single g x = λ row_eq digest_eq f s rule cap_height cap o u dec dec_w w.
-    let c = terms f s (cap_layer s rule cap_height) in
+    let c = params f s (cap_layer s rule cap_height) in
     answer_is_extraction row_eq digest_eq rule c cap (presented digest_eq c cap o) (presented digest_eq c cap u) dec
     dec_w w (all_authenticated s rule cap_height w) (single_presented digest_eq c cap o dec_w)
     (single_presented digest_eq c cap u dec_w)
 
 pub returns-clause-pruned : goal.returns-clause-pruned
 returns-clause-pruned g x = λ row_eq digest_eq f s rule cap_height cap p r dec dec_w w.
-    let c = terms f s (cap_layer s rule cap_height) in
+    let c = params f s (cap_layer s rule cap_height) in
     answer_is_extraction row_eq digest_eq rule c cap (presented_pruned row_eq digest_eq c cap p)
     (presented_pruned row_eq digest_eq c cap r) dec dec_w w (all_authenticated s rule cap_height w)
     (pruned_presented row_eq digest_eq c cap p dec dec_w w) (pruned_presented row_eq digest_eq c cap r dec dec_w w)

@@ -21,7 +21,7 @@ bounds-of_level-num_levels c =
       arith,
       c.loop-rung.invariant.0.room,
       ap exponent c.extremes_of-max_height.ensures.greatest,
-      c.tell_exponent.ensures,
+      c.lemma_exponent.ensures,
     )
 
 pub loop-rung-smaller : goal.loop-rung-smaller
@@ -41,7 +41,7 @@ loop-rung-preserved c =
       arith,
       at.room,
       ap exponent c.extremes_of-max_height.ensures.greatest,
-      c.tell_exponent.ensures,
+      c.lemma_exponent.ensures,
       c.loop-rung.invariant.2,
     ) in
     let step = level_is s n x y c.step_up.result.0 at.at_x found.bridge found.next found.rows in (
@@ -63,7 +63,7 @@ invariant_of-result c =
       leaves = c.exponent_of-exponent.ensures ∙ ap exponent c.extremes_of-max_height.ensures.greatest
           ∙ sym (layer_start s);
       whole = at_end s c.loop-rung.num_levels c.loop-rung.rung.exponent at (omega arith);
-      few = omega (arith, at.room, ap exponent c.extremes_of-max_height.ensures.greatest, c.tell_exponent.ensures);
+      few = omega (arith, at.room, ap exponent c.extremes_of-max_height.ensures.greatest, c.lemma_exponent.ensures);
       long = c.loop-rung.invariant.2;
       kept = c.loop-rung.invariant.3;
     }

@@ -3,7 +3,7 @@ use Rattle.std.proofs.Common.{◌≡◌, ◌∙◌, ℕ, [], arith, drop, length
 use Rattle.std.proofs.lemmas.Bool.{lt-ltb}
 use Rattle.std.proofs.lemmas.List.{take_at}
 use Rattle.std.proofs.lemmas.List.FromFn.{fill_by_all}
-use Rattle.p3_merkle_lanes.specs.Inner.Slots.{rows_over}
+use Rattle.p3_merkle_digests.specs.Inner.Slots.{rows_over}
 use Rattle.p3_merkle_verifier.specs.Inner.OpenedMatrices.{row_in}
 use Rattle.p3_merkle_verifier.proofs.GroupFacts.{one_more}
 use Rattle.p3_merkle_verifier.proofs.rows.digests_of.Goals as goal

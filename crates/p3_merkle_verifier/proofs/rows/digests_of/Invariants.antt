@@ -1,6 +1,6 @@
 use Rattle.std.proofs.Common.{◌≡◌, ℕ, map}
 use Rattle.std.specs.List.{range_with_len}
-use Rattle.p3_merkle_lanes.specs.Inner.Slots.{rows_over}
+use Rattle.p3_merkle_digests.specs.Inner.Slots.{rows_over}
 use Rattle.p3_merkle_verifier.specs.Inner.OpenedMatrices.{row_in}
 use Rattle.p3_merkle_verifier.proofs.rows.digests_of.Given as goal
 

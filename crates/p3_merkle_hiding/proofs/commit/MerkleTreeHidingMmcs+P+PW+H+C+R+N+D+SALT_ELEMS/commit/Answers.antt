@@ -13,7 +13,7 @@ use Rattle.p3_merkle_core.specs.Gate.{gate_refusal}
 use Rattle.p3_merkle_core.specs.Geometry.{shape_of}
 use Rattle.p3_support.specs.declared.matrix.Dimensions.{Dimensions}
 use Rattle.p3_merkle_core.specs.Nodes.{Batch, Matrix, dimensions_of, shape}
-use Rattle.p3_merkle_tree.specs.Schemes.{terms_over}
+use Rattle.p3_merkle_mmcs.specs.Schemes.{params_over}
 use Rattle.p3_merkle_hiding.specs.HidingSchemes.{generator_of, plain_of}
 use Rattle.p3_merkle_hiding.specs.SaltRefusals.{salted_commit_refusal, widening_refusal}
 use Rattle.p3_merkle_hiding.specs.SaltedTrees.{HaveSaltColumns}
@@ -45,7 +45,7 @@ returns g c =
     let e = g.row.SALT_ELEMS in
     let of_word = g.P.Value.SaltWord.of_salt_word in
     let plain = plain_of c.args.self.now in
-    let terms = terms_over g.H.CryptographicHasher.hash g.C.PseudoCompressionFunction.compression g.row.D plain in
+    let params = params_over g.H.CryptographicHasher.hash g.C.PseudoCompressionFunction.compression g.row.D plain in
     let ms = c.args.matrices.items in
     let drawn = g.R.Rng.stream (generator_of c.args.self.now) in
     let r = c.commit.result in
@@ -68,11 +68,11 @@ returns g c =
           c.commit.ensures.matrices;
       committed =
           subst (λ (ds : List Dimensions).
-          IfOk r (λ made. IsCommitment (terms (shape_of g.row.N ds)) (roots_of made.0)
+          IfOk r (λ made. IsCommitment (params (shape_of g.row.N ds)) (roots_of made.0)
           (over (salted_matrices of_word e (shown ms) drawn)) (layers_of made.1)))
           (salted_widened of_word e (shown ms) drawn)
           (subst (λ (b : Batch _).
-          IfOk r (λ made. IsCommitment (terms (shape b)) (roots_of made.0) b (layers_of made.1))) (ap over salted)
+          IfOk r (λ made. IsCommitment (params (shape b)) (roots_of made.0) b (layers_of made.1))) (ap over salted)
           c.commit.ensures.committed);
       rest = on_ok _ r c.in_ok-pairs.ensures.rest;
       further = c.in_ok-pairs.ensures.further;

@@ -10,7 +10,7 @@ use Rattle.p3_merkle_core.specs.Views.{found_alone, opening_lent}
 use Rattle.p3_merkle_core.specs.declared.error.MerkleTreeError.{MerkleTreeError}
 use Rattle.p3_merkle_core.specs.declared.error.MerkleTreeError.TheVariants.{OutOfMemory}
 use Rattle.p3_merkle_core.proofs.Collisions.ExtractionFacts.{all_authenticated}
-use Rattle.p3_merkle_tree.specs.Schemes.{cap_height_of, cap_rule_of, terms_of}
+use Rattle.p3_merkle_mmcs.specs.Schemes.{cap_height_of, cap_rule_of, params_of}
 use Rattle.p3_support.specs.Shown.{roots_of, row_lists}
 use Rattle.p3_merkle_hiding.specs.HidingSchemes.{plain_of, salted_lent}
 use Rattle.p3_merkle_hiding.specs.SaltRefusals.{salted_refusal_under, salted_rows_refusal}
@@ -25,10 +25,10 @@ returns-in_err-salted1 g c =
     let plain = plain_of c.args.self.now in
     let eq = g.P.Value.PartialEq.eq in
     let same = g.PW.Value.PartialEq.eq in
-    let terms = terms_of g.H.CryptographicHasher.hash g.C.PseudoCompressionFunction.compression g.row.D plain in
+    let params = params_of g.H.CryptographicHasher.hash g.C.PseudoCompressionFunction.compression g.row.D plain in
     let ds = c.args.dimensions.now in
     let e = g.row.SALT_ELEMS in
-    let wide = terms (widened e ds) in
+    let wide = params (widened e ds) in
     let cap = roots_of c.args.commit.now in
     let all = all_authenticated (shape_of g.row.N (widened e ds)) (cap_rule_of plain) (cap_height_of plain)
     plain.arity in
@@ -59,10 +59,10 @@ returns-in-Ok g c =
     let plain = plain_of c.args.self.now in
     let eq = g.P.Value.PartialEq.eq in
     let same = g.PW.Value.PartialEq.eq in
-    let terms = terms_of g.H.CryptographicHasher.hash g.C.PseudoCompressionFunction.compression g.row.D plain in
+    let params = params_of g.H.CryptographicHasher.hash g.C.PseudoCompressionFunction.compression g.row.D plain in
     let ds = c.args.dimensions.now in
     let e = g.row.SALT_ELEMS in
-    let wide = terms (widened e ds) in
+    let wide = params (widened e ds) in
     let cap = roots_of c.args.commit.now in
     let all = all_authenticated (shape_of g.row.N (widened e ds)) (cap_rule_of plain) (cap_height_of plain)
     plain.arity in
@@ -90,13 +90,13 @@ returns-in-Ok g c =
     g.met.PW.PackedValue.eq_is_equality plain.arity all o u (found_alone r)
     (subst (AnswersUnlessMemory (found_alone r))
     (λ i. option_or
-    (refusal_joined same e ds given terms cap o p none are_wide
+    (refusal_joined same e ds given params cap o p none are_wide
     (λ i. opening_of c.args.index1 (are_joined i) (siblings i)) i)
-    (refusal_joined same e ds given terms cap u q none2 are_wide
+    (refusal_joined same e ds given params cap u q none2 are_wide
     (λ i. opening_of c.args.index2 (are_joined2 i) (siblings2 i)) i)) made.answer)
     (subst (λ d. IfOk (found_alone r) (λ found. found ≡ d))
     (λ i. first_pair
-    (λ a b. difference_of eq same (terms (are_wide i)) (opening_of c.args.index1 (are_joined i) (siblings i))
+    (λ a b. difference_of eq same (params (are_wide i)) (opening_of c.args.index1 (are_joined i) (siblings i))
     (opening_of c.args.index2 (are_joined2 i) (siblings2 i))) 1 1) made.found) in
     let told = salted_told eq same (cap_rule_of plain) e ds wide cap o u r extraction in
     record {
@@ -112,10 +112,10 @@ returns g c =
     let plain = plain_of c.args.self.now in
     let eq = g.P.Value.PartialEq.eq in
     let same = g.PW.Value.PartialEq.eq in
-    let terms = terms_of g.H.CryptographicHasher.hash g.C.PseudoCompressionFunction.compression g.row.D plain in
+    let params = params_of g.H.CryptographicHasher.hash g.C.PseudoCompressionFunction.compression g.row.D plain in
     let ds = c.args.dimensions.now in
     let e = g.row.SALT_ELEMS in
-    let wide = terms (widened e ds) in
+    let wide = params (widened e ds) in
     let cap = roots_of c.args.commit.now in
     let all = all_authenticated (shape_of g.row.N (widened e ds)) (cap_rule_of plain) (cap_height_of plain)
     plain.arity in
@@ -136,9 +136,9 @@ returns g c =
     (refusal ≡ Some c.in-Err.error)) (λ i. salted_rows_refusal e ds (rows2 i) (salts2 i)) c.in-Err.ensures.answer in
     let checked = c.verify_batch-checked.result in
     let passed = subst (AnswersUnlessMemory checked)
-    (refusal_joined same e ds given terms cap o p none are_wide
+    (refusal_joined same e ds given params cap o p none are_wide
     (λ i. opening_of c.args.index1 (are_joined i) (siblings i)))
-    (said checked (refusal_under same (terms given) cap p) c.verify_batch-checked.ensures.answer) in
+    (said checked (refusal_under same (params given) cap p) c.verify_batch-checked.ensures.answer) in
     let answer = second_refused (Unit {0}) checked c.in-Err.error c.unwrap_or.result
     (salted_refusal_under same e ds wide cap o) (salted_rows_refusal e ds u.rows u.salts)
     (refusal_under same wide cap (joined u)) passed second

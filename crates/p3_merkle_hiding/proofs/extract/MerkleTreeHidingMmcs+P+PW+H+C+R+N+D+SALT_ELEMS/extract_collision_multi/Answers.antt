@@ -10,7 +10,7 @@ use Rattle.p3_merkle_core.specs.Views.{found_pair, pruned_lent}
 use Rattle.p3_merkle_core.specs.declared.error.MerkleTreeError.{MerkleTreeError}
 use Rattle.p3_merkle_core.specs.declared.error.MerkleTreeError.TheVariants.{OutOfMemory}
 use Rattle.p3_merkle_core.proofs.Collisions.ExtractionFacts.{all_authenticated}
-use Rattle.p3_merkle_tree.specs.Schemes.{cap_height_of, cap_rule_of, terms_of}
+use Rattle.p3_merkle_mmcs.specs.Schemes.{cap_height_of, cap_rule_of, params_of}
 use Rattle.p3_support.specs.Shown.{roots_of, row_sets}
 use Rattle.p3_merkle_hiding.specs.HidingSchemes.{plain_of, salted_pruned_lent}
 use Rattle.p3_merkle_hiding.specs.SaltRefusals.{salted_pruned_refusal_under, salted_sets_refusal}
@@ -25,10 +25,10 @@ returns-in_err-salted1 g c =
     let plain = plain_of c.args.self.now in
     let eq = g.P.Value.PartialEq.eq in
     let same = g.PW.Value.PartialEq.eq in
-    let terms = terms_of g.H.CryptographicHasher.hash g.C.PseudoCompressionFunction.compression g.row.D plain in
+    let params = params_of g.H.CryptographicHasher.hash g.C.PseudoCompressionFunction.compression g.row.D plain in
     let ds = c.args.dimensions.now in
     let e = g.row.SALT_ELEMS in
-    let wide = terms (widened e ds) in
+    let wide = params (widened e ds) in
     let cap = roots_of c.args.commit.now in
     let all = all_authenticated (shape_of g.row.N (widened e ds)) (cap_rule_of plain) (cap_height_of plain)
     plain.arity in
@@ -59,10 +59,10 @@ returns-in-Ok g c =
     let plain = plain_of c.args.self.now in
     let eq = g.P.Value.PartialEq.eq in
     let same = g.PW.Value.PartialEq.eq in
-    let terms = terms_of g.H.CryptographicHasher.hash g.C.PseudoCompressionFunction.compression g.row.D plain in
+    let params = params_of g.H.CryptographicHasher.hash g.C.PseudoCompressionFunction.compression g.row.D plain in
     let ds = c.args.dimensions.now in
     let e = g.row.SALT_ELEMS in
-    let wide = terms (widened e ds) in
+    let wide = params (widened e ds) in
     let cap = roots_of c.args.commit.now in
     let all = all_authenticated (shape_of g.row.N (widened e ds)) (cap_rule_of plain) (cap_height_of plain)
     plain.arity in
@@ -89,12 +89,12 @@ returns-in-Ok g c =
     let extraction = extracted_salted_pruned eq same (cap_rule_of plain) e ds wide cap
     g.met.P.PackedValue.eq_is_equality g.met.PW.PackedValue.eq_is_equality plain.arity all o u (found_pair r)
     (subst (AnswersUnlessMemory (found_pair r))
-    (λ i. option_or (refusal_joined_sets eq same e ds given terms cap o p none are_wide joined1 i)
-    (refusal_joined_sets eq same e ds given terms cap u q none2 are_wide joined2 i)) made.answer)
+    (λ i. option_or (refusal_joined_sets eq same e ds given params cap o p none are_wide joined1 i)
+    (refusal_joined_sets eq same e ds given params cap u q none2 are_wide joined2 i)) made.answer)
     (subst (λ d. IfOk (found_pair r) (λ found. found ≡ d))
     (λ i. first_pair
-    (λ a b. difference_of eq same (terms (are_wide i)) (opening_at (terms (are_wide i)) (joined1 i) a)
-    (opening_at (terms (are_wide i)) (joined2 i) b))
+    (λ a b. difference_of eq same (params (are_wide i)) (opening_at (params (are_wide i)) (joined1 i) a)
+    (opening_at (params (are_wide i)) (joined2 i) b))
     (length o.indices) (length u.indices)) made.found) in
     let told = salted_pruned_told eq same (cap_rule_of plain) e ds wide cap o u r extraction in
     record {
@@ -110,10 +110,10 @@ returns g c =
     let plain = plain_of c.args.self.now in
     let eq = g.P.Value.PartialEq.eq in
     let same = g.PW.Value.PartialEq.eq in
-    let terms = terms_of g.H.CryptographicHasher.hash g.C.PseudoCompressionFunction.compression g.row.D plain in
+    let params = params_of g.H.CryptographicHasher.hash g.C.PseudoCompressionFunction.compression g.row.D plain in
     let ds = c.args.dimensions.now in
     let e = g.row.SALT_ELEMS in
-    let wide = terms (widened e ds) in
+    let wide = params (widened e ds) in
     let cap = roots_of c.args.commit.now in
     let all = all_authenticated (shape_of g.row.N (widened e ds)) (cap_rule_of plain) (cap_height_of plain)
     plain.arity in
@@ -133,7 +133,7 @@ returns g c =
     let p = pruned_lent c.args.indices1.now c.deref-in-Err-2.result.now c.args.proof1.now.1 in
     let checked = c.verify_batch_pruned-checked.result in
     let passed = subst (AnswersUnlessMemory checked)
-    (refusal_joined_sets eq same e ds given terms cap o p none are_wide
+    (refusal_joined_sets eq same e ds given params cap o p none are_wide
     (λ i. pruned_of o.indices (sets1 i) o.digests))
     c.verify_batch_pruned-checked.ensures.verdict.answer in
     let answer = second_refused (Unit {0}) checked c.in-Err.error c.unwrap_or.result

@@ -6,7 +6,7 @@ use Rattle.p3_merkle_core.specs.Commitments.{cap_over}
 use Rattle.p3_merkle_core.specs.Openings.{Opening, opening_of}
 use Rattle.p3_merkle_core.specs.Checks.{IsAccepted}
 use Rattle.p3_merkle_prover.specs.Parts.{matrices_of, tree_batch}
-use Rattle.p3_merkle_tree.specs.Schemes.{terms_of}
+use Rattle.p3_merkle_mmcs.specs.Schemes.{params_of}
 use Rattle.p3_support.specs.Pairs.{left_of}
 use Rattle.p3_merkle_hiding.proofs.SplitFacts.{left_is, right_is, salted_from}
 use Rattle.p3_merkle_hiding.specs.HidingSchemes.{plain_of}
@@ -47,18 +47,18 @@ returns-clause-accepted g c = λ own salted.
     let tree = c.args.tree.now in
     let n = g.row.N in
     let e = g.row.SALT_ELEMS in
-    let terms = terms_of g.H.CryptographicHasher.hash g.C.PseudoCompressionFunction.compression g.row.D
+    let params = params_of g.H.CryptographicHasher.hash g.C.PseudoCompressionFunction.compression g.row.D
     (plain_of c.args.self.now) in
     let b = tree_batch tree in
     let ds = unsalted_dimensions n (matrices_of tree) in
-    let wide = terms (widened e ds) in
+    let wide = params (widened e ds) in
     let siblings = c.in_ok-opening.opening.opening_proof.items in
-    let plain = terms (dimensions_of (map pair_matrix (matrices_of tree))) in
+    let plain = params (dimensions_of (map pair_matrix (matrices_of tree))) in
     let joined = ap (λ (z : Opening _ _). z.rows) c.in_ok-opening.ensures.opened in
     let accepted =
     subst (λ (rows : List (List _)). IsAccepted plain (cap_over plain b) (opening_of c.args.index rows siblings))
     joined (c.in_ok-opening.ensures.accepted own) in
-    let made = salted_from n (matrices_of tree) g.met.M.Matrix.length_row_of tree.lawful terms (λ k. cap_over k b) e
+    let made = salted_from n (matrices_of tree) g.met.M.Matrix.length_row_of tree.lawful params (λ k. cap_over k b) e
     c.args.index siblings c.requires salted accepted in
     let widths = map (λ p. g.M.Matrix.width_of (left_of p)) (matrices_of tree) in
     let left = ap (unsalted_parts widths) joined

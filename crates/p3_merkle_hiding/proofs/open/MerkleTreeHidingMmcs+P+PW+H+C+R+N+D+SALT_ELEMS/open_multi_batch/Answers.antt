@@ -4,7 +4,7 @@ use Rattle.p3_merkle_core.specs.Nodes.{dimensions_of}
 use Rattle.p3_merkle_core.specs.Commitments.{cap_over}
 use Rattle.p3_merkle_core.specs.Pruning.{IsPrunedAccepted, PrunedOpening, pruned_of}
 use Rattle.p3_merkle_prover.specs.Parts.{matrices_of, tree_batch}
-use Rattle.p3_merkle_tree.specs.Schemes.{terms_of}
+use Rattle.p3_merkle_mmcs.specs.Schemes.{params_of}
 use Rattle.p3_support.specs.Pairs.{left_of}
 use Rattle.p3_support.specs.Shown.{row_sets}
 use Rattle.p3_merkle_hiding.proofs.SplitFacts.{left_sets_are, right_sets_are, salted_pruned_from}
@@ -41,19 +41,19 @@ returns-clause-accepted g c = λ own salted.
     let tree = c.args.tree.now in
     let n = g.row.N in
     let e = g.row.SALT_ELEMS in
-    let terms = terms_of g.H.CryptographicHasher.hash g.C.PseudoCompressionFunction.compression g.row.D
+    let params = params_of g.H.CryptographicHasher.hash g.C.PseudoCompressionFunction.compression g.row.D
     (plain_of c.args.self.now) in
     let b = tree_batch tree in
     let ds = unsalted_dimensions n (matrices_of tree) in
-    let wide = terms (widened e ds) in
+    let wide = params (widened e ds) in
     let is = c.args.indices.now in
     let digests = c.in_ok-opening.opening.pruned_proof.sibling_hashes.items in
-    let plain = terms (dimensions_of (map pair_matrix (matrices_of tree))) in
+    let plain = params (dimensions_of (map pair_matrix (matrices_of tree))) in
     let accepted =
     subst (λ (rows : List (List (List _))). IsPrunedAccepted plain (cap_over plain b) (pruned_of is rows digests))
     (ap (λ (z : PrunedOpening _ _). z.rows) c.in_ok-opening.ensures.opened)
     (c.in_ok-opening.ensures.accepted own) in
-    let made = salted_pruned_from n (matrices_of tree) g.met.M.Matrix.length_row_of tree.lawful terms
+    let made = salted_pruned_from n (matrices_of tree) g.met.M.Matrix.length_row_of tree.lawful params
     (λ k. cap_over k b) e is digests c.requires salted accepted in
     subst (λ (o : SaltedPruned _ _). IsSaltedPrunedAccepted e ds wide (cap_over wide b) o)
     (λ i. salted_pruned_of is (sym (returns-clause-rows g c) i) (sym (returns-clause-salts g c) i) digests) made

@@ -12,7 +12,7 @@ use Rattle.p3_merkle_hiding.specs.Salted.{salted_batch}
 use Rattle.p3_merkle_prover.specs.Parts.{layers_of, matrices_of, tree_batch}
 use Rattle.p3_merkle_core.specs.Geometry.{shape_of}
 use Rattle.p3_merkle_core.specs.Nodes.{dimensions_of, shape}
-use Rattle.p3_merkle_tree.specs.Schemes.{terms_over}
+use Rattle.p3_merkle_mmcs.specs.Schemes.{params_over}
 use Rattle.p3_merkle_hiding.specs.HidingSchemes.{generator_of, plain_of}
 use Rattle.p3_merkle_hiding.specs.SaltedCommitments.{IsSaltedCommitment}
 use Rattle.p3_merkle_hiding.specs.SaltedOpenings.{widened}
@@ -42,7 +42,7 @@ returns-clause-untouched g c = untouched_scheme c.commit.result (λ e. e ≡ Out
 pub returns-clause-commitment : goal.returns-clause-commitment
 returns-clause-commitment g c =
     let e = g.row.SALT_ELEMS in
-    let over = terms_over g.H.CryptographicHasher.hash g.C.PseudoCompressionFunction.compression g.row.D in
+    let over = params_over g.H.CryptographicHasher.hash g.C.PseudoCompressionFunction.compression g.row.D in
     let old = plain_of c.args.self.now in
     let r = c.commit.result in
     let of_word = g.P.Value.SaltWord.of_salt_word in

@@ -6,9 +6,9 @@ use Rattle.p3_merkle_core.specs.Commitments.{cap_over}
 use Rattle.p3_support.specs.Shown.{row_sets}
 use Rattle.p3_support.specs.declared.matrix.Dimensions.{Dimensions}
 use Rattle.p3_merkle_prover.specs.Parts.{matrices_of, tree_batch}
-use Rattle.p3_merkle_tree.specs.Inner.CommitmentLaws.{greatest_is, sets_are}
+use Rattle.p3_merkle_mmcs.specs.Inner.CommitmentLaws.{greatest_is, sets_are}
 use Rattle.p3_merkle_core.proofs.Lists.ViewFacts.{dimensions_are}
-use Rattle.p3_merkle_tree.specs.Schemes.{terms_of}
+use Rattle.p3_merkle_mmcs.specs.Schemes.{params_of}
 use Rattle.p3_merkle_hiding.proofs.SplitFacts.{wide_is}
 use Rattle.p3_merkle_hiding.specs.HidingSchemes.{plain_of, salted_pruned_made}
 use Rattle.p3_merkle_hiding.specs.Inner.SaltedCommitmentLaws.{left_lawful}
@@ -33,16 +33,16 @@ returns-clause-accepted g c = λ roots own.
     let is = c.args.indices.now in
     let pairs = matrices_of c.args.prover_data.now in
     let b = tree_batch c.args.prover_data.now in
-    let terms = terms_of g.H.CryptographicHasher.hash g.C.PseudoCompressionFunction.compression g.row.D
+    let params = params_of g.H.CryptographicHasher.hash g.C.PseudoCompressionFunction.compression g.row.D
     (plain_of c.args.self.now) in
     let ds = unsalted_dimensions n pairs in
     let r = c.open_multi_batch.result in
-    let cap = ap (λ z. cap_over (terms z) b) (sym (wide_is n e pairs own.columns)) ∙ sym own.committed.own_cap in
+    let cap = ap (λ z. cap_over (params z) b) (sym (wide_is n e pairs own.columns)) ∙ sym own.committed.own_cap in
     let under_cap =
     subst (λ (cap : List (List _)).
-    IfOk r (λ o. IsSaltedPrunedAccepted e ds (terms (widened e ds)) cap (salted_pruned_made is o.0 o.1))) cap
+    IfOk r (λ o. IsSaltedPrunedAccepted e ds (params (widened e ds)) cap (salted_pruned_made is o.0 o.1))) cap
     (c.open_multi_batch.ensures.accepted own.committed.own_layers own.columns) in
     subst (λ (z : List Dimensions).
-    IfOk r (λ o. IsSaltedPrunedAccepted e z (terms (widened e z)) roots
+    IfOk r (λ o. IsSaltedPrunedAccepted e z (params (widened e z)) roots
     (salted_pruned_made is o.0 o.1)))
     (dimensions_are g.M.Matrix.height_of g.M.Matrix.width_of g.M.Matrix.row_of (map left_of pairs)) under_cap

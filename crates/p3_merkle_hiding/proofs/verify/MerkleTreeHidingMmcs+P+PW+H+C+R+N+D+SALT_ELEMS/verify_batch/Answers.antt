@@ -3,10 +3,10 @@ use Rattle.std.proofs.Common.{◌∙◌, ap, rules, subst, sym}
 use Rattle.p3_merkle_core.specs.Openings.{opening_of}
 use Rattle.p3_merkle_core.specs.Refusals.{AnswersUnlessMemory, refusal_under}
 use Rattle.p3_merkle_core.specs.Views.{opening_lent}
-use Rattle.p3_merkle_tree.specs.Schemes.{terms_of}
-use Rattle.p3_merkle_tree.proofs.PrunedFacts.{verdict_by}
+use Rattle.p3_merkle_mmcs.specs.Schemes.{params_of}
+use Rattle.p3_merkle_mmcs.proofs.PrunedFacts.{verdict_by}
 use Rattle.p3_support.specs.Shown.{roots_of, row_lists}
-use Rattle.p3_merkle_hiding.specs.HidingSchemes.{plain_of, salted_lent, salted_terms_of}
+use Rattle.p3_merkle_hiding.specs.HidingSchemes.{plain_of, salted_lent, salted_params_of}
 use Rattle.p3_merkle_hiding.specs.SaltRefusals.{salted_rows_refusal}
 use Rattle.p3_merkle_hiding.specs.SaltedOpenings.{joined, salted_rows}
 use Rattle.p3_merkle_hiding.specs.SaltedPresented.{presented_salted}
@@ -18,7 +18,7 @@ returns-in_err-salted g c =
     let same = g.PW.Value.PartialEq.eq in
     let ds = c.args.dimensions.now in
     let e = g.row.SALT_ELEMS in
-    let terms = salted_terms_of g.H.CryptographicHasher.hash g.C.PseudoCompressionFunction.compression g.row.D
+    let params = salted_params_of g.H.CryptographicHasher.hash g.C.PseudoCompressionFunction.compression g.row.D
     c.args.self.now ds in
     let cap = roots_of c.args.commit.now in
     let o = salted_lent c.args.index c.args.opening in
@@ -26,19 +26,19 @@ returns-in_err-salted g c =
     let rows = ap row_lists c.unpack.ensures.values in
     let salts = ap row_lists (c.deref.ensures.value ∙ ap (λ z. z.0.items) c.unpack.ensures.proof) in
     let before = subst (AnswersUnlessMemory r) (λ i. salted_rows_refusal e ds (rows i) (salts i)) (search rules) in
-    verdict_by (presented_salted same e ds terms cap o)
-    (salted_accepted same e ds terms cap g.met.PW.PackedValue.eq_is_equality o) r
-    (refused_before r (salted_rows_refusal e ds o.rows o.salts) (refusal_under same terms cap (joined o))
+    verdict_by (presented_salted same e ds params cap o)
+    (salted_accepted same e ds params cap g.met.PW.PackedValue.eq_is_equality o) r
+    (refused_before r (salted_rows_refusal e ds o.rows o.salts) (refusal_under same params cap (joined o))
     c.from_residual.ensures.0 before)
 
 pub returns : goal.returns
 returns g c =
-    let plain = terms_of g.H.CryptographicHasher.hash g.C.PseudoCompressionFunction.compression g.row.D
+    let plain = params_of g.H.CryptographicHasher.hash g.C.PseudoCompressionFunction.compression g.row.D
     (plain_of c.args.self.now) in
     let same = g.PW.Value.PartialEq.eq in
     let ds = c.args.dimensions.now in
     let e = g.row.SALT_ELEMS in
-    let terms = salted_terms_of g.H.CryptographicHasher.hash g.C.PseudoCompressionFunction.compression g.row.D
+    let params = salted_params_of g.H.CryptographicHasher.hash g.C.PseudoCompressionFunction.compression g.row.D
     c.args.self.now ds in
     let cap = roots_of c.args.commit.now in
     let o = salted_lent c.args.index c.args.opening in
@@ -53,7 +53,7 @@ returns g c =
     let wide = c.deref-3.result.now in
     let refusal = refusal_joined same e ds wide plain cap o p none (c.deref-3.ensures.value
     ∙ c.in_ok-salted.ensures.dimensions) (λ i. opening_of c.args.index (are_joined i) (siblings i)) in
-    verdict_by (presented_salted same e ds terms cap o)
-    (salted_accepted same e ds terms cap g.met.PW.PackedValue.eq_is_equality o) r
+    verdict_by (presented_salted same e ds params cap o)
+    (salted_accepted same e ds params cap g.met.PW.PackedValue.eq_is_equality o) r
     (subst (AnswersUnlessMemory r) refusal
     (said r (refusal_under same (plain wide) cap p) c.verify_batch.ensures.answer))

@@ -3,10 +3,10 @@ use Rattle.std.proofs.Common.{◌∙◌, ap, rules, subst, sym}
 use Rattle.p3_merkle_core.specs.Pruning.{pruned_of}
 use Rattle.p3_merkle_core.specs.Refusals.{AnswersUnlessMemory, pruned_refusal_under}
 use Rattle.p3_merkle_core.specs.Views.{pruned_lent}
-use Rattle.p3_merkle_tree.specs.Schemes.{terms_of}
-use Rattle.p3_merkle_tree.proofs.PrunedFacts.{verdict_by}
+use Rattle.p3_merkle_mmcs.specs.Schemes.{params_of}
+use Rattle.p3_merkle_mmcs.proofs.PrunedFacts.{verdict_by}
 use Rattle.p3_support.specs.Shown.{roots_of, row_sets}
-use Rattle.p3_merkle_hiding.specs.HidingSchemes.{plain_of, salted_pruned_lent, salted_terms_of}
+use Rattle.p3_merkle_hiding.specs.HidingSchemes.{plain_of, salted_pruned_lent, salted_params_of}
 use Rattle.p3_merkle_hiding.specs.SaltRefusals.{salted_sets_refusal}
 use Rattle.p3_merkle_hiding.specs.SaltedOpenings.{joined_sets, salted_sets}
 use Rattle.p3_merkle_hiding.specs.SaltedPresented.{presented_salted_pruned}
@@ -19,7 +19,7 @@ returns-in_err-salted g c =
     let same = g.PW.Value.PartialEq.eq in
     let ds = c.args.dimensions.now in
     let e = g.row.SALT_ELEMS in
-    let terms = salted_terms_of g.H.CryptographicHasher.hash g.C.PseudoCompressionFunction.compression g.row.D
+    let params = salted_params_of g.H.CryptographicHasher.hash g.C.PseudoCompressionFunction.compression g.row.D
     c.args.self.now ds in
     let cap = roots_of c.args.commit.now in
     let o = salted_pruned_lent c.args.indices.now c.args.rows.now c.args.proof.now in
@@ -27,21 +27,21 @@ returns-in_err-salted g c =
     let salts = ap row_sets c.deref.ensures.value in
     let before = subst (AnswersUnlessMemory r) (λ i. salted_sets_refusal e ds (row_sets c.args.rows.now) (salts i))
     (search rules) in
-    verdict_by (presented_salted_pruned eq same e ds terms cap o)
-    (salted_pruned_accepted same e ds terms cap g.met.PW.PackedValue.eq_is_equality eq
+    verdict_by (presented_salted_pruned eq same e ds params cap o)
+    (salted_pruned_accepted same e ds params cap g.met.PW.PackedValue.eq_is_equality eq
     g.met.P.PackedValue.eq_is_equality (plain_of c.args.self.now).arity o) r
-    (refused_before r (salted_sets_refusal e ds o.rows o.salts) (pruned_refusal_under eq same terms cap (joined_sets o))
+    (refused_before r (salted_sets_refusal e ds o.rows o.salts) (pruned_refusal_under eq same params cap (joined_sets o))
     c.from_residual.ensures.0 before)
 
 pub returns : goal.returns
 returns g c =
-    let plain = terms_of g.H.CryptographicHasher.hash g.C.PseudoCompressionFunction.compression g.row.D
+    let plain = params_of g.H.CryptographicHasher.hash g.C.PseudoCompressionFunction.compression g.row.D
     (plain_of c.args.self.now) in
     let eq = g.P.Value.PartialEq.eq in
     let same = g.PW.Value.PartialEq.eq in
     let ds = c.args.dimensions.now in
     let e = g.row.SALT_ELEMS in
-    let terms = salted_terms_of g.H.CryptographicHasher.hash g.C.PseudoCompressionFunction.compression g.row.D
+    let params = salted_params_of g.H.CryptographicHasher.hash g.C.PseudoCompressionFunction.compression g.row.D
     c.args.self.now ds in
     let cap = roots_of c.args.commit.now in
     let o = salted_pruned_lent c.args.indices.now c.args.rows.now c.args.proof.now in
@@ -55,7 +55,7 @@ returns g c =
     let refusal = refusal_joined_sets eq same e ds c.deref-2.result.now plain cap o p none (c.deref-2.ensures.value
     ∙ c.in_ok-salted.ensures.dimensions)
     (λ i. pruned_of c.args.indices.now (are_joined i) c.args.proof.now.1.sibling_hashes.items) in
-    verdict_by (presented_salted_pruned eq same e ds terms cap o)
-    (salted_pruned_accepted same e ds terms cap g.met.PW.PackedValue.eq_is_equality eq
+    verdict_by (presented_salted_pruned eq same e ds params cap o)
+    (salted_pruned_accepted same e ds params cap g.met.PW.PackedValue.eq_is_equality eq
     g.met.P.PackedValue.eq_is_equality (plain_of c.args.self.now).arity o) r
     (subst (AnswersUnlessMemory r) refusal c.verify_multi_batch.ensures.verdict.answer)

@@ -4,7 +4,7 @@ use Rattle.std.specs.List.{range_with_len}
 use Rattle.std.proofs.lemmas.List.{take_at}
 use Rattle.std.proofs.lemmas.List.FromFn.{length-map-range_with_len}
 use Rattle.p3_merkle_core.specs.Nodes.{functions_of}
-use Rattle.p3_merkle_lanes.specs.Inner.Slots.{leaf_over, rows_over}
+use Rattle.p3_merkle_digests.specs.Inner.Slots.{leaf_over, rows_over}
 use Rattle.p3_merkle_prover.specs.Inner.Levels.{slot_above}
 use Rattle.p3_merkle_prover.proofs.layer.LayerBuilder+P+PW+H+C+M+array+D+PW+Value+array+N+array+D+PW+Value.layer.Goals as goal
 

@@ -4,8 +4,8 @@ use Rattle.std.proofs.Math.Nat.{mul-le-mul_left}
 use Rattle.std.proofs.lemmas.Bool.{lt-ltb}
 use Rattle.p3_support.specs.Lists.{lane_of}
 use Rattle.p3_merkle_core.specs.Nodes.{functions_of}
-use Rattle.p3_merkle_lanes.specs.Inner.Slots.{leaf_over, rows_over}
-use Rattle.p3_merkle_lanes.proofs.LaneFacts.{children_long}
+use Rattle.p3_merkle_digests.specs.Inner.Slots.{leaf_over, rows_over}
+use Rattle.p3_merkle_digests.proofs.LaneFacts.{children_long}
 use Rattle.p3_merkle_prover.proofs.NodeFacts.{node_alone, node_with}
 use Rattle.p3_merkle_prover.proofs.layer.LayerBuilder+P+PW+H+C+M+array+D+PW+Value+array+N+array+D+PW+Value.packed_node.Goals as goal
 

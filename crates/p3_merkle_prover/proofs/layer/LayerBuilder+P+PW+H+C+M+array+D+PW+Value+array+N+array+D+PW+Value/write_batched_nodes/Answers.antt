@@ -5,8 +5,8 @@ use Rattle.std.proofs.Math.Nat.{mul-le-mul_left, mul-suc}
 use Rattle.std.proofs.lemmas.List.{length-take-le}
 use Rattle.std.proofs.lemmas.List.FromFn.{get_or-map-range_with_len, length-map-range_with_len}
 use Rattle.p3_merkle_core.specs.Nodes.{functions_of}
-use Rattle.p3_merkle_lanes.specs.Inner.Slots.{leaf_over, rows_over}
-use Rattle.p3_merkle_lanes.proofs.StageFacts.{below_quotient, group_whole}
+use Rattle.p3_merkle_digests.specs.Inner.Slots.{leaf_over, rows_over}
+use Rattle.p3_merkle_digests.proofs.StageFacts.{below_quotient, group_whole}
 use Rattle.p3_merkle_prover.proofs.NodeFacts.{node_alone, node_with}
 use Rattle.p3_merkle_prover.proofs.layer.LayerBuilder+P+PW+H+C+M+array+D+PW+Value+array+N+array+D+PW+Value.write_batched_nodes.Goals as goal
 

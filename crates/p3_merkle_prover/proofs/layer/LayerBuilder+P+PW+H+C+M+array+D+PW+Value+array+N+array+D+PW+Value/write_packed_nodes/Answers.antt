@@ -2,9 +2,9 @@
 use Rattle.std.proofs.Common.{arith, ◌≡◌, ℕ, ◌+◌, ◌*◌, ◌<◌, ◌≤◌, ◌∙◌, [], refl, length, replicate, slice_index_or}
 use Rattle.p3_support.specs.Lists.{lane_of}
 use Rattle.p3_merkle_core.specs.Nodes.{functions_of}
-use Rattle.p3_merkle_lanes.specs.Inner.Slots.{leaf_over, rows_over}
+use Rattle.p3_merkle_digests.specs.Inner.Slots.{leaf_over, rows_over}
 use Rattle.p3_merkle_prover.specs.Inner.Levels.{slot_above}
-use Rattle.p3_merkle_lanes.proofs.LaneFacts.{group_end, group_more}
+use Rattle.p3_merkle_digests.proofs.LaneFacts.{group_end, group_more}
 use Rattle.p3_merkle_prover.proofs.layer.LayerBuilder+P+PW+H+C+M+array+D+PW+Value+array+N+array+D+PW+Value.write_packed_nodes.Goals as goal
 
 -- a block ends within all, whatever its width is called

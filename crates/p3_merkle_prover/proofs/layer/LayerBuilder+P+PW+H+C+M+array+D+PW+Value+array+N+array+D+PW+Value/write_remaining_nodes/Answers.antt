@@ -3,7 +3,7 @@ use Rattle.std.proofs.Common.{arith, ◌∙◌, length, [], replicate, length-se
 use Rattle.std.proofs.lemmas.List.FromFn.{fill_by_all}
 use Rattle.p3_support.proofs.Fills.{filled_more}
 use Rattle.p3_merkle_core.specs.Nodes.{functions_of}
-use Rattle.p3_merkle_lanes.specs.Inner.Slots.{leaf_over, rows_over}
+use Rattle.p3_merkle_digests.specs.Inner.Slots.{leaf_over, rows_over}
 use Rattle.p3_merkle_prover.specs.Inner.Levels.{slot_above}
 use Rattle.p3_merkle_prover.proofs.layer.LayerBuilder+P+PW+H+C+M+array+D+PW+Value+array+N+array+D+PW+Value.write_remaining_nodes.Goals as goal
 

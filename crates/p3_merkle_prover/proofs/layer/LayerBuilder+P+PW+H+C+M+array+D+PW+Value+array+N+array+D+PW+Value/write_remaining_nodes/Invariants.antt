@@ -1,7 +1,7 @@
 use Rattle.std.proofs.Common.{length, replicate}
 use Rattle.p3_merkle_core.specs.Nodes.{functions_of}
 use Rattle.p3_merkle_prover.specs.Inner.Levels.{slot_above}
-use Rattle.p3_merkle_lanes.specs.Inner.Slots.{leaf_over, rows_over, IsFilled}
+use Rattle.p3_merkle_digests.specs.Inner.Slots.{leaf_over, rows_over, IsFilled}
 use Rattle.p3_merkle_prover.proofs.layer.LayerBuilder+P+PW+H+C+M+array+D+PW+Value+array+N+array+D+PW+Value.write_remaining_nodes.Given as goal
 
 -- the slots so far are written

@@ -1,7 +1,7 @@
 -- The leaves are over the matrices of the height alone.
 use Rattle.std.proofs.Common.{◌∙◌, ℕ, refl, ap, map, replicate}
 use Rattle.p3_support.specs.Lists.{rows_of_height}
-use Rattle.p3_merkle_lanes.specs.Inner.Slots.{leaf_over, rows_over}
+use Rattle.p3_merkle_digests.specs.Inner.Slots.{leaf_over, rows_over}
 use Rattle.p3_merkle_prover.proofs.LayerFacts.{rows_picked, same_made}
 use Rattle.p3_merkle_prover.proofs.layers.Builder+P+PW+H+C+M+array+N+array+D+PW+Value.first_layer.Goals as goal
 

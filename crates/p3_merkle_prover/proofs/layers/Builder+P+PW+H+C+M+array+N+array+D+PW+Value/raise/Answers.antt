@@ -17,11 +17,11 @@ level_above-level-requires g c =
     ) in
     rw (c.requires.arity, last) (below_top c.requires.build k c.requires.more)
 
-pub tell_children-requires-clause-level : goal.tell_children-requires-clause-level
-tell_children-requires-clause-level g c = rw c.requires.arity at c.level_above-level.ensures.level
+pub lemma_children-requires-clause-level : goal.lemma_children-requires-clause-level
+lemma_children-requires-clause-level g c = rw c.requires.arity at c.level_above-level.ensures.level
 
-pub tell_children-requires-clause-slots : goal.tell_children-requires-clause-slots
-tell_children-requires-clause-slots g c =
+pub lemma_children-requires-clause-slots : goal.lemma_children-requires-clause-slots
+lemma_children-requires-clause-slots g c =
     let f = functions_of (g.H.CryptographicHasher.hash c.args.self.now.hash.now)
     (g.C.PseudoCompressionFunction.compression c.args.self.now.compress.now)
     (replicate g.row.D g.PW.PackedValue.default_value) in

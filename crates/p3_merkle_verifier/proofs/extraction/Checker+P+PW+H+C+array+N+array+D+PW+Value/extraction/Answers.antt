@@ -8,7 +8,7 @@ use Rattle.p3_merkle_verifier.proofs.ExtractFacts.{both_taken, first_refused, se
 use Rattle.p3_merkle_verifier.proofs.FormFacts.{reach_from}
 use Rattle.p3_merkle_verifier.proofs.extraction.Checker+P+PW+H+C+array+N+array+D+PW+Value.extraction.Goals as goal
 use Rattle.p3_merkle_core.specs.Refusals.{refusal_under}
-use Rattle.p3_merkle_core.specs.Checks.{terms}
+use Rattle.p3_merkle_core.specs.Checks.{params}
 
 pub returns-in_err-check_opening : goal.returns-in_err-check_opening
 returns-in_err-check_opening g c =
@@ -16,7 +16,7 @@ returns-in_err-check_opening g c =
     (g.C.PseudoCompressionFunction.compression c.args.self.now.compress.now)
     (replicate g.row.D g.PW.PackedValue.default_value) in
     let refusal = refusal_under g.PW.Value.PartialEq.eq
-    (terms f (shape_of g.row.N c.args.dimensions.now) c.args.cap_layer)
+    (params f (shape_of g.row.N c.args.dimensions.now) c.args.cap_layer)
     c.args.roots.now in
     let p = err_from_is_err_and c.from_residual.result c.from_residual.ensures.1 in
     rw (p.1, p.2) (record {
@@ -31,7 +31,7 @@ returns-in_err-check_opening-2 g c =
     (g.C.PseudoCompressionFunction.compression c.args.self.now.compress.now)
     (replicate g.row.D g.PW.PackedValue.default_value) in
     let refusal = refusal_under g.PW.Value.PartialEq.eq
-    (terms f (shape_of g.row.N c.args.dimensions.now) c.args.cap_layer)
+    (params f (shape_of g.row.N c.args.dimensions.now) c.args.cap_layer)
     c.args.roots.now in
     let p = err_from_is_err_and c.from_residual-in_err-check_opening-2.result
     c.from_residual-in_err-check_opening-2.ensures.1 in
@@ -48,7 +48,7 @@ returns-clause-answer g c =
     (g.C.PseudoCompressionFunction.compression c.args.self.now.compress.now)
     (replicate g.row.D g.PW.PackedValue.default_value) in
     let refusal = refusal_under g.PW.Value.PartialEq.eq
-    (terms f (shape_of g.row.N c.args.dimensions.now) c.args.cap_layer)
+    (params f (shape_of g.row.N c.args.dimensions.now) c.args.cap_layer)
     c.args.roots.now in
     both_taken (refusal (opening_in c.args.first)) (refusal (opening_in c.args.second))
     (rw c.steps_of-steps.ensures.dimensions at c.in_ok-check_opening.ensures)

@@ -1,0 +1,10 @@
+use Rattle.std.proofs.Common.{◌≡◌, ℕ, ◌<◌, length, slice_index_or, []}
+use Rattle.p3_support.specs.Lists.{message}
+use Rattle.p3_hashes.proofs.batched.Batched3CryptographicHasher.hash_many.Given as goal
+
+-- the messages so far are hashed
+abbrev pub invariant-loop-i : goal.invariant-loop-i
+invariant-loop-i g l =
+    (length l.out ≡ length l.initial.out)
+    × ((j : ℕ) → j < l.i → slice_index_or l.out j []
+    ≡ g.X.CryptographicHasher.hash l.self.0 (message l.width l.messages j))

@@ -1,0 +1,28 @@
+use Rattle.std.proofs.Common.{◌≡◌, ◌∙◌, ap, sym, ◌++◌, ◌∷◌, [], map, append-nil}
+use Rattle.std.specs.List.{fold, flat_map}
+use Rattle.std.proofs.lemmas.Grind.{flat_map-append}
+use Rattle.p3_support.specs.Fold.{fold_hash, take_in}
+use Rattle.p3_support.proofs.LaneReads.{alone}
+use Rattle.p3_hashes.proofs.FoldSteps.{fold_hash-append}
+use Rattle.p3_support.proofs.Runs.{run_of_loop}
+use Rattle.p3_hashes.proofs.fold.FoldHashCryptographicHasher.hash_iter_slices.Goals as goal
+
+pub loop-words-init : goal.loop-words-init
+loop-words-init g c = alone 0 c.start-state.result (fold_hash g.row.D []) c.start-state.ensures
+
+pub loop-words-preserved : goal.loop-words-preserved
+loop-words-preserved g c =
+    let items = g.S.AsSlice.items in
+    let so_far = c.loop-words.yielded in
+    let words = c.in-Some.words in
+    let more : flat_map items (so_far ++ words ∷ []) ≡ flat_map items so_far ++ items words =
+    flat_map-append items so_far (words ∷ []) ∙ ap (λ l. flat_map items so_far ++ l) (append-nil (items words)) in
+    c.absorb_slice.ensures ∙ ap (λ l. map (λ s. fold take_in s l) c.loop-words.state) c.as_slice.ensures
+    ∙ ap (map (λ s. fold take_in s (items words))) c.loop-words.invariant
+    ∙ fold_hash-append g.row.D (flat_map items so_far) (items words) ∙ ap (fold_hash g.row.D) (sym more)
+
+pub returns : goal.returns
+returns g c =
+    run_of_loop g.I.Iterator.next_gives (λ xs. c.loop-words.state ≡ fold_hash g.row.D (flat_map g.S.AsSlice.items xs))
+    c.loop-words.yielded _ c.into_iter-words-iterator.ensures.into_iter_gives c.loop-words.yielded_by c.in-None.is
+    c.next.ensures.steps c.loop-words.invariant

@@ -1,0 +1,13 @@
+use Rattle.std.proofs.Common.{◌∙◌, ap, [], map}
+use Rattle.std.specs.List.{fold}
+use Rattle.p3_support.specs.Fold.{fold_hash, take_in}
+use Rattle.p3_support.proofs.LaneReads.{alone}
+use Rattle.p3_hashes.proofs.FoldSteps.{fold_hash-append}
+use Rattle.p3_hashes.proofs.fold.hash_words.Goals as goal
+
+pub returns : goal.returns
+returns g c =
+    let words = c.args.words.now in
+    c.absorb_slice.ensures
+    ∙ ap (map (λ s. fold take_in s words))
+    (alone 0 c.start-state.result (fold_hash g.row.D []) c.start-state.ensures) ∙ fold_hash-append g.row.D [] words

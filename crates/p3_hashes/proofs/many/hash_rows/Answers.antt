@@ -1,0 +1,18 @@
+use Rattle.std.proofs.Common.{rules, ◌≡◌, ℕ, ◌<◌, ◌/◌, ◌∙◌, sym, ap, length, []}
+use Rattle.std.specs.List.{range_with_len}
+use Rattle.std.proofs.Math.Nat.{mul-div_cancel}
+use Rattle.std.proofs.lemmas.List.FromFn.{fill_by_all}
+use Rattle.std.proofs.lemmas.Simd.{map-map}
+use Rattle.sha2.specs.Sha256.{sha256}
+use Rattle.p3_support.specs.Lists.{message}
+use Rattle.p3_hashes.proofs.many.hash_rows.Goals as goal
+
+pub returns : goal.returns
+returns c = λ w e.
+    let xs = c.args.messages.now in
+    let n = length c.args.out.now in
+    let some : 0 < n = search rules in
+    let width : length xs / n ≡ w = rw e (mul-div_cancel w some) in
+    fill_by_all (λ i. sha256 (message w xs i)) c.hash_all.new.out n [] c.hash_all.ensures.long
+    (λ k h. c.hash_all.ensures.filled k h ∙ ap (λ (v : ℕ). sha256 (message v xs k)) width)
+    ∙ sym (map-map sha256 (message w xs) (range_with_len 0 n))

@@ -1,0 +1,33 @@
+use Rattle.std.proofs.Common.{◌≡◌, ℕ, List, ◌+◌, ◌*◌, ◌/◌, ◌∙◌, refl, sym, ap, add-one, length, take, drop, arith}
+use Rattle.sha2.specs.Sha256.{compress, hash_after, initial_hash_256, padded_message}
+use Rattle.p3_support.specs.Lists.{message}
+use Rattle.p3_hashes.proofs.Lanewise.{each_lane}
+use Rattle.p3_hashes.proofs.Padding.{length-message, length-padded_message, word_of_block}
+use Rattle.p3_hashes.proofs.messages.hash_states.Goals as goal
+
+pub loop-t-init : goal.loop-t-init
+unfolding hash_after
+loop-t-init c = each_lane _ refl refl refl refl refl refl refl refl
+
+-- one more block
+hash_next : (h p : List ℕ) (t : ℕ) → hash_after h p (t + 1) ≡ compress (hash_after h p t) (take 64 (drop (t * 64) p))
+unfolding hash_after
+hash_next h p t = rw add-one refl
+
+pub loop-t-preserved : goal.loop-t-preserved
+loop-t-preserved c = λ j below.
+    let p = padded_message (message c.args.width c.args.messages.now j) in
+    let t = c.loop-t.t in
+    let block = take 64 (drop (t * 64) p) in
+    c.compress_eight.ensures j below block (λ i inside. c.padded_block.ensures j i below inside
+    ∙ sym (word_of_block p t i inside))
+    ∙ ap (λ (s : List ℕ). compress s block) (c.loop-t.invariant j below) ∙ sym (hash_next initial_hash_256 p t)
+
+pub returns : goal.returns
+returns c = λ j below.
+    let m = message c.args.width c.args.messages.now j in
+    let long : length m ≡ c.args.width = length-message c.args.width c.args.messages.now j below c.requires in
+    let whole : length (padded_message m) ≡ 64 * ((c.args.width + 72) / 64) = length-padded_message m
+    ∙ ap (λ (n : ℕ). 64 * ((n + 72) / 64)) long in
+    let count : c.loop-t.t ≡ length (padded_message m) / 64 = rw whole (omega (arith, c.loop-t.auto.t-end)) in
+    c.loop-t.invariant j below ∙ ap (hash_after initial_hash_256 (padded_message m)) count

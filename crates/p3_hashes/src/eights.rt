@@ -1,0 +1,334 @@
+//! The fold functions of many messages and of many groups, eight at a time: each of the eight in a
+//! lane of its own.
+ghost use Rattle.std.specs.Prelude.{◌≡◌, ℕ, ◌+◌, ◌*◌, ◌/◌, ◌^◌, ◌<◌, ◌≤◌, [], length, map, slice_index_or, slice_range};
+ghost use Rattle.std.specs.Prelude.{take};
+ghost use Rattle.p3_support.specs.Lists.{lane_of, message as message_of};
+ghost use Rattle.std.specs.List.{fold as folded};
+ghost use Rattle.p3_hashes.specs.Inner.Eights.{lanes_of};
+ghost use Rattle.p3_hashes.specs.Inner.Turned.{turned};
+ghost use Rattle.p3_support.specs.Fold.{fold_hash, fold_compress, take_in};
+
+use crate::fold::{FoldLane, absorb, compress_group, compress_lanes, hash_words, start};
+use crate::lanes::{U32x8, turn_four};
+use p3_support::packed::{pack_columns_fn, unpack_at};
+use std::simd::prelude::*;
+
+/// The longest digest, in words, for which eight messages are hashed together. A longer one leaves
+/// no registers for the transposed words.
+const MOST_HASHED: usize = 4;
+
+/// The longest digest, in words, for which eight groups are compressed together. A longer one fills
+/// vectors by itself.
+const MOST_COMPRESSED: usize = 1;
+
+/// The word of a message at a column. The messages lie one after another, of `width` words each.
+fn word_at(messages: &[u32], width: usize, message: usize, column: usize) -> u32
+    requires full { (n : ℕ) × (message < n) × (length messages.now ≡ n * width) }
+    requires inside { column < width }
+    ensures { result ≡ slice_index_or (message_of width messages.now message) column 0 }
+{
+    messages[message * width + column]
+}
+
+/// The words at a column of as many messages as `P` has lanes, from message `first` on.
+fn column_of<P: FoldLane>(messages: &[u32], width: usize, first: usize, column: usize) -> P
+    requires full { (n : ℕ) × (first + P.WIDTH ≤ n) × (length messages.now ≡ n * width) }
+    requires fits { first + P.WIDTH < 2 ^ 64 }
+    requires inside { column < width }
+    ensures { (k : ℕ) → k < P.WIDTH →
+        slice_index_or (P.lanes result) k P.default_value
+        ≡ slice_index_or (message_of width messages.now (first + k)) column 0 }
+{
+    P::from_fn(
+        |k| -> u32
+            requires full { (n : ℕ) × (first + k < n) × (length messages.now ≡ n * width) }
+            requires fits { first + k < 2 ^ 64 }
+            requires inside { column < width }
+            ensures { result
+                ≡ slice_index_or (message_of width messages.entry.now (first + k)) column 0 }
+        { word_at(messages, width, first + k, column) },
+    )
+}
+
+/// Takes the columns from `from` on into the state, which has taken in those before them.
+fn absorb_columns<P: FoldLane, const D: usize>(
+    state: &mut [P; D],
+    messages: &[u32],
+    width: usize,
+    first: usize,
+    from: usize,
+)
+    requires full { (n : ℕ) × (first + P.WIDTH ≤ n) × (length messages.now ≡ n * width) }
+    requires fits { first + P.WIDTH < 2 ^ 64 }
+    requires inside { from ≤ width }
+    requires before { (k : ℕ) → k < P.WIDTH →
+        lane_of P.lanes P.default_value k state.old
+        ≡ fold_hash D (take from (message_of width messages.now (first + k))) }
+    ensures { (k : ℕ) → k < P.WIDTH →
+        lane_of P.lanes P.default_value k state.new
+        ≡ fold_hash D (message_of width messages.now (first + k)) }
+{
+    for column in from..width {
+        absorb(state, column_of(messages, width, first, column));
+    }
+}
+
+/// The state after several packed words.
+fn absorb_words<P: FoldLane, const D: usize>(state: &mut [P; D], words: &[P])
+    ensures { (k : ℕ) → k < P.WIDTH →
+        lane_of P.lanes P.default_value k state.new
+        ≡ map (λ s. folded take_in s (lane_of P.lanes P.default_value k words.now))
+        (lane_of P.lanes P.default_value k state.old) }
+{
+    for word in words {
+        absorb(state, *word);
+    }
+}
+
+/// Four words of a message, from `column` on.
+fn words_at(messages: &[u32], width: usize, message: usize, column: usize) -> &[u32]
+    requires full { (n : ℕ) × (message < n) × (length messages.now ≡ n * width) }
+    requires inside { column + 4 ≤ width }
+    ensures words { result.now
+        ≡ slice_range (message_of width messages.now message) column (column + 4) }
+    ensures long { length result.now ≡ 4 }
+{
+    let words = &messages[message * width..(message + 1) * width];
+    &words[column..column + 4]
+}
+
+/// Four columns of four messages, from message `first` and from `column` on.
+fn four_columns(messages: &[u32], width: usize, first: usize, column: usize) -> [u32x4; 4]
+    requires full { (n : ℕ) × (first + 4 ≤ n) × (length messages.now ≡ n * width) }
+    requires fits { first + 4 < 2 ^ 64 }
+    requires inside { column + 4 ≤ width }
+    ensures columns { let row =
+        (λ (k : ℕ). slice_range (message_of width messages.now (first + k)) column (column + 4)) in
+        result ≡ turned (row 0) (row 1) (row 2) (row 3) }
+    ensures long { (k : ℕ) → k < 4 →
+        length (slice_range (message_of width messages.now (first + k)) column (column + 4)) ≡ 4 }
+{
+    turn_four(
+        words_at(messages, width, first, column),
+        words_at(messages, width, first + 1, column),
+        words_at(messages, width, first + 2, column),
+        words_at(messages, width, first + 3, column),
+    )
+}
+
+/// Four columns of eight messages, from message `first` and from `column` on.
+fn columns_of_eight(messages: &[u32], width: usize, first: usize, column: usize) -> [U32x8; 4]
+    requires full { (n : ℕ) × (first + 8 ≤ n) × (length messages.now ≡ n * width) }
+    requires fits { first + 8 < 2 ^ 64 }
+    requires inside { column + 4 ≤ width }
+    ensures { (k : ℕ) → k < 8 → lane_of lanes_of 0 k result
+        ≡ slice_range (message_of width messages.now (first + k)) column (column + 4) }
+{
+    let front = four_columns(messages, width, first, column);
+    let back = four_columns(messages, width, first + 4, column);
+    [
+        U32x8::join(front[0], back[0]),
+        U32x8::join(front[1], back[1]),
+        U32x8::join(front[2], back[2]),
+        U32x8::join(front[3], back[3]),
+    ]
+}
+
+/// Takes the words of eight messages into the state, four columns at a time. The columns after the
+/// last whole four are left out.
+fn absorb_fours<const D: usize>(
+    state: &mut [U32x8; D],
+    messages: &[u32],
+    width: usize,
+    first: usize,
+)
+    requires full { (n : ℕ) × (first + 8 ≤ n) × (length messages.now ≡ n * width) }
+    requires fits { first + 8 < 2 ^ 64 }
+    requires before { (k : ℕ) → k < 8 → lane_of lanes_of 0 k state.old ≡ fold_hash D [] }
+    ensures { (k : ℕ) → k < 8 → lane_of lanes_of 0 k state.new
+        ≡ fold_hash D (take (4 * (width / 4)) (message_of width messages.now (first + k))) }
+{
+    for block in 0..width / 4 {
+        absorb_words(state, &columns_of_eight(messages, width, first, 4 * block));
+    }
+}
+
+/// The digests of eight messages, from message `first` on.
+fn hash_eight<const D: usize>(messages: &[u32], width: usize, first: usize) -> [U32x8; D]
+    requires full { (n : ℕ) × (first + 8 ≤ n) × (length messages.now ≡ n * width) }
+    requires fits { first + 8 < 2 ^ 64 }
+    ensures { (k : ℕ) → k < 8 → lane_of lanes_of 0 k result
+        ≡ fold_hash D (message_of width messages.now (first + k)) }
+{
+    let mut state = start();
+    absorb_fours(&mut state, messages, width, first);
+    absorb_columns(&mut state, messages, width, first, 4 * (width / 4));
+    state
+}
+
+/// Writes the digests of the messages, but for those after the last whole eight.
+fn hash_eights<const D: usize>(messages: &[u32], width: usize, out: &mut [[u32; D]])
+    requires { length messages.now ≡ length out.old * width }
+    ensures long { length out.new ≡ length out.old }
+    ensures filled { (j : ℕ) → j < 8 * (length out.old / 8) →
+        slice_index_or out.new j [] ≡ fold_hash D (message_of width messages.now j) }
+{
+    for group in 0..out.len() / 8 {
+        let digests: [U32x8; D] = hash_eight(messages, width, 8 * group);
+        unpack_at(&digests, out, 8 * group);
+    }
+}
+
+/// Writes the digests of the messages from message `from` on, one by one.
+fn hash_rest<const D: usize>(messages: &[u32], width: usize, from: usize, out: &mut [[u32; D]])
+    requires full { length messages.now ≡ length out.old * width }
+    requires inside { from ≤ length out.old }
+    ensures long { length out.new ≡ length out.old }
+    ensures before { (j : ℕ) → j < from →
+        slice_index_or out.new j [] ≡ slice_index_or out.old j [] }
+    ensures filled { (j : ℕ) → from ≤ j → j < length out.old →
+        slice_index_or out.new j [] ≡ fold_hash D (message_of width messages.now j) }
+{
+    for i in from..out.len() {
+        out[i] = hash_words(&messages[i * width..(i + 1) * width]);
+    }
+}
+
+/// Writes the digests of the messages, which lie one after another, of `width` words each.
+pub(crate) fn hash_all<const D: usize>(messages: &[u32], width: usize, out: &mut [[u32; D]])
+    requires { length messages.now ≡ length out.old * width }
+    ensures long { length out.new ≡ length out.old }
+    ensures filled { (j : ℕ) → j < length out.old →
+        slice_index_or out.new j [] ≡ fold_hash D (message_of width messages.now j) }
+{
+    if D > MOST_HASHED {
+        hash_rest(messages, width, 0, out);
+        return;
+    }
+    hash_eights(messages, width, out);
+    hash_rest(messages, width, 8 * (out.len() / 8), out);
+}
+
+/// The child of a group at a place.
+fn child_of<const N: usize, const D: usize>(
+    groups: &[[[u32; D]; N]],
+    group: usize,
+    place: usize,
+) -> &[u32]
+    requires group { group < length groups.now }
+    requires inside { place < N }
+    ensures child { result.now ≡ slice_index_or (slice_index_or groups.now group []) place [] }
+    ensures long { length result.now ≡ D }
+{
+    &groups[group][place]
+}
+
+/// The child at a place of as many groups as `P` has lanes, from group `first` on.
+fn pack_child<P: FoldLane, const N: usize, const D: usize>(
+    groups: &[[[u32; D]; N]],
+    first: usize,
+    place: usize,
+) -> [P; D]
+    requires groups { first + P.WIDTH ≤ length groups.now }
+    requires inside { place < N }
+    ensures { (k : ℕ) → k < P.WIDTH →
+        lane_of P.lanes P.default_value k result
+        ≡ slice_index_or (slice_index_or groups.now (first + k) []) place [] }
+{
+    pack_columns_fn(
+        |k| -> &[u32]
+            requires group { first + k < length groups.now }
+            requires inside { place < N }
+            ensures child { result.now
+                ≡ slice_index_or (slice_index_or groups.entry.now (first + k) []) place [] }
+            ensures long { length result.now ≡ D }
+        { child_of(groups, first + k, place) },
+    )
+}
+
+/// Tells that a group has `N` children. It does nothing at run time.
+fn lemma_group<const N: usize, const D: usize>(group: &[[u32; D]; N])
+    ensures { length group.now ≡ N }
+{}
+
+/// Tells that each of the `P::WIDTH` groups from `first` on has `N` children. It does nothing at run
+/// time.
+fn lemma_groups<P: FoldLane, const N: usize, const D: usize>(groups: &[[[u32; D]; N]], first: usize)
+    requires { first + P.WIDTH ≤ length groups.now }
+    ensures { (k : ℕ) → k < P.WIDTH → length (slice_index_or groups.now (first + k) []) ≡ N }
+{
+    for k in 0..P::WIDTH {
+        lemma_group(&groups[first + k]);
+    }
+}
+
+/// As many groups as `P` has lanes, from group `first` on, packed.
+fn pack_groups<P: FoldLane, const N: usize, const D: usize>(
+    groups: &[[[u32; D]; N]],
+    first: usize,
+) -> [[P; D]; N]
+    requires { first + P.WIDTH ≤ length groups.now }
+    ensures { (k : ℕ) → k < P.WIDTH →
+        map (lane_of P.lanes P.default_value k) result ≡ slice_index_or groups.now (first + k) [] }
+{
+    lemma_groups::<P, N, D>(groups, first);
+    std::array::from_fn(
+        |place| -> [P; D]
+            requires groups { first + P.WIDTH ≤ length groups.now }
+            requires inside { place < N }
+            ensures { (k : ℕ) → k < P.WIDTH →
+                lane_of P.lanes P.default_value k result
+                ≡ slice_index_or (slice_index_or groups.entry.now (first + k) []) place [] }
+        { pack_child(groups, first, place) },
+    )
+}
+
+/// Writes the digests of the groups, but for those after the last whole eight.
+fn compress_eights<const N: usize, const D: usize>(groups: &[[[u32; D]; N]], out: &mut [[u32; D]])
+    requires { length groups.now ≡ length out.old }
+    ensures long { length out.new ≡ length out.old }
+    ensures filled { (j : ℕ) → j < 8 * (length out.old / 8) →
+        slice_index_or out.new j [] ≡ fold_compress D (slice_index_or groups.now j []) }
+{
+    for eight in 0..out.len() / 8 {
+        let children: [[U32x8; D]; N] = pack_groups(groups, 8 * eight);
+        unpack_at(&compress_lanes(&children), out, 8 * eight);
+    }
+}
+
+/// Writes the digests of the groups from group `from` on, one by one.
+fn compress_rest<const N: usize, const D: usize>(
+    groups: &[[[u32; D]; N]],
+    from: usize,
+    out: &mut [[u32; D]],
+)
+    requires long { length groups.now ≡ length out.old }
+    requires inside { from ≤ length out.old }
+    ensures long { length out.new ≡ length out.old }
+    ensures before { (j : ℕ) → j < from →
+        slice_index_or out.new j [] ≡ slice_index_or out.old j [] }
+    ensures filled { (j : ℕ) → from ≤ j → j < length out.old →
+        slice_index_or out.new j [] ≡ fold_compress D (slice_index_or groups.now j []) }
+{
+    for i in from..out.len() {
+        out[i] = compress_group(&groups[i]);
+    }
+}
+
+/// Writes the digests of the groups.
+pub(crate) fn compress_all<const N: usize, const D: usize>(
+    groups: &[[[u32; D]; N]],
+    out: &mut [[u32; D]],
+)
+    requires { length groups.now ≡ length out.old }
+    ensures long { length out.new ≡ length out.old }
+    ensures filled { (j : ℕ) → j < length out.old →
+        slice_index_or out.new j [] ≡ fold_compress D (slice_index_or groups.now j []) }
+{
+    if D > MOST_COMPRESSED {
+        compress_rest(groups, 0, out);
+        return;
+    }
+    compress_eights(groups, out);
+    compress_rest(groups, 8 * (out.len() / 8), out);
+}

@@ -1,0 +1,259 @@
+//! The digests of messages of one length, which lie one after another, eight at a time: their padding (FIPS 180-4,
+//! 5.1.1), which is the same for all, their words in lanes, their hash values, and what is left one by one.
+ghost use Rattle.std.specs.Prelude.{◌≡◌, List, ℕ, [], ◌+◌, ◌*◌, ◌/◌, ◌^◌, ◌<◌, ◌≤◌, length, slice_index};
+ghost use Rattle.std.specs.Prelude.{slice_index_or};
+ghost use Rattle.sha2.specs.Sha256.{digest_bytes, final_hash, initial_hash_256, padded_message, sha256, word_at};
+ghost use Rattle.p3_support.specs.Lists.{message};
+ghost use Rattle.p3_hashes.specs.Inner.Lanes.{lane};
+
+use crate::block::compress_eight;
+use crate::consts::INITIAL;
+use crate::digest_size::DigestSize;
+use sha2::{Digest, Sha256};
+use std::simd::prelude::*;
+
+/// The four bytes from `at` on as a word, high byte first.
+#[inline(always)]
+fn word(bytes: &[u8], at: usize) -> u32
+    requires { at + 4 ≤ length bytes.now }
+    ensures { result ≡ word_at bytes.now at }
+{
+    u32::from_be_bytes([bytes[at], bytes[at + 1], bytes[at + 2], bytes[at + 3]])
+}
+
+/// The words at byte `at` of the eight messages.
+#[inline(always)]
+fn words(messages: &[u8], width: usize, at: usize) -> u32x8
+    requires full { length messages.now ≡ 8 * width }
+    requires inside { at + 4 ≤ width }
+    ensures { (j : ℕ) → j < 8 → slice_index result j ≡ word_at messages.now (j * width + at) }
+{
+    u32x8::from_array([
+        word(messages, at),
+        word(messages, width + at),
+        word(messages, 2 * width + at),
+        word(messages, 3 * width + at),
+        word(messages, 4 * width + at),
+        word(messages, 5 * width + at),
+        word(messages, 6 * width + at),
+        word(messages, 7 * width + at),
+    ])
+}
+
+/// Byte `at` of message `j` and its padding, before the length.
+#[inline(always)]
+fn padded_byte(messages: &[u8], width: usize, j: usize, at: usize) -> u8
+    requires full { length messages.now ≡ 8 * width }
+    requires lane { j < 8 }
+    requires before { at + 8 < 64 * ((width + 72) / 64) }
+    ensures { result ≡ slice_index (padded_message (message width messages.now j)) at }
+{
+    if at < width {
+        messages[j * width + at]
+    } else if at == width {
+        0x80
+    } else {
+        0
+    }
+}
+
+/// The word at byte `at` of message `j` and its padding, before the length.
+#[inline(always)]
+fn mixed_word(messages: &[u8], width: usize, j: usize, at: usize) -> u32
+    requires full { length messages.now ≡ 8 * width }
+    requires lane { j < 8 }
+    requires before { at + 12 ≤ 64 * ((width + 72) / 64) }
+    requires start { at ≤ width }
+    ensures { result ≡ word_at (padded_message (message width messages.now j)) at }
+{
+    u32::from_be_bytes([
+        padded_byte(messages, width, j, at),
+        padded_byte(messages, width, j, at + 1),
+        padded_byte(messages, width, j, at + 2),
+        padded_byte(messages, width, j, at + 3),
+    ])
+}
+
+/// The words at byte `at` of the eight messages and their padding, before the length, where the
+/// messages end within them.
+fn mixed_words(messages: &[u8], width: usize, at: usize) -> u32x8
+    requires full { length messages.now ≡ 8 * width }
+    requires before { at + 12 ≤ 64 * ((width + 72) / 64) }
+    requires start { at ≤ width }
+    ensures { (j : ℕ) → j < 8 →
+        slice_index result j ≡ word_at (padded_message (message width messages.now j)) at }
+{
+    u32x8::from_array([
+        mixed_word(messages, width, 0, at),
+        mixed_word(messages, width, 1, at),
+        mixed_word(messages, width, 2, at),
+        mixed_word(messages, width, 3, at),
+        mixed_word(messages, width, 4, at),
+        mixed_word(messages, width, 5, at),
+        mixed_word(messages, width, 6, at),
+        mixed_word(messages, width, 7, at),
+    ])
+}
+
+/// How many blocks a message of `width` bytes fills with its padding.
+#[inline(always)]
+fn block_count(width: usize) -> usize
+    requires { width + 72 < 2 ^ 64 }
+    ensures { result ≡ (width + 72) / 64 }
+{
+    (width + 72) / 64
+}
+
+/// Word `n` of the eight messages and their padding.
+#[inline(always)]
+fn padded_words(messages: &[u8], width: usize, n: usize) -> u32x8
+    requires full { length messages.now ≡ 8 * width }
+    requires inside { n < 16 * ((width + 72) / 64) }
+    ensures { (j : ℕ) → j < 8 →
+        slice_index result j ≡ word_at (padded_message (message width messages.now j)) (4 * n) }
+{
+    let at = 4 * n;
+    let end = 64 * block_count(width);
+    if at + 4 <= width {
+        return words(messages, width, at);
+    }
+    if at <= width {
+        return mixed_words(messages, width, at);
+    }
+    if at + 8 < end {
+        return u32x8::splat(0);
+    }
+    // The padding ends with a message's length in bits, which is the number of bytes of all eight messages.
+    if at + 4 < end {
+        return u32x8::splat((messages.len() / 4_294_967_296) as u32);
+    }
+    u32x8::splat((messages.len() % 4_294_967_296) as u32)
+}
+
+/// Block `t` of the eight messages and their padding.
+fn padded_block(messages: &[u8], width: usize, t: usize) -> [u32x8; 16]
+    requires full { length messages.now ≡ 8 * width }
+    requires inside { t < (width + 72) / 64 }
+    ensures { (j i : ℕ) → j < 8 → i < 16 →
+        slice_index (lane j result) i
+        ≡ word_at (padded_message (message width messages.now j)) (4 * (16 * t + i)) }
+{
+    let mut block = [u32x8::splat(0); 16];
+    for i in 0..16 {
+        block[i] = padded_words(messages, width, 16 * t + i);
+    }
+    block
+}
+
+/// The hash values of the eight messages.
+fn hash_states(messages: &[u8], width: usize) -> [u32x8; 8]
+    requires { length messages.now ≡ 8 * width }
+    ensures { (j : ℕ) → j < 8 →
+        lane j result ≡ final_hash initial_hash_256 (message width messages.now j) }
+{
+    let mut state = [
+        u32x8::splat(INITIAL[0]),
+        u32x8::splat(INITIAL[1]),
+        u32x8::splat(INITIAL[2]),
+        u32x8::splat(INITIAL[3]),
+        u32x8::splat(INITIAL[4]),
+        u32x8::splat(INITIAL[5]),
+        u32x8::splat(INITIAL[6]),
+        u32x8::splat(INITIAL[7]),
+    ];
+    for t in 0..block_count(width) {
+        compress_eight(&mut state, &padded_block(messages, width, t));
+    }
+    state
+}
+
+/// The digest that a hash value makes: its words, high byte first.
+fn digest_of(words: [u32; 8]) -> [u8; 32]
+    ensures { result ≡ digest_bytes words 8 }
+{
+    let mut digest = [0u8; 32];
+    for i in 0..8 {
+        digest[4 * i..4 * i + 4].copy_from_slice(&words[i].to_be_bytes());
+    }
+    digest
+}
+
+/// The hash value of message `j`: the words of its lane.
+#[inline(always)]
+fn lane_words(state: &[u32x8; 8], j: usize) -> [u32; 8]
+    requires { j < 8 }
+    ensures { result ≡ lane j state.now }
+{
+    [
+        state[0].to_array()[j],
+        state[1].to_array()[j],
+        state[2].to_array()[j],
+        state[3].to_array()[j],
+        state[4].to_array()[j],
+        state[5].to_array()[j],
+        state[6].to_array()[j],
+        state[7].to_array()[j],
+    ]
+}
+
+/// Writes the digests of eight messages of `width` bytes each, from message `first` on.
+fn hash_eight<const D: usize>(messages: &[u8], width: usize, first: usize, out: &mut [[u8; D]])
+where
+    Sha256: DigestSize<D>,
+    requires full { length messages.now ≡ length out.old * width }
+    requires inside { first + 8 ≤ length out.old }
+    ensures long { length out.new ≡ length out.old }
+    ensures filled { (k : ℕ) → k < 8 →
+        slice_index_or out.new (first + k) [] ≡ sha256 (message width messages.now (first + k)) }
+    ensures before { (i : ℕ) → i < first →
+        slice_index_or out.new i [] ≡ slice_index_or out.old i [] }
+{
+    let state = hash_states(&messages[first * width..(first + 8) * width], width);
+    for j in 0..8 {
+        out[first + j] = Sha256::array(digest_of(lane_words(&state, j)));
+    }
+}
+
+/// Writes the digests of the messages, but for those after the last whole eight.
+fn hash_eights<const D: usize>(messages: &[u8], width: usize, out: &mut [[u8; D]])
+where
+    Sha256: DigestSize<D>,
+    requires { length messages.now ≡ length out.old * width }
+    ensures long { length out.new ≡ length out.old }
+    ensures filled { (i : ℕ) → i < 8 * (length out.old / 8) →
+        slice_index_or out.new i [] ≡ sha256 (message width messages.now i) }
+{
+    for group in 0..out.len() / 8 {
+        hash_eight(messages, width, 8 * group, out);
+    }
+}
+
+/// Writes the digests of the messages from message `from` on, one by one.
+fn hash_rest<const D: usize>(messages: &[u8], width: usize, from: usize, out: &mut [[u8; D]])
+where
+    Sha256: DigestSize<D>,
+    requires full { length messages.now ≡ length out.old * width }
+    requires inside { from ≤ length out.old }
+    ensures long { length out.new ≡ length out.old }
+    ensures before { (i : ℕ) → i < from →
+        slice_index_or out.new i [] ≡ slice_index_or out.old i [] }
+    ensures filled { (i : ℕ) → from ≤ i → i < length out.old →
+        slice_index_or out.new i [] ≡ sha256 (message width messages.now i) }
+{
+    for i in from..out.len() {
+        out[i] = Sha256::array(Sha256::digest(&messages[i * width..(i + 1) * width]));
+    }
+}
+
+/// Writes the digests of messages of `width` bytes each, as many as `out` has places.
+pub(crate) fn hash_all<const D: usize>(messages: &[u8], width: usize, out: &mut [[u8; D]])
+where
+    Sha256: DigestSize<D>,
+    requires { length messages.now ≡ length out.old * width }
+    ensures long { length out.new ≡ length out.old }
+    ensures filled { (i : ℕ) → i < length out.old →
+        slice_index_or out.new i [] ≡ sha256 (message width messages.now i) }
+{
+    hash_eights(messages, width, out);
+    hash_rest(messages, width, 8 * (out.len() / 8), out);
+}

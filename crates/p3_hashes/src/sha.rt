@@ -1,0 +1,124 @@
+//! SHA-256 (FIPS 180-4, by the crate `sha2`) of rows of bytes, and of digests one after another.
+//! Words are bytes, each packed alone, and a digest has 32 of them.
+ghost use Rattle.std.specs.Prelude.{◌≡◌, ℕ, ◌<◌, ◌∷◌, [], map};
+ghost use Rattle.std.specs.Iterator.{IsFinite};
+ghost use Rattle.std.specs.Iterator.Runs.{WholeRun};
+ghost use Rattle.p3_support.specs.Lists.{lane_of};
+ghost use Rattle.p3_hashes.specs.Sha.{sha256_rows, sha256_nodes};
+
+pub use crate::digest_size::DigestSize;
+use p3_support::compress::PseudoCompressionFunction;
+use p3_support::hasher::CryptographicHasher;
+use sha2::{Digest, Sha256};
+use std::convert::AsSlice;
+
+/// How many bytes SHA-256 takes in at a time.
+const BLOCK: usize = 64;
+
+/// The digest of the bytes of an iterator, which are handed on a block at a time.
+fn hash_bytes<I: Iterator<Item = u8>>(input: I) -> [u8; 32]
+    requires can { I.can_next input }
+    requires ends { IsFinite (I.remaining input) }
+    ensures { WholeRun I.next_gives input (λ p. result ≡ sha256_rows p.items) }
+{
+    let mut hasher = Sha256::new();
+    let mut block = [0; BLOCK];
+    let mut filled = 0;
+    for byte in input {
+        block[filled] = byte;
+        filled += 1;
+        if filled == BLOCK {
+            hasher.update(&block);
+            filled = 0;
+        }
+    }
+    hasher.update(&block[..filled]);
+    hasher.finalize()
+}
+
+/// SHA-256 of a row's bytes, one message at a time. A row in one slice is hashed faster than byte by
+/// byte.
+#[derive(Clone, Copy, Debug)]
+pub struct Sha256Rows;
+
+impl CryptographicHasher<u8, u8, 32> for Sha256Rows {
+    const LANES: usize = 1;
+
+    const PREFER_CONTIGUOUS_INPUT: bool = true;
+
+    ghost hash = { λ h bytes. sha256_rows bytes };
+
+    fn hash_iter<I: Iterator<Item = u8>>(&self, input: I) -> [u8; 32] {
+        hash_bytes(input)
+    }
+
+    fn hash_slice(&self, input: &[u8]) -> [u8; 32] {
+        Sha256::digest(input)
+    }
+
+    fn hash_iter_slices<S: AsSlice<u8> + Drop, I: Iterator<Item = S>>(&self, input: I) -> [u8; 32] {
+        let mut hasher = Sha256::new();
+        for bytes in input {
+            hasher.update(bytes);
+        }
+        hasher.finalize()
+    }
+
+    fn hash_many(&self, messages: &[u8], out: &mut [[u8; 32]]) {
+        if out.is_empty() {
+            return;
+        }
+        let width = messages.len() / out.len();
+        for (i, digest) in out.iter_mut().enumerate() {
+            *digest = Sha256::digest(&messages[i * width..(i + 1) * width]);
+        }
+    }
+
+    fn hash_packed<I: Iterator<Item = u8>>(&self, input: I) -> [u8; 32] {
+        hash_bytes(input)
+    }
+}
+
+/// The digest of a group.
+fn hash_group<const N: usize, const D: usize>(digests: &[[u8; D]; N]) -> [u8; 32]
+    ensures { result ≡ sha256_nodes digests.now }
+{
+    let mut hasher = Sha256::new();
+    for digest in digests {
+        hasher.update(digest);
+    }
+    hasher.finalize()
+}
+
+/// SHA-256 of `N` digests of 32 bytes, one after another, one group at a time.
+#[derive(Clone, Copy, Debug)]
+pub struct Sha256Nodes<const N: usize>;
+
+impl<const N: usize, const D: usize> PseudoCompressionFunction<u8, N, D> for Sha256Nodes<N>
+where
+    Sha256: DigestSize<D>,
+{
+    const LANES: usize = 1;
+
+    ghost compression = { λ c digests. sha256_nodes digests };
+
+    fn compress(&self, input: [[u8; D]; N]) -> [u8; D]
+        ensures { result ≡ sha256_nodes input.entry }
+    {
+        Sha256::array(hash_group(&input))
+    }
+
+    fn compress_many(&self, groups: &[[[u8; D]; N]], out: &mut [[u8; D]]) {
+        for (i, digest) in out.iter_mut().enumerate() {
+            *digest = Sha256::array(hash_group(&groups[i]));
+        }
+    }
+
+    fn compress_packed(&self, input: [[u8; D]; N]) -> [u8; D]
+        ensures { (k : ℕ) → k < 1 →
+            lane_of (λ byte. byte ∷ []) 0 k result
+            ≡ sha256_nodes (map (lane_of (λ byte. byte ∷ []) 0 k) input.entry) }
+    {
+        Sha256::array(hash_group(&input))
+    }
+}

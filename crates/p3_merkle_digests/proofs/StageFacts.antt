@@ -1,0 +1,229 @@
+-- Messages that are laid one after another, and slots that are filled part by part.
+use Rattle.std.proofs.Common.{◌≡◌, ℕ, zero, suc, ◌+◌, ◌-◌, ◌*◌, ◌/◌, ◌<◌, ◌≤◌, List, [], ◌∷◌, ◌++◌, length, map, take}
+use Rattle.std.proofs.Common.{drop, get_or, replicate, All, refl, sym, ap, subst, add-one, ◌∙◌, arith, inl, inr}
+use Rattle.std.proofs.Common.{length-append, length-drop, append-nil}
+use Rattle.std.specs.List.{flat_map, range_with_len}
+use Rattle.std.specs.Simd.{first_chunks}
+use Rattle.std.proofs.lemmas.Bool.{cases_lt, cases_eq}
+use Rattle.std.proofs.lemmas.List.{drop_at, take_all, take-append-le, drop-append-le, get_or-append_right, get_or-drop}
+use Rattle.std.proofs.lemmas.List.{get_or-take, drop-drop, flat_map_more, length-take-le, length-map, get_or-map}
+use Rattle.std.proofs.lemmas.List.{get_or_append_left}
+use Rattle.std.proofs.lemmas.List.FromFn.{fill_by_all, get_or-map-range_with_len, length-map-range_with_len}
+use Rattle.std.proofs.lemmas.Simd.{map-map}
+use Rattle.std.proofs.Math.Nat.{mul-le-mul_left, mul-le-mul_right, mul_comm, mul-suc}
+use Rattle.p3_support.specs.Lists.{message, messages}
+use Rattle.p3_support.specs.Inner.RowLengths.{next_start}
+use Rattle.p3_merkle_digests.specs.Inner.Slots.{rows_over, IsFilled, IsStaged}
+use Rattle.p3_merkle_digests.proofs.LaneFacts.{part_written, part_before, rows_alone}
+use borrow.Rule.Slice.PartMut.{put_mid, same_len_mid}
+
+-- messages that are there stay
+message_kept : {A : Type 0} (xs ys : List A) (w i j : ℕ) → length xs ≡ i * w → j < i → message w (xs ++ ys) j
+    ≡ message w xs j
+message_kept xs ys w i j long below =
+    let fits : (j + 1) * w ≤ i * w = mul-le-mul_right w (omega arith) in
+    let more = next_start j w in
+    let start : j * w ≤ length xs = omega (arith, long, fits, more) in
+    let k : ℕ = (j + 1) * w - j * w in
+    let enough : k ≤ length (drop (j * w) xs) = omega (arith, length-drop (j * w) xs, long, fits, more) in
+    ap (λ l. take k l) (drop-append-le (j * w) xs ys start) ∙ take-append-le k (drop (j * w) xs) ys enough
+
+-- one that is added is the next
+message_new : {A : Type 0} (xs ys : List A) (w i : ℕ) → length xs ≡ i * w → length ys ≡ w → message w (xs ++ ys) i ≡ ys
+message_new xs ys w i long width =
+    let k : ℕ = (i + 1) * w - i * w in
+    ap (λ l. take k l) (drop_at xs ys (i * w) long) ∙ take_all k ys (omega (arith, next_start i w, width))
+
+-- so far, i messages of w words each are laid one after another
+pub record IsStagedTo {A : Type 0} (f : ℕ → List A) (w i : ℕ) (xs : List A) : Type 0 where
+  pub long : length xs ≡ i * w
+  pub each : (j : ℕ) → j < i → message w xs j ≡ f j
+
+-- one more message
+pub staged_more : {A : Type 0} (f : ℕ → List A) (xs ys : List A) (w i : ℕ) → IsStagedTo f w i xs → length ys ≡ w → ys
+    ≡ f i → IsStagedTo f w (i + 1) (xs ++ ys)
+staged_more f xs ys w i s width is =
+    record {
+      long = omega (arith, length-append xs ys, s.long, next_start i w, width);
+      each = λ j below. elim (cases_eq j i) [
+        | inl same ↦ rw same (message_new xs ys w i s.long width ∙ is)
+        | inr other ↦ let low : j < i = omega (arith, below, other) in message_kept xs ys w i j s.long low
+            ∙ s.each j low
+      ];
+    }
+
+-- and then all are staged
+pub staged_all : {A : Type 0} (f : ℕ → List A) (xs : List A) (w i n : ℕ) → IsStagedTo f w i xs → i ≡ n → IsStaged f n xs
+staged_all f xs w i n s e =
+    record {
+      width = w;
+      long = s.long ∙ ap (λ k. k * w) e ∙ mul_comm n w;
+      are = fill_by_all f (messages w n xs) n [] (length-map-range_with_len (message w xs) 0 n)
+          (λ k h. get_or-map-range_with_len (message w xs) 0 n k k [] h (omega arith) ∙ s.each k (omega arith));
+    }
+
+-- one more number at the end
+range_more : (a n : ℕ) → range_with_len a (suc n) ≡ range_with_len a n ++ (a + n) ∷ []
+range_more a zero = ap (λ k. k ∷ []) (omega arith)
+range_more a (suc n) =
+    ap (λ l. a ∷ l) (range_more (a + 1) n ∙ ap (λ k. range_with_len (a + 1) n ++ k ∷ []) (omega arith))
+
+-- rows that stand one after another as they are
+staged_rows : {A : Type 0} (row f : ℕ → List A) (w a n : ℕ) → ((j : ℕ) → j < n → length (row (a + j)) ≡ w) →
+    ((j : ℕ) → j < n → row (a + j) ≡ f j) → IsStagedTo f w n (flat_map row (range_with_len a n))
+staged_rows row f w a zero long are = record { long = omega arith; each = λ j none. absurd (omega (arith, none)) }
+staged_rows row f w a (suc n) long are =
+    let ys = flat_map row (range_with_len a n) in
+    let before = staged_rows row f w a n (λ j h. long j (omega (arith, h))) (λ j h. are j (omega (arith, h))) in
+    let words : flat_map row (range_with_len a (suc n)) ≡ ys ++ row (a + n) = ap (flat_map row) (range_more a n)
+    ∙ sym (flat_map_more row [] (range_with_len a n) (a + n)) in
+    let more : IsStagedTo f w (suc n) (ys ++ row (a + n)) =
+    subst (λ (k : ℕ). IsStagedTo f w k (ys ++ row (a + n))) (add-one n)
+    (staged_more f ys (row (a + n)) w n before (long n (omega arith)) (are n (omega arith))) in
+    rw words more
+
+-- how wide the matrices are together
+abbrev pub all_widths : {M : Type 0} → (M → ℕ) → List M → ℕ
+all_widths width [] = 0
+all_widths width (m ∷ ms) = width m + all_widths width ms
+
+-- so many elements has each row of all
+pub length-rows : {A M : Type 0} (height width : M → ℕ) (row : M → ℕ → List A) (h : ℕ) →
+    ((m : M) (r : ℕ) → r < height m → length (row m r) ≡ width m) → (r : ℕ) → r < h → (ms : List M) →
+    All (λ m. height m ≡ h) ms → length (rows_over row ms r) ≡ all_widths width ms
+length-rows height width row h each r below [] all = refl
+length-rows height width row h each r below (m ∷ ms) all =
+    let rest = length-rows height width row h each r below ms (λ k d b. all (suc k) d (omega arith)) in
+    let same : height m ≡ h = all 0 m (omega arith) in
+    let long : length (rows_over row (m ∷ ms) r)
+    ≡ length (row m r) + length (rows_over row ms r) = length-append (row m r) (rows_over row ms r) in
+    omega (arith, long, each m r (rw same below), rest)
+
+-- those of a matrix that stands alone
+pub staged_alone : {A M : Type 0} (height width : M → ℕ) (row : M → ℕ → List A) (h a n : ℕ) (ms : List M) (m : M)
+    (xs : List A) → ((m : M) (r : ℕ) → r < height m → length (row m r) ≡ width m)
+    → length ms ≡ 1 → m ≡ get_or ms 0 m → height m ≡ h → a + n ≤ h → xs ≡ flat_map (row m) (range_with_len a n) →
+    IsStaged (λ j. rows_over row ms (a + j)) n xs
+staged_alone height width row h a n ms m xs each one is same inside words =
+    let f = λ (j : ℕ). rows_over row ms (a + j) in
+    let staged = staged_rows (row m) f (width m) a n (λ j below. each m (a + j) (omega (arith, same, below, inside)))
+    (λ j below. sym (rows_alone row (a + j) ms m one is)) in
+    rw words (staged_all f (flat_map (row m) (range_with_len a n)) (width m) n n staged refl)
+
+-- a list made by index has its length
+pub made_long : {X : Type 0} (f : ℕ → X) (n : ℕ) (xs : List X) → xs ≡ map f (range_with_len 0 n) → length xs ≡ n
+made_long f n xs is = ap length is ∙ length-map-range_with_len f 0 n
+
+-- one more part of slots is written
+pub part_more : {X : Type 0} (f : ℕ → X) (xs ys : List X) (a k n : ℕ) (d : X) → length ys ≡ n →
+    ((j : ℕ) → j < n → get_or ys j d ≡ f (a + j)) → a ≤ length xs
+    → ((j : ℕ) → j < a → get_or xs j d ≡ f j) → (j : ℕ) → j < a + n → get_or (put_mid a k xs ys) j d ≡ f j
+part_more f xs ys a k n d long made inside before j below =
+    elim (cases_lt j a) [
+      | inl low ↦ part_before xs ys a k j d inside low ∙ before j low
+      | inr high ↦
+          let inner : j - a < n = omega arith in
+          let at : j ≡ a + (j - a) = omega arith in
+          ap (λ i. get_or (put_mid a k xs ys) i d) at ∙ part_written xs ys a k n (j - a) d long inside inner
+          ∙ made (j - a) inner ∙ ap f (sym at)
+    ]
+
+-- what stands behind a part stays
+pub part_after : {X : Type 0} (xs ys : List X) (a k j : ℕ) (d : X) → length ys ≡ k → a ≤ length xs → a + k ≤ j →
+    get_or (put_mid a k xs ys) j d ≡ get_or xs j d
+part_after xs ys a k j d long inside behind =
+    get_or-append_right (take a xs) (ys ++ drop k (drop a xs)) a j d (length-take-le a xs inside) (omega arith)
+    ∙ get_or-append_right ys (drop k (drop a xs)) k (j - a) d long (omega arith)
+    ∙ get_or-drop k (drop a xs) (j - a - k) d
+    ∙ get_or-drop a xs (k + (j - a - k)) d
+    ∙ ap (λ i. get_or xs i d) (omega arith)
+
+-- a chunk is the elements from its start on
+pub chunk_at : {X : Type 0} (n k : ℕ) (xs : List X) (j : ℕ) → j < k → get_or (first_chunks n k xs) j []
+    ≡ take n (drop (n * j) xs)
+chunk_at n zero xs j below = absurd (omega arith)
+chunk_at n (suc k) xs zero below = let none : n * 0 ≡ 0 = omega arith in rw none refl
+chunk_at n (suc k) xs (suc j) below =
+    chunk_at n k (drop n xs) j (omega arith)
+    ∙ ap (take n) (drop-drop (n * j) n xs)
+    ∙ ap (λ i. take n (drop i xs)) (let next = mul-suc n j in omega (arith, next))
+
+-- one more part is written, each slot with what it should have
+pub fill_part : {W : Type 0} (f made : ℕ → List W) (xs ys : List (List W)) (a k n len : ℕ) → k ≡ n → a + n ≤ length xs →
+    ys ≡ map made (range_with_len 0 (length (take k (drop a xs)))) →
+    ((j : ℕ) → j < n → made j ≡ f (a + j)) → IsFilled f a len xs → IsFilled f (a + n) len (put_mid a k xs ys)
+fill_part f made xs ys a k n len same inside is each before =
+    let part : length (take k (drop a xs)) ≡ n = length-take-le k (drop a xs) (omega (arith, length-drop a xs))
+    ∙ same in
+    let long : length ys ≡ length (take k (drop a xs)) = ap length is
+    ∙ length-map-range_with_len made 0 (length (take k (drop a xs))) in
+    record {
+      long = same_len_mid a k xs ys long ∙ before.long;
+      filled = part_more f xs ys a k n [] (long ∙ part) (λ j h. ap (λ l. get_or l j []) is
+          ∙ get_or-map-range_with_len made 0 (length (take k (drop a xs))) j j [] (omega (arith, part, h)) (omega arith)
+          ∙ each j h) (omega arith) before.filled;
+    }
+
+-- the first slots hold what was made of the first of a list
+pub filled_front : {G W : Type 0} (C : List G → List W) (groups : List (List G)) (xs ys : List (List W)) (n : ℕ) →
+    n ≤ length groups → n ≤ length xs → ys ≡ map C (take n groups) →
+    IsFilled (λ j. C (get_or groups j [])) n (length xs) (ys ++ drop n xs)
+filled_front C groups xs ys n some room is =
+    let long : length ys ≡ n = ap length is ∙ length-map (take n groups) C ∙ length-take-le n groups some in
+    record {
+      long = omega (arith, length-append ys (drop n xs), length-drop n xs, long);
+      filled = λ j below. get_or_append_left ys (drop n xs) [] j (omega (arith, long, below))
+          ∙ ap (λ l. get_or l j []) is
+          ∙ get_or-map C (take n groups) j [] [] (omega (arith, length-take-le n groups some, below))
+          ∙ ap C (get_or-take n groups j [] below);
+    }
+
+-- one more part of digests is compressed once more with the digests of rows
+module _ {W : Type 0} (C : List (List W) → List W) (pad rows old : List (List W)) where
+  abbrev pub joined : ℕ → List W
+  joined j = C (get_or old j [] ∷ get_or rows j [] ∷ pad)
+
+  pub join_more : (xs ys : List (List W)) (a k n : ℕ) → k ≡ n → a + n ≤ length rows → a + n ≤ length xs →
+      ys ≡ map C (map (λ j. get_or (take k (drop a xs)) j [] ∷ get_or (take k (drop a rows)) j [] ∷ pad)
+      (range_with_len 0 (length (take k (drop a xs))))) →
+      IsFilled joined a (length old) xs → ((j : ℕ) → a ≤ j → get_or xs j [] ≡ get_or old j []) →
+      IsFilled joined (a + n) (length old) (put_mid a k xs ys) ×
+      ((j : ℕ) → a + n ≤ j → get_or (put_mid a k xs ys) j [] ≡ get_or old j [])
+  join_more xs ys a k n same few inside is before behind =
+      let group = λ (j : ℕ). get_or (take k (drop a xs)) j [] ∷ get_or (take k (drop a rows)) j [] ∷ pad in
+      let made = λ (j : ℕ). C (group j) in
+      let part : length (take k (drop a xs)) ≡ k = length-take-le k (drop a xs) (omega (arith, length-drop a xs)) in
+      let all : ys ≡ map made (range_with_len 0 (length (take k (drop a xs)))) = is
+      ∙ map-map C group (range_with_len 0 (length (take k (drop a xs)))) in
+      let each : (j : ℕ) → j < n → made j ≡ joined (a + j) = λ j h.
+      let low : j < k = omega arith in
+      let left : get_or (take k (drop a xs)) j [] ≡ get_or old (a + j) [] = get_or-take k (drop a xs) j [] low
+      ∙ get_or-drop a xs j [] ∙ behind (a + j) (omega arith) in
+      let right : get_or (take k (drop a rows)) j [] ≡ get_or rows (a + j) [] = get_or-take k (drop a rows) j [] low
+      ∙ get_or-drop a rows j [] in
+      ap (λ x. C (x ∷ get_or (take k (drop a rows)) j [] ∷ pad)) left
+      ∙ ap (λ x. C (get_or old (a + j) [] ∷ x ∷ pad)) right in
+      let long : length ys ≡ k = ap length all ∙ length-map-range_with_len made 0 (length (take k (drop a xs)))
+      ∙ part in (
+        fill_part joined made xs ys a k n (length old) same inside all each before,
+        λ j past. part_after xs ys a k j [] long (omega arith) (omega arith) ∙ behind j (omega arith),
+      )
+
+-- a group that ends within m elements is among the whole groups of n
+pub below_quotient : (n j m : ℕ) → 0 < n → n * suc j ≤ m → j < m / n
+below_quotient n j m some fits =
+    elim (cases_lt j (m / n)) [
+      | inl low ↦ low
+      | inr high ↦ let more : n * (m / n) ≤ n * j = mul-le-mul_left n high in
+          absurd (omega (arith, more, mul-suc n j, fits))
+    ]
+
+-- where a node has as many children as a group has places, the group is its children
+pub group_whole : {W : Type 0} (C : List (List W) → List W) (n k step j : ℕ) (below : List (List W))
+    (groups : List (List (List W))) (d : List W) → step ≡ n → groups ≡ first_chunks n k below → j < k →
+    C (get_or groups j []) ≡ C (take step (drop (step * j) below) ++ replicate (n - step) d)
+group_whole C n k step j below groups d same are inside =
+    let none : n - n ≡ 0 = omega arith in
+    rw (same, none)
+    (ap C (ap (λ gs. get_or gs j []) are ∙ chunk_at n k below j inside
+    ∙ sym (append-nil (take n (drop (n * j) below)))))

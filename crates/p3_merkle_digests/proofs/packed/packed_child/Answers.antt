@@ -1,0 +1,18 @@
+-- Each element is made of one child of each node.
+use Rattle.std.proofs.Common.{rules, ℕ, ◌≡◌, ◌+◌, ◌*◌, ◌<◌, ◌∙◌, sym, slice_index_or, []}
+use Rattle.std.proofs.lemmas.List.FromFn.{fill_by_all}
+use Rattle.p3_support.proofs.Made.{made_by, map_made}
+use Rattle.p3_merkle_digests.proofs.packed.packed_child.Goals as goal
+
+pub returns : goal.returns
+returns g c = λ k small.
+    let zero = g.PW.PackedValue.default_value in
+    let pick = λ (j : ℕ) (p : g.row.PW.Denot). slice_index_or (g.PW.PackedValue.lanes p) j zero in
+    let below = c.args.below.now in
+    let child = λ (j : ℕ). slice_index_or below (c.args.step * (c.args.first + j) + c.args.n) [] in
+    let made = made_by _ _ (λ (e : ℕ) y. (j : ℕ) → j < g.PW.PackedValue.WIDTH → pick j y
+    ≡ slice_index_or (child j) e zero) (λ e y q called. search rules) c.from_fn.ensures.items in
+    map_made (pick k) (λ e. slice_index_or (child k) e zero) zero c.from_fn.result g.row.D c.from_fn.ensures.items.long
+    (λ e d h. made e d h k small)
+    ∙ sym (fill_by_all (λ e. slice_index_or (child k) e zero) (child k) g.row.D zero (c.lemma_lengths.ensures k small)
+    (λ e h. search rules))

@@ -1,0 +1,33 @@
+-- Each slot has the digest of its message.
+use Rattle.std.proofs.Common.{rules, arith, ◌≡◌, ◌<◌, ◌/◌, ◌∙◌, sym, ap, length, [], length-set}
+use Rattle.std.specs.List.{range_with_len}
+use Rattle.std.proofs.Math.Nat.{mul-div_cancel}
+use Rattle.std.proofs.lemmas.List.FromFn.{fill_by_all}
+use Rattle.std.proofs.lemmas.Simd.{map-map}
+use Rattle.p3_support.specs.Lists.{message}
+use Rattle.p3_support.proofs.Fills.{filled_more}
+use Rattle.p3_merkle_digests.proofs.plain.hash_each.Goals as goal
+
+pub returns : goal.returns
+returns g c = λ w e.
+    let xs = c.args.messages.now in
+    let n = length c.args.slots.now in
+    let some : 0 < n = search rules in
+    let width : length xs / n ≡ w = rw e (mul-div_cancel w some) in
+    let hash = g.H.CryptographicHasher.hash c.args.hash.now in
+    fill_by_all (λ i. hash (message w xs i)) c.loop-i.slots n [] c.loop-i.invariant.0
+    (λ k h. c.loop-i.invariant.1 k (omega arith) ∙ ap (λ v. hash (message v xs k)) width)
+    ∙ sym (map-map hash (message w xs) (range_with_len 0 n))
+
+pub loop-i-preserved : goal.loop-i-preserved
+loop-i-preserved g c =
+    let xs = c.args.messages.now in
+    let i = c.loop-i.i in
+    let slots = c.loop-i.slots in
+    let hash = g.H.CryptographicHasher.hash c.args.hash.now in
+    let bounds = c.message_bounds-start.ensures in
+    let is = rw (bounds.start, bounds.end) at c.hash_slice.ensures in (
+      length-set slots i c.hash_slice.result ∙ c.loop-i.invariant.0,
+      filled_more (λ j. hash (message (length xs / length c.args.slots.now) xs j)) slots i c.hash_slice.result []
+          (omega arith) is c.loop-i.invariant.1,
+    )

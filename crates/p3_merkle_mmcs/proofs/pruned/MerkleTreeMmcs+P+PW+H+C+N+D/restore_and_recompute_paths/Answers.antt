@@ -1,0 +1,34 @@
+-- The paths are those of the checker's walk.
+use Rattle.std.proofs.Common.{ap, replicate, subst}
+use Rattle.std.specs.Prelude.{◌≡◌, IfOk}
+use Rattle.p3_support.specs.Shown.{row_sets}
+use Rattle.p3_merkle_core.specs.Geometry.{shape_of}
+use Rattle.p3_merkle_core.specs.Pruning.{pruned_of, restored_paths}
+use Rattle.p3_merkle_core.specs.Refusals.{AnswersUnlessMemory, pruned_refusal}
+use Rattle.p3_merkle_core.specs.Views.{pruned_lent, shown_paths}
+use Rattle.p3_merkle_mmcs.specs.Schemes.{cap_layer_over, compression_of, hash_of}
+use Rattle.p3_merkle_mmcs.proofs.CheckFacts.{terms_alike}
+use Rattle.p3_merkle_mmcs.proofs.PrunedFacts.{restoring_verdict}
+use Rattle.p3_merkle_mmcs.proofs.pruned.MerkleTreeMmcs+P+PW+H+C+N+D.restore_and_recompute_paths.Goals as goal
+
+pub returns : goal.returns
+returns g c =
+    let scheme = c.args.self.now in
+    let eq = g.P.Value.PartialEq.eq in
+    let s = shape_of g.row.N c.args.dimensions.now in
+    let t = cap_layer_over scheme s in
+    let p = pruned_lent c.args.indices.now c.args.rows.now c.args.proof.now in
+    let alike = terms_alike g.H.CryptographicHasher.hash g.C.PseudoCompressionFunction.compression
+    (replicate g.row.D g.PW.PackedValue.default_value) s c.checker-checker.result.hash.now (hash_of scheme)
+    c.checker-checker.result.compress.now (compression_of scheme) c.cap_layer-cap_layer.result t
+    c.checker-checker.ensures.hash c.checker-checker.ensures.compress c.cap_layer-cap_layer.ensures in
+    let sent = ap (pruned_of c.args.indices.now (row_sets c.args.rows.now)) c.as_slice.ensures.value in
+    let restored = c.restored_paths_of.result in
+    let answer = subst (AnswersUnlessMemory restored)
+    (λ i. pruned_refusal eq s (c.cap_layer-cap_layer.ensures i) (sent i))
+    c.restored_paths_of.ensures.answer in
+    record {
+      verdict = restoring_verdict eq s t p g.met.P.PackedValue.eq_is_equality restored answer;
+      paths = subst (λ (ps : _). IfOk restored (λ paths. shown_paths paths.items ≡ ps))
+          (λ i. restored_paths (alike i) (sent i)) c.restored_paths_of.ensures.paths;
+    }

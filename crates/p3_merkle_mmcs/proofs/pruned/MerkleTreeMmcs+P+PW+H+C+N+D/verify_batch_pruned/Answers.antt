@@ -1,0 +1,32 @@
+-- The answer is that of the checker's walk.
+use Rattle.std.proofs.Common.{ap, replicate, subst}
+use Rattle.p3_support.specs.Shown.{roots_of, row_sets}
+use Rattle.p3_merkle_core.specs.Geometry.{shape_of}
+use Rattle.p3_merkle_core.specs.Pruning.{pruned_of}
+use Rattle.p3_merkle_core.specs.Refusals.{AnswersUnlessMemory, pruned_refusal_under}
+use Rattle.p3_merkle_core.specs.Views.{pruned_lent}
+use Rattle.p3_merkle_mmcs.specs.Schemes.{cap_layer_over, compression_of, hash_of, params_of}
+use Rattle.p3_merkle_mmcs.proofs.CheckFacts.{terms_alike}
+use Rattle.p3_merkle_mmcs.proofs.PrunedFacts.{pruned_verdict}
+use Rattle.p3_merkle_mmcs.proofs.pruned.MerkleTreeMmcs+P+PW+H+C+N+D.verify_batch_pruned.Goals as goal
+
+pub returns : goal.returns
+returns g c =
+    let scheme = c.args.self.now in
+    let eq = g.P.Value.PartialEq.eq in
+    let same = g.PW.Value.PartialEq.eq in
+    let s = shape_of g.row.N c.args.dimensions.now in
+    let alike = terms_alike g.H.CryptographicHasher.hash g.C.PseudoCompressionFunction.compression
+    (replicate g.row.D g.PW.PackedValue.default_value) s c.checker.result.hash.now (hash_of scheme)
+    c.checker.result.compress.now (compression_of scheme) c.cap_layer.result (cap_layer_over scheme s)
+    c.checker.ensures.hash c.checker.ensures.compress c.cap_layer.ensures in
+    let sent = ap (pruned_of c.args.indices.now (row_sets c.args.rows.now)) c.as_slice.ensures.value in
+    let answer = subst (AnswersUnlessMemory c.check_pruned_opening.result)
+    (λ i. pruned_refusal_under eq same (alike i) (c.roots.ensures i) (sent i)) c.check_pruned_opening.ensures in
+    let verdict =
+    pruned_verdict eq same (params_of g.H.CryptographicHasher.hash g.C.PseudoCompressionFunction.compression g.row.D
+    scheme c.args.dimensions.now) (roots_of c.args.commit.now)
+    (pruned_lent c.args.indices.now c.args.rows.now c.args.proof.now)
+    g.met.P.PackedValue.eq_is_equality g.met.PW.PackedValue.eq_is_equality scheme.arity c.check_pruned_opening.result
+    answer in
+    record { verdict = verdict; count = λ ok. (verdict.ok_is_accepted ok).restorable.count }

@@ -1,0 +1,2 @@
+pub mod Schemes
+pub mod Inner

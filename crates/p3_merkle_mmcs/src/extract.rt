@@ -1,0 +1,104 @@
+//! Extraction of collisions from two openings of one cap.
+
+ghost use Rattle.std.specs.Prelude.{◌≡◌, ◌<◌, IfOk, IsTrue, MatchResult, None, Some, length};
+ghost use Rattle.p3_merkle_core.specs.Checks.{is_authenticated as authenticates};
+ghost use Rattle.p3_support.specs.Batches.{heights_of};
+ghost use Rattle.p3_merkle_core.specs.Extraction.{IsExtraction};
+ghost use Rattle.p3_merkle_core.specs.Gate.{gate_refusal};
+ghost use Rattle.p3_merkle_core.specs.Geometry.{shape_of};
+ghost use Rattle.p3_merkle_core.specs.Presented.{presented};
+ghost use Rattle.p3_merkle_core.specs.Views.{found_alone, opening_lent};
+ghost use Rattle.p3_merkle_core.specs.declared.cap.CapRule.TheVariants.{Lowered};
+ghost use Rattle.p3_merkle_mmcs.specs.Schemes.{cap_layer_of, cap_rule_of, params_of};
+ghost use Rattle.p3_support.specs.Shown.{roots_of};
+
+use crate::mmcs::{MerkleTreeMmcs, Scheme};
+use p3_merkle_core::collision::Collision;
+use p3_merkle_core::error::MerkleTreeError;
+use p3_merkle_core::geometry::exponent_of;
+use p3_merkle_core::steps::steps_of;
+use p3_merkle_verifier::openings::IndexedOpening;
+use p3_support::compress::PseudoCompressionFunction;
+use p3_support::hasher::CryptographicHasher;
+use p3_support::matrix::Dimensions;
+use p3_support::opening::{BatchOpeningRef, MerkleCap};
+use p3_support::packed::PackedValue;
+use std::alloc::Global;
+
+impl<P: PackedValue, PW: PackedValue, H, C, X, G, const N: usize> Scheme<P, PW, H, C, X, G, N> {
+    /// Whether a cap over matrices of these dimensions authenticates the rows of the matrix at place `matrix`, which
+    /// must be a place in `dimensions`: its rows are hashed into the cap's layer, or into a layer below it. For any
+    /// other matrix a verifier checks only the width of the row. Under the rule `Lowered` every matrix is
+    /// authenticated. The call does not allocate.
+    ///
+    /// # Errors
+    ///
+    /// `EmptyBatch`, `TooLarge` or `IncompatibleHeights` if [`commit`](Self::commit) refuses such heights.
+    pub fn is_authenticated(
+        &self,
+        dimensions: &[Dimensions],
+        matrix: usize,
+    ) -> Result<bool, MerkleTreeError>
+        requires { matrix < length dimensions.now }
+        ensures answer { MatchResult result
+            (λ answer. gate_refusal (heights_of dimensions.now) ≡ None)
+            (λ e. gate_refusal (heights_of dimensions.now) ≡ Some e) }
+        ensures authenticated { let cap_layer = cap_layer_of self.now dimensions.now in
+            IfOk result (λ answer. answer ≡ authenticates (shape_of N dimensions.now) cap_layer matrix) }
+        ensures lowered { cap_rule_of self.now ≡ Lowered → IfOk result (λ answer. IsTrue answer) }
+    {
+        let steps = steps_of(dimensions, N);
+        steps.check_heights()?;
+        let cap_layer = steps.cap_layer(self.cap_rule, self.cap_height);
+        let height = dimensions[matrix].height;
+        Ok(exponent_of(height) >= steps.layer_exponent(cap_layer))
+    }
+}
+
+impl<
+    P: PackedValue,
+    PW: PackedValue,
+    H: CryptographicHasher<P, PW, D>,
+    C: PseudoCompressionFunction<PW, N, D>,
+    const N: usize,
+    const D: usize,
+> MerkleTreeMmcs<P, PW, H, C, N, D> {
+    /// Extracts a collision from two accepted openings of one cap: two different inputs of the hasher or of the
+    /// compression with one digest, or `None` if the openings agree.
+    ///
+    /// Both openings are verified as by [`verify_batch`](Self::verify_batch). A check hashes the leaf, then on each
+    /// level compresses a group and, where matrices are injected above it, hashes their rows and compresses a pair (see
+    /// [`Place`](p3_merkle_core::collision::Place)). Checks of one index share all these places. Checks of two indices
+    /// share them from the level where their paths meet. The collision is at the last shared place where the inputs
+    /// differ: it has the input of the first opening and that of the second. The call allocates only at shared places.
+    ///
+    /// Two openings of one index give a collision exactly if they differ in a sibling, or in a row of an
+    /// [authenticated](Self::is_authenticated) matrix. Openings of any two indices give one if they conflict in a row
+    /// of such a matrix. Under the rule `Lowered` every matrix is authenticated, so any two different openings of one
+    /// index give a collision.
+    ///
+    /// # Errors
+    ///
+    /// The error of `verify_batch` for the first opening, else that for the second; `OutOfMemory` may come at any
+    /// time.
+    pub fn extract_collision(
+        &self,
+        alloc: Global,
+        commit: &MerkleCap<P::Value, [PW::Value; D]>,
+        dimensions: &[Dimensions],
+        index1: usize,
+        first: BatchOpeningRef<'_, P::Value, Vec<[PW::Value; D]>>,
+        index2: usize,
+        second: BatchOpeningRef<'_, P::Value, Vec<[PW::Value; D]>>,
+    ) -> Result<Option<Collision<P::Value, PW::Value, D>>, MerkleTreeError>
+        ensures { let c = params_of H.hash C.compression D self.now dimensions.now in
+            let first = presented PW.Value.eq c (roots_of commit.now) (opening_lent index1 first.entry) in
+            let second = presented PW.Value.eq c (roots_of commit.now) (opening_lent index2 second.entry) in
+            IsExtraction P.Value.eq PW.Value.eq (cap_rule_of self.now) c first second (found_alone result) }
+    {
+        let cap_layer = self.cap_layer(dimensions);
+        let first = IndexedOpening::new(index1, first);
+        let second = IndexedOpening::new(index2, second);
+        self.checker().extraction(alloc, commit.roots(), dimensions, cap_layer, first, second)
+    }
+}

@@ -1,0 +1,169 @@
+//! Steps and positions of paths, level by level, and the matrices of a tree.
+
+ghost use Rattle.std.specs.Prelude.{◌≡◌, ◌≤◌, IfErr, IfOk, map, take, vec_len, None};
+ghost use Rattle.p3_support.specs.Batches.{heights_of};
+ghost use Rattle.p3_merkle_core.specs.Gate.{gate_refusal};
+ghost use Rattle.p3_merkle_core.specs.Geometry.{positions_below, schedule_below, shape_of, IsArity};
+ghost use Rattle.p3_merkle_core.specs.Refusals.{replay_refusal, AnswersUnlessMemory};
+
+use crate::mmcs::Scheme;
+use p3_merkle_core::error::MerkleTreeError;
+use p3_merkle_core::geometry::ArityAndPositions;
+use p3_merkle_core::steps::{Steps, steps_of};
+use p3_merkle_prover::opener::{matrix_refs, max_height};
+use p3_merkle_prover::tree::Tree;
+use p3_support::matrix::{Dimensions, Matrix};
+use p3_support::packed::PackedValue;
+use std::alloc::Global;
+
+/// The step of each level below a layer, as [`Scheme::proof_arity_schedule`] says. The layer must be at most the number
+/// of levels.
+///
+/// # Errors
+///
+/// Those of [`Scheme::replay_arity_and_positions`].
+fn schedule_to(
+    alloc: Global,
+    steps: &Steps<'_>,
+    cap_layer: usize,
+) -> Result<Vec<usize>, MerkleTreeError>
+    requires { cap_layer ≤ steps.now.num_levels }
+    ensures answer { AnswersUnlessMemory result (gate_refusal (heights_of steps.now.dimensions.now)) }
+    ensures steps { let s = shape_of steps.now.arity steps.now.dimensions.now in
+        IfOk result (λ v. v.items ≡ schedule_below s cap_layer) }
+{
+    steps.check_heights()?;
+    Ok(steps.schedule_below(alloc, cap_layer)?)
+}
+
+/// The path of the leaf `index` to a layer, as [`Scheme::replay_arity_and_positions`] says. The arity must be a power
+/// of two from 2 to 2^62, and the layer at most the number of levels.
+///
+/// # Errors
+///
+/// Those of [`Scheme::replay_arity_and_positions`].
+fn path_to(
+    alloc: Global,
+    steps: &Steps<'_>,
+    cap_layer: usize,
+    index: usize,
+    num_siblings: usize,
+) -> Result<ArityAndPositions, MerkleTreeError>
+    requires arity { IsArity steps.now.arity }
+    requires layer { cap_layer ≤ steps.now.num_levels }
+    ensures answer { let s = shape_of steps.now.arity steps.now.dimensions.now in
+        AnswersUnlessMemory result (replay_refusal s cap_layer index num_siblings) }
+    ensures schedule { let s = shape_of steps.now.arity steps.now.dimensions.now in
+        IfOk result (λ r. r.arity_schedule.items ≡ schedule_below s cap_layer) }
+    ensures positions { let s = shape_of steps.now.arity steps.now.dimensions.now in
+        IfOk result (λ r. r.query_positions.items ≡ positions_below s cap_layer index) }
+{
+    steps.check_heights()?;
+    let max_height = steps.max_height;
+    if index >= max_height {
+        return Err(MerkleTreeError::IndexOutOfBounds { max_height, index });
+    }
+    let expected_proof_len = steps.siblings_below(cap_layer);
+    if num_siblings != expected_proof_len {
+        return Err(MerkleTreeError::WrongHeight {
+            expected_proof_len,
+            num_siblings,
+        });
+    }
+    Ok(ArityAndPositions {
+        arity_schedule: steps.schedule_below(alloc, cap_layer)?,
+        query_positions: steps.positions_below(alloc, cap_layer, index)?,
+    })
+}
+
+impl<P: PackedValue, PW: PackedValue, H, C, X: Copy, G, const N: usize> Scheme<
+    P,
+    PW,
+    H,
+    C,
+    X,
+    G,
+    N,
+> {
+    ghost use Rattle.p3_support.specs.Batches.{greatest};
+    ghost use Rattle.p3_merkle_core.specs.Geometry.{arity_schedule as schedule_in, exponent, heights};
+    ghost use Rattle.p3_merkle_core.specs.Nodes.{shape};
+    ghost use Rattle.p3_merkle_core.specs.declared.error.MerkleTreeError.TheVariants.{OutOfMemory};
+    ghost use Rattle.p3_merkle_prover.specs.Parts.{matrices_of, tree_batch};
+    ghost use Rattle.p3_merkle_mmcs.specs.Schemes.{cap_layer_over};
+
+    /// The step of each level below the cap, from the leaves up: how many children a node above it has, in the tree
+    /// over matrices of these dimensions.
+    ///
+    /// # Errors
+    ///
+    /// `EmptyBatch`, `TooLarge` or `IncompatibleHeights` if [`commit`](Self::commit) refuses such heights;
+    /// `OutOfMemory` may come at any time.
+    pub fn proof_arity_schedule(
+        &self,
+        alloc: Global,
+        dimensions: &[Dimensions],
+    ) -> Result<Vec<usize>, MerkleTreeError>
+        ensures answer { AnswersUnlessMemory result (gate_refusal (heights_of dimensions.now)) }
+        ensures steps { let s = shape_of N dimensions.now in
+            IfOk result (λ v. v.items ≡ schedule_below s (cap_layer_over self.now s)) }
+        ensures first { let s = shape_of N dimensions.now in
+            IfOk result (λ v. v.items ≡ take (cap_layer_over self.now s) (schedule_in s)) }
+        ensures few { IfOk result (λ v. vec_len v ≤ exponent (greatest (heights_of dimensions.now))) }
+    {
+        let steps = steps_of(dimensions, N);
+        let cap_layer = steps.cap_layer(self.cap_rule, self.cap_height);
+        schedule_to(alloc, &steps, cap_layer)
+    }
+
+    /// The path of the leaf `index` to the cap, for a proof of `num_siblings` digests: the steps of
+    /// [`proof_arity_schedule`](Self::proof_arity_schedule), and on each level the position of the leaf's ancestor in
+    /// its group.
+    ///
+    /// # Errors
+    ///
+    /// The first of these that holds: `EmptyBatch`, `TooLarge` or `IncompatibleHeights` if [`commit`](Self::commit)
+    /// refuses such heights; `IndexOutOfBounds` if the index is not below the tallest height; `WrongHeight` if
+    /// `num_siblings` is not what the levels below the cap need. `OutOfMemory` may come at any time.
+    pub fn replay_arity_and_positions(
+        &self,
+        alloc: Global,
+        dimensions: &[Dimensions],
+        index: usize,
+        num_siblings: usize,
+    ) -> Result<ArityAndPositions, MerkleTreeError>
+        ensures answer { let s = shape_of N dimensions.now in
+            AnswersUnlessMemory result (replay_refusal s (cap_layer_over self.now s) index num_siblings) }
+        ensures schedule { let s = shape_of N dimensions.now in
+            IfOk result (λ r. r.arity_schedule.items ≡ schedule_below s (cap_layer_over self.now s)) }
+        ensures positions { let s = shape_of N dimensions.now in
+            IfOk result (λ r. r.query_positions.items ≡ positions_below s (cap_layer_over self.now s) index) }
+    {
+        let steps = steps_of(dimensions, N);
+        let cap_layer = steps.cap_layer(self.cap_rule, self.cap_height);
+        path_to(alloc, &steps, cap_layer, index, num_siblings)
+    }
+
+    /// The matrices of a tree, in input order.
+    ///
+    /// # Errors
+    ///
+    /// Only `OutOfMemory`.
+    pub fn get_matrices<'a, M: Matrix<P::Value>>(
+        &self,
+        alloc: Global,
+        tree: &'a Tree<P::Value, X, G, M, N>,
+    ) -> Result<Vec<&'a M>, MerkleTreeError>
+        ensures matrices { IfOk result (λ v. map (λ m. m.now) v.items ≡ matrices_of tree.now) }
+        ensures memory { AnswersUnlessMemory result None }
+    {
+        matrix_refs(alloc, tree)
+    }
+
+    /// The height of the tallest matrix of a tree, in rows: one more than the greatest index that can be opened.
+    pub fn get_max_height<M: Matrix<P::Value>>(&self, tree: &Tree<P::Value, X, G, M, N>) -> usize
+        ensures { result ≡ greatest (heights (shape (tree_batch tree.now))) }
+    {
+        max_height(tree)
+    }
+}
