@@ -17,8 +17,6 @@ ghost use Rattle.p3_merkle_core.specs.Geometry.{levels, height_limit, shape_of, 
 ghost use Rattle.p3_merkle_core.specs.Refusals.{queries_refusal};
 
 use crate::error::MerkleTreeError;
-use crate::steps::{Steps, steps_of};
-use p3_support::matrix::Dimensions;
 use std::alloc::{AllocError, Global};
 
 /// The digests of a pruned proof, which opens several leaves at once. [`PrunedMerklePaths`] is this proof at digests of
@@ -161,55 +159,6 @@ pub fn climb(covered: &mut Vec<usize>, step: usize)
 {
     to_parents(covered, step);
     covered.dedup();
-}
-
-/// How many digests a pruned proof of some indices sends under the cap of layer `cap_layer`: on each level, the
-/// children of covered nodes that are not covered. `cap_layer` must be at most the number of levels, the arity a power
-/// of two from 2 to 2^62, no height above [`MAX_HEIGHT`](crate::geometry::MAX_HEIGHT), and each index below the tallest
-/// height. It allocates and sorts a copy of the indices, and takes one step for each index and level.
-///
-/// # Errors
-///
-/// `AllocError` if memory runs out.
-pub fn pruned_len_of(
-    alloc: Global,
-    dimensions: &[Dimensions],
-    arity: usize,
-    cap_layer: usize,
-    indices: &[usize],
-) -> Result<usize, AllocError>
-    requires arity { IsArity arity }
-    requires low { greatest (heights_of dimensions.now) ≤ height_limit }
-    requires layer { cap_layer ≤ levels (shape_of arity dimensions.now) }
-    requires below { All (λ q. q < greatest (heights_of dimensions.now)) indices.now }
-    ensures { IfOk result (λ count. count ≡ pruned_len (shape_of arity dimensions.now) indices.now cap_layer) }
-{
-    let leaves = covered_leaves(alloc, indices)?;
-    Ok(steps_of(dimensions, arity).boundary_len(cap_layer, leaves))
-}
-
-impl<'a> Steps<'a> {
-    /// The same as [`pruned_len_of`] from the leaves that the indices cover, each once, ascending, as
-    /// [`covered_leaves`] has them. It does not allocate, and takes one step for each leaf and level.
-    pub fn boundary_len(&self, layer: usize, leaves: Vec<usize>) -> usize
-        requires arity { IsArity self.now.arity }
-        requires low { greatest (heights_of self.now.dimensions.now) ≤ height_limit }
-        requires layer { layer ≤ self.now.num_levels }
-        requires below { All (λ q. q < greatest (heights_of self.now.dimensions.now)) leaves.items }
-        requires ascending { IsStrictlyIncreasing leaves.items }
-        ensures { result ≡ pruned_len (shape_of self.now.arity self.now.dimensions.now) leaves.items layer }
-    {
-        let mut covered = leaves;
-        let mut count = 0;
-        for level in 0..layer {
-            let step = self.step(level);
-            let below = covered.len();
-            climb(&mut covered, step);
-            let children = step * covered.len();
-            count += children - below;
-        }
-        count
-    }
 }
 
 /// The digests of the children of some parents, `step` of each, parent by parent: a covered child has its digest, and

@@ -2,7 +2,7 @@
 //! the two calls that return a list allocate.
 
 ghost use Rattle.std.specs.Prelude.{◌≡◌, ℕ, suc, ◌+◌, ◌-◌, ◌<◌, ◌≤◌, ◌==◌, ◌↔◌, List, if◌then◌else◌, length, map};
-ghost use Rattle.std.specs.Prelude.{nat_lt, take, ◌&&◌, IfOk, IsOk, MatchResult, None, Some};
+ghost use Rattle.std.specs.Prelude.{All, nat_lt, take, ◌&&◌, IfOk, IsOk, MatchResult, None, Some};
 ghost use Rattle.std.specs.List.{list_any, range_with_len};
 ghost use Rattle.p3_merkle_core.specs.Geometry;
 ghost use Rattle.p3_merkle_core.specs.Geometry.{exponent, has_rows, is_bridge, layer_exponent, levels, height_limit};
@@ -10,13 +10,23 @@ ghost use Rattle.p3_merkle_core.specs.Geometry.{positions_below, schedule_below,
 ghost use Rattle.p3_merkle_core.specs.Inner.Shapes.{shortest};
 ghost use Rattle.p3_merkle_core.specs.Geometry.{IsLawful};
 ghost use Rattle.p3_support.specs.Batches.{heights_of, greatest};
+ghost use Rattle.p3_merkle_core.specs.Caps.{cap_layer};
 ghost use Rattle.p3_merkle_core.specs.Checks.{siblings_below};
+ghost use Rattle.p3_merkle_core.specs.Inner.Levels.{IsBelowTop, IsLevel};
+ghost use Rattle.p3_merkle_core.specs.Pruning.{pruned_len};
+ghost use Rattle.std.specs.List.Sorted.{IsStrictlyIncreasing};
 ghost use Rattle.p3_merkle_core.specs.Gate.{gate_refusal};
 ghost use Rattle.p3_merkle_core.specs.Inner.Rungs.{next_below, IsRung};
 ghost use Rattle.p3_merkle_core.specs.Inner.Steps.{level_step};
 
+use crate::cap::CapRule;
 use crate::error::MerkleTreeError;
-use crate::geometry::{check_heights_up_to, exponent_of, extremes_of, step_from};
+use crate::geometry::{
+    MAX_HEIGHT, bits_reduced_of, exponent_of, extremes_of, first_off_ladder_of, first_too_large_of,
+    grouped_len, height_at_of, padded_len, step_from,
+};
+use crate::levels::Level;
+use crate::pruning::climb;
 use p3_support::matrix::Dimensions;
 use std::alloc::{AllocError, Global};
 
@@ -58,8 +68,8 @@ fn lemma_exponent(height: usize)
     ensures { exponent height ≤ 64 }
 {}
 
-/// Whether the step from a layer is a bridge step, as [`is_bridge_step`](crate::geometry::is_bridge_step) says. No
-/// matrix is looked at.
+/// Whether the step from a layer is a bridge step: a matrix's exponent lies strictly between the layer's and what a step
+/// of the whole arity leaves of it. No matrix is looked at.
 fn is_bridge_from(arity: usize, rung: Rung) -> bool
     ensures { (hs : List ℕ) → IsRung hs rung → result
         ≡ list_any (λ h. nat_lt (rung.exponent - exponent arity) (exponent h) && nat_lt (exponent h) rung.exponent) hs }
@@ -97,8 +107,7 @@ struct LevelStep {
     pub has_rows: bool,
 }
 
-/// The step from a layer below the root, as [`select_arity_step`](crate::geometry::select_arity_step), whether matrices
-/// belong to the next layer, as [`has_exponent`](crate::geometry::has_exponent), and that layer's rung. The arity must
+/// The step from a layer below the root, whether matrices belong to the next layer, and that layer's rung. The arity must
 /// be at least 2. The matrices are looked at only if one belongs to the next layer.
 fn step_up(dimensions: &[Dimensions], arity: usize, rung: Rung) -> (LevelStep, Rung)
     requires arity { 2 ≤ arity }
@@ -284,18 +293,53 @@ impl KeptSteps {
 }
 
 impl<'a> Steps<'a> {
-    /// Checks that a tree can be built over matrices of these heights, as
-    /// [`check_heights`](crate::geometry::check_heights). Each matrix is looked at once.
+    /// Checks that a tree can be built over matrices of these heights (`validate_commit_reachable_heights` in the Rust
+    /// crate). Each matrix is looked at once.
     ///
     /// # Errors
     ///
-    /// Those of [`check_heights`](crate::geometry::check_heights).
+    /// `EmptyBatch` where no matrix has a row; else `TooLarge` for the first height above [`MAX_HEIGHT`]; else
+    /// `IncompatibleHeights` for the first height that is not the tallest one halved and rounded up some number of
+    /// times.
     pub fn check_heights(&self) -> Result<(), MerkleTreeError>
         ensures answer { MatchResult result (λ ok. gate_refusal (heights_of self.now.dimensions.now) ≡ None)
             (λ e. gate_refusal (heights_of self.now.dimensions.now) ≡ Some e) }
         ensures lawful { IsOk result ↔ IsLawful (heights_of self.now.dimensions.now) }
     {
-        check_heights_up_to(self.dimensions, self.max_height)
+        let max_height = self.max_height;
+        if max_height == 0 {
+            return Err(MerkleTreeError::EmptyBatch);
+        }
+        if let Some(matrix) = first_too_large_of(self.dimensions, max_height) {
+            return Err(MerkleTreeError::TooLarge {
+                matrix,
+                size: self.dimensions[matrix].height,
+            });
+        }
+        if let Some(height) = first_off_ladder_of(self.dimensions, max_height) {
+            return Err(MerkleTreeError::IncompatibleHeights {
+                height,
+                max_height,
+                expected_height: height_at_of(max_height, exponent_of(height)),
+                bits_reduced: bits_reduced_of(max_height, height),
+            });
+        }
+        Ok(())
+    }
+
+    /// The layer, counted from the leaves, that is the cap of this height by this rule. The arity must be a power of
+    /// two from 2 to 2^62. It does not allocate.
+    pub fn cap_layer(&self, rule: CapRule, cap_height: usize) -> usize
+        requires { IsArity self.now.arity }
+        ensures { result ≡ cap_layer (shape_of self.now.arity self.now.dimensions.now) rule cap_height }
+    {
+        // No step above the layer of the shortest matrix is a bridge step.
+        let max_cap_height = match rule {
+            CapRule::Lowered => exponent_of(self.min_height).div_ceil(exponent_of(self.arity)),
+            CapRule::Fixed => self.num_levels,
+        };
+        self.num_levels
+            .saturating_sub(cap_height.min(max_cap_height))
     }
 
     /// Whether the step of a level below the root is a bridge step.
@@ -338,6 +382,27 @@ impl<'a> Steps<'a> {
         }
     }
 
+    /// The layer above the layer `below`, which must be below the root and have `len` nodes and this exponent. The
+    /// arity must be a power of two from 2 to 2^62, and [`check_heights`](Self::check_heights) must accept the heights.
+    pub fn level_above(&self, below: usize, exponent: usize, len: usize) -> Level
+        requires { IsBelowTop (shape_of self.now.arity self.now.dimensions.now) below exponent len }
+        ensures level { IsLevel (shape_of self.now.arity self.now.dimensions.now) result }
+        ensures below { result.below ≡ below }
+    {
+        let arity = self.arity;
+        let up = self.up(arity, below, exponent);
+        let raw_len = grouped_len(arity, self.is_bridge(below), exponent, len) / up.step;
+        Level {
+            below,
+            step: up.step,
+            exponent: up.exponent,
+            raw_len,
+            layer_len: padded_len(raw_len, arity),
+            height: height_at_of(self.max_height, up.exponent),
+            has_rows: up.has_rows,
+        }
+    }
+
     /// The exponent of a layer, counted from the leaves. The layer must be at most the number of levels.
     pub fn layer_exponent(&self, layer: usize) -> usize
         requires { layer ≤ self.now.num_levels }
@@ -352,7 +417,7 @@ impl<'a> Steps<'a> {
 
     /// How many siblings the levels below a layer have, in digests: one less than the step of each
     /// (`total_siblings_for_levels` in the Rust crate). The layer must be at most the number of levels, the arity a
-    /// power of two from 2 to 2^62, and no height above [`MAX_HEIGHT`](crate::geometry::MAX_HEIGHT).
+    /// power of two from 2 to 2^62, and no height above [`MAX_HEIGHT`].
     pub fn siblings_below(&self, layer: usize) -> usize
         requires arity { IsArity self.now.arity }
         requires low { greatest (heights_of self.now.dimensions.now) ≤ height_limit }
@@ -411,5 +476,30 @@ impl<'a> Steps<'a> {
             ancestor /= step;
         }
         Ok(positions)
+    }
+
+    /// How many digests a pruned proof of some leaves sends under the cap of layer `layer`: on each level, the children of
+    /// covered nodes that are not covered. The leaves ascend, each once, as
+    /// [`covered_leaves`](crate::pruning::covered_leaves) has them. `layer` must be at most the number of levels, the
+    /// arity a power of two from 2 to 2^62, no height above [`MAX_HEIGHT`], and each leaf below the tallest height. It
+    /// does not allocate, and takes one step for each leaf and level.
+    pub fn boundary_len(&self, layer: usize, leaves: Vec<usize>) -> usize
+        requires arity { IsArity self.now.arity }
+        requires low { greatest (heights_of self.now.dimensions.now) ≤ height_limit }
+        requires layer { layer ≤ self.now.num_levels }
+        requires below { All (λ q. q < greatest (heights_of self.now.dimensions.now)) leaves.items }
+        requires ascending { IsStrictlyIncreasing leaves.items }
+        ensures { result ≡ pruned_len (shape_of self.now.arity self.now.dimensions.now) leaves.items layer }
+    {
+        let mut covered = leaves;
+        let mut count = 0;
+        for level in 0..layer {
+            let step = self.step(level);
+            let below = covered.len();
+            climb(&mut covered, step);
+            let children = step * covered.len();
+            count += children - below;
+        }
+        count
     }
 }

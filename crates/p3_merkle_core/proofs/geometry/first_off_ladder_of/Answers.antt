@@ -13,7 +13,7 @@ same (Some x) = refl
 
 pub returns : goal.returns
 returns c =
-    sym (same c.find.result) ∙ find_from_yields_List (λ h. not (h == expected_height c.args.tallest h)) _ _ _
+    sym (same c.find.result) ∙ find_from_yields_List (λ h. not (h == expected_height c.args.max_height h)) _ _ _
     c.find.ensures.ran
     (YieldsList-from_map _ (λ (d : Dimensions). d.height) (YieldsList-from_slice c.args.dimensions.now (cc))
     c.map.ensures.closure (λ x r q k. search rules)) (λ x b q k. search (rules, tests))
