@@ -9,7 +9,7 @@ ghost use Rattle.p3_merkle_core.specs.Geometry;
 ghost use Rattle.p3_merkle_core.specs.Geometry.{bits_reduced, exponent, height_at, height_limit, padded_len};
 ghost use Rattle.p3_merkle_core.specs.Inner.Shapes.{shortest};
 ghost use Rattle.p3_support.specs.Batches.{heights_of, greatest};
-ghost use Rattle.p3_merkle_core.specs.Gate.{first_off_ladder, first_too_large};
+ghost use Rattle.p3_merkle_core.specs.Gate.{first_too_large};
 ghost use Rattle.p3_merkle_core.specs.Refusals.{width_refusal};
 
 use crate::error::MerkleTreeError;
@@ -82,15 +82,6 @@ pub(crate) fn first_too_large_of(dimensions: &[Dimensions], max_height: usize) -
         .iter()
         .map(|matrix| matrix.height)
         .position(|height| height > MAX_HEIGHT)
-}
-
-/// The first height that is not the expected one.
-pub(crate) fn first_off_ladder_of(dimensions: &[Dimensions], max_height: usize) -> Option<usize>
-    requires { max_height ≤ height_limit }
-    ensures { result ≡ first_off_ladder max_height (heights_of dimensions.now) }
-{
-    dimensions.iter().map(|matrix| matrix.height).find(|height| *height
-        != height_at_of(max_height, exponent_of(*height)))
 }
 
 /// Checks that an opening has one row for each matrix, each as wide as its matrix (`check_widths` in the Rust crate).

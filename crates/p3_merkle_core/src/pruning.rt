@@ -84,23 +84,18 @@ pub fn check_indices(max_height: usize, indices: &[usize]) -> Result<(), MerkleT
         (λ e. queries_refusal max_height indices.now ≡ Some e) }
     ensures below { IfOk result (λ ok. All (λ q. q < max_height) indices.now) }
 {
-    let index = highest_of(indices);
-    if index < max_height {
-        Ok(())
-    } else {
-        Err(MerkleTreeError::IndexOutOfBounds { max_height, index })
-    }
-}
-
-/// The highest index, or 0 if there are none.
-fn highest_of(indices: &[usize]) -> usize
-    ensures { result ≡ greatest indices.now }
-{
     let mut highest = 0;
     for index in indices {
         highest = highest.max(*index);
     }
-    highest
+    if highest < max_height {
+        Ok(())
+    } else {
+        Err(MerkleTreeError::IndexOutOfBounds {
+            max_height,
+            index: highest,
+        })
+    }
 }
 
 /// The leaves that some indices cover: each index once, ascending. It allocates a copy of the indices and sorts it.
@@ -242,15 +237,6 @@ fn extend_with_places<X>(
     Ok(())
 }
 
-/// How many places [`all_places`] has.
-fn num_places<X>(levels: &[KeptLevel<X>]) -> usize {
-    let mut count = 0usize;
-    for level in 1..levels.len() {
-        count = count.saturating_add(levels[level - 1].parents.len());
-    }
-    count
-}
-
 /// For each level but the last, and each of its `parents`, the place of that node's parent in the next level: one level
 /// after another.
 ///
@@ -258,7 +244,11 @@ fn num_places<X>(levels: &[KeptLevel<X>]) -> usize {
 ///
 /// `AllocError` if memory runs out.
 fn all_places<X>(alloc: Global, levels: &[KeptLevel<X>]) -> Result<Vec<usize>, AllocError> {
-    let mut places = Vec::with_capacity(alloc, num_places(levels))?;
+    let mut num_places = 0usize;
+    for level in 1..levels.len() {
+        num_places = num_places.saturating_add(levels[level - 1].parents.len());
+    }
+    let mut places = Vec::with_capacity(alloc, num_places)?;
     for level in 1..levels.len() {
         extend_with_places(&mut places, &levels[level - 1].parents, &levels[level])?;
     }

@@ -22,8 +22,8 @@ ghost use Rattle.p3_merkle_core.specs.Inner.Steps.{level_step};
 use crate::cap::CapRule;
 use crate::error::MerkleTreeError;
 use crate::geometry::{
-    MAX_HEIGHT, bits_reduced_of, exponent_of, extremes_of, first_off_ladder_of, first_too_large_of,
-    grouped_len, height_at_of, padded_len, step_from,
+    MAX_HEIGHT, bits_reduced_of, exponent_of, extremes_of, first_too_large_of, grouped_len,
+    height_at_of, padded_len, step_from,
 };
 use crate::levels::Level;
 use crate::pruning::climb;
@@ -316,13 +316,17 @@ impl<'a> Steps<'a> {
                 size: self.dimensions[matrix].height,
             });
         }
-        if let Some(height) = first_off_ladder_of(self.dimensions, max_height) {
-            return Err(MerkleTreeError::IncompatibleHeights {
-                height,
-                max_height,
-                expected_height: height_at_of(max_height, exponent_of(height)),
-                bits_reduced: bits_reduced_of(max_height, height),
-            });
+        for matrix in self.dimensions {
+            let height = matrix.height;
+            let expected_height = height_at_of(max_height, exponent_of(height));
+            if height != expected_height {
+                return Err(MerkleTreeError::IncompatibleHeights {
+                    height,
+                    max_height,
+                    expected_height,
+                    bits_reduced: bits_reduced_of(max_height, height),
+                });
+            }
         }
         Ok(())
     }

@@ -1,6 +1,6 @@
 use Rattle.std.proofs.Common.{◌≡◌, max, drop}
 use Rattle.p3_support.specs.Batches.{greatest}
-use Rattle.p3_merkle_core.proofs.pruning.highest_of.Given as goal
+use Rattle.p3_merkle_core.proofs.pruning.check_indices.Given as goal
 
 -- the greatest so far and the rest's is the greatest of all
 abbrev pub invariant-loop-index : goal.invariant-loop-index

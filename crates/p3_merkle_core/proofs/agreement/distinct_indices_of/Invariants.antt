@@ -1,7 +1,7 @@
 use Rattle.std.proofs.Common.{◌≡◌, map}
 use Rattle.p3_merkle_core.specs.Inner.Agreement.{distinct}
 use Rattle.p3_merkle_core.proofs.Pruned.SlotFacts.{first_from}
-use Rattle.p3_merkle_core.proofs.agreement.first_queries.Given as goal
+use Rattle.p3_merkle_core.proofs.agreement.distinct_indices_of.Given as goal
 
 -- the first queries among those that were gone through
 abbrev pub invariant-loop-query : goal.invariant-loop-query
