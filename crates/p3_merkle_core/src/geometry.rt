@@ -145,16 +145,3 @@ pub(crate) fn grouped_len(arity: usize, is_bridge: bool, exponent: usize, len: u
         padded_len(len, arity)
     }
 }
-
-/// The step from a layer of this exponent, in children per node, and the exponent of the next layer: a bridge step, or
-/// one of the whole arity.
-pub(crate) fn step_from(arity: usize, is_bridge: bool, exponent: usize) -> (usize, usize)
-    ensures step { result.0 ≡ (if is_bridge then 2 else arity) }
-    ensures next { result.1 ≡ (if is_bridge then exponent - 1 else exponent - Geometry.exponent arity) }
-{
-    if is_bridge {
-        (2, exponent.saturating_sub(1))
-    } else {
-        (arity, exponent.saturating_sub(exponent_of(arity)))
-    }
-}

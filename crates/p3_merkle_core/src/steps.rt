@@ -16,14 +16,14 @@ ghost use Rattle.p3_merkle_core.specs.Inner.Levels.{IsBelowTop, IsLevel};
 ghost use Rattle.p3_merkle_core.specs.Pruning.{pruned_len};
 ghost use Rattle.std.specs.List.Sorted.{IsStrictlyIncreasing};
 ghost use Rattle.p3_merkle_core.specs.Gate.{gate_refusal};
-ghost use Rattle.p3_merkle_core.specs.Inner.Rungs.{next_below, IsRung};
+ghost use Rattle.p3_merkle_core.specs.Inner.Exponents.{AreExponents};
 ghost use Rattle.p3_merkle_core.specs.Inner.Steps.{level_step};
 
 use crate::cap::CapRule;
 use crate::error::MerkleTreeError;
 use crate::geometry::{
     MAX_HEIGHT, bits_reduced_of, exponent_of, extremes_of, first_too_large_of, grouped_len,
-    height_at_of, padded_len, step_from,
+    height_at_of, padded_len,
 };
 use crate::levels::Level;
 use crate::pruning::climb;
@@ -35,67 +35,29 @@ const MAX_LEVELS: usize = 64;
 
 /// The exponent of a layer, and the next lower exponent of a matrix: the steps above the layer depend on these.
 #[derive(Clone, Copy)]
-struct Rung {
+struct Exponents {
     /// The exponent of the layer.
-    pub exponent: usize,
+    pub layer: usize,
     /// One more than the greatest exponent of a matrix below this one; 0 if no matrix has a lower exponent.
     pub next: usize,
 }
 
-/// The rung of this exponent. Each matrix is looked at once; at exponent 0 none is.
-fn rung_at(dimensions: &[Dimensions], exponent: usize) -> Rung
-    ensures exponent { result.exponent ≡ exponent }
-    ensures rung { IsRung (heights_of dimensions.now) result }
+/// The exponents at a layer of this exponent. Each matrix is looked at once; at exponent 0 none is.
+fn exponents_at(dimensions: &[Dimensions], layer: usize) -> Exponents
+    ensures layer { result.layer ≡ layer }
+    ensures next { AreExponents (heights_of dimensions.now) result }
 {
-    if exponent == 0 {
-        return Rung {
-            exponent: 0,
-            next: 0,
-        };
+    if layer == 0 {
+        return Exponents { layer: 0, next: 0 };
     }
     let mut next = 0;
     for matrix in dimensions {
-        let e = exponent_of(matrix.height);
-        if e < exponent {
-            next = next.max(e + 1);
+        let exponent = exponent_of(matrix.height);
+        if exponent < layer {
+            next = next.max(exponent + 1);
         }
     }
-    Rung { exponent, next }
-}
-
-/// Tells that the exponent of a height is at most 64. It does nothing at run time.
-fn lemma_exponent(height: usize)
-    ensures { exponent height ≤ 64 }
-{}
-
-/// Whether the step from a layer is a bridge step: a matrix's exponent lies strictly between the layer's and what a step
-/// of the whole arity leaves of it. No matrix is looked at.
-fn is_bridge_from(arity: usize, rung: Rung) -> bool
-    ensures { (hs : List ℕ) → IsRung hs rung → result
-        ≡ list_any (λ h. nat_lt (rung.exponent - exponent arity) (exponent h) && nat_lt (exponent h) rung.exponent) hs }
-{
-    let target = rung.exponent.saturating_sub(exponent_of(arity));
-    rung.next.saturating_sub(target) > 1
-}
-
-/// Whether matrices have this exponent, and its rung. It is that of the layer above a rung: below the rung's, with no
-/// matrix's exponent between them. The matrices are looked at only if one has it.
-fn rung_above(dimensions: &[Dimensions], rung: Rung, exponent: usize) -> (bool, Rung)
-    requires rung { IsRung (heights_of dimensions.now) rung }
-    requires down { exponent < rung.exponent }
-    requires between { rung.next ≤ exponent + 1 }
-    ensures rows { result.0 ≡ list_any (λ h. Geometry.exponent h == exponent) (heights_of dimensions.now) }
-    ensures exponent { result.1.exponent ≡ exponent }
-    ensures above { IsRung (heights_of dimensions.now) result.1 }
-{
-    if rung.next == exponent + 1 {
-        return (true, rung_at(dimensions, exponent));
-    }
-    let above = Rung {
-        exponent,
-        next: rung.next,
-    };
-    (false, above)
+    Exponents { layer, next }
 }
 
 /// The step of a level, and whether matrices belong to the layer above it.
@@ -107,22 +69,36 @@ struct LevelStep {
     pub has_rows: bool,
 }
 
-/// The step from a layer below the root, whether matrices belong to the next layer, and that layer's rung. The arity must
-/// be at least 2. The matrices are looked at only if one belongs to the next layer.
-fn step_up(dimensions: &[Dimensions], arity: usize, rung: Rung) -> (LevelStep, Rung)
+/// The step from a layer below the root, whether matrices belong to the next layer, and the exponents there. The arity
+/// must be at least 2. The matrices are looked at only if one belongs to the next layer.
+fn step_up(dimensions: &[Dimensions], arity: usize, exponents: Exponents) -> (LevelStep, Exponents)
     requires arity { 2 ≤ arity }
-    requires below { 0 < rung.exponent }
-    requires rung { IsRung (heights_of dimensions.now) rung }
-    ensures bridge { result.0.is_bridge ≡ is_bridge (shape_of arity dimensions.now) rung.exponent }
-    ensures next { result.1.exponent
-        ≡ (if is_bridge (shape_of arity dimensions.now) rung.exponent then rung.exponent - 1
-        else rung.exponent - Geometry.exponent arity) }
-    ensures rows { result.0.has_rows ≡ list_any (λ h. exponent h == result.1.exponent) (heights_of dimensions.now) }
-    ensures rung { IsRung (heights_of dimensions.now) result.1 }
+    requires below { 0 < exponents.layer }
+    requires next { AreExponents (heights_of dimensions.now) exponents }
+    ensures bridge { result.0.is_bridge ≡ is_bridge (shape_of arity dimensions.now) exponents.layer }
+    ensures layer { result.1.layer
+        ≡ (if is_bridge (shape_of arity dimensions.now) exponents.layer then exponents.layer - 1 else exponents.layer - exponent arity) }
+    ensures rows { result.0.has_rows ≡ list_any (λ h. exponent h == result.1.layer) (heights_of dimensions.now) }
+    ensures next { AreExponents (heights_of dimensions.now) result.1 }
 {
-    let is_bridge = is_bridge_from(arity, rung);
-    let (_, exponent) = step_from(arity, is_bridge, rung.exponent);
-    let (has_rows, above) = rung_above(dimensions, rung, exponent);
+    let target = exponents.layer.saturating_sub(exponent_of(arity));
+    // A matrix's exponent lies strictly between the layer's and what a step of the whole arity leaves of it.
+    let is_bridge = exponents.next.saturating_sub(target) > 1;
+    let layer = if is_bridge {
+        exponents.layer - 1
+    } else {
+        target
+    };
+    // No matrix's exponent lies between the two layers' exponents.
+    let has_rows = exponents.next == layer + 1;
+    let above = if has_rows {
+        exponents_at(dimensions, layer)
+    } else {
+        Exponents {
+            layer,
+            next: exponents.next,
+        }
+    };
     let level = LevelStep {
         is_bridge,
         has_rows,
@@ -177,20 +153,19 @@ pub fn steps_of(dimensions: &[Dimensions], arity: usize) -> Steps<'_>
     ensures arity { result.arity ≡ arity }
 {
     let (max_height, min_height) = extremes_of(dimensions);
-    lemma_exponent(max_height);
     let exponent = exponent_of(max_height);
-    let mut rung = rung_at(dimensions, exponent);
+    let mut exponents = exponents_at(dimensions, exponent);
     let none = LevelStep {
         is_bridge: false,
         has_rows: false,
     };
     let mut of_level = [none; MAX_LEVELS];
     let mut num_levels = 0;
-    while rung.exponent > 0 {
-        let (step, above) = step_up(dimensions, arity, rung);
+    while exponents.layer > 0 {
+        let (step, above) = step_up(dimensions, arity, exponents);
         of_level[num_levels] = step;
         num_levels += 1;
-        rung = above;
+        exponents = above;
     }
     Steps {
         dimensions,
@@ -346,21 +321,16 @@ impl<'a> Steps<'a> {
             .saturating_sub(cap_height.min(max_cap_height))
     }
 
-    /// Whether the step of a level below the root is a bridge step.
-    pub(crate) fn is_bridge(&self, level: usize) -> bool
-        requires { level < self.now.num_levels }
-        ensures { let s = shape_of self.now.arity self.now.dimensions.now in
-            result ≡ is_bridge s (layer_exponent s level) }
-    {
-        self.of_level[level].is_bridge
-    }
-
     /// The step of a level, in children per node. The level must be below the root.
     pub fn step(&self, level: usize) -> usize
         requires { level < self.now.num_levels }
         ensures { result ≡ step (shape_of self.now.arity self.now.dimensions.now) level }
     {
-        if self.is_bridge(level) { 2 } else { self.arity }
+        if self.of_level[level].is_bridge {
+            2
+        } else {
+            self.arity
+        }
     }
 
     /// The step of a level, and what is known of the layer above it. The level must be below the root, `exponent` must
@@ -378,11 +348,18 @@ impl<'a> Steps<'a> {
             is_bridge,
             has_rows,
         } = self.of_level[level];
-        let (step, exponent) = step_from(arity, is_bridge, exponent);
-        StepUp {
-            step,
-            has_rows,
-            exponent,
+        if is_bridge {
+            StepUp {
+                step: 2,
+                has_rows,
+                exponent: exponent.saturating_sub(1),
+            }
+        } else {
+            StepUp {
+                step: arity,
+                has_rows,
+                exponent: exponent.saturating_sub(exponent_of(arity)),
+            }
         }
     }
 
@@ -395,7 +372,7 @@ impl<'a> Steps<'a> {
     {
         let arity = self.arity;
         let up = self.up(arity, below, exponent);
-        let raw_len = grouped_len(arity, self.is_bridge(below), exponent, len) / up.step;
+        let raw_len = grouped_len(arity, self.of_level[below].is_bridge, exponent, len) / up.step;
         Level {
             below,
             step: up.step,

@@ -1,7 +1,8 @@
-use Rattle.std.proofs.Common.{arith, ap, ◌∙◌, ◌/◌}
+use Rattle.std.proofs.Common.{arith, ap, false, ◌∙◌, ◌/◌}
 use Rattle.p3_merkle_core.specs.Geometry.{shape_of, height_at}
 use Rattle.p3_merkle_core.proofs.Shapes.LevelFacts.{small_at, level_is, low, next_small, grouped_is}
 use Rattle.p3_merkle_core.proofs.Covered.CoveredFacts.{padded_le}
+use Rattle.p3_merkle_core.proofs.Shapes.KeptSteps.{bridge_at}
 use Rattle.p3_merkle_core.proofs.steps.Steps.level_above.Goals as goal
 
 pub up-up-requires-clause-exponent : goal.up-up-requires-clause-exponent
@@ -24,7 +25,10 @@ padded_len-requires-clause-fits c =
     let least = c.requires.arity.fits in
     let two = c.requires.arity.above_1 in
     let k = next_small c.up-up.result.step c.grouped_len.result c.requires c.up-up.ensures.step
-    (grouped_is c.grouped_len.result c.is_bridge.result c.requires c.is_bridge.ensures c.grouped_len.ensures) in
+    (grouped_is c.grouped_len.result _ c.requires
+    (bridge_at (shape_of c.args.self.now.arity c.args.self.now.dimensions.now) c.args.self.now.of_level
+    c.args.self.now.num_levels c.args.below (record { is_bridge = false; has_rows = false }) c.args.self.now.kept
+    (omega (arith, c.requires.in_tree, c.args.self.now.whole))) c.grouped_len.ensures) in
     omega (arith, padded_le (c.grouped_len.result / c.up-up.result.step) c.args.self.now.arity (omega arith), k)
 
 pub height_at_of-requires : goal.height_at_of-requires
@@ -36,7 +40,10 @@ pub returns-clause-level : goal.returns-clause-level
 returns-clause-level c =
     level_is c.up-up.result.step c.up-up.result.exponent c.grouped_len.result c.padded_len.result
     c.height_at_of.result c.up-up.result.has_rows c.requires c.up-up.ensures.step c.up-up.ensures.exponent
-    (grouped_is c.grouped_len.result c.is_bridge.result c.requires c.is_bridge.ensures c.grouped_len.ensures)
+    (grouped_is c.grouped_len.result _ c.requires
+    (bridge_at (shape_of c.args.self.now.arity c.args.self.now.dimensions.now) c.args.self.now.of_level
+    c.args.self.now.num_levels c.args.below (record { is_bridge = false; has_rows = false }) c.args.self.now.kept
+    (omega (arith, c.requires.in_tree, c.args.self.now.whole))) c.grouped_len.ensures)
     c.padded_len.ensures
     (c.height_at_of.ensures ∙ ap (λ m. height_at m c.up-up.result.exponent) c.args.self.now.tallest)
     c.up-up.ensures.rows

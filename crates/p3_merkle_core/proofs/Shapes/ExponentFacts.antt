@@ -1,11 +1,12 @@
 -- Exponents with the next one below them: what a step from there is, and whether a matrix has the one above.
 use Rattle.std.proofs.Common.{◌≡◌, ℕ, ◌+◌, ◌-◌, ◌<◌, ◌≤◌, ◌&&◌, nat_lt, cond, true, false, Bool, List, [], ◌∷◌, refl}
-use Rattle.std.proofs.Common.{sym, ◌∙◌, arith, inl, inr}
+use Rattle.std.proofs.Common.{ap, sym, ◌∙◌, arith, inl, inr}
 use Rattle.std.specs.Prelude.{◌==◌}
 use Rattle.std.specs.List.{list_any}
-use Rattle.std.proofs.lemmas.Bool.{cases_lt, cases_eq, eq-eqb, ne_eqb, lt-ltb, le-ltb, true≢false}
+use Rattle.std.proofs.lemmas.Bool.{cases_Bool, cases_lt, cases_eq, eq-eqb, ne_eqb, lt-ltb, le-ltb, true≢false}
 use Rattle.p3_merkle_core.specs.Geometry.{exponent}
-use Rattle.p3_merkle_core.specs.Inner.Rungs.{next_below}
+use Rattle.p3_merkle_core.specs.Inner.Exponents.{next_below}
+use Rattle.p3_merkle_core.proofs.Shapes.StepFacts.{whole_step_falls}
 
 -- what a height below x counts for, and one from there on
 counted : (x h : ℕ) → exponent h < x → (cond (nat_lt (exponent h) x) (exponent h + 1) 0) ≡ exponent h + 1
@@ -111,4 +112,32 @@ next_stays x y (h ∷ hs) down low =
           let here = counted y h (omega (arith, own, low)) in
           omega (arith, own, here, rest)
       | inr above ↦ omega (arith, passed x h above, passed y h (omega (arith, above, down)), rest)
+    ]
+
+-- ---- the step from a layer, as the code takes it
+
+-- a step from the exponent x to y, where the next one is n: b tells whether it is a bridge step
+pub record IsStepUp (arity x n y : ℕ) (hs : List ℕ) (b : Bool) : Type 0 where
+  pub bridge : b ≡ list_any (λ h. nat_lt (x - exponent arity) (exponent h) && nat_lt (exponent h) x) hs
+  pub layer : y ≡ cond b (x - 1) (x - exponent arity)
+  pub down : y < x
+  pub between : n ≤ y + 1
+
+pub step_found : (arity x e a n y r : ℕ) (hs : List ℕ) → 2 ≤ arity → 0 < x → e ≡ exponent arity → a ≡ x - e → n
+    ≡ next_below x hs → r ≡ n - a → y ≡ cond (nat_lt 1 r) (x - 1) a → IsStepUp arity x n y hs (nat_lt 1 r)
+step_found arity x e a n y r hs two some is_e is_a is_n is_r is_y =
+    let target : a ≡ x - exponent arity = is_a ∙ ap (λ z. x - z) is_e in
+    let bridge = bridge_told (x - exponent arity) x n hs (nat_lt 1 r) is_n
+    (ap (nat_lt 1) (is_r ∙ ap (λ z. n - z) target)) in
+    let layer = is_y ∙ ap (cond (nat_lt 1 r) (x - 1)) target in
+    let whole = whole_step_falls arity two in
+    elim (cases_Bool (nat_lt 1 r)) [
+      | inl t ↦
+          let one = rw t at layer in
+          let low = next_low x hs in
+          record { bridge = bridge; layer = layer; down = omega (arith, one); between = omega (arith, one, low) }
+      | inr f ↦
+          let to = rw f at layer in
+          let low = none_skipped (x - exponent arity) x n hs is_n (sym bridge ∙ f) in
+          record { bridge = bridge; layer = layer; down = omega (arith, to, whole); between = omega (arith, to, low) }
     ]
