@@ -4,7 +4,7 @@
 //! Nothing here allocates.
 
 ghost use Rattle.std.specs.Prelude.{◌≡◌, ◌-◌, ◌^◌, ◌<◌, ◌≤◌, Some, None, MatchResult};
-ghost use Rattle.std.specs.Prelude.{map, if◌then◌else◌, nat_lt, ◌&&◌};
+ghost use Rattle.std.specs.Prelude.{map};
 ghost use Rattle.p3_merkle_core.specs.Geometry;
 ghost use Rattle.p3_merkle_core.specs.Geometry.{bits_reduced, exponent, height_at, height_limit, padded_len};
 ghost use Rattle.p3_merkle_core.specs.Inner.Shapes.{shortest};
@@ -127,21 +127,5 @@ pub fn padded_len(len: usize, arity: usize) -> usize
         arity
     } else {
         len.next_multiple_of(arity)
-    }
-}
-
-/// How many slots of a layer of `len` nodes and this exponent are grouped into nodes of the layer above: all of them,
-/// but `2^exponent` if a bridge step starts from fewer nodes than the arity. The other slots pad the layer then. The
-/// arity is above 0, the exponent below 64, and the layer has fewer than 2^64 slots.
-pub(crate) fn grouped_len(arity: usize, is_bridge: bool, exponent: usize, len: usize) -> usize
-    requires positive { 0 < arity }
-    requires shift { exponent < 64 }
-    requires fits { padded_len len arity < 2 ^ 64 }
-    ensures { result ≡ (if is_bridge && nat_lt len arity then 2 ^ exponent else padded_len len arity) }
-{
-    if is_bridge && len < arity {
-        1 << exponent
-    } else {
-        padded_len(len, arity)
     }
 }

@@ -22,8 +22,8 @@ ghost use Rattle.p3_merkle_core.specs.Inner.Steps.{level_step};
 use crate::cap::CapRule;
 use crate::error::MerkleTreeError;
 use crate::geometry::{
-    MAX_HEIGHT, bits_reduced_of, exponent_of, extremes_of, first_too_large_of, grouped_len,
-    height_at_of, padded_len,
+    MAX_HEIGHT, bits_reduced_of, exponent_of, extremes_of, first_too_large_of, height_at_of,
+    padded_len,
 };
 use crate::levels::Level;
 use crate::pruning::climb;
@@ -372,7 +372,13 @@ impl<'a> Steps<'a> {
     {
         let arity = self.arity;
         let up = self.up(arity, below, exponent);
-        let raw_len = grouped_len(arity, self.of_level[below].is_bridge, exponent, len) / up.step;
+        // All slots are grouped into nodes of the layer above, but of a short layer below a bridge step only `2^exponent`.
+        let grouped_len = if self.of_level[below].is_bridge && len < arity {
+            1 << exponent
+        } else {
+            padded_len(len, arity)
+        };
+        let raw_len = grouped_len / up.step;
         Level {
             below,
             step: up.step,
