@@ -155,28 +155,22 @@ pub rows_alone : {T M : Type 0} (row : M → ℕ → List T) (j : ℕ) (ms : Lis
     ≡ get_or ms 0 m → rows_over row ms j ≡ row m j
 rows_alone row j ms m one is = rw (one_element ms m one is) (append-nil (row m j))
 
--- an array of arrays of s bytes each fits, where the product of the numbers is small as code has it, which caps what is
--- too large
-pub array_small : (outer inner s : ℕ) → min (outer * min (inner * capped s) (2 ^ 64 - 1)) (2 ^ 64 - 1) < 2 ^ 63 →
-    outer * (inner * s) < 2 ^ 63
-array_small outer inner s h =
+-- an array of arrays of s bytes each fits, where its bytes are few as code counts them, which caps what is too large
+pub array_small : (outer inner s size row bytes : ℕ) → size ≡ capped s → row ≡ min (inner * size) (2 ^ 64 - 1) →
+    bytes ≡ min (outer * row) (2 ^ 64 - 1) → bytes < 2 ^ 63 → outer * (inner * s) < 2 ^ 63
+array_small outer inner s size row bytes is_size is_row is_bytes h =
     elim (cases_eq outer 0) [
       | inl none ↦ rw none (omega arith)
       | inr some ↦
-          let part : ℕ = min (inner * capped s) (2 ^ 64 - 1) in
-          let more : 1 * part ≤ outer * part = mul-le-mul_right part (omega arith) in
-          let small : inner * capped s < 2 ^ 63 = omega (arith, more, h) in
+          let more : 1 * row ≤ outer * row = mul-le-mul_right row (omega arith) in
+          let whole : row ≡ inner * size = omega (arith, more) in
           elim (cases_eq inner 0) [
             | inl none ↦ let zero_sum : outer * (inner * s) ≡ 0 = rw none (omega arith) in omega arith
             | inr there ↦
-                let one : 1 * capped s ≤ inner * capped s = mul-le-mul_right (capped s) (omega arith) in
-                let size : s < 2 ^ 63 = capped_small s (omega (arith, one, small)) in
-                let is : capped s ≡ s = capped_is s (omega (arith, size)) in
-                let all : min (outer * min (inner * s) (2 ^ 64 - 1)) (2 ^ 64 - 1) < 2 ^ 63 = rw is at h in
-                let same : min (inner * s) (2 ^ 64 - 1) ≡ inner * s = let few : inner * s < 2 ^ 63 = rw is at small in
-                omega arith in
-                let whole : min (outer * (inner * s)) (2 ^ 64 - 1) < 2 ^ 63 = rw same at all in
-                omega arith
+                let one : 1 * size ≤ inner * size = mul-le-mul_right size (omega arith) in
+                let small : s < 2 ^ 63 = capped_small s (rw (← is_size) (omega (arith, more, one))) in
+                let is : size ≡ s = is_size ∙ capped_is s (omega (arith, small)) in
+                rw (← is, ← whole) (omega (arith, more))
           ]
     ]
 
@@ -187,11 +181,11 @@ capped_le s = elim (cases_lt s (2 ^ 64)) [
   | inr large ↦ let fits : capped s < 2 ^ 64 = capped_fits s in omega (arith, fits)
 ]
 
--- and it is small where the array fits
-pub array_fits : (outer inner s : ℕ) → outer * (inner * s) < 2 ^ 63 →
-    min (outer * min (inner * capped s) (2 ^ 64 - 1)) (2 ^ 64 - 1) < 2 ^ 63
-array_fits outer inner s h =
-    let part : ℕ = min (inner * capped s) (2 ^ 64 - 1) in
-    let size : inner * capped s ≤ inner * s = mul-le-mul_left inner (capped_le s) in
-    let less : outer * part ≤ outer * (inner * s) = mul-le-mul_left outer (omega (arith, size)) in
+-- and they are few where the array fits
+pub array_fits : (outer inner s size row bytes : ℕ) → size ≡ capped s → row ≡ min (inner * size) (2 ^ 64 - 1) →
+    bytes ≡ min (outer * row) (2 ^ 64 - 1) → outer * (inner * s) < 2 ^ 63 → bytes < 2 ^ 63
+array_fits outer inner s size row bytes is_size is_row is_bytes h =
+    let small : size ≤ s = rw is_size (capped_le s) in
+    let inside : inner * size ≤ inner * s = mul-le-mul_left inner small in
+    let less : outer * row ≤ outer * (inner * s) = mul-le-mul_left outer (omega (arith, inside)) in
     omega (arith, less, h)

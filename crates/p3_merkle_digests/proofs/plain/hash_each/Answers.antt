@@ -24,10 +24,8 @@ loop-i-preserved g c =
     let xs = c.args.messages.now in
     let i = c.loop-i.i in
     let slots = c.loop-i.slots in
-    let hash = g.H.CryptographicHasher.hash c.args.hash.now in
-    let bounds = c.message_bounds-start.ensures in
-    let is = rw (bounds.start, bounds.end) at c.hash_slice.ensures in (
+    let hash = g.H.CryptographicHasher.hash c.args.hash.now in (
       length-set slots i c.hash_slice.result ∙ c.loop-i.invariant.0,
       filled_more (λ j. hash (message (length xs / length c.args.slots.now) xs j)) slots i c.hash_slice.result []
-          (omega arith) is c.loop-i.invariant.1,
+          (omega arith) c.hash_slice.ensures c.loop-i.invariant.1,
     )
