@@ -1,5 +1,5 @@
 -- Slots that are filled in groups, and what each lane of packed digests shows.
-use Rattle.std.proofs.Common.{◌≡◌, ℕ, zero, suc, ◌+◌, ◌-◌, ◌*◌, ◌<◌, ◌≤◌, List, [], ◌∷◌, ◌++◌, length, map, take, drop}
+use Rattle.std.proofs.Common.{◌≡◌, ℕ, zero, suc, ◌+◌, ◌-◌, ◌*◌, ◌/◌, ◌<◌, ◌≤◌, List, [], ◌∷◌, ◌++◌, length, map, take, drop}
 use Rattle.std.proofs.Common.{get_or, set, replicate, min, ◌^◌, All, refl, sym, ap, ◌∙◌, arith, inl, inr, append-nil}
 use Rattle.std.proofs.Common.{length-drop}
 use Rattle.std.specs.List.{flat_map}
@@ -8,7 +8,7 @@ use Rattle.std.proofs.lemmas.Grind.{flat_map-append}
 use Rattle.std.proofs.lemmas.List.{drop_more, flat_map_more, take_more, take_more_set, append_assoc, set_at}
 use Rattle.std.proofs.lemmas.List.{length-take-le, get_or_append_left, get_or-append_right, get_or-take, get_or-drop}
 use Rattle.std.proofs.lemmas.List.{get_or-replicate}
-use Rattle.std.proofs.Math.Nat.{mul-le-mul_right, mul-le-mul_left, mul-suc, add-mul, one-mul}
+use Rattle.std.proofs.Math.Nat.{div-mul-le_self, mul_comm, mul-le-mul_right, mul-le-mul_left, mul-suc, add-mul, one-mul}
 use Rattle.p3_support.specs.Lists.{lane_of, rows_of_height}
 use Rattle.p3_merkle_digests.specs.Inner.Slots.{rows_over}
 use borrow.Rule.Slice.PartMut.{put_mid}
@@ -23,6 +23,12 @@ group_next g w = add-mul g 1 w ∙ ap (λ v. g * w + v) (one-mul w)
 pub group_end : (g w n m : ℕ) → g < n → n * w ≤ m → g * w + w ≤ m
 group_end g w n m below fits = let more : (g + 1) * w ≤ n * w = mul-le-mul_right w (omega arith) in
     omega (arith, group_next g w, more)
+
+-- a message ends within the words, which are parted among n messages
+pub message_end : (i n m : ℕ) → i < n → (i + 1) * (m / n) ≤ m
+message_end i n m below =
+    let whole : n * (m / n) ≤ m = omega (arith, div-mul-le_self m n, mul_comm n (m / n)) in
+    omega (arith, group_next i (m / n), group_end i (m / n) n m below whole)
 
 -- what stands in a part that was just written
 pub part_written : {X : Type 0} (xs ys : List X) (a k n j : ℕ) (d : X) → length ys ≡ n → a ≤ length xs → j < n →

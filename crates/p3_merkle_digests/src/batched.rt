@@ -13,7 +13,7 @@ use std::alloc::AllocError;
 
 /// How many messages of `bytes` bytes one call takes: the greatest multiple of `lanes` with at most 16384 bytes in all,
 /// but at least `lanes`. A number of 0 counts as 1.
-pub(crate) fn rows_per_call(bytes: usize, lanes: usize) -> usize
+pub(crate) fn messages_per_call(bytes: usize, lanes: usize) -> usize
     ensures whole { result % max lanes 1 ≡ 0 }
     ensures some { max lanes 1 ≤ result }
     ensures fits { result * max bytes 1 ≤ max 16384 (max lanes 1 * max bytes 1) }
@@ -109,7 +109,8 @@ fn stage_pairs<W: Copy, const N: usize, const D: usize>(
 ) -> Result<(), AllocError>
     requires pair { 2 ≤ N }
     requires same { length rows.now ≡ length folded.now }
-    ensures { IfOk result (λ done. pairs.new.items
+    ensures count { IfOk result (λ done. length pairs.new.items ≡ length folded.now) }
+    ensures pairs { IfOk result (λ done. pairs.new.items
         ≡ map (λ j. slice_index_or folded.now j [] ∷ slice_index_or rows.now j [] ∷ replicate (N - 2) default_digest)
         (range_with_len 0 (length folded.now))) }
 {
@@ -122,13 +123,12 @@ fn stage_pairs<W: Copy, const N: usize, const D: usize>(
 }
 
 /// Compresses the digest in each slot `j` with `rows[j]`, the digest of its rows, followed by default digests, and
-/// writes the result into the slot, as many per call as [`rows_per_call`] says. There must be at most as many rows as
+/// writes the result into the slot, as many per call as [`messages_per_call`] says. There must be at most as many rows as
 /// slots, and `N` must be at least 2. `pairs` is a buffer for the groups.
 ///
 /// # Errors
 ///
 /// `AllocError` if memory runs out.
-#[tactic(auto, using(crate::proofs::StageFacts::made_long))]
 pub fn inject_row_digests<
     PW: PackedValue,
     C: PseudoCompressionFunction<PW, N, D>,
@@ -148,7 +148,7 @@ pub fn inject_row_digests<
         IfOk result (λ done. IsFilled joined (length rows.now) (length slots.old) slots.new) }
 {
     let default_digest = [PW::Value::default(); D];
-    let per_call = rows_per_call(std::mem::size_of_val(&[default_digest; N]), C::LANES);
+    let per_call = messages_per_call(std::mem::size_of_val(&[default_digest; N]), C::LANES);
     let mut first = 0;
     while first < rows.len() {
         let end = first + per_call.min(rows.len() - first);

@@ -49,7 +49,6 @@ pub(crate) fn lend_rows<'b, T: Copy, M: Matrix<T>>(
 
 /// Writes into `slots[i]` the digest of message `i`. The messages lie one after another, as many as there are slots, of
 /// one length.
-#[tactic(auto, using(crate::proofs::LaneFacts::group_end, crate::proofs::LaneFacts::group_next))]
 pub(crate) fn hash_each<
     P: PackedValue,
     PW: PackedValue,

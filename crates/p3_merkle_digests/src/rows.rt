@@ -8,7 +8,7 @@ ghost use Rattle.std.specs.List.{range_with_len};
 ghost use Rattle.p3_support.specs.Lists.{lane_of};
 ghost use Rattle.p3_merkle_digests.specs.Inner.Slots.{leaf_over, rows_over, IsFilled};
 
-use crate::batched::{lone_rows, row_len, rows_per_call, words_of_rows};
+use crate::batched::{lone_rows, messages_per_call, row_len, words_of_rows};
 use crate::packed::{packed_blocks, stage_packed_rows};
 use crate::plain::{MIN_LENT_WIDTH, hash_each, lend_rows, no_pieces};
 use p3_support::hasher::CryptographicHasher;
@@ -127,7 +127,7 @@ impl<
         Ok(())
     }
 
-    /// Writes the digests of the rows into the first `count` slots, as many rows per call as [`rows_per_call`] says.
+    /// Writes the digests of the rows into the first `count` slots, as many rows per call as [`messages_per_call`] says.
     /// `count` must be at most the number of slots, and at most the height.
     ///
     /// # Errors
@@ -147,7 +147,7 @@ impl<
     {
         let len = row_len(self.matrices);
         let bytes = len.saturating_mul(std::mem::size_of_val(&P::Value::default()));
-        let rows = rows_per_call(bytes, H::LANES);
+        let rows = messages_per_call(bytes, H::LANES);
         let mut staged = Vec::with_capacity(alloc, rows.min(count).saturating_mul(len))?;
         let mut first = 0;
         while first < count {

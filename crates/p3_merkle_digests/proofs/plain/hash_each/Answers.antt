@@ -6,7 +6,30 @@ use Rattle.std.proofs.lemmas.List.FromFn.{fill_by_all}
 use Rattle.std.proofs.lemmas.Simd.{map-map}
 use Rattle.p3_support.specs.Lists.{message}
 use Rattle.p3_support.proofs.Fills.{filled_more}
+use Rattle.p3_merkle_digests.proofs.LaneFacts.{message_end}
 use Rattle.p3_merkle_digests.proofs.plain.hash_each.Goals as goal
+
+pub overflow_mul-i : goal.overflow_mul-i
+overflow_mul-i g c =
+    omega (arith, message_end c.loop-i.i (length c.args.slots.now) (length c.args.messages.now) c.loop-i-test.true)
+
+pub overflow_mul-i-in-loop-i : goal.overflow_mul-i-in-loop-i
+overflow_mul-i-in-loop-i g c =
+    omega (arith, message_end c.loop-i.i (length c.args.slots.now) (length c.args.messages.now) c.loop-i-test.true)
+
+pub offset_bounds-messages-i : goal.offset_bounds-messages-i
+offset_bounds-messages-i g c =
+    omega (arith, message_end c.loop-i.i (length c.args.slots.now) (length c.args.messages.now) c.loop-i-test.true)
+
+pub slice_bounds-hash_slice-count : goal.slice_bounds-hash_slice-count
+slice_bounds-hash_slice-count g c = omega arith
+
+pub slice_bounds-hash_slice-start : goal.slice_bounds-hash_slice-start
+slice_bounds-hash_slice-start g c = omega arith
+
+pub slice_bounds-hash_slice-end : goal.slice_bounds-hash_slice-end
+slice_bounds-hash_slice-end g c =
+    message_end c.loop-i.i (length c.args.slots.now) (length c.args.messages.now) c.loop-i-test.true
 
 pub returns : goal.returns
 returns g c = λ w e.

@@ -1,5 +1,5 @@
 -- All slots are written.
-use Rattle.std.proofs.Common.{◌≡◌, ◌∙◌, ap, length, drop, map, replicate}
+use Rattle.std.proofs.Common.{arith, ◌*◌, ◌≤◌, ◌≡◌, ◌∙◌, ap, length, drop, map, replicate}
 use Rattle.std.specs.List.{range_with_len}
 use Rattle.std.proofs.lemmas.List.{take_at}
 use Rattle.std.proofs.lemmas.List.FromFn.{length-map-range_with_len}
@@ -24,3 +24,9 @@ returns g c =
     take_at slots (drop (length slots) c.if-LANES-gt1.slots.items) c.if-LANES-gt1.slots.len size
     ∙ c.write_remaining.ensures
     ∙ ap (λ n. map f (range_with_len 0 n)) long
+
+pub overflow_mul-done : goal.overflow_mul-done
+overflow_mul-done g c =
+    let fits : c.packed_blocks-blocks.result * g.PW.PackedValue.WIDTH ≤ c.min-count.result =
+    c.packed_blocks-blocks.ensures.count in
+    rw c.WIDTH.ensures (omega (arith, fits))

@@ -1,5 +1,5 @@
 -- Each turn writes the slots of one block.
-use Rattle.std.proofs.Common.{arith, ◌≡◌, ℕ, ◌+◌, ◌*◌, ◌<◌, ◌∙◌, [], refl, replicate, slice_index_or}
+use Rattle.std.proofs.Common.{arith, ◌≡◌, ℕ, ◌+◌, ◌*◌, ◌<◌, ◌∙◌, [], length, refl, replicate, slice_index_or}
 use Rattle.std.proofs.lemmas.Bool.{lt-ltb}
 use Rattle.p3_support.specs.Lists.{lane_of}
 use Rattle.p3_merkle_digests.specs.Inner.Slots.{leaf_over, rows_over}
@@ -35,3 +35,9 @@ loop-block-preserved g c =
 
 pub returns : goal.returns
 returns g c = let end : c.loop-block.block ≡ c.args.blocks = omega arith in rw end at c.loop-block.invariant
+
+pub overflow_mul-first : goal.overflow_mul-first
+overflow_mul-first g c =
+    let end = group_end c.loop-block.block g.PW.PackedValue.WIDTH c.args.blocks (length c.args.slots.now)
+    c.loop-block-test.true c.requires.fits in
+    rw c.WIDTH.ensures (omega (arith, end))

@@ -2,7 +2,7 @@
 use Rattle.std.proofs.Common.{arith, ◌≡◌, ℕ, ◌+◌, ◌*◌, ◌/◌, ◌<◌, ◌≤◌, max, inl, inr}
 use Rattle.std.proofs.Math.Nat.{div-mul-le_self, lt-div-mul-add, mul-le-mul_right, mul-mod_left}
 use Rattle.std.proofs.lemmas.Bool.{cases_lt}
-use Rattle.p3_merkle_digests.proofs.batched.rows_per_call.Goals as goal
+use Rattle.p3_merkle_digests.proofs.batched.messages_per_call.Goals as goal
 
 -- as many groups of l messages of b bytes as n bytes hold are within them
 groups_fit : (n b l k : ℕ) → k ≡ max (n / b / l) 1 → k * l * b ≤ max n (l * b)
