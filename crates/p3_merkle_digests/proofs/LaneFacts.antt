@@ -1,7 +1,7 @@
 -- Slots that are filled in groups, and what each lane of packed digests shows.
-use Rattle.std.proofs.Common.{◌≡◌, ℕ, zero, suc, ◌+◌, ◌-◌, ◌*◌, ◌/◌, ◌<◌, ◌≤◌, List, [], ◌∷◌, ◌++◌, length, map, take, drop}
-use Rattle.std.proofs.Common.{get_or, set, replicate, min, ◌^◌, All, refl, sym, ap, ◌∙◌, arith, inl, inr, append-nil}
-use Rattle.std.proofs.Common.{length-drop}
+use Rattle.std.proofs.Common.{◌≡◌, ℕ, zero, suc, ◌+◌, ◌-◌, ◌*◌, ◌/◌, ◌<◌, ◌≤◌, List, [], ◌∷◌, ◌++◌, length, map, take}
+use Rattle.std.proofs.Common.{drop, get_or, set, replicate, min, ◌^◌, All, refl, sym, ap, ◌∙◌, arith, inl, inr}
+use Rattle.std.proofs.Common.{append-nil, length-drop}
 use Rattle.std.specs.List.{flat_map}
 use Rattle.std.proofs.lemmas.Bool.{cases_lt, cases_eq, eq-eqb}
 use Rattle.std.proofs.lemmas.Grind.{flat_map-append}
@@ -13,7 +13,7 @@ use Rattle.p3_support.specs.Lists.{lane_of, rows_of_height}
 use Rattle.p3_merkle_digests.specs.Inner.Slots.{rows_over}
 use borrow.Rule.Slice.PartMut.{put_mid}
 use prog.Memory.{capped}
-use prog.Capped.{capped_fits, capped_is, capped_small}
+use prog.Capped.{capped_is, capped_small}
 
 -- the end of a group of w is w past its start
 pub group_next : (g w : ℕ) → (g + 1) * w ≡ g * w + w
@@ -179,19 +179,3 @@ array_small outer inner s size row bytes is_size is_row is_bytes h =
                 rw (← is, ← whole) (omega (arith, more))
           ]
     ]
-
--- a word holds no more of a size than the size
-capped_le : (s : ℕ) → capped s ≤ s
-capped_le s = elim (cases_lt s (2 ^ 64)) [
-  | inl small ↦ let is : capped s ≡ s = capped_is s small in omega (arith, is)
-  | inr large ↦ let fits : capped s < 2 ^ 64 = capped_fits s in omega (arith, fits)
-]
-
--- and they are few where the array fits
-pub array_fits : (outer inner s size row bytes : ℕ) → size ≡ capped s → row ≡ min (inner * size) (2 ^ 64 - 1) →
-    bytes ≡ min (outer * row) (2 ^ 64 - 1) → outer * (inner * s) < 2 ^ 63 → bytes < 2 ^ 63
-array_fits outer inner s size row bytes is_size is_row is_bytes h =
-    let small : size ≤ s = rw is_size (capped_le s) in
-    let inside : inner * size ≤ inner * s = mul-le-mul_left inner small in
-    let less : outer * row ≤ outer * (inner * s) = mul-le-mul_left outer (omega (arith, inside)) in
-    omega (arith, less, h)

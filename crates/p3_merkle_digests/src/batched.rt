@@ -123,8 +123,8 @@ fn stage_pairs<W: Copy, const N: usize, const D: usize>(
 }
 
 /// Compresses the digest in each slot `j` with `rows[j]`, the digest of its rows, followed by default digests, and
-/// writes the result into the slot, as many per call as [`messages_per_call`] says. There must be at most as many rows as
-/// slots, and `N` must be at least 2. `pairs` is a buffer for the groups.
+/// writes the result into the slot, as many per call as [`messages_per_call`] says. There must be at most as many rows
+/// as slots, and `N` must be at least 2. `pairs` is a buffer for the groups.
 ///
 /// # Errors
 ///

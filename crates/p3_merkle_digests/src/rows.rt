@@ -127,8 +127,8 @@ impl<
         Ok(())
     }
 
-    /// Writes the digests of the rows into the first `count` slots, as many rows per call as [`messages_per_call`] says.
-    /// `count` must be at most the number of slots, and at most the height.
+    /// Writes the digests of the rows into the first `count` slots, as many rows per call as [`messages_per_call`]
+    /// says. `count` must be at most the number of slots, and at most the height.
     ///
     /// # Errors
     ///

@@ -7,7 +7,8 @@ use Rattle.std.proofs.lemmas.Iterator.Consumers.{YieldsList-from_first}
 use Rattle.p3_merkle_digests.specs.Inner.Slots.{rows_over}
 use Rattle.p3_merkle_digests.proofs.LaneFacts.{height_at, rows_more}
 use Rattle.p3_merkle_digests.proofs.batched.stage_row.Goals as goal
-use Rattle.p3_merkle_digests.proofs.batched.stage_row.Goals.{in-Some+in_ok-extend_from_slice-in-Some, in-None+in_ok-extend-in-None}
+use Rattle.p3_merkle_digests.proofs.batched.stage_row.Goals.{in-Some+in_ok-extend_from_slice-in-Some}
+use Rattle.p3_merkle_digests.proofs.batched.stage_row.Goals.{in-None+in_ok-extend-in-None}
 
 pub row_slice-requires : goal.row_slice-requires
 row_slice-requires g c =
@@ -26,7 +27,8 @@ loop-matrix-preserved g c =
     let added : c.match-row_slice.staged.items ≡ c.loop-matrix.staged.items ++ row =
     elim c.match-row_slice.branch [
       | in-Some+in_ok-extend_from_slice-in-Some w ↦ rw w.staged-is
-          (w.in_ok-extend_from_slice-in-Some.ensures.items ∙ ap (λ l. c.loop-matrix.staged.items ++ l) w.in-Some.ensures)
+          (w.in_ok-extend_from_slice-in-Some.ensures.items
+          ∙ ap (λ l. c.loop-matrix.staged.items ++ l) w.in-Some.ensures)
       | in-None+in_ok-extend-in-None w ↦ rw w.staged-is
           (items_from_extend {E = AllocError} (Ok tt) w.in_ok-extend-in-None.ensures.ran
           (YieldsList-from_first (λ x. x) (λ rest. rest) row w.row.ensures)).0

@@ -1,6 +1,6 @@
 -- Each turn puts one child into its place; the places behind the children keep their default digests.
-use Rattle.std.proofs.Common.{arith, ◌≡◌, ◌+◌, ◌-◌, ◌*◌, ◌<◌, ◌++◌, ◌∙◌, [], ap, length, take, drop, map, set, sym, List}
-use Rattle.std.proofs.Common.{length-set, replicate}
+use Rattle.std.proofs.Common.{arith, ◌≡◌, ◌+◌, ◌-◌, ◌*◌, ◌<◌, ◌++◌, ◌∙◌, [], ap, length, take, drop, map, set, sym}
+use Rattle.std.proofs.Common.{List, length-set, replicate}
 use Rattle.std.proofs.lemmas.List.{map-set, length-map, length-replicate, take_all, drop-replicate}
 use Rattle.p3_support.specs.Lists.{lane_of}
 use Rattle.p3_merkle_digests.proofs.LaneFacts.{put_next, child_at, children_long, default_lanes}

@@ -6,7 +6,8 @@ use Rattle.p3_merkle_digests.proofs.packed.packed_blocks.Goals as goal
 
 -- one of some rows is no larger than all
 one_of : (n row m : ℕ) → 0 < n → n * row < m → row < m
-one_of n row m some small = let one : 1 * row ≤ n * row = mul-le-mul_right row (omega arith) in omega (arith, one, small)
+one_of n row m some small = let one : 1 * row ≤ n * row = mul-le-mul_right row (omega arith) in
+    omega (arith, one, small)
 
 pub returns-then-bytes-lt9223372036854775808-clause-group :
     goal.returns-then-bytes-lt9223372036854775808-clause-group

@@ -5,7 +5,8 @@ use Rattle.std.proofs.lemmas.List.{take_at}
 use Rattle.std.proofs.lemmas.List.FromFn.{length-map-range_with_len}
 use Rattle.p3_merkle_digests.specs.Inner.Slots.{leaf_over, rows_over}
 use Rattle.p3_merkle_digests.proofs.rows.LayerRows+P+PW+H+M+array+D+PW+Value.digests.Goals as goal
-use Rattle.p3_merkle_digests.proofs.rows.LayerRows+P+PW+H+M+array+D+PW+Value.digests.Goals.{then-LANES-gt1+in_ok-write_batched, else-LANES-gt1+in_ok-write_packed}
+use Rattle.p3_merkle_digests.proofs.rows.LayerRows+P+PW+H+M+array+D+PW+Value.digests.Goals.{then-LANES-gt1+in_ok-write_batched}
+use Rattle.p3_merkle_digests.proofs.rows.LayerRows+P+PW+H+M+array+D+PW+Value.digests.Goals.{else-LANES-gt1+in_ok-write_packed}
 
 pub returns : goal.returns
 returns g c =

@@ -26,7 +26,8 @@ returns-in-len1 g c = λ k below in_digest.
     fact_of_run lanes (λ xs. (j : ℕ) → j < n → j < g.PW.PackedValue.WIDTH →
     lane_of g.PW.PackedValue.lanes g.PW.PackedValue.default_value j c.hash_packed.result
     ≡ hash (lane_of lanes default j xs)) (seen ≡ hash (rows (row + k)))
-    c.hash_packed.ensures (YieldsList-from_first lanes (λ rest. rest) (columns (g.M.Matrix.row_of m) default row n width)
+    c.hash_packed.ensures
+    (YieldsList-from_first lanes (λ rest. rest) (columns (g.M.Matrix.row_of m) default row n width)
     c.vertically_packed_row.ensures)
     (λ xs e h. h k below in_digest
     ∙ ap hash (lane_of_columns lanes (g.M.Matrix.row_of m) default row n k width xs e below
