@@ -5,4 +5,4 @@ use Rattle.p3_merkle_hiding.proofs.open.left_matrices.Given as goal
 -- those of the pairs so far
 abbrev pub invariant-loop-pair : goal.invariant-loop-pair
 invariant-loop-pair g l =
-    map (λ m. m.now) l.matrices.items ≡ map (λ p. left_of p.now) (take l.pair-index l.pairs.items)
+    map (λ m. m.now) l.matrices.items ≡ map (λ p. left_of p.now) (take l.pair-index l.pair-items)
