@@ -7,7 +7,7 @@ use Rattle.p3_merkle_hiding.specs.Salted.{after_salts, salted_matrices}
 use Rattle.p3_merkle_hiding.specs.SaltedOpenings.{CanWiden}
 use Rattle.p3_merkle_hiding.specs.SaltedTrees.{HaveSaltColumns}
 use Rattle.p3_merkle_hiding.specs.Inner.SaltedParts.{pair_matrix}
-use Rattle.p3_merkle_hiding.proofs.draw.salted_pairs.Given as goal
+use Rattle.p3_merkle_hiding.proofs.commit.salted_pairs.Given as goal
 
 -- the pairs so far, and what the matrices that are left will get
 abbrev pub invariant-loop-matrix : goal.invariant-loop-matrix

@@ -1,9 +1,15 @@
 -- Each turn draws the salts of one more matrix.
 use Rattle.std.proofs.Common.{◌≡◌, ◌∙◌, ◌+◌, ◌*◌, List, [], ◌∷◌, ◌++◌, ap, append-nil, arith, map, refl, subst}
-use Rattle.std.proofs.Common.{sym}
+use Rattle.std.proofs.Common.{Option, rules, sym}
+use Rattle.std.specs.Option.{option_or}
 use Rattle.std.proofs.lemmas.List.Elements.{All-push}
 use Rattle.std.specs.Vec.Iter.{into_iter_items}
 use Rattle.std.proofs.lemmas.List.{map-append, nil_from_length}
+use Rattle.p3_support.specs.Batches.{heights_of}
+use Rattle.p3_support.specs.declared.matrix.Dimensions.{Dimensions}
+use Rattle.p3_merkle_core.specs.Gate.{gate_refusal}
+use Rattle.p3_merkle_core.specs.Nodes.{dimensions_of}
+use Rattle.p3_merkle_core.specs.Refusals.{AnswersUnlessMemory}
 use Rattle.p3_merkle_core.specs.Views.{matrix_of}
 use Rattle.p3_support.specs.Pairs.{left_of, right_of}
 use Rattle.p3_support.specs.RowMajor.{row_width, values_of}
@@ -11,9 +17,33 @@ use Rattle.p3_support.specs.Salts.{after_words, salts}
 use Rattle.p3_merkle_hiding.proofs.DrawFacts.{after_next, after_some, drawn_more, first_fits, others_fit, pairs_more}
 use Rattle.p3_merkle_hiding.proofs.DrawFacts.{salted_row, same_more, stream_more}
 use Rattle.p3_merkle_hiding.specs.Salted.{after_salts, salted, salted_matrices}
+use Rattle.p3_merkle_hiding.specs.SaltRefusals.{salted_commit_refusal, widening_refusal}
+use Rattle.p3_merkle_hiding.specs.SaltedOpenings.{CanWiden}
 use Rattle.p3_merkle_hiding.specs.SaltedTrees.{HaveSaltColumns}
 use Rattle.p3_merkle_hiding.specs.Inner.SaltedParts.{pair_matrix}
-use Rattle.p3_merkle_hiding.proofs.draw.salted_pairs.Goals as goal
+use Rattle.p3_merkle_hiding.proofs.commit.salted_pairs.Goals as goal
+
+-- heights are refused, else a width
+pub returns-in_err-check_heights-clause-answer : goal.returns-in_err-check_heights-clause-answer
+returns-in_err-check_heights-clause-answer g c =
+    let shown = map (matrix_of g.M.Matrix.height_of g.M.Matrix.width_of g.M.Matrix.row_of) in
+    let are = c.steps_of.ensures.dimensions ∙ c.deref-2.ensures.value ∙ c.in_ok-dimensions.ensures
+    ∙ ap (λ (ms : List _). dimensions_of (shown ms)) c.deref.ensures.value in
+    subst (λ (ds : List Dimensions). AnswersUnlessMemory c.from_residual-in_err-check_heights.result
+    (salted_commit_refusal c.args.salt_elems ds)) are (search rules)
+
+pub returns-in_err-check_widening-clause-answer : goal.returns-in_err-check_widening-clause-answer
+returns-in_err-check_widening-clause-answer g c =
+    let shown = map (matrix_of g.M.Matrix.height_of g.M.Matrix.width_of g.M.Matrix.row_of) in
+    let r = c.from_residual-in_err-check_widening.result in
+    let e = c.args.salt_elems in
+    let made = c.in_ok-dimensions.ensures ∙ ap (λ (ms : List _). dimensions_of (shown ms)) c.deref.ensures.value in
+    let none = sym (ap (λ (ds : List Dimensions). gate_refusal (heights_of ds))
+    (c.steps_of.ensures.dimensions ∙ c.deref-2.ensures.value ∙ made)) ∙ c.in_ok-check_heights.ensures.answer in
+    subst (λ (o : Option _). AnswersUnlessMemory r
+    (option_or o (widening_refusal e (dimensions_of (shown c.args.matrices.items))))) (sym none)
+    (subst (λ (ds : List Dimensions). AnswersUnlessMemory r (widening_refusal e ds)) (c.deref-3.ensures.value ∙ made)
+    (search rules))
 
 pub new-requires-clause-width_fits : goal.new-requires-clause-width_fits
 new-requires-clause-width_fits g c =
@@ -32,8 +62,10 @@ loop-matrix-init g c =
     let s = g.R.Rng.stream c.args.rng.now in
     let all = c.into_iter-matrix-iterator.ensures.into_iter_gives.0 in
     let none = c.in_ok-pairs.ensures.items in
+    let are = c.deref-3.ensures.value ∙ c.in_ok-dimensions.ensures
+    ∙ ap (λ (ms : List _). dimensions_of (shown ms)) c.deref.ensures.value in
     record {
-      fits = rw all c.requires.fits;
+      fits = rw all (subst (λ (ds : List Dimensions). CanWiden e ds) are c.in_ok-check_widening.ensures.fits);
       same = λ i. map left_of (none i) ++ all i;
       columns = rw none (λ k d past. absurd (omega (arith, past)));
       salted = λ i. map pair_matrix (none i) ++ salted_matrices of_word e (shown (all i)) s;
