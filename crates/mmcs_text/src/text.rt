@@ -84,21 +84,10 @@ pub fn push_rows<W: Word>(
         (text.new.items ≡ text.old.items ++ flat_map row_line (map (λ row. map W.value row.items) rows.now)) }
 {
     for row in rows {
-        push_row(alloc, text, row)?;
+        let line = row_line(alloc, row)?;
+        text.extend_from_slice(line.as_bytes())?;
     }
     Ok(())
-}
-
-/// Appends the numbers of a row in decimal, with one space between, and a line feed.
-///
-/// # Errors
-///
-/// `AllocError` if memory runs out.
-fn push_row<W: Word>(alloc: Global, text: &mut Vec<u8>, row: &[W]) -> Result<(), AllocError>
-    ensures { OnOk result (text.new.items ≡ text.old.items ++ row_line (map W.value row.now)) }
-{
-    let line = row_line(alloc, row)?;
-    text.extend_from_slice(line.as_bytes())
 }
 
 /// The numbers of a row in decimal, with one space between, and a line feed.
@@ -114,25 +103,12 @@ fn row_line<W: Word>(alloc: Global, row: &[W]) -> Result<String, AllocError>
     };
     let first = first.to_number();
     let mut line = format!(in alloc; "{first}")?;
-    push_spaced(&mut line, rest)?;
-    line.push('\n')?;
-    Ok(line)
-}
-
-/// Appends numbers in decimal, each behind a space.
-///
-/// # Errors
-///
-/// `AllocError` if memory runs out.
-fn push_spaced<W: Word>(line: &mut String, words: &[W]) -> Result<(), AllocError>
-    ensures { OnOk result
-        (string_bytes line.new ≡ string_bytes line.old ++ flat_map (λ w. 32 ∷ decimal w) (map W.value words.now)) }
-{
-    for word in words {
+    for word in rest {
         let number = word.to_number();
         write!(line, " {number}")?;
     }
-    Ok(())
+    line.push('\n')?;
+    Ok(line)
 }
 
 /// Appends a word, a space, a number in decimal, and a line feed.

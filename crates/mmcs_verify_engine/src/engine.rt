@@ -1,7 +1,7 @@
 //! From words and an input to an output.
 
-ghost use Rattle.std.specs.Prelude.{◌≡◌, ◌⊎◌, ◌↔◌, ℕ, List, Err, IfErr, IfOk, IfSome, Ok, OnOk, Some, length, map};
-ghost use Rattle.std.specs.Prelude.{IsTrue, replicate};
+ghost use Rattle.std.specs.Prelude.{◌≡◌, ◌⊎◌, ◌↔◌, ◌≤◌, ℕ, List, Err, IfErr, IfOk, IfSome, Ok, OnOk, Some};
+ghost use Rattle.std.specs.Prelude.{length, map, replicate};
 ghost use Rattle.std.specs.Io.KnownBytes.{Appends};
 ghost use Rattle.p3_support.specs.declared.matrix.Dimensions.{Dimensions};
 ghost use Rattle.p3_merkle_core.specs.Nodes.{functions_of};
@@ -9,9 +9,7 @@ ghost use Rattle.p3_merkle_core.specs.Refusals.{pruned_refusal_under, AnswersUnl
 ghost use Rattle.p3_merkle_core.specs.declared.error.MerkleTreeError.TheVariants.{OutOfMemory};
 ghost use Rattle.p3_merkle_mmcs.specs.Schemes.{cap_height_of, cap_rule_of, scheme_functions, params_of};
 ghost use Rattle.mmcs_text.specs.Words.{arity_number, texts_of};
-ghost use Rattle.mmcs_text.specs.Inner.Stored.{is_taken_arity};
-ghost use Rattle.mmcs_text.specs.declared.command.HashName.TheVariants.{Fold, Sha256};
-ghost use Rattle.mmcs_engine.specs.Inner.Alike.{IsSchemeOf};
+ghost use Rattle.mmcs_engine.specs.Inner.Alike.{AreOfHash, IsSchemeOf};
 ghost use Rattle.mmcs_text.specs.Requests.{AreNoCommand, AreWords};
 ghost use Rattle.mmcs_text.specs.declared.opening_fault.Fault.TheVariants.{Usage, Read, Tree, Write};
 ghost use Rattle.mmcs_text.specs.declared.request.Setting.{Setting};
@@ -22,7 +20,6 @@ ghost use Rattle.mmcs_verify_engine.specs.Inner.TypedCollisions.{difference_read
 ghost use Rattle.mmcs_verify_engine.specs.Inner.TypedCollisions.{typed_text};
 
 use crate::collision::collision_text;
-use crate::suite::{Suite, fold_suite, sha_suite};
 use mmcs_engine::engine::text_of_count;
 use mmcs_text::command::{Arity, HashName};
 use mmcs_text::digest::LineDigest;
@@ -31,6 +28,8 @@ use mmcs_text::reader::{Pair, Statement, read_pair, read_statement};
 use mmcs_text::request::{Request, Task};
 use mmcs_text::streams::{read_all, write_text};
 use mmcs_text::word::Word;
+use p3_hashes::fold::{FoldCompress, FoldHash};
+use p3_hashes::sha_eights::{Sha256NodesInEights, Sha256RowsInEights};
 use p3_merkle_core::error::MerkleTreeError;
 use p3_merkle_core::pruning::PrunedMerklePaths;
 use p3_merkle_mmcs::mmcs::MerkleTreeMmcs;
@@ -110,95 +109,76 @@ pub fn reply(alloc: Global, request: &Request, input: &[u8]) -> Result<Vec<u8>, 
     ensures fault { IfErr result (λ fault. (fault ≡ Fault.Tree OutOfMemory) ⊎
         (outcome_of request.now.setting request.now.task request.now.dimensions.items input.now ≡ Err fault)) }
 {
-    match (request.setting.hash, request.setting.arity) {
-        (HashName::Fold, Arity::Two) => reply_by_fold::<2>(alloc, request, input),
-        (HashName::Fold, Arity::Four) => reply_by_fold::<4>(alloc, request, input),
-        (HashName::Fold, Arity::Eight) => reply_by_fold::<8>(alloc, request, input),
-        (HashName::Sha256, Arity::Two) => reply_by_sha::<2>(alloc, request, input),
-        (HashName::Sha256, Arity::Four) => reply_by_sha::<4>(alloc, request, input),
-        (HashName::Sha256, Arity::Eight) => reply_by_sha::<8>(alloc, request, input),
+    match request.setting.arity {
+        Arity::Two => reply_at::<2>(alloc, request, input),
+        Arity::Four => reply_at::<4>(alloc, request, input),
+        Arity::Eight => reply_at::<8>(alloc, request, input),
     }
 }
 
-/// The same under `fold` at the arity of the request.
+/// The same at the arity of the request.
 ///
 /// # Errors
 ///
 /// Those of [`reply`].
-fn reply_by_fold<const N: usize>(
+fn reply_at<const N: usize>(
     alloc: Global,
     request: &Request,
     input: &[u8],
 ) -> Result<Vec<u8>, Fault>
-    requires taken { IsTrue (is_taken_arity N) }
-    requires hash { request.now.setting.hash ≡ Fold }
-    requires arity { N ≡ arity_number request.now.setting.arity }
+    requires { N ≡ arity_number request.now.setting.arity }
     ensures text { IfOk result (λ text.
         outcome_of request.now.setting request.now.task request.now.dimensions.items input.now ≡ Ok text.items) }
     ensures fault { IfErr result (λ fault. (fault ≡ Fault.Tree OutOfMemory) ⊎
         (outcome_of request.now.setting request.now.task request.now.dimensions.items input.now ≡ Err fault)) }
 {
-    let suite = fold_suite::<N>(request.setting.cap);
-    reply_by(alloc, &suite, request, input)
+    match request.setting.hash {
+        HashName::Fold => reply_by::<u32, FoldHash<4>, FoldCompress<N, 4>, N, 1>(
+            alloc, FoldHash::<4>, FoldCompress::<N, 4>, request, input,
+        ),
+        HashName::Sha256 => reply_by::<u8, Sha256RowsInEights, Sha256NodesInEights<N>, N, 32>(
+            alloc, Sha256RowsInEights, Sha256NodesInEights::<N>, request, input,
+        ),
+    }
 }
 
-/// The same under `sha256` at the arity of the request.
-///
-/// # Errors
-///
-/// Those of [`reply`].
-fn reply_by_sha<const N: usize>(
-    alloc: Global,
-    request: &Request,
-    input: &[u8],
-) -> Result<Vec<u8>, Fault>
-    requires taken { IsTrue (is_taken_arity N) }
-    requires hash { request.now.setting.hash ≡ Sha256 }
-    requires arity { N ≡ arity_number request.now.setting.arity }
-    ensures text { IfOk result (λ text.
-        outcome_of request.now.setting request.now.task request.now.dimensions.items input.now ≡ Ok text.items) }
-    ensures fault { IfErr result (λ fault. (fault ≡ Fault.Tree OutOfMemory) ⊎
-        (outcome_of request.now.setting request.now.task request.now.dimensions.items input.now ≡ Err fault)) }
-{
-    let suite = sha_suite::<N>(request.setting.cap);
-    reply_by(alloc, &suite, request, input)
-}
-
-/// The same by the suite of the request.
+/// The same by the functions of the request's hash.
 ///
 /// # Errors
 ///
 /// Those of [`reply`].
 fn reply_by<
     W: Word + PackedValue<Value = W>,
-    H: CryptographicHasher<W, W, D>,
-    C: PseudoCompressionFunction<W, N, D>,
+    H: CryptographicHasher<W, W, D> + Copy,
+    C: PseudoCompressionFunction<W, N, D> + Copy,
     const N: usize,
     const D: usize,
 >(
     alloc: Global,
-    suite: &Suite<MerkleTreeMmcs<W, W, H, C, N, D>, H, C>,
+    hash: H,
+    compress: C,
     request: &Request,
     input: &[u8],
 ) -> Result<Vec<u8>, Fault>
 where
     [W; D]: LineDigest,
-    requires scheme { IsSchemeOf request.now.setting.hash request.now.setting.cap W.value W.MAX W.HEX_DIGITS
-        (scheme_functions H.hash C.compression D suite.now.scheme) (cap_height_of suite.now.scheme)
-        (cap_rule_of suite.now.scheme) }
-    requires functions { scheme_functions H.hash C.compression D suite.now.scheme
-        ≡ functions_of (H.hash suite.now.hash) (C.compression suite.now.compress) (replicate D W.default_value) }
+    requires hash { AreOfHash request.now.setting.hash W.value W.MAX W.HEX_DIGITS
+        (functions_of (H.hash hash) (C.compression compress) (replicate D W.default_value)) }
     requires arity { N ≡ arity_number request.now.setting.arity }
-    requires hash { ⟦<[W; D] as LineDigest>⟧.hash ≡ request.now.setting.hash }
+    requires some_lane { 1 ≤ W.WIDTH }
+    requires line_hash { ⟦<[W; D] as LineDigest>⟧.hash ≡ request.now.setting.hash }
     requires words { (digest : List W) → ⟦<[W; D] as LineDigest>⟧.words digest ≡ map W.value digest }
     ensures text { IfOk result (λ text.
         outcome_of request.now.setting request.now.task request.now.dimensions.items input.now ≡ Ok text.items) }
     ensures fault { IfErr result (λ fault. (fault ≡ Fault.Tree OutOfMemory) ⊎
         (outcome_of request.now.setting request.now.task request.now.dimensions.items input.now ≡ Err fault)) }
 {
+    let cap = request.setting.cap;
+    let scheme =
+        MerkleTreeMmcs::<W, W, H, C, N, D>::new_with_rule(hash, compress, cap.height, cap.rule);
     match request.task {
-        Task::Verify => verify_by(alloc, &suite.scheme, request, input),
-        Task::Collide => collide_by(alloc, suite, request, input),
+        Task::Verify => verify_by(alloc, &scheme, request, input),
+        Task::Collide => collide_by(alloc, &scheme, &hash, &compress, request, input),
     }
 }
 
@@ -224,7 +204,7 @@ where
     requires scheme { IsSchemeOf request.now.setting.hash request.now.setting.cap W.value W.MAX W.HEX_DIGITS
         (scheme_functions H.hash C.compression D scheme.now) (cap_height_of scheme.now) (cap_rule_of scheme.now) }
     requires arity { N ≡ arity_number request.now.setting.arity }
-    requires hash { ⟦<[W; D] as LineDigest>⟧.hash ≡ request.now.setting.hash }
+    requires line_hash { ⟦<[W; D] as LineDigest>⟧.hash ≡ request.now.setting.hash }
     requires words { (digest : List W) → ⟦<[W; D] as LineDigest>⟧.words digest ≡ map W.value digest }
     ensures text { IfOk result (λ text.
         outcome_of request.now.setting Task.Verify request.now.dimensions.items input.now ≡ Ok text.items) }
@@ -281,19 +261,20 @@ fn collide_by<
     const D: usize,
 >(
     alloc: Global,
-    suite: &Suite<MerkleTreeMmcs<W, W, H, C, N, D>, H, C>,
+    scheme: &MerkleTreeMmcs<W, W, H, C, N, D>,
+    hash: &H,
+    compress: &C,
     request: &Request,
     input: &[u8],
 ) -> Result<Vec<u8>, Fault>
 where
     [W; D]: LineDigest,
     requires scheme { IsSchemeOf request.now.setting.hash request.now.setting.cap W.value W.MAX W.HEX_DIGITS
-        (scheme_functions H.hash C.compression D suite.now.scheme) (cap_height_of suite.now.scheme)
-        (cap_rule_of suite.now.scheme) }
-    requires functions { scheme_functions H.hash C.compression D suite.now.scheme
-        ≡ functions_of (H.hash suite.now.hash) (C.compression suite.now.compress) (replicate D W.default_value) }
+        (scheme_functions H.hash C.compression D scheme.now) (cap_height_of scheme.now) (cap_rule_of scheme.now) }
+    requires functions { scheme_functions H.hash C.compression D scheme.now
+        ≡ functions_of (H.hash hash.now) (C.compression compress.now) (replicate D W.default_value) }
     requires arity { N ≡ arity_number request.now.setting.arity }
-    requires hash { ⟦<[W; D] as LineDigest>⟧.hash ≡ request.now.setting.hash }
+    requires line_hash { ⟦<[W; D] as LineDigest>⟧.hash ≡ request.now.setting.hash }
     requires words { (digest : List W) → ⟦<[W; D] as LineDigest>⟧.words digest ≡ map W.value digest }
     ensures text { IfOk result (λ text.
         outcome_of request.now.setting Task.Collide request.now.dimensions.items input.now ≡ Ok text.items) }
@@ -302,7 +283,7 @@ where
 {
     let dimensions = request.dimensions.as_slice();
     let pair = read_pair::<W, [W; D]>(alloc, dimensions, input)?;
-    Ok(compare(alloc, suite, dimensions, pair)?)
+    Ok(compare(alloc, scheme, hash, compress, dimensions, pair)?)
 }
 
 /// The text of two openings that their cap accepts: a collision, or none.
@@ -318,16 +299,18 @@ fn compare<
     const D: usize,
 >(
     alloc: Global,
-    suite: &Suite<MerkleTreeMmcs<W, W, H, C, N, D>, H, C>,
+    scheme: &MerkleTreeMmcs<W, W, H, C, N, D>,
+    hash: &H,
+    compress: &C,
     dimensions: &[Dimensions],
     pair: Pair<W, [W; D]>,
 ) -> Result<Vec<u8>, MerkleTreeError>
-    requires functions { scheme_functions H.hash C.compression D suite.now.scheme
-        ≡ functions_of (H.hash suite.now.hash) (C.compression suite.now.compress) (replicate D W.default_value) }
-    ensures text { let c = params_of H.hash C.compression D suite.now.scheme dimensions.now in
+    requires functions { scheme_functions H.hash C.compression D scheme.now
+        ≡ functions_of (H.hash hash.now) (C.compression compress.now) (replicate D W.default_value) }
+    ensures text { let c = params_of H.hash C.compression D scheme.now dimensions.now in
         IfOk result (λ text. text.items ≡ typed_text W.value W.HEX_DIGITS c.functions pair.first.indices.items
         pair.second.indices.items (difference_read W.eq c pair)) }
-    ensures answer { let c = params_of H.hash C.compression D suite.now.scheme dimensions.now in
+    ensures answer { let c = params_of H.hash C.compression D scheme.now dimensions.now in
         AnswersUnlessMemory result (refusal_read W.eq c pair) }
 {
     let cap = MerkleCap::new(pair.cap);
@@ -338,7 +321,7 @@ fn compare<
     let second_proof = PrunedMerklePaths {
         sibling_hashes: second.digests,
     };
-    let found = suite.scheme.extract_collision_multi(
+    let found = scheme.extract_collision_multi(
         alloc,
         &cap,
         dimensions,
@@ -349,7 +332,6 @@ fn compare<
         &second.rows,
         &second_proof,
     )?;
-    let (hash, compress) = (&suite.hash, &suite.compress);
     Ok(collision_text(
         alloc,
         hash,

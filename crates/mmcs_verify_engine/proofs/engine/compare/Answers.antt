@@ -12,12 +12,12 @@ use Rattle.mmcs_verify_engine.proofs.engine.compare.Goals.{After-extract_collisi
 
 -- what is lent to the extraction is what was read
 extracts : (g : Over) (c : After-extract_collision_multi g) →
-    Extracts g.W.PartialEq.eq (cap_rule_of c.args.suite.now.scheme)
-    (params_of g.H.CryptographicHasher.hash g.C.PseudoCompressionFunction.compression g.row.D c.args.suite.now.scheme
+    Extracts g.W.PartialEq.eq (cap_rule_of c.args.scheme.now)
+    (params_of g.H.CryptographicHasher.hash g.C.PseudoCompressionFunction.compression g.row.D c.args.scheme.now
     c.args.dimensions.now) c.args.pair c.extract_collision_multi.result c.extract_collision_multi.result
 extracts g c =
-    as_read g.W.PartialEq.eq (cap_rule_of c.args.suite.now.scheme)
-    (params_of g.H.CryptographicHasher.hash g.C.PseudoCompressionFunction.compression g.row.D c.args.suite.now.scheme
+    as_read g.W.PartialEq.eq (cap_rule_of c.args.scheme.now)
+    (params_of g.H.CryptographicHasher.hash g.C.PseudoCompressionFunction.compression g.row.D c.args.scheme.now
     c.args.dimensions.now) c.args.pair c.extract_collision_multi.result (roots_of c.new-cap.result) _ _
     c.new-cap.ensures
     (λ i. pruned_of (c.deref.ensures.value i) (row_sets (c.deref-2.ensures.value i)) c.args.pair.first.digests.items)
@@ -43,4 +43,4 @@ returns-clause-text g c =
     (c.deref-6.ensures.value i) (shown_inputs c.in_ok-found.found))
     ∙ text_found _ _ _ c.args.pair _ e c.in_ok-found.found c.in_ok-found.was g.W.Word.value g.W.Word.HEX_DIGITS
     (scheme_functions g.H.CryptographicHasher.hash g.C.PseudoCompressionFunction.compression g.row.D
-    c.args.suite.now.scheme)
+    c.args.scheme.now)

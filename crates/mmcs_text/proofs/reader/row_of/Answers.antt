@@ -1,6 +1,6 @@
 use Rattle.std.proofs.Common.{◌+◌, map, ap, sym, ◌∙◌}
 use Rattle.mmcs_text.proofs.LineFacts.{row_read, row_missed}
-use Rattle.mmcs_text.proofs.line.row_of.Goals as goal
+use Rattle.mmcs_text.proofs.reader.row_of.Goals as goal
 
 pub returns-then-eq : goal.returns-then-eq
 returns-then-eq g c =

@@ -1,5 +1,5 @@
 use Rattle.mmcs_text.proofs.LineFacts.{behind}
-use Rattle.mmcs_text.proofs.line.number_behind.Goals as goal
+use Rattle.mmcs_text.proofs.reader.number_behind.Goals as goal
 
 pub returns : goal.returns
 returns c =
