@@ -133,10 +133,18 @@ fn reply_at<const N: usize>(
 {
     match request.command.hash {
         HashName::Fold => reply_by::<u32, FoldHash<4>, FoldCompress<N, 4>, N, 1>(
-            alloc, FoldHash::<4>, FoldCompress::<N, 4>, request, input,
+            alloc,
+            FoldHash::<4>,
+            FoldCompress::<N, 4>,
+            request,
+            input,
         ),
         HashName::Sha256 => reply_by::<u8, Sha256RowsInEights, Sha256NodesInEights<N>, N, 32>(
-            alloc, Sha256RowsInEights, Sha256NodesInEights::<N>, request, input,
+            alloc,
+            Sha256RowsInEights,
+            Sha256NodesInEights::<N>,
+            request,
+            input,
         ),
     }
 }
@@ -152,13 +160,7 @@ fn reply_by<
     C: PseudoCompressionFunction<W, N, D> + Copy,
     const N: usize,
     const D: usize,
->(
-    alloc: Global,
-    hash: H,
-    compress: C,
-    request: &Request,
-    input: &[u8],
-) -> Result<Vec<u8>, Fault>
+>(alloc: Global, hash: H, compress: C, request: &Request, input: &[u8]) -> Result<Vec<u8>, Fault>
     requires hash { AreOfHash request.now.command.hash W.value W.MAX W.HEX_DIGITS
         (functions_of (H.hash hash) (C.compression compress) (replicate D W.default_value)) }
     requires arity { N ≡ arity_number request.now.command.arity }
@@ -170,8 +172,9 @@ fn reply_by<
 {
     let matrices = read_matrices::<W>(alloc, input)?;
     let cap = request.command.cap;
-    let scheme =
-        MerkleTreeMmcs::<W, W, H, C, N, D>::new_with_rule(hash, compress, cap.height, cap.rule);
+    let scheme = MerkleTreeMmcs::<W, W, H, C, N, D>::new_with_rule(
+        hash, compress, cap.height, cap.rule,
+    );
     Ok(act(alloc, &scheme, request, matrices)?)
 }
 

@@ -1,7 +1,7 @@
 //! The printed text.
 
 ghost use Rattle.std.specs.Prelude.{◌≡◌, ◌∷◌, ◌++◌, ◌<◌, IfOk, OnOk, decimal, flat_map, map, string_bytes};
-ghost use Rattle.mmcs_text.specs.Text.{hex_digit, hex_lines, hex_word, labelled, row_line};
+ghost use Rattle.mmcs_text.specs.Text.{hex_digit, hex_line, hex_lines, hex_word, labelled, row_line};
 
 use crate::word::Word;
 use std::alloc::{AllocError, Global};
@@ -19,25 +19,24 @@ pub fn push_digests<W: Word, const D: usize>(
         (text.new.items ≡ text.old.items ++ hex_lines W.HEX_DIGITS (map (map W.value) digests.now)) }
 {
     for digest in digests {
-        push_hex_words(text, digest)?;
-        text.push(b'\n')?;
+        push_hex_line(text, digest)?;
     }
     Ok(())
 }
 
-/// Appends words in hexadecimal, `W::HEX_DIGITS` digits each.
+/// Appends a line of words in lower case hexadecimal, `W::HEX_DIGITS` digits each, without a gap.
 ///
 /// # Errors
 ///
 /// `AllocError` if memory runs out.
-pub fn push_hex_words<W: Word>(text: &mut Vec<u8>, words: &[W]) -> Result<(), AllocError>
-    ensures { OnOk result
-        (text.new.items ≡ text.old.items ++ flat_map (hex_word W.HEX_DIGITS) (map W.value words.now)) }
+pub fn push_hex_line<W: Word>(text: &mut Vec<u8>, words: &[W]) -> Result<(), AllocError>
+    ensures { OnOk result (text.new.items ≡ text.old.items ++ hex_line W.HEX_DIGITS (map W.value words.now)) }
 {
     for word in words {
         let digits = hex_digits(word.to_number());
         text.extend_from_slice(&digits[8 - W::HEX_DIGITS..])?;
     }
+    text.push(b'\n')?;
     Ok(())
 }
 

@@ -134,10 +134,18 @@ fn reply_at<const N: usize>(
 {
     match request.setting.hash {
         HashName::Fold => reply_by::<u32, FoldHash<4>, FoldCompress<N, 4>, N, 1>(
-            alloc, FoldHash::<4>, FoldCompress::<N, 4>, request, input,
+            alloc,
+            FoldHash::<4>,
+            FoldCompress::<N, 4>,
+            request,
+            input,
         ),
         HashName::Sha256 => reply_by::<u8, Sha256RowsInEights, Sha256NodesInEights<N>, N, 32>(
-            alloc, Sha256RowsInEights, Sha256NodesInEights::<N>, request, input,
+            alloc,
+            Sha256RowsInEights,
+            Sha256NodesInEights::<N>,
+            request,
+            input,
         ),
     }
 }
@@ -153,13 +161,7 @@ fn reply_by<
     C: PseudoCompressionFunction<W, N, D> + Copy,
     const N: usize,
     const D: usize,
->(
-    alloc: Global,
-    hash: H,
-    compress: C,
-    request: &Request,
-    input: &[u8],
-) -> Result<Vec<u8>, Fault>
+>(alloc: Global, hash: H, compress: C, request: &Request, input: &[u8]) -> Result<Vec<u8>, Fault>
 where
     [W; D]: LineDigest,
     requires hash { AreOfHash request.now.setting.hash W.value W.MAX W.HEX_DIGITS
@@ -174,8 +176,9 @@ where
         (outcome_of request.now.setting request.now.task request.now.dimensions.items input.now ≡ Err fault)) }
 {
     let cap = request.setting.cap;
-    let scheme =
-        MerkleTreeMmcs::<W, W, H, C, N, D>::new_with_rule(hash, compress, cap.height, cap.rule);
+    let scheme = MerkleTreeMmcs::<W, W, H, C, N, D>::new_with_rule(
+        hash, compress, cap.height, cap.rule,
+    );
     match request.task {
         Task::Verify => verify_by(alloc, &scheme, request, input),
         Task::Collide => collide_by(alloc, &scheme, &hash, &compress, request, input),

@@ -1,7 +1,7 @@
 use Rattle.std.proofs.Common.{◌≡◌, ◌++◌, map, take}
 use Rattle.std.specs.Prelude.{flat_map}
 use Rattle.mmcs_text.specs.Text.{hex_word}
-use Rattle.mmcs_text.proofs.text.push_hex_words.Given as goal
+use Rattle.mmcs_text.proofs.text.push_hex_line.Given as goal
 
 abbrev pub invariant-loop-word : goal.invariant-loop-word
 invariant-loop-word g l = l.text.items

@@ -1,7 +1,9 @@
-use Rattle.std.proofs.Common.{◌∙◌, ◌++◌, ◌-◌, ap, drop, take}
+use Rattle.std.proofs.Common.{◌∙◌, ◌++◌, ◌∷◌, [], ◌-◌, ap, append_assoc, drop, map, take}
+use Rattle.std.specs.Prelude.{flat_map}
+use Rattle.std.proofs.lemmas.List.{take_all}
 use Rattle.mmcs_text.specs.Text.{hex_word}
 use Rattle.mmcs_text.proofs.TextFacts.{last_digits, texts_more}
-use Rattle.mmcs_text.proofs.text.push_hex_words.Goals as goal
+use Rattle.mmcs_text.proofs.text.push_hex_line.Goals as goal
 
 pub loop-word-preserved : goal.loop-word-preserved
 loop-word-preserved g c =
@@ -13,3 +15,14 @@ loop-word-preserved g c =
     (c.in_ok-extend_from_slice.ensures.items
     ∙ ap (λ width. c.loop-word.text.items ++ take (8 - (8 - width)) (drop (8 - width) digits)) c.HEX_DIGITS.ensures
     ∙ ap (λ text. c.loop-word.text.items ++ text) printed)
+
+pub returns : goal.returns
+returns g c =
+    let digits = hex_word g.W.Word.HEX_DIGITS in
+    let value = g.W.Word.value in
+    let old = c.args.text.now.items in
+    c.in_ok-push.ensures.items
+    ∙ ap (λ text. text ++ 10 ∷ []) (c.loop-word.invariant
+    ∙ ap (λ words. old ++ flat_map digits (map value words))
+    (take_all c.loop-word.word-index c.args.words.now c.loop-word-test.false))
+    ∙ append_assoc old (flat_map digits (map value c.args.words.now)) (10 ∷ [])
