@@ -1,12 +1,12 @@
 //! The text of a collision.
 
-ghost use Rattle.std.specs.Prelude.{◌≡◌, ◌++◌, ◌∷◌, [], ℕ, ◌<◌, IfOk, IfSome, List, OnOk, codes, flat_map, length};
+ghost use Rattle.std.specs.Prelude.{◌≡◌, ◌++◌, ◌∷◌, [], ℕ, ◌<◌, IfOk, IfSome, List, OnOk, length};
 ghost use Rattle.std.specs.Prelude.{map};
 ghost use Rattle.std.specs.Option.{option_map};
 ghost use Rattle.p3_merkle_core.specs.Checks.{HasDigests};
 ghost use Rattle.p3_merkle_core.specs.Nodes.{functions_of};
 ghost use Rattle.p3_merkle_core.specs.Views.{inputs_in};
-ghost use Rattle.mmcs_text.specs.Text.{hex_line, hex_lines};
+ghost use Rattle.mmcs_text.specs.Text.{hex_lines};
 ghost use Rattle.mmcs_verify_engine.specs.Collisions.{index_lines, place_line};
 ghost use Rattle.mmcs_verify_engine.specs.Inner.TypedCollisions.{typed_lines, typed_text};
 

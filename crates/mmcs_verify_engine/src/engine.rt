@@ -1,13 +1,12 @@
 //! From words and an input to an output.
 
 ghost use Rattle.std.specs.Prelude.{◌≡◌, ◌⊎◌, ◌↔◌, ◌≤◌, ℕ, List, Err, IfErr, IfOk, IfSome, Ok, OnOk, Some};
-ghost use Rattle.std.specs.Prelude.{length, map, replicate};
+ghost use Rattle.std.specs.Prelude.{map, replicate};
 ghost use Rattle.std.specs.Io.KnownBytes.{Appends};
 ghost use Rattle.p3_support.specs.declared.matrix.Dimensions.{Dimensions};
 ghost use Rattle.p3_merkle_core.specs.Nodes.{functions_of};
-ghost use Rattle.p3_merkle_core.specs.Refusals.{pruned_refusal_under, AnswersUnlessMemory};
 ghost use Rattle.p3_merkle_core.specs.declared.error.MerkleTreeError.TheVariants.{OutOfMemory};
-ghost use Rattle.p3_merkle_mmcs.specs.Schemes.{cap_height_of, cap_rule_of, scheme_functions, params_of};
+ghost use Rattle.p3_merkle_mmcs.specs.Schemes.{cap_height_of, cap_rule_of, scheme_functions};
 ghost use Rattle.mmcs_text.specs.Words.{arity_number, texts_of};
 ghost use Rattle.mmcs_engine.specs.Inner.Alike.{AreOfHash, IsSchemeOf};
 ghost use Rattle.mmcs_text.specs.Requests.{AreNoCommand, AreWords};
@@ -16,26 +15,22 @@ ghost use Rattle.mmcs_text.specs.declared.request.Setting.{Setting};
 ghost use Rattle.mmcs_text.specs.declared.request.Task.{Task};
 ghost use Rattle.mmcs_text.specs.declared.request.Task.TheVariants.{Verify, Collide};
 ghost use Rattle.mmcs_verify_engine.specs.Outcomes.{outcome_of, IsAnswer};
-ghost use Rattle.mmcs_verify_engine.specs.Inner.TypedCollisions.{difference_read, opening_read, refusal_read};
-ghost use Rattle.mmcs_verify_engine.specs.Inner.TypedCollisions.{typed_text};
 
 use crate::collision::collision_text;
 use mmcs_engine::engine::text_of_count;
 use mmcs_text::command::{Arity, HashName};
 use mmcs_text::digest::LineDigest;
 use mmcs_text::opening_fault::Fault;
-use mmcs_text::reader::{Pair, Statement, read_pair, read_statement};
+use mmcs_text::reader::{read_pair, read_statement};
 use mmcs_text::request::{Request, Task};
 use mmcs_text::streams::{read_all, write_text};
 use mmcs_text::word::Word;
 use p3_hashes::fold::{FoldCompress, FoldHash};
 use p3_hashes::sha_eights::{Sha256NodesInEights, Sha256RowsInEights};
-use p3_merkle_core::error::MerkleTreeError;
 use p3_merkle_core::pruning::PrunedMerklePaths;
 use p3_merkle_mmcs::mmcs::MerkleTreeMmcs;
 use p3_support::compress::PseudoCompressionFunction;
 use p3_support::hasher::CryptographicHasher;
-use p3_support::matrix::Dimensions;
 use p3_support::opening::MerkleCap;
 use p3_support::packed::PackedValue;
 use std::alloc::Global;
@@ -216,39 +211,13 @@ where
 {
     let dimensions = request.dimensions.as_slice();
     let found = read_statement::<W, [W; D]>(alloc, dimensions, input)?;
-    let count = verify(alloc, scheme, dimensions, found)?;
-    Ok(text_of_count(alloc, count)?)
-}
-
-/// How many digests an opening has that its cap accepts.
-///
-/// # Errors
-///
-/// Why the opening is refused, or `OutOfMemory`.
-fn verify<
-    W: Word + PackedValue<Value = W>,
-    H: CryptographicHasher<W, W, D>,
-    C: PseudoCompressionFunction<W, N, D>,
-    const N: usize,
-    const D: usize,
->(
-    alloc: Global,
-    scheme: &MerkleTreeMmcs<W, W, H, C, N, D>,
-    dimensions: &[Dimensions],
-    found: Statement<W, [W; D]>,
-) -> Result<usize, MerkleTreeError>
-    ensures count { IfOk result (λ count. count ≡ length found.opening.digests.items) }
-    ensures answer { AnswersUnlessMemory result (pruned_refusal_under W.eq W.eq
-        (params_of H.hash C.compression D scheme.now dimensions.now) found.cap.items (opening_read found.opening)) }
-{
-    let cap = MerkleCap::new(found.cap);
-    let opening = found.opening;
+    let (cap, opening) = (MerkleCap::new(found.cap), found.opening);
     let proof = PrunedMerklePaths {
         sibling_hashes: opening.digests,
     };
     let (indices, rows) = (opening.indices, opening.rows);
     scheme.verify_batch_pruned(alloc, &cap, dimensions, &indices, &rows, &proof)?;
-    Ok(proof.sibling_hashes.len())
+    Ok(text_of_count(alloc, proof.sibling_hashes.len())?)
 }
 
 /// What is printed of two openings of one cap.
@@ -286,36 +255,6 @@ where
 {
     let dimensions = request.dimensions.as_slice();
     let pair = read_pair::<W, [W; D]>(alloc, dimensions, input)?;
-    Ok(compare(alloc, scheme, hash, compress, dimensions, pair)?)
-}
-
-/// The text of two openings that their cap accepts: a collision, or none.
-///
-/// # Errors
-///
-/// Why the first opening is refused, else the second; or `OutOfMemory`.
-fn compare<
-    W: Word + PackedValue<Value = W>,
-    H: CryptographicHasher<W, W, D>,
-    C: PseudoCompressionFunction<W, N, D>,
-    const N: usize,
-    const D: usize,
->(
-    alloc: Global,
-    scheme: &MerkleTreeMmcs<W, W, H, C, N, D>,
-    hash: &H,
-    compress: &C,
-    dimensions: &[Dimensions],
-    pair: Pair<W, [W; D]>,
-) -> Result<Vec<u8>, MerkleTreeError>
-    requires functions { scheme_functions H.hash C.compression D scheme.now
-        ≡ functions_of (H.hash hash.now) (C.compression compress.now) (replicate D W.default_value) }
-    ensures text { let c = params_of H.hash C.compression D scheme.now dimensions.now in
-        IfOk result (λ text. text.items ≡ typed_text W.value W.HEX_DIGITS c.functions pair.first.indices.items
-        pair.second.indices.items (difference_read W.eq c pair)) }
-    ensures answer { let c = params_of H.hash C.compression D scheme.now dimensions.now in
-        AnswersUnlessMemory result (refusal_read W.eq c pair) }
-{
     let cap = MerkleCap::new(pair.cap);
     let (first, second) = (pair.first, pair.second);
     let first_proof = PrunedMerklePaths {
