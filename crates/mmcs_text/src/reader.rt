@@ -302,22 +302,15 @@ impl<W: Word, H: LineDigest> Reader<W, H> {
         Ok(true)
     }
 
-    /// The opening that was read, and a reader of another one under the same cap.
-    fn next_opening(self, alloc: Global) -> (Opening<W, H>, Reader<W, H>)
-        ensures opening { result.0 ≡ self.shown.opening }
-        ensures reader { (result.1.shown.cap ≡ self.shown.cap) ×
-            (reading_of W.value H.words result.1 ≡ behind_first (reading_of W.value H.words self)) }
+    /// The opening that was read. Another one under the same cap is read next.
+    fn next_opening(&mut self, alloc: Global) -> Opening<W, H>
+        ensures opening { result ≡ self.old.shown.opening }
+        ensures reader { (self.new.shown.cap ≡ self.old.shown.cap) ×
+            (reading_of W.value H.words self.new ≡ behind_first (reading_of W.value H.words self.old)) }
     {
-        let Statement { cap, opening } = self.shown;
-        let reader = Reader {
-            stage: Stage::Queries,
-            shown: Statement {
-                cap,
-                opening: Opening::new(alloc),
-            },
-            row_set: Vec::new(alloc),
-        };
-        (opening, reader)
+        self.stage = Stage::Queries;
+        self.row_set = Vec::new(alloc);
+        mem::replace(&mut self.shown.opening, Opening::new(alloc))
     }
 
     /// The fault of a line that is missing.
@@ -493,7 +486,7 @@ pub fn read_pair<W: Word, H: LineDigest>(
     let mut reader = Reader::new(alloc);
     reader.read_opening(alloc, dimensions, &mut lines)?;
     take_blank_line(&mut lines)?;
-    let (first, mut reader) = reader.next_opening(alloc);
+    let first = reader.next_opening(alloc);
     reader.read_to_end(alloc, dimensions, &mut lines)?;
     let Statement {
         cap,
