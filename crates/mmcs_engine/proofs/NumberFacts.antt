@@ -1,5 +1,6 @@
 -- A tree over words is the tree over their numbers.
 use Rattle.std.proofs.Common.{◌≡◌, ℕ, Bool, true, false, Decides, List, [], ◌∷◌, ◌++◌, map, refl, sym, ap, ◌∙◌}
+use Rattle.std.proofs.Common.{subst}
 use Rattle.std.specs.Prelude.{flat_map, nat_eq, IfOk, IsTrue, Result}
 use Rattle.std.specs.Cmp.{unsigned_Decides}
 use Rattle.std.proofs.lemmas.List.{map-id}
@@ -30,7 +31,7 @@ use Rattle.mmcs_text.proofs.ByNumber.{by_number}
 use Rattle.mmcs_text.proofs.MatrixFacts.{digests_plain, stored_dimensions, stored_plain}
 use Rattle.mmcs_engine.specs.Program.{functions_of_hash, hex_digits, layer_of_cap, text_of}
 use Rattle.mmcs_engine.specs.Inner.Alike.{batch_in_numbers, matrix_in_numbers, opened_text, pruned_in_numbers}
-use Rattle.mmcs_engine.specs.Inner.Alike.{ComputeAlike, IsSchemeOf}
+use Rattle.mmcs_engine.specs.Inner.Alike.{AreOfHash, ComputeAlike, IsSchemeOf}
 
 -- ---- numbers stand for themselves
 
@@ -192,7 +193,17 @@ module _ {T : Type 0} (value : T → ℕ) (some_word : (n : ℕ) → (w : T) × 
         ∙ ap due (sym action_is))
         printed_is
 
--- ---- arities
+-- ---- the scheme of a command
+
+-- a scheme of a hash's functions and of a cap's height and rule
+pub scheme_made : {T : Type 0} {hash : HashName} {cap : CapChoice} {value : T → ℕ} {max digits : ℕ}
+    {f g : Functions T T} {cap_height : ℕ} {rule : CapRule} → AreOfHash hash value max digits f → g ≡ f →
+    cap_height ≡ cap.height → rule ≡ cap.rule → IsSchemeOf hash cap value max digits g cap_height rule
+scheme_made {T} {hash} {cap} {value} {max} {digits} are same height_is rule_is = record {
+  of_hash = subst (λ (h : Functions T T). AreOfHash hash value max digits h) (sym same) are;
+  same_height = height_is;
+  same_rule = rule_is;
+}
 
 -- a scheme can have the arity of a command
 pub arity_taken : (arity : Arity) → IsTrue (is_arity (arity_number arity))

@@ -278,32 +278,13 @@ fn text_of_opening<W: Word, const D: usize>(
         ++ digest_lines W.HEX_DIGITS (map (map W.value) digests.now)) }
 {
     let mut text = Vec::new(alloc);
-    push_queries(alloc, &mut text, indices, opened)?;
+    for (query, index) in indices.iter().enumerate() {
+        push_labelled(alloc, &mut text, "index", *index)?;
+        push_rows(alloc, &mut text, &opened[query])?;
+    }
     push_labelled(alloc, &mut text, "digests", digests.len())?;
     push_digests(&mut text, digests)?;
     Ok(text)
-}
-
-/// Appends what is opened of each index: the index, and a line for the row of each matrix.
-///
-/// # Errors
-///
-/// `AllocError` if memory runs out.
-fn push_queries<W: Word>(
-    alloc: Global,
-    text: &mut Vec<u8>,
-    indices: &[usize],
-    opened: &[Vec<Vec<W>>],
-) -> Result<(), AllocError>
-    requires { length opened.now ≡ length indices.now }
-    ensures { (b : Batch W) → row_sets opened.now ≡ map (honest_rows b) indices.now → OnOk result
-        (text.new.items ≡ text.old.items ++ flat_map (opened_lines W.value b) indices.now) }
-{
-    for (query, index) in indices.iter().enumerate() {
-        push_labelled(alloc, text, "index", *index)?;
-        push_rows(alloc, text, &opened[query])?;
-    }
-    Ok(())
 }
 
 /// Opens indices of a tree, verifies what is opened, and tells how many digests were sent.

@@ -180,7 +180,7 @@ where
     }
 }
 
-/// What is printed of one opening.
+/// What is printed of one opening: `ok` and how many digests it has, if its cap accepts it.
 ///
 /// # Errors
 ///
@@ -220,7 +220,7 @@ where
     Ok(text_of_count(alloc, proof.sibling_hashes.len())?)
 }
 
-/// What is printed of two openings of one cap.
+/// What is printed of two openings of one cap: the first collision of a query of each, or that there is none.
 ///
 /// # Errors
 ///

@@ -2,10 +2,10 @@ use Rattle.std.proofs.Common.{◌∙◌, ℕ, Err, ap, sym, subst}
 use Rattle.std.specs.Prelude.{replicate, IsTrue}
 use Rattle.std.proofs.lemmas.Result.{err_from_is_err_and}
 use Rattle.p3_merkle_core.specs.Geometry.{is_arity}
-use Rattle.p3_merkle_core.specs.Nodes.{functions_of, shape, Functions}
+use Rattle.p3_merkle_core.specs.Nodes.{functions_of, shape}
 use Rattle.mmcs_text.specs.Inner.Stored.{stored_batch}
-use Rattle.mmcs_engine.specs.Inner.Alike.{batch_in_numbers, AreOfHash}
-use Rattle.mmcs_engine.proofs.NumberFacts.{arity_taken, shape_in_numbers, stored_in_numbers}
+use Rattle.mmcs_engine.specs.Inner.Alike.{batch_in_numbers}
+use Rattle.mmcs_engine.proofs.NumberFacts.{arity_taken, scheme_made, shape_in_numbers, stored_in_numbers}
 use Rattle.mmcs_engine.proofs.ReplyFacts.{reply_fault, reply_text}
 use Rattle.mmcs_engine.proofs.engine.reply_by.Goals as goal
 
@@ -39,12 +39,6 @@ new_with_rule-scheme-requires-clause-arity g c =
 pub act-requires : goal.act-requires
 act-requires g c =
     let made = c.new_with_rule-scheme.ensures in
-    let W = g.W.Word in record {
-      of_hash = subst (λ (f : Functions g.row.W.Denot g.row.W.Denot).
-          AreOfHash c.args.request.now.command.hash W.value W.MAX W.HEX_DIGITS f)
-          (λ i. functions_of (g.H.CryptographicHasher.hash (sym made.hash i))
-          (g.C.PseudoCompressionFunction.compression (sym made.compress i))
-          (replicate g.row.D g.W.PackedValue.default_value)) c.requires.hash;
-      same_height = made.cap_height;
-      same_rule = made.rule;
-    }
+    scheme_made c.requires.hash (λ i. functions_of (g.H.CryptographicHasher.hash (made.hash i))
+    (g.C.PseudoCompressionFunction.compression (made.compress i)) (replicate g.row.D g.W.PackedValue.default_value))
+    made.cap_height made.rule
