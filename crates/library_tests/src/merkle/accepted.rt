@@ -1,10 +1,10 @@
 //! Callers of the plain scheme that are generic in all that it is made of, and in the matrices: what a scheme opens of
 //! its own commitment is accepted, under the dimensions that the matrices show. They need no proof file.
 ghost use Rattle.std.specs.Prelude.{◌≡◌, ◌<◌, IfErr, IfOk, IsOk, None};
-ghost use Rattle.p3_merkle_core.specs.Gate.{gate_refusal};
-ghost use Rattle.p3_merkle_core.specs.Refusals.{queries_refusal};
-ghost use Rattle.p3_merkle_core.specs.Views.{heights_in};
-ghost use Rattle.p3_merkle_core.specs.declared.error.MerkleTreeError.TheVariants.{OutOfMemory};
+ghost use Rattle.p3_merkle_tree.specs.Gate.{gate_refusal};
+ghost use Rattle.p3_merkle_tree.specs.Refusals.{queries_refusal};
+ghost use Rattle.p3_merkle_tree.specs.Views.{heights_in};
+ghost use Rattle.p3_merkle_tree.specs.MerkleTreeError.TheVariants.{OutOfMemory};
 ghost use Rattle.p3_support.specs.Batches.{greatest};
 
 use p3_hashes::fold::{FoldCompress, FoldHash};

@@ -1,11 +1,11 @@
 //! Callers of the salted scheme that are generic in all that it is made of, and in the matrices: what a scheme opens of
 //! its own commitment is accepted, under the dimensions that the matrices show. They need no proof file.
 ghost use Rattle.std.specs.Prelude.{◌≡◌, IfErr, IfOk, map};
-ghost use Rattle.p3_merkle_core.specs.Commitments.{IsCommitment};
-ghost use Rattle.p3_merkle_core.specs.declared.error.MerkleTreeError.TheVariants.{OutOfMemory};
-ghost use Rattle.p3_merkle_hiding.specs.HidingSchemes.{salted_params_of};
-ghost use Rattle.p3_merkle_hiding.specs.SaltedTrees.{HaveSaltColumns};
-ghost use Rattle.p3_merkle_prover.specs.Parts.{layers_of, matrices_of, tree_batch};
+ghost use Rattle.p3_merkle_tree.specs.Commitments.{IsCommitment};
+ghost use Rattle.p3_merkle_tree.specs.MerkleTreeError.TheVariants.{OutOfMemory};
+ghost use Rattle.p3_merkle_tree.specs.HidingSchemes.{salted_params_of};
+ghost use Rattle.p3_merkle_tree.specs.SaltedTrees.{HaveSaltColumns};
+ghost use Rattle.p3_merkle_tree.specs.Parts.{layers_of, matrices_of, tree_batch};
 ghost use Rattle.p3_support.specs.Batches.{dimensions_in};
 ghost use Rattle.p3_support.specs.Pairs.{left_of};
 ghost use Rattle.p3_support.specs.Shown.{roots_of};
