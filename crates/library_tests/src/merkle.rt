@@ -4,7 +4,6 @@
 
 mod accepted;
 mod accepted_salted;
-mod calls;
 mod errors;
 mod exclusive_or;
 mod generic;

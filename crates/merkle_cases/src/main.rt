@@ -59,9 +59,7 @@ fn answer_at<const N: usize>(case: &mut Case<'_>, keyword: &str) -> Result<(), F
     match keyword {
         "compress" => hash::compress::<N>(case),
         "sha256_groups" => sha256::groups::<N>(case),
-        "sha256_commit" => sha256::commit::<N>(case),
-        "sha256_open" => sha256::open::<N>(case),
-        "sha256_pruned" => sha256::pruned::<N>(case),
+        "sha256_commit" | "sha256_open" | "sha256_pruned" => sha256::tree::<N>(case, keyword),
         "sha256_sweep" => sha256::sweep::<N>(case),
         _ => answer_without_sha256::<N>(case, keyword),
     }
