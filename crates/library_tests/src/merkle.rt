@@ -4,6 +4,7 @@
 
 mod accepted;
 mod accepted_salted;
+mod any_scheme;
 mod errors;
 mod exclusive_or;
 mod generic;
