@@ -9,7 +9,6 @@
 ghost use Rattle.std.specs.Prelude.{◌≤◌, IsTrue};
 ghost use Rattle.p3_merkle_core.specs.Geometry.{is_arity};
 
-mod agreement;
 mod answered;
 mod authenticated;
 mod batches;

@@ -4,8 +4,6 @@
 
 ghost use Rattle.std.specs.Prelude.{◌%◌, ◌<◌};
 
-use crate::scheme::Cap;
-use p3_merkle_tree::CapRule;
 use p3_support::matrix::{Dimensions, RowMajorMatrix};
 use std::alloc::Global;
 
@@ -96,22 +94,6 @@ impl Reader {
         self.push_often(numbers, number, count);
     }
 
-    /// The cap that a word is: a height under this rule, or with `l` after it under the lowered rule, with `f` under
-    /// the fixed one.
-    pub fn cap(&mut self, word: &str, rule: CapRule) -> Cap {
-        let (height, rule) = if let Some(height) = word.strip_suffix('l') {
-            (height, CapRule::Lowered)
-        } else if let Some(height) = word.strip_suffix('f') {
-            (height, CapRule::Fixed)
-        } else {
-            (word, rule)
-        };
-        Cap {
-            height: self.number(height),
-            rule,
-        }
-    }
-
     /// The numbers in a text.
     pub fn numbers(&mut self, text: &str) -> Vec<usize> {
         let mut numbers = self.none();
@@ -134,15 +116,6 @@ impl Reader {
             }
         }
         words
-    }
-
-    /// The digests of one word in a text.
-    pub fn digests(&mut self, text: &str) -> Vec<[u32; 1]> {
-        let mut digests = self.none();
-        for word in &self.words(text) {
-            self.push(&mut digests, [*word]);
-        }
-        digests
     }
 
     /// Adds the row in a text so often.

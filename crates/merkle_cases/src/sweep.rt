@@ -177,12 +177,12 @@ fn check_list<S: Tried>(
     places: &[Option<Place>],
 ) -> Result<usize, Fault> {
     let leaves = accepted_leaves(alloc, scheme, committed, indices)?;
-    scheme.check_paths(alloc, committed, indices, &leaves)?;
+    let digests = scheme.check_paths(alloc, committed, indices, &leaves)?;
     check_twins(alloc, scheme, committed, indices, &leaves, places)?;
     if let Some(index) = indices.first() {
         check_leaf_twins(alloc, scheme, committed, *index, places)?;
     }
-    Ok(S::digests(&leaves.1))
+    Ok(digests)
 }
 
 /// Opens the leaves of each list of queries, and counts.
