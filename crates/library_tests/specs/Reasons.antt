@@ -1,7 +1,7 @@
 -- What callers make of refusals: some of them they handle by name.
-use Rattle.p3_merkle_core.specs.declared.error.MerkleTreeError.{MerkleTreeError}
-use Rattle.p3_merkle_core.specs.declared.error.MerkleTreeError.TheVariants.{CapMismatch, EmptyBatch}
-use Rattle.p3_merkle_core.specs.declared.error.MerkleTreeError.TheVariants.{IncompatibleHeights, IndexOutOfBounds}
+use Rattle.p3_merkle_tree.specs.MerkleTreeError.{MerkleTreeError}
+use Rattle.p3_merkle_tree.specs.MerkleTreeError.TheVariants.{CapMismatch, EmptyBatch}
+use Rattle.p3_merkle_tree.specs.MerkleTreeError.TheVariants.{IncompatibleHeights, IndexOutOfBounds}
 use Rattle.library_tests.specs.declared.reasons.Rejection.{Rejection}
 use Rattle.library_tests.specs.declared.reasons.Rejection.TheVariants.{OtherCommitment, NoSuchIndex}
 use Rattle.library_tests.specs.declared.reasons.Rejection.TheVariants as rejection

@@ -4,7 +4,7 @@
 
 mod accepted;
 mod accepted_salted;
-mod calls;
+mod any_scheme;
 mod errors;
 mod exclusive_or;
 mod generic;

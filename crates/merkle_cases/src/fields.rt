@@ -80,11 +80,21 @@ impl<'a> Fields<'a> {
         self.reader.number(field)
     }
 
-    /// The cap that the next field is: its height, and `l` or `f` after it where it has a rule of its own.
+    /// The cap that the next field is: its height, with `l` after it under the lowered rule, with `f` under the fixed one.
     pub fn cap(&mut self) -> Cap {
         let field = self.take();
-        self.is_for_any_rule = !field.ends_with('l') && !field.ends_with('f');
-        self.reader.cap(field, self.rule)
+        let (height, rule) = if let Some(height) = field.strip_suffix('l') {
+            (height, CapRule::Lowered)
+        } else if let Some(height) = field.strip_suffix('f') {
+            (height, CapRule::Fixed)
+        } else {
+            self.is_for_any_rule = true;
+            (field, self.rule)
+        };
+        Cap {
+            height: self.reader.number(height),
+            rule,
+        }
     }
 
     /// The numbers of the next field.
@@ -101,8 +111,11 @@ impl<'a> Fields<'a> {
 
     /// The digests of the next field.
     pub fn digests(&mut self) -> Vec<[u32; 1]> {
-        let field = self.take();
-        self.reader.digests(field)
+        let mut digests = self.reader.none();
+        for word in &self.words() {
+            self.reader.push(&mut digests, [*word]);
+        }
+        digests
     }
 
     /// The rows of the next field.

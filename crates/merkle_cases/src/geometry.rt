@@ -5,11 +5,11 @@ ghost use Rattle.p3_merkle_core.specs.Geometry.{is_arity};
 
 use crate::case::Case;
 use crate::fields::Fault;
+use crate::reader::Reader;
 use p3_merkle_core::geometry::{
-    MAX_HEIGHT, bits_reduced_of, check_widths, expected_height_of, exponent_of, has_exponent,
-    is_bridge_step, padded_len, select_arity_step,
+    MAX_HEIGHT, bits_reduced_of, check_widths, expected_height_of, exponent_of, padded_len,
 };
-use p3_merkle_core::steps::steps_of;
+use p3_merkle_core::steps::{StepUp, steps_of};
 
 /// `exponent | HEIGHT | EXPONENT`.
 pub fn exponent(case: &mut Case<'_>) -> Result<(), Fault> {
@@ -49,20 +49,52 @@ pub fn padding<const N: usize>(case: &mut Case<'_>) -> Result<(), Fault>
     Ok(())
 }
 
-/// `step | ARITY | HEIGHTS | EXPONENT | matrix or none, bridge or whole, STEP, NEXT EXPONENT`: whether a matrix has
-/// that exponent, and the step from there.
+/// The step up from a layer of this exponent over those of some columns that are no taller: the first step of the tree
+/// over these and a column of that exponent.
+fn step_from(
+    reader: &mut Reader,
+    heights: &[usize],
+    arity: usize,
+    exponent: usize,
+) -> Result<StepUp, Fault>
+    requires { 2 ≤ arity }
+{
+    if exponent >= 64 {
+        return Err(Fault::Unreadable("the exponent is too great"));
+    }
+    let tallest = 1 << exponent;
+    let mut lower = reader.none();
+    reader.push(&mut lower, tallest);
+    for height in heights {
+        if *height <= tallest {
+            reader.push(&mut lower, *height);
+        }
+    }
+    let columns = reader.columns(&lower);
+    let steps = steps_of(&columns, arity);
+    if steps.num_levels == 0 {
+        return Err(Fault::Unreadable("there is no step"));
+    }
+    Ok(steps.up(arity, 0, steps.exponent))
+}
+
+/// `step | ARITY | HEIGHTS | EXPONENT | matrix or none, bridge or whole, STEP, NEXT EXPONENT`: whether a column has that
+/// exponent, as the step of 2 that leads there says, and the step from there.
 pub fn step(case: &mut Case<'_>) -> Result<(), Fault> {
-    let arity = case.fields.number();
-    let dimensions = case.fields.columns();
+    let arity = case.fields.number().max(2);
+    let heights = case.fields.numbers();
     let exponent = case.fields.number();
-    let has_matrix = has_exponent(&dimensions, exponent);
+    let reader = &mut case.fields.reader;
+    let below = step_from(reader, &heights, 2, exponent.saturating_add(1))?;
+    let above = step_from(reader, &heights, arity, exponent)?;
     case.answer
-        .push(if has_matrix { "matrix " } else { "none " });
-    let is_bridge = is_bridge_step(&dimensions, arity, exponent);
-    case.answer
-        .push(if is_bridge { "bridge " } else { "whole " });
-    let (step, next) = select_arity_step(&dimensions, arity, exponent);
-    case.answer.numbers(&[step, next]);
+        .push(if below.has_rows { "matrix " } else { "none " });
+    case.answer.push(if above.step < arity {
+        "bridge "
+    } else {
+        "whole "
+    });
+    case.answer.numbers(&[above.step, above.exponent]);
     Ok(())
 }
 

@@ -2,7 +2,7 @@
 
 ghost use Rattle.std.specs.Prelude.{◌<◌, ◌≤◌, length, IsTrue};
 ghost use Rattle.p3_merkle_core.specs.Geometry.{is_arity};
-ghost use Rattle.p3_merkle_prover.specs.Parts.{layers_of};
+ghost use Rattle.p3_merkle_tree.specs.Parts.{layers_of};
 
 use crate::case::Case;
 use crate::fields::Fault;
@@ -12,7 +12,7 @@ use crate::scheme::{
     FoldOpening, FoldTree, ROOT, Rows, commit_to, fold_scheme, fold_tree, tall_matrices,
 };
 use crate::text::Answer;
-use p3_merkle_core::geometry::check_heights;
+use p3_merkle_core::steps::steps_of;
 use p3_merkle_tree::{BatchOpening, BatchOpeningRef, MerkleCap, MerkleTreeError};
 use p3_support::matrix::Dimensions;
 use std::alloc::Global;
@@ -78,7 +78,7 @@ pub fn heights(case: &mut Case<'_>) -> Result<(), Fault> {
     let reader = &mut case.fields.reader;
     let dimensions = reader.columns(&heights);
     let answers = [
-        check_heights(&dimensions),
+        steps_of(&dimensions, 2).check_heights(),
         commit(case.alloc, tall_matrices(reader, &dimensions)),
         build(case.alloc, tall_matrices(reader, &dimensions)),
         scheduled(case.alloc, &dimensions),

@@ -2,7 +2,7 @@
 
 ghost use Rattle.std.specs.Prelude.{◌<◌, ◌≤◌, length, IsTrue};
 ghost use Rattle.p3_merkle_core.specs.Geometry.{is_arity};
-ghost use Rattle.p3_merkle_prover.specs.Parts.{layers_of};
+ghost use Rattle.p3_merkle_tree.specs.Parts.{layers_of};
 
 use crate::case::Case;
 use crate::fields::Fault;

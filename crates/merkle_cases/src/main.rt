@@ -9,7 +9,6 @@
 ghost use Rattle.std.specs.Prelude.{◌≤◌, IsTrue};
 ghost use Rattle.p3_merkle_core.specs.Geometry.{is_arity};
 
-mod agreement;
 mod answered;
 mod authenticated;
 mod batches;
@@ -59,9 +58,7 @@ fn answer_at<const N: usize>(case: &mut Case<'_>, keyword: &str) -> Result<(), F
     match keyword {
         "compress" => hash::compress::<N>(case),
         "sha256_groups" => sha256::groups::<N>(case),
-        "sha256_commit" => sha256::commit::<N>(case),
-        "sha256_open" => sha256::open::<N>(case),
-        "sha256_pruned" => sha256::pruned::<N>(case),
+        "sha256_commit" | "sha256_open" | "sha256_pruned" => sha256::tree::<N>(case, keyword),
         "sha256_sweep" => sha256::sweep::<N>(case),
         _ => answer_without_sha256::<N>(case, keyword),
     }

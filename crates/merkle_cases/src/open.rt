@@ -3,7 +3,8 @@
 use crate::case::Case;
 use crate::committed::{Committed, accepted, accepted_leaves, commit_shown};
 use crate::fields::Fault;
-use crate::scheme::Rows;
+use crate::scheme::{FoldCap, Rows};
+use crate::text::Answer;
 use crate::tried::Tried;
 use p3_merkle_tree::MerkleTreeError;
 use p3_support::mmcs::Mmcs;
@@ -17,6 +18,14 @@ pub fn commit<S: Tried>(case: &mut Case<'_>, scheme: &mut S) -> Result<(), Fault
     Ok(())
 }
 
+/// Writes the cap before an opening whose rows are salted.
+fn write_salted_cap(is_salted: bool, cap: &FoldCap, answer: &mut Answer) {
+    if is_salted {
+        answer.digests(cap.roots());
+        answer.push(" | ");
+    }
+}
+
 /// `open | ARITY | CAP | MATRICES | INDEX | ROWS | SIBLINGS`: the opening of a leaf, which is accepted. With salts:
 /// `salted_open | ARITY | CAP | SALTS A ROW | GENERATOR | MATRICES | INDEX | ROOTS | ROWS | SALTS | SIBLINGS`.
 pub fn open<S: Tried>(case: &mut Case<'_>, scheme: &mut S) -> Result<(), Fault> {
@@ -24,7 +33,7 @@ pub fn open<S: Tried>(case: &mut Case<'_>, scheme: &mut S) -> Result<(), Fault> 
     let index = case.fields.number();
     let committed = commit_shown(case.alloc, scheme, matrices)?;
     let opening = accepted(case.alloc, &*scheme, &committed, index)?;
-    S::write_salted_cap(&committed.cap, &mut case.answer);
+    write_salted_cap(S::IS_SALTED, &committed.cap, &mut case.answer);
     case.answer.rows(&opening.opened_values);
     case.answer.push(" | ");
     S::write_proof(&opening.opening_proof, &mut case.answer);
@@ -39,7 +48,7 @@ pub fn pruned<S: Tried>(case: &mut Case<'_>, scheme: &mut S) -> Result<(), Fault
     let indices = case.fields.numbers();
     let committed = commit_shown(case.alloc, scheme, matrices)?;
     let (rows, proof) = accepted_leaves(case.alloc, &*scheme, &committed, &indices)?;
-    S::write_salted_cap(&committed.cap, &mut case.answer);
+    write_salted_cap(S::IS_SALTED, &committed.cap, &mut case.answer);
     case.answer.row_sets(&rows);
     case.answer.push(" | ");
     S::write_multi_proof(&proof, &mut case.answer);

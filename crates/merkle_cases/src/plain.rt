@@ -64,6 +64,8 @@ fn check_each_path<const N: usize>(
 }
 
 impl<const N: usize> Tried for FoldScheme<N> {
+    const IS_SALTED: bool = false;
+
     fn proof_in(fields: &mut Fields<'_>) -> Proof {
         fields.digests()
     }
@@ -80,18 +82,12 @@ impl<const N: usize> Tried for FoldScheme<N> {
         }
     }
 
-    fn write_salted_cap(_cap: &FoldCap, _answer: &mut Answer) {}
-
     fn write_proof(proof: &Proof, answer: &mut Answer) {
         answer.digests(proof);
     }
 
     fn write_multi_proof(proof: &MultiProof, answer: &mut Answer) {
         answer.digests(&proof.sibling_hashes);
-    }
-
-    fn digests(proof: &MultiProof) -> usize {
-        proof.sibling_hashes.len()
     }
 
     fn agrees(
@@ -110,16 +106,16 @@ impl<const N: usize> Tried for FoldScheme<N> {
         committed: &FoldCommitted<N>,
         indices: &[usize],
         leaves: &OpenedLeaves<u32, MultiProof>,
-    ) -> Result<(), Fault> {
+    ) -> Result<usize, Fault> {
         let dimensions = &committed.dimensions;
         let (rows, proof) = leaves;
         let paths = self.restore_and_recompute_paths(alloc, dimensions, indices, rows, proof)?;
         check_each_path(alloc, self, committed, indices, &paths)?;
-        if self.pruned_len(alloc, dimensions, indices)? == proof.sibling_hashes.len() {
-            Ok(())
-        } else {
-            Err(Fault::Wrong("a proof has another number of digests"))
+        let digests = proof.sibling_hashes.len();
+        if self.pruned_len(alloc, dimensions, indices)? != digests {
+            return Err(Fault::Wrong("a proof has another number of digests"));
         }
+        Ok(digests)
     }
 
     fn extract(

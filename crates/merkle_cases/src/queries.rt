@@ -14,40 +14,25 @@ fn written_lists(reader: &mut Reader, text: &str) -> Vec<Vec<usize>> {
     lists
 }
 
-/// The list that is one longer than this one.
-fn longer_list(reader: &mut Reader, list: &[usize], last: usize) -> Vec<usize> {
-    let mut longer = reader.none();
-    for leaf in list {
-        reader.push(&mut longer, *leaf);
+/// The list of so many of some leaves whose numbers, as digits in a system of that base, are this number, the last digit
+/// first.
+fn list_numbered(reader: &mut Reader, leaves: usize, len: usize, number: usize) -> Vec<usize> {
+    let base = leaves.max(1);
+    let mut list = reader.none();
+    let mut rest = number;
+    for _query in 0..len {
+        reader.push(&mut list, rest % base);
+        rest /= base;
     }
-    reader.push(&mut longer, last);
-    longer
-}
-
-/// Adds to some lists those that are one longer than this one, by each of some leaves.
-fn add_longer(reader: &mut Reader, lists: &mut Vec<Vec<usize>>, list: &[usize], leaves: usize) {
-    for leaf in 0..leaves {
-        let longer = longer_list(reader, list, leaf);
-        reader.push(lists, longer);
-    }
-}
-
-/// The lists that are one longer than these, by each of some leaves.
-fn longer_lists(reader: &mut Reader, lists: &[Vec<usize>], leaves: usize) -> Vec<Vec<usize>> {
-    let mut longer = reader.none();
-    for list in lists {
-        add_longer(reader, &mut longer, list, leaves);
-    }
-    longer
+    list
 }
 
 /// Every list of so many of some leaves.
 fn every_list(reader: &mut Reader, leaves: usize, len: usize) -> Vec<Vec<usize>> {
     let mut lists = reader.none();
-    let empty = reader.none();
-    reader.push(&mut lists, empty);
-    for _query in 0..len {
-        lists = longer_lists(reader, &lists, leaves);
+    for number in 0..leaves.saturating_pow(len.min(64) as u32) {
+        let list = list_numbered(reader, leaves, len, number);
+        reader.push(&mut lists, list);
     }
     lists
 }

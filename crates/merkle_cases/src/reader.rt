@@ -4,8 +4,6 @@
 
 ghost use Rattle.std.specs.Prelude.{◌%◌, ◌<◌};
 
-use crate::scheme::Cap;
-use p3_merkle_tree::CapRule;
 use p3_support::matrix::{Dimensions, RowMajorMatrix};
 use std::alloc::Global;
 
@@ -52,13 +50,6 @@ impl Reader {
         }
     }
 
-    /// Adds words to others.
-    fn append(&mut self, values: &mut Vec<u32>, words: &[u32]) {
-        for word in words {
-            self.push(values, *word);
-        }
-    }
-
     /// The number that a word is.
     pub fn number(&mut self, word: &str) -> usize {
         match word.parse::<usize>() {
@@ -78,10 +69,10 @@ impl Reader {
         }
     }
 
-    /// Adds a number so often.
-    fn push_often(&mut self, numbers: &mut Vec<usize>, number: usize, count: usize) {
+    /// Adds a value to others so often.
+    fn push_often<T: Copy + Drop>(&mut self, values: &mut Vec<T>, value: T, count: usize) {
         for _ in 0..count {
-            self.push(numbers, number);
+            self.push(values, value);
         }
     }
 
@@ -101,22 +92,6 @@ impl Reader {
         let (word, count) = self.counted(word, "*");
         let number = self.number(word);
         self.push_often(numbers, number, count);
-    }
-
-    /// The cap that a word is: a height under this rule, or with `l` after it under the lowered rule, with `f` under
-    /// the fixed one.
-    pub fn cap(&mut self, word: &str, rule: CapRule) -> Cap {
-        let (height, rule) = if let Some(height) = word.strip_suffix('l') {
-            (height, CapRule::Lowered)
-        } else if let Some(height) = word.strip_suffix('f') {
-            (height, CapRule::Fixed)
-        } else {
-            (word, rule)
-        };
-        Cap {
-            height: self.number(height),
-            rule,
-        }
     }
 
     /// The numbers in a text.
@@ -141,15 +116,6 @@ impl Reader {
             }
         }
         words
-    }
-
-    /// The digests of one word in a text.
-    pub fn digests(&mut self, text: &str) -> Vec<[u32; 1]> {
-        let mut digests = self.none();
-        for word in &self.words(text) {
-            self.push(&mut digests, [*word]);
-        }
-        digests
     }
 
     /// Adds the row in a text so often.
@@ -209,13 +175,6 @@ impl Reader {
         }
     }
 
-    /// Adds dimensions so often.
-    fn push_matrix(&mut self, dimensions: &mut Vec<Dimensions>, matrix: Dimensions, count: usize) {
-        for _ in 0..count {
-            self.push(dimensions, matrix);
-        }
-    }
-
     /// The dimensions in a text, with blanks between those of each matrix.
     pub fn dimensions(&mut self, text: &str) -> Vec<Dimensions> {
         let mut dimensions = self.none();
@@ -223,7 +182,7 @@ impl Reader {
             for word in text.split_whitespace() {
                 let (word, count) = self.counted(word, "*");
                 let matrix = self.matrix_dimensions(word);
-                self.push_matrix(&mut dimensions, matrix, count);
+                self.push_often(&mut dimensions, matrix, count);
             }
             self.check(!dimensions.is_empty(), "dimensions are missing");
         }
@@ -271,7 +230,9 @@ impl Reader {
             let is_as_wide = width == 0 || words.len() == width;
             self.check(is_as_wide, "rows of a matrix have different widths");
             width = words.len();
-            self.append(&mut values, &words);
+            if values.extend_from_slice(&words).is_err() {
+                self.fail("there is no memory");
+            }
         }
         self.matrix_from(values, width)
     }

@@ -13,7 +13,6 @@ use crate::queries::generator_of;
 use crate::scheme::Cap;
 use p3_hashes::fold::{FoldCompress, FoldHash};
 use p3_merkle_tree::MerkleTreeHidingMmcs;
-use rand_chacha::ChaCha20Rng;
 use rand_core::CryptoRng;
 use test_fixtures::counting::Counting;
 
@@ -111,28 +110,11 @@ fn drawn_at_random<const N: usize, const SALT_ELEMS: usize>(
 {
     let seed = case.fields.reader.number(seed);
     let rng = generator_of(&mut case.fields.reader, seed);
-    at_random(
-        case,
-        kind,
-        cap,
-        &mut salted_scheme::<_, N, SALT_ELEMS>(cap, rng),
-    )
-}
-
-/// The same of a scheme that takes its salts from ChaCha20.
-fn at_random<const N: usize, const SALT_ELEMS: usize>(
-    case: &mut Case<'_>,
-    kind: &str,
-    cap: Cap,
-    scheme: &mut Salted<ChaCha20Rng, N, SALT_ELEMS>,
-) -> Result<(), Fault>
-    requires arity { IsTrue (is_arity N) }
-    requires few { N ≤ 16 }
-{
-    match kind {
-        "fork" => commits::fork(case, scheme),
-        _ => answered_or_committed(case, kind, cap, scheme),
+    let mut scheme = salted_scheme::<_, N, SALT_ELEMS>(cap, rng);
+    if kind == "fork" {
+        return commits::fork(case, &mut scheme);
     }
+    answered_or_committed(case, kind, cap, &mut scheme)
 }
 
 /// The same of a scheme that takes its salts from any generator.

@@ -6,7 +6,7 @@ mod trees;
 
 use crate::case::Case;
 use crate::fields::Fault;
-pub use crate::sha256::trees::{commit, open, pruned, sweep};
+pub use crate::sha256::trees::{sweep, tree};
 use p3_hashes::sha::{Sha256Nodes, Sha256Rows};
 use p3_hashes::sha_eights::{Sha256NodesInEights, Sha256RowsInEights};
 use p3_support::compress::PseudoCompressionFunction;

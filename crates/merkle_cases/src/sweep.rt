@@ -13,10 +13,8 @@ use crate::reader::Reader;
 use crate::scheme::{Cap, FoldCap, fold_scheme};
 use crate::text::Answer;
 use crate::tried::{FoldCollision, Tried};
-use crate::twin::{
-    collides_at, collides_first_at, has_twins, place_of, place_of_first, twin_rows, twin_sets,
-};
-use p3_merkle_core::geometry::tallest_of;
+use crate::twin::{collides_at, collides_first_at, twin_places, twin_rows, twin_sets};
+use p3_merkle_core::steps::steps_of;
 use p3_merkle_tree::{BatchOpening, BatchOpeningRef, MerkleTreeError, Place};
 use p3_support::matrix::Dimensions;
 use std::alloc::Global;
@@ -47,12 +45,17 @@ impl Counts {
         self.digests = self.digests.saturating_add(digests);
     }
 
-    /// One more opening beside its twin, which collide at this place, or nowhere.
-    fn add_twins(&mut self, place: &Option<Place>) {
-        if place.is_some() {
-            self.collisions = self.collisions.saturating_add(1);
-        } else {
-            self.nones = self.nones.saturating_add(1);
+    /// Two more openings beside their twins of each matrix, of the leaves of these queries and of the first one alone,
+    /// which collide at these places, or nowhere. Where there is no query, one more that collides nowhere.
+    fn add_twins(&mut self, indices: &[usize], places: &[Option<Place>]) {
+        for place in places {
+            if indices.is_empty() {
+                self.nones = self.nones.saturating_add(1);
+            } else if place.is_none() {
+                self.nones = self.nones.saturating_add(2);
+            } else {
+                self.collisions = self.collisions.saturating_add(2);
+            }
         }
     }
 
@@ -93,24 +96,20 @@ fn leaf_collision<S: Tried>(
     )
 }
 
-/// Fails where a leaf whose row of a matrix has a twin collides elsewhere than where this row is hashed.
+/// Fails where a leaf collides with its twin of a matrix elsewhere than at this place of the matrix.
 fn check_leaf_twins<S: Tried>(
     alloc: Global,
     scheme: &S,
     committed: &Committed<FoldCap, S::ProverData>,
-    steps: &[usize],
     index: usize,
-    counts: &mut Counts,
+    places: &[Option<Place>],
 ) -> Result<(), Fault> {
     let leaf = accepted(alloc, scheme, committed, index)?;
-    let dimensions = &committed.dimensions;
-    for (matrix, Dimensions { height, .. }) in dimensions.iter().enumerate() {
-        let place = place_of(dimensions, steps, *height);
+    for (matrix, place) in places.iter().enumerate() {
         let found = leaf_collision(alloc, scheme, committed, index, &leaf, matrix)?;
-        if !collides_at(&found, &place) {
+        if !collides_at(found.as_ref(), place.as_ref()) {
             return Err(Fault::Wrong("a leaf collides elsewhere with its twin"));
         }
-        counts.add_twins(&place);
     }
     Ok(())
 }
@@ -150,58 +149,56 @@ fn check_twins<S: Tried>(
     alloc: Global,
     scheme: &S,
     committed: &Committed<FoldCap, S::ProverData>,
-    steps: &[usize],
     indices: &[usize],
     leaves: &OpenedLeaves<u32, S::MultiProof>,
-    counts: &mut Counts,
+    places: &[Option<Place>],
 ) -> Result<(), Fault> {
-    let dimensions = &committed.dimensions;
-    for (matrix, Dimensions { height, .. }) in dimensions.iter().enumerate() {
-        let place = place_of_first(indices, dimensions, steps, *height);
+    for (matrix, place) in places.iter().enumerate() {
+        let place = if indices.is_empty() {
+            None
+        } else {
+            place.as_ref()
+        };
         let found = collision_of_twins(alloc, scheme, committed, indices, leaves, matrix)?;
-        if !collides_first_at(&found, &place) {
+        if !collides_first_at(&found, place) {
             return Err(Fault::Wrong("leaves collide elsewhere with their twins"));
         }
-        counts.add_twins(&place);
     }
     Ok(())
 }
 
-/// Fails where the opening of some queries, or its twins, are not as they should be.
-fn check_leaves<S: Tried>(
-    alloc: Global,
-    scheme: &S,
-    committed: &Committed<FoldCap, S::ProverData>,
-    steps: &[usize],
-    indices: &[usize],
-    leaves: &OpenedLeaves<u32, S::MultiProof>,
-    counts: &mut Counts,
-) -> Result<(), Fault> {
-    scheme.check_paths(alloc, committed, indices, leaves)?;
-    counts.add_list(S::digests(&leaves.1));
-    if !has_twins(&committed.dimensions) {
-        return Ok(());
-    }
-    check_twins(alloc, scheme, committed, steps, indices, leaves, counts)
-}
-
-/// Fails where the opening of some queries, or its twins or those of its first leaf, are not as they should be.
+/// How many digests open the leaves of some queries. Fails where their opening, or its twins or those of its first leaf,
+/// are not as they should be.
 fn check_list<S: Tried>(
     alloc: Global,
     scheme: &S,
     committed: &Committed<FoldCap, S::ProverData>,
-    steps: &[usize],
     indices: &[usize],
+    places: &[Option<Place>],
+) -> Result<usize, Fault> {
+    let leaves = accepted_leaves(alloc, scheme, committed, indices)?;
+    let digests = scheme.check_paths(alloc, committed, indices, &leaves)?;
+    check_twins(alloc, scheme, committed, indices, &leaves, places)?;
+    if let Some(index) = indices.first() {
+        check_leaf_twins(alloc, scheme, committed, *index, places)?;
+    }
+    Ok(digests)
+}
+
+/// Opens the leaves of each list of queries, and counts.
+fn count_lists<S: Tried>(
+    alloc: Global,
+    scheme: &S,
+    committed: &Committed<FoldCap, S::ProverData>,
+    lists: &[Vec<usize>],
+    places: &[Option<Place>],
     counts: &mut Counts,
 ) -> Result<(), Fault> {
-    let leaves = accepted_leaves(alloc, scheme, committed, indices)?;
-    check_leaves(alloc, scheme, committed, steps, indices, &leaves, counts)?;
-    match indices.first() {
-        Some(index) if has_twins(&committed.dimensions) => {
-            check_leaf_twins(alloc, scheme, committed, steps, *index, counts)
-        }
-        _ => Ok(()),
+    for indices in lists {
+        counts.add_list(check_list(alloc, scheme, committed, indices, places)?);
+        counts.add_twins(indices, places);
     }
+    Ok(())
 }
 
 /// What a sweep goes over.
@@ -226,23 +223,7 @@ impl<'a> Plan<'a> {
 
     /// The lists of queries that are opened of matrices of these dimensions.
     pub fn lists(&self, reader: &mut Reader, dimensions: &[Dimensions]) -> Vec<Vec<usize>> {
-        lists_of(reader, self.queries, tallest_of(dimensions))
-    }
-
-    /// Opens the leaves of each list of queries, and counts. The steps lead from the leaves up to the cap.
-    pub fn count<S: Tried>(
-        &self,
-        alloc: Global,
-        reader: &mut Reader,
-        scheme: &S,
-        committed: &Committed<FoldCap, S::ProverData>,
-        steps: &[usize],
-        counts: &mut Counts,
-    ) -> Result<(), Fault> {
-        for indices in &self.lists(reader, &committed.dimensions) {
-            check_list(alloc, scheme, committed, steps, indices, counts)?;
-        }
-        Ok(())
+        lists_of(reader, self.queries, steps_of(dimensions, 2).max_height)
     }
 }
 
@@ -262,15 +243,17 @@ pub fn sweep<S: Tried, const N: usize>(
     let plan = Plan::of(&mut case.fields);
     let mut counts = Counts::none();
     for dimensions in &plan.batches {
+        let lists = plan.lists(&mut case.fields.reader, dimensions);
         let matrices = case.fields.reader.numbered(dimensions);
-        let steps = fold_scheme::<N>(cap).proof_arity_schedule(case.alloc, dimensions)?;
         let committed = commit_shown(case.alloc, scheme, matrices)?;
-        plan.count(
+        let steps = fold_scheme::<N>(cap).proof_arity_schedule(case.alloc, dimensions)?;
+        let places = twin_places(case.alloc, dimensions, &steps)?;
+        count_lists(
             case.alloc,
-            &mut case.fields.reader,
             &*scheme,
             &committed,
-            &steps,
+            &lists,
+            &places,
             &mut counts,
         )?;
     }

@@ -107,11 +107,7 @@ impl Answer {
 
     /// Writes digests with blanks between them.
     pub fn digests(&mut self, digests: &[[u32; 1]]) {
-        for (place, digest) in digests.iter().enumerate() {
-            self.separate(place, " ");
-            self.number(digest[0] as usize);
-        }
-        self.end(digests.is_empty());
+        self.words(digests.as_flattened());
     }
 
     /// Writes bytes as two hexadecimal digits each.

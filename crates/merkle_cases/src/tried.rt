@@ -15,6 +15,9 @@ pub type FoldCollision = Collision<u32, u32, 1>;
 
 /// A scheme that cases try. Its proofs are read and written, and collisions are extracted from openings.
 pub trait Tried: Mmcs<u32, Rows, Commitment = FoldCap, Error = MerkleTreeError> {
+    /// Whether the rows of an opening are salted, so that its cap is part of an answer.
+    const IS_SALTED: bool;
+
     /// The proof of a leaf that the next fields are.
     fn proof_in(fields: &mut Fields<'_>) -> Self::Proof;
 
@@ -24,17 +27,11 @@ pub trait Tried: Mmcs<u32, Rows, Commitment = FoldCap, Error = MerkleTreeError> 
     /// The proof of no leaf.
     fn proof_of_none(alloc: Global) -> Self::MultiProof;
 
-    /// Writes a cap that stands before an opening: none where a scheme draws no salts.
-    fn write_salted_cap(cap: &FoldCap, answer: &mut Answer);
-
     /// Writes the proof of a leaf.
     fn write_proof(proof: &Self::Proof, answer: &mut Answer);
 
     /// Writes the proof of several leaves.
     fn write_multi_proof(proof: &Self::MultiProof, answer: &mut Answer);
-
-    /// How many digests the proof of several leaves has.
-    fn digests(proof: &Self::MultiProof) -> usize;
 
     /// Whether the other ways to check an opening of several leaves come to the same verdict.
     fn agrees(
@@ -45,14 +42,15 @@ pub trait Tried: Mmcs<u32, Rows, Commitment = FoldCap, Error = MerkleTreeError> 
         verdict: &Result<(), MerkleTreeError>,
     ) -> bool;
 
-    /// Fails where an accepted opening of several leaves has other paths or another number of digests than it should.
+    /// How many digests an accepted opening of several leaves has. Fails where it has other paths or another number of
+    /// digests than it should.
     fn check_paths(
         &self,
         alloc: Global,
         committed: &Committed<FoldCap, Self::ProverData>,
         indices: &[usize],
         leaves: &OpenedLeaves<u32, Self::MultiProof>,
-    ) -> Result<(), Fault>;
+    ) -> Result<usize, Fault>;
 
     /// What two openings lead to.
     fn extract(

@@ -1,19 +1,11 @@
 //! Twins of openings: other rows with the same digests, and where they collide with the rows.
 
-use p3_merkle_core::geometry::{exponent_of, tallest_of};
+use crate::tried::FoldCollision;
+use p3_merkle_core::geometry::exponent_of;
+use p3_merkle_core::steps::steps_of;
 use p3_merkle_tree::{Collision, Place};
 use p3_support::matrix::Dimensions;
 use std::alloc::{AllocError, Global};
-
-/// Whether every row of matrices of these dimensions has a twin.
-pub fn has_twins(dimensions: &[Dimensions]) -> bool {
-    for Dimensions { width, .. } in dimensions {
-        if *width < 2 {
-            return false;
-        }
-    }
-    true
-}
 
 /// A row with its first word one more and its second 31 less, which has the same digest. A row of one word has no twin
 /// but itself.
@@ -56,37 +48,41 @@ pub fn twin_sets(
     Ok(twin)
 }
 
-/// The place of a check at which the rows of a matrix of this height are hashed; none where its layer is above the cap,
-/// to which these steps lead.
-pub fn place_of(dimensions: &[Dimensions], steps: &[usize], height: usize) -> Option<Place> {
-    let mut exponent = exponent_of(tallest_of(dimensions));
-    if exponent == exponent_of(height) {
+/// The place of a check at which the rows of a matrix of this exponent are hashed; none where its layer is above the cap.
+/// The leaves have the other exponent, and the steps lead from them up to the cap.
+fn place_of(leaves: usize, steps: &[usize], rows: usize) -> Option<Place> {
+    if leaves == rows {
         return Some(Place::Leaf);
     }
+    let mut exponent = leaves;
     for (level, step) in steps.iter().enumerate() {
         exponent = exponent.saturating_sub(exponent_of(*step));
-        if exponent == exponent_of(height) {
+        if exponent == rows {
             return Some(Place::Rows(level));
         }
     }
     None
 }
 
-/// The same of the first of some queries; none where there is no query.
-pub fn place_of_first(
-    indices: &[usize],
+/// That place for each of some matrices; no place at all where some rows have no twin.
+pub fn twin_places(
+    alloc: Global,
     dimensions: &[Dimensions],
     steps: &[usize],
-    height: usize,
-) -> Option<Place> {
-    if indices.is_empty() {
-        return None;
+) -> Result<Vec<Option<Place>>, AllocError> {
+    let leaves = steps_of(dimensions, 2).exponent;
+    let mut places = Vec::new(alloc);
+    for Dimensions { width, height } in dimensions {
+        if *width < 2 {
+            return Ok(Vec::new(alloc));
+        }
+        places.push(place_of(leaves, steps, exponent_of(*height)))?;
     }
-    place_of(dimensions, steps, height)
+    Ok(places)
 }
 
 /// Whether two rows collide at this place, or nothing does where there is none.
-pub fn collides_at(found: &Option<Collision<u32, u32, 1>>, place: &Option<Place>) -> bool {
+pub fn collides_at(found: Option<&FoldCollision>, place: Option<&Place>) -> bool {
     match (found, place) {
         (None, None) => true,
         (Some(Collision::Words { place: found, .. }), Some(place)) => *found == *place,
@@ -96,12 +92,12 @@ pub fn collides_at(found: &Option<Collision<u32, u32, 1>>, place: &Option<Place>
 
 /// The same of the first query of each of two openings.
 pub fn collides_first_at(
-    found: &Option<(usize, usize, Collision<u32, u32, 1>)>,
-    place: &Option<Place>,
+    found: &Option<(usize, usize, FoldCollision)>,
+    place: Option<&Place>,
 ) -> bool {
-    match (found, place) {
-        (None, None) => true,
-        (Some((0, 0, Collision::Words { place: found, .. })), Some(place)) => *found == *place,
-        _ => false,
+    match found {
+        Some((0, 0, collision)) => collides_at(Some(collision), place),
+        Some(_) => false,
+        None => place.is_none(),
     }
 }

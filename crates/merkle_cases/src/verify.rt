@@ -1,6 +1,5 @@
 //! What is answered to openings. Their extractions answer alike.
 
-use crate::agreement::agrees;
 use crate::case::Case;
 use crate::extract::collision_of_leaves;
 use crate::fields::Fault;
@@ -8,6 +7,19 @@ use crate::openings::{LeavesOpening, Statement, leaf_in, leaves_in};
 use crate::tried::Tried;
 use p3_merkle_tree::{BatchOpeningRef, MerkleTreeError};
 use std::alloc::Global;
+
+/// Whether an extraction that has nothing to find answers as the check of an opening does: with the same error, or,
+/// where the opening is accepted, that there is no collision.
+fn agrees<T>(
+    verdict: &Result<(), MerkleTreeError>,
+    found: &Result<Option<T>, MerkleTreeError>,
+) -> bool {
+    match (verdict, found) {
+        (Ok(()), Ok(None)) => true,
+        (Err(refused), Err(error)) => *refused == *error,
+        _ => false,
+    }
+}
 
 /// `verify | ARITY | CAP | ROOTS | DIMENSIONS | INDEX | ROWS | SIBLINGS | ANSWER`: checks an opening. The extraction
 /// from the opening and itself must answer the same. With salts there are `SALTS A ROW` before the roots, and the salts

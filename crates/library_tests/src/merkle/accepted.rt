@@ -1,15 +1,15 @@
 //! Callers of the plain scheme that are generic in all that it is made of, and in the matrices: what a scheme opens of
 //! its own commitment is accepted, under the dimensions that the matrices show. They need no proof file.
 ghost use Rattle.std.specs.Prelude.{◌≡◌, ◌<◌, IfErr, IfOk, IsOk, None};
-ghost use Rattle.p3_merkle_core.specs.Gate.{gate_refusal};
-ghost use Rattle.p3_merkle_core.specs.Refusals.{queries_refusal};
-ghost use Rattle.p3_merkle_core.specs.Views.{heights_in};
-ghost use Rattle.p3_merkle_core.specs.declared.error.MerkleTreeError.TheVariants.{OutOfMemory};
+ghost use Rattle.p3_merkle_tree.specs.Gate.{gate_refusal};
+ghost use Rattle.p3_merkle_tree.specs.Refusals.{queries_refusal};
+ghost use Rattle.p3_merkle_tree.specs.Views.{heights_in};
+ghost use Rattle.p3_merkle_tree.specs.MerkleTreeError.TheVariants.{OutOfMemory};
 ghost use Rattle.p3_support.specs.Batches.{greatest};
 
 use p3_hashes::fold::{FoldCompress, FoldHash};
 use p3_merkle_tree::{
-    BatchOpening, BatchOpeningRef, MerkleTreeError, MerkleTreeMmcs, PrunedBatchOpening,
+    BatchOpening, BatchOpeningRef, MerkleCap, MerkleTreeError, MerkleTreeMmcs, PrunedBatchOpening,
     check_indices, laws,
 };
 use p3_support::compress::PseudoCompressionFunction;
@@ -23,12 +23,18 @@ use test_fixtures::matrices::numbered;
 /// What was opened, and what its verification answers.
 pub type Judged<O> = (O, Result<(), MerkleTreeError>);
 
+/// An opening of one index that was verified, behind the cap.
+type CapAndOpening<T, W, const D: usize> = (
+    MerkleCap<T, [W; D]>,
+    Judged<BatchOpening<T, Vec<[W; D]>>>,
+);
+
 /// Commits to matrices, opens an index, and verifies the opening.
 ///
 /// # Errors
 ///
 /// Why the matrices are not committed to; that they have no such index; that there is no memory.
-fn judged_opening<
+pub fn judged_opening<
     P: PackedValue,
     PW: PackedValue,
     H: CryptographicHasher<P, PW, D>,
@@ -41,8 +47,8 @@ fn judged_opening<
     scheme: &MerkleTreeMmcs<P, PW, H, C, N, D>,
     matrices: Vec<M>,
     index: usize,
-) -> Result<Judged<BatchOpening<P::Value, Vec<[PW::Value; D]>>>, MerkleTreeError>
-    ensures accepted { IfOk result (λ (opening, verdict). IsOk verdict) }
+) -> Result<CapAndOpening<P::Value, PW::Value, D>, MerkleTreeError>
+    ensures accepted { IfOk result (λ (cap, judged). IsOk judged.1) }
     ensures memory { let heights = heights_in M.height_of M.width_of M.row_of matrices.items in
         gate_refusal heights ≡ None → index < greatest heights → IfErr result (λ e. e ≡ OutOfMemory) }
 {
@@ -52,7 +58,7 @@ fn judged_opening<
     check_indices(scheme.get_max_height(&tree), &[index])?;
     let opening = scheme.open_batch(alloc, index, &tree)?;
     let verdict = scheme.verify_batch(&cap, &dimensions, index, BatchOpeningRef::from(&opening));
-    Ok((opening, verdict))
+    Ok((cap, (opening, verdict)))
 }
 
 /// Commits to matrices, opens several indices by one proof, and verifies the opening.
@@ -102,7 +108,7 @@ const SIZES: [(usize, usize); 2] = [(2, 4), (3, 2)];
 #[test]
 fn an_index_is_opened_and_accepted(rt: HostRuntime) -> Result<(), Fail> {
     let alloc = rt.alloc();
-    let (opening, verdict) = judged_opening(alloc, &scheme(), numbered(alloc, &SIZES)?, 3)?;
+    let (_, (opening, verdict)) = judged_opening(alloc, &scheme(), numbered(alloc, &SIZES)?, 3)?;
     let (rows, siblings) = (&opening.opened_values, &opening.opening_proof);
     // 1025 is the digest of the row 2. That of the rows 0 and 1 is 30785 = 31 * 961 + 993 + 1, and with the row 0 of the
     // other matrix 31 * 30785 + 29791 + 1.

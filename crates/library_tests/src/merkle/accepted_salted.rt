@@ -1,11 +1,11 @@
 //! Callers of the salted scheme that are generic in all that it is made of, and in the matrices: what a scheme opens of
 //! its own commitment is accepted, under the dimensions that the matrices show. They need no proof file.
 ghost use Rattle.std.specs.Prelude.{◌≡◌, IfErr, IfOk, map};
-ghost use Rattle.p3_merkle_core.specs.Commitments.{IsCommitment};
-ghost use Rattle.p3_merkle_core.specs.declared.error.MerkleTreeError.TheVariants.{OutOfMemory};
-ghost use Rattle.p3_merkle_hiding.specs.HidingSchemes.{salted_params_of};
-ghost use Rattle.p3_merkle_hiding.specs.SaltedTrees.{HaveSaltColumns};
-ghost use Rattle.p3_merkle_prover.specs.Parts.{layers_of, matrices_of, tree_batch};
+ghost use Rattle.p3_merkle_tree.specs.Commitments.{IsCommitment};
+ghost use Rattle.p3_merkle_tree.specs.MerkleTreeError.TheVariants.{OutOfMemory};
+ghost use Rattle.p3_merkle_tree.specs.HidingSchemes.{salted_params_of};
+ghost use Rattle.p3_merkle_tree.specs.SaltedTrees.{HaveSaltColumns};
+ghost use Rattle.p3_merkle_tree.specs.Parts.{layers_of, matrices_of, tree_batch};
 ghost use Rattle.p3_support.specs.Batches.{dimensions_in};
 ghost use Rattle.p3_support.specs.Pairs.{left_of};
 ghost use Rattle.p3_support.specs.Shown.{roots_of};
@@ -29,6 +29,12 @@ use test_fixtures::matrices::numbered;
 
 /// The rows of several indices, and the proof of them.
 type MultiOpening<T, W, const D: usize> = (Vec<Vec<Vec<T>>>, SaltedMultiProof<T, W, D>);
+
+/// An opening of one index and one of several, with what their verification answers.
+type BothJudged<T, W, const D: usize> = (
+    Judged<BatchOpening<T, SaltedProof<T, W, D>>>,
+    Judged<MultiOpening<T, W, D>>,
+);
 
 /// What is committed to: the cap, the tree and the dimensions of the matrices.
 type Committed<T, W, M, const N: usize, const D: usize> = (
@@ -112,35 +118,6 @@ fn judged_index<
     Ok((opening, verdict))
 }
 
-/// Commits to matrices, opens an index, and verifies the opening.
-///
-/// # Errors
-///
-/// Why the matrices are not committed to; that they have no such index; that there is no memory.
-fn judged_opening<
-    P: PackedValue,
-    PW: PackedValue,
-    H: CryptographicHasher<P, PW, D>,
-    C: PseudoCompressionFunction<PW, N, D>,
-    R: CryptoRng,
-    M: Matrix<P::Value> + Drop,
-    const N: usize,
-    const D: usize,
-    const SALT_ELEMS: usize,
->(
-    alloc: Global,
-    scheme: &mut MerkleTreeHidingMmcs<P, PW, H, C, R, N, D, SALT_ELEMS>,
-    matrices: Vec<M>,
-    index: usize,
-) -> Result<Judged<BatchOpening<P::Value, SaltedProof<P::Value, PW::Value, D>>>, MerkleTreeError>
-where
-    P::Value: SaltWord,
-    ensures accepted { IfOk result (λ (opening, verdict). IfErr verdict (λ e. e ≡ OutOfMemory)) }
-{
-    let (cap, tree, dimensions) = committed(alloc, scheme, matrices)?;
-    judged_index(alloc, scheme, &cap, &tree, &dimensions, index)
-}
-
 /// Opens several indices of what is committed to by one proof, and verifies the opening.
 ///
 /// # Errors
@@ -177,12 +154,12 @@ fn judged_indices<
     Ok(((rows, proof), verdict))
 }
 
-/// Commits to matrices, opens several indices by one proof, and verifies the opening.
+/// Commits to matrices, opens an index alone and several indices by one proof, and verifies both openings.
 ///
 /// # Errors
 ///
 /// Why the matrices are not committed to; that they have not all the indices; that there is no memory.
-fn judged_multi_opening<
+fn judged_openings<
     P: PackedValue,
     PW: PackedValue,
     H: CryptographicHasher<P, PW, D>,
@@ -196,14 +173,18 @@ fn judged_multi_opening<
     alloc: Global,
     scheme: &mut MerkleTreeHidingMmcs<P, PW, H, C, R, N, D, SALT_ELEMS>,
     matrices: Vec<M>,
+    index: usize,
     indices: &[usize],
-) -> Result<Judged<MultiOpening<P::Value, PW::Value, D>>, MerkleTreeError>
+) -> Result<BothJudged<P::Value, PW::Value, D>, MerkleTreeError>
 where
     P::Value: SaltWord,
-    ensures accepted { IfOk result (λ (opening, verdict). IfErr verdict (λ e. e ≡ OutOfMemory)) }
+    ensures one { IfOk result (λ (one, several). IfErr one.1 (λ e. e ≡ OutOfMemory)) }
+    ensures several { IfOk result (λ (one, several). IfErr several.1 (λ e. e ≡ OutOfMemory)) }
 {
     let (cap, tree, dimensions) = committed(alloc, scheme, matrices)?;
-    judged_indices(alloc, scheme, &cap, &tree, &dimensions, indices)
+    let one = judged_index(alloc, scheme, &cap, &tree, &dimensions, index)?;
+    let several = judged_indices(alloc, scheme, &cap, &tree, &dimensions, indices)?;
+    Ok((one, several))
 }
 
 /// The scheme of two children over the fold functions, whose cap is the root, with one salt for each row. The salts
@@ -220,37 +201,30 @@ const SIZES: [(usize, usize); 2] = [(2, 4), (3, 2)];
 // the salt j + 5, and the digest 923526 + 30784 * j.
 
 #[test]
-fn an_index_is_opened_and_accepted(rt: HostRuntime) -> Result<(), Fail> {
+fn openings_are_accepted(rt: HostRuntime) -> Result<(), Fail> {
     let alloc = rt.alloc();
-    let (opening, verdict) = judged_opening(alloc, &mut scheme(), numbered(alloc, &SIZES)?, 3)?;
+    let matrices = numbered(alloc, &SIZES)?;
+    let (one, several) = judged_openings(alloc, &mut scheme(), matrices, 3, &[3, 0, 3])?;
+    let (opening, verdict) = &one;
     let (rows, (salts, siblings)) = (&opening.opened_values, &opening.opening_proof);
     // 31778 is the digest of the row 2. That of the rows 0 and 1 is 954338 = 31 * 29792 + 30785 + 1, and with the row 0
     // of the other matrix 31 * 954338 + 923526 + 1.
-    let shown = format!(in alloc; "{rows:?}, {salts:?}, {siblings:?}")?;
+    let shown = format!(in alloc; "{rows:?}, {salts:?}, {siblings:?}, {verdict:?}")?;
     assert_eq!(rt;
         shown.as_str(),
-        "[[3, 3], [1, 1, 1]], [[4], [6]], [[31778], [30508005]]"
+        "[[3, 3], [1, 1, 1]], [[4], [6]], [[31778], [30508005]], Ok(())"
     );
-    assert_eq!(rt; verdict, Ok(()));
-    Ok(())
-}
-
-#[test]
-fn repeated_indices_are_opened_and_accepted(rt: HostRuntime) -> Result<(), Fail> {
-    let alloc = rt.alloc();
-    let matrices = numbered(alloc, &SIZES)?;
-    let (opening, verdict) = judged_multi_opening(alloc, &mut scheme(), matrices, &[3, 0, 3])?;
-    let (rows, (salts, proof)) = &opening;
+    let ((rows, (salts, proof)), verdict) = &several;
+    let shown = format!(in alloc; "{rows:?}, {verdict:?}")?;
+    assert_eq!(rt;
+        shown.as_str(),
+        "[[[3, 3], [1, 1, 1]], [[0, 0], [0, 0, 0]], [[3, 3], [1, 1, 1]]], Ok(())"
+    );
     let digests = &proof.sibling_hashes;
-    let shown = format!(in alloc; "{rows:?}")?;
-    let three = "[[3, 3], [1, 1, 1]]";
-    let expected = format!(in alloc; "[{three}, [[0, 0], [0, 0, 0]], {three}]")?;
-    assert_eq!(rt; shown, expected);
     let shown = format!(in alloc; "{salts:?}, {digests:?}")?;
     assert_eq!(rt;
         shown.as_str(),
         "[[[4], [6]], [[1], [5]], [[4], [6]]], [[30785], [31778]]"
     );
-    assert_eq!(rt; verdict, Ok(()));
     Ok(())
 }

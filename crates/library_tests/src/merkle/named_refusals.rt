@@ -4,9 +4,9 @@ ghost use Rattle.std.specs.Prelude.{◌≡◌, ◌⊎◌, IfErr, option_map};
 ghost use Rattle.library_tests.specs.Reasons.{rejection_of, unfit_of};
 ghost use Rattle.library_tests.specs.declared.reasons.Rejection.TheVariants as rejection;
 ghost use Rattle.library_tests.specs.declared.reasons.Unfit.TheVariants as unfit;
-ghost use Rattle.p3_merkle_core.specs.declared.error.MerkleTreeError.TheVariants.{OutOfMemory};
-ghost use Rattle.p3_merkle_hiding.specs.HidingSchemes.{generator_of};
-ghost use Rattle.p3_merkle_hiding.specs.SaltRefusals.{salted_commit_refusal};
+ghost use Rattle.p3_merkle_tree.specs.MerkleTreeError.TheVariants.{OutOfMemory};
+ghost use Rattle.p3_merkle_tree.specs.HidingSchemes.{generator_of};
+ghost use Rattle.p3_merkle_tree.specs.SaltRefusals.{salted_commit_refusal};
 ghost use Rattle.p3_support.specs.Answers.{AnswersUnless};
 ghost use Rattle.p3_support.specs.Batches.{dimensions_in};
 ghost use Rattle.p3_support.specs.RowMajor.{row_count, row_width};
@@ -14,9 +14,7 @@ ghost use Rattle.p3_support.specs.Shown.{row_lists};
 
 use crate::reasons::{Rejection, Unfit};
 use p3_hashes::fold::{FoldCompress, FoldHash};
-use p3_merkle_tree::{
-    MerkleCap, MerkleTreeError, MerkleTreeHidingMmcs, MerkleTreeMmcs, SaltedTree,
-};
+use p3_merkle_tree::{MerkleCap, MerkleTreeError, MerkleTreeHidingMmcs, SaltedTree};
 use p3_support::matrix::{Dimensions, Matrix, RowMajorMatrix};
 use p3_support::mmcs::Mmcs;
 use p3_support::opening::BatchOpeningRef;
@@ -62,7 +60,16 @@ fn checked<T: Copy, M: Matrix<T>, S: Mmcs<T, M, Error = MerkleTreeError>>(
 }
 
 /// The salted scheme of two children over the fold functions, with three salts for each row.
-type Salted = MerkleTreeHidingMmcs<u32, u32, FoldHash<1>, FoldCompress<2, 1>, ChaCha20Rng, 2, 1, 3>;
+pub type Salted = MerkleTreeHidingMmcs<
+    u32,
+    u32,
+    FoldHash<1>,
+    FoldCompress<2, 1>,
+    ChaCha20Rng,
+    2,
+    1,
+    3,
+>;
 
 /// A tree over salted matrices.
 type Tree = SaltedTree<u32, u32, RowMajorMatrix<u32>, 2, 1>;
@@ -97,9 +104,6 @@ fn committed(
     Mmcs::commit(scheme, alloc, matrices).map_err(named_unfit)
 }
 
-/// The plain scheme of two children over the fold functions.
-type Plain = MerkleTreeMmcs<u32, u32, FoldHash<1>, FoldCompress<2, 1>, 2, 1>;
-
 /// Two rows of two words.
 const DIMENSIONS: [Dimensions; 1] = [Dimensions {
     width: 2,
@@ -107,7 +111,7 @@ const DIMENSIONS: [Dimensions; 1] = [Dimensions {
 }];
 
 /// The matrix of two rows of two words, alone.
-fn lone(alloc: Global, words: &[u32; 4]) -> Result<Vec<RowMajorMatrix<u32>>, AllocError> {
+pub fn lone(alloc: Global, words: &[u32; 4]) -> Result<Vec<RowMajorMatrix<u32>>, AllocError> {
     Ok(vec![in alloc; two_rows(alloc, words)?]?)
 }
 
@@ -118,18 +122,21 @@ fn columns(alloc: Global, heights: [usize; 2]) -> Result<Vec<RowMajorMatrix<u32>
     Ok(vec![in alloc; first, second]?)
 }
 
+/// The verdicts of [`three_verdicts`], where the matrices have a row 1.
+pub type Verdicts = Option<[Result<(), Rejection>; 3]>;
+
 /// What a verifier makes of the opening of row 1 under its own commitment, under that of other matrices, and as the
 /// opening of row 2. Both commitments are to two rows of two words.
 ///
 /// # Errors
 ///
 /// What the scheme answers.
-fn three_verdicts<M: Matrix<u32> + Drop, S: Mmcs<u32, M, Error = MerkleTreeError>>(
+pub fn three_verdicts<M: Matrix<u32> + Drop, S: Mmcs<u32, M, Error = MerkleTreeError>>(
     alloc: Global,
     scheme: &mut S,
     own: Vec<M>,
     others: Vec<M>,
-) -> Result<Option<[Result<(), Rejection>; 3]>, MerkleTreeError>
+) -> Result<Verdicts, MerkleTreeError>
     requires memory { (e : _) → S.is_out_of_memory e → e ≡ OutOfMemory }
 {
     let (commitment, prover_data) = scheme.commit(alloc, own)?;
@@ -147,35 +154,11 @@ fn three_verdicts<M: Matrix<u32> + Drop, S: Mmcs<u32, M, Error = MerkleTreeError
 }
 
 /// What they are.
-const VERDICTS: [Result<(), Rejection>; 3] = [
+pub const VERDICTS: [Result<(), Rejection>; 3] = [
     Ok(()),
     Err(Rejection::OtherCommitment),
     Err(Rejection::NoSuchIndex),
 ];
-
-#[test]
-fn a_generic_verifier_names_refusals_of_plain_openings(rt: HostRuntime) -> Result<(), Fail> {
-    let alloc = rt.alloc();
-    let mut scheme = Plain::new(FoldHash, FoldCompress, 0);
-    let (own, others) = (lone(alloc, &[1, 2, 3, 4])?, lone(alloc, &[1, 2, 3, 5])?);
-    assert_eq!(rt;
-        three_verdicts(alloc, &mut scheme, own, others)?,
-        Some(VERDICTS)
-    );
-    Ok(())
-}
-
-#[test]
-fn a_generic_verifier_names_refusals_of_salted_openings(rt: HostRuntime) -> Result<(), Fail> {
-    let alloc = rt.alloc();
-    let mut scheme = Salted::new(FoldHash, FoldCompress, 0, ChaCha20Rng::from_seed([7; 32]));
-    let (own, others) = (lone(alloc, &[1, 2, 3, 4])?, lone(alloc, &[1, 2, 3, 5])?);
-    assert_eq!(rt;
-        three_verdicts(alloc, &mut scheme, own, others)?,
-        Some(VERDICTS)
-    );
-    Ok(())
-}
 
 /// The cap of a commitment.
 fn cap_of(

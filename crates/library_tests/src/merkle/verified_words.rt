@@ -5,15 +5,10 @@ ghost use Rattle.p3_support.specs.Batches.{dimensions_in, greatest, heights_of};
 ghost use Rattle.p3_support.specs.RowMajor.{row_count, row_width};
 ghost use Rattle.p3_support.specs.Shown.{row_lists, row_sets};
 
-use p3_hashes::fold::{FoldCompress, FoldHash};
-use p3_merkle_tree::{MerkleTreeHidingMmcs, MerkleTreeMmcs};
 use p3_support::matrix::{Dimensions, Matrix, RowMajorMatrix};
 use p3_support::mmcs::Mmcs;
 use p3_support::opening::BatchOpeningRef;
-use rand_chacha::ChaCha20Rng;
-use rand_core::SeedableRng;
 use std::alloc::{AllocError, Global};
-use std::test::Fail;
 use test_fixtures::matrices::two_rows;
 
 /// Where a word stands in the rows of an index.
@@ -148,7 +143,7 @@ fn words_read<T: Copy, M: Matrix<T> + Drop, S: Mmcs<T, M>>(
 }
 
 /// The dimensions of the matrices.
-const DIMENSIONS: [Dimensions; 2] = [
+pub const DIMENSIONS: [Dimensions; 2] = [
     Dimensions {
         width: 2,
         height: 2,
@@ -159,16 +154,9 @@ const DIMENSIONS: [Dimensions; 2] = [
     },
 ];
 
-/// The plain scheme of two children over the fold functions.
-type Plain = MerkleTreeMmcs<u32, u32, FoldHash<1>, FoldCompress<2, 1>, 2, 1>;
-
-/// The salted scheme of two children over the fold functions, with three salts for each row.
-type Salted = MerkleTreeHidingMmcs<u32, u32, FoldHash<1>, FoldCompress<2, 1>, ChaCha20Rng, 2, 1, 3>;
-
 /// The matrix of the rows 1, 2 and 3, 4, and that of the row 5.
-fn matrices(alloc: Global) -> Result<Vec<RowMajorMatrix<u32>>, AllocError>
-    ensures { IfOk result (λ ms. dimensions_in row_count row_width ms.items ≡
-        record { width = 2; height = 2 } ∷ record { width = 1; height = 1 } ∷ []) }
+pub fn matrices(alloc: Global) -> Result<Vec<RowMajorMatrix<u32>>, AllocError>
+    ensures { IfOk result (λ ms. DIMENSIONS ≡ dimensions_in row_count row_width ms.items) }
 {
     let rows = two_rows(alloc, &[1, 2, 3, 4])?;
     let row = RowMajorMatrix::new(vec![in alloc; 5u32]?, 1);
@@ -187,18 +175,21 @@ const OTHER: Place = Place {
     column: 0,
 };
 
+/// Two words, each as it is read alone and behind another index.
+pub type Words = [Option<(u32, u32)>; 2];
+
 /// The words 4 and 5 of two commitments to these matrices, each read alone and behind another index.
 ///
 /// # Errors
 ///
 /// Why the scheme doesn't commit to the matrices, or that there is no memory. What it opens is not refused.
-fn four_and_five<M: Matrix<u32> + Drop, S: Mmcs<u32, M>>(
+pub fn four_and_five<M: Matrix<u32> + Drop, S: Mmcs<u32, M>>(
     alloc: Global,
     scheme: &mut S,
     dimensions: &[Dimensions],
     first: Vec<M>,
     second: Vec<M>,
-) -> Result<[Option<(u32, u32)>; 2], S::Error>
+) -> Result<Words, S::Error>
     requires first { dimensions.now ≡ dimensions_in M.height_of M.width_of first.items }
     requires second { dimensions.now ≡ dimensions_in M.height_of M.width_of second.items }
     requires widths { map (λ d. d.width) dimensions.now ≡ 2 ∷ 1 ∷ [] }
@@ -207,25 +198,4 @@ fn four_and_five<M: Matrix<u32> + Drop, S: Mmcs<u32, M>>(
     let four = words_read(alloc, scheme, dimensions, first, 1, LAST)?;
     let five = words_read(alloc, scheme, dimensions, second, 0, OTHER)?;
     Ok([four, five])
-}
-
-#[test]
-fn a_generic_verifier_reads_plain_rows(rt: HostRuntime) -> Result<(), Fail> {
-    let alloc = rt.alloc();
-    let mut scheme = Plain::new(FoldHash, FoldCompress, 0);
-    let (first, second) = (matrices(alloc)?, matrices(alloc)?);
-    let words = four_and_five(alloc, &mut scheme, &DIMENSIONS, first, second)?;
-    assert_eq!(rt; words, [Some((4, 4)), Some((5, 5))]);
-    Ok(())
-}
-
-#[test]
-fn a_generic_verifier_reads_salted_rows(rt: HostRuntime) -> Result<(), Fail> {
-    let alloc = rt.alloc();
-    let rng = ChaCha20Rng::from_seed([7; 32]);
-    let mut scheme = Salted::new(FoldHash, FoldCompress, 0, rng);
-    let (first, second) = (matrices(alloc)?, matrices(alloc)?);
-    let words = four_and_five(alloc, &mut scheme, &DIMENSIONS, first, second)?;
-    assert_eq!(rt; words, [Some((4, 4)), Some((5, 5))]);
-    Ok(())
 }

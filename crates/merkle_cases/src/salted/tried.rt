@@ -1,4 +1,4 @@
-//! How cases try the scheme with salts. It counts no digests and restores no paths.
+//! How cases try the scheme with salts. It restores no paths.
 
 use crate::committed::{Committed, OpenedLeaves};
 use crate::fields::{Fault, Fields};
@@ -21,6 +21,8 @@ type Proof = SaltedProof<u32, u32, 1>;
 type MultiProof = SaltedMultiProof<u32, u32, 1>;
 
 impl<R: CryptoRng, const N: usize, const SALT_ELEMS: usize> Tried for Salted<R, N, SALT_ELEMS> {
+    const IS_SALTED: bool = true;
+
     fn proof_in(fields: &mut Fields<'_>) -> Proof {
         let salts = fields.rows();
         (salts, fields.digests())
@@ -37,11 +39,6 @@ impl<R: CryptoRng, const N: usize, const SALT_ELEMS: usize> Tried for Salted<R, 
         (Vec::new(alloc), PrunedProof { sibling_hashes })
     }
 
-    fn write_salted_cap(cap: &FoldCap, answer: &mut Answer) {
-        answer.digests(cap.roots());
-        answer.push(" | ");
-    }
-
     fn write_proof(proof: &Proof, answer: &mut Answer) {
         answer.rows(&proof.0);
         answer.push(" | ");
@@ -52,10 +49,6 @@ impl<R: CryptoRng, const N: usize, const SALT_ELEMS: usize> Tried for Salted<R, 
         answer.row_sets(&proof.0);
         answer.push(" | ");
         answer.digests(&proof.1.sibling_hashes);
-    }
-
-    fn digests(proof: &MultiProof) -> usize {
-        proof.1.sibling_hashes.len()
     }
 
     fn agrees(
@@ -73,9 +66,10 @@ impl<R: CryptoRng, const N: usize, const SALT_ELEMS: usize> Tried for Salted<R, 
         _alloc: Global,
         _committed: &Committed<FoldCap, SaltedTree<u32, u32, Rows, N, 1>>,
         _indices: &[usize],
-        _leaves: &OpenedLeaves<u32, MultiProof>,
-    ) -> Result<(), Fault> {
-        Ok(())
+        leaves: &OpenedLeaves<u32, MultiProof>,
+    ) -> Result<usize, Fault> {
+        let (_, (_, proof)) = leaves;
+        Ok(proof.sibling_hashes.len())
     }
 
     fn extract(

@@ -199,41 +199,29 @@ fn answer_of<const N: usize>(
 
 /// `sha256_commit | ARITY | CAP | DIMENSIONS | ROOTS`: the cap of matrices, each of the bytes 0, 1, 2 and so on modulo
 /// 251, row by row.
-pub fn commit<const N: usize>(case: &mut Case<'_>) -> Result<(), Fault>
-    requires arity { IsTrue (is_arity N) }
-    requires few { N ≤ 16 }
-{
-    let cap = case.fields.cap();
-    let dimensions = case.fields.dimensions();
-    let digests = answer_of::<N>(case, cap, &dimensions, Asked::Cap)?;
-    case.answer.hexadecimal(&digests);
-    Ok(())
-}
-
+///
 /// `sha256_open | ARITY | CAP | DIMENSIONS | INDEX | SIBLINGS`: the siblings of a leaf of such matrices, whose opening
 /// is accepted.
-pub fn open<const N: usize>(case: &mut Case<'_>) -> Result<(), Fault>
-    requires arity { IsTrue (is_arity N) }
-    requires few { N ≤ 16 }
-{
-    let cap = case.fields.cap();
-    let dimensions = case.fields.dimensions();
-    let index = case.fields.number();
-    let digests = answer_of::<N>(case, cap, &dimensions, Asked::Leaf(index))?;
-    case.answer.hexadecimal(&digests);
-    Ok(())
-}
-
+///
 /// `sha256_pruned | ARITY | CAP | DIMENSIONS | INDICES | DIGESTS`: the digests by which several leaves of such matrices
 /// are opened. The opening is accepted, at once and leaf by leaf with the paths that it restores.
-pub fn pruned<const N: usize>(case: &mut Case<'_>) -> Result<(), Fault>
+pub fn tree<const N: usize>(case: &mut Case<'_>, kind: &str) -> Result<(), Fault>
     requires arity { IsTrue (is_arity N) }
     requires few { N ≤ 16 }
 {
     let cap = case.fields.cap();
     let dimensions = case.fields.dimensions();
-    let indices = case.fields.numbers();
-    let digests = answer_of::<N>(case, cap, &dimensions, Asked::Leaves(&indices))?;
+    let queries = if kind == "sha256_commit" {
+        case.fields.reader.none()
+    } else {
+        case.fields.numbers()
+    };
+    let asked = match (kind, queries.as_slice()) {
+        ("sha256_commit", _) => Asked::Cap,
+        ("sha256_open", [index]) => Asked::Leaf(*index),
+        (_, indices) => Asked::Leaves(indices),
+    };
+    let digests = answer_of::<N>(case, cap, &dimensions, asked)?;
     case.answer.hexadecimal(&digests);
     Ok(())
 }
