@@ -22,6 +22,7 @@ ghost use Rattle.p3_merkle_verifier.specs.Inner.RestoredLevels.{IsCoveredAt, IsL
 
 use crate::openings::{BorrowedOpening, Restorable};
 use crate::path::{Checker, is_entry};
+use p3_merkle_core::agreement::check_pruned;
 use p3_merkle_core::error::MerkleTreeError;
 use p3_merkle_core::pruning::{AuthPath, KeptLevel, children_of, parent_of, paths_out_of};
 use p3_merkle_core::steps::{StepUp, Steps};
@@ -84,7 +85,7 @@ fn parents_of(
 ///
 /// # Errors
 ///
-/// The error of [`Steps::check_pruned`].
+/// The error of [`check_pruned`].
 fn restorable_of<'a, P: PackedValue, X>(
     alloc: Global,
     steps: &'a Steps<'a>,
@@ -107,7 +108,7 @@ fn restorable_of<'a, P: PackedValue, X>(
         sets,
         sent,
     } = opening;
-    let queried = steps.check_pruned(alloc, cap_layer, indices, sets, sent.len())?;
+    let queried = check_pruned(alloc, steps, cap_layer, indices, sets, sent.len())?;
     let restorable = Restorable {
         steps,
         cap_layer,
@@ -254,7 +255,7 @@ impl<
     ///
     /// # Errors
     ///
-    /// The error of `Steps::check_pruned`; else `CapMismatch` where a root is another, or is not there. `OutOfMemory`
+    /// The error of `check_pruned`; else `CapMismatch` where a root is another, or is not there. `OutOfMemory`
     /// may come at any time.
     pub fn check_pruned_opening(
         &self,
@@ -286,7 +287,7 @@ impl<
     ///
     /// # Errors
     ///
-    /// The error of `Steps::check_pruned`; else `CapMismatch` where a root is another, or is not there. `OutOfMemory`
+    /// The error of `check_pruned`; else `CapMismatch` where a root is another, or is not there. `OutOfMemory`
     /// may come at any time.
     pub fn restored_paths(
         &self,
