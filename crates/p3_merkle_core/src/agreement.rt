@@ -2,23 +2,19 @@
 //! queries of one index have one row set, and queries under one node have the same rows of the matrices that belong to
 //! the node's layer.
 
-ghost use Rattle.std.specs.Prelude.{◌≡◌, ℕ, ◌-◌, ◌/◌, ◌<◌, ◌≤◌, ◌⊎◌, Some, None, List, [], All, false, length, map};
-ghost use Rattle.std.specs.Prelude.{not};
-ghost use Rattle.std.specs.Prelude.{slice_index, slice_index_or, IfOk, IsTrue, MatchResult};
-ghost use Rattle.std.specs.Cmp.Lexicographic.{pointwise};
+ghost use Rattle.std.specs.Prelude.{◌≡◌, ℕ, ◌<◌, ◌≤◌, ◌⊎◌, Some, None, List, [], All, false, length, slice_index_or};
+ghost use Rattle.std.specs.Prelude.{IfOk, IsTrue, MatchResult};
 ghost use Rattle.std.specs.List.Sorted.{IsStrictlyIncreasing};
-ghost use Rattle.p3_merkle_core.specs.Inner.Agreement.{distinct, early_refusal, first_query, late_refusal};
-ghost use Rattle.p3_merkle_core.specs.Inner.Agreement.{layers_refusal, matrices_with, nodes_refusal, opened_of};
-ghost use Rattle.p3_merkle_core.specs.Inner.Agreement.{opened_with, rows_refusal, slot_rows, AreDistinctOf};
-ghost use Rattle.p3_merkle_core.specs.Inner.Agreement.{IsAscending, IsSlot};
-ghost use Rattle.p3_support.specs.Lists.{is_among};
 ghost use Rattle.p3_support.specs.Batches.{heights_of, greatest};
+ghost use Rattle.p3_support.specs.Lists.{is_among};
 ghost use Rattle.p3_support.specs.Shown.{row_lists, row_sets};
-ghost use Rattle.p3_merkle_core.specs.Geometry.{has_rows, levels, height_limit, shape_of, IsArity};
+ghost use Rattle.p3_merkle_core.specs.Geometry.{has_rows, height_limit, shape_of, IsArity};
+ghost use Rattle.p3_merkle_core.specs.Inner.Agreement.{distinct, early_refusal, layers_refusal, matrices_with};
+ghost use Rattle.p3_merkle_core.specs.Inner.Agreement.{nodes_refusal, opened_of, opened_with, rows_refusal, slot_rows};
+ghost use Rattle.p3_merkle_core.specs.Inner.Agreement.{AreDistinctOf, IsAscending, IsSlot};
+ghost use Rattle.p3_merkle_core.specs.Refusals.{digest_count_refusal, first_of, pruned_refusal, duplicate_refusal};
+ghost use Rattle.p3_merkle_core.specs.Refusals.{width_refusal, AnswersUnlessMemory};
 ghost use Rattle.p3_merkle_core.specs.declared.error.MerkleTreeError.TheVariants.{OutOfMemory};
-ghost use Rattle.p3_merkle_core.specs.Pruning.{pruned_len};
-ghost use Rattle.p3_merkle_core.specs.Refusals.{digest_count_refusal, first_of, idle_refusal, pruned_refusal};
-ghost use Rattle.p3_merkle_core.specs.Refusals.{duplicate_refusal, width_refusal, AnswersUnlessMemory};
 
 use crate::error::{MerkleTreeError, PrunedProofError};
 use crate::geometry::{check_widths, exponent_of};
@@ -141,8 +137,8 @@ fn check_same_rows<T: Eq>(
     Ok(())
 }
 
-/// Checks that slots under one node have the same rows of the matrices of its layer: each slot is compared with the first
-/// one under its node. The nodes of the slots ascend.
+/// Checks that slots under one node have the same rows of the matrices of its layer: each slot is compared with the
+/// first one under its node. The nodes of the slots ascend.
 ///
 /// # Errors
 ///

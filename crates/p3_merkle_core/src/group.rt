@@ -1,6 +1,6 @@
 //! Groups of digests, as a compression takes them.
 
-ghost use Rattle.std.specs.Prelude.{◌≡◌, ◌+◌, ◌<◌, ◌≤◌, ◌++◌, ◌∷◌, [], length, drop, insert};
+ghost use Rattle.std.specs.Prelude.{◌≡◌, ◌+◌, ◌<◌, ◌≤◌, ◌∷◌, [], length, insert};
 ghost use Rattle.p3_merkle_core.specs.Nodes.{padded};
 
 /// A digest at its place among its siblings, then default digests: what a compression of `N` digests takes where a

@@ -185,8 +185,8 @@ pub fn extraction<T, W>()
     ensures last { LastInputIsReached T W }
 {}
 
-/// The boundary nodes and the queried leaves are enough to compute each covered node of the cap's layer. No other set of
-/// uncovered nodes that suffices is as small as the boundary.
+/// The boundary nodes and the queried leaves are enough to compute each covered node of the cap's layer. No other set
+/// of uncovered nodes that suffices is as small as the boundary.
 pub fn boundary()
     ensures suffices { BoundarySuffices }
     ensures smallest { BoundaryIsSmallest }

@@ -1,20 +1,17 @@
 //! Which nodes a pruned opening covers, and how many digests it sends: what needs no hash.
 
 ghost use Rattle.std.specs.Prelude.{◌≡◌, ◌+◌, ◌-◌, ◌*◌, ◌/◌, ◌%◌, ◌<◌, ◌≤◌, ◌++◌, Some, None, false, All, IfOk};
-ghost use Rattle.std.specs.Prelude.{MatchOption, MatchResult};
-ghost use Rattle.std.specs.Prelude.{length, map, slice_index};
+ghost use Rattle.std.specs.Prelude.{MatchOption, MatchResult, length, map, slice_index};
 ghost use Rattle.std.specs.List.{sum_by};
 ghost use Rattle.std.specs.List.Sorted.{IsStrictlyIncreasing};
 ghost use Rattle.std.specs.Vec.{vec_capacity, vec_len};
-ghost use Rattle.p3_merkle_core.specs.Inner.Agreement.{distinct, IsAscending};
-ghost use Rattle.p3_support.specs.Batches.{heights_of, greatest};
 ghost use Rattle.p3_support.specs.Lists.{is_among};
-ghost use Rattle.p3_merkle_core.specs.Pruning.{pruned_len};
-ghost use Rattle.p3_merkle_core.specs.Views.{shown_paths};
+ghost use Rattle.p3_merkle_core.specs.Geometry.{levels};
+ghost use Rattle.p3_merkle_core.specs.Inner.Agreement.{distinct, IsAscending};
 ghost use Rattle.p3_merkle_core.specs.Inner.Children.{AreChildren, IsFamily, path_out_of, paths_out_of};
 ghost use Rattle.p3_merkle_core.specs.Inner.Children.{siblings_out_of};
-ghost use Rattle.p3_merkle_core.specs.Geometry.{levels, height_limit, shape_of, IsArity};
 ghost use Rattle.p3_merkle_core.specs.Refusals.{queries_refusal};
+ghost use Rattle.p3_merkle_core.specs.Views.{shown_paths};
 
 use crate::error::MerkleTreeError;
 use std::alloc::{AllocError, Global};

@@ -1,23 +1,21 @@
 //! The steps of a tree, from the leaves to the root, walked once and kept: every walk goes by them. Only `clone` and
 //! the two calls that return a list allocate.
 
-ghost use Rattle.std.specs.Prelude.{◌≡◌, ℕ, suc, ◌+◌, ◌-◌, ◌<◌, ◌≤◌, ◌==◌, ◌↔◌, List, if◌then◌else◌, length, map};
-ghost use Rattle.std.specs.Prelude.{All, nat_lt, take, ◌&&◌, IfOk, IsOk, MatchResult, None, Some};
+ghost use Rattle.std.specs.Prelude.{◌≡◌, suc, ◌-◌, ◌<◌, ◌≤◌, ◌==◌, ◌↔◌, if◌then◌else◌, length, map, All, take};
+ghost use Rattle.std.specs.Prelude.{IfOk, IsOk, MatchResult, None, Some};
 ghost use Rattle.std.specs.List.{list_any, range_with_len};
-ghost use Rattle.p3_merkle_core.specs.Geometry;
-ghost use Rattle.p3_merkle_core.specs.Geometry.{exponent, has_rows, is_bridge, layer_exponent, levels, height_limit};
-ghost use Rattle.p3_merkle_core.specs.Geometry.{positions_below, schedule_below, shape_of, step, IsArity};
-ghost use Rattle.p3_merkle_core.specs.Inner.Shapes.{shortest};
-ghost use Rattle.p3_merkle_core.specs.Geometry.{IsLawful};
+ghost use Rattle.std.specs.List.Sorted.{IsStrictlyIncreasing};
 ghost use Rattle.p3_support.specs.Batches.{heights_of, greatest};
 ghost use Rattle.p3_merkle_core.specs.Caps.{cap_layer};
 ghost use Rattle.p3_merkle_core.specs.Checks.{siblings_below};
-ghost use Rattle.p3_merkle_core.specs.Inner.Levels.{IsBelowTop, IsLevel};
-ghost use Rattle.p3_merkle_core.specs.Pruning.{pruned_len};
-ghost use Rattle.std.specs.List.Sorted.{IsStrictlyIncreasing};
 ghost use Rattle.p3_merkle_core.specs.Gate.{gate_refusal};
+ghost use Rattle.p3_merkle_core.specs.Geometry.{exponent, has_rows, is_bridge, layer_exponent, levels, height_limit};
+ghost use Rattle.p3_merkle_core.specs.Geometry.{positions_below, schedule_below, shape_of, step, IsArity, IsLawful};
 ghost use Rattle.p3_merkle_core.specs.Inner.Exponents.{AreExponents};
+ghost use Rattle.p3_merkle_core.specs.Inner.Levels.{IsBelowTop, IsLevel};
+ghost use Rattle.p3_merkle_core.specs.Inner.Shapes.{shortest};
 ghost use Rattle.p3_merkle_core.specs.Inner.Steps.{level_step};
+ghost use Rattle.p3_merkle_core.specs.Pruning.{pruned_len};
 
 use crate::cap::CapRule;
 use crate::error::MerkleTreeError;
@@ -77,7 +75,8 @@ fn step_up(dimensions: &[Dimensions], arity: usize, exponents: Exponents) -> (Le
     requires next { AreExponents (heights_of dimensions.now) exponents }
     ensures bridge { result.0.is_bridge ≡ is_bridge (shape_of arity dimensions.now) exponents.layer }
     ensures layer { result.1.layer
-        ≡ (if is_bridge (shape_of arity dimensions.now) exponents.layer then exponents.layer - 1 else exponents.layer - exponent arity) }
+        ≡ (if is_bridge (shape_of arity dimensions.now) exponents.layer then exponents.layer - 1
+        else exponents.layer - exponent arity) }
     ensures rows { result.0.has_rows ≡ list_any (λ h. exponent h == result.1.layer) (heights_of dimensions.now) }
     ensures next { AreExponents (heights_of dimensions.now) result.1 }
 {
@@ -89,8 +88,8 @@ fn step_up(dimensions: &[Dimensions], arity: usize, exponents: Exponents) -> (Le
     } else {
         target
     };
-    // No matrix's exponent lies between the two layers' exponents.
-    let has_rows = exponents.next == layer + 1;
+    // No matrix's exponent lies between those of the two layers, so the next one is this layer's or a lower one.
+    let has_rows = exponents.next > layer;
     let above = if has_rows {
         exponents_at(dimensions, layer)
     } else {
@@ -372,7 +371,8 @@ impl<'a> Steps<'a> {
     {
         let arity = self.arity;
         let up = self.up(arity, below, exponent);
-        // All slots are grouped into nodes of the layer above, but of a short layer below a bridge step only `2^exponent`.
+        // Not all slots are grouped where a bridge step starts from fewer nodes than the arity: the others pad the
+        // layer.
         let grouped_len = if self.of_level[below].is_bridge && len < arity {
             1 << exponent
         } else {
@@ -465,11 +465,11 @@ impl<'a> Steps<'a> {
         Ok(positions)
     }
 
-    /// How many digests a pruned proof of some leaves sends under the cap of layer `layer`: on each level, the children of
-    /// covered nodes that are not covered. The leaves ascend, each once, as
-    /// [`covered_leaves`](crate::pruning::covered_leaves) has them. `layer` must be at most the number of levels, the
-    /// arity a power of two from 2 to 2^62, no height above [`MAX_HEIGHT`], and each leaf below the tallest height. It
-    /// does not allocate, and takes one step for each leaf and level.
+    /// How many digests a pruned proof of some leaves sends under the cap of this layer: on each level, the children
+    /// of covered nodes that are not covered. The leaves must ascend, each once, as
+    /// [`covered_leaves`](crate::pruning::covered_leaves) lists them, below the tallest height. The layer must be at
+    /// most the number of levels, the arity a power of two from 2 to 2^62, and no height above [`MAX_HEIGHT`]. It does
+    /// not allocate, and takes one step for each leaf and level.
     pub fn boundary_len(&self, layer: usize, leaves: Vec<usize>) -> usize
         requires arity { IsArity self.now.arity }
         requires low { greatest (heights_of self.now.dimensions.now) ≤ height_limit }

@@ -69,14 +69,15 @@ first_unique xs v k l e none =
 
 -- ---- from slot to slot
 
-first_slot_before : (nodes : List ℕ) (k first : ℕ) → k < length nodes → first ≡ first_query nodes (get_or nodes (k - 1) 0) →
-    get_or nodes first 0 ≡ get_or nodes (k - 1) 0
+first_slot_before : (nodes : List ℕ) (k first : ℕ) → k < length nodes → first
+    ≡ first_query nodes (get_or nodes (k - 1) 0) → get_or nodes first 0 ≡ get_or nodes (k - 1) 0
 first_slot_before nodes k first l e = ap (λ i. get_or nodes i 0) e
     ∙ first_there nodes (get_or nodes (k - 1) 0) (listed_at nodes (k - 1) 0 (omega arith))
 
-pub first_slot_kept : (nodes : List ℕ) (k first : ℕ) → k < length nodes → first ≡ first_query nodes (get_or nodes (k - 1) 0) →
-    get_or nodes k 0 ≡ get_or nodes first 0 → first ≡ first_query nodes (get_or nodes k 0)
-first_slot_kept nodes k first l e same = e ∙ ap (first_query nodes) (sym (first_slot_before nodes k first l e) ∙ sym same)
+pub first_slot_kept : (nodes : List ℕ) (k first : ℕ) → k < length nodes → first
+    ≡ first_query nodes (get_or nodes (k - 1) 0) → get_or nodes k 0 ≡ get_or nodes first 0 → first ≡ first_query nodes (get_or nodes k 0)
+first_slot_kept nodes k first l e same =
+    e ∙ ap (first_query nodes) (sym (first_slot_before nodes k first l e) ∙ sym same)
 
 pub first_slot_new : (nodes : List ℕ) (k first : ℕ) → IsAscending nodes → k < length nodes → first
     ≡ first_query nodes (get_or nodes (k - 1) 0) → get_or nodes k 0 ≢ get_or nodes first 0 → k
@@ -211,8 +212,8 @@ no_matrix row_eq hs x nodes firsts sets none =
 
 pub slot_read : {T : Type 0} (row_eq : T → T → Bool) (matrices nodes firsts : List ℕ)
     (sets : List (List (List T))) (k first : ℕ) (mine theirs : List (List T)) (o : Option MerkleTreeError) →
-    mine ≡ slot_rows firsts sets k → theirs ≡ slot_rows firsts sets first → first ≡ first_query nodes (get_or nodes k 0) →
-    rows_refusal row_eq matrices k mine theirs ≡ o → slot_fault row_eq matrices nodes firsts sets k ≡ o
+    mine ≡ slot_rows firsts sets k → theirs ≡ slot_rows firsts sets first → first
+    ≡ first_query nodes (get_or nodes k 0) → rows_refusal row_eq matrices k mine theirs ≡ o → slot_fault row_eq matrices nodes firsts sets k ≡ o
 slot_read row_eq matrices nodes firsts sets k first mine theirs o is_mine is_theirs is_first e =
     ap (λ f. rows_refusal row_eq matrices k (slot_rows firsts sets k) (slot_rows firsts sets f)) (sym is_first)
     ∙ ap (λ rows. rows_refusal row_eq matrices k (slot_rows firsts sets k) rows) (sym is_theirs)
@@ -278,8 +279,8 @@ pub full_rows : {T A : Type 0} (rows : List (Vec T A)) (set : List (List T)) (n 
     ≡ n → length rows ≡ n
 full_rows rows set n e l = sym (length-map rows (λ row. row.items)) ∙ ap length e ∙ l
 
-pub first_slot_place : (nodes : List ℕ) (k first : ℕ) → k < length nodes → first ≡ first_query nodes (get_or nodes k 0) →
-    first < length nodes
+pub first_slot_place : (nodes : List ℕ) (k first : ℕ) → k < length nodes → first
+    ≡ first_query nodes (get_or nodes k 0) → first < length nodes
 first_slot_place nodes k first l e = omega (arith, first_place nodes (get_or nodes k 0) (listed_at nodes k 0 l))
 
 -- ---- from layer to layer

@@ -18,7 +18,8 @@ kept_at s kept n l none all below =
 
 -- and whether it is a bridge step
 pub bridge_at : (s : Shape) (kept : List LevelStep) (n l : ℕ) (none : LevelStep) → take n kept
-    ≡ map (level_step s) (range_with_len 0 n) → l < n → (get_or kept l none).is_bridge ≡ is_bridge s (layer_exponent s l)
+    ≡ map (level_step s) (range_with_len 0 n) → l < n →
+    (get_or kept l none).is_bridge ≡ is_bridge s (layer_exponent s l)
 bridge_at s kept n l none all below = ap (λ (step : LevelStep). step.is_bridge) (kept_at s kept n l none all below)
 
 -- one more that is written

@@ -46,7 +46,8 @@ returns-in_err-check_repeats g c =
     let s = shape_of c.args.steps.now.arity c.args.steps.now.dimensions.now in
     let early = rw (← length-map c.args.rows.now (λ rows. row_lists rows.items)) at
     c.in_ok-check_queries.ensures.answer in
-    let left = err_from_is_err_and c.from_residual-in_err-check_repeats.result c.from_residual-in_err-check_repeats.ensures.1 in
+    let left = err_from_is_err_and c.from_residual-in_err-check_repeats.result
+    c.from_residual-in_err-check_repeats.ensures.1 in
     let found = pruned_counted g.T.PartialEq.eq s c.args.cap_layer c.args.indices.now (row_sets c.args.rows.now)
     c.args.num_digests c.in_err-check_repeats.field-0.0 early (rw c.in_err-check_repeats.ensures refl) in
     rw left.1 (inr (found ∙ ap (λ e. Some e) (sym left.2)))
@@ -80,7 +81,8 @@ returns-in_err-check_digest_count g c =
     (asked_from (heights_of c.args.steps.now.dimensions.now) c.args.indices.now (length c.args.rows.now)
     c.args.num_digests c.in_ok-check_queries.ensures.answer).highest
     (c.in_ok-leaves.ensures.items ∙ c.deref.ensures.value ∙ c.in_ok-queried.ensures.indices) in
-    let left = err_from_is_err_and c.from_residual-in_err-check_digest_count.result c.from_residual-in_err-check_digest_count.ensures.1 in
+    let left = err_from_is_err_and c.from_residual-in_err-check_digest_count.result
+    c.from_residual-in_err-check_digest_count.ensures.1 in
     let some = rw (c.boundary_len.ensures ∙ leaves.count) at c.in_err-check_digest_count.ensures in
     let found = pruned_counted g.T.PartialEq.eq s c.args.cap_layer c.args.indices.now (row_sets c.args.rows.now)
     c.args.num_digests c.in_err-check_digest_count.field-0.0 early
@@ -110,7 +112,8 @@ returns-in_err-check_first_widths g c =
     let groups = layers_refusal g.T.PartialEq.eq s c.args.cap_layer queried.indices.items queried.first_queries.items
     sets in
     let count = rw (c.boundary_len.ensures ∙ leaves.count) at c.in_ok-check_digest_count.ensures in
-    let left = err_from_is_err_and c.from_residual-in_err-check_first_widths.result c.from_residual-in_err-check_first_widths.ensures.1 in
+    let left = err_from_is_err_and c.from_residual-in_err-check_first_widths.result
+    c.from_residual-in_err-check_first_widths.ensures.1 in
     let e = c.in_err-check_first_widths.field-0.0 in
     let some : widths ≡ Some e = rw c.deref-2.ensures.value at c.in_err-check_first_widths.ensures in
     let found = pruned_late g.T.PartialEq.eq s c.args.cap_layer queried.indices.items queried.first_queries.items
@@ -152,7 +155,8 @@ returns-in_err-check_groups g c =
     let groups = layers_refusal g.T.PartialEq.eq s c.args.cap_layer queried.indices.items queried.first_queries.items
     sets in
     let count = rw (c.boundary_len.ensures ∙ leaves.count) at c.in_ok-check_digest_count.ensures in
-    let left = err_from_is_err_and c.from_residual-in_err-check_groups.result c.from_residual-in_err-check_groups.ensures.1 in
+    let left = err_from_is_err_and c.from_residual-in_err-check_groups.result
+    c.from_residual-in_err-check_groups.ensures.1 in
     let e = c.in_err-check_groups.field-0.0 in
     let none : widths ≡ None = rw c.deref-2.ensures.value at c.in_ok-check_first_widths.ensures in
     elim c.in_err-check_groups.ensures [

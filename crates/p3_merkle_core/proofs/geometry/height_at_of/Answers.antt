@@ -15,5 +15,5 @@ overflow_add-result c =
 
 pub returns : goal.returns
 returns c =
-    height_at_is c.args.max_height c.args.exponent c.exponent_of.result c.saturating_sub.result c.saturating_sub-2.result
-    c.saturating_sub.ensures c.exponent_of.ensures c.saturating_sub-2.ensures
+    height_at_is c.args.max_height c.args.exponent c.exponent_of.result c.saturating_sub.result
+    c.saturating_sub-2.result c.saturating_sub.ensures c.exponent_of.ensures c.saturating_sub-2.ensures

@@ -73,7 +73,12 @@ invariant_of-result c =
       leaves = c.exponent_of-exponent.ensures ∙ ap exponent c.extremes_of-max_height.ensures.greatest
           ∙ sym (layer_start s);
       whole = at_end s c.loop-exponents.num_levels c.loop-exponents.exponents.layer at (omega arith);
-      few = omega (arith, at.room, ap exponent c.extremes_of-max_height.ensures.greatest, exponent_le c.extremes_of-max_height.result.0 64 (omega arith));
+      few = omega (
+        arith,
+        at.room,
+        ap exponent c.extremes_of-max_height.ensures.greatest,
+        exponent_le c.extremes_of-max_height.result.0 64 (omega arith),
+      );
       long = c.loop-exponents.invariant.2;
       kept = c.loop-exponents.invariant.3;
     }

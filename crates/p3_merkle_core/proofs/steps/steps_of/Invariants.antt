@@ -10,7 +10,8 @@ use Rattle.p3_merkle_core.proofs.steps.steps_of.Given as goal
 -- the walk is at a layer, and the steps below it are kept
 abbrev pub invariant-loop-exponents : goal.invariant-loop-exponents
 invariant-loop-exponents l =
-    IsAt (shape_of l.arity l.dimensions) l.num_levels l.exponents.layer × AreExponents (heights_of l.dimensions) l.exponents ×
+    IsAt (shape_of l.arity l.dimensions) l.num_levels l.exponents.layer ×
+    AreExponents (heights_of l.dimensions) l.exponents ×
     (length l.of_level ≡ 64) ×
     (take l.num_levels l.of_level
     ≡ map (level_step (shape_of l.arity l.dimensions)) (range_with_len 0 l.num_levels))

@@ -18,7 +18,8 @@ returns-then-is_bridge c =
     record {
       step = ap (λ b. cond b 2 c.args.arity) (sym bridge);
       rows = ap (λ (step : LevelStep). step.has_rows) kept;
-      exponent = c.saturating_sub.ensures ∙ ap (λ x. x - 1) c.requires.exponent ∙ sym (rw bridge at (next_exponent s l));
+      exponent = c.saturating_sub.ensures ∙ ap (λ x. x - 1) c.requires.exponent
+          ∙ sym (rw bridge at (next_exponent s l));
     }
 
 pub returns-else-is_bridge : goal.returns-else-is_bridge
