@@ -1,12 +1,11 @@
 -- What is not refused of rows and salts is accepted, and the other way round.
-use Rattle.std.proofs.Common.{◌≡◌, ◌↔◌, ℕ, ◌+◌, ◌<◌, ◌^◌, Bool, false, List, [], ◌∷◌, refl, sym, ap, ◌∙◌, arith, inl}
-use Rattle.std.proofs.Common.{inr, length, get_or, map, zip, None, Some, Option, Result, nat_le, nat_lt, eqb}
+use Rattle.std.proofs.Common.{◌≡◌, ◌↔◌, ℕ, Bool, List, [], ◌∷◌, refl, sym, ap, ◌∙◌, arith, inl}
+use Rattle.std.proofs.Common.{inr, length, map, zip, None, Some, Option, Result, eqb}
 use Rattle.std.specs.Prelude.{Ok, Err, IsErr}
-use Rattle.std.specs.List.{AllZip, position_or_len}
-use Rattle.std.specs.Option.{option_map, option_or}
-use Rattle.std.proofs.lemmas.Bool.{cond-false, le-ltb, lt-leb, eqb-true}
-use Rattle.std.proofs.lemmas.List.{get_or-map, length-map}
-use Rattle.std.proofs.lemmas.List.Sums.{position_or_len_is}
+use Rattle.std.specs.List.{AllZip}
+use Rattle.std.specs.Option.{option_or}
+use Rattle.std.proofs.lemmas.Bool.{eqb-true}
+use Rattle.std.proofs.lemmas.List.{length-map}
 use Rattle.p3_support.specs.declared.matrix.Dimensions.{Dimensions}
 use Rattle.p3_merkle_core.specs.Openings.{Opening}
 use Rattle.p3_support.specs.Batches.{widths_of}
@@ -15,15 +14,15 @@ use Rattle.p3_merkle_core.specs.Geometry.{IsArity}
 use Rattle.p3_merkle_core.specs.Refusals.{AnswersUnlessMemory, IsEquality, first_of, pruned_refusal_under}
 use Rattle.p3_merkle_core.specs.Refusals.{refusal_under, row_width_refusal, size_refusal, width_refusal, ok_unless}
 use Rattle.p3_merkle_core.specs.declared.error.MerkleTreeError.{MerkleTreeError}
-use Rattle.p3_merkle_core.specs.declared.error.MerkleTreeError.TheVariants.{TooLarge, WrongBatchSize}
+use Rattle.p3_merkle_core.specs.declared.error.MerkleTreeError.TheVariants.{WrongBatchSize}
 use Rattle.p3_merkle_core.proofs.Pruned.NoneFacts.{fit_from, none_of_both, none_parts, unless_none}
 use Rattle.p3_merkle_core.proofs.Pruned.Unrefused.{each_width, size_none}
 use Rattle.p3_merkle_core.proofs.Checks.Verdicts.{accepted_answer, accepted_from, pruned_accepted}
 use Rattle.p3_merkle_hiding.proofs.SaltFacts.{widening}
-use Rattle.p3_merkle_hiding.specs.SaltRefusals.{first_too_wide, salt_refusal, salt_sets_refusal}
+use Rattle.p3_merkle_hiding.specs.SaltRefusals.{salt_refusal, salt_sets_refusal}
 use Rattle.p3_merkle_hiding.specs.SaltRefusals.{salted_pruned_refusal_under, salted_refusal_under, salted_rows_refusal}
 use Rattle.p3_merkle_hiding.specs.SaltRefusals.{salted_sets_refusal, widening_refusal}
-use Rattle.p3_merkle_hiding.specs.SaltedOpenings.{CanWiden, HaveSalts, IsSaltedAccepted, IsSaltedPrunedAccepted}
+use Rattle.p3_merkle_hiding.specs.SaltedOpenings.{HaveSalts, IsSaltedAccepted, IsSaltedPrunedAccepted}
 use Rattle.p3_merkle_hiding.specs.SaltedOpenings.{SaltedOpening, SaltedPruned, joined, joined_sets, widened}
 use Rattle.p3_merkle_hiding.specs.SaltedPresented.{presented_salted, presented_salted_pruned}
 use Rattle.p3_merkle_core.specs.Checks.{Params}

@@ -14,9 +14,8 @@ ghost use Rattle.p3_merkle_mmcs.specs.Schemes.{cap_layer_over};
 ghost use Rattle.p3_support.specs.Pairs.{left_of};
 ghost use Rattle.p3_support.specs.Shown.{row_lists, row_sets};
 ghost use Rattle.p3_merkle_hiding.specs.HidingSchemes.{plain_of, salted_made, salted_pruned_made, salted_params_of};
-ghost use Rattle.p3_merkle_hiding.specs.SaltedOpenings.{IsSaltedAccepted};
+ghost use Rattle.p3_merkle_hiding.specs.SaltedOpenings.{IsSaltedAccepted, IsSaltedPrunedAccepted};
 ghost use Rattle.p3_merkle_hiding.specs.Inner.SaltedParts.{left_widths, salt_parts, unsalted_parts};
-ghost use Rattle.p3_merkle_hiding.specs.SaltedOpenings.{IsSaltedPrunedAccepted};
 ghost use Rattle.p3_merkle_hiding.specs.SaltedTrees.{left_batch, right_batch, unsalted_dimensions, HaveSaltColumns};
 
 use crate::hiding_mmcs::{MerkleTreeHidingMmcs, SaltedMultiProof, SaltedProof, SaltedTree};
@@ -77,7 +76,7 @@ fn split_rows<F: Copy, A: Matrix<F>, B: Matrix<F>>(
     Ok((unsalted, salts))
 }
 
-/// Splits the rows of several indices, as [`split_rows`] those of one: the row sets and the salt sets.
+/// Splits the rows of several indices, those of each as [`split_rows`] does: the row sets and the salt sets.
 ///
 /// # Errors
 ///
@@ -148,10 +147,9 @@ impl<
         ensures memory { AnswersUnlessMemory result None }
     {
         let opening = self.plain.open_batch(alloc, index, tree)?;
-        let (joined, siblings) = opening.unpack();
         let pairs = matrix_refs(alloc, tree)?;
-        let (rows, salts) = split_rows(alloc, &pairs, &joined)?;
-        Ok(BatchOpening::new(rows, (salts, siblings)))
+        let (rows, salts) = split_rows(alloc, &pairs, &opening.opened_values)?;
+        Ok(BatchOpening::new(rows, (salts, opening.opening_proof)))
     }
 
     /// Opens several leaves of a tree by one pruned proof. The indices count rows of the tallest matrix and must be

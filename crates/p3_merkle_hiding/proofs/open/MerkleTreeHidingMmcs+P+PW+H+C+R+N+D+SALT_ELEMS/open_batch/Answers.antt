@@ -19,8 +19,8 @@ pub returns-clause-rows : goal.returns-clause-rows
 returns-clause-rows g c =
     let tree = c.args.tree.now in
     let pairs = ap (map (λ p. p.now)) c.deref.ensures.value ∙ c.in_ok-pairs.ensures.matrices in
-    let joined = ap row_lists (c.deref-2.ensures.value ∙ ap (λ v. v.items) c.unpack-joined.ensures.values)
-    ∙ ap (λ (z : Opening _ _). z.rows) c.in_ok-opening.ensures.opened in
+    let joined = ap row_lists c.deref-2.ensures.value ∙ ap (λ (z : Opening _ _). z.rows) c.in_ok-opening.ensures.opened
+    in
     ap (λ v. row_lists v.items) c.new.ensures.values ∙ c.in_ok-rows.ensures.rows
     ∙ (λ i. unsalted_parts (left_widths (pairs i)) (joined i))
     ∙ left_is g.row.N (matrices_of tree) g.met.M.Matrix.length_row_of tree.lawful c.args.index c.requires
@@ -29,16 +29,15 @@ pub returns-clause-salts : goal.returns-clause-salts
 returns-clause-salts g c =
     let tree = c.args.tree.now in
     let pairs = ap (map (λ p. p.now)) c.deref.ensures.value ∙ c.in_ok-pairs.ensures.matrices in
-    let joined = ap row_lists (c.deref-2.ensures.value ∙ ap (λ v. v.items) c.unpack-joined.ensures.values)
-    ∙ ap (λ (z : Opening _ _). z.rows) c.in_ok-opening.ensures.opened in
+    let joined = ap row_lists c.deref-2.ensures.value ∙ ap (λ (z : Opening _ _). z.rows) c.in_ok-opening.ensures.opened
+    in
     ap (λ z. row_lists z.0.items) c.new.ensures.proof ∙ c.in_ok-rows.ensures.salts
     ∙ (λ i. salt_parts (left_widths (pairs i)) (joined i))
     ∙ right_is g.row.N (matrices_of tree) g.met.M.Matrix.length_row_of tree.lawful c.args.index c.requires
 
 pub returns-clause-siblings : goal.returns-clause-siblings
 returns-clause-siblings g c =
-    ap (λ z. z.1.items) c.new.ensures.proof ∙ ap (λ v. v.items) c.unpack-joined.ensures.proof
-    ∙ ap (λ (z : Opening _ _). z.siblings) c.in_ok-opening.ensures.opened
+    ap (λ z. z.1.items) c.new.ensures.proof ∙ ap (λ (z : Opening _ _). z.siblings) c.in_ok-opening.ensures.opened
 
 pub returns-clause-accepted : goal.returns-clause-accepted
 returns-clause-accepted g c = λ own salted.
@@ -58,6 +57,6 @@ returns-clause-accepted g c = λ own salted.
     joined (c.in_ok-opening.ensures.accepted own) in
     let made = salted_from n (matrices_of tree) g.met.M.Matrix.length_row_of tree.lawful params (λ k. cap_over k b) e
     c.args.index siblings c.requires salted accepted in
-    let kept = ap (λ z. z.1.items) c.new.ensures.proof ∙ ap (λ v. v.items) c.unpack-joined.ensures.proof in
+    let kept = ap (λ z. z.1.items) c.new.ensures.proof in
     subst (λ (o : SaltedOpening _ _). IsSaltedAccepted e ds wide (cap_over wide b) o)
     (λ i. salted_of c.args.index (sym (returns-clause-rows g c) i) (sym (returns-clause-salts g c) i) (sym kept i)) made
