@@ -119,5 +119,5 @@ check_text-requires g c =
     c.args.scheme.now (shape b)) (roots_of c.in_ok-roots.roots) b (layers_of c.in_ok-roots.tree)) same
     c.in_ok-roots.ensures.committed in (
       search rules,
-      (search rules, (search rules, (below, shapes, committed))),
+      (search rules, (search rules, (search rules, (below, (shapes, committed))))),
     )
