@@ -1,13 +1,13 @@
 //! From words and an input to an output.
 
-ghost use Rattle.std.specs.Prelude.{◌≡◌, ◌⊎◌, ℕ, ◌++◌, ◌<◌, ◌≤◌, ◌↔◌, All, Ok, Err, IfOk, IfErr, IfSome, None, OnOk};
-ghost use Rattle.std.specs.Prelude.{flat_map, length, map, replicate};
+ghost use Rattle.std.specs.Prelude.{◌≡◌, ◌⊎◌, ℕ, ◌++◌, ◌<◌, ◌↔◌, All, Ok, Err, IfOk, IfErr, IfSome, None, OnOk};
+ghost use Rattle.std.specs.Prelude.{flat_map, length, map, IsTrue};
 ghost use Rattle.std.specs.Io.KnownBytes.{Appends};
 ghost use Rattle.p3_support.specs.Batches.{greatest};
 ghost use Rattle.p3_support.specs.Shown.{roots_of, row_sets};
 ghost use Rattle.p3_merkle_core.specs.Commitments.{IsCommitment};
 ghost use Rattle.p3_merkle_core.specs.Geometry.{heights, shape_of};
-ghost use Rattle.p3_merkle_core.specs.Nodes.{functions_of, shape, Batch};
+ghost use Rattle.p3_merkle_core.specs.Nodes.{shape, Batch};
 ghost use Rattle.p3_merkle_core.specs.Openings.{honest_rows};
 ghost use Rattle.p3_merkle_core.specs.Pruning.{pruned_len};
 ghost use Rattle.p3_merkle_core.specs.Refusals.{pruned_len_refusal, AnswersUnlessMemory};
@@ -20,16 +20,16 @@ ghost use Rattle.mmcs_text.specs.Inner.Stored.{stored_batch};
 ghost use Rattle.mmcs_text.specs.Text.{digest_lines, hex_lines, ok_line};
 ghost use Rattle.mmcs_text.specs.Words.{arity_number, texts_of, AreNoCommand};
 ghost use Rattle.mmcs_engine.specs.Program.{layer_of_cap, text_of, IsAnswer, IsReply, IsTold, Prints};
-ghost use Rattle.mmcs_engine.specs.Inner.Alike.{batch_in_numbers, opened_lines, opened_text, AreOfHash, IsSchemeOf};
+ghost use Rattle.mmcs_engine.specs.Inner.Alike.{batch_in_numbers, is_taken_arity, opened_lines};
+ghost use Rattle.mmcs_engine.specs.Inner.Alike.{opened_text, IsSchemeOf};
 
+use crate::schemes::{fold_scheme, sha_scheme};
 use mmcs_text::command::{Action, Arity, HashName, Request};
 use mmcs_text::fault::Fault;
 use mmcs_text::input::read_matrices;
 use mmcs_text::streams::{read_all, write_text};
 use mmcs_text::text::{push_digests, push_labelled, push_rows};
 use mmcs_text::word::Word;
-use p3_hashes::fold::{FoldCompress, FoldHash};
-use p3_hashes::sha_eights::{Sha256NodesInEights, Sha256RowsInEights};
 use p3_merkle_core::error::MerkleTreeError;
 use p3_merkle_core::pruning::check_indices;
 use p3_merkle_mmcs::mmcs::MerkleTreeMmcs;
@@ -125,57 +125,47 @@ fn reply_at<const N: usize>(
     request: &Request,
     input: &[u8],
 ) -> Result<Vec<u8>, Fault>
-    requires { N ≡ arity_number request.now.command.arity }
+    requires taken { IsTrue (is_taken_arity N) }
+    requires arity { N ≡ arity_number request.now.command.arity }
     ensures text { IfOk result
         (λ text. IsReply request.now.command request.now.indices.items input.now (Ok text.items)) }
     ensures fault { IfErr result (λ fault. (fault ≡ Fault.Tree OutOfMemory) ⊎
         IsReply request.now.command request.now.indices.items input.now (Err fault)) }
 {
+    let cap = request.command.cap;
     match request.command.hash {
-        HashName::Fold => reply_by::<u32, FoldHash<4>, FoldCompress<N, 4>, N, 1>(
-            alloc,
-            FoldHash::<4>,
-            FoldCompress::<N, 4>,
-            request,
-            input,
-        ),
-        HashName::Sha256 => reply_by::<u8, Sha256RowsInEights, Sha256NodesInEights<N>, N, 32>(
-            alloc,
-            Sha256RowsInEights,
-            Sha256NodesInEights::<N>,
-            request,
-            input,
-        ),
+        HashName::Fold => reply_by(alloc, &fold_scheme::<N>(cap), request, input),
+        HashName::Sha256 => reply_by(alloc, &sha_scheme::<N>(cap), request, input),
     }
 }
 
-/// The same by the functions of the command's hash.
+/// The same under the scheme of the command.
 ///
 /// # Errors
 ///
 /// Those of [`reply`].
 fn reply_by<
     W: Word + PackedValue<Value = W>,
-    H: CryptographicHasher<W, W, D> + Copy,
-    C: PseudoCompressionFunction<W, N, D> + Copy,
+    H: CryptographicHasher<W, W, D>,
+    C: PseudoCompressionFunction<W, N, D>,
     const N: usize,
     const D: usize,
->(alloc: Global, hash: H, compress: C, request: &Request, input: &[u8]) -> Result<Vec<u8>, Fault>
-    requires hash { AreOfHash request.now.command.hash W.value W.MAX W.HEX_DIGITS
-        (functions_of (H.hash hash) (C.compression compress) (replicate D W.default_value)) }
+>(
+    alloc: Global,
+    scheme: &MerkleTreeMmcs<W, W, H, C, N, D>,
+    request: &Request,
+    input: &[u8],
+) -> Result<Vec<u8>, Fault>
+    requires scheme { IsSchemeOf request.now.command.hash request.now.command.cap W.value W.MAX W.HEX_DIGITS
+        (scheme_functions H.hash C.compression D scheme.now) (cap_height_of scheme.now) (cap_rule_of scheme.now) }
     requires arity { N ≡ arity_number request.now.command.arity }
-    requires some_lane { 1 ≤ W.WIDTH }
     ensures text { IfOk result
         (λ text. IsReply request.now.command request.now.indices.items input.now (Ok text.items)) }
     ensures fault { IfErr result (λ fault. (fault ≡ Fault.Tree OutOfMemory) ⊎
         IsReply request.now.command request.now.indices.items input.now (Err fault)) }
 {
     let matrices = read_matrices::<W>(alloc, input)?;
-    let cap = request.command.cap;
-    let scheme = MerkleTreeMmcs::<W, W, H, C, N, D>::new_with_rule(
-        hash, compress, cap.height, cap.rule,
-    );
-    Ok(act(alloc, &scheme, request, matrices)?)
+    Ok(act(alloc, scheme, request, matrices)?)
 }
 
 /// The text that a command prints of some matrices, under its scheme.

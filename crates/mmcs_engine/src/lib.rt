@@ -3,5 +3,6 @@
 
 pub mod engine;
 pub mod laws;
+pub mod schemes;
 
 pub use mmcs_text::{fault, process};

@@ -94,8 +94,8 @@ module _ {T : Type 0} (value : T → ℕ) (some_word : (n : ℕ) → (w : T) × 
       pruned_refusal_under eq eq own_terms cap (opening_read o)
       ≡ refusal_asked setting lent (shown_under value words cap o)
   refusal_is cap o =
-      refusal_in_numbers value some_word one_word f (functions_of_hash setting.hash) asked.of_hash.alike eq decides
-      own_shape (cap_layer own_shape rule cap_height) cap (opening_read o)
+      refusal_in_numbers value some_word one_word f (functions_of_hash setting.hash) asked.alike eq decides own_shape
+      (cap_layer own_shape rule cap_height) cap (opening_read o)
       ∙ (λ i. pruned_refusal_under nat_eq nat_eq (params_are i) (map (words_is i) cap) (opening_is o i))
 
   -- ---- one opening
@@ -140,9 +140,9 @@ module _ {T : Type 0} (value : T → ℕ) (some_word : (n : ℕ) → (w : T) × 
         (pruned_of shown.first.indices shown.first.rows shown.first.digests)
         (pruned_of shown.second.indices shown.second.rows shown.second.digests))
     due_text =
-        (λ i. typed_text value (asked.of_hash.printed_digits i) f pair.first.indices.items pair.second.indices.items
+        (λ i. typed_text value (asked.printed_digits i) f pair.first.indices.items pair.second.indices.items
         (difference_read eq own_terms pair))
-        ∙ text_in_numbers value some_word one_word setting.hash f asked.of_hash.alike eq decides own_shape
+        ∙ text_in_numbers value some_word one_word setting.hash f asked.alike eq decides own_shape
         (cap_layer own_shape rule cap_height) pair.cap.items (opening_read pair.first) (opening_read pair.second)
         ∙ (λ i. collision_text setting.hash pair.first.indices.items pair.second.indices.items
         (difference_in nat_eq (params_are i) (map (words_is i) pair.cap.items) (opening_is pair.first i)

@@ -1,6 +1,6 @@
 //! The text of a collision.
 
-ghost use Rattle.std.specs.Prelude.{◌≡◌, ◌++◌, ◌∷◌, [], ℕ, ◌<◌, IfOk, IfSome, List, OnOk, length};
+ghost use Rattle.std.specs.Prelude.{◌≡◌, ◌++◌, ◌∷◌, [], ℕ, ◌<◌, IfOk, IfSome, List, OnOk, flat_map, length};
 ghost use Rattle.std.specs.Prelude.{map};
 ghost use Rattle.std.specs.Option.{option_map};
 ghost use Rattle.p3_merkle_core.specs.Checks.{HasDigests};
@@ -122,13 +122,18 @@ fn push_inputs<
         InputPair::Words { first, second, .. } => {
             push_lines(text, first, second, &hash.hash_slice(first))
         }
-        InputPair::Digests { first, second, .. } => push_lines(
-            text,
-            first.as_flattened(),
-            second.as_flattened(),
-            &compressed(compress, first),
-        ),
+        InputPair::Digests { first, second, .. } => {
+            let digest = compressed(compress, first);
+            push_lines(text, words_of(first), words_of(second), &digest)
+        }
     }
+}
+
+/// The words of digests, one digest after another.
+fn words_of<W: Word, const D: usize>(digests: &[[W; D]]) -> &[W]
+    ensures { result.now ≡ flat_map (λ digest. digest) digests.now }
+{
+    digests.as_flattened()
 }
 
 /// Appends the words of two inputs and a digest in hexadecimal, a line each.

@@ -1,14 +1,14 @@
 //! From words and an input to an output.
 
-ghost use Rattle.std.specs.Prelude.{◌≡◌, ◌⊎◌, ◌↔◌, ◌≤◌, ℕ, List, Err, IfErr, IfOk, IfSome, Ok, OnOk, Some};
-ghost use Rattle.std.specs.Prelude.{map, replicate};
+ghost use Rattle.std.specs.Prelude.{◌≡◌, ◌⊎◌, ◌↔◌, ℕ, List, Err, IfErr, IfOk, IfSome, Ok, OnOk, Some};
+ghost use Rattle.std.specs.Prelude.{map, replicate, IsTrue};
 ghost use Rattle.std.specs.Io.KnownBytes.{Appends};
 ghost use Rattle.p3_support.specs.declared.matrix.Dimensions.{Dimensions};
 ghost use Rattle.p3_merkle_core.specs.Nodes.{functions_of};
 ghost use Rattle.p3_merkle_core.specs.declared.error.MerkleTreeError.TheVariants.{OutOfMemory};
 ghost use Rattle.p3_merkle_mmcs.specs.Schemes.{cap_height_of, cap_rule_of, scheme_functions};
 ghost use Rattle.mmcs_text.specs.Words.{arity_number, texts_of};
-ghost use Rattle.mmcs_engine.specs.Inner.Alike.{AreOfHash, IsSchemeOf};
+ghost use Rattle.mmcs_engine.specs.Inner.Alike.{is_taken_arity, IsSchemeOf};
 ghost use Rattle.mmcs_text.specs.Requests.{AreNoCommand, AreWords};
 ghost use Rattle.mmcs_text.specs.declared.opening_fault.Fault.TheVariants.{Usage, Read, Tree, Write};
 ghost use Rattle.mmcs_text.specs.declared.request.Setting.{Setting};
@@ -18,6 +18,7 @@ ghost use Rattle.mmcs_verify_engine.specs.Outcomes.{outcome_of, IsAnswer};
 
 use crate::collision::collision_text;
 use mmcs_engine::engine::text_of_count;
+use mmcs_engine::schemes::{fold_scheme, sha_scheme};
 use mmcs_text::command::{Arity, HashName};
 use mmcs_text::digest::LineDigest;
 use mmcs_text::opening_fault::Fault;
@@ -121,48 +122,67 @@ fn reply_at<const N: usize>(
     request: &Request,
     input: &[u8],
 ) -> Result<Vec<u8>, Fault>
-    requires { N ≡ arity_number request.now.setting.arity }
+    requires taken { IsTrue (is_taken_arity N) }
+    requires arity { N ≡ arity_number request.now.setting.arity }
     ensures text { IfOk result (λ text.
         outcome_of request.now.setting request.now.task request.now.dimensions.items input.now ≡ Ok text.items) }
     ensures fault { IfErr result (λ fault. (fault ≡ Fault.Tree OutOfMemory) ⊎
         (outcome_of request.now.setting request.now.task request.now.dimensions.items input.now ≡ Err fault)) }
 {
+    let cap = request.setting.cap;
     match request.setting.hash {
-        HashName::Fold => reply_by::<u32, FoldHash<4>, FoldCompress<N, 4>, N, 1>(
-            alloc,
-            FoldHash::<4>,
-            FoldCompress::<N, 4>,
-            request,
-            input,
-        ),
-        HashName::Sha256 => reply_by::<u8, Sha256RowsInEights, Sha256NodesInEights<N>, N, 32>(
-            alloc,
-            Sha256RowsInEights,
-            Sha256NodesInEights::<N>,
-            request,
-            input,
-        ),
+        HashName::Fold => {
+            let (hash, compress) = (FoldHash::<4>, FoldCompress::<N, 4>);
+            reply_by(
+                alloc,
+                &fold_scheme::<N>(cap),
+                &hash,
+                &compress,
+                request,
+                input,
+            )
+        }
+        HashName::Sha256 => {
+            let (hash, compress) = (Sha256RowsInEights, Sha256NodesInEights::<N>);
+            reply_by(
+                alloc,
+                &sha_scheme::<N>(cap),
+                &hash,
+                &compress,
+                request,
+                input,
+            )
+        }
     }
 }
 
-/// The same by the functions of the request's hash.
+/// The same under the scheme of the request. The scheme keeps its hasher and its compression to itself, and the digest
+/// of a collision is theirs, so they are handed on as well.
 ///
 /// # Errors
 ///
 /// Those of [`reply`].
 fn reply_by<
     W: Word + PackedValue<Value = W>,
-    H: CryptographicHasher<W, W, D> + Copy,
-    C: PseudoCompressionFunction<W, N, D> + Copy,
+    H: CryptographicHasher<W, W, D>,
+    C: PseudoCompressionFunction<W, N, D>,
     const N: usize,
     const D: usize,
->(alloc: Global, hash: H, compress: C, request: &Request, input: &[u8]) -> Result<Vec<u8>, Fault>
+>(
+    alloc: Global,
+    scheme: &MerkleTreeMmcs<W, W, H, C, N, D>,
+    hash: &H,
+    compress: &C,
+    request: &Request,
+    input: &[u8],
+) -> Result<Vec<u8>, Fault>
 where
     [W; D]: LineDigest,
-    requires hash { AreOfHash request.now.setting.hash W.value W.MAX W.HEX_DIGITS
-        (functions_of (H.hash hash) (C.compression compress) (replicate D W.default_value)) }
+    requires scheme { IsSchemeOf request.now.setting.hash request.now.setting.cap W.value W.MAX W.HEX_DIGITS
+        (scheme_functions H.hash C.compression D scheme.now) (cap_height_of scheme.now) (cap_rule_of scheme.now) }
+    requires functions { scheme_functions H.hash C.compression D scheme.now
+        ≡ functions_of (H.hash hash.now) (C.compression compress.now) (replicate D W.default_value) }
     requires arity { N ≡ arity_number request.now.setting.arity }
-    requires some_lane { 1 ≤ W.WIDTH }
     requires line_hash { ⟦<[W; D] as LineDigest>⟧.hash ≡ request.now.setting.hash }
     requires words { (digest : List W) → ⟦<[W; D] as LineDigest>⟧.words digest ≡ map W.value digest }
     ensures text { IfOk result (λ text.
@@ -170,13 +190,9 @@ where
     ensures fault { IfErr result (λ fault. (fault ≡ Fault.Tree OutOfMemory) ⊎
         (outcome_of request.now.setting request.now.task request.now.dimensions.items input.now ≡ Err fault)) }
 {
-    let cap = request.setting.cap;
-    let scheme = MerkleTreeMmcs::<W, W, H, C, N, D>::new_with_rule(
-        hash, compress, cap.height, cap.rule,
-    );
     match request.task {
-        Task::Verify => verify_by(alloc, &scheme, request, input),
-        Task::Collide => collide_by(alloc, &scheme, &hash, &compress, request, input),
+        Task::Verify => verify_by(alloc, scheme, request, input),
+        Task::Collide => collide_by(alloc, scheme, hash, compress, request, input),
     }
 }
 
@@ -211,7 +227,8 @@ where
 {
     let dimensions = request.dimensions.as_slice();
     let found = read_statement::<W, [W; D]>(alloc, dimensions, input)?;
-    let (cap, opening) = (MerkleCap::new(found.cap), found.opening);
+    let cap = MerkleCap::new(found.cap);
+    let opening = found.opening;
     let proof = PrunedMerklePaths {
         sibling_hashes: opening.digests,
     };

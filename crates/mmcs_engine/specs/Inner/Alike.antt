@@ -1,5 +1,5 @@
--- Words that stand for numbers, and what a scheme of words computes in numbers.
-use Rattle.std.specs.Prelude.{◌≡◌, ℕ, List, [], ◌++◌, flat_map, map}
+-- Words that stand for numbers, what a scheme of words computes in numbers, and which arities are taken.
+use Rattle.std.specs.Prelude.{◌≡◌, ℕ, ◌==◌, ◌||◌, Bool, List, [], ◌++◌, flat_map, map}
 use Rattle.p3_merkle_core.specs.Nodes.{shape, Batch, Functions, Matrix}
 use Rattle.p3_merkle_core.specs.Openings.{honest_rows, node_in}
 use Rattle.p3_merkle_core.specs.Pruning.{boundary_by, pruned_of, PrunedOpening}
@@ -9,6 +9,10 @@ use Rattle.mmcs_text.specs.declared.command.HashName.{HashName}
 use Rattle.mmcs_text.specs.Text.{digest_lines, query_lines}
 use Rattle.mmcs_text.specs.Words.{max_word}
 use Rattle.mmcs_engine.specs.Program.{functions_of_hash, hex_digits}
+
+-- whether a number is 2, 4 or 8
+abbrev pub is_taken_arity : ℕ → Bool
+is_taken_arity n = n == 2 || (n == 4 || n == 8)
 
 -- a matrix, with the numbers of its words in their place
 abbrev pub matrix_in_numbers : {T : Type 0} → (T → ℕ) → Matrix T → Matrix ℕ
@@ -39,16 +43,12 @@ opened_text value digits b nodes indices t =
     flat_map (opened_lines value b) indices
     ++ digest_lines digits (map (map value) (boundary_by (node_in [] nodes) (shape b) indices t))
 
--- functions of words are those of a hash, and so are the words by their numbers, the greatest of them and their digits
-pub record AreOfHash {T : Type 0} (hash : HashName) (value : T → ℕ) (max digits : ℕ) (functions : Functions T T)
-    : Type 0 where
+-- a scheme, by its functions, its cap height and its rule, is the one of a hash under a choice of a cap; and its words,
+-- by their numbers, the greatest of them and their digits, are those of the hash
+pub record IsSchemeOf {T : Type 0} (hash : HashName) (cap : CapChoice) (value : T → ℕ) (max digits : ℕ)
+    (functions : Functions T T) (cap_height : ℕ) (rule : CapRule) : Type 0 where
   pub greatest_word : max ≡ max_word hash
   pub printed_digits : digits ≡ hex_digits hash
   pub alike : ComputeAlike value functions (functions_of_hash hash)
-
--- a scheme, by its functions, its cap height and its rule, is the one of a hash under a choice of a cap
-pub record IsSchemeOf {T : Type 0} (hash : HashName) (cap : CapChoice) (value : T → ℕ) (max digits : ℕ)
-    (functions : Functions T T) (cap_height : ℕ) (rule : CapRule) : Type 0 where
-  pub of_hash : AreOfHash hash value max digits functions
   pub same_height : cap_height ≡ cap.height
   pub same_rule : rule ≡ cap.rule

@@ -1,5 +1,5 @@
 -- The tree is that of the matrices that were given.
-use Rattle.std.proofs.Common.{◌≡◌, ◌∙◌, ℕ, ◌<◌, All, IfOk, Err, None, refl, sym, ap, subst}
+use Rattle.std.proofs.Common.{◌≡◌, ◌∙◌, ℕ, ◌<◌, All, IfOk, Err, None, rules, sym, ap, subst}
 use Rattle.std.proofs.lemmas.Result.{err_from_is_err_and}
 use Rattle.p3_support.specs.Batches.{greatest}
 use Rattle.p3_support.specs.Shown.{roots_of}
@@ -89,8 +89,8 @@ returns-in-Open-clause-answer g c =
     (sym (taken g (goal.at.returns-in-Open-clause-answer g c).After-check_indices
     c.in_ok-check_indices.ensures.answer)) c.open_text.ensures.memory
 
-pub returns-in-Check-clause-text : goal.returns-in-Check-clause-text
-returns-in-Check-clause-text g c =
+pub returns-clause-text : goal.returns-clause-text
+returns-clause-text g c =
     let w = g.met.W.Word in
     let lent = c.as_slice-indices.result.now in
     check_printed g.W.Word.value w.some_word w.one_word _ _ _ _ _ _ _ c.requires.scheme
@@ -98,25 +98,26 @@ returns-in-Check-clause-text g c =
     c.check_text.result (λ text. text.items) lent c.as_slice-indices.ensures.value c.in-Check.is
     (subst (λ (b : Batch g.row.W.Denot). IfOk c.check_text.result (λ text. text.items
     ≡ ok_line (pruned_len (shape b) lent (cap_layer_over c.args.scheme.now (shape b)))))
-    (same_batch g (goal.at.returns-in-Check-clause-text g c).After-check_indices) c.check_text.ensures.text)
+    (same_batch g (goal.at.returns-clause-text g c).After-check_indices) c.check_text.ensures.text)
 
-pub returns-in-Check-clause-answer : goal.returns-in-Check-clause-answer
-returns-in-Check-clause-answer g c =
+pub returns-clause-answer : goal.returns-clause-answer
+returns-clause-answer g c =
     subst (AnswersUnlessMemory c.check_text.result)
-    (sym (taken g (goal.at.returns-in-Check-clause-answer g c).After-check_indices
+    (sym (taken g (goal.at.returns-clause-answer g c).After-check_indices
     c.in_ok-check_indices.ensures.answer)) c.check_text.ensures.memory
 
-pub check_text-requires-clause-dimensions : goal.check_text-requires-clause-dimensions
-check_text-requires-clause-dimensions g c =
-    stored_shape c.deref.result.now c.args.matrices.items c.in_ok-dimensions.dimensions.items
+pub check_text-requires : goal.check_text-requires
+check_text-requires g c =
+    let same = sym (same_batch g (goal.at.check_text-requires g c).After-check_indices) in
+    let below = subst (λ (m : ℕ). All (λ i. i < m) c.as_slice-indices.result.now) c.get_max_height.ensures
+    c.in_ok-check_indices.ensures.below in
+    let shapes = stored_shape c.deref.result.now c.args.matrices.items c.in_ok-dimensions.dimensions.items
     c.deref-in-Check.result.now g.row.N c.deref-in-Check.ensures.value c.in_ok-dimensions.ensures
-    c.deref.ensures.value
-    ∙ ap shape (sym (same_batch g (goal.at.check_text-requires-clause-dimensions g c).After-check_indices))
-
-pub check_text-requires-clause-committed : goal.check_text-requires-clause-committed
-check_text-requires-clause-committed g c =
-    subst (λ (b : Batch g.row.W.Denot).
-    IsCommitment (params_over g.H.CryptographicHasher.hash g.C.PseudoCompressionFunction.compression g.row.D
-    c.args.scheme.now (shape b)) (roots_of c.in_ok-roots.roots) b (layers_of c.in_ok-roots.tree))
-    (sym (same_batch g (goal.at.check_text-requires-clause-committed g c).After-check_indices))
-    c.in_ok-roots.ensures.committed
+    c.deref.ensures.value ∙ ap shape same in
+    let committed = subst (λ (b : Batch g.row.W.Denot). IsCommitment
+    (params_over g.H.CryptographicHasher.hash g.C.PseudoCompressionFunction.compression g.row.D
+    c.args.scheme.now (shape b)) (roots_of c.in_ok-roots.roots) b (layers_of c.in_ok-roots.tree)) same
+    c.in_ok-roots.ensures.committed in (
+      search rules,
+      (search rules, (search rules, (search rules, (below, (shapes, committed))))),
+    )

@@ -1,7 +1,7 @@
-use Rattle.std.proofs.Common.{◌++◌, ◌∙◌, [], ap, map, append_assoc, refl, arith}
-use Rattle.std.specs.Prelude.{codes, flat_map, length}
-use Rattle.std.proofs.lemmas.List.{take_all}
-use Rattle.mmcs_text.specs.Text.{digest_lines, hex_lines, labelled, row_line}
+use Rattle.std.proofs.Common.{◌++◌, ◌∙◌, [], ap, sym, map, length, append_assoc, refl, arith}
+use Rattle.std.specs.Prelude.{codes, flat_map}
+use Rattle.std.proofs.lemmas.List.{length-map, take_all}
+use Rattle.mmcs_text.specs.Text.{hex_lines, labelled, row_line}
 use Rattle.mmcs_engine.specs.Inner.Alike.{opened_lines}
 use Rattle.mmcs_engine.proofs.TextFacts.{queries_more, rows_opened}
 use Rattle.mmcs_engine.proofs.engine.text_of_opening.Goals as goal
@@ -24,4 +24,10 @@ returns g c = λ b are.
     let value = g.W.Word.value in
     let digests = map (map value) c.args.digests.now in
     let lines = flat_map (opened_lines value b) c.args.indices.now in
-    ?
+    c.in_ok-push_digests.ensures
+    ∙ ap (λ text. text ++ hex_lines width digests)
+    (c.in_ok-push_labelled-2.ensures
+    ∙ (λ i. (c.loop-query.invariant b are ∙ ap (λ is. flat_map (opened_lines value b) is)
+    (take_all c.loop-query.query c.args.indices.now c.loop-query-test.false)) i
+    ++ labelled (codes "digests") (sym (length-map c.args.digests.now (map value)) i)))
+    ∙ append_assoc lines (labelled (codes "digests") (length digests)) (hex_lines width digests)

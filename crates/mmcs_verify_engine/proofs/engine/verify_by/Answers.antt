@@ -36,4 +36,5 @@ returns-clause-text g c =
     c.requires.line_hash g.bound-9.words c.requires.words c.as_slice-dimensions.result.now
     c.args.request.now.dimensions.items c.as_slice-dimensions.ensures.value c.args.input.now found
     c.in_ok-found.ensures.shown c.len.result c.in_ok-text_of_count.field-0.items
-    (sym same ∙ c.in_ok-verify_batch_pruned.ensures.verdict.answer) c.len.ensures c.in_ok-text_of_count.ensures
+    (sym same ∙ c.in_ok-verify_batch_pruned.ensures.verdict.answer) (c.len.ensures ∙ found.opening.digests.ok.0)
+    c.in_ok-text_of_count.ensures
