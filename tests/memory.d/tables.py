@@ -1,4 +1,4 @@
-"""Prints the lines of a run as the tables of docs/MEMORY.md: python3 tables.py LINES."""
+"""Prints the lines of a run as tables: python3 tables.py LINES."""
 
 import sys
 

@@ -3,9 +3,9 @@
 use crate::failing::{FailingInput, FailingOutput};
 use anyhow::Error;
 use mmcs_engine::engine::run;
+use mmcs_engine::process::ProgramFault;
 use mmcs_verify_engine::engine::run as verify;
 use std::alloc::{AllocError, Global};
-use std::fmt::Display;
 
 /// What is wrong with a line, if it is no case, or is not answered as it is written.
 ///
@@ -132,33 +132,21 @@ fn answer_to(alloc: Global, words: &str, input: &[u8]) -> Result<String, Error> 
     }
     let mut output = Vec::new(alloc);
     let outcome = run(alloc, &words_of(alloc, words)?, &mut &*input, &mut output);
-    told(
-        alloc,
-        &output,
-        outcome.map_err(|fault| (fault.status(), fault)),
-    )
+    told(alloc, &output, outcome)
 }
 
 /// The answer of the engine of `mmcs_verify`.
 fn verified(alloc: Global, words: &str, mut input: &[u8]) -> Result<String, Error> {
     let mut output = Vec::new(alloc);
     let outcome = verify(alloc, &words_of(alloc, words)?, &mut input, &mut output);
-    told(
-        alloc,
-        &output,
-        outcome.map_err(|fault| (fault.status(), fault)),
-    )
+    told(alloc, &output, outcome)
 }
 
 /// The answer of the engine of `mmcs` to an input that fails where its bytes end.
 fn unread(alloc: Global, words: &str, rest: &[u8]) -> Result<String, Error> {
     let (mut input, mut output) = (FailingInput { rest }, Vec::new(alloc));
     let outcome = run(alloc, &words_of(alloc, words)?, &mut input, &mut output);
-    told(
-        alloc,
-        &output,
-        outcome.map_err(|fault| (fault.status(), fault)),
-    )
+    told(alloc, &output, outcome)
 }
 
 /// The answer of the engine of `mmcs` where its output fails after as many calls as the first word says.
@@ -166,21 +154,18 @@ fn unwritten(alloc: Global, words: &str, mut input: &[u8]) -> Result<String, Err
     let (calls, words) = words.split_once(' ').unwrap_or(("0", words));
     let mut output = FailingOutput::new(alloc, calls.parse()?);
     let outcome = run(alloc, &words_of(alloc, words)?, &mut input, &mut output);
-    told(
-        alloc,
-        &output.taken,
-        outcome.map_err(|fault| (fault.status(), fault)),
-    )
+    told(alloc, &output.taken, outcome)
 }
 
 /// An output as text, and behind it the line and the status of a fault.
-fn told<E: Display + Drop>(
+fn told<F: ProgramFault>(
     alloc: Global,
     output: &[u8],
-    outcome: Result<(), (u8, E)>,
+    outcome: Result<(), F>,
 ) -> Result<String, Error> {
     let mut text = String::from_str(alloc, str::from_utf8(output)?)?;
-    if let Err((status, fault)) = outcome {
+    if let Err(fault) = outcome {
+        let status = fault.status();
         write!(text, "{fault} (status {status})")?;
     }
     Ok(text)

@@ -1,6 +1,7 @@
 -- A tree over words is the tree over their numbers.
 use Rattle.std.proofs.Common.{◌≡◌, ℕ, Bool, true, false, Decides, List, [], ◌∷◌, ◌++◌, map, refl, sym, ap, ◌∙◌}
-use Rattle.std.specs.Prelude.{flat_map, nat_eq, IfOk, Result}
+use Rattle.std.proofs.Common.{subst}
+use Rattle.std.specs.Prelude.{flat_map, nat_eq, IfOk, IsTrue, Result}
 use Rattle.std.specs.Cmp.{unsigned_Decides}
 use Rattle.std.proofs.lemmas.List.{map-id}
 use Rattle.std.proofs.lemmas.Result.{IfOk-weaker}
@@ -11,23 +12,26 @@ use Rattle.p3_support.specs.declared.matrix.RowMajorMatrix.{RowMajorMatrix}
 use Rattle.p3_merkle_core.specs.Caps.{cap_layer}
 use Rattle.p3_merkle_core.specs.declared.cap.CapRule.{CapRule}
 use Rattle.p3_merkle_core.specs.Checks.{params}
-use Rattle.p3_merkle_core.specs.Geometry.{shape_of, Shape}
+use Rattle.p3_merkle_core.specs.Geometry.{is_arity, shape_of, Shape}
 use Rattle.p3_merkle_core.specs.Nodes.{layer, layers, shape, Batch, Functions, Matrix}
 use Rattle.p3_merkle_core.specs.Openings.{honest_rows, node_in}
 use Rattle.p3_merkle_core.specs.Pruning.{boundary_by, pruned_len, pruned_of, PrunedOpening}
 use Rattle.p3_merkle_core.specs.Refusals.{pruned_refusal_under, IsEquality}
 use Rattle.mmcs_text.specs.declared.command.Action.{Action}
 use Rattle.mmcs_text.specs.declared.command.Action.TheVariants.{Commit, Open, Check}
+use Rattle.mmcs_text.specs.declared.command.Arity.{Arity}
+use Rattle.mmcs_text.specs.declared.command.Arity.TheVariants.{Two, Four, Eight}
 use Rattle.mmcs_text.specs.declared.command.CapChoice.{CapChoice}
 use Rattle.mmcs_text.specs.declared.command.HashName.{HashName}
 use Rattle.mmcs_text.specs.Matrices.{batch_of_rows, matrix_of_rows}
+use Rattle.mmcs_text.specs.Words.{arity_number}
 use Rattle.mmcs_text.specs.Inner.Stored.{stored_batch, stored_matrix}
 use Rattle.mmcs_text.specs.Text.{digest_lines, hex_lines, ok_line, query_lines}
 use Rattle.mmcs_text.proofs.ByNumber.{by_number}
 use Rattle.mmcs_text.proofs.MatrixFacts.{digests_plain, stored_dimensions, stored_plain}
 use Rattle.mmcs_engine.specs.Program.{functions_of_hash, hex_digits, layer_of_cap, text_of}
 use Rattle.mmcs_engine.specs.Inner.Alike.{batch_in_numbers, matrix_in_numbers, opened_text, pruned_in_numbers}
-use Rattle.mmcs_engine.specs.Inner.Alike.{ComputeAlike, IsSchemeOf}
+use Rattle.mmcs_engine.specs.Inner.Alike.{AreOfHash, ComputeAlike, IsSchemeOf}
 
 -- ---- numbers stand for themselves
 
@@ -160,8 +164,9 @@ module _ {T : Type 0} (value : T → ℕ) (some_word : (n : ℕ) → (w : T) × 
     commit_printed roots roots_are action_is printed_is =
         IfOk-weaker result _ _
         (λ v text_is. text_is
-        ∙ (λ i. hex_lines (asked.printed_digits i) (map (map value) (roots_are i)))
-        ∙ ap (hex_lines (hex_digits hash)) (in_numbers.layer_is f (functions_of_hash hash) asked.alike b own_layer)
+        ∙ (λ i. hex_lines (asked.of_hash.printed_digits i) (map (map value) (roots_are i)))
+        ∙ ap (hex_lines (hex_digits hash))
+        (in_numbers.layer_is f (functions_of_hash hash) asked.of_hash.alike b own_layer)
         ∙ ap (λ l. hex_lines (hex_digits hash) (layer (functions_of_hash hash) numbers l)) own_layer_is
         ∙ ap due (sym action_is))
         printed_is
@@ -172,8 +177,8 @@ module _ {T : Type 0} (value : T → ℕ) (some_word : (n : ℕ) → (w : T) × 
     open_printed nodes lent nodes_are same action_is printed_is =
         IfOk-weaker result _ _
         (λ v text_is. text_is
-        ∙ (λ i. opened_text value (asked.printed_digits i) b (nodes_are i) (same i) own_layer)
-        ∙ in_numbers.opened_is f (functions_of_hash hash) asked.alike b (hex_digits hash) indices own_layer
+        ∙ (λ i. opened_text value (asked.of_hash.printed_digits i) b (nodes_are i) (same i) own_layer)
+        ∙ in_numbers.opened_is f (functions_of_hash hash) asked.of_hash.alike b (hex_digits hash) indices own_layer
         ∙ ap (printed (hex_digits hash) (functions_of_hash hash) numbers indices) own_layer_is
         ∙ ap due (sym action_is))
         printed_is
@@ -187,6 +192,24 @@ module _ {T : Type 0} (value : T → ℕ) (some_word : (n : ℕ) → (w : T) × 
         ∙ (λ i. ok_line (pruned_len (in_numbers.same_shape b i) (same i) (own_layer_is i)))
         ∙ ap due (sym action_is))
         printed_is
+
+-- ---- the scheme of a command
+
+-- a scheme of a hash's functions and of a cap's height and rule
+pub scheme_made : {T : Type 0} {hash : HashName} {cap : CapChoice} {value : T → ℕ} {max digits : ℕ}
+    {f g : Functions T T} {cap_height : ℕ} {rule : CapRule} → AreOfHash hash value max digits f → g ≡ f →
+    cap_height ≡ cap.height → rule ≡ cap.rule → IsSchemeOf hash cap value max digits g cap_height rule
+scheme_made {T} {hash} {cap} {value} {max} {digits} are same height_is rule_is = record {
+  of_hash = subst (λ (h : Functions T T). AreOfHash hash value max digits h) (sym same) are;
+  same_height = height_is;
+  same_rule = rule_is;
+}
+
+-- a scheme can have the arity of a command
+pub arity_taken : (arity : Arity) → IsTrue (is_arity (arity_number arity))
+arity_taken Two = refl
+arity_taken Four = refl
+arity_taken Eight = refl
 
 -- ---- stored matrices
 

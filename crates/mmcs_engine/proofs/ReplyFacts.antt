@@ -21,23 +21,6 @@ use Rattle.mmcs_engine.specs.Program.{batch_asked, layer_of_cap, refusal_of, tex
 use Rattle.mmcs_engine.proofs.GateFacts.{heights_are, taken_from_none}
 use Rattle.mmcs_engine.proofs.Outcomes.{ends_in}
 
--- a refusal of one shape and indices is that of equal ones
-pub refused : {V : Type 0} (result : Result V MerkleTreeError) (e : MerkleTreeError) (s t : Shape) (is js : List ℕ) →
-    result ≡ Err e → s ≡ t → is ≡ js → (e ≡ OutOfMemory) ⊎ (pruned_len_refusal s is ≡ Some e) →
-    AnswersUnlessMemory result (pruned_len_refusal t js)
-refused {V} result e s t is js result_is same_shape same_indices told =
-    subst (λ (r : Result V MerkleTreeError). AnswersUnlessMemory r (pruned_len_refusal t js)) (sym result_is)
-    (subst (λ (r : Option MerkleTreeError). (e ≡ OutOfMemory) ⊎ (r ≡ Some e))
-    (λ i. pruned_len_refusal (same_shape i) (same_indices i)) told)
-
--- and where they are taken, there is none
-pub unrefused : {V : Type 0} (result : Result V MerkleTreeError) (s t : Shape) (is js : List ℕ) →
-    s ≡ t → is ≡ js → pruned_len_refusal s is ≡ None → AnswersUnlessMemory result None →
-    AnswersUnlessMemory result (pruned_len_refusal t js)
-unrefused result s t is js same_shape same_indices taken answer =
-    subst (λ (r : Option MerkleTreeError). AnswersUnlessMemory result r)
-    (sym taken ∙ (λ i. pruned_len_refusal (same_shape i) (same_indices i))) answer
-
 -- a batch of numbers is that of the matrices that an input stands for
 module _ (command : Command) (indices input : List ℕ) (max n : ℕ) (max_is : max ≡ max_word command.hash)
     (n_is : n ≡ arity_number command.arity) (matrices : List (List (List ℕ)))

@@ -1,13 +1,13 @@
 //! From words and an input to an output.
 
-ghost use Rattle.std.specs.Prelude.{◌≡◌, ◌⊎◌, ℕ, ◌++◌, ◌<◌, ◌↔◌, All, Ok, Err, IfOk, IfErr, IfSome, None, OnOk};
-ghost use Rattle.std.specs.Prelude.{IsTrue, flat_map, length, map};
+ghost use Rattle.std.specs.Prelude.{◌≡◌, ◌⊎◌, ℕ, ◌++◌, ◌<◌, ◌≤◌, ◌↔◌, All, Ok, Err, IfOk, IfErr, IfSome, None, OnOk};
+ghost use Rattle.std.specs.Prelude.{flat_map, length, map, replicate};
 ghost use Rattle.std.specs.Io.KnownBytes.{Appends};
 ghost use Rattle.p3_support.specs.Batches.{greatest};
 ghost use Rattle.p3_support.specs.Shown.{roots_of, row_sets};
 ghost use Rattle.p3_merkle_core.specs.Commitments.{IsCommitment};
 ghost use Rattle.p3_merkle_core.specs.Geometry.{heights, shape_of};
-ghost use Rattle.p3_merkle_core.specs.Nodes.{shape, Batch};
+ghost use Rattle.p3_merkle_core.specs.Nodes.{functions_of, shape, Batch};
 ghost use Rattle.p3_merkle_core.specs.Openings.{honest_rows};
 ghost use Rattle.p3_merkle_core.specs.Pruning.{pruned_len};
 ghost use Rattle.p3_merkle_core.specs.Refusals.{pruned_len_refusal, AnswersUnlessMemory};
@@ -16,21 +16,22 @@ ghost use Rattle.p3_merkle_prover.specs.Parts.{layers_of, tree_batch};
 ghost use Rattle.p3_merkle_mmcs.specs.Schemes.{cap_height_of, cap_layer_over, cap_rule_of, scheme_functions};
 ghost use Rattle.p3_merkle_mmcs.specs.Schemes.{params_over};
 ghost use Rattle.mmcs_text.specs.declared.fault.Fault.TheVariants.{Usage, Read, Tree, Write};
-ghost use Rattle.mmcs_text.specs.Inner.Stored.{stored_batch, is_taken_arity};
+ghost use Rattle.mmcs_text.specs.Inner.Stored.{stored_batch};
 ghost use Rattle.mmcs_text.specs.Text.{digest_lines, hex_lines, ok_line};
 ghost use Rattle.mmcs_text.specs.Words.{arity_number, texts_of, AreNoCommand};
-ghost use Rattle.mmcs_text.specs.declared.command.HashName.TheVariants.{Fold, Sha256};
 ghost use Rattle.mmcs_engine.specs.Program.{layer_of_cap, text_of, IsAnswer, IsReply, IsTold, Prints};
-ghost use Rattle.mmcs_engine.specs.Inner.Alike.{batch_in_numbers, opened_lines, opened_text, IsSchemeOf};
+ghost use Rattle.mmcs_engine.specs.Inner.Alike.{batch_in_numbers, opened_lines, opened_text, AreOfHash, IsSchemeOf};
 
-use crate::schemes::{fold_scheme, sha_scheme};
 use mmcs_text::command::{Action, Arity, HashName, Request};
 use mmcs_text::fault::Fault;
 use mmcs_text::input::read_matrices;
 use mmcs_text::streams::{read_all, write_text};
 use mmcs_text::text::{push_digests, push_labelled, push_rows};
 use mmcs_text::word::Word;
+use p3_hashes::fold::{FoldCompress, FoldHash};
+use p3_hashes::sha_eights::{Sha256NodesInEights, Sha256RowsInEights};
 use p3_merkle_core::error::MerkleTreeError;
+use p3_merkle_core::pruning::check_indices;
 use p3_merkle_mmcs::mmcs::MerkleTreeMmcs;
 use p3_merkle_prover::tree::MerkleTree;
 use p3_support::compress::PseudoCompressionFunction;
@@ -40,20 +41,6 @@ use p3_support::opening::MerkleCap;
 use p3_support::packed::PackedValue;
 use std::alloc::{AllocError, Global};
 use std::io::{Read, Write};
-
-/// What was committed to: a cap and a tree, and the dimensions of its matrices.
-#[derive(Drop)]
-struct Committed<R, T> {
-    dimensions: Vec<Dimensions>,
-    roots: R,
-    tree: T,
-}
-
-/// What a scheme over words has committed to.
-type Commitment<W, const N: usize, const D: usize> = Committed<
-    MerkleCap<W, [W; D]>,
-    MerkleTree<W, W, RowMajorMatrix<W>, N, D>,
->;
 
 /// Runs the command of `words`, those after the program's name: reads the whole input, and writes the output once all
 /// else has succeeded.
@@ -121,87 +108,74 @@ fn reply(alloc: Global, request: &Request, input: &[u8]) -> Result<Vec<u8>, Faul
     ensures fault { IfErr result (λ fault. (fault ≡ Fault.Tree OutOfMemory) ⊎
         IsReply request.now.command request.now.indices.items input.now (Err fault)) }
 {
-    match (request.command.hash, request.command.arity) {
-        (HashName::Fold, Arity::Two) => reply_by_fold::<2>(alloc, request, input),
-        (HashName::Fold, Arity::Four) => reply_by_fold::<4>(alloc, request, input),
-        (HashName::Fold, Arity::Eight) => reply_by_fold::<8>(alloc, request, input),
-        (HashName::Sha256, Arity::Two) => reply_by_sha::<2>(alloc, request, input),
-        (HashName::Sha256, Arity::Four) => reply_by_sha::<4>(alloc, request, input),
-        (HashName::Sha256, Arity::Eight) => reply_by_sha::<8>(alloc, request, input),
+    match request.command.arity {
+        Arity::Two => reply_at::<2>(alloc, request, input),
+        Arity::Four => reply_at::<4>(alloc, request, input),
+        Arity::Eight => reply_at::<8>(alloc, request, input),
     }
 }
 
-/// The same under `fold` at the arity of the command.
+/// The same at the arity of the command.
 ///
 /// # Errors
 ///
 /// Those of [`reply`].
-fn reply_by_fold<const N: usize>(
+fn reply_at<const N: usize>(
     alloc: Global,
     request: &Request,
     input: &[u8],
 ) -> Result<Vec<u8>, Fault>
-    requires taken { IsTrue (is_taken_arity N) }
-    requires hash { request.now.command.hash ≡ Fold }
-    requires arity { N ≡ arity_number request.now.command.arity }
+    requires { N ≡ arity_number request.now.command.arity }
     ensures text { IfOk result
         (λ text. IsReply request.now.command request.now.indices.items input.now (Ok text.items)) }
     ensures fault { IfErr result (λ fault. (fault ≡ Fault.Tree OutOfMemory) ⊎
         IsReply request.now.command request.now.indices.items input.now (Err fault)) }
 {
-    let scheme = fold_scheme::<N>(request.command.cap);
-    reply_by(alloc, &scheme, request, input)
+    match request.command.hash {
+        HashName::Fold => reply_by::<u32, FoldHash<4>, FoldCompress<N, 4>, N, 1>(
+            alloc,
+            FoldHash::<4>,
+            FoldCompress::<N, 4>,
+            request,
+            input,
+        ),
+        HashName::Sha256 => reply_by::<u8, Sha256RowsInEights, Sha256NodesInEights<N>, N, 32>(
+            alloc,
+            Sha256RowsInEights,
+            Sha256NodesInEights::<N>,
+            request,
+            input,
+        ),
+    }
 }
 
-/// The same under `sha256` at the arity of the command.
-///
-/// # Errors
-///
-/// Those of [`reply`].
-fn reply_by_sha<const N: usize>(
-    alloc: Global,
-    request: &Request,
-    input: &[u8],
-) -> Result<Vec<u8>, Fault>
-    requires taken { IsTrue (is_taken_arity N) }
-    requires hash { request.now.command.hash ≡ Sha256 }
-    requires arity { N ≡ arity_number request.now.command.arity }
-    ensures text { IfOk result
-        (λ text. IsReply request.now.command request.now.indices.items input.now (Ok text.items)) }
-    ensures fault { IfErr result (λ fault. (fault ≡ Fault.Tree OutOfMemory) ⊎
-        IsReply request.now.command request.now.indices.items input.now (Err fault)) }
-{
-    let scheme = sha_scheme::<N>(request.command.cap);
-    reply_by(alloc, &scheme, request, input)
-}
-
-/// The same under the scheme of the command.
+/// The same by the functions of the command's hash.
 ///
 /// # Errors
 ///
 /// Those of [`reply`].
 fn reply_by<
     W: Word + PackedValue<Value = W>,
-    H: CryptographicHasher<W, W, D>,
-    C: PseudoCompressionFunction<W, N, D>,
+    H: CryptographicHasher<W, W, D> + Copy,
+    C: PseudoCompressionFunction<W, N, D> + Copy,
     const N: usize,
     const D: usize,
->(
-    alloc: Global,
-    scheme: &MerkleTreeMmcs<W, W, H, C, N, D>,
-    request: &Request,
-    input: &[u8],
-) -> Result<Vec<u8>, Fault>
-    requires scheme { IsSchemeOf request.now.command.hash request.now.command.cap W.value W.MAX W.HEX_DIGITS
-        (scheme_functions H.hash C.compression D scheme.now) (cap_height_of scheme.now) (cap_rule_of scheme.now) }
+>(alloc: Global, hash: H, compress: C, request: &Request, input: &[u8]) -> Result<Vec<u8>, Fault>
+    requires hash { AreOfHash request.now.command.hash W.value W.MAX W.HEX_DIGITS
+        (functions_of (H.hash hash) (C.compression compress) (replicate D W.default_value)) }
     requires arity { N ≡ arity_number request.now.command.arity }
+    requires some_lane { 1 ≤ W.WIDTH }
     ensures text { IfOk result
         (λ text. IsReply request.now.command request.now.indices.items input.now (Ok text.items)) }
     ensures fault { IfErr result (λ fault. (fault ≡ Fault.Tree OutOfMemory) ⊎
         IsReply request.now.command request.now.indices.items input.now (Err fault)) }
 {
     let matrices = read_matrices::<W>(alloc, input)?;
-    Ok(act(alloc, scheme, request, matrices)?)
+    let cap = request.command.cap;
+    let scheme = MerkleTreeMmcs::<W, W, H, C, N, D>::new_with_rule(
+        hash, compress, cap.height, cap.rule,
+    );
+    Ok(act(alloc, &scheme, request, matrices)?)
 }
 
 /// The text that a command prints of some matrices, under its scheme.
@@ -231,83 +205,14 @@ fn act<
     ensures answer { AnswersUnlessMemory result
         (pruned_len_refusal (shape (stored_batch N matrices.items)) request.now.indices.items) }
 {
-    let committed = commit(alloc, scheme, request, matrices)?;
-    text_of_tree(alloc, scheme, request, &committed)
-}
-
-/// Commits to the matrices of a command, where a tree can have their heights, and has its indices.
-///
-/// # Errors
-///
-/// Those of [`act`].
-fn commit<
-    W: Word + PackedValue<Value = W>,
-    H: CryptographicHasher<W, W, D>,
-    C: PseudoCompressionFunction<W, N, D>,
-    const N: usize,
-    const D: usize,
->(
-    alloc: Global,
-    scheme: &MerkleTreeMmcs<W, W, H, C, N, D>,
-    request: &Request,
-    matrices: Vec<RowMajorMatrix<W>>,
-) -> Result<Commitment<W, N, D>, MerkleTreeError>
-    ensures indices { IfOk result (λ made. let b = tree_batch made.tree in
-        All (λ i. i < greatest (heights (shape b))) request.now.indices.items) }
-    ensures dimensions { IfOk result (λ made. shape_of N made.dimensions.items ≡ shape (tree_batch made.tree)) }
-    ensures committed { IfOk result (λ made. let b = tree_batch made.tree in
-        IsCommitment (params_over H.hash C.compression D scheme.now (shape b)) (roots_of made.roots) b
-        (layers_of made.tree)) }
-    ensures matrices { IfOk result (λ made. tree_batch made.tree ≡ stored_batch N matrices.items) }
-    ensures answer { AnswersUnlessMemory result
-        (pruned_len_refusal (shape (stored_batch N matrices.items)) request.now.indices.items) }
-{
     let dimensions = dimensions_of(alloc, &matrices)?;
-    scheme.pruned_len(alloc, &dimensions, &request.indices)?;
     let (roots, tree) = scheme.commit(alloc, matrices)?;
-    Ok(Committed {
-        dimensions,
-        roots,
-        tree,
-    })
-}
-
-/// The text that a command prints of what was committed to.
-///
-/// # Errors
-///
-/// Only `OutOfMemory`.
-fn text_of_tree<
-    W: Word + PackedValue<Value = W>,
-    H: CryptographicHasher<W, W, D>,
-    C: PseudoCompressionFunction<W, N, D>,
-    const N: usize,
-    const D: usize,
->(
-    alloc: Global,
-    scheme: &MerkleTreeMmcs<W, W, H, C, N, D>,
-    request: &Request,
-    committed: &Commitment<W, N, D>,
-) -> Result<Vec<u8>, MerkleTreeError>
-    requires scheme { IsSchemeOf request.now.command.hash request.now.command.cap W.value W.MAX W.HEX_DIGITS
-        (scheme_functions H.hash C.compression D scheme.now) (cap_height_of scheme.now) (cap_rule_of scheme.now) }
-    requires indices { let b = tree_batch committed.now.tree in
-        All (λ i. i < greatest (heights (shape b))) request.now.indices.items }
-    requires dimensions { shape_of N committed.now.dimensions.items ≡ shape (tree_batch committed.now.tree) }
-    requires committed { let b = tree_batch committed.now.tree in
-        IsCommitment (params_over H.hash C.compression D scheme.now (shape b)) (roots_of committed.now.roots) b
-        (layers_of committed.now.tree) }
-    ensures text { let b = batch_in_numbers W.value (tree_batch committed.now.tree) in
-        IfOk result (λ text. text.items
-        ≡ text_of request.now.command.hash request.now.command.action request.now.indices.items b
-        (layer_of_cap request.now.command.cap (shape b))) }
-    ensures memory { AnswersUnlessMemory result None }
-{
-    let indices = &request.indices;
+    let indices = request.indices.as_slice();
+    check_indices(scheme.get_max_height(&tree), indices)?;
     match request.command.action {
-        Action::Commit => cap_text(alloc, &committed.roots),
-        Action::Open => open_text(alloc, scheme, indices, &committed.tree),
-        Action::Check => check_text(alloc, scheme, indices, committed),
+        Action::Commit => cap_text(alloc, &roots),
+        Action::Open => open_text(alloc, scheme, indices, &tree),
+        Action::Check => check_text(alloc, scheme, indices, &dimensions, &roots, &tree),
     }
 }
 
@@ -373,32 +278,13 @@ fn text_of_opening<W: Word, const D: usize>(
         ++ digest_lines W.HEX_DIGITS (map (map W.value) digests.now)) }
 {
     let mut text = Vec::new(alloc);
-    push_queries(alloc, &mut text, indices, opened)?;
+    for (query, index) in indices.iter().enumerate() {
+        push_labelled(alloc, &mut text, "index", *index)?;
+        push_rows(alloc, &mut text, &opened[query])?;
+    }
     push_labelled(alloc, &mut text, "digests", digests.len())?;
     push_digests(&mut text, digests)?;
     Ok(text)
-}
-
-/// Appends what is opened of each index: the index, and a line for the row of each matrix.
-///
-/// # Errors
-///
-/// `AllocError` if memory runs out.
-fn push_queries<W: Word>(
-    alloc: Global,
-    text: &mut Vec<u8>,
-    indices: &[usize],
-    opened: &[Vec<Vec<W>>],
-) -> Result<(), AllocError>
-    requires { length opened.now ≡ length indices.now }
-    ensures { (b : Batch W) → row_sets opened.now ≡ map (honest_rows b) indices.now → OnOk result
-        (text.new.items ≡ text.old.items ++ flat_map (opened_lines W.value b) indices.now) }
-{
-    for (query, index) in indices.iter().enumerate() {
-        push_labelled(alloc, text, "index", *index)?;
-        push_rows(alloc, text, &opened[query])?;
-    }
-    Ok(())
 }
 
 /// Opens indices of a tree, verifies what is opened, and tells how many digests were sent.
@@ -416,23 +302,19 @@ fn check_text<
     alloc: Global,
     scheme: &MerkleTreeMmcs<W, W, H, C, N, D>,
     indices: &[usize],
-    committed: &Commitment<W, N, D>,
+    dimensions: &[Dimensions],
+    roots: &MerkleCap<W, [W; D]>,
+    tree: &MerkleTree<W, W, RowMajorMatrix<W>, N, D>,
 ) -> Result<Vec<u8>, MerkleTreeError>
-    requires indices { let b = tree_batch committed.now.tree in
-        All (λ i. i < greatest (heights (shape b))) indices.now }
-    requires dimensions { shape_of N committed.now.dimensions.items ≡ shape (tree_batch committed.now.tree) }
-    requires committed { let b = tree_batch committed.now.tree in
-        IsCommitment (params_over H.hash C.compression D scheme.now (shape b)) (roots_of committed.now.roots) b
-        (layers_of committed.now.tree) }
-    ensures text { let s = shape (tree_batch committed.now.tree) in
+    requires indices { All (λ i. i < greatest (heights (shape (tree_batch tree.now)))) indices.now }
+    requires dimensions { shape_of N dimensions.now ≡ shape (tree_batch tree.now) }
+    requires committed { let b = tree_batch tree.now in
+        IsCommitment (params_over H.hash C.compression D scheme.now (shape b)) (roots_of roots.now) b
+        (layers_of tree.now) }
+    ensures text { let s = shape (tree_batch tree.now) in
         IfOk result (λ text. text.items ≡ ok_line (pruned_len s indices.now (cap_layer_over scheme.now s))) }
     ensures memory { AnswersUnlessMemory result None }
 {
-    let Committed {
-        dimensions,
-        roots,
-        tree,
-    } = committed;
     let opening = scheme.open_batch_pruned(alloc, indices, tree)?;
     let (rows, proof) = (&opening.opened_values, &opening.pruned_proof);
     scheme.verify_batch_pruned(alloc, roots, dimensions, indices, rows, proof)?;

@@ -3,6 +3,5 @@
 
 pub mod engine;
 pub mod laws;
-pub mod schemes;
 
 pub use mmcs_text::{fault, process};

@@ -94,15 +94,6 @@ impl Request {
     }
 }
 
-/// Whether each of these words is a number.
-fn are_numbers(words: &[String]) -> bool
-    ensures { Decides result (All IsNumberWord (texts_of words.now)) }
-{
-    words
-        .iter()
-        .all(|word| parse_number(word.as_bytes()).is_some())
-}
-
 /// The numbers of words. Each word must be a number.
 ///
 /// # Errors
@@ -210,7 +201,9 @@ impl Action {
     {
         match self {
             Action::Commit => places.is_empty(),
-            Action::Open | Action::Check => are_numbers(places),
+            Action::Open | Action::Check => places
+                .iter()
+                .all(|word| parse_number(word.as_bytes()).is_some()),
         }
     }
 }

@@ -45,23 +45,15 @@ pub enum Fault {
     Write,
 }
 
-impl Fault {
+impl ProgramFault for Fault {
+    ghost status_of = { status_of };
+
     /// The exit status: 2 for words that are no command, else 1.
-    pub fn status(&self) -> u8
-        ensures { result ≡ status_of self.now }
-    {
+    fn status(&self) -> u8 {
         match self {
             Fault::Usage => 2,
             _ => 1,
         }
-    }
-}
-
-impl ProgramFault for Fault {
-    ghost status_of = { status_of };
-
-    fn status(&self) -> u8 {
-        self.status()
     }
 }
 

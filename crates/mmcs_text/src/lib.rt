@@ -8,7 +8,6 @@ pub mod digest;
 pub mod fault;
 pub mod input;
 pub mod laws;
-mod line;
 mod lines;
 pub mod number;
 pub mod opening_fault;

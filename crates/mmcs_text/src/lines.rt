@@ -11,8 +11,8 @@ use crate::input::{cut_line, without_return};
 pub(crate) struct Lines<'a> {
     /// The bytes of these lines, or nothing behind the last line.
     rest: Option<&'a [u8]>,
-    /// How many lines were read.
-    read: usize,
+    /// How many lines were read: the number of the last of them, counted from 1.
+    pub(crate) read: usize,
 }
 
 impl<'a> Lines<'a> {
@@ -26,21 +26,6 @@ impl<'a> Lines<'a> {
             rest: Some(input),
             read: 0,
         }
-    }
-
-    /// The number of the line that was read last, counted from 1.
-    pub(crate) fn number(&self) -> usize
-        ensures { result ≡ self.now.read }
-    {
-        self.read
-    }
-
-    /// The number of the next line, also behind the last one.
-    pub(crate) fn next_number(&self) -> usize
-        requires { AreCounted self.now }
-        ensures { result ≡ self.now.read + 1 }
-    {
-        self.read + 1
     }
 
     /// The next line without its line ending, if there is one.

@@ -7,7 +7,7 @@ ghost use Rattle.mmcs_text.specs.OpeningFaults.{status_of};
 
 use crate::process::ProgramFault;
 use p3_merkle_core::error::MerkleTreeError;
-use std::alloc::{AllocError, AllocFailed};
+use std::alloc::AllocError;
 use thiserror::Error;
 
 /// What went wrong. It prints as one line, and ends the program with its status.
@@ -69,23 +69,15 @@ pub enum Expected {
     End,
 }
 
-impl Fault {
+impl ProgramFault for Fault {
+    ghost status_of = { status_of };
+
     /// The exit status: 2 for words that are no command, else 1.
-    pub fn status(&self) -> u8
-        ensures { result ≡ status_of self.now }
-    {
+    fn status(&self) -> u8 {
         match self {
             Fault::Usage => 2,
             _ => 1,
         }
-    }
-}
-
-impl ProgramFault for Fault {
-    ghost status_of = { status_of };
-
-    fn status(&self) -> u8 {
-        self.status()
     }
 }
 
@@ -101,14 +93,6 @@ impl From<AllocError> for Fault {
     ghost from_gives = { λ _ fault. fault ≡ Tree OutOfMemory };
 
     fn from(_error: AllocError) -> Fault {
-        Fault::Tree(MerkleTreeError::OutOfMemory)
-    }
-}
-
-impl<T: Drop> From<AllocFailed<T>> for Fault {
-    ghost from_gives = { λ _ fault. fault ≡ Tree OutOfMemory };
-
-    fn from(_error: AllocFailed<T>) -> Fault {
         Fault::Tree(MerkleTreeError::OutOfMemory)
     }
 }

@@ -1,9 +1,10 @@
 //! A cap and an opening, or two, from the bytes of an input.
 
 ghost use Rattle.std.specs.Prelude.{◌≡◌, ◌⊎◌, ◌+◌, ℕ, true, false, if◌then◌else◌, List, [], ◌∷◌, IfOk, IfErr, None};
-ghost use Rattle.std.specs.Prelude.{OnOk, Some, Ok, Err};
+ghost use Rattle.std.specs.Prelude.{OnOk, Some, Ok, Err, map, option_map};
 ghost use Rattle.p3_merkle_core.specs.declared.error.MerkleTreeError.TheVariants.{OutOfMemory};
 ghost use Rattle.mmcs_text.specs.Input.{is_blank};
+ghost use Rattle.mmcs_text.specs.Lines.{number_behind, row_of};
 ghost use Rattle.mmcs_text.specs.Words.{max_word};
 ghost use Rattle.mmcs_text.specs.declared.opening_fault.Expected.TheVariants.{BlankLine};
 ghost use Rattle.mmcs_text.specs.declared.opening_fault.Fault.TheVariants.{Line, Tree};
@@ -14,9 +15,9 @@ ghost use Rattle.mmcs_text.specs.Inner.Typed.{pair_of, reading_of, shown_of};
 ghost use Rattle.mmcs_text.specs.Readings.{settled, shown_by, shown_in, unread, whole_at};
 
 use crate::digest::LineDigest;
-use crate::input::is_blank;
-use crate::line::{number_behind, row_of};
+use crate::input::{append_row, is_blank};
 use crate::lines::Lines;
+use crate::number::parse_number;
 use crate::opening_fault::{Expected, Fault};
 use crate::word::Word;
 use p3_support::matrix::Dimensions;
@@ -301,22 +302,15 @@ impl<W: Word, H: LineDigest> Reader<W, H> {
         Ok(true)
     }
 
-    /// The opening that was read, and a reader of another one under the same cap.
-    fn next_opening(self, alloc: Global) -> (Opening<W, H>, Reader<W, H>)
-        ensures opening { result.0 ≡ self.shown.opening }
-        ensures reader { (result.1.shown.cap ≡ self.shown.cap) ×
-            (reading_of W.value H.words result.1 ≡ behind_first (reading_of W.value H.words self)) }
+    /// The opening that was read. Another one under the same cap is read next.
+    fn next_opening(&mut self, alloc: Global) -> Opening<W, H>
+        ensures opening { result ≡ self.old.shown.opening }
+        ensures reader { (self.new.shown.cap ≡ self.old.shown.cap) ×
+            (reading_of W.value H.words self.new ≡ behind_first (reading_of W.value H.words self.old)) }
     {
-        let Statement { cap, opening } = self.shown;
-        let reader = Reader {
-            stage: Stage::Queries,
-            shown: Statement {
-                cap,
-                opening: Opening::new(alloc),
-            },
-            row_set: Vec::new(alloc),
-        };
-        (opening, reader)
+        self.stage = Stage::Queries;
+        self.row_set = Vec::new(alloc);
+        mem::replace(&mut self.shown.opening, Opening::new(alloc))
     }
 
     /// The fault of a line that is missing.
@@ -326,7 +320,7 @@ impl<W: Word, H: LineDigest> Reader<W, H> {
         ensures { result ≡ Line (lines.now.read + 1)
             (expected_after H.hash dimensions.now (reading_of W.value H.words self.now)) }
     {
-        let line = lines.next_number();
+        let line = lines.read + 1;
         let expected = self.expected(dimensions);
         Fault::Line { line, expected }
     }
@@ -358,7 +352,7 @@ impl<W: Word, H: LineDigest> Reader<W, H> {
             let Some(text) = lines.next_line() else {
                 return Err(self.missing(dimensions, lines));
             };
-            self.take_line(alloc, dimensions, text, lines.number())?;
+            self.take_line(alloc, dimensions, text, lines.read)?;
         }
         Ok(())
     }
@@ -384,13 +378,38 @@ impl<W: Word, H: LineDigest> Reader<W, H> {
             ≡ Err fault)) }
     {
         while let Some(text) = lines.next_line() {
-            self.take_line(alloc, dimensions, text, lines.number())?;
+            self.take_line(alloc, dimensions, text, lines.read)?;
         }
         if self.is_whole() {
             Ok(())
         } else {
             Err(self.missing(dimensions, lines))
         }
+    }
+}
+
+/// The number behind a label, if the line is the label and the digits of a number that fits usize.
+fn number_behind(label: &[u8], line: &[u8]) -> Option<usize>
+    ensures { result ≡ number_behind label.now line.now }
+{
+    let digits = line.strip_prefix(label)?;
+    parse_number(digits)
+}
+
+/// The row of a line, if it has `width` numbers, each at most `W::MAX`, and nothing else.
+///
+/// # Errors
+///
+/// `AllocError` if memory runs out.
+fn row_of<W: Word>(alloc: Global, width: usize, line: &[u8]) -> Result<Option<Vec<W>>, AllocError>
+    ensures { IfOk result (λ row. option_map (λ r. map W.value r.items) row ≡ row_of (W.MAX + 1) width line.now) }
+{
+    let mut row = Vec::new(alloc);
+    let got = append_row(&mut row, line)?;
+    if got == Some(width) {
+        Ok(Some(row))
+    } else {
+        Ok(None)
     }
 }
 
@@ -407,7 +426,7 @@ fn take_blank_line(lines: &mut Lines<'_>) -> Result<(), Fault>
     ensures fault { IfErr result (λ fault. (fault ≡ Line (lines.old.read + 1) BlankLine) ×
         ((line : List ℕ) (below : List (List ℕ)) → lines_left lines.old ≡ line ∷ below → is_blank line ≡ false)) }
 {
-    let line = lines.next_number();
+    let line = lines.read + 1;
     let expected = Expected::BlankLine;
     match lines.next_line() {
         Some(text) if is_blank(text) => Ok(()),
@@ -467,7 +486,7 @@ pub fn read_pair<W: Word, H: LineDigest>(
     let mut reader = Reader::new(alloc);
     reader.read_opening(alloc, dimensions, &mut lines)?;
     take_blank_line(&mut lines)?;
-    let (first, mut reader) = reader.next_opening(alloc);
+    let first = reader.next_opening(alloc);
     reader.read_to_end(alloc, dimensions, &mut lines)?;
     let Statement {
         cap,

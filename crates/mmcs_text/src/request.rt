@@ -91,7 +91,10 @@ impl Setting {
             cap: CapChoice::from_word(cap.as_bytes())?,
         };
         let (task, places) = Task::from_words(behind);
-        are_dimensions(places).then_some((setting, task, places))
+        places
+            .iter()
+            .all(|word| dimensions_of_word(word.as_bytes()).is_some())
+            .then_some((setting, task, places))
     }
 }
 
@@ -107,15 +110,6 @@ impl Task {
             _ => (Task::Verify, words),
         }
     }
-}
-
-/// Whether each of these words is the dimensions of a matrix.
-fn are_dimensions(words: &[String]) -> bool
-    ensures { result ≡ list_all (λ word. is_some (dimensions_of_word word)) (texts_of words.now) }
-{
-    words
-        .iter()
-        .all(|word| dimensions_of_word(word.as_bytes()).is_some())
 }
 
 /// The dimensions of a word: a height, an `x` and a width.

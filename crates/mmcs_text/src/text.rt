@@ -1,7 +1,7 @@
 //! The printed text.
 
 ghost use Rattle.std.specs.Prelude.{◌≡◌, ◌∷◌, ◌++◌, ◌<◌, IfOk, OnOk, decimal, flat_map, map, string_bytes};
-ghost use Rattle.mmcs_text.specs.Text.{hex_digit, hex_lines, hex_word, labelled, row_line};
+ghost use Rattle.mmcs_text.specs.Text.{hex_digit, hex_line, hex_lines, hex_word, labelled, row_line};
 
 use crate::word::Word;
 use std::alloc::{AllocError, Global};
@@ -19,25 +19,24 @@ pub fn push_digests<W: Word, const D: usize>(
         (text.new.items ≡ text.old.items ++ hex_lines W.HEX_DIGITS (map (map W.value) digests.now)) }
 {
     for digest in digests {
-        push_hex_words(text, digest)?;
-        text.push(b'\n')?;
+        push_hex_line(text, digest)?;
     }
     Ok(())
 }
 
-/// Appends words in hexadecimal, `W::HEX_DIGITS` digits each.
+/// Appends a line of words in lower case hexadecimal, `W::HEX_DIGITS` digits each, without a gap.
 ///
 /// # Errors
 ///
 /// `AllocError` if memory runs out.
-pub fn push_hex_words<W: Word>(text: &mut Vec<u8>, words: &[W]) -> Result<(), AllocError>
-    ensures { OnOk result
-        (text.new.items ≡ text.old.items ++ flat_map (hex_word W.HEX_DIGITS) (map W.value words.now)) }
+pub fn push_hex_line<W: Word>(text: &mut Vec<u8>, words: &[W]) -> Result<(), AllocError>
+    ensures { OnOk result (text.new.items ≡ text.old.items ++ hex_line W.HEX_DIGITS (map W.value words.now)) }
 {
     for word in words {
         let digits = hex_digits(word.to_number());
         text.extend_from_slice(&digits[8 - W::HEX_DIGITS..])?;
     }
+    text.push(b'\n')?;
     Ok(())
 }
 
@@ -84,21 +83,10 @@ pub fn push_rows<W: Word>(
         (text.new.items ≡ text.old.items ++ flat_map row_line (map (λ row. map W.value row.items) rows.now)) }
 {
     for row in rows {
-        push_row(alloc, text, row)?;
+        let line = row_line(alloc, row)?;
+        text.extend_from_slice(line.as_bytes())?;
     }
     Ok(())
-}
-
-/// Appends the numbers of a row in decimal, with one space between, and a line feed.
-///
-/// # Errors
-///
-/// `AllocError` if memory runs out.
-fn push_row<W: Word>(alloc: Global, text: &mut Vec<u8>, row: &[W]) -> Result<(), AllocError>
-    ensures { OnOk result (text.new.items ≡ text.old.items ++ row_line (map W.value row.now)) }
-{
-    let line = row_line(alloc, row)?;
-    text.extend_from_slice(line.as_bytes())
 }
 
 /// The numbers of a row in decimal, with one space between, and a line feed.
@@ -114,25 +102,12 @@ fn row_line<W: Word>(alloc: Global, row: &[W]) -> Result<String, AllocError>
     };
     let first = first.to_number();
     let mut line = format!(in alloc; "{first}")?;
-    push_spaced(&mut line, rest)?;
-    line.push('\n')?;
-    Ok(line)
-}
-
-/// Appends numbers in decimal, each behind a space.
-///
-/// # Errors
-///
-/// `AllocError` if memory runs out.
-fn push_spaced<W: Word>(line: &mut String, words: &[W]) -> Result<(), AllocError>
-    ensures { OnOk result
-        (string_bytes line.new ≡ string_bytes line.old ++ flat_map (λ w. 32 ∷ decimal w) (map W.value words.now)) }
-{
-    for word in words {
+    for word in rest {
         let number = word.to_number();
         write!(line, " {number}")?;
     }
-    Ok(())
+    line.push('\n')?;
+    Ok(line)
 }
 
 /// Appends a word, a space, a number in decimal, and a line feed.

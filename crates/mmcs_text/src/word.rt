@@ -1,6 +1,7 @@
 //! The words of rows and of digests.
 
-ghost use Rattle.std.specs.Prelude.{◌≡◌, ℕ, ◌≤◌, refl};
+ghost use Rattle.std.specs.Prelude.{◌≡◌, ℕ, ◌<◌, ◌≤◌, refl};
+ghost use Rattle.std.specs.Mem.{type_size};
 ghost use Rattle.std.proofs.Common.{rules};
 
 /// A word of a row or of a digest: a number from 0 to `MAX`.
@@ -29,6 +30,9 @@ pub trait Word: Copy {
     // Its digits are among those of 32 bits.
     ghost at_most_eight: { HEX_DIGITS ≤ 8 };
 
+    // It takes some bytes of memory.
+    ghost some_bytes: { 0 < type_size Self.row };
+
     // To a proof, where a type bounds no number, each number is the number of one word.
     ghost some_word: { (n : ℕ) → (w : Self) × (value w ≡ n) };
 
@@ -56,6 +60,8 @@ impl Word for u8 {
 
     ghost at_most_eight = { Prim.search rules };
 
+    ghost some_bytes = { Prim.search rules };
+
     ghost some_word = { λ n. (n, refl) };
 
     ghost one_word = { λ v w same. same };
@@ -81,6 +87,8 @@ impl Word for u32 {
     }
 
     ghost at_most_eight = { Prim.search rules };
+
+    ghost some_bytes = { Prim.search rules };
 
     ghost some_word = { λ n. (n, refl) };
 

@@ -1,9 +1,6 @@
 -- What is found in two openings of words is found in those of their numbers, and printed alike.
 use Rattle.std.proofs.Common.{◌≡◌, ℕ, Bool, List, ◌∷◌, [], ◌++◌, map, Option, Some, None, refl, sym, ap, ◌∙◌}
-use Rattle.std.proofs.Common.{append_assoc}
-use Rattle.std.specs.Prelude.{flat_map, nat_eq, slice_index}
-use Rattle.std.proofs.lemmas.Grind.{flat_map-append}
-use Rattle.std.proofs.lemmas.List.{map-append}
+use Rattle.std.specs.Prelude.{nat_eq, slice_index}
 use Rattle.p3_merkle_core.specs.Checks.{input_digest, params, Input, Params}
 use Rattle.p3_merkle_core.specs.Extraction.{first_difference}
 use Rattle.p3_merkle_core.specs.Geometry.{Shape}
@@ -67,26 +64,3 @@ text_in_numbers value some_word one_word hash f alike eq decides s t cap p r =
     numbers.text_is (hex_digits hash) f (functions_of_hash hash) alike eq decides s t cap p r
     ∙ plain_text hash p.indices r.indices (difference_in nat_eq (params (functions_of_hash hash) s t)
     (map (map value) cap) (pruned_in_numbers value p) (pruned_in_numbers value r))
-
--- ---- lines behind lines
-
--- digests that are printed one after another are printed as their words, one after another
-words_joined : {T : Type 0} (value : T → ℕ) (text : ℕ → List ℕ) (digests : List (List T)) →
-    flat_map (flat_map text) (map (map value) digests)
-    ≡ flat_map text (map value (flat_map (λ digest. digest) digests))
-words_joined value text [] = refl
-words_joined value text (d ∷ ds) =
-    let rest = flat_map (λ digest. digest) ds in
-    ap (λ t. flat_map text (map value d) ++ t) (words_joined value text ds)
-    ∙ sym (flat_map-append text (map value d) (map value rest))
-    ∙ ap (flat_map text) (sym (map-append value d rest))
-
--- and a line feed behind them
-pub joined_line : {T : Type 0} (value : T → ℕ) (text : ℕ → List ℕ) (digests : List (List T))
-    (old before after : List ℕ) → before ≡ old ++ flat_map (flat_map text) (map (map value) digests) →
-    after ≡ before ++ 10 ∷ [] →
-    after ≡ old ++ (flat_map text (map value (flat_map (λ digest. digest) digests)) ++ 10 ∷ [])
-joined_line value text digests old before after before_is after_is =
-    after_is
-    ∙ ap (λ t. t ++ 10 ∷ []) (before_is ∙ ap (λ t. old ++ t) (words_joined value text digests))
-    ∙ append_assoc old (flat_map text (map value (flat_map (λ digest. digest) digests))) (10 ∷ [])

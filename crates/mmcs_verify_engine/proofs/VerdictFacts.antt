@@ -11,7 +11,7 @@ use Rattle.p3_merkle_core.specs.Caps.{cap_layer}
 use Rattle.p3_merkle_core.specs.Checks.{params, Input, Params}
 use Rattle.p3_merkle_core.specs.Geometry.{shape_of, Shape}
 use Rattle.p3_merkle_core.specs.Nodes.{Functions}
-use Rattle.p3_merkle_core.specs.Pruning.{pruned_of}
+use Rattle.p3_merkle_core.specs.Pruning.{pruned_of, PrunedOpening}
 use Rattle.p3_merkle_core.specs.Refusals.{ok_unless, pruned_refusal_under, IsEquality}
 use Rattle.p3_merkle_core.specs.declared.cap.CapRule.{CapRule}
 use Rattle.p3_merkle_core.specs.declared.error.MerkleTreeError.{MerkleTreeError}
@@ -47,6 +47,13 @@ told_is : (hash : HashName) (p : ShownPair) (refusal : Option MerkleTreeError)
     ≡ told_text refusal (collision_text hash p.first.indices p.second.indices found)
 told_is hash p None found = refl
 told_is hash p (Some e) found = refl
+
+-- what is lent to the scheme is what was read
+pub same_refusal : {T : Type 0} (eq : T → T → Bool) (c : Params T T) (found : Statement T (List T))
+    {roots : List (List T)} {lent : PrunedOpening T T} → roots ≡ found.cap.items → lent ≡ opening_read found.opening →
+    pruned_refusal_under eq eq c roots lent
+    ≡ pruned_refusal_under eq eq c found.cap.items (opening_read found.opening)
+same_refusal eq c found roots_are lent_is = λ i. pruned_refusal_under eq eq c (roots_are i) (lent_is i)
 
 module _ {T : Type 0} (value : T → ℕ) (some_word : (n : ℕ) → (w : T) × (value w ≡ n))
     (one_word : (v w : T) → value v ≡ value w → v ≡ w) (eq : T → T → Bool) (decides : IsEquality eq)
@@ -87,8 +94,8 @@ module _ {T : Type 0} (value : T → ℕ) (some_word : (n : ℕ) → (w : T) × 
       pruned_refusal_under eq eq own_terms cap (opening_read o)
       ≡ refusal_asked setting lent (shown_under value words cap o)
   refusal_is cap o =
-      refusal_in_numbers value some_word one_word f (functions_of_hash setting.hash) asked.alike eq decides own_shape
-      (cap_layer own_shape rule cap_height) cap (opening_read o)
+      refusal_in_numbers value some_word one_word f (functions_of_hash setting.hash) asked.of_hash.alike eq decides
+      own_shape (cap_layer own_shape rule cap_height) cap (opening_read o)
       ∙ (λ i. pruned_refusal_under nat_eq nat_eq (params_are i) (map (words_is i) cap) (opening_is o i))
 
   -- ---- one opening
@@ -133,9 +140,9 @@ module _ {T : Type 0} (value : T → ℕ) (some_word : (n : ℕ) → (w : T) × 
         (pruned_of shown.first.indices shown.first.rows shown.first.digests)
         (pruned_of shown.second.indices shown.second.rows shown.second.digests))
     due_text =
-        (λ i. typed_text value (asked.printed_digits i) f pair.first.indices.items pair.second.indices.items
+        (λ i. typed_text value (asked.of_hash.printed_digits i) f pair.first.indices.items pair.second.indices.items
         (difference_read eq own_terms pair))
-        ∙ text_in_numbers value some_word one_word setting.hash f asked.alike eq decides own_shape
+        ∙ text_in_numbers value some_word one_word setting.hash f asked.of_hash.alike eq decides own_shape
         (cap_layer own_shape rule cap_height) pair.cap.items (opening_read pair.first) (opening_read pair.second)
         ∙ (λ i. collision_text setting.hash pair.first.indices.items pair.second.indices.items
         (difference_in nat_eq (params_are i) (map (words_is i) pair.cap.items) (opening_is pair.first i)

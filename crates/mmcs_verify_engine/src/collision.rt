@@ -1,16 +1,16 @@
 //! The text of a collision.
 
-ghost use Rattle.std.specs.Prelude.{◌≡◌, ◌++◌, ◌∷◌, [], ℕ, ◌<◌, IfOk, IfSome, List, OnOk, codes, flat_map, length};
+ghost use Rattle.std.specs.Prelude.{◌≡◌, ◌++◌, ◌∷◌, [], ℕ, ◌<◌, IfOk, IfSome, List, OnOk, length};
 ghost use Rattle.std.specs.Prelude.{map};
 ghost use Rattle.std.specs.Option.{option_map};
 ghost use Rattle.p3_merkle_core.specs.Checks.{HasDigests};
 ghost use Rattle.p3_merkle_core.specs.Nodes.{functions_of};
 ghost use Rattle.p3_merkle_core.specs.Views.{inputs_in};
-ghost use Rattle.mmcs_text.specs.Text.{hex_line, hex_lines};
+ghost use Rattle.mmcs_text.specs.Text.{hex_lines};
 ghost use Rattle.mmcs_verify_engine.specs.Collisions.{index_lines, place_line};
 ghost use Rattle.mmcs_verify_engine.specs.Inner.TypedCollisions.{typed_lines, typed_text};
 
-use mmcs_text::text::{push_hex_words, push_labelled};
+use mmcs_text::text::{push_hex_line, push_labelled};
 use mmcs_text::word::Word;
 use p3_merkle_core::collision::{Collision, InputPair, Place};
 use p3_support::compress::PseudoCompressionFunction;
@@ -46,23 +46,12 @@ pub(crate) fn collision_text<
         (option_map (λ (a, b, pair). (a, b, inputs_in pair)) found)) }
 {
     let Some((a, b, pair)) = found else {
-        return text_of_none(alloc);
+        let mut text = Vec::new(alloc);
+        text.extend_from_slice(b"no collision\n")?;
+        return Ok(text);
     };
     let mut text = text_of_queries(alloc, place_of(&pair), first[a], second[b])?;
     push_inputs(&mut text, hash, compress, &pair)?;
-    Ok(text)
-}
-
-/// What is printed where there is no collision.
-///
-/// # Errors
-///
-/// `AllocError` if memory runs out.
-fn text_of_none(alloc: Global) -> Result<Vec<u8>, AllocError>
-    ensures { IfOk result (λ text. text.items ≡ codes "no collision" ++ 10 ∷ []) }
-{
-    let mut text = Vec::new(alloc);
-    text.extend_from_slice(b"no collision\n")?;
     Ok(text)
 }
 
@@ -131,20 +120,23 @@ fn push_inputs<
 {
     match pair {
         InputPair::Words { first, second, .. } => {
-            push_rows(text, first, second, &hash.hash_slice(first))
+            push_lines(text, first, second, &hash.hash_slice(first))
         }
-        InputPair::Digests { first, second, .. } => {
-            push_groups(text, first, second, &compressed(compress, first))
-        }
+        InputPair::Digests { first, second, .. } => push_lines(
+            text,
+            first.as_flattened(),
+            second.as_flattened(),
+            &compressed(compress, first),
+        ),
     }
 }
 
-/// Appends the words of two rows and a digest, a line each.
+/// Appends the words of two inputs and a digest in hexadecimal, a line each.
 ///
 /// # Errors
 ///
 /// `AllocError` if memory runs out.
-fn push_rows<W: Word>(
+fn push_lines<W: Word>(
     text: &mut Vec<u8>,
     first: &[W],
     second: &[W],
@@ -153,29 +145,9 @@ fn push_rows<W: Word>(
     ensures { OnOk result (text.new.items ≡ text.old.items
         ++ hex_lines W.HEX_DIGITS (map (map W.value) (first.now ∷ second.now ∷ digest.now ∷ []))) }
 {
-    push_words(text, first)?;
-    push_words(text, second)?;
-    push_words(text, digest)
-}
-
-/// Appends the words of two groups of digests and a digest, a line each.
-///
-/// # Errors
-///
-/// `AllocError` if memory runs out.
-fn push_groups<W: Word, const D: usize>(
-    text: &mut Vec<u8>,
-    first: &[[W; D]],
-    second: &[[W; D]],
-    digest: &[W],
-) -> Result<(), AllocError>
-    ensures { let words = flat_map (λ digest. digest) in
-        OnOk result (text.new.items ≡ text.old.items
-        ++ hex_lines W.HEX_DIGITS (map (map W.value) (words first.now ∷ words second.now ∷ digest.now ∷ []))) }
-{
-    push_digests(text, first)?;
-    push_digests(text, second)?;
-    push_words(text, digest)
+    push_hex_line(text, first)?;
+    push_hex_line(text, second)?;
+    push_hex_line(text, digest)
 }
 
 /// The digest of a group of `N` digests.
@@ -192,36 +164,4 @@ fn compressed<
         unreachable!()
     };
     compress.compress(*group)
-}
-
-/// Appends a line of words in hexadecimal.
-///
-/// # Errors
-///
-/// `AllocError` if memory runs out.
-fn push_words<W: Word>(text: &mut Vec<u8>, words: &[W]) -> Result<(), AllocError>
-    ensures { OnOk result (text.new.items ≡ text.old.items ++ hex_line W.HEX_DIGITS (map W.value words.now)) }
-{
-    push_hex_words(text, words)?;
-    text.push(b'\n')?;
-    Ok(())
-}
-
-/// Appends a line of digests in hexadecimal, one after another.
-///
-/// # Errors
-///
-/// `AllocError` if memory runs out.
-fn push_digests<W: Word, const D: usize>(
-    text: &mut Vec<u8>,
-    digests: &[[W; D]],
-) -> Result<(), AllocError>
-    ensures { OnOk result (text.new.items
-        ≡ text.old.items ++ hex_line W.HEX_DIGITS (map W.value (flat_map (λ digest. digest) digests.now))) }
-{
-    for digest in digests {
-        push_hex_words(text, digest)?;
-    }
-    text.push(b'\n')?;
-    Ok(())
 }

@@ -1,42 +1,36 @@
 //! From words and an input to an output.
 
-ghost use Rattle.std.specs.Prelude.{◌≡◌, ◌⊎◌, ◌↔◌, ℕ, List, Err, IfErr, IfOk, IfSome, Ok, OnOk, Some, length, map};
-ghost use Rattle.std.specs.Prelude.{IsTrue, replicate};
+ghost use Rattle.std.specs.Prelude.{◌≡◌, ◌⊎◌, ◌↔◌, ◌≤◌, ℕ, List, Err, IfErr, IfOk, IfSome, Ok, OnOk, Some};
+ghost use Rattle.std.specs.Prelude.{map, replicate};
 ghost use Rattle.std.specs.Io.KnownBytes.{Appends};
 ghost use Rattle.p3_support.specs.declared.matrix.Dimensions.{Dimensions};
 ghost use Rattle.p3_merkle_core.specs.Nodes.{functions_of};
-ghost use Rattle.p3_merkle_core.specs.Refusals.{pruned_refusal_under, AnswersUnlessMemory};
 ghost use Rattle.p3_merkle_core.specs.declared.error.MerkleTreeError.TheVariants.{OutOfMemory};
-ghost use Rattle.p3_merkle_mmcs.specs.Schemes.{cap_height_of, cap_rule_of, scheme_functions, params_of};
+ghost use Rattle.p3_merkle_mmcs.specs.Schemes.{cap_height_of, cap_rule_of, scheme_functions};
 ghost use Rattle.mmcs_text.specs.Words.{arity_number, texts_of};
-ghost use Rattle.mmcs_text.specs.Inner.Stored.{is_taken_arity};
-ghost use Rattle.mmcs_text.specs.declared.command.HashName.TheVariants.{Fold, Sha256};
-ghost use Rattle.mmcs_engine.specs.Inner.Alike.{IsSchemeOf};
+ghost use Rattle.mmcs_engine.specs.Inner.Alike.{AreOfHash, IsSchemeOf};
 ghost use Rattle.mmcs_text.specs.Requests.{AreNoCommand, AreWords};
 ghost use Rattle.mmcs_text.specs.declared.opening_fault.Fault.TheVariants.{Usage, Read, Tree, Write};
 ghost use Rattle.mmcs_text.specs.declared.request.Setting.{Setting};
 ghost use Rattle.mmcs_text.specs.declared.request.Task.{Task};
 ghost use Rattle.mmcs_text.specs.declared.request.Task.TheVariants.{Verify, Collide};
 ghost use Rattle.mmcs_verify_engine.specs.Outcomes.{outcome_of, IsAnswer};
-ghost use Rattle.mmcs_verify_engine.specs.Inner.TypedCollisions.{difference_read, opening_read, refusal_read};
-ghost use Rattle.mmcs_verify_engine.specs.Inner.TypedCollisions.{typed_text};
 
 use crate::collision::collision_text;
-use crate::suite::{Suite, fold_suite, sha_suite};
 use mmcs_engine::engine::text_of_count;
 use mmcs_text::command::{Arity, HashName};
 use mmcs_text::digest::LineDigest;
 use mmcs_text::opening_fault::Fault;
-use mmcs_text::reader::{Pair, Statement, read_pair, read_statement};
+use mmcs_text::reader::{read_pair, read_statement};
 use mmcs_text::request::{Request, Task};
 use mmcs_text::streams::{read_all, write_text};
 use mmcs_text::word::Word;
-use p3_merkle_core::error::MerkleTreeError;
+use p3_hashes::fold::{FoldCompress, FoldHash};
+use p3_hashes::sha_eights::{Sha256NodesInEights, Sha256RowsInEights};
 use p3_merkle_core::pruning::PrunedMerklePaths;
 use p3_merkle_mmcs::mmcs::MerkleTreeMmcs;
 use p3_support::compress::PseudoCompressionFunction;
 use p3_support::hasher::CryptographicHasher;
-use p3_support::matrix::Dimensions;
 use p3_support::opening::MerkleCap;
 use p3_support::packed::PackedValue;
 use std::alloc::Global;
@@ -110,99 +104,83 @@ pub fn reply(alloc: Global, request: &Request, input: &[u8]) -> Result<Vec<u8>, 
     ensures fault { IfErr result (λ fault. (fault ≡ Fault.Tree OutOfMemory) ⊎
         (outcome_of request.now.setting request.now.task request.now.dimensions.items input.now ≡ Err fault)) }
 {
-    match (request.setting.hash, request.setting.arity) {
-        (HashName::Fold, Arity::Two) => reply_by_fold::<2>(alloc, request, input),
-        (HashName::Fold, Arity::Four) => reply_by_fold::<4>(alloc, request, input),
-        (HashName::Fold, Arity::Eight) => reply_by_fold::<8>(alloc, request, input),
-        (HashName::Sha256, Arity::Two) => reply_by_sha::<2>(alloc, request, input),
-        (HashName::Sha256, Arity::Four) => reply_by_sha::<4>(alloc, request, input),
-        (HashName::Sha256, Arity::Eight) => reply_by_sha::<8>(alloc, request, input),
+    match request.setting.arity {
+        Arity::Two => reply_at::<2>(alloc, request, input),
+        Arity::Four => reply_at::<4>(alloc, request, input),
+        Arity::Eight => reply_at::<8>(alloc, request, input),
     }
 }
 
-/// The same under `fold` at the arity of the request.
+/// The same at the arity of the request.
 ///
 /// # Errors
 ///
 /// Those of [`reply`].
-fn reply_by_fold<const N: usize>(
+fn reply_at<const N: usize>(
     alloc: Global,
     request: &Request,
     input: &[u8],
 ) -> Result<Vec<u8>, Fault>
-    requires taken { IsTrue (is_taken_arity N) }
-    requires hash { request.now.setting.hash ≡ Fold }
-    requires arity { N ≡ arity_number request.now.setting.arity }
+    requires { N ≡ arity_number request.now.setting.arity }
     ensures text { IfOk result (λ text.
         outcome_of request.now.setting request.now.task request.now.dimensions.items input.now ≡ Ok text.items) }
     ensures fault { IfErr result (λ fault. (fault ≡ Fault.Tree OutOfMemory) ⊎
         (outcome_of request.now.setting request.now.task request.now.dimensions.items input.now ≡ Err fault)) }
 {
-    let suite = fold_suite::<N>(request.setting.cap);
-    reply_by(alloc, &suite, request, input)
+    match request.setting.hash {
+        HashName::Fold => reply_by::<u32, FoldHash<4>, FoldCompress<N, 4>, N, 1>(
+            alloc,
+            FoldHash::<4>,
+            FoldCompress::<N, 4>,
+            request,
+            input,
+        ),
+        HashName::Sha256 => reply_by::<u8, Sha256RowsInEights, Sha256NodesInEights<N>, N, 32>(
+            alloc,
+            Sha256RowsInEights,
+            Sha256NodesInEights::<N>,
+            request,
+            input,
+        ),
+    }
 }
 
-/// The same under `sha256` at the arity of the request.
-///
-/// # Errors
-///
-/// Those of [`reply`].
-fn reply_by_sha<const N: usize>(
-    alloc: Global,
-    request: &Request,
-    input: &[u8],
-) -> Result<Vec<u8>, Fault>
-    requires taken { IsTrue (is_taken_arity N) }
-    requires hash { request.now.setting.hash ≡ Sha256 }
-    requires arity { N ≡ arity_number request.now.setting.arity }
-    ensures text { IfOk result (λ text.
-        outcome_of request.now.setting request.now.task request.now.dimensions.items input.now ≡ Ok text.items) }
-    ensures fault { IfErr result (λ fault. (fault ≡ Fault.Tree OutOfMemory) ⊎
-        (outcome_of request.now.setting request.now.task request.now.dimensions.items input.now ≡ Err fault)) }
-{
-    let suite = sha_suite::<N>(request.setting.cap);
-    reply_by(alloc, &suite, request, input)
-}
-
-/// The same by the suite of the request.
+/// The same by the functions of the request's hash.
 ///
 /// # Errors
 ///
 /// Those of [`reply`].
 fn reply_by<
     W: Word + PackedValue<Value = W>,
-    H: CryptographicHasher<W, W, D>,
-    C: PseudoCompressionFunction<W, N, D>,
+    H: CryptographicHasher<W, W, D> + Copy,
+    C: PseudoCompressionFunction<W, N, D> + Copy,
     const N: usize,
     const D: usize,
->(
-    alloc: Global,
-    suite: &Suite<MerkleTreeMmcs<W, W, H, C, N, D>, H, C>,
-    request: &Request,
-    input: &[u8],
-) -> Result<Vec<u8>, Fault>
+>(alloc: Global, hash: H, compress: C, request: &Request, input: &[u8]) -> Result<Vec<u8>, Fault>
 where
     [W; D]: LineDigest,
-    requires scheme { IsSchemeOf request.now.setting.hash request.now.setting.cap W.value W.MAX W.HEX_DIGITS
-        (scheme_functions H.hash C.compression D suite.now.scheme) (cap_height_of suite.now.scheme)
-        (cap_rule_of suite.now.scheme) }
-    requires functions { scheme_functions H.hash C.compression D suite.now.scheme
-        ≡ functions_of (H.hash suite.now.hash) (C.compression suite.now.compress) (replicate D W.default_value) }
+    requires hash { AreOfHash request.now.setting.hash W.value W.MAX W.HEX_DIGITS
+        (functions_of (H.hash hash) (C.compression compress) (replicate D W.default_value)) }
     requires arity { N ≡ arity_number request.now.setting.arity }
-    requires hash { ⟦<[W; D] as LineDigest>⟧.hash ≡ request.now.setting.hash }
+    requires some_lane { 1 ≤ W.WIDTH }
+    requires line_hash { ⟦<[W; D] as LineDigest>⟧.hash ≡ request.now.setting.hash }
     requires words { (digest : List W) → ⟦<[W; D] as LineDigest>⟧.words digest ≡ map W.value digest }
     ensures text { IfOk result (λ text.
         outcome_of request.now.setting request.now.task request.now.dimensions.items input.now ≡ Ok text.items) }
     ensures fault { IfErr result (λ fault. (fault ≡ Fault.Tree OutOfMemory) ⊎
         (outcome_of request.now.setting request.now.task request.now.dimensions.items input.now ≡ Err fault)) }
 {
+    let cap = request.setting.cap;
+    let scheme = MerkleTreeMmcs::<W, W, H, C, N, D>::new_with_rule(
+        hash, compress, cap.height, cap.rule,
+    );
     match request.task {
-        Task::Verify => verify_by(alloc, &suite.scheme, request, input),
-        Task::Collide => collide_by(alloc, suite, request, input),
+        Task::Verify => verify_by(alloc, &scheme, request, input),
+        Task::Collide => collide_by(alloc, &scheme, &hash, &compress, request, input),
     }
 }
 
-/// What is printed of one opening.
+/// What is printed of one opening: `ok` and how many digests it has, if its cap accepts it.
 ///
 /// # Errors
 ///
@@ -224,7 +202,7 @@ where
     requires scheme { IsSchemeOf request.now.setting.hash request.now.setting.cap W.value W.MAX W.HEX_DIGITS
         (scheme_functions H.hash C.compression D scheme.now) (cap_height_of scheme.now) (cap_rule_of scheme.now) }
     requires arity { N ≡ arity_number request.now.setting.arity }
-    requires hash { ⟦<[W; D] as LineDigest>⟧.hash ≡ request.now.setting.hash }
+    requires line_hash { ⟦<[W; D] as LineDigest>⟧.hash ≡ request.now.setting.hash }
     requires words { (digest : List W) → ⟦<[W; D] as LineDigest>⟧.words digest ≡ map W.value digest }
     ensures text { IfOk result (λ text.
         outcome_of request.now.setting Task.Verify request.now.dimensions.items input.now ≡ Ok text.items) }
@@ -233,42 +211,16 @@ where
 {
     let dimensions = request.dimensions.as_slice();
     let found = read_statement::<W, [W; D]>(alloc, dimensions, input)?;
-    let count = verify(alloc, scheme, dimensions, found)?;
-    Ok(text_of_count(alloc, count)?)
-}
-
-/// How many digests an opening has that its cap accepts.
-///
-/// # Errors
-///
-/// Why the opening is refused, or `OutOfMemory`.
-fn verify<
-    W: Word + PackedValue<Value = W>,
-    H: CryptographicHasher<W, W, D>,
-    C: PseudoCompressionFunction<W, N, D>,
-    const N: usize,
-    const D: usize,
->(
-    alloc: Global,
-    scheme: &MerkleTreeMmcs<W, W, H, C, N, D>,
-    dimensions: &[Dimensions],
-    found: Statement<W, [W; D]>,
-) -> Result<usize, MerkleTreeError>
-    ensures count { IfOk result (λ count. count ≡ length found.opening.digests.items) }
-    ensures answer { AnswersUnlessMemory result (pruned_refusal_under W.eq W.eq
-        (params_of H.hash C.compression D scheme.now dimensions.now) found.cap.items (opening_read found.opening)) }
-{
-    let cap = MerkleCap::new(found.cap);
-    let opening = found.opening;
+    let (cap, opening) = (MerkleCap::new(found.cap), found.opening);
     let proof = PrunedMerklePaths {
         sibling_hashes: opening.digests,
     };
     let (indices, rows) = (opening.indices, opening.rows);
     scheme.verify_batch_pruned(alloc, &cap, dimensions, &indices, &rows, &proof)?;
-    Ok(proof.sibling_hashes.len())
+    Ok(text_of_count(alloc, proof.sibling_hashes.len())?)
 }
 
-/// What is printed of two openings of one cap.
+/// What is printed of two openings of one cap: the first collision of a query of each, or that there is none.
 ///
 /// # Errors
 ///
@@ -281,19 +233,20 @@ fn collide_by<
     const D: usize,
 >(
     alloc: Global,
-    suite: &Suite<MerkleTreeMmcs<W, W, H, C, N, D>, H, C>,
+    scheme: &MerkleTreeMmcs<W, W, H, C, N, D>,
+    hash: &H,
+    compress: &C,
     request: &Request,
     input: &[u8],
 ) -> Result<Vec<u8>, Fault>
 where
     [W; D]: LineDigest,
     requires scheme { IsSchemeOf request.now.setting.hash request.now.setting.cap W.value W.MAX W.HEX_DIGITS
-        (scheme_functions H.hash C.compression D suite.now.scheme) (cap_height_of suite.now.scheme)
-        (cap_rule_of suite.now.scheme) }
-    requires functions { scheme_functions H.hash C.compression D suite.now.scheme
-        ≡ functions_of (H.hash suite.now.hash) (C.compression suite.now.compress) (replicate D W.default_value) }
+        (scheme_functions H.hash C.compression D scheme.now) (cap_height_of scheme.now) (cap_rule_of scheme.now) }
+    requires functions { scheme_functions H.hash C.compression D scheme.now
+        ≡ functions_of (H.hash hash.now) (C.compression compress.now) (replicate D W.default_value) }
     requires arity { N ≡ arity_number request.now.setting.arity }
-    requires hash { ⟦<[W; D] as LineDigest>⟧.hash ≡ request.now.setting.hash }
+    requires line_hash { ⟦<[W; D] as LineDigest>⟧.hash ≡ request.now.setting.hash }
     requires words { (digest : List W) → ⟦<[W; D] as LineDigest>⟧.words digest ≡ map W.value digest }
     ensures text { IfOk result (λ text.
         outcome_of request.now.setting Task.Collide request.now.dimensions.items input.now ≡ Ok text.items) }
@@ -302,34 +255,6 @@ where
 {
     let dimensions = request.dimensions.as_slice();
     let pair = read_pair::<W, [W; D]>(alloc, dimensions, input)?;
-    Ok(compare(alloc, suite, dimensions, pair)?)
-}
-
-/// The text of two openings that their cap accepts: a collision, or none.
-///
-/// # Errors
-///
-/// Why the first opening is refused, else the second; or `OutOfMemory`.
-fn compare<
-    W: Word + PackedValue<Value = W>,
-    H: CryptographicHasher<W, W, D>,
-    C: PseudoCompressionFunction<W, N, D>,
-    const N: usize,
-    const D: usize,
->(
-    alloc: Global,
-    suite: &Suite<MerkleTreeMmcs<W, W, H, C, N, D>, H, C>,
-    dimensions: &[Dimensions],
-    pair: Pair<W, [W; D]>,
-) -> Result<Vec<u8>, MerkleTreeError>
-    requires functions { scheme_functions H.hash C.compression D suite.now.scheme
-        ≡ functions_of (H.hash suite.now.hash) (C.compression suite.now.compress) (replicate D W.default_value) }
-    ensures text { let c = params_of H.hash C.compression D suite.now.scheme dimensions.now in
-        IfOk result (λ text. text.items ≡ typed_text W.value W.HEX_DIGITS c.functions pair.first.indices.items
-        pair.second.indices.items (difference_read W.eq c pair)) }
-    ensures answer { let c = params_of H.hash C.compression D suite.now.scheme dimensions.now in
-        AnswersUnlessMemory result (refusal_read W.eq c pair) }
-{
     let cap = MerkleCap::new(pair.cap);
     let (first, second) = (pair.first, pair.second);
     let first_proof = PrunedMerklePaths {
@@ -338,7 +263,7 @@ fn compare<
     let second_proof = PrunedMerklePaths {
         sibling_hashes: second.digests,
     };
-    let found = suite.scheme.extract_collision_multi(
+    let found = scheme.extract_collision_multi(
         alloc,
         &cap,
         dimensions,
@@ -349,7 +274,6 @@ fn compare<
         &second.rows,
         &second_proof,
     )?;
-    let (hash, compress) = (&suite.hash, &suite.compress);
     Ok(collision_text(
         alloc,
         hash,

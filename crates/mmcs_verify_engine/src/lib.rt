@@ -5,6 +5,5 @@
 mod collision;
 pub mod engine;
 pub mod laws;
-mod suite;
 
 pub use mmcs_text::{opening_fault, process};

@@ -5,7 +5,7 @@ pub mod GateFacts
 pub mod ArityFacts
 pub mod StepFacts
 pub mod KeptSteps
-pub mod RungFacts
+pub mod ExponentFacts
 pub mod BridgeFacts
 pub mod FallFacts
 pub mod LadderFacts

@@ -1,7 +1,7 @@
 -- Definitions that only proofs, and calls that no public contract mentions, use.
 pub mod Agreement
 pub mod Children
-pub mod Rungs
+pub mod Exponents
 pub mod Steps
 pub mod Levels
 pub mod Shapes

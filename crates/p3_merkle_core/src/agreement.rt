@@ -46,33 +46,16 @@ fn distinct_indices_of(alloc: Global, indices: &[usize]) -> Result<DistinctIndic
     ensures { IfOk result (λ queried. AreDistinctOf queried indices.now) }
 {
     let distinct = covered_leaves(alloc, indices)?;
-    let first_queries = first_queries(alloc, &distinct, indices)?;
+    let mut first_queries = vec![in alloc; indices.len(); distinct.len()]?;
+    // From the last query on, so that the first one of an index is written last.
+    for query in (0..indices.len()).rev() {
+        let slot = slot_of_index(&distinct, indices[query]);
+        first_queries[slot] = query;
+    }
     Ok(DistinctIndices {
         indices: distinct,
         first_queries,
     })
-}
-
-/// The place of the first query of each distinct index, in their order.
-///
-/// # Errors
-///
-/// `AllocError` if memory runs out.
-fn first_queries(
-    alloc: Global,
-    leaves: &[usize],
-    indices: &[usize],
-) -> Result<Vec<usize>, AllocError>
-    requires { leaves.now ≡ distinct indices.now }
-    ensures { IfOk result (λ firsts. firsts.items ≡ map (first_query indices.now) (distinct indices.now)) }
-{
-    let mut first_queries = vec![in alloc; indices.len(); leaves.len()]?;
-    // From the last query on, so that the first one of an index is written last.
-    for query in (0..indices.len()).rev() {
-        let slot = slot_of_index(leaves, indices[query]);
-        first_queries[slot] = query;
-    }
-    Ok(first_queries)
 }
 
 /// The slot of an index that is queried: its place among the distinct indices, which ascend.
@@ -84,16 +67,6 @@ fn slot_of_index(leaves: &[usize], index: usize) -> usize
         Ok(slot) => slot,
         Err(slot) => slot,
     }
-}
-
-/// Whether two queries have different row sets. Nothing is compared where both are the same query.
-fn have_other_rows<T: Eq>(rows: &[Vec<Vec<T>>], query: usize, first: usize) -> bool
-    requires query { query < length rows.now }
-    requires first { first < length rows.now }
-    ensures { let sets = row_sets rows.now in
-        result ≡ not (pointwise (pointwise T.eq) (slice_index_or sets query []) (slice_index_or sets first [])) }
-{
-    query != first && rows[query] != rows[first]
 }
 
 /// Checks that each query has the row set of the first query of its index.
@@ -113,7 +86,9 @@ fn check_repeats<T: Eq>(
 {
     for query in 0..indices.len() {
         let slot = slot_of_index(&queried.indices, indices[query]);
-        if have_other_rows(rows, query, queried.first_queries[slot]) {
+        let first = queried.first_queries[slot];
+        // Nothing is compared where both are the same query.
+        if query != first && rows[query] != rows[first] {
             return Err(PrunedProofError::InconsistentDuplicateOpenings { slot }.into());
         }
     }
@@ -141,7 +116,7 @@ fn check_first_widths<T>(
     Ok(())
 }
 
-/// Checks that a slot has the lead's rows of some matrices, which are given by their places.
+/// Checks that a slot has the same rows of some matrices, given by their places, as the first slot under its node.
 ///
 /// # Errors
 ///
@@ -150,52 +125,24 @@ fn check_same_rows<T: Eq>(
     matrices: &[usize],
     slot: usize,
     rows: &[Vec<T>],
-    lead: &[Vec<T>],
+    first_rows: &[Vec<T>],
 ) -> Result<(), MerkleTreeError>
     requires rows { All (λ matrix. matrix < length rows.now) matrices.now }
-    requires lead { All (λ matrix. matrix < length lead.now) matrices.now }
-    ensures { let refusal = rows_refusal T.eq matrices.now slot (row_lists rows.now) (row_lists lead.now) in
+    requires first_rows { All (λ matrix. matrix < length first_rows.now) matrices.now }
+    ensures { let refusal = rows_refusal T.eq matrices.now slot (row_lists rows.now) (row_lists first_rows.now) in
         MatchResult result (λ ok. refusal ≡ None) (λ e. refusal ≡ Some e) }
 {
     for matrix in matrices {
         let matrix = *matrix;
-        if rows[matrix] != lead[matrix] {
+        if rows[matrix] != first_rows[matrix] {
             return Err(PrunedProofError::InconsistentGroupOpening { slot, matrix }.into());
         }
     }
     Ok(())
 }
 
-/// The lowest slot under the node of `slot`, from the lowest one under the node of the slot before it: nodes of slots
-/// ascend.
-fn lead_of(nodes: &[usize], slot: usize, lead: usize) -> usize
-    requires inside { slot < length nodes.now }
-    requires ascending { IsAscending nodes.now }
-    requires before { lead ≡ first_query nodes.now (slice_index nodes.now (slot - 1)) }
-    ensures { result ≡ first_query nodes.now (slice_index nodes.now slot) }
-{
-    if nodes[slot] == nodes[lead] {
-        lead
-    } else {
-        slot
-    }
-}
-
-/// The row set of a slot's first query.
-fn rows_of_slot<'a, T>(
-    rows: &'a [Vec<Vec<T>>],
-    first_queries: &[usize],
-    slot: usize,
-) -> &'a [Vec<T>]
-    requires inside { slot < length first_queries.now }
-    requires queries { All (λ query. query < length rows.now) first_queries.now }
-    ensures { row_lists result.now ≡ slot_rows first_queries.now (row_sets rows.now) slot }
-{
-    &rows[first_queries[slot]]
-}
-
-/// Checks that slots under one node have the same rows of the matrices of its layer. The lowest slot under a node is
-/// its lead, and each other one is compared with it. The nodes of the slots ascend.
+/// Checks that slots under one node have the same rows of the matrices of its layer: each slot is compared with the first
+/// one under its node. The nodes of the slots ascend.
 ///
 /// # Errors
 ///
@@ -214,17 +161,14 @@ fn check_layer<T: Eq>(
     ensures { let refusal = nodes_refusal T.eq matrices.now nodes.now first_queries.now (row_sets rows.now) in
         MatchResult result (λ ok. refusal ≡ None) (λ e. refusal ≡ Some e) }
 {
-    let mut lead = 0;
-    for slot in 0..nodes.len() {
-        lead = lead_of(nodes, slot, lead);
-        if lead != slot {
-            let rows_of_lead = rows_of_slot(rows, first_queries, lead);
-            check_same_rows(
-                matrices,
-                slot,
-                rows_of_slot(rows, first_queries, slot),
-                rows_of_lead,
-            )?;
+    let mut first_slot = 0;
+    for slot in 1..nodes.len() {
+        if nodes[slot] == nodes[first_slot] {
+            let own_rows = &rows[first_queries[slot]];
+            let first_rows = &rows[first_queries[first_slot]];
+            check_same_rows(matrices, slot, own_rows, first_rows)?;
+        } else {
+            first_slot = slot;
         }
     }
     Ok(())
@@ -317,103 +261,51 @@ fn check_groups<T: Eq>(
     Ok(())
 }
 
-impl<'a> Steps<'a> {
-    /// Checks all of a pruned opening that doesn't depend on the cap, which is layer `cap_layer`: whether paths can be
-    /// restored from it. Returns its distinct indices. `cap_layer` must be at most the number of levels, and the arity
-    /// a power of two from 2 to 2^62.
-    ///
-    /// It sorts the indices once, and allocates four numbers for each index, and one for each matrix of a layer above
-    /// the leaves. The number of allocations doesn't depend on the indices.
-    ///
-    /// # Errors
-    ///
-    /// The first of these that holds, where `OutOfMemory` may come once the indices are known to be in range:
-    ///
-    /// - the error of [`check_heights`](Self::check_heights);
-    /// - `WrongBatchSize`: the number of row sets is not that of the indices;
-    /// - `SiblingCountMismatch`: there is a digest, and no index;
-    /// - `IndexOutOfBounds`: the highest index is not below the tallest height;
-    /// - `InconsistentDuplicateOpenings`: the row set of a query is not that of the first query of its index;
-    /// - `SiblingCountMismatch`: the number of digests is not that of the boundary nodes;
-    /// - `WrongBatchSize`, `WrongWidth`: by ascending indices, the error of [`check_widths`] for the first query of the
-    ///   index;
-    /// - `InconsistentGroupOpening`: layer by layer, by ascending indices and in input order of the matrices, a row is
-    ///   not that of the lowest index under the same node.
-    pub fn check_pruned<T: Eq>(
-        &self,
-        alloc: Global,
-        cap_layer: usize,
-        indices: &[usize],
-        rows: &[Vec<Vec<T>>],
-        num_digests: usize,
-    ) -> Result<DistinctIndices, MerkleTreeError>
-        requires arity { IsArity self.now.arity }
-        requires layer { cap_layer ≤ self.now.num_levels }
-        ensures { let refusal = pruned_refusal T.eq (shape_of self.now.arity self.now.dimensions.now) cap_layer
-            (opened_with indices.now (row_sets rows.now) num_digests) in
-            MatchResult result (λ queried. (refusal ≡ None) × AreDistinctOf queried indices.now)
-            (λ e. (e ≡ OutOfMemory) ⊎ (refusal ≡ Some e)) }
-    {
-        check_queries(self, indices, rows.len(), num_digests)?;
-        let queried = distinct_indices_of(alloc, indices)?;
-        check_slots(alloc, self, cap_layer, indices, &queried, rows, num_digests)?;
-        Ok(queried)
-    }
-}
-
-/// Checks the rest of a pruned opening once its indices are known to be in range: what depends on their slots.
+/// Checks all of a pruned opening that doesn't depend on the cap, which is layer `cap_layer`: whether paths can be
+/// restored from it. Returns its distinct indices. `cap_layer` must be at most the number of levels, and the arity
+/// a power of two from 2 to 2^62.
+///
+/// It sorts the indices once, and allocates four numbers for each index, and one for each matrix of a layer above
+/// the leaves. The number of allocations doesn't depend on the indices.
 ///
 /// # Errors
 ///
-/// Those of [`Steps::check_pruned`] from `InconsistentDuplicateOpenings` on, or `OutOfMemory`.
-fn check_slots<T: Eq>(
+/// The first of these that holds, where `OutOfMemory` may come once the indices are known to be in range:
+///
+/// - the error of [`Steps::check_heights`];
+/// - `WrongBatchSize`: the number of row sets is not that of the indices;
+/// - `SiblingCountMismatch`: there is a digest, and no index;
+/// - `IndexOutOfBounds`: the highest index is not below the tallest height;
+/// - `InconsistentDuplicateOpenings`: the row set of a query is not that of the first query of its index;
+/// - `SiblingCountMismatch`: the number of digests is not that of the boundary nodes;
+/// - `WrongBatchSize`, `WrongWidth`: by ascending indices, the error of [`check_widths`] for the first query of the
+///   index;
+/// - `InconsistentGroupOpening`: layer by layer, by ascending indices and in input order of the matrices, a row is
+///   not that of the lowest index under the same node.
+pub fn check_pruned<T: Eq>(
     alloc: Global,
     steps: &Steps<'_>,
     cap_layer: usize,
     indices: &[usize],
-    queried: &DistinctIndices,
     rows: &[Vec<Vec<T>>],
     num_digests: usize,
-) -> Result<(), MerkleTreeError>
+) -> Result<DistinctIndices, MerkleTreeError>
     requires arity { IsArity steps.now.arity }
-    requires low { greatest (heights_of steps.now.dimensions.now) ≤ height_limit }
     requires layer { cap_layer ≤ steps.now.num_levels }
-    requires queried { AreDistinctOf queried.now indices.now }
-    requires early { let heights = heights_of steps.now.dimensions.now in
-        early_refusal heights indices.now (length rows.now) num_digests ≡ None }
-    ensures { let s = shape_of steps.now.arity steps.now.dimensions.now in
-        let refusal = pruned_refusal T.eq s cap_layer (opened_with indices.now (row_sets rows.now) num_digests) in
-        AnswersUnlessMemory result refusal }
+    ensures { let refusal = pruned_refusal T.eq (shape_of steps.now.arity steps.now.dimensions.now) cap_layer
+        (opened_with indices.now (row_sets rows.now) num_digests) in
+        MatchResult result (λ queried. (refusal ≡ None) × AreDistinctOf queried indices.now)
+        (λ e. (e ≡ OutOfMemory) ⊎ (refusal ≡ Some e)) }
 {
-    check_repeats(indices, rows, queried)?;
-    check_boundary_len(alloc, steps, cap_layer, indices, queried, num_digests)?;
-    check_rows(alloc, steps, cap_layer, queried, rows)
-}
-
-/// Checks that a pruned proof of some indices under the cap of layer `cap_layer` has as many digests as it should have.
-/// It copies the distinct indices, so that they are not sorted again.
-///
-/// # Errors
-///
-/// The error of [`check_digest_count`]; `OutOfMemory` if memory runs out.
-fn check_boundary_len(
-    alloc: Global,
-    steps: &Steps<'_>,
-    cap_layer: usize,
-    indices: &[usize],
-    queried: &DistinctIndices,
-    num_digests: usize,
-) -> Result<(), MerkleTreeError>
-    requires arity { IsArity steps.now.arity }
-    requires low { greatest (heights_of steps.now.dimensions.now) ≤ height_limit }
-    requires layer { cap_layer ≤ steps.now.num_levels }
-    requires below { greatest indices.now < greatest (heights_of steps.now.dimensions.now) }
-    requires queried { AreDistinctOf queried.now indices.now }
-    ensures { let s = shape_of steps.now.arity steps.now.dimensions.now in
-        AnswersUnlessMemory result (digest_count_refusal (pruned_len s indices.now cap_layer) num_digests) }
-{
+    check_queries(steps, indices, rows.len(), num_digests)?;
+    let queried = distinct_indices_of(alloc, indices)?;
+    check_repeats(indices, rows, &queried)?;
+    // A copy, so that the indices are not sorted again.
     let leaves = Vec::from_slice(alloc, &queried.indices)?;
-    check_digest_count(steps.boundary_len(cap_layer, leaves), num_digests)
+    check_digest_count(steps.boundary_len(cap_layer, leaves), num_digests)?;
+    check_first_widths(steps.dimensions, rows, &queried.first_queries)?;
+    check_groups(alloc, steps, cap_layer, &queried, rows)?;
+    Ok(queried)
 }
 
 /// Checks whether some indices can be queried with so many row sets and digests. It does not allocate.
@@ -440,24 +332,10 @@ fn check_queries(
             got: num_row_sets,
         });
     }
-    check_idle(indices, num_digests)?;
-    check_indices(steps.max_height, indices)
-}
-
-/// Checks that there are no digests if there are no indices.
-///
-/// # Errors
-///
-/// `SiblingCountMismatch` if there are digests, and no indices.
-fn check_idle(indices: &[usize], num_digests: usize) -> Result<(), MerkleTreeError>
-    ensures { let refusal = idle_refusal (length indices.now) num_digests in
-        MatchResult result (λ ok. refusal ≡ None) (λ e. refusal ≡ Some e) }
-{
     if indices.is_empty() {
-        check_digest_count(0, num_digests)
-    } else {
-        Ok(())
+        check_digest_count(0, num_digests)?;
     }
+    check_indices(steps.max_height, indices)
 }
 
 /// Checks that a proof has as many digests as it should have.
@@ -474,29 +352,4 @@ fn check_digest_count(expected: usize, got: usize) -> Result<(), MerkleTreeError
     } else {
         Err(PrunedProofError::SiblingCountMismatch { expected, got }.into())
     }
-}
-
-/// Checks the rows of slots: their widths, and then whether those under one node agree.
-///
-/// # Errors
-///
-/// What [`check_first_widths`] answers; else what [`check_groups`] does.
-fn check_rows<T: Eq>(
-    alloc: Global,
-    steps: &Steps<'_>,
-    cap_layer: usize,
-    queried: &DistinctIndices,
-    rows: &[Vec<Vec<T>>],
-) -> Result<(), MerkleTreeError>
-    requires layer { cap_layer ≤ steps.now.num_levels }
-    requires pairs { length queried.now.indices.items ≡ length queried.now.first_queries.items }
-    requires ascending { IsStrictlyIncreasing queried.now.indices.items }
-    requires queries { All (λ query. query < length rows.now) queried.now.first_queries.items }
-    ensures { let s = shape_of steps.now.arity steps.now.dimensions.now in
-        let refusal = late_refusal T.eq s cap_layer queried.now.indices.items queried.now.first_queries.items
-        (row_sets rows.now) in
-        AnswersUnlessMemory result refusal }
-{
-    check_first_widths(steps.dimensions, rows, &queried.first_queries)?;
-    check_groups(alloc, steps, cap_layer, queried, rows)
 }

@@ -3,20 +3,6 @@
 ghost use Rattle.std.specs.Prelude.{◌≡◌, ◌+◌, ◌<◌, ◌≤◌, ◌++◌, ◌∷◌, [], length, drop, insert};
 ghost use Rattle.p3_merkle_core.specs.Nodes.{padded};
 
-/// Writes `others`, with `value` inserted at `position`, into the first slots.
-fn insert_into<X: Copy>(slots: &mut [X], position: usize, value: X, others: &[X])
-    requires placed { position ≤ length others.now }
-    requires fits { length others.now < length slots.old }
-    ensures { slots.new ≡ insert others.now position value ++ drop (length others.now + 1) slots.old }
-{
-    // Groups are small: one write for each digest costs less than two slice copies.
-    slots[position] = value;
-    for (k, other) in others.iter().enumerate() {
-        let slot = if k < position { k } else { k + 1 };
-        slots[slot] = *other;
-    }
-}
-
 /// A digest at its place among its siblings, then default digests: what a compression of `N` digests takes where a
 /// node has fewer children. There must be fewer siblings than `N`, and `position` must be at most their number.
 pub fn group_with<W: Copy, const N: usize, const D: usize>(
@@ -30,7 +16,12 @@ pub fn group_with<W: Copy, const N: usize, const D: usize>(
     ensures { result ≡ padded N default_digest (insert siblings.now position digest) }
 {
     let mut group = [default_digest; N];
-    insert_into(&mut group, position, digest, siblings);
+    // Groups are small: one write for each digest costs less than two slice copies.
+    group[position] = digest;
+    for (k, sibling) in siblings.iter().enumerate() {
+        let slot = if k < position { k } else { k + 1 };
+        group[slot] = *sibling;
+    }
     group
 }
 

@@ -20,9 +20,7 @@ ghost use Rattle.p3_merkle_core.specs.Laws.{ScheduleStopsAtCap, TestedIsArity, U
 
 use crate::collision::{Collision, InputPair, Place};
 use crate::error::{MerkleTreeError, PrunedProofError};
-use crate::pruning::{
-    AuthPath, MerkleAuthPath, PrunedBatchOpening, PrunedMerklePaths, PrunedProof, PrunedRows,
-};
+use crate::pruning::{MerkleAuthPath, PrunedBatchOpening, PrunedMerklePaths};
 use p3_support::matrix::Matrix;
 use p3_support::opening::BatchOpening;
 use p3_support::packed::PackedValue;
@@ -41,26 +39,12 @@ pub fn pruned_proof_errors(a: &PrunedProofError, b: &PrunedProofError) -> bool
     *a == *b
 }
 
-/// Equality of openings is equality of rows and siblings, where that of words and of digests is equality of values.
-fn openings<T: Eq, X: Eq>(a: &BatchOpening<T, Vec<X>>, b: &BatchOpening<T, Vec<X>>) -> bool
-    ensures { IsEquality T.eq → IsEquality X.eq → IsTrue result ↔ (shown_opening a.now ≡ shown_opening b.now) }
-{
-    *a == *b
-}
-
 /// Equality of openings of one index is equality of rows and siblings.
 pub fn batch_openings<P: PackedValue, PW: PackedValue, const D: usize>(
     a: &BatchOpening<P::Value, Vec<[PW::Value; D]>>,
     b: &BatchOpening<P::Value, Vec<[PW::Value; D]>>,
 ) -> bool
     ensures { IsTrue result ↔ (shown_opening a.now ≡ shown_opening b.now) }
-{
-    openings(a, b)
-}
-
-/// Equality of pruned proofs is equality of digests, where their own is equality of values.
-fn pruned_proofs<X: Eq>(a: &PrunedProof<X>, b: &PrunedProof<X>) -> bool
-    ensures { IsEquality X.eq → IsTrue result ↔ (a.now.sibling_hashes.items ≡ b.now.sibling_hashes.items) }
 {
     *a == *b
 }
@@ -72,14 +56,6 @@ pub fn pruned_merkle_paths<PW: PackedValue, const D: usize>(
 ) -> bool
     ensures { IsTrue result ↔ (a.now.sibling_hashes.items ≡ b.now.sibling_hashes.items) }
 {
-    pruned_proofs(a, b)
-}
-
-/// Equality of pruned openings is equality of row sets and digests, where that of words and of digests is equality of
-/// values.
-fn pruned_rows<T: Eq, X: Eq>(a: &PrunedRows<T, X>, b: &PrunedRows<T, X>) -> bool
-    ensures { IsEquality T.eq → IsEquality X.eq → IsTrue result ↔ (shown_pruned a.now ≡ shown_pruned b.now) }
-{
     *a == *b
 }
 
@@ -89,13 +65,6 @@ pub fn pruned_batch_openings<P: PackedValue, PW: PackedValue, const D: usize>(
     b: &PrunedBatchOpening<P::Value, PW::Value, D>,
 ) -> bool
     ensures { IsTrue result ↔ (shown_pruned a.now ≡ shown_pruned b.now) }
-{
-    pruned_rows(a, b)
-}
-
-/// Equality of paths is equality of leaves and siblings, where that of digests is equality of values.
-fn auth_paths<X: Eq>(a: &AuthPath<X>, b: &AuthPath<X>) -> bool
-    ensures { IsEquality X.eq → IsTrue result ↔ (shown_path a.now ≡ shown_path b.now) }
 {
     *a == *b
 }
@@ -107,7 +76,7 @@ pub fn merkle_auth_paths<PW: PackedValue, const D: usize>(
 ) -> bool
     ensures { IsTrue result ↔ (shown_path a.now ≡ shown_path b.now) }
 {
-    auth_paths(a, b)
+    *a == *b
 }
 
 /// Equality of places is equality of values.
@@ -135,15 +104,13 @@ pub fn collisions<P: PackedValue, PW: PackedValue, const D: usize>(
 }
 
 /// A number passes the test of arities exactly if it is an arity: a power of two from 2 to 2^62.
-pub fn arities()
-    ensures { TestedIsArity }
-{}
-
+///
 /// For each arity and all heights: the steps from the leaves to the root end; the root is one node, unless no matrix
 /// has a row; the steps below a cap are the first of all steps; and each matrix has a layer of its exponent. For
 /// lawful heights the row of an index in a matrix is the index's ancestor in that layer.
-/// [`check_heights`](crate::geometry::check_heights) accepts exactly the lawful heights.
+/// [`Steps::check_heights`](crate::steps::Steps::check_heights) accepts exactly the lawful heights.
 pub fn shape()
+    ensures arities { TestedIsArity }
     ensures ends { WalkEnds }
     ensures root { RootIsAlone }
     ensures schedule { ScheduleStopsAtCap }
@@ -167,14 +134,10 @@ pub fn caps()
     ensures fixed { FixedIsBelowRoot }
 {}
 
-/// The honest opening of each index is accepted.
+/// The honest opening of each index is accepted, and the honest pruned opening of each list of indices.
 pub fn completeness<T, W>()
-    ensures { HonestIsAccepted T W }
-{}
-
-/// The honest pruned opening of each list of indices is accepted.
-pub fn pruned_completeness<T, W>()
-    ensures { HonestQueryIsAccepted T W }
+    ensures single { HonestIsAccepted T W }
+    ensures pruned { HonestQueryIsAccepted T W }
 {}
 
 /// An honest pruned opening restores the tree's own nodes and siblings. What is read out of the layers of a batch's
@@ -189,16 +152,14 @@ pub fn restoration<T, W>()
 {}
 
 /// What `Ok` means: for a single opening, for a pruned one whatever the cap, and for a pruned one under a cap.
+///
+/// A pruned opening that restores is accepted under a cap exactly if each query is accepted with its restored path, and
+/// is refused only with `CapMismatch`. One that does not restore is refused with the same error under each cap.
 pub fn answers<T, W>()
     ensures single { OkIsAccepted T W }
     ensures pruned { OkIsRestorable T W }
     ensures under_cap { OkIsCapped T W }
     ensures each_path { OkIsEachAccepted T W }
-{}
-
-/// A pruned opening that restores is accepted under a cap exactly if each query is accepted with its restored path, and
-/// is refused only with `CapMismatch`. One that does not restore is refused with the same error under each cap.
-pub fn equivalence<T, W>()
     ensures restored { CappedIsEachAccepted T W }
     ensures refused { RefusedUnderEachCap T W }
     ensures answered { AnsweredAsEachPath T W }
@@ -208,34 +169,26 @@ pub fn equivalence<T, W>()
 /// Two accepted openings of one cap that differ at a shared place have two different inputs with one digest at the last
 /// such place. The result that the definitions give for two openings, single or pruned, has all properties of an
 /// extraction.
+///
+/// Two that agree at each shared place have the same words in each row of an authenticated matrix that both open. Two
+/// of one index agree exactly if they have the same siblings, and the same row of each authenticated matrix.
+///
+/// Each input of a check that is made of digests has as many of them as the arity, and the last one's digest is the one
+/// that the check reaches.
 pub fn extraction<T, W>()
     ensures collision { LastDifferenceCollides T W }
     ensures single { AnswerIsExtraction T W }
     ensures pruned { PrunedAnswerIsExtraction T W }
-{}
-
-/// Two accepted openings of one cap that agree at each shared place have the same words in each row of an authenticated
-/// matrix that both open. Two of one index agree exactly if they have the same siblings, and the same row of each
-/// authenticated matrix.
-pub fn binding<T, W>()
     ensures rows { RowsAreBound T W }
     ensures one_index { OneIndexIsBound T W }
-{}
-
-/// The inputs of a check: each that is made of digests has as many of them as the arity, and the last one's digest
-/// is the one that the check reaches.
-pub fn inputs<T, W>()
     ensures full { InputsAreFull T W }
     ensures last { LastInputIsReached T W }
 {}
 
-/// The boundary nodes and the queried leaves are enough to compute each covered node of the cap's layer.
-pub fn sufficiency()
-    ensures { BoundarySuffices }
-{}
-
-/// No other set of uncovered nodes that suffices is as small as the boundary.
-pub fn minimality()
+/// The boundary nodes and the queried leaves are enough to compute each covered node of the cap's layer. No other set of
+/// uncovered nodes that suffices is as small as the boundary.
+pub fn boundary()
+    ensures suffices { BoundarySuffices }
     ensures smallest { BoundaryIsSmallest }
     ensures alone { BoundaryIsAlone }
     ensures least { BoundaryIsLeast }

@@ -17,8 +17,6 @@ ghost use Rattle.p3_merkle_core.specs.Geometry.{levels, height_limit, shape_of, 
 ghost use Rattle.p3_merkle_core.specs.Refusals.{queries_refusal};
 
 use crate::error::MerkleTreeError;
-use crate::steps::{Steps, steps_of};
-use p3_support::matrix::Dimensions;
 use std::alloc::{AllocError, Global};
 
 /// The digests of a pruned proof, which opens several leaves at once. [`PrunedMerklePaths`] is this proof at digests of
@@ -86,23 +84,18 @@ pub fn check_indices(max_height: usize, indices: &[usize]) -> Result<(), MerkleT
         (λ e. queries_refusal max_height indices.now ≡ Some e) }
     ensures below { IfOk result (λ ok. All (λ q. q < max_height) indices.now) }
 {
-    let index = highest_of(indices);
-    if index < max_height {
-        Ok(())
-    } else {
-        Err(MerkleTreeError::IndexOutOfBounds { max_height, index })
-    }
-}
-
-/// The highest index, or 0 if there are none.
-fn highest_of(indices: &[usize]) -> usize
-    ensures { result ≡ greatest indices.now }
-{
     let mut highest = 0;
     for index in indices {
         highest = highest.max(*index);
     }
-    highest
+    if highest < max_height {
+        Ok(())
+    } else {
+        Err(MerkleTreeError::IndexOutOfBounds {
+            max_height,
+            index: highest,
+        })
+    }
 }
 
 /// The leaves that some indices cover: each index once, ascending. It allocates a copy of the indices and sorts it.
@@ -161,55 +154,6 @@ pub fn climb(covered: &mut Vec<usize>, step: usize)
 {
     to_parents(covered, step);
     covered.dedup();
-}
-
-/// How many digests a pruned proof of some indices sends under the cap of layer `cap_layer`: on each level, the
-/// children of covered nodes that are not covered. `cap_layer` must be at most the number of levels, the arity a power
-/// of two from 2 to 2^62, no height above [`MAX_HEIGHT`](crate::geometry::MAX_HEIGHT), and each index below the tallest
-/// height. It allocates and sorts a copy of the indices, and takes one step for each index and level.
-///
-/// # Errors
-///
-/// `AllocError` if memory runs out.
-pub fn pruned_len_of(
-    alloc: Global,
-    dimensions: &[Dimensions],
-    arity: usize,
-    cap_layer: usize,
-    indices: &[usize],
-) -> Result<usize, AllocError>
-    requires arity { IsArity arity }
-    requires low { greatest (heights_of dimensions.now) ≤ height_limit }
-    requires layer { cap_layer ≤ levels (shape_of arity dimensions.now) }
-    requires below { All (λ q. q < greatest (heights_of dimensions.now)) indices.now }
-    ensures { IfOk result (λ count. count ≡ pruned_len (shape_of arity dimensions.now) indices.now cap_layer) }
-{
-    let leaves = covered_leaves(alloc, indices)?;
-    Ok(steps_of(dimensions, arity).boundary_len(cap_layer, leaves))
-}
-
-impl<'a> Steps<'a> {
-    /// The same as [`pruned_len_of`] from the leaves that the indices cover, each once, ascending, as
-    /// [`covered_leaves`] has them. It does not allocate, and takes one step for each leaf and level.
-    pub fn boundary_len(&self, layer: usize, leaves: Vec<usize>) -> usize
-        requires arity { IsArity self.now.arity }
-        requires low { greatest (heights_of self.now.dimensions.now) ≤ height_limit }
-        requires layer { layer ≤ self.now.num_levels }
-        requires below { All (λ q. q < greatest (heights_of self.now.dimensions.now)) leaves.items }
-        requires ascending { IsStrictlyIncreasing leaves.items }
-        ensures { result ≡ pruned_len (shape_of self.now.arity self.now.dimensions.now) leaves.items layer }
-    {
-        let mut covered = leaves;
-        let mut count = 0;
-        for level in 0..layer {
-            let step = self.step(level);
-            let below = covered.len();
-            climb(&mut covered, step);
-            let children = step * covered.len();
-            count += children - below;
-        }
-        count
-    }
 }
 
 /// The digests of the children of some parents, `step` of each, parent by parent: a covered child has its digest, and
@@ -293,15 +237,6 @@ fn extend_with_places<X>(
     Ok(())
 }
 
-/// How many places [`all_places`] has.
-fn num_places<X>(levels: &[KeptLevel<X>]) -> usize {
-    let mut count = 0usize;
-    for level in 1..levels.len() {
-        count = count.saturating_add(levels[level - 1].parents.len());
-    }
-    count
-}
-
 /// For each level but the last, and each of its `parents`, the place of that node's parent in the next level: one level
 /// after another.
 ///
@@ -309,7 +244,11 @@ fn num_places<X>(levels: &[KeptLevel<X>]) -> usize {
 ///
 /// `AllocError` if memory runs out.
 fn all_places<X>(alloc: Global, levels: &[KeptLevel<X>]) -> Result<Vec<usize>, AllocError> {
-    let mut places = Vec::with_capacity(alloc, num_places(levels))?;
+    let mut num_places = 0usize;
+    for level in 1..levels.len() {
+        num_places = num_places.saturating_add(levels[level - 1].parents.len());
+    }
+    let mut places = Vec::with_capacity(alloc, num_places)?;
     for level in 1..levels.len() {
         extend_with_places(&mut places, &levels[level - 1].parents, &levels[level])?;
     }

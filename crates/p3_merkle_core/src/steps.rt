@@ -2,7 +2,7 @@
 //! the two calls that return a list allocate.
 
 ghost use Rattle.std.specs.Prelude.{◌≡◌, ℕ, suc, ◌+◌, ◌-◌, ◌<◌, ◌≤◌, ◌==◌, ◌↔◌, List, if◌then◌else◌, length, map};
-ghost use Rattle.std.specs.Prelude.{nat_lt, take, ◌&&◌, IfOk, IsOk, MatchResult, None, Some};
+ghost use Rattle.std.specs.Prelude.{All, nat_lt, take, ◌&&◌, IfOk, IsOk, MatchResult, None, Some};
 ghost use Rattle.std.specs.List.{list_any, range_with_len};
 ghost use Rattle.p3_merkle_core.specs.Geometry;
 ghost use Rattle.p3_merkle_core.specs.Geometry.{exponent, has_rows, is_bridge, layer_exponent, levels, height_limit};
@@ -10,13 +10,23 @@ ghost use Rattle.p3_merkle_core.specs.Geometry.{positions_below, schedule_below,
 ghost use Rattle.p3_merkle_core.specs.Inner.Shapes.{shortest};
 ghost use Rattle.p3_merkle_core.specs.Geometry.{IsLawful};
 ghost use Rattle.p3_support.specs.Batches.{heights_of, greatest};
+ghost use Rattle.p3_merkle_core.specs.Caps.{cap_layer};
 ghost use Rattle.p3_merkle_core.specs.Checks.{siblings_below};
+ghost use Rattle.p3_merkle_core.specs.Inner.Levels.{IsBelowTop, IsLevel};
+ghost use Rattle.p3_merkle_core.specs.Pruning.{pruned_len};
+ghost use Rattle.std.specs.List.Sorted.{IsStrictlyIncreasing};
 ghost use Rattle.p3_merkle_core.specs.Gate.{gate_refusal};
-ghost use Rattle.p3_merkle_core.specs.Inner.Rungs.{next_below, IsRung};
+ghost use Rattle.p3_merkle_core.specs.Inner.Exponents.{AreExponents};
 ghost use Rattle.p3_merkle_core.specs.Inner.Steps.{level_step};
 
+use crate::cap::CapRule;
 use crate::error::MerkleTreeError;
-use crate::geometry::{check_heights_up_to, exponent_of, extremes_of, step_from};
+use crate::geometry::{
+    MAX_HEIGHT, bits_reduced_of, exponent_of, extremes_of, first_too_large_of, height_at_of,
+    padded_len,
+};
+use crate::levels::Level;
+use crate::pruning::climb;
 use p3_support::matrix::Dimensions;
 use std::alloc::{AllocError, Global};
 
@@ -25,67 +35,29 @@ const MAX_LEVELS: usize = 64;
 
 /// The exponent of a layer, and the next lower exponent of a matrix: the steps above the layer depend on these.
 #[derive(Clone, Copy)]
-struct Rung {
+struct Exponents {
     /// The exponent of the layer.
-    pub exponent: usize,
+    pub layer: usize,
     /// One more than the greatest exponent of a matrix below this one; 0 if no matrix has a lower exponent.
     pub next: usize,
 }
 
-/// The rung of this exponent. Each matrix is looked at once; at exponent 0 none is.
-fn rung_at(dimensions: &[Dimensions], exponent: usize) -> Rung
-    ensures exponent { result.exponent ≡ exponent }
-    ensures rung { IsRung (heights_of dimensions.now) result }
+/// The exponents at a layer of this exponent. Each matrix is looked at once; at exponent 0 none is.
+fn exponents_at(dimensions: &[Dimensions], layer: usize) -> Exponents
+    ensures layer { result.layer ≡ layer }
+    ensures next { AreExponents (heights_of dimensions.now) result }
 {
-    if exponent == 0 {
-        return Rung {
-            exponent: 0,
-            next: 0,
-        };
+    if layer == 0 {
+        return Exponents { layer: 0, next: 0 };
     }
     let mut next = 0;
     for matrix in dimensions {
-        let e = exponent_of(matrix.height);
-        if e < exponent {
-            next = next.max(e + 1);
+        let exponent = exponent_of(matrix.height);
+        if exponent < layer {
+            next = next.max(exponent + 1);
         }
     }
-    Rung { exponent, next }
-}
-
-/// Tells that the exponent of a height is at most 64. It does nothing at run time.
-fn lemma_exponent(height: usize)
-    ensures { exponent height ≤ 64 }
-{}
-
-/// Whether the step from a layer is a bridge step, as [`is_bridge_step`](crate::geometry::is_bridge_step) says. No
-/// matrix is looked at.
-fn is_bridge_from(arity: usize, rung: Rung) -> bool
-    ensures { (hs : List ℕ) → IsRung hs rung → result
-        ≡ list_any (λ h. nat_lt (rung.exponent - exponent arity) (exponent h) && nat_lt (exponent h) rung.exponent) hs }
-{
-    let target = rung.exponent.saturating_sub(exponent_of(arity));
-    rung.next.saturating_sub(target) > 1
-}
-
-/// Whether matrices have this exponent, and its rung. It is that of the layer above a rung: below the rung's, with no
-/// matrix's exponent between them. The matrices are looked at only if one has it.
-fn rung_above(dimensions: &[Dimensions], rung: Rung, exponent: usize) -> (bool, Rung)
-    requires rung { IsRung (heights_of dimensions.now) rung }
-    requires down { exponent < rung.exponent }
-    requires between { rung.next ≤ exponent + 1 }
-    ensures rows { result.0 ≡ list_any (λ h. Geometry.exponent h == exponent) (heights_of dimensions.now) }
-    ensures exponent { result.1.exponent ≡ exponent }
-    ensures above { IsRung (heights_of dimensions.now) result.1 }
-{
-    if rung.next == exponent + 1 {
-        return (true, rung_at(dimensions, exponent));
-    }
-    let above = Rung {
-        exponent,
-        next: rung.next,
-    };
-    (false, above)
+    Exponents { layer, next }
 }
 
 /// The step of a level, and whether matrices belong to the layer above it.
@@ -97,23 +69,36 @@ struct LevelStep {
     pub has_rows: bool,
 }
 
-/// The step from a layer below the root, as [`select_arity_step`](crate::geometry::select_arity_step), whether matrices
-/// belong to the next layer, as [`has_exponent`](crate::geometry::has_exponent), and that layer's rung. The arity must
-/// be at least 2. The matrices are looked at only if one belongs to the next layer.
-fn step_up(dimensions: &[Dimensions], arity: usize, rung: Rung) -> (LevelStep, Rung)
+/// The step from a layer below the root, whether matrices belong to the next layer, and the exponents there. The arity
+/// must be at least 2. The matrices are looked at only if one belongs to the next layer.
+fn step_up(dimensions: &[Dimensions], arity: usize, exponents: Exponents) -> (LevelStep, Exponents)
     requires arity { 2 ≤ arity }
-    requires below { 0 < rung.exponent }
-    requires rung { IsRung (heights_of dimensions.now) rung }
-    ensures bridge { result.0.is_bridge ≡ is_bridge (shape_of arity dimensions.now) rung.exponent }
-    ensures next { result.1.exponent
-        ≡ (if is_bridge (shape_of arity dimensions.now) rung.exponent then rung.exponent - 1
-        else rung.exponent - Geometry.exponent arity) }
-    ensures rows { result.0.has_rows ≡ list_any (λ h. exponent h == result.1.exponent) (heights_of dimensions.now) }
-    ensures rung { IsRung (heights_of dimensions.now) result.1 }
+    requires below { 0 < exponents.layer }
+    requires next { AreExponents (heights_of dimensions.now) exponents }
+    ensures bridge { result.0.is_bridge ≡ is_bridge (shape_of arity dimensions.now) exponents.layer }
+    ensures layer { result.1.layer
+        ≡ (if is_bridge (shape_of arity dimensions.now) exponents.layer then exponents.layer - 1 else exponents.layer - exponent arity) }
+    ensures rows { result.0.has_rows ≡ list_any (λ h. exponent h == result.1.layer) (heights_of dimensions.now) }
+    ensures next { AreExponents (heights_of dimensions.now) result.1 }
 {
-    let is_bridge = is_bridge_from(arity, rung);
-    let (_, exponent) = step_from(arity, is_bridge, rung.exponent);
-    let (has_rows, above) = rung_above(dimensions, rung, exponent);
+    let target = exponents.layer.saturating_sub(exponent_of(arity));
+    // A matrix's exponent lies strictly between the layer's and what a step of the whole arity leaves of it.
+    let is_bridge = exponents.next.saturating_sub(target) > 1;
+    let layer = if is_bridge {
+        exponents.layer - 1
+    } else {
+        target
+    };
+    // No matrix's exponent lies between the two layers' exponents.
+    let has_rows = exponents.next == layer + 1;
+    let above = if has_rows {
+        exponents_at(dimensions, layer)
+    } else {
+        Exponents {
+            layer,
+            next: exponents.next,
+        }
+    };
     let level = LevelStep {
         is_bridge,
         has_rows,
@@ -168,20 +153,19 @@ pub fn steps_of(dimensions: &[Dimensions], arity: usize) -> Steps<'_>
     ensures arity { result.arity ≡ arity }
 {
     let (max_height, min_height) = extremes_of(dimensions);
-    lemma_exponent(max_height);
     let exponent = exponent_of(max_height);
-    let mut rung = rung_at(dimensions, exponent);
+    let mut exponents = exponents_at(dimensions, exponent);
     let none = LevelStep {
         is_bridge: false,
         has_rows: false,
     };
     let mut of_level = [none; MAX_LEVELS];
     let mut num_levels = 0;
-    while rung.exponent > 0 {
-        let (step, above) = step_up(dimensions, arity, rung);
+    while exponents.layer > 0 {
+        let (step, above) = step_up(dimensions, arity, exponents);
         of_level[num_levels] = step;
         num_levels += 1;
-        rung = above;
+        exponents = above;
     }
     Steps {
         dimensions,
@@ -284,27 +268,57 @@ impl KeptSteps {
 }
 
 impl<'a> Steps<'a> {
-    /// Checks that a tree can be built over matrices of these heights, as
-    /// [`check_heights`](crate::geometry::check_heights). Each matrix is looked at once.
+    /// Checks that a tree can be built over matrices of these heights (`validate_commit_reachable_heights` in the Rust
+    /// crate). Each matrix is looked at once.
     ///
     /// # Errors
     ///
-    /// Those of [`check_heights`](crate::geometry::check_heights).
+    /// `EmptyBatch` where no matrix has a row; else `TooLarge` for the first height above [`MAX_HEIGHT`]; else
+    /// `IncompatibleHeights` for the first height that is not the tallest one halved and rounded up some number of
+    /// times.
     pub fn check_heights(&self) -> Result<(), MerkleTreeError>
         ensures answer { MatchResult result (λ ok. gate_refusal (heights_of self.now.dimensions.now) ≡ None)
             (λ e. gate_refusal (heights_of self.now.dimensions.now) ≡ Some e) }
         ensures lawful { IsOk result ↔ IsLawful (heights_of self.now.dimensions.now) }
     {
-        check_heights_up_to(self.dimensions, self.max_height)
+        let max_height = self.max_height;
+        if max_height == 0 {
+            return Err(MerkleTreeError::EmptyBatch);
+        }
+        if let Some(matrix) = first_too_large_of(self.dimensions, max_height) {
+            return Err(MerkleTreeError::TooLarge {
+                matrix,
+                size: self.dimensions[matrix].height,
+            });
+        }
+        for matrix in self.dimensions {
+            let height = matrix.height;
+            let expected_height = height_at_of(max_height, exponent_of(height));
+            if height != expected_height {
+                return Err(MerkleTreeError::IncompatibleHeights {
+                    height,
+                    max_height,
+                    expected_height,
+                    bits_reduced: bits_reduced_of(max_height, height),
+                });
+            }
+        }
+        Ok(())
     }
 
-    /// Whether the step of a level below the root is a bridge step.
-    pub(crate) fn is_bridge(&self, level: usize) -> bool
-        requires { level < self.now.num_levels }
-        ensures { let s = shape_of self.now.arity self.now.dimensions.now in
-            result ≡ is_bridge s (layer_exponent s level) }
+    /// The layer, counted from the leaves, that is the cap of this height by this rule. The arity must be a power of
+    /// two from 2 to 2^62. It does not allocate.
+    pub fn cap_layer(&self, rule: CapRule, cap_height: usize) -> usize
+        requires { IsArity self.now.arity }
+        ensures { result ≡ cap_layer (shape_of self.now.arity self.now.dimensions.now) rule cap_height }
     {
-        self.of_level[level].is_bridge
+        // No step above the layer of the shortest matrix is a bridge step.
+        let max_cap_height = match rule {
+            CapRule::Lowered => exponent_of(self.min_height).div_ceil(exponent_of(self.arity)),
+            CapRule::Fixed => self.num_levels,
+        };
+        self.num_levels
+            .saturating_sub(cap_height.min(max_cap_height))
     }
 
     /// The step of a level, in children per node. The level must be below the root.
@@ -312,7 +326,11 @@ impl<'a> Steps<'a> {
         requires { level < self.now.num_levels }
         ensures { result ≡ step (shape_of self.now.arity self.now.dimensions.now) level }
     {
-        if self.is_bridge(level) { 2 } else { self.arity }
+        if self.of_level[level].is_bridge {
+            2
+        } else {
+            self.arity
+        }
     }
 
     /// The step of a level, and what is known of the layer above it. The level must be below the root, `exponent` must
@@ -330,11 +348,45 @@ impl<'a> Steps<'a> {
             is_bridge,
             has_rows,
         } = self.of_level[level];
-        let (step, exponent) = step_from(arity, is_bridge, exponent);
-        StepUp {
-            step,
-            has_rows,
-            exponent,
+        if is_bridge {
+            StepUp {
+                step: 2,
+                has_rows,
+                exponent: exponent.saturating_sub(1),
+            }
+        } else {
+            StepUp {
+                step: arity,
+                has_rows,
+                exponent: exponent.saturating_sub(exponent_of(arity)),
+            }
+        }
+    }
+
+    /// The layer above the layer `below`, which must be below the root and have `len` nodes and this exponent. The
+    /// arity must be a power of two from 2 to 2^62, and [`check_heights`](Self::check_heights) must accept the heights.
+    pub fn level_above(&self, below: usize, exponent: usize, len: usize) -> Level
+        requires { IsBelowTop (shape_of self.now.arity self.now.dimensions.now) below exponent len }
+        ensures level { IsLevel (shape_of self.now.arity self.now.dimensions.now) result }
+        ensures below { result.below ≡ below }
+    {
+        let arity = self.arity;
+        let up = self.up(arity, below, exponent);
+        // All slots are grouped into nodes of the layer above, but of a short layer below a bridge step only `2^exponent`.
+        let grouped_len = if self.of_level[below].is_bridge && len < arity {
+            1 << exponent
+        } else {
+            padded_len(len, arity)
+        };
+        let raw_len = grouped_len / up.step;
+        Level {
+            below,
+            step: up.step,
+            exponent: up.exponent,
+            raw_len,
+            layer_len: padded_len(raw_len, arity),
+            height: height_at_of(self.max_height, up.exponent),
+            has_rows: up.has_rows,
         }
     }
 
@@ -352,7 +404,7 @@ impl<'a> Steps<'a> {
 
     /// How many siblings the levels below a layer have, in digests: one less than the step of each
     /// (`total_siblings_for_levels` in the Rust crate). The layer must be at most the number of levels, the arity a
-    /// power of two from 2 to 2^62, and no height above [`MAX_HEIGHT`](crate::geometry::MAX_HEIGHT).
+    /// power of two from 2 to 2^62, and no height above [`MAX_HEIGHT`].
     pub fn siblings_below(&self, layer: usize) -> usize
         requires arity { IsArity self.now.arity }
         requires low { greatest (heights_of self.now.dimensions.now) ≤ height_limit }
@@ -411,5 +463,30 @@ impl<'a> Steps<'a> {
             ancestor /= step;
         }
         Ok(positions)
+    }
+
+    /// How many digests a pruned proof of some leaves sends under the cap of layer `layer`: on each level, the children of
+    /// covered nodes that are not covered. The leaves ascend, each once, as
+    /// [`covered_leaves`](crate::pruning::covered_leaves) has them. `layer` must be at most the number of levels, the
+    /// arity a power of two from 2 to 2^62, no height above [`MAX_HEIGHT`], and each leaf below the tallest height. It
+    /// does not allocate, and takes one step for each leaf and level.
+    pub fn boundary_len(&self, layer: usize, leaves: Vec<usize>) -> usize
+        requires arity { IsArity self.now.arity }
+        requires low { greatest (heights_of self.now.dimensions.now) ≤ height_limit }
+        requires layer { layer ≤ self.now.num_levels }
+        requires below { All (λ q. q < greatest (heights_of self.now.dimensions.now)) leaves.items }
+        requires ascending { IsStrictlyIncreasing leaves.items }
+        ensures { result ≡ pruned_len (shape_of self.now.arity self.now.dimensions.now) leaves.items layer }
+    {
+        let mut covered = leaves;
+        let mut count = 0;
+        for level in 0..layer {
+            let step = self.step(level);
+            let below = covered.len();
+            climb(&mut covered, step);
+            let children = step * covered.len();
+            count += children - below;
+        }
+        count
     }
 }

@@ -66,8 +66,3 @@ module _ {A : Type 0} where
   pub nothing_drawn : (P : Type 0) (r : Result A MerkleTreeError) → IsErr r → OnOk r P
   nothing_drawn P (Ok v) err = absurd cc
   nothing_drawn P (Err e) err = tt
-
-  -- what holds on every error holds beside the want of memory
-  pub stays : (P : Type 0) (r : Result A MerkleTreeError) → P → IfErr r (λ e. (e ≡ OutOfMemory) ⊎ P)
-  stays P (Ok v) holds = tt
-  stays P (Err e) holds = inr holds

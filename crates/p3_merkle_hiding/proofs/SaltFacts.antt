@@ -1,20 +1,20 @@
 -- Rows that are joined with their salts one by one, and widths that can grow.
-use Rattle.std.proofs.Common.{◌≡◌, ℕ, ◌+◌, ◌-◌, ◌<◌, ◌^◌, ◌⊎◌, inl, inr, List, [], ◌∷◌, ◌++◌, refl, sym, ap, ◌∙◌, arith}
+use Rattle.std.proofs.Common.{◌≡◌, ◌↔◌, ℕ, ◌+◌, ◌<◌, ◌≤◌, ◌^◌, ◌⊎◌, inl, inr, List, [], ◌∷◌, ◌++◌, refl, sym, ap, ◌∙◌}
 use Rattle.std.proofs.Common.{length, get_or, map, zip, None, Some, nat_le, nat_lt, append-nil, append_assoc, eq-eqb}
-use Rattle.std.proofs.Common.{eqb, Option}
+use Rattle.std.proofs.Common.{arith, eqb, false, Option}
 use Rattle.std.specs.List.{position_or_len}
-use Rattle.std.specs.Option.{option_or}
-use Rattle.std.proofs.lemmas.Bool.{cases_lt, cond-true, lt-ltb, leb-false, le-leb, lt-leb, le-ltb}
+use Rattle.std.specs.Option.{option_map, option_or}
+use Rattle.std.proofs.lemmas.Bool.{cases_lt, cond-false, cond-true, le-ltb, lt-ltb, leb-false, le-leb, lt-leb}
 use Rattle.std.proofs.lemmas.List.{get_or-map, length-map, map-append}
-use Rattle.std.proofs.lemmas.List.Sums.{fails_before_first}
+use Rattle.std.proofs.lemmas.List.Sums.{fails_before_first, position_or_len_is}
 use Rattle.p3_support.specs.declared.matrix.Dimensions.{Dimensions}
 use Rattle.p3_support.specs.Batches.{widths_of}
 use Rattle.p3_support.specs.Shown.{row_lists, row_sets}
 use Rattle.std.specs.declared.vec.Vec.{Vec}
-use Rattle.p3_merkle_core.specs.Refusals.{first_of, size_refusal}
+use Rattle.p3_merkle_core.specs.Refusals.{first_of, first_some, size_refusal}
 use Rattle.p3_merkle_core.specs.declared.error.MerkleTreeError.{MerkleTreeError}
-use Rattle.p3_merkle_core.specs.declared.error.MerkleTreeError.TheVariants.{WrongBatchSize}
-use Rattle.p3_merkle_hiding.specs.SaltRefusals.{first_too_wide, salt_refusal, salt_sets_refusal}
+use Rattle.p3_merkle_core.specs.declared.error.MerkleTreeError.TheVariants.{TooLarge, WrongBatchSize}
+use Rattle.p3_merkle_hiding.specs.SaltRefusals.{first_too_wide, salt_refusal, salt_sets_refusal, widening_refusal}
 use Rattle.p3_merkle_hiding.specs.SaltedOpenings.{CanWiden}
 
 -- where either list is at its end, so is either of what it shows
@@ -23,11 +23,11 @@ pub shown_end : {A B C D : Type 0} (f : A → C) (g : B → D) (xs : List A) (ys
 shown_end f g xs ys (inl e) = inl (ap (λ (z : List _). map f z) e)
 shown_end f g xs ys (inr e) = inr (ap (λ (z : List _). map g z) e)
 
--- the same where the second list is what it shows
-pub rows_end : {A B C : Type 0} (f : A → C) (xs : List A) (ys : List B) → (xs ≡ []) ⊎ (ys ≡ []) → (map f xs ≡ []) ⊎
-    (ys ≡ [])
-rows_end f xs ys (inl e) = inl (ap (λ (z : List _). map f z) e)
-rows_end f xs ys (inr e) = inr e
+-- the same of the second list alone
+pub second_end : {A B D : Type 0} (g : B → D) (xs : List A) (ys : List B) → (xs ≡ []) ⊎ (ys ≡ []) → (xs ≡ []) ⊎
+    (map g ys ≡ [])
+second_end g xs ys (inl e) = inl e
+second_end g xs ys (inr e) = inr (ap (λ (z : List _). map g z) e)
 
 module _ {A B C : Type 0} (join : A × B → C) where
   none_left : (xs : List A) (ys : List B) → ys ≡ [] → map join (zip xs ys) ≡ []
@@ -67,6 +67,17 @@ sets_decide dimensions sets salts refusal same is =
     ap (λ (o : Option MerkleTreeError).
     option_or o (first_of (λ (rows, salt). salt_refusal dimensions rows salt) (zip sets salts))) size ∙ is
 
+-- where all sets are gone through, none is refused
+pub no_set_refused : {T A B C D : Type 0} (dimensions : List Dimensions) (xs sets : List (Vec (Vec T A) B))
+    (ys salts : List (Vec (Vec T C) D)) → length (row_sets salts) ≡ length (row_sets sets) → (xs ≡ []) ⊎ (ys ≡ []) →
+    first_of (λ (rows, salt). salt_refusal dimensions rows salt) (zip (row_sets xs) (row_sets ys))
+    ≡ first_of (λ (rows, salt). salt_refusal dimensions rows salt) (zip (row_sets sets) (row_sets salts)) →
+    salt_sets_refusal dimensions (row_sets sets) (row_sets salts) ≡ None
+no_set_refused dimensions xs sets ys salts same end left =
+    let none = pairs_end (λ (rows, salt). salt_refusal dimensions rows salt) (row_sets xs) (row_sets ys)
+    (shown_end (λ rows. row_lists rows.items) (λ salt. row_lists salt.items) xs ys end) in
+    sets_decide dimensions (row_sets sets) (row_sets salts) None same (sym left ∙ ap first_some none)
+
 -- one set more, which is the first of those that are left
 module _ {T A B C D : Type 0} (dimensions : List Dimensions) (x : Vec (Vec T A) B) (y : Vec (Vec T C) D)
     (xs left : List (Vec (Vec T A) B)) (ys other : List (Vec (Vec T C) D)) (all : Option MerkleTreeError)
@@ -90,15 +101,28 @@ module _ {T A B C D : Type 0} (dimensions : List Dimensions) (x : Vec (Vec T A) 
         ≡ Some e = rw (rows, salts, is) refl in
         sym before ∙ now
 
--- a width is above what is left of the greatest number exactly if it passes it with the salts
-pub too_wide_is : (e w : ℕ) → e < 2 ^ 64 → nat_lt (2 ^ 64 - 1 - e) w ≡ nat_le (2 ^ 64) (w + e)
-too_wide_is e w small = elim (cases_lt (2 ^ 64 - 1 - e) w) [
-  | inl l ↦ lt-ltb (2 ^ 64 - 1 - e) w l ∙ sym (le-leb (2 ^ 64) (w + e) (omega arith))
-  | inr g ↦ le-ltb (2 ^ 64 - 1 - e) w g ∙ sym (lt-leb (2 ^ 64) (w + e) (omega arith))
-]
+-- the first width that does not fit with the salts is refused
+pub first_wide : (e : ℕ) (ds : List Dimensions) (m : ℕ) (d : Dimensions) → m < length ds →
+    ((k : ℕ) → k < m → (d : Dimensions) → (get_or ds k d).width + e < 2 ^ 64) → 2 ^ 64 ≤ (get_or ds m d).width + e →
+    widening_refusal e ds ≡ Some (TooLarge m (get_or ds m d).width)
+first_wide e ds m d inside below wide =
+    let ws = widths_of ds in
+    let test = λ (w : ℕ). nat_le (2 ^ 64) (w + e) in
+    let long : length ws ≡ length ds = length-map ds (λ (d : Dimensions). d.width) in
+    let at : (k : ℕ) → k < length ds → get_or ws k 0 ≡ (get_or ds k d).width =
+    λ k h. get_or-map (λ (d : Dimensions). d.width) ds k d 0 h in
+    let here = at m inside in
+    let none : (k : ℕ) → k < m → test (get_or ws k 0) ≡ false =
+    λ k h. lt-leb (2 ^ 64) (get_or ws k 0 + e) (omega (arith, at k (omega arith), below k h d)) in
+    let first : position_or_len test ws ≡ m = position_or_len_is test ws m 0 (omega arith) none
+    (λ h. le-leb (2 ^ 64) (get_or ws m 0 + e) (omega (arith, here))) in
+    let found = cond-true (nat_lt (position_or_len test ws) (length ws)) (Some (position_or_len test ws)) None
+    (lt-ltb (position_or_len test ws) (length ws) (omega (arith, first))) in
+    ap (option_map (λ (k : ℕ). TooLarge k (get_or ws k 0))) (found ∙ ap (λ (k : ℕ). Some k) first)
+    ∙ ap (λ (w : ℕ). Some (TooLarge m w)) here
 
 -- where none is too wide, all can be wider
-pub can_widen : (e : ℕ) (ds : List Dimensions) → first_too_wide e (widths_of ds) ≡ None → CanWiden e ds
+can_widen : (e : ℕ) (ds : List Dimensions) → first_too_wide e (widths_of ds) ≡ None → CanWiden e ds
 can_widen e ds none k d inside =
     let ws = widths_of ds in
     let test = λ (w : ℕ). nat_le (2 ^ 64) (w + e) in
@@ -112,3 +136,31 @@ can_widen e ds none k d inside =
           leb-false (2 ^ 64) (get_or ws k d.width + e) (fails_before_first test ws k d.width (omega arith)) in
           omega (arith, small, at)
     ]
+
+no_place : {X E : Type 0} (f : X → E) (o : Option X) → option_map f o ≡ None → o ≡ None
+no_place f None e = refl
+no_place f (Some x) e = absurd cc
+
+none_too_wide : (e : ℕ) (ds : List Dimensions) → CanWiden e ds → first_too_wide e (widths_of ds) ≡ None
+none_too_wide e ds fits =
+    let ws = widths_of ds in
+    let test = λ (w : ℕ). nat_le (2 ^ 64) (w + e) in
+    let long : length ws ≡ length ds = length-map ds (λ (d : Dimensions). d.width) in
+    let none : (k : ℕ) → k < length ws → test (get_or ws k 0) ≡ false =
+    λ k h.
+    let d : Dimensions = record { width = 0; height = 0 } in
+    let inside : k < length ds = omega arith in
+    let at : get_or ws k 0 ≡ (get_or ds k d).width = get_or-map (λ (d : Dimensions). d.width) ds k d 0 inside in
+    lt-leb (2 ^ 64) (get_or ws k 0 + e) (omega (arith, at, fits k d inside)) in
+    let end : position_or_len test ws
+    ≡ length ws = position_or_len_is test ws (length ws) 0 (omega arith) none (λ h. absurd (omega arith)) in
+    cond-false (nat_lt (position_or_len test ws) (length ws)) (Some (position_or_len test ws)) None
+    (le-ltb (position_or_len test ws) (length ws) (omega arith))
+
+-- no width is refused exactly if all can be wider
+pub widening : (e : ℕ) (ds : List Dimensions) → (widening_refusal e ds ≡ None) ↔ CanWiden e ds
+widening e ds =
+    let size = λ (m : ℕ). TooLarge m (get_or (widths_of ds) m 0) in (
+      λ none. can_widen e ds (no_place size (first_too_wide e (widths_of ds)) none),
+      λ fits. ap (option_map size) (none_too_wide e ds fits),
+    )

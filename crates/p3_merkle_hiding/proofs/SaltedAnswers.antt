@@ -19,7 +19,7 @@ use Rattle.p3_merkle_core.specs.declared.error.MerkleTreeError.TheVariants.{TooL
 use Rattle.p3_merkle_core.proofs.Pruned.NoneFacts.{fit_from, none_of_both, none_parts, unless_none}
 use Rattle.p3_merkle_core.proofs.Pruned.Unrefused.{each_width, size_none}
 use Rattle.p3_merkle_core.proofs.Checks.Verdicts.{accepted_answer, accepted_from, pruned_accepted}
-use Rattle.p3_merkle_hiding.proofs.SaltFacts.{can_widen}
+use Rattle.p3_merkle_hiding.proofs.SaltFacts.{widening}
 use Rattle.p3_merkle_hiding.specs.SaltRefusals.{first_too_wide, salt_refusal, salt_sets_refusal}
 use Rattle.p3_merkle_hiding.specs.SaltRefusals.{salted_pruned_refusal_under, salted_refusal_under, salted_rows_refusal}
 use Rattle.p3_merkle_hiding.specs.SaltRefusals.{salted_sets_refusal, widening_refusal}
@@ -28,35 +28,6 @@ use Rattle.p3_merkle_hiding.specs.SaltedOpenings.{SaltedOpening, SaltedPruned, j
 use Rattle.p3_merkle_hiding.specs.SaltedPresented.{presented_salted, presented_salted_pruned}
 use Rattle.p3_merkle_core.specs.Checks.{Params}
 use Rattle.p3_merkle_core.proofs.Collisions.ExtractionFacts.{IsPresentation}
-
--- ---- widths
-
-no_place : {X E : Type 0} (f : X → E) (o : Option X) → option_map f o ≡ None → o ≡ None
-no_place f None e = refl
-no_place f (Some x) e = absurd cc
-
-pub none_too_wide : (e : ℕ) (ds : List Dimensions) → CanWiden e ds → first_too_wide e (widths_of ds) ≡ None
-none_too_wide e ds fits =
-    let ws = widths_of ds in
-    let test = λ (w : ℕ). nat_le (2 ^ 64) (w + e) in
-    let long : length ws ≡ length ds = length-map ds (λ (d : Dimensions). d.width) in
-    let none : (k : ℕ) → k < length ws → test (get_or ws k 0) ≡ false =
-    λ k h.
-    let d : Dimensions = record { width = 0; height = 0 } in
-    let inside : k < length ds = omega arith in
-    let at : get_or ws k 0 ≡ (get_or ds k d).width = get_or-map (λ (d : Dimensions). d.width) ds k d 0 inside in
-    lt-leb (2 ^ 64) (get_or ws k 0 + e) (omega (arith, at, fits k d inside)) in
-    let end : position_or_len test ws
-    ≡ length ws = position_or_len_is test ws (length ws) 0 (omega arith) none (λ h. absurd (omega arith)) in
-    cond-false (nat_lt (position_or_len test ws) (length ws)) (Some (position_or_len test ws)) None
-    (le-ltb (position_or_len test ws) (length ws) (omega arith))
-
-pub widening : (e : ℕ) (ds : List Dimensions) → (widening_refusal e ds ≡ None) ↔ CanWiden e ds
-widening e ds =
-    let size = λ (m : ℕ). TooLarge m (get_or (widths_of ds) m 0) in (
-      λ none. can_widen e ds (no_place size (first_too_wide e (widths_of ds)) none),
-      λ fits. ap (option_map size) (none_too_wide e ds fits),
-    )
 
 -- ---- rows and salts
 

@@ -17,7 +17,7 @@ use Rattle.p3_merkle_core.specs.declared.error.MerkleTreeError.TheVariants.{OutO
 use Rattle.p3_merkle_core.proofs.Shapes.GateFacts.{gate_lawful}
 use Rattle.p3_merkle_core.proofs.Pruned.NoneFacts.{none_of_both, none_parts}
 use Rattle.p3_merkle_core.proofs.Lists.ViewFacts.{dimensions_are}
-use Rattle.p3_merkle_hiding.proofs.SaltedAnswers.{widening}
+use Rattle.p3_merkle_hiding.proofs.SaltFacts.{widening}
 use Rattle.p3_merkle_hiding.specs.SaltRefusals.{salted_commit_refusal, widening_refusal}
 use Rattle.p3_merkle_hiding.specs.SaltedCommitments.{CanCommitSalted, IsSaltedCommitment}
 use Rattle.p3_merkle_hiding.specs.SaltedOpenings.{CanWiden}

@@ -1,6 +1,5 @@
 -- Rows followed by their salts, and when openings of such rows are accepted.
-use Rattle.std.specs.Prelude.{◌≡◌, ◌≢◌, ◌⊎◌, ℕ, ◌+◌, ◌<◌, ◌^◌, List, [], slice_index_or, ◌++◌, map, length, zip}
-use Rattle.std.specs.Prelude.{All}
+use Rattle.std.specs.Prelude.{◌≡◌, ℕ, ◌+◌, ◌<◌, ◌^◌, List, ◌++◌, map, length, zip, All}
 use Rattle.std.specs.List.{AllZip}
 use Rattle.p3_support.specs.declared.matrix.Dimensions.{Dimensions}
 use Rattle.p3_support.specs.Batches.{widths_of}
@@ -83,15 +82,3 @@ pub record IsSaltedPrunedAccepted {T W : Type 0} (e : ℕ) (dimensions : List Di
   pub salted : AllZip (HaveSalts dimensions) p.rows p.salts
   pub can_widen : CanWiden e dimensions
   pub accepted : IsPrunedAccepted c cap (joined_sets p)
-
--- ---- what joined rows tell
-
--- of rows that have the widths of their matrices: where a row or its salts differ, the row followed by its salts
--- differs
-abbrev pub JoinedRowsTell : Type 0 → Type 0
-JoinedRowsTell T =
-    (dimensions : List Dimensions) (rows salts others other_salts : List (List T)) (k : ℕ) →
-    HaveSalts dimensions rows salts → HaveSalts dimensions others other_salts → k < length dimensions →
-    (slice_index_or rows k [] ≢ slice_index_or others k []) ⊎
-    (slice_index_or salts k [] ≢ slice_index_or other_salts k []) →
-    slice_index_or (salted_rows rows salts) k [] ≢ slice_index_or (salted_rows others other_salts) k []

@@ -1,6 +1,6 @@
 //! Commitments to salted matrices: heights and widths are checked, salts are drawn, and the plain scheme commits.
 
-ghost use Rattle.std.specs.Prelude.{◌≡◌, ◌≤◌, ◌⊎◌, IfErr, IfOk, MatchResult, None, OnOk, Some, map};
+ghost use Rattle.std.specs.Prelude.{◌≡◌, ◌≤◌, ◌⊎◌, IfErr, IfOk, OnOk, map};
 ghost use Rattle.p3_merkle_core.specs.Refusals.{AnswersUnlessMemory};
 ghost use Rattle.p3_merkle_core.specs.Commitments.{IsCommitment};
 ghost use Rattle.p3_merkle_core.specs.Views.{batch_of, matrix_of};
@@ -12,19 +12,17 @@ ghost use Rattle.p3_support.specs.Shown.{roots_of};
 ghost use Rattle.p3_merkle_hiding.specs.HidingSchemes.{generator_of, plain_of, salted_params_of};
 ghost use Rattle.p3_merkle_hiding.specs.Salted.{after_salts, salted_batch, salted_matrices, IsAfterSome};
 ghost use Rattle.p3_merkle_hiding.specs.SaltRefusals.{salted_commit_refusal};
-ghost use Rattle.p3_merkle_hiding.specs.SaltedOpenings.{CanWiden};
 ghost use Rattle.p3_merkle_hiding.specs.SaltedTrees.{HaveSaltColumns};
 ghost use Rattle.p3_merkle_hiding.specs.Inner.SaltedParts.{pair_matrix};
 
-use crate::draw::salted_pairs;
 use crate::hiding_mmcs::{MerkleTreeHidingMmcs, SaltedTree};
 use crate::join::check_widening;
 use p3_merkle_core::error::MerkleTreeError;
-use p3_merkle_core::geometry::check_heights;
+use p3_merkle_core::steps::steps_of;
 use p3_merkle_prover::levels::batch_dimensions;
 use p3_support::compress::PseudoCompressionFunction;
 use p3_support::hasher::CryptographicHasher;
-use p3_support::matrix::{Dimensions, Matrix, RowMajorMatrix};
+use p3_support::matrix::{Matrix, RowMajorMatrix};
 use p3_support::opening::MerkleCap;
 use p3_support::packed::PackedValue;
 use p3_support::pair::HorizontalPair;
@@ -89,13 +87,15 @@ where
         ensures untouched { IfErr result (λ e. (e ≡ OutOfMemory) ⊎ (generator_of self.new ≡ generator_of self.old)) }
         ensures scheme { plain_of self.new ≡ plain_of self.old }
     {
-        let pairs = checked_pairs(alloc, &mut self.generator, SALT_ELEMS, matrices)?;
+        let pairs = salted_pairs(alloc, &mut self.generator, N, SALT_ELEMS, matrices)?;
         self.plain.commit(alloc, pairs)
     }
 }
 
-/// Checks the heights and widths of matrices, and draws their salts as [`salted_pairs`]. `salt_elems` must be at least
-/// 1.
+/// Checks the heights and widths of matrices, draws `salt_elems` salts for each row, and returns each matrix beside its
+/// salts. Each salt takes one call of `next_u64`: matrix by matrix in input order, row by row.
+///
+/// `arity` must be at least 2 and `salt_elems` at least 1.
 ///
 /// # Errors
 ///
@@ -103,13 +103,15 @@ where
 /// else `TooLarge` for the first matrix whose width with its salts does not fit `usize`. These draw nothing from the
 /// generator. `OutOfMemory` may come at any time; then the generator has drawn the salts of the first few matrices,
 /// perhaps of none or of all.
-fn checked_pairs<T: SaltWord, M: Matrix<T> + Drop, R: Rng>(
+fn salted_pairs<T: SaltWord, M: Matrix<T> + Drop, R: Rng>(
     alloc: Global,
     rng: &mut R,
+    arity: usize,
     salt_elems: usize,
     matrices: Vec<M>,
 ) -> Result<Vec<HorizontalPair<T, M, RowMajorMatrix<T>>>, MerkleTreeError>
-    requires { 1 ≤ salt_elems }
+    requires arity { 2 ≤ arity }
+    requires some_salt { 1 ≤ salt_elems }
     ensures answer { let ms = map (matrix_of M.height_of M.width_of M.row_of) matrices.items in
         AnswersUnlessMemory result (salted_commit_refusal salt_elems (dimensions_of ms)) }
     ensures matrices { IfOk result (λ pairs. map left_of pairs.items ≡ matrices.items) }
@@ -124,22 +126,12 @@ fn checked_pairs<T: SaltWord, M: Matrix<T> + Drop, R: Rng>(
     ensures untouched { IfErr result (λ e. (e ≡ OutOfMemory) ⊎ (rng.new ≡ rng.old)) }
 {
     let dimensions = batch_dimensions(alloc, &matrices)?;
-    check_dimensions(&dimensions, salt_elems)?;
-    let pairs = salted_pairs(alloc, rng, salt_elems, matrices)?;
+    steps_of(&dimensions, arity).check_heights()?;
+    check_widening(&dimensions, salt_elems)?;
+    let mut pairs = Vec::with_capacity(alloc, matrices.len())?;
+    for matrix in matrices {
+        let salts = RowMajorMatrix::rand(alloc, rng, matrix.height(), salt_elems)?;
+        pairs.push(HorizontalPair::new(matrix, salts))?;
+    }
     Ok(pairs)
-}
-
-/// Checks that a tree can have the heights of matrices, and that the width of each with its salts fits `usize`.
-///
-/// # Errors
-///
-/// `EmptyBatch`, `TooLarge` or `IncompatibleHeights` for the heights, as [`check_heights`]; else `TooLarge` for the
-/// first matrix whose width with its salts does not fit `usize`, with its width as the size.
-fn check_dimensions(dimensions: &[Dimensions], salt_elems: usize) -> Result<(), MerkleTreeError>
-    ensures answer { let refusal = salted_commit_refusal salt_elems dimensions.now in
-        MatchResult result (λ ok. refusal ≡ None) (λ e. refusal ≡ Some e) }
-    ensures fits { IfOk result (λ ok. CanWiden salt_elems dimensions.now) }
-{
-    check_heights(dimensions)?;
-    check_widening(dimensions, salt_elems)
 }

@@ -12,7 +12,7 @@ ghost use Rattle.p3_merkle_hiding.specs.SaltedExtraction.{ConflictWhereAuthentic
 ghost use Rattle.p3_merkle_hiding.specs.SaltedPresented.{presented_salted, presented_salted_pruned};
 
 use crate::hiding_mmcs::{MerkleTreeHidingMmcs, SaltedMultiProof, SaltedProof};
-use crate::joined::{SaltedRows, SaltedSets};
+use crate::join::{salted_rows, salted_sets};
 use p3_merkle_core::collision::Collision;
 use p3_merkle_core::error::MerkleTreeError;
 use p3_support::compress::PseudoCompressionFunction;
@@ -88,10 +88,10 @@ impl<
             IfOk result (λ found. IsSome found) }
     {
         let (rows1, (salts1, siblings1)) = first.unpack();
-        let salted1 = SaltedRows::new(alloc, dimensions, SALT_ELEMS, rows1, salts1)?;
+        let salted1 = salted_rows(alloc, dimensions, SALT_ELEMS, rows1, salts1)?;
         let joined1 = BatchOpeningRef::new(&salted1.rows, siblings1);
         let (rows2, (salts2, siblings2)) = second.unpack();
-        match SaltedRows::new(alloc, dimensions, SALT_ELEMS, rows2, salts2) {
+        match salted_rows(alloc, dimensions, SALT_ELEMS, rows2, salts2) {
             Ok(salted2) => {
                 let joined2 = BatchOpeningRef::new(&salted2.rows, siblings2);
                 self.plain.extract_collision(
@@ -180,18 +180,18 @@ impl<
             IfOk result (λ found. IsSome found) }
     {
         let (salts1, pruned1) = proof1;
-        let salted1 = SaltedSets::new(alloc, dimensions, SALT_ELEMS, rows1, salts1)?;
+        let salted1 = salted_sets(alloc, dimensions, SALT_ELEMS, rows1, salts1)?;
         let (salts2, pruned2) = proof2;
-        match SaltedSets::new(alloc, dimensions, SALT_ELEMS, rows2, salts2) {
+        match salted_sets(alloc, dimensions, SALT_ELEMS, rows2, salts2) {
             Ok(salted2) => self.plain.extract_collision_multi(
                 alloc,
                 commit,
                 &salted1.dimensions,
                 indices1,
-                &salted1.sets,
+                &salted1.rows,
                 pruned1,
                 indices2,
-                &salted2.sets,
+                &salted2.rows,
                 pruned2,
             ),
             // A refusal of the first opening comes before one of the second.
@@ -201,7 +201,7 @@ impl<
                     commit,
                     &salted1.dimensions,
                     indices1,
-                    &salted1.sets,
+                    &salted1.rows,
                     pruned1,
                 );
                 Err(checked.err().unwrap_or(error))

@@ -1,18 +1,87 @@
-//! Checks rows and their salts, joins them to the rows that are hashed, and splits joined rows again.
+//! Rows joined with their salts: rows and salts are checked, and each row is followed by its salts.
 
-ghost use Rattle.std.specs.Prelude.{◌≡◌, ◌++◌, map, IfOk, MatchResult, None, Some};
-ghost use Rattle.p3_support.specs.Batches.{widths_of};
-ghost use Rattle.p3_merkle_hiding.specs.SaltRefusals.{first_too_wide, salt_refusal, salt_sets_refusal};
+ghost use Rattle.std.specs.Prelude.{◌≡◌, IfOk, MatchResult, None, Some};
+ghost use Rattle.p3_merkle_core.specs.Refusals.{AnswersUnlessMemory};
+ghost use Rattle.p3_merkle_hiding.specs.SaltRefusals.{salt_refusal, salted_rows_refusal, salted_sets_refusal};
 ghost use Rattle.p3_merkle_hiding.specs.SaltRefusals.{widening_refusal};
-ghost use Rattle.p3_merkle_hiding.specs.SaltedOpenings.{salted_rows, salted_sets, widened};
-ghost use Rattle.p3_merkle_hiding.specs.Inner.SaltedParts.{salt_parts, unsalted_parts};
-ghost use Rattle.p3_merkle_hiding.specs.SaltedOpenings.{CanWiden};
+ghost use Rattle.p3_merkle_hiding.specs.SaltedOpenings.{salted_rows, salted_sets, widened, CanWiden};
 ghost use Rattle.p3_support.specs.Shown.{row_lists, row_sets};
 
 use p3_merkle_core::error::MerkleTreeError;
 use p3_merkle_core::geometry::check_widths;
 use p3_support::matrix::Dimensions;
 use std::alloc::{AllocError, Global};
+
+/// Rows followed by their salts, and the dimensions that fit them.
+#[derive(Drop)]
+pub struct Salted<Rows> {
+    /// The dimensions with the salts.
+    pub dimensions: Vec<Dimensions>,
+    /// The rows with the salts.
+    pub rows: Rows,
+}
+
+/// Checks and joins the rows and the salts of one index, of matrices of these dimensions, with `salt_elems` salts per
+/// row.
+///
+/// # Errors
+///
+/// The error of [`check_salts`], else that of [`check_widening`]; `OutOfMemory` may come at any time. How many salts
+/// each row has is not checked here.
+pub fn salted_rows<T: Copy>(
+    alloc: Global,
+    dimensions: &[Dimensions],
+    salt_elems: usize,
+    rows: &[Vec<T>],
+    salts: &[Vec<T>],
+) -> Result<Salted<Vec<Vec<T>>>, MerkleTreeError>
+    ensures answer { AnswersUnlessMemory result
+        (salted_rows_refusal salt_elems dimensions.now (row_lists rows.now) (row_lists salts.now)) }
+    ensures dimensions { IfOk result (λ s. s.dimensions.items ≡ widened salt_elems dimensions.now) }
+    ensures rows { IfOk result
+        (λ s. row_lists s.rows.items ≡ salted_rows (row_lists rows.now) (row_lists salts.now)) }
+{
+    check_salts(dimensions, rows, salts)?;
+    Ok(Salted {
+        dimensions: widened_dimensions(alloc, dimensions, salt_elems)?,
+        rows: joined_rows(alloc, rows, salts)?,
+    })
+}
+
+/// Checks and joins the row sets and the salt sets of several indices, of matrices of these dimensions, with
+/// `salt_elems` salts per row.
+///
+/// # Errors
+///
+/// `WrongBatchSize` if the number of salt sets is not that of the row sets; else the error of [`check_salts`] for the
+/// first row set that it refuses; else that of [`check_widening`]. `OutOfMemory` may come at any time. How many salts
+/// each row has is not checked here.
+pub fn salted_sets<T: Copy>(
+    alloc: Global,
+    dimensions: &[Dimensions],
+    salt_elems: usize,
+    sets: &[Vec<Vec<T>>],
+    salts: &[Vec<Vec<T>>],
+) -> Result<Salted<Vec<Vec<Vec<T>>>>, MerkleTreeError>
+    ensures answer { AnswersUnlessMemory result
+        (salted_sets_refusal salt_elems dimensions.now (row_sets sets.now) (row_sets salts.now)) }
+    ensures dimensions { IfOk result (λ s. s.dimensions.items ≡ widened salt_elems dimensions.now) }
+    ensures sets { IfOk result (λ s. row_sets s.rows.items ≡ salted_sets (row_sets sets.now) (row_sets salts.now)) }
+{
+    if salts.len() != sets.len() {
+        return Err(MerkleTreeError::WrongBatchSize {
+            expected: sets.len(),
+            got: salts.len(),
+        });
+    }
+    for (rows, salt) in sets.iter().zip(salts) {
+        check_salts(dimensions, rows, salt)?;
+    }
+    Ok(Salted {
+        dimensions: widened_dimensions(alloc, dimensions, salt_elems)?,
+        rows: joined_row_sets(alloc, sets, salts)?,
+    })
+}
 
 /// Checks that there is one row for each matrix, of the matrix's width without salts, and one list of salts for each
 /// row.
@@ -21,7 +90,7 @@ use std::alloc::{AllocError, Global};
 ///
 /// `WrongBatchSize` if the number of rows is not that of the matrices; else `WrongWidth` for the first row whose length
 /// is not its matrix's width; else `WrongBatchSize` if the number of lists of salts is not that of the rows.
-pub fn check_salts<T>(
+fn check_salts<T>(
     dimensions: &[Dimensions],
     rows: &[Vec<T>],
     salts: &[Vec<T>],
@@ -39,42 +108,6 @@ pub fn check_salts<T>(
     Ok(())
 }
 
-/// Checks that there is one salt set for each row set, and that each pair of them passes [`check_salts`].
-///
-/// # Errors
-///
-/// `WrongBatchSize` if the number of salt sets is not that of the row sets; else the error of `check_salts` for the
-/// first row set that it refuses.
-pub fn check_salt_sets<T>(
-    dimensions: &[Dimensions],
-    sets: &[Vec<Vec<T>>],
-    salts: &[Vec<Vec<T>>],
-) -> Result<(), MerkleTreeError>
-    ensures { let refusal = salt_sets_refusal dimensions.now (row_sets sets.now) (row_sets salts.now) in
-        MatchResult result (λ ok. refusal ≡ None) (λ e. refusal ≡ Some e) }
-{
-    if salts.len() != sets.len() {
-        return Err(MerkleTreeError::WrongBatchSize {
-            expected: sets.len(),
-            got: salts.len(),
-        });
-    }
-    for (rows, salt) in sets.iter().zip(salts) {
-        check_salts(dimensions, rows, salt)?;
-    }
-    Ok(())
-}
-
-/// The place of the first matrix whose width plus `salt_elems` does not fit `usize`.
-fn first_too_wide_of(dimensions: &[Dimensions], salt_elems: usize) -> Option<usize>
-    ensures { result ≡ first_too_wide salt_elems (widths_of dimensions.now) }
-{
-    dimensions
-        .iter()
-        .map(|matrix| matrix.width)
-        .position(|width| width > usize::MAX - salt_elems)
-}
-
 /// Checks that each matrix can have `salt_elems` more columns.
 ///
 /// # Errors
@@ -85,28 +118,32 @@ pub fn check_widening(dimensions: &[Dimensions], salt_elems: usize) -> Result<()
         MatchResult result (λ ok. refusal ≡ None) (λ e. refusal ≡ Some e) }
     ensures fits { IfOk result (λ ok. CanWiden salt_elems dimensions.now) }
 {
-    if let Some(matrix) = first_too_wide_of(dimensions, salt_elems) {
-        return Err(MerkleTreeError::TooLarge {
-            matrix,
-            size: dimensions[matrix].width,
-        });
+    for matrix in 0..dimensions.len() {
+        let width = dimensions[matrix].width;
+        if width > usize::MAX - salt_elems {
+            return Err(MerkleTreeError::TooLarge {
+                matrix,
+                size: width,
+            });
+        }
     }
     Ok(())
 }
 
-/// The dimensions, each with `salt_elems` more columns. [`check_widening`] must accept them.
+/// The dimensions, each with `salt_elems` more columns.
 ///
 /// # Errors
 ///
-/// `AllocError` if memory runs out.
-pub fn widened_dimensions(
+/// That of [`check_widening`]; `OutOfMemory` may come at any time.
+fn widened_dimensions(
     alloc: Global,
     dimensions: &[Dimensions],
     salt_elems: usize,
-) -> Result<Vec<Dimensions>, AllocError>
-    requires { CanWiden salt_elems dimensions.now }
-    ensures { IfOk result (λ v. v.items ≡ widened salt_elems dimensions.now) }
+) -> Result<Vec<Dimensions>, MerkleTreeError>
+    ensures answer { AnswersUnlessMemory result (widening_refusal salt_elems dimensions.now) }
+    ensures wider { IfOk result (λ v. v.items ≡ widened salt_elems dimensions.now) }
 {
+    check_widening(dimensions, salt_elems)?;
     let mut wider = Vec::with_capacity(alloc, dimensions.len())?;
     for matrix in dimensions {
         wider.push(Dimensions {
@@ -122,7 +159,7 @@ pub fn widened_dimensions(
 /// # Errors
 ///
 /// `AllocError` if memory runs out.
-pub fn joined_rows<T: Copy>(
+fn joined_rows<T: Copy>(
     alloc: Global,
     rows: &[Vec<T>],
     salts: &[Vec<T>],
@@ -131,18 +168,11 @@ pub fn joined_rows<T: Copy>(
 {
     let mut joined = Vec::with_capacity(alloc, rows.len())?;
     for (row, salt) in rows.iter().zip(salts) {
-        joined.push(joined_row(alloc, row, salt)?)?;
+        let mut words = Vec::with_capacity(alloc, row.len().saturating_add(salt.len()))?;
+        words.extend_from_slice(row)?;
+        words.extend_from_slice(salt)?;
+        joined.push(words)?;
     }
-    Ok(joined)
-}
-
-/// A row followed by its salts.
-fn joined_row<T: Copy>(alloc: Global, row: &[T], salt: &[T]) -> Result<Vec<T>, AllocError>
-    ensures { IfOk result (λ v. v.items ≡ row.now ++ salt.now) }
-{
-    let mut joined = Vec::with_capacity(alloc, row.len().saturating_add(salt.len()))?;
-    joined.extend_from_slice(row)?;
-    joined.extend_from_slice(salt)?;
     Ok(joined)
 }
 
@@ -152,7 +182,7 @@ fn joined_row<T: Copy>(alloc: Global, row: &[T], salt: &[T]) -> Result<Vec<T>, A
 /// # Errors
 ///
 /// `AllocError` if memory runs out.
-pub fn joined_row_sets<T: Copy>(
+fn joined_row_sets<T: Copy>(
     alloc: Global,
     sets: &[Vec<Vec<T>>],
     salts: &[Vec<Vec<T>>],
@@ -164,50 +194,4 @@ pub fn joined_row_sets<T: Copy>(
         joined.push(joined_rows(alloc, rows, salt)?)?;
     }
     Ok(joined)
-}
-
-/// Splits each row at its width, and returns the first parts and the rests. `widths` has a width for each row.
-///
-/// # Errors
-///
-/// `AllocError` if memory runs out.
-pub fn split_rows<T: Copy>(
-    alloc: Global,
-    widths: &[usize],
-    rows: &[Vec<T>],
-) -> Result<(Vec<Vec<T>>, Vec<Vec<T>>), AllocError>
-    ensures rows { IfOk result (λ v. row_lists v.0.items ≡ unsalted_parts widths.now (row_lists rows.now)) }
-    ensures salts { IfOk result (λ v. row_lists v.1.items ≡ salt_parts widths.now (row_lists rows.now)) }
-{
-    let mut unsalted = Vec::with_capacity(alloc, rows.len())?;
-    let mut salts = Vec::with_capacity(alloc, rows.len())?;
-    for (row, width) in rows.iter().zip(widths) {
-        let (front, back) = row.split_at(row.len().min(*width));
-        unsalted.push(Vec::from_slice(alloc, front)?)?;
-        salts.push(Vec::from_slice(alloc, back)?)?;
-    }
-    Ok((unsalted, salts))
-}
-
-/// Splits each of several row sets as [`split_rows`] does.
-///
-/// # Errors
-///
-/// `AllocError` if memory runs out.
-pub fn split_row_sets<T: Copy>(
-    alloc: Global,
-    widths: &[usize],
-    sets: &[Vec<Vec<T>>],
-) -> Result<(Vec<Vec<Vec<T>>>, Vec<Vec<Vec<T>>>), AllocError>
-    ensures rows { IfOk result (λ v. row_sets v.0.items ≡ map (unsalted_parts widths.now) (row_sets sets.now)) }
-    ensures salts { IfOk result (λ v. row_sets v.1.items ≡ map (salt_parts widths.now) (row_sets sets.now)) }
-{
-    let mut unsalted = Vec::with_capacity(alloc, sets.len())?;
-    let mut salts = Vec::with_capacity(alloc, sets.len())?;
-    for rows in sets {
-        let (front, back) = split_rows(alloc, widths, rows)?;
-        unsalted.push(front)?;
-        salts.push(back)?;
-    }
-    Ok((unsalted, salts))
 }

@@ -6,14 +6,9 @@
 #![tactic(auto)]
 
 mod commit;
-mod draw;
 mod extract;
-mod fork;
 pub mod hiding_mmcs;
 mod join;
-mod joined;
-pub mod laws;
 mod open;
-mod pairs;
 mod scheme_trait;
 mod verify;

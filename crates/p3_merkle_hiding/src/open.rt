@@ -15,13 +15,11 @@ ghost use Rattle.p3_support.specs.Pairs.{left_of};
 ghost use Rattle.p3_support.specs.Shown.{row_lists, row_sets};
 ghost use Rattle.p3_merkle_hiding.specs.HidingSchemes.{plain_of, salted_made, salted_pruned_made, salted_params_of};
 ghost use Rattle.p3_merkle_hiding.specs.SaltedOpenings.{IsSaltedAccepted};
-ghost use Rattle.p3_merkle_hiding.specs.Inner.SaltedParts.{salt_parts, unsalted_parts};
+ghost use Rattle.p3_merkle_hiding.specs.Inner.SaltedParts.{left_widths, salt_parts, unsalted_parts};
 ghost use Rattle.p3_merkle_hiding.specs.SaltedOpenings.{IsSaltedPrunedAccepted};
 ghost use Rattle.p3_merkle_hiding.specs.SaltedTrees.{left_batch, right_batch, unsalted_dimensions, HaveSaltColumns};
 
 use crate::hiding_mmcs::{MerkleTreeHidingMmcs, SaltedMultiProof, SaltedProof, SaltedTree};
-use crate::join::{split_row_sets, split_rows};
-use crate::pairs::{left_matrices, left_widths};
 use p3_merkle_core::error::MerkleTreeError;
 use p3_merkle_prover::opener::matrix_refs;
 use p3_merkle_prover::tree::Tree;
@@ -31,14 +29,14 @@ use p3_support::matrix::Matrix;
 use p3_support::opening::BatchOpening;
 use p3_support::packed::PackedValue;
 use p3_support::pair::HorizontalPair;
-use std::alloc::Global;
+use std::alloc::{AllocError, Global};
 
-/// The matrices of a tree of pairs without their salts, in input order.
+/// The matrices of a tree without their salts, in input order.
 ///
 /// # Errors
 ///
 /// Only `OutOfMemory`.
-fn unsalted_matrices<'a, F, X, G, A: Matrix<F>, B: Matrix<F>, const N: usize>(
+fn left_matrices<'a, F, X, G, A: Matrix<F>, B: Matrix<F>, const N: usize>(
     alloc: Global,
     tree: &'a Tree<F, X, G, HorizontalPair<F, A, B>, N>,
 ) -> Result<Vec<&'a A>, MerkleTreeError>
@@ -46,65 +44,64 @@ fn unsalted_matrices<'a, F, X, G, A: Matrix<F>, B: Matrix<F>, const N: usize>(
     ensures memory { AnswersUnlessMemory result None }
 {
     let pairs = matrix_refs(alloc, tree)?;
-    Ok(left_matrices(alloc, &pairs)?)
+    let mut matrices = Vec::with_capacity(alloc, pairs.len())?;
+    for pair in &pairs {
+        matrices.push(pair.left())?;
+    }
+    Ok(matrices)
 }
 
-/// The width of each matrix of a tree of pairs, without its salts, in input order.
+/// Splits the rows of one index into the matrices' own words and their salts. `pairs` has a matrix beside its salts for
+/// each row.
+///
+/// # Errors
+///
+/// `AllocError` if memory runs out.
+fn split_rows<F: Copy, A: Matrix<F>, B: Matrix<F>>(
+    alloc: Global,
+    pairs: &[&HorizontalPair<F, A, B>],
+    rows: &[Vec<F>],
+) -> Result<(Vec<Vec<F>>, Vec<Vec<F>>), AllocError>
+    ensures rows { let widths = left_widths (map (λ p. p.now) pairs.now) in
+        IfOk result (λ v. row_lists v.0.items ≡ unsalted_parts widths (row_lists rows.now)) }
+    ensures salts { let widths = left_widths (map (λ p. p.now) pairs.now) in
+        IfOk result (λ v. row_lists v.1.items ≡ salt_parts widths (row_lists rows.now)) }
+{
+    let mut unsalted = Vec::with_capacity(alloc, rows.len())?;
+    let mut salts = Vec::with_capacity(alloc, rows.len())?;
+    for (row, pair) in rows.iter().zip(pairs) {
+        let (front, back) = row.split_at(row.len().min(pair.left().width()));
+        unsalted.push(Vec::from_slice(alloc, front)?)?;
+        salts.push(Vec::from_slice(alloc, back)?)?;
+    }
+    Ok((unsalted, salts))
+}
+
+/// Splits the rows of several indices, as [`split_rows`] those of one: the row sets and the salt sets.
 ///
 /// # Errors
 ///
 /// Only `OutOfMemory`.
-fn unsalted_widths<F, X, G, A: Matrix<F>, B: Matrix<F>, const N: usize>(
+fn split_row_sets<F: Copy, X, G, A: Matrix<F>, B: Matrix<F>, const N: usize>(
     alloc: Global,
     tree: &Tree<F, X, G, HorizontalPair<F, A, B>, N>,
-) -> Result<Vec<usize>, MerkleTreeError>
-    ensures widths { IfOk result (λ v. v.items ≡ map (λ p. A.width_of (left_of p)) (matrices_of tree.now)) }
+    sets: &[Vec<Vec<F>>],
+) -> Result<(Vec<Vec<Vec<F>>>, Vec<Vec<Vec<F>>>), MerkleTreeError>
+    ensures rows { let widths = left_widths (matrices_of tree.now) in
+        IfOk result (λ v. row_sets v.0.items ≡ map (unsalted_parts widths) (row_sets sets.now)) }
+    ensures salts { let widths = left_widths (matrices_of tree.now) in
+        IfOk result (λ v. row_sets v.1.items ≡ map (salt_parts widths) (row_sets sets.now)) }
     ensures memory { AnswersUnlessMemory result None }
 {
     let pairs = matrix_refs(alloc, tree)?;
-    Ok(left_widths(alloc, &pairs)?)
-}
-
-/// Splits each row of an opening into the matrix's own words and its salts, and puts the salts into the proof.
-///
-/// # Errors
-///
-/// Only `OutOfMemory`.
-fn split_opening<F: Copy, S: Drop, X, G, A: Matrix<F>, B: Matrix<F>, const N: usize>(
-    alloc: Global,
-    tree: &Tree<F, X, G, HorizontalPair<F, A, B>, N>,
-    opening: BatchOpening<F, S>,
-) -> Result<BatchOpening<F, (Vec<Vec<F>>, S)>, MerkleTreeError>
-    ensures parts { let widths = map (λ p. A.width_of (left_of p)) (matrices_of tree.now) in
-        let joined = row_lists opening.opened_values.items in
-        IfOk result (λ o. (row_lists o.opened_values.items ≡ unsalted_parts widths joined)
-        × (row_lists o.opening_proof.0.items ≡ salt_parts widths joined)
-        × (o.opening_proof.1 ≡ opening.opening_proof)) }
-    ensures memory { AnswersUnlessMemory result None }
-{
-    let widths = unsalted_widths(alloc, tree)?;
-    let (joined, siblings) = opening.unpack();
-    let (rows, salts) = split_rows(alloc, &widths, &joined)?;
-    Ok(BatchOpening::new(rows, (salts, siblings)))
-}
-
-/// Splits each row of several row sets into the matrix's own words and its salts: the rows and the salts of each set.
-///
-/// # Errors
-///
-/// Only `OutOfMemory`.
-fn split_sets<F: Copy, X, G, A: Matrix<F>, B: Matrix<F>, const N: usize>(
-    alloc: Global,
-    tree: &Tree<F, X, G, HorizontalPair<F, A, B>, N>,
-    joined: &[Vec<Vec<F>>],
-) -> Result<(Vec<Vec<Vec<F>>>, Vec<Vec<Vec<F>>>), MerkleTreeError>
-    ensures parts { let widths = map (λ p. A.width_of (left_of p)) (matrices_of tree.now) in
-        IfOk result (λ v. (row_sets v.0.items ≡ map (unsalted_parts widths) (row_sets joined.now))
-        × (row_sets v.1.items ≡ map (salt_parts widths) (row_sets joined.now))) }
-    ensures memory { AnswersUnlessMemory result None }
-{
-    let widths = unsalted_widths(alloc, tree)?;
-    Ok(split_row_sets(alloc, &widths, joined)?)
+    let mut unsalted = Vec::with_capacity(alloc, sets.len())?;
+    let mut salts = Vec::with_capacity(alloc, sets.len())?;
+    for rows in sets {
+        let (front, back) = split_rows(alloc, &pairs, rows)?;
+        unsalted.push(front)?;
+        salts.push(back)?;
+    }
+    Ok((unsalted, salts))
 }
 
 impl<
@@ -151,7 +148,10 @@ impl<
         ensures memory { AnswersUnlessMemory result None }
     {
         let opening = self.plain.open_batch(alloc, index, tree)?;
-        split_opening(alloc, tree, opening)
+        let (joined, siblings) = opening.unpack();
+        let pairs = matrix_refs(alloc, tree)?;
+        let (rows, salts) = split_rows(alloc, &pairs, &joined)?;
+        Ok(BatchOpening::new(rows, (salts, siblings)))
     }
 
     /// Opens several leaves of a tree by one pruned proof. The indices count rows of the tallest matrix and must be
@@ -195,7 +195,7 @@ impl<
         ensures memory { AnswersUnlessMemory result None }
     {
         let opening = self.plain.open_batch_pruned(alloc, indices, tree)?;
-        let (rows, salts) = split_sets(alloc, tree, &opening.opened_values)?;
+        let (rows, salts) = split_row_sets(alloc, tree, &opening.opened_values)?;
         Ok((rows, (salts, opening.pruned_proof)))
     }
 
@@ -212,7 +212,7 @@ impl<
         ensures matrices { IfOk result (λ v. map (λ m. m.now) v.items ≡ map left_of (matrices_of tree.now)) }
         ensures memory { AnswersUnlessMemory result None }
     {
-        unsalted_matrices(alloc, tree)
+        left_matrices(alloc, tree)
     }
 
     /// The height of the tallest matrix of a tree, in rows: one more than the greatest index that can be opened.

@@ -32,14 +32,12 @@ ghost use Rattle.p3_merkle_hiding.specs.SaltedTrees.{right_batch, HaveSaltColumn
 
 use crate::hiding_mmcs::{MerkleTreeHidingMmcs, SaltedMultiProof, SaltedProof, SaltedTree};
 use p3_merkle_core::error::MerkleTreeError;
-use p3_merkle_prover::tree::Tree;
 use p3_support::compress::PseudoCompressionFunction;
 use p3_support::hasher::CryptographicHasher;
 use p3_support::matrix::{Dimensions, Matrix};
 use p3_support::mmcs::Mmcs;
 use p3_support::opening::{BatchOpening, BatchOpeningRef, MerkleCap};
 use p3_support::packed::PackedValue;
-use p3_support::pair::HorizontalPair;
 use p3_support::salts::SaltWord;
 use rand_core::CryptoRng;
 use std::alloc::Global;
@@ -146,6 +144,7 @@ where
         Self::commit(self, alloc, matrices)
     }
 
+    #[tactic(auto, using(crate::specs::Inner::SaltedCommitmentLaws::left_greatest))]
     fn open_batch(
         &self,
         alloc: Global,
@@ -172,7 +171,6 @@ where
             (salted_params_of H.hash C.compression D self.now dimensions) roots (salted_made index o)) }
         ensures memory { IfErr result (λ e. e ≡ OutOfMemory) }
     {
-        lemma_index(prover_data, index);
         self.open_batch(alloc, index, prover_data)
     }
 
@@ -203,6 +201,7 @@ where
         self.verify_batch(alloc, commitment, dimensions, index, opening)
     }
 
+    #[tactic(auto, using(crate::specs::Inner::SaltedCommitmentLaws::left_greatest))]
     fn open_multi_batch(
         &self,
         alloc: Global,
@@ -231,7 +230,6 @@ where
             (salted_pruned_made indices.now o.0 o.1)) }
         ensures memory { IfErr result (λ e. e ≡ OutOfMemory) }
     {
-        lemma_indices(prover_data, indices);
         self.open_multi_batch(alloc, indices, prover_data)
     }
 
@@ -286,22 +284,3 @@ where
         (λ c. IsSaltedPrunedAccepted SALT_ELEMS dimensions c (roots_of cap)
         (salted_pruned_of indices sets (row_sets proof.0.items) proof.1.sibling_hashes.items)) };
 }
-
-/// Tells that an index below the tallest matrix's height is below the tallest height in the tree's shape. It does
-/// nothing at run time.
-fn lemma_index<F, X, G, A: Matrix<F>, B: Matrix<F>, const N: usize>(
-    tree: &Tree<F, X, G, HorizontalPair<F, A, B>, N>,
-    index: usize,
-)
-    requires { index < greatest (map A.height_of (map left_of (matrices_of tree.now))) }
-    ensures { index < greatest (heights (shape (tree_batch tree.now))) }
-{}
-
-/// The same of several indices.
-fn lemma_indices<F, X, G, A: Matrix<F>, B: Matrix<F>, const N: usize>(
-    tree: &Tree<F, X, G, HorizontalPair<F, A, B>, N>,
-    indices: &[usize],
-)
-    requires { All (λ index. index < greatest (map A.height_of (map left_of (matrices_of tree.now)))) indices.now }
-    ensures { All (λ index. index < greatest (heights (shape (tree_batch tree.now)))) indices.now }
-{}

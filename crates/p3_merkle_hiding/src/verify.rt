@@ -6,7 +6,7 @@ ghost use Rattle.p3_merkle_hiding.specs.HidingSchemes.{salted_lent, salted_prune
 ghost use Rattle.p3_merkle_hiding.specs.SaltedPresented.{presented_salted, presented_salted_pruned};
 
 use crate::hiding_mmcs::{MerkleTreeHidingMmcs, SaltedMultiProof, SaltedProof};
-use crate::joined::{SaltedRows, SaltedSets};
+use crate::join::{salted_rows, salted_sets};
 use p3_merkle_core::error::MerkleTreeError;
 use p3_support::compress::PseudoCompressionFunction;
 use p3_support::hasher::CryptographicHasher;
@@ -57,7 +57,7 @@ impl<
             IsVerdict (presented_salted PW.Value.eq SALT_ELEMS dimensions.now c (roots_of commit.now) o) result }
     {
         let (rows, (salts, siblings)) = opening.unpack();
-        let salted = SaltedRows::new(alloc, dimensions, SALT_ELEMS, rows, salts)?;
+        let salted = salted_rows(alloc, dimensions, SALT_ELEMS, rows, salts)?;
         let opening = BatchOpeningRef::new(&salted.rows, siblings);
         self.plain
             .verify_batch(commit, &salted.dimensions, index, opening)
@@ -98,13 +98,13 @@ impl<
             (roots_of commit.now) p) result }
     {
         let (salts, pruned) = proof;
-        let salted = SaltedSets::new(alloc, dimensions, SALT_ELEMS, rows, salts)?;
+        let salted = salted_sets(alloc, dimensions, SALT_ELEMS, rows, salts)?;
         self.plain.verify_multi_batch(
             alloc,
             commit,
             &salted.dimensions,
             indices,
-            &salted.sets,
+            &salted.rows,
             pruned,
         )
     }

@@ -39,12 +39,16 @@ opened_text value digits b nodes indices t =
     flat_map (opened_lines value b) indices
     ++ digest_lines digits (map (map value) (boundary_by (node_in [] nodes) (shape b) indices t))
 
--- a scheme, by its functions, its cap height and its rule, is the one of a hash under a choice of a cap; and its words,
--- by their numbers, the greatest of them and their digits, are those of the hash
-pub record IsSchemeOf {T : Type 0} (hash : HashName) (cap : CapChoice) (value : T → ℕ) (max digits : ℕ)
-    (functions : Functions T T) (cap_height : ℕ) (rule : CapRule) : Type 0 where
+-- functions of words are those of a hash, and so are the words by their numbers, the greatest of them and their digits
+pub record AreOfHash {T : Type 0} (hash : HashName) (value : T → ℕ) (max digits : ℕ) (functions : Functions T T)
+    : Type 0 where
   pub greatest_word : max ≡ max_word hash
   pub printed_digits : digits ≡ hex_digits hash
   pub alike : ComputeAlike value functions (functions_of_hash hash)
+
+-- a scheme, by its functions, its cap height and its rule, is the one of a hash under a choice of a cap
+pub record IsSchemeOf {T : Type 0} (hash : HashName) (cap : CapChoice) (value : T → ℕ) (max digits : ℕ)
+    (functions : Functions T T) (cap_height : ℕ) (rule : CapRule) : Type 0 where
+  pub of_hash : AreOfHash hash value max digits functions
   pub same_height : cap_height ≡ cap.height
   pub same_rule : rule ≡ cap.rule

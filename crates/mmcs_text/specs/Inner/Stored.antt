@@ -1,5 +1,5 @@
--- What is read and stored of an input, and which arities are taken.
-use Rattle.std.specs.Prelude.{◌≡◌, ℕ, ◌==◌, ◌||◌, Bool, List, [], Option, None, Some}
+-- What is read and stored of an input.
+use Rattle.std.specs.Prelude.{◌≡◌, ℕ, List, [], Option, None, Some}
 use Rattle.std.specs.Str.Parse.{digits_value}
 use Rattle.p3_support.specs.declared.matrix.RowMajorMatrix.{RowMajorMatrix}
 use Rattle.p3_support.specs.Lists.{message}
@@ -7,10 +7,6 @@ use Rattle.p3_support.specs.RowMajor.{values_of, row_width, row_count}
 use Rattle.p3_merkle_core.specs.Nodes.{Matrix, Batch}
 use Rattle.p3_merkle_core.specs.Views.{batch_of}
 use Rattle.mmcs_text.specs.Numbers.{IsNumberBelow}
-
--- whether a number is 2, 4 or 8
-abbrev pub is_taken_arity : ℕ → Bool
-is_taken_arity n = n == 2 || (n == 4 || n == 8)
 
 -- the number that was read of some bytes: none of no bytes
 abbrev pub IsRead : ℕ → List ℕ → Option ℕ → Type 0

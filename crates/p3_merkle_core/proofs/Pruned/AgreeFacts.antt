@@ -18,7 +18,7 @@ use Rattle.p3_merkle_core.proofs.Lists.RisingFacts.{listed_at}
 use Rattle.p3_merkle_core.proofs.Pruned.SlotFacts.{at_slot, distinct_below, distinct_queried, distinct_rising}
 use Rattle.p3_merkle_core.proofs.Pruned.SlotFacts.{first_of_index, first_place, found_at, highest, rising_order}
 use Rattle.p3_merkle_core.proofs.Pruned.SlotFacts.{some_place}
-use Rattle.p3_merkle_core.proofs.Pruned.LeadFacts.{first_before, first_there, layer_fault, lead_place, slot_fault}
+use Rattle.p3_merkle_core.proofs.Pruned.LeadFacts.{first_before, first_there, layer_fault, first_slot_place, slot_fault}
 
 -- ---- places
 
@@ -40,17 +40,17 @@ same_walk g h a (suc n) e = rw (e a, same_walk g h (a + 1) n e) refl
 
 -- ---- the lowest slot under a node
 
-pub lead_index : (s : Shape) (indices : List ℕ) (l k f : ℕ) → greatest indices < greatest (heights s) →
+pub first_slot_index : (s : Shape) (indices : List ℕ) (l k f : ℕ) → greatest indices < greatest (heights s) →
     k < length (distinct indices) →
     f ≡ first_query (map (ancestor s l) (distinct indices)) (get_or (map (ancestor s l) (distinct indices)) k 0) →
     lead s indices l (ancestor s l (get_or (distinct indices) k 0)) ≡ get_or (distinct indices) f 0
-lead_index s indices l k f below h is =
+first_slot_index s indices l k f below h is =
     let leaves = distinct indices in
     let nodes = map (ancestor s l) leaves in
     let long : length nodes ≡ length leaves = length-map leaves (ancestor s l) in
     let j = ancestor s l (get_or leaves k 0) in
     let at : get_or nodes k 0 ≡ j = get_or-map (ancestor s l) leaves k 0 0 h in
-    let inside : f < length nodes = lead_place nodes k f (omega arith) is in
+    let inside : f < length nodes = first_slot_place nodes k f (omega arith) is in
     let v = get_or leaves f 0 in
     let there : ancestor s l v ≡ j = sym (get_or-map (ancestor s l) leaves f 0 0 (omega arith))
     ∙ ap (λ i. get_or nodes i 0) is ∙ first_there nodes (get_or nodes k 0) (listed_at nodes k 0 (omega arith))
@@ -98,10 +98,10 @@ slot_is row_eq s l firsts indices sets k is e below h =
     let f = first_query nodes (get_or nodes k 0) in
     let ms = matrices_with (heights s) (layer_exponent s l) in
     let long : length nodes ≡ length leaves = length-map leaves (ancestor s l) in
-    let inside : f < length nodes = lead_place nodes k f (omega arith) refl in
+    let inside : f < length nodes = first_slot_place nodes k f (omega arith) refl in
     let mine = rows_at firsts indices sets k is e h in
     let theirs = rows_at firsts indices sets f is e (omega arith)
-    ∙ ap (rows_of p) (sym (lead_index s indices l k f below h refl)) in
+    ∙ ap (rows_of p) (sym (first_slot_index s indices l k f below h refl)) in
     let slot = (found_at indices i k h refl).slot in
     ap (λ rows. rows_refusal row_eq ms k rows (slot_rows firsts sets f)) mine
     ∙ ap (λ rows. rows_refusal row_eq ms k (rows_of p i) rows) theirs

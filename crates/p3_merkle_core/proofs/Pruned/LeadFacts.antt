@@ -13,7 +13,7 @@ use Rattle.std.specs.List.Sorted.{IsStrictlyIncreasing}
 use Rattle.std.proofs.lemmas.Cmp.{lists_equiv}
 use Rattle.std.specs.Vec.{with_items}
 use Rattle.std.proofs.lemmas.List.{append_assoc, get_or_default, get_or-map, length-map, with_items_is}
-use Rattle.p3_support.specs.Shown.{row_lists}
+use Rattle.p3_support.specs.Shown.{row_lists, row_sets}
 use Rattle.p3_support.specs.Lists.{is_among}
 use Rattle.p3_support.specs.Batches.{heights_of}
 use Rattle.p3_merkle_core.specs.Geometry.{Shape, ancestor, exponent, has_rows, heights, layer_exponent, leaves_under}
@@ -28,7 +28,7 @@ use Rattle.p3_merkle_core.specs.declared.error.MerkleTreeError.{MerkleTreeError}
 use Rattle.p3_merkle_core.specs.declared.error.MerkleTreeError.TheVariants.{MalformedPrunedProof}
 use Rattle.p3_merkle_core.specs.declared.error.PrunedProofError.TheVariants.{InconsistentGroupOpening}
 use Rattle.p3_merkle_core.proofs.Lists.RisingFacts.{div_mono, listed_at, listed_in, none_kept, rising_from}
-use Rattle.p3_merkle_core.proofs.Pruned.SlotFacts.{first_place, rising_order}
+use Rattle.p3_merkle_core.proofs.Pruned.SlotFacts.{first_place, rising_order, set_read}
 
 -- ---- the first place of a number
 
@@ -69,29 +69,24 @@ first_unique xs v k l e none =
 
 -- ---- from slot to slot
 
-pub lead_inside : (nodes : List ℕ) (k lead : ℕ) → k < length nodes → lead ≡ first_query nodes (get_or nodes (k - 1) 0) →
-    lead < length nodes
-lead_inside nodes k lead l e =
-    omega (arith, first_place nodes (get_or nodes (k - 1) 0) (listed_at nodes (k - 1) 0 (omega arith)))
-
-lead_before : (nodes : List ℕ) (k lead : ℕ) → k < length nodes → lead ≡ first_query nodes (get_or nodes (k - 1) 0) →
-    get_or nodes lead 0 ≡ get_or nodes (k - 1) 0
-lead_before nodes k lead l e = ap (λ i. get_or nodes i 0) e
+first_slot_before : (nodes : List ℕ) (k first : ℕ) → k < length nodes → first ≡ first_query nodes (get_or nodes (k - 1) 0) →
+    get_or nodes first 0 ≡ get_or nodes (k - 1) 0
+first_slot_before nodes k first l e = ap (λ i. get_or nodes i 0) e
     ∙ first_there nodes (get_or nodes (k - 1) 0) (listed_at nodes (k - 1) 0 (omega arith))
 
-pub lead_kept : (nodes : List ℕ) (k lead : ℕ) → k < length nodes → lead ≡ first_query nodes (get_or nodes (k - 1) 0) →
-    get_or nodes k 0 ≡ get_or nodes lead 0 → lead ≡ first_query nodes (get_or nodes k 0)
-lead_kept nodes k lead l e same = e ∙ ap (first_query nodes) (sym (lead_before nodes k lead l e) ∙ sym same)
+pub first_slot_kept : (nodes : List ℕ) (k first : ℕ) → k < length nodes → first ≡ first_query nodes (get_or nodes (k - 1) 0) →
+    get_or nodes k 0 ≡ get_or nodes first 0 → first ≡ first_query nodes (get_or nodes k 0)
+first_slot_kept nodes k first l e same = e ∙ ap (first_query nodes) (sym (first_slot_before nodes k first l e) ∙ sym same)
 
-pub lead_new : (nodes : List ℕ) (k lead : ℕ) → IsAscending nodes → k < length nodes → lead
-    ≡ first_query nodes (get_or nodes (k - 1) 0) → get_or nodes k 0 ≢ get_or nodes lead 0 → k
+pub first_slot_new : (nodes : List ℕ) (k first : ℕ) → IsAscending nodes → k < length nodes → first
+    ≡ first_query nodes (get_or nodes (k - 1) 0) → get_or nodes k 0 ≢ get_or nodes first 0 → k
     ≡ first_query nodes (get_or nodes k 0)
-lead_new nodes k lead up l e differ =
+first_slot_new nodes k first up l e differ =
     first_unique nodes (get_or nodes k 0) k l refl (λ j h same.
     let low = up j (k - 1) (omega arith) (omega arith) in
     let high = up (k - 1) k (omega arith) l in
     let top : get_or nodes k 0 ≡ get_or nodes (k - 1) 0 = omega arith in
-    differ (top ∙ sym (lead_before nodes k lead l e)))
+    differ (top ∙ sym (first_slot_before nodes k first l e)))
 
 -- ---- the matrices of a layer
 
@@ -127,23 +122,23 @@ pub row_read : {T A : Type 0} (rows : List (Vec T A)) (m : ℕ) (v : Vec T A) �
     get_or (row_lists rows) m [] ≡ v.items
 row_read rows m v h e = get_or-map (λ row. row.items) rows m v [] h ∙ ap (λ row. row.items) (sym e)
 
--- a row that is the lead's, and one that is not
-pub same_row : {T A : Type 0} (row_eq : T → T → Bool) (k : ℕ) (rows lead : List (Vec T A)) (m : ℕ)
-    (row theirs : Vec T A) → m < length rows → m < length lead → row ≡ get_or rows m row → theirs
-    ≡ get_or lead m theirs → false ≡ not (pointwise row_eq row.items theirs.items) →
-    row_fault row_eq k (row_lists rows) (row_lists lead) m ≡ None
-same_row row_eq k rows lead m row theirs h l is_row is_theirs same =
+-- a row that is that of the first slot, and one that is not
+pub same_row : {T A : Type 0} (row_eq : T → T → Bool) (k : ℕ) (rows first : List (Vec T A)) (m : ℕ)
+    (row theirs : Vec T A) → m < length rows → m < length first → row ≡ get_or rows m row → theirs
+    ≡ get_or first m theirs → false ≡ not (pointwise row_eq row.items theirs.items) →
+    row_fault row_eq k (row_lists rows) (row_lists first) m ≡ None
+same_row row_eq k rows first m row theirs h l is_row is_theirs same =
     let e = not-false (pointwise row_eq row.items theirs.items) (sym same) in
-    rw (row_read rows m row h is_row, row_read lead m theirs l is_theirs, e) refl
+    rw (row_read rows m row h is_row, row_read first m theirs l is_theirs, e) refl
 
-pub other_row : {T A : Type 0} (row_eq : T → T → Bool) (k : ℕ) (rows lead : List (Vec T A)) (m : ℕ)
-    (row theirs : Vec T A) → m < length rows → m < length lead → row ≡ get_or rows m row → theirs
-    ≡ get_or lead m theirs → true ≡ not (pointwise row_eq row.items theirs.items) →
-    row_fault row_eq k (row_lists rows) (row_lists lead) m
+pub other_row : {T A : Type 0} (row_eq : T → T → Bool) (k : ℕ) (rows first : List (Vec T A)) (m : ℕ)
+    (row theirs : Vec T A) → m < length rows → m < length first → row ≡ get_or rows m row → theirs
+    ≡ get_or first m theirs → true ≡ not (pointwise row_eq row.items theirs.items) →
+    row_fault row_eq k (row_lists rows) (row_lists first) m
     ≡ Some (MalformedPrunedProof (InconsistentGroupOpening k m))
-other_row row_eq k rows lead m row theirs h l is_row is_theirs other =
+other_row row_eq k rows first m row theirs h l is_row is_theirs other =
     let e = not-true (pointwise row_eq row.items theirs.items) (sym other) in
-    rw (row_read rows m row h is_row, row_read lead m theirs l is_theirs, e) refl
+    rw (row_read rows m row h is_row, row_read first m theirs l is_theirs, e) refl
 
 -- ---- the slots of a layer
 
@@ -215,11 +210,11 @@ no_matrix row_eq hs x nodes firsts sets none =
     (λ k. rw kept refl)
 
 pub slot_read : {T : Type 0} (row_eq : T → T → Bool) (matrices nodes firsts : List ℕ)
-    (sets : List (List (List T))) (k lead : ℕ) (mine theirs : List (List T)) (o : Option MerkleTreeError) →
-    mine ≡ slot_rows firsts sets k → theirs ≡ slot_rows firsts sets lead → lead ≡ first_query nodes (get_or nodes k 0) →
+    (sets : List (List (List T))) (k first : ℕ) (mine theirs : List (List T)) (o : Option MerkleTreeError) →
+    mine ≡ slot_rows firsts sets k → theirs ≡ slot_rows firsts sets first → first ≡ first_query nodes (get_or nodes k 0) →
     rows_refusal row_eq matrices k mine theirs ≡ o → slot_fault row_eq matrices nodes firsts sets k ≡ o
-slot_read row_eq matrices nodes firsts sets k lead mine theirs o is_mine is_theirs is_lead e =
-    ap (λ f. rows_refusal row_eq matrices k (slot_rows firsts sets k) (slot_rows firsts sets f)) (sym is_lead)
+slot_read row_eq matrices nodes firsts sets k first mine theirs o is_mine is_theirs is_first e =
+    ap (λ f. rows_refusal row_eq matrices k (slot_rows firsts sets k) (slot_rows firsts sets f)) (sym is_first)
     ∙ ap (λ rows. rows_refusal row_eq matrices k (slot_rows firsts sets k) rows) (sym is_theirs)
     ∙ ap (λ rows. rows_refusal row_eq matrices k rows theirs) (sym is_mine)
     ∙ e
@@ -231,13 +226,40 @@ own_rows row_eq laws matrices k rows =
     none_of (row_fault row_eq k rows rows) matrices
     (λ m. rw (IsEquivalence.refl (lists_equiv laws) (get_or rows m [])) refl)
 
--- a lead is not refused
-pub lead_agrees : {T : Type 0} (row_eq : T → T → Bool) → IsEquivalence row_eq → (matrices nodes firsts : List ℕ)
+-- a first slot is not refused
+pub first_slot_agrees : {T : Type 0} (row_eq : T → T → Bool) → IsEquivalence row_eq → (matrices nodes firsts : List ℕ)
     (sets : List (List (List T))) (k : ℕ) → k ≡ first_query nodes (get_or nodes k 0) →
     slot_fault row_eq matrices nodes firsts sets k ≡ None
-lead_agrees row_eq laws matrices nodes firsts sets k is =
+first_slot_agrees row_eq laws matrices nodes firsts sets k is =
     slot_read row_eq matrices nodes firsts sets k k (slot_rows firsts sets k) (slot_rows firsts sets k) None refl refl
     is (own_rows row_eq laws matrices k (slot_rows firsts sets k))
+
+-- no slot is before the first
+pub first_start : (nodes : List ℕ) → 0 ≡ first_query nodes (get_or nodes 0 0)
+first_start [] = refl
+first_start (x ∷ xs) = rw (eq-eqb x x refl) refl
+
+-- so the slots after it decide
+pub slots_start : {T : Type 0} (row_eq : T → T → Bool) → IsEquivalence row_eq → (matrices nodes firsts : List ℕ)
+    (sets : List (List (List T))) →
+    first_of (slot_fault row_eq matrices nodes firsts sets) (range_with_len 1 (length nodes - 1))
+    ≡ nodes_refusal row_eq matrices nodes firsts sets
+slots_start row_eq laws matrices [] firsts sets = refl
+slots_start row_eq laws matrices (x ∷ xs) firsts sets =
+    let nodes = x ∷ xs in
+    let fault = slot_fault row_eq matrices nodes firsts sets in
+    let total = nodes_refusal row_eq matrices nodes firsts sets in
+    let whole : length nodes - 0 ≡ length nodes = omega arith in
+    kept_or (fault 0) (first_of fault (range_with_len 1 (length nodes - 1))) total
+    (slots_next fault (length nodes) 0 total (omega arith) (rw whole refl))
+    (first_slot_agrees row_eq laws matrices nodes firsts sets 0 (first_start nodes))
+
+-- the row set of a slot, as the code reads it
+pub rows_read : {T A B : Type 0} (rows : List (Vec (Vec T A) B)) (firsts : List ℕ) (k : ℕ) (set : Vec (Vec T A) B)
+    (read : List (Vec T A)) → All (λ query. query < length rows) firsts → k < length firsts → set
+    ≡ get_or rows (get_or firsts k 0) set → read ≡ set.items → row_lists read ≡ slot_rows firsts (row_sets rows) k
+rows_read rows firsts k set read inside h is value = ap row_lists value
+    ∙ sym (set_read rows (get_or firsts k 0) set (inside k 0 h) is)
 
 none_within : (g : ℕ → Option MerkleTreeError) (a n : ℕ) → ((k : ℕ) → k < a + n → g k ≡ None) →
     first_of g (range_with_len a n) ≡ None
@@ -256,9 +278,9 @@ pub full_rows : {T A : Type 0} (rows : List (Vec T A)) (set : List (List T)) (n 
     ≡ n → length rows ≡ n
 full_rows rows set n e l = sym (length-map rows (λ row. row.items)) ∙ ap length e ∙ l
 
-pub lead_place : (nodes : List ℕ) (k lead : ℕ) → k < length nodes → lead ≡ first_query nodes (get_or nodes k 0) →
-    lead < length nodes
-lead_place nodes k lead l e = omega (arith, first_place nodes (get_or nodes k 0) (listed_at nodes k 0 l))
+pub first_slot_place : (nodes : List ℕ) (k first : ℕ) → k < length nodes → first ≡ first_query nodes (get_or nodes k 0) →
+    first < length nodes
+first_slot_place nodes k first l e = omega (arith, first_place nodes (get_or nodes k 0) (listed_at nodes k 0 l))
 
 -- ---- from layer to layer
 
@@ -313,14 +335,14 @@ matrices_full dimensions firsts read matrices sets x full is is_read k h =
     rw (is_read, is) (matrices_inside (heights_of dimensions) x (length (slot_rows firsts sets k))
     (length-map dimensions (λ d. d.height) ∙ sym (full k (omega (arith, ap length is_read)))))
 
--- distinct leaves are leads
+-- distinct leaves are first slots
 pub leaves_agree : {T : Type 0} (row_eq : T → T → Bool) → IsEquivalence row_eq → (s : Shape) (leaves firsts : List ℕ)
     (sets : List (List (List T))) → IsStrictlyIncreasing leaves → layer_fault row_eq s leaves firsts sets 0 ≡ None
 leaves_agree row_eq laws s leaves firsts sets up =
     let matrices = matrices_with (heights s) (layer_exponent s 0) in
     let alone : nodes_refusal row_eq matrices leaves firsts sets ≡ None =
     none_within (slot_fault row_eq matrices leaves firsts sets) 0 (length leaves)
-    (λ k h. lead_agrees row_eq laws matrices leaves firsts sets k
+    (λ k h. first_slot_agrees row_eq laws matrices leaves firsts sets k
     (first_unique leaves (get_or leaves k 0) k (omega arith) refl (λ j low same.
     let less = rising_order 0 leaves (rising_from leaves up) j k low (omega arith) in omega arith))) in
     ap (λ nodes. nodes_refusal row_eq matrices nodes firsts sets) (sym (nodes_start s leaves)) ∙ alone

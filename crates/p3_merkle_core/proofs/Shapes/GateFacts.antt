@@ -1,13 +1,14 @@
 -- There is no refusal exactly if the heights are lawful.
-use Rattle.std.proofs.Common.{◌≡◌, ℕ, zero, suc, ◌≤◌, Bool, false, not, eqb, nat_lt, List, [], ◌∷◌, refl, sym, ◌∙◌}
+use Rattle.std.proofs.Common.{◌≡◌, ℕ, zero, suc, ◌<◌, ◌≤◌, Bool, false, not, eqb, nat_lt, List, [], ◌∷◌, refl, sym, ◌∙◌}
 use Rattle.std.proofs.Common.{arith, inl, inr, length, get_or, Some, None, All, position, find, eq-eqb, ◌↔◌, Option}
 use Rattle.std.specs.List.{position_or_len}
 use Rattle.std.proofs.lemmas.Bool.{cases_lt, cases_Bool, ltb-false, le-ltb, lt-ltb, eqb-true, not-false, not_from_true}
 use Rattle.std.proofs.lemmas.Bool.{cond-true, cond-false, ne_eqb, eqb-false}
 use Rattle.std.proofs.lemmas.List.Sums.{fails_before_first, position_or_len_is}
-use Rattle.std.proofs.lemmas.List.{get_or_default}
+use Rattle.std.proofs.lemmas.List.{get_or_default, get_or-map, length-map}
 use Rattle.p3_merkle_core.specs.Geometry.{height_limit, expected_height, IsLawful}
-use Rattle.p3_support.specs.Batches.{greatest}
+use Rattle.p3_support.specs.Batches.{greatest, heights_of}
+use Rattle.p3_support.specs.declared.matrix.Dimensions.{Dimensions}
 use Rattle.p3_merkle_core.specs.Gate.{first_too_large, first_off_ladder, gate_refusal, height_refusal_of}
 use Rattle.p3_merkle_core.specs.declared.error.MerkleTreeError.TheVariants.{EmptyBatch}
 use Rattle.p3_merkle_core.proofs.Shapes.LeastFacts.{le_tallest}
@@ -90,6 +91,14 @@ none_off_from_lawful hs w =
     find_none_from (λ h. not (eqb h (expected_height (greatest hs) h))) hs
     (λ k d h. not_from_true (eqb (get_or hs k d) (expected_height (greatest hs) (get_or hs k d)))
     (eq-eqb (get_or hs k d) (expected_height (greatest hs) (get_or hs k d)) (w.on_ladder k d h)))
+
+-- a lawful height, as the code reads it, is the expected one
+pub expected_there : (dimensions : List Dimensions) (k : ℕ) → k < length dimensions → IsLawful (heights_of dimensions) →
+    let h = (get_or dimensions k (record { width = 0; height = 0 })).height in
+    h ≡ expected_height (greatest (heights_of dimensions)) h
+expected_there dimensions k l w =
+    rw (← get_or-map (λ d. d.height) dimensions k (record { width = 0; height = 0 }) 0 l)
+    (w.on_ladder k 0 (omega (arith, length-map dimensions (λ d. d.height))))
 
 refusal_parts : (m : ℕ) (hs : List ℕ) (x o : Option ℕ) → height_refusal_of m hs x o ≡ None → (x ≡ None) × (o ≡ None)
 refusal_parts m hs (Some i) o e = absurd cc

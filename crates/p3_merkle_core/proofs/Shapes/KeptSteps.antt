@@ -16,6 +16,11 @@ kept_at s kept n l none all below =
     sym (get_or-take n kept l none below) ∙ ap (λ (steps : List LevelStep). get_or steps l none) all
     ∙ get_or-map-range_with_len (level_step s) 0 n l l none below (omega arith)
 
+-- and whether it is a bridge step
+pub bridge_at : (s : Shape) (kept : List LevelStep) (n l : ℕ) (none : LevelStep) → take n kept
+    ≡ map (level_step s) (range_with_len 0 n) → l < n → (get_or kept l none).is_bridge ≡ is_bridge s (layer_exponent s l)
+bridge_at s kept n l none all below = ap (λ (step : LevelStep). step.is_bridge) (kept_at s kept n l none all below)
+
 -- one more that is written
 pub kept_more : (s : Shape) (kept : List LevelStep) (n : ℕ) (more : LevelStep) → take n kept
     ≡ map (level_step s) (range_with_len 0 n) → n < length kept → more ≡ level_step s n →

@@ -46,20 +46,20 @@ pub record IsSlot (indices : List ℕ) (i k : ℕ) : Type 0 where
 abbrev pub slot_rows : {T : Type 0} → List ℕ → List (List (List T)) → ℕ → List (List T)
 slot_rows firsts sets k = slice_index_or sets (slice_index firsts k) []
 
--- a row of matrix m that is not the lead's
+-- a row of matrix m that is not that of the first slot under the same node
 abbrev pub row_fault : {T : Type 0} → (T → T → Bool) → ℕ → List (List T) → List (List T) → ℕ → Option MerkleTreeError
-row_fault row_eq k rows lead m =
-    unless (pointwise row_eq (slice_index_or rows m []) (slice_index_or lead m []))
+row_fault row_eq k rows first_rows m =
+    unless (pointwise row_eq (slice_index_or rows m []) (slice_index_or first_rows m []))
     (MalformedPrunedProof (InconsistentGroupOpening k m))
 
 -- the places in input order of the matrices of exponent x
 abbrev pub matrices_with : List ℕ → ℕ → List ℕ
 matrices_with heights x = filter (λ m. exponent (slice_index heights m) == x) (range_with_len 0 (length heights))
 
--- the first row of slot k, among those of some matrices, that is not the lead's
+-- the first row of slot k, among those of some matrices, that is not that of the first slot under the same node
 abbrev pub rows_refusal : {T : Type 0} → (T → T → Bool) → List ℕ → ℕ → List (List T) → List (List T) →
     Option MerkleTreeError
-rows_refusal row_eq matrices k rows lead = first_of (row_fault row_eq k rows lead) matrices
+rows_refusal row_eq matrices k rows first_rows = first_of (row_fault row_eq k rows first_rows) matrices
 
 -- slots ascending, each under its node: the first row, among those of some matrices, that is not that of the lowest
 -- slot under the same node

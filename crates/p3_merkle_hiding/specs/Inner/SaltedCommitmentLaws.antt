@@ -53,9 +53,9 @@ module _ {T A B : Type 0} {a : Ghosts A T} {b : Ghosts B T} where
   left_lawful pairs w = subst IsLawful (left_heights pairs) w
 
   -- and the greatest of them is the tallest of the pairs
-  pub left_greatest : (n : ℕ) (pairs : List (HorizontalPair T A B a b)) → greatest (map a.height_of (map left_of pairs))
+  pub left_greatest : (pairs : List (HorizontalPair T A B a b)) → greatest (map a.height_of (map left_of pairs))
       ≡ greatest (heights_of (dimensions_of (map pair_matrix pairs)))
-  left_greatest n pairs = greatest_is a.height_of a.width_of a.row_of n (map left_of pairs)
+  left_greatest pairs = greatest_is a.height_of a.width_of a.row_of 0 (map left_of pairs)
       ∙ ap greatest (sym (left_heights pairs))
 
 -- ---- what is shown

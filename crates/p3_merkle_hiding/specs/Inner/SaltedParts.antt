@@ -15,6 +15,10 @@ abbrev pub salt_parts : {T : Type 0} → List ℕ → List (List T) → List (Li
 salt_parts widths rows = map (λ (row, w). drop w row) (zip rows widths)
 
 module _ {T A B : Type 0} {a : Ghosts A T} {b : Ghosts B T} where
+  -- the widths of the left matrices
+  abbrev pub left_widths : List (HorizontalPair T A B a b) → List ℕ
+  left_widths pairs = map (λ p. a.width_of (left_of p)) pairs
+
   -- a pair, seen as one matrix
   abbrev pub pair_matrix : HorizontalPair T A B a b → Matrix T
   pair_matrix =

@@ -1,21 +1,122 @@
--- The batch of the tree is the one that was given.
-use Rattle.std.proofs.Common.{◌≡◌, IfOk, sym, subst}
+-- The tree is that of the matrices that were given.
+use Rattle.std.proofs.Common.{◌≡◌, ◌∙◌, ℕ, ◌<◌, All, IfOk, Err, None, refl, sym, ap, subst}
+use Rattle.std.proofs.lemmas.Result.{err_from_is_err_and}
+use Rattle.p3_support.specs.Batches.{greatest}
+use Rattle.p3_support.specs.Shown.{roots_of}
+use Rattle.p3_merkle_core.specs.Commitments.{IsCommitment}
+use Rattle.p3_merkle_core.specs.Geometry.{heights}
 use Rattle.p3_merkle_core.specs.Nodes.{shape, Batch}
-use Rattle.p3_merkle_core.specs.Refusals.{AnswersUnlessMemory}
-use Rattle.mmcs_engine.specs.Inner.Alike.{batch_in_numbers}
-use Rattle.mmcs_engine.specs.Program.{layer_of_cap, text_of}
+use Rattle.p3_merkle_core.specs.Pruning.{pruned_len}
+use Rattle.p3_merkle_core.specs.Refusals.{pruned_len_refusal, queries_refusal, AnswersUnlessMemory}
+use Rattle.p3_merkle_prover.specs.Parts.{layers_of, tree_batch}
+use Rattle.p3_merkle_mmcs.specs.Schemes.{cap_layer_over, params_over}
+use Rattle.mmcs_text.specs.Inner.Stored.{stored_batch}
+use Rattle.mmcs_text.specs.Text.{ok_line}
+use Rattle.mmcs_engine.specs.Inner.Alike.{opened_text}
+use Rattle.mmcs_engine.proofs.GateFacts.{heights_refused, indices_refused, none_refused}
+use Rattle.mmcs_engine.proofs.NumberFacts.{check_printed, commit_printed, open_printed, stored_shape}
+use Rattle.mmcs_engine.proofs.engine.act.Given.{Over}
 use Rattle.mmcs_engine.proofs.engine.act.Goals as goal
+use Rattle.mmcs_engine.proofs.engine.act.Goals.{After-check_indices}
 
-pub returns-clause-text : goal.returns-clause-text
-returns-clause-text g c =
-    let command = c.args.request.now.command in
-    subst (λ (batch : Batch g.row.W.Denot).
-    let b = batch_in_numbers g.W.Word.value batch in
-    IfOk c.text_of_tree.result (λ text. text.items
-    ≡ text_of command.hash command.action c.args.request.now.indices.items b (layer_of_cap command.cap (shape b))))
-    c.in_ok-committed.ensures.matrices c.text_of_tree.ensures.text
+abbrev batch_given : (g : Over) → After-check_indices g → Batch g.row.W.Denot
+batch_given g c = stored_batch g.row.N c.args.matrices.items
 
-pub returns-clause-answer : goal.returns-clause-answer
-returns-clause-answer g c =
-    subst (AnswersUnlessMemory c.text_of_tree.result) (sym c.in_ok-committed.ensures.answer)
-    c.text_of_tree.ensures.memory
+same_batch : (g : Over) (c : After-check_indices g) → tree_batch c.in_ok-roots.tree ≡ batch_given g c
+same_batch g c = ap (stored_batch g.row.N) c.in_ok-roots.ensures.matrices
+
+-- the test of the indices is that of the tallest matrix
+same_test : (g : Over) (c : After-check_indices g) →
+    queries_refusal (greatest (heights (shape (batch_given g c)))) c.args.request.now.indices.items
+    ≡ queries_refusal c.get_max_height.result c.as_slice-indices.result.now
+same_test g c = λ i. queries_refusal
+    (sym (c.get_max_height.ensures ∙ ap (λ (b : Batch g.row.W.Denot). greatest (heights (shape b))) (same_batch g c)) i)
+    (sym c.as_slice-indices.ensures.value i)
+
+-- nothing is refused
+taken : (g : Over) (c : After-check_indices g) →
+    queries_refusal c.get_max_height.result c.as_slice-indices.result.now ≡ None →
+    pruned_len_refusal (shape (batch_given g c)) c.args.request.now.indices.items ≡ None
+taken g c below =
+    none_refused (shape (batch_given g c)) c.args.request.now.indices.items c.in_ok-roots.ensures.answer
+    (same_test g c ∙ below)
+
+pub returns-in_err-roots-clause-answer : goal.returns-in_err-roots-clause-answer
+returns-in_err-roots-clause-answer g c =
+    let r = c.from_residual-in_err-roots in
+    let left = err_from_is_err_and r.result r.ensures.1 in
+    heights_refused r.result _ (shape (stored_batch g.row.N c.args.matrices.items)) c.args.request.now.indices.items
+    (left.1 ∙ ap Err left.2) c.in_err-roots.ensures.answer
+
+pub returns-in_err-check_indices-clause-answer : goal.returns-in_err-check_indices-clause-answer
+returns-in_err-check_indices-clause-answer g c =
+    let at = (goal.at.returns-in_err-check_indices-clause-answer g c).After-check_indices in
+    let r = c.from_residual-in_err-check_indices in
+    let left = err_from_is_err_and r.result r.ensures.1 in
+    indices_refused r.result _ (shape (batch_given g at)) c.args.request.now.indices.items (left.1 ∙ ap Err left.2)
+    c.in_ok-roots.ensures.answer (same_test g at ∙ c.in_err-check_indices.ensures.answer)
+
+pub returns-in-Commit-clause-text : goal.returns-in-Commit-clause-text
+returns-in-Commit-clause-text g c =
+    let w = g.met.W.Word in
+    commit_printed g.W.Word.value w.some_word w.one_word _ _ _ _ _ _ _ c.requires.scheme
+    (stored_batch g.row.N c.args.matrices.items) c.args.request.now.command.action c.args.request.now.indices.items
+    c.cap_text.result (λ text. text.items) (roots_of c.in_ok-roots.roots) c.in_ok-roots.ensures.committed.own_cap
+    c.in-Commit.is c.cap_text.ensures.text
+
+pub returns-in-Commit-clause-answer : goal.returns-in-Commit-clause-answer
+returns-in-Commit-clause-answer g c =
+    subst (AnswersUnlessMemory c.cap_text.result)
+    (sym (taken g (goal.at.returns-in-Commit-clause-answer g c).After-check_indices
+    c.in_ok-check_indices.ensures.answer)) c.cap_text.ensures.memory
+
+pub returns-in-Open-clause-text : goal.returns-in-Open-clause-text
+returns-in-Open-clause-text g c =
+    let w = g.met.W.Word in
+    let nodes = layers_of c.in_ok-roots.tree in
+    let lent = c.as_slice-indices.result.now in
+    open_printed g.W.Word.value w.some_word w.one_word _ _ _ _ _ _ _ c.requires.scheme
+    (stored_batch g.row.N c.args.matrices.items) c.args.request.now.command.action c.args.request.now.indices.items
+    c.open_text.result (λ text. text.items) nodes lent c.in_ok-roots.ensures.committed.own_layers
+    c.as_slice-indices.ensures.value c.in-Open.is
+    (subst (λ (b : Batch g.row.W.Denot). IfOk c.open_text.result (λ text. text.items
+    ≡ opened_text g.W.Word.value g.W.Word.HEX_DIGITS b nodes lent (cap_layer_over c.args.scheme.now (shape b))))
+    (same_batch g (goal.at.returns-in-Open-clause-text g c).After-check_indices) c.open_text.ensures.text)
+
+pub returns-in-Open-clause-answer : goal.returns-in-Open-clause-answer
+returns-in-Open-clause-answer g c =
+    subst (AnswersUnlessMemory c.open_text.result)
+    (sym (taken g (goal.at.returns-in-Open-clause-answer g c).After-check_indices
+    c.in_ok-check_indices.ensures.answer)) c.open_text.ensures.memory
+
+pub returns-in-Check-clause-text : goal.returns-in-Check-clause-text
+returns-in-Check-clause-text g c =
+    let w = g.met.W.Word in
+    let lent = c.as_slice-indices.result.now in
+    check_printed g.W.Word.value w.some_word w.one_word _ _ _ _ _ _ _ c.requires.scheme
+    (stored_batch g.row.N c.args.matrices.items) c.args.request.now.command.action c.args.request.now.indices.items
+    c.check_text.result (λ text. text.items) lent c.as_slice-indices.ensures.value c.in-Check.is
+    (subst (λ (b : Batch g.row.W.Denot). IfOk c.check_text.result (λ text. text.items
+    ≡ ok_line (pruned_len (shape b) lent (cap_layer_over c.args.scheme.now (shape b)))))
+    (same_batch g (goal.at.returns-in-Check-clause-text g c).After-check_indices) c.check_text.ensures.text)
+
+pub returns-in-Check-clause-answer : goal.returns-in-Check-clause-answer
+returns-in-Check-clause-answer g c =
+    subst (AnswersUnlessMemory c.check_text.result)
+    (sym (taken g (goal.at.returns-in-Check-clause-answer g c).After-check_indices
+    c.in_ok-check_indices.ensures.answer)) c.check_text.ensures.memory
+
+pub check_text-requires-clause-dimensions : goal.check_text-requires-clause-dimensions
+check_text-requires-clause-dimensions g c =
+    stored_shape c.deref.result.now c.args.matrices.items c.in_ok-dimensions.dimensions.items
+    c.deref-in-Check.result.now g.row.N c.deref-in-Check.ensures.value c.in_ok-dimensions.ensures
+    c.deref.ensures.value
+    ∙ ap shape (sym (same_batch g (goal.at.check_text-requires-clause-dimensions g c).After-check_indices))
+
+pub check_text-requires-clause-committed : goal.check_text-requires-clause-committed
+check_text-requires-clause-committed g c =
+    subst (λ (b : Batch g.row.W.Denot).
+    IsCommitment (params_over g.H.CryptographicHasher.hash g.C.PseudoCompressionFunction.compression g.row.D
+    c.args.scheme.now (shape b)) (roots_of c.in_ok-roots.roots) b (layers_of c.in_ok-roots.tree))
+    (sym (same_batch g (goal.at.check_text-requires-clause-committed g c).After-check_indices))
+    c.in_ok-roots.ensures.committed

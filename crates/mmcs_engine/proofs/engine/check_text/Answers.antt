@@ -19,22 +19,20 @@ returns-in_err-verify_batch_pruned-clause-memory g c =
     let left = err_from_is_err_and r c.from_residual-in_err-verify_batch_pruned.ensures.1 in
     let params = params_over g.H.CryptographicHasher.hash g.C.PseudoCompressionFunction.compression g.row.D
     c.args.scheme.now in
-    let b = tree_batch c.args.committed.now.tree in
+    let b = tree_batch c.args.tree.now in
     let opening = c.in_ok-opening.opening in
     let is = c.args.indices.now in
-    let shapes = ap (shape_of g.row.N) c.deref.ensures.value ∙ c.requires.dimensions in
     failed_alone r c.verify_batch_pruned.result _ (left.1 ∙ ap Err left.2) c.in_err-verify_batch_pruned.was
     (c.verify_batch_pruned.ensures.verdict.accepted_is_ok
-    (accepted_lent params (shape_of g.row.N c.deref.result.now) (shape b) (roots_of c.args.committed.now.roots)
-    (cap_over (params (shape b)) b) (pruned_lent is c.deref-2.result.now opening.pruned_proof) (pruned_made is opening)
-    shapes c.requires.committed.own_cap
-    (ap (λ sets. pruned_of is (row_sets sets) opening.pruned_proof.sibling_hashes.items) c.deref-2.ensures.value)
+    (accepted_lent params (shape_of g.row.N c.args.dimensions.now) (shape b) (roots_of c.args.roots.now)
+    (cap_over (params (shape b)) b) (pruned_lent is c.deref.result.now opening.pruned_proof) (pruned_made is opening)
+    c.requires.dimensions c.requires.committed.own_cap
+    (ap (λ sets. pruned_of is (row_sets sets) opening.pruned_proof.sibling_hashes.items) c.deref.ensures.value)
     (c.in_ok-opening.ensures.accepted c.requires.committed.own_layers)))
 
 pub returns-clause-text : goal.returns-clause-text
 returns-clause-text g c =
-    let shapes = ap (shape_of g.row.N) c.deref.ensures.value ∙ c.requires.dimensions in
     c.in_ok-text_of_count.ensures
     ∙ ap ok_line (c.len.ensures ∙ c.in_ok-opening.opening.pruned_proof.sibling_hashes.ok.0
     ∙ c.in_ok-verify_batch_pruned.ensures.count refl
-    ∙ ap (λ s. pruned_len s c.args.indices.now (cap_layer_over c.args.scheme.now s)) shapes)
+    ∙ ap (λ s. pruned_len s c.args.indices.now (cap_layer_over c.args.scheme.now s)) c.requires.dimensions)

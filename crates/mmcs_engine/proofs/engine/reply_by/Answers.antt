@@ -1,9 +1,11 @@
-use Rattle.std.proofs.Common.{◌∙◌, Err, ap}
+use Rattle.std.proofs.Common.{◌∙◌, ℕ, Err, ap, sym, subst}
+use Rattle.std.specs.Prelude.{replicate, IsTrue}
 use Rattle.std.proofs.lemmas.Result.{err_from_is_err_and}
-use Rattle.p3_merkle_core.specs.Nodes.{shape}
+use Rattle.p3_merkle_core.specs.Geometry.{is_arity}
+use Rattle.p3_merkle_core.specs.Nodes.{functions_of, shape}
 use Rattle.mmcs_text.specs.Inner.Stored.{stored_batch}
 use Rattle.mmcs_engine.specs.Inner.Alike.{batch_in_numbers}
-use Rattle.mmcs_engine.proofs.NumberFacts.{shape_in_numbers, stored_in_numbers}
+use Rattle.mmcs_engine.proofs.NumberFacts.{arity_taken, scheme_made, shape_in_numbers, stored_in_numbers}
 use Rattle.mmcs_engine.proofs.ReplyFacts.{reply_fault, reply_text}
 use Rattle.mmcs_engine.proofs.engine.reply_by.Goals as goal
 
@@ -14,7 +16,7 @@ returns-in_err-act-clause-fault g c =
     let found = c.in_ok-matrices.ensures.matrices in
     let left = err_from_is_err_and c.from_residual-in_err-act.result c.from_residual-in_err-act.ensures.1 in
     reply_fault c.args.request.now.command c.args.request.now.indices.items c.args.input.now g.W.Word.MAX g.row.N
-    c.requires.scheme.greatest_word c.requires.arity found.0 found.1 (batch_in_numbers g.W.Word.value given)
+    c.requires.hash.greatest_word c.requires.arity found.0 found.1 (batch_in_numbers g.W.Word.value given)
     (stored_in_numbers g.W.Word.value w.some_word w.one_word c.in_ok-matrices.matrices.items found.0 g.row.N found.2)
     (shape given) (shape_in_numbers g.W.Word.value w.some_word w.one_word given) c.from_residual-in_err-act.result _
     (left.1 ∙ ap Err left.2) c.in_err-act.ensures.answer
@@ -25,7 +27,18 @@ returns-clause-text g c =
     let given = stored_batch g.row.N c.in_ok-matrices.matrices.items in
     let found = c.in_ok-matrices.ensures.matrices in
     reply_text c.args.request.now.command c.args.request.now.indices.items c.args.input.now g.W.Word.MAX g.row.N
-    c.requires.scheme.greatest_word c.requires.arity found.0 found.1 (batch_in_numbers g.W.Word.value given)
+    c.requires.hash.greatest_word c.requires.arity found.0 found.1 (batch_in_numbers g.W.Word.value given)
     (stored_in_numbers g.W.Word.value w.some_word w.one_word c.in_ok-matrices.matrices.items found.0 g.row.N found.2)
     (shape given) (shape_in_numbers g.W.Word.value w.some_word w.one_word given) c.in_ok-act.field-0.items
     c.in_ok-act.ensures.answer c.in_ok-act.ensures.text
+
+pub new_with_rule-scheme-requires-clause-arity : goal.new_with_rule-scheme-requires-clause-arity
+new_with_rule-scheme-requires-clause-arity g c =
+    subst (λ (n : ℕ). IsTrue (is_arity n)) (sym c.requires.arity) (arity_taken c.args.request.now.command.arity)
+
+pub act-requires : goal.act-requires
+act-requires g c =
+    let made = c.new_with_rule-scheme.ensures in
+    scheme_made c.requires.hash (λ i. functions_of (g.H.CryptographicHasher.hash (made.hash i))
+    (g.C.PseudoCompressionFunction.compression (made.compress i)) (replicate g.row.D g.W.PackedValue.default_value))
+    made.cap_height made.rule

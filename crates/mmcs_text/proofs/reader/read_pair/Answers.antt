@@ -35,7 +35,7 @@ returns-in_err-read_to_end-clause-fault g c =
     c.in_ok-read_opening.ensures.whole
     c.in_ok-take_blank_line.ensures.blank.0 (lines_left c.take_blank_line.new.lines)
     c.in_ok-take_blank_line.ensures.blank.1 c.in_ok-take_blank_line.ensures.blank.2
-    (reading c.next_opening-first.result.1) c.take_blank_line.new.lines.read
+    (reading c.next_opening-first.new.self) c.take_blank_line.new.lines.read
     c.in_ok-take_blank_line.ensures.blank.3 c.next_opening-first.ensures.reader.1 _ fault))
     c.in_err-read_to_end.ensures.fault)
 
@@ -51,8 +51,8 @@ returns-clause-shown g c =
     c.in_ok-read_opening.ensures.whole
     c.in_ok-take_blank_line.ensures.blank.0 (lines_left c.take_blank_line.new.lines)
     c.in_ok-take_blank_line.ensures.blank.1 c.in_ok-take_blank_line.ensures.blank.2
-    (reading c.next_opening-first.result.1) c.take_blank_line.new.lines.read
+    (reading c.next_opening-first.new.self) c.take_blank_line.new.lines.read
     c.in_ok-take_blank_line.ensures.blank.3 c.next_opening-first.ensures.reader.1
-    (shown_under g.W.Word.value g.H.LineDigest.words cap c.next_opening-first.result.0)
+    (shown_under g.W.Word.value g.H.LineDigest.words cap c.next_opening-first.result)
     (shown_of g.W.Word.value g.H.LineDigest.words c.read_to_end.new.self.shown) c.in_ok-read_to_end.ensures.shown
     (λ i. shown_under g.W.Word.value g.H.LineDigest.words cap (c.next_opening-first.ensures.opening i))

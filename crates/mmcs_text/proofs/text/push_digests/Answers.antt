@@ -1,9 +1,8 @@
 -- Each turn is one line more.
-use Rattle.std.proofs.Common.{◌++◌, ◌∷◌, [], ◌∙◌, ap, sym, map, append-nil, append_assoc}
-use Rattle.std.specs.Prelude.{flat_map}
+use Rattle.std.proofs.Common.{◌++◌, ◌∙◌, ap, sym, map, append-nil}
 use Rattle.std.proofs.lemmas.List.{take_all}
 use Rattle.std.proofs.lemmas.Result.{err_from_is_err_and}
-use Rattle.mmcs_text.specs.Text.{hex_line, hex_lines, hex_word}
+use Rattle.mmcs_text.specs.Text.{hex_line, hex_lines}
 use Rattle.mmcs_text.proofs.TextFacts.{texts_more}
 use Rattle.mmcs_text.proofs.text.push_digests.Goals as goal
 
@@ -17,9 +16,7 @@ loop-digest-preserved g c =
     let before = c.loop-digest.text.items in
     texts_more (hex_line width) (map value) c.args.digests.now c.loop-digest.digest-index c.digest-item.result
     c.args.text.now.items before _ c.loop-digest-test.true c.digest-item.is c.loop-digest.invariant
-    (c.in_ok-push.ensures.items
-    ∙ ap (λ text. text ++ 10 ∷ []) c.in_ok-push_hex_words.ensures
-    ∙ append_assoc before (flat_map (hex_word width) (map value c.digest-item.result)) (10 ∷ []))
+    c.in_ok-push_hex_line.ensures
 
 pub returns : goal.returns
 returns g c = c.loop-digest.invariant
@@ -27,10 +24,6 @@ returns g c = c.loop-digest.invariant
     (take_all c.loop-digest.digest-index c.args.digests.now c.loop-digest-test.false)
 
 -- memory has run out
-pub returns-in_err-push_hex_words : goal.returns-in_err-push_hex_words
-returns-in_err-push_hex_words g c =
+pub returns-in_err-push_hex_line : goal.returns-in_err-push_hex_line
+returns-in_err-push_hex_line g c =
     rw (err_from_is_err_and c.from_residual.result c.from_residual.ensures.1).1 tt
-
-pub returns-in_err-push : goal.returns-in_err-push
-returns-in_err-push g c =
-    rw (err_from_is_err_and c.from_residual-in_err-push.result c.from_residual-in_err-push.ensures.1).1 tt

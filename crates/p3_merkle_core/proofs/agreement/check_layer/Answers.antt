@@ -1,55 +1,43 @@
--- Each turn compares a slot with the lowest one under its node, if that is another.
+-- Each turn compares a slot with the first one under its node, if that is another.
 use Rattle.std.proofs.Common.{◌≡◌, ◌<◌, ◌-◌, ◌+◌, ◌∙◌, All, length, refl, subst, arith, None, Some, ap, sym}
 use Rattle.std.specs.List.{range_with_len}
 use Rattle.std.proofs.lemmas.Result.{err_from_is_err_and}
-use Rattle.p3_support.specs.Shown.{row_lists, row_sets}
+use Rattle.p3_support.specs.Shown.{row_sets}
 use Rattle.p3_merkle_core.specs.Inner.Agreement.{nodes_refusal}
 use Rattle.p3_merkle_core.specs.Refusals.{first_of}
-use Rattle.p3_merkle_core.proofs.Pruned.LeadFacts.{found_or, full_rows, kept_or, lead_agrees, lead_place, slot_fault}
-use Rattle.p3_merkle_core.proofs.Pruned.LeadFacts.{slot_read, slots_next}
-use Rattle.p3_merkle_core.proofs.agreement.check_layer.Goals.{then-lead-slot+in_ok-check_same_rows, else-lead-slot}
+use Rattle.p3_merkle_core.proofs.Pruned.LeadFacts.{first_slot_agrees, first_slot_kept}
+use Rattle.p3_merkle_core.proofs.Pruned.LeadFacts.{first_slot_new, first_start, found_or, full_rows, kept_or, rows_read}
+use Rattle.p3_merkle_core.proofs.Pruned.LeadFacts.{slot_fault, slot_read, slots_next, slots_start}
+use Rattle.p3_merkle_core.proofs.agreement.check_layer.Goals.{then-nodes-slot+in_ok-check_same_rows, else-nodes-slot}
 use Rattle.p3_merkle_core.proofs.agreement.check_layer.Goals as goal
 
-pub lead_of-lead-requires : goal.lead_of-lead-requires
-lead_of-lead-requires g c = record {
-  inside = c.loop-slot-test.true;
-  ascending = c.requires.ascending;
-  before = c.loop-slot.invariant.is_lead;
+pub loop-slot-init : goal.loop-slot-init
+loop-slot-init g c = record {
+  below = omega arith;
+  is_first = first_start c.args.nodes.now;
+  so_far = slots_start g.T.PartialEq.eq g.met.T.Eq.laws c.args.matrices.now c.args.nodes.now c.args.first_queries.now
+      (row_sets c.args.rows.now);
 }
 
-pub rows_of_slot-rows_of_lead-requires : goal.rows_of_slot-rows_of_lead-requires
-rows_of_slot-rows_of_lead-requires g c = record {
-  inside = omega (
-    arith,
-    c.requires.pairs,
-    lead_place c.args.nodes.now c.loop-slot.slot c.lead_of-lead.result c.loop-slot-test.true c.lead_of-lead.ensures,
-  );
-  queries = c.requires.queries;
-}
-
-pub rows_of_slot-requires : goal.rows_of_slot-requires
-rows_of_slot-requires g c = record {
-  inside = omega (arith, c.requires.pairs, c.loop-slot-test.true);
-  queries = c.requires.queries;
-}
-
-pub check_same_rows-requires-clause-rows : goal.check_same_rows-requires-clause-rows
-check_same_rows-requires-clause-rows g c =
-    let full = full_rows c.rows_of_slot.result.now _ _ c.rows_of_slot.ensures refl in
-    subst (λ n. All (λ m. m < n) c.args.matrices.now) (sym full)
-    (c.requires.full c.loop-slot.slot (omega (arith, c.requires.pairs)))
-
-pub check_same_rows-requires-clause-lead : goal.check_same_rows-requires-clause-lead
-check_same_rows-requires-clause-lead g c =
-    let full = full_rows c.rows_of_slot-rows_of_lead.result.now _ _ c.rows_of_slot-rows_of_lead.ensures refl in
-    subst (λ n. All (λ m. m < n) c.args.matrices.now) (sym full)
-    (c.requires.full c.lead_of-lead.result
-    (omega (
-      arith,
-      c.requires.pairs,
-      lead_place c.args.nodes.now c.loop-slot.slot c.lead_of-lead.result (omega arith)
-          c.lead_of-lead.ensures,
-    )))
+pub check_same_rows-requires : goal.check_same_rows-requires
+check_same_rows-requires g c =
+    let rows = c.args.rows.now in
+    let firsts = c.args.first_queries.now in
+    let k = c.loop-slot.slot in
+    let first = c.loop-slot.first_slot in
+    let inside : k < length firsts = omega (arith, c.requires.pairs) in
+    let first_in : first < length firsts = omega (arith, c.requires.pairs) in
+    let own = rows_read rows firsts k c.index-rows-first_queries.result c.deref.result.now c.requires.queries inside
+    c.index-rows-first_queries.is c.deref.ensures.value in
+    let other = rows_read rows firsts first c.index-rows-first_queries-then-nodes-slot.result
+    c.deref-then-nodes-slot.result.now c.requires.queries first_in c.index-rows-first_queries-then-nodes-slot.is
+    c.deref-then-nodes-slot.ensures.value in
+    record {
+      rows = subst (λ n. All (λ m. m < n) c.args.matrices.now) (sym (full_rows c.deref.result.now _ _ own refl))
+          (c.requires.full k inside);
+      first_rows = subst (λ n. All (λ m. m < n) c.args.matrices.now)
+          (sym (full_rows c.deref-then-nodes-slot.result.now _ _ other refl)) (c.requires.full first first_in);
+    }
 
 pub loop-slot-preserved : goal.loop-slot-preserved
 loop-slot-preserved g c =
@@ -57,22 +45,38 @@ loop-slot-preserved g c =
     let matrices = c.args.matrices.now in
     let nodes = c.args.nodes.now in
     let firsts = c.args.first_queries.now in
-    let sets = row_sets c.args.rows.now in
+    let rows = c.args.rows.now in
     let k = c.loop-slot.slot in
-    let h = slot_fault eq matrices nodes firsts sets in
-    let total = nodes_refusal eq matrices nodes firsts sets in
-    let none : h k ≡ None = elim c.if-lead-slot.branch [
-      | then-lead-slot+in_ok-check_same_rows w ↦
-          slot_read eq matrices nodes firsts sets k c.lead_of-lead.result (row_lists w.rows_of_slot.result.now)
-          (row_lists w.rows_of_slot-rows_of_lead.result.now) None w.rows_of_slot.ensures
-          w.rows_of_slot-rows_of_lead.ensures c.lead_of-lead.ensures w.in_ok-check_same_rows.ensures
-      | else-lead-slot w ↦
-          lead_agrees eq g.met.T.Eq.laws matrices nodes firsts sets k
-          (sym w.if-lead-slot.false ∙ c.lead_of-lead.ensures)
-    ] in
+    let first = c.loop-slot.first_slot in
+    let l = c.loop-slot-test.true in
+    let is = c.loop-slot.invariant.is_first in
+    let h = slot_fault eq matrices nodes firsts (row_sets rows) in
+    let total = nodes_refusal eq matrices nodes firsts (row_sets rows) in
     let same : k + 1 - 1 ≡ k = omega arith in
+    let none : h k ≡ None = elim c.if-nodes-slot.branch [
+      | then-nodes-slot+in_ok-check_same_rows w ↦
+          slot_read eq matrices nodes firsts (row_sets rows) k first _ _ None
+          (rows_read rows firsts k w.index-rows-first_queries.result w.deref.result.now c.requires.queries
+          (omega (arith, c.requires.pairs)) w.index-rows-first_queries.is w.deref.ensures.value)
+          (rows_read rows firsts first w.index-rows-first_queries-then-nodes-slot.result
+          w.deref-then-nodes-slot.result.now c.requires.queries (omega (arith, c.requires.pairs))
+          w.index-rows-first_queries-then-nodes-slot.is w.deref-then-nodes-slot.ensures.value)
+          (first_slot_kept nodes k first l is w.if-nodes-slot.true) w.in_ok-check_same_rows.ensures
+      | else-nodes-slot w ↦
+          first_slot_agrees eq g.met.T.Eq.laws matrices nodes firsts (row_sets rows) k
+          (first_slot_new nodes k first c.requires.ascending l is w.if-nodes-slot.false)
+    ] in
     record {
-      is_lead = rw same c.lead_of-lead.ensures;
+      below = elim c.if-nodes-slot.branch [
+        | then-nodes-slot+in_ok-check_same_rows w ↦ omega (arith, w.first_slot-is)
+        | else-nodes-slot w ↦ omega (arith, w.first_slot-is)
+      ];
+      is_first = rw same (elim c.if-nodes-slot.branch [
+        | then-nodes-slot+in_ok-check_same_rows w ↦
+            w.first_slot-is ∙ first_slot_kept nodes k first l is w.if-nodes-slot.true
+        | else-nodes-slot w ↦
+            w.first_slot-is ∙ first_slot_new nodes k first c.requires.ascending l is w.if-nodes-slot.false
+      ]);
       so_far = kept_or (h k) (first_of h (range_with_len (k + 1) (length nodes - (k + 1)))) total
           (slots_next h (length nodes) k total (omega arith) c.loop-slot.invariant.so_far) none;
     }
@@ -83,14 +87,20 @@ returns-in_err-check_same_rows g c =
     let matrices = c.args.matrices.now in
     let nodes = c.args.nodes.now in
     let firsts = c.args.first_queries.now in
-    let sets = row_sets c.args.rows.now in
+    let rows = c.args.rows.now in
     let k = c.loop-slot.slot in
-    let h = slot_fault eq matrices nodes firsts sets in
-    let total = nodes_refusal eq matrices nodes firsts sets in
-    let some = slot_read eq matrices nodes firsts sets k c.lead_of-lead.result (row_lists c.rows_of_slot.result.now)
-    (row_lists c.rows_of_slot-rows_of_lead.result.now) (Some c.in_err-check_same_rows.field-0.0)
-    c.rows_of_slot.ensures c.rows_of_slot-rows_of_lead.ensures c.lead_of-lead.ensures
-    c.in_err-check_same_rows.ensures in
+    let first = c.loop-slot.first_slot in
+    let is = c.loop-slot.invariant.is_first in
+    let h = slot_fault eq matrices nodes firsts (row_sets rows) in
+    let total = nodes_refusal eq matrices nodes firsts (row_sets rows) in
+    let some = slot_read eq matrices nodes firsts (row_sets rows) k first _ _
+    (Some c.in_err-check_same_rows.field-0.0)
+    (rows_read rows firsts k c.index-rows-first_queries.result c.deref.result.now c.requires.queries
+    (omega (arith, c.requires.pairs)) c.index-rows-first_queries.is c.deref.ensures.value)
+    (rows_read rows firsts first c.index-rows-first_queries-then-nodes-slot.result
+    c.deref-then-nodes-slot.result.now c.requires.queries (omega (arith, c.requires.pairs))
+    c.index-rows-first_queries-then-nodes-slot.is c.deref-then-nodes-slot.ensures.value)
+    (first_slot_kept nodes k first c.loop-slot-test.true is c.if-nodes-slot.true) c.in_err-check_same_rows.ensures in
     let found = found_or (h k) (first_of h (range_with_len (k + 1) (length nodes - (k + 1)))) total
     c.in_err-check_same_rows.field-0.0
     (slots_next h (length nodes) k total (omega arith) c.loop-slot.invariant.so_far) some in

@@ -1,4 +1,4 @@
-use Rattle.std.proofs.Common.{◌≡◌, ◌-◌, length, get_or}
+use Rattle.std.proofs.Common.{◌≡◌, ◌-◌, ◌<◌, length, get_or}
 use Rattle.std.specs.List.{range_with_len}
 use Rattle.p3_support.specs.Shown.{row_sets}
 use Rattle.p3_merkle_core.specs.Inner.Agreement.{first_query, nodes_refusal}
@@ -6,10 +6,11 @@ use Rattle.p3_merkle_core.specs.Refusals.{first_of}
 use Rattle.p3_merkle_core.proofs.Pruned.LeadFacts.{slot_fault}
 use Rattle.p3_merkle_core.proofs.agreement.check_layer.Given as goal
 
--- the lead of the slot before, and the slots so far have its rows, so the rest decides
+-- the first slot under the node of the slot before; the slots so far have their rows, so the rest decides
 abbrev pub invariant-loop-slot : goal.invariant-loop-slot
 invariant-loop-slot g l = record {
-  is_lead : l.lead ≡ first_query l.nodes (get_or l.nodes (l.slot - 1) 0);
+  below : l.first_slot < l.slot;
+  is_first : l.first_slot ≡ first_query l.nodes (get_or l.nodes (l.slot - 1) 0);
   so_far :
       first_of (slot_fault g.T.PartialEq.eq l.matrices l.nodes l.first_queries (row_sets l.rows))
       (range_with_len l.slot (length l.nodes - l.slot))

@@ -9,7 +9,7 @@ invariant-loop-matrix l =
     let m = greatest (heights_of l.dimensions) in
     let rest = heights_of (drop l.matrix-index l.others) in
     record {
-      greatest_is : max l.tallest (greatest rest) ≡ m;
-      low : l.shortest ≤ m;
-      least_is : min l.shortest (least_height m rest) ≡ shortest (heights_of l.dimensions);
+      greatest_is : max l.max_height (greatest rest) ≡ m;
+      low : l.min_height ≤ m;
+      least_is : min l.min_height (least_height m rest) ≡ shortest (heights_of l.dimensions);
     }

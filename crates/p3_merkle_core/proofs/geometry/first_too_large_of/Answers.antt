@@ -8,10 +8,10 @@ use Rattle.p3_support.specs.Batches.{heights_of}
 use Rattle.p3_merkle_core.proofs.Shapes.GateFacts.{none_large_up_to}
 use Rattle.p3_merkle_core.proofs.geometry.first_too_large_of.Goals as goal
 
-pub returns-then-tallest-le-MAX_HEIGHT : goal.returns-then-tallest-le-MAX_HEIGHT
-returns-then-tallest-le-MAX_HEIGHT c =
+pub returns-then-max_height-le-MAX_HEIGHT : goal.returns-then-max_height-le-MAX_HEIGHT
+returns-then-max_height-le-MAX_HEIGHT c =
     sym (none_large_up_to (heights_of c.args.dimensions.now)
-    (omega (arith, c.requires, c.if-tallest-le-MAX_HEIGHT.true)))
+    (omega (arith, c.requires, c.if-max_height-le-MAX_HEIGHT.true)))
 
 pub returns : goal.returns
 returns c =

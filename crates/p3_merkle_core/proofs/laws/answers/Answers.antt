@@ -1,6 +1,8 @@
 use Rattle.p3_merkle_core.proofs.Pruned.Answered.{restorable}
 use Rattle.p3_merkle_core.proofs.Pruned.Unrefused.{unrefused}
 use Rattle.p3_merkle_core.proofs.Checks.Verdicts.{accepted_from, accepted_answer, pruned_accepted, pruned_capped}
+use Rattle.p3_merkle_core.proofs.Pruned.AnswerLaws.{refused_under, ok_or_mismatch, answered_alike}
+use Rattle.p3_merkle_core.proofs.Covered.Equivalence.{equivalent}
 use Rattle.p3_merkle_core.proofs.laws.answers.Goals as goal
 
 pub returns-clause-single : goal.returns-clause-single
@@ -17,3 +19,16 @@ returns-clause-under_cap g x = λ row_eq digest_eq c. pruned_capped row_eq diges
 
 pub returns-clause-each_path : goal.returns-clause-each_path
 returns-clause-each_path g x = λ row_eq digest_eq c. pruned_accepted row_eq digest_eq c.functions c.shape c.layer
+
+pub returns-clause-restored : goal.returns-clause-restored
+returns-clause-restored g x = λ c cap p w r. equivalent c.functions c.shape c.layer cap p w r.lawful r.below r.rows_fit
+    r.agreed
+
+pub returns-clause-refused : goal.returns-clause-refused
+returns-clause-refused g x = λ row_eq digest_eq c. refused_under row_eq digest_eq c.functions c.shape c.layer
+
+pub returns-clause-answered : goal.returns-clause-answered
+returns-clause-answered g x = λ row_eq digest_eq c. answered_alike row_eq digest_eq c.functions c.shape c.layer
+
+pub returns-clause-mismatch : goal.returns-clause-mismatch
+returns-clause-mismatch g x = λ row_eq digest_eq c. ok_or_mismatch row_eq digest_eq c.functions c.shape c.layer

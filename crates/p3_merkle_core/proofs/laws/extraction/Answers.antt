@@ -7,6 +7,10 @@ use Rattle.p3_merkle_core.proofs.Collisions.Extraction.{collides}
 use Rattle.p3_merkle_core.proofs.Collisions.ExtractionFacts.{all_authenticated, answer_is_extraction, pruned_presented}
 use Rattle.p3_merkle_core.proofs.Collisions.ExtractionFacts.{single_presented}
 use Rattle.p3_merkle_core.proofs.Checks.PlaceFacts.{at_one_place}
+use Rattle.p3_merkle_core.proofs.Checks.AuthenticatedFacts.{authenticated_bound}
+use Rattle.p3_merkle_core.proofs.Collisions.ExtractionFacts.{alike_at_one_index}
+use Rattle.p3_merkle_core.proofs.Checks.InputFacts.{inputs_full}
+use Rattle.p3_merkle_core.proofs.Checks.CheckFacts.{last_is, walk_reaches}
 use Rattle.p3_merkle_core.proofs.laws.extraction.Goals as goal
 
 pub returns-clause-collision : goal.returns-clause-collision
@@ -33,3 +37,15 @@ returns-clause-pruned g x = λ row_eq digest_eq f s rule cap_height cap p r dec 
     answer_is_extraction row_eq digest_eq rule c cap (presented_pruned row_eq digest_eq c cap p)
     (presented_pruned row_eq digest_eq c cap r) dec dec_w w (all_authenticated s rule cap_height w)
     (pruned_presented row_eq digest_eq c cap p dec dec_w w) (pruned_presented row_eq digest_eq c cap r dec dec_w w)
+
+pub returns-clause-rows : goal.returns-clause-rows
+returns-clause-rows g x = λ c. authenticated_bound c.functions c.shape c.layer
+
+pub returns-clause-one_index : goal.returns-clause-one_index
+returns-clause-one_index g x = alike_at_one_index
+
+pub returns-clause-full : goal.returns-clause-full
+returns-clause-full g x = λ c cap o w a. inputs_full c.functions c.shape c.layer o w a.count
+
+pub returns-clause-last : goal.returns-clause-last
+returns-clause-last g x = λ c o. (walk_reaches c.functions c.shape c.layer o, last_is c.functions c.shape c.layer o)

@@ -4,8 +4,9 @@ use Rattle.p3_merkle_core.specs.Caps.{cap_layer}
 use Rattle.p3_merkle_core.specs.Geometry.{heights, levels, step}
 use Rattle.p3_merkle_core.proofs.Shapes.LadderFacts.{exponent_at_levels, levels_le, layer_of_is, row_below, row_is_anc}
 use Rattle.p3_merkle_core.proofs.Shapes.RootFacts.{root_alone, last_step}
-use Rattle.p3_merkle_core.proofs.laws.shape.Goals as goal
 use Rattle.p3_merkle_core.proofs.Shapes.GateFacts.{gate_lawful}
+use Rattle.p3_merkle_core.proofs.Shapes.ArityFacts.{arity_from, is_arity_from}
+use Rattle.p3_merkle_core.proofs.laws.shape.Goals as goal
 
 pub returns-clause-ends : goal.returns-clause-ends
 returns-clause-ends c = λ s w. (exponent_at_levels s w, length-map-range_with_len (step s) 0 (levels s), levels_le s)
@@ -28,3 +29,6 @@ returns-clause-schedule c = λ s rule cap_height.
 
 pub returns-clause-gate : goal.returns-clause-gate
 returns-clause-gate c = gate_lawful
+
+pub returns-clause-arities : goal.returns-clause-arities
+returns-clause-arities c = λ n. (arity_from n, is_arity_from n)

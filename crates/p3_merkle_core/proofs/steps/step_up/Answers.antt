@@ -1,33 +1,75 @@
 -- No exponent of a matrix lies between where a step starts and where it leads.
-use Rattle.std.proofs.Common.{arith, ◌-◌, ◌∙◌, sym, inl, inr}
-use Rattle.std.proofs.lemmas.Bool.{cases_Bool}
-use Rattle.p3_merkle_core.specs.Geometry.{exponent}
+use Rattle.std.proofs.Common.{◌≡◌, ◌-◌, ◌+◌, ◌∙◌, ap, arith, cond, nat_lt, sym}
+use Rattle.std.proofs.lemmas.Bool.{eq-eqb, le-ltb, lt-ltb, ne_eqb}
 use Rattle.p3_support.specs.Batches.{heights_of}
-use Rattle.p3_merkle_core.proofs.Shapes.RungFacts.{next_low, none_skipped}
-use Rattle.p3_merkle_core.proofs.Shapes.StepFacts.{whole_step_falls}
+use Rattle.p3_merkle_core.specs.Geometry.{exponent}
+use Rattle.p3_merkle_core.proofs.Shapes.ExponentFacts.{next_had, next_not_had, next_stays, step_found}
+use Rattle.p3_merkle_core.proofs.steps.step_up.Goals.{then-is_bridge, else-is_bridge}
 use Rattle.p3_merkle_core.proofs.steps.step_up.Goals as goal
 
-pub rung_above-has_rows-requires-clause-down : goal.rung_above-has_rows-requires-clause-down
-rung_above-has_rows-requires-clause-down c =
-    let to = c.step_from-exponent.ensures.next in
-    let whole = whole_step_falls c.args.arity c.requires.arity in
-    elim (cases_Bool c.is_bridge_from-is_bridge.result) [
-      | inl bridging ↦ let one = rw bridging at to in omega (arith, one)
-      | inr none ↦ let less = rw none at to in omega (arith, less, whole)
-    ]
-
-pub rung_above-has_rows-requires-clause-between : goal.rung_above-has_rows-requires-clause-between
-rung_above-has_rows-requires-clause-between c =
+pub overflow_add-has_rows : goal.overflow_add-has_rows
+overflow_add-has_rows c =
     let hs = heights_of c.args.dimensions.now in
-    let x = c.args.rung.exponent in
-    let next = c.args.rung.next in
-    let bridge = c.is_bridge_from-is_bridge in
-    let to = c.step_from-exponent.ensures.next in
-    elim (cases_Bool bridge.result) [
-      | inl bridging ↦ let one = rw bridging at to in omega (arith, one, c.requires.rung.next_is, next_low x hs)
-      | inr none ↦
-          let whole = rw none at to in
-          let low = none_skipped (x - exponent c.args.arity) x next hs c.requires.rung.next_is
-          (sym (bridge.ensures hs c.requires.rung) ∙ none) in
-          omega (arith, whole, low)
-    ]
+    let x = c.args.exponents.layer in
+    let y = c.if-is_bridge.layer in
+    let r = c.saturating_sub-is_bridge.result in
+    let target = c.saturating_sub-target.result in
+    let b = nat_lt 1 r in
+    let is_y : y ≡ cond b (x - 1) target = elim c.if-is_bridge.branch [
+      | then-is_bridge w ↦ w.layer-is ∙ ap (λ b. cond b (x - 1) target) (sym (lt-ltb 1 r w.if-is_bridge.true))
+      | else-is_bridge w ↦ w.layer-is ∙ ap (λ b. cond b (x - 1) target) (sym (le-ltb 1 r w.if-is_bridge.false))
+    ] in
+    let up = step_found c.args.arity x c.exponent_of.result target c.args.exponents.next y r hs c.requires.arity c.requires.below c.exponent_of.ensures
+    c.saturating_sub-target.ensures c.requires.next.next_is c.saturating_sub-is_bridge.ensures is_y in
+    omega (arith, up.down)
+
+pub returns-then-has_rows : goal.returns-then-has_rows
+returns-then-has_rows c =
+    let hs = heights_of c.args.dimensions.now in
+    let x = c.args.exponents.layer in
+    let y = c.if-is_bridge.layer in
+    let r = c.saturating_sub-is_bridge.result in
+    let target = c.saturating_sub-target.result in
+    let b = nat_lt 1 r in
+    let is_y : y ≡ cond b (x - 1) target = elim c.if-is_bridge.branch [
+      | then-is_bridge w ↦ w.layer-is ∙ ap (λ b. cond b (x - 1) target) (sym (lt-ltb 1 r w.if-is_bridge.true))
+      | else-is_bridge w ↦ w.layer-is ∙ ap (λ b. cond b (x - 1) target) (sym (le-ltb 1 r w.if-is_bridge.false))
+    ] in
+    let up = step_found c.args.arity x c.exponent_of.result target c.args.exponents.next y r hs c.requires.arity c.requires.below c.exponent_of.ensures
+    c.saturating_sub-target.ensures c.requires.next.next_is c.saturating_sub-is_bridge.ensures is_y in
+    let above = c.exponents_at-above.ensures in
+    let next = c.if-has_rows.true in
+    record {
+      bridge = up.bridge;
+      layer = above.layer ∙ up.layer ∙ ap (λ b. cond b (x - 1) (x - exponent c.args.arity)) up.bridge;
+      rows = eq-eqb c.args.exponents.next (y + 1) next
+          ∙ sym (next_had x c.exponents_at-above.result.layer hs (omega (arith, above.layer, up.down))
+          (omega (arith, above.layer, next, c.requires.next.next_is)));
+      next = above.next;
+    }
+
+pub returns-else-has_rows : goal.returns-else-has_rows
+returns-else-has_rows c =
+    let hs = heights_of c.args.dimensions.now in
+    let x = c.args.exponents.layer in
+    let y = c.if-is_bridge.layer in
+    let r = c.saturating_sub-is_bridge.result in
+    let target = c.saturating_sub-target.result in
+    let b = nat_lt 1 r in
+    let is_y : y ≡ cond b (x - 1) target = elim c.if-is_bridge.branch [
+      | then-is_bridge w ↦ w.layer-is ∙ ap (λ b. cond b (x - 1) target) (sym (lt-ltb 1 r w.if-is_bridge.true))
+      | else-is_bridge w ↦ w.layer-is ∙ ap (λ b. cond b (x - 1) target) (sym (le-ltb 1 r w.if-is_bridge.false))
+    ] in
+    let up = step_found c.args.arity x c.exponent_of.result target c.args.exponents.next y r hs c.requires.arity c.requires.below c.exponent_of.ensures
+    c.saturating_sub-target.ensures c.requires.next.next_is c.saturating_sub-is_bridge.ensures is_y in
+    let other = c.if-has_rows.false in
+    record {
+      bridge = up.bridge;
+      layer = up.layer ∙ ap (λ b. cond b (x - 1) (x - exponent c.args.arity)) up.bridge;
+      rows = ne_eqb c.args.exponents.next (y + 1) other
+          ∙ sym (next_not_had x y hs up.down (omega (arith, up.between, other, c.requires.next.next_is)));
+      next = record {
+        next_is = c.requires.next.next_is
+            ∙ sym (next_stays x y hs (omega (arith, up.down)) (omega (arith, up.between, other, c.requires.next.next_is)));
+      };
+    }

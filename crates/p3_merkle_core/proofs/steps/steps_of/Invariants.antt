@@ -2,18 +2,18 @@ use Rattle.std.proofs.Common.{◌≡◌, length, map, take}
 use Rattle.std.specs.List.{range_with_len}
 use Rattle.p3_merkle_core.specs.Geometry.{shape_of}
 use Rattle.p3_support.specs.Batches.{heights_of}
-use Rattle.p3_merkle_core.specs.Inner.Rungs.{IsRung}
+use Rattle.p3_merkle_core.specs.Inner.Exponents.{AreExponents}
 use Rattle.p3_merkle_core.specs.Inner.Steps.{level_step}
 use Rattle.p3_merkle_core.proofs.Shapes.StepFacts.{IsAt}
 use Rattle.p3_merkle_core.proofs.steps.steps_of.Given as goal
 
 -- the walk is at a layer, and the steps below it are kept
-abbrev pub invariant-loop-rung : goal.invariant-loop-rung
-invariant-loop-rung l =
-    IsAt (shape_of l.arity l.dimensions) l.num_levels l.rung.exponent × IsRung (heights_of l.dimensions) l.rung ×
+abbrev pub invariant-loop-exponents : goal.invariant-loop-exponents
+invariant-loop-exponents l =
+    IsAt (shape_of l.arity l.dimensions) l.num_levels l.exponents.layer × AreExponents (heights_of l.dimensions) l.exponents ×
     (length l.of_level ≡ 64) ×
     (take l.num_levels l.of_level
     ≡ map (level_step (shape_of l.arity l.dimensions)) (range_with_len 0 l.num_levels))
 
-abbrev pub decreases-loop-rung : goal.decreases-loop-rung
-decreases-loop-rung l = l.rung.exponent
+abbrev pub decreases-loop-exponents : goal.decreases-loop-exponents
+decreases-loop-exponents l = l.exponents.layer

@@ -1,5 +1,5 @@
 -- Each turn joins a pair, and where either slice is at its end, all pairs are joined.
-use Rattle.std.proofs.Common.{◌≡◌, ◌++◌, ap}
+use Rattle.std.proofs.Common.{◌≡◌, ◌++◌, ap, rules}
 use Rattle.std.specs.Iterator.Adapters.{zip_first, zip_second}
 use Rattle.std.specs.Slice.Iter.{iter_rest}
 use Rattle.std.proofs.lemmas.Slice.Zip.{Zip-more, either_empty_from_Zip}
@@ -15,10 +15,10 @@ loop-row-preserved g c =
     let row = c.in-Some.row in
     let salt = c.in-Some.salt in
     let turn = Zip-more it new c.next.result (row, salt) c.in-Some.is c.next.ensures.steps in
-    let made : c.in_ok-joined_row.field-0.items ≡ row.now.items ++ salt.now.items =
-    rw (c.deref.ensures.value, c.deref-in-loop-row.ensures.value) at c.in_ok-joined_row.ensures in
+    let front : c.extend_from_slice.new.self.items ≡ row.now.items = search rules in
+    let made : c.extend_from_slice-in-loop-row.new.self.items ≡ row.now.items ++ salt.now.items = search rules in
     joined_more (λ (row, salt). row ++ salt) (λ row. row.items) c.loop-row.joined.items c.push.new.self.items
-    c.in_ok-joined_row.field-0 row.now.items salt.now.items
+    c.extend_from_slice-in-loop-row.new.self row.now.items salt.now.items
     (row_lists (iter_rest (zip_first new))) (row_lists (iter_rest (zip_first it)))
     (row_lists (iter_rest (zip_second new))) (row_lists (iter_rest (zip_second it)))
     (salted_rows (row_lists c.args.rows.now) (row_lists c.args.salts.now)) (ap row_lists turn.0) (ap row_lists turn.1)

@@ -10,7 +10,7 @@ loop-matrix-preserved c =
     c.args.dimensions.now c.loop-matrix.matrix-index _ c.loop-matrix.wider.items c.push.new.self.items
     c.loop-matrix-test.true c.in_ok-push.ensures.items c.loop-matrix.invariant
 
-pub returns : goal.returns
-returns c = made_all (λ (d : Dimensions). record { width = d.width + c.args.salt_elems; height = d.height })
+pub returns-clause-wider : goal.returns-clause-wider
+returns-clause-wider c = made_all (λ (d : Dimensions). record { width = d.width + c.args.salt_elems; height = d.height })
     c.args.dimensions.now c.loop-matrix.matrix-index c.loop-matrix.wider.items c.loop-matrix-test.false
     c.loop-matrix.invariant

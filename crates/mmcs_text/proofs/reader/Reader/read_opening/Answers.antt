@@ -44,6 +44,6 @@ returns-in_err-take_line-clause-fault g c =
     (⊎_elim (λ memory. inl memory)
     (λ fault. inr (walk_fault hash c.args.dimensions.now (pair_by hash c.args.dimensions.now) r
     (pair_goes_on hash c.args.dimensions.now r (sym c.is_whole.ensures ∙ part)) _ c.loop-alloc.lines.read
-    c.number.result c.in-Some.text.now (lines_left c.loop-alloc.lines) (lines_left c.next_line.new.self)
-    c.loop-alloc.invariant.read c.in-Some.ensures.line.0 (c.number.ensures ∙ c.in-Some.ensures.line.1) fault.0
+    c.next_line.new.self.read c.in-Some.text.now (lines_left c.loop-alloc.lines) (lines_left c.next_line.new.self)
+    c.loop-alloc.invariant.read c.in-Some.ensures.line.0 c.in-Some.ensures.line.1 fault.0
     ∙ ap (λ (f : Fault). Err f) (sym fault.1))) c.in_err-take_line.ensures.fault)

@@ -29,9 +29,9 @@ returns-in_err-take_line-clause-fault g c =
     rw (left.1, left.2)
     (⊎_elim (λ memory. inl memory)
     (λ fault. inr (walk_fault hash c.args.dimensions.now (shown_by hash c.args.dimensions.now) r
-    (shown_goes_on hash c.args.dimensions.now r) _ c.loop-text.lines.read c.number.result c.in-Some.text.now
+    (shown_goes_on hash c.args.dimensions.now r) _ c.loop-text.lines.read c.next_line.new.self.read c.in-Some.text.now
     (lines_left c.loop-text.lines) (lines_left c.next_line.new.self) c.loop-text.invariant.shown
-    c.in-Some.ensures.line.0 (c.number.ensures ∙ c.in-Some.ensures.line.1) fault.0
+    c.in-Some.ensures.line.0 c.in-Some.ensures.line.1 fault.0
     ∙ ap (λ (f : Fault). Err f) (sym fault.1))) c.in_err-take_line.ensures.fault)
 
 pub returns-then-is_whole-clause-shown : goal.returns-then-is_whole-clause-shown

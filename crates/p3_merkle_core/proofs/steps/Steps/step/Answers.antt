@@ -1,9 +1,19 @@
 -- Two, or the arity.
-use Rattle.std.proofs.Common.{ap, cond, sym, ◌∙◌}
+use Rattle.std.proofs.Common.{ap, cond, false, sym, ◌∙◌}
+use Rattle.p3_merkle_core.specs.Geometry.{shape_of}
+use Rattle.p3_merkle_core.proofs.Shapes.KeptSteps.{bridge_at}
 use Rattle.p3_merkle_core.proofs.steps.Steps.step.Goals as goal
 
-pub returns-then-is_bridge : goal.returns-then-is_bridge
-returns-then-is_bridge c = ap (λ b. cond b 2 c.args.self.now.arity) (sym c.if-is_bridge.true ∙ c.is_bridge.ensures)
+pub returns-then-self-level : goal.returns-then-self-level
+returns-then-self-level c =
+    let self = c.args.self.now in
+    ap (λ b. cond b 2 self.arity) (sym c.if-self-level.true
+    ∙ bridge_at (shape_of self.arity self.dimensions.now) self.of_level self.num_levels c.args.level
+    (record { is_bridge = false; has_rows = false }) self.kept c.requires)
 
-pub returns-else-is_bridge : goal.returns-else-is_bridge
-returns-else-is_bridge c = ap (λ b. cond b 2 c.args.self.now.arity) (sym c.if-is_bridge.false ∙ c.is_bridge.ensures)
+pub returns-else-self-level : goal.returns-else-self-level
+returns-else-self-level c =
+    let self = c.args.self.now in
+    ap (λ b. cond b 2 self.arity) (sym c.if-self-level.false
+    ∙ bridge_at (shape_of self.arity self.dimensions.now) self.of_level self.num_levels c.args.level
+    (record { is_bridge = false; has_rows = false }) self.kept c.requires)

@@ -34,7 +34,7 @@ returns-in_err-pairs g c =
       batch = nothing_made _ r err;
       committed = nothing_made _ r err;
       rest = nothing_drawn _ r err;
-      further = c.checked_pairs.ensures.further;
+      further = c.salted_pairs.ensures.further;
       untouched = search rules;
       scheme = refl;
     }

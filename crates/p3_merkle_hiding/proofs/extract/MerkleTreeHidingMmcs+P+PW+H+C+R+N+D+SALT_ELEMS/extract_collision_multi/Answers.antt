@@ -15,6 +15,7 @@ use Rattle.p3_support.specs.Shown.{roots_of, row_sets}
 use Rattle.p3_merkle_hiding.specs.HidingSchemes.{plain_of, salted_pruned_lent}
 use Rattle.p3_merkle_hiding.specs.SaltRefusals.{salted_pruned_refusal_under, salted_sets_refusal}
 use Rattle.p3_merkle_hiding.specs.SaltedOpenings.{joined_sets, salted_sets, widened}
+use Rattle.p3_merkle_hiding.proofs.CommitFacts.{nothing_made}
 use Rattle.p3_merkle_hiding.proofs.SaltedExtractionFacts.{salted_pruned_told}
 use Rattle.p3_merkle_hiding.proofs.ExtractedFacts.{extracted_salted_pruned, failed_salted_pruned, second_refused}
 use Rattle.p3_merkle_hiding.proofs.SaltedAnswers.{refusal_joined_sets, refused_before}
@@ -45,13 +46,12 @@ returns-in_err-salted1 g c =
     (salted_pruned_refusal_under eq same e ds wide cap u) err first in
     let extraction = failed_salted_pruned eq same (cap_rule_of plain) e ds wide cap g.met.P.PackedValue.eq_is_equality
     g.met.PW.PackedValue.eq_is_equality plain.arity all o u r err answer in
-    let told = salted_pruned_told eq same (cap_rule_of plain) e ds wide cap o u r extraction in
     record {
       extraction = extraction;
-      one_index = told.one_index;
-      two_ways = told.two_ways;
-      lowered_one_index = told.lowered_one_index;
-      lowered_two_ways = told.lowered_two_ways;
+      one_index = λ one. nothing_made _ r err;
+      two_ways = λ conflict. nothing_made _ r err;
+      lowered_one_index = λ lowered one. nothing_made _ r err;
+      lowered_two_ways = λ lowered conflict. nothing_made _ r err;
     }
 
 pub returns-in-Ok : goal.returns-in-Ok

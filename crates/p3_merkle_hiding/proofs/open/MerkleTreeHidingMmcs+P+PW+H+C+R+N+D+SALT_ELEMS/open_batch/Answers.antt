@@ -1,17 +1,16 @@
 -- Each row is taken apart where its left matrix ends; of an own tree the opening is accepted.
 use Rattle.std.proofs.Common.{◌∙◌, List, ap, map, subst, sym}
-use Rattle.std.proofs.lemmas.Result.{IfOk-weaker}
 use Rattle.p3_merkle_core.specs.Nodes.{dimensions_of}
 use Rattle.p3_merkle_core.specs.Commitments.{cap_over}
 use Rattle.p3_merkle_core.specs.Openings.{Opening, opening_of}
 use Rattle.p3_merkle_core.specs.Checks.{IsAccepted}
 use Rattle.p3_merkle_prover.specs.Parts.{matrices_of, tree_batch}
 use Rattle.p3_merkle_mmcs.specs.Schemes.{params_of}
-use Rattle.p3_support.specs.Pairs.{left_of}
+use Rattle.p3_support.specs.Shown.{row_lists}
 use Rattle.p3_merkle_hiding.proofs.SplitFacts.{left_is, right_is, salted_from}
 use Rattle.p3_merkle_hiding.specs.HidingSchemes.{plain_of}
 use Rattle.p3_merkle_hiding.specs.SaltedOpenings.{IsSaltedAccepted, SaltedOpening, salted_of}
-use Rattle.p3_merkle_hiding.specs.Inner.SaltedParts.{salt_parts, unsalted_parts, pair_matrix}
+use Rattle.p3_merkle_hiding.specs.Inner.SaltedParts.{left_widths, salt_parts, unsalted_parts, pair_matrix}
 use Rattle.p3_merkle_hiding.specs.SaltedOpenings.{widened}
 use Rattle.p3_merkle_hiding.specs.SaltedTrees.{unsalted_dimensions}
 use Rattle.p3_merkle_hiding.proofs.open.MerkleTreeHidingMmcs+P+PW+H+C+R+N+D+SALT_ELEMS.open_batch.Goals as goal
@@ -19,28 +18,27 @@ use Rattle.p3_merkle_hiding.proofs.open.MerkleTreeHidingMmcs+P+PW+H+C+R+N+D+SALT
 pub returns-clause-rows : goal.returns-clause-rows
 returns-clause-rows g c =
     let tree = c.args.tree.now in
-    let widths = map (λ p. g.M.Matrix.width_of (left_of p)) (matrices_of tree) in
-    let joined = ap (λ (z : Opening _ _). z.rows) c.in_ok-opening.ensures.opened in
-    IfOk-weaker c.split_opening.result _ _
-    (λ o are. are.0 ∙ ap (unsalted_parts widths) joined
-    ∙ left_is g.row.N (matrices_of tree) g.met.M.Matrix.length_row_of tree.lawful c.args.index c.requires)
-    c.split_opening.ensures.parts
+    let pairs = ap (map (λ p. p.now)) c.deref.ensures.value ∙ c.in_ok-pairs.ensures.matrices in
+    let joined = ap row_lists (c.deref-2.ensures.value ∙ ap (λ v. v.items) c.unpack-joined.ensures.values)
+    ∙ ap (λ (z : Opening _ _). z.rows) c.in_ok-opening.ensures.opened in
+    ap (λ v. row_lists v.items) c.new.ensures.values ∙ c.in_ok-rows.ensures.rows
+    ∙ (λ i. unsalted_parts (left_widths (pairs i)) (joined i))
+    ∙ left_is g.row.N (matrices_of tree) g.met.M.Matrix.length_row_of tree.lawful c.args.index c.requires
 
 pub returns-clause-salts : goal.returns-clause-salts
 returns-clause-salts g c =
     let tree = c.args.tree.now in
-    let widths = map (λ p. g.M.Matrix.width_of (left_of p)) (matrices_of tree) in
-    let joined = ap (λ (z : Opening _ _). z.rows) c.in_ok-opening.ensures.opened in
-    IfOk-weaker c.split_opening.result _ _
-    (λ o are. are.1 ∙ ap (salt_parts widths) joined
-    ∙ right_is g.row.N (matrices_of tree) g.met.M.Matrix.length_row_of tree.lawful c.args.index c.requires)
-    c.split_opening.ensures.parts
+    let pairs = ap (map (λ p. p.now)) c.deref.ensures.value ∙ c.in_ok-pairs.ensures.matrices in
+    let joined = ap row_lists (c.deref-2.ensures.value ∙ ap (λ v. v.items) c.unpack-joined.ensures.values)
+    ∙ ap (λ (z : Opening _ _). z.rows) c.in_ok-opening.ensures.opened in
+    ap (λ z. row_lists z.0.items) c.new.ensures.proof ∙ c.in_ok-rows.ensures.salts
+    ∙ (λ i. salt_parts (left_widths (pairs i)) (joined i))
+    ∙ right_is g.row.N (matrices_of tree) g.met.M.Matrix.length_row_of tree.lawful c.args.index c.requires
 
 pub returns-clause-siblings : goal.returns-clause-siblings
 returns-clause-siblings g c =
-    IfOk-weaker c.split_opening.result _ _
-    (λ o are. ap (λ v. v.items) are.2 ∙ ap (λ (z : Opening _ _). z.siblings) c.in_ok-opening.ensures.opened)
-    c.split_opening.ensures.parts
+    ap (λ z. z.1.items) c.new.ensures.proof ∙ ap (λ v. v.items) c.unpack-joined.ensures.proof
+    ∙ ap (λ (z : Opening _ _). z.siblings) c.in_ok-opening.ensures.opened
 
 pub returns-clause-accepted : goal.returns-clause-accepted
 returns-clause-accepted g c = λ own salted.
@@ -60,12 +58,6 @@ returns-clause-accepted g c = λ own salted.
     joined (c.in_ok-opening.ensures.accepted own) in
     let made = salted_from n (matrices_of tree) g.met.M.Matrix.length_row_of tree.lawful params (λ k. cap_over k b) e
     c.args.index siblings c.requires salted accepted in
-    let widths = map (λ p. g.M.Matrix.width_of (left_of p)) (matrices_of tree) in
-    let left = ap (unsalted_parts widths) joined
-    ∙ left_is n (matrices_of tree) g.met.M.Matrix.length_row_of tree.lawful c.args.index c.requires in
-    let right = ap (salt_parts widths) joined
-    ∙ right_is n (matrices_of tree) g.met.M.Matrix.length_row_of tree.lawful c.args.index c.requires in
-    IfOk-weaker c.split_opening.result _ _
-    (λ o are. subst (λ (o : SaltedOpening _ _). IsSaltedAccepted e ds wide (cap_over wide b) o)
-    (λ i. salted_of c.args.index (sym (are.0 ∙ left) i) (sym (are.1 ∙ right) i) (sym (ap (λ v. v.items) are.2) i)) made)
-    c.split_opening.ensures.parts
+    let kept = ap (λ z. z.1.items) c.new.ensures.proof ∙ ap (λ v. v.items) c.unpack-joined.ensures.proof in
+    subst (λ (o : SaltedOpening _ _). IsSaltedAccepted e ds wide (cap_over wide b) o)
+    (λ i. salted_of c.args.index (sym (returns-clause-rows g c) i) (sym (returns-clause-salts g c) i) (sym kept i)) made

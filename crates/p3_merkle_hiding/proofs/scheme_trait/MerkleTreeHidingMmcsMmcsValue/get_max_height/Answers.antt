@@ -5,4 +5,4 @@ use Rattle.p3_merkle_hiding.specs.Inner.SaltedCommitmentLaws.{left_greatest}
 use Rattle.p3_merkle_hiding.proofs.scheme_trait.MerkleTreeHidingMmcsMmcsValue.get_max_height.Goals as goal
 
 pub returns : goal.returns
-returns g c = c.get_max_height.ensures ∙ sym (left_greatest g.row.N (matrices_of c.args.prover_data.now))
+returns g c = c.get_max_height.ensures ∙ sym (left_greatest (matrices_of c.args.prover_data.now))

@@ -1,9 +1,0 @@
-use Rattle.std.proofs.Common.{◌≡◌, max, drop}
-use Rattle.p3_support.specs.Batches.{heights_of}
-use Rattle.p3_merkle_core.specs.Inner.Rungs.{next_below}
-use Rattle.p3_merkle_core.proofs.steps.rung_at.Given as goal
-
--- the greatest so far and the rest's is the greatest of all
-abbrev pub invariant-loop-matrix : goal.invariant-loop-matrix
-invariant-loop-matrix l = max l.next (next_below l.exponent (heights_of (drop l.matrix-index l.dimensions)))
-    ≡ next_below l.exponent (heights_of l.dimensions)

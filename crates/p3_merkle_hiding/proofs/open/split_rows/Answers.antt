@@ -1,0 +1,34 @@
+-- Where either slice is at its end, all rows are taken apart.
+use Rattle.std.proofs.Common.{take, drop, map}
+use Rattle.std.specs.Iterator.Adapters.{zip_first, zip_second}
+use Rattle.std.specs.Slice.Iter.{iter_rest}
+use Rattle.std.proofs.lemmas.Slice.Zip.{either_empty_from_Zip}
+use Rattle.p3_support.specs.Pairs.{left_of}
+use Rattle.p3_support.specs.Shown.{row_lists}
+use Rattle.p3_merkle_hiding.specs.Inner.SaltedParts.{left_widths, salt_parts, unsalted_parts}
+use Rattle.p3_merkle_hiding.proofs.SaltFacts.{joined_end, second_end, shown_end}
+use Rattle.p3_merkle_hiding.proofs.open.split_rows.Goals as goal
+
+pub returns-clause-rows : goal.returns-clause-rows
+returns-clause-rows g c =
+    let it = c.loop-row.row-iterator in
+    let rows = row_lists (iter_rest (zip_first it)) in
+    let pairs = map (λ p. p.now) (iter_rest (zip_second it)) in
+    let end = second_end (λ p. g.A.Matrix.width_of (left_of p)) rows pairs
+    (shown_end (λ row. row.items) (λ p. p.now) (iter_rest (zip_first it)) (iter_rest (zip_second it))
+    (either_empty_from_Zip it c.next.new.self c.next.result c.in-None.is c.next.ensures.steps)) in
+    joined_end (λ (row, w). take w row) (row_lists c.loop-row.unsalted.items) rows (left_widths pairs)
+    (unsalted_parts (left_widths (map (λ p. p.now) c.args.pairs.now)) (row_lists c.args.rows.now)) end
+    c.loop-row.invariant.rows_so_far
+
+pub returns-clause-salts : goal.returns-clause-salts
+returns-clause-salts g c =
+    let it = c.loop-row.row-iterator in
+    let rows = row_lists (iter_rest (zip_first it)) in
+    let pairs = map (λ p. p.now) (iter_rest (zip_second it)) in
+    let end = second_end (λ p. g.A.Matrix.width_of (left_of p)) rows pairs
+    (shown_end (λ row. row.items) (λ p. p.now) (iter_rest (zip_first it)) (iter_rest (zip_second it))
+    (either_empty_from_Zip it c.next.new.self c.next.result c.in-None.is c.next.ensures.steps)) in
+    joined_end (λ (row, w). drop w row) (row_lists c.loop-row.salts.items) rows (left_widths pairs)
+    (salt_parts (left_widths (map (λ p. p.now) c.args.pairs.now)) (row_lists c.args.rows.now)) end
+    c.loop-row.invariant.salts_so_far

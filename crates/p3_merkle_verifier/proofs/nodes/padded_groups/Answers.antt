@@ -1,0 +1,19 @@
+-- Each turn pads one more group.
+use Rattle.std.proofs.Common.{◌≡◌, ◌∙◌, ◌+◌, ◌-◌, ◌/◌, ap, arith, length}
+use Rattle.std.proofs.lemmas.List.FromFn.{length-map-range_with_len}
+use Rattle.p3_merkle_verifier.specs.Inner.NodeDigests.{child_group}
+use Rattle.p3_merkle_verifier.proofs.GroupFacts.{one_more}
+use Rattle.p3_merkle_verifier.proofs.nodes.padded_groups.Goals as goal
+
+pub loop-parent-preserved : goal.loop-parent-preserved
+loop-parent-preserved g c = ?
+
+pub returns : goal.returns
+returns g c =
+    let group = child_group g.row.N c.args.default_digest c.args.step c.args.children.now in
+    let here : c.loop-parent.parent ≡ length c.args.children.now / c.args.step = omega arith in
+    let groups = rw here at c.loop-parent.invariant in
+    record {
+      count = ap length groups ∙ length-map-range_with_len group 0 (length c.args.children.now / c.args.step);
+      groups = groups;
+    }
