@@ -35,7 +35,7 @@ fn add_parents(above: &mut Vec<usize>, known: &[usize], step: usize) -> Result<(
     requires { 0 < step }
 {
     for node in known {
-        let first = node - node % step;
+        let first = *node - *node % step;
         if (first..first.saturating_add(step)).all(|child| known.contains(&child)) {
             above.push(*node / step)?;
         }
