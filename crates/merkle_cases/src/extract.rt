@@ -48,26 +48,6 @@ fn write_collision(collision: &FoldCollision, answer: &mut Answer) {
     }
 }
 
-/// Writes what two openings lead to.
-fn write_found(found: &Option<FoldCollision>, answer: &mut Answer) {
-    match found {
-        Some(collision) => write_collision(collision, answer),
-        None => answer.push("none"),
-    }
-}
-
-/// Writes what two openings of several leaves lead to.
-fn write_found_pair(found: &Option<(usize, usize, FoldCollision)>, answer: &mut Answer) {
-    match found {
-        Some((first, second, collision)) => {
-            answer.numbers(&[*first, *second]);
-            answer.push(" | ");
-            write_collision(collision, answer);
-        }
-        None => answer.push("none"),
-    }
-}
-
 /// `extract | ARITY | CAP | ROOTS | DIMENSIONS | INDEX | ROWS | SIBLINGS | INDEX | ROWS | SIBLINGS | ANSWER`: what two
 /// openings lead to, which is `none`, or a place with the input of the first and that of the second. With salts there
 /// are `SALTS A ROW` before the roots, and the salts of the rows before the siblings.
@@ -83,7 +63,10 @@ pub fn extract<S: Tried>(case: &mut Case<'_>, scheme: &S) -> Result<(), Fault> {
         BatchOpeningRef::from(&first.opening),
         BatchOpeningRef::from(&second.opening),
     )?;
-    write_found(&found, &mut case.answer);
+    match &found {
+        Some(collision) => write_collision(collision, &mut case.answer),
+        None => case.answer.push("none"),
+    }
     Ok(())
 }
 
@@ -108,6 +91,13 @@ pub fn extract_pruned<S: Tried>(case: &mut Case<'_>, scheme: &S) -> Result<(), F
     let first = leaves_in::<S>(&mut case.fields);
     let second = leaves_in::<S>(&mut case.fields);
     let found = collision_of_leaves(case.alloc, scheme, &statement, &first, &second)?;
-    write_found_pair(&found, &mut case.answer);
+    match &found {
+        Some((first, second, collision)) => {
+            case.answer.numbers(&[*first, *second]);
+            case.answer.push(" | ");
+            write_collision(collision, &mut case.answer);
+        }
+        None => case.answer.push("none"),
+    }
     Ok(())
 }

@@ -1,16 +1,13 @@
 //! Heights: what each call answers to them, and the shapes of trees over them.
 
-ghost use Rattle.std.specs.Prelude.{◌<◌, ◌≤◌, length, IsTrue};
+ghost use Rattle.std.specs.Prelude.{◌≤◌, IsTrue};
 ghost use Rattle.p3_merkle_core.specs.Geometry.{is_arity};
-ghost use Rattle.p3_merkle_tree.specs.Parts.{layers_of};
 
 use crate::case::Case;
 use crate::fields::Fault;
 use crate::reader::Reader;
 use crate::replay::write_steps;
-use crate::scheme::{
-    FoldOpening, FoldTree, ROOT, Rows, commit_to, fold_scheme, fold_tree, tall_matrices,
-};
+use crate::scheme::{FoldOpening, FoldTree, ROOT, Rows, fold_scheme, fold_tree, tall_matrices};
 use crate::text::Answer;
 use p3_merkle_core::steps::steps_of;
 use p3_merkle_tree::{BatchOpening, BatchOpeningRef, MerkleCap, MerkleTreeError};
@@ -58,19 +55,6 @@ fn checked(
     fold_scheme::<2>(ROOT).verify_batch(&cap, dimensions, 0, BatchOpeningRef::from(&opening))
 }
 
-/// Whether all these answers are this one.
-fn are_all(
-    answers: &[Result<(), MerkleTreeError>],
-    expected: &Result<(), MerkleTreeError>,
-) -> bool {
-    for answer in answers {
-        if *answer != *expected {
-            return false;
-        }
-    }
-    true
-}
-
 /// `heights | HEIGHTS | ERROR`: what each call that takes heights answers, where all answer alike, and else all their
 /// answers: of the test of heights, the commit, the tree, the schedule and the check of an opening.
 pub fn heights(case: &mut Case<'_>) -> Result<(), Fault> {
@@ -84,10 +68,13 @@ pub fn heights(case: &mut Case<'_>) -> Result<(), Fault> {
         scheduled(case.alloc, &dimensions),
         checked(reader, &heights, &dimensions),
     ];
-    if are_all(&answers, &answers[0]) {
+    if answers.iter().all(|answer| *answer == answers[0]) {
         case.answer.verdict(&answers[0]);
     } else {
-        case.answer.verdicts(&answers);
+        for (place, answer) in answers.iter().enumerate() {
+            case.answer.separate(place, " | ");
+            case.answer.verdict(answer);
+        }
     }
     Ok(())
 }
@@ -105,24 +92,7 @@ fn padding_of(layer: &[[u32; 1]]) -> usize {
     padding
 }
 
-/// Writes how many of the slots of a layer, so many levels below the root, are nodes.
-fn write_len<const N: usize>(
-    alloc: Global,
-    tree: &FoldTree<Rows, N>,
-    below: usize,
-    answer: &mut Answer,
-) -> Result<(), MerkleTreeError>
-    requires { below < length (layers_of tree.now) }
-{
-    let layer = tree.cap(alloc, below)?;
-    let slots = layer.num_roots();
-    answer.number(slots.saturating_sub(padding_of(layer.roots())));
-    answer.push("/");
-    answer.number(slots);
-    Ok(())
-}
-
-/// Writes the same of each layer, leaves first.
+/// Writes how many of the slots of each layer are nodes, leaves first.
 fn write_lens<const N: usize>(
     alloc: Global,
     tree: &FoldTree<Rows, N>,
@@ -130,8 +100,12 @@ fn write_lens<const N: usize>(
 ) -> Result<(), MerkleTreeError> {
     answer.push(" |");
     for below in (0..tree.num_layers()).rev() {
+        let layer = tree.cap(alloc, below)?;
+        let slots = layer.num_roots();
         answer.push(" ");
-        write_len(alloc, tree, below, answer)?;
+        answer.number(slots.saturating_sub(padding_of(layer.roots())));
+        answer.push("/");
+        answer.number(slots);
     }
     Ok(())
 }
@@ -146,7 +120,7 @@ pub fn shape<const N: usize>(case: &mut Case<'_>) -> Result<(), Fault>
     let dimensions = case.fields.columns();
     let matrices = case.fields.reader.numbered(&dimensions);
     write_steps(case.alloc, &scheme, &dimensions, &mut case.answer)?;
-    let (_, tree) = commit_to(case.alloc, &scheme, matrices)?;
+    let (_, tree) = scheme.commit(case.alloc, matrices)?;
     write_lens(case.alloc, &tree, &mut case.answer)?;
     Ok(())
 }

@@ -4,7 +4,6 @@ ghost use Rattle.std.specs.Prelude.{◌<◌};
 
 use crate::case::Case;
 use crate::fields::Fault;
-use crate::text::Answer;
 use p3_merkle_core::steps::steps_of;
 use std::alloc::{AllocError, Global};
 
@@ -31,25 +30,13 @@ fn given_in(
     Ok(numbers)
 }
 
-/// Whether all children of the parent of a node are known.
-fn is_group_known(known: &[usize], step: usize, node: usize) -> bool
-    requires { 0 < step }
-{
-    let first = node - node % step;
-    for place in 0..step {
-        if !known.contains(&first.saturating_add(place)) {
-            return false;
-        }
-    }
-    true
-}
-
-/// Adds to the known nodes of a layer the parents of the groups that are known below.
+/// Adds to the known nodes of a layer the parents of the groups that are known below: those whose nodes all are.
 fn add_parents(above: &mut Vec<usize>, known: &[usize], step: usize) -> Result<(), AllocError>
     requires { 0 < step }
 {
     for node in known {
-        if is_group_known(known, step, *node) {
+        let first = *node - *node % step;
+        if (first..first.saturating_add(step)).all(|child| known.contains(&child)) {
             above.push(*node / step)?;
         }
     }
@@ -87,21 +74,10 @@ pub fn known(case: &mut Case<'_>) -> Result<(), Fault> {
     };
     let steps = steps_of(&dimensions, arity);
     let steps = steps.schedule_below(case.alloc, steps.num_levels)?;
-    write_known(case.alloc, &steps, &indices, &nodes, &mut case.answer)?;
-    Ok(())
-}
-
-/// Writes whether the root is known without each of the nodes in turn, and then with all.
-fn write_known(
-    alloc: Global,
-    steps: &[usize],
-    indices: &[usize],
-    nodes: &Given,
-    answer: &mut Answer,
-) -> Result<(), AllocError> {
     for left_out in 0..=nodes.numbers.len() {
-        answer.separate(left_out, " ");
-        answer.yes_or_no(is_root_known(alloc, steps, indices, nodes, left_out)?);
+        let is_known = is_root_known(case.alloc, &steps, &indices, &nodes, left_out)?;
+        case.answer.separate(left_out, " ");
+        case.answer.yes_or_no(is_known);
     }
     Ok(())
 }

@@ -152,22 +152,16 @@ fn expected(case: &Case<'_>) -> Answer {
     expected
 }
 
-/// Writes the text of what is refused or wrong. Else why the case can't be read.
-fn write_fault(fault: &Fault, answer: &mut Answer) -> Result<(), &'static str> {
-    match fault {
-        Fault::Refused(error) => answer.error(error),
-        Fault::Wrong(way) => answer.push(way),
-        Fault::Unreadable(reason) => return Err(reason),
-    }
-    Ok(())
-}
-
 /// Answers a case: by an answer, or by the text of what is refused or wrong. Else why it can't be read.
 fn answer_or_refuse(case: &mut Case<'_>) -> Result<(), &'static str> {
     if let Err(fault) = answer(case) {
         // What has been written before a refusal is no part of it.
         case.answer = Answer::new(case.alloc);
-        write_fault(&fault, &mut case.answer)?;
+        match &fault {
+            Fault::Refused(error) => case.answer.error(error),
+            Fault::Wrong(way) => case.answer.push(way),
+            Fault::Unreadable(reason) => return Err(reason),
+        }
     }
     match case.fields.reader.fault() {
         Some(reason) => Err(reason),
@@ -200,11 +194,6 @@ fn wrong_answer(alloc: Global, pieces: &[&str]) -> Result<Option<Answer>, &'stat
     Ok(if is_right { None } else { Some(case.answer) })
 }
 
-/// Whether a line is a case, and no comment or blank.
-fn is_case(line: &str) -> bool {
-    !line.trim().is_empty() && !line.starts_with('#')
-}
-
 /// Checks a case, and prints its line where it is wrong or can't be read.
 fn is_right(rt: &HostRuntime, number: usize, line: &str) -> io::Result<bool> {
     let pieces: Vec<&str> = line.split('|').collect(rt.alloc())?;
@@ -224,10 +213,11 @@ fn check_all(rt: &HostRuntime) -> io::Result<(usize, usize)> {
     let (mut number, mut cases, mut wrong) = (0_usize, 0_usize, 0_usize);
     for line in rt.lines(rt.alloc()) {
         let line = line?;
+        let line = line.as_str();
         number = number.saturating_add(1);
-        if is_case(line.as_str()) {
+        if !line.trim().is_empty() && !line.starts_with('#') {
             cases = cases.saturating_add(1);
-            if !is_right(rt, number, line.as_str())? {
+            if !is_right(rt, number, line)? {
                 wrong = wrong.saturating_add(1);
             }
         }

@@ -1,14 +1,11 @@
 //! What is committed to and opened by a scheme, and that its openings are accepted.
 
 use crate::case::Case;
-use crate::committed::{Committed, accepted, accepted_leaves, commit_shown};
+use crate::committed::{accepted, accepted_leaves, commit_shown};
 use crate::fields::Fault;
-use crate::scheme::{FoldCap, Rows};
+use crate::scheme::FoldCap;
 use crate::text::Answer;
 use crate::tried::Tried;
-use p3_merkle_tree::MerkleTreeError;
-use p3_support::mmcs::Mmcs;
-use std::alloc::Global;
 
 /// `commit | ARITY | CAP | MATRICES | CAP`.
 pub fn commit<S: Tried>(case: &mut Case<'_>, scheme: &mut S) -> Result<(), Fault> {
@@ -55,26 +52,16 @@ pub fn pruned<S: Tried>(case: &mut Case<'_>, scheme: &mut S) -> Result<(), Fault
     Ok(())
 }
 
-/// How many leaves a tree has, where the opening of each is accepted.
-fn accepted_count<S: Mmcs<u32, Rows, Error = MerkleTreeError>>(
-    alloc: Global,
-    scheme: &S,
-    committed: &Committed<S::Commitment, S::ProverData>,
-) -> Result<usize, MerkleTreeError> {
-    let leaves = scheme.get_max_height(&committed.tree);
-    for index in 0..leaves {
-        accepted(alloc, scheme, committed, index)?;
-    }
-    Ok(leaves)
-}
-
 /// `leaves | ARITY | CAP | HEIGHTS | LEAVES accepted`: the opening of each leaf is accepted.
 pub fn leaves<S: Tried>(case: &mut Case<'_>, scheme: &mut S) -> Result<(), Fault> {
     let dimensions = case.fields.columns();
     let matrices = case.fields.reader.numbered(&dimensions);
     let committed = commit_shown(case.alloc, scheme, matrices)?;
-    case.answer
-        .number(accepted_count(case.alloc, &*scheme, &committed)?);
+    let count = scheme.get_max_height(&committed.tree);
+    for index in 0..count {
+        accepted(case.alloc, &*scheme, &committed, index)?;
+    }
+    case.answer.number(count);
     case.answer.push(" accepted");
     Ok(())
 }

@@ -5,7 +5,6 @@ use crate::scheme::FoldCap;
 use crate::tried::Tried;
 use p3_merkle_tree::{BatchOpening, MerkleCap};
 use p3_support::matrix::Dimensions;
-use std::alloc::Global;
 
 /// What an opening is checked against.
 #[derive(Drop)]
@@ -42,9 +41,6 @@ pub fn leaf_in<S: Tried>(fields: &mut Fields<'_>) -> LeafOpening<S::Proof> {
     }
 }
 
-/// How many queries an opening has at most whose queries are compared each with each.
-const LONG: usize = 64;
-
 /// The opening of several leaves: queries with the rows of each, and a proof for all of them.
 #[derive(Drop)]
 pub struct LeavesOpening<P> {
@@ -62,15 +58,6 @@ pub struct LentLeaves<'a, P> {
 }
 
 impl<P> LeavesOpening<P> {
-    /// The opening of no leaf by this proof.
-    pub fn none(alloc: Global, proof: P) -> LeavesOpening<P> {
-        LeavesOpening {
-            indices: Vec::new(alloc),
-            rows: Vec::new(alloc),
-            proof,
-        }
-    }
-
     /// The opening, lent.
     pub fn lent(&self) -> LentLeaves<'_, P> {
         LentLeaves {
@@ -78,11 +65,6 @@ impl<P> LeavesOpening<P> {
             rows: &self.rows,
             proof: &self.proof,
         }
-    }
-
-    /// Whether it has too many queries to compare each with each.
-    pub fn is_long(&self) -> bool {
-        self.indices.len() > LONG
     }
 }
 

@@ -76,18 +76,14 @@ impl Reader {
         }
     }
 
-    /// Adds the numbers from one up to another.
-    fn push_span(&mut self, numbers: &mut Vec<usize>, first: usize, end: usize) {
-        for number in first..end {
-            self.push(numbers, number);
-        }
-    }
-
     /// Adds the numbers that a word stands for.
     fn push_numbers(&mut self, numbers: &mut Vec<usize>, word: &str) {
         if let Some((first, end)) = word.split_once("..") {
             let (first, end) = (self.number(first), self.number(end));
-            return self.push_span(numbers, first, end);
+            for number in first..end {
+                self.push(numbers, number);
+            }
+            return;
         }
         let (word, count) = self.counted(word, "*");
         let number = self.number(word);

@@ -47,7 +47,8 @@ fn salted_scheme<R, const N: usize, const SALT_ELEMS: usize>(
 }
 
 /// Writes what the calls of a kind of case with salts answer at an arity. The next fields are the cap, the number of
-/// salts a row and, where salts are drawn, the generator.
+/// salts a row and, where salts are drawn, the generator: a seed of ChaCha20, or `tens` for the salts 10, 20, 30 and so
+/// on, or `hundred` for 100, 101, 102 and so on.
 // Each number of salts and each generator is a scheme of its own to compile, at each arity.
 pub fn salted<const N: usize>(case: &mut Case<'_>, kind: &str) -> Result<(), Fault>
     requires arity { IsTrue (is_arity N) }
@@ -55,7 +56,12 @@ pub fn salted<const N: usize>(case: &mut Case<'_>, kind: &str) -> Result<(), Fau
 {
     let cap = case.fields.cap();
     let salts = case.fields.take();
-    let generator = generator_in(case, kind);
+    // Kinds that only check openings draw no salts, and have no such field.
+    let generator = if kind.starts_with("verify") || kind.starts_with("extract") {
+        "0"
+    } else {
+        case.fields.take()
+    };
     match salts {
         "1" => drawn::<N, 1>(case, kind, cap, generator),
         "2" => drawn::<N, 2>(case, kind, cap, generator),
@@ -64,16 +70,6 @@ pub fn salted<const N: usize>(case: &mut Case<'_>, kind: &str) -> Result<(), Fau
             drawn_at_random::<N, 18_446_744_073_709_551_615>(case, kind, cap, generator)
         }
         _ => Err(Fault::Unreadable("there are no schemes of as many salts")),
-    }
-}
-
-/// The field of the generator: a seed of ChaCha20, or `tens` for the salts 10, 20, 30 and so on, or `hundred` for 100,
-/// 101, 102 and so on. Kinds that only check openings draw no salts, and have no such field.
-fn generator_in<'a>(case: &mut Case<'a>, kind: &str) -> &'a str {
-    if kind.starts_with("verify") || kind.starts_with("extract") {
-        "0"
-    } else {
-        case.fields.take()
     }
 }
 

@@ -58,15 +58,6 @@ pub fn fold_scheme<const N: usize>(cap: Cap) -> FoldScheme<N>
     MerkleTreeMmcs::new_with_rule(FoldHash::<1>, FoldCompress::<N, 1>, cap.height, cap.rule)
 }
 
-/// What a scheme commits to, and its cap.
-pub fn commit_to<const N: usize>(
-    alloc: Global,
-    scheme: &FoldScheme<N>,
-    matrices: Vec<Rows>,
-) -> Result<(FoldCap, FoldTree<Rows, N>), MerkleTreeError> {
-    scheme.commit(alloc, matrices)
-}
-
 /// What that scheme has committed to.
 pub type FoldCommitted<const N: usize> = Committed<FoldCap, FoldTree<Rows, N>>;
 

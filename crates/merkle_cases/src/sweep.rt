@@ -13,7 +13,7 @@ use crate::reader::Reader;
 use crate::scheme::{Cap, FoldCap, fold_scheme};
 use crate::text::Answer;
 use crate::tried::{FoldCollision, Tried};
-use crate::twin::{collides_at, collides_first_at, twin_places, twin_rows, twin_sets};
+use crate::twin::{collides_at, twin_places, twin_rows, twin_sets};
 use p3_merkle_core::steps::steps_of;
 use p3_merkle_tree::{BatchOpening, BatchOpeningRef, MerkleTreeError, Place};
 use p3_support::matrix::Dimensions;
@@ -160,7 +160,12 @@ fn check_twins<S: Tried>(
             place.as_ref()
         };
         let found = collision_of_twins(alloc, scheme, committed, indices, leaves, matrix)?;
-        if !collides_first_at(&found, place) {
+        let is_right = match &found {
+            Some((0, 0, collision)) => collides_at(Some(collision), place),
+            Some(_) => false,
+            None => place.is_none(),
+        };
+        if !is_right {
             return Err(Fault::Wrong("leaves collide elsewhere with their twins"));
         }
     }

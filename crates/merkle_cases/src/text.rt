@@ -74,14 +74,6 @@ impl Answer {
         }
     }
 
-    /// Writes verdicts with bars between them.
-    pub fn verdicts(&mut self, verdicts: &[Result<(), MerkleTreeError>]) {
-        for (place, verdict) in verdicts.iter().enumerate() {
-            self.separate(place, " | ");
-            self.verdict(verdict);
-        }
-    }
-
     /// Writes `yes` or `no`.
     pub fn yes_or_no(&mut self, is_so: bool) {
         self.push(if is_so { "yes" } else { "no" });

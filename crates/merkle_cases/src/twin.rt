@@ -89,15 +89,3 @@ pub fn collides_at(found: Option<&FoldCollision>, place: Option<&Place>) -> bool
         _ => false,
     }
 }
-
-/// The same of the first query of each of two openings.
-pub fn collides_first_at(
-    found: &Option<(usize, usize, FoldCollision)>,
-    place: Option<&Place>,
-) -> bool {
-    match found {
-        Some((0, 0, collision)) => collides_at(Some(collision), place),
-        Some(_) => false,
-        None => place.is_none(),
-    }
-}

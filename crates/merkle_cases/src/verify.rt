@@ -70,6 +70,9 @@ fn extracts<S: Tried>(
     )
 }
 
+/// How many queries an opening has at most whose queries are compared each with each.
+const LONG: usize = 64;
+
 /// Whether the extractions from an opening and that of no leaf, in either order, and where it is accepted that from it
 /// and itself answer what the checks do.
 fn extracts_alike<S: Tried>(
@@ -79,29 +82,17 @@ fn extracts_alike<S: Tried>(
     opening: &LeavesOpening<S::MultiProof>,
     verdict: &Result<(), MerkleTreeError>,
 ) -> bool {
-    let none = LeavesOpening::none(alloc, S::proof_of_none(alloc));
+    let none = LeavesOpening {
+        indices: Vec::new(alloc),
+        rows: Vec::new(alloc),
+        proof: S::proof_of_none(alloc),
+    };
+    let is_long = opening.indices.len() > LONG;
     let of_none = verdict_on(alloc, scheme, statement, &none);
     let of_second = if of_none.is_err() { &of_none } else { verdict };
     extracts(alloc, scheme, statement, opening, &none, verdict)
         && extracts(alloc, scheme, statement, &none, opening, of_second)
-        && (opening.is_long() || extracts(alloc, scheme, statement, opening, opening, verdict))
-}
-
-/// Fails where another check of an opening than the one with this verdict, or an extraction, answers otherwise.
-fn check_others<S: Tried>(
-    alloc: Global,
-    scheme: &S,
-    statement: &Statement,
-    opening: &LeavesOpening<S::MultiProof>,
-    verdict: &Result<(), MerkleTreeError>,
-) -> Result<(), Fault> {
-    if !scheme.agrees(alloc, statement, opening.lent(), verdict) {
-        return Err(Fault::Wrong("another check is answered otherwise"));
-    }
-    if !extracts_alike(alloc, scheme, statement, opening, verdict) {
-        return Err(Fault::Wrong("an extraction is answered otherwise"));
-    }
-    Ok(())
+        && (is_long || extracts(alloc, scheme, statement, opening, opening, verdict))
 }
 
 /// `verify_pruned | ARITY | CAP | ROOTS | DIMENSIONS | INDICES | ROW SETS | DIGESTS | ANSWER`: the check of an opening
@@ -112,5 +103,11 @@ pub fn verify_pruned<S: Tried>(case: &mut Case<'_>, scheme: &S) -> Result<(), Fa
     let opening = leaves_in::<S>(&mut case.fields);
     let verdict = verdict_on(case.alloc, scheme, &statement, &opening);
     case.answer.verdict(&verdict);
-    check_others(case.alloc, scheme, &statement, &opening, &verdict)
+    if !scheme.agrees(case.alloc, &statement, opening.lent(), &verdict) {
+        return Err(Fault::Wrong("another check is answered otherwise"));
+    }
+    if !extracts_alike(case.alloc, scheme, &statement, &opening, &verdict) {
+        return Err(Fault::Wrong("an extraction is answered otherwise"));
+    }
+    Ok(())
 }

@@ -60,7 +60,7 @@ fn generic_callers_read_and_judge_plain_rows(rt: HostRuntime) -> Result<(), Fail
     let mut scheme: MerkleTreeMmcs<u32, u32, FoldHash<1>, FoldCompress<2, 1>, 2, 1> =
         MerkleTreeMmcs::new(FoldHash, FoldCompress, 0);
     let (read, judged) = batches(alloc)?;
-    let made = words_and_verdicts(alloc, &mut scheme, read, judged)?;
+    let made = words_and_verdicts::<RowMajorMatrix<u32>, _>(alloc, &mut scheme, read, judged)?;
     assert_eq!(rt; made, (WORDS, Some(VERDICTS)));
     Ok(())
 }
@@ -70,7 +70,7 @@ fn generic_callers_read_and_judge_salted_rows(rt: HostRuntime) -> Result<(), Fai
     let alloc = rt.alloc();
     let mut scheme = Salted::new(FoldHash, FoldCompress, 0, ChaCha20Rng::from_seed([7; 32]));
     let (read, judged) = batches(alloc)?;
-    let made = words_and_verdicts(alloc, &mut scheme, read, judged)?;
+    let made = words_and_verdicts::<RowMajorMatrix<u32>, _>(alloc, &mut scheme, read, judged)?;
     assert_eq!(rt; made, (WORDS, Some(VERDICTS)));
     Ok(())
 }

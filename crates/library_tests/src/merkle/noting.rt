@@ -76,23 +76,26 @@ struct Noting<'a, X, const L: usize> {
     notes: &'a Notes,
 }
 
-impl<'a, P: PackedValue, X: CryptographicHasher<P, P, 1>, const L: usize> CryptographicHasher<
-    P,
-    P,
-    1,
-> for Noting<'a, X, L> {
+impl<
+    'a,
+    P: PackedValue,
+    PW: PackedValue,
+    X: CryptographicHasher<P, PW, D>,
+    const L: usize,
+    const D: usize,
+> CryptographicHasher<P, PW, D> for Noting<'a, X, L> {
     const LANES: usize = L;
 
     const PREFER_CONTIGUOUS_INPUT: bool = X::PREFER_CONTIGUOUS_INPUT;
 
     ghost hash = { λ h xs. X.hash h.functions xs };
 
-    fn hash_iter<I: Iterator<Item = P::Value>>(&self, input: I) -> [P::Value; 1] {
+    fn hash_iter<I: Iterator<Item = P::Value>>(&self, input: I) -> [PW::Value; D] {
         self.notes.note(Row);
         self.functions.hash_iter(input)
     }
 
-    fn hash_slice(&self, input: &[P::Value]) -> [P::Value; 1] {
+    fn hash_slice(&self, input: &[P::Value]) -> [PW::Value; D] {
         self.notes.note(Row);
         self.functions.hash_slice(input)
     }
@@ -100,17 +103,17 @@ impl<'a, P: PackedValue, X: CryptographicHasher<P, P, 1>, const L: usize> Crypto
     fn hash_iter_slices<S: AsSlice<P::Value> + Drop, I: Iterator<Item = S>>(
         &self,
         input: I,
-    ) -> [P::Value; 1] {
+    ) -> [PW::Value; D] {
         self.notes.note(Row);
         self.functions.hash_iter_slices(input)
     }
 
-    fn hash_many(&self, messages: &[P::Value], out: &mut [[P::Value; 1]]) {
+    fn hash_many(&self, messages: &[P::Value], out: &mut [[PW::Value; D]]) {
         self.notes.note(Rows(out.len()));
         self.functions.hash_many(messages, out)
     }
 
-    fn hash_packed<I: Iterator<Item = P>>(&self, input: I) -> [P; 1] {
+    fn hash_packed<I: Iterator<Item = P>>(&self, input: I) -> [PW; D] {
         self.notes.note(RowLanes(P::WIDTH));
         self.functions.hash_packed(input)
     }
@@ -118,32 +121,34 @@ impl<'a, P: PackedValue, X: CryptographicHasher<P, P, 1>, const L: usize> Crypto
 
 impl<
     'a,
-    P: PackedValue,
-    X: PseudoCompressionFunction<P, 2, 1>,
+    PW: PackedValue,
+    X: PseudoCompressionFunction<PW, N, D>,
     const L: usize,
-> PseudoCompressionFunction<P, 2, 1> for Noting<'a, X, L> {
+    const N: usize,
+    const D: usize,
+> PseudoCompressionFunction<PW, N, D> for Noting<'a, X, L> {
     const LANES: usize = L;
 
     ghost compression = { λ c xs. X.compression c.functions xs };
 
-    fn compress(&self, input: [[P::Value; 1]; 2]) -> [P::Value; 1]
+    fn compress(&self, input: [[PW::Value; D]; N]) -> [PW::Value; D]
         ensures { result ≡ X.compression self.now.functions input }
     {
         self.notes.note(Group);
         self.functions.compress(input)
     }
 
-    fn compress_many(&self, groups: &[[[P::Value; 1]; 2]], out: &mut [[P::Value; 1]]) {
+    fn compress_many(&self, groups: &[[[PW::Value; D]; N]], out: &mut [[PW::Value; D]]) {
         self.notes.note(Groups(out.len()));
         self.functions.compress_many(groups, out)
     }
 
-    fn compress_packed(&self, input: [[P; 1]; 2]) -> [P; 1]
-        ensures { (k : ℕ) → k < P.WIDTH →
-            lane_of P.lanes P.default_value k result
-            ≡ X.compression self.now.functions (map (lane_of P.lanes P.default_value k) input) }
+    fn compress_packed(&self, input: [[PW; D]; N]) -> [PW; D]
+        ensures { (k : ℕ) → k < PW.WIDTH →
+            lane_of PW.lanes PW.default_value k result
+            ≡ X.compression self.now.functions (map (lane_of PW.lanes PW.default_value k) input) }
     {
-        self.notes.note(GroupLanes(P::WIDTH));
+        self.notes.note(GroupLanes(PW::WIDTH));
         self.functions.compress_packed(input)
     }
 }

@@ -211,15 +211,14 @@ pub fn tree<const N: usize>(case: &mut Case<'_>, kind: &str) -> Result<(), Fault
 {
     let cap = case.fields.cap();
     let dimensions = case.fields.dimensions();
-    let queries = if kind == "sha256_commit" {
-        case.fields.reader.none()
-    } else {
-        case.fields.numbers()
-    };
-    let asked = match (kind, queries.as_slice()) {
-        ("sha256_commit", _) => Asked::Cap,
-        ("sha256_open", [index]) => Asked::Leaf(*index),
-        (_, indices) => Asked::Leaves(indices),
+    let mut queries = case.fields.reader.none();
+    let asked = match kind {
+        "sha256_commit" => Asked::Cap,
+        "sha256_open" => Asked::Leaf(case.fields.number()),
+        _ => {
+            queries = case.fields.numbers();
+            Asked::Leaves(&queries)
+        }
     };
     let digests = answer_of::<N>(case, cap, &dimensions, asked)?;
     case.answer.hexadecimal(&digests);
