@@ -101,7 +101,8 @@ impl<
         let cap_layer = steps.cap_layer(self.cap_rule, self.cap_height);
         let first = IndexedOpening::new(index1, first);
         let second = IndexedOpening::new(index2, second);
-        self.checker().extraction(alloc, commit.roots(), &steps, cap_layer, first, second)
+        self.checker()
+            .extraction(alloc, commit.roots(), &steps, cap_layer, first, second)
     }
 
     /// Extracts a collision from two accepted pruned openings of one cap: two different inputs of the hasher or of the

@@ -18,11 +18,18 @@ pub same_map : {X : Type 0} (f g : ℕ → X) → ((k : ℕ) → f k ≡ g k) �
 same_map f g h [] = refl
 same_map f g h (x ∷ xs) = rw (h x, same_map f g h xs) refl
 
+-- the parents of the covered nodes of a layer are those of the layer above
+pub parents_covered : (s : Shape) (indices : List ℕ) (t : ℕ) → CanQuery s indices t → (l : ℕ) → l < t →
+    (n : ℕ) (here above : List ℕ) → n ≡ step s l → here ≡ covered_at s indices l →
+    above ≡ dedup eqb (map (λ j. j / n) here) → above ≡ covered_at s indices (suc l)
+parents_covered s indices t w l h n here above is_step is_here e =
+    (rw (is_step, is_here) at e) ∙ covered_above s indices t w l h
+
 -- the queries of parents are under them
 pub queries_rise : (s : Shape) (indices : List ℕ) (t : ℕ) → CanQuery s indices t → (l : ℕ) → l < t →
     (n : ℕ) (here queries : List ℕ) → n ≡ step s l → here ≡ covered_at s indices l →
-    map (λ k. node_of_query s indices l k / n) queries ≡ dedup eqb (map (λ j. j / n) here) → covered_at s indices (suc l)
-    ≡ map (node_of_query s indices (suc l)) queries
+    map (λ k. node_of_query s indices l k / n) queries ≡ dedup eqb (map (λ j. j / n) here) →
+    covered_at s indices (suc l) ≡ map (node_of_query s indices (suc l)) queries
 queries_rise s indices t w l h n here queries is_step is_here e =
     let up : map (λ k. node_of_query s indices l k / step s l) queries
     ≡ dedup eqb (map (λ j. j / step s l) (covered_at s indices l)) = rw (is_step, is_here) at e in

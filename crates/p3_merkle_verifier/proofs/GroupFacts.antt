@@ -1,6 +1,7 @@
 -- One more digest: of a group, of a pair, of a query's rows.
 use Rattle.std.proofs.Common.{◌≡◌, ◌∙◌, ℕ, zero, suc, ◌+◌, ◌-◌, ◌*◌, ◌/◌, ◌<◌, ◌≤◌, List, [], ◌∷◌, ◌++◌}
-use Rattle.std.proofs.Common.{append-nil, map, ap, refl, sym, arith, length, length-drop, get_or, drop, replicate, take, zip}
+use Rattle.std.proofs.Common.{append-nil, map, ap, refl, sym, arith, length, length-drop, get_or, drop}
+use Rattle.std.proofs.Common.{replicate, take, zip}
 use Rattle.std.specs.List.{range_with_len}
 use Rattle.std.specs.declared.vec.Vec.{Vec}
 use Rattle.std.specs.Simd.{first_chunks}

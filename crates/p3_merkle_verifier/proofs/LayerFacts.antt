@@ -179,6 +179,14 @@ module _ {T W : Type 0} (f : Functions T W) (s : Shape) (t : ℕ) (p : PrunedOpe
       ∙ layer_next f s t p l agreed h covered.step covered.has_rows covered.exponent covered.queries.items children
       family.step_is family.rows_are at.at_exponent are at.among long family.values_are
 
+  pub restored_at : IsAgreed s t p → (l : ℕ) → 0 < l → l ≤ t → (n : ℕ) → s.arity ≡ n →
+      (covered : Covered) (children digests : List (List W)) → IsLayer f s t p l covered children →
+      digests ≡ layer_digests f n covered.step covered.has_rows (heights s) covered.exponent p.rows
+      covered.queries.items children → AreRestored f s t p l digests
+  restored_at agreed zero some h n is_n covered children digests layer e = absurd (omega arith)
+  restored_at agreed (suc l) some h n is_n covered children digests layer e =
+      above_restored agreed l h n is_n covered children digests layer e
+
   -- as many digests as nodes
   pub digests_long : (l : ℕ) (covered : Covered) (digests : List (List W)) → IsCoveredAt s p.indices l covered →
       AreRestored f s t p l digests → length digests ≡ length covered.nodes.items
@@ -232,3 +240,9 @@ module _ {T W : Type 0} (f : Functions T W) (s : Shape) (t : ℕ) (p : PrunedOpe
               below.nodes.items digests (drop below.used p.digests) children same up.values;
         };
       }
+
+  -- the children of a layer above the leaves
+  pub family_above : (l : ℕ) (covered : Covered) (children : List (List W)) → 0 < l →
+      IsLayer f s t p l covered children → length children ≡ covered.step * length covered.nodes.items
+  family_above zero covered children some layer = absurd (omega arith)
+  family_above (suc l) covered children some layer = layer.family.full

@@ -86,7 +86,8 @@ parents_next nodes parents next step i h so_far turn =
 pub queries_next : (nodes queries above next : List ℕ) (step i : ℕ) (node : ℕ → ℕ) → i < length queries → length queries
     ≡ length nodes → nodes ≡ map node queries →
     map (λ k. node k / step) above ≡ dedup eqb (take i (map (λ j. j / step) nodes)) →
-    ((next ≡ above ++ get_or queries i 0 ∷ []) × (0 < i → get_or nodes (i - 1) 0 / step ≡ get_or nodes i 0 / step → ⊥)) ⊎
+    ((next ≡ above ++ get_or queries i 0 ∷ []) ×
+    (0 < i → get_or nodes (i - 1) 0 / step ≡ get_or nodes i 0 / step → ⊥)) ⊎
     ((next ≡ above) × (0 < i) × (get_or nodes (i - 1) 0 / step ≡ get_or nodes i 0 / step)) →
     map (λ k. node k / step) next ≡ dedup eqb (take (i + 1) (map (λ j. j / step) nodes))
 queries_next nodes queries above next step i node h e are so_far turn =

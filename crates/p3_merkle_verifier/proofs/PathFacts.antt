@@ -1,5 +1,6 @@
 -- The levels that a walk keeps.
-use Rattle.std.proofs.Common.{◌≡◌, ◌∙◌, ℕ, suc, ◌+◌, List, [], ◌∷◌, ◌++◌, map, refl, ap, sym, arith, add-one}
+use Rattle.std.proofs.Common.{◌≡◌, ◌∙◌, ℕ, zero, suc, ◌+◌, ◌-◌, ◌<◌, List, [], ◌∷◌, ◌++◌, map, refl, ap, sym, arith}
+use Rattle.std.proofs.Common.{add-one}
 use Rattle.std.proofs.lemmas.List.{map-append}
 use Rattle.std.proofs.lemmas.List.FromFn.{map-range_with_len_more}
 use Rattle.p3_merkle_core.specs.Geometry.{Shape}
@@ -24,7 +25,7 @@ abbrev shown_level : {X : Type 0} → KeptLevel X → List ℕ × ℕ × List X
 shown_level level = (level.parents.items, level.step, level.children.items)
 
 -- one layer more
-pub kept_next : {T W : Type 0} (f : Functions T W) (s : Shape) (t : ℕ) (p : PrunedOpening T W) (l : ℕ)
+kept_next : {T W : Type 0} (f : Functions T W) (s : Shape) (t : ℕ) (p : PrunedOpening T W) (l : ℕ)
     (old new : List (KeptLevel (List W))) (level : KeptLevel (List W)) (covered : Covered)
     (children : List (List W)) → AreKept f s t p l old → IsLayer f s t p (suc l) covered children →
     new ≡ old ++ level ∷ [] → level.step ≡ covered.step → level.parents.items ≡ covered.nodes.items →
@@ -41,6 +42,16 @@ kept_next f s t p l old new level covered children k layer is a b c =
       levels_are = ap (map shown_level) is ∙ map-append shown_level old (level ∷ [])
           ∙ rw (k.levels_are, last) (rw add-one at (sym (map-range_with_len_more here 0 l l z)));
     }
+
+pub kept_at : {T W : Type 0} (f : Functions T W) (s : Shape) (t : ℕ) (p : PrunedOpening T W) (l : ℕ)
+    (old new : List (KeptLevel (List W))) (level : KeptLevel (List W)) (covered : Covered)
+    (children : List (List W)) → 0 < l → AreKept f s t p (l - 1) old → IsLayer f s t p l covered children →
+    new ≡ old ++ level ∷ [] → level.step ≡ covered.step → level.parents.items ≡ covered.nodes.items →
+    level.children.items ≡ children → AreKept f s t p l new
+kept_at f s t p zero old new level covered children some k layer is a b c = absurd (omega arith)
+kept_at f s t p (suc l) old new level covered children some k layer is a b c =
+    let back : suc l - 1 ≡ l = omega arith in
+    kept_next f s t p l old new level covered children (rw back at k) layer is a b c
 
 -- the paths out of the levels of an opening are its restored ones
 pub paths_by_levels : {T W : Type 0} (f : Functions T W) (s : Shape) (t : ℕ) (restorable : Restorable T (List W))

@@ -17,7 +17,7 @@ use Rattle.p3_merkle_verifier.specs.declared.openings.BorrowedOpening.{BorrowedO
 use Rattle.p3_merkle_verifier.specs.declared.openings.Restorable.{Restorable}
 
 -- the error that a `?` hands on answers what it answered before
-handed_on : {V : Type 0} (r : Result V MerkleTreeError) (e : MerkleTreeError) (refusal : Option MerkleTreeError) →
+pub handed_on : {V : Type 0} (r : Result V MerkleTreeError) (e : MerkleTreeError) (refusal : Option MerkleTreeError) →
     IsErrAnd r (λ x. x ≡ e) → (e ≡ OutOfMemory) ⊎ (refusal ≡ Some e) → AnswersUnlessMemory r refusal
 handed_on (Ok v) e refusal err a = absurd err
 handed_on (Err x) e refusal is a = rw is a

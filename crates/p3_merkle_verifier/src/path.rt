@@ -5,8 +5,8 @@ ghost use Rattle.std.specs.Prelude.{false, unwrap_or, IfOk, MatchResult, None, S
 ghost use Rattle.std.specs.Option.{option_map};
 ghost use Rattle.p3_support.specs.Batches.{heights_of};
 ghost use Rattle.p3_support.specs.Shown.{row_lists};
-ghost use Rattle.p3_merkle_core.specs.Geometry.{ancestor, layer_exponent, shape_of, step as step_of};
-ghost use Rattle.p3_merkle_core.specs.Checks.{path_digest, params, siblings_below, words_of_exponent};
+ghost use Rattle.p3_merkle_core.specs.Geometry.{layer_exponent, shape_of, step as step_of};
+ghost use Rattle.p3_merkle_core.specs.Checks.{params, siblings_below, words_of_exponent};
 ghost use Rattle.p3_merkle_core.specs.Nodes.{functions_of, padded};
 ghost use Rattle.p3_merkle_core.specs.Refusals.{answer_under, form_refusal, is_entry as is_entry_of};
 ghost use Rattle.p3_merkle_verifier.specs.Inner.Checks.{functions_by, opening_in, step_siblings, CanStep};
@@ -261,30 +261,6 @@ impl<
         }
     }
 
-    /// Walks the leaf's path up to the cap. Returns the digest that it computes there, and the node above the leaf.
-    ///
-    /// The opening must have its siblings up to the cap.
-    fn path_digest(
-        &self,
-        steps: &Steps<'_>,
-        cap_layer: usize,
-        opening: IndexedOpening<'_, P::Value, [PW::Value; D]>,
-    ) -> ([PW::Value; D], usize)
-        requires arity { steps.now.arity ≡ N }
-        requires reach { CanReach (shape_of N steps.now.dimensions.now) cap_layer (length opening.siblings.now) }
-        ensures digest { let f = functions_by H.hash C.compression (replicate D PW.default_value) self.now in
-            result.0 ≡ path_digest f (shape_of N steps.now.dimensions.now) (opening_in opening.entry) cap_layer }
-        ensures node { result.1 ≡ ancestor (shape_of N steps.now.dimensions.now) cap_layer opening.entry.index }
-    {
-        let mut progress = self.leaf(steps, opening);
-        for level in 0..cap_layer {
-            progress = self
-                .checked_level(steps, cap_layer, level, opening, &progress)
-                .above;
-        }
-        (progress.digest, progress.node)
-    }
-
     /// Checks an opening against the roots of a cap: its form, and that its path leads to the root above the leaf. It
     /// does not allocate.
     ///
@@ -315,8 +291,13 @@ impl<
     {
         let (index, num_siblings) = (opening.index, opening.siblings.len());
         check_form(steps, cap_layer, index, opening.rows, num_siblings)?;
-        let (digest, node) = self.path_digest(steps, cap_layer, opening);
-        if is_entry(roots, node, &digest) {
+        let mut progress = self.leaf(steps, opening);
+        for level in 0..cap_layer {
+            progress = self
+                .checked_level(steps, cap_layer, level, opening, &progress)
+                .above;
+        }
+        if is_entry(roots, progress.node, &progress.digest) {
             Ok(())
         } else {
             Err(MerkleTreeError::CapMismatch)

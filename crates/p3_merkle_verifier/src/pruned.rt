@@ -215,14 +215,15 @@ impl<
         let mut levels = Vec::with_capacity(alloc, num_kept)?;
         let mut covered = leaves;
         let mut children = Vec::new(alloc);
-        for level in 0..restorable.cap_layer {
-            let digests = self.node_digests(alloc, restorable, level, &covered, &children)?;
+        let mut layer = 0;
+        while layer < restorable.cap_layer {
+            let digests = self.node_digests(alloc, restorable, layer, &covered, &children)?;
             // Children that are not kept are let go before those of the next layer are listed.
             if !keeps {
                 children = Vec::new(alloc);
             }
-            let above = layer_above(alloc, restorable, level, &covered, &digests)?;
-            if keeps && level > 0 {
+            let above = layer_above(alloc, restorable, layer, &covered, &digests)?;
+            if keeps && layer > 0 {
                 levels.push(KeptLevel {
                     parents: covered.nodes,
                     step: covered.step,
@@ -230,15 +231,15 @@ impl<
                 })?;
             }
             (covered, children) = above;
+            layer += 1;
         }
         if let Some(roots) = roots {
-            let layer = restorable.cap_layer;
             let digests = self.node_digests(alloc, restorable, layer, &covered, &children)?;
             if !are_entries(roots, &covered.nodes, &digests) {
                 return Err(MerkleTreeError::CapMismatch);
             }
         }
-        if keeps && restorable.cap_layer > 0 {
+        if keeps && layer > 0 {
             levels.push(KeptLevel {
                 parents: covered.nodes,
                 step: covered.step,
@@ -255,8 +256,8 @@ impl<
     ///
     /// # Errors
     ///
-    /// The error of `check_pruned`; else `CapMismatch` where a root is another, or is not there. `OutOfMemory`
-    /// may come at any time.
+    /// The error of `check_pruned`; else `CapMismatch` where a root is another, or is not there. `OutOfMemory` may come
+    /// at any time.
     pub fn check_pruned_opening(
         &self,
         alloc: Global,
@@ -287,8 +288,8 @@ impl<
     ///
     /// # Errors
     ///
-    /// The error of `check_pruned`; else `CapMismatch` where a root is another, or is not there. `OutOfMemory`
-    /// may come at any time.
+    /// The error of `check_pruned`; else `CapMismatch` where a root is another, or is not there. `OutOfMemory` may come
+    /// at any time.
     pub fn restored_paths(
         &self,
         alloc: Global,

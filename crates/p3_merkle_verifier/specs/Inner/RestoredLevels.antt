@@ -1,6 +1,6 @@
 -- The layers of a pruned opening: their covered nodes, what is restored of them, and what is kept.
-use Rattle.std.specs.Prelude.{◌≡◌, ◌*◌, ◌/◌, ◌<◌, ◌≤◌, ℕ, zero, suc, Bool, List, All, Option, None, Some, drop, flat_map}
-use Rattle.std.specs.Prelude.{length, map, slice_index}
+use Rattle.std.specs.Prelude.{◌≡◌, ◌*◌, ◌/◌, ◌<◌, ◌≤◌, ℕ, zero, suc, Bool, List, All, Option, None, Some, drop}
+use Rattle.std.specs.Prelude.{flat_map, length, map, slice_index}
 use Rattle.std.specs.List.{range_with_len}
 use Rattle.std.specs.Option.{option_or}
 use Rattle.p3_merkle_core.specs.Checks.{Params, params}

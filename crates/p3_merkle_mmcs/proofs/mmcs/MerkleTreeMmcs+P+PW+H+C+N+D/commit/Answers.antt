@@ -20,5 +20,6 @@ returns-clause-committed g c =
           c.args.self.now) (over c.args.matrices.items) (tree_batch tree) (layers_of tree)
           (cap_rule_of c.args.self.now) (cap_height_of c.args.self.now) c.num_layers.result
           c.cap_layer-cap_layer.result (roots_of c.in_ok-cap.cap) (ap over c.in_ok-tree.ensures.matrices)
-          c.in_ok-tree.ensures.layers c.num_layers.ensures.levels (c.cap_layer-cap_layer.ensures ∙ ap (cap_layer_over c.args.self.now) c.steps_in.ensures) c.in_ok-cap.ensures;
+          c.in_ok-tree.ensures.layers c.num_layers.ensures.levels
+          (c.cap_layer-cap_layer.ensures ∙ ap (cap_layer_over c.args.self.now) c.steps_in.ensures) c.in_ok-cap.ensures;
     }

@@ -17,8 +17,9 @@ returns-then-step g c =
     let groups = c.as_chunks.result.0.now in
     let made = c.in_ok-digests in
     let out = c.compress_many.new.out in
+    let many : length groups ≡ n = rw c.if-step.true c.as_chunks.ensures.front_len in
     let size : length out ≡ made.digests.len = ap length c.compress_many.ensures ∙ length-map groups compression
-    ∙ omega (arith, made.ensures.len, c.compress_many.requires) in
+    ∙ omega (arith, made.ensures.len, many) in
     let are = take_at out (drop (length out) made.digests.items) made.digests.len size ∙ c.compress_many.ensures
     ∙ whole_digests compression default g.row.N c.args.step children groups c.if-step.true c.as_chunks.ensures.front in
     record {
@@ -37,8 +38,9 @@ returns g c =
     let groups = c.deref.result.now in
     let made = c.in_ok-digests in
     let out = c.compress_many-2.new.out in
+    let many = ap length c.deref.ensures.value ∙ c.in_ok-groups.ensures.count in
     let size : length out ≡ made.digests.len = ap length c.compress_many-2.ensures ∙ length-map groups compression
-    ∙ ? in
+    ∙ omega (arith, made.ensures.len, many) in
     let are = take_at out (drop (length out) made.digests.items) made.digests.len size ∙ c.compress_many-2.ensures
     ∙ ap (map compression) (c.deref.ensures.value ∙ rw one at c.in_ok-groups.ensures.groups)
     ∙ map-map compression (child_group g.row.N default c.args.step children) (range_with_len 0 n) in

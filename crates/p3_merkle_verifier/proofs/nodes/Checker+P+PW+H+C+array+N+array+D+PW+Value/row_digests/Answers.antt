@@ -15,18 +15,23 @@ use Rattle.p3_merkle_verifier.proofs.nodes.Checker+P+PW+H+C+array+N+array+D+PW+V
 
 -- the digests of n rows, one for each query, are those of the queries
 record OfQueries {W : Type 0} (digest : ℕ → List W) (queries : List ℕ) (digests : List (List W)) : Type 0 where
-  count : length digests ≡ length queries
-  digests : digests ≡ map digest queries
+  as_many : length digests ≡ length queries
+  are : digests ≡ map digest queries
 
 of_queries : {W : Type 0} (row digest : ℕ → List W) (queries : List ℕ) (n : ℕ) (digests : List (List W)) → n
     ≡ length queries → ((j : ℕ) → j < length queries → row j ≡ digest (get_or queries j 0)) →
     digests ≡ map row (range_with_len 0 n) → OfQueries digest queries digests
 of_queries row digest queries n digests same each are =
     let is = are ∙ ap (λ k. map row (range_with_len 0 k)) same ∙ by_places row digest queries each in
-    record { count = ap length is ∙ length-map queries digest; digests = is }
+    record { as_many = ap length is ∙ length-map queries digest; are = is }
 
 pub loop-j-preserved : goal.loop-j-preserved
-loop-j-preserved g c = ?
+loop-j-preserved g c =
+    let row = λ (j : ℕ). g.H.CryptographicHasher.hash c.args.self.now.hash.now (rows_over row_in c.deref.result.now j)
+    in
+    one_more row c.loop-j.j c.loop-j.digests.items c.push.new.self.items c.digest.result c.loop-j.invariant
+    c.in_ok-push.ensures.items
+    (c.digest.ensures ∙ rw (lt-ltb c.loop-j.j c.len-height.result c.loop-j-test.true) refl)
 
 pub returns-then-LANES-gt1 : goal.returns-then-LANES-gt1
 returns-then-LANES-gt1 g c =
@@ -47,7 +52,7 @@ returns-then-LANES-gt1 g c =
     let is = of_queries row digest covered.queries.items n _ same (λ j h. ap hash (opened j h))
     (take_at slots (drop (length slots) made.digests.items) made.digests.len size
     ∙ fill_by_all row slots n [] (filled.long ∙ long) (λ j h. filled.filled j h ∙ rw (lt-ltb j n h) refl)) in
-    record { count = is.count; digests = is.digests }
+    record { count = is.as_many; digests = is.are }
 
 pub returns : goal.returns
 returns g c =
@@ -63,4 +68,4 @@ returns g c =
     let all : c.loop-j.j ≡ n = omega arith in
     let is = of_queries row digest covered.queries.items n _ same (λ j h. ap hash (opened j h))
     (rw all at c.loop-j.invariant) in
-    record { count = is.count; digests = is.digests }
+    record { count = is.as_many; digests = is.are }

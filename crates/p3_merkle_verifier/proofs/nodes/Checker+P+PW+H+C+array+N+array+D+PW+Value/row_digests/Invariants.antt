@@ -8,5 +8,5 @@ use Rattle.p3_merkle_verifier.proofs.nodes.Checker+P+PW+H+C+array+N+array+D+PW+V
 abbrev pub invariant-loop-j : goal.invariant-loop-j
 invariant-loop-j g l =
     l.digests.items
-    ≡ map (λ (j : ℕ). g.H.CryptographicHasher.hash l.rows.hash.now (rows_over row_in l.rows.matrices.now j))
+    ≡ map (λ (j : ℕ). g.H.CryptographicHasher.hash l.rows.0.now (rows_over row_in l.rows.1.0.now j))
     (range_with_len 0 l.j)

@@ -15,7 +15,7 @@ returns-then-not-has_rows g c =
     level_alone f s (opening_in c.args.opening) c.args.level step.result.step step.result.exponent c.args.progress.now
     _ c.group-group.result (record { is_step = step.ensures.step; above = step.ensures.exponent }) c.requires.progress
     (rw one at c.group-group.ensures) (sym step.ensures.rows ∙ c.if-not-has_rows.true)
-    (record { at_exponent = refl; at_node = c.parent_of.ensures; taken = refl; reached = c.compress-above.ensures })
+    (record { at_exponent = refl; at_node = c.parent_of.ensures; taken = refl; reached = c.compress.ensures })
 
 pub returns : goal.returns
 returns g c =
@@ -28,5 +28,5 @@ returns g c =
     c.args.progress.now _ c.group-group.result
     (record { is_step = step.ensures.step; above = step.ensures.exponent }) c.requires.progress
     (rw one at c.group-group.ensures) (sym step.ensures.rows ∙ c.if-not-has_rows.false) c.pair_group-pair.result
-    (rw (one, c.rows_digest-rows.ensures, c.compress-above.ensures) at c.pair_group-pair.ensures)
-    (record { at_exponent = refl; at_node = c.parent_of.ensures; taken = refl; reached = c.compress.ensures })
+    (rw (one, c.rows_digest-rows.ensures, c.compress.ensures) at c.pair_group-pair.ensures)
+    (record { at_exponent = refl; at_node = c.parent_of.ensures; taken = refl; reached = c.compress-above.ensures })

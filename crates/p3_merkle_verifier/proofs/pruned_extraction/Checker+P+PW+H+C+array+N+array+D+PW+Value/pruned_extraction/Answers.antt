@@ -13,5 +13,5 @@ returns-clause-found g c =
     found_in_both g.P.Value.PartialEq.eq g.PW.Value.PartialEq.eq f
     (shape_of c.args.steps.now.arity c.args.steps.now.dimensions.now)
     c.args.cap_layer (pruned_in c.args.first) (pruned_in c.args.second)
-    c.in_ok-first.first c.in_ok-second.second c.in_ok-found.found c.in_ok-first.ensures.restored
-    c.in_ok-second.ensures.restored c.in_ok-found.ensures
+    c.in_ok-first.first c.in_ok-second.second c.in_ok-differing_pair.field-0 c.in_ok-first.ensures.restored
+    c.in_ok-second.ensures.restored c.in_ok-differing_pair.ensures
