@@ -5,6 +5,7 @@
 mod accepted;
 mod accepted_salted;
 mod any_scheme;
+mod calls;
 mod errors;
 mod exclusive_or;
 mod generic;

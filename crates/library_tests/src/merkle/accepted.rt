@@ -1,5 +1,5 @@
-//! Callers of the plain scheme that are generic in all that it is made of, and in the matrices: what a scheme opens of
-//! its own commitment is accepted, under the dimensions that the matrices show. They need no proof file.
+//! Callers of the plain scheme that are generic in the hash, the compression, the matrices and the arity: what a scheme
+//! opens of its own commitment is accepted, under the dimensions that the matrices show. They need no proof file.
 ghost use Rattle.std.specs.Prelude.{◌≡◌, ◌<◌, IfErr, IfOk, IsOk, None};
 ghost use Rattle.p3_merkle_tree.specs.Gate.{gate_refusal};
 ghost use Rattle.p3_merkle_tree.specs.Refusals.{queries_refusal};
@@ -9,13 +9,12 @@ ghost use Rattle.p3_support.specs.Batches.{greatest};
 
 use p3_hashes::fold::{FoldCompress, FoldHash};
 use p3_merkle_tree::{
-    BatchOpening, BatchOpeningRef, MerkleCap, MerkleTreeError, MerkleTreeMmcs, PrunedBatchOpening,
+    BatchOpening, BatchOpeningRef, MerkleTreeError, MerkleTreeMmcs, PrunedBatchOpening,
     check_indices, laws,
 };
 use p3_support::compress::PseudoCompressionFunction;
 use p3_support::hasher::CryptographicHasher;
 use p3_support::matrix::{Matrix, dimensions_of};
-use p3_support::packed::PackedValue;
 use std::alloc::Global;
 use std::test::Fail;
 use test_fixtures::matrices::numbered;
@@ -23,42 +22,33 @@ use test_fixtures::matrices::numbered;
 /// What was opened, and what its verification answers.
 pub type Judged<O> = (O, Result<(), MerkleTreeError>);
 
-/// An opening of one index that was verified, behind the cap.
-type CapAndOpening<T, W, const D: usize> = (
-    MerkleCap<T, [W; D]>,
-    Judged<BatchOpening<T, Vec<[W; D]>>>,
-);
-
 /// Commits to matrices, opens an index, and verifies the opening.
 ///
 /// # Errors
 ///
 /// Why the matrices are not committed to; that they have no such index; that there is no memory.
-pub fn judged_opening<
-    P: PackedValue,
-    PW: PackedValue,
-    H: CryptographicHasher<P, PW, D>,
-    C: PseudoCompressionFunction<PW, N, D>,
-    M: Matrix<P::Value> + Drop,
+fn judged_opening<
+    H: CryptographicHasher<u32, u32, 1>,
+    C: PseudoCompressionFunction<u32, N, 1>,
+    M: Matrix<u32> + Drop,
     const N: usize,
-    const D: usize,
 >(
     alloc: Global,
-    scheme: &MerkleTreeMmcs<P, PW, H, C, N, D>,
+    scheme: &MerkleTreeMmcs<u32, u32, H, C, N, 1>,
     matrices: Vec<M>,
     index: usize,
-) -> Result<CapAndOpening<P::Value, PW::Value, D>, MerkleTreeError>
-    ensures accepted { IfOk result (λ (cap, judged). IsOk judged.1) }
+) -> Result<Judged<BatchOpening<u32, Vec<[u32; 1]>>>, MerkleTreeError>
+    ensures accepted { IfOk result (λ (opening, verdict). IsOk verdict) }
     ensures memory { let heights = heights_in M.height_of M.width_of M.row_of matrices.items in
         gate_refusal heights ≡ None → index < greatest heights → IfErr result (λ e. e ≡ OutOfMemory) }
 {
-    laws::dimensions::<P::Value, M, N>();
+    laws::dimensions::<u32, M, N>();
     let dimensions = dimensions_of(alloc, &matrices)?;
     let (cap, tree) = scheme.commit(alloc, matrices)?;
     check_indices(scheme.get_max_height(&tree), &[index])?;
     let opening = scheme.open_batch(alloc, index, &tree)?;
     let verdict = scheme.verify_batch(&cap, &dimensions, index, BatchOpeningRef::from(&opening));
-    Ok((cap, (opening, verdict)))
+    Ok((opening, verdict))
 }
 
 /// Commits to matrices, opens several indices by one proof, and verifies the opening.
@@ -67,25 +57,22 @@ pub fn judged_opening<
 ///
 /// Why the matrices are not committed to; that they have not all the indices; that there is no memory.
 fn judged_pruned_opening<
-    P: PackedValue,
-    PW: PackedValue,
-    H: CryptographicHasher<P, PW, D>,
-    C: PseudoCompressionFunction<PW, N, D>,
-    M: Matrix<P::Value> + Drop,
+    H: CryptographicHasher<u32, u32, 1>,
+    C: PseudoCompressionFunction<u32, N, 1>,
+    M: Matrix<u32> + Drop,
     const N: usize,
-    const D: usize,
 >(
     alloc: Global,
-    scheme: &MerkleTreeMmcs<P, PW, H, C, N, D>,
+    scheme: &MerkleTreeMmcs<u32, u32, H, C, N, 1>,
     matrices: Vec<M>,
     indices: &[usize],
-) -> Result<Judged<PrunedBatchOpening<P::Value, PW::Value, D>>, MerkleTreeError>
+) -> Result<Judged<PrunedBatchOpening<u32, u32, 1>>, MerkleTreeError>
     ensures accepted { IfOk result (λ (opening, verdict). IfErr verdict (λ e. e ≡ OutOfMemory)) }
     ensures memory { let heights = heights_in M.height_of M.width_of M.row_of matrices.items in
         gate_refusal heights ≡ None → queries_refusal (greatest heights) indices.now ≡ None →
         IfErr result (λ e. e ≡ OutOfMemory) }
 {
-    laws::dimensions::<P::Value, M, N>();
+    laws::dimensions::<u32, M, N>();
     let dimensions = dimensions_of(alloc, &matrices)?;
     let (cap, tree) = scheme.commit(alloc, matrices)?;
     check_indices(scheme.get_max_height(&tree), indices)?;
@@ -108,7 +95,7 @@ const SIZES: [(usize, usize); 2] = [(2, 4), (3, 2)];
 #[test]
 fn an_index_is_opened_and_accepted(rt: HostRuntime) -> Result<(), Fail> {
     let alloc = rt.alloc();
-    let (_, (opening, verdict)) = judged_opening(alloc, &scheme(), numbered(alloc, &SIZES)?, 3)?;
+    let (opening, verdict) = judged_opening(alloc, &scheme(), numbered(alloc, &SIZES)?, 3)?;
     let (rows, siblings) = (&opening.opened_values, &opening.opening_proof);
     // 1025 is the digest of the row 2. That of the rows 0 and 1 is 30785 = 31 * 961 + 993 + 1, and with the row 0 of the
     // other matrix 31 * 30785 + 29791 + 1.

@@ -1,5 +1,6 @@
-//! Callers of the salted scheme that are generic in all that it is made of, and in the matrices: what a scheme opens of
-//! its own commitment is accepted, under the dimensions that the matrices show. They need no proof file.
+//! Callers of the salted scheme that are generic in the hash, the compression, the generator, the matrices and the
+//! arity: what a scheme opens of its own commitment is accepted, under the dimensions that the matrices show. They need
+//! no proof file.
 ghost use Rattle.std.specs.Prelude.{◌≡◌, IfErr, IfOk, map};
 ghost use Rattle.p3_merkle_tree.specs.Commitments.{IsCommitment};
 ghost use Rattle.p3_merkle_tree.specs.MerkleTreeError.TheVariants.{OutOfMemory};
@@ -19,29 +20,29 @@ use p3_merkle_tree::{
 use p3_support::compress::PseudoCompressionFunction;
 use p3_support::hasher::CryptographicHasher;
 use p3_support::matrix::{Dimensions, Matrix, dimensions_of};
-use p3_support::packed::PackedValue;
-use p3_support::salts::SaltWord;
 use rand_core::CryptoRng;
 use std::alloc::Global;
 use std::test::Fail;
 use test_fixtures::counting::Counting;
 use test_fixtures::matrices::numbered;
 
+/// The salted scheme of a hash and a compression over words, with one salt for each row.
+type Salted<H, C, R, const N: usize> = MerkleTreeHidingMmcs<u32, u32, H, C, R, N, 1, 1>;
+
+/// A cap.
+type Cap = MerkleCap<u32, [u32; 1]>;
+
+/// A tree over salted matrices.
+type Tree<M, const N: usize> = SaltedTree<u32, u32, M, N, 1>;
+
+/// The opening of one index.
+type Opening = BatchOpening<u32, SaltedProof<u32, u32, 1>>;
+
 /// The rows of several indices, and the proof of them.
-type MultiOpening<T, W, const D: usize> = (Vec<Vec<Vec<T>>>, SaltedMultiProof<T, W, D>);
+type MultiOpening = (Vec<Vec<Vec<u32>>>, SaltedMultiProof<u32, u32, 1>);
 
 /// An opening of one index and one of several, with what their verification answers.
-type BothJudged<T, W, const D: usize> = (
-    Judged<BatchOpening<T, SaltedProof<T, W, D>>>,
-    Judged<MultiOpening<T, W, D>>,
-);
-
-/// What is committed to: the cap, the tree and the dimensions of the matrices.
-type Committed<T, W, M, const N: usize, const D: usize> = (
-    MerkleCap<T, [W; D]>,
-    SaltedTree<T, W, M, N, D>,
-    Vec<Dimensions>,
-);
+type BothJudged = (Judged<Opening>, Judged<MultiOpening>);
 
 /// Commits to matrices, and makes their dimensions.
 ///
@@ -49,30 +50,24 @@ type Committed<T, W, M, const N: usize, const D: usize> = (
 ///
 /// Why the matrices are not committed to, or that there is no memory.
 fn committed<
-    P: PackedValue,
-    PW: PackedValue,
-    H: CryptographicHasher<P, PW, D>,
-    C: PseudoCompressionFunction<PW, N, D>,
+    H: CryptographicHasher<u32, u32, 1>,
+    C: PseudoCompressionFunction<u32, N, 1>,
     R: CryptoRng,
-    M: Matrix<P::Value> + Drop,
+    M: Matrix<u32> + Drop,
     const N: usize,
-    const D: usize,
-    const SALT_ELEMS: usize,
 >(
     alloc: Global,
-    scheme: &mut MerkleTreeHidingMmcs<P, PW, H, C, R, N, D, SALT_ELEMS>,
+    scheme: &mut Salted<H, C, R, N>,
     matrices: Vec<M>,
-) -> Result<Committed<P::Value, PW::Value, M, N, D>, MerkleTreeError>
-where
-    P::Value: SaltWord,
+) -> Result<(Cap, Tree<M, N>, Vec<Dimensions>), MerkleTreeError>
     ensures commitment { IfOk result (λ (cap, tree, dimensions).
-        IsCommitment (salted_params_of H.hash C.compression D scheme.new dimensions.items) (roots_of cap)
+        IsCommitment (salted_params_of H.hash C.compression 1 scheme.new dimensions.items) (roots_of cap)
         (tree_batch tree) (layers_of tree)) }
-    ensures columns { IfOk result (λ (cap, tree, dimensions). HaveSaltColumns SALT_ELEMS (matrices_of tree)) }
+    ensures columns { IfOk result (λ (cap, tree, dimensions). HaveSaltColumns 1 (matrices_of tree)) }
     ensures dimensions { IfOk result (λ (cap, tree, dimensions).
         dimensions.items ≡ dimensions_in M.height_of M.width_of (map left_of (matrices_of tree))) }
 {
-    laws::dimensions::<P::Value, M, N>();
+    laws::dimensions::<u32, M, N>();
     let dimensions = dimensions_of(alloc, &matrices)?;
     let (cap, tree) = scheme.commit(alloc, matrices)?;
     Ok((cap, tree, dimensions))
@@ -84,30 +79,26 @@ where
 ///
 /// That the tree has no such index, or that there is no memory.
 fn judged_index<
-    P: PackedValue,
-    PW: PackedValue,
-    H: CryptographicHasher<P, PW, D>,
-    C: PseudoCompressionFunction<PW, N, D>,
+    H: CryptographicHasher<u32, u32, 1>,
+    C: PseudoCompressionFunction<u32, N, 1>,
     R,
-    M: Matrix<P::Value>,
+    M: Matrix<u32>,
     const N: usize,
-    const D: usize,
-    const SALT_ELEMS: usize,
 >(
     alloc: Global,
-    scheme: &MerkleTreeHidingMmcs<P, PW, H, C, R, N, D, SALT_ELEMS>,
-    cap: &MerkleCap<P::Value, [PW::Value; D]>,
-    tree: &SaltedTree<P::Value, PW::Value, M, N, D>,
+    scheme: &Salted<H, C, R, N>,
+    cap: &Cap,
+    tree: &Tree<M, N>,
     dimensions: &[Dimensions],
     index: usize,
-) -> Result<Judged<BatchOpening<P::Value, SaltedProof<P::Value, PW::Value, D>>>, MerkleTreeError>
-    requires commitment { let c = salted_params_of H.hash C.compression D scheme.now dimensions.now in
+) -> Result<Judged<Opening>, MerkleTreeError>
+    requires commitment { let c = salted_params_of H.hash C.compression 1 scheme.now dimensions.now in
         IsCommitment c (roots_of cap.now) (tree_batch tree.now) (layers_of tree.now) }
-    requires columns { HaveSaltColumns SALT_ELEMS (matrices_of tree.now) }
+    requires columns { HaveSaltColumns 1 (matrices_of tree.now) }
     requires dimensions { dimensions.now ≡ dimensions_in M.height_of M.width_of (map left_of (matrices_of tree.now)) }
     ensures accepted { IfOk result (λ (opening, verdict). IfErr verdict (λ e. e ≡ OutOfMemory)) }
 {
-    laws::dimensions::<P::Value, M, N>();
+    laws::dimensions::<u32, M, N>();
     let max_height = scheme.get_max_height(tree);
     if index >= max_height {
         return Err(MerkleTreeError::IndexOutOfBounds { max_height, index });
@@ -124,30 +115,26 @@ fn judged_index<
 ///
 /// That the tree has not all the indices, or that there is no memory.
 fn judged_indices<
-    P: PackedValue,
-    PW: PackedValue,
-    H: CryptographicHasher<P, PW, D>,
-    C: PseudoCompressionFunction<PW, N, D>,
+    H: CryptographicHasher<u32, u32, 1>,
+    C: PseudoCompressionFunction<u32, N, 1>,
     R,
-    M: Matrix<P::Value>,
+    M: Matrix<u32>,
     const N: usize,
-    const D: usize,
-    const SALT_ELEMS: usize,
 >(
     alloc: Global,
-    scheme: &MerkleTreeHidingMmcs<P, PW, H, C, R, N, D, SALT_ELEMS>,
-    cap: &MerkleCap<P::Value, [PW::Value; D]>,
-    tree: &SaltedTree<P::Value, PW::Value, M, N, D>,
+    scheme: &Salted<H, C, R, N>,
+    cap: &Cap,
+    tree: &Tree<M, N>,
     dimensions: &[Dimensions],
     indices: &[usize],
-) -> Result<Judged<MultiOpening<P::Value, PW::Value, D>>, MerkleTreeError>
-    requires commitment { let c = salted_params_of H.hash C.compression D scheme.now dimensions.now in
+) -> Result<Judged<MultiOpening>, MerkleTreeError>
+    requires commitment { let c = salted_params_of H.hash C.compression 1 scheme.now dimensions.now in
         IsCommitment c (roots_of cap.now) (tree_batch tree.now) (layers_of tree.now) }
-    requires columns { HaveSaltColumns SALT_ELEMS (matrices_of tree.now) }
+    requires columns { HaveSaltColumns 1 (matrices_of tree.now) }
     requires dimensions { dimensions.now ≡ dimensions_in M.height_of M.width_of (map left_of (matrices_of tree.now)) }
     ensures accepted { IfOk result (λ (opening, verdict). IfErr verdict (λ e. e ≡ OutOfMemory)) }
 {
-    laws::dimensions::<P::Value, M, N>();
+    laws::dimensions::<u32, M, N>();
     check_indices(scheme.get_max_height(tree), indices)?;
     let (rows, proof) = scheme.open_multi_batch(alloc, indices, tree)?;
     let verdict = scheme.verify_multi_batch(alloc, cap, dimensions, indices, &rows, &proof);
@@ -160,24 +147,18 @@ fn judged_indices<
 ///
 /// Why the matrices are not committed to; that they have not all the indices; that there is no memory.
 fn judged_openings<
-    P: PackedValue,
-    PW: PackedValue,
-    H: CryptographicHasher<P, PW, D>,
-    C: PseudoCompressionFunction<PW, N, D>,
+    H: CryptographicHasher<u32, u32, 1>,
+    C: PseudoCompressionFunction<u32, N, 1>,
     R: CryptoRng,
-    M: Matrix<P::Value> + Drop,
+    M: Matrix<u32> + Drop,
     const N: usize,
-    const D: usize,
-    const SALT_ELEMS: usize,
 >(
     alloc: Global,
-    scheme: &mut MerkleTreeHidingMmcs<P, PW, H, C, R, N, D, SALT_ELEMS>,
+    scheme: &mut Salted<H, C, R, N>,
     matrices: Vec<M>,
     index: usize,
     indices: &[usize],
-) -> Result<BothJudged<P::Value, PW::Value, D>, MerkleTreeError>
-where
-    P::Value: SaltWord,
+) -> Result<BothJudged, MerkleTreeError>
     ensures one { IfOk result (λ (one, several). IfErr one.1 (λ e. e ≡ OutOfMemory)) }
     ensures several { IfOk result (λ (one, several). IfErr several.1 (λ e. e ≡ OutOfMemory)) }
 {
@@ -189,7 +170,7 @@ where
 
 /// The scheme of two children over the fold functions, whose cap is the root, with one salt for each row. The salts
 /// are 1, 2, 3 and so on.
-fn scheme() -> MerkleTreeHidingMmcs<u32, u32, FoldHash<1>, FoldCompress<2, 1>, Counting, 2, 1, 1> {
+fn scheme() -> Salted<FoldHash<1>, FoldCompress<2, 1>, Counting, 2> {
     let rng = Counting { step: 1, last: 0 };
     MerkleTreeHidingMmcs::new(FoldHash, FoldCompress, 0, rng)
 }

@@ -1,13 +1,12 @@
 //! Generic code over the bounds of a scheme, called at packings of one and two lanes and at digests of two words.
 
-use crate::merkle::accepted::judged_opening;
+use crate::merkle::calls::accepted_cap;
 use p3_hashes::fold::{FoldCompress, FoldHash};
 use p3_hashes::lanes::Lanes;
 use p3_merkle_tree::{CapRule, MerkleCap, MerkleTreeError, MerkleTreeMmcs};
 use std::alloc::{AllocError, Global};
 use std::process::Abort;
 use std::test::Fail;
-use test_fixtures::matrices::numbered;
 
 /// The widths and the heights of the matrices that are committed to in different ways.
 static SIZES: [(usize, usize); 4] = [(1, 17), (1, 9), (1, 5), (1, 3)];
@@ -31,29 +30,20 @@ fn fixed(cap_height: usize) -> PairScheme {
     PairScheme::new_with_rule(FoldHash, FoldCompress, cap_height, CapRule::Fixed)
 }
 
-/// The cap of this scheme over matrices of these widths and heights, where the opening of an index is accepted.
-fn pair_cap(
-    alloc: Global,
-    scheme: &PairScheme,
-    sizes: &[(usize, usize)],
-    index: usize,
-) -> Result<PairCap, MerkleTreeError> {
-    let (cap, (_, verdict)) = judged_opening(alloc, scheme, numbered(alloc, sizes)?, index)?;
-    verdict?;
-    Ok(cap)
+/// The cap at arity 2 and digests of two words, in one lane.
+fn pair_cap(alloc: Global, cap_height: usize) -> Result<PairCap, MerkleTreeError> {
+    accepted_cap(alloc, &fixed(cap_height), &SIZES, 2)
 }
 
-/// The same by the scheme in two lanes, for one list of matrices and one index.
+/// That cap in two lanes.
 fn pair_cap_by_two(alloc: Global, cap_height: usize) -> Result<PairCap, MerkleTreeError> {
     let scheme = LanesScheme::new_with_rule(FoldHash, FoldCompress, cap_height, CapRule::Fixed);
-    let (cap, (_, verdict)) = judged_opening(alloc, &scheme, numbered(alloc, &SIZES)?, 7)?;
-    verdict?;
-    Ok(cap)
+    accepted_cap(alloc, &scheme, &SIZES, 7)
 }
 
 /// Whether both caps are the same.
 fn commit_alike(alloc: Global, cap_height: usize) -> Result<bool, MerkleTreeError> {
-    Ok(pair_cap(alloc, &fixed(cap_height), &SIZES, 2)? == pair_cap_by_two(alloc, cap_height)?)
+    Ok(pair_cap(alloc, cap_height)? == pair_cap_by_two(alloc, cap_height)?)
 }
 
 #[test]
@@ -66,7 +56,7 @@ fn lanes_commit_alike_to_digests_of_two_words(rt: HostRuntime) -> Result<(), Fai
 
 /// Asserts the root over the rows 0 and 1, where the opening of row 1 is accepted.
 fn assert_root(rt: &impl Abort, alloc: Global, scheme: &PairScheme) -> Result<(), MerkleTreeError> {
-    let cap = pair_cap(alloc, scheme, &[(1, 2)], 1)?;
+    let cap = accepted_cap(alloc, scheme, &[(1, 2)], 1)?;
     assert_eq!(rt; cap.roots(), [[994, 1986]].as_slice());
     Ok(())
 }
