@@ -1,19 +1,19 @@
 -- Slots that are filled in groups, and what each lane of packed digests shows.
-use Rattle.std.proofs.Common.{◌≡◌, ℕ, zero, suc, ◌+◌, ◌-◌, ◌*◌, ◌<◌, ◌≤◌, List, [], ◌∷◌, ◌++◌, length, map, take, drop}
-use Rattle.std.proofs.Common.{get_or, set, replicate, min, ◌^◌, All, refl, sym, ap, ◌∙◌, arith, inl, inr, append-nil}
-use Rattle.std.proofs.Common.{length-drop}
+use Rattle.std.proofs.Common.{◌≡◌, ℕ, zero, suc, ◌+◌, ◌-◌, ◌*◌, ◌/◌, ◌<◌, ◌≤◌, List, [], ◌∷◌, ◌++◌, length, map, take}
+use Rattle.std.proofs.Common.{drop, get_or, set, replicate, min, ◌^◌, All, refl, sym, ap, ◌∙◌, arith, inl, inr}
+use Rattle.std.proofs.Common.{append-nil, length-drop}
 use Rattle.std.specs.List.{flat_map}
 use Rattle.std.proofs.lemmas.Bool.{cases_lt, cases_eq, eq-eqb}
 use Rattle.std.proofs.lemmas.Grind.{flat_map-append}
 use Rattle.std.proofs.lemmas.List.{drop_more, flat_map_more, take_more, take_more_set, append_assoc, set_at}
 use Rattle.std.proofs.lemmas.List.{length-take-le, get_or_append_left, get_or-append_right, get_or-take, get_or-drop}
 use Rattle.std.proofs.lemmas.List.{get_or-replicate}
-use Rattle.std.proofs.Math.Nat.{mul-le-mul_right, mul-le-mul_left, mul-suc, add-mul, one-mul}
+use Rattle.std.proofs.Math.Nat.{div-mul-le_self, mul_comm, mul-le-mul_right, mul-le-mul_left, mul-suc, add-mul, one-mul}
 use Rattle.p3_support.specs.Lists.{lane_of, rows_of_height}
 use Rattle.p3_merkle_digests.specs.Inner.Slots.{rows_over}
 use borrow.Rule.Slice.PartMut.{put_mid}
 use prog.Memory.{capped}
-use prog.Capped.{capped_fits, capped_is, capped_small}
+use prog.Capped.{capped_is, capped_small}
 
 -- the end of a group of w is w past its start
 pub group_next : (g w : ℕ) → (g + 1) * w ≡ g * w + w
@@ -23,6 +23,12 @@ group_next g w = add-mul g 1 w ∙ ap (λ v. g * w + v) (one-mul w)
 pub group_end : (g w n m : ℕ) → g < n → n * w ≤ m → g * w + w ≤ m
 group_end g w n m below fits = let more : (g + 1) * w ≤ n * w = mul-le-mul_right w (omega arith) in
     omega (arith, group_next g w, more)
+
+-- a message ends within the words, which are parted among n messages
+pub message_end : (i n m : ℕ) → i < n → (i + 1) * (m / n) ≤ m
+message_end i n m below =
+    let whole : n * (m / n) ≤ m = omega (arith, div-mul-le_self m n, mul_comm n (m / n)) in
+    omega (arith, group_next i (m / n), group_end i (m / n) n m below whole)
 
 -- what stands in a part that was just written
 pub part_written : {X : Type 0} (xs ys : List X) (a k n j : ℕ) (d : X) → length ys ≡ n → a ≤ length xs → j < n →
@@ -155,43 +161,21 @@ pub rows_alone : {T M : Type 0} (row : M → ℕ → List T) (j : ℕ) (ms : Lis
     ≡ get_or ms 0 m → rows_over row ms j ≡ row m j
 rows_alone row j ms m one is = rw (one_element ms m one is) (append-nil (row m j))
 
--- an array of arrays of s bytes each fits, where the product of the numbers is small as code has it, which caps what is
--- too large
-pub array_small : (outer inner s : ℕ) → min (outer * min (inner * capped s) (2 ^ 64 - 1)) (2 ^ 64 - 1) < 2 ^ 63 →
-    outer * (inner * s) < 2 ^ 63
-array_small outer inner s h =
+-- an array of arrays of s bytes each fits, where its bytes are few as code counts them, which caps what is too large
+pub array_small : (outer inner s size row bytes : ℕ) → size ≡ capped s → row ≡ min (inner * size) (2 ^ 64 - 1) →
+    bytes ≡ min (outer * row) (2 ^ 64 - 1) → bytes < 2 ^ 63 → outer * (inner * s) < 2 ^ 63
+array_small outer inner s size row bytes is_size is_row is_bytes h =
     elim (cases_eq outer 0) [
       | inl none ↦ rw none (omega arith)
       | inr some ↦
-          let part : ℕ = min (inner * capped s) (2 ^ 64 - 1) in
-          let more : 1 * part ≤ outer * part = mul-le-mul_right part (omega arith) in
-          let small : inner * capped s < 2 ^ 63 = omega (arith, more, h) in
+          let more : 1 * row ≤ outer * row = mul-le-mul_right row (omega arith) in
+          let whole : row ≡ inner * size = omega (arith, more) in
           elim (cases_eq inner 0) [
             | inl none ↦ let zero_sum : outer * (inner * s) ≡ 0 = rw none (omega arith) in omega arith
             | inr there ↦
-                let one : 1 * capped s ≤ inner * capped s = mul-le-mul_right (capped s) (omega arith) in
-                let size : s < 2 ^ 63 = capped_small s (omega (arith, one, small)) in
-                let is : capped s ≡ s = capped_is s (omega (arith, size)) in
-                let all : min (outer * min (inner * s) (2 ^ 64 - 1)) (2 ^ 64 - 1) < 2 ^ 63 = rw is at h in
-                let same : min (inner * s) (2 ^ 64 - 1) ≡ inner * s = let few : inner * s < 2 ^ 63 = rw is at small in
-                omega arith in
-                let whole : min (outer * (inner * s)) (2 ^ 64 - 1) < 2 ^ 63 = rw same at all in
-                omega arith
+                let one : 1 * size ≤ inner * size = mul-le-mul_right size (omega arith) in
+                let small : s < 2 ^ 63 = capped_small s (rw (← is_size) (omega (arith, more, one))) in
+                let is : size ≡ s = is_size ∙ capped_is s (omega (arith, small)) in
+                rw (← is, ← whole) (omega (arith, more))
           ]
     ]
-
--- a word holds no more of a size than the size
-capped_le : (s : ℕ) → capped s ≤ s
-capped_le s = elim (cases_lt s (2 ^ 64)) [
-  | inl small ↦ let is : capped s ≡ s = capped_is s small in omega (arith, is)
-  | inr large ↦ let fits : capped s < 2 ^ 64 = capped_fits s in omega (arith, fits)
-]
-
--- and it is small where the array fits
-pub array_fits : (outer inner s : ℕ) → outer * (inner * s) < 2 ^ 63 →
-    min (outer * min (inner * capped s) (2 ^ 64 - 1)) (2 ^ 64 - 1) < 2 ^ 63
-array_fits outer inner s h =
-    let part : ℕ = min (inner * capped s) (2 ^ 64 - 1) in
-    let size : inner * capped s ≤ inner * s = mul-le-mul_left inner (capped_le s) in
-    let less : outer * part ≤ outer * (inner * s) = mul-le-mul_left outer (omega (arith, size)) in
-    omega (arith, less, h)

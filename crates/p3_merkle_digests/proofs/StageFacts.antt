@@ -4,7 +4,7 @@ use Rattle.std.proofs.Common.{drop, get_or, replicate, All, refl, sym, ap, subst
 use Rattle.std.proofs.Common.{length-append, length-drop, append-nil}
 use Rattle.std.specs.List.{flat_map, range_with_len}
 use Rattle.std.specs.Simd.{first_chunks}
-use Rattle.std.proofs.lemmas.Bool.{cases_lt, cases_eq}
+use Rattle.std.proofs.lemmas.Bool.{cases_lt, cases_eq, lt-ltb}
 use Rattle.std.proofs.lemmas.List.{drop_at, take_all, take-append-le, drop-append-le, get_or-append_right, get_or-drop}
 use Rattle.std.proofs.lemmas.List.{get_or-take, drop-drop, flat_map_more, length-take-le, length-map, get_or-map}
 use Rattle.std.proofs.lemmas.List.{get_or_append_left}
@@ -13,7 +13,7 @@ use Rattle.std.proofs.lemmas.Simd.{map-map}
 use Rattle.std.proofs.Math.Nat.{mul-le-mul_left, mul-le-mul_right, mul_comm, mul-suc}
 use Rattle.p3_support.specs.Lists.{message, messages}
 use Rattle.p3_support.specs.Inner.RowLengths.{next_start}
-use Rattle.p3_merkle_digests.specs.Inner.Slots.{rows_over, IsFilled, IsStaged}
+use Rattle.p3_merkle_digests.specs.Inner.Slots.{leaf_over, rows_over, IsFilled, IsStaged}
 use Rattle.p3_merkle_digests.proofs.LaneFacts.{part_written, part_before, rows_alone}
 use borrow.Rule.Slice.PartMut.{put_mid, same_len_mid}
 
@@ -163,6 +163,24 @@ fill_part f made xs ys a k n len same inside is each before =
           ∙ get_or-map-range_with_len made 0 (length (take k (drop a xs))) j j [] (omega (arith, part, h)) (omega arith)
           ∙ each j h) (omega arith) before.filled;
     }
+
+-- one more part is written, with the digests of the rows that are staged
+pub leaves_part : {T W : Type 0} (hash : List T → List W) (d : List W) (rows : ℕ → List T) (h : ℕ) (words : List T)
+    (xs ys : List (List W)) (a k n len : ℕ) → k ≡ n → a + n ≤ length xs → a + n ≤ h
+    → IsStaged (λ j. rows (a + j)) k words
+    → ((w : ℕ) → length words ≡ w * length (take k (drop a xs))
+    → ys ≡ map hash (messages w (length (take k (drop a xs))) words))
+    → IsFilled (leaf_over hash d rows h) a len xs → IsFilled (leaf_over hash d rows h) (a + n) len (put_mid a k xs ys)
+leaves_part hash d rows h words xs ys a k n len same inside below s hashed before =
+    let row = λ (j : ℕ). rows (a + j) in
+    let made = λ (j : ℕ). hash (row j) in
+    let long : length (take k (drop a xs)) ≡ k = length-take-le k (drop a xs) (omega (arith, length-drop a xs)) in
+    let all : ys ≡ map made (range_with_len 0 (length (take k (drop a xs)))) =
+    hashed s.width (s.long ∙ ap (λ m. s.width * m) (sym long)) ∙ ap (λ m. map hash (messages s.width m words)) long
+    ∙ ap (map hash) s.are ∙ map-map hash row (range_with_len 0 k)
+    ∙ ap (λ m. map made (range_with_len 0 m)) (sym long) in
+    fill_part (leaf_over hash d rows h) made xs ys a k n len same inside all
+    (λ j small. let there : a + j < h = omega (arith, small) in rw (lt-ltb (a + j) h there) refl) before
 
 -- the first slots hold what was made of the first of a list
 pub filled_front : {G W : Type 0} (C : List G → List W) (groups : List (List G)) (xs ys : List (List W)) (n : ℕ) →

@@ -2,7 +2,6 @@
 #![tactic(auto)]
 
 pub mod batched;
-pub mod leaves;
 pub mod packed;
 pub mod plain;
 pub mod rows;

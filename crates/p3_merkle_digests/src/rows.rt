@@ -1,10 +1,21 @@
-//! The rows of one layer of a tree: its matrices, which have one height, and the hasher of their rows.
+//! The rows of one layer of a tree, and their digests: in batches or lane by lane while there are enough rows, and the
+//! others one by one.
 
-ghost use Rattle.std.specs.Prelude.{◌≡◌, ◌+◌, ◌≤◌, ℕ, All, IfSome};
-ghost use Rattle.p3_merkle_digests.specs.Inner.Slots.{rows_over, IsStaged};
+ghost use Rattle.std.specs.Mem.{FitsInMemory};
+ghost use denote.Param.{ArrayAt};
+ghost use Rattle.std.specs.Prelude.{◌≡◌, ℕ, ◌+◌, ◌*◌, ◌<◌, ◌≤◌, All, IfOk, IfSome, length, map, replicate};
+ghost use Rattle.std.specs.List.{range_with_len};
+ghost use Rattle.p3_support.specs.Lists.{lane_of};
+ghost use Rattle.p3_merkle_digests.specs.Inner.Slots.{leaf_over, rows_over, IsFilled};
 
+use crate::batched::{lone_rows, messages_per_call, row_len, words_of_rows};
+use crate::packed::{packed_blocks, stage_packed_rows};
+use crate::plain::{MIN_LENT_WIDTH, hash_each, lend_rows, no_pieces};
+use p3_support::hasher::CryptographicHasher;
 use p3_support::matrix::Matrix;
-use p3_support::packed::PackedValue;
+use p3_support::packed::{PackedValue, unpack_at};
+use p3_support::rows::rows_of;
+use std::alloc::{AllocError, Global};
 use std::marker::PhantomData;
 
 /// The rows of one layer, and the hasher that digests them. Row `j` of the layer is row `j` of each of its matrices,
@@ -22,21 +33,196 @@ pub struct LayerRows<'a, P: PackedValue, PW, H, M: Matrix<P::Value>, X> {
     ghost of_height: { All (λ m. M.height_of m ≡ height) matrices.now },
 }
 
-/// The `count` rows from `first` on as one slice, row after row, if there is only one matrix and it has them in one
-/// piece. Each matrix has `height` rows, and `first + count` is at most `height`.
-pub(crate) fn lone_rows<T: Copy, M: Matrix<T>>(
-    matrices: &[M],
-    height: usize,
-    first: usize,
-    count: usize,
-) -> Option<&[T]>
-    requires heights { All (λ m. M.height_of m ≡ height) matrices.now }
-    requires inside { first + count ≤ height }
-    ensures { let rows = λ (j : ℕ). rows_over M.row_of matrices.now (first + j) in
-        IfSome result (λ words. IsStaged rows count words.now) }
-{
-    let [matrix] = matrices else {
-        return None;
-    };
-    matrix.row_chunk(first, count)
+impl<
+    'a,
+    P: PackedValue,
+    PW: PackedValue,
+    H: CryptographicHasher<P, PW, D>,
+    M: Matrix<P::Value>,
+    const D: usize,
+> LayerRows<'a, P, PW, H, M, [PW::Value; D]> {
+    /// The digest of a row, if the matrices are few, the first is wide enough, and each lends its own. The row is below
+    /// the height.
+    fn pieces_digest(&self, row: usize) -> Option<[PW::Value; D]>
+        requires { row < self.now.height }
+        ensures { IfSome result
+            (λ digest. digest ≡ H.hash self.now.hash.now (rows_over M.row_of self.now.matrices.now row)) }
+    {
+        if self.matrices.first()?.width() < MIN_LENT_WIDTH {
+            return None;
+        }
+        let mut pieces = no_pieces();
+        let count = lend_rows(self.matrices, self.height, row, &mut pieces)?;
+        Some(self.hash.hash_iter_slices(pieces[..count].iter().copied()))
+    }
+
+    /// The digest of a row; the default digest past the height.
+    pub fn digest(&self, row: usize) -> [PW::Value; D]
+        ensures { result ≡ leaf_over (H.hash self.now.hash.now) (replicate D PW.default_value)
+            (rows_over M.row_of self.now.matrices.now) self.now.height row }
+    {
+        if row >= self.height {
+            return [PW::Value::default(); D];
+        }
+        // One matrix: no test after each word for the end of its row.
+        if let [matrix] = self.matrices {
+            return match matrix.row_slice(row) {
+                Some(words) => self.hash.hash_slice(words),
+                None => self.hash.hash_iter(matrix.row(row)),
+            };
+        }
+        match self.pieces_digest(row) {
+            Some(digest) => digest,
+            None => self
+                .hash
+                .hash_iter(rows_of(self.matrices, self.height, row)),
+        }
+    }
+
+    /// The digests of the rows from `row` on: lane `k` is that of row `row + k`, for each lane that both packings have.
+    /// `row + P::WIDTH` must be at most the height. `staged` is a buffer for the rows of several matrices.
+    ///
+    /// # Errors
+    ///
+    /// `AllocError` if memory runs out.
+    pub fn packed_digest(&self, row: usize, staged: &mut Vec<P>) -> Result<[PW; D], AllocError>
+        requires { row + P.WIDTH ≤ self.now.height }
+        ensures { IfOk result (λ digests. (k : ℕ) → k < P.WIDTH → k < PW.WIDTH →
+            lane_of PW.lanes PW.default_value k digests
+            ≡ H.hash self.now.hash.now (rows_over M.row_of self.now.matrices.now (row + k))) }
+    {
+        if let [matrix] = self.matrices {
+            return Ok(
+                self.hash
+                    .hash_packed(matrix.vertically_packed_row::<P>(row)),
+            );
+        }
+        stage_packed_rows(staged, self.matrices, self.height, row)?;
+        Ok(self.hash.hash_packed(staged.iter().copied()))
+    }
+
+    /// Writes the digests of the rows into the first slots: `blocks` blocks, each of as many slots as there are lanes.
+    /// Both packings have equally many lanes, and `blocks * PW::WIDTH` is at most the number of slots, and at most the
+    /// height. If `blocks` is above 0, a packed digest has fewer than 2^63 bytes.
+    fn write_packed(
+        &self,
+        alloc: Global,
+        blocks: usize,
+        slots: &mut [[PW::Value; D]],
+    ) -> Result<(), AllocError>
+        requires lanes { P.WIDTH ≡ PW.WIDTH }
+        requires digest { 0 < blocks → FitsInMemory (ArrayAt PW.row D.row) }
+        requires rows { blocks * PW.WIDTH ≤ self.now.height }
+        requires fits { blocks * PW.WIDTH ≤ length slots.old }
+        ensures { let leaf = leaf_over (H.hash self.now.hash.now) (replicate D PW.default_value)
+            (rows_over M.row_of self.now.matrices.now) self.now.height in
+            IfOk result (λ done. IsFilled leaf (blocks * PW.WIDTH) (length slots.old) slots.new) }
+    {
+        let mut staged = Vec::new(alloc);
+        for block in 0..blocks {
+            let first = block * PW::WIDTH;
+            let digests = self.packed_digest(first, &mut staged)?;
+            unpack_at(&digests, slots, first);
+        }
+        Ok(())
+    }
+
+    /// Writes the digests of the rows into the first `count` slots, as many rows per call as [`messages_per_call`]
+    /// says. `count` must be at most the number of slots, and at most the height.
+    ///
+    /// # Errors
+    ///
+    /// `AllocError` if memory runs out.
+    pub fn write_batched(
+        &self,
+        alloc: Global,
+        count: usize,
+        slots: &mut [[PW::Value; D]],
+    ) -> Result<(), AllocError>
+        requires rows { count ≤ self.now.height }
+        requires fits { count ≤ length slots.old }
+        ensures { let leaf = leaf_over (H.hash self.now.hash.now) (replicate D PW.default_value)
+            (rows_over M.row_of self.now.matrices.now) self.now.height in
+            IfOk result (λ done. IsFilled leaf count (length slots.old) slots.new) }
+    {
+        let len = row_len(self.matrices);
+        let bytes = len.saturating_mul(std::mem::size_of_val(&P::Value::default()));
+        let rows = messages_per_call(bytes, H::LANES);
+        let mut staged = Vec::with_capacity(alloc, rows.min(count).saturating_mul(len))?;
+        let mut first = 0;
+        while first < count {
+            let end = first + rows.min(count - first);
+            let words = words_of_rows(&mut staged, self.matrices, self.height, first, end - first)?;
+            self.hash.hash_many(words, &mut slots[first..end]);
+            first = end;
+        }
+        Ok(())
+    }
+
+    /// Writes the digest of row `j` into slot `j`, from slot `first` on, if the layer has one matrix and it returns its
+    /// rows as one slice. The slots before `first` have their digests. Returns how many of the first slots have theirs
+    /// then: `first` if nothing is written.
+    fn write_lent(&self, first: usize, slots: &mut [[PW::Value; D]]) -> usize
+        requires { let leaf = leaf_over (H.hash self.now.hash.now) (replicate D PW.default_value)
+            (rows_over M.row_of self.now.matrices.now) self.now.height in
+            IsFilled leaf first (length slots.old) slots.old }
+        ensures { let leaf = leaf_over (H.hash self.now.hash.now) (replicate D PW.default_value)
+            (rows_over M.row_of self.now.matrices.now) self.now.height in
+            IsFilled leaf result (length slots.old) slots.new }
+    {
+        let end = self.height.min(slots.len());
+        if first >= end {
+            return first;
+        }
+        match lone_rows(self.matrices, self.height, first, end - first) {
+            Some(words) => {
+                hash_each::<P, PW, H, D>(self.hash, words, &mut slots[first..end]);
+                end
+            },
+            None => first,
+        }
+    }
+
+    /// Writes into each slot from the first `done` on the digest of the row of its number.
+    fn write_remaining(&self, done: usize, slots: &mut [[PW::Value; D]])
+        requires { let leaf = leaf_over (H.hash self.now.hash.now) (replicate D PW.default_value)
+            (rows_over M.row_of self.now.matrices.now) self.now.height in
+            IsFilled leaf done (length slots.old) slots.old }
+        ensures { let leaf = leaf_over (H.hash self.now.hash.now) (replicate D PW.default_value)
+            (rows_over M.row_of self.now.matrices.now) self.now.height in
+            slots.new ≡ map leaf (range_with_len 0 (length slots.old)) }
+    {
+        // Rows that one matrix has in one piece have a loop of their own, without a test for each row.
+        let done = self.write_lent(done, slots);
+        for j in done..slots.len() {
+            slots[j] = self.digest(j);
+        }
+    }
+
+    /// The digests of the rows, in `len` slots. Past the height there are default digests. Both packings must have
+    /// equally many lanes.
+    ///
+    /// # Errors
+    ///
+    /// `AllocError` if memory runs out.
+    pub fn digests(&self, alloc: Global, len: usize) -> Result<Vec<[PW::Value; D]>, AllocError>
+        requires { P.WIDTH ≡ PW.WIDTH }
+        ensures { let leaf = leaf_over (H.hash self.now.hash.now) (replicate D PW.default_value)
+            (rows_over M.row_of self.now.matrices.now) self.now.height in
+            IfOk result (λ v. v.items ≡ map leaf (range_with_len 0 len)) }
+    {
+        let mut slots = vec![in alloc; [PW::Value::default(); D]; len]?;
+        let count = self.height.min(len);
+        // In batches where the hasher takes several messages at a time, else lane by lane.
+        let done = if H::LANES > 1 {
+            self.write_batched(alloc, count, &mut slots)?;
+            count
+        } else {
+            let blocks = packed_blocks::<PW, 1, D>(count);
+            self.write_packed(alloc, blocks, &mut slots)?;
+            blocks * PW::WIDTH
+        };
+        self.write_remaining(done, &mut slots);
+        Ok(slots)
+    }
 }

@@ -23,8 +23,9 @@ loop-first-preserved g c =
     ∷ ds) (range_with_len 0 (length (take k (drop first xs)))) in
     let default = ap (λ d. groups (replicate (g.row.N - 2) (replicate g.row.D d)))
     (g.met.PW.PackedValue.default_is_unique digest c.default-default_digest.ensures) in
-    let made = c.in_ok-inject_part.ensures ∙ ap (map compression) default in
-    let more = join_more compression pad rows c.args.slots.now xs c.inject_part.new.slots first k n same few inside made
+    let made = c.compress_many.ensures
+    ∙ ap (map compression) (c.deref.ensures.value ∙ c.in_ok-stage_pairs.ensures.pairs ∙ default) in
+    let more = join_more compression pad rows c.args.slots.now xs c.compress_many.new.out first k n same few inside made
     c.loop-first.invariant.1 c.loop-first.invariant.2 in
     (few, more.0, more.1)
 

@@ -4,6 +4,7 @@ use Rattle.std.proofs.Common.{slice_index_or}
 use Rattle.std.specs.List.{range_with_len}
 use Rattle.std.proofs.lemmas.List.{get_or_read}
 use Rattle.std.proofs.lemmas.List.FromFn.{map-range_with_len_more}
+use Rattle.p3_merkle_digests.proofs.StageFacts.{made_long}
 use Rattle.p3_merkle_digests.proofs.batched.stage_pairs.Goals as goal
 
 pub loop-j-preserved : goal.loop-j-preserved
@@ -22,3 +23,10 @@ loop-j-preserved g c =
     c.in_ok-push.ensures.items ∙ ap (λ l. l ++ c.pair_group.result ∷ []) c.loop-j.invariant
     ∙ ap (λ x. map group (range_with_len 0 j) ++ x ∷ []) is
     ∙ sym (map-range_with_len_more group 0 j j (omega arith))
+
+pub returns-clause-count : goal.returns-clause-count
+returns-clause-count g c =
+    let folded = c.args.folded.now in
+    made_long (λ (i : ℕ). slice_index_or folded i [] ∷ slice_index_or c.args.rows.now i []
+    ∷ replicate (g.row.N - 2) c.args.default_digest) c.loop-j.j c.loop-j.pairs.items c.loop-j.invariant
+    ∙ omega arith
