@@ -1,4 +1,4 @@
-//! Extraction of collisions from two openings of one cap.
+//! Extraction of collisions from two openings of one cap, single or pruned.
 
 ghost use Rattle.std.specs.Prelude.{◌≡◌, ◌<◌, IfOk, IsTrue, MatchResult, None, Some, length};
 ghost use Rattle.p3_merkle_core.specs.Checks.{is_authenticated as authenticates};
@@ -6,8 +6,8 @@ ghost use Rattle.p3_support.specs.Batches.{heights_of};
 ghost use Rattle.p3_merkle_core.specs.Extraction.{IsExtraction};
 ghost use Rattle.p3_merkle_core.specs.Gate.{gate_refusal};
 ghost use Rattle.p3_merkle_core.specs.Geometry.{shape_of};
-ghost use Rattle.p3_merkle_core.specs.Presented.{presented};
-ghost use Rattle.p3_merkle_core.specs.Views.{found_alone, opening_lent};
+ghost use Rattle.p3_merkle_core.specs.Presented.{presented, presented_pruned};
+ghost use Rattle.p3_merkle_core.specs.Views.{found_alone, found_pair, opening_lent, pruned_lent};
 ghost use Rattle.p3_merkle_core.specs.declared.cap.CapRule.TheVariants.{Lowered};
 ghost use Rattle.p3_merkle_mmcs.specs.Schemes.{cap_layer_of, cap_rule_of, params_of};
 ghost use Rattle.p3_support.specs.Shown.{roots_of};
@@ -16,8 +16,9 @@ use crate::mmcs::{MerkleTreeMmcs, Scheme};
 use p3_merkle_core::collision::Collision;
 use p3_merkle_core::error::MerkleTreeError;
 use p3_merkle_core::geometry::exponent_of;
+use p3_merkle_core::pruning::PrunedMerklePaths;
 use p3_merkle_core::steps::steps_of;
-use p3_merkle_verifier::openings::IndexedOpening;
+use p3_merkle_verifier::openings::{BorrowedOpening, IndexedOpening};
 use p3_support::compress::PseudoCompressionFunction;
 use p3_support::hasher::CryptographicHasher;
 use p3_support::matrix::Dimensions;
@@ -96,9 +97,60 @@ impl<
             let second = presented PW.Value.eq c (roots_of commit.now) (opening_lent index2 second.entry) in
             IsExtraction P.Value.eq PW.Value.eq (cap_rule_of self.now) c first second (found_alone result) }
     {
-        let cap_layer = self.cap_layer(dimensions);
+        let steps = steps_of(dimensions, N);
+        let cap_layer = steps.cap_layer(self.cap_rule, self.cap_height);
         let first = IndexedOpening::new(index1, first);
         let second = IndexedOpening::new(index2, second);
-        self.checker().extraction(alloc, commit.roots(), dimensions, cap_layer, first, second)
+        self.checker()
+            .extraction(alloc, commit.roots(), &steps, cap_layer, first, second)
+    }
+
+    /// Extracts a collision from two accepted pruned openings of one cap: two different inputs of the hasher or of the
+    /// compression with one digest, with the queries that lead to it, or `None` if all queries agree.
+    ///
+    /// The first opening is `indices1`, `rows1` and `proof1`, the second `indices2`, `rows2` and `proof2`, each as
+    /// [`verify_batch_pruned`](Self::verify_batch_pruned) takes it: a row set for each index, and one proof. Both are
+    /// verified so, and the path of each query is restored. Then each query of the first opening is compared with each
+    /// of the second as [`extract_collision`](Self::extract_collision) compares two openings. Returns the first pair
+    /// that gives a collision, in the order of the first list, then of the second: the place of each query in its list,
+    /// from 0, and the collision. The call takes the time of a check for each pair, and memory for the restored paths
+    /// and for what two checks share.
+    ///
+    /// # Errors
+    ///
+    /// The error of `verify_batch_pruned` for the first opening, else that for the second; `OutOfMemory` may come at
+    /// any time.
+    pub fn extract_collision_multi(
+        &self,
+        alloc: Global,
+        commit: &MerkleCap<P::Value, [PW::Value; D]>,
+        dimensions: &[Dimensions],
+        indices1: &[usize],
+        rows1: &[Vec<Vec<P::Value>>],
+        proof1: &PrunedMerklePaths<PW::Value, D>,
+        indices2: &[usize],
+        rows2: &[Vec<Vec<P::Value>>],
+        proof2: &PrunedMerklePaths<PW::Value, D>,
+    ) -> Result<Option<(usize, usize, Collision<P::Value, PW::Value, D>)>, MerkleTreeError>
+        ensures { let c = params_of H.hash C.compression D self.now dimensions.now in
+            let presented = presented_pruned P.Value.eq PW.Value.eq c (roots_of commit.now) in
+            let first = presented (pruned_lent indices1.now rows1.now proof1.now) in
+            let second = presented (pruned_lent indices2.now rows2.now proof2.now) in
+            IsExtraction P.Value.eq PW.Value.eq (cap_rule_of self.now) c first second (found_pair result) }
+    {
+        let steps = steps_of(dimensions, N);
+        let cap_layer = steps.cap_layer(self.cap_rule, self.cap_height);
+        let first = BorrowedOpening {
+            indices: indices1,
+            sets: rows1,
+            sent: proof1.sibling_hashes.as_slice(),
+        };
+        let second = BorrowedOpening {
+            indices: indices2,
+            sets: rows2,
+            sent: proof2.sibling_hashes.as_slice(),
+        };
+        self.checker()
+            .pruned_extraction(alloc, commit.roots(), &steps, cap_layer, first, second)
     }
 }

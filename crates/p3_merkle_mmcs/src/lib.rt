@@ -3,7 +3,6 @@
 #![tactic(auto)]
 
 mod extract;
-mod extract_multi;
 pub mod mmcs;
 mod pruned;
 mod schedule;

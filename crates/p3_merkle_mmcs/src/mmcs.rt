@@ -5,13 +5,13 @@ ghost use Rattle.p3_merkle_core.specs.Geometry.{is_arity, IsArity};
 ghost use Rattle.p3_merkle_core.specs.Commitments.{cap_over, IsCommitment, IsOwn};
 ghost use Rattle.p3_support.specs.Batches.{greatest};
 
-use p3_merkle_core::cap::{CapRule, cap_layer_of};
+use p3_merkle_core::cap::CapRule;
 use p3_merkle_core::error::MerkleTreeError;
 use p3_merkle_core::steps::steps_of;
-use p3_merkle_prover::opener::{cap_layer_in, rows_of_index, siblings_of_index, steps_in};
+use p3_merkle_prover::opener::{rows_of_index, siblings_of_index, steps_in};
 use p3_merkle_prover::tree::MerkleTree;
-use p3_merkle_verifier::level::Checker;
 use p3_merkle_verifier::openings::IndexedOpening;
+use p3_merkle_verifier::path::Checker;
 use p3_support::compress::PseudoCompressionFunction;
 use p3_support::hasher::CryptographicHasher;
 use p3_support::matrix::{Dimensions, Matrix};
@@ -67,8 +67,7 @@ impl<P: PackedValue, PW: PackedValue, H: Clone, C: Clone, X: Clone, G: Clone, co
 }
 
 impl<P: PackedValue, PW: PackedValue, H, C, X, G, const N: usize> Scheme<P, PW, H, C, X, G, N> {
-    ghost use Rattle.p3_merkle_core.specs.Geometry.{shape_of};
-    ghost use Rattle.p3_merkle_mmcs.specs.Schemes.{cap_height_of, cap_layer_over, cap_rule_of, compression_of, hash_of};
+    ghost use Rattle.p3_merkle_mmcs.specs.Schemes.{cap_height_of, cap_rule_of, compression_of, hash_of};
 
     /// The cap height that was given to [`new`](Self::new), in levels below the root.
     pub fn cap_height(&self) -> usize
@@ -82,13 +81,6 @@ impl<P: PackedValue, PW: PackedValue, H, C, X, G, const N: usize> Scheme<P, PW, 
         ensures { result ≡ cap_rule_of self.now }
     {
         self.cap_rule
-    }
-
-    /// The layer that is the cap of a tree over matrices of these dimensions.
-    pub(crate) fn cap_layer(&self, dimensions: &[Dimensions]) -> usize
-        ensures { result ≡ cap_layer_over self.now (shape_of N dimensions.now) }
-    {
-        cap_layer_of(dimensions, N, self.cap_rule, self.cap_height)
     }
 
     /// The checker of openings, with the scheme's hasher and compression.
@@ -201,7 +193,7 @@ impl<
             &self.compress,
             matrices,
         )?;
-        let cap_layer = cap_layer_in(&tree, self.cap_rule, self.cap_height);
+        let cap_layer = steps_in(&tree).cap_layer(self.cap_rule, self.cap_height);
         let cap = tree.cap(alloc, tree.num_layers() - 1 - cap_layer)?;
         Ok((cap, tree))
     }

@@ -1,8 +1,7 @@
 //! Pruned openings: the rows of several leaves by one proof, with no digest that the rows give already.
 
 ghost use Rattle.std.specs.Prelude.{◌≡◌, ◌<◌, All, IfOk, IsOk, None, length, map};
-ghost use Rattle.p3_merkle_core.specs.Caps.{cap_layer};
-ghost use Rattle.p3_merkle_core.specs.Geometry.{heights, shape_of, IsArity};
+ghost use Rattle.p3_merkle_core.specs.Geometry.{heights, shape_of};
 ghost use Rattle.p3_merkle_core.specs.Commitments.{cap_over, IsOwn};
 ghost use Rattle.p3_support.specs.Batches.{greatest};
 ghost use Rattle.p3_merkle_core.specs.Nodes.{shape};
@@ -17,50 +16,22 @@ ghost use Rattle.p3_merkle_mmcs.specs.Schemes.{cap_layer_of, cap_layer_over, par
 ghost use Rattle.p3_support.specs.Shown.{roots_of};
 
 use crate::mmcs::{MerkleTreeMmcs, Scheme};
-use p3_merkle_core::cap::{CapRule, cap_layer_of};
 use p3_merkle_core::error::MerkleTreeError;
-use p3_merkle_core::geometry::{check_heights, tallest_of};
 use p3_merkle_core::pruning::{
     MerkleAuthPath, PrunedBatchOpening, PrunedMerklePaths, PrunedProof, PrunedRows, check_indices,
-    pruned_len_of,
+    covered_leaves,
 };
-use p3_merkle_prover::opener::cap_layer_in;
+use p3_merkle_core::steps::steps_of;
+use p3_merkle_prover::opener::steps_in;
 use p3_merkle_prover::pruned::{digests_of_boundary, rows_of_indices};
 use p3_merkle_prover::tree::MerkleTree;
-use p3_merkle_verifier::check::{Commitment, check_pruned_opening};
-use p3_merkle_verifier::paths::restored_paths_of;
-use p3_merkle_verifier::restorable::BorrowedOpening;
+use p3_merkle_verifier::openings::BorrowedOpening;
 use p3_support::compress::PseudoCompressionFunction;
 use p3_support::hasher::CryptographicHasher;
 use p3_support::matrix::{Dimensions, Matrix};
 use p3_support::opening::MerkleCap;
 use p3_support::packed::PackedValue;
 use std::alloc::Global;
-
-/// The number of digests in a pruned proof, as [`Scheme::pruned_len`] says, under the cap of this height by this rule.
-/// The arity must be a power of two from 2 to 2^62.
-///
-/// # Errors
-///
-/// Those of [`Scheme::pruned_len`].
-fn pruned_len_under(
-    alloc: Global,
-    dimensions: &[Dimensions],
-    arity: usize,
-    rule: CapRule,
-    cap_height: usize,
-    indices: &[usize],
-) -> Result<usize, MerkleTreeError>
-    requires { IsArity arity }
-    ensures answer { AnswersUnlessMemory result (pruned_len_refusal (shape_of arity dimensions.now) indices.now) }
-    ensures least { let s = shape_of arity dimensions.now in
-        IfOk result (λ count. IsLeast s indices.now (cap_layer s rule cap_height) count) }
-{
-    check_heights(dimensions)?;
-    check_indices(tallest_of(dimensions), indices)?;
-    let cap_layer = cap_layer_of(dimensions, arity, rule, cap_height);
-    Ok(pruned_len_of(alloc, dimensions, arity, cap_layer, indices)?)
-}
 
 impl<P: PackedValue, PW: PackedValue, H, C, X, G, const N: usize> Scheme<P, PW, H, C, X, G, N> {
     /// The number of digests in a pruned proof of these indices, over matrices of these dimensions. The proof has a
@@ -84,14 +55,12 @@ impl<P: PackedValue, PW: PackedValue, H, C, X, G, const N: usize> Scheme<P, PW, 
         ensures least { let cap_layer = cap_layer_of self.now dimensions.now in
             IfOk result (λ count. IsLeast (shape_of N dimensions.now) indices.now cap_layer count) }
     {
-        pruned_len_under(
-            alloc,
-            dimensions,
-            N,
-            self.cap_rule,
-            self.cap_height,
-            indices,
-        )
+        let steps = steps_of(dimensions, N);
+        steps.check_heights()?;
+        check_indices(steps.max_height, indices)?;
+        let cap_layer = steps.cap_layer(self.cap_rule, self.cap_height);
+        let leaves = covered_leaves(alloc, indices)?;
+        Ok(steps.boundary_len(cap_layer, leaves))
     }
 }
 
@@ -145,7 +114,7 @@ impl<
             map (λ i. (i, (honest c.functions b c.layer i).siblings)) indices.now) }
         ensures memory { AnswersUnlessMemory result None }
     {
-        let cap_layer = cap_layer_in(tree, self.cap_rule, self.cap_height);
+        let cap_layer = steps_in(tree).cap_layer(self.cap_rule, self.cap_height);
         let opened_values = rows_of_indices(alloc, tree, indices)?;
         let sibling_hashes = digests_of_boundary(alloc, tree, indices, cap_layer)?;
         Ok(PrunedRows {
@@ -240,17 +209,15 @@ impl<
             let count = pruned_len (shape_of N dimensions.now) indices.now cap_layer in
             IsOk result → length proof.now.sibling_hashes.items ≡ count }
     {
-        let commitment = Commitment {
-            roots: commit.roots(),
-            dimensions,
-            cap_layer: self.cap_layer(dimensions),
-        };
+        let steps = steps_of(dimensions, N);
+        let cap_layer = steps.cap_layer(self.cap_rule, self.cap_height);
         let opening = BorrowedOpening {
             indices,
             sets: rows,
             sent: proof.sibling_hashes.as_slice(),
         };
-        check_pruned_opening::<P, PW, H, C, N, D>(alloc, &self.checker(), &commitment, opening)
+        self.checker()
+            .check_pruned_opening(alloc, commit.roots(), &steps, cap_layer, opening)
     }
 
     /// The same as [`verify_batch_pruned`](Self::verify_batch_pruned).
@@ -319,13 +286,14 @@ impl<
             let p = pruned_lent indices.now rows.now proof.now in
             IfOk result (λ paths. shown_paths paths.items ≡ restored_paths c p) }
     {
-        let cap_layer = self.cap_layer(dimensions);
+        let steps = steps_of(dimensions, N);
+        let cap_layer = steps.cap_layer(self.cap_rule, self.cap_height);
         let opening = BorrowedOpening {
             indices,
             sets: rows,
             sent: proof.sibling_hashes.as_slice(),
         };
-        let checker = self.checker();
-        restored_paths_of::<P, PW, H, C, N, D>(alloc, &checker, dimensions, cap_layer, opening)
+        self.checker()
+            .restored_paths(alloc, None, &steps, cap_layer, opening)
     }
 }

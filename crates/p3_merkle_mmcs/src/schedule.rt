@@ -3,78 +3,18 @@
 ghost use Rattle.std.specs.Prelude.{◌≡◌, ◌≤◌, IfErr, IfOk, map, take, vec_len, None};
 ghost use Rattle.p3_support.specs.Batches.{heights_of};
 ghost use Rattle.p3_merkle_core.specs.Gate.{gate_refusal};
-ghost use Rattle.p3_merkle_core.specs.Geometry.{positions_below, schedule_below, shape_of, IsArity};
+ghost use Rattle.p3_merkle_core.specs.Geometry.{positions_below, schedule_below, shape_of};
 ghost use Rattle.p3_merkle_core.specs.Refusals.{replay_refusal, AnswersUnlessMemory};
 
 use crate::mmcs::Scheme;
 use p3_merkle_core::error::MerkleTreeError;
 use p3_merkle_core::geometry::ArityAndPositions;
-use p3_merkle_core::steps::{Steps, steps_of};
+use p3_merkle_core::steps::steps_of;
 use p3_merkle_prover::opener::{matrix_refs, max_height};
 use p3_merkle_prover::tree::Tree;
 use p3_support::matrix::{Dimensions, Matrix};
 use p3_support::packed::PackedValue;
 use std::alloc::Global;
-
-/// The step of each level below a layer, as [`Scheme::proof_arity_schedule`] says. The layer must be at most the number
-/// of levels.
-///
-/// # Errors
-///
-/// Those of [`Scheme::replay_arity_and_positions`].
-fn schedule_to(
-    alloc: Global,
-    steps: &Steps<'_>,
-    cap_layer: usize,
-) -> Result<Vec<usize>, MerkleTreeError>
-    requires { cap_layer ≤ steps.now.num_levels }
-    ensures answer { AnswersUnlessMemory result (gate_refusal (heights_of steps.now.dimensions.now)) }
-    ensures steps { let s = shape_of steps.now.arity steps.now.dimensions.now in
-        IfOk result (λ v. v.items ≡ schedule_below s cap_layer) }
-{
-    steps.check_heights()?;
-    Ok(steps.schedule_below(alloc, cap_layer)?)
-}
-
-/// The path of the leaf `index` to a layer, as [`Scheme::replay_arity_and_positions`] says. The arity must be a power
-/// of two from 2 to 2^62, and the layer at most the number of levels.
-///
-/// # Errors
-///
-/// Those of [`Scheme::replay_arity_and_positions`].
-fn path_to(
-    alloc: Global,
-    steps: &Steps<'_>,
-    cap_layer: usize,
-    index: usize,
-    num_siblings: usize,
-) -> Result<ArityAndPositions, MerkleTreeError>
-    requires arity { IsArity steps.now.arity }
-    requires layer { cap_layer ≤ steps.now.num_levels }
-    ensures answer { let s = shape_of steps.now.arity steps.now.dimensions.now in
-        AnswersUnlessMemory result (replay_refusal s cap_layer index num_siblings) }
-    ensures schedule { let s = shape_of steps.now.arity steps.now.dimensions.now in
-        IfOk result (λ r. r.arity_schedule.items ≡ schedule_below s cap_layer) }
-    ensures positions { let s = shape_of steps.now.arity steps.now.dimensions.now in
-        IfOk result (λ r. r.query_positions.items ≡ positions_below s cap_layer index) }
-{
-    steps.check_heights()?;
-    let max_height = steps.max_height;
-    if index >= max_height {
-        return Err(MerkleTreeError::IndexOutOfBounds { max_height, index });
-    }
-    let expected_proof_len = steps.siblings_below(cap_layer);
-    if num_siblings != expected_proof_len {
-        return Err(MerkleTreeError::WrongHeight {
-            expected_proof_len,
-            num_siblings,
-        });
-    }
-    Ok(ArityAndPositions {
-        arity_schedule: steps.schedule_below(alloc, cap_layer)?,
-        query_positions: steps.positions_below(alloc, cap_layer, index)?,
-    })
-}
 
 impl<P: PackedValue, PW: PackedValue, H, C, X: Copy, G, const N: usize> Scheme<
     P,
@@ -112,8 +52,9 @@ impl<P: PackedValue, PW: PackedValue, H, C, X: Copy, G, const N: usize> Scheme<
         ensures few { IfOk result (λ v. vec_len v ≤ exponent (greatest (heights_of dimensions.now))) }
     {
         let steps = steps_of(dimensions, N);
+        steps.check_heights()?;
         let cap_layer = steps.cap_layer(self.cap_rule, self.cap_height);
-        schedule_to(alloc, &steps, cap_layer)
+        Ok(steps.schedule_below(alloc, cap_layer)?)
     }
 
     /// The path of the leaf `index` to the cap, for a proof of `num_siblings` digests: the steps of
@@ -140,8 +81,23 @@ impl<P: PackedValue, PW: PackedValue, H, C, X: Copy, G, const N: usize> Scheme<
             IfOk result (λ r. r.query_positions.items ≡ positions_below s (cap_layer_over self.now s) index) }
     {
         let steps = steps_of(dimensions, N);
+        steps.check_heights()?;
+        let max_height = steps.max_height;
+        if index >= max_height {
+            return Err(MerkleTreeError::IndexOutOfBounds { max_height, index });
+        }
         let cap_layer = steps.cap_layer(self.cap_rule, self.cap_height);
-        path_to(alloc, &steps, cap_layer, index, num_siblings)
+        let expected_proof_len = steps.siblings_below(cap_layer);
+        if num_siblings != expected_proof_len {
+            return Err(MerkleTreeError::WrongHeight {
+                expected_proof_len,
+                num_siblings,
+            });
+        }
+        Ok(ArityAndPositions {
+            arity_schedule: steps.schedule_below(alloc, cap_layer)?,
+            query_positions: steps.positions_below(alloc, cap_layer, index)?,
+        })
     }
 
     /// The matrices of a tree, in input order.

@@ -1,16 +1,13 @@
 -- An opening of the right form is answered by the cap's entry.
 use Rattle.std.proofs.Common.{◌≡◌, ℕ, Bool, List, ap, sym, ◌∙◌, length, Option, None}
 use Rattle.std.specs.Option.{option_or}
-use Rattle.std.specs.Prelude.{Ok}
 use Rattle.std.specs.Cmp.Lexicographic.{pointwise}
 use Rattle.p3_merkle_core.specs.Geometry.{Shape, ancestor}
 use Rattle.p3_merkle_core.specs.Nodes.{Functions}
 use Rattle.p3_merkle_core.specs.Openings.{Opening}
 use Rattle.p3_merkle_core.specs.Checks.{path_digest, params}
-use Rattle.p3_merkle_core.specs.Refusals.{IsEquality, answer_under, form_refusal, is_entry, unless, ok_unless}
+use Rattle.p3_merkle_core.specs.Refusals.{answer_under, form_refusal, is_entry, unless, ok_unless}
 use Rattle.p3_merkle_core.specs.declared.error.MerkleTreeError.TheVariants.{CapMismatch}
-use Rattle.p3_merkle_core.proofs.Checks.Verdicts.{accepted_from}
-use Rattle.p3_merkle_verifier.specs.Inner.Paths.{CanCheck, CanReach}
 
 -- where the form is not refused, the cap's entry decides
 decided_by : {E : Type 0} (form entry : Option E) → form ≡ None → option_or form entry ≡ entry
@@ -29,10 +26,3 @@ answered_by_entry same f s t roots o digest node entry known form is_digest is_n
     ∙ ap (λ refusal. ok_unless refusal (tt {0}))
     (sym (decided_by (form_refusal s t o.index o.rows (length o.siblings))
     (unless (is_entry (pointwise same) roots (ancestor s t o.index) (path_digest f s o t)) CapMismatch) form))
-
--- what is answered by Ok has its siblings
-pub reach_from : {T W : Type 0} (same : W → W → Bool) (f : Functions T W) (s : Shape) (t : ℕ) (roots : List (List W))
-    (o : Opening T W) → IsEquality same → CanCheck s t → Ok tt ≡ answer_under same (params f s t) roots o →
-    CanReach s t (length o.siblings)
-reach_from same f s t roots o dec w is = let a = accepted_from same f s t roots o dec (sym is) in
-    record { arity = w.arity; in_tree = w.in_tree; all_siblings = a.count }

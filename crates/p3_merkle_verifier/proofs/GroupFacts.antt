@@ -1,17 +1,19 @@
 -- One more digest: of a group, of a pair, of a query's rows.
 use Rattle.std.proofs.Common.{◌≡◌, ◌∙◌, ℕ, zero, suc, ◌+◌, ◌-◌, ◌*◌, ◌/◌, ◌<◌, ◌≤◌, List, [], ◌∷◌, ◌++◌}
-use Rattle.std.proofs.Common.{append-nil, map, ap, refl, sym, arith, length, length-drop, get_or, drop, take, zip}
+use Rattle.std.proofs.Common.{append-nil, map, ap, refl, sym, arith, length, length-drop, get_or, drop}
+use Rattle.std.proofs.Common.{replicate, take, zip}
 use Rattle.std.specs.List.{range_with_len}
 use Rattle.std.specs.declared.vec.Vec.{Vec}
 use Rattle.std.specs.Simd.{first_chunks}
 use Rattle.std.proofs.Math.Nat.{div-mul-le_self, mul-le-mul_left, mul-suc, mul_comm}
-use Rattle.std.proofs.lemmas.List.{map_more, get_or-map, length-map, length-take-le}
+use Rattle.std.proofs.lemmas.List.{get_or-map, length-map, length-take-le}
 use Rattle.std.proofs.lemmas.List.FromFn.{fill_by_all, map-range_with_len_more}
 use Rattle.std.proofs.lemmas.Slice.Zip.{get_or-zip, length-zip}
 use Rattle.p3_support.specs.Shown.{row_lists, row_sets}
 use Rattle.p3_merkle_core.specs.Nodes.{padded}
 use Rattle.p3_merkle_digests.proofs.StageFacts.{chunk_at}
-use Rattle.p3_merkle_verifier.specs.Inner.NodeDigests.{group_digest}
+use Rattle.p3_merkle_digests.specs.Inner.Slots.{IsFilled}
+use Rattle.p3_merkle_verifier.specs.Inner.NodeDigests.{group_digest, pair_digest}
 
 -- a whole group has no default elements
 whole_is : {X : Type 0} (n : ℕ) (d : X) (xs : List X) → length xs ≡ n → xs ≡ padded n d xs
@@ -49,23 +51,19 @@ pub one_more : {X : Type 0} (f : ℕ → X) (n : ℕ) (old new : List X) (x : X)
     ≡ old ++ x ∷ [] → x ≡ f n → new ≡ map f (range_with_len 0 (n + 1))
 one_more f n old new x so_far pushed is = rw (pushed, so_far, is) (sym (map-range_with_len_more f 0 n n (omega arith)))
 
--- one more of the elements of a list
-pub mapped_more : {X Y : Type 0} (f : X → Y) (xs : List X) (n : ℕ) (d : X) (old new : List Y) (y : Y) → n < length xs →
-    old ≡ map f (take n xs) → new ≡ old ++ y ∷ [] → y ≡ f (get_or xs n d) →
-    new ≡ map f (take (n + 1) xs)
-mapped_more f xs n d old new y h so_far pushed is = rw (pushed, so_far, is) (sym (map_more f xs n d h))
-
-pub pairs_long : {A B : Type 0} (xs : List A) (ys : List B) → length ys ≡ length xs → length (zip xs ys) ≡ length xs
-pairs_long xs ys e = omega (arith, length-zip xs ys)
-
--- one more pair
-pub pairs_more : {X Y : Type 0} (f : X × X → Y) (xs ys : List X) (n : ℕ) (old new : List Y) (z : Y) (x y : X) →
-    n < length xs → n < length ys → x ≡ get_or xs n x → y ≡ get_or ys n y → old ≡ map f (take n (zip xs ys)) →
-    new ≡ old ++ z ∷ [] → z ≡ f (x, y) → new ≡ map f (take (n + 1) (zip xs ys))
-pairs_more f xs ys n old new z x y in_x in_y at_x at_y so_far pushed is =
-    let pair : get_or (zip xs ys) n (x, y) ≡ (x, y) = get_or-zip xs ys n (x, y) in_x in_y
-    ∙ ap (λ a. (a, get_or ys n y)) (sym at_x) ∙ ap (λ b. (x, b)) (sym at_y) in
-    mapped_more f (zip xs ys) n (x, y) old new z (omega (arith, length-zip xs ys)) so_far pushed (is ∙ ap f (sym pair))
+-- each node's digest compressed with that of its rows
+pub pairs_injected : {W : Type 0} (compression : List (List W) → List W) (n : ℕ) (d : List W)
+    (nodes rows slots : List (List W)) → length rows ≡ length nodes →
+    IsFilled (λ j. compression (get_or nodes j [] ∷ get_or rows j [] ∷ replicate (n - 2) d)) (length rows)
+    (length nodes) slots → slots ≡ map (pair_digest compression n d) (zip nodes rows)
+pairs_injected compression n d nodes rows slots same filled =
+    let pair = pair_digest compression n d in
+    let joined = λ (j : ℕ). compression (get_or nodes j [] ∷ get_or rows j [] ∷ replicate (n - 2) d) in
+    let long : length (zip nodes rows) ≡ length nodes = omega (arith, length-zip nodes rows) in
+    fill_by_all joined slots (length nodes) [] filled.long (λ j h. filled.filled j (omega arith))
+    ∙ sym (fill_by_all joined (map pair (zip nodes rows)) (length nodes) [] (length-map (zip nodes rows) pair ∙ long)
+    (λ j h. get_or-map pair (zip nodes rows) j ([], []) [] (omega arith)
+    ∙ ap pair (get_or-zip nodes rows j ([], []) h (omega arith))))
 
 -- a row set that is read
 pub set_read : {T A B : Type 0} (rows : List (Vec (Vec T A) B)) (n : ℕ) (v : Vec (Vec T A) B) → n < length rows → v

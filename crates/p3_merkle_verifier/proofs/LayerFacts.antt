@@ -3,23 +3,24 @@ use Rattle.std.proofs.Common.{◌≡◌, ◌∙◌, ℕ, zero, suc, ◌+◌, ◌
 use Rattle.std.proofs.Common.{map, refl, ap, sym, arith, inl, inr, length, length-append, take, drop, zip, All}
 use Rattle.std.proofs.Common.{append_assoc}
 use Rattle.std.specs.List.{flat_map, range_with_len}
-use Rattle.std.proofs.lemmas.Bool.{cases_Bool}
+use Rattle.std.proofs.lemmas.Bool.{cases_Bool, cond_both}
 use Rattle.std.proofs.lemmas.List.{drop_at, length-map, map-id, take_at}
 use Rattle.std.proofs.lemmas.List.FromFn.{length-range_with_len}
-use Rattle.p3_merkle_core.specs.Geometry.{Shape, has_rows, heights, layer_exponent, step}
+use Rattle.std.proofs.Math.Nat.{mul-div_cancel_left}
+use Rattle.p3_merkle_core.specs.Geometry.{Shape, has_rows, heights, is_bridge, layer_exponent, step}
 use Rattle.p3_merkle_core.specs.Nodes.{Functions, compress_padded}
 use Rattle.p3_merkle_core.specs.Pruning.{CanQuery, IsAgreed, PrunedOpening, boundary, pruned_of}
 use Rattle.p3_merkle_core.specs.Inner.Covered.{covered_at}
 use Rattle.p3_merkle_core.specs.Pruning.{restored_node, value_of}
 use Rattle.p3_merkle_core.proofs.Covered.Equivalence.{restored_leaf, restored_next, rows_agree}
 use Rattle.p3_merkle_core.proofs.Checks.PathFacts.{group_values}
+use Rattle.p3_merkle_core.proofs.Shapes.StepFacts.{step_above_1}
 use Rattle.p3_merkle_core.proofs.Covered.ValueFacts.{IsWalkedLevel, children_are}
-use Rattle.p3_merkle_verifier.proofs.PrunedWalkFacts.{same_map}
+use Rattle.p3_merkle_verifier.proofs.ChildFacts.{same_map}
 use Rattle.p3_merkle_verifier.specs.Inner.NodeDigests.{group_digest, layer_digests, pair_digest, query_digest}
-use Rattle.p3_merkle_verifier.specs.Inner.RestoredLevels.{AreRestored, IsCoveredAt, IsNextLevel, IsValuedLevel}
-use Rattle.p3_merkle_verifier.specs.Inner.RestoredLevels.{node_of_query}
-use Rattle.p3_merkle_verifier.specs.declared.covered.Covered.{Covered}
-use Rattle.p3_merkle_verifier.specs.declared.covered.NextLevel.{NextLevel}
+use Rattle.p3_merkle_verifier.specs.Inner.RestoredLevels.{node_of_query, AreRestored, IsCoveredAt, IsLayer}
+use Rattle.p3_merkle_verifier.specs.Inner.RestoredLevels.{IsLayerAbove}
+use Rattle.p3_merkle_verifier.specs.declared.pruned.Covered.{Covered}
 use Rattle.p3_merkle_core.specs.Checks.{params}
 
 -- ---- lists
@@ -77,14 +78,14 @@ module _ {T W : Type 0} (f : Functions T W) (s : Shape) (t : ℕ) (p : PrunedOpe
   below_is : (j : ℕ) → below_digest j ≡ compress_padded f s.arity (group_values s (value_of (params f s t) p) l j)
   below_is j = ap (compress_padded f s.arity) (group_is (value_of (params f s t) p l) (step s l * j) (step s l))
 
-  -- a node with rows, by its lead
-  with_lead : IsAgreed s t p → suc l ≤ t → has_rows s (suc l) ≡ true → (k : ℕ) → k < length p.indices →
+  -- a node with rows, by its query
+  with_query : IsAgreed s t p → suc l ≤ t → has_rows s (suc l) ≡ true → (k : ℕ) → k < length p.indices →
       pair_digest f.compression s.arity f.default_digest (
         below_digest (node_of_query s p.indices (suc l) k),
         query_digest f.hash (layer_exponent s (suc l)) (heights s) p.rows k,
       )
       ≡ restored_node (params f s t) p (suc l) (node_of_query s p.indices (suc l) k)
-  with_lead agreed le has k h =
+  with_query agreed le has k h =
       let j = node_of_query s p.indices (suc l) k in
       let words = rows_agree s t p agreed k (suc l) h le in
       let next = rw has at (restored_next f s t p l j) in
@@ -94,15 +95,15 @@ module _ {T W : Type 0} (f : Functions T W) (s : Shape) (t : ℕ) (p : PrunedOpe
   without_rows none j = let next = rw none at (restored_next f s t p l j) in below_is j ∙ sym next
 
   -- the layer above, from the children's values
-  layer_next : IsAgreed s t p → suc l ≤ t → (n : ℕ) (has : Bool) (x : ℕ) (leads : List ℕ)
+  layer_next : IsAgreed s t p → suc l ≤ t → (n : ℕ) (has : Bool) (x : ℕ) (queries : List ℕ)
       (children : List (List W)) → n ≡ step s l → has ≡ has_rows s (suc l) → x ≡ layer_exponent s (suc l) →
-      covered_at s p.indices (suc l) ≡ map (node_of_query s p.indices (suc l)) leads →
-      All (λ k. k < length p.indices) leads → length children / n ≡ length (covered_at s p.indices (suc l)) →
+      covered_at s p.indices (suc l) ≡ map (node_of_query s p.indices (suc l)) queries →
+      All (λ k. k < length p.indices) queries → length children / n ≡ length (covered_at s p.indices (suc l)) →
       children ≡ flat_map (λ j. map (value_of (params f s t) p l) (range_with_len (step s l * j) (step s l)))
       (covered_at s p.indices (suc l)) →
-      layer_digests f s.arity n has (heights s) x p.rows leads children
+      layer_digests f s.arity n has (heights s) x p.rows queries children
       ≡ map (restored_node (params f s t) p (suc l)) (covered_at s p.indices (suc l))
-  layer_next agreed le n has x leads children is_step is_has is_x are among count values =
+  layer_next agreed le n has x queries children is_step is_has is_x are among count values =
       let parents = covered_at s p.indices (suc l) in
       let group = λ (j : ℕ). map (value_of (params f s t) p l) (range_with_len (step s l * j) (step s l)) in
       let node = node_of_query s p.indices (suc l) in
@@ -118,52 +119,16 @@ module _ {T W : Type 0} (f : Functions T W) (s : Shape) (t : ℕ) (p : PrunedOpe
       elim (cases_Bool (has_rows s (suc l))) [
         | inl present ↦
             rw (all, is_x, is_has, present)
-            (ap (λ ys. map pair (zip (map below_digest ys) (map digest leads))) are
-            ∙ ap (λ ys. map pair (zip ys (map digest leads))) (map_map below_digest node leads)
-            ∙ zip_maps pair (λ k. below_digest (node k)) digest leads
+            (ap (λ ys. map pair (zip (map below_digest ys) (map digest queries))) are
+            ∙ ap (λ ys. map pair (zip ys (map digest queries))) (map_map below_digest node queries)
+            ∙ zip_maps pair (λ k. below_digest (node k)) digest queries
             ∙ map_on (λ k. k < length p.indices) (λ k. pair (below_digest (node k), digest k))
-            (λ k. restored_node (params f s t) p (suc l) (node k)) (with_lead agreed le present) leads among
-            ∙ sym (map_map (restored_node (params f s t) p (suc l)) node leads)
+            (λ k. restored_node (params f s t) p (suc l) (node k)) (with_query agreed le present) queries among
+            ∙ sym (map_map (restored_node (params f s t) p (suc l)) node queries)
             ∙ ap (map (restored_node (params f s t) p (suc l))) (sym are))
         | inr none ↦ rw (all, is_x, is_has, none)
             (same_map below_digest (restored_node (params f s t) p (suc l)) (without_rows none) parents)
       ]
-
--- the leaves
-leaves_are : {T W : Type 0} (f : Functions T W) (s : Shape) (t : ℕ) (p : PrunedOpening T W) → IsAgreed s t p →
-    (covered : Covered) (digests : List (List W)) → IsCoveredAt s p.indices 0 covered →
-    digests ≡ map (query_digest f.hash covered.exponent (heights s) p.rows) covered.leads.items → digests
-    ≡ map (restored_node (params f s t) p 0) (covered_at s p.indices 0)
-leaves_are f s t p agreed covered digests at e =
-    let node = node_of_query s p.indices 0 in
-    let leads = covered.leads.items in
-    let are : covered_at s p.indices 0 ≡ map node leads = sym at.nodes_are ∙ at.leads_are in
-    e ∙ ap (λ x. map (query_digest f.hash x (heights s) p.rows) leads) at.at_exponent
-    ∙ map_on (λ k. k < length p.indices) (query_digest f.hash (layer_exponent s 0) (heights s) p.rows)
-    (λ k. restored_node (params f s t) p 0 (node k))
-    (λ k h. ap f.hash (rows_agree s t p agreed k 0 h (omega arith)) ∙ sym (restored_leaf f s t p (node k))) leads
-    at.among
-    ∙ sym (map_map (restored_node (params f s t) p 0) node leads) ∙ ap (map (restored_node (params f s t) p 0)) (sym are)
-
--- as many digests as nodes
-digests_long : {X : Type 0} (s : Shape) (queries : List ℕ) (l : ℕ) (covered : Covered) (value : ℕ → X)
-    (digests : List X) → IsCoveredAt s queries l covered → digests ≡ map value (covered_at s queries l) → length digests
-    ≡ length covered.nodes.items
-digests_long s queries l covered value digests at e = ap length e ∙ length-map (covered_at s queries l) value
-    ∙ ap length (sym at.nodes_are)
-
--- the leaves, with their digests
-pub start_restored : {T W : Type 0} (f : Functions T W) (s : Shape) (t : ℕ) (p : PrunedOpening T W) → IsAgreed s t p →
-    (covered : Covered) (digests : List (List W)) → IsCoveredAt s p.indices 0 covered →
-    digests ≡ map (query_digest f.hash covered.exponent (heights s) p.rows) covered.leads.items →
-    AreRestored f s t p 0 covered digests
-start_restored f s t p agreed covered digests at e =
-    let is = leaves_are f s t p agreed covered digests at e in
-    record {
-      coverage = at;
-      each = digests_long s p.indices 0 covered (restored_node (params f s t) p 0) digests at is;
-      restored = is;
-    }
 
 -- the rows of an opening agree whatever digests it sends
 pub agreed_with : {T W V : Type 0} (s : Shape) (t : ℕ) (indices : List ℕ) (rows : List (List (List T)))
@@ -172,55 +137,112 @@ pub agreed_with : {T W V : Type 0} (s : Shape) (t : ℕ) (indices : List ℕ) (r
 agreed_with s t indices rows digests others a =
     record { in_pairs = a.in_pairs; repeats = a.repeats; groups = a.groups }
 
--- ---- one level up
+-- as many nodes as queries
+pub nodes_long : (s : Shape) (indices : List ℕ) (l : ℕ) (covered : Covered) → IsCoveredAt s indices l covered →
+    length covered.queries.items ≡ length covered.nodes.items
+nodes_long s indices l covered at = sym (ap length at.queries_are
+    ∙ length-map covered.queries.items (node_of_query s indices l))
 
--- the children have their values
-pub level_valued : {T W : Type 0} (f : Functions T W) (s : Shape) (t : ℕ) (p : PrunedOpening T W) →
-    CanQuery s p.indices t → length p.digests ≡ length (boundary s p.indices t) → (l : ℕ) → l < t →
-    (covered : Covered) (next_level : NextLevel (List W)) (digests : List (List W)) →
-    AreRestored f s t p l covered digests → IsNextLevel s p.indices l covered digests p.digests next_level →
-    IsValuedLevel f s t p l next_level
-level_valued f s t p w count l h covered next_level digests here up =
-    let same : IsWalkedLevel f s t p l (λ (d : List _). d) next_level.step next_level.above.nodes.items
-    covered.nodes.items
-    digests (drop covered.used p.digests) =
-    record {
-      step_is = up.step_is;
-      parents_are = up.coverage.nodes_are;
-      covered_are = here.coverage.nodes_are;
-      digests_are = map-id digests ∙ here.restored;
-      sent_is = map-id (drop covered.used p.digests) ∙ ap (λ k. drop k p.digests) here.coverage.sent_below;
-    } in
-    record {
-      step_is = up.step_is;
-      wide = up.wide;
-      full = up.values.each;
-      coverage = up.coverage;
-      values_are =
-          sym (map-id next_level.children.items) ∙ children_are f s t p w count l h (λ (d : List _). d) next_level.step
-          next_level.above.nodes.items covered.nodes.items digests (drop covered.used p.digests)
-          next_level.children.items same up.values;
-    }
+-- ---- digests that are restored
 
--- so the nodes above have their digests
-pub above_restored : {T W : Type 0} (f : Functions T W) (s : Shape) (t : ℕ) (p : PrunedOpening T W) →
-    IsAgreed s t p → (l : ℕ) → l < t → (n : ℕ) → s.arity ≡ n →
-    (covered : Covered) (next_level : NextLevel (List W)) (digests next : List (List W)) →
-    IsNextLevel s p.indices l covered digests p.digests next_level → IsValuedLevel f s t p l next_level →
-    next ≡ layer_digests f n next_level.step next_level.has_rows (heights s) next_level.above.exponent p.rows
-    next_level.above.leads.items next_level.children.items → AreRestored f s t p (suc l) next_level.above next
-above_restored f s t p agreed l h n is_n covered next_level digests next up valued e =
-    let above = next_level.above in
-    let are = sym up.coverage.nodes_are ∙ up.coverage.leads_are in
-    let long = sym up.in_groups ∙ sym (length-map above.leads.items (node_of_query s p.indices (suc l)))
-    ∙ sym (ap length are) in
-    let is = e ∙ ap (λ a. layer_digests f a next_level.step next_level.has_rows (heights s) above.exponent p.rows
-    above.leads.items next_level.children.items) (sym is_n)
-    ∙ layer_next f s t p l agreed (omega arith) next_level.step next_level.has_rows above.exponent above.leads.items
-    next_level.children.items up.step_is up.rows_are up.coverage.at_exponent are up.coverage.among long
-    valued.values_are in
-    record {
-      coverage = up.coverage;
-      each = digests_long s p.indices (suc l) above (restored_node (params f s t) p (suc l)) next up.coverage is;
-      restored = is;
-    }
+module _ {T W : Type 0} (f : Functions T W) (s : Shape) (t : ℕ) (p : PrunedOpening T W) where
+  -- the digests of the leaves
+  pub leaves_restored : IsAgreed s t p → (covered : Covered) (digests : List (List W)) →
+      IsCoveredAt s p.indices 0 covered →
+      digests ≡ map (query_digest f.hash covered.exponent (heights s) p.rows) covered.queries.items →
+      AreRestored f s t p 0 digests
+  leaves_restored agreed covered digests at e =
+      let node = node_of_query s p.indices 0 in
+      let queries = covered.queries.items in
+      let are : covered_at s p.indices 0 ≡ map node queries = sym at.nodes_are ∙ at.queries_are in
+      e ∙ ap (λ x. map (query_digest f.hash x (heights s) p.rows) queries) at.at_exponent
+      ∙ map_on (λ k. k < length p.indices) (query_digest f.hash (layer_exponent s 0) (heights s) p.rows)
+      (λ k. restored_node (params f s t) p 0 (node k))
+      (λ k h. ap f.hash (rows_agree s t p agreed k 0 h (omega arith)) ∙ sym (restored_leaf f s t p (node k))) queries
+      at.among
+      ∙ sym (map_map (restored_node (params f s t) p 0) node queries)
+      ∙ ap (map (restored_node (params f s t) p 0)) (sym are)
+
+  -- the digests of the nodes above layer l, by those of their children and of their rows
+  pub above_restored : IsAgreed s t p → (l : ℕ) → suc l ≤ t → (n : ℕ) → s.arity ≡ n →
+      (covered : Covered) (children digests : List (List W)) → IsLayer f s t p (suc l) covered children →
+      digests ≡ layer_digests f n covered.step covered.has_rows (heights s) covered.exponent p.rows
+      covered.queries.items children → AreRestored f s t p (suc l) digests
+  above_restored agreed l h n is_n covered children digests layer e =
+      let at = layer.coverage in
+      let family = layer.family in
+      let are = sym at.nodes_are ∙ at.queries_are in
+      let long = sym (layer.in_groups (omega arith)) ∙ nodes_long s p.indices (suc l) covered at
+      ∙ ap length at.nodes_are in
+      e ∙ ap (λ a. layer_digests f a covered.step covered.has_rows (heights s) covered.exponent p.rows
+      covered.queries.items children) (sym is_n)
+      ∙ layer_next f s t p l agreed h covered.step covered.has_rows covered.exponent covered.queries.items children
+      family.step_is family.rows_are at.at_exponent are at.among long family.values_are
+
+  pub restored_at : IsAgreed s t p → (l : ℕ) → 0 < l → l ≤ t → (n : ℕ) → s.arity ≡ n →
+      (covered : Covered) (children digests : List (List W)) → IsLayer f s t p l covered children →
+      digests ≡ layer_digests f n covered.step covered.has_rows (heights s) covered.exponent p.rows
+      covered.queries.items children → AreRestored f s t p l digests
+  restored_at agreed zero some h n is_n covered children digests layer e = absurd (omega arith)
+  restored_at agreed (suc l) some h n is_n covered children digests layer e =
+      above_restored agreed l h n is_n covered children digests layer e
+
+  -- as many digests as nodes
+  pub digests_long : (l : ℕ) (covered : Covered) (digests : List (List W)) → IsCoveredAt s p.indices l covered →
+      AreRestored f s t p l digests → length digests ≡ length covered.nodes.items
+  digests_long l covered digests at e = ap length e
+      ∙ length-map (covered_at s p.indices l) (restored_node (params f s t) p l) ∙ ap length (sym at.nodes_are)
+
+  -- ---- one level up
+
+  -- the leaves have no children
+  pub leaves_are : (covered : Covered) (children : List (List W)) → IsCoveredAt s p.indices 0 covered →
+      covered.step ≡ 0 → IsLayer f s t p 0 covered children
+  leaves_are covered children at none = record {
+    coverage = at;
+    wide = λ h. absurd (omega arith);
+    narrow = omega arith;
+    in_groups = λ h. absurd (omega arith);
+    family = tt;
+  }
+
+  -- above a layer with its digests, the children have their values
+  pub layer_rises : CanQuery s p.indices t → length p.digests ≡ length (boundary s p.indices t) → (l : ℕ) → l < t →
+      (below above : Covered) (digests children : List (List W)) → IsCoveredAt s p.indices l below →
+      AreRestored f s t p l digests → IsLayerAbove s p.indices l below digests p.digests above children →
+      IsLayer f s t p (suc l) above children
+  layer_rises w count l h below above digests children here restored up =
+      let same : IsWalkedLevel f s t p l (λ (d : List _). d) above.step above.nodes.items below.nodes.items digests
+      (drop below.used p.digests) =
+      record {
+        step_is = up.step_is;
+        parents_are = up.coverage.nodes_are;
+        covered_are = here.nodes_are;
+        digests_are = map-id digests ∙ restored;
+        sent_is = map-id (drop below.used p.digests) ∙ ap (λ k. drop k p.digests) here.sent_below;
+      } in
+      let two = w.well_shaped.above_1 in
+      let wide : 2 ≤ step s l = step_above_1 s l two in
+      let positive : 0 < above.step = omega (arith, wide, up.step_is) in
+      record {
+        coverage = up.coverage;
+        wide = λ h. positive;
+        narrow = rw up.step_is (cond_both (is_bridge s (layer_exponent s l)) 2 s.arity (λ x. x ≤ s.arity) (λ t. two)
+            (λ t. omega arith));
+        in_groups = λ h. nodes_long s p.indices (suc l) above up.coverage
+            ∙ sym (rw up.values.each (mul-div_cancel_left (length above.nodes.items) positive));
+        family = record {
+          step_is = up.step_is;
+          rows_are = up.rows_are;
+          full = up.values.each;
+          values_are =
+              sym (map-id children) ∙ children_are f s t p w count l h (λ (d : List _). d) above.step above.nodes.items
+              below.nodes.items digests (drop below.used p.digests) children same up.values;
+        };
+      }
+
+  -- the children of a layer above the leaves
+  pub family_above : (l : ℕ) (covered : Covered) (children : List (List W)) → 0 < l →
+      IsLayer f s t p l covered children → length children ≡ covered.step * length covered.nodes.items
+  family_above zero covered children some layer = absurd (omega arith)
+  family_above (suc l) covered children some layer = layer.family.full

@@ -13,7 +13,7 @@ use Rattle.p3_merkle_core.proofs.Shapes.SiblingFacts.{siblings_next, siblings_st
 use Rattle.p3_merkle_core.proofs.Shapes.StepFacts.{anc_next, anc_start, step_above_1}
 use Rattle.p3_merkle_verifier.specs.Inner.Checks.{CanStep, IsAbove, IsLevelOfCheck, IsProgress, step_siblings}
 use Rattle.p3_merkle_verifier.specs.Inner.Paths.{CanReach, rows_of_exponent}
-use Rattle.p3_merkle_verifier.specs.declared.level.Progress.{Progress}
+use Rattle.p3_merkle_verifier.specs.declared.path.Progress.{Progress}
 use Rattle.p3_merkle_core.proofs.Checks.CheckFacts.{full_group, inputs_with_rows, inputs_alone}
 
 -- rows that are read whole, one after another, are the words of these rows
@@ -42,15 +42,15 @@ pub record IsStepFrom (s : Shape) (l n y : ℕ) : Type 0 where
   pub above : y ≡ layer_exponent s (suc l)
 
 -- where there are siblings for the level, the step can take its own
-pub can_step : (s : Shape) (l n y used count : ℕ) → IsArity s.arity → IsStepFrom s l n y → used ≡ siblings_below s l →
+pub can_step : (s : Shape) (l n used count : ℕ) → IsArity s.arity → n ≡ step s l → used ≡ siblings_below s l →
     siblings_below s (suc l) ≤ count → CanStep s.arity n used count
-can_step s l n y used count w from taken enough =
+can_step s l n used count w is_step taken enough =
     let two = w.above_1 in
     record {
-      wide = rw from.is_step (step_above_1 s l two);
-      narrow = rw from.is_step (cond_both (is_bridge s (layer_exponent s l)) 2 s.arity (λ x. x ≤ s.arity) (λ t. two)
+      wide = rw is_step (step_above_1 s l two);
+      narrow = rw is_step (cond_both (is_bridge s (layer_exponent s l)) 2 s.arity (λ x. x ≤ s.arity) (λ t. two)
           (λ t. omega arith));
-      enough = omega (arith, siblings_next s l, from.is_step, taken, enough);
+      enough = omega (arith, siblings_next s l, is_step, taken, enough);
     }
 
 -- more levels have more siblings

@@ -3,15 +3,14 @@ pub mod LevelFacts
 pub mod SharedFacts
 pub mod WalkFacts
 pub mod ExtractFacts
-mod EntryFacts
-mod LeadFacts
-pub mod GroupFacts
+mod ParentFacts
+mod GroupFacts
 mod OpenedFacts
-mod PrunedWalkFacts
+mod ChildFacts
 mod LayerFacts
 mod PathFacts
 mod RootFacts
-pub mod StartFacts
+mod StartFacts
 mod PlaceFacts
 mod PairFacts
 mod QueryFacts

@@ -16,8 +16,8 @@ use Rattle.p3_merkle_verifier.specs.Inner.Checks.{IsLevelOfCheck, IsProgress, le
 use Rattle.p3_merkle_verifier.specs.Inner.Collisions.{IsDifference, Shows, level_inputs}
 use Rattle.p3_merkle_core.specs.declared.collision.Place.TheVariants.{Leaf}
 use Rattle.p3_merkle_core.specs.declared.collision.InputPair.{InputPair}
-use Rattle.p3_merkle_verifier.specs.declared.level.CheckedLevel.{CheckedLevel}
-use Rattle.p3_merkle_verifier.specs.declared.level.Progress.{Progress}
+use Rattle.p3_merkle_verifier.specs.declared.path.CheckedLevel.{CheckedLevel}
+use Rattle.p3_merkle_verifier.specs.declared.path.Progress.{Progress}
 use Rattle.p3_merkle_verifier.proofs.SharedFacts.{difference_below, shows_later}
 use Rattle.p3_support.specs.declared.matrix.Dimensions.{Dimensions}
 use Rattle.p3_support.specs.Shown.{row_lists}

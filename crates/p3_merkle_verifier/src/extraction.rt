@@ -1,26 +1,179 @@
-//! Extraction of a collision from two openings of one cap.
+//! Extraction of a collision from two openings of one cap: both checks are walked side by side, to the last place at
+//! which their inputs differ.
 
-ghost use Rattle.std.specs.Prelude.{IfOk, replicate};
+ghost use Rattle.std.specs.Prelude.{◌≡◌, zip, IfOk, length, replicate};
+ghost use Rattle.std.specs.Cmp.Lexicographic.{pointwise};
 ghost use Rattle.std.specs.Option.{option_or};
-ghost use Rattle.p3_merkle_core.specs.Checks.{params};
-ghost use Rattle.p3_merkle_core.specs.Extraction.{difference_of};
-ghost use Rattle.p3_merkle_core.specs.Refusals.{refusal_under, AnswersUnlessMemory};
-ghost use Rattle.p3_merkle_core.specs.Geometry.{shape_of};
+ghost use Rattle.p3_support.specs.Batches.{heights_of};
+ghost use Rattle.p3_support.specs.Shown.{row_lists};
+ghost use Rattle.p3_merkle_core.specs.Checks.{digests_at, params, words_at, words_of_exponent};
+ghost use Rattle.p3_merkle_core.specs.Extraction.{difference_of, input_eq, last_difference};
+ghost use Rattle.p3_merkle_core.specs.Geometry.{layer_exponent, shape_of};
 ghost use Rattle.p3_merkle_core.specs.Nodes.{functions_of};
-ghost use Rattle.p3_merkle_verifier.specs.Inner.Checks.{opening_in};
-ghost use Rattle.p3_merkle_verifier.specs.Inner.Collisions.{Shows};
-ghost use Rattle.p3_merkle_verifier.specs.Inner.Paths.{CanCheck};
+ghost use Rattle.p3_merkle_core.specs.Refusals.{refusal_under, AnswersUnlessMemory};
+ghost use Rattle.p3_merkle_verifier.specs.Inner.Checks.{functions_by, leaf_difference, opening_in, ShowsLevel};
+ghost use Rattle.p3_merkle_verifier.specs.Inner.Collisions.{first_words, inputs_above, second_words};
+ghost use Rattle.p3_merkle_verifier.specs.Inner.Collisions.{IsDifference, Shows};
+ghost use Rattle.p3_merkle_verifier.specs.Inner.Paths.{CanCheck, CanReach};
 
-use crate::level::Checker;
-use crate::openings::{IndexedOpening, OpeningPair};
-use p3_merkle_core::collision::Collision;
+use crate::openings::{IndexedOpening, OpenedRows};
+use crate::path::{CheckedLevel, Checker};
+use p3_merkle_core::collision::{Collision, InputPair, Place};
 use p3_merkle_core::error::MerkleTreeError;
-use p3_merkle_core::steps::steps_of;
+use p3_merkle_core::steps::Steps;
 use p3_support::compress::PseudoCompressionFunction;
 use p3_support::hasher::CryptographicHasher;
 use p3_support::matrix::Dimensions;
 use p3_support::packed::PackedValue;
-use std::alloc::Global;
+use std::alloc::{AllocError, Global};
+
+/// The rows of two openings, to be compared at the matrices of one exponent.
+#[derive(Drop)]
+struct RowPair<'a, T> {
+    /// The dimensions of all matrices.
+    pub dimensions: &'a [Dimensions],
+    /// The exponent of those whose rows are compared.
+    pub exponent: usize,
+    /// The rows of all matrices in the first opening.
+    pub first: &'a [Vec<T>],
+    /// The rows of all matrices in the second opening.
+    pub second: &'a [Vec<T>],
+}
+
+/// Both lists of digests at a place, if they differ.
+fn differing_digests<T, W: Copy + Eq, const D: usize>(
+    alloc: Global,
+    place: Place,
+    first: &[[W; D]],
+    second: &[[W; D]],
+) -> Result<Option<Collision<T, W, D>>, AllocError>
+    ensures { let same = pointwise (pointwise W.eq) first.now second.now in
+        IfOk result (λ found. IsDifference found same (digests_at place first.now, digests_at place second.now)) }
+{
+    if first == second {
+        return Ok(None);
+    }
+    Ok(Some(InputPair::Digests {
+        place,
+        first: Vec::from_slice(alloc, first)?,
+        second: Vec::from_slice(alloc, second)?,
+    }))
+}
+
+/// The words of the rows of the matrices of one exponent, one row after another.
+fn opened_words<T: Copy + Drop>(
+    alloc: Global,
+    dimensions: &[Dimensions],
+    rows: &[Vec<T>],
+    exponent: usize,
+) -> Result<Vec<T>, AllocError>
+    ensures { let pairs = zip (heights_of dimensions.now) (row_lists rows.now) in
+        IfOk result (λ words. words.items ≡ words_of_exponent exponent pairs) }
+{
+    let opened = OpenedRows {
+        dimensions,
+        rows,
+        exponent,
+    };
+    let mut words = Vec::new(alloc);
+    for row in opened {
+        words.extend_from_slice(row)?;
+    }
+    Ok(words)
+}
+
+/// Both lists of words at a place, if they differ.
+fn differing_words<T: Copy + Eq + Drop, W, const D: usize>(
+    alloc: Global,
+    place: Place,
+    rows: &RowPair<'_, T>,
+) -> Result<Option<Collision<T, W, D>>, AllocError>
+    ensures { let mine = first_words rows.now in
+        let theirs = second_words rows.now in
+        IfOk result (λ found. IsDifference found (pointwise T.eq mine theirs)
+        (words_at place mine, words_at place theirs)) }
+{
+    let first = opened_words(alloc, rows.dimensions, rows.first, rows.exponent)?;
+    let second = opened_words(alloc, rows.dimensions, rows.second, rows.exponent)?;
+    if first == second {
+        return Ok(None);
+    }
+    Ok(Some(InputPair::Words {
+        place,
+        first,
+        second,
+    }))
+}
+
+/// The words that are hashed for the leaf, if the openings are of one leaf and differ there.
+fn leaf_difference<T: Copy + Eq + Drop, W: Copy + Eq, const D: usize>(
+    alloc: Global,
+    steps: &Steps<'_>,
+    first: IndexedOpening<'_, T, [W; D]>,
+    second: IndexedOpening<'_, T, [W; D]>,
+) -> Result<Option<Collision<T, W, D>>, AllocError>
+    ensures { let s = shape_of steps.now.arity steps.now.dimensions.now in
+        let difference = leaf_difference (input_eq T.eq W.eq) s (opening_in first.entry) (opening_in second.entry) in
+        IfOk result (λ found. Shows found difference) }
+{
+    if first.index != second.index {
+        return Ok(None);
+    }
+    let rows = RowPair {
+        dimensions: steps.dimensions,
+        exponent: steps.exponent,
+        first: first.rows,
+        second: second.rows,
+    };
+    differing_words(alloc, Place::Leaf, &rows)
+}
+
+/// The last place of a level above its group at which two checks differ: the pair, else the rows. `rows` are the rows
+/// of both openings at the layer above.
+fn differing_above<T: Copy + Eq + Drop, W: Copy + Eq, const N: usize, const D: usize>(
+    alloc: Global,
+    rows: &RowPair<'_, T>,
+    first: &CheckedLevel<[W; D], [[W; D]; N]>,
+    second: &CheckedLevel<[W; D], [[W; D]; N]>,
+) -> Result<Option<Collision<T, W, D>>, AllocError>
+    ensures { let mine = inputs_above first.now.level (first_words rows.now) first.now.pair in
+        let theirs = inputs_above first.now.level (second_words rows.now) second.now.pair in
+        IfOk result (λ found. Shows found (last_difference (input_eq T.eq W.eq) mine theirs)) }
+{
+    let (Some(first_pair), Some(second_pair)) = (&first.pair, &second.pair) else {
+        return Ok(None);
+    };
+    match differing_digests(alloc, Place::Pair(first.level), first_pair, second_pair)? {
+        Some(pair) => Ok(Some(pair)),
+        None => differing_words(alloc, Place::Rows(first.level), rows),
+    }
+}
+
+/// The last place of a level at which two checks differ, if they share the node above the level. `rows` are the rows of
+/// both openings at the layer above.
+fn level_difference<T: Copy + Eq + Drop, W: Copy + Eq, const N: usize, const D: usize>(
+    alloc: Global,
+    rows: &RowPair<'_, T>,
+    first: &CheckedLevel<[W; D], [[W; D]; N]>,
+    second: &CheckedLevel<[W; D], [[W; D]; N]>,
+) -> Result<Option<Collision<T, W, D>>, AllocError>
+    ensures { let mine = first_words rows.now in
+        let theirs = second_words rows.now in
+        IfOk result (λ found. ShowsLevel (input_eq T.eq W.eq) mine theirs first.now second.now found) }
+{
+    if first.above.node != second.above.node {
+        return Ok(None);
+    }
+    match differing_above(alloc, rows, first, second)? {
+        Some(above) => Ok(Some(above)),
+        None => differing_digests(
+            alloc,
+            Place::Group(first.level),
+            &first.group,
+            &second.group,
+        ),
+    }
+}
 
 impl<
     'a,
@@ -31,10 +184,55 @@ impl<
     const N: usize,
     const D: usize,
 > Checker<'a, P, PW, H, C, [[PW::Value; D]; N]> {
+    /// The last place that the checks of two openings share and at which they differ, with both inputs. Both openings
+    /// must have their siblings up to the cap. It allocates at shared places alone: the rows there, and the inputs that
+    /// differ.
+    ///
+    /// # Errors
+    ///
+    /// `AllocError` if memory runs out.
+    pub(crate) fn last_difference(
+        &self,
+        alloc: Global,
+        steps: &Steps<'_>,
+        cap_layer: usize,
+        first: IndexedOpening<'_, P::Value, [PW::Value; D]>,
+        second: IndexedOpening<'_, P::Value, [PW::Value; D]>,
+    ) -> Result<Option<Collision<P::Value, PW::Value, D>>, AllocError>
+        requires arity { steps.now.arity ≡ N }
+        requires first { CanReach (shape_of N steps.now.dimensions.now) cap_layer (length first.siblings.now) }
+        requires second { CanReach (shape_of N steps.now.dimensions.now) cap_layer (length second.siblings.now) }
+        ensures { let f = functions_by H.hash C.compression (replicate D PW.default_value) self.now in
+            let c = params f (shape_of N steps.now.dimensions.now) cap_layer in
+            let difference = difference_of P.Value.eq PW.Value.eq c (opening_in first.entry)
+            (opening_in second.entry) in
+            IfOk result (λ found. Shows found difference) }
+    {
+        let mut first_progress = self.leaf(steps, first);
+        let mut second_progress = self.leaf(steps, second);
+        let mut last = leaf_difference(alloc, steps, first, second)?;
+        for level in 0..cap_layer {
+            let mine = self.checked_level(steps, cap_layer, level, first, &first_progress);
+            let theirs = self.checked_level(steps, cap_layer, level, second, &second_progress);
+            let rows = RowPair {
+                dimensions: steps.dimensions,
+                exponent: mine.above.exponent,
+                first: first.rows,
+                second: second.rows,
+            };
+            let found = level_difference(alloc, &rows, &mine, &theirs)?;
+            last = found.or(last);
+            first_progress = mine.above;
+            second_progress = theirs.above;
+        }
+        Ok(last)
+    }
+
     /// Extracts a collision from two openings under the roots of a cap: the inputs at the last place that both checks
     /// share and at which they differ, or `None` if the checks agree.
     ///
-    /// `N` must be a power of two from 2 to 2^62, and `cap_layer` at most the number of levels.
+    /// `N` must be a power of two from 2 to 2^62 and the arity of `steps`; `cap_layer` must be at most the number of
+    /// levels.
     ///
     /// # Errors
     ///
@@ -44,33 +242,26 @@ impl<
         &self,
         alloc: Global,
         roots: &[[PW::Value; D]],
-        dimensions: &[Dimensions],
+        steps: &Steps<'_>,
         cap_layer: usize,
         first: IndexedOpening<'_, P::Value, [PW::Value; D]>,
         second: IndexedOpening<'_, P::Value, [PW::Value; D]>,
     ) -> Result<Option<Collision<P::Value, PW::Value, D>>, MerkleTreeError>
-        requires { CanCheck (shape_of N dimensions.now) cap_layer }
-        ensures answer { let f = functions_of (H.hash self.now.hash.now) (C.compression self.now.compress.now)
-            (replicate D PW.default_value) in
-            let refusal = refusal_under PW.Value.eq (params f (shape_of N dimensions.now) cap_layer) roots.now in
+        requires arity { steps.now.arity ≡ N }
+        requires check { CanCheck (shape_of N steps.now.dimensions.now) cap_layer }
+        ensures answer { let f = functions_by H.hash C.compression (replicate D PW.default_value) self.now in
+            let c = params f (shape_of N steps.now.dimensions.now) cap_layer in
+            let refusal = refusal_under PW.Value.eq c roots.now in
             AnswersUnlessMemory result
             (option_or (refusal (opening_in first.entry)) (refusal (opening_in second.entry))) }
-        ensures found { let f = functions_of (H.hash self.now.hash.now) (C.compression self.now.compress.now)
-            (replicate D PW.default_value) in
-            let c = params f (shape_of N dimensions.now) cap_layer in
+        ensures found { let f = functions_by H.hash C.compression (replicate D PW.default_value) self.now in
+            let c = params f (shape_of N steps.now.dimensions.now) cap_layer in
             let difference = difference_of P.Value.eq PW.Value.eq c (opening_in first.entry)
             (opening_in second.entry) in
             IfOk result (λ found. Shows found difference) }
     {
-        let steps = steps_of(dimensions, N);
-        self.check_opening(roots, &steps, cap_layer, first)?;
-        self.check_opening(roots, &steps, cap_layer, second)?;
-        let openings = OpeningPair::<P::Value, [PW::Value; D], N> {
-            dimensions,
-            cap_layer,
-            first,
-            second,
-        };
-        Ok(self.last_difference(alloc, &openings)?)
+        self.check_opening(roots, steps, cap_layer, first)?;
+        self.check_opening(roots, steps, cap_layer, second)?;
+        Ok(self.last_difference(alloc, steps, cap_layer, first, second)?)
     }
 }

@@ -5,24 +5,9 @@
 //! entries. It borrows a hash and a compression, and knows no scheme.
 #![tactic(auto)]
 
-pub mod check;
-mod collision;
-mod compressor;
-mod covered;
 mod extraction;
-mod form;
-pub mod level;
-mod opened;
-mod opened_matrix;
+mod nodes;
 pub mod openings;
-mod parents;
 pub mod path;
-pub mod paths;
-pub mod pruned_extraction;
-mod pruned_level;
-pub mod restorable;
-mod restored;
-pub mod roots;
-mod rows;
-mod start;
-mod walk;
+mod pruned;
+mod pruned_extraction;

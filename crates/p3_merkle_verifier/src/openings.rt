@@ -1,12 +1,18 @@
-//! Openings as a check reads them: each with its index, one alone or two side by side.
+//! Openings as a check reads them: a single one with its index, a pruned one, and the rows of both.
 
-ghost use Rattle.std.specs.Prelude.{◌≡◌, ◌<◌, length};
-ghost use Rattle.p3_merkle_core.specs.Geometry.{shape_of};
-ghost use Rattle.p3_merkle_verifier.specs.Inner.Checks.{CanClimb};
-ghost use Rattle.p3_merkle_verifier.specs.Inner.Paths.{CanReach};
+ghost use Rattle.std.specs.Prelude.{◌≡◌, ◌<◌, ◌≤◌, All, length, map, zip};
+ghost use Rattle.std.specs.Iterator.{YieldsFirstBy, item_count};
+ghost use Rattle.p3_support.specs.Batches.{greatest, heights_of, widths_of};
+ghost use Rattle.p3_support.specs.Shown.{row_lists, row_sets};
+ghost use Rattle.p3_merkle_core.specs.Geometry.{height_limit, shape_of};
+ghost use Rattle.p3_merkle_core.specs.Inner.Agreement.{opened_of};
+ghost use Rattle.p3_merkle_core.specs.Pruning.{boundary, CanQuery, IsAgreed};
+ghost use Rattle.p3_merkle_verifier.specs.Inner.OpenedRows.{opened_row, HaveRows};
+ghost use Rattle.p3_merkle_verifier.specs.Inner.Paths.{rows_of_exponent};
 
-use crate::collision::RowPair;
-use p3_support::matrix::Dimensions;
+use p3_merkle_core::geometry::exponent_of;
+use p3_merkle_core::steps::Steps;
+use p3_support::matrix::{Dimensions, Matrix};
 use p3_support::opening::BatchOpeningRef;
 
 /// A borrowed opening with the index of its leaf.
@@ -35,42 +41,123 @@ impl<'a, T, X> IndexedOpening<'a, T, X> {
     }
 }
 
-/// Two openings of one tree, where a node has at most `N` children. Each has as many siblings as the levels below the
-/// cap need.
+/// The rows of the matrices of one exponent, one after another, each whole. `rows` has one row of each matrix, in input
+/// order. Nothing is copied.
 #[derive(Drop)]
-pub struct OpeningPair<'a, T, X, const N: usize> {
-    /// The dimensions of the matrices, in input order.
+pub(crate) struct OpenedRows<'a, T> {
+    /// The dimensions of the matrices.
     pub dimensions: &'a [Dimensions],
-    /// The layer that is the cap.
-    pub cap_layer: usize,
-    /// The first opening.
-    pub first: IndexedOpening<'a, T, X>,
-    /// The second opening.
-    pub second: IndexedOpening<'a, T, X>,
-    ghost first_reaches: { CanReach (shape_of N dimensions.now) cap_layer (length first.siblings.now) },
-    ghost second_reaches: { CanReach (shape_of N dimensions.now) cap_layer (length second.siblings.now) },
+    /// Their rows.
+    pub rows: &'a [Vec<T>],
+    /// The exponent of the matrices whose rows are yielded.
+    pub exponent: usize,
 }
 
-impl<'a, T, X, const N: usize> OpeningPair<'a, T, X, N> {
-    /// Tells that both openings have the siblings of each level below the cap. It does nothing at run time.
-    pub(crate) fn lemma_siblings(&self, level: usize)
-        requires { level < self.now.cap_layer }
-        ensures first { CanClimb (shape_of N self.now.dimensions.now) level (length self.now.first.siblings.now) }
-        ensures second { CanClimb (shape_of N self.now.dimensions.now) level (length self.now.second.siblings.now) }
-    {}
+impl<'a, T> Iterator for OpenedRows<'a, T> {
+    type Item = &'a [T];
 
-    /// The rows of both openings, to be compared at the matrices of this exponent.
-    pub(crate) fn rows_of_exponent(&self, exponent: usize) -> RowPair<'a, T>
-        ensures dimensions { result.dimensions.now ≡ self.now.dimensions.now }
-        ensures exponent { result.exponent ≡ exponent }
-        ensures first { result.first.now ≡ self.now.first.rows.now }
-        ensures second { result.second.now ≡ self.now.second.rows.now }
-    {
-        RowPair {
-            dimensions: self.dimensions,
-            exponent,
-            first: self.first.rows,
-            second: self.second.rows,
+    ghost next_gives = { YieldsFirstBy (λ row. row.now)
+        (λ s. rows_of_exponent s.exponent (zip (heights_of s.dimensions.now) (row_lists s.rows.now))) };
+
+    ghost remaining = { item_count
+        (λ s. rows_of_exponent s.exponent (zip (heights_of s.dimensions.now) (row_lists s.rows.now))) };
+
+    fn next(&mut self) -> Option<&'a [T]> {
+        while let Some((matrix, matrices)) = self.dimensions.split_first() {
+            let (row, rows) = self.rows.split_first()?;
+            self.dimensions = matrices;
+            self.rows = rows;
+            if exponent_of(matrix.height) == self.exponent {
+                return Some(row.as_slice());
+            }
         }
+        None
     }
+}
+
+/// The rows that some queries opened of one matrix, themselves read as a matrix, so that they are hashed as the rows of
+/// a tree's layer are: row `j` is that of query `queries[j]`.
+#[derive(Drop)]
+pub struct OpenedMatrix<'a, T> {
+    /// The row set of each query.
+    pub sets: &'a [Vec<Vec<T>>],
+    /// The queries whose rows these are.
+    pub queries: &'a [usize],
+    /// The place of the matrix in a row set.
+    pub place: usize,
+    /// How many elements a row has.
+    pub width: usize,
+    ghost among: { All (λ k. k < length (row_sets sets.now)) queries.now },
+    ghost fit: { HaveRows (row_sets sets.now) place width },
+}
+
+impl<'a, T> OpenedMatrix<'a, T> {
+    /// The row of query `queries[row]`.
+    fn words(&self, row: usize) -> &[T]
+        requires { row < length self.now.queries.now }
+        ensures { result.now ≡ opened_row (row_sets self.now.sets.now) self.now.queries.now self.now.place row }
+    {
+        let rows = &self.sets[self.queries[row]];
+        &rows[self.place]
+    }
+}
+
+impl<'a, T: Copy> Matrix<T> for OpenedMatrix<'a, T> {
+    ghost use Rattle.p3_merkle_verifier.specs.Inner.OpenedMatrices.{row_in};
+    ghost use Rattle.p3_merkle_verifier.specs.Inner.OpenedRows.{length-opened_row};
+
+    ghost height_of = { λ m. length m.queries.now };
+
+    ghost width_of = { λ m. m.width };
+
+    ghost row_of = { row_in };
+
+    fn height(&self) -> usize {
+        self.queries.len()
+    }
+
+    fn width(&self) -> usize {
+        self.width
+    }
+
+    fn get(&self, row: usize, column: usize) -> T {
+        self.words(row)[column]
+    }
+
+    fn row_slice(&self, row: usize) -> Option<&[T]> {
+        Some(self.words(row))
+    }
+
+    ghost length_row_of = { λ m r h. length-opened_row (row_sets m.sets.now) m.queries.now m.place m.width
+        m.among m.fit r h };
+}
+
+/// A borrowed pruned opening.
+#[derive_where(Clone, Copy)]
+pub struct BorrowedOpening<'a, T, X> {
+    /// The index of each query.
+    pub indices: &'a [usize],
+    /// The row set of each query: one row of each matrix, in input order.
+    pub sets: &'a [Vec<Vec<T>>],
+    /// The digests that were sent.
+    pub sent: &'a [X],
+}
+
+/// A pruned opening that restores, and the tree that it is of: its form is right, and its rows agree.
+#[derive(Drop)]
+pub struct Restorable<'a, T, X> {
+    /// The steps of the tree.
+    pub steps: &'a Steps<'a>,
+    /// The cap's layer.
+    pub cap_layer: usize,
+    /// The opening.
+    pub opening: BorrowedOpening<'a, T, X>,
+    ghost queried: { CanQuery (shape_of steps.now.arity steps.now.dimensions.now) opening.indices.now cap_layer },
+    ghost low: { greatest (heights_of steps.now.dimensions.now) ≤ height_limit },
+    ghost pairs: { length opening.sets.now ≡ length opening.indices.now },
+    ghost all_sent: { length opening.sent.now
+        ≡ length (boundary (shape_of steps.now.arity steps.now.dimensions.now) opening.indices.now cap_layer) },
+    ghost agreed: { IsAgreed (shape_of steps.now.arity steps.now.dimensions.now) cap_layer
+        (opened_of opening.indices.now (row_sets opening.sets.now)) },
+    ghost fit: { All (λ rows. map length rows ≡ widths_of steps.now.dimensions.now) (row_sets opening.sets.now) },
 }

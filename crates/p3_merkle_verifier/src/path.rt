@@ -1,22 +1,160 @@
 //! The check of one opening: its form, then the digests on its path, then the cap's entry. It does not allocate.
 
-ghost use Rattle.std.specs.Prelude.{◌≡◌, ◌==◌, false, length, replicate, slice_get, unwrap_or};
+ghost use Rattle.std.specs.Prelude.{insert, suc, ◌≡◌, ◌==◌, ◌+◌, ◌-◌, ◌%◌, ◌<◌, length, replicate, slice_get, zip};
+ghost use Rattle.std.specs.Prelude.{false, unwrap_or, IfOk, MatchResult, None, Some};
 ghost use Rattle.std.specs.Option.{option_map};
-ghost use Rattle.p3_merkle_core.specs.Geometry.{ancestor, shape_of};
-ghost use Rattle.p3_merkle_core.specs.Nodes.{functions_of};
-ghost use Rattle.p3_merkle_core.specs.Checks.{path_digest, params};
-ghost use Rattle.p3_merkle_core.specs.Refusals.{answer_under, is_entry as is_entry_of};
-ghost use Rattle.p3_merkle_verifier.specs.Inner.Checks.{opening_in};
+ghost use Rattle.p3_support.specs.Batches.{heights_of};
+ghost use Rattle.p3_support.specs.Shown.{row_lists};
+ghost use Rattle.p3_merkle_core.specs.Geometry.{layer_exponent, shape_of, step as step_of};
+ghost use Rattle.p3_merkle_core.specs.Checks.{params, siblings_below, words_of_exponent};
+ghost use Rattle.p3_merkle_core.specs.Nodes.{functions_of, padded};
+ghost use Rattle.p3_merkle_core.specs.Refusals.{answer_under, form_refusal, is_entry as is_entry_of};
+ghost use Rattle.p3_merkle_verifier.specs.Inner.Checks.{functions_by, opening_in, step_siblings, CanStep};
+ghost use Rattle.p3_merkle_verifier.specs.Inner.Checks.{IsLevelOfCheck, IsProgress};
 ghost use Rattle.p3_merkle_verifier.specs.Inner.Paths.{CanCheck, CanReach};
 
-use crate::form::check_form;
-use crate::level::{Checker, leaf, lemma_siblings};
-use crate::openings::IndexedOpening;
+use crate::openings::{IndexedOpening, OpenedRows};
 use p3_merkle_core::error::MerkleTreeError;
-use p3_merkle_core::steps::Steps;
+use p3_merkle_core::geometry::check_widths;
+use p3_merkle_core::group::{group_with, pair_group};
+use p3_merkle_core::pruning::{parent_of, position_of};
+use p3_merkle_core::steps::{StepUp, Steps};
 use p3_support::compress::PseudoCompressionFunction;
 use p3_support::hasher::CryptographicHasher;
+use p3_support::matrix::Dimensions;
 use p3_support::packed::PackedValue;
+use std::marker::PhantomData;
+
+/// How far the check of an opening is on the path from the leaf.
+#[derive(Drop)]
+pub struct Progress<X> {
+    /// The exponent of the node's layer.
+    pub exponent: usize,
+    /// The node.
+    pub node: usize,
+    /// The number of siblings that are used so far.
+    pub used: usize,
+    /// The digest that the check computed for the node.
+    pub digest: X,
+}
+
+impl<W: Copy, const D: usize> Progress<[W; D]> {
+    /// The group of the next step: the siblings with this node's digest at its position, then default digests.
+    fn group<const N: usize>(
+        &self,
+        default_digest: [W; D],
+        step: usize,
+        siblings: &[[W; D]],
+    ) -> [[W; D]; N]
+        requires { CanStep N step self.now.used (length siblings.now) }
+        ensures { let others = step_siblings step siblings.now self.now.used in
+            result ≡ padded N default_digest (insert others (self.now.node % step) self.now.digest) }
+    {
+        let end = self.used + (step - 1);
+        let others = &siblings[self.used..end];
+        let position = position_of(self.node, step);
+        group_with::<W, N, D>(default_digest, self.digest, position, others)
+    }
+}
+
+/// One level of the check of an opening: what it compresses, and how far the check is above it.
+#[derive(Drop)]
+pub struct CheckedLevel<X, G> {
+    /// The level, counted from the leaves.
+    pub level: usize,
+    /// The siblings with the node's digest at its position, then default digests.
+    pub group: G,
+    /// The digests of the group and of the rows, if matrices are injected at the layer above.
+    pub pair: Option<G>,
+    /// How far the check is above the level.
+    pub above: Progress<X>,
+}
+
+/// Tells that an opening with its siblings up to the cap has those of the step of a level below it. It does nothing at
+/// run time.
+fn lemma_step<X>(
+    steps: &Steps<'_>,
+    cap_layer: usize,
+    level: usize,
+    step: usize,
+    used: usize,
+    siblings: &[X],
+)
+    requires reach { CanReach (shape_of steps.now.arity steps.now.dimensions.now) cap_layer (length siblings.now) }
+    requires level { level < cap_layer }
+    requires step { step ≡ step_of (shape_of steps.now.arity steps.now.dimensions.now) level }
+    requires used { used ≡ siblings_below (shape_of steps.now.arity steps.now.dimensions.now) level }
+    ensures { CanStep steps.now.arity step used (length siblings.now) }
+{}
+
+/// Checks that an opening of the leaf `index` has the form that a tree of these steps gives it: one row for each
+/// matrix, of its width, and the siblings of the levels below the cap.
+///
+/// The arity must be a power of two from 2 to 2^62, and `cap_layer` at most the number of levels.
+///
+/// # Errors
+///
+/// The first of these that holds: `WrongBatchSize` if the number of rows is not that of the dimensions; `EmptyBatch`,
+/// `TooLarge` or `IncompatibleHeights` if no tree can be built over such heights; `WrongHeight` if `num_siblings` is
+/// not what the levels below the cap need; `WrongWidth` for the first row whose length is not the width of its matrix;
+/// `IndexOutOfBounds` if the index is not below the tallest height.
+fn check_form<T>(
+    steps: &Steps<'_>,
+    cap_layer: usize,
+    index: usize,
+    rows: &[Vec<T>],
+    num_siblings: usize,
+) -> Result<(), MerkleTreeError>
+    requires { CanCheck (shape_of steps.now.arity steps.now.dimensions.now) cap_layer }
+    ensures answer { let refusal = form_refusal (shape_of steps.now.arity steps.now.dimensions.now) cap_layer index
+        (row_lists rows.now) num_siblings in
+        MatchResult result (λ ok. refusal ≡ None) (λ e. refusal ≡ Some e) }
+    ensures reach { IfOk result (λ ok. CanReach (shape_of steps.now.arity steps.now.dimensions.now) cap_layer
+        num_siblings) }
+{
+    let dimensions = steps.dimensions;
+    if rows.len() != dimensions.len() {
+        return Err(MerkleTreeError::WrongBatchSize {
+            expected: dimensions.len(),
+            got: rows.len(),
+        });
+    }
+    steps.check_heights()?;
+    let expected_proof_len = steps.siblings_below(cap_layer);
+    if num_siblings != expected_proof_len {
+        return Err(MerkleTreeError::WrongHeight {
+            expected_proof_len,
+            num_siblings,
+        });
+    }
+    check_widths(dimensions, rows)?;
+    let max_height = steps.max_height;
+    if index >= max_height {
+        return Err(MerkleTreeError::IndexOutOfBounds { max_height, index });
+    }
+    Ok(())
+}
+
+/// Whether the roots have this digest at `node`.
+pub(crate) fn is_entry<X: PartialEq>(roots: &[X], node: usize, digest: &X) -> bool
+    ensures { result ≡ is_entry_of X.eq roots.now node digest.now }
+{
+    match roots.get(node) {
+        Some(root) => *root == *digest,
+        None => false,
+    }
+}
+
+/// Checks openings: it borrows the hasher of rows and the compression of nodes. `G` is the type of a group.
+#[derive(Drop)]
+pub struct Checker<'a, P, PW, H, C, G> {
+    /// The hasher of rows.
+    pub hash: &'a H,
+    /// The compression of the children of a node.
+    pub compress: &'a C,
+    /// The packings of words, and the type of a group.
+    pub item: PhantomData<(P, PW, G)>,
+}
 
 impl<
     'a,
@@ -27,28 +165,100 @@ impl<
     const N: usize,
     const D: usize,
 > Checker<'a, P, PW, H, C, [[PW::Value; D]; N]> {
-    /// Walks the leaf's path up to the cap. Returns the digest that it computes there, and the node above the leaf.
-    ///
-    /// The opening must have its siblings up to the cap.
-    fn path_digest(
+    /// Hashes the rows of the matrices of one exponent, one after another.
+    fn rows_digest(
+        &self,
+        dimensions: &[Dimensions],
+        rows: &[Vec<P::Value>],
+        exponent: usize,
+    ) -> [PW::Value; D]
+        ensures { let rows = zip (heights_of dimensions.now) (row_lists rows.now) in
+            result ≡ H.hash self.now.hash.now (words_of_exponent exponent rows) }
+    {
+        self.hash.hash_iter_slices(OpenedRows {
+            dimensions,
+            rows,
+            exponent,
+        })
+    }
+
+    /// Starts the check of an opening, at the leaf.
+    pub(crate) fn leaf(
+        &self,
+        steps: &Steps<'_>,
+        opening: IndexedOpening<'_, P::Value, [PW::Value; D]>,
+    ) -> Progress<[PW::Value; D]>
+        requires { steps.now.arity ≡ N }
+        ensures { let f = functions_by H.hash C.compression (replicate D PW.default_value) self.now in
+            IsProgress f (shape_of N steps.now.dimensions.now) (opening_in opening.entry) 0 result }
+    {
+        let exponent = steps.exponent;
+        Progress {
+            exponent,
+            node: opening.index,
+            used: 0,
+            digest: self.rows_digest(steps.dimensions, opening.rows, exponent),
+        }
+    }
+
+    /// Checks one level, from the layer that the check has reached to the one above. The opening must have its siblings
+    /// up to the cap.
+    // A call passes the whole level through memory, and a verification needs only `above`.
+    #[inline(always)]
+    pub(crate) fn checked_level(
         &self,
         steps: &Steps<'_>,
         cap_layer: usize,
+        level: usize,
         opening: IndexedOpening<'_, P::Value, [PW::Value; D]>,
-    ) -> ([PW::Value; D], usize)
+        progress: &Progress<[PW::Value; D]>,
+    ) -> CheckedLevel<[PW::Value; D], [[PW::Value; D]; N]>
         requires arity { steps.now.arity ≡ N }
         requires reach { CanReach (shape_of N steps.now.dimensions.now) cap_layer (length opening.siblings.now) }
-        ensures digest { let f = functions_of (H.hash self.now.hash.now) (C.compression self.now.compress.now)
-            (replicate D PW.default_value) in
-            result.0 ≡ path_digest f (shape_of N steps.now.dimensions.now) (opening_in opening.entry) cap_layer }
-        ensures node { result.1 ≡ ancestor (shape_of N steps.now.dimensions.now) cap_layer opening.entry.index }
+        requires level { level < cap_layer }
+        requires progress { let f = functions_by H.hash C.compression (replicate D PW.default_value) self.now in
+            IsProgress f (shape_of N steps.now.dimensions.now) (opening_in opening) level progress.now }
+        ensures { let f = functions_by H.hash C.compression (replicate D PW.default_value) self.now in
+            IsLevelOfCheck f (shape_of N steps.now.dimensions.now) (opening_in opening.entry) level result }
     {
-        let mut progress = leaf::<P, PW, H, D>(self.hash, steps, opening);
-        for level in 0..cap_layer {
-            lemma_siblings(steps.dimensions, N, cap_layer, level, opening.siblings);
-            progress = self.checked_level(steps, level, opening, &progress).above;
+        let StepUp {
+            step,
+            has_rows,
+            exponent,
+        } = steps.up(N, level, progress.exponent);
+        lemma_step(
+            steps,
+            cap_layer,
+            level,
+            step,
+            progress.used,
+            opening.siblings,
+        );
+        let default_digest = [PW::Value::default(); D];
+        let group = progress.group::<N>(default_digest, step, opening.siblings);
+        let mut above = Progress {
+            exponent,
+            node: parent_of(progress.node, step),
+            used: progress.used + (step - 1),
+            digest: self.compress.compress(group),
+        };
+        if !has_rows {
+            return CheckedLevel {
+                level,
+                group,
+                pair: None,
+                above,
+            };
         }
-        (progress.digest, progress.node)
+        let rows = self.rows_digest(steps.dimensions, opening.rows, exponent);
+        let pair = pair_group::<PW::Value, N, D>(default_digest, above.digest, rows);
+        above.digest = self.compress.compress(pair);
+        CheckedLevel {
+            level,
+            group,
+            pair: Some(pair),
+            above,
+        }
     }
 
     /// Checks an opening against the roots of a cap: its form, and that its path leads to the root above the leaf. It
@@ -59,8 +269,11 @@ impl<
     ///
     /// # Errors
     ///
-    /// The error of [`check_form`]; else `CapMismatch` if there is no root above the leaf, or the path leads to another
-    /// digest.
+    /// The first of these that holds: `WrongBatchSize` if the number of rows is not that of the dimensions;
+    /// `EmptyBatch`, `TooLarge` or `IncompatibleHeights` if no tree can be built over such heights; `WrongHeight` if
+    /// the number of siblings is not what the levels below the cap need; `WrongWidth` for the first row whose length is
+    /// not the width of its matrix; `IndexOutOfBounds` if the index is not below the tallest height; `CapMismatch` if
+    /// there is no root above the leaf, or the path leads to another digest.
     pub fn check_opening(
         &self,
         roots: &[[PW::Value; D]],
@@ -70,28 +283,24 @@ impl<
     ) -> Result<(), MerkleTreeError>
         requires arity { steps.now.arity ≡ N }
         requires check { CanCheck (shape_of N steps.now.dimensions.now) cap_layer }
-        ensures { let f = functions_of (H.hash self.now.hash.now) (C.compression self.now.compress.now)
-            (replicate D PW.default_value) in
+        ensures answer { let f = functions_by H.hash C.compression (replicate D PW.default_value) self.now in
             result ≡ answer_under PW.Value.eq (params f (shape_of N steps.now.dimensions.now) cap_layer) roots.now
             (opening_in opening.entry) }
+        ensures reach { IfOk result (λ ok. CanReach (shape_of N steps.now.dimensions.now) cap_layer
+            (length opening.entry.siblings.now)) }
     {
         let (index, num_siblings) = (opening.index, opening.siblings.len());
         check_form(steps, cap_layer, index, opening.rows, num_siblings)?;
-        let (digest, node) = self.path_digest(steps, cap_layer, opening);
-        if is_entry(roots, node, &digest) {
+        let mut progress = self.leaf(steps, opening);
+        for level in 0..cap_layer {
+            progress = self
+                .checked_level(steps, cap_layer, level, opening, &progress)
+                .above;
+        }
+        if is_entry(roots, progress.node, &progress.digest) {
             Ok(())
         } else {
             Err(MerkleTreeError::CapMismatch)
         }
-    }
-}
-
-/// Whether the roots have this digest at `node`.
-pub(crate) fn is_entry<X: PartialEq>(roots: &[X], node: usize, digest: &X) -> bool
-    ensures { result ≡ is_entry_of X.eq roots.now node digest.now }
-{
-    match roots.get(node) {
-        Some(root) => *root == *digest,
-        None => false,
     }
 }

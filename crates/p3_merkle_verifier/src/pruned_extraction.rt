@@ -6,21 +6,20 @@ ghost use Rattle.p3_merkle_core.specs.Checks.{params};
 ghost use Rattle.p3_merkle_core.specs.Extraction.{difference_of, first_pair};
 ghost use Rattle.p3_merkle_core.specs.Geometry.{shape_of};
 ghost use Rattle.p3_merkle_core.specs.Nodes.{functions_of};
-ghost use Rattle.p3_merkle_core.specs.Refusals.{pruned_refusal_under, AnswersUnlessMemory};
 ghost use Rattle.p3_merkle_core.specs.Pruning.{opening_at};
-ghost use Rattle.p3_merkle_verifier.specs.Inner.Checks.{opening_in};
+ghost use Rattle.p3_merkle_core.specs.Refusals.{pruned_refusal_under, AnswersUnlessMemory};
+ghost use Rattle.p3_merkle_verifier.specs.Inner.Checks.{functions_by, opening_in};
 ghost use Rattle.p3_merkle_verifier.specs.Inner.Paths.{CanCheck, CanReach};
-ghost use Rattle.p3_merkle_verifier.specs.Inner.QueryPairs.{query_difference, first_place, pruned_in, query_in};
+ghost use Rattle.p3_merkle_verifier.specs.Inner.QueryPairs.{query_difference, first_place, query_in};
 ghost use Rattle.p3_merkle_verifier.specs.Inner.QueryPairs.{AreQueriesOf, CanCompare, ShowsAt, ShowsPair};
+ghost use Rattle.p3_merkle_verifier.specs.Inner.RestoredLevels.{pruned_in};
 
-use crate::check::Commitment;
-use crate::level::Checker;
-use crate::openings::{IndexedOpening, OpeningPair};
-use crate::paths::checked_paths_of;
-use crate::restorable::BorrowedOpening;
+use crate::openings::{BorrowedOpening, IndexedOpening};
+use crate::path::Checker;
 use p3_merkle_core::collision::Collision;
 use p3_merkle_core::error::MerkleTreeError;
 use p3_merkle_core::pruning::AuthPath;
+use p3_merkle_core::steps::Steps;
 use p3_support::compress::PseudoCompressionFunction;
 use p3_support::hasher::CryptographicHasher;
 use p3_support::packed::PackedValue;
@@ -28,7 +27,7 @@ use std::alloc::{AllocError, Global};
 
 /// The queries of a pruned opening, each to be read as an opening of its own.
 #[derive(Drop)]
-pub(crate) struct RestoredQueries<'a, T, X> {
+struct RestoredQueries<'a, T, X> {
     /// The rows of each query.
     pub sets: &'a [Vec<Vec<T>>],
     /// The path of each, with its index.
@@ -51,103 +50,7 @@ impl<'a, T, W, const D: usize> RestoredQueries<'a, T, [W; D]> {
     }
 }
 
-/// The first of some queries whose check differs from that of an opening at a place that both share, by its place among
-/// them, with the last such place.
-///
-/// # Errors
-///
-/// `AllocError` if memory runs out.
-fn differing_query<
-    P: PackedValue,
-    PW: PackedValue,
-    H: CryptographicHasher<P, PW, D>,
-    C: PseudoCompressionFunction<PW, N, D>,
-    const N: usize,
-    const D: usize,
->(
-    alloc: Global,
-    checker: &Checker<'_, P, PW, H, C, [[PW::Value; D]; N]>,
-    commitment: &Commitment<'_, [PW::Value; D]>,
-    first: IndexedOpening<'_, P::Value, [PW::Value; D]>,
-    queries: &RestoredQueries<'_, P::Value, [PW::Value; D]>,
-) -> Result<Option<(usize, Collision<P::Value, PW::Value, D>)>, AllocError>
-    requires first { CanReach (shape_of N commitment.now.dimensions.now) commitment.now.cap_layer
-        (length first.siblings.now) }
-    requires queries { CanCompare (shape_of N commitment.now.dimensions.now) commitment.now.cap_layer queries.now }
-    ensures { let f = functions_of (H.hash checker.now.hash.now) (C.compression checker.now.compress.now)
-        (replicate D PW.default_value) in
-        let s = shape_of N commitment.now.dimensions.now in
-        let cap_layer = commitment.now.cap_layer in
-        let o = opening_in first.entry in
-        let differs = first_place
-        (λ b. query_difference P.Value.eq PW.Value.eq f s cap_layer o (query_in queries.now b))
-        (length queries.now.paths.items) in
-        IfOk result (λ found. ShowsAt found differs) }
-{
-    for place in 0..queries.paths.len() {
-        let second = queries.opening(place);
-        let openings = OpeningPair::<P::Value, [PW::Value; D], N> {
-            dimensions: commitment.dimensions,
-            cap_layer: commitment.cap_layer,
-            first,
-            second,
-        };
-        if let Some(collision) = checker.last_difference(alloc, &openings)? {
-            return Ok(Some((place, collision)));
-        }
-    }
-    Ok(None)
-}
-
-/// The first pair of queries, by the first list, then by the second, whose checks differ at a place that both share:
-/// the place of each in its list, with the last such place.
-///
-/// # Errors
-///
-/// `AllocError` if memory runs out.
-fn differing_pair<
-    P: PackedValue,
-    PW: PackedValue,
-    H: CryptographicHasher<P, PW, D>,
-    C: PseudoCompressionFunction<PW, N, D>,
-    const N: usize,
-    const D: usize,
->(
-    alloc: Global,
-    checker: &Checker<'_, P, PW, H, C, [[PW::Value; D]; N]>,
-    commitment: &Commitment<'_, [PW::Value; D]>,
-    first: &RestoredQueries<'_, P::Value, [PW::Value; D]>,
-    second: &RestoredQueries<'_, P::Value, [PW::Value; D]>,
-) -> Result<Option<(usize, usize, Collision<P::Value, PW::Value, D>)>, AllocError>
-    requires first { CanCompare (shape_of N commitment.now.dimensions.now) commitment.now.cap_layer first.now }
-    requires second { CanCompare (shape_of N commitment.now.dimensions.now) commitment.now.cap_layer second.now }
-    ensures { let f = functions_of (H.hash checker.now.hash.now) (C.compression checker.now.compress.now)
-        (replicate D PW.default_value) in
-        let s = shape_of N commitment.now.dimensions.now in
-        let cap_layer = commitment.now.cap_layer in
-        let differ = first_pair
-        (λ a b. query_difference P.Value.eq PW.Value.eq f s cap_layer (query_in first.now a) (query_in second.now b))
-        (length first.now.paths.items) (length second.now.paths.items) in
-        IfOk result (λ found. ShowsPair found differ) }
-{
-    for place in 0..first.paths.len() {
-        let opening = first.opening(place);
-        let found = differing_query::<P, PW, H, C, N, D>(
-            alloc, checker, commitment, opening, second,
-        )?;
-        if let Some((other, collision)) = found {
-            return Ok(Some((place, other, collision)));
-        }
-    }
-    Ok(None)
-}
-
-/// The queries of a pruned opening that is checked, each with its restored path.
-///
-/// # Errors
-///
-/// Those of [`checked_paths_of`].
-fn checked_queries<
+impl<
     'a,
     P: PackedValue,
     PW: PackedValue,
@@ -155,74 +58,145 @@ fn checked_queries<
     C: PseudoCompressionFunction<PW, N, D>,
     const N: usize,
     const D: usize,
->(
-    alloc: Global,
-    checker: &Checker<'_, P, PW, H, C, [[PW::Value; D]; N]>,
-    commitment: &Commitment<'_, [PW::Value; D]>,
-    opening: BorrowedOpening<'a, P::Value, [PW::Value; D]>,
-) -> Result<RestoredQueries<'a, P::Value, [PW::Value; D]>, MerkleTreeError>
-    requires { CanCheck (shape_of N commitment.now.dimensions.now) commitment.now.cap_layer }
-    ensures answer { let f = functions_of (H.hash checker.now.hash.now) (C.compression checker.now.compress.now)
-        (replicate D PW.default_value) in
-        let c = params f (shape_of N commitment.now.dimensions.now) commitment.now.cap_layer in
-        let p = pruned_in opening.entry in
-        AnswersUnlessMemory result (pruned_refusal_under P.Value.eq PW.Value.eq c commitment.now.roots.now p) }
-    ensures comparable { let s = shape_of N commitment.now.dimensions.now in
-        IfOk result (λ queries. CanCompare s commitment.now.cap_layer queries) }
-    ensures restored { let f = functions_of (H.hash checker.now.hash.now) (C.compression checker.now.compress.now)
-        (replicate D PW.default_value) in
-        let s = shape_of N commitment.now.dimensions.now in
-        let cap_layer = commitment.now.cap_layer in
-        IfOk result (λ queries. AreQueriesOf f s cap_layer (pruned_in opening.entry) queries) }
-{
-    let sets = opening.sets;
-    let paths = checked_paths_of::<P, PW, H, C, N, D>(alloc, checker, commitment, opening)?;
-    Ok(RestoredQueries { sets, paths })
-}
+> Checker<'a, P, PW, H, C, [[PW::Value; D]; N]> {
+    /// The queries of a pruned opening that is checked, each with its restored path.
+    ///
+    /// # Errors
+    ///
+    /// Those of [`check_pruned_opening`](Self::check_pruned_opening).
+    fn checked_queries<'b>(
+        &self,
+        alloc: Global,
+        roots: &[[PW::Value; D]],
+        steps: &Steps<'_>,
+        cap_layer: usize,
+        opening: BorrowedOpening<'b, P::Value, [PW::Value; D]>,
+    ) -> Result<RestoredQueries<'b, P::Value, [PW::Value; D]>, MerkleTreeError>
+        requires arity { steps.now.arity ≡ N }
+        requires check { CanCheck (shape_of steps.now.arity steps.now.dimensions.now) cap_layer }
+        ensures answer { let f = functions_by H.hash C.compression (replicate D PW.default_value) self.now in
+            let c = params f (shape_of steps.now.arity steps.now.dimensions.now) cap_layer in
+            AnswersUnlessMemory result
+            (pruned_refusal_under P.Value.eq PW.Value.eq c roots.now (pruned_in opening.entry)) }
+        ensures comparable { let s = shape_of steps.now.arity steps.now.dimensions.now in
+            IfOk result (λ queries. CanCompare s cap_layer queries) }
+        ensures restored { let f = functions_by H.hash C.compression (replicate D PW.default_value) self.now in
+            let s = shape_of steps.now.arity steps.now.dimensions.now in
+            IfOk result (λ queries. AreQueriesOf f s cap_layer (pruned_in opening.entry) queries) }
+    {
+        let sets = opening.sets;
+        let paths = self.restored_paths(alloc, Some(roots), steps, cap_layer, opening)?;
+        Ok(RestoredQueries { sets, paths })
+    }
 
-/// Extracts a collision from two pruned openings under the roots of a cap: the first pair of queries, in the order of
-/// the first list, then of the second, whose checks differ at a place that both share. Returns the place of each query
-/// in its list, from 0, and both inputs at the last such place; or `None` if there is no such pair.
-///
-/// `N` must be a power of two from 2 to 2^62, and the cap's layer at most the number of levels. It takes the time of a
-/// check for each pair of queries.
-///
-/// # Errors
-///
-/// The error of `check_pruned_opening` for the first opening, else that for the second; `OutOfMemory` may come at any
-/// time.
-pub fn extraction<
-    P: PackedValue,
-    PW: PackedValue,
-    H: CryptographicHasher<P, PW, D>,
-    C: PseudoCompressionFunction<PW, N, D>,
-    const N: usize,
-    const D: usize,
->(
-    alloc: Global,
-    checker: &Checker<'_, P, PW, H, C, [[PW::Value; D]; N]>,
-    commitment: &Commitment<'_, [PW::Value; D]>,
-    first: BorrowedOpening<'_, P::Value, [PW::Value; D]>,
-    second: BorrowedOpening<'_, P::Value, [PW::Value; D]>,
-) -> Result<Option<(usize, usize, Collision<P::Value, PW::Value, D>)>, MerkleTreeError>
-    requires { CanCheck (shape_of N commitment.now.dimensions.now) commitment.now.cap_layer }
-    ensures answer { let f = functions_of (H.hash checker.now.hash.now) (C.compression checker.now.compress.now)
-        (replicate D PW.default_value) in
-        let c = params f (shape_of N commitment.now.dimensions.now) commitment.now.cap_layer in
-        let refusal = pruned_refusal_under P.Value.eq PW.Value.eq c commitment.now.roots.now in
-        AnswersUnlessMemory result (option_or (refusal (pruned_in first.entry)) (refusal (pruned_in second.entry))) }
-    ensures found { let f = functions_of (H.hash checker.now.hash.now) (C.compression checker.now.compress.now)
-        (replicate D PW.default_value) in
-        let c = params f (shape_of N commitment.now.dimensions.now) commitment.now.cap_layer in
-        let p = pruned_in first.entry in
-        let r = pruned_in second.entry in
-        let difference = first_pair
-        (λ a b. difference_of P.Value.eq PW.Value.eq c (opening_at c p a) (opening_at c r b)) (length p.indices)
-        (length r.indices) in
-        IfOk result (λ found. ShowsPair found difference) }
-{
-    let first = checked_queries::<P, PW, H, C, N, D>(alloc, checker, commitment, first)?;
-    let second = checked_queries::<P, PW, H, C, N, D>(alloc, checker, commitment, second)?;
-    let found = differing_pair::<P, PW, H, C, N, D>(alloc, checker, commitment, &first, &second)?;
-    Ok(found)
+    /// The first of some queries whose check differs from that of an opening at a place that both share, by its place
+    /// among them, with the last such place.
+    ///
+    /// # Errors
+    ///
+    /// `AllocError` if memory runs out.
+    fn differing_query(
+        &self,
+        alloc: Global,
+        steps: &Steps<'_>,
+        cap_layer: usize,
+        first: IndexedOpening<'_, P::Value, [PW::Value; D]>,
+        queries: &RestoredQueries<'_, P::Value, [PW::Value; D]>,
+    ) -> Result<Option<(usize, Collision<P::Value, PW::Value, D>)>, AllocError>
+        requires arity { steps.now.arity ≡ N }
+        requires first { CanReach (shape_of steps.now.arity steps.now.dimensions.now) cap_layer
+            (length first.siblings.now) }
+        requires queries { CanCompare (shape_of steps.now.arity steps.now.dimensions.now) cap_layer queries.now }
+        ensures { let f = functions_by H.hash C.compression (replicate D PW.default_value) self.now in
+            let s = shape_of steps.now.arity steps.now.dimensions.now in
+            let o = opening_in first.entry in
+            let differs = first_place
+            (λ b. query_difference P.Value.eq PW.Value.eq f s cap_layer o (query_in queries.now b))
+            (length queries.now.paths.items) in
+            IfOk result (λ found. ShowsAt found differs) }
+    {
+        for place in 0..queries.paths.len() {
+            let second = queries.opening(place);
+            let found = self.last_difference(alloc, steps, cap_layer, first, second)?;
+            if let Some(collision) = found {
+                return Ok(Some((place, collision)));
+            }
+        }
+        Ok(None)
+    }
+
+    /// The first pair of queries, by the first list, then by the second, whose checks differ at a place that both
+    /// share: the place of each in its list, with the last such place.
+    ///
+    /// # Errors
+    ///
+    /// `AllocError` if memory runs out.
+    fn differing_pair(
+        &self,
+        alloc: Global,
+        steps: &Steps<'_>,
+        cap_layer: usize,
+        first: &RestoredQueries<'_, P::Value, [PW::Value; D]>,
+        second: &RestoredQueries<'_, P::Value, [PW::Value; D]>,
+    ) -> Result<Option<(usize, usize, Collision<P::Value, PW::Value, D>)>, AllocError>
+        requires arity { steps.now.arity ≡ N }
+        requires first { CanCompare (shape_of steps.now.arity steps.now.dimensions.now) cap_layer first.now }
+        requires second { CanCompare (shape_of steps.now.arity steps.now.dimensions.now) cap_layer second.now }
+        ensures { let f = functions_by H.hash C.compression (replicate D PW.default_value) self.now in
+            let s = shape_of steps.now.arity steps.now.dimensions.now in
+            let differ = first_pair
+            (λ a b. query_difference P.Value.eq PW.Value.eq f s cap_layer (query_in first.now a)
+            (query_in second.now b)) (length first.now.paths.items) (length second.now.paths.items) in
+            IfOk result (λ found. ShowsPair found differ) }
+    {
+        for place in 0..first.paths.len() {
+            let opening = first.opening(place);
+            let found = self.differing_query(alloc, steps, cap_layer, opening, second)?;
+            if let Some((other, collision)) = found {
+                return Ok(Some((place, other, collision)));
+            }
+        }
+        Ok(None)
+    }
+
+    /// Extracts a collision from two pruned openings under the roots of a cap: the first pair of queries, in the order
+    /// of the first list, then of the second, whose checks differ at a place that both share. Returns the place of each
+    /// query in its list, from 0, and both inputs at the last such place; or `None` if there is no such pair.
+    ///
+    /// `N` must be a power of two from 2 to 2^62 and the arity of `steps`, and the cap's layer at most the number of
+    /// levels. It takes the time of a check for each pair of queries.
+    ///
+    /// # Errors
+    ///
+    /// The error of [`check_pruned_opening`](Self::check_pruned_opening) for the first opening, else that for the
+    /// second; `OutOfMemory` may come at any time.
+    pub fn pruned_extraction(
+        &self,
+        alloc: Global,
+        roots: &[[PW::Value; D]],
+        steps: &Steps<'_>,
+        cap_layer: usize,
+        first: BorrowedOpening<'_, P::Value, [PW::Value; D]>,
+        second: BorrowedOpening<'_, P::Value, [PW::Value; D]>,
+    ) -> Result<Option<(usize, usize, Collision<P::Value, PW::Value, D>)>, MerkleTreeError>
+        requires arity { steps.now.arity ≡ N }
+        requires check { CanCheck (shape_of steps.now.arity steps.now.dimensions.now) cap_layer }
+        ensures answer { let f = functions_by H.hash C.compression (replicate D PW.default_value) self.now in
+            let c = params f (shape_of steps.now.arity steps.now.dimensions.now) cap_layer in
+            let refusal = pruned_refusal_under P.Value.eq PW.Value.eq c roots.now in
+            AnswersUnlessMemory result
+            (option_or (refusal (pruned_in first.entry)) (refusal (pruned_in second.entry))) }
+        ensures found { let f = functions_by H.hash C.compression (replicate D PW.default_value) self.now in
+            let c = params f (shape_of steps.now.arity steps.now.dimensions.now) cap_layer in
+            let p = pruned_in first.entry in
+            let r = pruned_in second.entry in
+            let difference = first_pair
+            (λ a b. difference_of P.Value.eq PW.Value.eq c (opening_at c p a) (opening_at c r b)) (length p.indices)
+            (length r.indices) in
+            IfOk result (λ found. ShowsPair found difference) }
+    {
+        let first = self.checked_queries(alloc, roots, steps, cap_layer, first)?;
+        let second = self.checked_queries(alloc, roots, steps, cap_layer, second)?;
+        Ok(self.differing_pair(alloc, steps, cap_layer, &first, &second)?)
+    }
 }

@@ -2,15 +2,23 @@
 use Rattle.std.specs.Prelude.{◌≡◌, ◌+◌, ◌-◌, ◌/◌, ◌≤◌, ◌==◌, ℕ, suc, List, [], ◌∷◌, Bool, Option, None, if◌then◌else◌}
 use Rattle.std.specs.Prelude.{drop, take}
 use Rattle.p3_merkle_core.specs.Extraction.{last_difference}
-use Rattle.p3_merkle_core.specs.Geometry.{Shape, IsArity, ancestor, layer_exponent}
-use Rattle.p3_merkle_core.specs.Nodes.{Functions}
+use Rattle.p3_merkle_core.specs.Geometry.{Shape, ancestor, layer_exponent}
+use Rattle.p3_merkle_core.specs.Nodes.{Functions, functions_of}
 use Rattle.p3_merkle_core.specs.Openings.{Opening, opening_of}
 use Rattle.p3_merkle_core.specs.Checks.{Input, inputs_at, path_digest, layer_words, siblings_below, leaf_input}
+use Rattle.p3_merkle_core.specs.declared.collision.InputPair.{InputPair}
 use Rattle.p3_support.specs.Shown.{row_lists}
 use Rattle.p3_merkle_verifier.specs.declared.openings.IndexedOpening.{IndexedOpening}
-use Rattle.p3_merkle_verifier.specs.declared.level.CheckedLevel.{CheckedLevel}
-use Rattle.p3_merkle_verifier.specs.declared.level.Progress.{Progress}
-use Rattle.p3_merkle_verifier.specs.Inner.Collisions.{level_inputs}
+use Rattle.p3_merkle_verifier.specs.declared.path.CheckedLevel.{CheckedLevel}
+use Rattle.p3_merkle_verifier.specs.declared.path.Checker.{Checker}
+use Rattle.p3_merkle_verifier.specs.declared.path.Progress.{Progress}
+use Rattle.p3_merkle_verifier.specs.Inner.Collisions.{level_inputs, Shows}
+
+-- what a checker's hasher and compression compute, with this default digest
+abbrev pub functions_by : {P PW H C G T W : Type 0} → (H → List T → List W) → (C → List (List W) → List W) → List W →
+    Checker P PW H C G → Functions T W
+functions_by hash compression default_digest checker =
+    functions_of (hash checker.hash.now) (compression checker.compress.now) default_digest
 
 -- an opening that is lent with its index
 abbrev pub opening_in : {T W : Type 0} → IndexedOpening T (List W) → Opening T W
@@ -41,12 +49,6 @@ pub record IsProgress {T W : Type 0} (f : Functions T W) (s : Shape) (o : Openin
   pub taken : progress.used ≡ siblings_below s l
   pub reached : progress.digest ≡ path_digest f s o l
 
--- a check can climb level l: the arity is a power of two from 2 to 2 ^ 62, and there are siblings for this level and
--- those below it
-pub record CanClimb (s : Shape) (l count : ℕ) : Type 0 where
-  pub arity : IsArity s.arity
-  pub enough : siblings_below s (suc l) ≤ count
-
 -- level l of the check of an opening: it has the level's inputs, and above it the check stands at the next layer
 pub record IsLevelOfCheck {T W : Type 0} (f : Functions T W) (s : Shape) (o : Opening T W) (l : ℕ)
     (level : CheckedLevel (List W) (List (List W))) : Type 0 where
@@ -66,3 +68,12 @@ abbrev pub level_difference : {T W : Type 0} → (Input T W → Input T W → Bo
 level_difference test f s l o u =
     if ancestor s (suc l) o.index == ancestor s (suc l) u.index then last_difference test (inputs_at f s o l)
     (inputs_at f s u l) else None
+
+-- what is found of two levels, where these are the words of the matrices above them, shows their last difference
+abbrev pub ShowsLevel : {T W : Type 0} → (Input T W → Input T W → Bool) → List T → List T →
+    CheckedLevel (List W) (List (List W)) → CheckedLevel (List W) (List (List W)) → Option (InputPair T (List W)) →
+    Type 0
+ShowsLevel {T} {W} test a b first second found =
+    (f : Functions T W) (s : Shape) (l : ℕ) (o u : Opening T W) → IsLevelOfCheck f s o l first →
+    IsLevelOfCheck f s u l second → a ≡ layer_words s o.rows (suc l) → b ≡ layer_words s u.rows (suc l) →
+    Shows found (level_difference test f s l o u)

@@ -6,8 +6,8 @@ use Rattle.p3_merkle_core.specs.Views.{inputs_in}
 use Rattle.p3_merkle_core.specs.declared.collision.InputPair.{InputPair}
 use Rattle.p3_merkle_core.specs.declared.collision.Place.TheVariants.{Group, Rows, Pair}
 use Rattle.p3_support.specs.Shown.{row_lists}
-use Rattle.p3_merkle_verifier.specs.declared.collision.RowPair.{RowPair}
-use Rattle.p3_merkle_verifier.specs.declared.level.CheckedLevel.{CheckedLevel}
+use Rattle.p3_merkle_verifier.specs.declared.extraction.RowPair.{RowPair}
+use Rattle.p3_merkle_verifier.specs.declared.path.CheckedLevel.{CheckedLevel}
 
 module _ {T W : Type 0} where
   -- what is found shows these two inputs, or there are none and nothing is found

@@ -8,16 +8,11 @@ use Rattle.p3_merkle_core.specs.Nodes.{Functions}
 use Rattle.p3_merkle_core.specs.Openings.{Opening, opening_of}
 use Rattle.p3_merkle_core.specs.Checks.{Input, params}
 use Rattle.p3_support.specs.Shown.{row_sets}
-use Rattle.p3_merkle_core.specs.Pruning.{PrunedOpening, opening_at, pruned_of}
+use Rattle.p3_merkle_core.specs.Pruning.{PrunedOpening, opening_at}
 use Rattle.p3_merkle_core.specs.Refusals.{first_of}
 use Rattle.p3_merkle_verifier.specs.Inner.Paths.{CanReach}
 use Rattle.p3_merkle_core.specs.declared.collision.InputPair.{InputPair}
 use Rattle.p3_merkle_verifier.specs.declared.pruned_extraction.RestoredQueries.{RestoredQueries}
-use Rattle.p3_merkle_verifier.specs.declared.restorable.BorrowedOpening.{BorrowedOpening}
-
--- the pruned opening that is lent
-abbrev pub pruned_in : {T W : Type 0} → BorrowedOpening T (List W) → PrunedOpening T W
-pruned_in opening = pruned_of opening.indices.now (row_sets opening.sets.now) opening.sent.now
 
 -- query k, as an opening with its path
 abbrev pub query_in : {T W : Type 0} → RestoredQueries T (List W) → ℕ → Opening T W

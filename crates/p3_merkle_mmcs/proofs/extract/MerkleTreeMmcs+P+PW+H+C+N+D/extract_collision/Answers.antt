@@ -10,7 +10,7 @@ use Rattle.p3_merkle_core.specs.Views.{opening_lent}
 use Rattle.p3_merkle_core.proofs.Collisions.ExtractionFacts.{all_authenticated, extracted_alone}
 use Rattle.p3_merkle_verifier.specs.Inner.Collisions.{Shows}
 use Rattle.p3_merkle_mmcs.specs.Schemes.{cap_layer_over, compression_of, hash_of, params_of}
-use Rattle.p3_merkle_mmcs.proofs.CheckFacts.{opening_is, terms_alike}
+use Rattle.p3_merkle_mmcs.proofs.CheckFacts.{are_steps, opening_is, terms_alike}
 use Rattle.p3_merkle_mmcs.proofs.extract.MerkleTreeMmcs+P+PW+H+C+N+D.extract_collision.Goals as goal
 use Rattle.p3_merkle_core.specs.Checks.{params}
 
@@ -20,10 +20,14 @@ returns g c =
     let eq = g.P.Value.PartialEq.eq in
     let same = g.PW.Value.PartialEq.eq in
     let s = shape_of g.row.N c.args.dimensions.now in
+    let made = c.steps_of-steps in
+    let steps = are_steps g.row.N c.args.dimensions.now scheme.cap_rule scheme.cap_height made.result
+    c.cap_layer-cap_layer.result made.ensures.arity made.ensures.dimensions c.cap_layer-cap_layer.ensures in
     let alike = terms_alike g.H.CryptographicHasher.hash g.C.PseudoCompressionFunction.compression
-    (replicate g.row.D g.PW.PackedValue.default_value) s c.checker.result.hash.now (hash_of scheme)
-    c.checker.result.compress.now (compression_of scheme) c.cap_layer-cap_layer.result (cap_layer_over scheme s)
-    c.checker.ensures.hash c.checker.ensures.compress c.cap_layer-cap_layer.ensures in
+    (replicate g.row.D g.PW.PackedValue.default_value) (shape_of g.row.N made.result.dimensions.now) s
+    c.checker.result.hash.now (hash_of scheme) c.checker.result.compress.now (compression_of scheme)
+    c.cap_layer-cap_layer.result (cap_layer_over scheme s) (ap (shape_of g.row.N) made.ensures.dimensions)
+    c.checker.ensures.hash c.checker.ensures.compress steps.at_cap in
     let first = opening_is c.new-first.result c.args.index1 (row_lists c.args.first.opened_values.now)
     c.args.first.opening_proof.now.items c.new-first.ensures.index (ap row_lists c.new-first.ensures.rows)
     c.new-first.ensures.siblings in

@@ -1,5 +1,51 @@
--- The cap is the scheme's own.
+-- The boundary of the covered leaves is counted, which is least.
+use Rattle.std.proofs.Common.{◌≡◌, ◌∙◌, arith, refl}
+use Rattle.p3_support.specs.Batches.{heights_of}
+use Rattle.p3_merkle_core.specs.Geometry.{shape_of, IsArity}
+use Rattle.p3_merkle_core.specs.Pruning.{pruned_len}
+use Rattle.p3_merkle_core.proofs.Covered.LeafFacts.{leaves_asked}
+use Rattle.p3_merkle_core.proofs.Covered.Sufficient.{count_least}
+use Rattle.p3_merkle_core.proofs.Shapes.GateFacts.{none_large_from_lawful, tallest_fits}
+use Rattle.p3_merkle_mmcs.specs.Schemes.{cap_layer_over}
+use Rattle.p3_merkle_mmcs.proofs.CheckFacts.{are_steps}
 use Rattle.p3_merkle_mmcs.proofs.mmcs.Scheme.pruned_len.Goals as goal
 
-pub returns : goal.returns
-returns g c = c.pruned_len_under.ensures
+pub boundary_len-requires-clause-low : goal.boundary_len-requires-clause-low
+boundary_len-requires-clause-low g c =
+    let heights = heights_of c.steps_of-steps.result.dimensions.now in
+    tallest_fits heights (none_large_from_lawful heights (c.in_ok-check_heights.ensures.lawful.0 refl))
+
+pub boundary_len-requires-clause-below : goal.boundary_len-requires-clause-below
+boundary_len-requires-clause-below g c =
+    let steps = c.steps_of-steps.result in
+    let arity : IsArity steps.arity = rw c.steps_of-steps.ensures.arity c.args.self.now.arity in
+    (leaves_asked (shape_of steps.arity steps.dimensions.now) c.args.indices.now c.in_ok-leaves.leaves.items
+    c.cap_layer-cap_layer.result arity (rw steps.tallest at c.in_ok-check_indices.ensures.below)
+    c.in_ok-leaves.ensures).below
+
+pub boundary_len-requires-clause-ascending : goal.boundary_len-requires-clause-ascending
+boundary_len-requires-clause-ascending g c =
+    let steps = c.steps_of-steps.result in
+    let arity : IsArity steps.arity = rw c.steps_of-steps.ensures.arity c.args.self.now.arity in
+    (leaves_asked (shape_of steps.arity steps.dimensions.now) c.args.indices.now c.in_ok-leaves.leaves.items
+    c.cap_layer-cap_layer.result arity (rw steps.tallest at c.in_ok-check_indices.ensures.below)
+    c.in_ok-leaves.ensures).ascending
+
+pub returns-clause-least : goal.returns-clause-least
+returns-clause-least g c =
+    let scheme = c.args.self.now in
+    let made = c.steps_of-steps in
+    let steps = are_steps g.row.N c.args.dimensions.now scheme.cap_rule scheme.cap_height made.result
+    c.cap_layer-cap_layer.result made.ensures.arity made.ensures.dimensions c.cap_layer-cap_layer.ensures in
+    let s = shape_of g.row.N c.args.dimensions.now in
+    let arity : IsArity made.result.arity = rw made.ensures.arity scheme.arity in
+    let below = rw made.result.tallest at c.in_ok-check_indices.ensures.below in
+    let asked = leaves_asked (shape_of made.result.arity made.result.dimensions.now) c.args.indices.now
+    c.in_ok-leaves.leaves.items c.cap_layer-cap_layer.result arity below c.in_ok-leaves.ensures in
+    count_least s c.args.indices.now (cap_layer_over scheme s) c.boundary_len.result
+    (record {
+      well_shaped = scheme.arity;
+      below = rw made.ensures.dimensions at below;
+      in_tree = omega arith;
+    })
+    (c.boundary_len.ensures ∙ asked.count ∙ (λ i. pruned_len (steps.tree i) c.args.indices.now (steps.at_cap i)))

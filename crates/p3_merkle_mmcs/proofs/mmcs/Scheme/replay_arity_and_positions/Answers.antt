@@ -1,8 +1,28 @@
--- The path goes by the steps of the dimensions, to the scheme's own cap layer.
+-- The path goes by the steps of the dimensions, to the scheme's own cap layer; lawful heights are within the limit.
+use Rattle.std.proofs.Common.{◌∙◌, refl}
+use Rattle.p3_support.specs.Batches.{heights_of}
+use Rattle.p3_merkle_core.specs.Geometry.{positions_below, schedule_below}
+use Rattle.p3_merkle_core.proofs.Shapes.GateFacts.{tallest_fits, none_large_from_lawful}
+use Rattle.p3_merkle_mmcs.proofs.CheckFacts.{are_steps}
 use Rattle.p3_merkle_mmcs.proofs.mmcs.Scheme.replay_arity_and_positions.Goals as goal
 
-pub returns : goal.returns
-returns g c =
-    let made = c.steps_of-steps.ensures in
-    let at_cap = rw (made.arity, made.dimensions) at c.cap_layer-cap_layer.ensures in
-    rw (made.arity, made.dimensions, at_cap) at c.path_to.ensures
+pub siblings_below-expected_proof_len-requires-clause-low : goal.siblings_below-expected_proof_len-requires-clause-low
+siblings_below-expected_proof_len-requires-clause-low g c =
+    let heights = heights_of c.steps_of-steps.result.dimensions.now in
+    tallest_fits heights (none_large_from_lawful heights (c.in_ok-check_heights.ensures.lawful.0 refl))
+
+pub returns-clause-schedule : goal.returns-clause-schedule
+returns-clause-schedule g c =
+    let scheme = c.args.self.now in
+    let made = c.steps_of-steps in
+    let steps = are_steps g.row.N c.args.dimensions.now scheme.cap_rule scheme.cap_height made.result
+    c.cap_layer-cap_layer.result made.ensures.arity made.ensures.dimensions c.cap_layer-cap_layer.ensures in
+    c.in_ok-schedule_below.ensures ∙ (λ i. schedule_below (steps.tree i) (steps.at_cap i))
+
+pub returns-clause-positions : goal.returns-clause-positions
+returns-clause-positions g c =
+    let scheme = c.args.self.now in
+    let made = c.steps_of-steps in
+    let steps = are_steps g.row.N c.args.dimensions.now scheme.cap_rule scheme.cap_height made.result
+    c.cap_layer-cap_layer.result made.ensures.arity made.ensures.dimensions c.cap_layer-cap_layer.ensures in
+    c.in_ok-positions_below.ensures ∙ (λ i. positions_below (steps.tree i) (steps.at_cap i) c.args.index)

@@ -11,11 +11,14 @@ use Rattle.p3_merkle_mmcs.specs.Schemes.{cap_layer_over, params_over}
 use Rattle.p3_merkle_mmcs.proofs.PrunedFacts.{own_query_accepted, own_query_honest, own_query_restores}
 use Rattle.p3_merkle_mmcs.proofs.pruned.MerkleTreeMmcs+P+PW+H+C+N+D.open_batch_pruned.Goals as goal
 
+pub cap_layer-cap_layer-requires : goal.cap_layer-cap_layer-requires
+cap_layer-cap_layer-requires g c = rw (ap (λ s. s.arity) c.steps_in.ensures) c.args.tree.now.arity
+
 pub returns-clause-opened : goal.returns-clause-opened
 returns-clause-opened g c =
     let digests = c.in_ok-sibling_hashes.ensures.digests []
     ∙ ap (λ (t : ℕ). boundary_by (node_in [] (layers_of c.args.tree.now)) (shape (tree_batch c.args.tree.now))
-    c.args.indices.now t) c.cap_layer_in-cap_layer.ensures in
+    c.args.indices.now t) (c.cap_layer-cap_layer.ensures ∙ ap (cap_layer_over c.args.self.now) c.steps_in.ensures) in
     λ i. pruned_of c.args.indices.now (c.in_ok-opened_values.ensures.rows i) (digests i)
 
 pub returns-clause-least : goal.returns-clause-least
@@ -25,7 +28,7 @@ returns-clause-least g c =
     let t = cap_layer_over c.args.self.now s in
     let digests = c.in_ok-sibling_hashes.ensures.digests []
     ∙ ap (λ (t : ℕ). boundary_by (node_in [] (layers_of c.args.tree.now)) (shape (tree_batch c.args.tree.now))
-    c.args.indices.now t) c.cap_layer_in-cap_layer.ensures in
+    c.args.indices.now t) (c.cap_layer-cap_layer.ensures ∙ ap (cap_layer_over c.args.self.now) c.steps_in.ensures) in
     count_least s c.args.indices.now t (length c.in_ok-sibling_hashes.sibling_hashes.items)
     (record { well_shaped = tree.arity; below = c.requires; in_tree = omega arith }) (ap length digests
     ∙ length-map (boundary s c.args.indices.now t) _)

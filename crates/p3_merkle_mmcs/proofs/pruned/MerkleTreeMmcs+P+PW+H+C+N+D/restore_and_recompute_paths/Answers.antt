@@ -1,14 +1,15 @@
 -- The paths are those of the checker's walk.
-use Rattle.std.proofs.Common.{ap, replicate, subst}
+use Rattle.std.proofs.Common.{◌∙◌, ap, replicate, subst, None}
 use Rattle.std.specs.Prelude.{◌≡◌, IfOk}
+use Rattle.std.specs.Option.{option_or}
 use Rattle.p3_support.specs.Shown.{row_sets}
 use Rattle.p3_merkle_core.specs.Geometry.{shape_of}
 use Rattle.p3_merkle_core.specs.Pruning.{pruned_of, restored_paths}
 use Rattle.p3_merkle_core.specs.Refusals.{AnswersUnlessMemory, pruned_refusal}
 use Rattle.p3_merkle_core.specs.Views.{pruned_lent, shown_paths}
 use Rattle.p3_merkle_mmcs.specs.Schemes.{cap_layer_over, compression_of, hash_of}
-use Rattle.p3_merkle_mmcs.proofs.CheckFacts.{terms_alike}
-use Rattle.p3_merkle_mmcs.proofs.PrunedFacts.{restoring_verdict}
+use Rattle.p3_merkle_mmcs.proofs.CheckFacts.{are_steps, terms_alike}
+use Rattle.p3_merkle_mmcs.proofs.PrunedFacts.{or_none, restoring_verdict}
 use Rattle.p3_merkle_mmcs.proofs.pruned.MerkleTreeMmcs+P+PW+H+C+N+D.restore_and_recompute_paths.Goals as goal
 
 pub returns : goal.returns
@@ -18,17 +19,21 @@ returns g c =
     let s = shape_of g.row.N c.args.dimensions.now in
     let t = cap_layer_over scheme s in
     let p = pruned_lent c.args.indices.now c.args.rows.now c.args.proof.now in
+    let made = c.steps_of-steps in
+    let steps = are_steps g.row.N c.args.dimensions.now scheme.cap_rule scheme.cap_height made.result
+    c.cap_layer-cap_layer.result made.ensures.arity made.ensures.dimensions c.cap_layer-cap_layer.ensures in
     let alike = terms_alike g.H.CryptographicHasher.hash g.C.PseudoCompressionFunction.compression
-    (replicate g.row.D g.PW.PackedValue.default_value) s c.checker-checker.result.hash.now (hash_of scheme)
-    c.checker-checker.result.compress.now (compression_of scheme) c.cap_layer-cap_layer.result t
-    c.checker-checker.ensures.hash c.checker-checker.ensures.compress c.cap_layer-cap_layer.ensures in
+    (replicate g.row.D g.PW.PackedValue.default_value) (shape_of made.result.arity made.result.dimensions.now) s
+    c.checker.result.hash.now (hash_of scheme) c.checker.result.compress.now (compression_of scheme)
+    c.cap_layer-cap_layer.result t steps.tree
+    c.checker.ensures.hash c.checker.ensures.compress steps.at_cap in
     let sent = ap (pruned_of c.args.indices.now (row_sets c.args.rows.now)) c.as_slice.ensures.value in
-    let restored = c.restored_paths_of.result in
+    let restored = c.restored_paths.result in
     let answer = subst (AnswersUnlessMemory restored)
-    (λ i. pruned_refusal eq s (c.cap_layer-cap_layer.ensures i) (sent i))
-    c.restored_paths_of.ensures.answer in
+    ((λ i. option_or (pruned_refusal eq (steps.tree i) (steps.at_cap i) (sent i)) None)
+    ∙ or_none (pruned_refusal eq s t p)) c.restored_paths.ensures.answer in
     record {
       verdict = restoring_verdict eq s t p g.met.P.PackedValue.eq_is_equality restored answer;
       paths = subst (λ (ps : _). IfOk restored (λ paths. shown_paths paths.items ≡ ps))
-          (λ i. restored_paths (alike i) (sent i)) c.restored_paths_of.ensures.paths;
+          (λ i. restored_paths (alike i) (sent i)) c.restored_paths.ensures.paths;
     }

@@ -6,7 +6,7 @@ use Rattle.p3_merkle_core.specs.Pruning.{pruned_of}
 use Rattle.p3_merkle_core.specs.Refusals.{AnswersUnlessMemory, pruned_refusal_under}
 use Rattle.p3_merkle_core.specs.Views.{pruned_lent}
 use Rattle.p3_merkle_mmcs.specs.Schemes.{cap_layer_over, compression_of, hash_of, params_of}
-use Rattle.p3_merkle_mmcs.proofs.CheckFacts.{terms_alike}
+use Rattle.p3_merkle_mmcs.proofs.CheckFacts.{are_steps, terms_alike}
 use Rattle.p3_merkle_mmcs.proofs.PrunedFacts.{pruned_verdict}
 use Rattle.p3_merkle_mmcs.proofs.pruned.MerkleTreeMmcs+P+PW+H+C+N+D.verify_batch_pruned.Goals as goal
 
@@ -16,10 +16,14 @@ returns g c =
     let eq = g.P.Value.PartialEq.eq in
     let same = g.PW.Value.PartialEq.eq in
     let s = shape_of g.row.N c.args.dimensions.now in
+    let made = c.steps_of-steps in
+    let steps = are_steps g.row.N c.args.dimensions.now scheme.cap_rule scheme.cap_height made.result
+    c.cap_layer-cap_layer.result made.ensures.arity made.ensures.dimensions c.cap_layer-cap_layer.ensures in
     let alike = terms_alike g.H.CryptographicHasher.hash g.C.PseudoCompressionFunction.compression
-    (replicate g.row.D g.PW.PackedValue.default_value) s c.checker.result.hash.now (hash_of scheme)
-    c.checker.result.compress.now (compression_of scheme) c.cap_layer.result (cap_layer_over scheme s)
-    c.checker.ensures.hash c.checker.ensures.compress c.cap_layer.ensures in
+    (replicate g.row.D g.PW.PackedValue.default_value) (shape_of made.result.arity made.result.dimensions.now) s
+    c.checker.result.hash.now (hash_of scheme) c.checker.result.compress.now (compression_of scheme)
+    c.cap_layer-cap_layer.result (cap_layer_over scheme s) steps.tree
+    c.checker.ensures.hash c.checker.ensures.compress steps.at_cap in
     let sent = ap (pruned_of c.args.indices.now (row_sets c.args.rows.now)) c.as_slice.ensures.value in
     let answer = subst (AnswersUnlessMemory c.check_pruned_opening.result)
     (λ i. pruned_refusal_under eq same (alike i) (c.roots.ensures i) (sent i)) c.check_pruned_opening.ensures in

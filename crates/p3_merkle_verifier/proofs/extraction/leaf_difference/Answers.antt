@@ -1,0 +1,23 @@
+-- The words of the leaf are compared.
+use Rattle.std.proofs.Common.{ap, zip}
+use Rattle.std.proofs.lemmas.Result.{IfOk-weaker}
+use Rattle.p3_support.specs.Batches.{heights_of}
+use Rattle.p3_support.specs.Shown.{row_lists}
+use Rattle.p3_merkle_core.specs.Checks.{words_of_exponent}
+use Rattle.p3_merkle_core.specs.Geometry.{shape_of}
+use Rattle.p3_merkle_verifier.specs.Inner.Checks.{opening_in}
+use Rattle.p3_merkle_verifier.proofs.WalkFacts.{found_leaf}
+use Rattle.p3_merkle_verifier.proofs.extraction.leaf_difference.Goals as goal
+
+pub returns : goal.returns
+returns g c =
+    let steps = c.args.steps.now in
+    let o = opening_in c.args.first in
+    let u = opening_in c.args.second in
+    let heights = heights_of steps.dimensions.now in
+    let mine = ap (λ x. words_of_exponent x (zip heights o.rows)) steps.leaves in
+    let theirs = ap (λ x. words_of_exponent x (zip heights u.rows)) steps.leaves in
+    IfOk-weaker c.differing_words.result _ _
+    (λ found is. found_leaf g.T.PartialEq.eq g.W.PartialEq.eq (shape_of steps.arity steps.dimensions.now) o u
+    (words_of_exponent steps.exponent (zip heights o.rows)) (words_of_exponent steps.exponent (zip heights u.rows))
+    found c.if-first-second.false mine theirs is) c.differing_words.ensures

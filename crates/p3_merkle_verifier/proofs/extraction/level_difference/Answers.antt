@@ -1,0 +1,59 @@
+-- Where both checks stand at one node above the level, its inputs are compared from the last on.
+use Rattle.std.proofs.Common.{◌≡◌, Bool, List, ◌∷◌, Option, None, Some, ap, refl}
+use Rattle.std.specs.Prelude.{◌&&◌}
+use Rattle.std.specs.Cmp.Lexicographic.{pointwise}
+use Rattle.std.proofs.lemmas.Bool.{eq-eqb}
+use Rattle.std.proofs.lemmas.Result.{IfOk-weaker}
+use Rattle.p3_merkle_core.specs.Extraction.{last_difference, input_eq}
+use Rattle.p3_merkle_core.specs.Checks.{Input, digests_at}
+use Rattle.p3_merkle_core.specs.declared.collision.InputPair.{InputPair}
+use Rattle.p3_merkle_core.specs.declared.collision.Place.TheVariants.{Group}
+use Rattle.p3_merkle_verifier.specs.Inner.Collisions.{first_words, inputs_above, second_words, IsDifference, Shows}
+use Rattle.p3_merkle_verifier.proofs.WalkFacts.{found_apart, found_here}
+use Rattle.p3_merkle_verifier.proofs.extraction.level_difference.Goals as goal
+
+last_is_above : {T W : Type 0} (eq : Input T W → Input T W → Bool) (x y : Input T W) (xs ys : List (Input T W))
+    (found : InputPair T (List W)) → Shows (Some found) (last_difference eq xs ys) →
+    Shows (Some found) (last_difference eq (x ∷ xs) (y ∷ ys))
+last_is_above eq x y xs ys found above = rw (← above) refl
+
+last_is_group : {T W : Type 0} (eq : Input T W → Input T W → Bool) (same : Bool) (x y : Input T W)
+    (xs ys : List (Input T W)) (found : Option (InputPair T (List W))) →
+    eq x y ≡ same → Shows None (last_difference eq xs ys) → IsDifference found same (x, y) →
+    Shows found (last_difference eq (x ∷ xs) (y ∷ ys))
+last_is_group eq same x y xs ys found test none here = rw (← none, test) here
+
+pub returns-then-first-second : goal.returns-then-first-second
+returns-then-first-second g c =
+    λ f s l o u m n a b. found_apart (input_eq g.T.PartialEq.eq g.W.PartialEq.eq) f s l o u c.args.first.now
+    c.args.second.now m n c.if-first-second.true
+
+pub returns-in-Some : goal.returns-in-Some
+returns-in-Some g c =
+    let first = c.args.first.now in
+    let second = c.args.second.now in
+    let rows = c.args.rows.now in
+    let l = first.level in
+    let eq = input_eq g.T.PartialEq.eq g.W.PartialEq.eq in
+    let shown = last_is_above eq (digests_at (Group l) first.group) (digests_at (Group l) second.group)
+    (inputs_above l (first_words rows) first.pair) (inputs_above l (second_words rows) second.pair) c.in-Some.above
+    (rw c.in-Some.is at c.in_ok-above.ensures) in
+    λ f s l o u m n a b. found_here eq f s l o u (Some c.in-Some.above) first second (first_words rows)
+    (second_words rows) m n a b c.if-first-second.false shown
+
+pub returns-in-None : goal.returns-in-None
+returns-in-None g c =
+    let first = c.args.first.now in
+    let second = c.args.second.now in
+    let rows = c.args.rows.now in
+    let l = first.level in
+    let eq = input_eq g.T.PartialEq.eq g.W.PartialEq.eq in
+    let same = pointwise (pointwise g.W.PartialEq.eq) first.group second.group in
+    let test : eq (digests_at (Group l) first.group) (digests_at (Group l) second.group)
+    ≡ same = ap (λ at_one. at_one && same) (eq-eqb l l refl) in
+    IfOk-weaker c.differing_digests.result _ _
+    (λ found here f s k o u m n a b. found_here eq f s k o u found first second (first_words rows) (second_words rows) m
+    n a b c.if-first-second.false (last_is_group eq same (digests_at (Group l) first.group)
+    (digests_at (Group l) second.group) (inputs_above l (first_words rows) first.pair)
+    (inputs_above l (second_words rows) second.pair) found test (rw c.in-None.is at c.in_ok-above.ensures) here))
+    c.differing_digests.ensures

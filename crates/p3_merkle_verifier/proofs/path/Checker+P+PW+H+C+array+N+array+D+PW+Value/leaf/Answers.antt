@@ -1,0 +1,13 @@
+-- The leaf's rows are hashed.
+use Rattle.std.proofs.Common.{refl, replicate}
+use Rattle.p3_merkle_core.specs.Geometry.{shape_of}
+use Rattle.p3_merkle_verifier.specs.Inner.Checks.{functions_by, opening_in}
+use Rattle.p3_merkle_verifier.proofs.LevelFacts.{progress_first}
+use Rattle.p3_merkle_verifier.proofs.path.Checker+P+PW+H+C+array+N+array+D+PW+Value.leaf.Goals as goal
+
+pub returns : goal.returns
+returns g c =
+    let f = functions_by g.H.CryptographicHasher.hash g.C.PseudoCompressionFunction.compression
+    (replicate g.row.D g.PW.PackedValue.default_value) c.args.self.now in
+    progress_first f (shape_of g.row.N c.args.steps.now.dimensions.now) (opening_in c.args.opening) _
+    (rw c.requires at c.args.steps.now.leaves) refl refl c.rows_digest.ensures

@@ -1,0 +1,46 @@
+-- The first check that fails refuses the form, and lawful heights are within the limit.
+use Rattle.std.proofs.Common.{◌≡◌, ◌∙◌, ℕ, List, None, length, refl, rules, sym}
+use Rattle.std.specs.declared.vec.Vec.{Vec}
+use Rattle.std.proofs.lemmas.Bool.{eq-eqb}
+use Rattle.std.proofs.lemmas.List.{length-map}
+use Rattle.std.proofs.lemmas.Result.{err_from_is_err_and}
+use Rattle.p3_support.specs.Batches.{heights_of}
+use Rattle.p3_merkle_core.proofs.Shapes.GateFacts.{none_large_from_lawful, tallest_fits}
+use Rattle.p3_merkle_core.specs.Refusals.{size_refusal}
+use Rattle.p3_support.specs.Shown.{row_lists}
+use Rattle.p3_merkle_verifier.proofs.path.check_form.Goals as goal
+
+-- as many rows as matrices are not refused
+sized : {T A : Type 0} (n : ℕ) (rows : List (Vec T A)) → length rows ≡ n →
+    size_refusal n (length (row_lists rows)) ≡ None
+sized n rows same = rw (eq-eqb n (length (row_lists rows)) (simp length-map (sym same))) refl
+
+pub returns-in_err-check_heights-clause-answer : goal.returns-in_err-check_heights-clause-answer
+returns-in_err-check_heights-clause-answer g c =
+    let p = err_from_is_err_and c.from_residual.result c.from_residual.ensures.1 in
+    rw (
+      p.1,
+      p.2,
+      sized (length c.args.steps.now.dimensions.now) c.args.rows.now c.if-rows-dimensions.false,
+      c.in_err-check_heights.ensures.answer,
+    )
+    refl
+
+pub siblings_below-expected_proof_len-requires-clause-low : goal.siblings_below-expected_proof_len-requires-clause-low
+siblings_below-expected_proof_len-requires-clause-low g c =
+    tallest_fits (heights_of c.args.steps.now.dimensions.now)
+    (none_large_from_lawful (heights_of c.args.steps.now.dimensions.now)
+    (c.in_ok-check_heights.ensures.lawful.0 refl))
+
+pub returns-then-index-max_height-clause-answer : goal.returns-then-index-max_height-clause-answer
+returns-then-index-max_height-clause-answer g c = search rules
+
+pub returns-clause-answer : goal.returns-clause-answer
+returns-clause-answer g c = search rules
+
+pub returns-clause-reach : goal.returns-clause-reach
+returns-clause-reach g c = record {
+  arity = c.requires.arity;
+  in_tree = c.requires.in_tree;
+  all_siblings = c.if-num_siblings-expected_proof_len.false ∙ c.siblings_below-expected_proof_len.ensures;
+}

@@ -1,0 +1,15 @@
+use Rattle.std.proofs.Common.{◌≡◌, ◌<◌, ◌≤◌, ◌/◌, ◌-◌, ℕ, All, eqb, get_or, length, map, take}
+use Rattle.std.specs.List.{dedup}
+use Rattle.p3_merkle_verifier.proofs.pruned.parents_of.Given as goal
+
+-- the parents so far, their queries, the parent of the node before, and the capacity for more
+abbrev pub invariant-loop-slot : goal.invariant-loop-slot
+invariant-loop-slot l = record {
+  parents : l.parents.items ≡ dedup eqb (take l.slot (map (λ j. j / l.step) l.nodes));
+  queries : (node : ℕ → ℕ) → l.nodes ≡ map node l.queries → map (λ k. node k / l.step) l.above.items
+      ≡ dedup eqb (take l.slot (map (λ j. j / l.step) l.nodes));
+  among : (n : ℕ) → All (λ k. k < n) l.queries → All (λ k. k < n) l.above.items;
+  before : 0 < l.slot → l.previous ≡ get_or l.nodes (l.slot - 1) 0 / l.step;
+  parents_capacity : (l.parents.len ≤ l.slot) × (l.parents.cap ≡ length l.nodes);
+  queries_capacity : (l.above.len ≤ l.slot) × (l.above.cap ≡ length l.nodes);
+}
