@@ -22,6 +22,7 @@ ghost use Rattle.p3_merkle_verifier.specs.Inner.RestoredLevels.{IsCoveredAt, IsL
 
 use crate::openings::{BorrowedOpening, Restorable};
 use crate::path::{Checker, is_entry};
+use p3_merkle_core::agreement::check_pruned;
 use p3_merkle_core::error::MerkleTreeError;
 use p3_merkle_core::pruning::{AuthPath, KeptLevel, children_of, parent_of, paths_out_of};
 use p3_merkle_core::steps::{StepUp, Steps};
@@ -107,7 +108,7 @@ fn restorable_of<'a, P: PackedValue, X>(
         sets,
         sent,
     } = opening;
-    let queried = steps.check_pruned(alloc, cap_layer, indices, sets, sent.len())?;
+    let queried = check_pruned(alloc, steps, cap_layer, indices, sets, sent.len())?;
     let restorable = Restorable {
         steps,
         cap_layer,
