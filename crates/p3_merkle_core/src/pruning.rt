@@ -206,8 +206,9 @@ fn num_siblings<X>(levels: &[KeptLevel<X>]) -> Result<usize, AllocError>
     Ok(count)
 }
 
-/// Adds one place in `level` for each node, in order: that of its parent, if each node has its parent there and each
-/// parent has a node. Nodes and parents ascend. A search only begins at these places, so no path depends on them.
+/// Adds, for each node in order, the place in `level` at which a search for its parent begins. That is the parent's own
+/// place where nodes and parents ascend, each node has its parent there, and each parent has a node. No path depends on
+/// these places: a search goes on where it does not find the parent.
 ///
 /// # Errors
 ///
@@ -234,8 +235,8 @@ fn extend_with_places<X>(
     Ok(())
 }
 
-/// For each level but the last, and each of its `parents`, the place of that node's parent in the next level: one level
-/// after another.
+/// For each level except the last, and each of its `parents`, the place in the next level at which a search for that
+/// node's parent begins: one level after another.
 ///
 /// # Errors
 ///
@@ -253,8 +254,8 @@ fn all_places<X>(alloc: Global, levels: &[KeptLevel<X>]) -> Result<Vec<usize>, A
 }
 
 /// The siblings on the path of a leaf, out of the levels that a walk kept, from the leaves on: of each group on the
-/// path all digests but the path's own, ascending. The path of a leaf that the walk did not cover has no siblings on
-/// the levels where no covered node is above it. `places` has those of [`all_places`]. It allocates `capacity`
+/// path all digests except the path's own, ascending. The path of a leaf that the walk did not cover has no siblings on
+/// the levels where no covered node is above it. `places` are those of [`all_places`]. It allocates `capacity`
 /// siblings, the most that a path has.
 ///
 /// # Errors
@@ -286,7 +287,7 @@ fn path_out_of<X: Copy>(
 }
 
 /// The path of each of some indices, in order, from the levels that a walk kept, from the leaves up. Its siblings are,
-/// on each level, all digests of the path's group but the path's own, ascending; there are none on a level where no
+/// on each level, all digests of the path's group except its own, ascending; there are none on a level where no
 /// covered node is above the leaf.
 ///
 /// # Errors

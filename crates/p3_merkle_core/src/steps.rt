@@ -14,7 +14,7 @@ ghost use Rattle.p3_merkle_core.specs.Geometry.{positions_below, schedule_below,
 ghost use Rattle.p3_merkle_core.specs.Inner.Exponents.{AreExponents};
 ghost use Rattle.p3_merkle_core.specs.Inner.Levels.{IsBelowTop, IsLevel};
 ghost use Rattle.p3_merkle_core.specs.Inner.Shapes.{shortest};
-ghost use Rattle.p3_merkle_core.specs.Inner.Steps.{level_step};
+ghost use Rattle.p3_merkle_core.specs.Inner.Steps.{IsWalk};
 ghost use Rattle.p3_merkle_core.specs.Pruning.{pruned_len};
 
 use crate::cap::CapRule;
@@ -132,15 +132,7 @@ pub struct Steps<'a> {
     /// How many steps lead from the leaves to the root.
     pub num_levels: usize,
     of_level: [LevelStep; MAX_LEVELS],
-    ghost wide: { 2 ≤ arity },
-    ghost tallest: { max_height ≡ greatest (heights_of dimensions.now) },
-    ghost shortest: { min_height ≡ shortest (heights_of dimensions.now) },
-    ghost leaves: { exponent ≡ layer_exponent (shape_of arity dimensions.now) 0 },
-    ghost whole: { num_levels ≡ levels (shape_of arity dimensions.now) },
-    ghost few: { num_levels ≤ 64 },
-    ghost long: { length of_level ≡ 64 },
-    ghost kept: { take num_levels of_level
-        ≡ map (level_step (shape_of arity dimensions.now)) (range_with_len 0 num_levels) },
+    ghost walked: { IsWalk (shape_of arity dimensions.now) max_height min_height exponent num_levels of_level },
 }
 
 /// The steps of the tree over matrices of these dimensions, where a node has at most `arity` children. They end for all
@@ -191,15 +183,7 @@ pub struct KeptSteps {
     exponent: usize,
     num_levels: usize,
     of_level: [LevelStep; MAX_LEVELS],
-    ghost wide: { 2 ≤ arity },
-    ghost tallest: { max_height ≡ greatest (heights_of dimensions.items) },
-    ghost shortest: { min_height ≡ shortest (heights_of dimensions.items) },
-    ghost leaves: { exponent ≡ layer_exponent (shape_of arity dimensions.items) 0 },
-    ghost whole: { num_levels ≡ levels (shape_of arity dimensions.items) },
-    ghost few: { num_levels ≤ 64 },
-    ghost long: { length of_level ≡ 64 },
-    ghost kept: { take num_levels of_level
-        ≡ map (level_step (shape_of arity dimensions.items)) (range_with_len 0 num_levels) },
+    ghost walked: { IsWalk (shape_of arity dimensions.items) max_height min_height exponent num_levels of_level },
 }
 
 impl KeptSteps {

@@ -33,7 +33,7 @@ loop-level-init g c =
     let t = c.args.cap_layer in
     let e : t - 0 ≡ t = omega arith in
     record {
-      at = c.args.steps.now.leaves;
+      at = c.args.steps.now.walked.leaves;
       above = c.in_ok-nodes.ensures.items ∙ c.deref.ensures.value ∙ nodes_start s leaves;
       so_far = kept_or (h 0) (first_of h (range_with_len 1 (t - 0)))
           (layers_refusal g.T.PartialEq.eq s t leaves firsts sets) (rw e refl)
@@ -50,7 +50,7 @@ up-up-requires g c = record {
 pub to_parents-requires : goal.to_parents-requires
 to_parents-requires g c =
     let s = shape_of c.args.steps.now.arity c.args.steps.now.dimensions.now in
-    omega (arith, c.up-up.ensures.step, step_above_1 s c.loop-level.level c.args.steps.now.wide)
+    omega (arith, c.up-up.ensures.step, step_above_1 s c.loop-level.level c.args.steps.now.walked.wide)
 
 pub returns-in_err-list_matrices : goal.returns-in_err-list_matrices
 returns-in_err-list_matrices g c =
@@ -74,7 +74,7 @@ check_layer-requires g c =
     c.up-up.ensures.step in
     record {
       pairs = layer_pairs s (l + 1) leaves firsts nodes read c.requires.pairs above read_is;
-      ascending = ascending_above s (l + 1) leaves nodes c.args.steps.now.wide above
+      ascending = ascending_above s (l + 1) leaves nodes c.args.steps.now.walked.wide above
           (ascending_from leaves (rising_from leaves c.requires.ascending));
       queries = rw read_is c.requires.queries;
       full = matrices_full c.args.steps.now.dimensions.now firsts read c.deref-then-up.result.now sets

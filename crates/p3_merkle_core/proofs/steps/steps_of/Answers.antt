@@ -67,18 +67,20 @@ invariant_of-result c =
     let s = shape_of c.args.arity c.args.dimensions.now in
     let at = c.loop-exponents.invariant.0 in
     record {
-      wide = c.requires;
-      tallest = c.extremes_of-max_height.ensures.greatest;
-      shortest = c.extremes_of-max_height.ensures.least;
-      leaves = c.exponent_of-exponent.ensures ∙ ap exponent c.extremes_of-max_height.ensures.greatest
-          ∙ sym (layer_start s);
-      whole = at_end s c.loop-exponents.num_levels c.loop-exponents.exponents.layer at (omega arith);
-      few = omega (
-        arith,
-        at.room,
-        ap exponent c.extremes_of-max_height.ensures.greatest,
-        exponent_le c.extremes_of-max_height.result.0 64 (omega arith),
-      );
-      long = c.loop-exponents.invariant.2;
-      kept = c.loop-exponents.invariant.3;
+      walked = record {
+        wide = c.requires;
+        tallest = c.extremes_of-max_height.ensures.greatest;
+        shortest = c.extremes_of-max_height.ensures.least;
+        leaves = c.exponent_of-exponent.ensures ∙ ap exponent c.extremes_of-max_height.ensures.greatest
+            ∙ sym (layer_start s);
+        whole = at_end s c.loop-exponents.num_levels c.loop-exponents.exponents.layer at (omega arith);
+        few = omega (
+          arith,
+          at.room,
+          ap exponent c.extremes_of-max_height.ensures.greatest,
+          exponent_le c.extremes_of-max_height.result.0 64 (omega arith),
+        );
+        long = c.loop-exponents.invariant.2;
+        kept = c.loop-exponents.invariant.3;
+      };
     }

@@ -24,7 +24,7 @@ boundary_len-requires-clause-low g c =
 
 pub boundary_len-requires-clause-layer : goal.boundary_len-requires-clause-layer
 boundary_len-requires-clause-layer g c =
-    omega (arith, c.steps_in-steps.result.whole, ap levels c.steps_in-steps.ensures)
+    omega (arith, c.steps_in-steps.result.walked.whole, ap levels c.steps_in-steps.ensures)
 
 pub boundary_len-requires-clause-below : goal.boundary_len-requires-clause-below
 boundary_len-requires-clause-below g c =
@@ -50,7 +50,7 @@ loop-level-init g c = record {
 }
 
 pub step-step-requires : goal.step-step-requires
-step-step-requires g c = omega (arith, c.steps_in-steps.result.whole, ap levels c.steps_in-steps.ensures)
+step-step-requires g c = omega (arith, c.steps_in-steps.result.walked.whole, ap levels c.steps_in-steps.ensures)
 
 pub climb-requires : goal.climb-requires
 climb-requires g c =

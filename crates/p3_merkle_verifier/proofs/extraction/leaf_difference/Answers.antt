@@ -15,8 +15,8 @@ returns g c =
     let o = opening_in c.args.first in
     let u = opening_in c.args.second in
     let heights = heights_of steps.dimensions.now in
-    let mine = ap (λ x. words_of_exponent x (zip heights o.rows)) steps.leaves in
-    let theirs = ap (λ x. words_of_exponent x (zip heights u.rows)) steps.leaves in
+    let mine = ap (λ x. words_of_exponent x (zip heights o.rows)) steps.walked.leaves in
+    let theirs = ap (λ x. words_of_exponent x (zip heights u.rows)) steps.walked.leaves in
     IfOk-weaker c.differing_words.result _ _
     (λ found is. found_leaf g.T.PartialEq.eq g.W.PartialEq.eq (shape_of steps.arity steps.dimensions.now) o u
     (words_of_exponent steps.exponent (zip heights o.rows)) (words_of_exponent steps.exponent (zip heights u.rows))

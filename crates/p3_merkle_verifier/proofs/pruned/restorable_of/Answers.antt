@@ -55,6 +55,6 @@ returns-clause-leaves g c =
       queries_are = queried.indices ∙ queried_by_firsts s indices (distinct indices) (distinct_queried indices)
           ∙ ap (map (node_of_query s indices 0)) (sym queried.first_queries);
       among = firsts_inside c.in_ok-queried.queried.first_queries.items indices queried.first_queries;
-      at_exponent = c.args.steps.now.leaves;
+      at_exponent = c.args.steps.now.walked.leaves;
       sent_below = refl;
     }

@@ -19,7 +19,7 @@ loop-level-init c =
 pub climb-requires : goal.climb-requires
 climb-requires c =
     let s = shape_of c.args.self.now.arity c.args.self.now.dimensions.now in
-    omega (arith, c.step-step.ensures, step_above_1 s c.loop-level.level c.args.self.now.wide)
+    omega (arith, c.step-step.ensures, step_above_1 s c.loop-level.level c.args.self.now.walked.wide)
 
 pub overflow_mul-children : goal.overflow_mul-children
 overflow_mul-children c =
@@ -29,7 +29,7 @@ overflow_mul-children c =
     record {
       well_shaped = c.requires.arity;
       below = c.requires.below;
-      in_tree = omega (arith, c.requires.layer, c.args.self.now.whole);
+      in_tree = omega (arith, c.requires.layer, c.args.self.now.walked.whole);
     } in
     let many : c.len-below.result ≡ length c.loop-level.covered.items = omega arith in
     let fewer : c.len.result ≡ length c.climb.new.covered.items = omega arith in
@@ -49,7 +49,7 @@ overflow_sub-count c =
     record {
       well_shaped = c.requires.arity;
       below = c.requires.below;
-      in_tree = omega (arith, c.requires.layer, c.args.self.now.whole);
+      in_tree = omega (arith, c.requires.layer, c.args.self.now.walked.whole);
     } in
     let many : c.len-below.result ≡ length c.loop-level.covered.items = omega arith in
     let fewer : c.len.result ≡ length c.climb.new.covered.items = omega arith in
@@ -69,7 +69,7 @@ overflow_add-count c =
     record {
       well_shaped = c.requires.arity;
       below = c.requires.below;
-      in_tree = omega (arith, c.requires.layer, c.args.self.now.whole);
+      in_tree = omega (arith, c.requires.layer, c.args.self.now.walked.whole);
     } in
     let many : c.len-below.result ≡ length c.loop-level.covered.items = omega arith in
     let fewer : c.len.result ≡ length c.climb.new.covered.items = omega arith in
@@ -89,7 +89,7 @@ loop-level-preserved c =
     record {
       well_shaped = c.requires.arity;
       below = c.requires.below;
-      in_tree = omega (arith, c.requires.layer, c.args.self.now.whole);
+      in_tree = omega (arith, c.requires.layer, c.args.self.now.walked.whole);
     } in
     let many : c.len-below.result ≡ length c.loop-level.covered.items = omega arith in
     let fewer : c.len.result ≡ length c.climb.new.covered.items = omega arith in

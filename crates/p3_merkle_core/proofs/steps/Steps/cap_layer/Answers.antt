@@ -19,7 +19,7 @@ returns c =
             w.exponent_of.ensures,
             w.exponent_of-in-Lowered.ensures,
           )
-          (lowered_by_numbers s c.requires c.args.cap_height steps.num_levels steps.min_height steps.whole
-          steps.shortest)
-      | in-Fixed w ↦ rw (w.in-Fixed.is, w.max_cap_height-is, steps.whole) refl
+          (lowered_by_numbers s c.requires c.args.cap_height steps.num_levels steps.min_height steps.walked.whole
+          steps.walked.shortest)
+      | in-Fixed w ↦ rw (w.in-Fixed.is, w.max_cap_height-is, steps.walked.whole) refl
     ]

@@ -17,7 +17,7 @@ pub height_at_of-expected_height-requires : goal.height_at_of-expected_height-re
 height_at_of-expected_height-requires c =
     omega (
       arith,
-      c.args.self.now.tallest,
+      c.args.self.now.walked.tallest,
       tallest_fits (heights_of c.args.self.now.dimensions.now) (sym c.in_default.ensures),
     )
 
@@ -28,13 +28,13 @@ returns-then-height-expected_height-clause-lawful c = (
       let own = expected_there c.args.self.now.dimensions.now c.loop-matrix.matrix-index c.loop-matrix-test.true w in
       let expected = c.height_at_of-expected_height.ensures in
       let exponent = c.exponent_of.ensures in
-      let max = c.args.self.now.tallest in
+      let max = c.args.self.now.walked.tallest in
       absurd (c.if-height-expected_height.true cc),
 )
 
 pub returns-clause-lawful : goal.returns-clause-lawful
 returns-clause-lawful c =
-    let e = c.args.self.now.tallest in
+    let e = c.args.self.now.walked.tallest in
     let all = drop_all c.loop-matrix.matrix-index c.args.self.now.dimensions.now (omega arith) in
     let o = rw (all, e) at c.loop-matrix.invariant in (
       λ t. lawful_from_none (heights_of c.args.self.now.dimensions.now) (λ z. c.if-max_height-eq0.false (e ∙ z))

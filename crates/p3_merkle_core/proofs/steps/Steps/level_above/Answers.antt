@@ -33,7 +33,8 @@ padded_len-requires-clause-fits c =
     let x = c.args.exponent in
     let g = c.if-self-below.grouped_len in
     let bridge = bridge_at s self.of_level self.num_levels c.args.below
-    (record { is_bridge = false; has_rows = false }) self.kept (omega (arith, c.requires.in_tree, self.whole)) in
+    (record { is_bridge = false; has_rows = false }) self.walked.kept
+    (omega (arith, c.requires.in_tree, self.walked.whole)) in
     let few = (small_at c.requires).exponent_small in
     let low : x < 64 = omega (arith, few, c.requires.at_x) in
     let grouped = grouped_is g _ c.requires bridge (elim c.if-self-below.branch [
@@ -55,7 +56,7 @@ padded_len-requires-clause-fits c =
 pub height_at_of-requires : goal.height_at_of-requires
 height_at_of-requires c =
     let self = c.args.self.now in
-    omega (arith, low (shape_of self.arity self.dimensions.now) c.requires.lawful, self.tallest)
+    omega (arith, low (shape_of self.arity self.dimensions.now) c.requires.lawful, self.walked.tallest)
 
 pub returns-clause-level : goal.returns-clause-level
 returns-clause-level c =
@@ -65,7 +66,8 @@ returns-clause-level c =
     let x = c.args.exponent in
     let g = c.if-self-below.grouped_len in
     let bridge = bridge_at s self.of_level self.num_levels c.args.below
-    (record { is_bridge = false; has_rows = false }) self.kept (omega (arith, c.requires.in_tree, self.whole)) in
+    (record { is_bridge = false; has_rows = false }) self.walked.kept
+    (omega (arith, c.requires.in_tree, self.walked.whole)) in
     let few = (small_at c.requires).exponent_small in
     let low : x < 64 = omega (arith, few, c.requires.at_x) in
     let grouped = grouped_is g _ c.requires bridge (elim c.if-self-below.branch [
@@ -81,4 +83,4 @@ returns-clause-level c =
     ]) in
     level_is c.up-up.result.step c.up-up.result.exponent g c.padded_len.result c.height_at_of.result
     c.up-up.result.has_rows c.requires c.up-up.ensures.step c.up-up.ensures.exponent grouped c.padded_len.ensures
-    (c.height_at_of.ensures ∙ ap (λ m. height_at m c.up-up.result.exponent) self.tallest) c.up-up.ensures.rows
+    (c.height_at_of.ensures ∙ ap (λ m. height_at m c.up-up.result.exponent) self.walked.tallest) c.up-up.ensures.rows

@@ -25,12 +25,12 @@ push_reserved-requires c =
 pub nonzero_rem-ancestor : goal.nonzero_rem-ancestor
 nonzero_rem-ancestor c =
     let s = shape_of c.args.self.now.arity c.args.self.now.dimensions.now in
-    omega (arith, c.step-step.ensures, step_above_1 s c.loop-level.level c.args.self.now.wide)
+    omega (arith, c.step-step.ensures, step_above_1 s c.loop-level.level c.args.self.now.walked.wide)
 
 pub nonzero_div-ancestor : goal.nonzero_div-ancestor
 nonzero_div-ancestor c =
     let s = shape_of c.args.self.now.arity c.args.self.now.dimensions.now in
-    omega (arith, c.step-step.ensures, step_above_1 s c.loop-level.level c.args.self.now.wide)
+    omega (arith, c.step-step.ensures, step_above_1 s c.loop-level.level c.args.self.now.walked.wide)
 
 pub loop-level-preserved : goal.loop-level-preserved
 loop-level-preserved c =

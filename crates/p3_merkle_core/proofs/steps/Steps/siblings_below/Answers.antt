@@ -11,7 +11,7 @@ loop-level-init c = sym (siblings_start (shape_of c.args.self.now.arity c.args.s
 pub overflow_add-count : goal.overflow_add-count
 overflow_add-count c =
     let s = shape_of c.args.self.now.arity c.args.self.now.dimensions.now in
-    let below : c.loop-level.level < levels s = omega (arith, c.args.self.now.whole) in
+    let below : c.loop-level.level < levels s = omega (arith, c.args.self.now.walked.whole) in
     let is = step_is s c.loop-level.level c.requires.arity c.requires.low below in
     omega (arith, c.requires.arity.fits, is.narrow, is.few, c.step.ensures, c.loop-level.invariant)
 

@@ -12,7 +12,7 @@ returns-then-is_bridge c =
     let s = shape_of c.args.arity self.dimensions.now in
     let l = c.args.level in
     let kept = rw (← c.requires.arity) at (kept_at (shape_of self.arity self.dimensions.now) self.of_level
-    self.num_levels l (record { is_bridge = false; has_rows = false }) self.kept c.requires.level) in
+    self.num_levels l (record { is_bridge = false; has_rows = false }) self.walked.kept c.requires.level) in
     let bridge : is_bridge s (layer_exponent s l) ≡ true = sym (ap (λ (step : LevelStep). step.is_bridge) kept)
     ∙ c.if-is_bridge.true in
     record {
@@ -28,7 +28,7 @@ returns-else-is_bridge c =
     let s = shape_of c.args.arity self.dimensions.now in
     let l = c.args.level in
     let kept = rw (← c.requires.arity) at (kept_at (shape_of self.arity self.dimensions.now) self.of_level
-    self.num_levels l (record { is_bridge = false; has_rows = false }) self.kept c.requires.level) in
+    self.num_levels l (record { is_bridge = false; has_rows = false }) self.walked.kept c.requires.level) in
     let bridge : is_bridge s (layer_exponent s l) ≡ false = sym (ap (λ (step : LevelStep). step.is_bridge) kept)
     ∙ c.if-is_bridge.false in
     record {

@@ -20,7 +20,7 @@ boundary_len-requires-clause-below g c =
     let steps = c.steps_of-steps.result in
     let arity : IsArity steps.arity = rw c.steps_of-steps.ensures.arity c.args.self.now.arity in
     (leaves_asked (shape_of steps.arity steps.dimensions.now) c.args.indices.now c.in_ok-leaves.leaves.items
-    c.cap_layer-cap_layer.result arity (rw steps.tallest at c.in_ok-check_indices.ensures.below)
+    c.cap_layer-cap_layer.result arity (rw steps.walked.tallest at c.in_ok-check_indices.ensures.below)
     c.in_ok-leaves.ensures).below
 
 pub boundary_len-requires-clause-ascending : goal.boundary_len-requires-clause-ascending
@@ -28,7 +28,7 @@ boundary_len-requires-clause-ascending g c =
     let steps = c.steps_of-steps.result in
     let arity : IsArity steps.arity = rw c.steps_of-steps.ensures.arity c.args.self.now.arity in
     (leaves_asked (shape_of steps.arity steps.dimensions.now) c.args.indices.now c.in_ok-leaves.leaves.items
-    c.cap_layer-cap_layer.result arity (rw steps.tallest at c.in_ok-check_indices.ensures.below)
+    c.cap_layer-cap_layer.result arity (rw steps.walked.tallest at c.in_ok-check_indices.ensures.below)
     c.in_ok-leaves.ensures).ascending
 
 pub returns-clause-least : goal.returns-clause-least
@@ -39,7 +39,7 @@ returns-clause-least g c =
     c.cap_layer-cap_layer.result made.ensures.arity made.ensures.dimensions c.cap_layer-cap_layer.ensures in
     let s = shape_of g.row.N c.args.dimensions.now in
     let arity : IsArity made.result.arity = rw made.ensures.arity scheme.arity in
-    let below = rw made.result.tallest at c.in_ok-check_indices.ensures.below in
+    let below = rw made.result.walked.tallest at c.in_ok-check_indices.ensures.below in
     let asked = leaves_asked (shape_of made.result.arity made.result.dimensions.now) c.args.indices.now
     c.in_ok-leaves.leaves.items c.cap_layer-cap_layer.result arity below c.in_ok-leaves.ensures in
     count_least s c.args.indices.now (cap_layer_over scheme s) c.boundary_len.result

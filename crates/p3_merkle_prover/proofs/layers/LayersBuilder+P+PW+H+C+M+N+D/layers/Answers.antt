@@ -12,13 +12,13 @@ loop-below-init g c =
     let steps = c.args.self.now.steps.now in
     rw (c.in_ok-push.ensures.items, c.in_ok-layers.ensures.items)
     (built_first c.args.self.now.build steps.exponent steps.max_height c.in_ok-leaves.leaves.items
-    (rw c.args.self.now.arity at steps.leaves) steps.tallest c.in_ok-leaves.ensures)
+    (rw c.args.self.now.arity at steps.walked.leaves) steps.walked.tallest c.in_ok-leaves.ensures)
 
 pub level_above-level-requires : goal.level_above-level-requires
 level_above-level-requires g c =
     let steps = c.args.self.now.steps.now in
     let top : steps.num_levels ≡ levels (shape_of g.row.N steps.dimensions.now) =
-    rw c.args.self.now.arity at steps.whole in
+    rw c.args.self.now.arity at steps.walked.whole in
     rw c.args.self.now.arity (below_top c.args.self.now.build c.loop-below.invariant (omega (arith, top)))
 
 pub index-requires : goal.index-requires
@@ -52,5 +52,5 @@ pub returns : goal.returns
 returns g c =
     let steps = c.args.self.now.steps.now in
     let top : steps.num_levels ≡ levels (shape_of g.row.N steps.dimensions.now) =
-    rw c.args.self.now.arity at steps.whole in
+    rw c.args.self.now.arity at steps.walked.whole in
     built_all c.args.self.now.build c.loop-below.invariant (omega (arith, top))

@@ -15,7 +15,7 @@ padded_len-requires-clause-fits g c =
     let least = build.arity.fits in
     let two = build.arity.above_1 in
     let top = c.args.self.now.steps.now.max_height in
-    omega (arith, padded_le top g.row.N (omega arith), tallest_low build, c.args.self.now.steps.now.tallest)
+    omega (arith, padded_le top g.row.N (omega arith), tallest_low build, c.args.self.now.steps.now.walked.tallest)
 
 pub invariant_of-rows : goal.invariant_of-rows
 invariant_of-rows g c = record {
@@ -39,4 +39,4 @@ returns g c =
     rw c.padded_len.ensures at c.in_ok-leaves.ensures
     ∙ same_made made wanted (padded_len h g.row.N) (λ j below. rw (rows j) refl)
     ∙ leaves_are f g.row.N g.M.Matrix.height_of g.M.Matrix.width_of g.M.Matrix.row_of all c.args.self.now.build h
-    c.args.self.now.steps.now.tallest
+    c.args.self.now.steps.now.walked.tallest
