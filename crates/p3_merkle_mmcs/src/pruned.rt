@@ -293,7 +293,9 @@ impl<
             sets: rows,
             sent: proof.sibling_hashes.as_slice(),
         };
+        // `None` alone has no lifetime, and a proof needs one.
+        let no_roots = false.then_some(opening.sent);
         self.checker()
-            .restored_paths(alloc, None, &steps, cap_layer, opening)
+            .restored_paths(alloc, no_roots, &steps, cap_layer, opening)
     }
 }

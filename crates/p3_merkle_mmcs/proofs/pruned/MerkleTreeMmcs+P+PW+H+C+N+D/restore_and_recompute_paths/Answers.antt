@@ -1,12 +1,13 @@
 -- The paths are those of the checker's walk.
-use Rattle.std.proofs.Common.{◌∙◌, ap, replicate, subst, None}
+use Rattle.std.proofs.Common.{◌∙◌, ap, replicate, subst}
 use Rattle.std.specs.Prelude.{◌≡◌, IfOk}
-use Rattle.std.specs.Option.{option_or}
+use Rattle.std.specs.Option.{option_copied}
 use Rattle.p3_support.specs.Shown.{row_sets}
 use Rattle.p3_merkle_core.specs.Geometry.{shape_of}
 use Rattle.p3_merkle_core.specs.Pruning.{pruned_of, restored_paths}
 use Rattle.p3_merkle_core.specs.Refusals.{AnswersUnlessMemory, pruned_refusal}
 use Rattle.p3_merkle_core.specs.Views.{pruned_lent, shown_paths}
+use Rattle.p3_merkle_verifier.specs.Inner.RestoredLevels.{pruned_refusal_by}
 use Rattle.p3_merkle_mmcs.specs.Schemes.{cap_layer_over, compression_of, hash_of}
 use Rattle.p3_merkle_mmcs.proofs.CheckFacts.{are_steps, terms_alike}
 use Rattle.p3_merkle_mmcs.proofs.PrunedFacts.{or_none, restoring_verdict}
@@ -30,8 +31,8 @@ returns g c =
     let sent = ap (pruned_of c.args.indices.now (row_sets c.args.rows.now)) c.as_slice.ensures.value in
     let restored = c.restored_paths.result in
     let answer = subst (AnswersUnlessMemory restored)
-    ((λ i. option_or (pruned_refusal eq (steps.tree i) (steps.at_cap i) (sent i)) None)
-    ∙ or_none (pruned_refusal eq s t p)) c.restored_paths.ensures.answer in
+    ((λ i. pruned_refusal_by eq g.PW.Value.PartialEq.eq (alike i) (option_copied (c.then_some-no_roots.ensures i))
+    (sent i)) ∙ or_none (pruned_refusal eq s t p)) c.restored_paths.ensures.answer in
     record {
       verdict = restoring_verdict eq s t p g.met.P.PackedValue.eq_is_equality restored answer;
       paths = subst (λ (ps : _). IfOk restored (λ paths. shown_paths paths.items ≡ ps))
