@@ -197,6 +197,7 @@ fn act<
 {
     let dimensions = dimensions_of(alloc, &matrices)?;
     let (roots, tree) = scheme.commit(alloc, matrices)?;
+    // What is wrong with the heights is told first, and the commit finds it.
     let indices = request.indices.as_slice();
     check_indices(scheme.get_max_height(&tree), indices)?;
     match request.command.action {
