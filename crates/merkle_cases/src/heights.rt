@@ -55,6 +55,19 @@ fn checked(
     fold_scheme::<2>(ROOT).verify_batch(&cap, dimensions, 0, BatchOpeningRef::from(&opening))
 }
 
+/// Whether all these answers are this one.
+fn are_all(
+    answers: &[Result<(), MerkleTreeError>],
+    expected: &Result<(), MerkleTreeError>,
+) -> bool {
+    for answer in answers {
+        if *answer != *expected {
+            return false;
+        }
+    }
+    true
+}
+
 /// `heights | HEIGHTS | ERROR`: what each call that takes heights answers, where all answer alike, and else all their
 /// answers: of the test of heights, the commit, the tree, the schedule and the check of an opening.
 pub fn heights(case: &mut Case<'_>) -> Result<(), Fault> {
@@ -68,7 +81,7 @@ pub fn heights(case: &mut Case<'_>) -> Result<(), Fault> {
         scheduled(case.alloc, &dimensions),
         checked(reader, &heights, &dimensions),
     ];
-    if answers.iter().all(|answer| *answer == answers[0]) {
+    if are_all(&answers, &answers[0]) {
         case.answer.verdict(&answers[0]);
     } else {
         for (place, answer) in answers.iter().enumerate() {

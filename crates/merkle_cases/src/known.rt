@@ -30,13 +30,25 @@ fn given_in(
     Ok(numbers)
 }
 
-/// Adds to the known nodes of a layer the parents of the groups that are known below: those whose nodes all are.
+/// Whether all children of the parent of a node are known.
+fn is_group_known(known: &[usize], step: usize, node: usize) -> bool
+    requires { 0 < step }
+{
+    let first = node - node % step;
+    for place in 0..step {
+        if !known.contains(&first.saturating_add(place)) {
+            return false;
+        }
+    }
+    true
+}
+
+/// Adds to the known nodes of a layer the parents of the groups that are known below.
 fn add_parents(above: &mut Vec<usize>, known: &[usize], step: usize) -> Result<(), AllocError>
     requires { 0 < step }
 {
     for node in known {
-        let first = *node - *node % step;
-        if (first..first.saturating_add(step)).all(|child| known.contains(&child)) {
+        if is_group_known(known, step, *node) {
             above.push(*node / step)?;
         }
     }
