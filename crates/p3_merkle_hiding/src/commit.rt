@@ -21,7 +21,7 @@ use crate::hiding_mmcs::{MerkleTreeHidingMmcs, SaltedTree};
 use crate::join::check_widening;
 use p3_merkle_core::error::MerkleTreeError;
 use p3_merkle_core::geometry::check_heights;
-use p3_merkle_prover::levels::batch_dimensions;
+use p3_merkle_prover::tree::batch_dimensions;
 use p3_support::compress::PseudoCompressionFunction;
 use p3_support::hasher::CryptographicHasher;
 use p3_support::matrix::{Dimensions, Matrix, RowMajorMatrix};

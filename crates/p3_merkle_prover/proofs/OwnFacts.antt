@@ -1,15 +1,20 @@
 -- What a tree opens of one index: the bounds of each group, and the siblings level by level.
 use Rattle.std.proofs.Common.{◌≡◌, ℕ, suc, ◌+◌, ◌-◌, ◌*◌, ◌/◌, ◌%◌, ◌<◌, ◌≤◌, List, ◌++◌, [], map, refl, ap, sym, ◌∙◌}
-use Rattle.std.proofs.Common.{arith, length, get_or, take, drop, remove, add-one, length-drop}
-use Rattle.std.specs.List.{range_with_len}
+use Rattle.std.proofs.Common.{arith, length, get_or, take, drop, add-one, append_assoc, length-drop}
+use Rattle.std.specs.List.{range_with_len, remove}
 use Rattle.std.specs.Prelude.{slice_index_or}
-use Rattle.std.proofs.lemmas.List.{ext_get_or, get_or-drop, get_or-map, get_or-take, length-take-le}
+use Rattle.std.proofs.lemmas.List.{drop-drop, drop-take, ext_get_or, get_or-drop, get_or-map, get_or-take}
+use Rattle.std.proofs.lemmas.List.{length-take-le, take-take}
 use Rattle.std.proofs.lemmas.List.FromFn.{get_or-map-range_with_len, length-map-range_with_len}
 use Rattle.std.proofs.Math.Nat.{mul-le-mul_left}
 use Rattle.p3_merkle_core.specs.Geometry.{Shape, step, ancestor, levels, heights, raw_len, layer_len, IsArity, IsLawful}
 use Rattle.p3_support.specs.Batches.{greatest}
 use Rattle.p3_merkle_core.proofs.Shapes.RawFacts.{anc_below, children_fit}
 use Rattle.p3_merkle_core.proofs.Shapes.StepFacts.{anc_next, step_above_1}
+use Rattle.p3_support.specs.declared.matrix.Matrix.{Ghosts}
+use Rattle.p3_merkle_core.specs.Nodes.{shape}
+use Rattle.p3_merkle_prover.specs.Parts.{tree_batch}
+use Rattle.p3_merkle_prover.specs.declared.tree.Tree.{Tree}
 use Rattle.p3_merkle_prover.proofs.TreeFacts.{layer_long}
 use Rattle.p3_merkle_core.proofs.Lists.ListFacts.{joined, joined_more}
 use Rattle.p3_merkle_core.specs.Openings.{node_in, level_siblings}
@@ -37,13 +42,15 @@ group_is s i l n node len w lawful below h at is long =
     record { is_step = is; at_node = at; wide = two; starts = start ∙ rw (up, ← is) refl; fits = omega arith }
 
 -- the same from the facts of a tree: its layers have their lengths
-pub group_at_level : {V : Type 0} (len : V → ℕ) (layers : List V) (s : Shape) (i l t n node : ℕ) (layer : V) →
-    IsArity s.arity → IsLawful (heights s) →
-    map len layers ≡ map (layer_len s) (range_with_len 0 (suc (levels s))) → i < greatest (heights s) → t ≤ levels s →
-    l < t → node ≡ ancestor s l i → n ≡ step s l → layer ≡ get_or layers l layer → IsGroup s i l n node (len layer)
-group_at_level len layers s i l t n node layer w lawful lengths below in_tree h at step is =
-    group_is s i l n node (len layer) w lawful below (omega arith) at step
-    (layer_long len layers s lengths l layer (omega arith) is)
+pub group_of : {F X G M : Type 0} {N : ℕ} {matrix : Ghosts M F} (tree : Tree F X G M N matrix) (i l t : ℕ) {s : Shape}
+    {n node : ℕ} {layer : _} → s ≡ shape (tree_batch tree) → i < greatest (heights (shape (tree_batch tree))) →
+    t ≤ levels (shape (tree_batch tree)) → l < t → node ≡ ancestor (shape (tree_batch tree)) l i → n ≡ step s l →
+    layer ≡ get_or tree.layers.items l layer → IsGroup (shape (tree_batch tree)) i l n node (length layer.items)
+group_of tree i l t {layer = layer} own below in_tree h at is read =
+    let s = shape (tree_batch tree) in
+    group_is s i l _ _ (length layer.items) tree.arity tree.lawful below (omega arith) at
+    (is ∙ ap (λ (z : Shape). step z l) own)
+    (layer_long (λ nodes. length nodes.items) tree.layers.items s tree.layer_lengths l layer (omega arith) read)
 
 -- a part of a list, place by place
 part_read : {X : Type 0} (d : X) (xs : List X) (a n : ℕ) → a + n ≤ length xs → take n (drop a xs)
@@ -56,22 +63,41 @@ part_read d xs a n fits =
     (λ k inside. get_or-take n (drop a xs) k d (omega (arith, long)) ∙ get_or-drop a xs k d
     ∙ sym (get_or-map-range_with_len (λ k. get_or xs (a + k) d) 0 n k k d (omega (arith, long)) (omega arith)))
 
--- one level more of the siblings
+-- a part of a list without the place p: what is before it there, and what is behind it
+part_without : {X : Type 0} (xs : List X) (a p n : ℕ) → p < n →
+    take p (drop a xs) ++ take (n - suc p) (drop (a + suc p) xs) ≡ remove (take n (drop a xs)) p
+part_without xs a p n h =
+    let whole : n ≡ suc p + (n - suc p) = omega arith in
+    let front = take-take p n (drop a xs) (omega arith) in
+    let back = ap (λ m. drop (suc p) (take m (drop a xs))) whole ∙ drop-take (suc p) (n - suc p) (drop a xs)
+    ∙ ap (take (n - suc p)) (drop-drop (suc p) a xs) in
+    sym (ap (λ ys. ys ++ drop (suc p) (take n (drop a xs))) front ∙ ap (λ ys. take p (drop a xs) ++ ys) back)
+
+-- one level more of the siblings: the group's digests before the node, and those behind it
 pub group_next : {V X : Type 0} (d : X) (items : V → List X) (layers : List V) (s : Shape) (i l n node : ℕ) (layer : V)
-    (old new : List X) →
-    IsGroup s i l n node (length (items layer)) → l < length layers → layer ≡ get_or layers l layer → old
-    ≡ joined (level_siblings (node_in d (map items layers)) s i) l →
-    new ≡ old ++ remove (take (node - node % n + n - (node - node % n)) (drop (node - node % n) (items layer)))
-    (node % n) →
+    (row old middle new : List X) →
+    IsGroup s i l n node (length (items layer)) → l < length layers → layer ≡ get_or layers l layer →
+    row ≡ items layer → old ≡ joined (level_siblings (node_in d (map items layers)) s i) l →
+    middle ≡ old ++ take (node - (node - node % n)) (drop (node - node % n) row) →
+    new ≡ middle ++ take (node - node % n + n - (node + 1)) (drop (node + 1) row) →
     new ≡ joined (level_siblings (node_in d (map items layers)) s i) (l + 1)
-group_next d items layers s i l n node layer old new w h is is_old is_new =
-    let count : node - node % n + n - (node - node % n) ≡ n = omega arith in
+group_next d items layers s i l n node layer row old middle new w h is shown is_old is_middle is_new =
+    let two = w.wide in
+    let small : node % n < n = omega arith in
+    let before : node - (node - node % n) ≡ node % n = omega arith in
+    let behind : node - node % n + n - (node + 1) ≡ n - suc (node % n) = omega arith in
+    let from : node + 1 ≡ node - node % n + suc (node % n) = omega arith in
+    let group = part_without (items layer) (node - node % n) (node % n) n small in
+    let pieces : new ≡ old ++ remove (take n (drop (node - node % n) (items layer))) (node % n) =
+    is_new ∙ rw (is_middle, shown, before, behind, from)
+    (append_assoc old (take (node % n) (drop (node - node % n) (items layer)))
+    (take (n - suc (node % n)) (drop (node - node % n + suc (node % n)) (items layer)))
+    ∙ ap (λ ys. old ++ ys) group) in
     let read : slice_index_or (map items layers) l [] ≡ items layer = get_or-map items layers l layer [] h
     ∙ ap items (sym is) in
     let part = part_read d (items layer) (node - node % n) n w.fits in
-    is_new ∙ rw (
+    pieces ∙ rw (
       is_old,
-      count,
       add-one,
       joined_more (level_siblings (node_in d (map items layers)) s i) l,
       part,

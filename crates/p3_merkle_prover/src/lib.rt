@@ -2,10 +2,8 @@
 //! several.
 #![tactic(auto)]
 
-mod copy;
 mod layer;
-pub mod layers;
-pub mod levels;
+mod layers;
 pub mod opener;
 pub mod pruned;
 pub mod tree;

@@ -1,7 +1,6 @@
 //! What a tree opens of one leaf: a row of each matrix, and the siblings on the leaf's path.
 
-ghost use Rattle.std.specs.Prelude.{◌≡◌, ◌<◌, ◌≤◌, ◌++◌, length, map, remove, IfErr, IfOk, None};
-ghost use Rattle.p3_merkle_core.specs.Caps.{cap_layer};
+ghost use Rattle.std.specs.Prelude.{◌≡◌, ◌<◌, ◌≤◌, ◌++◌, map, IfOk, None};
 ghost use Rattle.p3_support.specs.Batches.{greatest};
 ghost use Rattle.p3_merkle_core.specs.Geometry.{heights, levels, shape_of};
 ghost use Rattle.p3_merkle_core.specs.Nodes.{shape};
@@ -12,7 +11,6 @@ ghost use Rattle.p3_merkle_prover.specs.Parts.{layers_of, matrices_of, tree_batc
 ghost use Rattle.p3_merkle_core.specs.Refusals.{AnswersUnlessMemory};
 
 use crate::tree::Tree;
-use p3_merkle_core::cap::CapRule;
 use p3_merkle_core::error::MerkleTreeError;
 use p3_merkle_core::geometry::bits_reduced_of;
 use p3_merkle_core::pruning::{parent_of, position_of};
@@ -32,17 +30,6 @@ pub fn max_height<F, X, G, M: Matrix<F>, const N: usize>(tree: &Tree<F, X, G, M,
     ensures { result ≡ greatest (heights (shape (tree_batch tree.now))) }
 {
     tree.steps.max_height
-}
-
-/// The layer of a tree, counted from the leaves, that is the cap of this height.
-pub fn cap_layer_in<F, X, G, M: Matrix<F>, const N: usize>(
-    tree: &Tree<F, X, G, M, N>,
-    rule: CapRule,
-    cap_height: usize,
-) -> usize
-    ensures { result ≡ cap_layer (shape (tree_batch tree.now)) rule cap_height }
-{
-    steps_in(tree).cap_layer(rule, cap_height)
 }
 
 /// The row of each matrix that belongs to leaf `index`, in input order. The index must be below [`max_height`].
@@ -89,7 +76,7 @@ pub fn matrix_refs<'a, F, X, G, M: Matrix<F>, const N: usize>(
 }
 
 /// The siblings on the path of leaf `index` up to a layer, level by level from the leaves up: on each level all digests
-/// of the path's group but the path's own, ascending. `steps` must be those of the tree, the index below
+/// of the path's group except the path's own, ascending. `steps` must be those of the tree, the index below
 /// [`max_height`], and the layer at most the number of levels.
 ///
 /// # Errors
@@ -111,14 +98,14 @@ pub fn siblings_of_index<F, X: Copy, G, M: Matrix<F>, const N: usize>(
     ensures memory { AnswersUnlessMemory result None }
 {
     let mut siblings = Vec::with_capacity(alloc, steps.siblings_below(layer))?;
-    let mut ancestor = index;
+    let mut node = index;
     for level in 0..layer {
         let step = steps.step(level);
-        let position = position_of(ancestor, step);
-        let first = ancestor - position;
-        let group = &tree.layers[level][first..first + step];
-        extend_with_others(&mut siblings, group, position)?;
-        ancestor = parent_of(ancestor, step);
+        let first = node - position_of(node, step);
+        let nodes = &tree.layers[level];
+        extend_with_piece(&mut siblings, &nodes[first..node])?;
+        extend_with_piece(&mut siblings, &nodes[node + 1..first + step])?;
+        node = parent_of(node, step);
     }
     Ok(siblings)
 }
@@ -140,21 +127,17 @@ fn words_of_row<F: Copy, M: Matrix<F>>(
     Ok(words)
 }
 
-/// Adds the members of a group to the end, all but the one at `position`.
-fn extend_with_others<X: Copy>(
-    siblings: &mut Vec<X>,
-    group: &[X],
-    position: usize,
+/// Adds a piece of a layer to the end.
+pub(crate) fn extend_with_piece<X: Copy>(
+    digests: &mut Vec<X>,
+    piece: &[X],
 ) -> Result<(), MerkleTreeError>
-    requires { position < length group.now }
-    ensures others { let others = remove group.now position in
-        IfOk result (λ done. siblings.new.items ≡ siblings.old.items ++ others) }
+    ensures digests { IfOk result (λ done. digests.new.items ≡ digests.old.items ++ piece.now) }
     ensures memory { AnswersUnlessMemory result None }
 {
-    for (place, digest) in group.iter().enumerate() {
-        if place != position {
-            siblings.push(*digest)?;
-        }
+    // A piece mostly has one digest or none: a call that copies them would take longer.
+    for digest in piece {
+        digests.push(*digest)?;
     }
     Ok(())
 }

@@ -1,7 +1,6 @@
 //! What a tree opens of several leaves at once: their rows, and the digests that these rows leave unknown.
 
-ghost use Rattle.std.specs.Prelude.{◌≡◌, ◌+◌, ◌-◌, ◌%◌, ◌^◌, ◌<◌, ◌≤◌, ◌++◌, length, map, min, slice_index, All, IfErr};
-ghost use Rattle.std.specs.Prelude.{IfOk, None};
+ghost use Rattle.std.specs.Prelude.{◌≡◌, ◌+◌, ◌-◌, ◌%◌, ◌^◌, ◌<◌, ◌≤◌, ◌++◌, length, map, All, IfOk, None};
 ghost use Rattle.std.specs.List.Sorted.{IsStrictlyIncreasing};
 ghost use Rattle.p3_merkle_core.specs.Geometry.{heights, levels};
 ghost use Rattle.p3_support.specs.Batches.{greatest};
@@ -14,7 +13,7 @@ ghost use Rattle.p3_merkle_prover.specs.Parts.{layers_of, tree_batch};
 ghost use Rattle.p3_merkle_core.specs.Pruning.{boundary_by};
 ghost use Rattle.p3_merkle_core.specs.Refusals.{AnswersUnlessMemory};
 
-use crate::opener::{rows_of_index, steps_in};
+use crate::opener::{extend_with_piece, rows_of_index, steps_in};
 use crate::tree::Tree;
 use p3_merkle_core::error::MerkleTreeError;
 use p3_merkle_core::pruning::{climb, covered_leaves, position_of};
@@ -98,34 +97,13 @@ fn extend_with_boundary<X: Copy>(
     for place in 0..covered.len() {
         let node = covered[place];
         let first = node - position_of(node, step);
-        let end = end_before(covered, place + 1, first + step);
+        let mut end = first + step;
+        if place + 1 < covered.len() {
+            end = end.min(covered[place + 1]);
+        }
         extend_with_piece(digests, &layer[first.max(next)..node])?;
         extend_with_piece(digests, &layer[node + 1..end])?;
         next = end;
     }
     Ok(())
-}
-
-/// Adds a piece of a layer to the end.
-fn extend_with_piece<X: Copy>(digests: &mut Vec<X>, piece: &[X]) -> Result<(), MerkleTreeError>
-    ensures digests { IfOk result (λ done. digests.new.items ≡ digests.old.items ++ piece.now) }
-    ensures memory { AnswersUnlessMemory result None }
-{
-    // A piece mostly has one digest or none: a call that copies them would take longer.
-    for digest in piece {
-        digests.push(*digest)?;
-    }
-    Ok(())
-}
-
-/// The end of a group, or the covered node at a place, if there is one and it comes first.
-fn end_before(covered: &[usize], place: usize, group_end: usize) -> usize
-    ensures next { place < length covered.now → result ≡ min group_end (slice_index covered.now place) }
-    ensures last { length covered.now ≤ place → result ≡ group_end }
-{
-    if place < covered.len() {
-        group_end.min(covered[place])
-    } else {
-        group_end
-    }
 }

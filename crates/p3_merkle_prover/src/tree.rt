@@ -1,27 +1,26 @@
 //! The tree over a batch of matrices.
 
-ghost use Rattle.std.specs.Prelude.{◌≡◌, ℕ, suc, ◌+◌, ◌-◌, ◌<◌, ◌≤◌, ◌⊎◌, [], ◌∷◌, IfOk, IsTrue, MatchResult, List};
+ghost use Rattle.std.specs.Prelude.{◌≡◌, suc, ◌+◌, ◌-◌, ◌<◌, ◌≤◌, [], ◌∷◌, All, IfOk, IsTrue, MatchResult};
 ghost use Rattle.std.specs.Prelude.{Some, map, length, replicate, slice_get};
-ghost use Rattle.std.specs.List.{range_with_len};
+ghost use Rattle.std.specs.List.{AllZip, range_with_len};
 ghost use Rattle.p3_merkle_core.specs.Geometry.{heights, is_arity, layer_below_root, layer_len, levels, shape_of};
 ghost use Rattle.p3_merkle_core.specs.Geometry.{IsArity, IsLawful};
 ghost use Rattle.p3_merkle_core.specs.Gate.{gate_refusal};
+ghost use Rattle.p3_merkle_core.specs.Nodes.{dimensions_of as dimensions_in_batch};
 ghost use Rattle.p3_merkle_core.specs.Nodes.{functions_of, layers as layers_over, shape};
 ghost use Rattle.p3_merkle_core.specs.declared.error.MerkleTreeError.TheVariants.{OutOfMemory};
 ghost use Rattle.p3_merkle_core.specs.Refusals.{AnswersUnlessMemory};
-ghost use Rattle.p3_merkle_core.specs.Views.{batch_of, heights_in};
-ghost use Rattle.p3_merkle_prover.specs.Inner.Levels.{CanBuild};
+ghost use Rattle.p3_merkle_core.specs.Views.{batch_of, matrix_of, ClonesShowTheSame};
 
-use crate::layers::Builder;
-use crate::levels::batch_dimensions;
+use crate::layers::LayersBuilder;
 use p3_merkle_core::error::MerkleTreeError;
 use p3_merkle_core::steps::KeptSteps;
 use p3_support::compress::PseudoCompressionFunction;
 use p3_support::hasher::CryptographicHasher;
-use p3_support::matrix::Matrix;
+use p3_support::matrix::{Dimensions, Matrix, dimensions_of};
 use p3_support::opening::{Hash, MerkleCap};
 use p3_support::packed::PackedValue;
-use std::alloc::Global;
+use std::alloc::{AllocError, Global};
 use std::marker::PhantomData;
 
 /// A Merkle tree over matrices `M` of values `F`: digests `X` in layers, from the leaves to the root, where each node
@@ -97,17 +96,20 @@ impl<F: Copy, W: Copy, M: Matrix<F> + Drop, const N: usize, const D: usize> Merk
             let b = batch_of M.height_of M.width_of M.row_of N leaves.items in
             IfOk result (λ tree. layers_of tree ≡ layers_over f b) }
     {
-        let steps = lawful_steps(alloc, &leaves, N)?;
-        let builder = Builder::<P, PW, H, C, M, [[W; D]; N]> {
+        let kept = KeptSteps::new(batch_dimensions(alloc, &leaves)?, N);
+        let steps = kept.steps();
+        steps.check_heights()?;
+        let builder = LayersBuilder::<P, PW, H, C, M, N, D> {
             hash,
             compress,
             matrices: &leaves,
+            steps: &steps,
             item: PhantomData,
         };
-        let layers = builder.layers(alloc, &steps.steps())?;
+        let layers = builder.layers(alloc)?;
         Ok(Tree {
             matrices: leaves,
-            steps,
+            steps: kept,
             layers,
             item: PhantomData,
         })
@@ -151,24 +153,59 @@ impl<F: Copy, W: Copy, M: Matrix<F> + Drop, const N: usize, const D: usize> Merk
     }
 }
 
-/// The steps of the tree over matrices. The arity must be a power of two from 2 to 2^62.
+impl<F: Copy, W: Copy, M: Matrix<F> + Clone + Drop, const N: usize, const D: usize> MerkleTree<
+    F,
+    W,
+    M,
+    N,
+    D,
+> {
+    ghost use Rattle.p3_merkle_prover.specs.Parts.{layers_of, matrices_of, tree_batch};
+
+    /// A tree with clones of the matrices, and the same layers. A clone of a matrix must have the same height, width
+    /// and rows. The copy opens what the tree opens.
+    ///
+    /// # Errors
+    ///
+    /// `AllocError` if memory runs out.
+    pub fn clone(&self) -> Result<Self, AllocError>
+        requires { All (ClonesShowTheSame M.height_of M.width_of M.row_of M.is_clone) (matrices_of self.now) }
+        ensures matrices { IfOk result (λ tree. AllZip M.is_clone (matrices_of self.now) (matrices_of tree)) }
+        ensures batch { IfOk result (λ tree. tree_batch tree ≡ tree_batch self.now) }
+        ensures layers { IfOk result (λ tree. layers_of tree ≡ layers_of self.now) }
+    {
+        let alloc = *self.matrices.allocator();
+        Ok(Tree {
+            matrices: self.matrices.clone()?,
+            steps: self.steps.clone()?,
+            layers: copies_of(alloc, &self.layers)?,
+            item: PhantomData,
+        })
+    }
+}
+
+/// Copies of some layers.
+fn copies_of<X: Copy>(alloc: Global, layers: &[Vec<X>]) -> Result<Vec<Vec<X>>, AllocError>
+    ensures { IfOk result (λ copies. map (λ nodes. nodes.items) copies.items ≡ map (λ nodes. nodes.items) layers.now) }
+{
+    let mut copies = Vec::with_capacity(alloc, layers.len())?;
+    for nodes in layers {
+        copies.push(Vec::from_slice(alloc, nodes)?)?;
+    }
+    Ok(copies)
+}
+
+/// The dimensions of the matrices of a batch, in input order.
 ///
 /// # Errors
 ///
-/// Those of [`Tree::new`].
-fn lawful_steps<F, M: Matrix<F>>(
+/// `AllocError` if memory runs out.
+pub fn batch_dimensions<T, M: Matrix<T>>(
     alloc: Global,
     matrices: &[M],
-    arity: usize,
-) -> Result<KeptSteps, MerkleTreeError>
-    requires { IsArity arity }
-    ensures answer { AnswersUnlessMemory result
-        (gate_refusal (heights_in M.height_of M.width_of M.row_of matrices.now)) }
-    ensures arity { IfOk result (λ kept. kept.arity ≡ arity) }
-    ensures built { let b = batch_of M.height_of M.width_of M.row_of arity matrices.now in
-        IfOk result (λ kept. CanBuild b kept.dimensions.items) }
+) -> Result<Vec<Dimensions>, AllocError>
+    ensures { IfOk result (λ v.
+        v.items ≡ dimensions_in_batch (map (matrix_of M.height_of M.width_of M.row_of) matrices.now)) }
 {
-    let kept = KeptSteps::new(batch_dimensions(alloc, matrices)?, arity);
-    kept.steps().check_heights()?;
-    Ok(kept)
+    dimensions_of(alloc, matrices)
 }

@@ -11,4 +11,4 @@ abbrev pub invariant-loop-level : goal.invariant-loop-level
 invariant-loop-level g l =
     ((d : g.row.X.Denot) → l.siblings.items
     ≡ joined (level_siblings (node_in d (layers_of l.tree)) (shape (tree_batch l.tree)) l.index) l.level)
-    × (l.ancestor ≡ ancestor (shape (tree_batch l.tree)) l.level l.index)
+    × (l.node ≡ ancestor (shape (tree_batch l.tree)) l.level l.index)

@@ -1,8 +1,9 @@
 -- Each turn adds what lies beside one covered node.
-use Rattle.std.proofs.Common.{◌≤◌, ◌++◌, ◌∙◌, ap, arith, sym, append-nil, get_or, length, refl}
+use Rattle.std.proofs.Common.{◌+◌, ◌-◌, ◌%◌, ◌≤◌, ◌++◌, ◌∙◌, ap, arith, sym, append-nil, get_or, length, refl}
 use Rattle.std.proofs.lemmas.Result.{err_from_is_err_and}
-use Rattle.p3_merkle_prover.proofs.BoundaryFacts.{gone_start, others_end, others_more, turned}
+use Rattle.p3_merkle_prover.proofs.BoundaryFacts.{EndsAt, gone_start, others_end, others_more, turned}
 use Rattle.p3_merkle_prover.proofs.pruned.extend_with_boundary.Goals as goal
+use Rattle.p3_merkle_prover.proofs.pruned.extend_with_boundary.Goals.{then-place-covered, else-place-covered}
 
 pub loop-place-init : goal.loop-place-init
 loop-place-init g c = record {
@@ -19,13 +20,20 @@ loop-place-preserved g c =
     let place = c.loop-place.place in
     let next = c.loop-place.next in
     let node = get_or covered place 0 in
-    let end = c.end_before-end.result in
+    let end = c.if-place-covered.end in
+    let ends : EndsAt covered (place + 1) (node - node % n + n) end = elim c.if-place-covered.branch [
+      | then-place-covered w ↦ record {
+        next = λ h. rw c.position_of.ensures at (w.end-is ∙ w.min-end.ensures);
+        last = λ h. absurd (omega arith);
+      }
+      | else-place-covered w ↦ record {
+        next = λ h. absurd (omega arith);
+        last = λ h. rw c.position_of.ensures at w.end-is;
+      }
+    ] in
     let w = turned covered n place next c.max.result node end c.requires.some c.requires.ascending (omega arith)
     c.loop-place.invariant.gone refl (rw c.position_of.ensures at c.max.ensures)
-    (record {
-      next = rw c.position_of.ensures at c.end_before-end.ensures.next;
-      last = rw c.position_of.ensures at c.end_before-end.ensures.last;
-    }) in
+    ends in
     let inside : end ≤ length layer = omega (arith, w.fits, c.requires.groups place 0 (omega arith)) in
     record {
       gone = w.gone;

@@ -1,5 +1,5 @@
 -- The facts of the tree that is made.
-use Rattle.std.proofs.Common.{replicate, refl, ap, ◌∙◌, inl, map}
+use Rattle.std.proofs.Common.{arith, replicate, refl, ap, ◌∙◌, inl, inr, map}
 use Rattle.std.proofs.lemmas.Result.{err_from_is_err_and}
 use Rattle.p3_merkle_core.specs.Geometry.{shape_of}
 use Rattle.p3_merkle_core.specs.Views.{batch_of, matrix_of}
@@ -8,14 +8,40 @@ use Rattle.p3_merkle_core.proofs.Shapes.ArityFacts.{arity_from}
 use Rattle.p3_merkle_prover.proofs.TreeFacts.{lengths_from}
 use Rattle.p3_merkle_prover.proofs.tree.MerkleTree+F+W+M+N+D.new.Goals as goal
 
-pub lawful_steps-requires : goal.lawful_steps-requires
-lawful_steps-requires g c = arity_from g.row.N c.requires.arity
+pub new-kept-requires : goal.new-kept-requires
+new-kept-requires g c = let arity = arity_from g.row.N c.requires.arity in omega (arith, arity.above_1)
 
-pub returns-in_err-steps : goal.returns-in_err-steps
-returns-in_err-steps g c =
+pub invariant_of-builder-clause-build : goal.invariant_of-builder-clause-build
+invariant_of-builder-clause-build g c =
+    let shown = map (matrix_of g.M.Matrix.height_of g.M.Matrix.width_of g.M.Matrix.row_of) in
+    rw c.deref-2.ensures.value (record {
+      arity = arity_from g.row.N c.requires.arity;
+      lawful = rw (
+        c.steps-steps.ensures.dimensions,
+        c.new-kept.ensures.dimensions,
+        c.in_ok-batch_dimensions.ensures,
+        c.deref.ensures.value,
+      ) at (c.in_ok-check_heights.ensures.lawful.0 refl);
+      same = c.steps-steps.ensures.dimensions ∙ c.new-kept.ensures.dimensions ∙ c.in_ok-batch_dimensions.ensures
+          ∙ ap (λ ms. dimensions_of (shown ms)) c.deref.ensures.value;
+    })
+
+pub returns-in_err-batch_dimensions : goal.returns-in_err-batch_dimensions
+returns-in_err-batch_dimensions g c =
     let gone = err_from_is_err_and c.from_residual.result c.from_residual.ensures.1 in
+    rw (gone.1, gone.2) (record { answer = inl refl; matrices = tt; layers = tt })
+
+pub returns-in_err-check_heights : goal.returns-in_err-check_heights
+returns-in_err-check_heights g c =
+    let gone = err_from_is_err_and c.from_residual-in_err-check_heights.result
+    c.from_residual-in_err-check_heights.ensures.1 in
     rw (gone.1, gone.2) (record {
-      answer = rw c.deref.ensures.value at c.in_err-steps.ensures.answer;
+      answer = inr (rw (
+        c.steps-steps.ensures.dimensions,
+        c.new-kept.ensures.dimensions,
+        c.in_ok-batch_dimensions.ensures,
+        c.deref.ensures.value,
+      ) at c.in_err-check_heights.ensures.answer);
       matrices = tt;
       layers = tt;
     })
@@ -26,7 +52,13 @@ returns-in_err-layers g c =
     rw (gone.1, gone.2) (record { answer = inl refl; matrices = tt; layers = tt })
 
 pub returns-clause-answer : goal.returns-clause-answer
-returns-clause-answer g c = rw c.deref.ensures.value at c.in_ok-steps.ensures.answer
+returns-clause-answer g c =
+    rw (
+      c.steps-steps.ensures.dimensions,
+      c.new-kept.ensures.dimensions,
+      c.in_ok-batch_dimensions.ensures,
+      c.deref.ensures.value,
+    ) at c.in_ok-check_heights.ensures.answer
 
 pub returns-clause-matrices : goal.returns-clause-matrices
 returns-clause-matrices g c = refl
@@ -44,7 +76,13 @@ pub invariant_of-result-clause-arity : goal.invariant_of-result-clause-arity
 invariant_of-result-clause-arity g c = arity_from g.row.N c.requires.arity
 
 pub invariant_of-result-clause-lawful : goal.invariant_of-result-clause-lawful
-invariant_of-result-clause-lawful g c = rw c.deref.ensures.value at c.in_ok-steps.ensures.built.lawful
+invariant_of-result-clause-lawful g c =
+    rw (
+      c.steps-steps.ensures.dimensions,
+      c.new-kept.ensures.dimensions,
+      c.in_ok-batch_dimensions.ensures,
+      c.deref.ensures.value,
+    ) at (c.in_ok-check_heights.ensures.lawful.0 refl)
 
 pub invariant_of-result-clause-layer_lengths : goal.invariant_of-result-clause-layer_lengths
 invariant_of-result-clause-layer_lengths g c =
@@ -59,8 +97,8 @@ invariant_of-result-clause-layer_lengths g c =
 
 pub invariant_of-result-clause-own_shape : goal.invariant_of-result-clause-own_shape
 invariant_of-result-clause-own_shape g c =
-    rw c.in_ok-steps.ensures.arity
+    rw c.new-kept.ensures.arity
     (ap (shape_of g.row.N)
-    (c.in_ok-steps.ensures.built.same
+    (c.new-kept.ensures.dimensions ∙ c.in_ok-batch_dimensions.ensures
     ∙ ap (λ ms. dimensions_of (map (matrix_of g.M.Matrix.height_of g.M.Matrix.width_of g.M.Matrix.row_of) ms))
     c.deref.ensures.value))
