@@ -96,20 +96,20 @@ impl<F: Copy, W: Copy, M: Matrix<F> + Drop, const N: usize, const D: usize> Merk
             let b = batch_of M.height_of M.width_of M.row_of N leaves.items in
             IfOk result (λ tree. layers_of tree ≡ layers_over f b) }
     {
-        let steps = KeptSteps::new(batch_dimensions(alloc, &leaves)?, N);
-        let walked = steps.steps();
-        walked.check_heights()?;
+        let kept = KeptSteps::new(batch_dimensions(alloc, &leaves)?, N);
+        let steps = kept.steps();
+        steps.check_heights()?;
         let builder = LayersBuilder::<P, PW, H, C, M, N, D> {
             hash,
             compress,
             matrices: &leaves,
-            steps: &walked,
+            steps: &steps,
             item: PhantomData,
         };
         let layers = builder.layers(alloc)?;
         Ok(Tree {
             matrices: leaves,
-            steps,
+            steps: kept,
             layers,
             item: PhantomData,
         })

@@ -8,8 +8,8 @@ use Rattle.p3_merkle_core.proofs.Shapes.ArityFacts.{arity_from}
 use Rattle.p3_merkle_prover.proofs.TreeFacts.{lengths_from}
 use Rattle.p3_merkle_prover.proofs.tree.MerkleTree+F+W+M+N+D.new.Goals as goal
 
-pub new-steps-requires : goal.new-steps-requires
-new-steps-requires g c = let arity = arity_from g.row.N c.requires.arity in omega (arith, arity.above_1)
+pub new-kept-requires : goal.new-kept-requires
+new-kept-requires g c = let arity = arity_from g.row.N c.requires.arity in omega (arith, arity.above_1)
 
 pub invariant_of-builder-clause-build : goal.invariant_of-builder-clause-build
 invariant_of-builder-clause-build g c =
@@ -17,12 +17,12 @@ invariant_of-builder-clause-build g c =
     rw c.deref-2.ensures.value (record {
       arity = arity_from g.row.N c.requires.arity;
       lawful = rw (
-        c.steps-walked.ensures.dimensions,
-        c.new-steps.ensures.dimensions,
+        c.steps-steps.ensures.dimensions,
+        c.new-kept.ensures.dimensions,
         c.in_ok-batch_dimensions.ensures,
         c.deref.ensures.value,
       ) at (c.in_ok-check_heights.ensures.lawful.0 refl);
-      same = c.steps-walked.ensures.dimensions ∙ c.new-steps.ensures.dimensions ∙ c.in_ok-batch_dimensions.ensures
+      same = c.steps-steps.ensures.dimensions ∙ c.new-kept.ensures.dimensions ∙ c.in_ok-batch_dimensions.ensures
           ∙ ap (λ ms. dimensions_of (shown ms)) c.deref.ensures.value;
     })
 
@@ -37,8 +37,8 @@ returns-in_err-check_heights g c =
     c.from_residual-in_err-check_heights.ensures.1 in
     rw (gone.1, gone.2) (record {
       answer = inr (rw (
-        c.steps-walked.ensures.dimensions,
-        c.new-steps.ensures.dimensions,
+        c.steps-steps.ensures.dimensions,
+        c.new-kept.ensures.dimensions,
         c.in_ok-batch_dimensions.ensures,
         c.deref.ensures.value,
       ) at c.in_err-check_heights.ensures.answer);
@@ -54,8 +54,8 @@ returns-in_err-layers g c =
 pub returns-clause-answer : goal.returns-clause-answer
 returns-clause-answer g c =
     rw (
-      c.steps-walked.ensures.dimensions,
-      c.new-steps.ensures.dimensions,
+      c.steps-steps.ensures.dimensions,
+      c.new-kept.ensures.dimensions,
       c.in_ok-batch_dimensions.ensures,
       c.deref.ensures.value,
     ) at c.in_ok-check_heights.ensures.answer
@@ -78,8 +78,8 @@ invariant_of-result-clause-arity g c = arity_from g.row.N c.requires.arity
 pub invariant_of-result-clause-lawful : goal.invariant_of-result-clause-lawful
 invariant_of-result-clause-lawful g c =
     rw (
-      c.steps-walked.ensures.dimensions,
-      c.new-steps.ensures.dimensions,
+      c.steps-steps.ensures.dimensions,
+      c.new-kept.ensures.dimensions,
       c.in_ok-batch_dimensions.ensures,
       c.deref.ensures.value,
     ) at (c.in_ok-check_heights.ensures.lawful.0 refl)
@@ -97,8 +97,8 @@ invariant_of-result-clause-layer_lengths g c =
 
 pub invariant_of-result-clause-own_shape : goal.invariant_of-result-clause-own_shape
 invariant_of-result-clause-own_shape g c =
-    rw c.new-steps.ensures.arity
+    rw c.new-kept.ensures.arity
     (ap (shape_of g.row.N)
-    (c.new-steps.ensures.dimensions ∙ c.in_ok-batch_dimensions.ensures
+    (c.new-kept.ensures.dimensions ∙ c.in_ok-batch_dimensions.ensures
     ∙ ap (λ ms. dimensions_of (map (matrix_of g.M.Matrix.height_of g.M.Matrix.width_of g.M.Matrix.row_of) ms))
     c.deref.ensures.value))
