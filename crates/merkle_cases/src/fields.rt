@@ -80,7 +80,8 @@ impl<'a> Fields<'a> {
         self.reader.number(field)
     }
 
-    /// The cap that the next field is: its height, with `l` after it under the lowered rule, with `f` under the fixed one.
+    /// The cap that the next field is: its height, with `l` after it under the lowered rule, with `f` under the fixed
+    /// one.
     pub fn cap(&mut self) -> Cap {
         let field = self.take();
         let (height, rule) = if let Some(height) = field.strip_suffix('l') {

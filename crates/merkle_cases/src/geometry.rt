@@ -78,8 +78,8 @@ fn step_from(
     Ok(steps.up(steps.arity, 0, steps.exponent))
 }
 
-/// `step | ARITY | HEIGHTS | EXPONENT | matrix or none, bridge or whole, STEP, NEXT EXPONENT`: whether a column has that
-/// exponent, as the step of 2 that leads there says, and the step from there.
+/// `step | ARITY | HEIGHTS | EXPONENT | matrix or none, bridge or whole, STEP, NEXT EXPONENT`: whether a column has
+/// that exponent, as the step of 2 that leads there says, and the step from there.
 pub fn step(case: &mut Case<'_>) -> Result<(), Fault> {
     let arity = case.fields.number().max(2);
     let heights = case.fields.numbers();

@@ -14,8 +14,8 @@ fn written_lists(reader: &mut Reader, text: &str) -> Vec<Vec<usize>> {
     lists
 }
 
-/// The list of so many of some leaves whose numbers, as digits in a system of that base, are this number, the last digit
-/// first.
+/// The list of so many of some leaves that are the digits of this number, the last digit first. The base is how many
+/// leaves there are.
 fn list_numbered(reader: &mut Reader, leaves: usize, len: usize, number: usize) -> Vec<usize> {
     let base = leaves.max(1);
     let mut list = reader.none();

@@ -172,8 +172,8 @@ fn check_twins<S: Tried>(
     Ok(())
 }
 
-/// How many digests open the leaves of some queries. Fails where their opening, or its twins or those of its first leaf,
-/// are not as they should be.
+/// How many digests open the leaves of some queries. Fails where their opening, or its twins or those of its first
+/// leaf, are not as they should be.
 fn check_list<S: Tried>(
     alloc: Global,
     scheme: &S,

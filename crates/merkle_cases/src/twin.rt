@@ -48,8 +48,8 @@ pub fn twin_sets(
     Ok(twin)
 }
 
-/// The place of a check at which the rows of a matrix of this exponent are hashed; none where its layer is above the cap.
-/// The leaves have the other exponent, and the steps lead from them up to the cap.
+/// The place of a check at which the rows of a matrix of this exponent are hashed; none where its layer is above the
+/// cap. The leaves have the other exponent, and the steps lead from them up to the cap.
 fn place_of(leaves: usize, steps: &[usize], rows: usize) -> Option<Place> {
     if leaves == rows {
         return Some(Place::Leaf);

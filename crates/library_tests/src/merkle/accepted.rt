@@ -97,8 +97,8 @@ fn an_index_is_opened_and_accepted(rt: HostRuntime) -> Result<(), Fail> {
     let alloc = rt.alloc();
     let (opening, verdict) = judged_opening(alloc, &scheme(), numbered(alloc, &SIZES)?, 3)?;
     let (rows, siblings) = (&opening.opened_values, &opening.opening_proof);
-    // 1025 is the digest of the row 2. That of the rows 0 and 1 is 30785 = 31 * 961 + 993 + 1, and with the row 0 of the
-    // other matrix 31 * 30785 + 29791 + 1.
+    // 1025 is the digest of the row 2. That of the rows 0 and 1 is 30785 = 31 * 961 + 993 + 1, and with the row 0 of
+    // the other matrix 31 * 30785 + 29791 + 1.
     let shown = format!(in alloc; "{rows:?}, {siblings:?}")?;
     assert_eq!(rt; shown.as_str(), "[[3, 3], [1, 1, 1]], [[1025], [984127]]");
     assert_eq!(rt; verdict, Ok(()));

@@ -1,5 +1,5 @@
-//! What a caller that is generic in the scheme can prove: what the scheme opens is refused for want of memory alone, and
-//! any word that the dimensions say is there can be read out of verified rows.
+//! What a caller that is generic in the scheme can prove: what the scheme opens is refused for want of memory alone,
+//! and any word that the dimensions say is there can be read out of verified rows.
 ghost use Rattle.std.specs.Prelude.{◌≡◌, ◌<◌, ◌↔◌, [], ◌∷◌, IfErr, IfOk, IsSome, length, map, slice_index};
 ghost use Rattle.p3_support.specs.Batches.{dimensions_in, greatest, heights_of};
 ghost use Rattle.p3_support.specs.RowMajor.{row_count, row_width};
@@ -65,8 +65,8 @@ fn verified_word_of<T: Copy, M: Matrix<T>, S: Mmcs<T, M>>(
     requires matrix { place.matrix < length dimensions.now }
     requires column { place.column < slice_index (map (λ d. d.width) dimensions.now) place.matrix }
     ensures index { IfOk result (λ word. slice_index indices.now query < greatest (heights_of dimensions.now)) }
-    ensures memory { S.accepts_all verifier.now commitment.now dimensions.now indices.now (row_sets rows.now) proof.now →
-        IfErr result S.is_out_of_memory }
+    ensures memory { S.accepts_all verifier.now commitment.now dimensions.now indices.now (row_sets rows.now)
+        proof.now → IfErr result S.is_out_of_memory }
 {
     verifier.verify_multi_batch(alloc, commitment, dimensions, indices, rows, proof)?;
     Ok(rows[query][place.matrix][place.column])
