@@ -18,10 +18,11 @@ OF_STD |= {"min", "new", "next", "push"}
 class Function:
     """A function: where it stands, the type or trait that it belongs to, and its text."""
 
-    def __init__(self, crate, path, line, name, signature, body):
-        self.crate, self.path, self.line, self.name = crate, path, line, name
+    def __init__(self, crate, path, module, line, name, signature, body):
+        self.crate, self.path, self.module, self.line, self.name = crate, path, module, line, name
         self.signature, self.body = signature, body
         self.owner = self.trait = None
+        self.arguments = ""  # of its trait, one after another
 
     @property
     def body_lines(self):
@@ -43,6 +44,7 @@ class Functions:
 
     def __init__(self, top, crates):
         self.all, self._imports, self.aliases = [], {}, {}
+        self.types = {}  # the modules in which types of a name are declared: (crate, name) -> modules
         for crate in crates:
             for path in sorted((top / "crates" / crate / "src").rglob("*.rt")):
                 self._read(crate, path)
@@ -108,15 +110,20 @@ class Functions:
     def _read(self, crate, path):
         """Notes the functions, imports and aliases of a source."""
         text = re.sub(r"//[^\n]*", "", path.read_text(encoding="utf-8"))
+        module = path.with_suffix("").parts[path.parts.index("src") + 1 :]
+        module = "" if module in (("lib",), ("main",)) else "/".join(module)
         self._imports[path] = imports_of(crate, text)
-        for alias in re.finditer(r"^pub type (\w+)<.*?=\s*(\w+)", text, re.M | re.S):
+        for alias in re.finditer(r"^(?:pub(?:\([a-z]+\))? )?type (\w+)<.*?=\s*(\w+)", text, re.M | re.S):
             self.aliases[alias[1]] = alias[2]
+        for name in re.findall(r"^(?:pub(?:\([a-z]+\))? )?(?:struct|enum|trait) (\w+)", text, re.M):
+            self.types.setdefault((crate, name), set()).add(module)
         for head in HEAD.finditer(text):
             body = body_of(text, head.end())
-            function = Function(crate, path, text[: head.start()].count("\n") + 1, head[2], *split(text, head, body))
+            line = text[: head.start()].count("\n") + 1
+            function = Function(crate, path, module, line, head[2], *split(text, head, body))
             if head[1]:
                 block = [block for block in BLOCK.finditer(text, 0, head.start())][-1]
-                function.owner, function.trait = owner_of(block[1], text[block.end() :])
+                function.owner, function.trait, function.arguments = owner_of(block[1], text[block.end() :])
             self.all.append(function)
 
 
@@ -154,16 +161,26 @@ def body_of(text, at):
 
 
 def owner_of(kind, text):
-    """The type or trait that a block is of, and the trait that it implements, or "its own" in a trait."""
+    """The type or trait that a block is of, and the trait that it implements with its arguments, or "its own"."""
     if kind == "trait":
-        return re.match(r"\s*(\w+)", text)[1], "its own"
+        return re.match(r"\s*(\w+)", text)[1], "its own", ""
     text = text.replace("->", "  ").lstrip()
     text = text[end_of(text, 0, "<", ">") + 1 :] if text.startswith("<") else text
-    head, before = text.split("{")[0].split(" where ")[0], None
-    while head != before:
-        head, before = re.sub(r"<[^<>]*>", "", head), head
-    names = re.match(r"\s*(?:([\w:]+)\s+for\s+)?(?:&(?:'\w+ )?)?([\w:]+)", head)
-    return names[2].split("::")[-1], names[1] and names[1].split("::")[-1]
+    trait, _, owner = text.split("{")[0].split("\nwhere")[0].rpartition(" for ")
+    arguments = joined(trait.partition("<")[2])
+    trait = trait.partition("<")[0].strip().split("::")[-1] or None
+    if owner.lstrip().startswith("["):
+        # An array, by the name that the checker gives it.
+        return "Array" + joined(owner), trait, arguments
+    if owner.lstrip().startswith("&"):
+        return "Ref", trait, arguments
+    return re.match(r"[\w:]+", owner.strip())[0].split("::")[-1], trait, arguments
+
+
+def joined(text):
+    """The words of a type, as the names of folders have them."""
+    text = re.sub(r"'\w+", "", text).replace("&", " Ref ")
+    return "".join(word[0].upper() + word[1:] for word in re.findall(r"\w+", text))
 
 
 def imports_of(crate, text):
