@@ -69,15 +69,23 @@ pub enum Expected {
     End,
 }
 
-impl ProgramFault for Fault {
-    ghost status_of = { status_of };
-
+impl Fault {
     /// The exit status: 2 for words that are no command, else 1.
-    fn status(&self) -> u8 {
+    pub fn status(&self) -> u8
+        ensures { result ≡ status_of self.now }
+    {
         match self {
             Fault::Usage => 2,
             _ => 1,
         }
+    }
+}
+
+impl ProgramFault for Fault {
+    ghost status_of = { status_of };
+
+    fn status(&self) -> u8 {
+        self.status()
     }
 }
 

@@ -1,5 +1,5 @@
 use Rattle.std.proofs.Common.{rules}
-use Rattle.mmcs_text.proofs.opening_fault.FaultProgramFault.status.Goals as goal
+use Rattle.mmcs_text.proofs.opening_fault.Fault.status.Goals as goal
 
 pub returns-in-Usage : goal.returns-in-Usage
 returns-in-Usage c = search rules
