@@ -18,7 +18,7 @@ ghost use Rattle.p3_merkle_core.specs.declared.error.MerkleTreeError.TheVariants
 
 use crate::error::{MerkleTreeError, PrunedProofError};
 use crate::geometry::{check_widths, exponent_of};
-use crate::pruning::{check_indices, covered_leaves, to_parents};
+use crate::pruning::{check_indices, distinct_indices, to_parents};
 use crate::steps::Steps;
 use p3_support::matrix::Dimensions;
 use std::alloc::{AllocError, Global};
@@ -26,40 +26,41 @@ use std::alloc::{AllocError, Global};
 /// The distinct indices of some queries, ascending, and the first query of each. The slot of an index is its place
 /// here.
 #[derive(Debug, Drop)]
-pub struct DistinctIndices {
+pub struct DistinctQueries {
     /// The distinct indices, ascending.
     pub indices: Vec<usize>,
     /// For each of them, the place of its first query among the queries.
     pub first_queries: Vec<usize>,
 }
 
-/// The distinct indices of some queries. It sorts them once, and allocates two numbers for each index.
+/// The distinct indices of some queries, each with its first query. It sorts them once, and allocates two numbers for
+/// each index.
 ///
 /// # Errors
 ///
 /// `AllocError` if memory runs out.
-fn distinct_indices_of(alloc: Global, indices: &[usize]) -> Result<DistinctIndices, AllocError>
+fn distinct_queries_of(alloc: Global, indices: &[usize]) -> Result<DistinctQueries, AllocError>
     ensures { IfOk result (λ queried. AreDistinctOf queried indices.now) }
 {
-    let distinct = covered_leaves(alloc, indices)?;
+    let distinct = distinct_indices(alloc, indices)?;
     let mut first_queries = vec![in alloc; indices.len(); distinct.len()]?;
     // From the last query on, so that the first one of an index is written last.
     for query in (0..indices.len()).rev() {
         let slot = slot_of_index(&distinct, indices[query]);
         first_queries[slot] = query;
     }
-    Ok(DistinctIndices {
+    Ok(DistinctQueries {
         indices: distinct,
         first_queries,
     })
 }
 
 /// The slot of an index that is queried: its place among the distinct indices, which ascend.
-fn slot_of_index(leaves: &[usize], index: usize) -> usize
-    ensures { (indices : List ℕ) → leaves.now ≡ distinct indices → IsTrue (is_among indices index) →
+fn slot_of_index(sorted: &[usize], index: usize) -> usize
+    ensures { (indices : List ℕ) → sorted.now ≡ distinct indices → IsTrue (is_among indices index) →
         IsSlot indices index result }
 {
-    match leaves.binary_search(&index) {
+    match sorted.binary_search(&index) {
         Ok(slot) => slot,
         Err(slot) => slot,
     }
@@ -73,7 +74,7 @@ fn slot_of_index(leaves: &[usize], index: usize) -> usize
 fn check_repeats<T: Eq>(
     indices: &[usize],
     rows: &[Vec<Vec<T>>],
-    queried: &DistinctIndices,
+    queried: &DistinctQueries,
 ) -> Result<(), MerkleTreeError>
     requires queried { AreDistinctOf queried.now indices.now }
     requires pairs { length indices.now ≡ length rows.now }
@@ -222,11 +223,11 @@ fn last_with_rows(steps: &Steps<'_>, cap_layer: usize) -> usize
 ///
 /// `InconsistentGroupOpening` for the first row that differs: layers from the leaves up, slots ascending, matrices in
 /// input order; `OutOfMemory` if memory runs out.
-fn check_groups<T: Eq>(
+fn check_shared_rows<T: Eq>(
     alloc: Global,
     steps: &Steps<'_>,
     cap_layer: usize,
-    queried: &DistinctIndices,
+    queried: &DistinctQueries,
     rows: &[Vec<Vec<T>>],
 ) -> Result<(), MerkleTreeError>
     requires layer { cap_layer ≤ steps.now.num_levels }
@@ -285,7 +286,7 @@ pub fn check_pruned<T: Eq>(
     indices: &[usize],
     rows: &[Vec<Vec<T>>],
     num_digests: usize,
-) -> Result<DistinctIndices, MerkleTreeError>
+) -> Result<DistinctQueries, MerkleTreeError>
     requires arity { IsArity steps.now.arity }
     requires layer { cap_layer ≤ steps.now.num_levels }
     ensures { let refusal = pruned_refusal T.eq (shape_of steps.now.arity steps.now.dimensions.now) cap_layer
@@ -294,13 +295,13 @@ pub fn check_pruned<T: Eq>(
         (λ e. (e ≡ OutOfMemory) ⊎ (refusal ≡ Some e)) }
 {
     check_queries(steps, indices, rows.len(), num_digests)?;
-    let queried = distinct_indices_of(alloc, indices)?;
+    let queried = distinct_queries_of(alloc, indices)?;
     check_repeats(indices, rows, &queried)?;
     // A copy, so that the indices are not sorted again.
     let leaves = Vec::from_slice(alloc, &queried.indices)?;
     check_digest_count(steps.boundary_len(cap_layer, leaves), num_digests)?;
     check_first_widths(steps.dimensions, rows, &queried.first_queries)?;
-    check_groups(alloc, steps, cap_layer, &queried, rows)?;
+    check_shared_rows(alloc, steps, cap_layer, &queried, rows)?;
     Ok(queried)
 }
 

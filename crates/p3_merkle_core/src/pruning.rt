@@ -1,4 +1,4 @@
-//! Which nodes a pruned opening covers, and how many digests it sends: what needs no hash.
+//! Which nodes a pruned opening covers, and the paths that its levels hold: what needs no hash.
 
 ghost use Rattle.std.specs.Prelude.{◌≡◌, ◌+◌, ◌-◌, ◌*◌, ◌/◌, ◌%◌, ◌<◌, ◌≤◌, ◌++◌, Some, None, false, All, IfOk};
 ghost use Rattle.std.specs.Prelude.{MatchOption, MatchResult, length, map, slice_index};
@@ -95,12 +95,12 @@ pub fn check_indices(max_height: usize, indices: &[usize]) -> Result<(), MerkleT
     }
 }
 
-/// The leaves that some indices cover: each index once, ascending. It allocates a copy of the indices and sorts it.
+/// Each of some indices once, ascending: the leaves that they cover. It allocates a copy of the indices and sorts it.
 ///
 /// # Errors
 ///
 /// `AllocError` if memory runs out.
-pub fn covered_leaves(alloc: Global, indices: &[usize]) -> Result<Vec<usize>, AllocError>
+pub fn distinct_indices(alloc: Global, indices: &[usize]) -> Result<Vec<usize>, AllocError>
     ensures { IfOk result (λ leaves. leaves.items ≡ distinct indices.now) }
 {
     let mut leaves = Vec::from_slice(alloc, indices)?;

@@ -31,13 +31,13 @@ use std::alloc::{AllocError, Global};
 /// How many levels a tree has at most: each halves the heights, which are below 2^64, at least.
 const MAX_LEVELS: usize = 64;
 
-/// The exponent of a layer, and the next lower exponent of a matrix: the steps above the layer depend on these.
+/// The exponent of a layer, and the end of the matrices' lower exponents: the steps above the layer depend on these.
 #[derive(Clone, Copy)]
 struct Exponents {
     /// The exponent of the layer.
     pub layer: usize,
-    /// One more than the greatest exponent of a matrix below this one; 0 if no matrix has a lower exponent.
-    pub next: usize,
+    /// The end of the lower exponents that matrices have: one more than the greatest of them, or 0 if there is none.
+    pub lower_end: usize,
 }
 
 /// The exponents at a layer of this exponent. Each matrix is looked at once; at exponent 0 none is.
@@ -46,16 +46,19 @@ fn exponents_at(dimensions: &[Dimensions], layer: usize) -> Exponents
     ensures next { AreExponents (heights_of dimensions.now) result }
 {
     if layer == 0 {
-        return Exponents { layer: 0, next: 0 };
+        return Exponents {
+            layer: 0,
+            lower_end: 0,
+        };
     }
-    let mut next = 0;
+    let mut lower_end = 0;
     for matrix in dimensions {
         let exponent = exponent_of(matrix.height);
         if exponent < layer {
-            next = next.max(exponent + 1);
+            lower_end = lower_end.max(exponent + 1);
         }
     }
-    Exponents { layer, next }
+    Exponents { layer, lower_end }
 }
 
 /// The step of a level, and whether matrices belong to the layer above it.
@@ -69,7 +72,7 @@ struct LevelStep {
 
 /// The step from a layer below the root, whether matrices belong to the next layer, and the exponents there. The arity
 /// must be at least 2. The matrices are looked at only if one belongs to the next layer.
-fn step_up(dimensions: &[Dimensions], arity: usize, exponents: Exponents) -> (LevelStep, Exponents)
+fn next_step(dimensions: &[Dimensions], arity: usize, exponents: Exponents) -> (LevelStep, Exponents)
     requires arity { 2 ≤ arity }
     requires below { 0 < exponents.layer }
     requires next { AreExponents (heights_of dimensions.now) exponents }
@@ -82,20 +85,20 @@ fn step_up(dimensions: &[Dimensions], arity: usize, exponents: Exponents) -> (Le
 {
     let target = exponents.layer.saturating_sub(exponent_of(arity));
     // A matrix's exponent lies strictly between the layer's and what a step of the whole arity leaves of it.
-    let is_bridge = exponents.next.saturating_sub(target) > 1;
+    let is_bridge = exponents.lower_end.saturating_sub(target) > 1;
     let layer = if is_bridge {
         exponents.layer - 1
     } else {
         target
     };
-    // No matrix's exponent lies between those of the two layers, so the next one is this layer's or a lower one.
-    let has_rows = exponents.next > layer;
+    // No matrix's exponent lies between those of the two layers, so all lower ones are at most the upper layer's.
+    let has_rows = exponents.lower_end > layer;
     let above = if has_rows {
         exponents_at(dimensions, layer)
     } else {
         Exponents {
             layer,
-            next: exponents.next,
+            lower_end: exponents.lower_end,
         }
     };
     let level = LevelStep {
@@ -153,7 +156,7 @@ pub fn steps_of(dimensions: &[Dimensions], arity: usize) -> Steps<'_>
     let mut of_level = [none; MAX_LEVELS];
     let mut num_levels = 0;
     while exponents.layer > 0 {
-        let (step, above) = step_up(dimensions, arity, exponents);
+        let (step, above) = next_step(dimensions, arity, exponents);
         of_level[num_levels] = step;
         num_levels += 1;
         exponents = above;
@@ -348,7 +351,7 @@ impl<'a> Steps<'a> {
 
     /// The layer above the layer `below`, which must be below the root and have `len` nodes and this exponent. The
     /// arity must be a power of two from 2 to 2^62, and [`check_heights`](Self::check_heights) must accept the heights.
-    pub fn level_above(&self, below: usize, exponent: usize, len: usize) -> Level
+    pub fn level_from(&self, below: usize, exponent: usize, len: usize) -> Level
         requires { IsBelowTop (shape_of self.now.arity self.now.dimensions.now) below exponent len }
         ensures level { IsLevel (shape_of self.now.arity self.now.dimensions.now) result }
         ensures below { result.below ≡ below }
@@ -451,7 +454,7 @@ impl<'a> Steps<'a> {
 
     /// How many digests a pruned proof of some leaves sends under the cap of this layer: on each level, the children
     /// of covered nodes that are not covered. The leaves must ascend, each once, as
-    /// [`covered_leaves`](crate::pruning::covered_leaves) lists them, below the tallest height. The layer must be at
+    /// [`distinct_indices`](crate::pruning::distinct_indices) lists them, below the tallest height. The layer must be at
     /// most the number of levels, the arity a power of two from 2 to 2^62, and no height above [`MAX_HEIGHT`]. It does
     /// not allocate, and takes one step for each leaf and level.
     pub fn boundary_len(&self, layer: usize, leaves: Vec<usize>) -> usize

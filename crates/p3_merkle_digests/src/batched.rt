@@ -37,7 +37,7 @@ pub(crate) fn row_len<T: Copy, M: Matrix<T>>(matrices: &[M]) -> usize
 
 /// The `count` rows from `first` on as one slice, row after row, if there is only one matrix and it has them in one
 /// piece. Each matrix has `height` rows, and `first + count` is at most `height`.
-pub(crate) fn lone_rows<T: Copy, M: Matrix<T>>(
+pub(crate) fn contiguous_rows<T: Copy, M: Matrix<T>>(
     matrices: &[M],
     height: usize,
     first: usize,
@@ -55,6 +55,10 @@ pub(crate) fn lone_rows<T: Copy, M: Matrix<T>>(
 }
 
 /// Adds a row of the matrices, which all have this height, to the rows that are staged.
+///
+/// # Errors
+///
+/// `AllocError` if memory runs out.
 fn stage_row<T: Copy, M: Matrix<T>>(
     staged: &mut Vec<T>,
     matrices: &[M],
@@ -77,6 +81,10 @@ fn stage_row<T: Copy, M: Matrix<T>>(
 /// The words of `count` rows of the matrices from `first` on, one row after another: a slice of the matrix if there is
 /// only one and it has these rows in one piece, else a copy in `staged`. The matrices all have this height, and
 /// `first + count` is at most that.
+///
+/// # Errors
+///
+/// `AllocError` if memory runs out.
 pub(crate) fn words_of_rows<'b, T: Copy, M: Matrix<T>>(
     staged: &'b mut Vec<T>,
     matrices: &'b [M],
@@ -89,7 +97,7 @@ pub(crate) fn words_of_rows<'b, T: Copy, M: Matrix<T>>(
     ensures { let rows = λ (j : ℕ). rows_over M.row_of matrices.now (first + j) in
         IfOk result (λ words. IsStaged rows count words.now) }
 {
-    if let Some(words) = lone_rows(matrices, height, first, count) {
+    if let Some(words) = contiguous_rows(matrices, height, first, count) {
         return Ok(words);
     }
     staged.clear();
@@ -101,6 +109,10 @@ pub(crate) fn words_of_rows<'b, T: Copy, M: Matrix<T>>(
 
 /// Fills `pairs`, in place of what it has, with the group of each node: its digest in `folded`, the digest of its rows
 /// in `rows`, then default digests. Both lists must have one length, and `N` must be at least 2.
+///
+/// # Errors
+///
+/// `AllocError` if memory runs out.
 fn stage_pairs<W: Copy, const N: usize, const D: usize>(
     pairs: &mut Vec<[[W; D]; N]>,
     default_digest: [W; D],

@@ -34,6 +34,10 @@ pub fn packed_blocks<PW: PackedValue, const N: usize, const D: usize>(count: usi
 
 /// Lays the packed rows of the matrices one after another, from `row` on, in place of what was staged. The matrices all
 /// have this height.
+///
+/// # Errors
+///
+/// `AllocError` if memory runs out.
 pub(crate) fn stage_packed_rows<P: PackedValue, M: Matrix<P::Value>>(
     staged: &mut Vec<P>,
     matrices: &[M],

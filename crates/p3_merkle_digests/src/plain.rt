@@ -12,36 +12,36 @@ use p3_support::packed::PackedValue;
 
 /// The most matrices of one height whose rows are hashed slice by slice.
 // The slices are in an array, so that no row allocates. Rows of more matrices are hashed word by word.
-pub(crate) const MAX_PIECES: usize = 16;
+pub(crate) const MAX_SLICES: usize = 16;
 
 /// The least width of the first matrix at which rows are hashed slice by slice. Shorter rows are faster word by word.
-pub(crate) const MIN_LENT_WIDTH: usize = 4;
+pub(crate) const MIN_SLICE_WIDTH: usize = 4;
 
-/// An array of pieces, each empty until a row is lent. A function of its own gives them the lifetime of these rows.
-pub(crate) fn no_pieces<'a, T>() -> [&'a [T]; MAX_PIECES] {
-    [&[]; MAX_PIECES]
+/// An array of empty slices, to be filled with rows. A function of its own gives them the lifetime of these rows.
+pub(crate) fn no_slices<'a, T>() -> [&'a [T]; MAX_SLICES] {
+    [&[]; MAX_SLICES]
 }
 
-/// Fills `pieces` from its start with row `row` of each matrix, and returns how many there are, if `pieces` is long
+/// Fills `slices` from its start with row `row` of each matrix, and returns how many there are, if `slices` is long
 /// enough and each matrix lends its row. The row is below `height`, which is that of each matrix.
-pub(crate) fn lend_rows<'b, T: Copy, M: Matrix<T>>(
+pub(crate) fn row_slices<'b, T: Copy, M: Matrix<T>>(
     matrices: &'b [M],
     height: usize,
     row: usize,
-    pieces: &mut [&'b [T]; MAX_PIECES],
+    slices: &mut [&'b [T]; MAX_SLICES],
 ) -> Option<usize>
     requires heights { All (λ m. M.height_of m ≡ height) matrices.now }
     requires inside { row < height }
-    ensures fits { IfSome result (λ count. count ≤ length pieces.new) }
-    ensures lent { IfSome result (λ count. flat_map (λ piece. piece.now) (take count pieces.new)
+    ensures fits { IfSome result (λ count. count ≤ length slices.new) }
+    ensures rows { IfSome result (λ count. flat_map (λ words. words.now) (take count slices.new)
         ≡ rows_over M.row_of matrices.now row) }
 {
     let mut count = 0;
     for matrix in matrices {
-        if count == MAX_PIECES {
+        if count == MAX_SLICES {
             return None;
         }
-        pieces[count] = matrix.row_slice(row)?;
+        slices[count] = matrix.row_slice(row)?;
         count += 1;
     }
     Some(count)

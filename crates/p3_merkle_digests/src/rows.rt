@@ -8,9 +8,9 @@ ghost use Rattle.std.specs.List.{range_with_len};
 ghost use Rattle.p3_support.specs.Lists.{lane_of};
 ghost use Rattle.p3_merkle_digests.specs.Inner.Slots.{leaf_over, rows_over, IsFilled};
 
-use crate::batched::{lone_rows, messages_per_call, row_len, words_of_rows};
+use crate::batched::{contiguous_rows, messages_per_call, row_len, words_of_rows};
 use crate::packed::{packed_blocks, stage_packed_rows};
-use crate::plain::{MIN_LENT_WIDTH, hash_each, lend_rows, no_pieces};
+use crate::plain::{MIN_SLICE_WIDTH, hash_each, row_slices, no_slices};
 use p3_support::hasher::CryptographicHasher;
 use p3_support::matrix::Matrix;
 use p3_support::packed::{PackedValue, unpack_at};
@@ -43,17 +43,17 @@ impl<
 > LayerRows<'a, P, PW, H, M, [PW::Value; D]> {
     /// The digest of a row, if the matrices are few, the first is wide enough, and each lends its own. The row is below
     /// the height.
-    fn pieces_digest(&self, row: usize) -> Option<[PW::Value; D]>
+    fn slices_digest(&self, row: usize) -> Option<[PW::Value; D]>
         requires { row < self.now.height }
         ensures { IfSome result
             (λ digest. digest ≡ H.hash self.now.hash.now (rows_over M.row_of self.now.matrices.now row)) }
     {
-        if self.matrices.first()?.width() < MIN_LENT_WIDTH {
+        if self.matrices.first()?.width() < MIN_SLICE_WIDTH {
             return None;
         }
-        let mut pieces = no_pieces();
-        let count = lend_rows(self.matrices, self.height, row, &mut pieces)?;
-        Some(self.hash.hash_iter_slices(pieces[..count].iter().copied()))
+        let mut slices = no_slices();
+        let count = row_slices(self.matrices, self.height, row, &mut slices)?;
+        Some(self.hash.hash_iter_slices(slices[..count].iter().copied()))
     }
 
     /// The digest of a row; the default digest past the height.
@@ -71,7 +71,7 @@ impl<
                 None => self.hash.hash_iter(matrix.row(row)),
             };
         }
-        match self.pieces_digest(row) {
+        match self.slices_digest(row) {
             Some(digest) => digest,
             None => self
                 .hash
@@ -104,6 +104,10 @@ impl<
     /// Writes the digests of the rows into the first slots: `blocks` blocks, each of as many slots as there are lanes.
     /// Both packings have equally many lanes, and `blocks * PW::WIDTH` is at most the number of slots, and at most the
     /// height. If `blocks` is above 0, a packed digest has fewer than 2^63 bytes.
+    ///
+    /// # Errors
+    ///
+    /// `AllocError` if memory runs out.
     fn write_packed(
         &self,
         alloc: Global,
@@ -162,7 +166,7 @@ impl<
     /// Writes the digest of row `j` into slot `j`, from slot `first` on, if the layer has one matrix and it returns its
     /// rows as one slice. The slots before `first` have their digests. Returns how many of the first slots have theirs
     /// then: `first` if nothing is written.
-    fn write_lent(&self, first: usize, slots: &mut [[PW::Value; D]]) -> usize
+    fn write_contiguous(&self, first: usize, slots: &mut [[PW::Value; D]]) -> usize
         requires { let leaf = leaf_over (H.hash self.now.hash.now) (replicate D PW.default_value)
             (rows_over M.row_of self.now.matrices.now) self.now.height in
             IsFilled leaf first (length slots.old) slots.old }
@@ -174,7 +178,7 @@ impl<
         if first >= end {
             return first;
         }
-        match lone_rows(self.matrices, self.height, first, end - first) {
+        match contiguous_rows(self.matrices, self.height, first, end - first) {
             Some(words) => {
                 hash_each::<P, PW, H, D>(self.hash, words, &mut slots[first..end]);
                 end
@@ -193,7 +197,7 @@ impl<
             slots.new ≡ map leaf (range_with_len 0 (length slots.old)) }
     {
         // Rows that one matrix has in one piece have a loop of their own, without a test for each row.
-        let done = self.write_lent(done, slots);
+        let done = self.write_contiguous(done, slots);
         for j in done..slots.len() {
             slots[j] = self.digest(j);
         }

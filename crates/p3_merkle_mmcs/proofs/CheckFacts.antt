@@ -10,7 +10,7 @@ use Rattle.p3_merkle_core.specs.Openings.{opening_of}
 use Rattle.p3_merkle_core.specs.declared.cap.CapRule.{CapRule}
 use Rattle.p3_merkle_core.specs.declared.steps.Steps.{Steps}
 use Rattle.p3_merkle_verifier.specs.Inner.Checks.{opening_in}
-use Rattle.p3_merkle_verifier.specs.declared.openings.IndexedOpening.{IndexedOpening}
+use Rattle.p3_merkle_verifier.specs.declared.openings.OpeningRef.{OpeningRef}
 
 -- the same parameters, of the same hash, compression, shape and layer
 pub terms_alike : {T W H C : Type 0} (hash : H → List T → List W) (compression : C → List (List W) → List W)
@@ -33,7 +33,7 @@ are_steps n dimensions rule height steps t arity same at =
     record { tree = tree; at_cap = at ∙ ap (λ s. cap_layer s rule height) tree }
 
 -- the opening of an index, rows and siblings
-pub opening_is : {T W : Type 0} (v : IndexedOpening T (List W)) (index : ℕ) (rows : List (List T))
+pub opening_is : {T W : Type 0} (v : OpeningRef T (List W)) (index : ℕ) (rows : List (List T))
     (siblings : List (List W)) → v.index ≡ index → row_lists v.rows.now ≡ rows → v.siblings.now ≡ siblings →
     opening_in v ≡ opening_of index rows siblings
 opening_is v index rows siblings a b c = λ i. opening_of (a i) (b i) (c i)

@@ -18,7 +18,7 @@ use p3_merkle_core::error::MerkleTreeError;
 use p3_merkle_core::geometry::exponent_of;
 use p3_merkle_core::pruning::PrunedMerklePaths;
 use p3_merkle_core::steps::steps_of;
-use p3_merkle_verifier::openings::{BorrowedOpening, IndexedOpening};
+use p3_merkle_verifier::openings::{PrunedOpeningRef, OpeningRef};
 use p3_support::compress::PseudoCompressionFunction;
 use p3_support::hasher::CryptographicHasher;
 use p3_support::matrix::Dimensions;
@@ -99,8 +99,8 @@ impl<
     {
         let steps = steps_of(dimensions, N);
         let cap_layer = steps.cap_layer(self.cap_rule, self.cap_height);
-        let first = IndexedOpening::new(index1, first);
-        let second = IndexedOpening::new(index2, second);
+        let first = OpeningRef::new(index1, first);
+        let second = OpeningRef::new(index2, second);
         self.checker()
             .extraction(alloc, commit.roots(), &steps, cap_layer, first, second)
     }
@@ -140,12 +140,12 @@ impl<
     {
         let steps = steps_of(dimensions, N);
         let cap_layer = steps.cap_layer(self.cap_rule, self.cap_height);
-        let first = BorrowedOpening {
+        let first = PrunedOpeningRef {
             indices: indices1,
             sets: rows1,
             sent: proof1.sibling_hashes.as_slice(),
         };
-        let second = BorrowedOpening {
+        let second = PrunedOpeningRef {
             indices: indices2,
             sets: rows2,
             sent: proof2.sibling_hashes.as_slice(),

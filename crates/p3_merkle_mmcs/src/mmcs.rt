@@ -10,7 +10,7 @@ use p3_merkle_core::error::MerkleTreeError;
 use p3_merkle_core::steps::steps_of;
 use p3_merkle_prover::opener::{rows_of_index, siblings_of_index, steps_in};
 use p3_merkle_prover::tree::MerkleTree;
-use p3_merkle_verifier::openings::IndexedOpening;
+use p3_merkle_verifier::openings::OpeningRef;
 use p3_merkle_verifier::path::Checker;
 use p3_support::compress::PseudoCompressionFunction;
 use p3_support::hasher::CryptographicHasher;
@@ -119,7 +119,7 @@ impl<
 
     /// The scheme of a hasher and a compression. Its cap is the layer `cap_height` levels below the root (0 is the root
     /// alone), or the highest layer to which a matrix belongs if that is nearer to the root: the leaves if all matrices
-    /// have one height. This is the rule [`CapRule::Lowered`], under which a cap fixes every row of every matrix.
+    /// have one height. This is the rule [`CapRule::Lowered`], under which a cap binds every row of every matrix.
     /// [`new_with_rule`](Self::new_with_rule) also takes the rule of the Rust crate.
     ///
     /// `N` must be a power of two from 2 to 2^62, and both packings must have equally many lanes, at least one.
@@ -245,7 +245,7 @@ impl<
     ///
     /// An accepted opening has one row for each of `dimensions`, of that width. For each level below the cap it has the
     /// digests of the path's group but the path's own. `dimensions` are those of the matrices, in input order. They
-    /// must come from the verifier, never from the proof: a cap does not fix them. Under the rule `Fixed` the rows of a
+    /// must come from the verifier, never from the proof: a cap does not bind them. Under the rule `Fixed` the rows of a
     /// matrix above the cap's layer are never hashed, and only their width is checked; under `Lowered` there is no such
     /// matrix.
     ///
@@ -273,7 +273,7 @@ impl<
     {
         let steps = steps_of(dimensions, N);
         let cap_layer = steps.cap_layer(self.cap_rule, self.cap_height);
-        let opening = IndexedOpening::new(index, opening);
+        let opening = OpeningRef::new(index, opening);
         self.checker()
             .check_opening(commit.roots(), &steps, cap_layer, opening)
     }

@@ -19,13 +19,13 @@ use crate::mmcs::{MerkleTreeMmcs, Scheme};
 use p3_merkle_core::error::MerkleTreeError;
 use p3_merkle_core::pruning::{
     MerkleAuthPath, PrunedBatchOpening, PrunedMerklePaths, PrunedProof, PrunedRows, check_indices,
-    covered_leaves,
+    distinct_indices,
 };
 use p3_merkle_core::steps::steps_of;
 use p3_merkle_prover::opener::steps_in;
 use p3_merkle_prover::pruned::{digests_of_boundary, rows_of_indices};
 use p3_merkle_prover::tree::MerkleTree;
-use p3_merkle_verifier::openings::BorrowedOpening;
+use p3_merkle_verifier::openings::PrunedOpeningRef;
 use p3_support::compress::PseudoCompressionFunction;
 use p3_support::hasher::CryptographicHasher;
 use p3_support::matrix::{Dimensions, Matrix};
@@ -59,7 +59,7 @@ impl<P: PackedValue, PW: PackedValue, H, C, X, G, const N: usize> Scheme<P, PW, 
         steps.check_heights()?;
         check_indices(steps.max_height, indices)?;
         let cap_layer = steps.cap_layer(self.cap_rule, self.cap_height);
-        let leaves = covered_leaves(alloc, indices)?;
+        let leaves = distinct_indices(alloc, indices)?;
         Ok(steps.boundary_len(cap_layer, leaves))
     }
 }
@@ -174,7 +174,7 @@ impl<
     /// An accepted opening has a row set for each index: one row for each of `dimensions`, of that width. Queries of
     /// one index have the same rows. Queries under one node have the same rows of the matrices that are injected there.
     /// `dimensions` are those of the matrices, in input order. They must come from the verifier, never from the proof:
-    /// a cap does not fix them.
+    /// a cap does not bind them.
     ///
     /// # Errors
     ///
@@ -211,7 +211,7 @@ impl<
     {
         let steps = steps_of(dimensions, N);
         let cap_layer = steps.cap_layer(self.cap_rule, self.cap_height);
-        let opening = BorrowedOpening {
+        let opening = PrunedOpeningRef {
             indices,
             sets: rows,
             sent: proof.sibling_hashes.as_slice(),
@@ -288,7 +288,7 @@ impl<
     {
         let steps = steps_of(dimensions, N);
         let cap_layer = steps.cap_layer(self.cap_rule, self.cap_height);
-        let opening = BorrowedOpening {
+        let opening = PrunedOpeningRef {
             indices,
             sets: rows,
             sent: proof.sibling_hashes.as_slice(),

@@ -100,6 +100,10 @@ impl<
     }
 
     /// The digests of the nodes from `first` on, lane by lane.
+    ///
+    /// # Errors
+    ///
+    /// `AllocError` if memory runs out.
     fn packed_digest(&self, first: usize, staged: &mut Vec<P>) -> Result<[PW; D], AllocError>
         requires group { FitsInMemory (ArrayAt (ArrayAt PW.row D.row) N.row) }
         requires nodes { first + PW.WIDTH ≤ self.now.level.raw_len }
@@ -121,6 +125,10 @@ impl<
     }
 
     /// Writes nodes into the first slots lane by lane, as many as fill all lanes, and returns how many these are.
+    ///
+    /// # Errors
+    ///
+    /// `AllocError` if memory runs out.
     fn write_packed(&self, alloc: Global, slots: &mut [[PW::Value; D]]) -> Result<usize, AllocError>
         ensures { let slot = slot_of H.hash C.compression D self.now in
             IfOk result (λ done. IsFilled slot done (length slots.old) slots.new) }
@@ -142,6 +150,10 @@ impl<
     /// Writes all nodes into the first slots, and returns how many these are: first the compressions of their children;
     /// then, where matrices belong to the layer, the digests of their rows, and the compressions of both. Each node
     /// must have `N` children.
+    ///
+    /// # Errors
+    ///
+    /// `AllocError` if memory runs out.
     #[tactic(auto, using(p3_merkle_digests::proofs::StageFacts::made_long))]
     fn write_batched(
         &self,
@@ -194,6 +206,10 @@ impl<
     }
 
     /// Writes all slots of the layer.
+    ///
+    /// # Errors
+    ///
+    /// `AllocError` if memory runs out.
     pub(crate) fn write(
         &self,
         alloc: Global,

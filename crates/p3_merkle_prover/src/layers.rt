@@ -22,12 +22,12 @@ use std::alloc::{AllocError, Global};
 use std::marker::PhantomData;
 
 /// Builds the layers of a tree, with a hasher for rows and a compression of `N` digests for nodes. `G` is the type of a
-/// group. [`LayersBuilder`] is this builder at digests of words.
+/// group. [`TreeBuilder`] is this builder at digests of words.
 ///
 /// `N` is a power of two from 2 to 2^62, [`Steps::check_heights`] accepts the heights, and both packings have equally
 /// many lanes.
 #[derive(Drop)]
-pub(crate) struct LayersOver<
+pub(crate) struct TreeOver<
     'a,
     P: PackedValue,
     PW: PackedValue,
@@ -53,7 +53,7 @@ pub(crate) struct LayersOver<
 }
 
 /// The builder of layers whose digests have `D` words.
-pub(crate) type LayersBuilder<
+pub(crate) type TreeBuilder<
     'a,
     P: PackedValue,
     PW: PackedValue,
@@ -62,9 +62,13 @@ pub(crate) type LayersBuilder<
     M: Matrix<P::Value>,
     const N: usize,
     const D: usize,
-> = LayersOver<'a, P, PW, H, C, M, [[PW::Value; D]; N], N>;
+> = TreeOver<'a, P, PW, H, C, M, [[PW::Value; D]; N], N>;
 
 /// The matrices of a height, in input order.
+///
+/// # Errors
+///
+/// `AllocError` if memory runs out.
 fn of_height<'a, T, M: Matrix<T>>(
     alloc: Global,
     matrices: &'a [M],
@@ -95,11 +99,15 @@ impl<
     M: Matrix<P::Value>,
     const N: usize,
     const D: usize,
-> LayersBuilder<'a, P, PW, H, C, M, N, D> {
+> TreeBuilder<'a, P, PW, H, C, M, N, D> {
     ghost use Rattle.p3_merkle_prover.specs.Inner.Slots.{batch_for, functions_for, layer_above};
 
     /// The leaves: the digests of the rows of the tallest matrices, and default digests behind them.
-    fn leaves(&self, alloc: Global) -> Result<Vec<[PW::Value; D]>, AllocError>
+    ///
+    /// # Errors
+    ///
+    /// `AllocError` if memory runs out.
+    fn leaf_layer(&self, alloc: Global) -> Result<Vec<[PW::Value; D]>, AllocError>
         ensures { let f = functions_for H.hash C.compression D self.now in
             IfOk result (λ v. v.items ≡ layer f (batch_for self.now) 0) }
     {
@@ -116,6 +124,10 @@ impl<
     }
 
     /// The layer above the layer `below`, at this level.
+    ///
+    /// # Errors
+    ///
+    /// `AllocError` if memory runs out.
     fn next_layer(
         &self,
         alloc: Global,
@@ -155,11 +167,11 @@ impl<
     {
         let mut exponent = self.steps.exponent;
         let mut len = self.steps.max_height;
-        let leaves = self.leaves(alloc)?;
+        let leaves = self.leaf_layer(alloc)?;
         let mut layers = Vec::with_capacity(alloc, self.steps.num_levels + 1)?;
         layers.push(leaves)?;
         for below in 0..self.steps.num_levels {
-            let level = self.steps.level_above(below, exponent, len);
+            let level = self.steps.level_from(below, exponent, len);
             let nodes = layers[below].as_slice();
             lemma_children(self.steps, &level, nodes);
             let layer = self.next_layer(alloc, level, nodes)?;

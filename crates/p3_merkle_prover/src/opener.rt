@@ -103,14 +103,18 @@ pub fn siblings_of_index<F, X: Copy, G, M: Matrix<F>, const N: usize>(
         let step = steps.step(level);
         let first = node - position_of(node, step);
         let nodes = &tree.layers[level];
-        extend_with_piece(&mut siblings, &nodes[first..node])?;
-        extend_with_piece(&mut siblings, &nodes[node + 1..first + step])?;
+        extend_with_nodes(&mut siblings, &nodes[first..node])?;
+        extend_with_nodes(&mut siblings, &nodes[node + 1..first + step])?;
         node = parent_of(node, step);
     }
     Ok(siblings)
 }
 
 /// The words of a row.
+///
+/// # Errors
+///
+/// `AllocError` if memory runs out.
 fn words_of_row<F: Copy, M: Matrix<F>>(
     alloc: Global,
     matrix: &M,
@@ -127,16 +131,20 @@ fn words_of_row<F: Copy, M: Matrix<F>>(
     Ok(words)
 }
 
-/// Adds a piece of a layer to the end.
-pub(crate) fn extend_with_piece<X: Copy>(
+/// Adds the digests of some nodes of a layer to the end.
+///
+/// # Errors
+///
+/// Only `OutOfMemory`.
+pub(crate) fn extend_with_nodes<X: Copy>(
     digests: &mut Vec<X>,
-    piece: &[X],
+    nodes: &[X],
 ) -> Result<(), MerkleTreeError>
-    ensures digests { IfOk result (λ done. digests.new.items ≡ digests.old.items ++ piece.now) }
+    ensures digests { IfOk result (λ done. digests.new.items ≡ digests.old.items ++ nodes.now) }
     ensures memory { AnswersUnlessMemory result None }
 {
-    // A piece mostly has one digest or none: a call that copies them would take longer.
-    for digest in piece {
+    // There is mostly one digest or none: a call that copies them would take longer.
+    for digest in nodes {
         digests.push(*digest)?;
     }
     Ok(())

@@ -13,10 +13,10 @@ ghost use Rattle.p3_merkle_prover.specs.Parts.{layers_of, tree_batch};
 ghost use Rattle.p3_merkle_core.specs.Pruning.{boundary_by};
 ghost use Rattle.p3_merkle_core.specs.Refusals.{AnswersUnlessMemory};
 
-use crate::opener::{extend_with_piece, rows_of_index, steps_in};
+use crate::opener::{extend_with_nodes, rows_of_index, steps_in};
 use crate::tree::Tree;
 use p3_merkle_core::error::MerkleTreeError;
-use p3_merkle_core::pruning::{climb, covered_leaves, position_of};
+use p3_merkle_core::pruning::{climb, distinct_indices, position_of};
 use p3_support::matrix::Matrix;
 use std::alloc::Global;
 
@@ -64,7 +64,7 @@ pub fn digests_of_boundary<F, X: Copy, G, M: Matrix<F>, const N: usize>(
         IfOk result (λ digests. digests.items ≡ own) }
     ensures memory { AnswersUnlessMemory result None }
 {
-    let mut covered = covered_leaves(alloc, indices)?;
+    let mut covered = distinct_indices(alloc, indices)?;
     let steps = steps_in(tree);
     let leaves = Vec::from_slice(alloc, &covered)?;
     let mut digests = Vec::with_capacity(alloc, steps.boundary_len(cap_layer, leaves))?;
@@ -79,6 +79,10 @@ pub fn digests_of_boundary<F, X: Copy, G, M: Matrix<F>, const N: usize>(
 /// Adds the boundary's digests of one layer to the end, ascending: those of the nodes that are not covered, but have a
 /// covered one in their group of `step`. The covered nodes ascend. Goes once through these, and copies what lies
 /// between them.
+///
+/// # Errors
+///
+/// Only `OutOfMemory`.
 fn extend_with_boundary<X: Copy>(
     digests: &mut Vec<X>,
     layer: &[X],
@@ -101,8 +105,8 @@ fn extend_with_boundary<X: Copy>(
         if place + 1 < covered.len() {
             end = end.min(covered[place + 1]);
         }
-        extend_with_piece(digests, &layer[first.max(next)..node])?;
-        extend_with_piece(digests, &layer[node + 1..end])?;
+        extend_with_nodes(digests, &layer[first.max(next)..node])?;
+        extend_with_nodes(digests, &layer[node + 1..end])?;
         next = end;
     }
     Ok(())

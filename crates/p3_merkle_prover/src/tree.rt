@@ -12,7 +12,7 @@ ghost use Rattle.p3_merkle_core.specs.declared.error.MerkleTreeError.TheVariants
 ghost use Rattle.p3_merkle_core.specs.Refusals.{AnswersUnlessMemory};
 ghost use Rattle.p3_merkle_core.specs.Views.{batch_of, matrix_of, ClonesShowTheSame};
 
-use crate::layers::LayersBuilder;
+use crate::layers::TreeBuilder;
 use p3_merkle_core::error::MerkleTreeError;
 use p3_merkle_core::steps::KeptSteps;
 use p3_support::compress::PseudoCompressionFunction;
@@ -99,7 +99,7 @@ impl<F: Copy, W: Copy, M: Matrix<F> + Drop, const N: usize, const D: usize> Merk
         let kept = KeptSteps::new(batch_dimensions(alloc, &leaves)?, N);
         let steps = kept.steps();
         steps.check_heights()?;
-        let builder = LayersBuilder::<P, PW, H, C, M, N, D> {
+        let builder = TreeBuilder::<P, PW, H, C, M, N, D> {
             hash,
             compress,
             matrices: &leaves,
@@ -185,6 +185,10 @@ impl<F: Copy, W: Copy, M: Matrix<F> + Clone + Drop, const N: usize, const D: usi
 }
 
 /// Copies of some layers.
+///
+/// # Errors
+///
+/// `AllocError` if memory runs out.
 fn copies_of<X: Copy>(alloc: Global, layers: &[Vec<X>]) -> Result<Vec<Vec<X>>, AllocError>
     ensures { IfOk result (λ copies. map (λ nodes. nodes.items) copies.items ≡ map (λ nodes. nodes.items) layers.now) }
 {

@@ -10,9 +10,9 @@ use Rattle.p3_merkle_core.specs.Pruning.{PrunedOpening, restored_paths, value_of
 use Rattle.p3_merkle_core.specs.declared.pruning.KeptLevel.{KeptLevel}
 use Rattle.p3_merkle_core.proofs.Covered.KeptFacts.{level_of, paths_restored}
 use Rattle.p3_merkle_verifier.specs.Inner.RestoredLevels.{opened_by, pruned_in, tree_of, AreKept, IsLayer}
-use Rattle.p3_merkle_verifier.specs.declared.pruned.Covered.{Covered}
-use Rattle.p3_merkle_verifier.specs.declared.openings.BorrowedOpening.{BorrowedOpening}
-use Rattle.p3_merkle_verifier.specs.declared.openings.Restorable.{Restorable}
+use Rattle.p3_merkle_verifier.specs.declared.pruned.CoveredNodes.{CoveredNodes}
+use Rattle.p3_merkle_verifier.specs.declared.openings.PrunedOpeningRef.{PrunedOpeningRef}
+use Rattle.p3_merkle_verifier.specs.declared.openings.RestorableOpening.{RestorableOpening}
 use Rattle.p3_merkle_core.specs.Checks.{params}
 
 -- none at first
@@ -26,7 +26,7 @@ shown_level level = (level.parents.items, level.step, level.children.items)
 
 -- one layer more
 kept_next : {T W : Type 0} (f : Functions T W) (s : Shape) (t : ℕ) (p : PrunedOpening T W) (l : ℕ)
-    (old new : List (KeptLevel (List W))) (level : KeptLevel (List W)) (covered : Covered)
+    (old new : List (KeptLevel (List W))) (level : KeptLevel (List W)) (covered : CoveredNodes)
     (children : List (List W)) → AreKept f s t p l old → IsLayer f s t p (suc l) covered children →
     new ≡ old ++ level ∷ [] → level.step ≡ covered.step → level.parents.items ≡ covered.nodes.items →
     level.children.items ≡ children → AreKept f s t p (suc l) new
@@ -44,7 +44,7 @@ kept_next f s t p l old new level covered children k layer is a b c =
     }
 
 pub kept_at : {T W : Type 0} (f : Functions T W) (s : Shape) (t : ℕ) (p : PrunedOpening T W) (l : ℕ)
-    (old new : List (KeptLevel (List W))) (level : KeptLevel (List W)) (covered : Covered)
+    (old new : List (KeptLevel (List W))) (level : KeptLevel (List W)) (covered : CoveredNodes)
     (children : List (List W)) → 0 < l → AreKept f s t p (l - 1) old → IsLayer f s t p l covered children →
     new ≡ old ++ level ∷ [] → level.step ≡ covered.step → level.parents.items ≡ covered.nodes.items →
     level.children.items ≡ children → AreKept f s t p l new
@@ -54,14 +54,14 @@ kept_at f s t p (suc l) old new level covered children some k layer is a b c =
     kept_next f s t p l old new level covered children (rw back at k) layer is a b c
 
 -- the paths out of the levels of an opening are its restored ones
-pub paths_by_levels : {T W : Type 0} (f : Functions T W) (s : Shape) (t : ℕ) (restorable : Restorable T (List W))
-    (opening : BorrowedOpening T (List W)) (levels : List (KeptLevel (List W))) (paths : List (ℕ × List (List W))) →
+pub paths_by_levels : {T W : Type 0} (f : Functions T W) (s : Shape) (t : ℕ) (restorable : RestorableOpening T (List W))
+    (opening : PrunedOpeningRef T (List W)) (levels : List (KeptLevel (List W))) (paths : List (ℕ × List (List W))) →
     tree_of restorable ≡ s → restorable.cap_layer ≡ t → restorable.opening ≡ opening →
     AreKept f (tree_of restorable) restorable.cap_layer (opened_by restorable) restorable.cap_layer levels →
     paths ≡ paths_out_of (map shown_level levels) opening.indices.now →
     paths ≡ restored_paths (params f s t) (pruned_in opening)
 paths_by_levels f s t restorable opening levels paths tree layer is kept out =
-    out ∙ ap (λ (o : BorrowedOpening _ _). paths_out_of (map shown_level levels) o.indices.now) (sym is)
+    out ∙ ap (λ (o : PrunedOpeningRef _ _). paths_out_of (map shown_level levels) o.indices.now) (sym is)
     ∙ paths_restored f (tree_of restorable) restorable.cap_layer (opened_by restorable) restorable.queried
     (map shown_level levels) kept.levels_are
     ∙ (λ i. restored_paths (params f (tree i) (layer i)) (pruned_in (is i)))

@@ -13,8 +13,8 @@ use Rattle.p3_merkle_core.specs.Refusals.{AnswersUnlessMemory, pruned_refusal}
 use Rattle.p3_merkle_core.specs.declared.error.MerkleTreeError.{MerkleTreeError}
 use Rattle.p3_merkle_core.specs.declared.error.MerkleTreeError.TheVariants.{OutOfMemory}
 use Rattle.p3_merkle_verifier.specs.Inner.RestoredLevels.{cap_refusal_by, opened_by, pruned_in, tree_of}
-use Rattle.p3_merkle_verifier.specs.declared.openings.BorrowedOpening.{BorrowedOpening}
-use Rattle.p3_merkle_verifier.specs.declared.openings.Restorable.{Restorable}
+use Rattle.p3_merkle_verifier.specs.declared.openings.PrunedOpeningRef.{PrunedOpeningRef}
+use Rattle.p3_merkle_verifier.specs.declared.openings.RestorableOpening.{RestorableOpening}
 
 -- the error that a `?` hands on answers what it answered before
 pub handed_on : {V : Type 0} (r : Result V MerkleTreeError) (e : MerkleTreeError) (refusal : Option MerkleTreeError) →
@@ -28,10 +28,10 @@ pub out_of_memory : {V : Type 0} (r : Result V MerkleTreeError) (refusal : Optio
 out_of_memory r refusal is = handed_on r OutOfMemory refusal is (inl refl)
 
 -- the opening with no more than the number of its digests
-abbrev counted : {T W : Type 0} → BorrowedOpening T (List W) → PrunedOpening T ℕ
+abbrev counted : {T W : Type 0} → PrunedOpeningRef T (List W) → PrunedOpening T ℕ
 counted opening = opened_with opening.indices.now (row_sets opening.sets.now) (length opening.sent.now)
 
-module _ {T W : Type 0} (row_eq : T → T → Bool) (s : Shape) (t : ℕ) (opening : BorrowedOpening T (List W)) where
+module _ {T W : Type 0} (row_eq : T → T → Bool) (s : Shape) (t : ℕ) (opening : PrunedOpeningRef T (List W)) where
   -- what the digests are is no matter of form
   form_counts : pruned_refusal row_eq s t (counted opening) ≡ pruned_refusal row_eq s t (pruned_in opening)
   form_counts = rw (length-replicate {A = List ℕ} (length opening.sent.now) []) refl
@@ -61,7 +61,7 @@ module _ {T W : Type 0} (row_eq : T → T → Bool) (s : Shape) (t : ℕ) (openi
 
 -- the cap refuses an opening as it refuses the one that restores
 pub cap_refusal_alike : {T W : Type 0} (digest_eq : W → W → Bool) (f : Functions T W) (s : Shape) (t : ℕ)
-    (roots : Option (List (List W))) (opening : BorrowedOpening T (List W)) (restorable : Restorable T (List W)) →
+    (roots : Option (List (List W))) (opening : PrunedOpeningRef T (List W)) (restorable : RestorableOpening T (List W)) →
     tree_of restorable ≡ s → restorable.cap_layer ≡ t → restorable.opening ≡ opening →
     cap_refusal_by digest_eq (params f (tree_of restorable) restorable.cap_layer) roots (opened_by restorable)
     ≡ cap_refusal_by digest_eq (params f s t) roots (pruned_in opening)

@@ -16,7 +16,7 @@ use Rattle.p3_merkle_verifier.specs.Inner.Checks.{IsLevelOfCheck, IsProgress, le
 use Rattle.p3_merkle_verifier.specs.Inner.Collisions.{IsDifference, Shows, level_inputs}
 use Rattle.p3_merkle_core.specs.declared.collision.Place.TheVariants.{Leaf}
 use Rattle.p3_merkle_core.specs.declared.collision.InputPair.{InputPair}
-use Rattle.p3_merkle_verifier.specs.declared.path.CheckedLevel.{CheckedLevel}
+use Rattle.p3_merkle_verifier.specs.declared.path.ComputedLevel.{ComputedLevel}
 use Rattle.p3_merkle_verifier.specs.declared.path.Progress.{Progress}
 use Rattle.p3_merkle_verifier.proofs.SharedFacts.{difference_below, shows_later}
 use Rattle.p3_support.specs.declared.matrix.Dimensions.{Dimensions}
@@ -60,7 +60,7 @@ found_leaf eq same s o u mine theirs found e a b is =
 
 -- where both checks stand at one node above the level, what is shown of the two levels is the last difference there
 pub found_here : {T W : Type 0} (test : Input T W → Input T W → Bool) (f : Functions T W) (s : Shape) (l : ℕ)
-    (o u : Opening T W) (found : Option (InputPair T (List W))) (mine theirs : CheckedLevel (List W) (List (List W)))
+    (o u : Opening T W) (found : Option (InputPair T (List W))) (mine theirs : ComputedLevel (List W) (List (List W)))
     (a b : List T) →
     IsLevelOfCheck f s o l mine → IsLevelOfCheck f s u l theirs → a ≡ layer_words s o.rows (suc l) → b
     ≡ layer_words s u.rows (suc l) → mine.above.node ≡ theirs.above.node →
@@ -81,7 +81,7 @@ found_here test f s l o u found mine theirs a b m n is_a is_b one shown =
 
 -- where they do not, there is none
 pub found_apart : {T W : Type 0} (test : Input T W → Input T W → Bool) (f : Functions T W) (s : Shape) (l : ℕ)
-    (o u : Opening T W) (mine theirs : CheckedLevel (List W) (List (List W))) →
+    (o u : Opening T W) (mine theirs : ComputedLevel (List W) (List (List W))) →
     IsLevelOfCheck f s o l mine → IsLevelOfCheck f s u l theirs → (mine.above.node ≡ theirs.above.node → ⊥) →
     Shows None (level_difference test f s l o u)
 found_apart test f s l o u mine theirs m n other =

@@ -16,8 +16,8 @@ ghost use Rattle.p3_merkle_verifier.specs.Inner.Collisions.{first_words, inputs_
 ghost use Rattle.p3_merkle_verifier.specs.Inner.Collisions.{IsDifference, Shows};
 ghost use Rattle.p3_merkle_verifier.specs.Inner.Paths.{CanCheck, CanReach};
 
-use crate::openings::{IndexedOpening, OpenedRows};
-use crate::path::{CheckedLevel, Checker};
+use crate::openings::{OpeningRef, OpenedRows};
+use crate::path::{ComputedLevel, Checker};
 use p3_merkle_core::collision::{Collision, InputPair, Place};
 use p3_merkle_core::error::MerkleTreeError;
 use p3_merkle_core::steps::Steps;
@@ -41,6 +41,10 @@ struct RowPair<'a, T> {
 }
 
 /// Both lists of digests at a place, if they differ.
+///
+/// # Errors
+///
+/// `AllocError` if memory runs out.
 fn differing_digests<T, W: Copy + Eq, const D: usize>(
     alloc: Global,
     place: Place,
@@ -61,6 +65,10 @@ fn differing_digests<T, W: Copy + Eq, const D: usize>(
 }
 
 /// The words of the rows of the matrices of one exponent, one row after another.
+///
+/// # Errors
+///
+/// `AllocError` if memory runs out.
 fn opened_words<T: Copy + Drop>(
     alloc: Global,
     dimensions: &[Dimensions],
@@ -83,6 +91,10 @@ fn opened_words<T: Copy + Drop>(
 }
 
 /// Both lists of words at a place, if they differ.
+///
+/// # Errors
+///
+/// `AllocError` if memory runs out.
 fn differing_words<T: Copy + Eq + Drop, W, const D: usize>(
     alloc: Global,
     place: Place,
@@ -106,11 +118,15 @@ fn differing_words<T: Copy + Eq + Drop, W, const D: usize>(
 }
 
 /// The words that are hashed for the leaf, if the openings are of one leaf and differ there.
+///
+/// # Errors
+///
+/// `AllocError` if memory runs out.
 fn leaf_difference<T: Copy + Eq + Drop, W: Copy + Eq, const D: usize>(
     alloc: Global,
     steps: &Steps<'_>,
-    first: IndexedOpening<'_, T, [W; D]>,
-    second: IndexedOpening<'_, T, [W; D]>,
+    first: OpeningRef<'_, T, [W; D]>,
+    second: OpeningRef<'_, T, [W; D]>,
 ) -> Result<Option<Collision<T, W, D>>, AllocError>
     ensures { let s = shape_of steps.now.arity steps.now.dimensions.now in
         let difference = leaf_difference (input_eq T.eq W.eq) s (opening_in first.entry) (opening_in second.entry) in
@@ -130,11 +146,15 @@ fn leaf_difference<T: Copy + Eq + Drop, W: Copy + Eq, const D: usize>(
 
 /// The last place of a level above its group at which two checks differ: the pair, else the rows. `rows` are the rows
 /// of both openings at the layer above.
+///
+/// # Errors
+///
+/// `AllocError` if memory runs out.
 fn differing_above<T: Copy + Eq + Drop, W: Copy + Eq, const N: usize, const D: usize>(
     alloc: Global,
     rows: &RowPair<'_, T>,
-    first: &CheckedLevel<[W; D], [[W; D]; N]>,
-    second: &CheckedLevel<[W; D], [[W; D]; N]>,
+    first: &ComputedLevel<[W; D], [[W; D]; N]>,
+    second: &ComputedLevel<[W; D], [[W; D]; N]>,
 ) -> Result<Option<Collision<T, W, D>>, AllocError>
     ensures { let mine = inputs_above first.now.level (first_words rows.now) first.now.pair in
         let theirs = inputs_above first.now.level (second_words rows.now) second.now.pair in
@@ -151,11 +171,15 @@ fn differing_above<T: Copy + Eq + Drop, W: Copy + Eq, const N: usize, const D: u
 
 /// The last place of a level at which two checks differ, if they share the node above the level. `rows` are the rows of
 /// both openings at the layer above.
+///
+/// # Errors
+///
+/// `AllocError` if memory runs out.
 fn level_difference<T: Copy + Eq + Drop, W: Copy + Eq, const N: usize, const D: usize>(
     alloc: Global,
     rows: &RowPair<'_, T>,
-    first: &CheckedLevel<[W; D], [[W; D]; N]>,
-    second: &CheckedLevel<[W; D], [[W; D]; N]>,
+    first: &ComputedLevel<[W; D], [[W; D]; N]>,
+    second: &ComputedLevel<[W; D], [[W; D]; N]>,
 ) -> Result<Option<Collision<T, W, D>>, AllocError>
     ensures { let mine = first_words rows.now in
         let theirs = second_words rows.now in
@@ -196,8 +220,8 @@ impl<
         alloc: Global,
         steps: &Steps<'_>,
         cap_layer: usize,
-        first: IndexedOpening<'_, P::Value, [PW::Value; D]>,
-        second: IndexedOpening<'_, P::Value, [PW::Value; D]>,
+        first: OpeningRef<'_, P::Value, [PW::Value; D]>,
+        second: OpeningRef<'_, P::Value, [PW::Value; D]>,
     ) -> Result<Option<Collision<P::Value, PW::Value, D>>, AllocError>
         requires arity { steps.now.arity ≡ N }
         requires first { CanReach (shape_of N steps.now.dimensions.now) cap_layer (length first.siblings.now) }
@@ -212,8 +236,8 @@ impl<
         let mut second_progress = self.leaf(steps, second);
         let mut last = leaf_difference(alloc, steps, first, second)?;
         for level in 0..cap_layer {
-            let mine = self.checked_level(steps, cap_layer, level, first, &first_progress);
-            let theirs = self.checked_level(steps, cap_layer, level, second, &second_progress);
+            let mine = self.computed_level(steps, cap_layer, level, first, &first_progress);
+            let theirs = self.computed_level(steps, cap_layer, level, second, &second_progress);
             let rows = RowPair {
                 dimensions: steps.dimensions,
                 exponent: mine.above.exponent,
@@ -244,8 +268,8 @@ impl<
         roots: &[[PW::Value; D]],
         steps: &Steps<'_>,
         cap_layer: usize,
-        first: IndexedOpening<'_, P::Value, [PW::Value; D]>,
-        second: IndexedOpening<'_, P::Value, [PW::Value; D]>,
+        first: OpeningRef<'_, P::Value, [PW::Value; D]>,
+        second: OpeningRef<'_, P::Value, [PW::Value; D]>,
     ) -> Result<Option<Collision<P::Value, PW::Value, D>>, MerkleTreeError>
         requires arity { steps.now.arity ≡ N }
         requires check { CanCheck (shape_of N steps.now.dimensions.now) cap_layer }

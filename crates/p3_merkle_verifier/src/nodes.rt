@@ -13,9 +13,9 @@ ghost use Rattle.p3_merkle_verifier.specs.Inner.NodeDigests.{child_group, group_
 ghost use Rattle.p3_merkle_verifier.specs.Inner.OpenedMatrices.{row_in};
 ghost use Rattle.p3_merkle_verifier.specs.Inner.RestoredLevels.{opened_by, tree_of, AreRestored, IsLayer};
 
-use crate::openings::{OpenedMatrix, Restorable};
+use crate::openings::{OpenedMatrix, RestorableOpening};
 use crate::path::Checker;
-use crate::pruned::Covered;
+use crate::pruned::CoveredNodes;
 use p3_merkle_core::geometry::exponent_of;
 use p3_merkle_core::group::padded_group;
 use p3_merkle_digests::batched::inject_row_digests;
@@ -34,8 +34,8 @@ use std::marker::PhantomData;
 /// `AllocError` if memory runs out.
 fn opened_matrices<'a, T, X>(
     alloc: Global,
-    restorable: &'a Restorable<'_, T, X>,
-    covered: &'a Covered,
+    restorable: &'a RestorableOpening<'_, T, X>,
+    covered: &'a CoveredNodes,
 ) -> Result<Vec<OpenedMatrix<'a, T>>, AllocError>
     requires { All (λ k. k < length restorable.now.opening.indices.now) covered.now.queries.items }
     ensures heights { let queries = covered.now.queries.items in
@@ -106,8 +106,8 @@ impl<
     fn row_digests(
         &self,
         alloc: Global,
-        restorable: &Restorable<'_, P::Value, [PW::Value; D]>,
-        covered: &Covered,
+        restorable: &RestorableOpening<'_, P::Value, [PW::Value; D]>,
+        covered: &CoveredNodes,
     ) -> Result<Vec<[PW::Value; D]>, AllocError>
         requires { All (λ k. k < length restorable.now.opening.indices.now) covered.now.queries.items }
         ensures count { IfOk result (λ digests. length digests.items ≡ length covered.now.queries.items) }
@@ -176,9 +176,9 @@ impl<
     pub(crate) fn node_digests(
         &self,
         alloc: Global,
-        restorable: &Restorable<'_, P::Value, [PW::Value; D]>,
+        restorable: &RestorableOpening<'_, P::Value, [PW::Value; D]>,
         layer: usize,
-        covered: &Covered,
+        covered: &CoveredNodes,
         children: &[[PW::Value; D]],
     ) -> Result<Vec<[PW::Value; D]>, AllocError>
         requires arity { restorable.now.steps.now.arity ≡ N }

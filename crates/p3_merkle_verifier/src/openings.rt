@@ -17,7 +17,7 @@ use p3_support::opening::BatchOpeningRef;
 
 /// A borrowed opening with the index of its leaf.
 #[derive_where(Clone, Copy)]
-pub struct IndexedOpening<'a, T, X> {
+pub struct OpeningRef<'a, T, X> {
     /// The index of the leaf.
     pub index: usize,
     /// One row of each matrix, in input order.
@@ -26,14 +26,14 @@ pub struct IndexedOpening<'a, T, X> {
     pub siblings: &'a [X],
 }
 
-impl<'a, T, X> IndexedOpening<'a, T, X> {
+impl<'a, T, X> OpeningRef<'a, T, X> {
     /// The opening of the leaf `index` by these rows and siblings.
-    pub fn new(index: usize, opening: BatchOpeningRef<'a, T, Vec<X>>) -> IndexedOpening<'a, T, X>
+    pub fn new(index: usize, opening: BatchOpeningRef<'a, T, Vec<X>>) -> OpeningRef<'a, T, X>
         ensures index { result.index ≡ index }
         ensures rows { result.rows.now ≡ opening.entry.opened_values.now }
         ensures siblings { result.siblings.now ≡ opening.entry.opening_proof.now.items }
     {
-        IndexedOpening {
+        OpeningRef {
             index,
             rows: opening.opened_values,
             siblings: opening.opening_proof,
@@ -134,7 +134,7 @@ impl<'a, T: Copy> Matrix<T> for OpenedMatrix<'a, T> {
 
 /// A borrowed pruned opening.
 #[derive_where(Clone, Copy)]
-pub struct BorrowedOpening<'a, T, X> {
+pub struct PrunedOpeningRef<'a, T, X> {
     /// The index of each query.
     pub indices: &'a [usize],
     /// The row set of each query: one row of each matrix, in input order.
@@ -145,13 +145,13 @@ pub struct BorrowedOpening<'a, T, X> {
 
 /// A pruned opening that restores, and the tree that it is of: its form is right, and its rows agree.
 #[derive(Drop)]
-pub struct Restorable<'a, T, X> {
+pub struct RestorableOpening<'a, T, X> {
     /// The steps of the tree.
     pub steps: &'a Steps<'a>,
     /// The cap's layer.
     pub cap_layer: usize,
     /// The opening.
-    pub opening: BorrowedOpening<'a, T, X>,
+    pub opening: PrunedOpeningRef<'a, T, X>,
     ghost queried: { CanQuery (shape_of steps.now.arity steps.now.dimensions.now) opening.indices.now cap_layer },
     ghost low: { greatest (heights_of steps.now.dimensions.now) ≤ height_limit },
     ghost pairs: { length opening.sets.now ≡ length opening.indices.now },

@@ -13,7 +13,7 @@ ghost use Rattle.p3_merkle_verifier.specs.Inner.Checks.{functions_by, opening_in
 ghost use Rattle.p3_merkle_verifier.specs.Inner.Checks.{IsLevelOfCheck, IsProgress};
 ghost use Rattle.p3_merkle_verifier.specs.Inner.Paths.{CanCheck, CanReach};
 
-use crate::openings::{IndexedOpening, OpenedRows};
+use crate::openings::{OpeningRef, OpenedRows};
 use p3_merkle_core::error::MerkleTreeError;
 use p3_merkle_core::geometry::check_widths;
 use p3_merkle_core::group::{group_with, pair_group};
@@ -59,7 +59,7 @@ impl<W: Copy, const D: usize> Progress<[W; D]> {
 
 /// One level of the check of an opening: what it compresses, and how far the check is above it.
 #[derive(Drop)]
-pub struct CheckedLevel<X, G> {
+pub struct ComputedLevel<X, G> {
     /// The level, counted from the leaves.
     pub level: usize,
     /// The siblings with the node's digest at its position, then default digests.
@@ -166,7 +166,7 @@ impl<
     const D: usize,
 > Checker<'a, P, PW, H, C, [[PW::Value; D]; N]> {
     /// Hashes the rows of the matrices of one exponent, one after another.
-    fn rows_digest(
+    fn row_digest(
         &self,
         dimensions: &[Dimensions],
         rows: &[Vec<P::Value>],
@@ -186,7 +186,7 @@ impl<
     pub(crate) fn leaf(
         &self,
         steps: &Steps<'_>,
-        opening: IndexedOpening<'_, P::Value, [PW::Value; D]>,
+        opening: OpeningRef<'_, P::Value, [PW::Value; D]>,
     ) -> Progress<[PW::Value; D]>
         requires { steps.now.arity ≡ N }
         ensures { let f = functions_by H.hash C.compression (replicate D PW.default_value) self.now in
@@ -197,7 +197,7 @@ impl<
             exponent,
             node: opening.index,
             used: 0,
-            digest: self.rows_digest(steps.dimensions, opening.rows, exponent),
+            digest: self.row_digest(steps.dimensions, opening.rows, exponent),
         }
     }
 
@@ -205,14 +205,14 @@ impl<
     /// up to the cap.
     // A call passes the whole level through memory, and a verification needs only `above`.
     #[inline(always)]
-    pub(crate) fn checked_level(
+    pub(crate) fn computed_level(
         &self,
         steps: &Steps<'_>,
         cap_layer: usize,
         level: usize,
-        opening: IndexedOpening<'_, P::Value, [PW::Value; D]>,
+        opening: OpeningRef<'_, P::Value, [PW::Value; D]>,
         progress: &Progress<[PW::Value; D]>,
-    ) -> CheckedLevel<[PW::Value; D], [[PW::Value; D]; N]>
+    ) -> ComputedLevel<[PW::Value; D], [[PW::Value; D]; N]>
         requires arity { steps.now.arity ≡ N }
         requires reach { CanReach (shape_of N steps.now.dimensions.now) cap_layer (length opening.siblings.now) }
         requires level { level < cap_layer }
@@ -243,17 +243,17 @@ impl<
             digest: self.compress.compress(group),
         };
         if !has_rows {
-            return CheckedLevel {
+            return ComputedLevel {
                 level,
                 group,
                 pair: None,
                 above,
             };
         }
-        let rows = self.rows_digest(steps.dimensions, opening.rows, exponent);
+        let rows = self.row_digest(steps.dimensions, opening.rows, exponent);
         let pair = pair_group::<PW::Value, N, D>(default_digest, above.digest, rows);
         above.digest = self.compress.compress(pair);
-        CheckedLevel {
+        ComputedLevel {
             level,
             group,
             pair: Some(pair),
@@ -279,7 +279,7 @@ impl<
         roots: &[[PW::Value; D]],
         steps: &Steps<'_>,
         cap_layer: usize,
-        opening: IndexedOpening<'_, P::Value, [PW::Value; D]>,
+        opening: OpeningRef<'_, P::Value, [PW::Value; D]>,
     ) -> Result<(), MerkleTreeError>
         requires arity { steps.now.arity ≡ N }
         requires check { CanCheck (shape_of N steps.now.dimensions.now) cap_layer }
@@ -294,7 +294,7 @@ impl<
         let mut progress = self.leaf(steps, opening);
         for level in 0..cap_layer {
             progress = self
-                .checked_level(steps, cap_layer, level, opening, &progress)
+                .computed_level(steps, cap_layer, level, opening, &progress)
                 .above;
         }
         if is_entry(roots, progress.node, &progress.digest) {

@@ -20,7 +20,7 @@ ghost use Rattle.p3_merkle_verifier.specs.Inner.RestoredLevels.{cap_refusal_by, 
 ghost use Rattle.p3_merkle_verifier.specs.Inner.RestoredLevels.{pruned_refusal_by, tree_of, AreKept};
 ghost use Rattle.p3_merkle_verifier.specs.Inner.RestoredLevels.{IsCoveredAt, IsLayerAbove};
 
-use crate::openings::{BorrowedOpening, Restorable};
+use crate::openings::{PrunedOpeningRef, RestorableOpening};
 use crate::path::{Checker, is_entry};
 use p3_merkle_core::agreement::check_pruned;
 use p3_merkle_core::error::MerkleTreeError;
@@ -33,7 +33,7 @@ use std::alloc::{AllocError, Global};
 
 /// The covered nodes of a layer.
 #[derive(Debug, Drop)]
-pub struct Covered {
+pub struct CoveredNodes {
     /// The nodes, ascending.
     pub nodes: Vec<usize>,
     /// For each node, the place of a query under it.
@@ -90,8 +90,8 @@ fn restorable_of<'a, P: PackedValue, X>(
     alloc: Global,
     steps: &'a Steps<'a>,
     cap_layer: usize,
-    opening: BorrowedOpening<'a, P::Value, X>,
-) -> Result<(Restorable<'a, P::Value, X>, Covered), MerkleTreeError>
+    opening: PrunedOpeningRef<'a, P::Value, X>,
+) -> Result<(RestorableOpening<'a, P::Value, X>, CoveredNodes), MerkleTreeError>
     requires { CanCheck (shape_of steps.now.arity steps.now.dimensions.now) cap_layer }
     ensures answer { let s = shape_of steps.now.arity steps.now.dimensions.now in
         let p = opened_with opening.entry.indices.now (row_sets opening.entry.sets.now)
@@ -103,18 +103,18 @@ fn restorable_of<'a, P: PackedValue, X>(
     ensures leaves { IfOk result (λ made. IsCoveredAt (tree_of made.0) made.0.opening.indices.now 0 made.1) }
     ensures childless { IfOk result (λ made. made.1.step ≡ 0) }
 {
-    let BorrowedOpening {
+    let PrunedOpeningRef {
         indices,
         sets,
         sent,
     } = opening;
     let queried = check_pruned(alloc, steps, cap_layer, indices, sets, sent.len())?;
-    let restorable = Restorable {
+    let restorable = RestorableOpening {
         steps,
         cap_layer,
         opening,
     };
-    let leaves = Covered {
+    let leaves = CoveredNodes {
         nodes: queried.indices,
         queries: queried.first_queries,
         exponent: steps.exponent,
@@ -133,11 +133,11 @@ fn restorable_of<'a, P: PackedValue, X>(
 /// `AllocError` if memory runs out.
 fn layer_above<T, X: Copy>(
     alloc: Global,
-    restorable: &Restorable<'_, T, X>,
+    restorable: &RestorableOpening<'_, T, X>,
     level: usize,
-    below: &Covered,
+    below: &CoveredNodes,
     digests: &[X],
-) -> Result<(Covered, Vec<X>), AllocError>
+) -> Result<(CoveredNodes, Vec<X>), AllocError>
     requires level { level < restorable.now.cap_layer }
     requires coverage { IsCoveredAt (tree_of restorable.now) restorable.now.opening.indices.now level below.now }
     requires digests { length digests.now ≡ length below.now.nodes.items }
@@ -154,7 +154,7 @@ fn layer_above<T, X: Copy>(
     let left = &restorable.opening.sent[below.used..];
     let children = children_of(alloc, &below.nodes, digests, &nodes, step, left)?;
     let used = below.used + (children.len() - below.nodes.len());
-    let above = Covered {
+    let above = CoveredNodes {
         nodes,
         queries,
         exponent,
@@ -194,8 +194,8 @@ impl<
     fn restored_levels(
         &self,
         alloc: Global,
-        restorable: &Restorable<'_, P::Value, [PW::Value; D]>,
-        leaves: Covered,
+        restorable: &RestorableOpening<'_, P::Value, [PW::Value; D]>,
+        leaves: CoveredNodes,
         roots: Option<&[[PW::Value; D]]>,
         keeps: bool,
     ) -> Result<Vec<KeptLevel<[PW::Value; D]>>, MerkleTreeError>
@@ -264,7 +264,7 @@ impl<
         roots: &[[PW::Value; D]],
         steps: &Steps<'_>,
         cap_layer: usize,
-        opening: BorrowedOpening<'_, P::Value, [PW::Value; D]>,
+        opening: PrunedOpeningRef<'_, P::Value, [PW::Value; D]>,
     ) -> Result<(), MerkleTreeError>
         requires arity { steps.now.arity ≡ N }
         requires check { CanCheck (shape_of steps.now.arity steps.now.dimensions.now) cap_layer }
@@ -296,7 +296,7 @@ impl<
         roots: Option<&[[PW::Value; D]]>,
         steps: &Steps<'_>,
         cap_layer: usize,
-        opening: BorrowedOpening<'_, P::Value, [PW::Value; D]>,
+        opening: PrunedOpeningRef<'_, P::Value, [PW::Value; D]>,
     ) -> Result<Vec<AuthPath<[PW::Value; D]>>, MerkleTreeError>
         requires arity { steps.now.arity ≡ N }
         requires check { CanCheck (shape_of steps.now.arity steps.now.dimensions.now) cap_layer }

@@ -14,7 +14,7 @@ ghost use Rattle.p3_merkle_verifier.specs.Inner.QueryPairs.{query_difference, fi
 ghost use Rattle.p3_merkle_verifier.specs.Inner.QueryPairs.{AreQueriesOf, CanCompare, ShowsAt, ShowsPair};
 ghost use Rattle.p3_merkle_verifier.specs.Inner.RestoredLevels.{pruned_in};
 
-use crate::openings::{BorrowedOpening, IndexedOpening};
+use crate::openings::{PrunedOpeningRef, OpeningRef};
 use crate::path::Checker;
 use p3_merkle_core::collision::Collision;
 use p3_merkle_core::error::MerkleTreeError;
@@ -36,13 +36,13 @@ struct RestoredQueries<'a, T, X> {
 
 impl<'a, T, W, const D: usize> RestoredQueries<'a, T, [W; D]> {
     /// The opening of query `k`.
-    fn opening(&self, k: usize) -> IndexedOpening<'_, T, [W; D]>
+    fn opening(&self, k: usize) -> OpeningRef<'_, T, [W; D]>
         requires row_set { k < length self.now.sets.now }
         requires path { k < length self.now.paths.items }
         ensures { opening_in result ≡ query_in self.now k }
     {
         let path = &self.paths[k];
-        IndexedOpening {
+        OpeningRef {
             index: path.leaf_index,
             rows: &self.sets[k],
             siblings: &path.siblings,
@@ -70,7 +70,7 @@ impl<
         roots: &[[PW::Value; D]],
         steps: &Steps<'_>,
         cap_layer: usize,
-        opening: BorrowedOpening<'b, P::Value, [PW::Value; D]>,
+        opening: PrunedOpeningRef<'b, P::Value, [PW::Value; D]>,
     ) -> Result<RestoredQueries<'b, P::Value, [PW::Value; D]>, MerkleTreeError>
         requires arity { steps.now.arity ≡ N }
         requires check { CanCheck (shape_of steps.now.arity steps.now.dimensions.now) cap_layer }
@@ -100,7 +100,7 @@ impl<
         alloc: Global,
         steps: &Steps<'_>,
         cap_layer: usize,
-        first: IndexedOpening<'_, P::Value, [PW::Value; D]>,
+        first: OpeningRef<'_, P::Value, [PW::Value; D]>,
         queries: &RestoredQueries<'_, P::Value, [PW::Value; D]>,
     ) -> Result<Option<(usize, Collision<P::Value, PW::Value, D>)>, AllocError>
         requires arity { steps.now.arity ≡ N }
@@ -176,8 +176,8 @@ impl<
         roots: &[[PW::Value; D]],
         steps: &Steps<'_>,
         cap_layer: usize,
-        first: BorrowedOpening<'_, P::Value, [PW::Value; D]>,
-        second: BorrowedOpening<'_, P::Value, [PW::Value; D]>,
+        first: PrunedOpeningRef<'_, P::Value, [PW::Value; D]>,
+        second: PrunedOpeningRef<'_, P::Value, [PW::Value; D]>,
     ) -> Result<Option<(usize, usize, Collision<P::Value, PW::Value, D>)>, MerkleTreeError>
         requires arity { steps.now.arity ≡ N }
         requires check { CanCheck (shape_of steps.now.arity steps.now.dimensions.now) cap_layer }

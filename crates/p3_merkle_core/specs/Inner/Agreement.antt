@@ -12,7 +12,7 @@ use Rattle.p3_merkle_core.specs.Refusals.{slots_below, slot_of, unless, width_re
 use Rattle.p3_merkle_core.specs.declared.error.MerkleTreeError.{MerkleTreeError}
 use Rattle.p3_merkle_core.specs.declared.error.MerkleTreeError.TheVariants.{MalformedPrunedProof}
 use Rattle.p3_merkle_core.specs.declared.error.PrunedProofError.TheVariants.{InconsistentGroupOpening}
-use Rattle.p3_merkle_core.specs.declared.agreement.DistinctIndices.{DistinctIndices}
+use Rattle.p3_merkle_core.specs.declared.agreement.DistinctQueries.{DistinctQueries}
 
 -- the distinct indices, ascending
 unfoldable pub distinct : List ℕ → List ℕ
@@ -32,7 +32,7 @@ abbrev pub opened_with : {T : Type 0} → List ℕ → List (List (List T)) → 
 opened_with indices sets n = pruned_of indices sets (replicate n [])
 
 -- what is queried of some indices: the distinct ones, ascending, and the first query of each
-pub record AreDistinctOf (queried : DistinctIndices) (queries : List ℕ) : Type 0 where
+pub record AreDistinctOf (queried : DistinctQueries) (queries : List ℕ) : Type 0 where
   pub indices : queried.indices.items ≡ distinct queries
   pub first_queries : queried.first_queries.items ≡ map (first_query queries) (distinct queries)
 

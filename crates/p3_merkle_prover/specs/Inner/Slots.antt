@@ -12,23 +12,23 @@ use Rattle.p3_merkle_core.specs.Views.{batch_of}
 use Rattle.p3_merkle_digests.specs.Inner.Slots.{leaf_over, rows_over}
 use Rattle.p3_merkle_prover.specs.Inner.Levels.{slot_above}
 use Rattle.p3_merkle_prover.specs.declared.layer.LayerOver.{LayerOver}
-use Rattle.p3_merkle_prover.specs.declared.layers.LayersOver.{LayersOver}
+use Rattle.p3_merkle_prover.specs.declared.layers.TreeOver.{TreeOver}
 
 module _ {P PW H C M G V W : Type 0} {N : ℕ} {p : packed.Ghosts P V} {pd : default.Ghosts V} {pe : equality.Ghosts V}
     {q : packed.Ghosts PW W} {qd : default.Ghosts W} {qe : equality.Ghosts W} {m : matrix.Ghosts M V} where
   -- what the hasher and the compression of all layers compute, and the digest of d default words
   abbrev pub functions_for : (H → List V → List W) → (C → List (List W) → List W) → ℕ →
-      LayersOver P PW H C M G N V W p pd pe q qd qe m → Functions V W
+      TreeOver P PW H C M G N V W p pd pe q qd qe m → Functions V W
   functions_for hash compression d builder =
       functions_of (hash builder.hash.now) (compression builder.compress.now) (replicate d q.default_value)
 
   -- the matrices of all layers, under the arity
-  abbrev pub batch_for : LayersOver P PW H C M G N V W p pd pe q qd qe m → Batch V
+  abbrev pub batch_for : TreeOver P PW H C M G N V W p pd pe q qd qe m → Batch V
   batch_for builder = batch_of m.height_of m.width_of m.row_of N builder.matrices.now
 
   -- the layer above a layer, at a level
   abbrev pub layer_above : (H → List V → List W) → (C → List (List W) → List W) → ℕ →
-      LayersOver P PW H C M G N V W p pd pe q qd qe m → Level → List (List W) → List (List W)
+      TreeOver P PW H C M G N V W p pd pe q qd qe m → Level → List (List W) → List (List W)
   layer_above hash compression d builder v below =
       let f = functions_for hash compression d builder in
       let rows = λ (j : ℕ). rows_of_height m.height_of m.row_of v.height j builder.matrices.now in

@@ -8,8 +8,8 @@ use Rattle.p3_merkle_core.specs.Openings.{Opening, opening_of}
 use Rattle.p3_merkle_core.specs.Checks.{Input, inputs_at, path_digest, layer_words, siblings_below, leaf_input}
 use Rattle.p3_merkle_core.specs.declared.collision.InputPair.{InputPair}
 use Rattle.p3_support.specs.Shown.{row_lists}
-use Rattle.p3_merkle_verifier.specs.declared.openings.IndexedOpening.{IndexedOpening}
-use Rattle.p3_merkle_verifier.specs.declared.path.CheckedLevel.{CheckedLevel}
+use Rattle.p3_merkle_verifier.specs.declared.openings.OpeningRef.{OpeningRef}
+use Rattle.p3_merkle_verifier.specs.declared.path.ComputedLevel.{ComputedLevel}
 use Rattle.p3_merkle_verifier.specs.declared.path.Checker.{Checker}
 use Rattle.p3_merkle_verifier.specs.declared.path.Progress.{Progress}
 use Rattle.p3_merkle_verifier.specs.Inner.Collisions.{level_inputs, Shows}
@@ -21,7 +21,7 @@ functions_by hash compression default_digest checker =
     functions_of (hash checker.hash.now) (compression checker.compress.now) default_digest
 
 -- an opening that is lent with its index
-abbrev pub opening_in : {T W : Type 0} → IndexedOpening T (List W) → Opening T W
+abbrev pub opening_in : {T W : Type 0} → OpeningRef T (List W) → Opening T W
 opening_in opening = opening_of opening.index (row_lists opening.rows.now) opening.siblings.now
 
 -- so many siblings are left that a step can take its own
@@ -51,7 +51,7 @@ pub record IsProgress {T W : Type 0} (f : Functions T W) (s : Shape) (o : Openin
 
 -- level l of the check of an opening: it has the level's inputs, and above it the check stands at the next layer
 pub record IsLevelOfCheck {T W : Type 0} (f : Functions T W) (s : Shape) (o : Opening T W) (l : ℕ)
-    (level : CheckedLevel (List W) (List (List W))) : Type 0 where
+    (level : ComputedLevel (List W) (List (List W))) : Type 0 where
   pub at_level : level.level ≡ l
   pub inputs_are : level_inputs l (layer_words s o.rows (suc l)) level ≡ inputs_at f s o l
   pub progress : IsProgress f s o (suc l) level.above
@@ -71,7 +71,7 @@ level_difference test f s l o u =
 
 -- what is found of two levels, where these are the words of the matrices above them, shows their last difference
 abbrev pub ShowsLevel : {T W : Type 0} → (Input T W → Input T W → Bool) → List T → List T →
-    CheckedLevel (List W) (List (List W)) → CheckedLevel (List W) (List (List W)) → Option (InputPair T (List W)) →
+    ComputedLevel (List W) (List (List W)) → ComputedLevel (List W) (List (List W)) → Option (InputPair T (List W)) →
     Type 0
 ShowsLevel {T} {W} test a b first second found =
     (f : Functions T W) (s : Shape) (l : ℕ) (o u : Opening T W) → IsLevelOfCheck f s o l first →

@@ -13,20 +13,20 @@ use Rattle.p3_merkle_core.specs.Refusals.{cap_refusal, pruned_refusal}
 use Rattle.p3_merkle_core.specs.declared.error.MerkleTreeError.{MerkleTreeError}
 use Rattle.p3_merkle_core.specs.declared.pruning.KeptLevel.{KeptLevel}
 use Rattle.p3_support.specs.Shown.{row_sets}
-use Rattle.p3_merkle_verifier.specs.declared.openings.BorrowedOpening.{BorrowedOpening}
-use Rattle.p3_merkle_verifier.specs.declared.pruned.Covered.{Covered}
-use Rattle.p3_merkle_verifier.specs.declared.openings.Restorable.{Restorable}
+use Rattle.p3_merkle_verifier.specs.declared.openings.PrunedOpeningRef.{PrunedOpeningRef}
+use Rattle.p3_merkle_verifier.specs.declared.pruned.CoveredNodes.{CoveredNodes}
+use Rattle.p3_merkle_verifier.specs.declared.openings.RestorableOpening.{RestorableOpening}
 
 -- the pruned opening that is lent
-abbrev pub pruned_in : {T W : Type 0} → BorrowedOpening T (List W) → PrunedOpening T W
+abbrev pub pruned_in : {T W : Type 0} → PrunedOpeningRef T (List W) → PrunedOpening T W
 pruned_in opening = pruned_of opening.indices.now (row_sets opening.sets.now) opening.sent.now
 
 -- the shape of the tree that an opening is of
-abbrev pub tree_of : {T X : Type 0} → Restorable T X → Shape
+abbrev pub tree_of : {T X : Type 0} → RestorableOpening T X → Shape
 tree_of restorable = shape_of restorable.steps.now.arity restorable.steps.now.dimensions.now
 
 -- the opening itself
-abbrev pub opened_by : {T W : Type 0} → Restorable T (List W) → PrunedOpening T W
+abbrev pub opened_by : {T W : Type 0} → RestorableOpening T (List W) → PrunedOpening T W
 opened_by restorable = pruned_in restorable.opening
 
 -- why a pruned opening of the right form is refused, if there are roots
@@ -46,7 +46,7 @@ abbrev pub node_of_query : Shape → List ℕ → ℕ → ℕ → ℕ
 node_of_query s indices l k = ancestor s l (slice_index indices k)
 
 -- the covered nodes of layer l, with a query under each, and how many boundary nodes are below the layer
-pub record IsCoveredAt (s : Shape) (indices : List ℕ) (l : ℕ) (covered : Covered) : Type 0 where
+pub record IsCoveredAt (s : Shape) (indices : List ℕ) (l : ℕ) (covered : CoveredNodes) : Type 0 where
   pub nodes_are : covered.nodes.items ≡ covered_at s indices l
   pub queries_are : covered.nodes.items ≡ map (node_of_query s indices l) covered.queries.items
   pub among : All (λ k. k < length indices) covered.queries.items
@@ -54,8 +54,8 @@ pub record IsCoveredAt (s : Shape) (indices : List ℕ) (l : ℕ) (covered : Cov
   pub sent_below : covered.used ≡ length (boundary s indices l)
 
 -- the layer above layer l, with its nodes' children, where some digests are left of those that were sent
-pub record IsLayerAbove {X : Type 0} (s : Shape) (indices : List ℕ) (l : ℕ) (below : Covered) (digests sent : List X)
-    (above : Covered) (children : List X) : Type 0 where
+pub record IsLayerAbove {X : Type 0} (s : Shape) (indices : List ℕ) (l : ℕ) (below : CoveredNodes) (digests sent : List X)
+    (above : CoveredNodes) (children : List X) : Type 0 where
   pub step_is : above.step ≡ step s l
   pub rows_are : above.has_rows ≡ has_rows s (suc l)
   pub coverage : IsCoveredAt s indices (suc l) above
@@ -69,21 +69,21 @@ child_values f s cap_layer p l =
 
 -- the covered nodes above layer l have their step, and their children have their values
 pub record HaveChildren {T W : Type 0} (f : Functions T W) (s : Shape) (cap_layer : ℕ) (p : PrunedOpening T W) (l : ℕ)
-    (above : Covered) (children : List (List W)) : Type 0 where
+    (above : CoveredNodes) (children : List (List W)) : Type 0 where
   pub step_is : above.step ≡ step s l
   pub rows_are : above.has_rows ≡ has_rows s (suc l)
   pub full : length children ≡ above.step * length above.nodes.items
   pub values_are : children ≡ child_values f s cap_layer p l
 
 -- the children of the covered nodes of layer l, of which leaves have none
-abbrev pub IsFamilyAt : {T W : Type 0} → Functions T W → Shape → ℕ → PrunedOpening T W → ℕ → Covered →
+abbrev pub IsFamilyAt : {T W : Type 0} → Functions T W → Shape → ℕ → PrunedOpening T W → ℕ → CoveredNodes →
     List (List W) → Type 0
 IsFamilyAt f s cap_layer p zero covered children = Unit {0}
 IsFamilyAt f s cap_layer p (suc l) covered children = HaveChildren f s cap_layer p l covered children
 
 -- the covered nodes of layer l, and the values of their children, which leaves do not have
 pub record IsLayer {T W : Type 0} (f : Functions T W) (s : Shape) (cap_layer : ℕ) (p : PrunedOpening T W) (l : ℕ)
-    (covered : Covered) (children : List (List W)) : Type 0 where
+    (covered : CoveredNodes) (children : List (List W)) : Type 0 where
   pub coverage : IsCoveredAt s p.indices l covered
   pub wide : 0 < l → 0 < covered.step
   pub narrow : covered.step ≤ s.arity

@@ -122,8 +122,8 @@ returns-in_err-check_first_widths g c =
     (rw some refl) in
     rw left.1 (inr (found ∙ ap (λ e. Some e) (sym left.2)))
 
-pub check_groups-requires : goal.check_groups-requires
-check_groups-requires g c =
+pub check_shared_rows-requires : goal.check_shared_rows-requires
+check_shared_rows-requires g c =
     let indices = c.args.indices.now in
     let d = distinct indices in
     let firsts = c.in_ok-queried.queried.first_queries.items in
@@ -139,8 +139,8 @@ check_groups-requires g c =
           (rw c.deref-2.ensures.value at c.in_ok-check_first_widths.ensures);
     }
 
-pub returns-in_err-check_groups : goal.returns-in_err-check_groups
-returns-in_err-check_groups g c =
+pub returns-in_err-check_shared_rows : goal.returns-in_err-check_shared_rows
+returns-in_err-check_shared_rows g c =
     let s = shape_of c.args.steps.now.arity c.args.steps.now.dimensions.now in
     let early = rw (← length-map c.args.rows.now (λ rows. row_lists rows.items)) at
     c.in_ok-check_queries.ensures.answer in
@@ -155,11 +155,11 @@ returns-in_err-check_groups g c =
     let groups = layers_refusal g.T.PartialEq.eq s c.args.cap_layer queried.indices.items queried.first_queries.items
     sets in
     let count = rw (c.boundary_len.ensures ∙ leaves.count) at c.in_ok-check_digest_count.ensures in
-    let left = err_from_is_err_and c.from_residual-in_err-check_groups.result
-    c.from_residual-in_err-check_groups.ensures.1 in
-    let e = c.in_err-check_groups.field-0.0 in
+    let left = err_from_is_err_and c.from_residual-in_err-check_shared_rows.result
+    c.from_residual-in_err-check_shared_rows.ensures.1 in
+    let e = c.in_err-check_shared_rows.field-0.0 in
     let none : widths ≡ None = rw c.deref-2.ensures.value at c.in_ok-check_first_widths.ensures in
-    elim c.in_err-check_groups.ensures [
+    elim c.in_err-check_shared_rows.ensures [
       | inl memory ↦ rw left.1 (inl (left.2 ∙ memory))
       | inr some ↦
           let found = pruned_late g.T.PartialEq.eq s c.args.cap_layer queried.indices.items queried.first_queries.items
@@ -189,6 +189,6 @@ returns g c =
       pruned_late g.T.PartialEq.eq s c.args.cap_layer queried.indices.items queried.first_queries.items
           c.args.indices.now sets c.args.num_digests None c.in_ok-queried.ensures.indices
           c.in_ok-queried.ensures.first_queries early c.in_ok-check_repeats.ensures count
-          (late_from widths groups None none c.in_ok-check_groups.ensures),
+          (late_from widths groups None none c.in_ok-check_shared_rows.ensures),
       c.in_ok-queried.ensures,
     )

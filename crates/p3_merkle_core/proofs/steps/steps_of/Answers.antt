@@ -36,14 +36,14 @@ offset_bounds-of_level-num_levels c =
 
 pub loop-exponents-smaller : goal.loop-exponents-smaller
 loop-exponents-smaller c = next_falls (shape_of c.args.arity c.args.dimensions.now) c.loop-exponents.exponents.layer
-    c.step_up.result.1.layer c.requires c.loop-exponents-test.true c.step_up.ensures.layer
+    c.next_step.result.1.layer c.requires c.loop-exponents-test.true c.next_step.ensures.layer
 
 pub loop-exponents-preserved : goal.loop-exponents-preserved
 loop-exponents-preserved c =
     let s = shape_of c.args.arity c.args.dimensions.now in
     let x = c.loop-exponents.exponents.layer in
-    let y = c.step_up.result.1.layer in
-    let found = c.step_up.ensures in
+    let y = c.next_step.result.1.layer in
+    let found = c.next_step.ensures in
     let kept = c.loop-exponents.of_level in
     let n = c.loop-exponents.num_levels in
     let at = c.loop-exponents.invariant.0 in
@@ -54,12 +54,12 @@ loop-exponents-preserved c =
       exponent_le c.extremes_of-max_height.result.0 64 (omega arith),
       c.loop-exponents.invariant.2,
     ) in
-    let step = level_is s n x y c.step_up.result.0 at.at_x found.bridge found.layer found.rows in (
+    let step = level_is s n x y c.next_step.result.0 at.at_x found.bridge found.layer found.rows in (
       at_more s n x y c.requires at c.loop-exponents-test.true found.layer,
       found.next,
-      length-set kept n c.step_up.result.0
+      length-set kept n c.next_step.result.0
           ∙ c.loop-exponents.invariant.2,
-      kept_more s kept n c.step_up.result.0 c.loop-exponents.invariant.3 room step,
+      kept_more s kept n c.next_step.result.0 c.loop-exponents.invariant.3 room step,
     )
 
 pub invariant_of-result : goal.invariant_of-result

@@ -49,8 +49,8 @@ offset_bounds-deref-first g c =
     c.requires.layer c.loop-level-test.true c.loop-level.invariant.1 c.step-step.ensures c.index-nodes.ensures in
     rw c.deref.ensures.value (omega (arith, w.wide, w.fits, c.position_of.ensures))
 
-pub slice_bounds-extend_with_piece-end : goal.slice_bounds-extend_with_piece-end
-slice_bounds-extend_with_piece-end g c =
+pub slice_bounds-extend_with_nodes-end : goal.slice_bounds-extend_with_nodes-end
+slice_bounds-extend_with_nodes-end g c =
     let w = group_of c.args.tree.now c.args.index c.loop-level.level c.args.layer c.requires.own c.requires.index
     c.requires.layer c.loop-level-test.true c.loop-level.invariant.1 c.step-step.ensures c.index-nodes.ensures in
     rw c.deref.ensures.value (omega (arith, w.wide, w.fits, c.position_of.ensures))
@@ -73,8 +73,8 @@ offset_bounds-deref-node g c =
     c.requires.layer c.loop-level-test.true c.loop-level.invariant.1 c.step-step.ensures c.index-nodes.ensures in
     rw c.deref-in-loop-level.ensures.value (omega (arith, w.wide, w.fits, c.position_of.ensures))
 
-pub slice_bounds-extend_with_piece-end-in-loop-level : goal.slice_bounds-extend_with_piece-end-in-loop-level
-slice_bounds-extend_with_piece-end-in-loop-level g c =
+pub slice_bounds-extend_with_nodes-end-in-loop-level : goal.slice_bounds-extend_with_nodes-end-in-loop-level
+slice_bounds-extend_with_nodes-end-in-loop-level g c =
     let w = group_of c.args.tree.now c.args.index c.loop-level.level c.args.layer c.requires.own c.requires.index
     c.requires.layer c.loop-level-test.true c.loop-level.invariant.1 c.step-step.ensures c.index-nodes.ensures in
     rw c.deref-in-loop-level.ensures.value (omega (arith, w.wide, w.fits, c.position_of.ensures))
@@ -94,11 +94,11 @@ loop-level-preserved g c =
     let count = layers_count (λ nodes. length nodes.items) tree.layers.items s tree.layer_lengths in (
       λ d. group_next d (λ nodes. nodes.items) tree.layers.items s c.args.index c.loop-level.level c.step-step.result
           c.loop-level.node c.index-nodes.result.now c.index-nodes.result.now.items c.loop-level.siblings.items
-          c.extend_with_piece.new.digests.items c.extend_with_piece-in-loop-level.new.digests.items
+          c.extend_with_nodes.new.digests.items c.extend_with_nodes-in-loop-level.new.digests.items
           w (omega arith) c.index-nodes.ensures refl (c.loop-level.invariant.0 d)
-          (rw (c.position_of.ensures, c.deref.ensures.value) at c.in_ok-extend_with_piece.ensures.digests)
+          (rw (c.position_of.ensures, c.deref.ensures.value) at c.in_ok-extend_with_nodes.ensures.digests)
           (rw (c.position_of.ensures, c.deref-in-loop-level.ensures.value) at
-          c.in_ok-extend_with_piece-2.ensures.digests),
+          c.in_ok-extend_with_nodes-2.ensures.digests),
       c.parent_of-node.ensures ∙ node_next s c.args.index c.loop-level.level c.step-step.result c.loop-level.node
           (length c.index-nodes.result.now.items) w,
     )
@@ -115,14 +115,14 @@ returns-in_err-siblings g c =
     let gone = err_from_is_err_and c.from_residual.result c.from_residual.ensures.1 in
     rw (gone.1, gone.2) (record { siblings = λ d. tt; memory = inl refl })
 
-pub returns-in_err-extend_with_piece : goal.returns-in_err-extend_with_piece
-returns-in_err-extend_with_piece g c =
-    let gone = err_from_is_err_and c.from_residual-in_err-extend_with_piece.result
-    c.from_residual-in_err-extend_with_piece.ensures.1 in
-    rw (gone.1, gone.2) (record { siblings = λ d. tt; memory = c.in_err-extend_with_piece.ensures.memory })
+pub returns-in_err-extend_with_nodes : goal.returns-in_err-extend_with_nodes
+returns-in_err-extend_with_nodes g c =
+    let gone = err_from_is_err_and c.from_residual-in_err-extend_with_nodes.result
+    c.from_residual-in_err-extend_with_nodes.ensures.1 in
+    rw (gone.1, gone.2) (record { siblings = λ d. tt; memory = c.in_err-extend_with_nodes.ensures.memory })
 
-pub returns-in_err-extend_with_piece-2 : goal.returns-in_err-extend_with_piece-2
-returns-in_err-extend_with_piece-2 g c =
-    let gone = err_from_is_err_and c.from_residual-in_err-extend_with_piece-2.result
-    c.from_residual-in_err-extend_with_piece-2.ensures.1 in
-    rw (gone.1, gone.2) (record { siblings = λ d. tt; memory = c.in_err-extend_with_piece-2.ensures.memory })
+pub returns-in_err-extend_with_nodes-2 : goal.returns-in_err-extend_with_nodes-2
+returns-in_err-extend_with_nodes-2 g c =
+    let gone = err_from_is_err_and c.from_residual-in_err-extend_with_nodes-2.result
+    c.from_residual-in_err-extend_with_nodes-2.ensures.1 in
+    rw (gone.1, gone.2) (record { siblings = λ d. tt; memory = c.in_err-extend_with_nodes-2.ensures.memory })

@@ -40,10 +40,10 @@ loop-place-preserved g c =
       inside = inside;
       so_far = λ d.
           others_more layer covered n place next c.max.result node end c.args.digests.now.items
-          c.loop-place.digests.items c.extend_with_piece.new.digests.items
-          c.extend_with_piece-in-loop-place.new.digests.items d w inside
-          (c.loop-place.invariant.so_far d) c.in_ok-extend_with_piece.ensures.digests
-          c.in_ok-extend_with_piece-2.ensures.digests;
+          c.loop-place.digests.items c.extend_with_nodes.new.digests.items
+          c.extend_with_nodes-in-loop-place.new.digests.items d w inside
+          (c.loop-place.invariant.so_far d) c.in_ok-extend_with_nodes.ensures.digests
+          c.in_ok-extend_with_nodes-2.ensures.digests;
     }
 
 pub returns-clause-digests : goal.returns-clause-digests
@@ -52,13 +52,13 @@ returns-clause-digests g c d =
     (sym (others_end c.args.layer.now c.args.covered.now c.args.step c.loop-place.place c.loop-place.next d
     (omega arith) c.loop-place.invariant.inside c.loop-place.invariant.gone))
 
-pub returns-in_err-extend_with_piece : goal.returns-in_err-extend_with_piece
-returns-in_err-extend_with_piece g c =
+pub returns-in_err-extend_with_nodes : goal.returns-in_err-extend_with_nodes
+returns-in_err-extend_with_nodes g c =
     let gone = err_from_is_err_and c.from_residual.result c.from_residual.ensures.1 in
-    rw (gone.1, gone.2) (record { digests = λ d. tt; memory = c.in_err-extend_with_piece.ensures.memory })
+    rw (gone.1, gone.2) (record { digests = λ d. tt; memory = c.in_err-extend_with_nodes.ensures.memory })
 
-pub returns-in_err-extend_with_piece-2 : goal.returns-in_err-extend_with_piece-2
-returns-in_err-extend_with_piece-2 g c =
-    let gone = err_from_is_err_and c.from_residual-in_err-extend_with_piece-2.result
-    c.from_residual-in_err-extend_with_piece-2.ensures.1 in
-    rw (gone.1, gone.2) (record { digests = λ d. tt; memory = c.in_err-extend_with_piece-2.ensures.memory })
+pub returns-in_err-extend_with_nodes-2 : goal.returns-in_err-extend_with_nodes-2
+returns-in_err-extend_with_nodes-2 g c =
+    let gone = err_from_is_err_and c.from_residual-in_err-extend_with_nodes-2.result
+    c.from_residual-in_err-extend_with_nodes-2.ensures.1 in
+    rw (gone.1, gone.2) (record { digests = λ d. tt; memory = c.in_err-extend_with_nodes-2.ensures.memory })

@@ -32,16 +32,16 @@ returns-in-None g c =
     (c.row.ensures ∙ sym (rows_alone g.M.Matrix.row_of c.args.row ms m (omega arith) c.matrix-item.is)))
     (λ xs e h. h ∙ ap hash (sym (map-id xs) ∙ e)))
 
-pub returns-in-None-pieces_digest : goal.returns-in-None-pieces_digest
-returns-in-None-pieces_digest g c =
+pub returns-in-None-slices_digest : goal.returns-in-None-slices_digest
+returns-in-None-slices_digest g c =
     let ms = c.args.self.now.matrices.now in
     let h = c.args.self.now.height in
     let hash = g.H.CryptographicHasher.hash c.args.self.now.hash.now in
     let row = rows_over g.M.Matrix.row_of ms c.args.row in
-    let digest = c.hash_iter-in-None-pieces_digest.result in
+    let digest = c.hash_iter-in-None-slices_digest.result in
     let below : nat_lt c.args.row h ≡ true = lt-ltb c.args.row h (omega arith) in
     rw below
-    (fact_of_run (λ x. x) (λ xs. digest ≡ hash xs) (digest ≡ hash row) c.hash_iter-in-None-pieces_digest.ensures
+    (fact_of_run (λ x. x) (λ xs. digest ≡ hash xs) (digest ≡ hash row) c.hash_iter-in-None-slices_digest.ensures
     (YieldsList-from_first (λ x. x) (λ rest. rest) row
     (c.rows_of.ensures ∙ rows_of_all g.M.Matrix.height_of g.M.Matrix.row_of h c.args.row ms c.args.self.now.of_height))
     (λ xs e h. h ∙ ap hash (sym (map-id xs) ∙ e)))

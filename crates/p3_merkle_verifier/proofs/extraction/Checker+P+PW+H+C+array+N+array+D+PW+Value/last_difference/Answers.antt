@@ -25,8 +25,8 @@ loop-level-preserved g c =
     let o = opening_in c.args.first in
     let u = opening_in c.args.second in
     let heights = heights_of c.args.steps.now.dimensions.now in
-    let mine = c.checked_level-mine.ensures in
-    let theirs = c.checked_level-theirs.ensures in
+    let mine = c.computed_level-mine.ensures in
+    let theirs = c.computed_level-theirs.ensures in
     record {
       first_progress = rw add-one mine.progress;
       second_progress = rw add-one theirs.progress;

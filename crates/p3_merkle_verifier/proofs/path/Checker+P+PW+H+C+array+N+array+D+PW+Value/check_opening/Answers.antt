@@ -6,7 +6,7 @@ use Rattle.p3_merkle_verifier.proofs.FormFacts.{answered_by_entry}
 use Rattle.p3_merkle_verifier.proofs.path.Checker+P+PW+H+C+array+N+array+D+PW+Value.check_opening.Goals as goal
 
 pub loop-level-preserved : goal.loop-level-preserved
-loop-level-preserved g c = rw add-one c.checked_level.ensures.progress
+loop-level-preserved g c = rw add-one c.computed_level.ensures.progress
 
 pub returns-then-is_entry-clause-answer : goal.returns-then-is_entry-clause-answer
 returns-then-is_entry-clause-answer g c =

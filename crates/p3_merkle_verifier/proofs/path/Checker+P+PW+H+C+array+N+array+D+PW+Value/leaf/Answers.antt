@@ -10,4 +10,4 @@ returns g c =
     let f = functions_by g.H.CryptographicHasher.hash g.C.PseudoCompressionFunction.compression
     (replicate g.row.D g.PW.PackedValue.default_value) c.args.self.now in
     progress_first f (shape_of g.row.N c.args.steps.now.dimensions.now) (opening_in c.args.opening) _
-    (rw c.requires at c.args.steps.now.walked.leaves) refl refl c.rows_digest.ensures
+    (rw c.requires at c.args.steps.now.walked.leaves) refl refl c.row_digest.ensures
