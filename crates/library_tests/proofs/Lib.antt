@@ -1,2 +1,1 @@
 mod FirstBytes
-mod VerifiedRows

@@ -4,3 +4,4 @@ pub mod Fills
 pub mod RowReads
 pub mod Draws
 pub mod LaneReads
+pub mod VerifiedRows

@@ -1,6 +1,6 @@
 //! Matrices: a height, a width, and rows.
 ghost use Rattle.std.specs.Prelude.{◌≡◌, ℕ, ◌+◌, ◌*◌, ◌<◌, ◌≤◌, ◌^◌, List, length, map, slice_get, slice_index_or};
-ghost use Rattle.std.specs.Prelude.{IfOk, IfSome, Some};
+ghost use Rattle.std.specs.Prelude.{◌↔◌, IfErr, IfOk, IfSome, IsOk, Some};
 ghost use Rattle.std.specs.List.{flat_map, range_with_len};
 ghost use Rattle.std.specs.Iterator.{YieldsFirst, YieldsFirstBy, item_count};
 ghost use Rattle.p3_support.specs.Batches.{dimensions_in};
@@ -10,6 +10,7 @@ ghost use Rattle.p3_support.specs.Inner.RowLengths.{length-message};
 use crate::packed::PackedValue;
 use std::alloc::{AllocError, Global};
 use std::marker::{Model, PhantomData};
+use thiserror::Error;
 
 /// The size of a matrix.
 #[derive(Clone, Copy, Debug, PartialEq, Eq)]
@@ -248,6 +249,16 @@ fn packed_column<T, P: PackedValue<Value = T>, M: Matrix<T>>(
     )
 }
 
+/// Why values make no matrix: the width does not divide their number.
+#[derive(Clone, Copy, Debug, PartialEq, Eq, Error)]
+#[error("{len} values cannot be split into rows of width {width}")]
+pub struct ShapeError {
+    /// How many values there are.
+    pub len: usize,
+    /// How many of them a row should have.
+    pub width: usize,
+}
+
 /// A matrix that stores its elements row after row.
 #[derive(Debug, Drop)]
 pub struct RowMajorMatrix<T> {
@@ -277,6 +288,29 @@ impl<T> RowMajorMatrix<T> {
             width,
             height,
         }
+    }
+
+    /// The matrix of these values, with `width` of them in a row, as [`new`](Self::new) makes it. The number of values
+    /// is tested, so that they may come from outside.
+    ///
+    /// # Errors
+    ///
+    /// `ShapeError` if the width does not divide the number of values. A width of 0 divides 0 alone.
+    pub fn try_new(values: Vec<T>, width: usize) -> Result<RowMajorMatrix<T>, ShapeError>
+    where
+        T: Drop,
+        ensures divides { IsOk result ↔ ((n : ℕ) × (length values.items ≡ n * width)) }
+        ensures values { IfOk result (λ m. values_of m ≡ values.items) }
+        ensures width { IfOk result (λ m. row_width m ≡ width) }
+        ensures height { IfOk result (λ m. length values.items ≡ row_count m * width) }
+        ensures no_width { IfOk result (λ m. width ≡ 0 → row_count m ≡ 0) }
+        ensures error { IfErr result (λ e. (e.len ≡ length values.items) × (e.width ≡ width)) }
+    {
+        let len = values.len();
+        if !len.is_multiple_of(width) {
+            return Err(ShapeError { len, width });
+        }
+        Ok(RowMajorMatrix::new(values, width))
     }
 
     /// All elements, row after row.

@@ -1,7 +1,7 @@
 -- Rows that are accepted are as wide as the dimensions say.
 use Rattle.std.proofs.Common.{◌<◌, refl, subst}
 use Rattle.std.specs.Vec.{vec_len}
-use Rattle.library_tests.proofs.VerifiedRows.{has_column}
+use Rattle.p3_support.proofs.VerifiedRows.{has_column}
 use Rattle.library_tests.proofs.merkle.verified_words.verified_word.Goals as goal
 
 pub index-requires : goal.index-requires
@@ -11,5 +11,5 @@ index-requires g c =
     let row = c.index-opening-place.result in
     let is = c.index-opening-place.is in
     subst (λ r. c.args.place.column < vec_len r) is
-    (has_column c.args.dimensions.now c.args.index c.args.opening.opened_values.now c.args.place.matrix
-    c.args.place.column row fit c.requires.matrix c.requires.column is)
+    (has_column c.args.dimensions.now c.args.opening.opened_values.now fit.rows_fit c.args.place.matrix
+    c.args.place.column row c.requires.matrix c.requires.column is)

@@ -1,6 +1,6 @@
 -- Each row set that is accepted has rows as wide as the dimensions say.
 use Rattle.std.proofs.Common.{arith, refl, rules, ◌<◌, length}
-use Rattle.library_tests.proofs.VerifiedRows.{as_many, has_column, has_set, set_shown}
+use Rattle.p3_support.proofs.VerifiedRows.{as_many, has_column, has_set, set_shown}
 use Rattle.library_tests.proofs.merkle.verified_words.verified_word_of.Goals as goal
 
 pub offset_bounds-rows-query : goal.offset_bounds-rows-query
@@ -20,7 +20,7 @@ index-requires g c =
     let set = c.index-rows-query.result in
     let fit = g.met.S.Mmcs.shown_fits _ _ _ _ _
     (set_shown _ c.args.indices.now c.args.rows.now each c.args.query set c.requires.query c.index-rows-query.is) in
-    omega (arith, as_many c.args.dimensions.now _ set.items fit)
+    omega (arith, as_many c.args.dimensions.now set.items fit.rows_fit)
 
 pub index-requires-2 : goal.index-requires-2
 index-requires-2 g c =
@@ -28,7 +28,7 @@ index-requires-2 g c =
     let set = c.index-rows-query.result in
     let fit = g.met.S.Mmcs.shown_fits _ _ _ _ _
     (set_shown _ c.args.indices.now c.args.rows.now each c.args.query set c.requires.query c.index-rows-query.is) in
-    has_column c.args.dimensions.now _ set.items c.args.place.matrix c.args.place.column c.index.result.now fit
+    has_column c.args.dimensions.now set.items fit.rows_fit c.args.place.matrix c.args.place.column c.index.result.now
     c.requires.matrix c.requires.column c.index.ensures
 
 pub returns-clause-index : goal.returns-clause-index
