@@ -11,7 +11,7 @@ use p3_hashes::sha::{Sha256Nodes, Sha256Rows};
 use p3_hashes::sha_eights::{Sha256NodesInEights, Sha256RowsInEights};
 use p3_support::compress::PseudoCompressionFunction;
 use p3_support::hasher::CryptographicHasher;
-use p3_support::matrix::{Matrix, RowMajorMatrix};
+use p3_support::matrix::{Matrix, RowMajorMatrix, ShapeError};
 use p3_support::opening::{BatchOpening, BatchOpeningRef, Hash, MerkleCap};
 use p3_support::packed::{PackedValue, pack_columns_fn, unpack_into};
 use std::alloc::{AllocError, Global};
@@ -88,6 +88,64 @@ fn hashes_rows(rt: HostRuntime) -> Result<(), Fail> {
     assert_rows(&rt, &matrix);
     assert_eq!(rt; row_digests(&matrix), [[1023], [1058]]);
     assert_words(&rt, matrix.clone()?.values(), &[1, 31, 3, 4]);
+    Ok(())
+}
+
+/// How many rows of a width zeros make.
+fn rows_made(
+    alloc: Global,
+    len: usize,
+    width: usize,
+) -> Result<Result<usize, ShapeError>, AllocError> {
+    let zeros = vec![in alloc; 0u32; len]?;
+    Ok(RowMajorMatrix::try_new(zeros, width).map(|matrix| matrix.height()))
+}
+
+#[test]
+fn makes_rows_if_the_width_divides(rt: HostRuntime) -> Result<(), Fail> {
+    // Values, the width, and how many rows they make.
+    let cases = [
+        (0, 0, Some(0)),
+        (1, 0, None),
+        (5, 0, None),
+        (0, 1, Some(0)),
+        (1, 1, Some(1)),
+        (5, 1, Some(5)),
+        (0, 3, Some(0)),
+        (1, 3, None),
+        (2, 3, None),
+        (3, 3, Some(1)),
+        (4, 3, None),
+        (6, 3, Some(2)),
+    ];
+    for (len, width, rows) in cases {
+        let expected = rows.ok_or(ShapeError { len, width });
+        assert_eq!(rt; rows_made(rt.alloc(), len, width)?, expected);
+    }
+    Ok(())
+}
+
+#[test]
+fn keeps_values_that_make_rows(rt: HostRuntime) -> Result<(), Fail> {
+    let values = vec![in rt.alloc(); 1u32, 2, 3, 4, 5, 6]?;
+    match RowMajorMatrix::try_new(values, 3) {
+        Ok(matrix) => {
+            assert_words(&rt, matrix.values(), &[1, 2, 3, 4, 5, 6]);
+            assert_size(&rt, matrix.dimensions(), 3, 2);
+        }
+        Err(_) => assert!(rt; false),
+    }
+    Ok(())
+}
+
+#[test]
+fn says_which_values_make_no_rows(rt: HostRuntime) -> Result<(), Fail> {
+    let error = ShapeError { len: 7, width: 3 };
+    let text = format!(in rt.alloc(); "{error}")?;
+    assert_eq!(rt;
+        text.as_str(),
+        "7 values cannot be split into rows of width 3"
+    );
     Ok(())
 }
 
