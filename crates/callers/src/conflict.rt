@@ -7,7 +7,6 @@ use p3_support::matrix::Dimensions;
 
 type Fold = MerkleTreeMmcs<u32, u32, FoldHash<4>, FoldCompress<2, 4>, 2, 1>;
 
-/// Two rows of two words.
 const DIMENSIONS: [Dimensions; 1] = [Dimensions {
     width: 2,
     height: 2,

@@ -2,7 +2,6 @@
 #![tactic(auto)]
 
 mod conflict;
-mod one_row;
 mod rules;
 mod salted;
 mod several_rows;
@@ -10,7 +9,6 @@ mod several_rows;
 use anyhow::Result;
 
 fn main(rt: HostRuntime) -> Result<()> {
-    one_row::run(&rt)?;
     conflict::run(&rt)?;
     several_rows::run(&rt)?;
     rules::run(&rt)?;

@@ -7,7 +7,6 @@ use p3_support::matrix::{Dimensions, RowMajorMatrix};
 
 type Fold = MerkleTreeMmcs<u32, u32, FoldHash<4>, FoldCompress<2, 4>, 2, 1>;
 
-/// One matrix of eight rows of one word.
 const DIMENSIONS: [Dimensions; 1] = [Dimensions {
     width: 1,
     height: 8,
