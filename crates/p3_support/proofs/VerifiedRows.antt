@@ -11,22 +11,22 @@ use Rattle.p3_support.specs.Shown.{row_lists, row_sets}
 use Rattle.p3_support.specs.declared.matrix.Dimensions.{Dimensions}
 
 module _ {T A : Type 0} (ds : List Dimensions) (rows : List (Vec T A)) (fit : map length (row_lists rows) ≡ widths_of ds)
-    where
-  -- there are as many rows as dimensions
-  pub as_many : length rows ≡ length ds
-  as_many = simp length-map at (ap length fit)
+  where
+    -- there are as many rows as dimensions
+    pub as_many : length rows ≡ length ds
+    as_many = simp length-map at (ap length fit)
 
-  -- a row that is read out of them has each column that its dimensions say
-  pub has_column : (m column : ℕ) (row : Vec T A) → m < length ds → column < slice_index (widths_of ds) m →
-      row ≡ get_or rows m row → column < vec_len row
-  has_column m column row inside narrow is =
-      let same = as_many in
-      let among : m < length (row_lists rows) = omega (arith, same, length-map rows (λ row. row.items)) in
-      let wide : get_or (map length (row_lists rows)) m 0 ≡ length row.items =
-      get_or-map length (row_lists rows) m row.items 0 among
-      ∙ ap length (get_or-map (λ row. row.items) rows m row row.items (omega (arith, same)))
-      ∙ ap (λ (r : Vec T A). length r.items) (sym is) in
-      omega (arith, wide, ap (λ widths. get_or widths m 0) fit)
+    -- a row that is read out of them has each column that its dimensions say
+    pub has_column : (m column : ℕ) (row : Vec T A) → m < length ds → column < slice_index (widths_of ds) m →
+        row ≡ get_or rows m row → column < vec_len row
+    has_column m column row inside narrow is =
+        let same = as_many in
+        let among : m < length (row_lists rows) = omega (arith, same, length-map rows (λ row. row.items)) in
+        let wide : get_or (map length (row_lists rows)) m 0 ≡ length row.items =
+        get_or-map length (row_lists rows) m row.items 0 among
+        ∙ ap length (get_or-map (λ row. row.items) rows m row row.items (omega (arith, same)))
+        ∙ ap (λ (r : Vec T A). length r.items) (sym is) in
+        omega (arith, wide, ap (λ widths. get_or widths m 0) fit)
 
 -- of lists that are related place by place, the read values are
 related_at : {A B : Type 0} (holds : A → B → Type 0) (xs : List A) (ys : List B) (k : ℕ) (a : A) (b : B) →

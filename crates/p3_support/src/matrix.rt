@@ -273,8 +273,8 @@ pub struct RowMajorMatrix<T> {
 impl<T> RowMajorMatrix<T> {
     ghost use Rattle.p3_support.specs.RowMajor.{values_of, row_width, row_count};
 
-    /// The matrix of these values, with `width` of them in a row. The width must divide the number of values. A width
-    /// of 0 needs an empty list of values, and the matrix then has no rows.
+    /// The matrix of these values, with `width` of them in a row. The width must divide the number of values, which
+    /// [`try_new`](Self::try_new) tests. A width of 0 needs an empty list of values, and the matrix then has no rows.
     pub fn new(values: Vec<T>, width: usize) -> RowMajorMatrix<T>
         requires divides { (n : ℕ) × (length values.items ≡ n * width) }
         ensures values { values_of result ≡ values.items }
@@ -290,8 +290,8 @@ impl<T> RowMajorMatrix<T> {
         }
     }
 
-    /// The matrix of these values, with `width` of them in a row, as [`new`](Self::new) makes it. The number of values
-    /// is tested, so that they may come from outside.
+    /// The matrix of these values, with `width` of them in a row, as [`new`](Self::new) makes it: for values from
+    /// outside, whose number is not known to fit.
     ///
     /// # Errors
     ///
