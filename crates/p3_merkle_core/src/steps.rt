@@ -72,7 +72,11 @@ struct LevelStep {
 
 /// The step from a layer below the root, whether matrices belong to the next layer, and the exponents there. The arity
 /// must be at least 2. The matrices are looked at only if one belongs to the next layer.
-fn next_step(dimensions: &[Dimensions], arity: usize, exponents: Exponents) -> (LevelStep, Exponents)
+fn next_step(
+    dimensions: &[Dimensions],
+    arity: usize,
+    exponents: Exponents,
+) -> (LevelStep, Exponents)
     requires arity { 2 ≤ arity }
     requires below { 0 < exponents.layer }
     requires next { AreExponents (heights_of dimensions.now) exponents }

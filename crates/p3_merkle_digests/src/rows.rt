@@ -10,7 +10,7 @@ ghost use Rattle.p3_merkle_digests.specs.Inner.Slots.{leaf_over, rows_over, IsFi
 
 use crate::batched::{contiguous_rows, messages_per_call, row_len, words_of_rows};
 use crate::packed::{packed_blocks, stage_packed_rows};
-use crate::plain::{MIN_SLICE_WIDTH, hash_each, row_slices, no_slices};
+use crate::plain::{MIN_SLICE_WIDTH, hash_each, no_slices, row_slices};
 use p3_support::hasher::CryptographicHasher;
 use p3_support::matrix::Matrix;
 use p3_support::packed::{PackedValue, unpack_at};

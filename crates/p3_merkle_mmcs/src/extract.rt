@@ -18,7 +18,7 @@ use p3_merkle_core::error::MerkleTreeError;
 use p3_merkle_core::geometry::exponent_of;
 use p3_merkle_core::pruning::PrunedMerklePaths;
 use p3_merkle_core::steps::steps_of;
-use p3_merkle_verifier::openings::{PrunedOpeningRef, OpeningRef};
+use p3_merkle_verifier::openings::{OpeningRef, PrunedOpeningRef};
 use p3_support::compress::PseudoCompressionFunction;
 use p3_support::hasher::CryptographicHasher;
 use p3_support::matrix::Dimensions;

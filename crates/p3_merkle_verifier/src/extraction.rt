@@ -16,8 +16,8 @@ ghost use Rattle.p3_merkle_verifier.specs.Inner.Collisions.{first_words, inputs_
 ghost use Rattle.p3_merkle_verifier.specs.Inner.Collisions.{IsDifference, Shows};
 ghost use Rattle.p3_merkle_verifier.specs.Inner.Paths.{CanCheck, CanReach};
 
-use crate::openings::{OpeningRef, OpenedRows};
-use crate::path::{ComputedLevel, Checker};
+use crate::openings::{OpenedRows, OpeningRef};
+use crate::path::{Checker, ComputedLevel};
 use p3_merkle_core::collision::{Collision, InputPair, Place};
 use p3_merkle_core::error::MerkleTreeError;
 use p3_merkle_core::steps::Steps;

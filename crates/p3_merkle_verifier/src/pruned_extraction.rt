@@ -14,7 +14,7 @@ ghost use Rattle.p3_merkle_verifier.specs.Inner.QueryPairs.{query_difference, fi
 ghost use Rattle.p3_merkle_verifier.specs.Inner.QueryPairs.{AreQueriesOf, CanCompare, ShowsAt, ShowsPair};
 ghost use Rattle.p3_merkle_verifier.specs.Inner.RestoredLevels.{pruned_in};
 
-use crate::openings::{PrunedOpeningRef, OpeningRef};
+use crate::openings::{OpeningRef, PrunedOpeningRef};
 use crate::path::Checker;
 use p3_merkle_core::collision::Collision;
 use p3_merkle_core::error::MerkleTreeError;
