@@ -7,6 +7,10 @@
 int main(void) {
   static uint8_t input[1 << 16];
   size_t input_length = fread(input, 1, sizeof input, stdin);
+  if (input_length == sizeof input) {
+    fputs("the input is too long\n", stderr);
+    return MMCS_REFUSED;
+  }
   const struct mmcs_setting setting = {.cap_height = 0, .hash = MMCS_SHA256, .arity = 2, .cap_rule = MMCS_LOWERED};
   const struct mmcs_size sizes[] = {{.height = 8, .width = 4}, {.height = 2, .width = 3}};
 

@@ -1,5 +1,5 @@
 //! Checks a cap and an opening of it, without the matrices, or compares two openings of a cap:
-//! `mmcs_verify fold|sha256 2|4|8 CAP[f] [collide] HEIGHTxWIDTH..`.
+//! `mmcs_verify fold|sha256 2|4|8 CAP[f] [collide] HEIGHTxWIDTH..`. It also answers `--help` and `--version`.
 #![tactic(auto)]
 
 use mmcs_verify_engine::engine::run;
@@ -7,12 +7,34 @@ use mmcs_verify_engine::opening_fault::Fault;
 use mmcs_verify_engine::process::{ended, words_of};
 use std::process::ExitCode;
 
+/// What `--version` prints. CHANGELOG.md has it, too.
+const VERSION: &str = "mmcs-verify 0.1.0";
+
+/// What `--help` prints behind the usage.
+const HELP: &str = "
+fold|sha256   the hash; fold is for tests and has no security at all
+2|4|8         the arity
+CAP           how many levels below the root the cap is; with an f behind it, by the rule Fixed
+collide       compares two openings of a cap
+HEIGHTxWIDTH  the dimensions of a matrix, one word for each
+
+It reads what `mmcs .. commit` printed, a blank line, and what `mmcs .. open I..` printed.";
+
 fn main(rt: HostRuntime) -> ExitCode {
-    let answer = words_of(&rt, Fault::Usage).and_then(|words| run(
-        rt.alloc(),
-        &words,
-        &mut rt.stdin(),
-        &mut rt.stdout(),
-    ));
+    let answer = words_of(&rt, Fault::Usage).and_then(|words| answer(&rt, &words));
     ended(&rt, answer)
+}
+
+/// Tells about the program if that alone is asked for, and runs it else.
+///
+/// # Errors
+///
+/// Those of `run`; `Write` if what it tells cannot be written.
+fn answer(rt: &HostRuntime, words: &[String]) -> Result<(), Fault> {
+    let told = match words {
+        [word] if word.as_str() == "--help" => println!(rt; "{}\n{HELP}", Fault::Usage),
+        [word] if word.as_str() == "--version" => println!(rt; "{VERSION}"),
+        _ => return run(rt.alloc(), words, &mut rt.stdin(), &mut rt.stdout()),
+    };
+    told.map_err(|_| Fault::Write)
 }

@@ -1,0 +1,13 @@
+# Completion of the words of mmcs and mmcs-verify for bash.
+_mmcs() {
+  local at="$COMP_CWORD" known=''
+  [ "${COMP_WORDS[1]}" != quick ] || at=$((at - 1))
+  case "$at" in
+    1) known='fold sha256' ;;
+    2) known='2 4 8' ;;
+    3) known='0 0f 1 1f' ;;
+    4) if [ "${1##*/}" = mmcs ]; then known='commit open check'; else known='collide'; fi ;;
+  esac
+  mapfile -t COMPREPLY < <(compgen -W "$known" -- "${COMP_WORDS[COMP_CWORD]}")
+}
+complete -o default -F _mmcs mmcs mmcs-verify
