@@ -1,5 +1,6 @@
 pub mod Geometry
 pub mod Caps
+pub mod OneHeight
 pub mod Gate
 pub mod Nodes
 pub mod Openings
