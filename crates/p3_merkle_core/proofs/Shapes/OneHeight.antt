@@ -5,16 +5,17 @@ use Rattle.std.proofs.Common.{cond, ◌&&◌, min, append-nil}
 use Rattle.std.specs.Prelude.{All, ◌==◌, replicate}
 use Rattle.std.specs.Int.{div_ceil}
 use Rattle.std.specs.List.{range_with_len}
-use Rattle.std.proofs.lemmas.Bool.{cases_lt, cond-false, cond-true, eq-eqb, le-leb, le-ltb, lt-leb, lt-ltb}
+use Rattle.std.proofs.lemmas.Bool.{cases_lt, cond-false, cond-true, eq-eqb, le-leb, le-ltb, leb-true, lt-leb}
+use Rattle.std.proofs.lemmas.Bool.{lt-ltb}
 use Rattle.std.proofs.lemmas.List.FromFn.{length-map-range_with_len}
 use Rattle.std.proofs.lemmas.Nat.{pow-add, pow_pos}
-use Rattle.std.proofs.Math.Nat.{mul_comm, mul-div_cancel_left, pow-succ', pow-zero, suc-mul}
+use Rattle.std.proofs.Math.Nat.{mul_comm, mul-div_cancel_left, mul-le-mul_left, pow-succ', pow-zero, suc-mul}
 use Rattle.std.proofs.Math.Pow.{pow_mono}
 use Rattle.p3_support.specs.Batches.{greatest, heights_of}
 use Rattle.p3_support.specs.declared.matrix.Dimensions.{Dimensions}
 use Rattle.p3_merkle_core.specs.Caps.{cap_layer, levels_above_rows}
 use Rattle.p3_merkle_core.specs.Geometry.{Shape, IsArity, exponent, has_rows, heights, is_bridge, layer_below_root}
-use Rattle.p3_merkle_core.specs.Geometry.{layer_exponent, levels, padded_len, raw_len, step}
+use Rattle.p3_merkle_core.specs.Geometry.{layer_exponent, least, levels, padded_len, raw_len, step}
 use Rattle.p3_merkle_core.specs.Nodes.{Batch, Functions, Matrix, at_layer, compress_padded}
 use Rattle.p3_merkle_core.specs.Nodes.{dimensions_of, joined_rows, node, row_digest, shape, with_rows}
 use Rattle.p3_merkle_core.specs.OneHeight.{HasHeight, cap_layer_of_height, levels_of_height, nodes_of_height}
@@ -22,10 +23,10 @@ use Rattle.p3_merkle_core.specs.declared.cap.CapRule.{CapRule}
 use Rattle.p3_merkle_core.specs.declared.cap.CapRule.TheVariants.{Lowered, Fixed}
 use Rattle.p3_merkle_core.proofs.Shapes.CapFacts.{levels_from, no_bridge_from, no_rows_below, whole_steps}
 use Rattle.p3_merkle_core.proofs.Shapes.FallFacts.{falls_above}
-use Rattle.p3_merkle_core.proofs.Shapes.LadderFacts.{levels_le}
 use Rattle.p3_merkle_core.proofs.Shapes.LeastFacts.{below_exponent, exponent_covers, exponent_le, least_is}
-use Rattle.p3_merkle_core.proofs.Shapes.LeastFacts.{n_below_pow}
-use Rattle.p3_merkle_core.proofs.Shapes.QuotientFacts.{ceil_below, ceil_ceil, ceil_covers, ceil_is, ceil-one}
+use Rattle.p3_merkle_core.proofs.Shapes.LeastFacts.{least_bound, least_le, least_passes, n_below_pow}
+use Rattle.p3_merkle_core.proofs.Shapes.QuotientFacts.{ceil_below, ceil_ceil, ceil_covers, ceil_is, ceil_le}
+use Rattle.p3_merkle_core.proofs.Shapes.QuotientFacts.{ceil-one}
 use Rattle.p3_merkle_core.proofs.Shapes.RawFacts.{above_1, filled, least_multiple, padded_long, padded_short}
 use Rattle.p3_merkle_core.proofs.Shapes.RawFacts.{positive_below, raw_next}
 use Rattle.p3_merkle_core.proofs.Shapes.StepFacts.{layer_start, whole_step_falls}
@@ -87,6 +88,40 @@ arity_power n w (suc l) =
 pub arity_power_pos : (n : ℕ) → IsArity n → (l : ℕ) → 0 < n ^ l
 arity_power_pos n w l = rw (arity_power n w l) (pow_pos (l * exponent n))
 
+-- the levels, by exponents
+pub levels_by_exponents : (n : ℕ) → IsArity n → (h : ℕ) → div_ceil (exponent h) (exponent n) ≡ levels_of_height n h
+levels_by_exponents n w h =
+    let e = exponent h in
+    let a = exponent n in
+    let z = div_ceil e a in
+    let some : 0 < a = whole_step_falls n w.above_1 in
+    let low : e ≤ h = exponent_le h h (omega (arith, n_below_pow h)) in
+    let up : h ≤ h * a = omega (arith, mul-le-mul_left {m = 1} {n = a} h some) in
+    sym (least_is (λ k. nat_le h (n ^ k)) h z (ceil_le e a h some (omega arith))
+    (λ j below. lt-leb h (n ^ j) (rw (arity_power n w j) (below_exponent h (j * a) (ceil_below e a j some below))))
+    (λ less. le-leb h (n ^ z)
+    (rw (arity_power n w z) (omega (arith, exponent_covers h, pow_mono {i = e} {j = z * a} (ceil_covers e a some))))))
+
+-- the levels cover the height
+pub levels_cover : (n : ℕ) → IsArity n → (h : ℕ) → h ≤ n ^ levels_of_height n h
+levels_cover n w h =
+    let p = λ (k : ℕ). nat_le h (n ^ k) in
+    elim (cases_lt (least p h) h) [
+      | inl less ↦ leb-true h (n ^ least p h) (least_passes p h less)
+      | inr all ↦
+          let up : h ≤ h * exponent n =
+          omega (arith, mul-le-mul_left {m = 1} {n = exponent n} h (whole_step_falls n w.above_1)) in
+          let is : least p h ≡ h = omega (arith, least_le p h) in
+          rw (is, arity_power n w h)
+          (omega (arith, n_below_pow h, pow_mono {i = h} {j = h * exponent n} up))
+    ]
+
+-- and a greater height has no fewer
+pub levels_mono : (n : ℕ) → IsArity n → (h m : ℕ) → h ≤ m → levels_of_height n h ≤ levels_of_height n m
+levels_mono n w h m le =
+    least_bound (λ k. nat_le h (n ^ k)) h (levels_of_height n m)
+    (le-leb h (n ^ levels_of_height n m) (omega (arith, levels_cover n w m)))
+
 -- ---- shapes
 
 module _ (s : Shape) (w : IsArity s.arity) (h : ℕ) (one : HasHeight s h) where
@@ -113,20 +148,10 @@ module _ (s : Shape) (w : IsArity s.arity) (h : ℕ) (one : HasHeight s h) where
   -- the steps up to the root
   pub levels_are : levels s ≡ levels_of_height s.arity h
   levels_are =
-      let e = exponent h in
-      let a = exponent s.arity in
-      let z = div_ceil e a in
-      let some : 0 < a = whole_step_falls s.arity w.above_1 in
-      let start : layer_exponent s 0 ≡ e = layer_start s ∙ ap exponent greatest_is in
-      let is : levels s ≡ 0 + z = levels_from s w e none_lower 0 (omega arith) start in
-      let top : exponent h ≤ h = exponent_le h h (omega (arith, n_below_pow h)) in
-      let few : levels s ≤ exponent h = omega (arith, levels_le s, ap exponent greatest_is) in
-      is ∙ omega arith ∙ sym (least_is (λ k. nat_le h (s.arity ^ k)) h z (omega arith)
-      (λ j below. lt-leb h (s.arity ^ j)
-      (rw (arity_power s.arity w j) (below_exponent h (j * a) (ceil_below e a j some below))))
-      (λ less. le-leb h (s.arity ^ z)
-      (rw (arity_power s.arity w z)
-      (omega (arith, exponent_covers h, pow_mono {i = e} {j = z * a} (ceil_covers e a some))))))
+      let z = div_ceil (exponent h) (exponent s.arity) in
+      let start : layer_exponent s 0 ≡ exponent h = layer_start s ∙ ap exponent greatest_is in
+      let is : levels s ≡ 0 + z = levels_from s w (exponent h) none_lower 0 (omega arith) start in
+      is ∙ omega arith ∙ levels_by_exponents s.arity w h
 
   -- the nodes of each layer
   pub raw_is : 0 < h → (l : ℕ) → l ≤ levels s → raw_len s l ≡ nodes_of_height s.arity h l
