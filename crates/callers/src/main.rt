@@ -2,6 +2,7 @@
 #![tactic(auto)]
 
 mod conflict;
+mod in_parts;
 mod one_row;
 mod rules;
 mod salted;
@@ -14,5 +15,6 @@ fn main(rt: HostRuntime) -> Result<()> {
     conflict::run(&rt)?;
     several_rows::run(&rt)?;
     rules::run(&rt)?;
-    salted::run(&rt)
+    salted::run(&rt)?;
+    in_parts::run(&rt)
 }
