@@ -9,7 +9,7 @@ use Rattle.p3_support.specs.Batches.{dimensions_in, greatest}
 use Rattle.p3_merkle_core.specs.Caps.{cap_layer}
 use Rattle.p3_merkle_core.specs.Nodes.{Functions, Batch, HasFullRows, joined_rows, padded, shape, node, layer, layers}
 use Rattle.p3_merkle_core.specs.OneHeight.{HasHeight, cap_layer_of_height, levels_of_height, nodes_of_height}
-use Rattle.p3_merkle_core.specs.Parts.{AreHeights, AreParts, lifted, part_nodes, root}
+use Rattle.p3_merkle_core.specs.Parts.{AreHeights, AreParts, HasNodes, lifted, part_nodes, root}
 use Rattle.p3_merkle_core.specs.Openings.{Opening, honest, siblings_by, opening_in_layers}
 use Rattle.p3_merkle_core.specs.Checks.{Input, AgreeWhereShared, HasDigests, IsAccepted, IsAtOnePlace, IsLastShared}
 use Rattle.p3_merkle_core.specs.Checks.{inputs, is_authenticated, opened_row, path_digest, input_digest, check_digest}
@@ -160,6 +160,10 @@ module _ (T W : Type 0) where
       ((l j : ℕ) → l < levels (shape b) → j < nodes_of_height b.arity h (suc l) →
       node f b (suc l) j
       ≡ f.compression (map (λ i. node f b l (b.arity * j + i)) (range_with_len 0 b.arity)))
+
+  -- a layer of a batch, as a cap, has the batch's nodes
+  abbrev pub LayerHasNodes : Type 0
+  LayerHasNodes = (f : Functions T W) (b : Batch T) (t : ℕ) → IsArity b.arity → HasNodes f b t (layer f b t)
 
   -- a layer that is not above the first part's root is what the parts have in it, one after another, and padding
   abbrev pub PartsMakeLayers : Type 0

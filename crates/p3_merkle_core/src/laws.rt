@@ -15,8 +15,8 @@ ghost use Rattle.p3_merkle_core.specs.Laws.{LastDifferenceCollides, LastInputIsR
 ghost use Rattle.p3_merkle_core.specs.Laws.{MatricesHaveLayers, OkIsAccepted, OkIsCapped, OkIsEachAccepted};
 ghost use Rattle.p3_merkle_core.specs.Laws.{OkIsRestorable, OkOrCapMismatch, OneIndexIsBound, OwnOpeningIsHonest};
 ghost use Rattle.p3_merkle_core.specs.Laws.{OwnPrunedOpeningIsHonest, PrunedAnswerIsExtraction, RefusedUnderEachCap};
-ghost use Rattle.p3_merkle_core.specs.Laws.{OneHeightIsEnough, OneHeightNodesAreChildren, PartsMakeLayers};
-ghost use Rattle.p3_merkle_core.specs.Laws.{PartsMakeRoots};
+ghost use Rattle.p3_merkle_core.specs.Laws.{LayerHasNodes, OneHeightIsEnough, OneHeightNodesAreChildren};
+ghost use Rattle.p3_merkle_core.specs.Laws.{PartsMakeLayers, PartsMakeRoots};
 ghost use Rattle.p3_merkle_core.specs.Laws.{RootIsAlone, RowsAreAncestors, RowsAreBound, RulesAgree};
 ghost use Rattle.p3_merkle_core.specs.Laws.{ScheduleStopsAtCap, TestedIsArity, UnrefusedIsLawful, WalkEnds};
 
@@ -153,8 +153,9 @@ pub fn one_height<T, W>()
 /// Of a list that is cut into parts, all but the last of one height that is a power of the arity: the layer of the
 /// first part's root is the list of the parts' roots, where the last part's root is compressed with default digests
 /// once for each level that it lacks. A layer below is what the parts have in it, one after another. Default digests
-/// follow up to the length of the layer.
+/// follow up to the length of the layer. A cap that is a layer of its batch has the batch's nodes.
 pub fn parts<T, W>()
+    ensures caps { LayerHasNodes T W }
     ensures layers { PartsMakeLayers T W }
     ensures roots { PartsMakeRoots T W }
 {}

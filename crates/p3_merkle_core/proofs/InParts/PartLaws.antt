@@ -1,25 +1,40 @@
 -- The layers of the whole, by those of the parts and their roots.
 use Rattle.std.proofs.Common.{◌≡◌, ℕ, zero, suc, ◌+◌, ◌-◌, ◌*◌, ◌^◌, ◌<◌, ◌≤◌, List, [], ◌∷◌, map, refl, ap, sym, ◌∙◌}
-use Rattle.std.proofs.Common.{arith, length, take, drop, get_or, inl, inr, nat_lt}
+use Rattle.std.proofs.Common.{Some, arith, length, take, drop, get_or, inl, inr, nat_lt}
 use Rattle.std.specs.Int.{div_ceil}
 use Rattle.std.specs.List.{flat_map, range_with_len, sum}
 use Rattle.std.proofs.lemmas.Bool.{cases_lt, cond-false, cond-true, le-ltb, lt-ltb}
 use Rattle.std.proofs.lemmas.List.{take_all}
+use Rattle.std.proofs.lemmas.List.FromFn.{get_or-map-range_with_len}
+use Rattle.std.proofs.lemmas.Option.{slice_get-get_or}
 use Rattle.std.proofs.lemmas.List.Concat.{flat_map_single}
 use Rattle.std.proofs.Math.Nat.{zero-mul}
 use Rattle.p3_merkle_core.specs.Geometry.{IsArity, layer_len, levels, padded_len, raw_len}
 use Rattle.p3_merkle_core.specs.Nodes.{Batch, Functions, compress_padded, layer, node, padded, shape}
 use Rattle.p3_merkle_core.specs.OneHeight.{levels_of_height, nodes_of_height}
-use Rattle.p3_merkle_core.specs.Parts.{AreHeights, AreParts, lifted, part_nodes, root}
+use Rattle.p3_merkle_core.specs.Parts.{AreHeights, AreParts, HasNodes, lifted, part_nodes, root}
 use Rattle.p3_merkle_core.specs.Inner.Raised.{parents, raised}
 use Rattle.p3_merkle_core.proofs.Checks.PathFacts.{joined_same}
 use Rattle.p3_merkle_core.proofs.Lists.ListFacts.{joined}
 use Rattle.p3_merkle_core.proofs.Lists.RunFacts.{run, length-run}
 use Rattle.p3_merkle_core.proofs.InParts.PartHeights.{first_within, none_higher}
 use Rattle.p3_merkle_core.proofs.InParts.PartNodes.{all_above_0, all_joined, padded_layer, part_above_0, part_arity}
-use Rattle.p3_merkle_core.proofs.InParts.PartNodes.{part_own, part_raised, raised_add}
+use Rattle.p3_merkle_core.proofs.InParts.PartNodes.{padded_ge, part_own, part_raised, raised_add}
 use Rattle.p3_merkle_core.proofs.Shapes.OneHeight.{levels_are, levels_cover, levels_mono, raw_is}
 use Rattle.p3_merkle_core.proofs.Shapes.QuotientFacts.{ceil_is}
+
+-- ---- caps
+
+-- a layer has its nodes
+pub layer_has_nodes : {T W : Type 0} (f : Functions T W) (b : Batch T) (t : ℕ) → IsArity b.arity →
+    HasNodes f b t (layer f b t)
+layer_has_nodes f b t w = λ j below.
+    let s = shape b in
+    let two = w.above_1 in
+    let room = padded_ge (raw_len s t) b.arity (omega arith) in
+    let inside : j < length (layer f b t) = omega (arith, length-run (node f b t) 0 (layer_len s t)) in
+    slice_get-get_or (layer f b t) j [] inside
+    ∙ ap Some (get_or-map-range_with_len (node f b t) 0 (layer_len s t) j j [] (omega arith) (omega arith))
 
 -- ---- a root that is raised
 

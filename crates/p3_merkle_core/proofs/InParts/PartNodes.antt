@@ -49,7 +49,7 @@ own_raised f b w h some one l k le =
     ∙ ap (run (node f b (l + k)) 0) (sym up)
 
 -- a padded layer is no shorter
-padded_ge : (r n : ℕ) → 0 < n → r ≤ padded_len r n
+pub padded_ge : (r n : ℕ) → 0 < n → r ≤ padded_len r n
 padded_ge r n some =
     cond_both (nat_le r 1) r (cond (nat_lt r n) n (next_multiple_of r n)) (λ x. r ≤ x) (λ e. omega arith)
     (λ e. cond_both (nat_lt r n) n (next_multiple_of r n) (λ x. r ≤ x) (λ e. omega (arith, ltb-true r n e))
