@@ -6,6 +6,7 @@ import sha256
 import texts
 from extraction import extract, extract_pruned, restored_checks
 from nodes import Fold
+from parts import Whole, refusal_of
 from pruned import boundary_len, suffices
 from refusals import (
     PRUNED, REPLAY, RESTORED, SALTED, SALTED_PRUNED, SINGLE, Claim, highest_index, refusal, width_fault,
@@ -178,6 +179,11 @@ def shape(fields):
 def schedule(fields):
     scheme, heights = fields.scheme(), fields.numbers()
     return scheme.height_refusal(heights) or notation.print_numbers(scheme.shape(heights).proof_steps)
+
+
+def parts(fields):
+    scheme, heights, caps = fields.scheme(), fields.numbers(), notation.rows(fields.take())
+    return refusal_of(scheme, heights, caps) or notation.print_numbers(Whole(scheme, heights, caps).cap())
 
 
 def replay(fields):
@@ -464,6 +470,7 @@ KINDS = {
     "sha256_pruned": sha256_pruned, "exponent": exponent, "halving": halving, "padding": padding, "step": step,
     "steps": steps, "positions": positions, "siblings": siblings, "widths": widths, "heights": heights,
     "layers": layers, "builders": builders, "commit": commit, "shape": shape, "schedule": schedule, "replay": replay,
+    "parts": parts,
     "authenticated": authenticated, "pruned_len": pruned_len, "open": open_leaf, "pruned": open_pruned,
     "salted_open": salted_open, "salted_pruned": salted_pruned, "salted_commits": salted_commits,
     "salted_fork": salted_fork, "leaves": leaves, "kept": kept,

@@ -2,6 +2,7 @@
 #![tactic(auto)]
 
 mod conflict;
+mod in_parts;
 mod rules;
 mod salted;
 mod several_rows;
@@ -12,5 +13,6 @@ fn main(rt: HostRuntime) -> Result<()> {
     conflict::run(&rt)?;
     several_rows::run(&rt)?;
     rules::run(&rt)?;
-    salted::run(&rt)
+    salted::run(&rt)?;
+    in_parts::run(&rt)
 }

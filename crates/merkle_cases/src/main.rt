@@ -24,6 +24,7 @@ mod known;
 mod layers;
 mod open;
 mod openings;
+mod parts;
 mod plain;
 mod pruned;
 mod queries;
@@ -75,6 +76,7 @@ fn answer_without_sha256<const N: usize>(case: &mut Case<'_>, keyword: &str) -> 
         "siblings" => geometry::siblings::<N>(case),
         "authenticated" => authenticated::authenticated::<N>(case),
         "schedule" => replay::schedule::<N>(case),
+        "parts" => parts::parts::<N>(case),
         "replay" => replay::replay::<N>(case),
         _ => answer_of_tree::<N>(case, keyword),
     }

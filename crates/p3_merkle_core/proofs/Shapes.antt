@@ -15,3 +15,5 @@ pub mod LevelFacts
 pub mod SiblingFacts
 pub mod HalvingFacts
 pub mod CapFacts
+pub mod QuotientFacts
+pub mod OneHeight

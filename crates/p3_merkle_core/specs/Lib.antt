@@ -1,11 +1,13 @@
 pub mod Geometry
 pub mod Caps
+pub mod OneHeight
 pub mod Gate
 pub mod Nodes
 pub mod Openings
 pub mod Checks
 pub mod Pruning
 pub mod Refusals
+pub mod Parts
 pub mod Presented
 pub mod Extraction
 pub mod Views

@@ -2,6 +2,7 @@
 
 ghost use Rattle.std.specs.Prelude.{◌≡◌};
 ghost use Rattle.p3_merkle_core.specs.declared.error.MerkleTreeError.TheVariants.{MalformedPrunedProof, OutOfMemory};
+ghost use Rattle.p3_merkle_core.specs.declared.error.PartsError.TheVariants.{OutOfMemory as PartsOutOfMemory};
 
 use std::alloc::{AllocError, AllocFailed};
 use thiserror::Error;
@@ -128,5 +129,57 @@ impl<T: Drop> From<AllocFailed<T>> for MerkleTreeError {
 
     fn from(_error: AllocFailed<T>) -> MerkleTreeError {
         MerkleTreeError::OutOfMemory
+    }
+}
+
+/// Why no cap is made of the caps of parts. Where several reasons hold, the call returns the first in this order;
+/// `OutOfMemory` may come at any time.
+#[derive(Debug, PartialEq, Eq, Drop, Error)]
+pub enum PartsError {
+    /// There are no heights.
+    #[error("no parts: there is nothing to commit to")]
+    NoParts,
+    /// There are more or fewer caps than heights.
+    #[error("wrong cap count: expected {expected} caps, one for each height, got {got}")]
+    WrongCapCount {
+        /// How many heights there are.
+        expected: usize,
+        /// How many caps there are.
+        got: usize,
+    },
+    /// A part has another height than it may have. All parts but the last have one height, a power of the arity; the
+    /// last part has at least one row, and no more than the first.
+    #[error("part {part} has a height that does not fit the others")]
+    PartHeight {
+        /// The place of the first such part.
+        part: usize,
+    },
+    /// The heights add up to more than 2^62 rows.
+    #[error("too many rows in all parts: more than 2^62")]
+    TooLarge,
+    /// A cap has fewer digests than its layer has nodes.
+    #[error("the cap of part {part} is too short for its height")]
+    CapTooShort {
+        /// The place of the first such part.
+        part: usize,
+    },
+    /// Memory ran out.
+    #[error("out of memory")]
+    OutOfMemory,
+}
+
+impl From<AllocError> for PartsError {
+    ghost from_gives = { λ _ e. e ≡ PartsOutOfMemory };
+
+    fn from(_error: AllocError) -> PartsError {
+        PartsError::OutOfMemory
+    }
+}
+
+impl<T: Drop> From<AllocFailed<T>> for PartsError {
+    ghost from_gives = { λ _ e. e ≡ PartsOutOfMemory };
+
+    fn from(_error: AllocFailed<T>) -> PartsError {
+        PartsError::OutOfMemory
     }
 }

@@ -15,11 +15,13 @@ ghost use Rattle.p3_merkle_core.specs.Laws.{LastDifferenceCollides, LastInputIsR
 ghost use Rattle.p3_merkle_core.specs.Laws.{MatricesHaveLayers, OkIsAccepted, OkIsCapped, OkIsEachAccepted};
 ghost use Rattle.p3_merkle_core.specs.Laws.{OkIsRestorable, OkOrCapMismatch, OneIndexIsBound, OwnOpeningIsHonest};
 ghost use Rattle.p3_merkle_core.specs.Laws.{OwnPrunedOpeningIsHonest, PrunedAnswerIsExtraction, RefusedUnderEachCap};
+ghost use Rattle.p3_merkle_core.specs.Laws.{LayerHasNodes, OneHeightIsEnough, OneHeightNodesAreChildren};
+ghost use Rattle.p3_merkle_core.specs.Laws.{PartsMakeLayers, PartsMakeRoots};
 ghost use Rattle.p3_merkle_core.specs.Laws.{RootIsAlone, RowsAreAncestors, RowsAreBound, RulesAgree};
 ghost use Rattle.p3_merkle_core.specs.Laws.{ScheduleStopsAtCap, TestedIsArity, UnrefusedIsLawful, WalkEnds};
 
 use crate::collision::{Collision, InputPair, Place};
-use crate::error::{MerkleTreeError, PrunedProofError};
+use crate::error::{MerkleTreeError, PartsError, PrunedProofError};
 use crate::pruning::{MerkleAuthPath, PrunedBatchOpening, PrunedMerklePaths};
 use p3_support::matrix::Matrix;
 use p3_support::opening::BatchOpening;
@@ -34,6 +36,13 @@ pub fn errors(a: &MerkleTreeError, b: &MerkleTreeError) -> bool
 
 /// Equality of errors of pruned proofs is equality of values.
 pub fn pruned_proof_errors(a: &PrunedProofError, b: &PrunedProofError) -> bool
+    ensures { IsTrue result ↔ (a.now ≡ b.now) }
+{
+    *a == *b
+}
+
+/// Equality of errors of parts is equality of values.
+pub fn parts_errors(a: &PartsError, b: &PartsError) -> bool
     ensures { IsTrue result ↔ (a.now ≡ b.now) }
 {
     *a == *b
@@ -132,6 +141,23 @@ pub fn caps()
     ensures lowered { LoweredLeavesNoneOut }
     ensures agree { RulesAgree }
     ensures fixed { FixedIsBelowRoot }
+{}
+
+/// Over matrices of one height each step is the arity, the levels, the nodes of each layer and the cap's layer follow
+/// from the height, and each node above the leaves is the compression of its children.
+pub fn one_height<T, W>()
+    ensures shape { OneHeightIsEnough }
+    ensures nodes { OneHeightNodesAreChildren T W }
+{}
+
+/// Of a list that is cut into parts, all but the last of one height that is a power of the arity: the layer of the
+/// first part's root is the list of the parts' roots, where the last part's root is compressed with default digests
+/// once for each level that it lacks. A layer below is what the parts have in it, one after another. Default digests
+/// follow up to the length of the layer. A cap that is a layer of its batch has the batch's nodes.
+pub fn parts<T, W>()
+    ensures caps { LayerHasNodes T W }
+    ensures layers { PartsMakeLayers T W }
+    ensures roots { PartsMakeRoots T W }
 {}
 
 /// The honest opening of each index is accepted, and the honest pruned opening of each list of indices.

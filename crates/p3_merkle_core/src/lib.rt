@@ -11,5 +11,6 @@ pub mod geometry;
 pub mod group;
 pub mod laws;
 pub mod levels;
+pub mod parts;
 pub mod pruning;
 pub mod steps;

@@ -1,2 +1,3 @@
 pub mod LaneFacts
 pub mod StageFacts
+pub mod RaisedFacts

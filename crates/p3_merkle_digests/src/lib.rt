@@ -1,7 +1,9 @@
-//! The digests of many rows or nodes of a layer: lane by lane, many messages a call, and one by one.
+//! The digests of many rows or nodes of a layer: lane by lane, many messages a call, and one by one; and the cap that
+//! the caps of parts make.
 #![tactic(auto)]
 
 pub mod batched;
 pub mod packed;
+pub mod parts;
 pub mod plain;
 pub mod rows;

@@ -4,6 +4,7 @@
 
 mod extract;
 pub mod mmcs;
+mod parts;
 mod pruned;
 mod schedule;
 mod scheme_trait;

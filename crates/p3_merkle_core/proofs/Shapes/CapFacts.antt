@@ -1,13 +1,13 @@
 -- How far below the root a cap may be under the lowered rule: all steps above the layer of the shortest matrix are
 -- whole.
-use Rattle.std.proofs.Common.{◌≡◌, ℕ, zero, suc, ◌+◌, ◌-◌, ◌*◌, ◌/◌, ◌%◌, ◌<◌, ◌≤◌, true, false, eqb, nat_lt, ◌&&◌}
+use Rattle.std.proofs.Common.{◌≡◌, ℕ, zero, suc, ◌+◌, ◌-◌, ◌*◌, ◌<◌, ◌≤◌, true, false, eqb, nat_lt, ◌&&◌}
 use Rattle.std.proofs.Common.{List, [], ◌∷◌, min, refl, ap, sym, ◌∙◌, arith, inl, inr, add-suc, length, get_or}
 use Rattle.std.specs.Prelude.{All, IsTrue}
 use Rattle.std.specs.Int.{div_ceil}
 use Rattle.std.proofs.lemmas.Bool.{and_right, cases_eq, cases_lt, cond-false, eq-eqb, eqb-true, le-leb, le-ltb}
 use Rattle.std.proofs.lemmas.Bool.{leb-true, ne_eqb}
 use Rattle.std.proofs.lemmas.List.Folds.{Any-from_list_any, list_any_at, list_any_none}
-use Rattle.std.proofs.Math.Nat.{div-add-mod, mod-lt, mul_comm, mul-le-mul_left, mul-suc, suc-mul}
+use Rattle.std.proofs.Math.Nat.{suc-mul}
 use Rattle.p3_merkle_core.specs.Caps.{cap_layer, levels_above_rows}
 use Rattle.p3_support.specs.Batches.{greatest}
 use Rattle.p3_merkle_core.specs.Geometry.{Shape, IsArity, exponent, has_rows, heights, is_bridge, layer_below_root}
@@ -15,46 +15,18 @@ use Rattle.p3_merkle_core.specs.Geometry.{layer_exponent, layer_of, levels}
 use Rattle.p3_merkle_core.specs.Inner.Shapes.{shortest}
 use Rattle.p3_merkle_core.specs.Checks.{is_authenticated}
 use Rattle.p3_merkle_core.specs.declared.cap.CapRule.TheVariants.{Lowered, Fixed}
+use Rattle.p3_merkle_core.proofs.Shapes.QuotientFacts.{ceil_below, ceil_covers}
 use Rattle.p3_merkle_core.proofs.Shapes.LeastFacts.{exponent_le, exponent_mono, least_bound, least_height_below}
 use Rattle.p3_merkle_core.proofs.Shapes.LeastFacts.{least_is, least_le, least_passes, shortest_there}
 use Rattle.p3_merkle_core.proofs.Shapes.StepFacts.{next_exponent, whole_step_falls}
 use Rattle.p3_merkle_core.proofs.Shapes.LadderFacts.{exponent_at_levels, layer_of_is, levels_le}
 use Rattle.p3_merkle_core.proofs.Shapes.FallFacts.{falls_above}
 
--- ---- quotients
-
--- a quotient that is rounded up covers the number
-ceil_covers : (x a : ℕ) → 0 < a → x ≤ div_ceil x a * a
-ceil_covers x a some =
-    let q = x / a in
-    let whole = div-add-mod x a in
-    let rest = mod-lt x some in
-    elim (cases_eq (x % a) 0) [
-      | inl z ↦ let is : div_ceil x a ≡ q = omega (arith, z) in rw is (omega (arith, mul_comm q a))
-      | inr nz ↦ let is : div_ceil x a ≡ suc q = omega (arith, nz) in rw is (omega (arith, mul_comm q a, suc-mul q a))
-    ]
-
--- and nothing below it does
-ceil_below : (x a k : ℕ) → 0 < a → k < div_ceil x a → k * a < x
-ceil_below x a k some below =
-    let q = x / a in
-    let whole = div-add-mod x a in
-    elim (cases_eq (x % a) 0) [
-      | inl z ↦
-          let is : div_ceil x a ≡ q = omega (arith, z) in
-          let more : a * suc k ≤ a * q = mul-le-mul_left a (omega arith) in
-          omega (arith, mul_comm k a, mul-suc a k)
-      | inr nz ↦
-          let is : div_ceil x a ≡ suc q = omega (arith, nz) in
-          let more : a * k ≤ a * q = mul-le-mul_left a (omega arith) in
-          omega (arith, mul_comm k a)
-    ]
-
 -- ---- the steps from an exponent that no matrix is below
 
 module _ (s : Shape) (w : IsArity s.arity) (x : ℕ) (low : All (λ h. x ≤ exponent h) (heights s)) where
   -- none is a bridge step
-  no_bridge_from : (y : ℕ) → y ≤ x → is_bridge s y ≡ false
+  pub no_bridge_from : (y : ℕ) → y ≤ x → is_bridge s y ≡ false
   no_bridge_from y le =
       list_any_none (λ h. nat_lt (y - exponent s.arity) (exponent h) && nat_lt (exponent h) y) (heights s)
       (λ k d inside.
@@ -62,7 +34,7 @@ module _ (s : Shape) (w : IsArity s.arity) (x : ℕ) (low : All (λ h. x ≤ exp
       and_right (nat_lt (y - exponent s.arity) e) (nat_lt e y) (le-ltb e y (omega (arith, low k d inside))))
 
   -- so each takes as much as the arity has
-  whole_steps : (l : ℕ) → layer_exponent s l ≡ x → (k : ℕ) → layer_exponent s (l + k) ≡ x - k * exponent s.arity
+  pub whole_steps : (l : ℕ) → layer_exponent s l ≡ x → (k : ℕ) → layer_exponent s (l + k) ≡ x - k * exponent s.arity
   whole_steps l is zero = let z : l + 0 ≡ l = omega arith in rw z (omega arith)
   whole_steps l is (suc k) =
       let a = exponent s.arity in
@@ -73,7 +45,7 @@ module _ (s : Shape) (w : IsArity s.arity) (x : ℕ) (low : All (λ h. x ≤ exp
       rw add-suc (omega (arith, suc-mul k a))
 
   -- and the root is as many levels above as cover the exponent
-  levels_from : (l : ℕ) → l ≤ levels s → layer_exponent s l ≡ x → levels s ≡ l + div_ceil x (exponent s.arity)
+  pub levels_from : (l : ℕ) → l ≤ levels s → layer_exponent s l ≡ x → levels s ≡ l + div_ceil x (exponent s.arity)
   levels_from l inside is =
       let a = exponent s.arity in
       let z = div_ceil x a in
@@ -93,8 +65,8 @@ module _ (s : Shape) (w : IsArity s.arity) (x : ℕ) (low : All (λ h. x ≤ exp
 -- ---- the levels above the last layer with rows
 
 -- no layer has rows whose exponent is below those of all matrices
-no_rows_below : (s : Shape) (x l : ℕ) → All (λ h. x ≤ exponent h) (heights s) → layer_exponent s l < x → has_rows s l
-    ≡ false
+pub no_rows_below : (s : Shape) (x l : ℕ) → All (λ h. x ≤ exponent h) (heights s) → layer_exponent s l < x →
+    has_rows s l ≡ false
 no_rows_below s x l low less =
     list_any_none (λ h. eqb (exponent h) (layer_exponent s l)) (heights s) (λ k d inside.
     ne_eqb (exponent (get_or (heights s) k d)) (layer_exponent s l) (λ e. omega (arith, low k d inside)))

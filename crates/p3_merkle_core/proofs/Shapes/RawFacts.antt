@@ -19,12 +19,12 @@ use Rattle.p3_merkle_core.proofs.Shapes.LadderFacts.{step_cases, binary_power, w
 -- ---- the least multiple of y that is x or more
 
 -- what `next_multiple_of x y` is, with q times y
-record IsLeastMultiple (x y q : ℕ) : Type 0 where
+pub record IsLeastMultiple (x y q : ℕ) : Type 0 where
   pub is : next_multiple_of x y ≡ y * q
   pub enough : x ≤ y * q
   pub least : (r : ℕ) → x ≤ y * r → q ≤ r
 
-least_multiple : (x y : ℕ) → 0 < y → (q : ℕ) × IsLeastMultiple x y q
+pub least_multiple : (x y : ℕ) → 0 < y → (q : ℕ) × IsLeastMultiple x y q
 least_multiple x y h =
     let split : y * (x / y) + x % y ≡ x = omega arith in
     elim (cases_eq (x % y) 0) [
@@ -68,15 +68,15 @@ pow_below_from i j h = elim (cases_lt i j) [ inl l ↦ l | inr g ↦ absurd (ome
 pow_le_from : (i j : ℕ) → 2 ^ i ≤ 2 ^ j → i ≤ j
 pow_le_from i j h = elim (cases_lt j i) [ inl l ↦ absurd (omega (arith, pow-lt {i = j} {j = i} l)) | inr g ↦ g ]
 
-above_1 : (x r : ℕ) → 0 < x → IsFilled x r → 1 < r
+pub above_1 : (x r : ℕ) → 0 < x → IsFilled x r → 1 < r
 above_1 x r h f = omega (arith, pow_mono {i = 1} {j = x} h, f.above_half)
 
-padded_short : (r n : ℕ) → 1 < r → r < n → padded_len r n ≡ n
+pub padded_short : (r n : ℕ) → 1 < r → r < n → padded_len r n ≡ n
 padded_short r n h l =
     cond-false (nat_le r 1) r (cond (nat_lt r n) n (next_multiple_of r n)) (lt-leb r 1 h)
     ∙ cond-true (nat_lt r n) n (next_multiple_of r n) (lt-ltb r n l)
 
-padded_long : (r n : ℕ) → 1 < r → n ≤ r → padded_len r n ≡ next_multiple_of r n
+pub padded_long : (r n : ℕ) → 1 < r → n ≤ r → padded_len r n ≡ next_multiple_of r n
 padded_long r n h l =
     cond-false (nat_le r 1) r (cond (nat_lt r n) n (next_multiple_of r n)) (lt-leb r 1 h)
     ∙ cond-false (nat_lt r n) n (next_multiple_of r n) (le-ltb r n l)
@@ -185,7 +185,7 @@ grouped_is s w l h f =
           ]
     ]
 
-raw_next : (s : Shape) (l : ℕ) → raw_len s (suc l) ≡ grouped_len s l / step s l
+pub raw_next : (s : Shape) (l : ℕ) → raw_len s (suc l) ≡ grouped_len s l / step s l
 unfolding raw_len
 raw_next s l = refl
 

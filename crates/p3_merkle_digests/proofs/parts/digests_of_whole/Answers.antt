@@ -1,0 +1,20 @@
+-- The whole's cap is no lower than those of the parts.
+use Rattle.std.proofs.Common.{ap, arith, get_or}
+use Rattle.std.specs.List.{sum}
+use Rattle.p3_merkle_core.specs.OneHeight.{levels_of_height}
+use Rattle.p3_merkle_core.proofs.InParts.PartHeights.{first_within}
+use Rattle.p3_merkle_core.proofs.Shapes.OneHeight.{levels_mono}
+use Rattle.p3_merkle_digests.proofs.parts.digests_of_whole.Goals as goal
+
+pub overflow_sub-cap_layer : goal.overflow_sub-cap_layer
+overflow_sub-cap_layer g c =
+    let n = g.row.N in
+    let hs = c.args.heights.now in
+    let mono = levels_mono n c.requires.arity (get_or hs 0 0) (sum hs)
+    (first_within n hs c.in_ok-height.ensures.fit) in
+    let whole = ap (levels_of_height n) c.in_ok-height.ensures.sum in
+    omega (
+      arith,
+      c.cap_layer_of_height-layer.ensures,
+      c.cap_layer_of_height-cap_layer.ensures,
+    )
