@@ -1,6 +1,6 @@
-//! Checks a cap and an opening of it, without the matrices, or compares two openings of a cap:
-//! `mmcs-verify fold|sha256 2|4|8 CAP[f] HEIGHTxWIDTH.. open|rows I..`, or `collide HEIGHTxWIDTH..` behind the cap. It
-//! also answers `--help` and `--version`.
+//! Checks an opening of a cap that answers a question for indices, without the matrices, or compares two openings of a
+//! cap: `mmcs-verify fold|sha256 2|4|8 CAP[f] HEIGHTxWIDTH.. open|rows I..`, or
+//! `mmcs-verify fold|sha256 2|4|8 CAP[f] collide HEIGHTxWIDTH..`. It also answers `--help` and `--version`.
 #![tactic(auto)]
 
 use mmcs_verify_engine::engine::run;
