@@ -31,13 +31,15 @@ struct mmcs_size {
 };
 
 /* Verifies a cap and an opening of it: the input is what `mmcs .. commit` printed, a blank line, and what
- * `mmcs .. open I..` printed; sizes has one entry for each matrix, in their order. These, and the setting, are the
- * verifier's own knowledge. No pointer may be null, also where a length is 0, and no two of text, size and what is only
- * read may overlap.
+ * `mmcs .. open I..` printed; sizes has one entry for each matrix, in their order; indices has what was asked for: the
+ * opening has to be of these indices, in this order, and of no others. Sizes, indices and the setting are the verifier's
+ * own knowledge. No pointer may be null, also where a length is 0, and no two of text, size and what is only read may
+ * overlap.
  *
  * The text is one line, as the program prints it. As much of it as there is room for goes to text, without a zero byte
  * behind it; all of it has *size bytes. Status 2 and 3 have no text. Nothing that is allocated is kept. */
 uint8_t mmcs_verify_text(const struct mmcs_setting *setting, const struct mmcs_size *sizes, size_t sizes_length,
-                         const uint8_t *input, size_t input_length, uint8_t *text, size_t text_length, size_t *size);
+                         const size_t *indices, size_t indices_length, const uint8_t *input, size_t input_length,
+                         uint8_t *text, size_t text_length, size_t *size);
 
 #endif

@@ -1,5 +1,5 @@
-/* Verifies an answer about the log of examples/log: a day has 8 entries of 4 numbers and 2 summaries of 3. The cap, a
- * blank line and the opening come on standard input. */
+/* Verifies an answer about the log of examples/log: a day has 8 entries of 4 numbers and 2 summaries of 3, and the entries
+ * 0, 2 and 7 are asked for. The cap, a blank line and the opening come on standard input. */
 #include "mmcs_verify.h"
 
 #include <stdio.h>
@@ -13,11 +13,12 @@ int main(void) {
   }
   const struct mmcs_setting setting = {.cap_height = 0, .hash = MMCS_SHA256, .arity = 2, .cap_rule = MMCS_LOWERED};
   const struct mmcs_size sizes[] = {{.height = 8, .width = 4}, {.height = 2, .width = 3}};
+  const size_t indices[] = {0, 2, 7};
 
   uint8_t text[200];
   size_t size = 0;
-  uint8_t status =
-      mmcs_verify_text(&setting, sizes, sizeof sizes / sizeof sizes[0], input, input_length, text, sizeof text, &size);
+  uint8_t status = mmcs_verify_text(&setting, sizes, sizeof sizes / sizeof sizes[0], indices,
+                                    sizeof indices / sizeof indices[0], input, input_length, text, sizeof text, &size);
   if (size > sizeof text) {
     size = sizeof text;
   }

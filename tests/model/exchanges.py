@@ -41,7 +41,10 @@ class Exchange:
     def texts(self, random):
         """What a verifier may be sent, with its words and a name: parts that the prover prints, and forged ones."""
         cap, first, second = (program.output(words, self.input) for words in self.commands())
-        yield self.words + self.sizes, [cap, first], "one opening"
+        told = [*self.words, *self.sizes]
+        yield [*told, "open", *self.indices], [cap, first], "one opening"
+        yield [*told, "rows", *self.indices], [cap, first], "rows of an opening"
+        yield [*told, "open", *other_indices(random, self.indices)], [cap, first], "an opening of other indices"
         comparing = [*self.words, "collide", *self.sizes]
         yield comparing, [cap, first, second], "two openings"
         if self.words[0] == "fold":
@@ -56,12 +59,27 @@ def damaged_at(random, text, place):
     return text[:place] + random.choice([b"", added, added, added + text[place : place + 1]]) + text[place + 1 :]
 
 
+def other_indices(random, indices):
+    """Other indices than these: one is another, one is left out, one more is asked for, or two are exchanged."""
+    other = list(indices)
+    while other == indices:
+        other = list(indices)
+        place = random.randrange(len(indices) + 1)
+        added = [str(random.randrange(20))]
+        other[place : place + random.randrange(2)] = random.choice([[], added])
+        if len(other) > 1 and random.randrange(2):
+            first, second = random.sample(range(len(other)), 2)
+            other[first], other[second] = other[second], other[first]
+    return other
+
+
 def other_words(random, words):
-    """Words that tell another hash, arity, cap or size."""
+    """Words that tell another hash, arity, cap, size or index."""
     words = list(words)
     place = random.randrange(len(words))
     choices = [["fold", "sha256"], ["2", "4", "8", "3"], CAPS + ["f", "x"]]
-    sizes = ["collide", "4x1", "0x1", "1x0", "4611686018427387905x1", "18446744073709551616x1", "4x", "2x2"]
+    sizes = ["collide", "4x1", "0x1", "1x0", "4611686018427387905x1", "18446744073709551616x1", "4x", "2x2", "open",
+             "rows", "0", "1", "18446744073709551616"]
     words[place] = random.choice(choices[place] if place < len(choices) else sizes)
     return words
 
@@ -112,8 +130,11 @@ def counted(kind, answer):
 
 
 def is_due(kind, answer):
-    """Whether an answer may be that to a text of this kind: the whole ones are accepted."""
-    return not kind.endswith(", whole") or answer.startswith(("ok", "no collision", "collision"))
+    """Whether an answer may be that to a text of this kind: the whole ones are accepted, where their own indices are
+    asked for."""
+    if not kind.endswith(", whole"):
+        return True
+    return answer.startswith("line ") if "other indices" in kind else not answer.endswith(")")
 
 
 def cases_of(random, size=6):

@@ -8,8 +8,9 @@ from program import HASHES, Fault, hexadecimal, number_of
 from refusals import PRUNED, Claim, refusal
 from schemes import Scheme
 
-USAGE = "usage: mmcs_verify fold|sha256 2|4|8 CAP[f] [collide] HEIGHTxWIDTH.."
-QUERY = "`index I` or `digests K`"
+USAGE = (
+    "usage: mmcs-verify fold|sha256 2|4|8 CAP[f] HEIGHTxWIDTH.. open|rows I.., or CAP[f] collide HEIGHTxWIDTH.."
+)
 
 
 def size_of(word):
@@ -21,17 +22,29 @@ def size_of(word):
     return tuple(numbers)
 
 
+def task_of(words):
+    """What the words behind a cap ask for, the dimensions, and the indices."""
+    if words[:1] == ["collide"]:
+        return "collide", [size_of(word) for word in words[1:]], []
+    at = next((place for place, word in enumerate(words) if word in ("open", "rows")), None)
+    if at is None:
+        raise Fault(USAGE, 2)
+    indices = [number_of(word) for word in words[at + 1 :]]
+    if None in indices:
+        raise Fault(USAGE, 2)
+    return words[at], [size_of(word) for word in words[:at]], indices
+
+
 def command_of(words):
-    """The hash, the scheme, whether two openings are compared, and the dimensions of a command."""
+    """The hash, the scheme, the task, the dimensions and the indices of a command."""
     if len(words) < 3 or words[0] not in HASHES or words[1] not in ("2", "4", "8"):
         raise Fault(USAGE, 2)
     rule = FIXED if words[2].endswith("f") else LOWERED
     cap_height = number_of(words[2].removesuffix("f"))
-    are_two = words[3:4] == ["collide"]
-    sizes = [size_of(word) for word in words[4 if are_two else 3 :]]
+    task, sizes, indices = task_of(words[3:])
     if cap_height is None:
         raise Fault(USAGE, 2)
-    return words[0], Scheme(int(words[1]), cap_height, rule, functions=HASHES[words[0]][0]), are_two, sizes
+    return words[0], Scheme(int(words[1]), cap_height, rule, functions=HASHES[words[0]][0]), task, sizes, indices
 
 
 class Lines:
@@ -85,11 +98,20 @@ class Reader:
         self.lines.take()
         return roots
 
-    def opening(self):
+    def query(self, asked, count):
+        """An index, or how many digests there are, behind so many indices of those that are asked for, if not any."""
+        if asked is None:
+            return self.lines.take_as(labelled, "`index I` or `digests K`")
+        if count == len(asked):
+            return self.lines.take_as(lambda line: only(labelled(line), b"digests"), "`digests K`")
+        index = asked[count]
+        return self.lines.take_as(lambda line: only(labelled(line), b"index", index), f"`index {index}`")
+
+    def opening(self, asked=None):
         """Indices, the rows of each, and the digests."""
         indices, sets = [], []
         while True:
-            label, number = self.lines.take_as(labelled, QUERY)
+            label, number = self.query(asked, len(indices))
             if label == b"digests":
                 break
             indices.append(number)
@@ -122,6 +144,11 @@ def labelled(line):
             number = decimal(line[len(label) + 1 :], (1 << 64) - 1)
             return None if number is None else (label, number)
     return None
+
+
+def only(found, label, number=None):
+    """A label with its number, if it is this label, and this number where one is told."""
+    return found if found and found[0] == label and number in (None, found[1]) else None
 
 
 def hashed(name, place, content):
@@ -159,16 +186,18 @@ def comparison(name, scheme, sizes, reader):
 
 def answer(words, data):
     """What is printed for some words and an input; else a fault."""
-    name, scheme, are_two, sizes = command_of(words)
+    name, scheme, task, sizes, asked = command_of(words)
     reader = Reader(name, sizes, data)
-    if are_two:
+    if task == "collide":
         return comparison(name, scheme, sizes, reader)
     roots = reader.cap()
-    indices, sets, digests = reader.opening()
+    indices, sets, digests = reader.opening(asked)
     reader.end()
     refused = refusal(PRUNED, Claim(scheme, roots, sizes, indices, sets, digests))
     if refused:
         raise Fault(refused)
+    if task == "rows":
+        return "".join(" ".join(map(str, row)) + "\n" for rows in sets for row in rows)
     return f"ok {len(digests)}\n"
 
 

@@ -16,4 +16,5 @@ pub mod HexFacts
 pub mod DecimalFacts
 pub mod ReadingFacts
 pub mod PrintedFacts
+pub mod QuestionFacts
 pub mod RequestFacts

@@ -2,7 +2,7 @@
 use Rattle.std.proofs.Common.{◌≡◌, ◌≤◌, ◌+◌, ◌==◌, ℕ, List, [], ◌∷◌, ◌++◌, length, Option, Some, None, Result, Ok, Err}
 use Rattle.std.proofs.Common.{Bool, true, false, sym, refl, ap, ◌∙◌, subst, arith}
 use Rattle.std.specs.Prelude.{codes, if◌then◌else◌, slice_get, IfOk, IfSome, option_map}
-use Rattle.std.specs.Option.{option_and_then, option_map_or, option_or}
+use Rattle.std.specs.Option.{option_and_then, option_map_or}
 use Rattle.std.specs.List.{slice_split, ItemBy}
 use Rattle.std.specs.Str.Lines.{strip_carriage_return}
 use Rattle.std.proofs.lemmas.List.{length-map}
@@ -14,8 +14,9 @@ use Rattle.mmcs_text.specs.Input.{is_blank, pieces_of}
 use Rattle.mmcs_text.specs.Words.{max_word}
 use Rattle.mmcs_text.specs.declared.command.HashName.{HashName}
 use Rattle.mmcs_text.specs.Lines.{digest_of, number_behind, row_of}
-use Rattle.mmcs_text.specs.Readings.{after_at, after_line, after_row, behind_first, expected_after, pair_by}
-use Rattle.mmcs_text.specs.Readings.{pair_in, paired_with, settled, shown_by, unread, whole_at, with_index}
+use Rattle.mmcs_text.specs.Readings.{after_at, after_line, after_row, asked_behind, behind_first, expected_after}
+use Rattle.mmcs_text.specs.Readings.{is_answered, pair_by, pair_in, paired_with, settled, shown_by, unread, whole_at}
+use Rattle.mmcs_text.specs.Readings.{with_index}
 use Rattle.mmcs_text.specs.Readings.{Reading, Shown}
 use Rattle.mmcs_text.specs.declared.opening_fault.Expected.TheVariants.{BlankLine}
 use Rattle.mmcs_text.specs.declared.opening_fault.Fault.{Fault}
@@ -136,9 +137,10 @@ map_keeps : {A X : Type 0} (P : X → Type 0) (f : A → X) (o : Option A) → (
 map_keeps P f None keeps = tt
 map_keeps P f (Some a) keeps = keeps a
 
-or_keeps : {X : Type 0} (P : X → Type 0) (o p : Option X) → IfSome o P → IfSome p P → IfSome (option_or o p) P
-or_keeps P None p first second = second
-or_keeps P (Some x) p first second = first
+map_or_keeps : {A X : Type 0} (P : X → Type 0) (f : A → Option X) (o : Option A) (p : Option X) →
+    ((a : A) → IfSome (f a) P) → IfSome p P → IfSome (option_map_or f o p) P
+map_or_keeps P f None p first second = second
+map_or_keeps P f (Some a) p first second = first a
 
 then_keeps : {A X : Type 0} (P : X → Type 0) (f : A → Option X) (o : Option A) → ((a : A) → IfSome (f a) P) →
     IfSome (option_and_then f o) P
@@ -157,7 +159,7 @@ module _ (hash : HashName) (dimensions : List Dimensions) where
   settled_keeps : (r : Reading) → IsBehindCap r.stage → Keeps r.shown.cap (settled dimensions r)
   settled_keeps r behind =
       if_keeps (Keeps r.shown.cap) (length r.row_set == length dimensions)
-      (record { stage = Queries; shown = record r.shown { rows = r.shown.rows ++ r.row_set ∷ [] }; row_set = [] }) r
+      (record r { stage = Queries; shown = record r.shown { rows = r.shown.rows ++ r.row_set ∷ [] }; row_set = [] }) r
       (tt, refl) (behind, refl)
 
   -- a line behind the cap leaves it as it is
@@ -165,14 +167,24 @@ module _ (hash : HashName) (dimensions : List Dimensions) where
       IfSome (after_at hash dimensions stage r line) (Keeps r.shown.cap)
   line_keeps Cap r line behind here = absurd behind
   line_keeps Queries r line behind here =
-      or_keeps (Keeps r.shown.cap) (option_map (with_index dimensions r) (number_behind (codes "index ") line))
-      (option_map (λ count. record r { stage = Digests count }) (number_behind (codes "digests ") line))
-      (map_keeps (Keeps r.shown.cap) (with_index dimensions r) (number_behind (codes "index ") line)
+      let Counted : ℕ → Option Reading =
+      λ count. if is_answered r.asked then Some (record r { stage = Digests count }) else None in
+      map_or_keeps (Keeps r.shown.cap)
+      (λ index. option_map (with_index dimensions r index) (asked_behind r.asked index))
+      (number_behind (codes "index ") line) (option_and_then Counted (number_behind (codes "digests ") line))
       (λ index.
-      settled_keeps (record r { stage = Rows; shown = record r.shown { indices = r.shown.indices ++ index ∷ [] } })
+      map_keeps (Keeps r.shown.cap) (with_index dimensions r index) (asked_behind r.asked index)
+      (λ asked.
+      settled_keeps
+      (record r {
+        stage = Rows;
+        asked = asked;
+        shown = record r.shown { indices = r.shown.indices ++ index ∷ [] };
+      })
       tt))
-      (map_keeps (Keeps r.shown.cap) (λ count. record r { stage = Digests count })
-      (number_behind (codes "digests ") line) (λ count. (tt, refl)))
+      (then_keeps (Keeps r.shown.cap) Counted (number_behind (codes "digests ") line)
+      (λ count. if_keeps (λ o. IfSome o (Keeps r.shown.cap)) (is_answered r.asked)
+      (Some (record r { stage = Digests count })) None (tt, refl) tt))
   line_keeps Rows r line behind here =
       then_keeps (Keeps r.shown.cap)
       (λ d.
@@ -223,7 +235,7 @@ module _ (hash : HashName) (dimensions : List Dimensions) where
 -- ---- two openings
 
 module _ (hash : HashName) (dimensions : List Dimensions) (input : List ℕ) (r s : Reading) (n m : ℕ)
-    (left behind : List (List ℕ)) (r_is : r ≡ unread) (n_is : n ≡ 0) (left_is : left ≡ pieces_of input)
+    (left behind : List (List ℕ)) (r_is : r ≡ unread None) (n_is : n ≡ 0) (left_is : left ≡ pieces_of input)
     (first_read : pair_by hash dimensions r n left ≡ pair_by hash dimensions s m behind)
     (whole : whole_at s.stage s ≡ true) where
   first_is : pair_in hash dimensions input ≡ pair_by hash dimensions s m behind

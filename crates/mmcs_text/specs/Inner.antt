@@ -3,3 +3,4 @@ pub mod Blocks
 pub mod Stored
 pub mod Left
 pub mod Typed
+pub mod Sizes

@@ -1,5 +1,5 @@
 -- The text of a cap and an opening, as it is printed, and that it is read back.
-use Rattle.std.specs.Prelude.{◌≡◌, ℕ, ◌<◌, ◌≤◌, ◌^◌, List, ◌∷◌, ◌++◌, length, flat_map, zip, All, Ok}
+use Rattle.std.specs.Prelude.{◌≡◌, ℕ, ◌<◌, ◌≤◌, ◌^◌, List, ◌∷◌, ◌++◌, length, flat_map, zip, All, Option, IfSome, Ok}
 use Rattle.std.specs.List.{AllZip}
 use Rattle.p3_support.specs.declared.matrix.Dimensions.{Dimensions}
 use Rattle.mmcs_text.specs.Text.{digest_lines, hex_lines, query_lines}
@@ -42,12 +42,13 @@ opening_lines hash s =
 abbrev pub text_shown : HashName → Shown → List ℕ
 text_shown hash s = hex_lines (word_digits hash) s.cap ++ 10 ∷ opening_lines hash s
 
--- what is printed is read back: the text of a cap and an opening shows them. As what an input shows is a function of
--- it, the text shows nothing else, and others have another text.
+-- what is printed is read back: the text of a cap and an opening shows them, where its indices are asked for, or any
+-- are. As what an input shows is a function of it, the text shows nothing else, and others have another text.
 abbrev pub PrintedIsRead : Type 0
 PrintedIsRead =
-    (hash : HashName) (dimensions : List Dimensions) (s : Shown) → IsShownOf hash dimensions s →
-    shown_in hash dimensions (text_shown hash s) ≡ Ok s
+    (hash : HashName) (dimensions : List Dimensions) (asked : Option (List ℕ)) (s : Shown) →
+    IfSome asked (λ indices. indices ≡ s.indices) → IsShownOf hash dimensions s →
+    shown_in hash dimensions asked (text_shown hash s) ≡ Ok s
 
 -- the text of a cap and two openings of it, with blank lines between
 abbrev pub text_of_pair : HashName → Shown → Shown → List ℕ

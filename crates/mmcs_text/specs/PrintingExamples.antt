@@ -1,5 +1,5 @@
 -- Texts and what they show, which the checker computes.
-use Rattle.std.specs.Prelude.{◌≡◌, List, [], ◌∷◌, ◌++◌, codes, Ok, refl}
+use Rattle.std.specs.Prelude.{◌≡◌, List, [], ◌∷◌, ◌++◌, codes, None, Some, Ok, refl}
 use Rattle.std.specs.Fmt.{digits}
 use Rattle.p3_support.specs.declared.matrix.Dimensions.{Dimensions}
 use Rattle.mmcs_text.specs.declared.command.HashName.TheVariants.{Fold}
@@ -28,7 +28,8 @@ pub its_text : text_shown Fold two_queries
 unfolding digits
 its_text = refl
 
-pub read_back : shown_in Fold two_and_none (text_shown Fold two_queries) ≡ Ok two_queries
+-- it is read back where its indices are asked for
+pub read_back : shown_in Fold two_and_none (Some (2 ∷ 3 ∷ [])) (text_shown Fold two_queries) ≡ Ok two_queries
 unfolding digits shown_by words_of
 read_back = refl
 
@@ -40,6 +41,6 @@ pub text_of_nothing : text_shown Fold nothing ≡ 10 ∷ codes "index 5" ++ 10 �
 unfolding digits
 text_of_nothing = refl
 
-pub nothing_read_back : shown_in Fold [] (text_shown Fold nothing) ≡ Ok nothing
+pub nothing_read_back : shown_in Fold [] None (text_shown Fold nothing) ≡ Ok nothing
 unfolding digits shown_by words_of
 nothing_read_back = refl

@@ -5,7 +5,7 @@ use Rattle.mmcs_text.specs.declared.command.HashName.TheVariants.{Fold}
 use Rattle.mmcs_text.specs.Lines.{digest_of, number_behind, row_of, words_of}
 use Rattle.mmcs_text.specs.Readings.{pair_by, pair_in, shown_by, shown_in}
 use Rattle.mmcs_text.specs.Requests.{dimensions_of_word}
-use Rattle.mmcs_text.specs.declared.opening_fault.Expected.TheVariants.{BlankLine, Query, Row}
+use Rattle.mmcs_text.specs.declared.opening_fault.Expected.TheVariants.{BlankLine, Count, Index, Query, Row}
 use Rattle.mmcs_text.specs.declared.opening_fault.Fault.TheVariants.{Line}
 
 -- a digest has its digits in either case, and nothing else
@@ -35,7 +35,7 @@ abbrev pub four_rows : List Dimensions
 four_rows = record { width = 1; height = 4 } ∷ []
 
 -- a cap of one digest, one index with its row, and one digest
-pub an_opening : shown_in Fold four_rows
+pub an_opening : shown_in Fold four_rows None
     (codes "00008081" ++ 10 ∷ 10 ∷ codes "index 2" ++ 10 ∷ codes "3" ++ 10 ∷ codes "digests 1" ++ 10 ∷
     codes "00000023" ++ 10 ∷ []) ≡ Ok (record {
       cap = (32897 ∷ []) ∷ [];
@@ -47,10 +47,29 @@ unfolding shown_by words_of
 an_opening = refl
 
 -- a row of two numbers in place of one
-pub a_fault : shown_in Fold four_rows (codes "00008081" ++ 10 ∷ 10 ∷ codes "index 2" ++ 10 ∷ codes "3 4" ++ 10 ∷ [])
+pub a_fault : shown_in Fold four_rows None (codes "00008081" ++ 10 ∷ 10 ∷ codes "index 2" ++ 10 ∷ codes "3 4" ++ 10 ∷ [])
     ≡ Err (Line 4 (Row 1 4294967295))
 unfolding shown_by words_of
 a_fault = refl
+
+-- another index than the one that is asked for
+pub another_index : shown_in Fold four_rows (Some (1 ∷ []))
+    (codes "00008081" ++ 10 ∷ 10 ∷ codes "index 2" ++ 10 ∷ codes "3" ++ 10 ∷ []) ≡ Err (Line 3 (Index 1))
+unfolding shown_by words_of
+another_index = refl
+
+-- digests, where an index is left
+pub an_index_left : shown_in Fold four_rows (Some (2 ∷ 1 ∷ []))
+    (codes "00008081" ++ 10 ∷ 10 ∷ codes "index 2" ++ 10 ∷ codes "3" ++ 10 ∷ codes "digests 0" ++ 10 ∷ [])
+    ≡ Err (Line 5 (Index 1))
+unfolding shown_by words_of
+an_index_left = refl
+
+-- an index more
+pub an_index_more : shown_in Fold four_rows (Some [])
+    (codes "00008081" ++ 10 ∷ 10 ∷ codes "index 2" ++ 10 ∷ codes "3" ++ 10 ∷ []) ≡ Err (Line 3 Count)
+unfolding shown_by words_of
+an_index_more = refl
 
 -- two openings of a cap, each of one index with its row, and no digests
 pub a_pair : pair_in Fold four_rows

@@ -94,12 +94,21 @@ impl Request {
     }
 }
 
+/// Whether each of some words is a number.
+pub(crate) fn are_numbers(words: &[String]) -> bool
+    ensures { Decides result (All IsNumberWord (texts_of words.now)) }
+{
+    words
+        .iter()
+        .all(|word| parse_number(word.as_bytes()).is_some())
+}
+
 /// The numbers of words. Each word must be a number.
 ///
 /// # Errors
 ///
 /// `AllocError` if memory runs out.
-fn indices_of(alloc: Global, words: &[String]) -> Result<Vec<usize>, AllocError>
+pub(crate) fn indices_of(alloc: Global, words: &[String]) -> Result<Vec<usize>, AllocError>
     requires { All IsNumberWord (texts_of words.now) }
     ensures { IfOk result (λ indices. indices.items ≡ map (digits_value 10) (texts_of words.now)) }
 {
@@ -201,9 +210,7 @@ impl Action {
     {
         match self {
             Action::Commit => places.is_empty(),
-            Action::Open | Action::Check => places
-                .iter()
-                .all(|word| parse_number(word.as_bytes()).is_some()),
+            Action::Open | Action::Check => are_numbers(places),
         }
     }
 }

@@ -12,6 +12,7 @@ mod lines;
 pub mod number;
 pub mod opening_fault;
 pub mod process;
+pub mod question;
 pub mod reader;
 pub mod request;
 pub mod streams;

@@ -14,7 +14,7 @@ use thiserror::Error;
 #[derive(Debug, Drop, Error)]
 pub enum Fault {
     /// The words are no command.
-    #[error("usage: mmcs_verify fold|sha256 2|4|8 CAP[f] [collide] HEIGHTxWIDTH..")]
+    #[error("usage: mmcs-verify fold|sha256 2|4|8 CAP[f] HEIGHTxWIDTH.. open|rows I.., or CAP[f] collide HEIGHTxWIDTH..")]
     Usage,
     /// The input could not be read.
     #[error("read failed")]
@@ -44,9 +44,18 @@ pub enum Expected {
         /// How many digits a digest has.
         digits: usize,
     },
-    /// An index, or how many digests there are.
+    /// Any index, or how many digests there are.
     #[error("`index I` or `digests K`")]
     Query,
+    /// The index that is asked for next.
+    #[error("`index {index}`")]
+    Index {
+        /// The index.
+        index: usize,
+    },
+    /// How many digests there are, where no index is left.
+    #[error("`digests K`")]
+    Count,
     /// A row of a matrix.
     #[error("{width} numbers from 0 to {max}")]
     Row {

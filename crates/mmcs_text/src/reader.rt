@@ -11,7 +11,7 @@ ghost use Rattle.mmcs_text.specs.declared.opening_fault.Fault.TheVariants.{Line,
 ghost use Rattle.mmcs_text.specs.Inner.Left.{lines_left, AreCounted};
 ghost use Rattle.mmcs_text.specs.Readings.{after_cap_line, after_digest, after_line, after_query, after_row};
 ghost use Rattle.mmcs_text.specs.Readings.{behind_first, expected_after, pair_by, pair_in};
-ghost use Rattle.mmcs_text.specs.Inner.Typed.{pair_of, reading_of, shown_of};
+ghost use Rattle.mmcs_text.specs.Inner.Typed.{asked_by, pair_of, reading_of, shown_of};
 ghost use Rattle.mmcs_text.specs.Readings.{settled, shown_by, shown_in, unread, whole_at};
 
 use crate::digest::LineDigest;
@@ -19,6 +19,7 @@ use crate::input::{append_row, is_blank};
 use crate::lines::Lines;
 use crate::number::parse_number;
 use crate::opening_fault::{Expected, Fault};
+use crate::question::Question;
 use crate::word::Word;
 use p3_support::matrix::Dimensions;
 use std::alloc::{AllocError, Global};
@@ -85,22 +86,25 @@ pub enum Stage {
 
 /// What the lines so far show.
 #[derive(Drop)]
-struct Reader<W, H> {
+struct Reader<'a, W, H> {
     /// What comes next.
     stage: Stage,
+    /// Which indices are left.
+    asked: Question<'a>,
     /// What is whole.
     shown: Statement<W, H>,
     /// The rows of an index whose rows are not all read yet.
     row_set: Vec<Vec<W>>,
 }
 
-impl<W: Word, H: LineDigest> Reader<W, H> {
+impl<'a, W: Word, H: LineDigest> Reader<'a, W, H> {
     /// Before the first line.
-    fn new(alloc: Global) -> Reader<W, H>
-        ensures { reading_of W.value H.words result ≡ unread }
+    fn new(alloc: Global, asked: Question<'a>) -> Reader<'a, W, H>
+        ensures { reading_of W.value H.words result ≡ unread (asked_by asked.entry) }
     {
         Reader {
             stage: Stage::Cap,
+            asked,
             shown: Statement {
                 cap: Vec::new(alloc),
                 opening: Opening::new(alloc),
@@ -117,7 +121,7 @@ impl<W: Word, H: LineDigest> Reader<W, H> {
         let digits = H::DIGITS;
         match self.stage {
             Stage::Cap => Expected::CapDigest { digits },
-            Stage::Queries => Expected::Query,
+            Stage::Queries => self.asked.expected(),
             Stage::Rows => {
                 let max = W::MAX as usize;
                 match dimensions.get(self.row_set.len()) {
@@ -213,7 +217,7 @@ impl<W: Word, H: LineDigest> Reader<W, H> {
         Ok(true)
     }
 
-    /// Reads an index, or how many digests there are.
+    /// Reads an index that may come next, or how many digests there are.
     ///
     /// # Errors
     ///
@@ -228,14 +232,21 @@ impl<W: Word, H: LineDigest> Reader<W, H> {
             ≡ (if took then Some (reading_of W.value H.words self.new) else None)) }
     {
         if let Some(index) = number_behind(b"index ", text) {
+            let Some(asked) = self.asked.behind(index) else {
+                return Ok(false);
+            };
             self.shown.opening.indices.push(index)?;
             self.stage = Stage::Rows;
+            self.asked = asked;
             self.settle(alloc, dimensions)?;
             return Ok(true);
         }
         let Some(count) = number_behind(b"digests ", text) else {
             return Ok(false);
         };
+        if !self.asked.is_answered() {
+            return Ok(false);
+        }
         self.stage = Stage::Digests(count);
         Ok(true)
     }
@@ -436,10 +447,10 @@ fn take_blank_line(lines: &mut Lines<'_>) -> Result<(), Fault>
 
 /// What an input shows, for matrices of these dimensions.
 ///
-/// The lines of a cap come first, a digest each, and a blank line ends them. Then come any number of queries: a line
-/// `index I`, and a line for the row of each matrix, of as many numbers as its width. Then a line `digests K`, and the
-/// `K` digests of a pruned proof, a line each. Blank lines may follow. Lines end in LF or CRLF. `W::MAX` must be the
-/// greatest word of a row for the hash of `H`.
+/// The lines of a cap come first, a digest each, and a blank line ends them. Then come the indices that are asked for:
+/// for each a line `index I`, and a line for the row of each matrix, of as many numbers as its width. Then a line
+/// `digests K`, and the `K` digests of a pruned proof, a line each. Blank lines may follow. Lines end in LF or CRLF.
+/// `W::MAX` must be the greatest word of a row for the hash of `H`.
 ///
 /// # Errors
 ///
@@ -448,24 +459,25 @@ fn take_blank_line(lines: &mut Lines<'_>) -> Result<(), Fault>
 pub fn read_statement<W: Word, H: LineDigest>(
     alloc: Global,
     dimensions: &[Dimensions],
+    asked: Question<'_>,
     input: &[u8],
 ) -> Result<Statement<W, H>, Fault>
     requires { W.MAX ≡ max_word H.hash }
-    ensures shown { IfOk result
-        (λ found. shown_in H.hash dimensions.now input.now ≡ Ok (shown_of W.value H.words found)) }
-    ensures fault { IfErr result
-        (λ fault. (fault ≡ Tree OutOfMemory) ⊎ (shown_in H.hash dimensions.now input.now ≡ Err fault)) }
+    ensures shown { IfOk result (λ found.
+        shown_in H.hash dimensions.now (asked_by asked.entry) input.now ≡ Ok (shown_of W.value H.words found)) }
+    ensures fault { IfErr result (λ fault. (fault ≡ Tree OutOfMemory) ⊎
+        (shown_in H.hash dimensions.now (asked_by asked.entry) input.now ≡ Err fault)) }
 {
     let mut lines = Lines::new(input);
-    let mut reader = Reader::new(alloc);
+    let mut reader = Reader::new(alloc, asked);
     reader.read_to_end(alloc, dimensions, &mut lines)?;
     Ok(reader.shown)
 }
 
 /// What an input shows of two openings under one cap, for matrices of these dimensions.
 ///
-/// A cap and an opening come first, as in [`read_statement`]; then a blank line, and another opening of that cap. Blank
-/// lines may follow. The condition on `W::MAX` is the same.
+/// A cap and an opening come first, as in [`read_statement`], of any indices; then a blank line, and another opening of
+/// that cap. Blank lines may follow. The condition on `W::MAX` is the same.
 ///
 /// # Errors
 ///
@@ -483,7 +495,7 @@ pub fn read_pair<W: Word, H: LineDigest>(
         (λ fault. (fault ≡ Tree OutOfMemory) ⊎ (pair_in H.hash dimensions.now input.now ≡ Err fault)) }
 {
     let mut lines = Lines::new(input);
-    let mut reader = Reader::new(alloc);
+    let mut reader = Reader::new(alloc, Question::Any);
     reader.read_opening(alloc, dimensions, &mut lines)?;
     take_blank_line(&mut lines)?;
     let first = reader.next_opening(alloc);

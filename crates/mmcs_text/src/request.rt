@@ -1,23 +1,23 @@
 //! Commands, from the words after the program's name.
 
-ghost use Rattle.std.specs.Prelude.{◌≡◌, ◌⊎◌, ◌++◌, true, All, Decides, IfErr, IfNone, IfOk, IfSome, List, ℕ, Some};
-ghost use Rattle.std.specs.Prelude.{map};
-ghost use Rattle.std.specs.List.{list_all};
-ghost use Rattle.std.specs.Option.{is_some};
+ghost use Rattle.std.specs.Prelude.{◌≡◌, ◌⊎◌, ◌∷◌, [], true, All, IfErr, IfNone, IfOk, IfSome, List, ℕ, Some, map};
 ghost use Rattle.p3_merkle_core.specs.declared.error.MerkleTreeError.TheVariants.{OutOfMemory};
 ghost use Rattle.p3_support.specs.declared.matrix.Dimensions.{Dimensions};
-ghost use Rattle.mmcs_text.specs.Words.{texts_of};
+ghost use Rattle.mmcs_text.specs.Words.{arity_word, hash_word, texts_of, IsCapWord, IsNumberWord};
 ghost use Rattle.mmcs_text.specs.declared.opening_fault.Fault.TheVariants.{Usage, Tree};
-ghost use Rattle.mmcs_text.specs.Requests.{dimensions_of_word, task_words, AreNoCommand, AreWords};
+ghost use Rattle.mmcs_text.specs.Requests.{dimensions_of_word, task_word, task_words, AreNoCommand, AreTaskWords};
+ghost use Rattle.mmcs_text.specs.Requests.{AreWords};
+ghost use Rattle.mmcs_text.specs.Inner.Sizes.{are_dimensions};
+ghost use Rattle.mmcs_text.specs.declared.request.Task.{Task};
 ghost use Rattle.mmcs_text.specs.declared.request.Task.TheVariants.{Collide};
 
-use crate::command::{Arity, CapChoice, HashName};
+use crate::command::{Arity, CapChoice, HashName, are_numbers, indices_of};
 use crate::number::parse_number;
 use crate::opening_fault::Fault;
 use p3_support::matrix::Dimensions;
 use std::alloc::{AllocError, Global};
 
-/// What the program is asked for: a task, the setting of a tree, and the dimensions of its matrices.
+/// What the program is asked for: a task, the setting of a tree, the dimensions of its matrices, and indices.
 #[derive(Drop)]
 pub struct Request {
     /// What the tree was built with.
@@ -26,6 +26,8 @@ pub struct Request {
     pub task: Task,
     /// The dimensions of each matrix, in the order of their words.
     pub dimensions: Vec<Dimensions>,
+    /// The indices that the answer has to be about, in the order of their words; none of `collide`.
+    pub indices: Vec<usize>,
 }
 
 /// What a tree was built with.
@@ -42,44 +44,47 @@ pub struct Setting {
 /// What the program does with its input.
 #[derive(Clone, Copy)]
 pub enum Task {
-    /// Verifies the opening of a cap.
+    /// Verifies an answer about indices, and writes how many digests it has.
     Verify,
-    /// Compares two openings of a cap.
+    /// Verifies an answer about indices, and writes their rows.
+    Rows,
+    /// Compares two openings of a cap, of any indices.
     Collide,
 }
 
 impl Request {
-    /// What the words after the program's name ask for: a hash, an arity, a cap, `collide` or not, and a height and a
-    /// width with an `x` between for each matrix. Numbers are one or more ASCII digits, and fit `usize`.
+    /// What the words after the program's name ask for: a hash, an arity, a cap, a height and a width with an `x`
+    /// between for each matrix, and `open` or `rows` with indices behind it; or `collide` before the dimensions, and no
+    /// indices. Numbers are one or more ASCII digits, and fit `usize`.
     ///
     /// # Errors
     ///
     /// `Usage` where the words are no command; else `Tree(OutOfMemory)` if memory runs out.
     pub fn from_words(alloc: Global, words: &[String]) -> Result<Request, Fault>
-        ensures request { IfOk result
-            (λ request. AreWords (texts_of words.now) request.setting request.task request.dimensions.items) }
+        ensures request { IfOk result (λ request. AreWords (texts_of words.now) request.setting request.task
+            request.dimensions.items request.indices.items) }
         ensures fault { IfErr result (λ fault. ((fault ≡ Usage) × AreNoCommand (texts_of words.now)) ⊎
             ((fault ≡ Tree OutOfMemory) × (AreNoCommand (texts_of words.now) → ⊥))) }
     {
-        let (setting, task, places) = Setting::from_words(words).ok_or(Fault::Usage)?;
-        let dimensions = dimensions_of(alloc, places)?;
+        let (setting, behind) = Setting::from_words(words).ok_or(Fault::Usage)?;
+        let (task, sizes, places) = Task::from_words(behind).ok_or(Fault::Usage)?;
+        let dimensions = dimensions_of(alloc, sizes)?;
+        let indices = indices_of(alloc, places)?;
         Ok(Request {
             setting,
             task,
             dimensions,
+            indices,
         })
     }
 }
 
 impl Setting {
-    /// The setting and the task of the words after the program's name, and the words of the dimensions, if they are a
-    /// command.
-    fn from_words(words: &[String]) -> Option<(Setting, Task, &[String])>
-        ensures places { IfSome result
-            (λ (_, _, places). list_all (λ word. is_some (dimensions_of_word word)) (texts_of places.now) ≡ true) }
-        ensures found { IfSome result (λ (setting, task, places). (dimensions : List Dimensions) →
-            map dimensions_of_word (texts_of places.now) ≡ map Some dimensions →
-            AreWords (texts_of words.now) setting task dimensions) }
+    /// The setting of the words after the program's name, and the words behind it, if there is one.
+    fn from_words(words: &[String]) -> Option<(Setting, &[String])>
+        ensures found { IfSome result (λ (setting, behind). (cap : List ℕ) × (texts_of words.now
+            ≡ hash_word setting.hash ∷ arity_word setting.arity ∷ cap ∷ texts_of behind.now) ×
+            IsCapWord cap setting.cap) }
         ensures none { IfNone result (AreNoCommand (texts_of words.now)) }
     {
         let [hash, arity, cap, behind @ ..] = words else {
@@ -90,26 +95,68 @@ impl Setting {
             arity: Arity::from_word(arity.as_str())?,
             cap: CapChoice::from_word(cap.as_bytes())?,
         };
-        let (task, places) = Task::from_words(behind);
-        places
-            .iter()
-            .all(|word| dimensions_of_word(word.as_bytes()).is_some())
-            .then_some((setting, task, places))
+        Some((setting, behind))
     }
 }
 
 impl Task {
-    /// The task of the words behind a cap, and those of the dimensions: `collide` may stand in front.
-    fn from_words(words: &[String]) -> (Task, &[String])
-        ensures cut { texts_of words.now ≡ task_words result.0 ++ texts_of result.1.now }
-        ensures collide { (places : List (List ℕ)) → texts_of words.now ≡ task_words Collide ++ places →
-            result.0 ≡ Collide }
+    /// The task of the words behind a cap, with those of dimensions and those of indices, if they ask for one.
+    fn from_words(words: &[String]) -> Option<(Task, &[String], &[String])>
+        ensures spelling { IfSome result (λ (task, sizes, places).
+            texts_of words.now ≡ task_words task (texts_of sizes.now) (texts_of places.now)) }
+        ensures sizes { IfSome result (λ (_, sizes, _). are_dimensions (texts_of sizes.now) ≡ true) }
+        ensures places { IfSome result (λ (task, _, places). All IsNumberWord (texts_of places.now) ×
+            (task ≡ Collide → texts_of places.now ≡ [])) }
+        ensures none { IfNone result ((task : Task) (dimensions : List Dimensions) (indices : List ℕ) →
+            AreTaskWords (texts_of words.now) task dimensions indices → ⊥) }
     {
-        match words {
-            [first, places @ ..] if first.as_str() == "collide" => (Task::Collide, places),
-            _ => (Task::Verify, words),
+        let [first, sizes @ ..] = words else {
+            return None;
+        };
+        if first.as_str() == "collide" {
+            return are_dimensions(sizes).then_some((Task::Collide, sizes, &[]));
+        }
+        Task::about_indices(words)
+    }
+
+    /// The same of a task about indices: its word is the first that is no dimensions.
+    fn about_indices(words: &[String]) -> Option<(Task, &[String], &[String])>
+        ensures spelling { IfSome result (λ (task, sizes, places).
+            texts_of words.now ≡ task_words task (texts_of sizes.now) (texts_of places.now)) }
+        ensures sizes { IfSome result (λ (_, sizes, _). are_dimensions (texts_of sizes.now) ≡ true) }
+        ensures places { IfSome result (λ (task, _, places). All IsNumberWord (texts_of places.now) ×
+            (task ≡ Collide → texts_of places.now ≡ [])) }
+        ensures none { IfNone result ((task : Task) (dimensions : List Dimensions) (indices : List ℕ) →
+            AreTaskWords (texts_of words.now) task dimensions indices → task ≡ Collide) }
+    {
+        let at = words
+            .iter()
+            .position(|word| dimensions_of_word(word.as_bytes()).is_none())?;
+        let task = Task::from_word(words[at].as_str())?;
+        let (sizes, places) = (&words[..at], &words[at + 1..]);
+        are_numbers(places).then_some((task, sizes, places))
+    }
+
+    /// The task of a word that stands between dimensions and indices: `open` or `rows`.
+    fn from_word(word: &str) -> Option<Task>
+        ensures found { IfSome result (λ task. (word.now ≡ task_word task) × (task ≡ Collide → ⊥)) }
+        ensures none { IfNone result ((task : Task) → word.now ≡ task_word task → task ≡ Collide) }
+    {
+        match word {
+            "open" => Some(Task::Verify),
+            "rows" => Some(Task::Rows),
+            _ => None,
         }
     }
+}
+
+/// Whether each of some words is the dimensions of a matrix.
+fn are_dimensions(words: &[String]) -> bool
+    ensures { result ≡ are_dimensions (texts_of words.now) }
+{
+    words
+        .iter()
+        .all(|word| dimensions_of_word(word.as_bytes()).is_some())
 }
 
 /// The dimensions of a word: a height, an `x` and a width.
@@ -128,7 +175,7 @@ fn dimensions_of_word(word: &[u8]) -> Option<Dimensions>
 ///
 /// `AllocError` if memory runs out.
 fn dimensions_of(alloc: Global, words: &[String]) -> Result<Vec<Dimensions>, AllocError>
-    requires { list_all (λ word. is_some (dimensions_of_word word)) (texts_of words.now) ≡ true }
+    requires { are_dimensions (texts_of words.now) ≡ true }
     ensures { IfOk result
         (λ dimensions. map dimensions_of_word (texts_of words.now) ≡ map Some dimensions.items) }
 {

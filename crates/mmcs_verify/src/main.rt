@@ -1,5 +1,6 @@
-//! Checks a cap and an opening of it, without the matrices, or compares two openings of a cap:
-//! `mmcs_verify fold|sha256 2|4|8 CAP[f] [collide] HEIGHTxWIDTH..`. It also answers `--help` and `--version`.
+//! Checks an opening of a cap that answers a question for indices, without the matrices, or compares two openings of a
+//! cap: `mmcs-verify fold|sha256 2|4|8 CAP[f] HEIGHTxWIDTH.. open|rows I..`, or
+//! `mmcs-verify fold|sha256 2|4|8 CAP[f] collide HEIGHTxWIDTH..`. It also answers `--help` and `--version`.
 #![tactic(auto)]
 
 use mmcs_verify_engine::engine::run;
@@ -15,8 +16,10 @@ const HELP: &str = "
 fold|sha256   the hash; fold is for tests and has no security at all
 2|4|8         the arity
 CAP           how many levels below the root the cap is; with an f behind it, by the rule Fixed
-collide       compares two openings of a cap
 HEIGHTxWIDTH  the dimensions of a matrix, one word for each
+open I..      accepts an answer about these indices in this order, counted from 0, and prints how many digests it has
+rows I..      the same, and prints their rows
+collide       compares two openings of a cap
 
 It reads what `mmcs .. commit` printed, a blank line, and what `mmcs .. open I..` printed.";
 

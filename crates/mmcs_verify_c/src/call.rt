@@ -26,16 +26,18 @@ const OUT_OF_MEMORY: u8 = 3;
 /// Verifies a cap and an opening of it from memory, and keeps nothing: the program `mmcs_verify` as a call.
 ///
 /// `input` is what `mmcs .. commit` printed, a blank line, and what `mmcs .. open I..` printed; `sizes` has the
-/// dimensions of each matrix, in input order. The call copies the line that the program prints, or the line of its
-/// fault, to `text`, as much of it as fits, and sets `size` to the length of the whole line, in bytes.
+/// dimensions of each matrix, in input order, and `indices` the indices that the opening has to be of, in this order and
+/// no others. The call copies the line that the program prints, or the line of its fault, to `text`, as much of it as
+/// fits, and sets `size` to the length of the whole line, in bytes.
 ///
-/// It returns 0 if the opening is accepted, 1 if it is refused or a line of the input is faulty, 2 if there is no such
-/// setting, and 3 if memory runs out. The statuses 2 and 3 have no text.
+/// It returns 0 if the opening is accepted, 1 if it is refused or a line of the input is faulty (the first other index
+/// is one), 2 if there is no such setting, and 3 if memory runs out. The statuses 2 and 3 have no text.
 #[unsafe(no_mangle)]
 pub extern "C" fn mmcs_verify_text(
     alloc: Global,
     setting: &TreeSetting,
     sizes: &[MatrixSize],
+    indices: &[usize],
     input: &[u8],
     text: &mut [u8],
     size: &mut usize,
@@ -43,13 +45,13 @@ pub extern "C" fn mmcs_verify_text(
     ensures setting { (result ≡ 2) ↔ (setting_shown setting.now ≡ None) }
     ensures no_text { result ≡ 2 → size.new ≡ 0 }
     ensures status { (shown : Setting) → setting_shown setting.now ≡ Some shown →
-        IsStatus (outcome_of shown Verify (map dimensions_of_size sizes.now) input.now) text.old text.new size.new
-        result }
+        IsStatus (outcome_of shown Verify (map dimensions_of_size sizes.now) indices.now input.now) text.old text.new
+        size.new result }
 {
     let Some(shown) = setting.shown() else {
         return told(&[], WRONG_SETTING, text, size);
     };
-    let Ok(request) = request_of(alloc, shown, sizes) else {
+    let Ok(request) = request_of(alloc, shown, sizes, indices) else {
         return told(&[], OUT_OF_MEMORY, text, size);
     };
     match reply(alloc, &request, input) {

@@ -73,9 +73,10 @@ pub fn request_of(
     alloc: Global,
     setting: Setting,
     sizes: &[MatrixSize],
+    asked: &[usize],
 ) -> Result<Request, AllocError>
     ensures { IfOk result (λ request. (request.setting ≡ setting) × (request.task ≡ Verify) ×
-        (request.dimensions.items ≡ map dimensions_of_size sizes.now)) }
+        (request.dimensions.items ≡ map dimensions_of_size sizes.now) × (request.indices.items ≡ asked.now)) }
 {
     let mut dimensions = Vec::with_capacity(alloc, sizes.len())?;
     for size in sizes {
@@ -84,9 +85,12 @@ pub fn request_of(
             height: size.height,
         })?;
     }
+    let mut indices = Vec::new(alloc);
+    indices.extend_from_slice(asked)?;
     Ok(Request {
         setting,
         task: Task::Verify,
         dimensions,
+        indices,
     })
 }

@@ -23,7 +23,7 @@ use Rattle.p3_merkle_core.proofs.Shapes.ArityFacts.{arity_from}
 use Rattle.p3_merkle_core.proofs.Shapes.LadderFacts.{row_below}
 use Rattle.mmcs_text.specs.Input.{StandsFor}
 use Rattle.mmcs_text.specs.Matrices.{batch_of_rows}
-use Rattle.mmcs_text.specs.Text.{digest_lines, hex_lines, ok_line, query_lines}
+use Rattle.mmcs_text.specs.Text.{digest_lines, hex_lines, ok_line, query_lines, row_line}
 use Rattle.mmcs_text.specs.Words.{arity_number, max_word, AreWords}
 use Rattle.mmcs_text.specs.declared.command.Action.TheVariants.{Commit, Open, Check}
 use Rattle.mmcs_text.specs.declared.command.Arity.{Arity}
@@ -39,14 +39,14 @@ use Rattle.mmcs_engine.proofs.GateFacts.{heights_are}
 use Rattle.mmcs_engine.proofs.Outcomes.{same_matrices}
 use Rattle.mmcs_text.specs.Lines.{word_digits}
 use Rattle.mmcs_text.specs.Printing.{text_shown, IsQueryOf, IsRowOf, IsShownOf}
-use Rattle.mmcs_text.specs.Readings.{Shown}
+use Rattle.mmcs_text.specs.Readings.{shown_in, Shown}
 use Rattle.mmcs_text.specs.declared.request.Setting.{Setting}
-use Rattle.mmcs_text.specs.declared.request.Task.TheVariants.{Verify}
 use Rattle.mmcs_text.proofs.PrintedFacts.{printed_is_read}
-use Rattle.mmcs_verify_engine.specs.Accepted.{cap_and_opening, command_for, dimensions_of_rows, OutcomesAreAccepted}
-use Rattle.mmcs_verify_engine.specs.Accepted.{PrintedIsAccepted}
-use Rattle.mmcs_verify_engine.specs.Outcomes.{answer_to, outcome_of, refusal_asked, told}
+use Rattle.mmcs_verify_engine.specs.Accepted.{cap_and_opening, command_for, dimensions_of_rows, rows_text, IsAccepted}
+use Rattle.mmcs_verify_engine.specs.Accepted.{OutcomesAreAccepted, PrintedIsAccepted}
+use Rattle.mmcs_verify_engine.specs.Outcomes.{refusal_asked, rows_lines, sent_line}
 use Rattle.mmcs_verify_engine.proofs.DigestFacts.{boundary_digests, layer_digests}
+use Rattle.mmcs_verify_engine.proofs.VerdictFacts.{answer_text}
 use Rattle.mmcs_verify_engine.proofs.RowFacts.{batch_full, matrices_full, opened_rows, AreFull}
 
 -- ---- trees
@@ -86,6 +86,12 @@ few_digests s indices (suc l) asked lawful =
 same_digits : (hash : HashName) → hex_digits hash ≡ word_digits hash
 same_digits Fold = refl
 same_digits Sha256 = refl
+
+-- the lines of the rows of indices
+row_texts : (rows : ℕ → List (List ℕ)) (indices : List ℕ) → flat_map (λ i. flat_map row_line (rows i)) indices
+    ≡ flat_map (λ set. flat_map row_line set) (map rows indices)
+row_texts rows [] = refl
+row_texts rows (i ∷ is) = ap (λ text. flat_map row_line (rows i) ++ text) (row_texts rows is)
 
 -- the lines of indices with their rows
 query_texts : (rows : ℕ → List (List ℕ)) (indices : List ℕ) → flat_map (λ i. query_lines i (rows i)) indices
@@ -193,14 +199,18 @@ module _ (setting : Setting) (indices input : List ℕ) (matrices : List (List (
       (honest_accepted_pruned nat_eq nat_eq (functions_of_hash hash) tree cap_at indices Decides-eqb Decides-eqb asked
       (batch_full (max_word hash + 1) (arity_number setting.arity) matrices full))
 
-  answered : outcome_of setting Verify (dimensions_of_rows matrices) (cap_and_opening setting indices matrices) ≡ Ok
-      (output_of (command_for setting Check) indices matrices)
-  answered =
-      ap (outcome_of setting Verify (dimensions_of_rows matrices)) text_is
-      ∙ ap (answer_to setting (dimensions_of_rows matrices))
-      (printed_is_read hash (dimensions_of_rows matrices) shown is_shown)
-      ∙ ap (λ refusal. told refusal (length digests)) accepted
-      ∙ ap (λ n. Ok (ok_line n)) count
+  read : shown_in hash (dimensions_of_rows matrices) (Some indices) (cap_and_opening setting indices matrices) ≡ Ok shown
+  read =
+      ap (shown_in hash (dimensions_of_rows matrices) (Some indices)) text_is
+      ∙ printed_is_read hash (dimensions_of_rows matrices) (Some indices) shown refl is_shown
+
+  answered : IsAccepted setting indices matrices (cap_and_opening setting indices matrices)
+  answered = (
+    answer_text sent_line setting (dimensions_of_rows matrices) indices (cap_and_opening setting indices matrices) shown
+        (output_of (command_for setting Check) indices matrices) read accepted (ap ok_line (sym count)),
+    answer_text rows_lines setting (dimensions_of_rows matrices) indices (cap_and_opening setting indices matrices) shown
+        (rows_text setting indices matrices) read accepted (row_texts (honest_rows tree) indices),
+  )
 
 pub printed_is_accepted : PrintedIsAccepted
 printed_is_accepted = answered
@@ -221,9 +231,10 @@ outcomes_are_accepted setting indices for_cap for_opening input cap opening cap_
     let first = replied for_cap (command_for setting Commit) [] cap_words input cap cap_is in
     let second = replied for_opening (command_for setting Open) indices opening_words input opening opening_is in
     let same = same_matrices (max_word setting.hash + 1) input first.0 second.0 first.1 second.1 in
-    let cap_text = first.3 ∙ ap (output_of (command_for setting Commit) []) same in (
+    let cap_text = first.3 ∙ ap (output_of (command_for setting Commit) []) same in
+    let texts : cap ++ 10 ∷ opening ≡ cap_and_opening setting indices second.0 = λ i. cap_text i ++ 10 ∷ second.3 i in (
       second.0,
       second.1,
-      ap (outcome_of setting Verify (dimensions_of_rows second.0)) (λ i. cap_text i ++ 10 ∷ second.3 i)
-          ∙ printed_is_accepted setting indices input second.0 second.1 second.2,
+      subst (IsAccepted setting indices second.0) (sym texts)
+          (printed_is_accepted setting indices input second.0 second.1 second.2),
     )

@@ -29,9 +29,9 @@ module _ {S D V : Type 0} (remaining : S → Option (List ℕ)) (contents : D �
     (usage : (answer ≡ Err Usage) ↔ AreNoCommand words) (unread : answer ≡ Err Usage → input_left ≡ input) where
   -- what a fault tells, before anything is written
   abbrev pub IsTold : Fault → Type 0
-  IsTold fault = (setting : Setting) (task : Task) (dimensions : List Dimensions) (bytes : List ℕ) →
-      AreWords words setting task dimensions → remaining input ≡ Some bytes →
-      (fault ≡ Read) ⊎ ((fault ≡ Tree OutOfMemory) ⊎ (outcome_of setting task dimensions bytes ≡ Err fault))
+  IsTold fault = (setting : Setting) (task : Task) (dimensions : List Dimensions) (indices bytes : List ℕ) →
+      AreWords words setting task dimensions indices → remaining input ≡ Some bytes →
+      (fault ≡ Read) ⊎ ((fault ≡ Tree OutOfMemory) ⊎ (outcome_of setting task dimensions indices bytes ≡ Err fault))
 
   at_fault : (fault : Fault) → answer ≡ Err fault → IsTold fault →
       IsAnswer remaining contents words input input_left output output (Err fault)
@@ -45,13 +45,13 @@ module _ {S D V : Type 0} (remaining : S → Option (List ℕ)) (contents : D �
         );
         unread = λ is. unread (is_usage is);
         silent = inr refl;
-        ends = λ setting task dimensions bytes are known.
+        ends = λ setting task dimensions indices bytes are known.
             ⊎_elim
-            (λ read. failed (outcome_of setting task dimensions bytes) (inl (ap Err read)))
-            (λ rest. ⊎_elim (λ memory. failed (outcome_of setting task dimensions bytes) (inr (ap Err memory)))
+            (λ read. failed (outcome_of setting task dimensions indices bytes) (inl (ap Err read)))
+            (λ rest. ⊎_elim (λ memory. failed (outcome_of setting task dimensions indices bytes) (inr (ap Err memory)))
             (λ due. subst (λ (o : Result (List ℕ) Fault). EndsIn (contents output) (contents output) o (Err fault))
             (sym due) (inl refl)) rest)
-            (told setting task dimensions bytes are known);
+            (told setting task dimensions indices bytes are known);
       }
     where
       failed : (o : Result (List ℕ) Fault) →
@@ -70,21 +70,21 @@ module _ {S D V : Type 0} (remaining : S → Option (List ℕ)) (contents : D �
 
   -- a text that is written
   module _ (output_left : D) (value : V) (text : List ℕ) (answer_is : answer ≡ Ok value)
-      (due : (setting : Setting) (task : Task) (dimensions : List Dimensions) (bytes : List ℕ) →
-      AreWords words setting task dimensions → remaining input ≡ Some bytes →
-      outcome_of setting task dimensions bytes ≡ Ok text)
+      (due : (setting : Setting) (task : Task) (dimensions : List Dimensions) (indices bytes : List ℕ) →
+      AreWords words setting task dimensions indices → remaining input ≡ Some bytes →
+      outcome_of setting task dimensions indices bytes ≡ Ok text)
     where
       no_usage : (result : Result (Unit {0}) Fault) → (result ≡ Err Usage → ⊥) →
           (result ≡ Err Usage) ↔ AreNoCommand words
       no_usage result never = (λ is. absurd (never is), λ none. absurd (let same = sym answer_is ∙ usage.1 none in cc))
 
       ends : (result : Result (Unit {0}) Fault) → EndsIn (contents output) (contents output_left) (Ok text) result →
-          (setting : Setting) (task : Task) (dimensions : List Dimensions) (bytes : List ℕ) →
-          AreWords words setting task dimensions → remaining input ≡ Some bytes →
-          EndsIn (contents output) (contents output_left) (outcome_of setting task dimensions bytes) result
-      ends result end setting task dimensions bytes are known =
+          (setting : Setting) (task : Task) (dimensions : List Dimensions) (indices bytes : List ℕ) →
+          AreWords words setting task dimensions indices → remaining input ≡ Some bytes →
+          EndsIn (contents output) (contents output_left) (outcome_of setting task dimensions indices bytes) result
+      ends result end setting task dimensions indices bytes are known =
           subst (λ (o : Result (List ℕ) Fault). EndsIn (contents output) (contents output_left) o result)
-          (sym (due setting task dimensions bytes are known)) end
+          (sym (due setting task dimensions indices bytes are known)) end
 
       pub written_answer : (result : Result (Unit {0}) Fault) →
           OnOk result (Appends (contents output) (contents output_left) text) → IfErr result (λ f. f ≡ Write) →
@@ -117,39 +117,40 @@ module _ {S D V : Type 0} (remaining : S → Option (List ℕ)) (contents : D �
 -- the words are no command, or there was no memory for them
 pub request_fault : {S : Type 0} (remaining : S → Option (List ℕ)) (words : List (List ℕ)) (input : S) (fault : Fault) →
     ((fault ≡ Usage) × AreNoCommand words) ⊎ ((fault ≡ Tree OutOfMemory) × (AreNoCommand words → ⊥)) →
-    (setting : Setting) (task : Task) (dimensions : List Dimensions) (bytes : List ℕ) →
-    AreWords words setting task dimensions → remaining input ≡ Some bytes →
-    (fault ≡ Read) ⊎ ((fault ≡ Tree OutOfMemory) ⊎ (outcome_of setting task dimensions bytes ≡ Err fault))
-request_fault remaining words input fault told setting task dimensions bytes are known =
-    ⊎_elim (λ usage. absurd (usage.1 setting task dimensions are)) (λ memory. inr (inl memory.0)) told
+    (setting : Setting) (task : Task) (dimensions : List Dimensions) (indices bytes : List ℕ) →
+    AreWords words setting task dimensions indices → remaining input ≡ Some bytes →
+    (fault ≡ Read) ⊎ ((fault ≡ Tree OutOfMemory) ⊎ (outcome_of setting task dimensions indices bytes ≡ Err fault))
+request_fault remaining words input fault told setting task dimensions indices bytes are known =
+    ⊎_elim (λ usage. absurd (usage.1 setting task dimensions indices are)) (λ memory. inr (inl memory.0)) told
 
 module _ (known : Option (List ℕ)) (words : List (List ℕ)) (got : List ℕ) (got_all : IfSome known (λ all. got ≡ all))
-    (s : Setting) (k : Task) (ds : List Dimensions) (are : AreWords words s k ds) where
-  outcome_is : (o : Result (List ℕ) Fault) → outcome_of s k ds got ≡ o → (t : Setting) (l : Task) (es : List Dimensions)
-      (bytes : List ℕ) → AreWords words t l es → known ≡ Some bytes → outcome_of t l es bytes ≡ o
-  outcome_is o due t l es bytes other is =
-      let same = same_request words s t k l ds es are other in
-      let got_is : got ≡ bytes = subst (λ (k : Option (List ℕ)). IfSome k (λ all. got ≡ all)) is got_all in
-      (λ i. outcome_of (sym same.0 i) (sym same.1 i) (sym same.2 i) (sym got_is i)) ∙ due
+    (s : Setting) (k : Task) (ds : List Dimensions) (is : List ℕ) (are : AreWords words s k ds is) where
+  outcome_is : (o : Result (List ℕ) Fault) → outcome_of s k ds is got ≡ o → (t : Setting) (l : Task)
+      (es : List Dimensions) (js bytes : List ℕ) → AreWords words t l es js → known ≡ Some bytes →
+      outcome_of t l es js bytes ≡ o
+  outcome_is o due t l es js bytes other all =
+      let same = same_request words s t k l ds es is js are other in
+      let got_is : got ≡ bytes = subst (λ (k : Option (List ℕ)). IfSome k (λ all. got ≡ all)) all got_all in
+      (λ i. outcome_of (sym same.0 i) (sym same.1 i) (sym same.2 i) (sym same.3 i) (sym got_is i)) ∙ due
 
   pub reply_text : {V : Type 0} (result : Result V Fault) (text : V → List ℕ) →
-      IfOk result (λ v. outcome_of s k ds got ≡ Ok (text v)) →
-      IfOk result (λ v. (t : Setting) (l : Task) (es : List Dimensions) (bytes : List ℕ) → AreWords words t l es →
-      known ≡ Some bytes → outcome_of t l es bytes ≡ Ok (text v))
+      IfOk result (λ v. outcome_of s k ds is got ≡ Ok (text v)) →
+      IfOk result (λ v. (t : Setting) (l : Task) (es : List Dimensions) (js bytes : List ℕ) → AreWords words t l es js →
+      known ≡ Some bytes → outcome_of t l es js bytes ≡ Ok (text v))
   reply_text (Ok v) text due = outcome_is (Ok (text v)) due
   reply_text (Err f) text due = tt
 
   pub reply_fault : {V : Type 0} (result : Result V Fault) →
-      IfErr result (λ f. (f ≡ Tree OutOfMemory) ⊎ (outcome_of s k ds got ≡ Err f)) →
-      IfErr result (λ f. (t : Setting) (l : Task) (es : List Dimensions) (bytes : List ℕ) → AreWords words t l es →
-      known ≡ Some bytes → (f ≡ Read) ⊎ ((f ≡ Tree OutOfMemory) ⊎ (outcome_of t l es bytes ≡ Err f)))
+      IfErr result (λ f. (f ≡ Tree OutOfMemory) ⊎ (outcome_of s k ds is got ≡ Err f)) →
+      IfErr result (λ f. (t : Setting) (l : Task) (es : List Dimensions) (js bytes : List ℕ) → AreWords words t l es js →
+      known ≡ Some bytes → (f ≡ Read) ⊎ ((f ≡ Tree OutOfMemory) ⊎ (outcome_of t l es js bytes ≡ Err f)))
   reply_fault (Ok v) told = tt
-  reply_fault (Err f) told = λ t l es bytes other is.
-      ⊎_elim (λ memory. inr (inl memory)) (λ due. inr (inr (outcome_is (Err f) due t l es bytes other is))) told
+  reply_fault (Err f) told = λ t l es js bytes other all.
+      ⊎_elim (λ memory. inr (inl memory)) (λ due. inr (inr (outcome_is (Err f) due t l es js bytes other all))) told
 
   pub never_usage : {V : Type 0} (result : Result V Fault) →
-      IfErr result (λ f. (f ≡ Tree OutOfMemory) ⊎ (outcome_of s k ds got ≡ Err f)) → result ≡ Err Usage → ⊥
-  never_usage (Ok v) said is = cc
-  never_usage (Err f) said is =
+      IfErr result (λ f. (f ≡ Tree OutOfMemory) ⊎ (outcome_of s k ds is got ≡ Err f)) → result ≡ Err Usage → ⊥
+  never_usage (Ok v) said usage = cc
+  never_usage (Err f) said usage =
       let same : f ≡ Usage = cc in
-      ⊎_elim (λ memory. let apart = sym same ∙ memory in cc) (λ due. outcome_never s k ds got (due ∙ ap Err same)) said
+      ⊎_elim (λ memory. let apart = sym same ∙ memory in cc) (λ due. outcome_never s k ds is got (due ∙ ap Err same)) said

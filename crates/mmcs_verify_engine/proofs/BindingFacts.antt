@@ -1,6 +1,7 @@
 -- A cap fixes rows, up to a collision that is printed.
-use Rattle.std.proofs.Common.{◌≡◌, ◌⊎◌, ⊎_elim, ℕ, List, Option, Some, None, Result, Ok, refl, sym, ap, ◌∙◌, subst}
-use Rattle.std.specs.Prelude.{nat_eq, IfSome, IsOk, IsSome, length}
+use Rattle.std.proofs.Common.{◌≡◌, ◌⊎◌, ⊎_elim, ℕ, List, Option, Some, None, Result, Ok, Err, refl, sym, ap, ◌∙◌}
+use Rattle.std.proofs.Common.{subst}
+use Rattle.std.specs.Prelude.{nat_eq, IfSome, IsOk, IsSome}
 use Rattle.std.specs.Option.{option_or}
 use Rattle.std.proofs.lemmas.Bool.Decides.{Decides-eqb}
 use Rattle.p3_support.specs.declared.matrix.Dimensions.{Dimensions}
@@ -19,9 +20,13 @@ use Rattle.mmcs_text.specs.Printing.{text_of_pair, text_shown}
 use Rattle.mmcs_text.specs.Readings.{shown_in, Shown}
 use Rattle.mmcs_text.specs.declared.opening_fault.Fault.{Fault}
 use Rattle.mmcs_text.specs.declared.request.Setting.{Setting}
+use Rattle.mmcs_text.specs.declared.request.Task.TheVariants.{Rows}
 use Rattle.mmcs_text.proofs.PrintedFacts.{pair_is_read, printed_is_read}
-use Rattle.mmcs_verify_engine.specs.Binding.{CapIsBinding, IsAnsweredOk, PrintedCapIsBinding}
-use Rattle.mmcs_verify_engine.specs.Outcomes.{answer_to, answer_to_pair, refusal_asked, terms_asked, told, told_of_pair}
+use Rattle.mmcs_text.proofs.QuestionFacts.{question_answered}
+use Rattle.mmcs_verify_engine.specs.Binding.{AnswersAreAsked, CapIsBinding, IsAnsweredOk, PrintedCapIsBinding}
+use Rattle.mmcs_verify_engine.specs.Outcomes.{answer_to, answer_to_pair, outcome_of, refusal_asked, rows_lines}
+use Rattle.mmcs_verify_engine.specs.Outcomes.{sent_line, terms_asked, told, told_of_pair}
+use Rattle.mmcs_verify_engine.proofs.VerdictFacts.{answer_text}
 use Rattle.mmcs_verify_engine.proofs.AcceptedFacts.{arity_lawful}
 
 -- what is found is something
@@ -30,20 +35,21 @@ some_found P None some each = absurd cc
 some_found P (Some x) some each = (x, each, refl)
 
 -- what is told as a text is not refused
-unrefused : (refusal : Option MerkleTreeError) (count : ℕ) → IsOk (told refusal count) → refusal ≡ None
-unrefused None count ok = refl
-unrefused (Some e) count ok = absurd cc
+unrefused : (refusal : Option MerkleTreeError) (text : List ℕ) → IsOk (told refusal text) → refusal ≡ None
+unrefused None text ok = refl
+unrefused (Some e) text ok = absurd cc
 
 module _ (setting : Setting) (dimensions : List Dimensions) where
   abbrev c : Params ℕ ℕ
   c = terms_asked setting dimensions
 
   -- an input that is answered by `ok` shows an opening that is not refused
-  shown_unrefused : (s : Shown) (input : List ℕ) → shown_in setting.hash dimensions input ≡ Ok s →
-      IsAnsweredOk setting dimensions input → refusal_asked setting dimensions s ≡ None
-  shown_unrefused s input shown ok =
-      unrefused (refusal_asked setting dimensions s) (length s.digests)
-      (subst (λ (r : Result Shown Fault). IsOk (answer_to setting dimensions r)) shown ok)
+  shown_unrefused : (s : Shown) (asked input : List ℕ) →
+      shown_in setting.hash dimensions (Some asked) input ≡ Ok s →
+      IsAnsweredOk setting dimensions asked input → refusal_asked setting dimensions s ≡ None
+  shown_unrefused s asked input shown ok =
+      unrefused (refusal_asked setting dimensions s) (sent_line s)
+      (subst (λ (r : Result Shown Fault). IsOk (answer_to sent_line setting dimensions r)) shown ok)
 
   -- openings under one cap, taken as two calls of the verifier take them
   module _ (cap : List (List ℕ)) (p r : PrunedOpening ℕ ℕ) where
@@ -80,13 +86,33 @@ module _ (setting : Setting) (dimensions : List Dimensions) where
     one_cap : (other : List (List ℕ)) → other ≡ cap → Binds other
     one_cap other same = subst Binds (sym same) own_cap
 
+pub answers_are_asked : AnswersAreAsked
+answers_are_asked setting dimensions indices input ok =
+    by_shown (shown_in setting.hash dimensions (Some indices) input) refl ok
+  where
+    by_shown : (r : Result Shown Fault) → shown_in setting.hash dimensions (Some indices) input ≡ r →
+        IsOk (answer_to sent_line setting dimensions r) → (s : Shown) ×
+        (shown_in setting.hash dimensions None input ≡ Ok s) × (s.indices ≡ indices) ×
+        (refusal_asked setting dimensions s ≡ None) ×
+        (outcome_of setting Rows dimensions indices input ≡ Ok (rows_lines s))
+    by_shown (Ok s) shown is =
+        let none = unrefused (refusal_asked setting dimensions s) (sent_line s) is in
+        let asked = question_answered setting.hash dimensions indices input s shown in (
+          s,
+          asked.0,
+          asked.1,
+          none,
+          answer_text rows_lines setting dimensions indices input s (rows_lines s) shown none refl,
+        )
+    by_shown (Err fault) shown is = absurd is
+
 pub cap_is_binding : CapIsBinding
-cap_is_binding setting dimensions p first second both same first_is second_is both_is first_ok second_ok twice =
+cap_is_binding setting dimensions p asked also first second both same first_is second_is both_is first_ok second_ok twice =
     let s = p.first in
     let t = p.second in
     let found = one_cap setting dimensions s.cap (pruned_of s.indices s.rows s.digests)
-    (pruned_of t.indices t.rows t.digests) t.cap same (shown_unrefused setting dimensions s first first_is first_ok)
-    (shown_unrefused setting dimensions t second second_is second_ok) twice in (
+    (pruned_of t.indices t.rows t.digests) t.cap same (shown_unrefused setting dimensions s asked first first_is first_ok)
+    (shown_unrefused setting dimensions t also second second_is second_ok) twice in (
       found.0,
       found.1,
       ap (answer_to_pair setting dimensions) both_is ∙ ap (told_of_pair setting.hash p) found.2,
@@ -94,8 +120,8 @@ cap_is_binding setting dimensions p first second both same first_is second_is bo
 
 pub printed_cap_is_binding : PrintedCapIsBinding
 printed_cap_is_binding setting dimensions p same first_is second_is =
-    cap_is_binding setting dimensions p (text_shown setting.hash p.first) (text_shown setting.hash p.second)
+    cap_is_binding setting dimensions p p.first.indices p.second.indices (text_shown setting.hash p.first) (text_shown setting.hash p.second)
     (text_of_pair setting.hash p.first p.second) same
-    (printed_is_read setting.hash dimensions p.first first_is)
-    (printed_is_read setting.hash dimensions p.second second_is)
+    (printed_is_read setting.hash dimensions (Some p.first.indices) p.first refl first_is)
+    (printed_is_read setting.hash dimensions (Some p.second.indices) p.second refl second_is)
     (pair_is_read setting.hash dimensions p.first p.second first_is second_is same)

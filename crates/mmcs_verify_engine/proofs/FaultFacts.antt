@@ -1,7 +1,7 @@
 -- An input is never answered by the usage.
 use Rattle.std.proofs.Common.{◌≡◌, ℕ, ◌+◌, Bool, true, false, List, [], ◌∷◌, Option, Some, None, Result, Ok, Err, refl}
 use Rattle.std.proofs.Common.{ap, ◌∙◌}
-use Rattle.std.specs.Prelude.{if◌then◌else◌, length}
+use Rattle.std.specs.Prelude.{if◌then◌else◌}
 use Rattle.std.specs.Option.{option_map_or}
 use Rattle.p3_support.specs.declared.matrix.Dimensions.{Dimensions}
 use Rattle.p3_merkle_core.specs.Checks.{Input}
@@ -15,10 +15,10 @@ use Rattle.mmcs_text.specs.declared.opening_fault.Fault.{Fault}
 use Rattle.mmcs_text.specs.declared.opening_fault.Fault.TheVariants.{Usage, Line}
 use Rattle.mmcs_text.specs.declared.request.Setting.{Setting}
 use Rattle.mmcs_text.specs.declared.request.Task.{Task}
-use Rattle.mmcs_text.specs.declared.request.Task.TheVariants.{Verify, Collide}
+use Rattle.mmcs_text.specs.declared.request.Task.TheVariants.{Verify, Rows, Collide}
 use Rattle.mmcs_text.specs.Input.{is_blank, pieces_of}
 use Rattle.mmcs_verify_engine.specs.Outcomes.{answer_to, answer_to_pair, extraction_asked, outcome_of, refusal_asked}
-use Rattle.mmcs_verify_engine.specs.Outcomes.{told, told_of_pair}
+use Rattle.mmcs_verify_engine.specs.Outcomes.{rows_lines, sent_line, told, told_of_pair}
 
 test_never : (b : Bool) (s : Shown) (n : ℕ) (e : Expected) →
     ◌≡◌ {A = Result Shown Fault} (if b then Ok s else Err (Line n e)) (Err Usage) → ⊥
@@ -40,9 +40,9 @@ shown_never hash dimensions (line ∷ lines) r n is =
     next_never (after_line hash dimensions r line) (λ s. shown_by hash dimensions s (n + 1) lines) (n + 1)
     (expected_after hash dimensions r) (λ s. shown_never hash dimensions lines s (n + 1)) is
 
-told_never : (o : Option MerkleTreeError) (count : ℕ) → told o count ≡ Err Usage → ⊥
-told_never None count is = cc
-told_never (Some e) count is = cc
+told_never : (o : Option MerkleTreeError) (text : List ℕ) → told o text ≡ Err Usage → ⊥
+told_never None text is = cc
+told_never (Some e) text is = cc
 
 -- ---- two openings
 
@@ -80,18 +80,27 @@ told_pair_never hash p (Err e) is = cc
 
 -- ---- outcomes
 
-pub outcome_never : (setting : Setting) (task : Task) (dimensions : List Dimensions) (input : List ℕ) →
-    outcome_of setting task dimensions input ≡ Err Usage → ⊥
-outcome_never setting Verify dimensions input is = by_shown (shown_in setting.hash dimensions input) refl is
+answer_never : (print : Shown → List ℕ) (setting : Setting) (dimensions : List Dimensions) (asked : Option (List ℕ))
+    (input : List ℕ) →
+    answer_to print setting dimensions (shown_in setting.hash dimensions asked input) ≡ Err Usage → ⊥
+answer_never print setting dimensions asked input is =
+    by_shown (shown_in setting.hash dimensions asked input) refl is
   where
-    by_shown : (r : Result Shown Fault) → shown_in setting.hash dimensions input ≡ r →
-        answer_to setting dimensions r ≡ Err Usage → ⊥
-    by_shown (Ok s) shown answer = told_never (refusal_asked setting dimensions s) (length s.digests) answer
+    by_shown : (r : Result Shown Fault) → shown_in setting.hash dimensions asked input ≡ r →
+        answer_to print setting dimensions r ≡ Err Usage → ⊥
+    by_shown (Ok s) shown answer = told_never (refusal_asked setting dimensions s) (print s) answer
     by_shown (Err f) shown answer =
         let same : f ≡ Usage = cc in
-        let line : shown_in setting.hash dimensions input ≡ Err Usage = shown ∙ (λ i. Err (same i)) in
-        shown_never setting.hash dimensions (pieces_of input) unread 0 line
-outcome_never setting Collide dimensions input is = by_pair (pair_in setting.hash dimensions input) refl is
+        let line : shown_in setting.hash dimensions asked input ≡ Err Usage = shown ∙ (λ i. Err (same i)) in
+        shown_never setting.hash dimensions (pieces_of input) (unread asked) 0 line
+
+pub outcome_never : (setting : Setting) (task : Task) (dimensions : List Dimensions) (indices input : List ℕ) →
+    outcome_of setting task dimensions indices input ≡ Err Usage → ⊥
+outcome_never setting Verify dimensions indices input is =
+    answer_never sent_line setting dimensions (Some indices) input is
+outcome_never setting Rows dimensions indices input is =
+    answer_never rows_lines setting dimensions (Some indices) input is
+outcome_never setting Collide dimensions indices input is = by_pair (pair_in setting.hash dimensions input) refl is
   where
     by_pair : (r : Result ShownPair Fault) → pair_in setting.hash dimensions input ≡ r →
         answer_to_pair setting dimensions r ≡ Err Usage → ⊥
@@ -99,4 +108,4 @@ outcome_never setting Collide dimensions input is = by_pair (pair_in setting.has
     by_pair (Err f) shown answer =
         let same : f ≡ Usage = cc in
         let line : pair_in setting.hash dimensions input ≡ Err Usage = shown ∙ (λ i. Err (same i)) in
-        pair_never setting.hash dimensions (pieces_of input) unread 0 line
+        pair_never setting.hash dimensions (pieces_of input) (unread None) 0 line

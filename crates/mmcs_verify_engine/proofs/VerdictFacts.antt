@@ -16,13 +16,12 @@ use Rattle.p3_merkle_core.specs.Refusals.{ok_unless, pruned_refusal_under, IsEqu
 use Rattle.p3_merkle_core.specs.declared.cap.CapRule.{CapRule}
 use Rattle.p3_merkle_core.specs.declared.error.MerkleTreeError.{MerkleTreeError}
 use Rattle.p3_merkle_core.specs.declared.error.MerkleTreeError.TheVariants.{OutOfMemory}
-use Rattle.mmcs_text.specs.Text.{ok_line}
 use Rattle.mmcs_text.specs.Words.{arity_number}
 use Rattle.mmcs_text.specs.declared.command.HashName.{HashName}
 use Rattle.mmcs_engine.specs.Program.{functions_of_hash}
 use Rattle.mmcs_engine.specs.Inner.Alike.{pruned_in_numbers, IsSchemeOf}
 use Rattle.mmcs_engine.proofs.NumberFacts.{refusal_in_numbers}
-use Rattle.mmcs_text.specs.Readings.{pair_in, shown_in, ShownPair}
+use Rattle.mmcs_text.specs.Readings.{pair_in, shown_in, Shown, ShownPair}
 use Rattle.mmcs_text.specs.Inner.Typed.{pair_of, shown_of, shown_under}
 use Rattle.mmcs_text.specs.declared.opening_fault.Fault.{Fault}
 use Rattle.mmcs_text.specs.declared.opening_fault.Fault.TheVariants.{Tree}
@@ -30,10 +29,11 @@ use Rattle.mmcs_text.specs.declared.reader.Opening.{Opening}
 use Rattle.mmcs_text.specs.declared.reader.Pair.{Pair}
 use Rattle.mmcs_text.specs.declared.reader.Statement.{Statement}
 use Rattle.mmcs_text.specs.declared.request.Setting.{Setting}
-use Rattle.mmcs_text.specs.declared.request.Task.TheVariants.{Verify, Collide}
+use Rattle.mmcs_text.specs.declared.request.Task.TheVariants.{Collide}
 use Rattle.mmcs_verify_engine.specs.Collisions.{collision_text}
 use Rattle.mmcs_verify_engine.specs.Outcomes.{answer_to, answer_to_pair, outcome_of, refusal_asked, terms_asked, told}
 use Rattle.mmcs_verify_engine.specs.Outcomes.{told_of_pair}
+use Rattle.mmcs_verify_engine.specs.Inner.Answers.{IsFaultyAnswer, IsTakenAnswer}
 use Rattle.mmcs_verify_engine.specs.Inner.TypedCollisions.{difference_read, opening_read, refusal_read, typed_text}
 use Rattle.mmcs_verify_engine.proofs.CollisionFacts.{difference_in, text_in_numbers}
 
@@ -55,13 +55,40 @@ pub same_refusal : {T : Type 0} (eq : T → T → Bool) (c : Params T T) (found 
     ≡ pruned_refusal_under eq eq c found.cap.items (opening_read found.opening)
 same_refusal eq c found roots_are lent_is = λ i. pruned_refusal_under eq eq c (roots_are i) (lent_is i)
 
+-- the question that is lent to the reader is the one that is asked
+pub asked_answer : (hash : HashName) (dimensions : List Dimensions) (lent indices : List ℕ) → lent ≡ indices →
+    {input : List ℕ} {r : Result Shown Fault} → shown_in hash dimensions (Some lent) input ≡ r →
+    shown_in hash dimensions (Some indices) input ≡ r
+asked_answer hash dimensions lent indices lent_is {input} {r} shown =
+    subst (λ (asked : List ℕ). shown_in hash dimensions (Some asked) input ≡ r) lent_is shown
+
+-- a faulty line, whatever is printed
+pub faulty_lines : (setting : Setting) (hash : HashName) → hash ≡ setting.hash → (lent dimensions : List Dimensions) →
+    lent ≡ dimensions → (asked indices : List ℕ) → asked ≡ indices → (input : List ℕ) (f : Fault) →
+    (f ≡ Tree OutOfMemory) ⊎ (shown_in hash lent (Some asked) input ≡ Err f) →
+    (f ≡ Tree OutOfMemory) ⊎ IsFaultyAnswer setting dimensions indices input f
+faulty_lines setting hash hash_is lent dimensions lent_is asked indices asked_is input f told =
+    ⊎_elim inl
+    (λ faulty. inr (λ print.
+    ap (answer_to print setting dimensions)
+    ((λ i. shown_in (sym hash_is i) (sym lent_is i) (Some (sym asked_is i)) input) ∙ faulty))) told
+
+-- what is answered to an answer, by what is printed of it
+pub answer_text : (print : Shown → List ℕ) (setting : Setting) (dimensions : List Dimensions) (indices input : List ℕ)
+    (s : Shown) (text : List ℕ) → shown_in setting.hash dimensions (Some indices) input ≡ Ok s →
+    refusal_asked setting dimensions s ≡ None → text ≡ print s →
+    answer_to print setting dimensions (shown_in setting.hash dimensions (Some indices) input) ≡ Ok text
+answer_text print setting dimensions indices input s text shown none text_is =
+    ap (answer_to print setting dimensions) shown
+    ∙ (λ i. told (none i) (sym text_is i))
+
 module _ {T : Type 0} (value : T → ℕ) (some_word : (n : ℕ) → (w : T) × (value w ≡ n))
     (one_word : (v w : T) → value v ≡ value w → v ≡ w) (eq : T → T → Bool) (decides : IsEquality eq)
     (setting : Setting) (max digits : ℕ) (f : Functions T T) (cap_height : ℕ) (rule : CapRule)
     (asked : IsSchemeOf setting.hash setting.cap value max digits f cap_height rule)
     (n : ℕ) (n_is : n ≡ arity_number setting.arity) (hash : HashName) (hash_is : hash ≡ setting.hash)
     (words : List T → List ℕ) (words_are : (digest : List T) → words digest ≡ map value digest)
-    (lent dimensions : List Dimensions) (lent_is : lent ≡ dimensions) (input : List ℕ) where
+    (lent dimensions : List Dimensions) (lent_is : lent ≡ dimensions) (indices input : List ℕ) where
   abbrev own_shape : Shape
   own_shape = shape_of n lent
 
@@ -100,30 +127,44 @@ module _ {T : Type 0} (value : T → ℕ) (some_word : (n : ℕ) → (w : T) × 
 
   -- ---- one opening
 
-  module _ (found : Statement T (List T)) (shown_is : shown_in hash lent input ≡ Ok (shown_of value words found)) where
+  module _ (found : Statement T (List T)) (shown_is : shown_in hash lent (Some indices) input
+      ≡ Ok (shown_of value words found)) where
     abbrev refusal : Option MerkleTreeError
     refusal = pruned_refusal_under eq eq own_terms found.cap.items (opening_read found.opening)
 
-    outcome_is : outcome_of setting Verify dimensions input ≡ told refusal (length found.opening.digests.items)
-    outcome_is =
-        (λ i. answer_to setting (sym lent_is i) (shown_in (sym hash_is i) (sym lent_is i) input))
-        ∙ ap (answer_to setting lent) shown_is
-        ∙ (λ i. told (sym (refusal_is found.cap.items found.opening) i)
-        (length-map found.opening.digests.items words i))
+    abbrev own_shown : Shown
+    own_shown = shown_of value words found
 
-    pub outcome_text : (count : ℕ) (text : List ℕ) → refusal ≡ None → count ≡ length found.opening.digests.items →
-        text ≡ ok_line count → outcome_of setting Verify dimensions input ≡ Ok text
-    outcome_text count text none count_is text_is =
-        outcome_is ∙ (λ i. told (none i) (sym count_is i)) ∙ ap Ok (sym text_is)
+    due_shown : shown_in setting.hash dimensions (Some indices) input ≡ Ok own_shown
+    due_shown = (λ i. shown_in (sym hash_is i) (sym lent_is i) (Some indices) input) ∙ shown_is
 
-    pub outcome_fault : {V : Type 0} (result : Result V Fault) (e : MerkleTreeError) → result ≡ Err (Tree e) →
+    due_refusal : refusal_asked setting dimensions own_shown ≡ refusal
+    due_refusal =
+        (λ i. refusal_asked setting (sym lent_is i) own_shown)
+        ∙ sym (refusal_is found.cap.items found.opening)
+
+    -- it is taken where the scheme refuses nothing
+    pub taken_answer : refusal ≡ None → (rows : List (List (List ℕ))) (count : ℕ) → rows
+        ≡ map (λ set. map (λ row. map value row.items) set.items) found.opening.rows.items → count
+        ≡ length found.opening.digests.items → IsTakenAnswer setting dimensions indices input rows count
+    taken_answer none rows count rows_are count_is = (
+      own_shown,
+      due_shown,
+      due_refusal ∙ none,
+      sym rows_are,
+      length-map found.opening.digests.items words ∙ sym count_is,
+    )
+
+    pub faulty_answer : {V : Type 0} (result : Result V Fault) (e : MerkleTreeError) → result ≡ Err (Tree e) →
         (e ≡ OutOfMemory) ⊎ (refusal ≡ Some e) →
-        IfErr result (λ f. (f ≡ Tree OutOfMemory) ⊎ (outcome_of setting Verify dimensions input ≡ Err f))
-    outcome_fault {V} result e result_is why =
+        IfErr result (λ f. (f ≡ Tree OutOfMemory) ⊎ IsFaultyAnswer setting dimensions indices input f)
+    faulty_answer {V} result e result_is why =
         subst (λ (r : Result V Fault).
-        IfErr r (λ f. (f ≡ Tree OutOfMemory) ⊎ (outcome_of setting Verify dimensions input ≡ Err f))) (sym result_is)
+        IfErr r (λ f. (f ≡ Tree OutOfMemory) ⊎ IsFaultyAnswer setting dimensions indices input f)) (sym result_is)
         (⊎_elim (λ memory. inl (ap Tree memory))
-        (λ refused. inr (outcome_is ∙ ap (λ r. told r (length found.opening.digests.items)) refused)) why)
+        (λ refused. inr (λ print.
+        ap (answer_to print setting dimensions) due_shown
+        ∙ ap (λ r. told r (print own_shown)) (due_refusal ∙ refused))) why)
 
   -- ---- two openings
 
@@ -148,7 +189,7 @@ module _ {T : Type 0} (value : T → ℕ) (some_word : (n : ℕ) → (w : T) × 
         (difference_in nat_eq (params_are i) (map (words_is i) pair.cap.items) (opening_is pair.first i)
         (opening_is pair.second i)))
 
-    pair_outcome_is : outcome_of setting Collide dimensions input ≡ told_text (refusal_read eq own_terms pair) own_text
+    pair_outcome_is : outcome_of setting Collide dimensions indices input ≡ told_text (refusal_read eq own_terms pair) own_text
     pair_outcome_is =
         (λ i. answer_to_pair setting (sym lent_is i) (pair_in (sym hash_is i) (sym lent_is i) input))
         ∙ ap (answer_to_pair setting lent) pair_is
@@ -157,15 +198,15 @@ module _ {T : Type 0} (value : T → ℕ) (some_word : (n : ℕ) → (w : T) × 
         (sym (refusal_is pair.cap.items pair.second) i)) (sym due_text i))
 
     pub pair_outcome_text : (text : List ℕ) → refusal_read eq own_terms pair ≡ None → text ≡ own_text →
-        outcome_of setting Collide dimensions input ≡ Ok text
+        outcome_of setting Collide dimensions indices input ≡ Ok text
     pair_outcome_text text none text_is =
         pair_outcome_is ∙ (λ i. told_text (none i) own_text) ∙ ap Ok (sym text_is)
 
     pub pair_outcome_fault : {V : Type 0} (result : Result V Fault) (e : MerkleTreeError) → result ≡ Err (Tree e) →
         (e ≡ OutOfMemory) ⊎ (refusal_read eq own_terms pair ≡ Some e) →
-        IfErr result (λ f. (f ≡ Tree OutOfMemory) ⊎ (outcome_of setting Collide dimensions input ≡ Err f))
+        IfErr result (λ f. (f ≡ Tree OutOfMemory) ⊎ (outcome_of setting Collide dimensions indices input ≡ Err f))
     pair_outcome_fault {V} result e result_is why =
         subst (λ (r : Result V Fault).
-        IfErr r (λ f. (f ≡ Tree OutOfMemory) ⊎ (outcome_of setting Collide dimensions input ≡ Err f))) (sym result_is)
+        IfErr r (λ f. (f ≡ Tree OutOfMemory) ⊎ (outcome_of setting Collide dimensions indices input ≡ Err f))) (sym result_is)
         (⊎_elim (λ memory. inl (ap Tree memory))
         (λ refused. inr (pair_outcome_is ∙ ap (λ r. told_text r own_text) refused)) why)

@@ -1,13 +1,15 @@
 -- Words are of one command.
-use Rattle.std.proofs.Common.{◌≡◌, ℕ, List, [], ◌∷◌, ◌++◌, Some, None, sym, refl, ap, ◌∙◌}
-use Rattle.std.specs.Prelude.{codes, map}
+use Rattle.std.proofs.Common.{eqb, get_or, ◌≡◌, ℕ, List, [], ◌∷◌, ◌++◌, Some, sym, refl, ap, ◌∙◌, subst}
+use Rattle.std.specs.Prelude.{map}
+use Rattle.std.specs.Str.Parse.{digits_value}
 use Rattle.p3_support.specs.declared.matrix.Dimensions.{Dimensions}
 use Rattle.mmcs_text.specs.Words.{arity_word, hash_word}
+use Rattle.mmcs_text.proofs.RequestFacts.{all_sizes, no_size, same_cut}
 use Rattle.mmcs_text.proofs.WordFacts.{same_arity, same_cap, same_hash}
-use Rattle.mmcs_text.specs.Requests.{dimensions_of_word, task_words, AreWords}
+use Rattle.mmcs_text.specs.Requests.{dimensions_of_word, task_word, AreTaskWords, AreWords}
 use Rattle.mmcs_text.specs.declared.request.Setting.{Setting}
 use Rattle.mmcs_text.specs.declared.request.Task.{Task}
-use Rattle.mmcs_text.specs.declared.request.Task.TheVariants.{Verify, Collide}
+use Rattle.mmcs_text.specs.declared.request.Task.TheVariants.{Verify, Rows, Collide}
 
 same_somes : (ds es : List Dimensions) → map Some ds ≡ map Some es → ds ≡ es
 same_somes [] [] is = refl
@@ -18,43 +20,73 @@ same_somes (d ∷ ds) (e ∷ es) is =
     let tail : map Some ds ≡ map Some es = cc in
     λ i. head i ∷ same_somes ds es tail i
 
--- `collide` is no dimensions
-no_place : (places : List (List ℕ)) (ds : List Dimensions) →
-    map dimensions_of_word (codes "collide" ∷ places) ≡ map Some ds → ⊥
-no_place places [] is = cc
-no_place places (d ∷ ds) is =
-    let some : dimensions_of_word (codes "collide") ≡ Some d = cc in
-    let none : dimensions_of_word (codes "collide") ≡ None = refl in
-    let apart = sym none ∙ some in
-    cc
+-- words of two tasks about indices are cut at one word
+about_cut : (words : List (List ℕ)) (t u : Task) (ds es : List Dimensions) (is js : List ℕ) →
+    (a : AreTaskWords words t ds is) → (b : AreTaskWords words u es js) →
+    words ≡ a.sizes ++ task_word t ∷ a.places → words ≡ b.sizes ++ task_word u ∷ b.places →
+    (a.sizes ≡ b.sizes) × (task_word t ≡ task_word u) × (a.places ≡ b.places)
+about_cut words t u ds es is js a b first second =
+    same_cut a.sizes b.sizes (task_word t) (task_word u) a.places b.places (sym first ∙ second)
+    (all_sizes a.sizes ds a.dimensions_are) (all_sizes b.sizes es b.dimensions_are) (no_size t) (no_size u)
+
+-- `collide` is no such word
+collide_apart : (words rest : List (List ℕ)) (u : Task) (es : List Dimensions) (js : List ℕ) →
+    (b : AreTaskWords words u es js) → words ≡ task_word Collide ∷ rest →
+    words ≡ b.sizes ++ task_word u ∷ b.places → task_word Collide ≡ task_word u
+collide_apart words rest u es js b first second =
+    (same_cut [] b.sizes (task_word Collide) (task_word u) rest b.places (sym first ∙ second) refl
+    (all_sizes b.sizes es b.dimensions_are) refl (no_size u)).1
 
 -- words behind a cap are of one task
-same_task : (t u : Task) (places others : List (List ℕ)) (ds es : List Dimensions) →
-    task_words t ++ places ≡ task_words u ++ others → map dimensions_of_word places ≡ map Some ds →
-    map dimensions_of_word others ≡ map Some es → (t ≡ u) × (places ≡ others)
-same_task Verify Verify places others ds es is first second = (refl, is)
-same_task Collide Collide places others ds es is first second =
-    let tail : places ≡ others = cc in
-    (refl, tail)
-same_task Verify Collide places others ds es is first second =
-    absurd (no_place others ds (ap (map dimensions_of_word) (sym is) ∙ first))
-same_task Collide Verify places others ds es is first second =
-    absurd (no_place places es (ap (map dimensions_of_word) is ∙ second))
+same_task : (words : List (List ℕ)) (t u : Task) (ds es : List Dimensions) (is js : List ℕ) →
+    (a : AreTaskWords words t ds is) → (b : AreTaskWords words u es js) → (t ≡ u) × (a.sizes ≡ b.sizes) ×
+    (a.places ≡ b.places)
+same_task words Collide Collide ds es is js a b =
+    let both = sym a.spelling ∙ b.spelling in
+    let sizes : a.sizes ≡ b.sizes = cc in
+    (refl, sizes, a.none_of_two refl ∙ sym (b.none_of_two refl))
+same_task words Collide Verify ds es is js a b =
+    let same = collide_apart words a.sizes Verify es js b a.spelling b.spelling in
+    absurd (let apart = ap (λ w. eqb (get_or w 0 0) 99) same in cc)
+same_task words Collide Rows ds es is js a b =
+    let same = collide_apart words a.sizes Rows es js b a.spelling b.spelling in
+    absurd (let apart = ap (λ w. eqb (get_or w 0 0) 99) same in cc)
+same_task words Verify Collide ds es is js a b =
+    let same = collide_apart words b.sizes Verify ds is a b.spelling a.spelling in
+    absurd (let apart = ap (λ w. eqb (get_or w 0 0) 99) same in cc)
+same_task words Rows Collide ds es is js a b =
+    let same = collide_apart words b.sizes Rows ds is a b.spelling a.spelling in
+    absurd (let apart = ap (λ w. eqb (get_or w 0 0) 99) same in cc)
+same_task words Verify Verify ds es is js a b =
+    let same = about_cut words Verify Verify ds es is js a b a.spelling b.spelling in
+    (refl, same.0, same.2)
+same_task words Rows Rows ds es is js a b =
+    let same = about_cut words Rows Rows ds es is js a b a.spelling b.spelling in
+    (refl, same.0, same.2)
+same_task words Verify Rows ds es is js a b =
+    let same = about_cut words Verify Rows ds es is js a b a.spelling b.spelling in
+    absurd (let apart = ap (λ w. eqb (get_or w 0 0) 111) same.1 in cc)
+same_task words Rows Verify ds es is js a b =
+    let same = about_cut words Rows Verify ds es is js a b a.spelling b.spelling in
+    absurd (let apart = ap (λ w. eqb (get_or w 0 0) 114) same.1 in cc)
 
-pub same_request : (words : List (List ℕ)) (s t : Setting) (k l : Task) (ds es : List Dimensions) →
-    AreWords words s k ds → AreWords words t l es → (s ≡ t) × (k ≡ l) × (ds ≡ es)
-same_request words s t k l ds es u v =
+pub same_request : (words : List (List ℕ)) (s t : Setting) (k l : Task) (ds es : List Dimensions) (is js : List ℕ) →
+    AreWords words s k ds is → AreWords words t l es js → (s ≡ t) × (k ≡ l) × (ds ≡ es) × (is ≡ js)
+same_request words s t k l ds es is js u v =
     let e = u.spelling in
     let f = v.spelling in
     let first : hash_word s.hash ≡ hash_word t.hash = cc in
     let second : arity_word s.arity ≡ arity_word t.arity = cc in
     let third : u.cap ≡ v.cap = cc in
-    let rest : task_words k ++ u.places ≡ task_words l ++ v.places = cc in
-    let behind = same_task k l u.places v.places ds es rest u.dimensions_are v.dimensions_are in
+    let rest : u.behind ≡ v.behind = cc in
+    let a = u.task_is in
+    let b = subst (λ (ws : List (List ℕ)). AreTaskWords ws l es js) (sym rest) v.task_is in
+    let same = same_task u.behind k l ds es is js a b in
     let hash_is = same_hash s.hash t.hash first in
     let arity_is = same_arity s.arity t.arity second in
     let cap_is = same_cap u.cap v.cap s.cap t.cap third u.cap_word v.cap_word in (
       (λ i. record { hash = hash_is i; arity = arity_is i; cap = cap_is i }),
-      behind.0,
-      same_somes ds es (sym u.dimensions_are ∙ ap (map dimensions_of_word) behind.1 ∙ v.dimensions_are),
+      same.0,
+      same_somes ds es (sym a.dimensions_are ∙ ap (map dimensions_of_word) same.1 ∙ b.dimensions_are),
+      a.indices_are ∙ ap (map (digits_value 10)) same.2 ∙ sym b.indices_are,
     )

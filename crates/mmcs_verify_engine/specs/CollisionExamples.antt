@@ -25,7 +25,7 @@ abbrev pub forged_one : List ℕ
 forged_one = codes "index 1" ++ 10 ∷ codes "38" ++ 10 ∷ codes "digests 1" ++ 10 ∷ codes "00000021" ++ 10 ∷ []
 
 -- so the digests of both groups collide
-pub they_collide : outcome_of fold_2_0 Collide (dimensions_of_rows two_rows) (its_cap ++ honest_one ++ 10 ∷ forged_one)
+pub they_collide : outcome_of fold_2_0 Collide (dimensions_of_rows two_rows) [] (its_cap ++ honest_one ++ 10 ∷ forged_one)
     ≡ Ok (codes "collision at group 0" ++ 10 ∷ codes "index 1" ++ 10 ∷ codes "index 1" ++ 10 ∷
     codes "0000002200000026" ++ 10 ∷ codes "0000002100000045" ++ 10 ∷ codes "00000445" ++ 10 ∷ [])
 unfolding digits exponent layer_exponent raw_len leaves_under siblings_below path_digest restored_node fold_hash
@@ -33,7 +33,7 @@ unfolding digits exponent layer_exponent raw_len leaves_under siblings_below pat
 they_collide = refl
 
 -- an opening agrees with itself
-pub one_agrees : outcome_of fold_2_0 Collide (dimensions_of_rows two_rows) (its_cap ++ honest_one ++ 10 ∷ honest_one)
+pub one_agrees : outcome_of fold_2_0 Collide (dimensions_of_rows two_rows) [] (its_cap ++ honest_one ++ 10 ∷ honest_one)
     ≡ Ok (codes "no collision" ++ 10 ∷ [])
 unfolding digits exponent layer_exponent raw_len leaves_under siblings_below path_digest restored_node fold_hash
     fold_compress pair_by shown_by words_of

@@ -1,2 +1,3 @@
 -- Words that proofs and internal calls use.
+pub mod Answers
 pub mod TypedCollisions

@@ -1,5 +1,6 @@
 -- What the program answers.
-use Rattle.std.specs.Prelude.{◌≡◌, ◌⊎◌, ◌↔◌, ℕ, List, length, nat_eq, Option, None, Some, Result, Ok, Err, OnErr}
+use Rattle.std.specs.Prelude.{◌≡◌, ◌⊎◌, ◌↔◌, ℕ, List, flat_map, length, nat_eq, Option, None, Some, Result, Ok, Err}
+use Rattle.std.specs.Prelude.{OnErr}
 use Rattle.std.specs.Io.KnownBytes.{Appends}
 use Rattle.p3_support.specs.declared.matrix.Dimensions.{Dimensions}
 use Rattle.p3_merkle_core.specs.Checks.{params, Input, Params}
@@ -9,7 +10,7 @@ use Rattle.p3_merkle_core.specs.Pruning.{pruned_of}
 use Rattle.p3_merkle_core.specs.Presented.{presented_pruned, Presented}
 use Rattle.p3_merkle_core.specs.declared.error.MerkleTreeError.{MerkleTreeError}
 use Rattle.p3_merkle_core.specs.declared.error.MerkleTreeError.TheVariants.{OutOfMemory}
-use Rattle.mmcs_text.specs.Text.{ok_line}
+use Rattle.mmcs_text.specs.Text.{ok_line, row_line}
 use Rattle.mmcs_text.specs.Words.{arity_number}
 use Rattle.mmcs_text.specs.declared.command.HashName.{HashName}
 use Rattle.mmcs_engine.specs.Program.{functions_of_hash, layer_of_cap}
@@ -19,7 +20,7 @@ use Rattle.mmcs_text.specs.declared.opening_fault.Fault.{Fault}
 use Rattle.mmcs_text.specs.declared.opening_fault.Fault.TheVariants.{Usage, Read, Tree, Write}
 use Rattle.mmcs_text.specs.declared.request.Setting.{Setting}
 use Rattle.mmcs_text.specs.declared.request.Task.{Task}
-use Rattle.mmcs_text.specs.declared.request.Task.TheVariants.{Verify, Collide}
+use Rattle.mmcs_text.specs.declared.request.Task.TheVariants.{Verify, Rows, Collide}
 use Rattle.mmcs_verify_engine.specs.Collisions.{collision_text}
 
 -- the parameters of a check under a setting, for matrices of these dimensions
@@ -37,15 +38,23 @@ presented_asked setting dimensions s =
 abbrev pub refusal_asked : Setting → List Dimensions → Shown → Option MerkleTreeError
 refusal_asked setting dimensions s = (presented_asked setting dimensions s).refusal
 
--- how many digests were sent, or the refusal
-abbrev pub told : Option MerkleTreeError → ℕ → Result (List ℕ) Fault
-told None count = Ok (ok_line count)
-told (Some e) count = Err (Tree e)
+-- what is printed of an opening: `ok` and how many digests were sent
+abbrev pub sent_line : Shown → List ℕ
+sent_line s = ok_line (length s.digests)
 
--- what is answered to what an input shows, or to its first faulty line
-abbrev pub answer_to : Setting → List Dimensions → Result Shown Fault → Result (List ℕ) Fault
-answer_to setting dimensions (Ok s) = told (refusal_asked setting dimensions s) (length s.digests)
-answer_to setting dimensions (Err fault) = Err fault
+-- or its rows: of each index that is asked for, a line for the row of each matrix
+abbrev pub rows_lines : Shown → List ℕ
+rows_lines s = flat_map (λ rows. flat_map row_line rows) s.rows
+
+-- a text, or the refusal
+abbrev pub told : Option MerkleTreeError → List ℕ → Result (List ℕ) Fault
+told None text = Ok text
+told (Some e) text = Err (Tree e)
+
+-- what is answered to what an input shows, by what is printed of it, or to its first faulty line
+abbrev pub answer_to : (Shown → List ℕ) → Setting → List Dimensions → Result Shown Fault → Result (List ℕ) Fault
+answer_to print setting dimensions (Ok s) = told (refusal_asked setting dimensions s) (print s)
+answer_to print setting dimensions (Err fault) = Err fault
 
 -- what is found in two openings of one cap: the refusal of the first, else of the second, else the first collision of
 -- two queries, if any collide
@@ -66,10 +75,14 @@ abbrev pub answer_to_pair : Setting → List Dimensions → Result ShownPair Fau
 answer_to_pair setting dimensions (Ok p) = told_of_pair setting.hash p (extraction_asked setting dimensions p)
 answer_to_pair setting dimensions (Err fault) = Err fault
 
--- the outcome by definition, of a command and an input: a text or a fault
-abbrev pub outcome_of : Setting → Task → List Dimensions → List ℕ → Result (List ℕ) Fault
-outcome_of setting Verify dimensions input = answer_to setting dimensions (shown_in setting.hash dimensions input)
-outcome_of setting Collide dimensions input =
+-- the outcome by definition, of a command and an input: a text or a fault. A task about indices reads an opening of
+-- these indices in this order, and of no others.
+abbrev pub outcome_of : Setting → Task → List Dimensions → List ℕ → List ℕ → Result (List ℕ) Fault
+outcome_of setting Verify dimensions indices input =
+    answer_to sent_line setting dimensions (shown_in setting.hash dimensions (Some indices) input)
+outcome_of setting Rows dimensions indices input =
+    answer_to rows_lines setting dimensions (shown_in setting.hash dimensions (Some indices) input)
+outcome_of setting Collide dimensions indices input =
     answer_to_pair setting dimensions (pair_in setting.hash dimensions input)
 
 -- a read failed, or memory ran out
@@ -93,6 +106,6 @@ pub record IsAnswer {S D : Type 0} (remaining : S → Option (List ℕ)) (conten
   -- no fault but a failed write leaves anything written
   pub silent : OnErr result ((result ≡ Err Write) ⊎ (output_left ≡ output))
   -- the outcome by definition is what the call ends in
-  pub ends : (setting : Setting) (task : Task) (dimensions : List Dimensions) (bytes : List ℕ) →
-      AreWords words setting task dimensions → remaining input ≡ Some bytes →
-      EndsIn (contents output) (contents output_left) (outcome_of setting task dimensions bytes) result
+  pub ends : (setting : Setting) (task : Task) (dimensions : List Dimensions) (indices bytes : List ℕ) →
+      AreWords words setting task dimensions indices → remaining input ≡ Some bytes →
+      EndsIn (contents output) (contents output_left) (outcome_of setting task dimensions indices bytes) result

@@ -29,13 +29,13 @@ got_all g c =
     (sym c.deref.ensures.value) c.in_ok-bytes.ensures.bytes
 
 never : (g : Over) (c : After-reply g) → c.reply.result ≡ Err Usage → ⊥
-never g c = never_usage (g.Src.Read.remaining c.args.input.now) _ c.deref.result.now (got_all g c) _ _ _
+never g c = never_usage (g.Src.Read.remaining c.args.input.now) _ c.deref.result.now (got_all g c) _ _ _ _
     c.in_ok-request.ensures.request c.reply.result c.reply.ensures.fault
 
 pub returns-clause-usage : goal.returns-clause-usage
 returns-clause-usage g c = (
   λ is. absurd (never g (goal.at.returns-clause-usage g c).After-reply is),
-  λ none. absurd (none _ _ _ c.in_ok-request.ensures.request),
+  λ none. absurd (none _ _ _ _ c.in_ok-request.ensures.request),
 )
 
 pub returns-clause-unread : goal.returns-clause-unread
@@ -44,11 +44,11 @@ returns-clause-unread g c = λ is. absurd (never g (goal.at.returns-clause-unrea
 pub returns-clause-text : goal.returns-clause-text
 returns-clause-text g c =
     reply_text (g.Src.Read.remaining c.args.input.now) _ c.deref.result.now
-    (got_all g (goal.at.returns-clause-text g c).After-reply) _ _ _ c.in_ok-request.ensures.request c.reply.result
+    (got_all g (goal.at.returns-clause-text g c).After-reply) _ _ _ _ c.in_ok-request.ensures.request c.reply.result
     (λ text. text.items) c.reply.ensures.text
 
 pub returns-clause-fault : goal.returns-clause-fault
 returns-clause-fault g c =
     reply_fault (g.Src.Read.remaining c.args.input.now) _ c.deref.result.now
-    (got_all g (goal.at.returns-clause-fault g c).After-reply) _ _ _ c.in_ok-request.ensures.request c.reply.result
+    (got_all g (goal.at.returns-clause-fault g c).After-reply) _ _ _ _ c.in_ok-request.ensures.request c.reply.result
     c.reply.ensures.fault

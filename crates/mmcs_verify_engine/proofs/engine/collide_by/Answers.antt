@@ -48,7 +48,8 @@ returns-in_err-found-clause-fault g c =
     pair_outcome_fault g.W.Word.value w.some_word w.one_word g.W.PartialEq.eq g.met.W.PackedValue.eq_is_equality
     c.args.request.now.setting _ _ _ _ _ c.requires.scheme g.row.N c.requires.arity g.bound-9.hash
     c.requires.line_hash g.bound-9.words c.requires.words c.as_slice-dimensions.result.now
-    c.args.request.now.dimensions.items c.as_slice-dimensions.ensures.value c.args.input.now c.in_ok-pair.pair
+    c.args.request.now.dimensions.items c.as_slice-dimensions.ensures.value c.args.request.now.indices.items
+    c.args.input.now c.in_ok-pair.pair
     c.in_ok-pair.ensures.shown r.result _ (left.1 ∙ ap Err left.2)
     (one_refused _ _ _ c.in_ok-pair.pair _ e _ c.in_err-found.was)
 
@@ -61,7 +62,8 @@ returns-clause-text g c =
     pair_outcome_text g.W.Word.value w.some_word w.one_word g.W.PartialEq.eq g.met.W.PackedValue.eq_is_equality
     c.args.request.now.setting _ _ _ _ _ c.requires.scheme g.row.N c.requires.arity g.bound-9.hash
     c.requires.line_hash g.bound-9.words c.requires.words c.as_slice-dimensions.result.now
-    c.args.request.now.dimensions.items c.as_slice-dimensions.ensures.value c.args.input.now pair
+    c.args.request.now.dimensions.items c.as_slice-dimensions.ensures.value c.args.request.now.indices.items
+    c.args.input.now pair
     c.in_ok-pair.ensures.shown _ (none_refused _ _ _ pair _ e found c.in_ok-found.was)
     (c.in_ok-collision_text.ensures (replicate g.row.D g.W.PackedValue.default_value)
     ∙ (λ i. typed_text g.W.Word.value g.W.Word.HEX_DIGITS (sym c.requires.functions i) (c.deref-5.ensures.value i)

@@ -1,0 +1,23 @@
+use Rattle.std.proofs.Common.{◌∙◌, ⊎_elim, inl, inr, map, Err, ap, sym}
+use Rattle.std.specs.Prelude.{flat_map}
+use Rattle.std.proofs.lemmas.Result.{err_from_is_err_and}
+use Rattle.mmcs_text.specs.Text.{row_line}
+use Rattle.mmcs_verify_engine.specs.Outcomes.{rows_lines}
+use Rattle.mmcs_verify_engine.proofs.VerdictFacts.{answer_text}
+use Rattle.mmcs_verify_engine.proofs.engine.rows_by.Goals as goal
+
+pub returns-in_err-answer-clause-fault : goal.returns-in_err-answer-clause-fault
+returns-in_err-answer-clause-fault g c =
+    let left = err_from_is_err_and c.from_residual.result c.from_residual.ensures.1 in
+    rw (left.1, left.2)
+    (⊎_elim inl (λ faulty. inr (faulty rows_lines)) c.in_err-answer.ensures.fault)
+
+pub returns-clause-text : goal.returns-clause-text
+returns-clause-text g c =
+    let taken = c.in_ok-answer.ensures.accepted in
+    answer_text rows_lines c.args.request.now.setting c.args.request.now.dimensions.items
+    c.args.request.now.indices.items c.args.input.now taken.0 c.in_ok-text_of_rows.field-0.items taken.1 taken.2
+    (c.in_ok-text_of_rows.ensures
+    ∙ ap (λ sets. flat_map (λ set. flat_map row_line set)
+    (map (λ set. map (λ row. map g.W.Word.value row.items) set.items) sets)) c.deref.ensures.value
+    ∙ ap (flat_map (λ set. flat_map row_line set)) (sym taken.3))
