@@ -104,7 +104,7 @@ answers_are_asked setting dimensions indices input ok =
           none,
           answer_text rows_lines setting dimensions indices input s (rows_lines s) shown none refl,
         )
-    by_shown (Err fault) shown is = absurd is
+    by_shown (Err fault) shown is = absurd cc
 
 pub cap_is_binding : CapIsBinding
 cap_is_binding setting dimensions p asked also first second both same first_is second_is both_is first_ok second_ok twice =

@@ -57,9 +57,9 @@ same_refusal eq c found roots_are lent_is = λ i. pruned_refusal_under eq eq c (
 
 -- the question that is lent to the reader is the one that is asked
 pub asked_answer : (hash : HashName) (dimensions : List Dimensions) (lent indices : List ℕ) → lent ≡ indices →
-    {input : List ℕ} {r : Result Shown Fault} → shown_in hash dimensions (Some lent) input ≡ r →
+    (input : List ℕ) (r : Result Shown Fault) → shown_in hash dimensions (Some lent) input ≡ r →
     shown_in hash dimensions (Some indices) input ≡ r
-asked_answer hash dimensions lent indices lent_is {input} {r} shown =
+asked_answer hash dimensions lent indices lent_is input r shown =
     subst (λ (asked : List ℕ). shown_in hash dimensions (Some asked) input ≡ r) lent_is shown
 
 -- a faulty line, whatever is printed

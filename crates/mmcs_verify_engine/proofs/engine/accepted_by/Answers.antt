@@ -29,7 +29,7 @@ returns-in_err-verify_batch_pruned-clause-fault g c =
     c.requires.line_hash g.bound-9.words c.requires.words c.as_slice-dimensions.result.now
     c.args.request.now.dimensions.items c.as_slice-dimensions.ensures.value c.args.request.now.indices.items
     c.args.input.now found
-    (asked_answer _ _ _ _ c.as_slice.ensures.value c.in_ok-found.ensures.shown) r.result _ (left.1 ∙ ap Err left.2)
+    (asked_answer _ _ _ _ c.as_slice.ensures.value c.args.input.now _ c.in_ok-found.ensures.shown) r.result _ (left.1 ∙ ap Err left.2)
     (⊎_elim inl (λ due. inr (sym same ∙ due)) c.in_err-verify_batch_pruned.ensures.verdict.answer)
 
 pub returns-clause-accepted : goal.returns-clause-accepted
@@ -45,5 +45,5 @@ returns-clause-accepted g c =
     c.requires.line_hash g.bound-9.words c.requires.words c.as_slice-dimensions.result.now
     c.args.request.now.dimensions.items c.as_slice-dimensions.ensures.value c.args.request.now.indices.items
     c.args.input.now found
-    (asked_answer _ _ _ _ c.as_slice.ensures.value c.in_ok-found.ensures.shown)
+    (asked_answer _ _ _ _ c.as_slice.ensures.value c.args.input.now _ c.in_ok-found.ensures.shown)
     (sym same ∙ c.in_ok-verify_batch_pruned.ensures.verdict.answer) _ _ refl refl

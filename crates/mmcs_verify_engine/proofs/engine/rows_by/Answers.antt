@@ -1,4 +1,4 @@
-use Rattle.std.proofs.Common.{◌∙◌, ⊎_elim, inl, inr, map, Err, ap, sym}
+use Rattle.std.proofs.Common.{◌∙◌, ⊎_elim, inl, inr, map, ap, sym}
 use Rattle.std.specs.Prelude.{flat_map}
 use Rattle.std.proofs.lemmas.Result.{err_from_is_err_and}
 use Rattle.mmcs_text.specs.Text.{row_line}

@@ -1,4 +1,4 @@
-use Rattle.std.proofs.Common.{◌∙◌, ⊎_elim, inl, inr, Err, ap, sym}
+use Rattle.std.proofs.Common.{◌∙◌, ⊎_elim, inl, inr, ap, sym}
 use Rattle.std.proofs.lemmas.Result.{err_from_is_err_and}
 use Rattle.mmcs_text.specs.Text.{ok_line}
 use Rattle.mmcs_verify_engine.specs.Outcomes.{sent_line}

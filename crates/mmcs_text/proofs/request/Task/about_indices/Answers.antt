@@ -1,4 +1,4 @@
-use Rattle.std.proofs.Common.{rules, tests, ◌≡◌, ◌∙◌, ◌<◌, sym, ap, refl, length, string_bytes, Option, ℕ}
+use Rattle.std.proofs.Common.{rules, tests, ◌∙◌, ◌<◌, sym, length}
 use Rattle.std.specs.Prelude.{MatchOption}
 use Rattle.std.specs.List.{AllWithin, HoldsAt}
 use Rattle.std.proofs.lemmas.Iterator.{IsFirst-from_position, YieldsList-from_slice}
