@@ -1,8 +1,9 @@
-//! The callers of docs/CALLING.md, each in a module of its own. The stored run says what they print.
+//! The callers of README.md and of docs/CALLING.md, each in a module of its own. The stored run says what they print.
 #![tactic(auto)]
 
 mod conflict;
 mod in_parts;
+mod readme;
 mod rules;
 mod salted;
 mod several_rows;
@@ -10,6 +11,7 @@ mod several_rows;
 use anyhow::Result;
 
 fn main(rt: HostRuntime) -> Result<()> {
+    readme::run(&rt)?;
     conflict::run(&rt)?;
     several_rows::run(&rt)?;
     rules::run(&rt)?;
