@@ -1,4 +1,4 @@
--- That a cap fixes rows, up to a collision that is printed.
+-- That a cap binds rows, up to a collision that is printed.
 use Rattle.std.specs.Prelude.{◌≡◌, ◌⊎◌, ℕ, IsOk, List, [], None, Some, Ok}
 use Rattle.p3_support.specs.declared.matrix.Dimensions.{Dimensions}
 use Rattle.p3_merkle_core.specs.Checks.{Input}
@@ -17,7 +17,7 @@ module _ (setting : Setting) (dimensions : List Dimensions) where
   abbrev pub IsAnsweredOk : List ℕ → List ℕ → Type 0
   IsAnsweredOk indices input = IsOk (outcome_of setting Verify dimensions indices input)
 
-  -- two openings answer one row in two ways: one that the cap fixes, which under the lowered rule is any
+  -- two openings answer one row in two ways: one that the cap binds, which under the lowered rule is any
   abbrev pub ConflictUnderCap : ShownPair → Type 0
   ConflictUnderCap p =
       let first = presented_asked setting dimensions p.first in

@@ -30,7 +30,7 @@ pub fn answers_are_asked()
     ensures { AnswersAreAsked }
 {}
 
-/// A cap fixes rows up to a collision that is printed. If two openings of one cap each give `ok`, and have different
+/// A cap binds rows up to a collision that is printed. If two openings of one cap each give `ok`, and have different
 /// words for one row of an authenticated matrix, the cap with both openings gives under `collide` two different inputs
 /// with one digest, at one place of both checks. Under the rule `Lowered` every matrix is authenticated.
 pub fn caps_are_binding()
