@@ -13,7 +13,7 @@ ghost use Rattle.p3_merkle_verifier.specs.Inner.Checks.{functions_by, opening_in
 ghost use Rattle.p3_merkle_verifier.specs.Inner.Checks.{IsLevelOfCheck, IsProgress};
 ghost use Rattle.p3_merkle_verifier.specs.Inner.Paths.{CanCheck, CanReach};
 
-use crate::openings::{OpeningRef, OpenedRows};
+use crate::openings::{OpenedRows, OpeningRef};
 use p3_merkle_core::error::MerkleTreeError;
 use p3_merkle_core::geometry::check_widths;
 use p3_merkle_core::group::{group_with, pair_group};
