@@ -14,4 +14,7 @@ mod StartFacts
 mod PlaceFacts
 mod PairFacts
 mod QueryFacts
+mod AgreeFacts
+mod NeighbourFacts
+mod EqualRuns
 mod RefusalFacts

@@ -1,5 +1,5 @@
 -- The levels that a walk keeps.
-use Rattle.std.proofs.Common.{◌≡◌, ◌∙◌, ℕ, zero, suc, ◌+◌, ◌-◌, ◌<◌, List, [], ◌∷◌, ◌++◌, map, refl, ap, sym, arith}
+use Rattle.std.proofs.Common.{◌≡◌, ◌∙◌, ℕ, zero, suc, ◌+◌, ◌-◌, ◌<◌, List, [], ◌∷◌, ◌++◌, map, refl, ap, sym, arith, subst}
 use Rattle.std.proofs.Common.{add-one}
 use Rattle.std.proofs.lemmas.List.{map-append}
 use Rattle.std.proofs.lemmas.List.FromFn.{map-range_with_len_more}
@@ -9,7 +9,8 @@ use Rattle.p3_merkle_core.specs.Inner.Children.{paths_out_of}
 use Rattle.p3_merkle_core.specs.Pruning.{PrunedOpening, restored_paths, value_of}
 use Rattle.p3_merkle_core.specs.declared.pruning.KeptLevel.{KeptLevel}
 use Rattle.p3_merkle_core.proofs.Covered.KeptFacts.{level_of, paths_restored}
-use Rattle.p3_merkle_verifier.specs.Inner.RestoredLevels.{opened_by, pruned_in, tree_of, AreKept, IsLayer}
+use Rattle.p3_merkle_verifier.specs.Inner.RestoredLevels.{opened_by, pruned_in, tree_of, AreKept, IsCoveredAt}
+use Rattle.p3_merkle_verifier.specs.Inner.RestoredLevels.{IsLayer}
 use Rattle.p3_merkle_verifier.specs.declared.pruned.CoveredNodes.{CoveredNodes}
 use Rattle.p3_merkle_verifier.specs.declared.openings.PrunedOpeningRef.{PrunedOpeningRef}
 use Rattle.p3_merkle_verifier.specs.declared.openings.RestorableOpening.{RestorableOpening}
@@ -65,3 +66,12 @@ paths_by_levels f s t restorable opening levels paths tree layer is kept out =
     ∙ paths_restored f (tree_of restorable) restorable.cap_layer (opened_by restorable) restorable.queried
     (map shown_level levels) kept.levels_are
     ∙ (λ i. restored_paths (params f (tree i) (layer i)) (pruned_in (is i)))
+
+-- the leaves of an opening that restores are those of what is lent
+pub leaves_alike : {T W : Type 0} (s : Shape) (opening : PrunedOpeningRef T (List W))
+    (restorable : RestorableOpening T (List W)) (leaves : CoveredNodes) → tree_of restorable ≡ s →
+    restorable.opening ≡ opening →
+    IsCoveredAt (tree_of restorable) restorable.opening.indices.now 0 leaves → IsCoveredAt s opening.indices.now 0 leaves
+leaves_alike s opening restorable leaves tree is at =
+    subst (λ (x : Shape). IsCoveredAt x opening.indices.now 0 leaves) tree
+    (subst (λ (o : PrunedOpeningRef _ _). IsCoveredAt (tree_of restorable) o.indices.now 0 leaves) is at)

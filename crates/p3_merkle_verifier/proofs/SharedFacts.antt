@@ -84,7 +84,7 @@ so_far_long f s i j l o u =
     elim (cases_Bool (eqb i j)) [ inl y ↦ rw y (ap suc rest) | inr n ↦ rw n rest ]
 
 -- below the cap it is all that is shared
-so_far_all : {T W : Type 0} (f : Functions T W) (s : Shape) (i j t : ℕ) (o : Opening T W) → so_far f s i j o t
+pub so_far_all : {T W : Type 0} (f : Functions T W) (s : Shape) (i j t : ℕ) (o : Opening T W) → so_far f s i j o t
     ≡ shared_inputs (params f s t) i j o
 so_far_all f s i j t o =
     let g = λ (k : ℕ). cond (meets s i j k) (inputs_at f s o k) [] in

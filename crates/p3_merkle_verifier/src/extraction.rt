@@ -12,7 +12,8 @@ ghost use Rattle.p3_merkle_core.specs.Geometry.{layer_exponent, shape_of};
 ghost use Rattle.p3_merkle_core.specs.Nodes.{functions_of};
 ghost use Rattle.p3_merkle_core.specs.Refusals.{refusal_under, AnswersUnlessMemory};
 ghost use Rattle.p3_merkle_verifier.specs.Inner.Checks.{functions_by, leaf_difference, opening_in, ShowsLevel};
-ghost use Rattle.p3_merkle_verifier.specs.Inner.Collisions.{first_words, inputs_above, second_words};
+ghost use Rattle.p3_merkle_verifier.specs.Inner.Collisions.{first_rows, first_words, inputs_above, second_rows};
+ghost use Rattle.p3_merkle_verifier.specs.Inner.Collisions.{second_words};
 ghost use Rattle.p3_merkle_verifier.specs.Inner.Collisions.{IsDifference, Shows};
 ghost use Rattle.p3_merkle_verifier.specs.Inner.Paths.{CanCheck, CanReach};
 
@@ -29,7 +30,7 @@ use std::alloc::{AllocError, Global};
 
 /// The rows of two openings, to be compared at the matrices of one exponent.
 #[derive(Drop)]
-struct RowPair<'a, T> {
+pub(crate) struct RowPair<'a, T> {
     /// The dimensions of all matrices.
     pub dimensions: &'a [Dimensions],
     /// The exponent of those whose rows are compared.
@@ -38,6 +39,24 @@ struct RowPair<'a, T> {
     pub first: &'a [Vec<T>],
     /// The rows of all matrices in the second opening.
     pub second: &'a [Vec<T>],
+}
+
+impl<'a, T: Eq> RowPair<'a, T> {
+    /// Whether both openings have the same rows of these matrices. Nothing is copied.
+    pub(crate) fn agree(&self) -> bool
+        ensures { result ≡ pointwise (pointwise T.eq) (first_rows self.now) (second_rows self.now) }
+    {
+        let first = OpenedRows {
+            dimensions: self.dimensions,
+            rows: self.first,
+            exponent: self.exponent,
+        };
+        first.eq(OpenedRows {
+            dimensions: self.dimensions,
+            rows: self.second,
+            exponent: self.exponent,
+        })
+    }
 }
 
 /// Both lists of digests at a place, if they differ.

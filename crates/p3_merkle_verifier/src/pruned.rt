@@ -1,6 +1,6 @@
 //! Pruned openings: their check, and the path of each query, restored. Both walk up the covered nodes layer by layer.
 
-ghost use Rattle.std.specs.Prelude.{◌≡◌, suc, ◌/◌, ◌<◌, ◌≤◌, ◌==◌, ◌⊎◌, ℕ, All, IfOk, IsTrue, MatchResult, None};
+ghost use Rattle.std.specs.Prelude.{◌≡◌, suc, ◌/◌, ◌<◌, ◌≤◌, ◌==◌, ◌⊎◌, ℕ, List, All, IfOk, IsTrue, MatchResult, None};
 ghost use Rattle.std.specs.Prelude.{Some, length, map, replicate, zip};
 ghost use Rattle.std.specs.List.{dedup, list_all};
 ghost use Rattle.std.specs.Option.{option_copied};
@@ -8,7 +8,7 @@ ghost use Rattle.p3_support.specs.Shown.{row_sets};
 ghost use Rattle.p3_merkle_core.specs.Checks.{params};
 ghost use Rattle.p3_merkle_core.specs.Geometry.{shape_of};
 ghost use Rattle.p3_merkle_core.specs.Inner.Agreement.{opened_with};
-ghost use Rattle.p3_merkle_core.specs.Nodes.{functions_of};
+ghost use Rattle.p3_merkle_core.specs.Nodes.{functions_of, Functions};
 ghost use Rattle.p3_merkle_core.specs.Pruning.{restored_paths};
 ghost use Rattle.p3_merkle_core.specs.Refusals.{is_entry as is_entry_of, pruned_refusal};
 ghost use Rattle.p3_merkle_core.specs.Refusals.{pruned_refusal_under, AnswersUnlessMemory};
@@ -18,7 +18,7 @@ ghost use Rattle.p3_merkle_verifier.specs.Inner.Checks.{functions_by};
 ghost use Rattle.p3_merkle_verifier.specs.Inner.Paths.{CanCheck};
 ghost use Rattle.p3_merkle_verifier.specs.Inner.RestoredLevels.{cap_refusal_by, opened_by, pruned_in};
 ghost use Rattle.p3_merkle_verifier.specs.Inner.RestoredLevels.{pruned_refusal_by, tree_of, AreKept};
-ghost use Rattle.p3_merkle_verifier.specs.Inner.RestoredLevels.{IsCoveredAt, IsLayerAbove};
+ghost use Rattle.p3_merkle_verifier.specs.Inner.RestoredLevels.{IsCoveredAt, IsLayer, IsLayerAbove};
 
 use crate::openings::{PrunedOpeningRef, RestorableOpening};
 use crate::path::{Checker, is_entry};
@@ -47,6 +47,18 @@ pub struct CoveredNodes {
     /// Whether matrices belong to the layer.
     pub has_rows: bool,
 }
+
+/// Tells that covered leaves are layer 0, whatever their children are, since leaves have none. It does nothing at run
+/// time.
+fn lemma_leaves<T, W, const D: usize>(
+    restorable: &RestorableOpening<'_, T, [W; D]>,
+    leaves: &CoveredNodes,
+)
+    requires leaves { IsCoveredAt (tree_of restorable.now) restorable.now.opening.indices.now 0 leaves.now }
+    requires childless { leaves.now.step ≡ 0 }
+    ensures { (f : Functions T W) (l : ℕ) (children : List (List W)) → l ≡ 0 →
+        IsLayer f (tree_of restorable.now) restorable.now.cap_layer (opened_by restorable.now) l leaves.now children }
+{}
 
 /// The parents of some nodes, each once, and a query under each: that of its first child. The nodes ascend, and
 /// `queries` has that of each. A parent has `step` children, at least one.
@@ -184,6 +196,64 @@ impl<
     const N: usize,
     const D: usize,
 > Checker<'a, P, PW, H, C, [[PW::Value; D]; N]> {
+    /// Compares the digests of the covered nodes of the cap's layer with the roots, if there are any. They are not
+    /// computed otherwise.
+    ///
+    /// # Errors
+    ///
+    /// `CapMismatch` where some root is another or is not there; `OutOfMemory` if memory runs out.
+    fn check_roots(
+        &self,
+        alloc: Global,
+        restorable: &RestorableOpening<'_, P::Value, [PW::Value; D]>,
+        covered: &CoveredNodes,
+        children: &[[PW::Value; D]],
+        roots: Option<&[[PW::Value; D]]>,
+    ) -> Result<(), MerkleTreeError>
+        requires arity { restorable.now.steps.now.arity ≡ N }
+        requires covered { let f = functions_by H.hash C.compression (replicate D PW.default_value) self.now in
+            IsLayer f (tree_of restorable.now) restorable.now.cap_layer (opened_by restorable.now)
+            restorable.now.cap_layer covered.now children.now }
+        ensures { let f = functions_by H.hash C.compression (replicate D PW.default_value) self.now in
+            let c = params f (tree_of restorable.now) restorable.now.cap_layer in
+            AnswersUnlessMemory result
+            (cap_refusal_by PW.Value.eq c (option_copied roots.entry) (opened_by restorable.now)) }
+    {
+        let Some(roots) = roots else {
+            return Ok(());
+        };
+        let layer = restorable.cap_layer;
+        let digests = self.node_digests(alloc, restorable, layer, covered, children)?;
+        if !are_entries(roots, &covered.nodes, &digests) {
+            return Err(MerkleTreeError::CapMismatch);
+        }
+        Ok(())
+    }
+
+    /// The covered nodes of the layer above the leaves, which is at most the cap's, and the digests of their children.
+    ///
+    /// # Errors
+    ///
+    /// `AllocError` if memory runs out.
+    fn above_leaves(
+        &self,
+        alloc: Global,
+        restorable: &RestorableOpening<'_, P::Value, [PW::Value; D]>,
+        leaves: &CoveredNodes,
+    ) -> Result<(CoveredNodes, Vec<[PW::Value; D]>), AllocError>
+        requires arity { restorable.now.steps.now.arity ≡ N }
+        requires levels { 0 < restorable.now.cap_layer }
+        requires leaves { IsCoveredAt (tree_of restorable.now) restorable.now.opening.indices.now 0 leaves.now }
+        requires childless { leaves.now.step ≡ 0 }
+        ensures { let f = functions_by H.hash C.compression (replicate D PW.default_value) self.now in
+            IfOk result (λ above. IsLayer f (tree_of restorable.now) restorable.now.cap_layer
+            (opened_by restorable.now) 1 above.0 above.1.items) }
+    {
+        lemma_leaves::<P::Value, PW::Value, D>(restorable, leaves);
+        let digests = self.node_digests(alloc, restorable, 0, leaves, &[])?;
+        layer_above(alloc, restorable, 0, leaves, &digests)
+    }
+
     /// Restores the digests of the covered nodes layer by layer, from the covered leaves up to the cap, out of the rows
     /// and the digests that were sent. If there are roots, they are compared with the digests of the cap's layer, which
     /// are not computed otherwise. Returns the levels below the cap if they are kept, else no levels.
@@ -195,13 +265,13 @@ impl<
         &self,
         alloc: Global,
         restorable: &RestorableOpening<'_, P::Value, [PW::Value; D]>,
-        leaves: CoveredNodes,
+        leaves: &CoveredNodes,
         roots: Option<&[[PW::Value; D]]>,
         keeps: bool,
     ) -> Result<Vec<KeptLevel<[PW::Value; D]>>, MerkleTreeError>
         requires arity { restorable.now.steps.now.arity ≡ N }
-        requires leaves { IsCoveredAt (tree_of restorable.now) restorable.now.opening.indices.now 0 leaves }
-        requires childless { leaves.step ≡ 0 }
+        requires leaves { IsCoveredAt (tree_of restorable.now) restorable.now.opening.indices.now 0 leaves.now }
+        requires childless { leaves.now.step ≡ 0 }
         ensures answer { let f = functions_by H.hash C.compression (replicate D PW.default_value) self.now in
             let c = params f (tree_of restorable.now) restorable.now.cap_layer in
             AnswersUnlessMemory result
@@ -211,11 +281,15 @@ impl<
             IsTrue keeps → IfOk result (λ levels. AreKept f (tree_of restorable.now) cap_layer
             (opened_by restorable.now) cap_layer levels.items) }
     {
+        if restorable.cap_layer == 0 {
+            lemma_leaves::<P::Value, PW::Value, D>(restorable, leaves);
+            self.check_roots(alloc, restorable, leaves, &[], roots)?;
+            return Ok(Vec::new(alloc));
+        }
         let num_kept = if keeps { restorable.cap_layer } else { 0 };
         let mut levels = Vec::with_capacity(alloc, num_kept)?;
-        let mut covered = leaves;
-        let mut children = Vec::new(alloc);
-        let mut layer = 0;
+        let (mut covered, mut children) = self.above_leaves(alloc, restorable, leaves)?;
+        let mut layer = 1;
         while layer < restorable.cap_layer {
             let digests = self.node_digests(alloc, restorable, layer, &covered, &children)?;
             // Children that are not kept are let go before those of the next layer are listed.
@@ -223,7 +297,7 @@ impl<
                 children = Vec::new(alloc);
             }
             let above = layer_above(alloc, restorable, layer, &covered, &digests)?;
-            if keeps && layer > 0 {
+            if keeps {
                 levels.push(KeptLevel {
                     parents: covered.nodes,
                     step: covered.step,
@@ -233,13 +307,8 @@ impl<
             (covered, children) = above;
             layer += 1;
         }
-        if let Some(roots) = roots {
-            let digests = self.node_digests(alloc, restorable, layer, &covered, &children)?;
-            if !are_entries(roots, &covered.nodes, &digests) {
-                return Err(MerkleTreeError::CapMismatch);
-            }
-        }
-        if keeps && layer > 0 {
+        self.check_roots(alloc, restorable, &covered, &children, roots)?;
+        if keeps {
             levels.push(KeptLevel {
                 parents: covered.nodes,
                 step: covered.step,
@@ -276,8 +345,46 @@ impl<
         let (restorable, leaves) = restorable_of::<P, [PW::Value; D]>(
             alloc, steps, cap_layer, opening,
         )?;
-        self.restored_levels(alloc, &restorable, leaves, Some(roots), false)?;
+        self.restored_levels(alloc, &restorable, &leaves, Some(roots), false)?;
         Ok(())
+    }
+
+    /// The covered leaves of a pruned opening, and the path of each query up to the cap's layer, in query order, as
+    /// [`restored_paths`](Self::restored_paths) restores it.
+    ///
+    /// `N` is a power of two from 2 to 2^62 and the arity of `steps`; the cap's layer is at most the number of levels.
+    ///
+    /// # Errors
+    ///
+    /// The error of `check_pruned`; else `CapMismatch` where a root is another, or is not there. `OutOfMemory` may come
+    /// at any time.
+    pub(crate) fn restored_queries(
+        &self,
+        alloc: Global,
+        roots: Option<&[[PW::Value; D]]>,
+        steps: &Steps<'_>,
+        cap_layer: usize,
+        opening: PrunedOpeningRef<'_, P::Value, [PW::Value; D]>,
+    ) -> Result<(CoveredNodes, Vec<AuthPath<[PW::Value; D]>>), MerkleTreeError>
+        requires arity { steps.now.arity ≡ N }
+        requires check { CanCheck (shape_of steps.now.arity steps.now.dimensions.now) cap_layer }
+        ensures answer { let f = functions_by H.hash C.compression (replicate D PW.default_value) self.now in
+            let c = params f (shape_of steps.now.arity steps.now.dimensions.now) cap_layer in
+            AnswersUnlessMemory result
+            (pruned_refusal_by P.Value.eq PW.Value.eq c (option_copied roots.entry) (pruned_in opening.entry)) }
+        ensures paths { let f = functions_by H.hash C.compression (replicate D PW.default_value) self.now in
+            let c = params f (shape_of steps.now.arity steps.now.dimensions.now) cap_layer in
+            IfOk result (λ made. shown_paths made.1.items ≡ restored_paths c (pruned_in opening.entry)) }
+        ensures leaves { let s = shape_of steps.now.arity steps.now.dimensions.now in
+            IfOk result (λ made. IsCoveredAt s opening.entry.indices.now 0 made.0) }
+    {
+        let indices = opening.indices;
+        let (restorable, leaves) = restorable_of::<P, [PW::Value; D]>(
+            alloc, steps, cap_layer, opening,
+        )?;
+        let levels = self.restored_levels(alloc, &restorable, &leaves, roots, true)?;
+        let paths = paths_out_of(alloc, &levels, indices)?;
+        Ok((leaves, paths))
     }
 
     /// Restores the path of each query up to the cap's layer, in query order, from a pruned opening: each sibling is a
@@ -308,11 +415,7 @@ impl<
             let c = params f (shape_of steps.now.arity steps.now.dimensions.now) cap_layer in
             IfOk result (λ paths. shown_paths paths.items ≡ restored_paths c (pruned_in opening.entry)) }
     {
-        let indices = opening.indices;
-        let (restorable, leaves) = restorable_of::<P, [PW::Value; D]>(
-            alloc, steps, cap_layer, opening,
-        )?;
-        let levels = self.restored_levels(alloc, &restorable, leaves, roots, true)?;
-        Ok(paths_out_of(alloc, &levels, indices)?)
+        let (_, paths) = self.restored_queries(alloc, roots, steps, cap_layer, opening)?;
+        Ok(paths)
     }
 }

@@ -1,6 +1,6 @@
 //! Extraction from two pruned openings under one cap: the first pair of queries whose checks differ.
 
-ghost use Rattle.std.specs.Prelude.{◌≡◌, ◌<◌, IfOk, length, replicate};
+ghost use Rattle.std.specs.Prelude.{◌≡◌, ◌⊎◌, ℕ, ◌<◌, IfOk, IsTrue, length, replicate};
 ghost use Rattle.std.specs.Option.{option_or};
 ghost use Rattle.p3_merkle_core.specs.Checks.{params};
 ghost use Rattle.p3_merkle_core.specs.Extraction.{difference_of, first_pair};
@@ -8,14 +8,16 @@ ghost use Rattle.p3_merkle_core.specs.Geometry.{shape_of};
 ghost use Rattle.p3_merkle_core.specs.Nodes.{functions_of};
 ghost use Rattle.p3_merkle_core.specs.Pruning.{opening_at};
 ghost use Rattle.p3_merkle_core.specs.Refusals.{pruned_refusal_under, AnswersUnlessMemory};
-ghost use Rattle.p3_merkle_verifier.specs.Inner.Checks.{functions_by, opening_in};
+ghost use Rattle.p3_merkle_verifier.specs.Inner.Checks.{functions_by, opening_in, AgreeBelow};
 ghost use Rattle.p3_merkle_verifier.specs.Inner.Paths.{CanCheck, CanReach};
 ghost use Rattle.p3_merkle_verifier.specs.Inner.QueryPairs.{query_difference, first_place, query_in};
-ghost use Rattle.p3_merkle_verifier.specs.Inner.QueryPairs.{AreQueriesOf, CanCompare, ShowsAt, ShowsPair};
+ghost use Rattle.p3_merkle_verifier.specs.Inner.QueryPairs.{AgreesWithAll, AreConsistent, AreQueriesOf, CanCompare};
+ghost use Rattle.p3_merkle_verifier.specs.Inner.QueryPairs.{HasLeaves, ShowsAt, ShowsPair, StandsBetween};
 ghost use Rattle.p3_merkle_verifier.specs.Inner.RestoredLevels.{pruned_in};
 
 use crate::openings::{OpeningRef, PrunedOpeningRef};
 use crate::path::Checker;
+use crate::pruned::CoveredNodes;
 use p3_merkle_core::collision::Collision;
 use p3_merkle_core::error::MerkleTreeError;
 use p3_merkle_core::pruning::AuthPath;
@@ -32,6 +34,8 @@ struct RestoredQueries<'a, T, X> {
     pub sets: &'a [Vec<Vec<T>>],
     /// The path of each, with its index.
     pub paths: Vec<AuthPath<X>>,
+    /// The leaves of all queries, and a query of each.
+    pub leaves: CoveredNodes,
 }
 
 impl<'a, T, W, const D: usize> RestoredQueries<'a, T, [W; D]> {
@@ -46,6 +50,27 @@ impl<'a, T, W, const D: usize> RestoredQueries<'a, T, [W; D]> {
             index: path.leaf_index,
             rows: &self.sets[k],
             siblings: &path.siblings,
+        }
+    }
+
+    /// Two queries, by their places, whose indices are nearest to this one: between `index` and the index of each query
+    /// lies that of one of them. They are one query if `index` is queried, or if no query is on one of its sides.
+    fn neighbours(&self, index: usize) -> (usize, usize)
+        requires leaves { HasLeaves self.now }
+        requires some { 0 < length self.now.paths.items }
+        ensures below { result.0 < length self.now.paths.items }
+        ensures above { result.1 < length self.now.paths.items }
+        ensures between { (k : ℕ) → k < length self.now.paths.items →
+            (StandsBetween self.now index k result.0) ⊎ (StandsBetween self.now index k result.1) }
+    {
+        let leaves = &self.leaves;
+        match leaves.nodes.binary_search(&index) {
+            Ok(slot) => (leaves.queries[slot], leaves.queries[slot]),
+            Err(slot) => {
+                let below = slot.saturating_sub(1);
+                let above = slot.min(leaves.queries.len() - 1);
+                (leaves.queries[below], leaves.queries[above])
+            }
         }
     }
 }
@@ -80,13 +105,75 @@ impl<
             (pruned_refusal_under P.Value.eq PW.Value.eq c roots.now (pruned_in opening.entry)) }
         ensures comparable { let s = shape_of steps.now.arity steps.now.dimensions.now in
             IfOk result (λ queries. CanCompare s cap_layer queries) }
+        ensures consistent { let f = functions_by H.hash C.compression (replicate D PW.default_value) self.now in
+            let s = shape_of steps.now.arity steps.now.dimensions.now in
+            IfOk result (λ queries. AreConsistent f s cap_layer queries) }
+        ensures leaves { IfOk result (λ queries. HasLeaves queries) }
         ensures restored { let f = functions_by H.hash C.compression (replicate D PW.default_value) self.now in
             let s = shape_of steps.now.arity steps.now.dimensions.now in
             IfOk result (λ queries. AreQueriesOf f s cap_layer (pruned_in opening.entry) queries) }
     {
         let sets = opening.sets;
-        let paths = self.restored_paths(alloc, Some(roots), steps, cap_layer, opening)?;
-        Ok(RestoredQueries { sets, paths })
+        let (leaves, paths) = self.restored_queries(alloc, Some(roots), steps, cap_layer, opening)?;
+        Ok(RestoredQueries {
+            sets,
+            paths,
+            leaves,
+        })
+    }
+
+    /// Whether the check of an opening agrees with that of a query, given by its place, at every place that both share.
+    fn agrees_with(
+        &self,
+        steps: &Steps<'_>,
+        cap_layer: usize,
+        first: OpeningRef<'_, P::Value, [PW::Value; D]>,
+        queries: &RestoredQueries<'_, P::Value, [PW::Value; D]>,
+        place: usize,
+    ) -> bool
+        requires arity { steps.now.arity ≡ N }
+        requires first { CanReach (shape_of steps.now.arity steps.now.dimensions.now) cap_layer
+            (length first.siblings.now) }
+        requires queries { CanCompare (shape_of steps.now.arity steps.now.dimensions.now) cap_layer queries.now }
+        requires place { place < length queries.now.paths.items }
+        ensures { let f = functions_by H.hash C.compression (replicate D PW.default_value) self.now in
+            let s = shape_of steps.now.arity steps.now.dimensions.now in
+            IsTrue result → AgreeBelow f s (opening_in first.entry) (query_in queries.now place) cap_layer }
+    {
+        let second = queries.opening(place);
+        self.agree(steps, cap_layer, first, second)
+    }
+
+    /// Whether the check of an opening agrees with that of each query at every place that both share. The checks of the
+    /// queries agree among themselves, so that it is compared with those of the nearest indices on both sides alone:
+    /// they share each node that any query shares with it.
+    fn agrees_with_all(
+        &self,
+        steps: &Steps<'_>,
+        cap_layer: usize,
+        first: OpeningRef<'_, P::Value, [PW::Value; D]>,
+        queries: &RestoredQueries<'_, P::Value, [PW::Value; D]>,
+    ) -> bool
+        requires arity { steps.now.arity ≡ N }
+        requires first { CanReach (shape_of steps.now.arity steps.now.dimensions.now) cap_layer
+            (length first.siblings.now) }
+        requires queries { CanCompare (shape_of steps.now.arity steps.now.dimensions.now) cap_layer queries.now }
+        requires consistent { let f = functions_by H.hash C.compression (replicate D PW.default_value) self.now in
+            AreConsistent f (shape_of steps.now.arity steps.now.dimensions.now) cap_layer queries.now }
+        requires leaves { HasLeaves queries.now }
+        ensures { let f = functions_by H.hash C.compression (replicate D PW.default_value) self.now in
+            let s = shape_of steps.now.arity steps.now.dimensions.now in
+            let o = opening_in first.entry in
+            IsTrue result → AgreesWithAll P.Value.eq PW.Value.eq f s cap_layer o queries.now }
+    {
+        if queries.paths.is_empty() {
+            return true;
+        }
+        let (below, above) = queries.neighbours(first.index);
+        if !self.agrees_with(steps, cap_layer, first, queries, below) {
+            return false;
+        }
+        above == below || self.agrees_with(steps, cap_layer, first, queries, above)
     }
 
     /// The first of some queries whose check differs from that of an opening at a place that both share, by its place
@@ -107,6 +194,9 @@ impl<
         requires first { CanReach (shape_of steps.now.arity steps.now.dimensions.now) cap_layer
             (length first.siblings.now) }
         requires queries { CanCompare (shape_of steps.now.arity steps.now.dimensions.now) cap_layer queries.now }
+        requires consistent { let f = functions_by H.hash C.compression (replicate D PW.default_value) self.now in
+            AreConsistent f (shape_of steps.now.arity steps.now.dimensions.now) cap_layer queries.now }
+        requires leaves { HasLeaves queries.now }
         ensures { let f = functions_by H.hash C.compression (replicate D PW.default_value) self.now in
             let s = shape_of steps.now.arity steps.now.dimensions.now in
             let o = opening_in first.entry in
@@ -115,6 +205,9 @@ impl<
             (length queries.now.paths.items) in
             IfOk result (λ found. ShowsAt found differs) }
     {
+        if self.agrees_with_all(steps, cap_layer, first, queries) {
+            return Ok(None);
+        }
         for place in 0..queries.paths.len() {
             let second = queries.opening(place);
             let found = self.last_difference(alloc, steps, cap_layer, first, second)?;
@@ -142,6 +235,9 @@ impl<
         requires arity { steps.now.arity ≡ N }
         requires first { CanCompare (shape_of steps.now.arity steps.now.dimensions.now) cap_layer first.now }
         requires second { CanCompare (shape_of steps.now.arity steps.now.dimensions.now) cap_layer second.now }
+        requires consistent { let f = functions_by H.hash C.compression (replicate D PW.default_value) self.now in
+            AreConsistent f (shape_of steps.now.arity steps.now.dimensions.now) cap_layer second.now }
+        requires leaves { HasLeaves second.now }
         ensures { let f = functions_by H.hash C.compression (replicate D PW.default_value) self.now in
             let s = shape_of steps.now.arity steps.now.dimensions.now in
             let differ = first_pair
@@ -164,7 +260,8 @@ impl<
     /// query in its list, from 0, and both inputs at the last such place; or `None` if there is no such pair.
     ///
     /// `N` must be a power of two from 2 to 2^62 and the arity of `steps`, and the cap's layer at most the number of
-    /// levels. It takes the time of a check for each pair of queries.
+    /// levels. It takes the time of four checks for each query of the first opening, and for one of them that of two
+    /// checks for each query of the second.
     ///
     /// # Errors
     ///

@@ -1,5 +1,5 @@
 -- How far the checks of openings have come.
-use Rattle.std.specs.Prelude.{◌≡◌, ◌+◌, ◌-◌, ◌/◌, ◌≤◌, ◌==◌, ℕ, suc, List, [], ◌∷◌, Bool, Option, None, if◌then◌else◌}
+use Rattle.std.specs.Prelude.{◌≡◌, ◌+◌, ◌-◌, ◌/◌, ◌<◌, ◌≤◌, ◌==◌, ℕ, suc, List, [], ◌∷◌, Bool, Option, None, if◌then◌else◌}
 use Rattle.std.specs.Prelude.{drop, take}
 use Rattle.p3_merkle_core.specs.Extraction.{last_difference}
 use Rattle.p3_merkle_core.specs.Geometry.{Shape, ancestor, layer_exponent}
@@ -77,3 +77,18 @@ ShowsLevel {T} {W} test a b first second found =
     (f : Functions T W) (s : Shape) (l : ℕ) (o u : Opening T W) → IsLevelOfCheck f s o l first →
     IsLevelOfCheck f s u l second → a ≡ layer_words s o.rows (suc l) → b ≡ layer_words s u.rows (suc l) →
     Shows found (level_difference test f s l o u)
+
+-- the checks of o and u agree below level l: they have the same words at a leaf that both share, and the same inputs at
+-- each level that both share
+pub record AgreeBelow {T W : Type 0} (f : Functions T W) (s : Shape) (o u : Opening T W) (l : ℕ) : Type 0 where
+  pub leaf : o.index ≡ u.index → layer_words s o.rows 0 ≡ layer_words s u.rows 0
+  pub levels : (k : ℕ) → k < l → ancestor s (suc k) o.index ≡ ancestor s (suc k) u.index →
+      inputs_at f s o k ≡ inputs_at f s u k
+
+-- two levels, where these are the words of the matrices above them, have the same inputs if their checks share them
+abbrev pub AgreeOnLevel : {T W : Type 0} → List T → List T → ComputedLevel (List W) (List (List W)) →
+    ComputedLevel (List W) (List (List W)) → Type 0
+AgreeOnLevel {T} {W} a b first second =
+    (f : Functions T W) (s : Shape) (l : ℕ) (o u : Opening T W) → IsLevelOfCheck f s o l first →
+    IsLevelOfCheck f s u l second → a ≡ layer_words s o.rows (suc l) → b ≡ layer_words s u.rows (suc l) →
+    ancestor s (suc l) o.index ≡ ancestor s (suc l) u.index → inputs_at f s o l ≡ inputs_at f s u l

@@ -1,15 +1,18 @@
 -- Queries of two pruned openings, and the first pair of them whose checks differ.
-use Rattle.std.specs.Prelude.{◌≡◌, ◌<◌, ℕ, Bool, List, [], Option, length, option_map, slice_index_or}
+use Rattle.std.specs.Prelude.{◌≡◌, ◌<◌, ◌≤◌, ℕ, Bool, List, [], Option, None, length, option_map}
+use Rattle.std.specs.Prelude.{slice_index, slice_index_or, ◌⊎◌}
 use Rattle.std.specs.List.{range_with_len}
 use Rattle.p3_merkle_core.specs.Views.{shown_paths, inputs_in}
 use Rattle.p3_merkle_core.specs.Extraction.{difference_of}
 use Rattle.p3_merkle_core.specs.Geometry.{Shape}
+use Rattle.p3_merkle_core.specs.Inner.Agreement.{IsAscending}
 use Rattle.p3_merkle_core.specs.Nodes.{Functions}
 use Rattle.p3_merkle_core.specs.Openings.{Opening, opening_of}
 use Rattle.p3_merkle_core.specs.Checks.{Input, params}
 use Rattle.p3_support.specs.Shown.{row_sets}
 use Rattle.p3_merkle_core.specs.Pruning.{PrunedOpening, opening_at}
 use Rattle.p3_merkle_core.specs.Refusals.{first_of}
+use Rattle.p3_merkle_verifier.specs.Inner.Checks.{AgreeBelow}
 use Rattle.p3_merkle_verifier.specs.Inner.Paths.{CanReach}
 use Rattle.p3_merkle_core.specs.declared.collision.InputPair.{InputPair}
 use Rattle.p3_merkle_verifier.specs.declared.pruned_extraction.RestoredQueries.{RestoredQueries}
@@ -25,6 +28,34 @@ pub record CanCompare {T W : Type 0} (s : Shape) (cap_layer : ℕ) (queries : Re
   pub in_pairs : length queries.sets.now ≡ length queries.paths.items
   pub reach : (k : ℕ) → k < length queries.paths.items → CanReach s cap_layer (length (query_in queries k).siblings)
 
+-- the checks of any two of the queries agree up to the cap
+abbrev pub AreConsistent : {T W : Type 0} → Functions T W → Shape → ℕ → RestoredQueries T (List W) → Type 0
+AreConsistent f s cap_layer queries =
+    (a b : ℕ) → a < length queries.paths.items → b < length queries.paths.items →
+    AgreeBelow f s (query_in queries a) (query_in queries b) cap_layer
+
+-- v is between i and j, or one of them
+abbrev pub IsBetween : ℕ → ℕ → ℕ → Type 0
+IsBetween i v j = ((i ≤ v) × (v ≤ j)) ⊎ ((j ≤ v) × (v ≤ i))
+
+-- query b stands between an index and query k
+pub record StandsBetween {T W : Type 0} (queries : RestoredQueries T (List W)) (index k b : ℕ) : Type 0 where
+  pub inside : b < length queries.paths.items
+  pub between : IsBetween index (query_in queries b).index (query_in queries k).index
+
+-- the leaves of the queries ascend, and each has a query; each query has its leaf among them
+pub record HasLeaves {T W : Type 0} (queries : RestoredQueries T (List W)) : Type 0 where
+  pub ascending : IsAscending queries.leaves.nodes.items
+  pub in_pairs : length queries.leaves.queries.items ≡ length queries.leaves.nodes.items
+  pub inside : (slot : ℕ) → slot < length queries.leaves.nodes.items →
+      slice_index queries.leaves.queries.items slot < length queries.paths.items
+  pub query_of : (slot : ℕ) → slot < length queries.leaves.nodes.items →
+      (query_in queries (slice_index queries.leaves.queries.items slot)).index
+      ≡ slice_index queries.leaves.nodes.items slot
+  pub leaf_of : (k : ℕ) → k < length queries.paths.items → (slot : ℕ) ×
+      (slot < length queries.leaves.nodes.items) ×
+      (slice_index queries.leaves.nodes.items slot ≡ (query_in queries k).index)
+
 -- the queries are those of a pruned opening, each with its restored path
 pub record AreQueriesOf {T W : Type 0} (f : Functions T W) (s : Shape) (cap_layer : ℕ) (p : PrunedOpening T W)
     (queries : RestoredQueries T (List W)) : Type 0 where
@@ -35,6 +66,13 @@ pub record AreQueriesOf {T W : Type 0} (f : Functions T W) (s : Shape) (cap_laye
 unfoldable pub query_difference : {T W : Type 0} → (T → T → Bool) → (W → W → Bool) → Functions T W → Shape → ℕ →
     Opening T W → Opening T W → Option (Input T W × Input T W)
 query_difference row_eq digest_eq f s cap_layer o u = difference_of row_eq digest_eq (params f s cap_layer) o u
+
+-- the check of an opening differs from that of no query
+abbrev pub AgreesWithAll : {T W : Type 0} → (T → T → Bool) → (W → W → Bool) → Functions T W → Shape → ℕ →
+    Opening T W → RestoredQueries T (List W) → Type 0
+AgreesWithAll row_eq digest_eq f s cap_layer o queries =
+    (k : ℕ) → k < length queries.paths.items →
+    query_difference row_eq digest_eq f s cap_layer o (query_in queries k) ≡ None
 
 -- the first place below n at which d answers
 abbrev pub first_place : {X : Type 0} → (ℕ → Option X) → ℕ → Option (ℕ × X)

@@ -1,4 +1,4 @@
-use Rattle.std.proofs.Common.{◌-◌, ◌≤◌, IsTrue, replicate}
+use Rattle.std.proofs.Common.{◌≡◌, ◌-◌, ◌<◌, ◌≤◌, IsTrue, replicate}
 use Rattle.p3_merkle_verifier.specs.Inner.Checks.{functions_by}
 use Rattle.p3_merkle_verifier.specs.Inner.RestoredLevels.{opened_by, tree_of, AreKept, IsLayer}
 use Rattle.p3_merkle_verifier.proofs.pruned.Checker+P+PW+H+C+array+N+array+D+PW+Value.restored_levels.Given as goal
@@ -13,7 +13,9 @@ invariant-loop-layer g l =
     let p = opened_by l.restorable in
     record {
       inside : l.layer ≤ t;
+      above : 0 < l.layer;
       here : IsLayer f s t p l.layer l.covered l.children.items;
+      top : l.layer ≡ t → IsLayer f s t p t l.covered l.children.items;
       kept : IsTrue l.keeps → AreKept f s t p (l.layer - 1) l.levels.items;
     }
 

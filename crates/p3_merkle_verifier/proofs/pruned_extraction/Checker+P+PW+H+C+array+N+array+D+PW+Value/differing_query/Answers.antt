@@ -34,6 +34,18 @@ loop-place-preserved g c =
       | inr ne ↦ c.loop-place.invariant k (omega arith)
     ]
 
+pub returns-then-agrees_with_all : goal.returns-then-agrees_with_all
+returns-then-agrees_with_all g c =
+    let steps = c.args.steps.now in
+    let eq = g.P.Value.PartialEq.eq in
+    let same = g.PW.Value.PartialEq.eq in
+    let f = functions_by g.H.CryptographicHasher.hash g.C.PseudoCompressionFunction.compression
+    (replicate g.row.D g.PW.PackedValue.default_value) c.args.self.now in
+    let s = shape_of steps.arity steps.dimensions.now in
+    found_nowhere (λ b. query_difference eq same f s c.args.cap_layer (opening_in c.args.first)
+    (query_in c.args.queries.now b)) (length c.args.queries.now.paths.items)
+    (c.agrees_with_all.ensures c.if-agrees_with_all.true)
+
 pub returns-in-Some : goal.returns-in-Some
 returns-in-Some g c =
     let steps = c.args.steps.now in

@@ -4,10 +4,10 @@ use Rattle.std.specs.Option.{option_copied}
 use Rattle.p3_merkle_core.specs.Geometry.{shape_of}
 use Rattle.p3_merkle_core.specs.declared.steps.Steps.{Steps}
 use Rattle.p3_merkle_verifier.specs.Inner.Checks.{functions_by}
-use Rattle.p3_merkle_verifier.proofs.PathFacts.{paths_by_levels}
+use Rattle.p3_merkle_verifier.proofs.PathFacts.{leaves_alike, paths_by_levels}
 use Rattle.p3_merkle_verifier.proofs.RefusalFacts.{cap_refusal_alike, out_of_memory, refusal_of_cap, refused_by_cap}
 use Rattle.p3_merkle_verifier.proofs.RefusalFacts.{refused_by_form}
-use Rattle.p3_merkle_verifier.proofs.pruned.Checker+P+PW+H+C+array+N+array+D+PW+Value.restored_paths.Goals as goal
+use Rattle.p3_merkle_verifier.proofs.pruned.Checker+P+PW+H+C+array+N+array+D+PW+Value.restored_queries.Goals as goal
 
 pub returns-in_err-restorable-clause-answer : goal.returns-in_err-restorable-clause-answer
 returns-in_err-restorable-clause-answer g c =
@@ -29,9 +29,9 @@ returns-in_err-levels-clause-answer g c =
     c.from_residual-in_err-levels.result c.in_err-levels.field-0.0 made.ensures.answer alike
     c.from_residual-in_err-levels.ensures.1 c.in_err-levels.ensures.answer
 
-pub returns-in_err-paths_out_of-clause-answer : goal.returns-in_err-paths_out_of-clause-answer
-returns-in_err-paths_out_of-clause-answer g c =
-    out_of_memory c.from_residual-in_err-paths_out_of.result _ c.from_residual-in_err-paths_out_of.ensures.1
+pub returns-in_err-paths-clause-answer : goal.returns-in_err-paths-clause-answer
+returns-in_err-paths-clause-answer g c =
+    out_of_memory c.from_residual-in_err-paths.result _ c.from_residual-in_err-paths.ensures.1
 
 pub returns-clause-answer : goal.returns-clause-answer
 returns-clause-answer g c =
@@ -55,4 +55,11 @@ returns-clause-paths g c =
     let tree = ap (λ (z : Steps). shape_of z.arity z.dimensions.now) made.ensures.steps in
     paths_by_levels f (shape_of steps.arity steps.dimensions.now) c.args.cap_layer made.restorable c.args.opening
     c.in_ok-levels.levels.items _ tree made.ensures.layer made.ensures.opening (c.in_ok-levels.ensures.kept refl)
-    (rw c.deref.ensures.value at c.in_ok-paths_out_of.ensures)
+    (rw c.deref.ensures.value at c.in_ok-paths.ensures)
+
+pub returns-clause-leaves : goal.returns-clause-leaves
+returns-clause-leaves g c =
+    let made = c.in_ok-restorable in
+    let tree = ap (λ (z : Steps). shape_of z.arity z.dimensions.now) made.ensures.steps in
+    leaves_alike (shape_of c.args.steps.now.arity c.args.steps.now.dimensions.now) c.args.opening made.restorable
+    c.in_ok-restorable.leaves tree made.ensures.opening made.ensures.leaves

@@ -1,0 +1,56 @@
+-- What the search among the leaves says of the queries.
+use Rattle.std.proofs.Common.{◌≡◌, ◌-◌, List, ℕ, Ok, Err, arith, inl, length, min, subst}
+use Rattle.std.specs.List.Sorted.{IsBinarySearchResult}
+use Rattle.std.specs.Ordering.{nat_cmp}
+use Rattle.p3_merkle_verifier.proofs.NeighbourFacts.{found_between, found_there, high_there, low_there}
+use Rattle.p3_merkle_verifier.proofs.NeighbourFacts.{missed_between, read_inside}
+use Rattle.p3_merkle_verifier.proofs.pruned_extraction.RestoredQueries+T+array+D+W.neighbours.Goals as goal
+
+pub returns-in-Ok-clause-below : goal.returns-in-Ok-clause-below
+returns-in-Ok-clause-below g c =
+    let search = subst (λ (ns : List ℕ). IsBinarySearchResult (λ y. nat_cmp y c.args.index) ns (Ok c.in-Ok.slot))
+    c.deref.ensures.value c.in-Ok.ensures.position in
+    read_inside c.args.self.now c.args.index c.requires.leaves c.in-Ok.slot c.index.result.now
+    (found_there c.args.self.now c.args.index c.requires.leaves c.in-Ok.slot search) c.index.ensures
+
+pub returns-in-Ok-clause-above : goal.returns-in-Ok-clause-above
+returns-in-Ok-clause-above g c =
+    let search = subst (λ (ns : List ℕ). IsBinarySearchResult (λ y. nat_cmp y c.args.index) ns (Ok c.in-Ok.slot))
+    c.deref.ensures.value c.in-Ok.ensures.position in
+    read_inside c.args.self.now c.args.index c.requires.leaves c.in-Ok.slot c.index-in-Ok.result.now
+    (found_there c.args.self.now c.args.index c.requires.leaves c.in-Ok.slot search) c.index-in-Ok.ensures
+
+pub returns-in-Ok-clause-between : goal.returns-in-Ok-clause-between
+returns-in-Ok-clause-between g c =
+    let search = subst (λ (ns : List ℕ). IsBinarySearchResult (λ y. nat_cmp y c.args.index) ns (Ok c.in-Ok.slot))
+    c.deref.ensures.value c.in-Ok.ensures.position in
+    λ k inside. inl (found_between c.args.self.now c.args.index c.requires.leaves c.in-Ok.slot c.index.result.now
+    search c.index.ensures k inside)
+
+pub returns-in-Err-clause-below : goal.returns-in-Err-clause-below
+returns-in-Err-clause-below g c =
+    let search = subst (λ (ns : List ℕ). IsBinarySearchResult (λ y. nat_cmp y c.args.index) ns (Err c.in-Err.slot))
+    c.deref.ensures.value c.in-Err.ensures.position in
+    read_inside c.args.self.now c.args.index c.requires.leaves c.saturating_sub-below.result c.index-in-Err.result.now
+    (low_there c.args.self.now c.args.index c.requires.leaves c.in-Err.slot c.saturating_sub-below.result
+    search c.requires.some c.saturating_sub-below.ensures) c.index-in-Err.ensures
+
+pub returns-in-Err-clause-above : goal.returns-in-Err-clause-above
+returns-in-Err-clause-above g c =
+    let queries = c.args.self.now.leaves.queries in
+    let high : c.min-above.result ≡ min c.in-Err.slot (length queries.items - 1) =
+    omega (arith, c.min-above.ensures, c.len.ensures, queries.ok.0) in
+    read_inside c.args.self.now c.args.index c.requires.leaves c.min-above.result c.index-in-Err-2.result.now
+    (high_there c.args.self.now c.args.index c.requires.leaves c.in-Err.slot c.min-above.result c.requires.some high)
+    c.index-in-Err-2.ensures
+
+pub returns-in-Err-clause-between : goal.returns-in-Err-clause-between
+returns-in-Err-clause-between g c =
+    let queries = c.args.self.now.leaves.queries in
+    let search = subst (λ (ns : List ℕ). IsBinarySearchResult (λ y. nat_cmp y c.args.index) ns (Err c.in-Err.slot))
+    c.deref.ensures.value c.in-Err.ensures.position in
+    let high : c.min-above.result ≡ min c.in-Err.slot (length queries.items - 1) =
+    omega (arith, c.min-above.ensures, c.len.ensures, queries.ok.0) in
+    missed_between c.args.self.now c.args.index c.requires.leaves c.in-Err.slot c.saturating_sub-below.result
+    c.min-above.result c.index-in-Err.result.now c.index-in-Err-2.result.now search c.saturating_sub-below.ensures high
+    c.index-in-Err.ensures c.index-in-Err-2.ensures

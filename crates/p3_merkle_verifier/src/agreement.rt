@@ -1,0 +1,88 @@
+//! Whether the checks of two openings agree at every place that both share. Nothing is allocated.
+
+ghost use Rattle.std.specs.Prelude.{◌≡◌, IsTrue, length, replicate};
+ghost use Rattle.p3_merkle_core.specs.Geometry.{shape_of};
+ghost use Rattle.p3_merkle_core.specs.Nodes.{functions_of};
+ghost use Rattle.p3_merkle_core.specs.Refusals.{IsEquality};
+ghost use Rattle.p3_merkle_verifier.specs.Inner.Checks.{functions_by, opening_in, AgreeBelow, AgreeOnLevel};
+ghost use Rattle.p3_merkle_verifier.specs.Inner.Collisions.{first_words, second_words};
+ghost use Rattle.p3_merkle_verifier.specs.Inner.Paths.{CanReach};
+
+use crate::extraction::RowPair;
+use crate::openings::OpeningRef;
+use crate::path::{Checker, ComputedLevel};
+use p3_merkle_core::steps::Steps;
+use p3_support::compress::PseudoCompressionFunction;
+use p3_support::hasher::CryptographicHasher;
+use p3_support::packed::PackedValue;
+
+/// Whether two checks have the same inputs on a level, or do not share the node above it. `rows` are the rows of both
+/// openings at the layer above.
+fn levels_agree<T: Eq, W: Copy + Eq, const N: usize, const D: usize>(
+    rows: &RowPair<'_, T>,
+    first: &ComputedLevel<[W; D], [[W; D]; N]>,
+    second: &ComputedLevel<[W; D], [[W; D]; N]>,
+) -> bool
+    ensures { IsEquality T.eq → IsEquality W.eq → IsTrue result →
+        AgreeOnLevel (first_words rows.now) (second_words rows.now) first.now second.now }
+{
+    if first.above.node != second.above.node {
+        return true;
+    }
+    first.group == second.group && (first.pair.is_none() || rows.agree())
+}
+
+impl<
+    'a,
+    P: PackedValue,
+    PW: PackedValue,
+    H: CryptographicHasher<P, PW, D>,
+    C: PseudoCompressionFunction<PW, N, D>,
+    const N: usize,
+    const D: usize,
+> Checker<'a, P, PW, H, C, [[PW::Value; D]; N]> {
+    /// Whether the checks of two openings have the same inputs at every place that both share. Both openings must have
+    /// their siblings up to the cap.
+    pub(crate) fn agree(
+        &self,
+        steps: &Steps<'_>,
+        cap_layer: usize,
+        first: OpeningRef<'_, P::Value, [PW::Value; D]>,
+        second: OpeningRef<'_, P::Value, [PW::Value; D]>,
+    ) -> bool
+        requires arity { steps.now.arity ≡ N }
+        requires first { CanReach (shape_of N steps.now.dimensions.now) cap_layer (length first.siblings.now) }
+        requires second { CanReach (shape_of N steps.now.dimensions.now) cap_layer (length second.siblings.now) }
+        ensures { let f = functions_by H.hash C.compression (replicate D PW.default_value) self.now in
+            IsTrue result → AgreeBelow f (shape_of N steps.now.dimensions.now) (opening_in first.entry)
+            (opening_in second.entry) cap_layer }
+    {
+        let leaves = RowPair {
+            dimensions: steps.dimensions,
+            exponent: steps.exponent,
+            first: first.rows,
+            second: second.rows,
+        };
+        if first.index == second.index && !leaves.agree() {
+            return false;
+        }
+        let mut first_progress = self.leaf(steps, first);
+        let mut second_progress = self.leaf(steps, second);
+        for level in 0..cap_layer {
+            let mine = self.computed_level(steps, cap_layer, level, first, &first_progress);
+            let theirs = self.computed_level(steps, cap_layer, level, second, &second_progress);
+            let rows = RowPair {
+                dimensions: steps.dimensions,
+                exponent: mine.above.exponent,
+                first: first.rows,
+                second: second.rows,
+            };
+            if !levels_agree(&rows, &mine, &theirs) {
+                return false;
+            }
+            first_progress = mine.above;
+            second_progress = theirs.above;
+        }
+        true
+    }
+}
