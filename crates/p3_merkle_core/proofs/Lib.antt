@@ -4,3 +4,4 @@ pub mod Checks
 pub mod Covered
 pub mod Pruned
 pub mod Collisions
+pub mod Growths

@@ -6,3 +6,4 @@ pub mod Steps
 pub mod Levels
 pub mod Shapes
 pub mod Covered
+pub mod Growths

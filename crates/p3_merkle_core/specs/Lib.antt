@@ -7,6 +7,8 @@ pub mod Openings
 pub mod Checks
 pub mod Pruning
 pub mod Refusals
+pub mod Consistency
+pub mod ConsistencyRefusals
 pub mod Presented
 pub mod Extraction
 pub mod Views

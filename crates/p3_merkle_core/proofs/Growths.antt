@@ -1,0 +1,4 @@
+-- Lists that grow: the parts of layers, the digests of a proof of consistency and their number, the values of nodes.
+pub mod HeightFacts
+pub mod PartFacts
+pub mod SentFacts
