@@ -2,3 +2,7 @@
 pub mod HeightFacts
 pub mod PartFacts
 pub mod SentFacts
+pub mod DigestFacts
+pub mod ValueFacts
+pub mod HonestFacts
+pub mod VerdictFacts

@@ -3,10 +3,10 @@
 use Rattle.std.specs.Prelude.{◌≡◌, ℕ, zero, suc, ◌+◌, ◌-◌, ◌*◌, ◌/◌, ◌^◌, ◌<◌, ◌≤◌, ◌==◌, ◌&&◌, ◌||◌, Bool, false, not}
 use Rattle.std.specs.Prelude.{if◌then◌else◌, nat_le, nat_lt, List, length, map, filter, flat_map, zip, slice_get}
 use Rattle.std.specs.Prelude.{slice_index_or, Some}
-use Rattle.std.specs.List.{range_with_len}
+use Rattle.std.specs.List.{range_with_len, AllZip}
 use Rattle.p3_merkle_core.specs.Geometry.{height_limit}
-use Rattle.p3_merkle_core.specs.OneHeight.{cap_layer_of_height}
-use Rattle.p3_merkle_core.specs.Nodes.{Functions}
+use Rattle.p3_merkle_core.specs.OneHeight.{HasHeight, cap_layer_of_height}
+use Rattle.p3_merkle_core.specs.Nodes.{Batch, Functions, Matrix, layer, node, shape}
 use Rattle.p3_merkle_core.specs.Pruning.{value_at}
 use Rattle.p3_merkle_core.specs.declared.consistency.Growth.{Growth}
 
@@ -126,3 +126,27 @@ pub record IsConsistent {T W : Type 0} (e : Evidence T W) (new_cap : List (List 
   pub count : length e.digests ≡ consistency_len e.growth
   pub old_entries : HasEntries e e.old_cap (old_value e) (old_layer e.growth)
   pub new_entries : HasEntries e new_cap (new_value e) (new_layer e.growth)
+
+-- ---- honest proofs
+
+-- a matrix has the width of another one, and the same rows below h
+pub record HasRowsOf {T : Type 0} (h : ℕ) (old new : Matrix T) : Type 0 where
+  pub same_width : new.width ≡ old.width
+  pub same_rows : (j : ℕ) → j < h → new.row j ≡ old.row j
+
+-- a new batch begins with an old one: all matrices of each have the height of the growth, and matrix by matrix the
+-- widths are the same, and the rows below the old height
+pub record BeginsWith {T : Type 0} (g : Growth) (old new : Batch T) : Type 0 where
+  pub old_arity : old.arity ≡ g.arity
+  pub new_arity : new.arity ≡ g.arity
+  pub old_heights : HasHeight (shape old) g.old_height
+  pub new_heights : HasHeight (shape new) g.new_height
+  pub same_matrices : AllZip (HasRowsOf g.old_height) old.matrices new.matrices
+
+-- the values that some nodes have in a tree are the digests of the proof that is read from it
+abbrev pub digests_by : {X : Type 0} → (ℕ → ℕ → X) → Growth → List X
+digests_by value g = map (λ (l, j). value l j) (sent g)
+
+-- the proof from a new batch, beside the cap of an old one
+abbrev pub honest_evidence : {T W : Type 0} → Functions T W → Growth → Batch T → Batch T → Evidence T W
+honest_evidence f g old new = evidence f g (layer f old (old_layer g)) (digests_by (node f new) g)

@@ -9,6 +9,7 @@ pub mod Pruning
 pub mod Refusals
 pub mod Consistency
 pub mod ConsistencyRefusals
+pub mod ConsistencyLaws
 pub mod Presented
 pub mod Extraction
 pub mod Views

@@ -92,7 +92,7 @@ parts_are g some (suc l) =
 
 -- ---- few
 
-ceil_mono : (a b n : ℕ) → 0 < n → a ≤ b → div_ceil a n ≤ div_ceil b n
+pub ceil_mono : (a b n : ℕ) → 0 < n → a ≤ b → div_ceil a n ≤ div_ceil b n
 ceil_mono a b n some le =
     elim (cases_lt (div_ceil b n) (div_ceil a n)) [
       | inl less ↦ absurd (omega (arith, ceil_below a n (div_ceil b n) some less, ceil_covers b n some))
@@ -141,6 +141,11 @@ few_at g some w (suc l) = few_above g.arity (parts_at g l) some (few_at g some w
 pub parts_next : (g : Growth) (l : ℕ) → parts_at g (suc l) ≡ parts_above g.arity (parts_at g l)
 unfolding parts_at
 parts_next g l = refl
+
+-- no leaf is mixed
+pub no_mixed_leaf : (g : Growth) → (parts_at g 0).new_start ≡ (parts_at g 0).old_end
+unfolding parts_at
+no_mixed_leaf g = refl
 
 pub end_le : (g : Growth) → 1 ≤ g.arity → (l : ℕ) → (parts_at g l).end ≤ g.new_height
 unfolding parts_at

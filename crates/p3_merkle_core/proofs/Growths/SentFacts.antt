@@ -155,7 +155,7 @@ module _ (g : Growth) (some : 1 ≤ g.arity) (w : IsGrowth g) (l : ℕ) where
   sent_before : (j : ℕ) → j < children.start → is_sent g l j ≡ false
   sent_before j below = rw (parent_old j below) refl
 
-  sent_old : (j : ℕ) → children.start ≤ j → j < parts.old_end → is_sent g l j ≡ nat_lt l (old_layer g)
+  pub sent_old : (j : ℕ) → children.start ≤ j → j < parts.old_end → is_sent g l j ≡ nat_lt l (old_layer g)
   sent_old j from below =
       rw (
         parent_mixed j from (omega (arith, order.mixed, order.new, order.inside)),
@@ -179,7 +179,7 @@ module _ (g : Growth) (some : 1 ≤ g.arity) (w : IsGrowth g) (l : ℕ) where
         lt-leb parts.new_start j below,
       ) refl
 
-  sent_new : (j : ℕ) → parts.new_start ≤ j → j < children.end → is_sent g l j ≡ true
+  pub sent_new : (j : ℕ) → parts.new_start ≤ j → j < children.end → is_sent g l j ≡ true
   sent_new j from below =
       rw (
         parent_mixed j (omega (arith, order.old, order.mixed)) (omega (arith, order.inside)),
