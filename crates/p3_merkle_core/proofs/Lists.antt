@@ -5,3 +5,4 @@ pub mod GroupFacts
 pub mod FirstPairs
 pub mod ViewFacts
 pub mod SameRows
+pub mod MixedGroups
