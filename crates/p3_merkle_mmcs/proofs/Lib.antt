@@ -5,3 +5,4 @@ pub mod AuthenticFacts
 pub mod CheckFacts
 pub mod PrunedFacts
 pub mod CommitmentFacts
+mod ConsistencyFacts

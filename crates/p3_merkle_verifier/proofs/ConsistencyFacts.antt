@@ -1,12 +1,12 @@
 -- The check of a proof of consistency, layer by layer.
-use Rattle.std.proofs.Common.{◌≡◌, ℕ, zero, suc, ◌+◌, ◌-◌, ◌*◌, ◌/◌, ◌<◌, ◌≤◌, nat_le, nat_lt, Bool, true, false, not, cond}
+use Rattle.std.proofs.Common.{◌≡◌, ℕ, zero, suc, ◌+◌, ◌-◌, ◌*◌, ◌/◌, ◌^◌, ◌<◌, ◌≤◌, nat_le, nat_lt, Bool, true, false, not, cond}
 use Rattle.std.proofs.Common.{List, [], ◌∷◌, ◌++◌, map, filter, take, drop, length, get_or, replicate, refl, ap, sym, ◌∙◌}
-use Rattle.std.proofs.Common.{arith, inl, inr, append-nil, length-append, length-drop, length-take, Option, Some, None}
+use Rattle.std.proofs.Common.{arith, inl, inr, append-nil, length-append, length-drop, length-take, Option, Some, None, subst}
 use Rattle.std.specs.List.{flat_map, range_with_len}
 use Rattle.std.specs.Option.{option_to_list}
 use Rattle.std.proofs.lemmas.Bool.{cases_lt, lt-ltb, le-ltb}
 use Rattle.std.proofs.lemmas.List.{drop_at, map-append, take_at}
-use Rattle.std.proofs.Math.Nat.{div-mul-le_self, mul_comm, mul-le-mul_left, mul-suc}
+use Rattle.std.proofs.Math.Nat.{div-mul-le_self, mul_comm, mul-le-mul_left, mul-sub, mul-suc}
 use Rattle.std.proofs.lemmas.List.FromFn.{length-map-range_with_len}
 use Rattle.p3_merkle_core.specs.Nodes.{padded}
 use Rattle.p3_merkle_core.specs.Consistency.{Evidence, IsGrowth, new_layer, new_value, old_layer, old_value, sent_at, value_over}
@@ -17,7 +17,7 @@ use Rattle.p3_merkle_core.specs.declared.consistency.LayerParts.{LayerParts}
 use Rattle.p3_merkle_core.specs.declared.consistency.MixedChildren.{MixedChildren}
 use Rattle.p3_merkle_core.proofs.Growths.DigestFacts.{AreSent, are_sent}
 use Rattle.p3_merkle_core.proofs.Growths.PartFacts.{AreInOrder, few_at, in_order, parts_next}
-use Rattle.p3_merkle_core.proofs.Growths.SentFacts.{few_sent, num_new, num_old, range_split, sent_more}
+use Rattle.p3_merkle_core.proofs.Growths.SentFacts.{few_sent, fits_count, num_new, num_old, range_split, sent_more}
 use Rattle.p3_merkle_core.proofs.Growths.ValueFacts.{IsTree, look, map_range_same, mixed_computed, new_given, new_group, new_tree}
 use Rattle.p3_merkle_core.proofs.Growths.ValueFacts.{old_above, old_below, old_group, old_tree}
 use Rattle.p3_merkle_core.proofs.Lists.ListFacts.{joined, length-joined_le}
@@ -291,3 +291,139 @@ module _ {T W : Type 0} (e : Evidence T W) (l : ℕ) (r : IsCounted e) (under : 
       old_is ∙ ap (drop children.start) known_is ∙ rest_of v parts.old_end children.start o.old in
       one_above mixed made w less 0 x parts_is (sym count) (omega arith) (λ low. absurd (omega arith)) new_some
       (new_by mixed w less old new x values taken_new x_is)
+
+  -- ---- one turn, by what the code finds
+
+  -- the children and the parts above, of the code
+  pub record IsTurn (k : ℕ) (mixed : MixedNode (List W)) (found : MixedChildren) (up : LayerParts) : Type 0 where
+    pub found_is : found ≡ mixed_children e.growth.arity (parts_at e.growth l)
+    pub up_is : up ≡ parts_above e.growth.arity (parts_at e.growth l)
+    pub old : found.start ≤ found.old_end
+    pub one : found.old_end ≤ found.new_start
+    pub new : found.new_start ≤ found.end
+    pub room : found.end ≤ found.start + k
+    pub first : up.old_end ≤ up.new_start
+    pub left : mixed.used + (found.end - found.new_start) ≤ length e.digests
+    pub left_low : l < old_layer e.growth →
+        mixed.used + (found.old_end - found.start) + (found.end - found.new_start) ≤ length e.digests
+    pub small : mixed.used ≤ 2 ^ 62 + 1
+    pub small_old : found.old_end - found.start ≤ 2 ^ 62
+    pub small_new : found.end - found.new_start ≤ 2 ^ 62
+    pub has_old : l ≤ old_layer e.growth → length (option_to_list mixed.old_value) ≡ found.new_start - found.old_end
+    pub has_new : length (option_to_list mixed.new_value) ≡ found.new_start - found.old_end
+
+  pub turn : (k : ℕ) → e.growth.arity ≡ k → (mixed : MixedNode (List W)) → IsAtMixed e l mixed →
+      (found : MixedChildren) (up : LayerParts) → found ≡ mixed_children k mixed.parts → up ≡ parts_above k mixed.parts →
+      IsTurn k mixed found up
+  turn k same mixed w found up found_is up_is =
+      let f : found ≡ children = found_is ∙ ap (mixed_children k) w.parts_are
+      ∙ ap (λ x. mixed_children x (parts_at e.growth l)) (sym same) in
+      let u : up ≡ above = up_is ∙ ap (parts_above k) w.parts_are
+      ∙ ap (λ x. parts_above x (parts_at e.growth l)) (sym same) in
+      let o = children_in_order in
+      let few : AreFew above = rw parts_next at (few_at e.growth some r.heights (suc l)) in
+      let fits = fits_count e.growth r.arity r.heights l under in
+      let d = above.new_start - above.old_end in
+      let bound : n * d ≤ n * 1 = mul-le-mul_left n (omega (arith, few.one_mixed)) in
+      let spread : n * above.new_start - n * above.old_end ≡ n * d = sym (mul-sub n above.new_start above.old_end) in
+      let width : children.end ≤ children.start + n = omega (arith, o.inside, o.old, o.mixed, o.new, bound, spread) in
+      let all_old : l < old_layer e.growth → num_old e.growth l ≡ parts.old_end - children.start =
+      λ low. rw (lt-ltb l (old_layer e.growth) low) refl in
+      let at = length-map-range_with_len in
+      rw (f, u) (record {
+        found_is = refl;
+        up_is = refl;
+        old = o.old;
+        one = o.mixed;
+        new = o.new;
+        room = omega (arith, width, same);
+        first = few.old_first;
+        left = omega (arith, enough, w.taken);
+        left_low = λ low. omega (arith, enough, w.taken, all_old low);
+        small = omega (arith, fits.few, w.taken);
+        small_old = omega (arith, o.old, bound, width, r.arity.fits, o.mixed, o.new);
+        small_new = omega (arith, width, r.arity.fits, o.old, o.mixed);
+        has_old = λ le. ap length (w.old_is le)
+            ∙ at (old_value e l) parts.old_end (parts.new_start - parts.old_end);
+        has_new = ap length w.new_is ∙ at (new_value e l) parts.old_end (parts.new_start - parts.old_end);
+      })
+
+  -- no node above is mixed
+  pub turned_none : (k : ℕ) → e.growth.arity ≡ k → (mixed made : MixedNode (List W)) → IsAtMixed e l mixed →
+      (found : MixedChildren) (up : LayerParts) → found ≡ mixed_children k mixed.parts → up ≡ parts_above k mixed.parts →
+      up.old_end ≡ up.new_start → made.parts ≡ up → made.used ≡ mixed.used → made.old_value ≡ None →
+      made.new_value ≡ None → IsAtMixed e (suc l) made
+  turned_none k same mixed made w found up found_is up_is none parts_is used_is old_none new_none =
+      let t = turn k same mixed w found up found_is up_is in
+      none_above mixed made w (sym (ap (λ (p : LayerParts). p.old_end) t.up_is) ∙ none
+      ∙ ap (λ (p : LayerParts). p.new_start) t.up_is) (parts_is ∙ t.up_is) used_is old_none new_none
+
+  less_above : (up : LayerParts) → up ≡ above → up.old_end ≤ up.new_start → (up.old_end ≡ up.new_start → ⊥) →
+      above.old_end < above.new_start
+  less_above up is le other =
+      let a = ap (λ (p : LayerParts). p.old_end) is in
+      let b = ap (λ (p : LayerParts). p.new_start) is in
+      elim (cases_lt up.old_end up.new_start) [
+        | inl less ↦ omega (arith, a, b)
+        | inr more ↦ absurd (other (omega arith))
+      ]
+
+  -- one is, below the old cap
+  pub turned_below : (k : ℕ) → e.growth.arity ≡ k → (mixed made : MixedNode (List W)) → IsAtMixed e l mixed →
+      l < old_layer e.growth → (found : MixedChildren) (up : LayerParts) → found ≡ mixed_children k mixed.parts →
+      up ≡ parts_above k mixed.parts → (up.old_end ≡ up.new_start → ⊥) → (a b : ℕ) → a ≡ found.old_end - found.start →
+      b ≡ found.end - found.new_start → (old new : List (List W)) (x y : List W) → made.parts ≡ up →
+      made.used ≡ (mixed.used + a) + b → old ≡ take ((mixed.used + a) - mixed.used) (drop mixed.used e.digests) →
+      new ≡ take (((mixed.used + a) + b) - (mixed.used + a)) (drop (mixed.used + a) e.digests) →
+      made.old_value ≡ Some y →
+      y ≡ e.functions.compression (padded k e.functions.default_digest ((old ++ option_to_list mixed.old_value) ++ [])) →
+      made.new_value ≡ Some x →
+      x ≡ e.functions.compression (padded k e.functions.default_digest ((old ++ option_to_list mixed.new_value) ++ new)) →
+      IsAtMixed e (suc l) made
+  turned_below k same mixed made w low found up found_is up_is other a b a_is b_is old new x y parts_is used_is old_is
+      new_is old_some y_is new_some x_is =
+      let t = turn k same mixed w found up found_is up_is in
+      let first = a_is ∙ ap (λ (c : MixedChildren). c.old_end - c.start) t.found_is in
+      let second = b_is ∙ ap (λ (c : MixedChildren). c.end - c.new_start) t.found_is in
+      made_below mixed made w low (less_above up t.up_is t.first other) old new x y (mixed.used + a) (parts_is ∙ t.up_is)
+      (ap (λ z. mixed.used + z) first) (used_is ∙ ap (λ z. (mixed.used + a) + z) second) old_is
+      (new_is ∙ ap (λ z. take (z - (mixed.used + a)) (drop (mixed.used + a) e.digests)) (sym used_is)) old_some
+      (y_is ∙ ap (λ z. e.functions.compression (padded z e.functions.default_digest
+      ((old ++ option_to_list mixed.old_value) ++ []))) (sym same)) new_some
+      (x_is ∙ ap (λ z. e.functions.compression (padded z e.functions.default_digest
+      ((old ++ option_to_list mixed.new_value) ++ new))) (sym same))
+
+  -- one is, from the old cap on
+  pub turned_above : (k : ℕ) → e.growth.arity ≡ k → (mixed made : MixedNode (List W)) (known : List (List W)) →
+      IsAtMixed e l mixed → old_layer e.growth ≤ l → known ≡ old_values e.growth (new_value e) l →
+      (found : MixedChildren) (up : LayerParts) → found ≡ mixed_children k mixed.parts → up ≡ parts_above k mixed.parts →
+      (up.old_end ≡ up.new_start → ⊥) → (b : ℕ) → b ≡ found.end - found.new_start → (old new : List (List W))
+      (x : List W) → made.parts ≡ up → made.used ≡ mixed.used + b → old ≡ drop found.start known →
+      new ≡ take ((mixed.used + b) - mixed.used) (drop mixed.used e.digests) → made.new_value ≡ Some x →
+      x ≡ e.functions.compression (padded k e.functions.default_digest ((old ++ option_to_list mixed.new_value) ++ new)) →
+      IsAtMixed e (suc l) made
+  turned_above k same mixed made known w from known_is found up found_is up_is other b b_is old new x parts_is used_is
+      old_is new_is new_some x_is =
+      let t = turn k same mixed w found up found_is up_is in
+      let second = b_is ∙ ap (λ (c : MixedChildren). c.end - c.new_start) t.found_is in
+      made_above mixed made known w from known_is (less_above up t.up_is t.first other) old new x (parts_is ∙ t.up_is)
+      (used_is ∙ ap (λ z. mixed.used + z) second)
+      (old_is ∙ ap (λ (c : MixedChildren). drop c.start known) t.found_is)
+      (new_is ∙ ap (λ z. take (z - mixed.used) (drop mixed.used e.digests)) (sym used_is)) new_some
+      (x_is ∙ ap (λ z. e.functions.compression (padded z e.functions.default_digest
+      ((old ++ option_to_list mixed.new_value) ++ new))) (sym same))
+
+  pub turned_known : (k : ℕ) → e.growth.arity ≡ k → (known made : List (List W)) → old_layer e.growth ≤ l →
+      known ≡ old_values e.growth (new_value e) l →
+      made ≡ map (λ j. e.functions.compression (padded k e.functions.default_digest (take k (drop (k * j) known))))
+      (range_with_len 0 (length known / k)) →
+      made ≡ old_values e.growth (new_value e) (suc l)
+  turned_known k same known made from known_is is =
+      known_above known made from known_is
+      (subst (λ z. made ≡ map (λ j. e.functions.compression (padded z e.functions.default_digest (take z
+      (drop (z * j) known)))) (range_with_len 0 (length known / z))) (sym same) is)
+
+  -- as many old nodes are known as there are
+  pub known_long : (known : List (List W)) → known ≡ old_values e.growth (new_value e) l →
+      length known ≡ (parts_at e.growth l).old_end
+  known_long known is = ap length is ∙ length-map-range_with_len (new_value e l) 0 (parts_at e.growth l).old_end
