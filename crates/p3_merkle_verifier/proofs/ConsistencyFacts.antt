@@ -34,6 +34,12 @@ sent_upto pieces l t le =
       | inr same ↦ let is : l ≡ t = omega arith in rw is (omega arith)
     ]
 
+-- a range from 0 on, in two parts
+pub range_first : (s k : ℕ) → range_with_len 0 (s + k) ≡ range_with_len 0 s ++ range_with_len s k
+range_first s k =
+    let z : 0 + s ≡ s = omega arith in
+    range_split 0 s k ∙ ap (λ x. range_with_len 0 s ++ range_with_len x k) z
+
 -- a piece of values, and those from s on
 piece_of : {Y : Type 0} (v : ℕ → Y) (m s n : ℕ) → s + n ≤ m → take n (drop s (map v (range_with_len 0 m)))
     ≡ map v (range_with_len s n)
@@ -42,7 +48,7 @@ piece_of v m s n room =
     let split : map v (range_with_len 0 m) ≡ map v (range_with_len 0 s) ++ (map v (range_with_len s n) ++
     map v (range_with_len (s + n) (m - (s + n)))) =
     ap (λ k. map v (range_with_len 0 k)) sum
-    ∙ ap (map v) (range_split 0 s (n + (m - (s + n))) ∙ ap (λ ys. range_with_len 0 s ++ ys)
+    ∙ ap (map v) (range_first s (n + (m - (s + n))) ∙ ap (λ ys. range_with_len 0 s ++ ys)
     (range_split s n (m - (s + n))))
     ∙ map-append v (range_with_len 0 s) (range_with_len s n ++ range_with_len (s + n) (m - (s + n)))
     ∙ ap (λ ys. map v (range_with_len 0 s) ++ ys) (map-append v (range_with_len s n) (range_with_len (s + n) (m - (s + n)))) in
@@ -55,7 +61,7 @@ rest_of : {Y : Type 0} (v : ℕ → Y) (m s : ℕ) → s ≤ m → drop s (map v
 rest_of v m s room =
     let sum : m ≡ s + (m - s) = omega arith in
     let split : map v (range_with_len 0 m) ≡ map v (range_with_len 0 s) ++ map v (range_with_len s (m - s)) =
-    ap (λ k. map v (range_with_len 0 k)) sum ∙ ap (map v) (range_split 0 s (m - s))
+    ap (λ k. map v (range_with_len 0 k)) sum ∙ ap (map v) (range_first s (m - s))
     ∙ map-append v (range_with_len 0 s) (range_with_len s (m - s)) in
     rw split (drop_at (map v (range_with_len 0 s)) _ s (length-map-range_with_len v 0 s))
 
@@ -170,11 +176,15 @@ module _ {T W : Type 0} (e : Evidence T W) (l : ℕ) (r : IsCounted e) (under : 
       x ≡ old_value e (suc l) (parts_at e.growth (suc l)).old_end
   old_made mixed w low less old x old_is is =
       let tree = old_tree e some r.heights in
-      is ∙ rw (append-nil (old ++ option_to_list mixed.old_value), old_is, w.taken, w.old_is (omega arith))
-      (ap (λ ys. e.functions.compression (padded n e.functions.default_digest
-      (ys ++ mixed_values e.growth (old_value e) l))) (sym (old_sent e.growth.old_height tree low)))
-      ∙ sym (compressed e.growth.old_height tree less
-      ∙ ap e.functions.compression (old_group e some r.heights l (has_mixed less)))
+      let h = e.growth.old_height in
+      let xs = map (old_value e l) (range_with_len children.start (parts.old_end - children.start)) in
+      let front : old ≡ xs = old_is ∙ ap (λ k. take (parts.old_end - children.start) (drop k e.digests)) w.taken
+      ∙ sym (old_sent h tree low) in
+      let all : (old ++ option_to_list mixed.old_value) ++ [] ≡ xs ++ mixed_values e.growth (old_value e) l =
+      append-nil (old ++ option_to_list mixed.old_value) ∙ ap (λ ys. ys ++ option_to_list mixed.old_value) front
+      ∙ ap (λ ys. xs ++ ys) (w.old_is (omega arith)) in
+      is ∙ ap (λ ys. e.functions.compression (padded n e.functions.default_digest ys)) all
+      ∙ ap e.functions.compression (sym (old_group e some r.heights l (has_mixed less))) ∙ sym (compressed h tree less)
 
   -- the new value above, by its old children
   new_by : (mixed : MixedNode (List W)) → IsAtMixed e l mixed → above.old_end < above.new_start →
@@ -185,12 +195,15 @@ module _ {T W : Type 0} (e : Evidence T W) (l : ℕ) (r : IsCounted e) (under : 
       x ≡ new_value e (suc l) (parts_at e.growth (suc l)).old_end
   new_by mixed w less old new x old_is new_is is =
       let tree = new_tree e some r.heights in
-      is ∙ rw (old_is, new_is, w.new_is)
-      (ap (λ ys. e.functions.compression (padded n e.functions.default_digest
-      (map (new_value e l) (range_with_len children.start (parts.old_end - children.start))
-      ++ mixed_values e.growth (new_value e) l ++ ys))) (sym new_sent))
-      ∙ sym (compressed e.growth.new_height tree less
-      ∙ ap e.functions.compression (new_group e some r.heights l (has_mixed less)))
+      let h = e.growth.new_height in
+      let xs = map (new_value e l) (range_with_len children.start (parts.old_end - children.start)) in
+      let ms = mixed_values e.growth (new_value e) l in
+      let all : (old ++ option_to_list mixed.new_value) ++ new
+      ≡ (xs ++ ms) ++ map (new_value e l) (range_with_len parts.new_start (children.end - parts.new_start)) =
+      ap (λ ys. (ys ++ option_to_list mixed.new_value) ++ new) old_is ∙ ap (λ ys. (xs ++ ys) ++ new) w.new_is
+      ∙ ap (λ ys. (xs ++ ms) ++ ys) (new_is ∙ sym new_sent) in
+      is ∙ ap (λ ys. e.functions.compression (padded n e.functions.default_digest ys)) all
+      ∙ ap e.functions.compression (sym (new_group e some r.heights l (has_mixed less))) ∙ sym (compressed h tree less)
 
   pub one_above : (mixed made : MixedNode (List W)) → IsAtMixed e l mixed → above.old_end < above.new_start →
       (k : ℕ) (x : List W) → made.parts ≡ above → k ≡ num_old e.growth l →
@@ -251,22 +264,26 @@ module _ {T W : Type 0} (e : Evidence T W) (l : ℕ) (r : IsCounted e) (under : 
       made ≡ old_values e.growth (new_value e) (suc l)
   known_above known made from known_is is =
       let v = new_value e l in
-      let count : length known ≡ parts.old_end = ap length known_is ∙ length-map-range_with_len v 0 parts.old_end in
-      let many : length known / n ≡ (parts_at e.growth (suc l)).old_end =
-      ap (λ k. k / n) count ∙ sym (ap (λ (p : LayerParts). p.old_end) (parts_next e.growth l)) in
-      is ∙ ap (λ k. map (λ k. e.functions.compression (padded n e.functions.default_digest (take n (drop (n * k) known))))
-      (range_with_len 0 k)) many
-      ∙ map_range_same _ (new_value e (suc l)) 0 (parts_at e.growth (suc l)).old_end (λ k zero_le below.
+      let d = e.functions.default_digest in
+      let group : ℕ → List W = λ k. e.functions.compression (padded n d (take n (drop (n * k) known))) in
+      let end = (parts_at e.growth (suc l)).old_end in
       let up = parts_next e.growth l in
-      let low : k < parts.old_end / n = rw up at below in
-      let room : n * suc k ≤ parts.old_end = omega (arith, div-mul-le_self parts.old_end n, mul_comm (parts.old_end / n) n,
-      mul-le-mul_left n low) in
+      let count : length known ≡ parts.old_end = ap length known_is ∙ length-map-range_with_len v 0 parts.old_end in
+      let many : length known / n ≡ end = ap (λ k. k / n) count ∙ sym (ap (λ (p : LayerParts). p.old_end) up) in
+      let each : map group (range_with_len 0 end) ≡ map (new_value e (suc l)) (range_with_len 0 end) =
+      map_range_same group (new_value e (suc l)) 0 end (λ k zero_le below.
+      let inside : k < end = omega arith in
+      let low : k < parts.old_end / n = omega (arith, ap (λ (p : LayerParts). p.old_end) up) in
+      let more : n * suc k ≤ n * (parts.old_end / n) = mul-le-mul_left n low in
+      let room : n * k + n ≤ parts.old_end =
+      omega (arith, div-mul-le_self parts.old_end n, mul_comm (parts.old_end / n) n, more, mul-suc n k) in
       let piece : take n (drop (n * k) known) ≡ map v (range_with_len (n * k) n) =
-      rw known_is (piece_of v parts.old_end (n * k) n (omega (arith, room, mul-suc n k))) in
-      let full : padded n e.functions.default_digest (map v (range_with_len (n * k) n)) ≡ map v (range_with_len (n * k) n) =
-      padded_whole n e.functions.default_digest (map v (range_with_len (n * k) n)) (length-map-range_with_len v (n * k) n) in
-      ap (λ ys. e.functions.compression (padded n e.functions.default_digest ys)) piece ∙ ap e.functions.compression full
-      ∙ sym (old_above e some r.heights e.growth.new_height l k (new_tree e some r.heights) below from))
+      ap (λ ys. take n (drop (n * k) ys)) known_is ∙ piece_of v parts.old_end (n * k) n room in
+      let full : padded n d (map v (range_with_len (n * k) n)) ≡ map v (range_with_len (n * k) n) =
+      padded_whole n d (map v (range_with_len (n * k) n)) (length-map-range_with_len v (n * k) n) in
+      ap (λ ys. e.functions.compression (padded n d ys)) piece ∙ ap e.functions.compression full
+      ∙ sym (old_above e some r.heights e.growth.new_height l k (new_tree e some r.heights) inside from)) in
+      is ∙ ap (λ k. map group (range_with_len 0 k)) many ∙ each
 
   pub made_above : (mixed made : MixedNode (List W)) (known : List (List W)) → IsAtMixed e l mixed →
       old_layer e.growth ≤ l → known ≡ old_values e.growth (new_value e) l → above.old_end < above.new_start →
@@ -329,7 +346,6 @@ module _ {T W : Type 0} (e : Evidence T W) (l : ℕ) (r : IsCounted e) (under : 
       let width : children.end ≤ children.start + n = omega (arith, o.inside, o.old, o.mixed, o.new, bound, spread) in
       let all_old : l < old_layer e.growth → num_old e.growth l ≡ parts.old_end - children.start =
       λ low. rw (lt-ltb l (old_layer e.growth) low) refl in
-      let at = length-map-range_with_len in
       rw (f, u) (record {
         found_is = refl;
         up_is = refl;
@@ -344,8 +360,9 @@ module _ {T W : Type 0} (e : Evidence T W) (l : ℕ) (r : IsCounted e) (under : 
         small_old = omega (arith, o.old, bound, width, r.arity.fits, o.mixed, o.new);
         small_new = omega (arith, width, r.arity.fits, o.old, o.mixed);
         has_old = λ le. ap length (w.old_is le)
-            ∙ at (old_value e l) parts.old_end (parts.new_start - parts.old_end);
-        has_new = ap length w.new_is ∙ at (new_value e l) parts.old_end (parts.new_start - parts.old_end);
+            ∙ length-map-range_with_len (old_value e l) parts.old_end (parts.new_start - parts.old_end);
+        has_new = ap length w.new_is
+            ∙ length-map-range_with_len (new_value e l) parts.old_end (parts.new_start - parts.old_end);
       })
 
   -- no node above is mixed

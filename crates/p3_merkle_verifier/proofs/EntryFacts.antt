@@ -22,12 +22,13 @@ use Rattle.p3_merkle_core.specs.ConsistencyRefusals.{consistency_refusal, growth
 use Rattle.p3_merkle_core.specs.Refusals.{is_entry, unless}
 use Rattle.p3_merkle_core.specs.Inner.Growths.{parts_at}
 use Rattle.p3_merkle_core.specs.declared.consistency.Growth.{Growth}
+use Rattle.p3_merkle_core.specs.declared.consistency.LayerParts.{LayerParts}
 use Rattle.p3_merkle_core.specs.declared.error.ConsistencyError.{ConsistencyError}
 use Rattle.p3_merkle_core.specs.declared.error.ConsistencyError.TheVariants.{NewCapMismatch, OldCapMismatch, WrongDigestCount}
 use Rattle.p3_merkle_core.proofs.Checks.Verdicts.{entry_is}
 use Rattle.p3_merkle_core.proofs.Growths.HeightFacts.{levels_is}
 use Rattle.p3_merkle_core.proofs.Growths.PartFacts.{ceil_mono, few_at, no_mixed_leaf, parts_are}
-use Rattle.p3_merkle_core.proofs.Growths.SentFacts.{filter_all, filter_none, range_split}
+use Rattle.p3_merkle_core.proofs.Growths.SentFacts.{filter_all, filter_none}
 use Rattle.p3_merkle_core.proofs.Growths.ValueFacts.{new_tree, old_entry, old_tree}
 use Rattle.p3_merkle_core.proofs.Growths.VerdictFacts.{growth_taken}
 use Rattle.p3_merkle_core.proofs.Shapes.LeastFacts.{exponent_mono}
@@ -35,7 +36,7 @@ use Rattle.p3_merkle_core.proofs.Shapes.QuotientFacts.{ceil_le}
 use Rattle.p3_merkle_core.proofs.Shapes.StepFacts.{whole_step_falls}
 use Rattle.p3_merkle_verifier.specs.Inner.Consistency.{IsAtMixed, IsCounted, mixed_values, old_values}
 use Rattle.p3_merkle_verifier.specs.declared.consistency.MixedNode.{MixedNode}
-use Rattle.p3_merkle_verifier.proofs.ConsistencyFacts.{some_arity}
+use Rattle.p3_merkle_verifier.proofs.ConsistencyFacts.{range_first, some_arity}
 
 -- the old cap is no higher
 pub layers_rise : (g : Growth) → IsArity g.arity → IsGrowth g → old_layer g ≤ new_layer g
@@ -67,7 +68,7 @@ kept_is g some l =
     let new = (parts_are g some l).new in
     let sum : h ≡ a + (h - a) = omega (arith, new_start_le g some l) in
     let split : range_with_len 0 h ≡ range_with_len 0 a ++ range_with_len a (h - a) =
-    ap (range_with_len 0) sum ∙ range_split 0 a (h - a) in
+    ap (range_with_len 0) sum ∙ range_first a (h - a) in
     let front = filter_all p 0 a (λ j from below. not_from_false (is_new g l j) (new j ∙ lt-leb a j (omega arith))) in
     let back = filter_none p a (h - a) (λ j from below. not_from_true (is_new g l j) (new j ∙ le-leb a j from)) in
     ap (filter p) split ∙ filter-append p (range_with_len 0 a) (range_with_len a (h - a))
@@ -110,7 +111,7 @@ module _ {T W : Type 0} (same : W → W → Bool) (dec : (x y : W) → Decides (
       let few = few_at e.growth some c.heights l in
       let sum : parts.new_start ≡ parts.old_end + (parts.new_start - parts.old_end) = omega (arith, few.old_first) in
       ap (list_all p) (kept_is e.growth some l ∙ ap (range_with_len 0) sum
-      ∙ range_split 0 parts.old_end (parts.new_start - parts.old_end))
+      ∙ range_first parts.old_end (parts.new_start - parts.old_end))
       ∙ list_all-append p (range_with_len 0 parts.old_end)
       (range_with_len parts.old_end (parts.new_start - parts.old_end))
 
@@ -148,7 +149,7 @@ module _ {T W : Type 0} (same : W → W → Bool) (dec : (x y : W) → Decides (
   old_entries mixed b w long is =
       let t = old_layer e.growth in
       let end = (parts_at e.growth t).old_end in
-      let at : mixed.parts.old_end ≡ end = rw w.parts_are refl in
+      let at : mixed.parts.old_end ≡ end = ap (λ (p : LayerParts). p.old_end) w.parts_are in
       let first = all_true (λ j. is_entry (pointwise same) e.old_cap j (old_value e t j)) 0 end
       (λ j from below. old_there j (omega arith) (omega arith)) in
       split_entries e.old_cap (old_value e) t
@@ -160,7 +161,7 @@ module _ {T W : Type 0} (same : W → W → Bool) (dec : (x y : W) → Decides (
   old_missing mixed w short =
       let t = old_layer e.growth in
       let end = (parts_at e.growth t).old_end in
-      let at : mixed.parts.old_end ≡ end = rw w.parts_are refl in
+      let at : mixed.parts.old_end ≡ end = ap (λ (p : LayerParts). p.old_end) w.parts_are in
       let j = length e.old_cap in
       let p : ℕ → Bool = λ j. is_entry (pointwise same) e.old_cap j (old_value e t j) in
       let inside : j < length (range_with_len 0 end) = rw (length-range_with_len 0 end) (omega arith) in
@@ -174,7 +175,7 @@ module _ {T W : Type 0} (same : W → W → Bool) (dec : (x y : W) → Decides (
   pub new_entries : (cap : List (List W)) (mixed : MixedNode (List W)) (known : List (List W)) (b d : Bool) →
       IsAtMixed e (new_layer e.growth) mixed → known ≡ old_values e.growth (new_value e) (new_layer e.growth) →
       b ≡ list_all (λ (j, d). is_entry (pointwise same) cap j d) (enumerate_from 0 known) →
-      d ≡ list_all (is_entry (pointwise same) cap (length known)) (option_to_list mixed.new_value) →
+      d ≡ list_all (is_entry (pointwise same) cap mixed.parts.old_end) (option_to_list mixed.new_value) →
       has_entries same e cap (new_value e) (new_layer e.growth) ≡ (b && d)
   new_entries cap mixed known b d w known_is first second =
       let t = new_layer e.growth in
@@ -183,8 +184,8 @@ module _ {T W : Type 0} (same : W → W → Bool) (dec : (x y : W) → Decides (
       let one : b ≡ list_all (λ j. is_entry (pointwise same) cap j (v t j)) (range_with_len 0 end) =
       first ∙ ap (λ ds. list_all (λ (j, d). is_entry (pointwise same) cap j d) (enumerate_from 0 ds)) known_is
       ∙ listed_all (is_entry (pointwise same) cap) (v t) 0 end in
-      let two = mixed_entry cap v t mixed.new_value (length known) d w.new_is
-      (ap length known_is ∙ length-map-range_with_len (v t) 0 end) second in
+      let two = mixed_entry cap v t mixed.new_value mixed.parts.old_end d w.new_is
+      (ap (λ (p : LayerParts). p.old_end) w.parts_are) second in
       split_entries cap v t ∙ rw (← one, ← two) refl
 
   -- ---- the refusals
@@ -194,16 +195,16 @@ module _ {T W : Type 0} (same : W → W → Bool) (dec : (x y : W) → Decides (
 
   pub refused_old : (cap : List (List W)) → has_entries same e e.old_cap (old_value e) (old_layer e.growth) ≡ false →
       consistency_refusal same e cap ≡ Some OldCapMismatch
-  refused_old cap old = rw (heights_pass, eq-eqb _ _ (sym c.count), old) refl
+  refused_old cap old = rw (heights_pass, eq-eqb (consistency_len e.growth) (length e.digests) (sym c.count), old) refl
 
   pub refused_new : (cap : List (List W)) → has_entries same e e.old_cap (old_value e) (old_layer e.growth) ≡ true →
       has_entries same e cap (new_value e) (new_layer e.growth) ≡ false →
       consistency_refusal same e cap ≡ Some NewCapMismatch
-  refused_new cap old new = rw (heights_pass, eq-eqb _ _ (sym c.count), old, new) refl
+  refused_new cap old new = rw (heights_pass, eq-eqb (consistency_len e.growth) (length e.digests) (sym c.count), old, new) refl
 
   pub not_refused : (cap : List (List W)) → has_entries same e e.old_cap (old_value e) (old_layer e.growth) ≡ true →
       has_entries same e cap (new_value e) (new_layer e.growth) ≡ true → consistency_refusal same e cap ≡ None
-  not_refused cap old new = rw (heights_pass, eq-eqb _ _ (sym c.count), old, new) refl
+  not_refused cap old new = rw (heights_pass, eq-eqb (consistency_len e.growth) (length e.digests) (sym c.count), old, new) refl
 
 pub refused_heights : {T W : Type 0} (same : W → W → Bool) (e : Evidence T W) (cap : List (List W)) (x : ConsistencyError) →
     growth_refusal e.growth ≡ Some x → consistency_refusal same e cap ≡ Some x
@@ -237,7 +238,7 @@ pub known_start : {T W : Type 0} (e : Evidence T W) (mixed : MixedNode (List W))
 known_start e mixed known c w long is =
     let t = old_layer e.growth in
     let end = (parts_at e.growth t).old_end in
-    let at : mixed.parts.old_end ≡ end = rw w.parts_are refl in
+    let at : mixed.parts.old_end ≡ end = ap (λ (p : LayerParts). p.old_end) w.parts_are in
     let some = some_arity e.growth.arity c.arity in
     is ∙ ap (λ k. take k e.old_cap) at
     ∙ fill_by_all (new_value e t) (take end e.old_cap) end e.functions.default_digest

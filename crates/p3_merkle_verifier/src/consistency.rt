@@ -288,7 +288,7 @@ impl<
         }
         let (new, known) = self.mixed_at_new_cap(alloc, proof, old)?;
         if are_first_entries(new_roots, &known)
-            && is_mixed_entry(new_roots, known.len(), &new.new_value)
+            && is_mixed_entry(new_roots, new.parts.old_end, &new.new_value)
         {
             Ok(())
         } else {
