@@ -63,6 +63,33 @@ inside_layer s g a w same one l below =
     let count = end_is g a l in
     omega (arith, padded_ge (raw_len s l) s.arity, raw, count, ap (λ n. nodes_of_height n g.new_height l) same)
 
+-- a layer below the new cap is one of the tree's
+pub layer_there : (s : Shape) (g : Growth) → IsArity g.arity → s.arity ≡ g.arity → HasHeight s g.new_height →
+    (l : ℕ) → l < new_layer g → l ≤ levels s
+layer_there s g a same one l below =
+    let own : IsArity s.arity = rw same a in
+    let levels = levels_are s own g.new_height one ∙ ap (λ n. levels_of_height n g.new_height) same in
+    omega (arith, levels)
+
+-- where the children of a mixed node lie in a layer
+pub record AreInside (children : MixedChildren) (len : ℕ) : Type 0 where
+  pub old : children.start ≤ children.old_end
+  pub mixed : children.old_end ≤ children.new_start
+  pub new : children.new_start ≤ children.end
+  pub fits : children.end ≤ len
+
+pub are_inside : (s : Shape) (g : Growth) → IsArity g.arity → IsGrowth g → s.arity ≡ g.arity →
+    HasHeight s g.new_height → (l : ℕ) → l < new_layer g → (n : ℕ) → g.arity ≡ n → (parts : LayerParts)
+    (children : MixedChildren) (len : ℕ) → parts ≡ parts_at g l → children ≡ mixed_children n parts → len ≡ layer_len s l →
+    AreInside children len
+are_inside s g a w same one l below n own parts children len are is long =
+    let some : 1 ≤ g.arity = let two = a.above_1 in omega arith in
+    let o = in_order g.arity (parts_at g l) some (few_at g some w l) in
+    let room = inside_layer s g a w same one l below in
+    let c : children ≡ mixed_children g.arity (parts_at g l) = is ∙ ap (mixed_children n) are
+    ∙ ap (λ k. mixed_children k (parts_at g l)) (sym own) in
+    rw c (record { old = o.old; mixed = o.mixed; new = o.new; fits = omega (arith, o.below, room, long) })
+
 -- the digests of one layer more
 pub more_digests : {X : Type 0} (s : Shape) (g : Growth) → IsArity g.arity → IsGrowth g → s.arity ≡ g.arity →
     HasHeight s g.new_height → (l : ℕ) → l < new_layer g → (layers : List (List X)) (nodes before after : List X) (d : X) →
@@ -71,18 +98,22 @@ pub more_digests : {X : Type 0} (s : Shape) (g : Growth) → IsArity g.arity →
     (range_with_len (mixed_children g.arity (parts_at g l)).start (num_old g l)))
     ++ map (λ j. get_or nodes j d) (range_with_len (parts_at g l).new_start (num_new g l)) →
     after ≡ map (λ (l, j). node_in d layers l j) (joined (sent_at g) (suc l))
-more_digests s g a w same one l below layers nodes before after d r so_far is =
+more_digests {X = X} s g a w same one l below layers nodes before after d r so_far is =
     let some : 1 ≤ g.arity = let two = a.above_1 in omega arith in
-    let v : ℕ × ℕ → _ = λ (l, j). node_in d layers l j in
-    let at : ℕ → _ = λ j. get_or nodes j d in
+    let v : ℕ × ℕ → X = λ (k, j). node_in d layers k j in
+    let at : ℕ → X = λ j. get_or nodes j d in
     let old = range_with_len (mixed_children g.arity (parts_at g l)).start (num_old g l) in
     let new = range_with_len (parts_at g l).new_start (num_new g l) in
     let row = filter (is_sent g l) (range_with_len 0 g.new_height) in
+    let all = joined (sent_at g) l in
+    let read : map v (sent_at g l) ≡ map at row =
+    map_pairs v l row ∙ ap (λ ns. map (λ j. get_or ns j d) row) r.there in
     let here : map v (sent_at g l) ≡ map at old ++ map at new =
-    map_pairs v l row ∙ ap (λ ns. map (λ j. get_or ns j d) row) r.there
-    ∙ ap (map at) (sent_nodes g some w l) ∙ map-append at old new in
-    is ∙ append_assoc before (map at old) (map at new) ∙ rw (so_far, ← here)
-    (sym (rw joined_more (map-append v (joined (sent_at g) l) (sent_at g l))))
+    read ∙ ap (map at) (sent_nodes g some w l) ∙ map-append at old new in
+    let next : map v (joined (sent_at g) (suc l)) ≡ map v all ++ map v (sent_at g l) =
+    ap (map v) (joined_more (sent_at g) l) ∙ map-append v all (sent_at g l) in
+    is ∙ append_assoc before (map at old) (map at new) ∙ ap (λ zs. zs ++ (map at old ++ map at new)) so_far
+    ∙ ap (λ zs. map v all ++ zs) (sym here) ∙ sym next
 
 -- the pieces that are read
 pub old_piece : {X : Type 0} (s : Shape) (g : Growth) → IsArity g.arity → IsGrowth g → s.arity ≡ g.arity →

@@ -1,6 +1,4 @@
-use Rattle.std.proofs.Common.{◌≡◌}
-use Rattle.std.specs.List.{flat_map, range_with_len}
-use Rattle.std.proofs.Common.{map}
+use Rattle.std.proofs.Common.{◌≡◌, map}
 use Rattle.p3_merkle_core.specs.Consistency.{sent_at}
 use Rattle.p3_merkle_core.specs.Inner.Growths.{parts_at}
 use Rattle.p3_merkle_core.specs.Openings.{node_in}
@@ -13,5 +11,5 @@ abbrev pub invariant-loop-layer : goal.invariant-loop-layer
 invariant-loop-layer g l = record {
   parts : l.parts ≡ parts_at l.growth l.layer;
   so_far : (d : g.row.X.Denot) → l.digests.items
-      ≡ map (λ (l, j). node_in d (layers_of l.tree) l j) (joined (sent_at l.growth) l.layer);
+      ≡ map (λ (k, j). node_in d (layers_of l.tree) k j) (joined (sent_at l.growth) l.layer);
 }
