@@ -1,5 +1,6 @@
 -- The mixed node of the next layer, whose old children are known.
-use Rattle.std.proofs.Common.{rules, ◌≡◌, ◌+◌, ◌<◌, ap, arith, length, length-drop, length-take, refl, replicate}
+use Rattle.std.proofs.Common.{◌≡◌, ◌+◌, ◌<◌, ap, arith, length, length-drop, length-take, refl, replicate}
+use Rattle.std.proofs.lemmas.List.{take_rest}
 use Rattle.p3_merkle_core.specs.Consistency.{new_layer}
 use Rattle.p3_merkle_core.specs.declared.consistency.MixedChildren.{MixedChildren}
 use Rattle.p3_merkle_verifier.specs.Inner.Checks.{functions_by}
@@ -133,7 +134,7 @@ returns-clause-mixed g c =
     turned_above e c.args.layer c.requires.counted under g.row.N c.requires.arity c.args.mixed.now _ c.args.known.now
     c.requires.mixed c.requires.above c.requires.known c.up.result.0 c.up.result.1 c.up.ensures.children
     c.up.ensures.above c.if-above.false c.num_new.result c.num_new.ensures _ _ c.mixed_value.result
-    refl refl refl refl refl (first_of (cc, search rules))
+    refl refl (take_rest c.args.known.now c.up.result.0.start) refl refl c.mixed_value.ensures
 
 pub returns-clause-known : goal.returns-clause-known
 returns-clause-known g c =
