@@ -1,6 +1,6 @@
 -- Consistency of a list that grows: all matrices of a batch have one height, and the first rows of the new batch are
 -- those of the old one.
-use Rattle.std.specs.Prelude.{◌≡◌, ℕ, zero, suc, ◌+◌, ◌-◌, ◌*◌, ◌/◌, ◌^◌, ◌<◌, ◌≤◌, ◌==◌, ◌&&◌, ◌||◌, Bool, false, not}
+use Rattle.std.specs.Prelude.{◌≡◌, ℕ, zero, suc, ◌+◌, ◌*◌, ◌/◌, ◌^◌, ◌<◌, ◌≤◌, ◌==◌, ◌&&◌, ◌||◌, Bool, false, not}
 use Rattle.std.specs.Prelude.{if◌then◌else◌, nat_le, nat_lt, List, length, map, filter, flat_map, zip, slice_get}
 use Rattle.std.specs.Prelude.{slice_index_or, Some}
 use Rattle.std.specs.List.{range_with_len, AllZip}

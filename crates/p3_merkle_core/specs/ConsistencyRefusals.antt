@@ -1,9 +1,9 @@
 -- Why the heights of a growth or a proof of consistency are refused: the first reason that holds.
-use Rattle.std.specs.Prelude.{◌≡◌, ℕ, ◌==◌, Bool, not, nat_le, nat_lt, List, [], ◌∷◌, map, length, filter, position}
+use Rattle.std.specs.Prelude.{◌≡◌, ℕ, ◌==◌, Bool, not, nat_le, nat_lt, List, [], ◌∷◌, length, filter, position}
 use Rattle.std.specs.Prelude.{slice_index, Option, None, Result, IsOk}
 use Rattle.std.specs.List.{list_all, range_with_len}
 use Rattle.std.specs.Cmp.Lexicographic.{pointwise}
-use Rattle.std.specs.Option.{option_map, option_or}
+use Rattle.std.specs.Option.{option_map}
 use Rattle.p3_support.specs.Answers.{AnswersUnless}
 use Rattle.p3_merkle_core.specs.Geometry.{height_limit}
 use Rattle.p3_merkle_core.specs.Refusals.{first_some, is_entry, unless}

@@ -1,15 +1,15 @@
 -- How many levels a tree over some rows has.
-use Rattle.std.proofs.Common.{◌≡◌, ℕ, zero, suc, ◌+◌, ◌-◌, ◌*◌, ◌^◌, ◌/◌, ◌%◌, ◌<◌, ◌≤◌, nat_le, refl, ap, sym, ◌∙◌, arith}
+use Rattle.std.proofs.Common.{◌≡◌, ℕ, zero, suc, ◌+◌, ◌-◌, ◌*◌, ◌^◌, ◌<◌, ◌≤◌, nat_le, arith}
 use Rattle.std.proofs.Common.{inl, inr}
 use Rattle.std.specs.Int.{div_ceil}
 use Rattle.std.proofs.lemmas.Bool.{cases_lt, le-leb, leb-false, lt-leb}
-use Rattle.std.proofs.Math.Nat.{mul_comm, mul-le-mul_left, mul-le-mul_right, mul-suc, pow-suc, pow-zero}
+use Rattle.std.proofs.Math.Nat.{mul-le-mul_left, mul-le-mul_right, mul-suc, pow-suc, pow-zero}
 use Rattle.std.proofs.Math.Pow.{pow_mono}
 use Rattle.p3_merkle_core.specs.Geometry.{IsArity, exponent}
 use Rattle.p3_merkle_core.specs.OneHeight.{levels_of_height}
 use Rattle.p3_merkle_core.proofs.Shapes.OneHeight.{arity_power}
 use Rattle.p3_merkle_core.proofs.Shapes.QuotientFacts.{ceil_below, ceil_covers}
-use Rattle.p3_merkle_core.proofs.Shapes.LeastFacts.{below_exponent, below_least, exponent_covers, exponent_le, least_is, n_below_pow}
+use Rattle.p3_merkle_core.proofs.Shapes.LeastFacts.{below_exponent, below_least, exponent_covers, least_is, n_below_pow}
 use Rattle.p3_merkle_core.proofs.Shapes.StepFacts.{whole_step_falls}
 
 -- a tree has as many levels as cover the exponent of its height

@@ -1,20 +1,18 @@
 -- The proof from a new batch that begins with an old one: its values are the nodes of both trees.
-use Rattle.std.proofs.Common.{◌≡◌, ℕ, zero, suc, ◌+◌, ◌-◌, ◌*◌, ◌^◌, ◌<◌, ◌≤◌, ◌⊎◌, nat_le, nat_lt, Bool, true, false, eqb}
-use Rattle.std.proofs.Common.{◌&&◌, ◌||◌, List, [], ◌∷◌, ◌++◌, map, filter, length, get_or, refl, ap, sym, ◌∙◌, arith, inl}
+use Rattle.std.proofs.Common.{◌≡◌, ℕ, zero, suc, ◌+◌, ◌*◌, ◌^◌, ◌<◌, ◌≤◌, ◌⊎◌, Bool, true, eqb}
+use Rattle.std.proofs.Common.{◌&&◌, ◌||◌, List, [], ◌∷◌, ◌++◌, map, filter, get_or, refl, ap, sym, ◌∙◌, arith, inl}
 use Rattle.std.proofs.Common.{inr, slice_get, Some, eq-eqb}
 use Rattle.std.specs.List.{AllZip, flat_map, range_with_len}
-use Rattle.std.specs.Int.{div_ceil}
 use Rattle.std.proofs.lemmas.Bool.{and_from, cases_Bool, cases_lt, le-leb, leb-false, leb-true, lt-leb, lt-ltb, or_left, or_right}
-use Rattle.std.proofs.lemmas.Bool.{true≢false}
 use Rattle.std.proofs.lemmas.List.{length-map}
 use Rattle.std.proofs.lemmas.List.Folds.{list_any-append}
 use Rattle.std.proofs.lemmas.List.FromFn.{get_or-map-range_with_len, length-map-range_with_len}
 use Rattle.std.proofs.lemmas.Option.{slice_get-get_or}
-use Rattle.std.proofs.Math.Nat.{mul-le-mul_left, mul-le-mul_right, mul-one, mul-suc, mul_assoc, mul_comm, pow-suc, pow-zero}
+use Rattle.std.proofs.Math.Nat.{mul-le-mul_left, mul-le-mul_right, mul-suc, mul_assoc, mul_comm, pow-suc, pow-zero}
 use Rattle.p3_merkle_core.specs.Consistency.{BeginsWith, Evidence, HasRowsOf, IsConsistent, IsGrowth, honest_evidence}
-use Rattle.p3_merkle_core.specs.Consistency.{is_beyond, is_new, is_old, is_sent, new_layer, new_value, old_layer, old_value}
+use Rattle.p3_merkle_core.specs.Consistency.{is_sent, new_layer, new_value, old_layer, old_value}
 use Rattle.p3_merkle_core.specs.Consistency.{value_over}
-use Rattle.p3_merkle_core.specs.Consistency.{sent, sent_at}
+use Rattle.p3_merkle_core.specs.Consistency.{sent}
 use Rattle.p3_merkle_core.specs.Geometry.{IsArity, exponent, layer_len, levels, raw_len}
 use Rattle.p3_merkle_core.specs.Nodes.{Batch, Functions, Matrix, joined_rows, layer, node, shape}
 use Rattle.p3_merkle_core.specs.OneHeight.{HasHeight, levels_of_height, nodes_of_height}
@@ -31,7 +29,7 @@ use Rattle.p3_merkle_core.proofs.Growths.ValueFacts.{IsTree, beyond_value, look,
 use Rattle.p3_merkle_core.proofs.Growths.ValueFacts.{new_given, new_tree, old_above, old_below, old_entry, old_tree}
 use Rattle.p3_merkle_core.proofs.Shapes.LeastFacts.{exponent_mono}
 use Rattle.p3_merkle_core.proofs.Shapes.OneHeight.{arity_power_pos, leaf_is, levels_are, node_is, padding_is, raw_is}
-use Rattle.p3_merkle_core.proofs.Shapes.QuotientFacts.{ceil_below, ceil_covers, ceil_le}
+use Rattle.p3_merkle_core.proofs.Shapes.QuotientFacts.{ceil_covers, ceil_le}
 use Rattle.p3_merkle_core.proofs.Shapes.StepFacts.{whole_step_falls}
 
 -- ---- rows

@@ -1,11 +1,10 @@
 -- The parts of a layer, and those of the layer above it.
-use Rattle.std.proofs.Common.{◌≡◌, ℕ, zero, suc, ◌+◌, ◌-◌, ◌*◌, ◌^◌, ◌/◌, ◌%◌, ◌<◌, ◌≤◌, nat_le, nat_lt, true, false}
-use Rattle.std.proofs.Common.{refl, ap, sym, ◌∙◌, arith, inl, inr, min}
+use Rattle.std.proofs.Common.{◌≡◌, ℕ, zero, suc, ◌+◌, ◌-◌, ◌*◌, ◌^◌, ◌/◌, ◌<◌, ◌≤◌, nat_le, nat_lt}
+use Rattle.std.proofs.Common.{refl, ap, sym, ◌∙◌, arith, inl, inr}
 use Rattle.std.specs.Int.{div_ceil}
-use Rattle.std.proofs.lemmas.Bool.{cases_lt, le-leb, lt-leb, leb-true, leb-false, lt-ltb, le-ltb, ltb-true, ltb-false}
+use Rattle.std.proofs.lemmas.Bool.{cases_lt, le-leb, lt-leb, lt-ltb, le-ltb}
 use Rattle.std.proofs.Math.Nat.{le-div_iff_mul-le, mul-one, mul_assoc, mul_comm, mul-le-mul_left, pow-suc, pow-zero}
 use Rattle.std.proofs.Math.Nat.{div-add-mod, mod-lt, mul-suc}
-use Rattle.p3_merkle_core.specs.Geometry.{height_limit}
 use Rattle.p3_merkle_core.specs.Consistency.{IsGrowth, is_beyond, is_new, is_old, is_within}
 use Rattle.p3_merkle_core.specs.Inner.Growths.{AreFew, mixed_children, parts_above, parts_at}
 use Rattle.p3_merkle_core.specs.declared.consistency.Growth.{Growth}

@@ -1,16 +1,16 @@
 -- Which nodes of a layer are sent, and how many.
-use Rattle.std.proofs.Common.{◌≡◌, ℕ, zero, suc, ◌+◌, ◌-◌, ◌*◌, ◌/◌, ◌<◌, ◌≤◌, nat_le, nat_lt, Bool, true, false, not, cond}
-use Rattle.std.proofs.Common.{◌^◌, ◌&&◌, List, [], ◌∷◌, ◌++◌, map, filter, length, refl, ap, sym, ◌∙◌, arith, inl, inr, min}
+use Rattle.std.proofs.Common.{◌≡◌, ℕ, zero, suc, ◌+◌, ◌-◌, ◌*◌, ◌/◌, ◌<◌, ◌≤◌, nat_lt, Bool, true, false, not, cond}
+use Rattle.std.proofs.Common.{◌^◌, ◌&&◌, [], ◌∷◌, ◌++◌, filter, length, refl, ap, sym, ◌∙◌, arith, inl, inr}
 use Rattle.std.proofs.Common.{append-nil, length-append}
 use Rattle.std.specs.List.{range_with_len}
-use Rattle.std.proofs.lemmas.Bool.{cases_lt, le-leb, lt-leb, lt-ltb, le-ltb, and_left, and_right}
+use Rattle.std.proofs.lemmas.Bool.{cases_lt, le-leb, lt-leb, lt-ltb, le-ltb, and_right}
 use Rattle.std.proofs.lemmas.List.{length-map}
 use Rattle.std.proofs.lemmas.List.Elements.{filter-append}
 use Rattle.std.proofs.lemmas.List.FromFn.{length-range_with_len}
-use Rattle.std.proofs.Math.Nat.{div-lt_iff_lt-mul, le-div_iff_mul-le, mul_comm, mul-le-mul_left, mul-sub, mul-suc}
+use Rattle.std.proofs.Math.Nat.{le-div_iff_mul-le, mul_comm, mul-le-mul_left, mul-sub, mul-suc}
 use Rattle.p3_merkle_core.specs.Consistency.{IsGrowth, is_beyond, is_mixed, is_new, is_old, is_sent, is_told, old_layer}
 use Rattle.p3_merkle_core.specs.Geometry.{IsArity}
-use Rattle.p3_merkle_core.specs.Consistency.{consistency_len, new_layer, sent, sent_at}
+use Rattle.p3_merkle_core.specs.Consistency.{consistency_len, new_layer, sent_at}
 use Rattle.p3_merkle_core.specs.Inner.Growths.{AreFew, mixed_children, parts_above, parts_at}
 use Rattle.p3_merkle_core.specs.declared.consistency.Growth.{Growth}
 use Rattle.p3_merkle_core.specs.declared.consistency.LayerParts.{LayerParts}

@@ -1,20 +1,16 @@
 -- The values of old, mixed and new nodes.
-use Rattle.std.proofs.Common.{◌≡◌, ℕ, zero, suc, ◌+◌, ◌-◌, ◌*◌, ◌<◌, ◌≤◌, nat_le, nat_lt, Bool, true, false, not, cond}
-use Rattle.std.proofs.Common.{◌&&◌, ◌||◌, List, [], ◌∷◌, ◌++◌, map, length, get_or, replicate, refl, ap, sym, ◌∙◌, arith, inl}
-use Rattle.std.proofs.Common.{inr, length-append}
+use Rattle.std.proofs.Common.{◌≡◌, ℕ, zero, suc, ◌+◌, ◌-◌, ◌*◌, ◌<◌, ◌≤◌, nat_le, true, false, cond}
+use Rattle.std.proofs.Common.{List, ◌∷◌, ◌++◌, map, get_or, replicate, refl, ap, sym, ◌∙◌, arith}
 use Rattle.std.specs.List.{range_with_len}
-use Rattle.std.proofs.lemmas.Bool.{and_left, and_right, cases_lt, cond-false, cond-true, le-leb, le-ltb, leb-false}
-use Rattle.std.proofs.lemmas.Bool.{leb-true, lt-leb, lt-ltb}
+use Rattle.std.proofs.lemmas.Bool.{and_right, cond-false, cond-true, le-leb, le-ltb}
+use Rattle.std.proofs.lemmas.Bool.{lt-leb, lt-ltb}
 use Rattle.std.proofs.lemmas.List.{append_assoc, map-append}
 use Rattle.std.proofs.lemmas.List.FromFn.{length-map-range_with_len}
 use Rattle.std.proofs.Math.Nat.{mul-suc}
-use Rattle.p3_merkle_core.specs.Nodes.{Functions, padded}
+use Rattle.p3_merkle_core.specs.Nodes.{padded}
 use Rattle.p3_merkle_core.specs.Consistency.{Evidence, IsGrowth, given_digest, is_beyond, is_computed, is_mixed, is_new}
 use Rattle.p3_merkle_core.specs.Consistency.{is_old, is_told, new_value, old_layer, old_value, sent, value_over}
 use Rattle.p3_merkle_core.specs.Inner.Growths.{mixed_children, parts_above, parts_at}
-use Rattle.p3_merkle_core.specs.declared.consistency.Growth.{Growth}
-use Rattle.p3_merkle_core.specs.declared.consistency.LayerParts.{LayerParts}
-use Rattle.p3_merkle_core.specs.declared.consistency.MixedChildren.{MixedChildren}
 use Rattle.p3_merkle_core.proofs.Covered.SentFacts.{sent_for}
 use Rattle.p3_merkle_core.proofs.Growths.PartFacts.{AreInOrder, AreParts, few_at, in_order, parts_are, parts_next}
 use Rattle.p3_merkle_core.proofs.Growths.SentFacts.{range_split}

@@ -1,12 +1,11 @@
 -- The verdict: a proof is accepted exactly if none of the reasons holds.
-use Rattle.std.proofs.Common.{◌≡◌, ◌↔◌, ℕ, zero, suc, ◌+◌, ◌-◌, ◌*◌, ◌^◌, ◌<◌, ◌≤◌, nat_le, nat_lt, Bool, true, false, not, eqb}
-use Rattle.std.proofs.Common.{◌&&◌, List, [], ◌∷◌, ◌++◌, map, filter, length, get_or, refl, ap, sym, ◌∙◌, arith, inl, inr}
-use Rattle.std.proofs.Common.{slice_get, Option, Some, None, eq-eqb}
+use Rattle.std.proofs.Common.{◌≡◌, ◌↔◌, ℕ, zero, suc, ◌+◌, ◌*◌, ◌^◌, ◌<◌, ◌≤◌, nat_le, nat_lt, Bool, true, false, not, eqb}
+use Rattle.std.proofs.Common.{List, [], ◌∷◌, filter, length, refl, ap, sym, ◌∙◌, arith, inl, inr}
+use Rattle.std.proofs.Common.{Option, None, eq-eqb}
 use Rattle.std.specs.Prelude.{Decides}
 use Rattle.std.specs.Cmp.Lexicographic.{pointwise}
 use Rattle.std.specs.List.{list_all, range_with_len}
-use Rattle.std.specs.Option.{option_or}
-use Rattle.std.proofs.lemmas.Bool.{and_from, and_parts, cases_Bool, cases_lt, eqb-true, le-leb, leb-false, leb-true, lt-leb}
+use Rattle.std.proofs.lemmas.Bool.{and_from, and_parts, cases_Bool, cases_lt, eqb-true, le-leb, leb-false, leb-true}
 use Rattle.std.proofs.lemmas.Bool.{lt-ltb, ltb-true, not-true, not_from_false, true≢false}
 use Rattle.std.proofs.Math.Nat.{mul-le-mul_left}
 use Rattle.p3_merkle_core.specs.Geometry.{IsArity, height_limit}
@@ -14,14 +13,13 @@ use Rattle.p3_merkle_core.specs.Consistency.{Evidence, HasEntries, IsConsistent,
 use Rattle.p3_merkle_core.specs.Consistency.{new_layer, new_value, old_layer, old_value}
 use Rattle.p3_merkle_core.specs.ConsistencyRefusals.{consistency_refusal, growth_refusal, has_entries}
 use Rattle.p3_merkle_core.specs.Refusals.{first_some, is_entry, unless}
-use Rattle.p3_merkle_core.specs.Inner.Growths.{parts_at}
 use Rattle.p3_merkle_core.specs.declared.consistency.Growth.{Growth}
 use Rattle.p3_merkle_core.specs.declared.error.ConsistencyError.{ConsistencyError}
 use Rattle.p3_merkle_core.specs.declared.error.ConsistencyError.TheVariants.{EmptyBatch, NewCapMismatch, OldCapMismatch}
 use Rattle.p3_merkle_core.specs.declared.error.ConsistencyError.TheVariants.{Shrunk, TooLarge, WrongDigestCount}
 use Rattle.p3_merkle_core.proofs.Checks.Verdicts.{entry_is}
 use Rattle.p3_merkle_core.proofs.Shapes.OneHeight.{arity_power_pos}
-use Rattle.p3_merkle_core.proofs.Pruned.NoneFacts.{none_parts, none_unless, unless_none}
+use Rattle.p3_merkle_core.proofs.Pruned.NoneFacts.{none_parts, unless_none}
 
 -- ---- heights
 

@@ -2,7 +2,7 @@
 use Rattle.std.proofs.Common.{◌≡◌, ℕ, zero, suc, ◌+◌, ◌-◌, ◌<◌, ◌≤◌, List, [], ◌∷◌, ◌++◌, refl, ap, sym, ◌∙◌, arith, length, append-nil}
 use Rattle.std.proofs.Common.{take, drop, set, replicate, length-append, Option, Some, None}
 use Rattle.std.specs.Option.{option_to_list}
-use Rattle.std.proofs.lemmas.List.{append_assoc, drop-drop, drop-replicate, length-replicate, set-append_right}
+use Rattle.std.proofs.lemmas.List.{append_assoc, drop-drop, drop-replicate, set-append_right}
 use Rattle.std.proofs.Math.Seq.{drop-append-add, take-append_seam}
 use Rattle.p3_merkle_core.specs.Nodes.{padded}
 

@@ -1,5 +1,5 @@
 -- How a walk up the layers of a list that grows finds the parts of each.
-use Rattle.std.specs.Prelude.{◌≡◌, ℕ, zero, suc, ◌*◌, ◌/◌, ◌≤◌, min}
+use Rattle.std.specs.Prelude.{ℕ, zero, suc, ◌*◌, ◌/◌, ◌≤◌, min}
 use Rattle.std.specs.Int.{div_ceil}
 use Rattle.p3_merkle_core.specs.Geometry.{height_limit}
 use Rattle.p3_merkle_core.specs.declared.consistency.Growth.{Growth}

@@ -1,4 +1,4 @@
-use Rattle.std.proofs.Common.{sym, ◌∙◌, refl}
+use Rattle.std.proofs.Common.{sym}
 use Rattle.p3_merkle_core.proofs.Growths.HeightFacts.{levels_is}
 use Rattle.p3_merkle_core.proofs.consistency.levels_of.Goals as goal
 

@@ -1,5 +1,5 @@
 -- Old children, the mixed one, new ones, one behind another.
-use Rattle.std.proofs.Common.{◌≡◌, ◌+◌, ◌-◌, ◌++◌, ◌∷◌, [], ap, arith, length, length-append, refl, replicate, ◌∙◌}
+use Rattle.std.proofs.Common.{◌≡◌, ◌+◌, ◌-◌, ◌++◌, arith, length, length-append, refl, replicate, ◌∙◌}
 use Rattle.std.specs.Option.{option_to_list}
 use Rattle.p3_merkle_core.proofs.Lists.MixedGroups.{all_written, none_written, one_written}
 use Rattle.p3_merkle_core.proofs.group.mixed_group.Goals as goal

@@ -2,8 +2,6 @@ use Rattle.std.proofs.Common.{ap, length, arith, ◌+◌, ◌*◌, ◌^◌}
 use Rattle.std.proofs.lemmas.Bool.{leb-true}
 use Rattle.p3_merkle_core.specs.Consistency.{sent_at}
 use Rattle.p3_merkle_core.proofs.Growths.SentFacts.{len_bound}
-use Rattle.p3_merkle_core.proofs.Growths.DigestFacts.{are_sent}
-use Rattle.p3_merkle_core.proofs.Growths.ValueFacts.{new_group, old_group}
 use Rattle.p3_merkle_core.proofs.Growths.HonestFacts.{honest_consistent, old_levels, one_value}
 use Rattle.p3_merkle_core.proofs.Growths.VerdictFacts.{unrefused_consistent}
 use Rattle.p3_merkle_core.proofs.Lists.ListFacts.{joined}

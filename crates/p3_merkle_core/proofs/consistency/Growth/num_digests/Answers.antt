@@ -1,5 +1,5 @@
 -- Each turn counts the digests of one layer.
-use Rattle.std.proofs.Common.{◌≡◌, ◌≤◌, ◌<◌, add-one, ap, arith, length, refl, sym, ◌∙◌}
+use Rattle.std.proofs.Common.{◌≡◌, ◌≤◌, add-one, ap, arith, length, sym, ◌∙◌}
 use Rattle.p3_merkle_core.specs.Consistency.{new_layer, sent_at}
 use Rattle.p3_merkle_core.specs.Inner.Growths.{parts_above, parts_at}
 use Rattle.p3_merkle_core.proofs.Growths.PartFacts.{few_at, in_order, parts_next}
