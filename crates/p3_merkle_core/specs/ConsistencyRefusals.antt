@@ -3,7 +3,7 @@ use Rattle.std.specs.Prelude.{◌≡◌, ℕ, ◌==◌, Bool, not, nat_le, nat_l
 use Rattle.std.specs.Prelude.{slice_index, Option, None, Result, IsOk}
 use Rattle.std.specs.List.{list_all, range_with_len}
 use Rattle.std.specs.Cmp.Lexicographic.{pointwise}
-use Rattle.std.specs.Option.{option_map}
+use Rattle.std.specs.Option.{option_map, option_or}
 use Rattle.p3_support.specs.Answers.{AnswersUnless}
 use Rattle.p3_merkle_core.specs.Geometry.{height_limit}
 use Rattle.p3_merkle_core.specs.Refusals.{first_some, is_entry, unless}
@@ -33,6 +33,10 @@ growth_refusal g =
     ∷ unless (nat_le g.new_height height_limit) (TooLarge g.new_height)
     ∷ unless (nat_le g.old_height g.new_height) (Shrunk g.old_height g.new_height)
     ∷ [])
+
+-- why matrices of these heights prove no such growth: they differ, else the heights of the growth
+abbrev pub proof_refusal : List ℕ → Growth → Option ConsistencyError
+proof_refusal hs g = option_or (one_height_refusal hs) (growth_refusal g)
 
 -- whether a cap has the value of each node of layer l that is old or mixed
 abbrev pub has_entries : {T W : Type 0} → (W → W → Bool) → Evidence T W → List (List W) → (ℕ → ℕ → List W) → ℕ → Bool
