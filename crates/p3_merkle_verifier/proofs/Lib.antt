@@ -15,3 +15,5 @@ mod PlaceFacts
 mod PairFacts
 mod QueryFacts
 mod RefusalFacts
+mod ConsistencyFacts
+mod EntryFacts

@@ -5,6 +5,7 @@
 //! entries. It borrows a hash and a compression, and knows no scheme.
 #![tactic(auto)]
 
+pub mod consistency;
 mod extraction;
 mod nodes;
 pub mod openings;
