@@ -34,6 +34,10 @@ growth_refusal g =
     ∷ unless (nat_le g.old_height g.new_height) (Shrunk g.old_height g.new_height)
     ∷ [])
 
+-- why matrices of these heights prove no such growth: they differ, else the heights of the growth
+abbrev pub proof_refusal : List ℕ → Growth → Option ConsistencyError
+proof_refusal hs g = option_or (one_height_refusal hs) (growth_refusal g)
+
 -- whether a cap has the value of each node of layer l that is old or mixed
 abbrev pub has_entries : {T W : Type 0} → (W → W → Bool) → Evidence T W → List (List W) → (ℕ → ℕ → List W) → ℕ → Bool
 has_entries digest_eq e cap value l =

@@ -21,4 +21,5 @@ pub mod NodeExamples
 pub mod OpeningExamples
 pub mod PruningExamples
 pub mod PrunedCallExamples
+pub mod ConsistencyExamples
 pub mod Inner

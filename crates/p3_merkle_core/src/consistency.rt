@@ -1,15 +1,17 @@
 //! Consistency of a list of rows that grows: which nodes are old, mixed and new, and how many digests a proof has.
 //! Nothing here calls a hash or allocates.
 
-ghost use Rattle.std.specs.Prelude.{◌≡◌, ◌-◌, ◌≤◌, MatchResult, None, Some};
+ghost use Rattle.std.specs.Prelude.{◌≡◌, ◌-◌, ◌≤◌, All, IfOk, MatchResult, None, Some};
+ghost use Rattle.p3_support.specs.Batches.{heights_of};
 ghost use Rattle.p3_merkle_core.specs.Geometry.{height_limit, IsArity};
 ghost use Rattle.p3_merkle_core.specs.OneHeight.{levels_of_height};
 ghost use Rattle.p3_merkle_core.specs.Consistency.{consistency_len, new_layer, old_layer, IsGrowth};
-ghost use Rattle.p3_merkle_core.specs.ConsistencyRefusals.{growth_refusal};
+ghost use Rattle.p3_merkle_core.specs.ConsistencyRefusals.{growth_refusal, one_height_refusal};
 ghost use Rattle.p3_merkle_core.specs.Inner.Growths.{mixed_children, parts_above, parts_at, AreFew};
 
 use crate::error::ConsistencyError;
 use crate::geometry::{MAX_HEIGHT, exponent_of};
+use p3_support::matrix::Dimensions;
 
 /// The digests that show that a list of rows begins with the rows of an older list. `X` is a digest.
 #[derive(Debug, Clone, PartialEq, Eq, Drop)]
@@ -55,6 +57,30 @@ pub struct MixedChildren {
     pub new_start: usize,
     /// Behind the last new child that is no padding.
     pub end: usize,
+}
+
+/// The height that all matrices have, in rows; 0 if there are none.
+///
+/// # Errors
+///
+/// `HeightsDiffer` for the first matrix that has not the height of the first one.
+pub fn one_height_of(dimensions: &[Dimensions]) -> Result<usize, ConsistencyError>
+    ensures answer { let refusal = one_height_refusal (heights_of dimensions.now) in
+        MatchResult result (λ h. refusal ≡ None) (λ e. refusal ≡ Some e) }
+    ensures each { IfOk result (λ h. All (λ d. d.height ≡ h) dimensions.now) }
+{
+    let Some(first) = dimensions.first() else {
+        return Ok(0);
+    };
+    let height = first.height;
+    match dimensions
+        .iter()
+        .map(|matrix| matrix.height)
+        .position(|other| other != height)
+    {
+        Some(matrix) => Err(ConsistencyError::HeightsDiffer { matrix }),
+        None => Ok(height),
+    }
 }
 
 /// How many levels a tree over `height` rows has. The arity must be a power of two from 2 to 2^62.
