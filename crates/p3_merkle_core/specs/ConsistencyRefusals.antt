@@ -3,7 +3,7 @@ use Rattle.std.specs.Prelude.{◌≡◌, ℕ, ◌==◌, Bool, not, nat_le, nat_l
 use Rattle.std.specs.Prelude.{slice_index, Option, None, Result, IsOk}
 use Rattle.std.specs.List.{list_all, range_with_len}
 use Rattle.std.specs.Cmp.Lexicographic.{pointwise}
-use Rattle.std.specs.Option.{option_map}
+use Rattle.std.specs.Option.{option_map, option_or}
 use Rattle.p3_support.specs.Answers.{AnswersUnless}
 use Rattle.p3_merkle_core.specs.Geometry.{height_limit}
 use Rattle.p3_merkle_core.specs.Refusals.{first_some, is_entry, unless}
