@@ -1,7 +1,6 @@
 //! Consistency: that the rows of a tree begin with those that were committed to before, in a shorter tree.
 
-ghost use Rattle.std.specs.Prelude.{◌≡◌, ◌-◌, ◌*◌, ◌+◌, ◌≤◌, IfOk, None, map};
-ghost use Rattle.p3_merkle_core.specs.Checks.{Params};
+ghost use Rattle.std.specs.Prelude.{◌≡◌, ◌-◌, ◌*◌, ◌+◌, ◌≤◌, [], IfOk};
 ghost use Rattle.p3_merkle_core.specs.Commitments.{cap_over, IsOwn};
 ghost use Rattle.p3_merkle_core.specs.Consistency.{consistency_len as len_of, digests_by, evidence, new_layer};
 ghost use Rattle.p3_merkle_core.specs.Consistency.{BeginsWith, IsConsistent};
