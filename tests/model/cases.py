@@ -1,5 +1,6 @@
 """What the definitions answer to a case: a line of fields with | between them, of which the first is the kind."""
 
+import consistency
 import geometry
 import notation
 import sha256
@@ -464,6 +465,34 @@ def salted_sweep(fields):
     return notation.print_numbers(counted_sweep(scheme, fields))
 
 
+def consistency_len(fields):
+    scheme, old, new = fields.scheme(), fields.number(), fields.number()
+    refused = consistency.height_refusal(old, new)
+    return refused or str(len(consistency.Growth(scheme.arity, scheme.cap_height, old, new).sent()))
+
+
+def prove_consistency(fields):
+    scheme, old, matrices = fields.scheme(), fields.number(), notation.matrices(fields.take())
+    new = len(matrices[0])
+    refused = consistency.differing(matrices) or consistency.height_refusal(old, new)
+    growth = refused or consistency.Growth(scheme.arity, scheme.cap_height, old, new)
+    return refused or notation.print_numbers(consistency.proof(growth, matrices))
+
+
+def verify_consistency(fields):
+    scheme = fields.scheme()
+    old, old_cap = fields.number(), fields.numbers()
+    new, new_cap, digests = fields.number(), fields.numbers(), fields.numbers()
+    refused = consistency.height_refusal(old, new)
+    growth = refused or consistency.Growth(scheme.arity, scheme.cap_height, old, new)
+    return verdict(refused or growth.refusal(old_cap, new_cap, digests))
+
+
+def consistency_sweep(fields):
+    scheme = fields.scheme()
+    return notation.print_numbers(consistency.swept(scheme.arity, scheme.cap_height, fields.number()))
+
+
 KINDS = {
     "hash": hash_of, "compress": compress, "sha256": sha256_message, "sha256_rows": sha256_rows,
     "sha256_groups": sha256_groups, "sha256_commit": sha256_commit, "sha256_open": sha256_open,
@@ -478,7 +507,9 @@ KINDS = {
     "salted_verify_pruned": salted_verify_pruned, "restore": restore, "extract": extract_leaf,
     "extract_pruned": extract_leaves, "salted_extract": salted_extract,
     "salted_extract_pruned": salted_extract_pruned, "known": known, "sweep": sweep,
-    "salted_sweep": salted_sweep, "sha256_sweep": sha256_sweep,
+    "salted_sweep": salted_sweep, "sha256_sweep": sha256_sweep, "consistency_len": consistency_len,
+    "prove_consistency": prove_consistency, "verify_consistency": verify_consistency,
+    "consistency_sweep": consistency_sweep,
 }
 
 

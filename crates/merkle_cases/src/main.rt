@@ -15,6 +15,7 @@ mod batches;
 mod builders;
 mod case;
 mod committed;
+mod consistency;
 mod extract;
 mod fields;
 mod geometry;
@@ -93,6 +94,10 @@ fn answer_of_tree<const N: usize>(case: &mut Case<'_>, keyword: &str) -> Result<
         "builders" => builders::builders::<N>(case),
         "pruned_len" => pruned::pruned_len::<N>(case),
         "restore" => pruned::restore::<N>(case),
+        "consistency_len" => consistency::len::<N>(case),
+        "prove_consistency" => consistency::prove::<N>(case),
+        "verify_consistency" => consistency::verify::<N>(case),
+        "consistency_sweep" => consistency::sweep::<N>(case),
         _ => answer_of_scheme::<N>(case, keyword),
     }
 }
@@ -161,6 +166,7 @@ fn answer_or_refuse(case: &mut Case<'_>) -> Result<(), &'static str> {
         case.answer = Answer::new(case.alloc);
         match &fault {
             Fault::Refused(error) => case.answer.error(error),
+            Fault::Inconsistent(error) => case.answer.consistency_error(error),
             Fault::Wrong(way) => case.answer.push(way),
             Fault::Unreadable(reason) => return Err(reason),
         }

@@ -1,6 +1,6 @@
 //! How answers are written.
 
-use p3_merkle_tree::{MerkleAuthPath, MerkleTreeError, PartsError};
+use p3_merkle_tree::{ConsistencyError, MerkleAuthPath, MerkleTreeError, PartsError};
 use p3_support::matrix::Dimensions;
 use std::alloc::Global;
 use std::fmt::Write;
@@ -68,6 +68,13 @@ impl Answer {
 
     /// Writes the text of an error of parts.
     pub fn parts_error(&mut self, error: &PartsError) {
+        if write!(self.text, "{error}").is_err() {
+            self.is_cut = true;
+        }
+    }
+
+    /// Writes the text of an error of a proof of consistency.
+    pub fn consistency_error(&mut self, error: &ConsistencyError) {
         if write!(self.text, "{error}").is_err() {
             self.is_cut = true;
         }

@@ -5,3 +5,4 @@ pub mod Covered
 pub mod Pruned
 pub mod Collisions
 pub mod InParts
+pub mod Growths

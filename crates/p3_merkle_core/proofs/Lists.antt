@@ -6,3 +6,4 @@ pub mod FirstPairs
 pub mod ViewFacts
 pub mod SameRows
 pub mod RunFacts
+pub mod MixedGroups

@@ -7,3 +7,4 @@ pub mod Levels
 pub mod Shapes
 pub mod Covered
 pub mod Raised
+pub mod Growths

@@ -8,6 +8,9 @@ pub mod Checks
 pub mod Pruning
 pub mod Refusals
 pub mod Parts
+pub mod Consistency
+pub mod ConsistencyRefusals
+pub mod ConsistencyLaws
 pub mod Presented
 pub mod Extraction
 pub mod Views
@@ -19,4 +22,5 @@ pub mod NodeExamples
 pub mod OpeningExamples
 pub mod PruningExamples
 pub mod PrunedCallExamples
+pub mod ConsistencyExamples
 pub mod Inner

@@ -108,6 +108,73 @@ pub enum MerkleTreeError {
     OutOfMemory,
 }
 
+/// Why heights or a proof of consistency are refused, where a list of rows grows.
+///
+/// A call answers the first of these that holds, in this order; `OutOfMemory` may come at any time.
+#[derive(Debug, PartialEq, Eq, Drop, Error)]
+pub enum ConsistencyError {
+    /// The matrices of a batch have not all one height.
+    #[error("heights differ: matrix {matrix} has another height than matrix 0")]
+    HeightsDiffer {
+        /// The place in input order of the first matrix that has not the height of the first one.
+        matrix: usize,
+    },
+    /// The old height or the new one is 0.
+    #[error("empty batch: a height is 0")]
+    EmptyBatch,
+    /// A height is above 2^62, the greatest one allowed: the old one, else the new one.
+    #[error("height {height} is too large")]
+    TooLarge {
+        /// The height, in rows.
+        height: usize,
+    },
+    /// The new height is below the old one.
+    #[error("shrunk: old height {old}, new height {new}")]
+    Shrunk {
+        /// The old height, in rows.
+        old: usize,
+        /// The new height, in rows.
+        new: usize,
+    },
+    /// The number of digests is not what the heights require.
+    #[error("wrong digest count: expected {expected}, got {got}")]
+    WrongDigestCount {
+        /// How many digests the heights require.
+        expected: usize,
+        /// How many digests the proof has.
+        got: usize,
+    },
+    /// An entry of the old cap that is read is missing, or is another digest than the one computed.
+    #[error("old cap mismatch: an entry is missing or is another digest than the one computed")]
+    OldCapMismatch,
+    /// An entry of the new cap that is read is missing, or is another digest than the one computed.
+    #[error("new cap mismatch: an entry is missing or is another digest than the one computed")]
+    NewCapMismatch,
+    /// Memory ran out.
+    #[error("out of memory")]
+    OutOfMemory,
+}
+
+impl From<AllocError> for ConsistencyError {
+    ghost use Rattle.p3_merkle_core.specs.declared.error.ConsistencyError.TheVariants.{OutOfMemory};
+
+    ghost from_gives = { λ _ e. e ≡ OutOfMemory };
+
+    fn from(_error: AllocError) -> ConsistencyError {
+        ConsistencyError::OutOfMemory
+    }
+}
+
+impl<T: Drop> From<AllocFailed<T>> for ConsistencyError {
+    ghost use Rattle.p3_merkle_core.specs.declared.error.ConsistencyError.TheVariants.{OutOfMemory};
+
+    ghost from_gives = { λ _ e. e ≡ OutOfMemory };
+
+    fn from(_error: AllocFailed<T>) -> ConsistencyError {
+        ConsistencyError::OutOfMemory
+    }
+}
+
 impl From<PrunedProofError> for MerkleTreeError {
     ghost from_gives = { λ inner e. e ≡ MalformedPrunedProof inner };
 

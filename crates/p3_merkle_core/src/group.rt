@@ -1,6 +1,7 @@
 //! Groups of digests, as a compression takes them.
 
-ghost use Rattle.std.specs.Prelude.{◌≡◌, ◌+◌, ◌<◌, ◌≤◌, ◌∷◌, [], length, insert};
+ghost use Rattle.std.specs.Prelude.{◌≡◌, ◌+◌, ◌<◌, ◌≤◌, ◌∷◌, ◌++◌, [], length, insert};
+ghost use Rattle.std.specs.Option.{option_to_list};
 ghost use Rattle.p3_merkle_core.specs.Nodes.{padded};
 
 /// A digest at its place among its siblings, then default digests: what a compression of `N` digests takes where a
@@ -39,6 +40,29 @@ pub fn padded_group<W: Copy, const N: usize, const D: usize>(
         return *group;
     }
     group_with(default_digest, children[0], 0, &children[1..])
+}
+
+/// The children of a mixed node of a list that grows, then default digests: its old children, the mixed one if there is
+/// one, its new ones. There must be at most `N`.
+pub fn mixed_group<W: Copy, const N: usize, const D: usize>(
+    default_digest: [W; D],
+    old: &[[W; D]],
+    mixed: Option<[W; D]>,
+    new: &[[W; D]],
+) -> [[W; D]; N]
+    requires { length old.now + length (option_to_list mixed) + length new.now ≤ N }
+    ensures { result ≡ padded N default_digest (old.now ++ option_to_list mixed ++ new.now) }
+{
+    let mut group = [default_digest; N];
+    let slots = &mut group[..];
+    let mut end = old.len();
+    slots[..end].copy_from_slice(old);
+    if let Some(digest) = mixed {
+        slots[end] = digest;
+        end += 1;
+    }
+    slots[end..end + new.len()].copy_from_slice(new);
+    group
 }
 
 /// Two digests, then default digests: the digest of a node's children beside that of its rows. `N` must be at least 2.

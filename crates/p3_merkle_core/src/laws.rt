@@ -20,6 +20,9 @@ ghost use Rattle.p3_merkle_core.specs.Laws.{PartsMakeLayers, PartsMakeRoots};
 ghost use Rattle.p3_merkle_core.specs.Laws.{RootIsAlone, RowsAreAncestors, RowsAreBound, RulesAgree};
 ghost use Rattle.p3_merkle_core.specs.Laws.{ScheduleStopsAtCap, TestedIsArity, UnrefusedIsLawful, WalkEnds};
 
+ghost use Rattle.p3_merkle_core.specs.ConsistencyLaws.{HonestIsConsistent, OldNodesStay, ProofsAreShort};
+ghost use Rattle.p3_merkle_core.specs.ConsistencyLaws.{UnrefusedIsConsistent};
+
 use crate::collision::{Collision, InputPair, Place};
 use crate::error::{MerkleTreeError, PartsError, PrunedProofError};
 use crate::pruning::{MerkleAuthPath, PrunedBatchOpening, PrunedMerklePaths};
@@ -220,4 +223,15 @@ pub fn boundary()
     ensures least { BoundaryIsLeast }
     ensures apart { BoundaryNodesAreApart }
     ensures held { BoundaryNodesAreHeld }
+{}
+
+/// A proof of consistency has at most `N - 1` digests for each layer below the new cap, and one more.
+///
+/// If a new batch begins with the rows of an old one, each old node has one value in both trees, and the proof that is
+/// read from the new tree is accepted under both caps. A proof that is not refused is one that is accepted.
+pub fn consistency<T, W>()
+    ensures short { ProofsAreShort }
+    ensures one_value { OldNodesStay T W }
+    ensures honest { HonestIsConsistent T W }
+    ensures unrefused { UnrefusedIsConsistent T W }
 {}

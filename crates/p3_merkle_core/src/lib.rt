@@ -6,6 +6,7 @@
 pub mod agreement;
 pub mod cap;
 pub mod collision;
+pub mod consistency;
 pub mod error;
 pub mod geometry;
 pub mod group;

@@ -6,3 +6,4 @@ pub mod CheckFacts
 pub mod PrunedFacts
 pub mod CommitmentFacts
 pub mod PartFacts
+mod ConsistencyFacts

@@ -9,6 +9,7 @@ use Rattle.p3_merkle_core.specs.Geometry.{Shape, shape_of}
 use Rattle.p3_support.specs.declared.matrix.Dimensions.{Dimensions}
 use Rattle.p3_merkle_core.specs.declared.cap.CapRule.{CapRule}
 use Rattle.p3_merkle_core.specs.Nodes.{Functions, functions_of}
+use Rattle.p3_merkle_core.specs.declared.consistency.Growth.{Growth}
 use Rattle.p3_merkle_mmcs.specs.declared.mmcs.Scheme.{Scheme}
 
 module _ {P PW H C X G V W : Type 0} {N : ℕ} {p : packed.Ghosts P V} {pd : default.Ghosts V} {pe : equality.Ghosts V}
@@ -53,6 +54,11 @@ module _ {P PW H C X G V W : Type 0} {N : ℕ} {p : packed.Ghosts P V} {pd : def
   -- the layer that is the scheme's cap over matrices of these dimensions
   abbrev pub cap_layer_of : Scheme P PW H C X G N V W p pd pe q qd qe → List Dimensions → ℕ
   cap_layer_of scheme dimensions = cap_layer_over scheme (shape_of N dimensions)
+
+  -- a list that grows between these heights, under the scheme's arity and cap height
+  abbrev pub growth_of : Scheme P PW H C X G N V W p pd pe q qd qe → ℕ → ℕ → Growth
+  growth_of scheme old_height new_height =
+      record { arity = N; cap_height = scheme.cap_height; old_height = old_height; new_height = new_height }
 
 -- two schemes have one hasher, one compression, one cap height and one rule
 pub record IsSameScheme {P PW H C X G V W : Type 0} {N : ℕ} {p : packed.Ghosts P V} {pd : default.Ghosts V}

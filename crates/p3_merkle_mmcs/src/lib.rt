@@ -2,6 +2,7 @@
 //! extracts collisions from them.
 #![tactic(auto)]
 
+mod consistency;
 mod extract;
 pub mod mmcs;
 mod parts;

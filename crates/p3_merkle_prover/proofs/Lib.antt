@@ -5,3 +5,4 @@ pub mod BoundaryFacts
 pub mod LayerFacts
 pub mod BuildFacts
 pub mod NodeFacts
+pub mod GrowthFacts

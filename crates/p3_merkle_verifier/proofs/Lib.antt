@@ -18,3 +18,5 @@ mod AgreeFacts
 mod NeighbourFacts
 mod EqualRuns
 mod RefusalFacts
+mod ConsistencyFacts
+mod EntryFacts

@@ -7,3 +7,4 @@ pub mod OpenedMatrices
 pub mod OpenedRows
 pub mod RestoredLevels
 pub mod QueryPairs
+pub mod Consistency

@@ -6,6 +6,7 @@
 #![tactic(auto)]
 
 mod agreement;
+pub mod consistency;
 mod extraction;
 mod nodes;
 pub mod openings;

@@ -140,7 +140,7 @@ impl<
     /// # Errors
     ///
     /// `AllocError` if memory runs out.
-    fn group_digests(
+    pub(crate) fn group_digests(
         &self,
         alloc: Global,
         children: &[[PW::Value; D]],

@@ -20,7 +20,7 @@ use Rattle.p3_merkle_core.proofs.Covered.Equivalence.{restored_leaf, restored_ne
 use Rattle.p3_merkle_core.specs.Checks.{params}
 
 -- what was sent for a node that is listed
-found : {X : Type 0} (given : List (ℕ × ℕ)) (g : ℕ × ℕ → X) (d : X) (l j : ℕ) → is_in given l j ≡ true →
+pub found : {X : Type 0} (given : List (ℕ × ℕ)) (g : ℕ × ℕ → X) (d : X) (l j : ℕ) → is_in given l j ≡ true →
     unwrap_or (option_map (λ (place, digest). digest)
     (find (λ ((m, k), digest). eqb m l && eqb k j) (zip given (map g given)))) d ≡ g (l, j)
 found [] g d l j e = absurd (true≢false (sym e))

@@ -14,7 +14,7 @@ use Rattle.p3_merkle_core.specs.Checks.{params}
 
 -- ---- nodes that stand once
 
-abbrev AreOnce : List (ℕ × ℕ) → Type 0
+abbrev pub AreOnce : List (ℕ × ℕ) → Type 0
 AreOnce [] = Unit {0}
 AreOnce ((m, k) ∷ given) = (is_in given m k ≡ false) × AreOnce given
 
@@ -57,7 +57,7 @@ same_on f g ((m, k) ∷ xs) h =
     )
     refl
 
-all_sent : {Y : Type 0} (given : List (ℕ × ℕ)) (ds : List Y) (d : Y) → AreOnce given → length ds ≡ length given →
+pub all_sent : {Y : Type 0} (given : List (ℕ × ℕ)) (ds : List Y) (d : Y) → AreOnce given → length ds ≡ length given →
     map (sent_for given ds d) given ≡ ds
 all_sent [] [] d once e = refl
 all_sent [] (y ∷ ds) d once e = absurd (omega arith)
@@ -75,7 +75,7 @@ all_sent ((m, k) ∷ given) (y ∷ ds) d once e =
     ]) in
     rw (own, others) (ap (λ ys. y ∷ ys) (all_sent given ds d once.1 (omega arith)))
 
-map_pairs : {Y : Type 0} (g : ℕ × ℕ → Y) (l : ℕ) (js : List ℕ) → map g (map (λ j. (l, j)) js) ≡ map (λ j. g (l, j)) js
+pub map_pairs : {Y : Type 0} (g : ℕ × ℕ → Y) (l : ℕ) (js : List ℕ) → map g (map (λ j. (l, j)) js) ≡ map (λ j. g (l, j)) js
 map_pairs g l [] = refl
 map_pairs g l (j ∷ js) = ap (λ ys. g (l, j) ∷ ys) (map_pairs g l js)
 

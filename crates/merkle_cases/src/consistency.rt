@@ -1,0 +1,209 @@
+//! Proofs of consistency of a list of rows that grows.
+
+ghost use Rattle.std.specs.Prelude.{◌≤◌, IsTrue};
+ghost use Rattle.p3_merkle_core.specs.Geometry.{is_arity};
+
+use crate::case::Case;
+use crate::fields::Fault;
+use crate::scheme::{FoldCap, FoldScheme, fold_scheme, fold_tree};
+use p3_merkle_tree::{ConsistencyError, ConsistencyProof, MerkleCap};
+use p3_support::matrix::RowMajorMatrix;
+use std::alloc::Global;
+use test_fixtures::matrices::numbered;
+
+/// `consistency_len | ARITY | CAP | OLD HEIGHT | NEW HEIGHT | DIGESTS`: how many digests a proof has.
+pub fn len<const N: usize>(case: &mut Case<'_>) -> Result<(), Fault>
+    requires arity { IsTrue (is_arity N) }
+    requires few { N ≤ 16 }
+{
+    let scheme = fold_scheme::<N>(case.fields.cap());
+    let old_height = case.fields.number();
+    let new_height = case.fields.number();
+    case.answer
+        .number(scheme.consistency_len(old_height, new_height)?);
+    Ok(())
+}
+
+/// `prove_consistency | ARITY | CAP | OLD HEIGHT | MATRICES | DIGESTS`: the digests by which the tree over matrices
+/// shows that it begins with so many rows.
+pub fn prove<const N: usize>(case: &mut Case<'_>) -> Result<(), Fault>
+    requires arity { IsTrue (is_arity N) }
+    requires few { N ≤ 16 }
+{
+    let scheme = fold_scheme::<N>(case.fields.cap());
+    let old_height = case.fields.number();
+    let matrices = case.fields.matrices();
+    let tree = fold_tree::<RowMajorMatrix<u32>, N>(case.alloc, matrices)?;
+    let proof = scheme.prove_consistency(case.alloc, old_height, &tree)?;
+    case.answer.digests(&proof.digests);
+    Ok(())
+}
+
+/// A growth: both heights, and both caps.
+#[derive(Drop)]
+struct Grown {
+    old_height: usize,
+    old_cap: FoldCap,
+    new_height: usize,
+    new_cap: FoldCap,
+}
+
+impl Grown {
+    /// What is answered to a proof of these digests.
+    fn verdict<const N: usize>(
+        &self,
+        alloc: Global,
+        scheme: &FoldScheme<N>,
+        digests: Vec<[u32; 1]>,
+    ) -> Result<(), ConsistencyError>
+        requires arity { IsTrue (is_arity N) }
+    {
+        scheme.verify_consistency(
+            alloc,
+            &self.old_cap,
+            self.old_height,
+            &self.new_cap,
+            self.new_height,
+            &ConsistencyProof { digests },
+        )
+    }
+}
+
+/// `verify_consistency | ARITY | CAP | OLD HEIGHT | OLD CAP | NEW HEIGHT | NEW CAP | DIGESTS | ANSWER`: the check of a
+/// proof.
+pub fn verify<const N: usize>(case: &mut Case<'_>) -> Result<(), Fault>
+    requires arity { IsTrue (is_arity N) }
+    requires few { N ≤ 16 }
+{
+    let scheme = fold_scheme::<N>(case.fields.cap());
+    let grown = Grown {
+        old_height: case.fields.number(),
+        old_cap: MerkleCap::new(case.fields.digests()),
+        new_height: case.fields.number(),
+        new_cap: MerkleCap::new(case.fields.digests()),
+    };
+    let digests = case.fields.digests();
+    grown.verdict::<N>(case.alloc, &scheme, digests)?;
+    case.answer.push("accepted");
+    Ok(())
+}
+
+/// What a sweep has tried: proofs, their digests, and how many of them are refused by each cap if they are changed.
+#[derive(Clone, Copy)]
+struct Counts {
+    proofs: usize,
+    digests: usize,
+    old_mismatches: usize,
+    new_mismatches: usize,
+}
+
+impl Counts {
+    /// One more changed digest, which a cap has to refuse.
+    fn add_changed(&mut self, verdict: &Result<(), ConsistencyError>) -> Result<(), Fault> {
+        match verdict {
+            Err(ConsistencyError::OldCapMismatch) => {
+                self.old_mismatches = self.old_mismatches.saturating_add(1)
+            }
+            Err(ConsistencyError::NewCapMismatch) => {
+                self.new_mismatches = self.new_mismatches.saturating_add(1)
+            }
+            _ => return Err(Fault::Wrong("a changed digest is answered otherwise")),
+        }
+        Ok(())
+    }
+}
+
+/// Fails where a proof with the digest at a place left out, or with one more, is answered otherwise than by the count.
+fn check_counts<const N: usize>(
+    alloc: Global,
+    scheme: &FoldScheme<N>,
+    grown: &Grown,
+    digests: &[[u32; 1]],
+    place: usize,
+) -> Result<(), Fault>
+    requires arity { IsTrue (is_arity N) }
+{
+    let mut fewer = Vec::new(alloc);
+    let mut more = Vec::new(alloc);
+    for (k, digest) in digests.iter().enumerate() {
+        more.push(*digest)?;
+        if k == place {
+            more.push(*digest)?;
+        } else {
+            fewer.push(*digest)?;
+        }
+    }
+    let expected = digests.len();
+    for others in [fewer, more] {
+        let got = others.len();
+        match grown.verdict::<N>(alloc, scheme, others) {
+            Err(ConsistencyError::WrongDigestCount {
+                expected: wanted,
+                got: counted,
+            }) if wanted == expected && counted == got => {}
+            _ => return Err(Fault::Wrong("another count is answered otherwise")),
+        }
+    }
+    Ok(())
+}
+
+/// Tries the growth of a column from one height to another: the proof, and each of its digests changed, left out and
+/// doubled.
+fn check_growth<const N: usize>(
+    alloc: Global,
+    scheme: &FoldScheme<N>,
+    old_height: usize,
+    new_height: usize,
+    counts: &mut Counts,
+) -> Result<(), Fault>
+    requires arity { IsTrue (is_arity N) }
+{
+    let (old_cap, _) = scheme.commit(alloc, numbered(alloc, &[(1, old_height)])?)?;
+    let (new_cap, tree) = scheme.commit(alloc, numbered(alloc, &[(1, new_height)])?)?;
+    let digests = scheme.prove_consistency(alloc, old_height, &tree)?.digests;
+    let grown = Grown {
+        old_height,
+        old_cap,
+        new_height,
+        new_cap,
+    };
+    grown.verdict::<N>(alloc, scheme, digests.clone()?)?;
+    for place in 0..digests.len() {
+        let mut changed = digests.clone()?;
+        changed[place] = [digests[place][0] ^ 1];
+        counts.add_changed(&grown.verdict::<N>(alloc, scheme, changed))?;
+        check_counts(alloc, scheme, &grown, &digests, place)?;
+    }
+    counts.proofs = counts.proofs.saturating_add(1);
+    counts.digests = counts.digests.saturating_add(digests.len());
+    Ok(())
+}
+
+/// `consistency_sweep | ARITY | CAP | TALLEST | PROOFS DIGESTS OLD NEW`: columns of all heights up to the tallest, each
+/// grown to each height from its own on. The proof is accepted. If one of its digests is changed, so many are refused by
+/// the old cap and so many by the new one; if one is left out or doubled, the count is refused.
+pub fn sweep<const N: usize>(case: &mut Case<'_>) -> Result<(), Fault>
+    requires arity { IsTrue (is_arity N) }
+    requires few { N ≤ 16 }
+{
+    let scheme = fold_scheme::<N>(case.fields.cap());
+    let tallest = case.fields.number().min(64);
+    let mut counts = Counts {
+        proofs: 0,
+        digests: 0,
+        old_mismatches: 0,
+        new_mismatches: 0,
+    };
+    for old_height in 1..tallest + 1 {
+        for new_height in old_height..tallest + 1 {
+            check_growth(case.alloc, &scheme, old_height, new_height, &mut counts)?;
+        }
+    }
+    case.answer.numbers(&[
+        counts.proofs,
+        counts.digests,
+        counts.old_mismatches,
+        counts.new_mismatches,
+    ]);
+    Ok(())
+}

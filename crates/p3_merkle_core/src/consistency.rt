@@ -1,0 +1,210 @@
+//! Consistency of a list of rows that grows: which nodes are old, mixed and new, and how many digests a proof has.
+//! Nothing here calls a hash or allocates.
+
+ghost use Rattle.std.specs.Prelude.{◌≡◌, ◌-◌, ◌≤◌, All, IfOk, MatchResult, None, Some};
+ghost use Rattle.p3_support.specs.Batches.{heights_of};
+ghost use Rattle.p3_merkle_core.specs.Geometry.{height_limit, IsArity};
+ghost use Rattle.p3_merkle_core.specs.OneHeight.{levels_of_height};
+ghost use Rattle.p3_merkle_core.specs.Consistency.{consistency_len, new_layer, old_layer, IsGrowth};
+ghost use Rattle.p3_merkle_core.specs.ConsistencyRefusals.{growth_refusal, one_height_refusal};
+ghost use Rattle.p3_merkle_core.specs.Inner.Growths.{mixed_children, parts_above, parts_at, AreFew};
+
+use crate::error::ConsistencyError;
+use crate::geometry::{MAX_HEIGHT, exponent_of};
+use p3_support::matrix::Dimensions;
+
+/// The digests that show that a list of rows begins with the rows of an older list. `X` is a digest.
+#[derive(Debug, Clone, PartialEq, Eq, Drop)]
+pub struct ConsistencyProof<X> {
+    /// The digests of nodes of the new tree, layer by layer from the leaves up, ascending on each layer.
+    pub digests: Vec<X>,
+}
+
+/// A list of rows that grows, and the shape of the trees over it.
+#[derive(Debug, Clone, Copy)]
+pub struct Growth {
+    /// How many children a node has.
+    pub arity: usize,
+    /// The height of both caps, in levels below the root.
+    pub cap_height: usize,
+    /// The old number of rows.
+    pub old_height: usize,
+    /// The new number of rows.
+    pub new_height: usize,
+}
+
+/// The nodes of a layer: old ones before `old_end`, then at most one that is mixed, then new ones from `new_start` on.
+/// A node is old if all leaves under it are below the old height, new if none is, and mixed if some are.
+#[derive(Clone, Copy)]
+pub struct LayerParts {
+    /// The number of old nodes.
+    pub old_end: usize,
+    /// The number of nodes that are old or mixed.
+    pub new_start: usize,
+    /// The number of nodes of the new tree, without padding.
+    pub end: usize,
+}
+
+/// The children of the mixed node of the layer above: old ones from `start`, at most one that is mixed, new ones from
+/// `new_start` up to `end`. There are none if no node of the layer above is mixed.
+#[derive(Clone, Copy)]
+pub struct MixedChildren {
+    /// The first child.
+    pub start: usize,
+    /// Behind the last old child.
+    pub old_end: usize,
+    /// Behind the mixed child, or behind the last old one.
+    pub new_start: usize,
+    /// Behind the last new child that is no padding.
+    pub end: usize,
+}
+
+/// The height that all matrices have, in rows; 0 if there are none.
+///
+/// # Errors
+///
+/// `HeightsDiffer` for the first matrix that has not the height of the first one.
+pub fn one_height_of(dimensions: &[Dimensions]) -> Result<usize, ConsistencyError>
+    ensures answer { let refusal = one_height_refusal (heights_of dimensions.now) in
+        MatchResult result (λ h. refusal ≡ None) (λ e. refusal ≡ Some e) }
+    ensures each { IfOk result (λ h. All (λ d. d.height ≡ h) dimensions.now) }
+{
+    let Some(first) = dimensions.first() else {
+        return Ok(0);
+    };
+    let height = first.height;
+    match dimensions
+        .iter()
+        .map(|matrix| matrix.height)
+        .position(|other| other != height)
+    {
+        Some(matrix) => Err(ConsistencyError::HeightsDiffer { matrix }),
+        None => Ok(height),
+    }
+}
+
+/// How many levels a tree over `height` rows has. The arity must be a power of two from 2 to 2^62.
+fn levels_of(arity: usize, height: usize) -> usize
+    requires { IsArity arity }
+    ensures { result ≡ levels_of_height arity height }
+{
+    exponent_of(height).div_ceil(exponent_of(arity))
+}
+
+impl LayerParts {
+    /// The children of the mixed node of the layer above, and the parts of that layer. The arity must be from 1 to 2^62,
+    /// and there must be at most 2^62 nodes.
+    pub fn up(self, arity: usize) -> (MixedChildren, LayerParts)
+        requires some { 1 ≤ arity }
+        requires narrow { arity ≤ height_limit }
+        requires few { AreFew self }
+        ensures children { result.0 ≡ mixed_children arity self }
+        ensures above { result.1 ≡ parts_above arity self }
+    {
+        let above = LayerParts {
+            old_end: self.old_end / arity,
+            new_start: self.new_start.div_ceil(arity),
+            end: self.end.div_ceil(arity),
+        };
+        let children = MixedChildren {
+            start: arity * above.old_end,
+            old_end: self.old_end,
+            new_start: self.new_start,
+            end: self.end.min(arity * above.new_start),
+        };
+        (children, above)
+    }
+}
+
+impl MixedChildren {
+    /// How many old children there are.
+    pub fn num_old(&self) -> usize
+        requires { self.now.start ≤ self.now.old_end }
+        ensures { result ≡ self.now.old_end - self.now.start }
+    {
+        self.old_end - self.start
+    }
+
+    /// How many new children there are, without padding.
+    pub fn num_new(&self) -> usize
+        requires { self.now.new_start ≤ self.now.end }
+        ensures { result ≡ self.now.end - self.now.new_start }
+    {
+        self.end - self.new_start
+    }
+}
+
+impl Growth {
+    /// Checks that a list can grow so.
+    ///
+    /// # Errors
+    ///
+    /// The first of these that holds: `EmptyBatch` if a height is 0; `TooLarge` with the old height, else with the new
+    /// one, if that is above [`MAX_HEIGHT`]; `Shrunk` if the new height is below the old one.
+    pub fn check_heights(&self) -> Result<(), ConsistencyError>
+        ensures { MatchResult result (λ ok. growth_refusal self.now ≡ None) (λ e. growth_refusal self.now ≡ Some e) }
+    {
+        let (old, new) = (self.old_height, self.new_height);
+        if old == 0 || new == 0 {
+            return Err(ConsistencyError::EmptyBatch);
+        }
+        if old > MAX_HEIGHT {
+            return Err(ConsistencyError::TooLarge { height: old });
+        }
+        if new > MAX_HEIGHT {
+            return Err(ConsistencyError::TooLarge { height: new });
+        }
+        if new < old {
+            return Err(ConsistencyError::Shrunk { old, new });
+        }
+        Ok(())
+    }
+
+    /// The layer, counted from the leaves, that is the old cap. The arity must be a power of two from 2 to 2^62.
+    pub fn old_cap_layer(&self) -> usize
+        requires { IsArity self.now.arity }
+        ensures { result ≡ old_layer self.now }
+    {
+        levels_of(self.arity, self.old_height).saturating_sub(self.cap_height)
+    }
+
+    /// The layer, counted from the leaves, that is the new cap. The arity must be a power of two from 2 to 2^62.
+    pub fn new_cap_layer(&self) -> usize
+        requires { IsArity self.now.arity }
+        ensures { result ≡ new_layer self.now }
+    {
+        levels_of(self.arity, self.new_height).saturating_sub(self.cap_height)
+    }
+
+    /// The parts of the leaves.
+    pub fn leaves(&self) -> LayerParts
+        ensures { result ≡ parts_at self.now 0 }
+    {
+        LayerParts {
+            old_end: self.old_height,
+            new_start: self.old_height,
+            end: self.new_height,
+        }
+    }
+
+    /// How many digests a proof has. The arity must be a power of two from 2 to 2^62, and
+    /// [`check_heights`](Self::check_heights) must accept the heights. It takes one step a layer.
+    pub fn num_digests(&self) -> usize
+        requires arity { IsArity self.now.arity }
+        requires heights { IsGrowth self.now }
+        ensures { result ≡ consistency_len self.now }
+    {
+        let old_cap_layer = self.old_cap_layer();
+        let mut parts = self.leaves();
+        let mut count = 0;
+        for layer in 0..self.new_cap_layer() {
+            let (children, above) = parts.up(self.arity);
+            if layer < old_cap_layer {
+                count += children.num_old();
+            }
+            count += children.num_new();
+            parts = above;
+        }
+        count
+    }
+}
