@@ -137,10 +137,12 @@ fn check_counts<const N: usize>(
     for others in [fewer, more] {
         let got = others.len();
         match grown.verdict::<N>(alloc, scheme, others) {
-            Err(ConsistencyError::WrongDigestCount {
-                expected: wanted,
-                got: counted,
-            }) if wanted == expected && counted == got => {}
+            Err(
+                ConsistencyError::WrongDigestCount {
+                    expected: wanted,
+                    got: counted,
+                },
+            ) if wanted == expected && counted == got => {}
             _ => return Err(Fault::Wrong("another count is answered otherwise")),
         }
     }

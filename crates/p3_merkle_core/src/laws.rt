@@ -19,7 +19,6 @@ ghost use Rattle.p3_merkle_core.specs.Laws.{LayerHasNodes, OneHeightIsEnough, On
 ghost use Rattle.p3_merkle_core.specs.Laws.{PartsMakeLayers, PartsMakeRoots};
 ghost use Rattle.p3_merkle_core.specs.Laws.{RootIsAlone, RowsAreAncestors, RowsAreBound, RulesAgree};
 ghost use Rattle.p3_merkle_core.specs.Laws.{ScheduleStopsAtCap, TestedIsArity, UnrefusedIsLawful, WalkEnds};
-
 ghost use Rattle.p3_merkle_core.specs.ConsistencyLaws.{HonestIsConsistent, OldNodesStay, ProofsAreShort};
 ghost use Rattle.p3_merkle_core.specs.ConsistencyLaws.{UnrefusedIsConsistent};
 

@@ -71,12 +71,16 @@ padded_whole n d xs long = let none : n - length xs ≡ 0 = omega arith in rw no
 module _ {T W : Type 0} (e : Evidence T W) (l : ℕ) (r : IsCounted e) (under : l < new_layer e.growth) where
   abbrev g : Growth
   g = e.growth
+
   abbrev n : ℕ
   n = e.growth.arity
+
   abbrev parts : LayerParts
   parts = parts_at e.growth l
+
   abbrev above : LayerParts
   above = parts_above e.growth.arity (parts_at e.growth l)
+
   abbrev children : MixedChildren
   children = mixed_children e.growth.arity (parts_at e.growth l)
 

@@ -46,7 +46,7 @@ layers_rise g a w =
       levels_is g.arity g.old_height a,
       levels_is g.arity g.new_height a,
       ceil_mono (exponent g.old_height) (exponent g.new_height) (exponent g.arity) (whole_step_falls g.arity a.above_1)
-      (exponent_mono g.old_height g.new_height w.grown),
+          (exponent_mono g.old_height g.new_height w.grown),
     )
 
 -- ---- the nodes that have old leaves

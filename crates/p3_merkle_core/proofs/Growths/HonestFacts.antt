@@ -174,7 +174,7 @@ module _ {T W : Type 0} (f : Functions T W) (g : Growth) (old new : Batch T) (a 
         levels_is n g.old_height a,
         levels_is n g.new_height a,
         ceil_mono (exponent g.old_height) (exponent g.new_height) (exponent n) (whole_step_falls n a.above_1)
-        (exponent_mono g.old_height g.new_height w.grown),
+            (exponent_mono g.old_height g.new_height w.grown),
       )
 
   -- a child of an old node is old

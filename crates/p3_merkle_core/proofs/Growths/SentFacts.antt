@@ -107,10 +107,13 @@ num_new_is g l parts children r are is count = rw (← are) (rw is at (sym count
 module _ (g : Growth) (some : 1 ≤ g.arity) (w : IsGrowth g) (l : ℕ) where
   abbrev n : ℕ
   n = g.arity
+
   abbrev parts : LayerParts
   parts = parts_at g l
+
   abbrev above : LayerParts
   above = parts_above g.arity (parts_at g l)
+
   abbrev children : MixedChildren
   children = mixed_children g.arity (parts_at g l)
 

@@ -141,9 +141,9 @@ unrefused_consistent digest_eq e new_cap dec a =
             new_entries = of_new.0 (unless_none new NewCapMismatch f.0);
           },
       λ w. rw (
-          (growth_taken g).1 w.heights,
-          eq-eqb want got (sym w.count),
-          of_old.1 w.old_entries,
-          of_new.1 w.new_entries,
-        ) refl,
+        (growth_taken g).1 w.heights,
+        eq-eqb want got (sym w.count),
+        of_old.1 w.old_entries,
+        of_new.1 w.new_entries,
+      ) refl,
     )

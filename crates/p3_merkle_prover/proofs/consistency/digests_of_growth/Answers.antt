@@ -198,7 +198,7 @@ loop-layer-preserved g c =
           ∙ ap (λ ys. middle ++ take (found.end - found.new_start) (drop found.new_start ys))
           c.deref-in-loop-layer.ensures.value ∙ ap (λ ys. middle ++ ys) piece
           ∙ ap (λ xs. xs ++ map (λ j. get_or nodes j d) news) old)
-      );
+          );
     }
 
 pub returns : goal.returns
