@@ -115,11 +115,8 @@ impl<
     /// rows from the digests of the proof, and compares them.
     ///
     /// The heights are those of all matrices, before and after. They must come from the verifier, never from the proof:
-    /// a cap does not fix them. Entries of either cap that have no old row under them are not read. It takes one step
+    /// a cap does not bind them. Entries of either cap that have no old row under them are not read. It takes one step
     /// for each layer and one for each entry of the old cap, and memory for as many digests as the old cap has entries.
-    ///
-    /// An accepted proof fixes the old rows under the new cap: whoever opens a row differently under both caps has a
-    /// collision.
     ///
     /// # Errors
     ///
