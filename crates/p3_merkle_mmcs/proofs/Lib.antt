@@ -7,3 +7,4 @@ pub mod PrunedFacts
 pub mod CommitmentFacts
 pub mod PartFacts
 mod ConsistencyFacts
+mod OwnGrowth
