@@ -8,7 +8,7 @@ use crate::fields::Fault;
 use crate::scheme::{FoldCap, FoldScheme, fold_scheme, fold_tree};
 use p3_merkle_tree::{ConsistencyError, ConsistencyProof, MerkleCap};
 use p3_support::matrix::RowMajorMatrix;
-use std::alloc::Global;
+use std::alloc::{AllocError, Global};
 use test_fixtures::matrices::numbered;
 
 /// `consistency_len | ARITY | CAP | OLD HEIGHT | NEW HEIGHT | DIGESTS`: how many digests a proof has.
@@ -113,16 +113,12 @@ impl Counts {
     }
 }
 
-/// Fails where a proof with the digest at a place left out, or with one more, is answered otherwise than by the count.
-fn check_counts<const N: usize>(
+/// Some digests without the one at a place, and the same digests with that one doubled.
+fn fewer_and_more(
     alloc: Global,
-    scheme: &FoldScheme<N>,
-    grown: &Grown,
     digests: &[[u32; 1]],
     place: usize,
-) -> Result<(), Fault>
-    requires arity { IsTrue (is_arity N) }
-{
+) -> Result<(Vec<[u32; 1]>, Vec<[u32; 1]>), AllocError> {
     let mut fewer = Vec::new(alloc);
     let mut more = Vec::new(alloc);
     for (k, digest) in digests.iter().enumerate() {
@@ -133,20 +129,25 @@ fn check_counts<const N: usize>(
             fewer.push(*digest)?;
         }
     }
-    let expected = digests.len();
-    for others in [fewer, more] {
-        let got = others.len();
-        match grown.verdict::<N>(alloc, scheme, others) {
-            Err(
-                ConsistencyError::WrongDigestCount {
-                    expected: wanted,
-                    got: counted,
-                },
-            ) if wanted == expected && counted == got => {}
-            _ => return Err(Fault::Wrong("another count is answered otherwise")),
-        }
+    Ok((fewer, more))
+}
+
+/// Fails where a proof of these digests is answered otherwise than by their count.
+fn check_count<const N: usize>(
+    alloc: Global,
+    scheme: &FoldScheme<N>,
+    grown: &Grown,
+    digests: Vec<[u32; 1]>,
+    right: usize,
+) -> Result<(), Fault>
+    requires arity { IsTrue (is_arity N) }
+{
+    let count = digests.len();
+    match grown.verdict::<N>(alloc, scheme, digests) {
+        Err(ConsistencyError::WrongDigestCount { expected, got })
+            if expected == right && got == count => { Ok(()) }
+        _ => Err(Fault::Wrong("another count is answered otherwise")),
     }
-    Ok(())
 }
 
 /// Tries the growth of a column from one height to another: the proof, and each of its digests changed, left out and
@@ -174,7 +175,9 @@ fn check_growth<const N: usize>(
         let mut changed = digests.clone()?;
         changed[place] = [digests[place][0] ^ 1];
         counts.add_changed(&grown.verdict::<N>(alloc, scheme, changed))?;
-        check_counts(alloc, scheme, &grown, &digests, place)?;
+        let (fewer, more) = fewer_and_more(alloc, &digests, place)?;
+        check_count(alloc, scheme, &grown, fewer, digests.len())?;
+        check_count(alloc, scheme, &grown, more, digests.len())?;
     }
     counts.proofs = counts.proofs.saturating_add(1);
     counts.digests = counts.digests.saturating_add(digests.len());
