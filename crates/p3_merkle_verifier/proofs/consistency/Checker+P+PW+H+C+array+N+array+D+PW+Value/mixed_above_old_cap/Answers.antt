@@ -1,6 +1,7 @@
 -- The mixed node of the next layer, whose old children are known.
 use Rattle.std.proofs.Common.{◌≡◌, ◌+◌, ◌<◌, ap, arith, length, length-drop, length-take, refl, replicate}
 use Rattle.std.proofs.lemmas.List.{take_rest}
+use Rattle.std.proofs.lemmas.Result.{err_from_is_err_and}
 use Rattle.p3_merkle_core.specs.Consistency.{new_layer}
 use Rattle.p3_merkle_core.specs.declared.consistency.MixedChildren.{MixedChildren}
 use Rattle.p3_merkle_verifier.specs.Inner.Checks.{functions_by}
@@ -9,6 +10,31 @@ use Rattle.p3_merkle_verifier.proofs.ConsistencyFacts.{few_here, known_long, tur
 use Rattle.p3_merkle_verifier.proofs.ConsistencyFacts.{turned_none}
 use Rattle.p3_merkle_verifier.proofs.EntryFacts.{layers_rise}
 use Rattle.p3_merkle_verifier.proofs.consistency.Checker+P+PW+H+C+array+N+array+D+PW+Value.mixed_above_old_cap.Goals as goal
+
+pub up-requires-clause-some : goal.up-requires-clause-some
+up-requires-clause-some g c = omega (arith, c.requires.arity, c.requires.counted.arity.above_1)
+
+pub up-requires-clause-narrow : goal.up-requires-clause-narrow
+up-requires-clause-narrow g c = omega (arith, c.requires.arity, c.requires.counted.arity.fits)
+
+pub group_digests-requires : goal.group_digests-requires
+group_digests-requires g c = omega (arith, c.requires.arity, c.requires.counted.arity.above_1)
+
+pub slice_bounds-new-count : goal.slice_bounds-new-count
+slice_bounds-new-count g c = omega arith
+
+pub slice_bounds-new-start : goal.slice_bounds-new-start
+slice_bounds-new-start g c = omega arith
+
+pub returns-in_err-known_above-clause-mixed : goal.returns-in_err-known_above-clause-mixed
+returns-in_err-known_above-clause-mixed g c =
+    let p = err_from_is_err_and c.from_residual.result c.from_residual.ensures.1 in
+    rw p.1 tt
+
+pub returns-in_err-known_above-clause-known : goal.returns-in_err-known_above-clause-known
+returns-in_err-known_above-clause-known g c =
+    let p = err_from_is_err_and c.from_residual.result c.from_residual.ensures.1 in
+    rw p.1 tt
 
 pub up-requires-clause-few : goal.up-requires-clause-few
 up-requires-clause-few g c =
