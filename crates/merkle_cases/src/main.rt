@@ -166,7 +166,7 @@ fn answer_or_refuse(case: &mut Case<'_>) -> Result<(), &'static str> {
         case.answer = Answer::new(case.alloc);
         match &fault {
             Fault::Refused(error) => case.answer.error(error),
-            Fault::Inconsistent(error) => case.answer.consistency_error(error),
+            Fault::Inconsistent(error) => case.answer.error(error),
             Fault::Wrong(way) => case.answer.push(way),
             Fault::Unreadable(reason) => return Err(reason),
         }

@@ -31,7 +31,7 @@ pub fn parts<const N: usize>(case: &mut Case<'_>) -> Result<(), Fault>
     let caps = caps_in(case);
     match scheme.cap_of_parts(case.alloc, &caps, &heights) {
         Ok(cap) => case.answer.digests(cap.roots()),
-        Err(error) => case.answer.parts_error(&error),
+        Err(error) => case.answer.error(&error),
     }
     Ok(())
 }

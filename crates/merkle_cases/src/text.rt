@@ -1,9 +1,9 @@
 //! How answers are written.
 
-use p3_merkle_tree::{ConsistencyError, MerkleAuthPath, MerkleTreeError, PartsError};
+use p3_merkle_tree::{MerkleAuthPath, MerkleTreeError};
 use p3_support::matrix::Dimensions;
 use std::alloc::Global;
-use std::fmt::Write;
+use std::fmt::{Display, Write};
 
 /// An answer as far as it has been written. Where there is no memory for a part of it, it is cut off, and says so.
 #[derive(Drop)]
@@ -60,21 +60,7 @@ impl Answer {
     }
 
     /// Writes the text of an error.
-    pub fn error(&mut self, error: &MerkleTreeError) {
-        if write!(self.text, "{error}").is_err() {
-            self.is_cut = true;
-        }
-    }
-
-    /// Writes the text of an error of parts.
-    pub fn parts_error(&mut self, error: &PartsError) {
-        if write!(self.text, "{error}").is_err() {
-            self.is_cut = true;
-        }
-    }
-
-    /// Writes the text of an error of a proof of consistency.
-    pub fn consistency_error(&mut self, error: &ConsistencyError) {
+    pub fn error<E: Display>(&mut self, error: &E) {
         if write!(self.text, "{error}").is_err() {
             self.is_cut = true;
         }

@@ -111,8 +111,8 @@ five_to_eleven : refuses (grows 2 1 5 11) (32897 ∷ 34628 ∷ []) (1056801 ∷ 
 unfolding value_over fold_compress
 five_to_eleven = refl
 
-seven_to_eight : refuses (grows 2 2 7 8) (1026 ∷ 1090 ∷ 1154 ∷ 1179 ∷ []) (1026 ∷ 1090 ∷ 1154 ∷ 1218 ∷ []) (38 ∷ 39 ∷ [])
-    ≡ None
+seven_to_eight :
+    refuses (grows 2 2 7 8) (1026 ∷ 1090 ∷ 1154 ∷ 1179 ∷ []) (1026 ∷ 1090 ∷ 1154 ∷ 1218 ∷ []) (38 ∷ 39 ∷ []) ≡ None
 unfolding value_over fold_compress
 seven_to_eight = refl
 
@@ -149,6 +149,7 @@ old_cap_of_others : refuses (grows 2 0 3 5) (32863 ∷ []) (0 ∷ []) (34 ∷ 35
 unfolding value_over fold_compress
 old_cap_of_others = refl
 
-new_cap_of_others : refuses (grows 2 0 3 5) (32862 ∷ []) (1054437 ∷ []) (34 ∷ 35 ∷ 1026 ∷ 34628 ∷ []) ≡ Some NewCapMismatch
+new_cap_of_others :
+    refuses (grows 2 0 3 5) (32862 ∷ []) (1054437 ∷ []) (34 ∷ 35 ∷ 1026 ∷ 34628 ∷ []) ≡ Some NewCapMismatch
 unfolding value_over fold_compress
 new_cap_of_others = refl

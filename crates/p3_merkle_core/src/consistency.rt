@@ -4,13 +4,13 @@
 ghost use Rattle.std.specs.Prelude.{◌≡◌, ◌-◌, ◌≤◌, All, IfOk, MatchResult, None, Some};
 ghost use Rattle.p3_support.specs.Batches.{heights_of};
 ghost use Rattle.p3_merkle_core.specs.Geometry.{height_limit, IsArity};
-ghost use Rattle.p3_merkle_core.specs.OneHeight.{levels_of_height};
 ghost use Rattle.p3_merkle_core.specs.Consistency.{consistency_len, new_layer, old_layer, IsGrowth};
 ghost use Rattle.p3_merkle_core.specs.ConsistencyRefusals.{growth_refusal, one_height_refusal};
 ghost use Rattle.p3_merkle_core.specs.Inner.Growths.{mixed_children, parts_above, parts_at, AreFew};
 
 use crate::error::ConsistencyError;
-use crate::geometry::{MAX_HEIGHT, exponent_of};
+use crate::geometry::MAX_HEIGHT;
+use crate::parts::cap_layer_of_height;
 use p3_support::matrix::Dimensions;
 
 /// The digests that show that a list of rows begins with the rows of an older list. `X` is a digest.
@@ -83,17 +83,9 @@ pub fn one_height_of(dimensions: &[Dimensions]) -> Result<usize, ConsistencyErro
     }
 }
 
-/// How many levels a tree over `height` rows has. The arity must be a power of two from 2 to 2^62.
-fn levels_of(arity: usize, height: usize) -> usize
-    requires { IsArity arity }
-    ensures { result ≡ levels_of_height arity height }
-{
-    exponent_of(height).div_ceil(exponent_of(arity))
-}
-
 impl LayerParts {
-    /// The children of the mixed node of the layer above, and the parts of that layer. The arity must be from 1 to 2^62,
-    /// and there must be at most 2^62 nodes.
+    /// The children of the mixed node of the layer above, and the parts of that layer. The arity must be from 1 to
+    /// 2^62, and there must be at most 2^62 nodes.
     pub fn up(self, arity: usize) -> (MixedChildren, LayerParts)
         requires some { 1 ≤ arity }
         requires narrow { arity ≤ height_limit }
@@ -165,7 +157,7 @@ impl Growth {
         requires { IsArity self.now.arity }
         ensures { result ≡ old_layer self.now }
     {
-        levels_of(self.arity, self.old_height).saturating_sub(self.cap_height)
+        cap_layer_of_height(self.arity, self.old_height, self.cap_height)
     }
 
     /// The layer, counted from the leaves, that is the new cap. The arity must be a power of two from 2 to 2^62.
@@ -173,7 +165,7 @@ impl Growth {
         requires { IsArity self.now.arity }
         ensures { result ≡ new_layer self.now }
     {
-        levels_of(self.arity, self.new_height).saturating_sub(self.cap_height)
+        cap_layer_of_height(self.arity, self.new_height, self.cap_height)
     }
 
     /// The parts of the leaves.

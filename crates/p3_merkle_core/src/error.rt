@@ -110,7 +110,8 @@ pub enum MerkleTreeError {
 
 /// Why heights or a proof of consistency are refused, where a list of rows grows.
 ///
-/// A call answers the first of these that holds, in this order; `OutOfMemory` may come at any time.
+/// A call answers the first of these that holds, in this order; `OutOfMemory` may come at any time where the call
+/// allocates.
 #[derive(Debug, PartialEq, Eq, Drop, Error)]
 pub enum ConsistencyError {
     /// The matrices of a batch have not all one height.

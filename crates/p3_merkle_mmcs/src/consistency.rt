@@ -1,6 +1,6 @@
 //! Consistency: that the rows of a tree begin with those that were committed to before, in a shorter tree.
 
-ghost use Rattle.std.specs.Prelude.{◌≡◌, ◌-◌, ◌*◌, ◌+◌, ◌≤◌, [], IfOk};
+ghost use Rattle.std.specs.Prelude.{◌≡◌, ◌-◌, ◌*◌, ◌+◌, ◌≤◌, [], IfOk, MatchResult, None, Some};
 ghost use Rattle.p3_merkle_core.specs.Commitments.{cap_over, IsOwn};
 ghost use Rattle.p3_merkle_core.specs.Consistency.{consistency_len as len_of, digests_by, evidence, new_layer};
 ghost use Rattle.p3_merkle_core.specs.Consistency.{BeginsWith, IsConsistent};
@@ -41,7 +41,7 @@ impl<P: PackedValue, PW: PackedValue, H, C, X, G, const N: usize> Scheme<P, PW, 
     }
 
     /// How many digests a proof of consistency has, from a tree of `old_height` rows to one of `new_height` rows: at
-    /// most `N - 1` for each layer below the new cap, and one more.
+    /// most `N - 1` for each layer below the new cap, and one more. It does not allocate.
     ///
     /// # Errors
     ///
@@ -52,7 +52,8 @@ impl<P: PackedValue, PW: PackedValue, H, C, X, G, const N: usize> Scheme<P, PW, 
         old_height: usize,
         new_height: usize,
     ) -> Result<usize, ConsistencyError>
-        ensures answer { ConsistencyAnswers result (growth_refusal (growth_of self.now old_height new_height)) }
+        ensures answer { let refusal = growth_refusal (growth_of self.now old_height new_height) in
+            MatchResult result (λ n. refusal ≡ None) (λ e. refusal ≡ Some e) }
         ensures len { IfOk result (λ n. n ≡ len_of (growth_of self.now old_height new_height)) }
         ensures few { IfOk result (λ n. n ≤ (N - 1) * new_layer (growth_of self.now old_height new_height) + 1) }
     {
@@ -136,7 +137,8 @@ impl<
         proof: &ConsistencyProof<[PW::Value; D]>,
     ) -> Result<(), ConsistencyError>
         ensures { let f = scheme_functions H.hash C.compression D self.now in
-            let e = evidence f (growth_of self.now old_height new_height) (roots_of old_cap.now) proof.now.digests.items in
+            let g = growth_of self.now old_height new_height in
+            let e = evidence f g (roots_of old_cap.now) proof.now.digests.items in
             IsConsistencyVerdict PW.Value.eq e (roots_of new_cap.now) result }
     {
         let proof = ConsistencyRef {

@@ -26,7 +26,7 @@ use Rattle.p3_merkle_core.specs.declared.consistency.LayerParts.{LayerParts}
 use Rattle.p3_merkle_core.specs.declared.error.ConsistencyError.{ConsistencyError}
 use Rattle.p3_merkle_core.specs.declared.error.ConsistencyError.TheVariants.{NewCapMismatch, OldCapMismatch, WrongDigestCount}
 use Rattle.p3_merkle_core.proofs.Checks.Verdicts.{entry_is}
-use Rattle.p3_merkle_core.proofs.Growths.HeightFacts.{levels_is}
+use Rattle.p3_merkle_core.proofs.Shapes.OneHeight.{levels_by_exponents}
 use Rattle.p3_merkle_core.proofs.Growths.PartFacts.{ceil_mono, few_at, no_mixed_leaf, parts_are}
 use Rattle.p3_merkle_core.proofs.Growths.SentFacts.{filter_all, filter_none}
 use Rattle.p3_merkle_core.proofs.Growths.ValueFacts.{new_tree, old_entry, old_tree}
@@ -43,8 +43,8 @@ pub layers_rise : (g : Growth) → IsArity g.arity → IsGrowth g → old_layer 
 layers_rise g a w =
     omega (
       arith,
-      levels_is g.arity g.old_height a,
-      levels_is g.arity g.new_height a,
+      levels_by_exponents g.arity a g.old_height,
+      levels_by_exponents g.arity a g.new_height,
       ceil_mono (exponent g.old_height) (exponent g.new_height) (exponent g.arity) (whole_step_falls g.arity a.above_1)
           (exponent_mono g.old_height g.new_height w.grown),
     )

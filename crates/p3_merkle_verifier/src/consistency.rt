@@ -1,5 +1,5 @@
-//! The check of a proof of consistency: it walks up the mixed nodes of both trees, and compares the old cap's entries and
-//! the new one's with what it computes.
+//! The check of a proof of consistency: it walks up the mixed nodes of both trees, and compares the old cap's entries
+//! and the new one's with what it computes.
 
 ghost use Rattle.std.specs.Prelude.{◌≡◌, ◌+◌, ◌<◌, ◌≤◌, ◌++◌, suc, None, IfOk, length, replicate};
 ghost use Rattle.std.specs.List.{enumerate_from, list_all};
@@ -249,17 +249,18 @@ impl<
         Ok((mixed, known))
     }
 
-    /// Checks a proof of consistency against the old cap and the roots of the new one: computes the value of each node of
-    /// both caps that has old leaves, and compares it with the root at that node. It takes one step for each layer, and
-    /// memory for as many digests as the old cap has entries.
+    /// Checks a proof of consistency against the old cap and the roots of the new one: computes the value of each node
+    /// of both caps that has old leaves, and compares it with the root at that node. It takes one step for each layer,
+    /// and memory for as many digests as the old cap has entries.
     ///
     /// `N` must be a power of two from 2 to 2^62, and the arity of the growth.
     ///
     /// # Errors
     ///
     /// The first of these that holds, where `OutOfMemory` may come at any time: those of [`Growth::check_heights`];
-    /// `WrongDigestCount` if the number of digests is not [`Growth::num_digests`]; `OldCapMismatch` if a root of the old
-    /// cap that is read is missing or is another digest than the one computed; `NewCapMismatch`, the same of the new cap.
+    /// `WrongDigestCount` if the number of digests is not [`Growth::num_digests`]; `OldCapMismatch` if a root of the
+    /// old cap that is read is missing or is another digest than the one computed; `NewCapMismatch`, the same of the new
+    /// cap.
     pub fn check_consistency(
         &self,
         alloc: Global,

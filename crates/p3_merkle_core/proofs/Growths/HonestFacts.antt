@@ -21,7 +21,7 @@ use Rattle.p3_merkle_core.specs.Inner.Growths.{mixed_children, parts_above, part
 use Rattle.p3_merkle_core.specs.declared.consistency.Growth.{Growth}
 use Rattle.p3_merkle_core.proofs.Checks.Accepted.{padded_ge}
 use Rattle.p3_merkle_core.proofs.Covered.Restoration.{found}
-use Rattle.p3_merkle_core.proofs.Growths.HeightFacts.{levels_is}
+use Rattle.p3_merkle_core.proofs.Shapes.OneHeight.{levels_by_exponents}
 use Rattle.p3_merkle_core.proofs.Growths.PartFacts.{AreInOrder, AreParts, ceil_mono, end_le, few_at, in_order}
 use Rattle.p3_merkle_core.proofs.Growths.PartFacts.{no_mixed_leaf, parts_are, parts_next}
 use Rattle.p3_merkle_core.proofs.Growths.SentFacts.{sent_new, sent_old}
@@ -171,8 +171,8 @@ module _ {T W : Type 0} (f : Functions T W) (g : Growth) (old new : Batch T) (a 
         arith,
         old_levels,
         new_levels,
-        levels_is n g.old_height a,
-        levels_is n g.new_height a,
+        levels_by_exponents n a g.old_height,
+        levels_by_exponents n a g.new_height,
         ceil_mono (exponent g.old_height) (exponent g.new_height) (exponent n) (whole_step_falls n a.above_1)
             (exponent_mono g.old_height g.new_height w.grown),
       )
