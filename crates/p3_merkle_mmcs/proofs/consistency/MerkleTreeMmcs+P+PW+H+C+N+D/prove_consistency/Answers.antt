@@ -17,6 +17,36 @@ use Rattle.p3_merkle_mmcs.specs.Schemes.{growth_of, scheme_functions}
 use Rattle.p3_merkle_mmcs.proofs.OwnGrowth.{one_height, own_consistent}
 use Rattle.p3_merkle_mmcs.proofs.consistency.MerkleTreeMmcs+P+PW+H+C+N+D.prove_consistency.Goals as goal
 
+pub returns-in_err-new_height-clause-digests : goal.returns-in_err-new_height-clause-digests
+returns-in_err-new_height-clause-digests g c =
+    let p = err_from_is_err_and c.from_residual.result c.from_residual.ensures.1 in
+    rw p.1 tt
+
+pub returns-in_err-new_height-clause-accepted : goal.returns-in_err-new_height-clause-accepted
+returns-in_err-new_height-clause-accepted g c =
+    let p = err_from_is_err_and c.from_residual.result c.from_residual.ensures.1 in
+    rw p.1 (λ old own begun. tt)
+
+pub returns-in_err-check_heights-clause-digests : goal.returns-in_err-check_heights-clause-digests
+returns-in_err-check_heights-clause-digests g c =
+    let p = err_from_is_err_and c.from_residual-in_err-check_heights.result c.from_residual-in_err-check_heights.ensures.1 in
+    rw p.1 tt
+
+pub returns-in_err-check_heights-clause-accepted : goal.returns-in_err-check_heights-clause-accepted
+returns-in_err-check_heights-clause-accepted g c =
+    let p = err_from_is_err_and c.from_residual-in_err-check_heights.result c.from_residual-in_err-check_heights.ensures.1 in
+    rw p.1 (λ old own begun. tt)
+
+pub returns-in_err-digests-clause-digests : goal.returns-in_err-digests-clause-digests
+returns-in_err-digests-clause-digests g c =
+    let p = err_from_is_err_and c.from_residual-in_err-digests.result c.from_residual-in_err-digests.ensures.1 in
+    rw p.1 tt
+
+pub returns-in_err-digests-clause-accepted : goal.returns-in_err-digests-clause-accepted
+returns-in_err-digests-clause-accepted g c =
+    let p = err_from_is_err_and c.from_residual-in_err-digests.result c.from_residual-in_err-digests.ensures.1 in
+    rw p.1 (λ old own begun. tt)
+
 pub returns-in_err-new_height-clause-answer : goal.returns-in_err-new_height-clause-answer
 returns-in_err-new_height-clause-answer g c =
     let hs = heights (shape (tree_batch c.args.tree.now)) in

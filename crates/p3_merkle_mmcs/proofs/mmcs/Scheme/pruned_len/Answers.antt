@@ -1,5 +1,6 @@
 -- The boundary of the covered leaves is counted, which is least.
 use Rattle.std.proofs.Common.{◌≡◌, ◌∙◌, arith, refl}
+use Rattle.std.proofs.lemmas.Result.{err_from_is_err_and}
 use Rattle.p3_support.specs.Batches.{heights_of}
 use Rattle.p3_merkle_core.specs.Geometry.{shape_of, IsArity}
 use Rattle.p3_merkle_core.specs.Pruning.{pruned_len}
@@ -9,6 +10,21 @@ use Rattle.p3_merkle_core.proofs.Shapes.GateFacts.{none_large_from_lawful, talle
 use Rattle.p3_merkle_mmcs.specs.Schemes.{cap_layer_over}
 use Rattle.p3_merkle_mmcs.proofs.CheckFacts.{are_steps}
 use Rattle.p3_merkle_mmcs.proofs.mmcs.Scheme.pruned_len.Goals as goal
+
+pub returns-in_err-check_heights-clause-least : goal.returns-in_err-check_heights-clause-least
+returns-in_err-check_heights-clause-least g c =
+    let p = err_from_is_err_and c.from_residual.result c.from_residual.ensures.1 in
+    rw p.1 tt
+
+pub returns-in_err-check_indices-clause-least : goal.returns-in_err-check_indices-clause-least
+returns-in_err-check_indices-clause-least g c =
+    let p = err_from_is_err_and c.from_residual-in_err-check_indices.result c.from_residual-in_err-check_indices.ensures.1 in
+    rw p.1 tt
+
+pub returns-in_err-leaves-clause-least : goal.returns-in_err-leaves-clause-least
+returns-in_err-leaves-clause-least g c =
+    let p = err_from_is_err_and c.from_residual-in_err-leaves.result c.from_residual-in_err-leaves.ensures.1 in
+    rw p.1 tt
 
 pub boundary_len-requires-clause-low : goal.boundary_len-requires-clause-low
 boundary_len-requires-clause-low g c =
