@@ -1,5 +1,6 @@
 -- Each turn adds the nodes of the next part.
 use Rattle.std.proofs.Common.{◌≡◌, ◌∙◌, ◌-◌, ◌≤◌, [], ap, arith, get_or, length, length-take, map, sym, take}
+use Rattle.std.proofs.lemmas.Result.{err_from_is_err_and}
 use Rattle.std.specs.Prelude.{replicate}
 use Rattle.p3_support.specs.Shown.{roots_of}
 use Rattle.p3_merkle_core.specs.Inner.Raised.{compress_up_to, given_nodes, raised}
@@ -9,6 +10,16 @@ use Rattle.p3_merkle_core.proofs.InParts.PartHeights.{none_higher}
 use Rattle.p3_merkle_core.proofs.Shapes.OneHeight.{levels_mono}
 use Rattle.p3_merkle_digests.proofs.RaisedFacts.{cap_roots, long_enough, one_more_part, part_given}
 use Rattle.p3_merkle_digests.proofs.parts.nodes_of_parts.Goals as goal
+
+pub returns-in_err-extend_from_slice : goal.returns-in_err-extend_from_slice
+returns-in_err-extend_from_slice g c =
+    let p = err_from_is_err_and c.from_residual.result c.from_residual.ensures.1 in
+    rw p.1 tt
+
+pub returns-in_err-raise : goal.returns-in_err-raise
+returns-in_err-raise g c =
+    let p = err_from_is_err_and c.from_residual-in_err-raise.result c.from_residual-in_err-raise.ensures.1 in
+    rw p.1 tt
 
 pub overflow_sub-layer : goal.overflow_sub-layer
 overflow_sub-layer g c =

@@ -1,10 +1,16 @@
 -- Each turn adds the parent of the next group.
 use Rattle.std.proofs.Common.{◌≡◌, ◌∙◌, ◌*◌, ap, arith, drop, take}
+use Rattle.std.proofs.lemmas.Result.{err_from_is_err_and}
 use Rattle.std.specs.Prelude.{replicate}
 use Rattle.p3_merkle_core.specs.Inner.Raised.{compress_up_to}
 use Rattle.p3_merkle_core.specs.Nodes.{padded}
 use Rattle.p3_merkle_digests.proofs.RaisedFacts.{children_are, one_more_parent}
 use Rattle.p3_merkle_digests.proofs.parts.parents.Goals as goal
+
+pub returns-in_err-parents : goal.returns-in_err-parents
+returns-in_err-parents g c =
+    let p = err_from_is_err_and c.from_residual.result c.from_residual.ensures.1 in
+    rw p.1 tt
 
 pub loop-parent-preserved : goal.loop-parent-preserved
 loop-parent-preserved g c =

@@ -1,10 +1,21 @@
 -- Each turn raises the nodes by one level.
 use Rattle.std.proofs.Common.{◌++◌, ◌∙◌, ap, sym}
+use Rattle.std.proofs.lemmas.Result.{err_from_is_err_and}
 use Rattle.std.specs.Prelude.{replicate}
 use Rattle.std.proofs.lemmas.List.{take-append-drop}
 use Rattle.p3_merkle_core.specs.Inner.Raised.{compress_up_to, raised}
 use Rattle.p3_merkle_digests.proofs.RaisedFacts.{one_more_level}
 use Rattle.p3_merkle_digests.proofs.parts.raise.Goals as goal
+
+pub returns-in_err-above : goal.returns-in_err-above
+returns-in_err-above g c =
+    let p = err_from_is_err_and c.from_residual.result c.from_residual.ensures.1 in
+    rw p.1 tt
+
+pub returns-in_err-append : goal.returns-in_err-append
+returns-in_err-append g c =
+    let p = err_from_is_err_and c.from_residual-in_err-append.result c.from_residual-in_err-append.ensures.1 in
+    rw p.1 tt
 
 pub loop-level-init : goal.loop-level-init
 unfolding raised
