@@ -1,5 +1,6 @@
 -- Where either slice is at its end, all rows are taken apart.
 use Rattle.std.proofs.Common.{take, drop, map}
+use Rattle.std.proofs.lemmas.Result.{err_from_is_err_and}
 use Rattle.std.specs.Iterator.Adapters.{zip_first, zip_second}
 use Rattle.std.specs.Slice.Iter.{iter_rest}
 use Rattle.std.proofs.lemmas.Slice.Zip.{either_empty_from_Zip}
@@ -8,6 +9,46 @@ use Rattle.p3_support.specs.Shown.{row_lists}
 use Rattle.p3_merkle_hiding.specs.Inner.SaltedParts.{left_widths, salt_parts, unsalted_parts}
 use Rattle.p3_merkle_hiding.proofs.SaltFacts.{joined_end, second_end, shown_end}
 use Rattle.p3_merkle_hiding.proofs.open.split_rows.Goals as goal
+
+pub returns-in_err-unsalted-clause-rows : goal.returns-in_err-unsalted-clause-rows
+returns-in_err-unsalted-clause-rows g c =
+    let p = err_from_is_err_and c.from_residual.result c.from_residual.ensures.1 in
+    rw p.1 tt
+
+pub returns-in_err-unsalted-clause-salts : goal.returns-in_err-unsalted-clause-salts
+returns-in_err-unsalted-clause-salts g c =
+    let p = err_from_is_err_and c.from_residual.result c.from_residual.ensures.1 in
+    rw p.1 tt
+
+pub returns-in_err-salts-clause-rows : goal.returns-in_err-salts-clause-rows
+returns-in_err-salts-clause-rows g c =
+    let p = err_from_is_err_and c.from_residual-in_err-salts.result c.from_residual-in_err-salts.ensures.1 in
+    rw p.1 tt
+
+pub returns-in_err-salts-clause-salts : goal.returns-in_err-salts-clause-salts
+returns-in_err-salts-clause-salts g c =
+    let p = err_from_is_err_and c.from_residual-in_err-salts.result c.from_residual-in_err-salts.ensures.1 in
+    rw p.1 tt
+
+pub returns-in_err-from_slice-clause-rows : goal.returns-in_err-from_slice-clause-rows
+returns-in_err-from_slice-clause-rows g c =
+    let p = err_from_is_err_and c.from_residual-in_err-from_slice.result c.from_residual-in_err-from_slice.ensures.1 in
+    rw p.1 tt
+
+pub returns-in_err-from_slice-clause-salts : goal.returns-in_err-from_slice-clause-salts
+returns-in_err-from_slice-clause-salts g c =
+    let p = err_from_is_err_and c.from_residual-in_err-from_slice.result c.from_residual-in_err-from_slice.ensures.1 in
+    rw p.1 tt
+
+pub returns-in_err-push-clause-rows : goal.returns-in_err-push-clause-rows
+returns-in_err-push-clause-rows g c =
+    let p = err_from_is_err_and c.from_residual-in_err-push.result c.from_residual-in_err-push.ensures.1 in
+    rw p.1 tt
+
+pub returns-in_err-push-clause-salts : goal.returns-in_err-push-clause-salts
+returns-in_err-push-clause-salts g c =
+    let p = err_from_is_err_and c.from_residual-in_err-push.result c.from_residual-in_err-push.ensures.1 in
+    rw p.1 tt
 
 pub returns-clause-rows : goal.returns-clause-rows
 returns-clause-rows g c =
