@@ -64,15 +64,15 @@ def main():
         else:
             by_call(some, columns, lambda rest: rest[0])
     by_calls(batches, free)
-    names = list(dict.fromkeys(line[0] for line in inputs))
-    calls = list(dict.fromkeys(line[1] for line in inputs))
-    for some in (calls[:4], calls[4:7], calls[7:]):
-        cells = {(line[0], line[1]): line[3] for line in inputs}
-        held = {(line[0], line[1]): line[4] for line in inputs}
-        table(
-            ["Input", "Its bytes", *some],
-            [[name, held[name, some[-1]], *(cells[name, call] for call in some)] for name in names],
-        )
+    groups = {}
+    for call in dict.fromkeys(line[1] for line in inputs):
+        groups.setdefault(tuple((line[0], line[4]) for line in inputs if line[1] == call), []).append(call)
+    cells = {(line[0], line[1]): line[3] for line in inputs}
+    for sizes, calls in groups.items():
+        for start in range(0, len(calls), 4):
+            some = calls[start : start + 4]
+            rows = [[name, size, *(cells[name, call] for call in some)] for name, size in sizes]
+            table(["Input", "Its bytes", *some], rows)
 
 
 if __name__ == "__main__":

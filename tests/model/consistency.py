@@ -103,9 +103,17 @@ def differing(matrices):
     return None
 
 
+def changes(digests):
+    """The digests with each of them changed, and with each exchanged with the one before it."""
+    for place, digest in enumerate(digests):
+        yield digests[:place] + [digest ^ 1] + digests[place + 1:]
+        if place:
+            yield digests[:place - 1] + [digest, digests[place - 1]] + digests[place + 1:]
+
+
 def swept(arity, cap_height, tallest):
-    """How many proofs and digests there are up to a height, and which cap refuses a changed one."""
-    counts = [0, 0, 0, 0]
+    """How many proofs and digests there are up to a height; how many changed proofs each cap refuses, or none."""
+    counts = [0, 0, 0, 0, 0]
     for old in range(1, tallest + 1):
         for new in range(old, tallest + 1):
             growth = Growth(arity, cap_height, old, new)
@@ -115,7 +123,7 @@ def swept(arity, cap_height, tallest):
             assert growth.refusal(*caps, digests) is None
             counts[0] += 1
             counts[1] += len(digests)
-            for place, digest in enumerate(digests):
-                changed = digests[:place] + [digest ^ 1] + digests[place + 1:]
-                counts[2 if growth.refusal(*caps, changed).startswith("old") else 3] += 1
+            for changed in changes(digests):
+                refusal = growth.refusal(*caps, changed) or "none"
+                counts[2 + ["old", "new", "none"].index(refusal.split()[0])] += 1
     return counts

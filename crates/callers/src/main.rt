@@ -2,6 +2,7 @@
 #![tactic(auto)]
 
 mod conflict;
+mod growing;
 mod in_parts;
 mod readme;
 mod rules;
@@ -16,5 +17,6 @@ fn main(rt: HostRuntime) -> Result<()> {
     several_rows::run(&rt)?;
     rules::run(&rt)?;
     salted::run(&rt)?;
-    in_parts::run(&rt)
+    in_parts::run(&rt)?;
+    growing::run(&rt)
 }

@@ -88,26 +88,28 @@ pub fn verify<const N: usize>(case: &mut Case<'_>) -> Result<(), Fault>
     Ok(())
 }
 
-/// What a sweep has tried: proofs, their digests, and how many of them are refused by each cap if they are changed.
+/// What a sweep has tried: proofs, their digests, and how many changed proofs are refused by each cap, or by none.
 #[derive(Clone, Copy)]
 struct Counts {
     proofs: usize,
     digests: usize,
     old_mismatches: usize,
     new_mismatches: usize,
+    accepted: usize,
 }
 
 impl Counts {
-    /// One more changed digest, which a cap has to refuse.
+    /// One more changed proof, of as many digests.
     fn add_changed(&mut self, verdict: &Result<(), ConsistencyError>) -> Result<(), Fault> {
         match verdict {
+            Ok(()) => self.accepted = self.accepted.saturating_add(1),
             Err(ConsistencyError::OldCapMismatch) => {
                 self.old_mismatches = self.old_mismatches.saturating_add(1)
             }
             Err(ConsistencyError::NewCapMismatch) => {
                 self.new_mismatches = self.new_mismatches.saturating_add(1)
             }
-            _ => return Err(Fault::Wrong("a changed digest is answered otherwise")),
+            _ => return Err(Fault::Wrong("a changed proof is answered otherwise")),
         }
         Ok(())
     }
@@ -150,8 +152,8 @@ fn check_count<const N: usize>(
     }
 }
 
-/// Tries the growth of a column from one height to another: the proof, and each of its digests changed, left out and
-/// doubled.
+/// Tries the growth of a column from one height to another: the proof, and each of its digests changed, exchanged with
+/// the one before it, left out and doubled.
 fn check_growth<const N: usize>(
     alloc: Global,
     scheme: &FoldScheme<N>,
@@ -175,6 +177,11 @@ fn check_growth<const N: usize>(
         let mut changed = digests.clone()?;
         changed[place] = [digests[place][0] ^ 1];
         counts.add_changed(&grown.verdict::<N>(alloc, scheme, changed))?;
+        if place > 0 {
+            let mut exchanged = digests.clone()?;
+            exchanged.swap(place - 1, place);
+            counts.add_changed(&grown.verdict::<N>(alloc, scheme, exchanged))?;
+        }
         let (fewer, more) = fewer_and_more(alloc, &digests, place)?;
         check_count(alloc, scheme, &grown, fewer, digests.len())?;
         check_count(alloc, scheme, &grown, more, digests.len())?;
@@ -184,9 +191,10 @@ fn check_growth<const N: usize>(
     Ok(())
 }
 
-/// `consistency_sweep | ARITY | CAP | TALLEST | PROOFS DIGESTS OLD NEW`: columns of all heights up to the tallest, each
-/// grown to each height from its own on. The proof is accepted. If one of its digests is changed, so many are refused by
-/// the old cap and so many by the new one; if one is left out or doubled, the count is refused.
+/// `consistency_sweep | ARITY | CAP | TALLEST | PROOFS DIGESTS OLD NEW ACCEPTED`: columns of all heights up to the
+/// tallest, each grown to each height from its own on. The proof is accepted. If one of its digests is changed or
+/// exchanged with the one before it, so many are refused by the old cap, so many by the new one, and so many accepted;
+/// if one is left out or doubled, the count is refused.
 pub fn sweep<const N: usize>(case: &mut Case<'_>) -> Result<(), Fault>
     requires arity { IsTrue (is_arity N) }
     requires few { N ≤ 16 }
@@ -198,6 +206,7 @@ pub fn sweep<const N: usize>(case: &mut Case<'_>) -> Result<(), Fault>
         digests: 0,
         old_mismatches: 0,
         new_mismatches: 0,
+        accepted: 0,
     };
     for old_height in 1..tallest + 1 {
         for new_height in old_height..tallest + 1 {
@@ -209,6 +218,7 @@ pub fn sweep<const N: usize>(case: &mut Case<'_>) -> Result<(), Fault>
         counts.digests,
         counts.old_mismatches,
         counts.new_mismatches,
+        counts.accepted,
     ]);
     Ok(())
 }
