@@ -113,6 +113,11 @@ fn absorb_eight<const D: usize>(state: &mut [u32; D], words: &[u32])
 fn absorb_slice<const D: usize>(state: &mut [u32; D], words: &[u32])
     ensures { state.new ≡ map (λ s. folded take_in s words.now) state.old }
 {
+    // So few words are taken into one element sooner than joined.
+    if D == 1 && words.len() < 16 {
+        absorb_each(state, words);
+        return;
+    }
     let mut rest = words;
     while let Some((eight, others)) = rest.split_first_chunk::<8>() {
         lemma_row(eight);

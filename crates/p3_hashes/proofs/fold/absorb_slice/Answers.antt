@@ -20,4 +20,4 @@ loop-eight-preserved g c =
     ∙ c.loop-eight.invariant
 
 pub returns : goal.returns
-returns g c = c.absorb_each.ensures ∙ c.loop-eight.invariant
+returns g c = c.absorb_each-2.ensures ∙ c.loop-eight.invariant
