@@ -182,18 +182,24 @@ leaves_part hash d rows h words xs ys a k n len same inside below s hashed befor
     fill_part (leaf_over hash d rows h) made xs ys a k n len same inside all
     (λ j small. let there : a + j < h = omega (arith, small) in rw (lt-ltb (a + j) h there) refl) before
 
--- the first slots hold what was made of the first of a list
-pub filled_front : {G W : Type 0} (C : List G → List W) (groups : List (List G)) (xs ys : List (List W)) (n : ℕ) →
-    n ≤ length groups → n ≤ length xs → ys ≡ map C (take n groups) →
-    IsFilled (λ j. C (get_or groups j [])) n (length xs) (ys ++ drop n xs)
-filled_front C groups xs ys n some room is =
-    let long : length ys ≡ n = ap length is ∙ length-map (take n groups) C ∙ length-take-le n groups some in
+-- all slots hold what was made of the first of a list
+pub filled_all : {G W : Type 0} (C : List G → List W) (groups : List (List G)) (ys : List (List W)) (n : ℕ) →
+    n ≤ length groups → ys ≡ map C (take n groups) → IsFilled (λ j. C (get_or groups j [])) n n ys
+filled_all C groups ys n some is =
     record {
-      long = omega (arith, length-append ys (drop n xs), length-drop n xs, long);
-      filled = λ j below. get_or_append_left ys (drop n xs) [] j (omega (arith, long, below))
-          ∙ ap (λ l. get_or l j []) is
+      long = ap length is ∙ length-map (take n groups) C ∙ length-take-le n groups some;
+      filled = λ j below. ap (λ l. get_or l j []) is
           ∙ get_or-map C (take n groups) j [] [] (omega (arith, length-take-le n groups some, below))
           ∙ ap C (get_or-take n groups j [] below);
+    }
+
+-- the first slots are written, and the others are as they were
+pub filled_front : {W : Type 0} (f : ℕ → List W) (xs ys : List (List W)) (n : ℕ) → n ≤ length xs → IsFilled f n n ys →
+    IsFilled f n (length xs) (ys ++ drop n xs)
+filled_front f xs ys n room s =
+    record {
+      long = omega (arith, length-append ys (drop n xs), length-drop n xs, s.long);
+      filled = λ j below. get_or_append_left ys (drop n xs) [] j (omega (arith, s.long, below)) ∙ s.filled j below;
     }
 
 -- one more part of digests is compressed once more with the digests of rows

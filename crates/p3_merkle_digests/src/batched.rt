@@ -1,11 +1,12 @@
 //! Many messages a call: how many, and the words of rows and the groups of digests that one call takes.
 
 ghost use Rattle.std.specs.Prelude.{◌≡◌, ℕ, ◌+◌, ◌-◌, ◌*◌, ◌%◌, ◌^◌, ◌<◌, ◌≤◌, ◌++◌, [], ◌∷◌, length, map, max, min};
-ghost use Rattle.std.specs.Prelude.{replicate, slice_index_or, sum_by, All, IfOk, IfSome};
+ghost use Rattle.std.specs.Prelude.{drop, replicate, slice_index_or, sum_by, take, All, IfOk, IfSome};
 ghost use Rattle.std.specs.List.{range_with_len};
 ghost use Rattle.p3_merkle_digests.specs.Inner.Slots.{rows_over, IsFilled, IsStaged};
 
-use p3_merkle_core::group::pair_group;
+use crate::plain::MIN_SLICE_WIDTH;
+use p3_merkle_core::group::{padded_group, pair_group};
 use p3_support::compress::PseudoCompressionFunction;
 use p3_support::matrix::Matrix;
 use p3_support::packed::PackedValue;
@@ -71,8 +72,9 @@ fn stage_row<T: Copy, M: Matrix<T>>(
 {
     for matrix in matrices {
         match matrix.row_slice(row) {
-            Some(words) => staged.extend_from_slice(words)?,
-            None => staged.extend(matrix.row(row))?,
+            Some(words) if words.len() >= MIN_SLICE_WIDTH => staged.extend_from_slice(words)?,
+            // Few words: a call that copies them takes longer.
+            _ => staged.extend(matrix.row(row))?,
         }
     }
     Ok(())
@@ -105,6 +107,78 @@ pub(crate) fn words_of_rows<'b, T: Copy, M: Matrix<T>>(
         stage_row(staged, matrices, height, first + j)?;
     }
     Ok(staged.as_slice())
+}
+
+/// Fills `groups`, in place of what it has, with the children of the nodes `first..end` over a layer, each group followed
+/// by default digests. Each node has `step` children, at least one and at most `N`; those of the last one must be in the
+/// layer, and `first` must be at most `end`.
+///
+/// # Errors
+///
+/// `AllocError` if memory runs out.
+fn stage_children<W: Copy, const N: usize, const D: usize>(
+    groups: &mut Vec<[[W; D]; N]>,
+    default_digest: [W; D],
+    below: &[[W; D]],
+    step: usize,
+    first: usize,
+    end: usize,
+) -> Result<(), AllocError>
+    requires step { 0 < step }
+    requires few { step ≤ N }
+    requires ends { first ≤ end }
+    requires inside { step * end ≤ length below.now }
+    ensures count { IfOk result (λ done. length groups.new.items ≡ end - first) }
+    ensures groups { let group = λ (j : ℕ). take step (drop (step * (first + j)) below.now)
+        ++ replicate (N - step) default_digest in
+        IfOk result (λ done. groups.new.items ≡ map group (range_with_len 0 (end - first))) }
+{
+    groups.clear();
+    groups.reserve(end - first)?;
+    for j in 0..end - first {
+        let start = step * (first + j);
+        let children = &below[start..start + step];
+        groups.push(padded_group::<W, N, D>(default_digest, children))?;
+    }
+    Ok(())
+}
+
+/// Writes into each slot `j` the compression of the children of node `j` over a layer, followed by default digests, as
+/// many per call as [`messages_per_call`] says. Each node has `step` children, at least one and at most `N`; those of
+/// all slots must be in the layer. `groups` is a buffer for them.
+///
+/// # Errors
+///
+/// `AllocError` if memory runs out.
+pub fn compress_children_batched<
+    PW: PackedValue,
+    C: PseudoCompressionFunction<PW, N, D>,
+    const N: usize,
+    const D: usize,
+>(
+    compress: &C,
+    groups: &mut Vec<[[PW::Value; D]; N]>,
+    below: &[[PW::Value; D]],
+    step: usize,
+    slots: &mut [[PW::Value; D]],
+) -> Result<(), AllocError>
+    requires step { 0 < step }
+    requires few { step ≤ N }
+    requires inside { step * length slots.old ≤ length below.now }
+    ensures { let folded = λ (j : ℕ). C.compression compress.now (take step (drop (step * j) below.now)
+        ++ replicate (N - step) (replicate D PW.default_value)) in
+        IfOk result (λ done. IsFilled folded (length slots.old) (length slots.old) slots.new) }
+{
+    let default_digest = [PW::Value::default(); D];
+    let per_call = messages_per_call(std::mem::size_of_val(&[default_digest; N]), C::LANES);
+    let mut first = 0;
+    while first < slots.len() {
+        let end = first + per_call.min(slots.len() - first);
+        stage_children(groups, default_digest, below, step, first, end)?;
+        compress.compress_many(groups, &mut slots[first..end]);
+        first = end;
+    }
+    Ok(())
 }
 
 /// Fills `pairs`, in place of what it has, with the group of each node: its digest in `folded`, the digest of its rows

@@ -2,16 +2,13 @@
 
 ghost use Rattle.std.specs.Mem.{FitsInMemory};
 ghost use denote.Param.{ArrayAt};
-ghost use Rattle.std.specs.Prelude.{◌≡◌, ℕ, ◌+◌, ◌-◌, ◌*◌, ◌^◌, ◌<◌, ◌≤◌, ◌++◌, [], ◌∷◌, IfOk, length, map, take, drop};
-ghost use Rattle.std.specs.Prelude.{replicate, slice_index_or, All};
+ghost use Rattle.std.specs.Prelude.{◌≡◌, ℕ, ◌+◌, ◌-◌, ◌*◌, ◌^◌, ◌<◌, ◌≤◌, ◌++◌, [], ◌∷◌, length, map, take, drop};
+ghost use Rattle.std.specs.Prelude.{replicate, slice_index_or};
 ghost use Rattle.p3_support.specs.Lists.{lane_of};
-ghost use Rattle.p3_merkle_digests.specs.Inner.Slots.{rows_over};
 
 use p3_merkle_core::group::pair_group;
 use p3_support::compress::PseudoCompressionFunction;
-use p3_support::matrix::Matrix;
 use p3_support::packed::{PackedValue, lemma_row};
-use std::alloc::AllocError;
 
 /// How many blocks of `PW::WIDTH` slots are filled lane by lane, of `count` slots. There are none if there is one lane,
 /// or if a packed group of `N` children would have 2^63 bytes or more, the limit for a value. `N` must be above 0.
@@ -32,31 +29,9 @@ pub fn packed_blocks<PW: PackedValue, const N: usize, const D: usize>(count: usi
     }
 }
 
-/// Lays the packed rows of the matrices one after another, from `row` on, in place of what was staged. The matrices all
-/// have this height.
-///
-/// # Errors
-///
-/// `AllocError` if memory runs out.
-pub(crate) fn stage_packed_rows<P: PackedValue, M: Matrix<P::Value>>(
-    staged: &mut Vec<P>,
-    matrices: &[M],
-    height: usize,
-    row: usize,
-) -> Result<(), AllocError>
-    requires heights { All (λ m. M.height_of m ≡ height) matrices.now }
-    requires inside { row + P.WIDTH ≤ height }
-    ensures { IfOk result (λ done. (k : ℕ) → k < P.WIDTH →
-        lane_of P.lanes P.default_value k staged.new.items ≡ rows_over M.row_of matrices.now (row + k)) }
-{
-    staged.clear();
-    for matrix in matrices {
-        staged.extend(matrix.vertically_packed_row::<P>(row))?;
-    }
-    Ok(())
-}
-
 /// Lane `k` is child `n` of node `first + k` over a layer, where each node has `step` children.
+// A call passes the child through memory, in other parts than it is read in.
+#[inline(always)]
 #[tactic(auto, using(crate::proofs::LaneFacts::child_below, crate::proofs::LaneFacts::node_below))]
 fn packed_child<PW: PackedValue, const D: usize>(
     below: &[[PW::Value; D]],
@@ -95,6 +70,30 @@ fn packed_child<PW: PackedValue, const D: usize>(
     )
 }
 
+/// The children of `PW::WIDTH` nodes over a layer, from node `first` on, where each node has `N` children: lane `k` has
+/// those of node `first + k`. Those of the last one must be in the layer, and a packed group must have fewer than 2^63
+/// bytes.
+#[inline(always)]
+fn packed_children<PW: PackedValue, const N: usize, const D: usize>(
+    below: &[[PW::Value; D]],
+    first: usize,
+) -> [[PW; D]; N]
+    requires group { FitsInMemory (ArrayAt (ArrayAt PW.row D.row) N.row) }
+    requires inside { N * (first + PW.WIDTH) ≤ length below.now }
+    ensures { (k : ℕ) → k < PW.WIDTH →
+        map (lane_of PW.lanes PW.default_value k) result ≡ take N (drop (N * (first + k)) below.now) }
+{
+    std::array::from_fn(
+        |n| -> [PW; D]
+            requires child { n < N }
+            requires inside { N * (first + PW.WIDTH) ≤ length below.now }
+            ensures { (k : ℕ) → k < PW.WIDTH →
+                lane_of PW.lanes PW.default_value k result
+                ≡ slice_index_or below.entry.now (N * (first + k) + n) [] }
+        { packed_child(below, N, first, n) },
+    )
+}
+
 /// Compresses the children of `PW::WIDTH` nodes over a layer, from node `first` on, each group followed by default
 /// digests: lane `k` is the digest of the children of node `first + k`. Each node has `step` children, at most `N`;
 /// those of the last one must be in the layer. A packed group of `N` digests must have fewer than 2^63 bytes.
@@ -112,6 +111,10 @@ pub fn compress_children_packed<
         ≡ C.compression compress.now (take step (drop (step * (first + k)) below.now)
         ++ replicate (N - step) (replicate D PW.default_value)) }
 {
+    // Whole groups, whose number of children is a constant, need no place in memory.
+    if step == N {
+        return compress.compress_packed(packed_children(below, first));
+    }
     let mut group = [[PW::broadcast(PW::Value::default()); D]; N];
     for n in 0..step {
         group[n] = packed_child(below, step, first, n);

@@ -9,12 +9,12 @@ ghost use Rattle.p3_support.specs.Lists.{lane_of};
 ghost use Rattle.p3_merkle_digests.specs.Inner.Slots.{leaf_over, rows_over, IsFilled};
 
 use crate::batched::{contiguous_rows, messages_per_call, row_len, words_of_rows};
-use crate::packed::{packed_blocks, stage_packed_rows};
+use crate::packed::packed_blocks;
 use crate::plain::{MIN_SLICE_WIDTH, hash_each, no_slices, row_slices};
 use p3_support::hasher::CryptographicHasher;
 use p3_support::matrix::Matrix;
 use p3_support::packed::{PackedValue, unpack_at};
-use p3_support::rows::rows_of;
+use p3_support::rows::{packed_rows_of, rows_of};
 use std::alloc::{AllocError, Global};
 use std::marker::PhantomData;
 
@@ -80,55 +80,40 @@ impl<
     }
 
     /// The digests of the rows from `row` on: lane `k` is that of row `row + k`, for each lane that both packings have.
-    /// `row + P::WIDTH` must be at most the height. `staged` is a buffer for the rows of several matrices.
-    ///
-    /// # Errors
-    ///
-    /// `AllocError` if memory runs out.
-    pub fn packed_digest(&self, row: usize, staged: &mut Vec<P>) -> Result<[PW; D], AllocError>
+    /// `row + P::WIDTH` must be at most the height.
+    pub fn packed_digest(&self, row: usize) -> [PW; D]
         requires { row + P.WIDTH ≤ self.now.height }
-        ensures { IfOk result (λ digests. (k : ℕ) → k < P.WIDTH → k < PW.WIDTH →
-            lane_of PW.lanes PW.default_value k digests
-            ≡ H.hash self.now.hash.now (rows_over M.row_of self.now.matrices.now (row + k))) }
+        ensures { (k : ℕ) → k < P.WIDTH → k < PW.WIDTH →
+            lane_of PW.lanes PW.default_value k result
+            ≡ H.hash self.now.hash.now (rows_over M.row_of self.now.matrices.now (row + k)) }
     {
+        // One matrix: no test after each column for the end of its rows.
         if let [matrix] = self.matrices {
-            return Ok(
-                self.hash
-                    .hash_packed(matrix.vertically_packed_row::<P>(row)),
-            );
+            return self
+                .hash
+                .hash_packed(matrix.vertically_packed_row::<P>(row));
         }
-        stage_packed_rows(staged, self.matrices, self.height, row)?;
-        Ok(self.hash.hash_packed(staged.iter().copied()))
+        self.hash
+            .hash_packed(packed_rows_of::<_, P, _>(self.matrices, row))
     }
 
     /// Writes the digests of the rows into the first slots: `blocks` blocks, each of as many slots as there are lanes.
     /// Both packings have equally many lanes, and `blocks * PW::WIDTH` is at most the number of slots, and at most the
     /// height. If `blocks` is above 0, a packed digest has fewer than 2^63 bytes.
-    ///
-    /// # Errors
-    ///
-    /// `AllocError` if memory runs out.
-    fn write_packed(
-        &self,
-        alloc: Global,
-        blocks: usize,
-        slots: &mut [[PW::Value; D]],
-    ) -> Result<(), AllocError>
+    fn write_packed(&self, blocks: usize, slots: &mut [[PW::Value; D]])
         requires lanes { P.WIDTH ≡ PW.WIDTH }
         requires digest { 0 < blocks → FitsInMemory (ArrayAt PW.row D.row) }
         requires rows { blocks * PW.WIDTH ≤ self.now.height }
         requires fits { blocks * PW.WIDTH ≤ length slots.old }
         ensures { let leaf = leaf_over (H.hash self.now.hash.now) (replicate D PW.default_value)
             (rows_over M.row_of self.now.matrices.now) self.now.height in
-            IfOk result (λ done. IsFilled leaf (blocks * PW.WIDTH) (length slots.old) slots.new) }
+            IsFilled leaf (blocks * PW.WIDTH) (length slots.old) slots.new }
     {
-        let mut staged = Vec::new(alloc);
         for block in 0..blocks {
             let first = block * PW::WIDTH;
-            let digests = self.packed_digest(first, &mut staged)?;
+            let digests = self.packed_digest(first);
             unpack_at(&digests, slots, first);
         }
-        Ok(())
     }
 
     /// Writes the digests of the rows into the first `count` slots, as many rows per call as [`messages_per_call`]
@@ -223,7 +208,7 @@ impl<
             count
         } else {
             let blocks = packed_blocks::<PW, 1, D>(count);
-            self.write_packed(alloc, blocks, &mut slots)?;
+            self.write_packed(blocks, &mut slots);
             blocks * PW::WIDTH
         };
         self.write_remaining(done, &mut slots);

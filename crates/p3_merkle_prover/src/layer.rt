@@ -3,7 +3,7 @@
 //! A layer is filled from the first slot to the last: several slots at a time while there are enough, by calls that
 //! take many messages or lane by lane, and the others one by one.
 
-ghost use Rattle.std.specs.Prelude.{◌≡◌, ℕ, ◌+◌, ◌<◌, ◌≤◌, IfOk, map, length, true};
+ghost use Rattle.std.specs.Prelude.{◌≡◌, ℕ, ◌+◌, ◌*◌, ◌<◌, ◌≤◌, IfOk, map, length, true};
 ghost use Rattle.std.specs.List.{range_with_len};
 ghost use Rattle.std.specs.Mem.{FitsInMemory};
 ghost use denote.Param.{ArrayAt};
@@ -13,7 +13,7 @@ ghost use Rattle.p3_merkle_digests.specs.Inner.Slots.{IsFilled};
 
 use p3_merkle_core::group::{padded_group, pair_group};
 use p3_merkle_core::levels::Level;
-use p3_merkle_digests::batched::inject_row_digests;
+use p3_merkle_digests::batched::{compress_children_batched, inject_row_digests};
 use p3_merkle_digests::packed::{compress_children_packed, compress_pairs_packed, packed_blocks};
 use p3_merkle_digests::plain::compress_groups;
 use p3_merkle_digests::rows::LayerRows;
@@ -66,6 +66,16 @@ pub(crate) type LayerBuilder<
     const D: usize,
 > = LayerOver<'a, 'b, P, PW, H, C, M, [PW::Value; D], [[PW::Value; D]; N], N>;
 
+/// The least size of a digest, in bytes, at which the groups of bridge steps are compressed in batches.
+const LONG_DIGEST: usize = 32;
+
+/// Tells that the children of the first nodes are in the layer below. It does nothing at run time.
+fn lemma_front<X>(arity: usize, level: &Level, below: &[X], count: usize)
+    requires children { HasChildren arity level.now (length below.now) }
+    requires nodes { count ≤ level.now.raw_len }
+    ensures { level.now.step * count ≤ length below.now }
+{}
+
 impl<
     'a,
     'b,
@@ -77,7 +87,7 @@ impl<
     const N: usize,
     const D: usize,
 > LayerBuilder<'a, 'b, P, PW, H, C, M, N, D> {
-    ghost use Rattle.p3_merkle_prover.specs.Inner.Slots.{slot_of};
+    ghost use Rattle.p3_merkle_prover.specs.Inner.Slots.{folded_of, slot_of};
 
     /// The digest in slot `j`: for a node the compression of its children, compressed once more with the digest of its
     /// rows where matrices belong to the layer; past the nodes the default digest.
@@ -100,16 +110,12 @@ impl<
     }
 
     /// The digests of the nodes from `first` on, lane by lane.
-    ///
-    /// # Errors
-    ///
-    /// `AllocError` if memory runs out.
-    fn packed_digest(&self, first: usize, staged: &mut Vec<P>) -> Result<[PW; D], AllocError>
+    fn packed_digest(&self, first: usize) -> [PW; D]
         requires group { FitsInMemory (ArrayAt (ArrayAt PW.row D.row) N.row) }
         requires nodes { first + PW.WIDTH ≤ self.now.level.raw_len }
         requires rows { self.now.level.has_rows ≡ true → first + PW.WIDTH ≤ self.now.rows.height }
-        ensures { IfOk result (λ digests. (k : ℕ) → k < PW.WIDTH →
-            lane_of PW.lanes PW.default_value k digests ≡ slot_of H.hash C.compression D self.now (first + k)) }
+        ensures { (k : ℕ) → k < PW.WIDTH →
+            lane_of PW.lanes PW.default_value k result ≡ slot_of H.hash C.compression D self.now (first + k) }
     {
         let folded = compress_children_packed::<PW, C, N, D>(
             self.compress,
@@ -118,38 +124,63 @@ impl<
             first,
         );
         if !self.level.has_rows {
-            return Ok(folded);
+            return folded;
         }
-        let rows = self.rows.packed_digest(first, staged)?;
-        Ok(compress_pairs_packed::<PW, C, N, D>(self.compress, folded, rows))
+        let rows = self.rows.packed_digest(first);
+        compress_pairs_packed::<PW, C, N, D>(self.compress, folded, rows)
     }
 
     /// Writes nodes into the first slots lane by lane, as many as fill all lanes, and returns how many these are.
-    ///
-    /// # Errors
-    ///
-    /// `AllocError` if memory runs out.
-    fn write_packed(&self, alloc: Global, slots: &mut [[PW::Value; D]]) -> Result<usize, AllocError>
+    fn write_packed(&self, slots: &mut [[PW::Value; D]]) -> usize
         ensures { let slot = slot_of H.hash C.compression D self.now in
-            IfOk result (λ done. IsFilled slot done (length slots.old) slots.new) }
+            IsFilled slot result (length slots.old) slots.new }
     {
         let mut count = self.level.raw_len.min(slots.len());
         if self.level.has_rows {
             count = count.min(self.rows.height);
         }
         let blocks = packed_blocks::<PW, N, D>(count);
-        let mut staged = Vec::new(alloc);
         for block in 0..blocks {
             let first = block * PW::WIDTH;
-            let digests = self.packed_digest(first, &mut staged)?;
+            let digests = self.packed_digest(first);
             unpack_at(&digests, slots, first);
         }
-        Ok(blocks * PW::WIDTH)
+        blocks * PW::WIDTH
+    }
+
+    /// Writes the compressions of the children of the first nodes into the slots of their numbers, many per call. There
+    /// are at most as many slots as nodes. `groups` is a buffer for the groups of a bridge step.
+    ///
+    /// # Errors
+    ///
+    /// `AllocError` if memory runs out.
+    fn write_folded(
+        &self,
+        groups: &mut Vec<[[PW::Value; D]; N]>,
+        slots: &mut [[PW::Value; D]],
+    ) -> Result<(), AllocError>
+        requires { length slots.old ≤ self.now.level.raw_len }
+        ensures { let folded = folded_of C.compression D self.now in
+            IfOk result (λ done. IsFilled folded (length slots.old) (length slots.old) slots.new) }
+    {
+        // Whole groups lie as the compression takes them, so that none is copied.
+        if self.level.step == N {
+            let (whole, _) = self.below.as_chunks::<N>();
+            self.compress.compress_many(&whole[..slots.len()], slots);
+            return Ok(());
+        }
+        lemma_front(N, &self.level, self.below, slots.len());
+        compress_children_batched::<PW, C, N, D>(
+            self.compress,
+            groups,
+            self.below,
+            self.level.step,
+            slots,
+        )
     }
 
     /// Writes all nodes into the first slots, and returns how many these are: first the compressions of their children;
-    /// then, where matrices belong to the layer, the digests of their rows, and the compressions of both. Each node
-    /// must have `N` children.
+    /// then, where matrices belong to the layer, the digests of their rows, and the compressions of both.
     ///
     /// # Errors
     ///
@@ -160,20 +191,17 @@ impl<
         alloc: Global,
         slots: &mut [[PW::Value; D]],
     ) -> Result<usize, AllocError>
-        requires { self.now.level.step ≡ N }
         ensures { let slot = slot_of H.hash C.compression D self.now in
             IfOk result (λ done. IsFilled slot done (length slots.old) slots.new) }
     {
         let count = self.level.raw_len.min(slots.len());
-        let (groups, _) = self.below.as_chunks::<N>();
-        self.compress
-            .compress_many(&groups[..count], &mut slots[..count]);
+        let mut groups = Vec::new(alloc);
+        self.write_folded(&mut groups, &mut slots[..count])?;
         if !self.level.has_rows {
             return Ok(count);
         }
         let rows = self.rows.digests(alloc, count)?;
-        let mut pairs = Vec::new(alloc);
-        inject_row_digests::<PW, C, N, D>(self.compress, &mut pairs, &rows, slots)?;
+        inject_row_digests::<PW, C, N, D>(self.compress, &mut groups, &rows, slots)?;
         Ok(count)
     }
 
@@ -219,11 +247,13 @@ impl<
             ≡ map (slot_of H.hash C.compression D self.now) (range_with_len 0 (length slots.old))) }
     {
         let Level { step, has_rows, .. } = self.level;
-        // In batches where the groups are whole and each function takes several at a time, else lane by lane.
-        let done = if step == N && C::LANES > 1 && (!has_rows || H::LANES > 1) {
+        // The groups of a bridge step are laid in a buffer, which short digests are compressed sooner without.
+        let is_long = std::mem::size_of_val(&[PW::Value::default(); D]) >= LONG_DIGEST;
+        // In batches where each function takes several messages at a time, else lane by lane.
+        let done = if C::LANES > 1 && (!has_rows || H::LANES > 1) && (step == N || is_long) {
             self.write_batched(alloc, slots)?
         } else {
-            self.write_packed(alloc, slots)?
+            self.write_packed(slots)
         };
         self.write_remaining(done, slots);
         Ok(())

@@ -1,6 +1,6 @@
 -- What is left of a row, of columns and of the rows of several matrices, once one more element is read.
 use Rattle.std.proofs.Common.{◌≡◌, ℕ, zero, suc, take, ◌+◌, ◌-◌, ◌*◌, ◌<◌, ◌≤◌, List, [], ◌∷◌, ◌++◌, length, drop, map}
-use Rattle.std.proofs.Common.{get_or, refl, sym, ap, ◌∙◌, arith, true, add-one}
+use Rattle.std.proofs.Common.{All, get_or, refl, sym, ap, ◌∙◌, arith, true, add-one}
 use Rattle.std.specs.Prelude.{Bool, false, cond, ◌==◌, slice_get, slice_index_or, slice_range, Some}
 use Rattle.std.specs.List.{flat_map, range_with_len}
 use Rattle.std.proofs.Math.Nat.{mul-le-mul_right}
@@ -9,11 +9,12 @@ use Rattle.std.proofs.lemmas.List.Folds.{drop_split}
 use Rattle.std.proofs.lemmas.Option.{slice_get_within, slice_get_read, get_or_from_slice_get}
 use Rattle.std.proofs.lemmas.List.Edits.{get_or-between}
 use Rattle.std.proofs.Math.ListN.{get_or-append}
-use Rattle.std.proofs.lemmas.List.{drop_all, get_or-append_right, length-append}
+use Rattle.std.proofs.lemmas.List.{drop_all, get_or-append_right, length-append, map-append}
 use Rattle.std.proofs.lemmas.List.FromFn.{fill_by_all, get_or-map-range_with_len, length-map-range_with_len}
 use Rattle.std.proofs.lemmas.Simd.{map-map}
 use Rattle.std.proofs.lemmas.Bool.{eqb-true}
 use Rattle.p3_support.specs.Lists.{message, rows_left, rows_of_height, column_of_rows, columns, lane_of}
+use Rattle.p3_support.specs.Lists.{columns_left, columns_over}
 use Rattle.p3_support.specs.Inner.RowLengths.{next_start, length-message}
 
 -- what is left from an element on
@@ -96,16 +97,76 @@ module _ {A M : Type 0} (height : M → ℕ) (row : M → ℕ → List A) (h r :
   rows_none [] c none = refl
   rows_none (m ∷ ms) c none = absurd (omega (arith, none))
 
+-- what stands in place k of the columns of rows is row k of them
+pub picked_columns : {A : Type 0} (row : ℕ → List A) (d : A) (r n k w : ℕ) → k < n → length (row (r + k)) ≡ w →
+    map (λ xs. get_or xs k d) (columns row d r n w) ≡ row (r + k)
+picked_columns {A} row d r n k w below long =
+    let pick = λ (xs : List A). get_or xs k d in
+    let at : (c : ℕ) → pick (column_of_rows row d r n c) ≡ get_or (row (r + k)) c d =
+    λ c. get_or-map-range_with_len (λ j. get_or (row (r + j)) c d) 0 n k k d below (omega arith) in
+    map-map pick (column_of_rows row d r n) (range_with_len 0 w)
+    ∙ sym (fill_by_all (λ c. pick (column_of_rows row d r n c)) (row (r + k)) w d long (λ c h. sym (at c)))
+
 -- lane k of the packed columns of rows is row k of them
 pub lane_of_columns : {A P : Type 0} (lanes : P → List A) (row : ℕ → List A) (d : A) (r n k w : ℕ) (ps : List P) →
     map lanes ps ≡ columns row d r n w → k < n → length (row (r + k)) ≡ w
     → lane_of lanes d k ps ≡ row (r + k)
 lane_of_columns {A} lanes row d r n k w ps packed below long =
     let pick = λ (xs : List A). get_or xs k d in
-    let at : (c : ℕ) → pick (column_of_rows row d r n c) ≡ get_or (row (r + k)) c d =
-    λ c. get_or-map-range_with_len (λ j. get_or (row (r + j)) c d) 0 n k k d below (omega arith) in
-    sym (map-map pick lanes ps) ∙ ap (map pick) packed ∙ map-map pick (column_of_rows row d r n) (range_with_len 0 w)
-    ∙ sym (fill_by_all (λ c. pick (column_of_rows row d r n c)) (row (r + k)) w d long (λ c h. sym (at c)))
+    sym (map-map pick lanes ps) ∙ ap (map pick) packed ∙ picked_columns row d r n k w below long
+
+-- what holds of all of a list holds of the first, and of the others
+pub all_split : {M : Type 0} (P : M → Type 0) (m : M) (ms xs : List M) → xs ≡ m ∷ ms → All P xs → P m × All P ms
+all_split P m ms xs e all =
+    let each : All P (m ∷ ms) = rw e at all in (each 0 m (omega arith), λ k d b. each (suc k) d (omega (arith, b)))
+
+module _ {A M : Type 0} (row : M → ℕ → List A) (width : M → ℕ) (d : A) (r n : ℕ) where
+  -- one more column of the first matrix
+  pub columns_more : (m : M) (ms xs : List M) (c : ℕ) → xs ≡ m ∷ ms → c < width m →
+      columns_left row width d r n xs c ≡ column_of_rows (row m) d r n c ∷ columns_left row width d r n xs (c + 1)
+  columns_more m ms xs c e inside =
+      rw e (ap (λ l. l ++ columns_over row width d r n ms)
+      (drop_column (column_of_rows (row m) d r n) c (width m) inside))
+
+  -- the columns as they stand before any is read
+  columns_from_start : (ms : List M) → columns_left row width d r n ms 0 ≡ columns_over row width d r n ms
+  columns_from_start [] = refl
+  columns_from_start (m ∷ ms) = refl
+
+  -- nothing is left of the first matrix, which is read to its end
+  pub columns_skip : (m : M) (ms xs : List M) (c : ℕ) → xs ≡ m ∷ ms → width m ≤ c →
+      columns_left row width d r n ms 0 ≡ columns_left row width d r n xs c
+  columns_skip m ms xs c e read =
+      let none : drop c (columns (row m) d r n (width m)) ≡ [] = drop_all c (columns (row m) d r n (width m))
+      (omega (arith, read, length-map-range_with_len (column_of_rows (row m) d r n) 0 (width m))) in
+      columns_from_start ms ∙ sym (ap (λ l. l ++ columns_over row width d r n ms) none)
+      ∙ ap (λ l. columns_left row width d r n l c) (sym e)
+
+  -- nor of no matrix
+  pub columns_none : (xs : List M) (c : ℕ) → length xs ≡ 0 → columns_left row width d r n xs c ≡ []
+  columns_none [] c none = refl
+  columns_none (m ∷ ms) c none = absurd (omega (arith, none))
+
+  -- what stands in place k of the columns of several matrices is row k of each of them
+  picked_rows : (height : M → ℕ) (k : ℕ) → k < n → ((m : M) (i : ℕ) → i < height m → length (row m i) ≡ width m) →
+      (ms : List M) → All (λ m. r + n ≤ height m) ms →
+      map (λ xs. get_or xs k d) (columns_over row width d r n ms) ≡ flat_map (λ m. row m (r + k)) ms
+  picked_rows height k below each [] all = refl
+  picked_rows height k below each (m ∷ ms) all =
+      let pick = λ (xs : List A). get_or xs k d in
+      let high : r + n ≤ height m = all 0 m (omega arith) in
+      map-append pick (columns (row m) d r n (width m)) (columns_over row width d r n ms)
+      ∙ ap (λ l. l ++ map pick (columns_over row width d r n ms))
+      (picked_columns (row m) d r n k (width m) below (each m (r + k) (omega (arith, high, below))))
+      ∙ ap (λ l. row m (r + k) ++ l) (picked_rows height k below each ms (λ i e b. all (suc i) e (omega (arith, b))))
+
+  -- lane k of their packed columns is row k of each of them
+  pub lane_of_rows : {P : Type 0} (height : M → ℕ) (lanes : P → List A) (k : ℕ) (ps : List P) (ms : List M) → k < n →
+      ((m : M) (i : ℕ) → i < height m → length (row m i) ≡ width m) → All (λ m. r + n ≤ height m) ms →
+      map lanes ps ≡ columns_over row width d r n ms → lane_of lanes d k ps ≡ flat_map (λ m. row m (r + k)) ms
+  lane_of_rows height lanes k ps ms below each all packed =
+      let pick = λ (xs : List A). get_or xs k d in
+      sym (map-map pick lanes ps) ∙ ap (map pick) packed ∙ picked_rows height k below each ms all
 
 -- an element of the first of two lists, read in the two, one after the other
 pub joined_first : {A : Type 0} (xs ys : List A) (c : ℕ) (x : A) → slice_get xs c ≡ Some x → slice_get (xs ++ ys) c

@@ -1,7 +1,7 @@
 -- Parts of lists: messages, lanes, rows and columns.
 use Rattle.std.specs.Prelude.{Bool, ℕ, ◌==◌, cond, ◌++◌, drop, ◌+◌, ◌*◌, List, [], ◌∷◌, map, slice_range}
 use Rattle.std.specs.Prelude.{slice_index_or}
-use Rattle.std.specs.List.{list_any, range_with_len}
+use Rattle.std.specs.List.{flat_map, list_any, range_with_len}
 
 -- whether a number is in a list
 abbrev pub is_among : List ℕ → ℕ → Bool
@@ -38,3 +38,13 @@ module _ {A : Type 0} (row : ℕ → List A) (d : A) (r n : ℕ) where
   -- the w columns of these rows
   abbrev pub columns : ℕ → List (List A)
   columns w = map column_of_rows (range_with_len 0 w)
+
+module _ {A M : Type 0} (row : M → ℕ → List A) (width : M → ℕ) (d : A) (r n : ℕ) where
+  -- the columns of the n rows from r on of each matrix, one matrix after another
+  abbrev pub columns_over : List M → List (List A)
+  columns_over ms = flat_map (λ m. columns (row m) d r n (width m)) ms
+
+  -- the same, where the first matrix is read from column c on
+  abbrev pub columns_left : List M → ℕ → List (List A)
+  columns_left [] c = []
+  columns_left (m ∷ ms) c = drop c (columns (row m) d r n (width m)) ++ columns_over ms

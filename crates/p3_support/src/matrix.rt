@@ -227,7 +227,7 @@ impl<'a, T, P: PackedValue<Value = T>, M: Matrix<T>> Iterator for PackedRow<'a, 
 
 /// One column of `P::WIDTH` rows from `row` on: lane `k` is the element of row `row + k`. `row + P::WIDTH` must be at
 /// most the height, and the column below the width.
-fn packed_column<T, P: PackedValue<Value = T>, M: Matrix<T>>(
+pub(crate) fn packed_column<T, P: PackedValue<Value = T>, M: Matrix<T>>(
     matrix: &M,
     row: usize,
     column: usize,

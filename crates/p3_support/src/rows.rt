@@ -1,9 +1,10 @@
 //! The rows of several matrices of one height, one after another.
-ghost use Rattle.std.specs.Prelude.{◌≡◌, ℕ, ◌<◌};
-ghost use Rattle.std.specs.Iterator.{YieldsFirst, item_count};
-ghost use Rattle.p3_support.specs.Lists.{rows_of_height};
+ghost use Rattle.std.specs.Prelude.{◌≡◌, ℕ, ◌+◌, ◌<◌, ◌≤◌, All};
+ghost use Rattle.std.specs.Iterator.{YieldsFirst, YieldsFirstBy, item_count};
+ghost use Rattle.p3_support.specs.Lists.{columns_over, rows_of_height};
 
-use crate::matrix::Matrix;
+use crate::matrix::{Matrix, packed_column};
+use crate::packed::PackedValue;
 use std::marker::{Model, PhantomData};
 
 /// An iterator over one row of each matrix of one height, in input order, element by element. Contracts speak of those
@@ -54,6 +55,69 @@ impl<'a, T, M: Matrix<T>> Iterator for Rows<'a, T, M> {
         while let Some((first, others)) = self.matrices.split_first() {
             if first.height() == self.height && self.next < first.width() {
                 let item = first.get(self.row, self.next);
+                self.next += 1;
+                return Some(item);
+            }
+            self.matrices = others;
+            self.next = 0;
+        }
+        None
+    }
+}
+
+/// An iterator over the columns of `P::WIDTH` rows of each of several matrices, one matrix after another, each column
+/// packed: lane `k` is from row `k` of them. Contracts speak of the lanes of the columns that are left.
+#[derive(Drop)]
+pub struct PackedRows<'a, T, P: PackedValue<Value = T>, M: Matrix<T>> {
+    matrices: &'a [M],
+    row: usize,
+    next: usize,
+    item: PhantomData<P>,
+}
+
+impl<'a, T, P: PackedValue<Value = T>, M: Matrix<T>> Model for PackedRows<'a, T, P, M> {
+    ghost use Rattle.std.specs.Prelude.{All, List, ◌+◌, ◌≤◌};
+    ghost use Rattle.p3_support.specs.Lists.{columns_left};
+
+    ghost Value = { List (List T) };
+
+    ghost view = { λ s.
+        columns_left M.row_of M.width_of P.default_value s.row P.WIDTH s.matrices.now s.next };
+
+    ghost invariant = { λ s. All (λ m. s.row + P.WIDTH ≤ M.height_of m) s.matrices.now };
+}
+
+/// As many rows from `row` on as `P` has lanes, of each of the `matrices`, packed column by column, one matrix after
+/// another: lane `k` of an item is an element of row `row + k`. `row + P::WIDTH` must be at most the height of each. It
+/// does not allocate.
+pub fn packed_rows_of<'a, T, P: PackedValue<Value = T>, M: Matrix<T>>(
+    matrices: &'a [M],
+    row: usize,
+) -> PackedRows<'a, T, P, M>
+    requires { All (λ m. row + P.WIDTH ≤ M.height_of m) matrices.now }
+    ensures { result ≡ columns_over M.row_of M.width_of P.default_value row P.WIDTH matrices.now }
+{
+    PackedRows {
+        matrices,
+        row,
+        next: 0,
+        item: PhantomData,
+    }
+}
+
+impl<'a, T, P: PackedValue<Value = T>, M: Matrix<T>> Iterator for PackedRows<'a, T, P, M> {
+    type Item = P;
+
+    ghost next_gives = { YieldsFirstBy P.lanes (λ rest. rest) };
+
+    ghost remaining = { item_count (λ rest. rest) };
+
+    // A call for each column would pass the column and the place through memory.
+    #[inline(always)]
+    fn next(&mut self) -> Option<P> {
+        while let Some((first, others)) = self.matrices.split_first() {
+            if self.next < first.width() {
+                let item = packed_column(first, self.row, self.next);
                 self.next += 1;
                 return Some(item);
             }

@@ -1,9 +1,9 @@
 -- Each turn adds the nodes of the next part.
-use Rattle.std.proofs.Common.{◌≡◌, ◌∙◌, ◌-◌, ◌≤◌, [], ap, arith, get_or, length, length-take, map, sym, take}
+use Rattle.std.proofs.Common.{◌∙◌, ◌-◌, [], ap, arith, get_or, length, length-take, map, sym, take}
 use Rattle.std.proofs.lemmas.Result.{err_from_is_err_and}
 use Rattle.std.specs.Prelude.{replicate}
 use Rattle.p3_support.specs.Shown.{roots_of}
-use Rattle.p3_merkle_core.specs.Inner.Raised.{compress_up_to, given_nodes, raised}
+use Rattle.p3_merkle_core.specs.Inner.Raised.{compress_up_to, given_nodes}
 use Rattle.p3_merkle_core.specs.OneHeight.{cap_layer_of_height, nodes_of_height}
 use Rattle.p3_merkle_core.proofs.InParts.CallFacts.{cap_length}
 use Rattle.p3_merkle_core.proofs.InParts.PartHeights.{none_higher}

@@ -1,5 +1,5 @@
 -- Each turn adds the parent of the next group.
-use Rattle.std.proofs.Common.{◌≡◌, ◌∙◌, ◌*◌, ap, arith, drop, take}
+use Rattle.std.proofs.Common.{◌∙◌, ◌*◌, ap, arith, drop, take}
 use Rattle.std.proofs.lemmas.Result.{err_from_is_err_and}
 use Rattle.std.specs.Prelude.{replicate}
 use Rattle.p3_merkle_core.specs.Inner.Raised.{compress_up_to}

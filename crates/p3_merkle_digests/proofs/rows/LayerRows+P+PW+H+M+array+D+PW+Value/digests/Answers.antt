@@ -6,7 +6,7 @@ use Rattle.std.proofs.lemmas.List.FromFn.{length-map-range_with_len}
 use Rattle.p3_merkle_digests.specs.Inner.Slots.{leaf_over, rows_over}
 use Rattle.p3_merkle_digests.proofs.rows.LayerRows+P+PW+H+M+array+D+PW+Value.digests.Goals as goal
 use Rattle.p3_merkle_digests.proofs.rows.LayerRows+P+PW+H+M+array+D+PW+Value.digests.Goals.{then-LANES-gt1+in_ok-write_batched}
-use Rattle.p3_merkle_digests.proofs.rows.LayerRows+P+PW+H+M+array+D+PW+Value.digests.Goals.{else-LANES-gt1+in_ok-write_packed}
+use Rattle.p3_merkle_digests.proofs.rows.LayerRows+P+PW+H+M+array+D+PW+Value.digests.Goals.{else-LANES-gt1}
 
 pub returns : goal.returns
 returns g c =
@@ -17,7 +17,7 @@ returns g c =
     let same : c.if-LANES-gt1.slots.len ≡ c.args.len =
     elim c.if-LANES-gt1.branch [
       | then-LANES-gt1+in_ok-write_batched w ↦ rw w.slots-is c.in_ok-slots.ensures.len
-      | else-LANES-gt1+in_ok-write_packed w ↦ rw w.slots-is c.in_ok-slots.ensures.len
+      | else-LANES-gt1 w ↦ rw w.slots-is c.in_ok-slots.ensures.len
     ] in
     let long : length c.deref_mut-2.result.now ≡ c.args.len = c.deref_mut-2.ensures.len ∙ same in
     let size : length slots ≡ c.if-LANES-gt1.slots.len = ap length c.write_remaining.ensures

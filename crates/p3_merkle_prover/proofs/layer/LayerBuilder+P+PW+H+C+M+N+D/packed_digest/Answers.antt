@@ -26,10 +26,10 @@ returns g c = λ k small.
     let leaf = leaf_in hash g.row.D builder in
     let has : builder.level.has_rows ≡ true = search rules in
     let tall : c.args.first + k < builder.rows.height = omega (arith, c.requires.rows has, small) in
-    let row : lane c.in_ok-rows.rows ≡ leaf (c.args.first + k) =
+    let row : lane c.packed_digest-rows.result ≡ leaf (c.args.first + k) =
     rw (lt-ltb (c.args.first + k) builder.rows.height tall)
-    (c.in_ok-rows.ensures k (rw builder.lanes small) small) in
+    (c.packed_digest-rows.ensures k (rw builder.lanes small) small) in
     node_with f g.row.N leaf builder.level builder.below.now builder.children
     (c.args.first + k) (omega (arith, c.requires.nodes, small))
-    (lane c.compress_children_packed-folded.result) (lane c.in_ok-rows.rows) (lane c.compress_pairs_packed.result) has
+    (lane c.compress_children_packed-folded.result) (lane c.packed_digest-rows.result) (lane c.compress_pairs_packed.result) has
     (c.compress_children_packed-folded.ensures k small) row (c.compress_pairs_packed.ensures k small)

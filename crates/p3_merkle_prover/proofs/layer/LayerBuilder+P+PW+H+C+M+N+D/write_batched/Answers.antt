@@ -1,9 +1,10 @@
 -- Each slot is a node.
-use Rattle.std.proofs.Common.{arith, ◌≡◌, ◌<◌, ◌∙◌, ◌++◌, [], ap, drop, length, slice_index_or}
+use Rattle.std.proofs.Common.{arith, ◌≡◌, ◌<◌, ◌∙◌, ◌++◌, [], ap, drop, length, slice_index_or, take}
+use Rattle.std.proofs.lemmas.List.{length-take-le}
 use Rattle.std.proofs.lemmas.List.FromFn.{get_or-map-range_with_len, length-map-range_with_len}
 use Rattle.p3_merkle_digests.proofs.StageFacts.{filled_front}
-use Rattle.p3_merkle_prover.specs.Inner.Slots.{functions_in, leaf_in}
-use Rattle.p3_merkle_prover.proofs.NodeFacts.{groups_count, node_alone, node_with, whole_group}
+use Rattle.p3_merkle_prover.specs.Inner.Slots.{folded_of, functions_in, leaf_in}
+use Rattle.p3_merkle_prover.proofs.NodeFacts.{node_alone, node_with}
 use Rattle.p3_merkle_prover.proofs.layer.LayerBuilder+P+PW+H+C+M+N+D.write_batched.Goals as goal
 
 pub returns-then-not-self : goal.returns-then-not-self
@@ -11,22 +12,18 @@ returns-then-not-self g c =
     let builder = c.args.self.now in
     let v = builder.level in
     let hash = g.H.CryptographicHasher.hash in
-    let f = functions_in hash g.C.PseudoCompressionFunction.compression g.row.D builder in
+    let compression = g.C.PseudoCompressionFunction.compression in
+    let f = functions_in hash compression g.row.D builder in
     let count = c.min-count.result in
-    let groups = c.as_chunks.result.0.now in
-    let many = groups_count g.row.N v (length builder.below.now) builder.children c.requires in
-    let front = filled_front f.compression groups c.args.slots.now c.compress_many.new.out count
-    (omega (arith, many, c.as_chunks.ensures.front_len)) (omega arith) c.compress_many.ensures in
+    let size : length (take count c.args.slots.now) ≡ count = length-take-le count c.args.slots.now (omega arith) in
+    let front = filled_front (folded_of compression g.row.D builder) c.args.slots.now c.write_folded.new.slots count
+    (omega arith) (rw size at c.in_ok-write_folded.ensures) in
     record {
       long = front.long;
       filled =
-          λ j h.
-          let inside : j < v.raw_len = omega (arith, h) in
-          node_alone f g.row.N (leaf_in hash g.row.D builder) v builder.below.now builder.children j inside
-          (slice_index_or (c.compress_many.new.out ++ drop count c.args.slots.now) j []) c.if-not-self.true
-          (front.filled j h
-          ∙ whole_group f g.row.N (leaf_in hash g.row.D builder) v builder.below.now builder.children j inside groups
-          c.requires c.as_chunks.ensures.front);
+          λ j h. node_alone f g.row.N (leaf_in hash g.row.D builder) v builder.below.now builder.children j
+          (omega (arith, h)) (slice_index_or (c.write_folded.new.slots ++ drop count c.args.slots.now) j [])
+          c.if-not-self.true (front.filled j h);
     }
 
 pub returns : goal.returns
@@ -34,28 +31,24 @@ returns g c =
     let builder = c.args.self.now in
     let v = builder.level in
     let hash = g.H.CryptographicHasher.hash in
-    let f = functions_in hash g.C.PseudoCompressionFunction.compression g.row.D builder in
+    let compression = g.C.PseudoCompressionFunction.compression in
+    let f = functions_in hash compression g.row.D builder in
     let leaf = leaf_in hash g.row.D builder in
     let count = c.min-count.result in
-    let groups = c.as_chunks.result.0.now in
-    let many = groups_count g.row.N v (length builder.below.now) builder.children c.requires in
-    let front = filled_front f.compression groups c.args.slots.now c.compress_many.new.out count
-    (omega (arith, many, c.as_chunks.ensures.front_len)) (omega arith) c.compress_many.ensures in
+    let size : length (take count c.args.slots.now) ≡ count = length-take-le count c.args.slots.now (omega arith) in
+    let front = filled_front (folded_of compression g.row.D builder) c.args.slots.now c.write_folded.new.slots count
+    (omega arith) (rw size at c.in_ok-write_folded.ensures) in
     let made = c.deref.ensures.value ∙ c.in_ok-rows.ensures in
     let rows : length c.deref.result.now ≡ count = ap length made ∙ length-map-range_with_len leaf 0 count in
     record {
       long = c.in_ok-inject_row_digests.ensures.long ∙ front.long;
       filled =
           λ j h.
-          let inside : j < v.raw_len = omega (arith, h) in
-          let is = front.filled j h
-          ∙ whole_group f g.row.N leaf v builder.below.now builder.children j inside groups c.requires
-          c.as_chunks.ensures.front in
           let row = ap (λ l. slice_index_or l j []) made
           ∙ get_or-map-range_with_len leaf 0 count j j [] h (omega arith) in
           let joined = c.in_ok-inject_row_digests.ensures.filled j (omega (arith, h, rows)) in
-          node_with f g.row.N leaf v builder.below.now builder.children j inside
-          (slice_index_or (c.compress_many.new.out ++ drop count c.args.slots.now) j [])
+          node_with f g.row.N leaf v builder.below.now builder.children j (omega (arith, h))
+          (slice_index_or (c.write_folded.new.slots ++ drop count c.args.slots.now) j [])
           (slice_index_or c.deref.result.now j []) (slice_index_or c.inject_row_digests.new.slots j [])
-          c.if-not-self.false is row joined;
+          c.if-not-self.false (front.filled j h) row joined;
     }
