@@ -110,6 +110,8 @@ fn absorb_eight<const D: usize>(state: &mut [u32; D], words: &[u32])
 }
 
 /// The state after the words of a slice.
+// A call for each row would pass the state through memory.
+#[inline(always)]
 fn absorb_slice<const D: usize>(state: &mut [u32; D], words: &[u32])
     ensures { state.new ≡ map (λ s. folded take_in s words.now) state.old }
 {
