@@ -115,8 +115,9 @@ fn absorb_eight<const D: usize>(state: &mut [u32; D], words: &[u32])
 fn absorb_slice<const D: usize>(state: &mut [u32; D], words: &[u32])
     ensures { state.new ≡ map (λ s. folded take_in s words.now) state.old }
 {
-    // So few words are taken into one element sooner than joined.
-    if D == 1 && words.len() < 16 {
+    // So few words are taken in one by one sooner than joined.
+    let few = if D == 1 { 16 } else { 8 };
+    if words.len() < few {
         absorb_each(state, words);
         return;
     }
