@@ -1,6 +1,6 @@
 -- Each turn takes the words into one element at once.
-use Rattle.std.proofs.Common.{arith, ◌≡◌, ℕ, ◌+◌, ◌*◌, ◌^◌, ◌%◌, ◌++◌, ◌∙◌, ap, drop, length, map, set, slice_index, sym}
-use Rattle.std.proofs.Common.{length-append, length-drop, length-take, take}
+use Rattle.std.proofs.Common.{arith, ◌≡◌, ℕ, ◌+◌, ◌*◌, ◌^◌, ◌%◌, ◌++◌, ◌∙◌, ap, drop, length, map, set, sym, take}
+use Rattle.std.proofs.Common.{length-append, length-drop, length-take, slice_index}
 use Rattle.std.specs.List.{fold}
 use Rattle.std.proofs.lemmas.Grind.{get_or_default_zero}
 use Rattle.std.proofs.lemmas.List.{length-map}
