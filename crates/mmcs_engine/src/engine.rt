@@ -93,20 +93,20 @@ fn answer_to<Src: Read>(alloc: Global, words: &[String], input: &mut Src) -> Res
 {
     let request = Request::from_words(alloc, words)?;
     let bytes = read_all(alloc, input, Fault::Read)?;
-    reply(alloc, &request, &bytes)
+    reply(alloc, &request, bytes)
 }
 
-/// The text that is printed of an input.
+/// The text that is printed of an input, which is given up once it is read.
 ///
 /// # Errors
 ///
 /// `Number` or `Count` for the first faulty line; else `Tree`: why the tree refuses the heights, else
 /// `IndexOutOfBounds` for the highest index; or `Tree(OutOfMemory)`.
-fn reply(alloc: Global, request: &Request, input: &[u8]) -> Result<Vec<u8>, Fault>
+fn reply(alloc: Global, request: &Request, input: Vec<u8>) -> Result<Vec<u8>, Fault>
     ensures text { IfOk result
-        (λ text. IsReply request.now.command request.now.indices.items input.now (Ok text.items)) }
+        (λ text. IsReply request.now.command request.now.indices.items input.items (Ok text.items)) }
     ensures fault { IfErr result (λ fault. (fault ≡ Fault.Tree OutOfMemory) ⊎
-        IsReply request.now.command request.now.indices.items input.now (Err fault)) }
+        IsReply request.now.command request.now.indices.items input.items (Err fault)) }
 {
     match request.command.arity {
         Arity::Two => reply_at::<2>(alloc, request, input),
@@ -123,14 +123,14 @@ fn reply(alloc: Global, request: &Request, input: &[u8]) -> Result<Vec<u8>, Faul
 fn reply_at<const N: usize>(
     alloc: Global,
     request: &Request,
-    input: &[u8],
+    input: Vec<u8>,
 ) -> Result<Vec<u8>, Fault>
     requires taken { IsTrue (is_taken_arity N) }
     requires arity { N ≡ arity_number request.now.command.arity }
     ensures text { IfOk result
-        (λ text. IsReply request.now.command request.now.indices.items input.now (Ok text.items)) }
+        (λ text. IsReply request.now.command request.now.indices.items input.items (Ok text.items)) }
     ensures fault { IfErr result (λ fault. (fault ≡ Fault.Tree OutOfMemory) ⊎
-        IsReply request.now.command request.now.indices.items input.now (Err fault)) }
+        IsReply request.now.command request.now.indices.items input.items (Err fault)) }
 {
     let cap = request.command.cap;
     match request.command.hash {
@@ -154,17 +154,21 @@ fn reply_by<
     alloc: Global,
     scheme: &MerkleTreeMmcs<W, W, H, C, N, D>,
     request: &Request,
-    input: &[u8],
+    input: Vec<u8>,
 ) -> Result<Vec<u8>, Fault>
     requires scheme { IsSchemeOf request.now.command.hash request.now.command.cap W.value W.MAX W.HEX_DIGITS
         (scheme_functions H.hash C.compression D scheme.now) (cap_height_of scheme.now) (cap_rule_of scheme.now) }
     requires arity { N ≡ arity_number request.now.command.arity }
     ensures text { IfOk result
-        (λ text. IsReply request.now.command request.now.indices.items input.now (Ok text.items)) }
+        (λ text. IsReply request.now.command request.now.indices.items input.items (Ok text.items)) }
     ensures fault { IfErr result (λ fault. (fault ≡ Fault.Tree OutOfMemory) ⊎
-        IsReply request.now.command request.now.indices.items input.now (Err fault)) }
+        IsReply request.now.command request.now.indices.items input.items (Err fault)) }
 {
-    let matrices = read_matrices::<W>(alloc, input)?;
+    // Its memory is free again before the tree is built.
+    let matrices = {
+        let text = input;
+        read_matrices::<W>(alloc, &text)?
+    };
     Ok(act(alloc, scheme, request, matrices)?)
 }
 

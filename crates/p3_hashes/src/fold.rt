@@ -1,6 +1,6 @@
 //! The fold functions: a hash and a compression by sums modulo 2^32, for tests of trees and of
 //! lanes. They are not secure.
-ghost use Rattle.std.specs.Prelude.{◌≡◌, ℕ, ◌+◌, ◌*◌, ◌%◌, ◌^◌, ◌<◌, List, [], length, map, slice_index_or};
+ghost use Rattle.std.specs.Prelude.{◌≡◌, ℕ, ◌+◌, ◌%◌, ◌^◌, ◌<◌, List, [], length, map, slice_index_or};
 ghost use Rattle.std.specs.Iterator.{IsFinite};
 ghost use Rattle.std.specs.Iterator.Runs.{WholeRun};
 ghost use Rattle.std.specs.List.{fold as folded};
@@ -10,7 +10,7 @@ ghost use Rattle.p3_support.specs.Fold.{fold_hash, fold_compress, take_in, start
 use crate::eights::{compress_all, hash_all};
 use p3_support::compress::PseudoCompressionFunction;
 use p3_support::hasher::CryptographicHasher;
-use p3_support::packed::{PackedValue, lemma_row};
+use p3_support::packed::PackedValue;
 use std::convert::AsSlice;
 
 /// Lanes of 32 bits that the fold functions work on together, a step at a time.
@@ -70,61 +70,13 @@ pub(crate) fn absorb<P: FoldLane, const D: usize>(state: &mut [P; D], word: P)
     }
 }
 
-/// The state after the words of a slice, one after another.
-fn absorb_each<const D: usize>(state: &mut [u32; D], words: &[u32])
+/// The state after the words of a slice.
+fn absorb_slice<const D: usize>(state: &mut [u32; D], words: &[u32])
     ensures { state.new ≡ map (λ s. folded take_in s words.now) state.old }
 {
     for word in words {
         absorb(state, *word);
     }
-}
-
-/// What an element of 0 becomes by the words of a slice.
-fn joined(words: &[u32]) -> u32
-    ensures { result ≡ folded take_in 0 words.now }
-{
-    let mut sum = 0u32;
-    for word in words {
-        sum = sum.step_together(*word);
-    }
-    sum
-}
-
-/// An element after eight words, by which an element of 0 becomes `sum`.
-fn step_eight(element: u32, sum: u32) -> u32
-    ensures { result ≡ (31 ^ 8 * element + sum) % 2 ^ 32 }
-{
-    // The factor is 31^8, modulo 2^32.
-    element.wrapping_mul(2_487_512_833).wrapping_add(sum)
-}
-
-/// The state after eight words. The elements wait for one product, and not for one after each word.
-fn absorb_eight<const D: usize>(state: &mut [u32; D], words: &[u32])
-    requires { length words.now ≡ 8 }
-    ensures { state.new ≡ map (λ s. folded take_in s words.now) state.old }
-{
-    let sum = joined(words);
-    for element in state.iter_mut() {
-        *element = step_eight(*element, sum);
-    }
-}
-
-/// The state after the words of a slice.
-fn absorb_slice<const D: usize>(state: &mut [u32; D], words: &[u32])
-    ensures { state.new ≡ map (λ s. folded take_in s words.now) state.old }
-{
-    // So few words are taken into one element sooner than joined.
-    if D == 1 && words.len() < 16 {
-        absorb_each(state, words);
-        return;
-    }
-    let mut rest = words;
-    while let Some((eight, others)) = rest.split_first_chunk::<8>() {
-        lemma_row(eight);
-        absorb_eight(state, eight);
-        rest = others;
-    }
-    absorb_each(state, rest);
 }
 
 /// The digests of the messages whose words stand in the lanes of the items.

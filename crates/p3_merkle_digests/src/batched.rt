@@ -109,9 +109,9 @@ pub(crate) fn words_of_rows<'b, T: Copy, M: Matrix<T>>(
     Ok(staged.as_slice())
 }
 
-/// Fills `groups`, in place of what it has, with the children of the nodes `first..end` over a layer, each group followed
-/// by default digests. Each node has `step` children, at least one and at most `N`; those of the last one must be in the
-/// layer, and `first` must be at most `end`.
+/// Fills `groups`, in place of what it has, with the children of the nodes `first..end` over a layer, each group
+/// followed by default digests. Each node has `step` children, at least one and at most `N`; those of the last one must
+/// be in the layer, and `first` must be at most `end`.
 ///
 /// # Errors
 ///

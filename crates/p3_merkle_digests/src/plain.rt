@@ -14,8 +14,8 @@ use p3_support::packed::PackedValue;
 // The slices are in an array, so that no row allocates. Rows of more matrices are hashed word by word.
 pub(crate) const MAX_SLICES: usize = 16;
 
-/// The least width of a row that is copied as a slice, and of the first of several matrices whose rows are hashed slice by
-/// slice. Shorter rows are faster word by word.
+/// The least width of a row that is copied as a slice, and of the first of several matrices whose rows are hashed slice
+/// by slice. Shorter rows are faster word by word.
 pub(crate) const MIN_SLICE_WIDTH: usize = 4;
 
 /// An array of empty slices, to be filled with rows. A function of its own gives them the lifetime of these rows.

@@ -12,9 +12,10 @@ returns-in_err-act-clause-fault g c =
     let w = g.met.W.Word in
     let given = stored_batch g.row.N c.in_ok-matrices.matrices.items in
     let found = c.in_ok-matrices.ensures.matrices in
+    let read = rw c.deref.ensures.value at found.1 in
     let left = err_from_is_err_and c.from_residual-in_err-act.result c.from_residual-in_err-act.ensures.1 in
-    reply_fault c.args.request.now.command c.args.request.now.indices.items c.args.input.now g.W.Word.MAX g.row.N
-    c.requires.scheme.greatest_word c.requires.arity found.0 found.1 (batch_in_numbers g.W.Word.value given)
+    reply_fault c.args.request.now.command c.args.request.now.indices.items c.args.input.items g.W.Word.MAX g.row.N
+    c.requires.scheme.greatest_word c.requires.arity found.0 read (batch_in_numbers g.W.Word.value given)
     (stored_in_numbers g.W.Word.value w.some_word w.one_word c.in_ok-matrices.matrices.items found.0 g.row.N found.2)
     (shape given) (shape_in_numbers g.W.Word.value w.some_word w.one_word given) c.from_residual-in_err-act.result _
     (left.1 ∙ ap Err left.2) c.in_err-act.ensures.answer
@@ -24,8 +25,9 @@ returns-clause-text g c =
     let w = g.met.W.Word in
     let given = stored_batch g.row.N c.in_ok-matrices.matrices.items in
     let found = c.in_ok-matrices.ensures.matrices in
-    reply_text c.args.request.now.command c.args.request.now.indices.items c.args.input.now g.W.Word.MAX g.row.N
-    c.requires.scheme.greatest_word c.requires.arity found.0 found.1 (batch_in_numbers g.W.Word.value given)
+    let read = rw c.deref.ensures.value at found.1 in
+    reply_text c.args.request.now.command c.args.request.now.indices.items c.args.input.items g.W.Word.MAX g.row.N
+    c.requires.scheme.greatest_word c.requires.arity found.0 read (batch_in_numbers g.W.Word.value given)
     (stored_in_numbers g.W.Word.value w.some_word w.one_word c.in_ok-matrices.matrices.items found.0 g.row.N found.2)
     (shape given) (shape_in_numbers g.W.Word.value w.some_word w.one_word given) c.in_ok-act.field-0.items
     c.in_ok-act.ensures.answer c.in_ok-act.ensures.text

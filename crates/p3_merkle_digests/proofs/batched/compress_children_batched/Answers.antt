@@ -1,6 +1,6 @@
 -- Each turn compresses the groups of one call.
-use Rattle.std.proofs.Common.{arith, ◌≡◌, ℕ, ◌+◌, ◌-◌, ◌*◌, ◌≤◌, List, ◌++◌, ◌∙◌, ap, sym, refl, length, map, take, drop}
-use Rattle.std.proofs.Common.{length-drop, replicate}
+use Rattle.std.proofs.Common.{arith, ◌≡◌, ℕ, ◌+◌, ◌-◌, ◌*◌, ◌≤◌, List, ◌++◌, ◌∙◌, ap, sym, refl, length, map}
+use Rattle.std.proofs.Common.{drop, length-drop, replicate, take}
 use Rattle.std.specs.List.{range_with_len}
 use Rattle.std.proofs.lemmas.List.{length-take-le}
 use Rattle.std.proofs.lemmas.Simd.{map-map}

@@ -16,7 +16,8 @@ loop-block-preserved g c =
     let f = leaf_over (g.H.CryptographicHasher.hash c.args.self.now.hash.now)
     (replicate g.row.D g.PW.PackedValue.default_value) (rows_over g.M.Matrix.row_of c.args.self.now.matrices.now)
     c.args.self.now.height in
-    let seen = λ (k : ℕ). lane_of g.PW.PackedValue.lanes g.PW.PackedValue.default_value k c.packed_digest-digests.result in
+    let digests = c.packed_digest-digests.result in
+    let seen = λ (k : ℕ). lane_of g.PW.PackedValue.lanes g.PW.PackedValue.default_value k digests in
     let end = group_end block w c.args.blocks c.args.self.now.height c.loop-block-test.true c.requires.rows in
     let written : (k : ℕ) → k < w → slice_index_or c.unpack_at.new.rows (block * w + k) []
     ≡ seen k = rw c.WIDTH.ensures at c.unpack_at.ensures.lanes in

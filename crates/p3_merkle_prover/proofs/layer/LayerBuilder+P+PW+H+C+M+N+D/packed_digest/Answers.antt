@@ -31,5 +31,6 @@ returns g c = λ k small.
     (c.packed_digest-rows.ensures k (rw builder.lanes small) small) in
     node_with f g.row.N leaf builder.level builder.below.now builder.children
     (c.args.first + k) (omega (arith, c.requires.nodes, small))
-    (lane c.compress_children_packed-folded.result) (lane c.packed_digest-rows.result) (lane c.compress_pairs_packed.result) has
+    (lane c.compress_children_packed-folded.result) (lane c.packed_digest-rows.result)
+    (lane c.compress_pairs_packed.result) has
     (c.compress_children_packed-folded.ensures k small) row (c.compress_pairs_packed.ensures k small)

@@ -40,12 +40,14 @@ loop-block-preserved g c =
     let block = c.loop-block.block in
     let builder = c.args.self.now in
     let slot = slot_of g.H.CryptographicHasher.hash g.C.PseudoCompressionFunction.compression g.row.D builder in
-    let seen = λ (k : ℕ). lane_of g.PW.PackedValue.lanes g.PW.PackedValue.default_value k c.packed_digest-digests.result in
+    let digests = c.packed_digest-digests.result in
+    let seen = λ (k : ℕ). lane_of g.PW.PackedValue.lanes g.PW.PackedValue.default_value k digests in
     let written : (k : ℕ) → k < w → slice_index_or c.unpack_at.new.rows (block * w + k) []
     ≡ seen k = rw c.WIDTH.ensures at c.unpack_at.ensures.lanes in
     let kept : (j : ℕ) → j < block * w → slice_index_or c.unpack_at.new.rows j []
     ≡ slice_index_or c.loop-block.slots j [] = rw c.WIDTH.ensures at c.unpack_at.ensures.before in
-    let built : (k : ℕ) → k < w → seen k ≡ slot (block * w + k) = rw c.WIDTH.ensures at c.packed_digest-digests.ensures in
+    let built : (k : ℕ) → k < w → seen k ≡ slot (block * w + k) =
+    rw c.WIDTH.ensures at c.packed_digest-digests.ensures in
     let n = c.packed_blocks-blocks.result in
     let nodes : c.if-self.count ≤ builder.level.raw_len =
     elim c.if-self.branch [ then-self w ↦ omega arith | else-self w ↦ omega arith ] in
