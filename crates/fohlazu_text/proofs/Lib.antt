@@ -1,0 +1,9 @@
+pub mod OptionFacts
+pub mod CutFacts
+pub mod NumberFacts
+pub mod DigestFacts
+pub mod PartFacts
+pub mod LineFacts
+pub mod TextFacts
+pub mod SealFacts
+pub mod ProofFacts

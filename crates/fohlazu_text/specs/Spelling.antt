@@ -1,0 +1,13 @@
+-- A text is that of one seal or proof at most: what is printed is read back, and what is read is what was printed.
+use Rattle.std.specs.Prelude.{◌≡◌, ◌↔◌, List, ℕ, Ok}
+use Rattle.fohlazu_text.specs.Fields.{IsProof, IsSeal, ProofFields, SealFields}
+use Rattle.fohlazu_text.specs.Printing.{proof_text, seal_text}
+use Rattle.fohlazu_text.specs.Reading.{proof_in, seal_in}
+
+-- a text shows a seal exactly where it is the text of that seal
+abbrev pub SealsAreSpelled : Type 0
+SealsAreSpelled = (text : List ℕ) (s : SealFields) → (seal_in text ≡ Ok s) ↔ (IsSeal s × (text ≡ seal_text s))
+
+-- and so it is with proofs
+abbrev pub ProofsAreSpelled : Type 0
+ProofsAreSpelled = (text : List ℕ) (p : ProofFields) → (proof_in text ≡ Ok p) ↔ (IsProof p × (text ≡ proof_text p))
