@@ -2,6 +2,8 @@
 
 use crate::failing::{FailingInput, FailingOutput};
 use anyhow::Error;
+use fohlazu_text::proof::Proof;
+use fohlazu_text::seal::Seal;
 use mmcs_engine::engine::run;
 use mmcs_engine::process::ProgramFault;
 use mmcs_verify_engine::engine::run as verify;
@@ -130,6 +132,9 @@ fn answer_to(alloc: Global, words: &str, input: &[u8]) -> Result<String, Error> 
     if let Some(words) = words.strip_prefix("unwritten ") {
         return unwritten(alloc, words, input);
     }
+    if let Some(kind) = words.strip_prefix("fohlazu ") {
+        return read_again(alloc, kind.trim(), input);
+    }
     let mut output = Vec::new(alloc);
     let outcome = run(alloc, &words_of(alloc, words)?, &mut &*input, &mut output);
     told(alloc, &output, outcome)
@@ -155,6 +160,22 @@ fn unwritten(alloc: Global, words: &str, mut input: &[u8]) -> Result<String, Err
     let mut output = FailingOutput::new(alloc, calls.parse()?);
     let outcome = run(alloc, &words_of(alloc, words)?, &mut input, &mut output);
     told(alloc, &output.taken, outcome)
+}
+
+/// Whether a text is a seal, or a proof, and the same when it is printed again; or why it is none.
+fn read_again(alloc: Global, kind: &str, text: &[u8]) -> Result<String, Error> {
+    let read = match kind {
+        "seal" => Seal::from_text(alloc, text).map(|seal| seal.to_text(alloc)),
+        _ => Proof::from_text(alloc, text).map(|proof| proof.to_text(alloc)),
+    };
+    match read {
+        Ok(printed) => {
+            let is_same = printed?.as_slice() == text;
+            let answer = if is_same { "same" } else { "another text" };
+            Ok(String::from_str(alloc, answer)?)
+        }
+        Err(fault) => Ok(format!(in alloc; "{fault}")?),
+    }
 }
 
 /// An output as text, and behind it the line and the status of a fault.
