@@ -6,3 +6,9 @@ pub mod DigestFacts
 pub mod ValueFacts
 pub mod HonestFacts
 pub mod VerdictFacts
+pub mod LevelFacts
+pub mod DimensionFacts
+pub mod GivenFacts
+pub mod CutFacts
+pub mod MeetingFacts
+pub mod InconsistencyFacts

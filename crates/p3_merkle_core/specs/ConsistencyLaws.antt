@@ -1,9 +1,10 @@
 -- What holds of a list that grows, whatever the hash, the compression, the batches and the caps.
-use Rattle.std.specs.Prelude.{◌≡◌, ◌↔◌, ℕ, ◌+◌, ◌-◌, ◌*◌, ◌≤◌, Bool, true, List, None}
+use Rattle.std.specs.Prelude.{◌≡◌, ◌↔◌, ℕ, ◌+◌, ◌-◌, ◌*◌, ◌≤◌, Bool, true, List, None, IfSome}
 use Rattle.p3_merkle_core.specs.Consistency.{BeginsWith, Evidence, IsConsistent, IsGrowth, consistency_len}
 use Rattle.p3_merkle_core.specs.Consistency.{honest_evidence, is_old, new_layer, old_layer}
 use Rattle.p3_merkle_core.specs.ConsistencyRefusals.{consistency_refusal}
 use Rattle.p3_merkle_core.specs.Geometry.{IsArity}
+use Rattle.p3_merkle_core.specs.Inconsistency.{AreAccepted, GrownOpenings, IsInconsistency, IsSetting, inconsistency}
 use Rattle.p3_merkle_core.specs.Nodes.{Batch, Functions, layer, node}
 use Rattle.p3_merkle_core.specs.Refusals.{IsEquality}
 use Rattle.p3_merkle_core.specs.declared.consistency.Growth.{Growth}
@@ -32,3 +33,16 @@ module _ (T W : Type 0) where
   UnrefusedIsConsistent =
       (digest_eq : W → W → Bool) (e : Evidence T W) (new_cap : List (List W)) → IsEquality digest_eq →
       IsArity e.growth.arity → (consistency_refusal digest_eq e new_cap ≡ None) ↔ IsConsistent e new_cap
+
+  -- of accepted openings and proofs, what is found is an inconsistency
+  abbrev pub FoundIsInconsistency : Type 0
+  FoundIsInconsistency =
+      (row_eq : T → T → Bool) (digest_eq : W → W → Bool) (x : GrownOpenings T W) → IsEquality row_eq →
+      IsEquality digest_eq → IsSetting x → AreAccepted x → IfSome (inconsistency row_eq digest_eq x) (IsInconsistency x)
+
+  -- where nothing is found, the rows are the same
+  abbrev pub RowsStay : Type 0
+  RowsStay =
+      (row_eq : T → T → Bool) (digest_eq : W → W → Bool) (x : GrownOpenings T W) → IsEquality row_eq →
+      IsEquality digest_eq → IsSetting x → AreAccepted x → inconsistency row_eq digest_eq x ≡ None →
+      x.old_opening.rows ≡ x.new_opening.rows

@@ -8,3 +8,4 @@ pub mod Shapes
 pub mod Covered
 pub mod Raised
 pub mod Growths
+pub mod Settings

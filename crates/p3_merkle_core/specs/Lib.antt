@@ -10,10 +10,11 @@ pub mod Refusals
 pub mod Parts
 pub mod Consistency
 pub mod ConsistencyRefusals
-pub mod ConsistencyLaws
 pub mod Presented
 pub mod Extraction
 pub mod Views
+pub mod Inconsistency
+pub mod ConsistencyLaws
 pub mod Commitments
 pub mod Laws
 pub mod Examples
@@ -23,4 +24,5 @@ pub mod OpeningExamples
 pub mod PruningExamples
 pub mod PrunedCallExamples
 pub mod ConsistencyExamples
+pub mod InconsistencyExamples
 pub mod Inner

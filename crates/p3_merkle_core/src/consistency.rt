@@ -1,11 +1,13 @@
 //! Consistency of a list of rows that grows: which nodes are old, mixed and new, and how many digests a proof has.
 //! Nothing here calls a hash or allocates.
 
-ghost use Rattle.std.specs.Prelude.{◌≡◌, ◌-◌, ◌≤◌, All, IfOk, MatchResult, None, Some};
-ghost use Rattle.p3_support.specs.Batches.{heights_of};
+ghost use Rattle.std.specs.Prelude.{◌≡◌, ◌-◌, ◌/◌, ◌^◌, ◌<◌, ◌≤◌, All, IfOk, MatchResult, None, Some, option_map, slice_get};
+ghost use Rattle.p3_support.specs.Batches.{greatest, heights_of, widths_of};
 ghost use Rattle.p3_merkle_core.specs.Geometry.{height_limit, IsArity};
 ghost use Rattle.p3_merkle_core.specs.Consistency.{consistency_len, new_layer, old_layer, IsGrowth};
 ghost use Rattle.p3_merkle_core.specs.ConsistencyRefusals.{growth_refusal, one_height_refusal};
+ghost use Rattle.p3_merkle_core.specs.Inconsistency.{first_unlike, given_layer};
+ghost use Rattle.p3_merkle_core.specs.declared.error.ConsistencyError.TheVariants.{WidthsDiffer};
 ghost use Rattle.p3_merkle_core.specs.Inner.Growths.{mixed_children, parts_above, parts_at, AreFew};
 
 use crate::error::ConsistencyError;
@@ -68,6 +70,7 @@ pub fn one_height_of(dimensions: &[Dimensions]) -> Result<usize, ConsistencyErro
     ensures answer { let refusal = one_height_refusal (heights_of dimensions.now) in
         MatchResult result (λ h. refusal ≡ None) (λ e. refusal ≡ Some e) }
     ensures each { IfOk result (λ h. All (λ d. d.height ≡ h) dimensions.now) }
+    ensures tallest { IfOk result (λ h. h ≡ greatest (heights_of dimensions.now)) }
 {
     let Some(first) = dimensions.first() else {
         return Ok(0);
@@ -81,6 +84,30 @@ pub fn one_height_of(dimensions: &[Dimensions]) -> Result<usize, ConsistencyErro
         Some(matrix) => Err(ConsistencyError::HeightsDiffer { matrix }),
         None => Ok(height),
     }
+}
+
+/// The width of a matrix, in words, if there is one at this place.
+fn width_at(dimensions: &[Dimensions], matrix: usize) -> Option<usize>
+    ensures { result ≡ slice_get (widths_of dimensions.now) matrix }
+{
+    dimensions.get(matrix).map(|matrix| matrix.width)
+}
+
+/// Checks that two lists have as many matrices, of the same widths.
+///
+/// # Errors
+///
+/// `WidthsDiffer` for the first matrix that has another width in both lists, or that one of them lacks.
+pub fn check_same_widths(old: &[Dimensions], new: &[Dimensions]) -> Result<(), ConsistencyError>
+    ensures { let unlike = first_unlike (widths_of old.now) (widths_of new.now) in
+        MatchResult result (λ ok. unlike ≡ None) (λ e. option_map (λ k. WidthsDiffer k) unlike ≡ Some e) }
+{
+    for matrix in 0..old.len().max(new.len()) {
+        if width_at(old, matrix) != width_at(new, matrix) {
+            return Err(ConsistencyError::WidthsDiffer { matrix });
+        }
+    }
+    Ok(())
 }
 
 impl LayerParts {
@@ -166,6 +193,41 @@ impl Growth {
         ensures { result ≡ new_layer self.now }
     {
         cap_layer_of_height(self.arity, self.new_height, self.cap_height)
+    }
+
+    /// The layer of the highest old node above a leaf, up to the old cap: a check of openings of this leaf under both
+    /// caps has the node's digest from the old cap or from the proof. The arity must be a power of two from 2 to 2^62. It
+    /// takes one step a layer.
+    pub fn given_layer(&self, index: usize) -> usize
+        requires { IsArity self.now.arity }
+        ensures { result ≡ given_layer self.now index }
+    {
+        let mut old_end = self.old_height;
+        let mut node = index;
+        for layer in 0..self.old_cap_layer() {
+            old_end /= self.arity;
+            node /= self.arity;
+            if old_end <= node {
+                return layer;
+            }
+        }
+        self.old_cap_layer()
+    }
+
+    /// The node of a layer above a leaf. [`check_heights`](Self::check_heights) must accept the heights, the arity must be
+    /// a power of two from 2 to 2^62, and the leaf must be below the old height: so the node is old or mixed.
+    pub fn ancestor(&self, index: usize, layer: usize) -> usize
+        requires arity { IsArity self.now.arity }
+        requires heights { IsGrowth self.now }
+        requires leaf { index < self.now.old_height }
+        ensures at { result ≡ index / self.now.arity ^ layer }
+        ensures inside { result < (parts_at self.now layer).new_start }
+    {
+        let mut node = index;
+        for _level in 0..layer {
+            node /= self.arity;
+        }
+        node
     }
 
     /// The parts of the leaves.

@@ -108,7 +108,7 @@ pub enum MerkleTreeError {
     OutOfMemory,
 }
 
-/// Why heights or a proof of consistency are refused, where a list of rows grows.
+/// Why heights, openings or a proof of consistency are refused, where a list of rows grows.
 ///
 /// A call answers the first of these that holds, in this order; `OutOfMemory` may come at any time where the call
 /// allocates.
@@ -120,6 +120,18 @@ pub enum ConsistencyError {
         /// The place in input order of the first matrix that has not the height of the first one.
         matrix: usize,
     },
+    /// The old matrices and the new ones are not as many, or have not the same widths.
+    #[error("widths differ: matrix {matrix} has not one width before and after")]
+    WidthsDiffer {
+        /// The place in input order of the first matrix that has another width, or that one of both lists lacks.
+        matrix: usize,
+    },
+    /// The opening under the old cap is refused.
+    #[error("old opening: {0}")]
+    OldOpening(MerkleTreeError),
+    /// The opening under the new cap is refused.
+    #[error("new opening: {0}")]
+    NewOpening(MerkleTreeError),
     /// The old height or the new one is 0.
     #[error("empty batch: a height is 0")]
     EmptyBatch,

@@ -20,7 +20,7 @@ ghost use Rattle.p3_merkle_core.specs.Laws.{PartsMakeLayers, PartsMakeRoots};
 ghost use Rattle.p3_merkle_core.specs.Laws.{RootIsAlone, RowsAreAncestors, RowsAreBound, RulesAgree};
 ghost use Rattle.p3_merkle_core.specs.Laws.{ScheduleStopsAtCap, TestedIsArity, UnrefusedIsLawful, WalkEnds};
 ghost use Rattle.p3_merkle_core.specs.ConsistencyLaws.{HonestIsConsistent, OldNodesStay, ProofsAreShort};
-ghost use Rattle.p3_merkle_core.specs.ConsistencyLaws.{UnrefusedIsConsistent};
+ghost use Rattle.p3_merkle_core.specs.ConsistencyLaws.{FoundIsInconsistency, RowsStay, UnrefusedIsConsistent};
 
 use crate::collision::{Collision, InputPair, Place};
 use crate::error::{MerkleTreeError, PartsError, PrunedProofError};
@@ -233,4 +233,12 @@ pub fn consistency<T, W>()
     ensures one_value { OldNodesStay T W }
     ensures honest { HonestIsConsistent T W }
     ensures unrefused { UnrefusedIsConsistent T W }
+{}
+
+/// Two openings of one index that are accepted under the old cap and the new one of a list that grows, where a proof of
+/// consistency is accepted between both: what is found is two different inputs with one digest, and where nothing is
+/// found, their rows are the same.
+pub fn append_only<T, W>()
+    ensures found { FoundIsInconsistency T W }
+    ensures rows { RowsStay T W }
 {}

@@ -8,3 +8,4 @@ pub mod CommitmentFacts
 pub mod PartFacts
 mod ConsistencyFacts
 mod OwnGrowth
+mod GrownFacts

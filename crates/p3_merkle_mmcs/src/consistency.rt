@@ -29,7 +29,7 @@ use std::alloc::Global;
 
 impl<P: PackedValue, PW: PackedValue, H, C, X, G, const N: usize> Scheme<P, PW, H, C, X, G, N> {
     /// A list that grows between these heights, under the scheme's arity and cap height.
-    fn growth(&self, old_height: usize, new_height: usize) -> Growth
+    pub(crate) fn growth(&self, old_height: usize, new_height: usize) -> Growth
         ensures { result ≡ growth_of self.now old_height new_height }
     {
         Growth {

@@ -4,6 +4,7 @@
 
 mod consistency;
 mod extract;
+mod inconsistency;
 pub mod mmcs;
 mod parts;
 mod pruned;

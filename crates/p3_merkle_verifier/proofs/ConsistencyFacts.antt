@@ -18,10 +18,11 @@ use Rattle.p3_merkle_core.specs.declared.consistency.MixedChildren.{MixedChildre
 use Rattle.p3_merkle_core.proofs.Growths.DigestFacts.{AreSent, are_sent}
 use Rattle.p3_merkle_core.proofs.Growths.PartFacts.{AreInOrder, few_at, in_order, parts_next}
 use Rattle.p3_merkle_core.proofs.Growths.SentFacts.{few_sent, fits_count, num_new, num_old, range_split, sent_more}
-use Rattle.p3_merkle_core.proofs.Growths.ValueFacts.{IsTree, look, map_range_same, mixed_computed, new_given, new_group, new_tree}
+use Rattle.p3_merkle_core.proofs.Growths.ValueFacts.{IsTree, look, map_range_same, map_shift, mixed_computed, new_given, new_group, new_tree}
 use Rattle.p3_merkle_core.proofs.Growths.ValueFacts.{old_above, old_below, old_group, old_tree}
 use Rattle.p3_merkle_core.proofs.Lists.ListFacts.{joined, length-joined_le}
 use Rattle.p3_merkle_verifier.specs.Inner.Consistency.{IsAtMixed, IsCounted, mixed_values, old_values, sent_below}
+use Rattle.p3_merkle_verifier.specs.Inner.Inconsistency.{HasMixed, child_values}
 use Rattle.p3_merkle_verifier.specs.declared.consistency.MixedNode.{MixedNode}
 
 pub some_arity : (n : ℕ) → IsArity n → 1 ≤ n
@@ -172,13 +173,13 @@ module _ {T W : Type 0} (e : Evidence T W) (l : ℕ) (r : IsCounted e) (under : 
       (λ j from below. new_given e some r.heights l j from (omega (arith, o.new, o.below)))
       ∙ sent_here.new
 
-  -- the old value above
-  pub old_made : (mixed : MixedNode (List W)) → IsAtMixed e l mixed → l < old_layer e.growth →
-      above.old_end < above.new_start → (old : List (List W)) (x : List W) →
+  -- the group of the mixed node above, in the old tree
+  old_children : (mixed : MixedNode (List W)) → IsAtMixed e l mixed → l < old_layer e.growth →
+      above.old_end < above.new_start → (old : List (List W)) →
       old ≡ take (parts.old_end - children.start) (drop mixed.used e.digests) →
-      x ≡ e.functions.compression (padded n e.functions.default_digest ((old ++ option_to_list mixed.old_value) ++ [])) →
-      x ≡ old_value e (suc l) (parts_at e.growth (suc l)).old_end
-  old_made mixed w low less old x old_is is =
+      padded n e.functions.default_digest ((old ++ option_to_list mixed.old_value) ++ [])
+      ≡ map (old_value e l) (range_with_len children.start n)
+  old_children mixed w low less old old_is =
       let tree = old_tree e some r.heights in
       let h = e.growth.old_height in
       let xs = map (old_value e l) (range_with_len children.start (parts.old_end - children.start)) in
@@ -187,27 +188,44 @@ module _ {T W : Type 0} (e : Evidence T W) (l : ℕ) (r : IsCounted e) (under : 
       let all : (old ++ option_to_list mixed.old_value) ++ [] ≡ xs ++ mixed_values e.growth (old_value e) l =
       append-nil (old ++ option_to_list mixed.old_value) ∙ ap (λ ys. ys ++ option_to_list mixed.old_value) front
       ∙ ap (λ ys. xs ++ ys) (w.old_is (omega arith)) in
-      is ∙ ap (λ ys. e.functions.compression (padded n e.functions.default_digest ys)) all
-      ∙ ap e.functions.compression (sym (old_group e some r.heights l (has_mixed less))) ∙ sym (compressed h tree less)
+      ap (λ ys. padded n e.functions.default_digest ys) all ∙ sym (old_group e some r.heights l (has_mixed less))
 
-  -- the new value above, by its old children
-  new_by : (mixed : MixedNode (List W)) → IsAtMixed e l mixed → above.old_end < above.new_start →
-      (old new : List (List W)) (x : List W) →
+  -- the old value above
+  pub old_made : (mixed : MixedNode (List W)) → IsAtMixed e l mixed → l < old_layer e.growth →
+      above.old_end < above.new_start → (old : List (List W)) (x : List W) →
+      old ≡ take (parts.old_end - children.start) (drop mixed.used e.digests) →
+      x ≡ e.functions.compression (padded n e.functions.default_digest ((old ++ option_to_list mixed.old_value) ++ [])) →
+      x ≡ old_value e (suc l) (parts_at e.growth (suc l)).old_end
+  old_made mixed w low less old x old_is is =
+      is ∙ ap e.functions.compression (old_children mixed w low less old old_is)
+      ∙ sym (compressed e.growth.old_height (old_tree e some r.heights) less)
+
+  -- its group in the new tree, by its old children
+  new_children : (mixed : MixedNode (List W)) → IsAtMixed e l mixed → above.old_end < above.new_start →
+      (old new : List (List W)) →
       old ≡ map (new_value e l) (range_with_len children.start (parts.old_end - children.start)) →
       new ≡ take (children.end - parts.new_start) (drop (sent_below e.growth l + num_old e.growth l) e.digests) →
-      x ≡ e.functions.compression (padded n e.functions.default_digest ((old ++ option_to_list mixed.new_value) ++ new)) →
-      x ≡ new_value e (suc l) (parts_at e.growth (suc l)).old_end
-  new_by mixed w less old new x old_is new_is is =
-      let tree = new_tree e some r.heights in
-      let h = e.growth.new_height in
+      padded n e.functions.default_digest ((old ++ option_to_list mixed.new_value) ++ new)
+      ≡ map (new_value e l) (range_with_len children.start n)
+  new_children mixed w less old new old_is new_is =
       let xs = map (new_value e l) (range_with_len children.start (parts.old_end - children.start)) in
       let ms = mixed_values e.growth (new_value e) l in
       let all : (old ++ option_to_list mixed.new_value) ++ new
       ≡ (xs ++ ms) ++ map (new_value e l) (range_with_len parts.new_start (children.end - parts.new_start)) =
       ap (λ ys. (ys ++ option_to_list mixed.new_value) ++ new) old_is ∙ ap (λ ys. (xs ++ ys) ++ new) w.new_is
       ∙ ap (λ ys. (xs ++ ms) ++ ys) (new_is ∙ sym new_sent) in
-      is ∙ ap (λ ys. e.functions.compression (padded n e.functions.default_digest ys)) all
-      ∙ ap e.functions.compression (sym (new_group e some r.heights l (has_mixed less))) ∙ sym (compressed h tree less)
+      ap (λ ys. padded n e.functions.default_digest ys) all ∙ sym (new_group e some r.heights l (has_mixed less))
+
+  -- the new value above
+  pub new_by : (mixed : MixedNode (List W)) → IsAtMixed e l mixed → above.old_end < above.new_start →
+      (old new : List (List W)) (x : List W) →
+      old ≡ map (new_value e l) (range_with_len children.start (parts.old_end - children.start)) →
+      new ≡ take (children.end - parts.new_start) (drop (sent_below e.growth l + num_old e.growth l) e.digests) →
+      x ≡ e.functions.compression (padded n e.functions.default_digest ((old ++ option_to_list mixed.new_value) ++ new)) →
+      x ≡ new_value e (suc l) (parts_at e.growth (suc l)).old_end
+  new_by mixed w less old new x old_is new_is is =
+      is ∙ ap e.functions.compression (new_children mixed w less old new old_is new_is)
+      ∙ sym (compressed e.growth.new_height (new_tree e some r.heights) less)
 
   pub one_above : (mixed made : MixedNode (List W)) → IsAtMixed e l mixed → above.old_end < above.new_start →
       (k : ℕ) (x : List W) → made.parts ≡ above → k ≡ num_old e.growth l →
@@ -448,3 +466,125 @@ module _ {T W : Type 0} (e : Evidence T W) (l : ℕ) (r : IsCounted e) (under : 
   pub known_long : (known : List (List W)) → known ≡ old_values e.growth (new_value e) l →
       length known ≡ (parts_at e.growth l).old_end
   known_long known is = ap length is ∙ length-map-range_with_len (new_value e l) 0 (parts_at e.growth l).old_end
+
+  -- ---- groups of the layer above
+
+  -- the values of the children of a node
+  shifted : (v : ℕ → List W) (j : ℕ) → map (λ k. v (e.growth.arity * j + k)) (range_with_len 0 e.growth.arity)
+      ≡ map v (range_with_len (e.growth.arity * j) e.growth.arity)
+  shifted v j = let z : n * j + 0 ≡ n * j = omega arith in rw z at (map_shift v (n * j) 0 n)
+
+  of_mixed : (v : ℕ → List W) → map v (range_with_len children.start n)
+      ≡ map (λ k. v (n * (parts_at e.growth (suc l)).old_end + k)) (range_with_len 0 n)
+  of_mixed v =
+      sym (shifted v (parts_at e.growth (suc l)).old_end
+      ∙ ap (λ (p : LayerParts). map v (range_with_len (n * p.old_end) n)) (parts_next e.growth l))
+
+  -- those of the mixed node below the old cap, in both trees
+  pub turned_groups : (k : ℕ) → e.growth.arity ≡ k → (mixed : MixedNode (List W)) → IsAtMixed e l mixed →
+      l < old_layer e.growth → (found : MixedChildren) (up : LayerParts) → found ≡ mixed_children k mixed.parts →
+      up ≡ parts_above k mixed.parts → HasMixed e.growth l → (a b : ℕ) → a ≡ found.old_end - found.start →
+      b ≡ found.end - found.new_start → (old new x y : List (List W)) →
+      old ≡ take ((mixed.used + a) - mixed.used) (drop mixed.used e.digests) →
+      new ≡ take (((mixed.used + a) + b) - (mixed.used + a)) (drop (mixed.used + a) e.digests) →
+      y ≡ padded k e.functions.default_digest ((old ++ option_to_list mixed.old_value) ++ []) →
+      x ≡ padded k e.functions.default_digest ((old ++ option_to_list mixed.new_value) ++ new) →
+      (y ≡ child_values e.growth.arity (old_value e) l (parts_at e.growth (suc l)).old_end) ×
+      (x ≡ child_values e.growth.arity (new_value e) l (parts_at e.growth (suc l)).old_end)
+  turned_groups k same mixed w low found up found_is up_is has a b a_is b_is old new x y old_is new_is y_is x_is =
+      let t = turn k same mixed w found up found_is up_is in
+      let d = e.functions.default_digest in
+      let first : a ≡ parts.old_end - children.start = a_is ∙ ap (λ (c : MixedChildren). c.old_end - c.start) t.found_is in
+      let second : b ≡ children.end - parts.new_start =
+      b_is ∙ ap (λ (c : MixedChildren). c.end - c.new_start) t.found_is in
+      let less : above.old_end < above.new_start = rw parts_next at has in
+      let count : num_old e.growth l ≡ parts.old_end - children.start = rw (lt-ltb l (old_layer e.growth) low) refl in
+      let many : (mixed.used + a) - mixed.used ≡ parts.old_end - children.start = omega (arith, first) in
+      let more : ((mixed.used + a) + b) - (mixed.used + a) ≡ children.end - parts.new_start = omega (arith, second) in
+      let start : mixed.used + a ≡ sent_below e.growth l + num_old e.growth l = omega (arith, w.taken, count, first) in
+      let taken_old : old ≡ take (parts.old_end - children.start) (drop mixed.used e.digests) =
+      old_is ∙ ap (λ k. take k (drop mixed.used e.digests)) many in
+      let taken_new : new ≡ take (children.end - parts.new_start)
+      (drop (sent_below e.growth l + num_old e.growth l) e.digests) =
+      new_is ∙ ap (λ k. take k (drop (mixed.used + a) e.digests)) more
+      ∙ ap (λ k. take (children.end - parts.new_start) (drop k e.digests)) start in
+      let values : old ≡ map (new_value e l) (range_with_len children.start (parts.old_end - children.start)) =
+      taken_old ∙ ap (λ k. take (parts.old_end - children.start) (drop k e.digests)) w.taken
+      ∙ sym (old_sent e.growth.new_height (new_tree e some r.heights) low) in (
+        y_is ∙ ap (λ z. padded z d ((old ++ option_to_list mixed.old_value) ++ [])) (sym same)
+            ∙ old_children mixed w low less old taken_old ∙ of_mixed (old_value e l),
+        x_is ∙ ap (λ z. padded z d ((old ++ option_to_list mixed.new_value) ++ new)) (sym same)
+            ∙ new_children mixed w less old new values taken_new ∙ of_mixed (new_value e l),
+      )
+
+  -- that of an old node, from the old cap on
+  pub known_room : (k : ℕ) → e.growth.arity ≡ k → (mixed : MixedNode (List W)) → IsAtMixed e l mixed → (up : LayerParts) →
+      up ≡ parts_above k mixed.parts → (known : List (List W)) → known ≡ old_values e.growth (new_value e) l → (node : ℕ) →
+      node < up.old_end → k * node + k ≤ length known
+  known_room k same mixed w up up_is known known_is node below =
+      let u : up ≡ above = up_is ∙ ap (parts_above k) w.parts_are
+      ∙ ap (λ x. parts_above x (parts_at e.growth l)) (sym same) in
+      let low : node < parts.old_end / n = omega (arith, ap (λ (p : LayerParts). p.old_end) u) in
+      let more : n * suc node ≤ n * (parts.old_end / n) = mul-le-mul_left n low in
+      let room : n * node + n ≤ parts.old_end =
+      omega (arith, div-mul-le_self parts.old_end n, mul_comm (parts.old_end / n) n, more, mul-suc n node) in
+      rw (← same) (omega (arith, room, known_long known known_is))
+
+  pub turned_old_group : (k : ℕ) → e.growth.arity ≡ k → (mixed : MixedNode (List W)) → IsAtMixed e l mixed →
+      (up : LayerParts) → up ≡ parts_above k mixed.parts → (known : List (List W)) →
+      known ≡ old_values e.growth (new_value e) l → (node : ℕ) → node < up.old_end → (group x : List (List W)) →
+      group ≡ take ((k * node + k) - k * node) (drop (k * node) known) →
+      x ≡ padded k e.functions.default_digest group →
+      x ≡ child_values e.growth.arity (new_value e) l node
+  turned_old_group k same mixed w up up_is known known_is node below group x group_is x_is =
+      let d = e.functions.default_digest in
+      let v = new_value e l in
+      let room : n * node + n ≤ parts.old_end =
+      let fits = rw (← same) at (known_room k same mixed w up up_is known known_is node below) in
+      omega (arith, fits, known_long known known_is) in
+      let all : (n * node + n) - n * node ≡ n = omega arith in
+      let piece : group ≡ map v (range_with_len (n * node) n) =
+      group_is ∙ ap (λ z. take ((z * node + z) - z * node) (drop (z * node) known)) (sym same)
+      ∙ ap (λ z. take z (drop (n * node) known)) all
+      ∙ ap (λ ys. take n (drop (n * node) ys)) known_is ∙ piece_of v parts.old_end (n * node) n room in
+      x_is ∙ ap (λ z. padded z d group) (sym same) ∙ ap (padded n d) piece
+      ∙ padded_whole n d (map v (range_with_len (n * node) n)) (length-map-range_with_len v (n * node) n)
+      ∙ sym (shifted v node)
+
+  -- that of the mixed node, from the old cap on
+  pub turned_mixed_group : (k : ℕ) → e.growth.arity ≡ k → (mixed : MixedNode (List W)) → IsAtMixed e l mixed →
+      old_layer e.growth ≤ l → (found : MixedChildren) (up : LayerParts) → found ≡ mixed_children k mixed.parts →
+      up ≡ parts_above k mixed.parts → (known : List (List W)) → known ≡ old_values e.growth (new_value e) l →
+      (node : ℕ) → up.old_end ≤ node → node < (parts_at e.growth (suc l)).new_start → (b : ℕ) →
+      b ≡ found.end - found.new_start → (old new x : List (List W)) → old ≡ drop found.start known →
+      new ≡ take ((mixed.used + b) - mixed.used) (drop mixed.used e.digests) →
+      x ≡ padded k e.functions.default_digest ((old ++ option_to_list mixed.new_value) ++ new) →
+      x ≡ child_values e.growth.arity (new_value e) l node
+  turned_mixed_group k same mixed w from found up found_is up_is known known_is node high below b b_is old new x old_is
+      new_is x_is =
+      let t = turn k same mixed w found up found_is up_is in
+      let o = children_in_order in
+      let v = new_value e l in
+      let d = e.functions.default_digest in
+      let few = few_at e.growth some r.heights (suc l) in
+      let next = parts_next e.growth l in
+      let end : up.old_end ≡ (parts_at e.growth (suc l)).old_end =
+      ap (λ (p : LayerParts). p.old_end) (t.up_is ∙ sym next) in
+      let at : node ≡ (parts_at e.growth (suc l)).old_end = omega (arith, few.one_mixed, end) in
+      let has : HasMixed e.growth l = omega (arith, at) in
+      let less : above.old_end < above.new_start = rw parts_next at has in
+      let second : b ≡ children.end - parts.new_start =
+      b_is ∙ ap (λ (c : MixedChildren). c.end - c.new_start) t.found_is in
+      let count : num_old e.growth l ≡ 0 = rw (le-ltb l (old_layer e.growth) from) refl in
+      let more : (mixed.used + b) - mixed.used ≡ children.end - parts.new_start = omega (arith, second) in
+      let start : mixed.used ≡ sent_below e.growth l + num_old e.growth l = omega (arith, w.taken, count) in
+      let taken_new : new ≡ take (children.end - parts.new_start)
+      (drop (sent_below e.growth l + num_old e.growth l) e.digests) =
+      new_is ∙ ap (λ k. take k (drop mixed.used e.digests)) more
+      ∙ ap (λ k. take (children.end - parts.new_start) (drop k e.digests)) start in
+      let values : old ≡ map v (range_with_len children.start (parts.old_end - children.start)) =
+      old_is ∙ ap (λ (c : MixedChildren). drop c.start known) t.found_is
+      ∙ ap (drop children.start) known_is ∙ rest_of v parts.old_end children.start o.old in
+      x_is ∙ ap (λ z. padded z d ((old ++ option_to_list mixed.new_value) ++ new)) (sym same)
+      ∙ new_children mixed w less old new values taken_new ∙ of_mixed v
+      ∙ ap (λ j. map (λ k. v (n * j + k)) (range_with_len 0 n)) (sym at)

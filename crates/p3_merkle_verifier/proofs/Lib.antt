@@ -20,3 +20,4 @@ mod EqualRuns
 mod RefusalFacts
 mod ConsistencyFacts
 mod EntryFacts
+mod InconsistencyFacts

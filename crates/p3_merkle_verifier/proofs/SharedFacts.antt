@@ -30,7 +30,7 @@ or_assoc None b c = refl
 or_assoc (Some x) b c = refl
 
 -- a last difference is one of the ends, or else of the fronts
-last_append : {X : Type 0} (test : X → X → Bool) (xs ys cs ds : List X) → length xs ≡ length ys →
+pub last_append : {X : Type 0} (test : X → X → Bool) (xs ys cs ds : List X) → length xs ≡ length ys →
     last_difference test (xs ++ cs) (ys ++ ds) ≡ option_or (last_difference test cs ds) (last_difference test xs ys)
 last_append test [] [] cs ds e = sym (or_none (last_difference test cs ds))
 last_append test [] (y ∷ ys) cs ds e = absurd (omega arith)

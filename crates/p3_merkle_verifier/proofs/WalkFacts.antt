@@ -39,7 +39,7 @@ words_alike d e x y v w same_d same_x same_v =
 
 -- ---- at the leaf
 
-shows_unless : {T W : Type 0} (found : Option (InputPair T (List W))) (same : Bool) (pair : Input T W × Input T W) →
+pub shows_unless : {T W : Type 0} (found : Option (InputPair T (List W))) (same : Bool) (pair : Input T W × Input T W) →
     IsDifference found same pair → Shows found (unless same pair)
 shows_unless found same pair e = elim (cases_Bool same) [
   | inl t ↦ let c = rw t at e in rw t c

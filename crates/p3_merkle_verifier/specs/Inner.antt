@@ -8,3 +8,4 @@ pub mod OpenedRows
 pub mod RestoredLevels
 pub mod QueryPairs
 pub mod Consistency
+pub mod Inconsistency

@@ -111,7 +111,7 @@ impl<
     }
 
     /// The mixed node of the layer above, below the old cap: its old children and its new ones were sent.
-    fn mixed_below_old_cap(
+    pub(crate) fn mixed_below_old_cap(
         &self,
         proof: ConsistencyRef<'_, [PW::Value; D]>,
         layer: usize,
@@ -153,7 +153,7 @@ impl<
     /// # Errors
     ///
     /// `AllocError` if memory runs out.
-    fn mixed_above_old_cap(
+    pub(crate) fn mixed_above_old_cap(
         &self,
         alloc: Global,
         proof: ConsistencyRef<'_, [PW::Value; D]>,
@@ -199,7 +199,27 @@ impl<
         Ok((mixed_above, known_above))
     }
 
-    /// The mixed node of the old cap's layer, from the leaves up.
+    /// The mixed node of a layer up to the old cap, from the leaves up.
+    pub(crate) fn mixed_at(
+        &self,
+        proof: ConsistencyRef<'_, [PW::Value; D]>,
+        layer: usize,
+    ) -> MixedNode<[PW::Value; D]>
+        requires arity { proof.growth.arity ≡ N }
+        requires counted { let f = functions_by H.hash C.compression (replicate D PW.default_value) self.now in
+            IsCounted (evidence_in f proof) }
+        requires low { layer ≤ old_layer proof.growth }
+        ensures { let f = functions_by H.hash C.compression (replicate D PW.default_value) self.now in
+            IsAtMixed (evidence_in f proof.entry) layer result }
+    {
+        let mut mixed = MixedNode::among_leaves(&proof.growth);
+        for below in 0..layer {
+            mixed = self.mixed_below_old_cap(proof, below, &mixed);
+        }
+        mixed
+    }
+
+    /// The mixed node of the old cap's layer.
     fn mixed_at_old_cap(
         &self,
         proof: ConsistencyRef<'_, [PW::Value; D]>,
@@ -210,11 +230,7 @@ impl<
         ensures { let f = functions_by H.hash C.compression (replicate D PW.default_value) self.now in
             IsAtMixed (evidence_in f proof.entry) (old_layer proof.entry.growth) result }
     {
-        let mut mixed = MixedNode::among_leaves(&proof.growth);
-        for layer in 0..proof.growth.old_cap_layer() {
-            mixed = self.mixed_below_old_cap(proof, layer, &mixed);
-        }
-        mixed
+        self.mixed_at(proof, proof.growth.old_cap_layer())
     }
 
     /// The mixed node of the new cap's layer, and the values of the old nodes there, from the old cap up. The old cap

@@ -64,7 +64,7 @@ impl<'a, T: Eq> RowPair<'a, T> {
 /// # Errors
 ///
 /// `AllocError` if memory runs out.
-fn differing_digests<T, W: Copy + Eq, const D: usize>(
+pub(crate) fn differing_digests<T, W: Copy + Eq, const D: usize>(
     alloc: Global,
     place: Place,
     first: &[[W; D]],

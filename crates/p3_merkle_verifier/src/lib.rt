@@ -8,6 +8,7 @@
 mod agreement;
 pub mod consistency;
 mod extraction;
+pub mod inconsistency;
 mod nodes;
 pub mod openings;
 pub mod path;

@@ -16,7 +16,7 @@ use Rattle.p3_merkle_core.proofs.Collisions.Extraction.{siblings_full, in_group}
 use Rattle.p3_merkle_core.proofs.Lists.ListFacts.{joined, joined_more}
 use Rattle.p3_merkle_core.specs.declared.collision.Place.TheVariants.{Group, Rows, Pair}
 
-filled_long : {T W : Type 0} (f : Functions T W) (n : ℕ) (ds : List (List W)) → length ds ≤ n →
+pub filled_long : {T W : Type 0} (f : Functions T W) (n : ℕ) (ds : List (List W)) → length ds ≤ n →
     length (padded n f.default_digest ds) ≡ n
 filled_long f n ds h = length-append ds (replicate (n - length ds) f.default_digest)
     ∙ (let r = length-replicate (n - length ds) f.default_digest in omega arith)

@@ -47,7 +47,7 @@ module _ {T W : Type 0} (e : Evidence T W) where
   unfolding value_over
   value_leaf h j = refl
 
-  value_next : (h l j : ℕ) → value_over e h (suc l) j
+  pub value_next : (h l j : ℕ) → value_over e h (suc l) j
       ≡ cond (is_beyond e.growth h (suc l) j) e.functions.default_digest
       (cond (is_computed e.growth (suc l) j)
       (e.functions.compression (map (λ i. value_over e h l (e.growth.arity * j + i)) (range_with_len 0 e.growth.arity)))

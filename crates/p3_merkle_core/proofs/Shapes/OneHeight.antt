@@ -34,7 +34,7 @@ use Rattle.p3_merkle_core.proofs.Shapes.StepFacts.{layer_start, whole_step_falls
 -- ---- heights
 
 -- each of the heights is h
-heights_same : (h : ℕ) (ds : List Dimensions) → All (λ d. d.height ≡ h) ds → All (λ x. x ≡ h) (heights_of ds)
+pub heights_same : (h : ℕ) (ds : List Dimensions) → All (λ d. d.height ≡ h) ds → All (λ x. x ≡ h) (heights_of ds)
 heights_same h [] each = λ k x inside. absurd (omega arith)
 heights_same h (d ∷ ds) each = λ k.
     elim k as (λ k. (x : ℕ) → k < length (heights_of (d ∷ ds)) → get_or (heights_of (d ∷ ds)) k x ≡ h) [
@@ -43,7 +43,7 @@ heights_same h (d ∷ ds) each = λ k.
     ]
 
 -- and so is the greatest
-greatest_same : (h : ℕ) (ds : List Dimensions) → 0 < length ds → All (λ d. d.height ≡ h) ds →
+pub greatest_same : (h : ℕ) (ds : List Dimensions) → 0 < length ds → All (λ d. d.height ≡ h) ds →
     greatest (heights_of ds) ≡ h
 greatest_same h [] some each = absurd (omega arith)
 greatest_same h (d ∷ []) some each = omega (arith, each 0 d (omega arith))
