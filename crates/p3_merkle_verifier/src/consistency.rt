@@ -1,20 +1,20 @@
 //! The check of a proof of consistency: it walks up the mixed nodes of both trees, and compares the old cap's entries
 //! and the new one's with what it computes.
 
-ghost use Rattle.std.specs.Prelude.{◌≡◌, ◌+◌, ◌<◌, ◌≤◌, ◌++◌, suc, None, IfOk, length, replicate};
+ghost use Rattle.std.specs.Prelude.{◌≡◌, ◌+◌, ◌-◌, ◌<◌, ◌≤◌, ◌++◌, suc, None, IfOk, length, replicate};
 ghost use Rattle.std.specs.List.{enumerate_from, list_all};
 ghost use Rattle.std.specs.Option.{option_to_list};
 ghost use Rattle.p3_merkle_core.specs.Consistency.{new_layer, new_value, old_layer};
 ghost use Rattle.p3_merkle_core.specs.ConsistencyRefusals.{consistency_refusal, ConsistencyAnswers};
 ghost use Rattle.p3_merkle_core.specs.Geometry.{IsArity};
-ghost use Rattle.p3_merkle_core.specs.Inner.Growths.{parts_at};
+ghost use Rattle.p3_merkle_core.specs.Inner.Growths.{mixed_children, parts_at};
 ghost use Rattle.p3_merkle_core.specs.Nodes.{padded};
 ghost use Rattle.p3_merkle_core.specs.Refusals.{is_entry as is_entry_of};
 ghost use Rattle.p3_merkle_verifier.specs.Inner.Checks.{functions_by};
 ghost use Rattle.p3_merkle_verifier.specs.Inner.Consistency.{evidence_in, old_values, IsAtMixed, IsCounted};
 
 use crate::path::{Checker, is_entry};
-use p3_merkle_core::consistency::{Growth, LayerParts};
+use p3_merkle_core::consistency::{Growth, LayerParts, MixedChildren};
 use p3_merkle_core::error::ConsistencyError;
 use p3_merkle_core::group::mixed_group;
 use p3_support::compress::PseudoCompressionFunction;
@@ -110,6 +110,25 @@ impl<
         self.compress.compress(group)
     }
 
+    /// Tells that below the old cap the next mixed node has at most `N` children. It does nothing at run time.
+    fn lemma_few_below(
+        &self,
+        proof: ConsistencyRef<'_, [PW::Value; D]>,
+        layer: usize,
+        mixed: &MixedNode<[PW::Value; D]>,
+        children: &MixedChildren,
+    )
+        requires arity { proof.growth.arity ≡ N }
+        requires counted { let f = functions_by H.hash C.compression (replicate D PW.default_value) self.now in
+            IsCounted (evidence_in f proof) }
+        requires below { layer < old_layer proof.growth }
+        requires mixed { let f = functions_by H.hash C.compression (replicate D PW.default_value) self.now in
+            IsAtMixed (evidence_in f proof) layer mixed.now }
+        requires children { children.now ≡ mixed_children N mixed.now.parts }
+        ensures { (children.now.old_end - children.now.start) + length (option_to_list mixed.now.new_value)
+            + (children.now.end - children.now.new_start) ≤ N }
+    {}
+
     /// The mixed node of the layer above, below the old cap: its old children and its new ones were sent.
     pub(crate) fn mixed_below_old_cap(
         &self,
@@ -135,6 +154,7 @@ impl<
                 new_value: None,
             };
         }
+        self.lemma_few_below(proof, layer, mixed, &children);
         let middle = mixed.used + children.num_old();
         let used = middle + children.num_new();
         let old = &proof.digests[mixed.used..middle];
@@ -142,10 +162,34 @@ impl<
         MixedNode {
             parts: above,
             used,
-            old_value: Some(self.mixed_value(old, mixed.old_value, &[])),
+            // The node of the old tree has none of the new children.
+            old_value: Some(self.mixed_value(old, mixed.old_value, &new[..0])),
             new_value: Some(self.mixed_value(old, mixed.new_value, new)),
         }
     }
+
+    /// Tells that above the old cap the next mixed node has at most `N` children, the last ones of the known digests
+    /// among them. It does nothing at run time.
+    fn lemma_few_above(
+        &self,
+        proof: ConsistencyRef<'_, [PW::Value; D]>,
+        layer: usize,
+        mixed: &MixedNode<[PW::Value; D]>,
+        known: &[[PW::Value; D]],
+        children: &MixedChildren,
+    )
+        requires arity { proof.growth.arity ≡ N }
+        requires counted { let f = functions_by H.hash C.compression (replicate D PW.default_value) self.now in
+            IsCounted (evidence_in f proof) }
+        requires below { layer < new_layer proof.growth }
+        requires mixed { let f = functions_by H.hash C.compression (replicate D PW.default_value) self.now in
+            IsAtMixed (evidence_in f proof) layer mixed.now }
+        requires known { let f = functions_by H.hash C.compression (replicate D PW.default_value) self.now in
+            known.now ≡ old_values proof.growth (new_value (evidence_in f proof)) layer }
+        requires children { children.now ≡ mixed_children N mixed.now.parts }
+        ensures { (length known.now - children.now.start) + length (option_to_list mixed.now.new_value)
+            + (children.now.end - children.now.new_start) ≤ N }
+    {}
 
     /// The mixed node of the layer above, from the old cap on, and the values of the old nodes there. `known` has those
     /// of this layer's old nodes; new children were sent.
@@ -187,6 +231,7 @@ impl<
             };
             return Ok((none, known_above));
         }
+        self.lemma_few_above(proof, layer, mixed, known, &children);
         let used = mixed.used + children.num_new();
         let old = &known[children.start..];
         let new = &proof.digests[mixed.used..used];

@@ -1,14 +1,12 @@
 -- The mixed node of the next layer, whose old children are known.
-use Rattle.std.proofs.Common.{◌≡◌, ◌+◌, ◌<◌, ap, arith, length, length-drop, length-take, refl, replicate}
+use Rattle.std.proofs.Common.{ap, arith, refl, replicate}
 use Rattle.std.proofs.lemmas.List.{take_rest}
 use Rattle.std.proofs.lemmas.Result.{err_from_is_err_and}
-use Rattle.p3_merkle_core.specs.Consistency.{new_layer}
 use Rattle.p3_merkle_core.specs.declared.consistency.MixedChildren.{MixedChildren}
 use Rattle.p3_merkle_verifier.specs.Inner.Checks.{functions_by}
 use Rattle.p3_merkle_verifier.specs.Inner.Consistency.{evidence_in}
-use Rattle.p3_merkle_verifier.proofs.ConsistencyFacts.{few_here, known_long, turn, turned_above, turned_below, turned_known}
+use Rattle.p3_merkle_verifier.proofs.ConsistencyFacts.{few_here, known_long, turn, turned_above, turned_known}
 use Rattle.p3_merkle_verifier.proofs.ConsistencyFacts.{turned_none}
-use Rattle.p3_merkle_verifier.proofs.EntryFacts.{layers_rise}
 use Rattle.p3_merkle_verifier.proofs.consistency.Checker+P+PW+H+C+array+N+array+D+PW+Value.mixed_above_old_cap.Goals as goal
 
 pub up-requires-clause-some : goal.up-requires-clause-some
@@ -16,9 +14,6 @@ up-requires-clause-some g c = omega (arith, c.requires.arity, c.requires.counted
 
 pub up-requires-clause-narrow : goal.up-requires-clause-narrow
 up-requires-clause-narrow g c = omega (arith, c.requires.arity, c.requires.counted.arity.fits)
-
-pub group_digests-requires : goal.group_digests-requires
-group_digests-requires g c = omega (arith, c.requires.arity, c.requires.counted.arity.above_1)
 
 pub slice_bounds-new-count : goal.slice_bounds-new-count
 slice_bounds-new-count g c = omega arith
@@ -137,19 +132,6 @@ slice_bounds-new-end g c =
     let t = turn e c.args.layer c.requires.counted under g.row.N c.requires.arity c.args.mixed.now c.requires.mixed
     c.up.result.0 c.up.result.1 c.up.ensures.children c.up.ensures.above in
     omega (arith, t.left, c.num_new.ensures)
-
-pub mixed_value-requires : goal.mixed_value-requires
-mixed_value-requires g c =
-    let f = functions_by g.H.CryptographicHasher.hash g.C.PseudoCompressionFunction.compression
-    (replicate g.row.D g.PW.PackedValue.default_value) c.args.self.now in
-    let e = evidence_in f c.args.proof in
-    let under = c.requires.below in
-    let t = turn e c.args.layer c.requires.counted under g.row.N c.requires.arity c.args.mixed.now c.requires.mixed
-    c.up.result.0 c.up.result.1 c.up.ensures.children c.up.ensures.above in
-    let long = known_long e c.args.layer c.requires.counted under c.args.known.now c.requires.known in
-    let end = ap (λ (c : MixedChildren). c.old_end) t.found_is in
-    simp (length-take, length-drop)
-    (omega (arith, t.left, long, end, t.has_new, t.old, t.one, t.new, t.room, c.num_new.ensures))
 
 pub returns-clause-mixed : goal.returns-clause-mixed
 returns-clause-mixed g c =

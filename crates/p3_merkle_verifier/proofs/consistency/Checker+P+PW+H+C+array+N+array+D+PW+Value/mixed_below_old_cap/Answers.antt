@@ -1,9 +1,9 @@
 -- The mixed node of the next layer, whose children were sent.
-use Rattle.std.proofs.Common.{◌≡◌, ◌+◌, ◌<◌, arith, length, length-drop, length-take, refl, replicate, rules}
+use Rattle.std.proofs.Common.{◌<◌, arith, refl, replicate}
 use Rattle.p3_merkle_core.specs.Consistency.{new_layer}
 use Rattle.p3_merkle_verifier.specs.Inner.Checks.{functions_by}
 use Rattle.p3_merkle_verifier.specs.Inner.Consistency.{evidence_in}
-use Rattle.p3_merkle_verifier.proofs.ConsistencyFacts.{few_here, known_long, turn, turned_above, turned_below, turned_known}
+use Rattle.p3_merkle_verifier.proofs.ConsistencyFacts.{few_here, turn, turned_below}
 use Rattle.p3_merkle_verifier.proofs.ConsistencyFacts.{turned_none}
 use Rattle.p3_merkle_verifier.proofs.EntryFacts.{layers_rise}
 use Rattle.p3_merkle_verifier.proofs.consistency.Checker+P+PW+H+C+array+N+array+D+PW+Value.mixed_below_old_cap.Goals as goal
@@ -36,9 +36,6 @@ slice_bounds-new-count g c = omega arith
 
 pub slice_bounds-new-start : goal.slice_bounds-new-start
 slice_bounds-new-start g c = omega arith
-
-pub shared_whole_as_slice-mixed_value : goal.shared_whole_as_slice-mixed_value
-shared_whole_as_slice-mixed_value g c = search rules
 
 pub up-requires-clause-few : goal.up-requires-clause-few
 up-requires-clause-few g c =
@@ -135,33 +132,6 @@ slice_bounds-new-end g c =
     let t = turn e c.args.layer c.requires.counted under g.row.N c.requires.arity c.args.mixed.now c.requires.mixed
     c.up.result.0 c.up.result.1 c.up.ensures.children c.up.ensures.above in
     omega (arith, t.left_low c.requires.below, c.num_old.ensures, c.num_new.ensures)
-
-pub mixed_value-requires : goal.mixed_value-requires
-mixed_value-requires g c =
-    let f = functions_by g.H.CryptographicHasher.hash g.C.PseudoCompressionFunction.compression
-    (replicate g.row.D g.PW.PackedValue.default_value) c.args.self.now in
-    let e = evidence_in f c.args.proof in
-    let rise = layers_rise e.growth c.requires.counted.arity c.requires.counted.heights in
-    let under : c.args.layer < new_layer e.growth = omega (arith, c.requires.below) in
-    let t = turn e c.args.layer c.requires.counted under g.row.N c.requires.arity c.args.mixed.now c.requires.mixed
-    c.up.result.0 c.up.result.1 c.up.ensures.children c.up.ensures.above in
-    let left = t.left_low c.requires.below in
-    let old = t.has_old (omega (arith, c.requires.below)) in
-    simp (length-take, length-drop)
-    (omega (arith, left, old, t.old, t.one, t.new, t.room, c.num_old.ensures, c.num_new.ensures))
-
-pub mixed_value-requires-2 : goal.mixed_value-requires-2
-mixed_value-requires-2 g c =
-    let f = functions_by g.H.CryptographicHasher.hash g.C.PseudoCompressionFunction.compression
-    (replicate g.row.D g.PW.PackedValue.default_value) c.args.self.now in
-    let e = evidence_in f c.args.proof in
-    let rise = layers_rise e.growth c.requires.counted.arity c.requires.counted.heights in
-    let under : c.args.layer < new_layer e.growth = omega (arith, c.requires.below) in
-    let t = turn e c.args.layer c.requires.counted under g.row.N c.requires.arity c.args.mixed.now c.requires.mixed
-    c.up.result.0 c.up.result.1 c.up.ensures.children c.up.ensures.above in
-    let left = t.left_low c.requires.below in
-    simp (length-take, length-drop)
-    (omega (arith, left, t.has_new, t.old, t.one, t.new, t.room, c.num_old.ensures, c.num_new.ensures))
 
 pub returns : goal.returns
 returns g c =
