@@ -111,7 +111,7 @@ impl<
     }
 
     /// Tells that below the old cap the next mixed node has at most `N` children. It does nothing at run time.
-    fn lemma_few_below(
+    pub(crate) fn lemma_few_below(
         &self,
         proof: ConsistencyRef<'_, [PW::Value; D]>,
         layer: usize,
@@ -170,7 +170,7 @@ impl<
 
     /// Tells that above the old cap the next mixed node has at most `N` children, the last ones of the known digests
     /// among them. It does nothing at run time.
-    fn lemma_few_above(
+    pub(crate) fn lemma_few_above(
         &self,
         proof: ConsistencyRef<'_, [PW::Value; D]>,
         layer: usize,

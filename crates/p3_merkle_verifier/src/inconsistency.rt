@@ -155,6 +155,7 @@ impl<
             (parts_at proof.entry.growth (suc layer)).old_end }
     {
         let (children, _above) = mixed.parts.up(N);
+        self.lemma_few_below(proof, layer, mixed, &children);
         let middle = mixed.used + children.num_old();
         let used = middle + children.num_new();
         let old = &proof.digests[mixed.used..middle];
@@ -195,6 +196,7 @@ impl<
             let start = N * node;
             return padded_group::<PW::Value, N, D>(default_digest, &known[start..start + N]);
         }
+        self.lemma_few_above(proof, layer, mixed, known, &children);
         let used = mixed.used + children.num_new();
         let old = &known[children.start..];
         let new = &proof.digests[mixed.used..used];

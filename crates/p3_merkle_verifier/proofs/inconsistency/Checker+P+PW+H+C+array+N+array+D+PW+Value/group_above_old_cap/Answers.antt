@@ -1,13 +1,11 @@
 -- An old node's group is known; the mixed one's has new children that were sent.
-use Rattle.std.proofs.Common.{◌≡◌, ◌+◌, ◌<◌, ap, arith, length, length-drop, length-take, refl, replicate}
+use Rattle.std.proofs.Common.{ap, arith, refl, replicate}
 use Rattle.std.proofs.lemmas.List.{take_rest}
-use Rattle.p3_merkle_core.specs.Consistency.{new_layer}
 use Rattle.p3_merkle_core.specs.declared.consistency.MixedChildren.{MixedChildren}
 use Rattle.p3_merkle_verifier.specs.Inner.Checks.{functions_by}
 use Rattle.p3_merkle_verifier.specs.Inner.Consistency.{evidence_in}
 use Rattle.p3_merkle_verifier.proofs.ConsistencyFacts.{few_here, known_long, turn, turned_mixed_group}
 use Rattle.p3_merkle_verifier.proofs.ConsistencyFacts.{known_room, turned_old_group}
-use Rattle.p3_merkle_verifier.proofs.EntryFacts.{layers_rise}
 use Rattle.p3_merkle_verifier.proofs.inconsistency.Checker+P+PW+H+C+array+N+array+D+PW+Value.group_above_old_cap.Goals as goal
 
 pub up-requires-clause-few : goal.up-requires-clause-few
@@ -93,19 +91,6 @@ slice_bounds-new-end g c =
     let t = turn e c.args.layer c.requires.counted under g.row.N c.requires.arity c.args.mixed.now c.requires.mixed
     c.up.result.0 c.up.result.1 c.up.ensures.children c.up.ensures.above in
     omega (arith, t.left, c.num_new.ensures)
-
-pub mixed_group-requires : goal.mixed_group-requires
-mixed_group-requires g c =
-    let f = functions_by g.H.CryptographicHasher.hash g.C.PseudoCompressionFunction.compression
-    (replicate g.row.D g.PW.PackedValue.default_value) c.args.self.now in
-    let e = evidence_in f c.args.proof in
-    let under = c.requires.below in
-    let t = turn e c.args.layer c.requires.counted under g.row.N c.requires.arity c.args.mixed.now c.requires.mixed
-    c.up.result.0 c.up.result.1 c.up.ensures.children c.up.ensures.above in
-    let long = known_long e c.args.layer c.requires.counted under c.args.known.now c.requires.known in
-    let end = ap (λ (c : MixedChildren). c.old_end) t.found_is in
-    simp (length-take, length-drop)
-    (omega (arith, t.left, long, end, t.has_new, t.old, t.one, t.new, t.room, c.num_new.ensures))
 
 pub returns-then-node-above : goal.returns-then-node-above
 returns-then-node-above g c =

@@ -1,5 +1,5 @@
 -- Both groups are taken out of the digests that were sent.
-use Rattle.std.proofs.Common.{◌≡◌, ◌+◌, ◌<◌, arith, length, length-drop, length-take, refl, replicate}
+use Rattle.std.proofs.Common.{◌<◌, arith, refl, replicate}
 use Rattle.p3_merkle_core.specs.Consistency.{new_layer}
 use Rattle.p3_merkle_verifier.specs.Inner.Checks.{functions_by}
 use Rattle.p3_merkle_verifier.specs.Inner.Consistency.{evidence_in}
@@ -92,19 +92,6 @@ slice_bounds-new-end g c =
     let t = turn e c.args.layer c.requires.counted under g.row.N c.requires.arity c.args.mixed.now c.requires.mixed
     c.up.result.0 c.up.result.1 c.up.ensures.children c.up.ensures.above in
     omega (arith, t.left_low c.requires.below, c.num_old.ensures, c.num_new.ensures)
-
-pub mixed_group-requires-2 : goal.mixed_group-requires-2
-mixed_group-requires-2 g c =
-    let f = functions_by g.H.CryptographicHasher.hash g.C.PseudoCompressionFunction.compression
-    (replicate g.row.D g.PW.PackedValue.default_value) c.args.self.now in
-    let e = evidence_in f c.args.proof in
-    let rise = layers_rise e.growth c.requires.counted.arity c.requires.counted.heights in
-    let under : c.args.layer < new_layer e.growth = omega (arith, c.requires.below) in
-    let t = turn e c.args.layer c.requires.counted under g.row.N c.requires.arity c.args.mixed.now c.requires.mixed
-    c.up.result.0 c.up.result.1 c.up.ensures.children c.up.ensures.above in
-    let left = t.left_low c.requires.below in
-    simp (length-take, length-drop)
-    (omega (arith, left, t.has_new, t.old, t.one, t.new, t.room, c.num_old.ensures, c.num_new.ensures))
 
 pub returns : goal.returns
 returns g c =
