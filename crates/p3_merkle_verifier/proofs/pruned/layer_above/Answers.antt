@@ -1,10 +1,21 @@
 -- The parents are covered, with their queries, and what is left of the digests that were sent is enough.
 use Rattle.std.proofs.Common.{◌≡◌, ◌∙◌, ◌+◌, ◌-◌, ◌*◌, add-one, ap, arith, drop, length, map, refl, sym}
 use Rattle.std.proofs.lemmas.List.{take_rest}
+use Rattle.std.proofs.lemmas.Result.{err_from_is_err_and}
 use Rattle.p3_merkle_core.proofs.Covered.CoveredFacts.{turn_at}
 use Rattle.p3_merkle_verifier.specs.Inner.RestoredLevels.{node_of_query, tree_of}
 use Rattle.p3_merkle_verifier.proofs.ChildFacts.{left_family, parents_covered, queries_rise}
 use Rattle.p3_merkle_verifier.proofs.pruned.layer_above.Goals as goal
+
+pub returns-in_err-nodes : goal.returns-in_err-nodes
+returns-in_err-nodes g c =
+    let p = err_from_is_err_and c.from_residual.result c.from_residual.ensures.1 in
+    rw p.1 tt
+
+pub returns-in_err-children : goal.returns-in_err-children
+returns-in_err-children g c =
+    let p = err_from_is_err_and c.from_residual-in_err-children.result c.from_residual-in_err-children.ensures.1 in
+    rw p.1 tt
 
 pub offset_bounds-restorable-below : goal.offset_bounds-restorable-below
 offset_bounds-restorable-below g c =

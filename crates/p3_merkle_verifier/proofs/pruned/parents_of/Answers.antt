@@ -5,12 +5,43 @@ use Rattle.std.specs.List.{dedup}
 use Rattle.std.proofs.lemmas.List.{length-map, take_all}
 use Rattle.std.proofs.lemmas.List.Elements.{All-push}
 use Rattle.std.specs.declared.vec.Vec.{Vec}
+use Rattle.std.proofs.lemmas.Result.{err_from_is_err_and}
 use Rattle.p3_merkle_verifier.proofs.ParentFacts.{queries_next, parents_next}
 use Rattle.p3_merkle_verifier.proofs.pruned.parents_of.Goals as goal
 use Rattle.p3_merkle_verifier.proofs.pruned.parents_of.Goals.{then-slot-eq0}
 use Rattle.p3_merkle_verifier.proofs.pruned.parents_of.Goals.{then-slot-eq0-via-then-slot-eq0}
 use Rattle.p3_merkle_verifier.proofs.pruned.parents_of.Goals.{then-slot-eq0-via-else-slot-eq0+then-previous-parent}
 use Rattle.p3_merkle_verifier.proofs.pruned.parents_of.Goals.{else-slot-eq0+else-previous-parent}
+
+pub returns-in_err-parents-clause-parents : goal.returns-in_err-parents-clause-parents
+returns-in_err-parents-clause-parents c =
+    let p = err_from_is_err_and c.from_residual.result c.from_residual.ensures.1 in
+    rw p.1 tt
+
+pub returns-in_err-parents-clause-queries : goal.returns-in_err-parents-clause-queries
+returns-in_err-parents-clause-queries c =
+    let p = err_from_is_err_and c.from_residual.result c.from_residual.ensures.1 in
+    rw p.1 (λ node is. tt)
+
+pub returns-in_err-parents-clause-among : goal.returns-in_err-parents-clause-among
+returns-in_err-parents-clause-among c =
+    let p = err_from_is_err_and c.from_residual.result c.from_residual.ensures.1 in
+    rw p.1 (λ n all. tt)
+
+pub returns-in_err-above-clause-parents : goal.returns-in_err-above-clause-parents
+returns-in_err-above-clause-parents c =
+    let p = err_from_is_err_and c.from_residual-in_err-above.result c.from_residual-in_err-above.ensures.1 in
+    rw p.1 tt
+
+pub returns-in_err-above-clause-queries : goal.returns-in_err-above-clause-queries
+returns-in_err-above-clause-queries c =
+    let p = err_from_is_err_and c.from_residual-in_err-above.result c.from_residual-in_err-above.ensures.1 in
+    rw p.1 (λ node is. tt)
+
+pub returns-in_err-above-clause-among : goal.returns-in_err-above-clause-among
+returns-in_err-above-clause-among c =
+    let p = err_from_is_err_and c.from_residual-in_err-above.result c.from_residual-in_err-above.ensures.1 in
+    rw p.1 (λ n all. tt)
 
 pub loop-slot-preserved : goal.loop-slot-preserved
 loop-slot-preserved c =

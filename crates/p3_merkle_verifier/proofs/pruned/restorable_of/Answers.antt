@@ -1,6 +1,7 @@
 -- What is not refused restores, and its distinct indices are the covered leaves.
 use Rattle.std.proofs.Common.{◌≡◌, ◌∙◌, [], ap, length, map, refl, replicate, sym, None}
 use Rattle.std.proofs.lemmas.List.{length-map, length-replicate}
+use Rattle.std.proofs.lemmas.Result.{err_from_is_err_and}
 use Rattle.p3_support.specs.Batches.{greatest}
 use Rattle.p3_support.specs.Shown.{row_lists, row_sets}
 use Rattle.p3_merkle_core.specs.Geometry.{heights, shape_of}
@@ -16,6 +17,31 @@ use Rattle.p3_merkle_verifier.proofs.LayerFacts.{agreed_with}
 use Rattle.p3_merkle_verifier.proofs.RefusalFacts.{handed_on}
 use Rattle.p3_merkle_verifier.proofs.StartFacts.{queried_by_firsts}
 use Rattle.p3_merkle_verifier.proofs.pruned.restorable_of.Goals as goal
+
+pub returns-in_err-queried-clause-steps : goal.returns-in_err-queried-clause-steps
+returns-in_err-queried-clause-steps g c =
+    let p = err_from_is_err_and c.from_residual.result c.from_residual.ensures.1 in
+    rw p.1 tt
+
+pub returns-in_err-queried-clause-layer : goal.returns-in_err-queried-clause-layer
+returns-in_err-queried-clause-layer g c =
+    let p = err_from_is_err_and c.from_residual.result c.from_residual.ensures.1 in
+    rw p.1 tt
+
+pub returns-in_err-queried-clause-opening : goal.returns-in_err-queried-clause-opening
+returns-in_err-queried-clause-opening g c =
+    let p = err_from_is_err_and c.from_residual.result c.from_residual.ensures.1 in
+    rw p.1 tt
+
+pub returns-in_err-queried-clause-leaves : goal.returns-in_err-queried-clause-leaves
+returns-in_err-queried-clause-leaves g c =
+    let p = err_from_is_err_and c.from_residual.result c.from_residual.ensures.1 in
+    rw p.1 tt
+
+pub returns-in_err-queried-clause-childless : goal.returns-in_err-queried-clause-childless
+returns-in_err-queried-clause-childless g c =
+    let p = err_from_is_err_and c.from_residual.result c.from_residual.ensures.1 in
+    rw p.1 tt
 
 pub returns-in_err-queried-clause-answer : goal.returns-in_err-queried-clause-answer
 returns-in_err-queried-clause-answer g c =

@@ -1,5 +1,6 @@
 -- The old cap's entries first; then each turn is one layer.
 use Rattle.std.proofs.Common.{◌≡◌, ◌<◌, ◌≤◌, ◌/◌, ◌^◌, ◌∙◌, ℕ, suc, add-one, ap, arith, replicate, sym}
+use Rattle.std.proofs.lemmas.Result.{err_from_is_err_and}
 use Rattle.p3_support.specs.Shown.{row_lists}
 use Rattle.p3_merkle_core.specs.Consistency.{new_layer, new_value, old_layer}
 use Rattle.p3_merkle_verifier.specs.Inner.Checks.{functions_by}
@@ -8,6 +9,36 @@ use Rattle.p3_merkle_verifier.specs.Inner.Inconsistency.{child_values, path_grou
 use Rattle.p3_merkle_verifier.proofs.EntryFacts.{known_start, layers_rise}
 use Rattle.p3_merkle_verifier.proofs.InconsistencyFacts.{more_groups, push_count}
 use Rattle.p3_merkle_verifier.proofs.inconsistency.Checker+P+PW+H+C+array+N+array+D+PW+Value.path_above_old_cap.Goals as goal
+
+pub returns-in_err-known-clause-groups : goal.returns-in_err-known-clause-groups
+returns-in_err-known-clause-groups g c =
+    let p = err_from_is_err_and c.from_residual.result c.from_residual.ensures.1 in
+    rw p.1 (λ given low below. tt)
+
+pub returns-in_err-known-clause-count : goal.returns-in_err-known-clause-count
+returns-in_err-known-clause-count g c =
+    let p = err_from_is_err_and c.from_residual.result c.from_residual.ensures.1 in
+    rw p.1 tt
+
+pub returns-in_err-push_group-clause-groups : goal.returns-in_err-push_group-clause-groups
+returns-in_err-push_group-clause-groups g c =
+    let p = err_from_is_err_and c.from_residual-in_err-push_group.result c.from_residual-in_err-push_group.ensures.1 in
+    rw p.1 (λ given low below. tt)
+
+pub returns-in_err-push_group-clause-count : goal.returns-in_err-push_group-clause-count
+returns-in_err-push_group-clause-count g c =
+    let p = err_from_is_err_and c.from_residual-in_err-push_group.result c.from_residual-in_err-push_group.ensures.1 in
+    rw p.1 tt
+
+pub returns-in_err-mixed-clause-groups : goal.returns-in_err-mixed-clause-groups
+returns-in_err-mixed-clause-groups g c =
+    let p = err_from_is_err_and c.from_residual-in_err-mixed.result c.from_residual-in_err-mixed.ensures.1 in
+    rw p.1 (λ given low below. tt)
+
+pub returns-in_err-mixed-clause-count : goal.returns-in_err-mixed-clause-count
+returns-in_err-mixed-clause-count g c =
+    let p = err_from_is_err_and c.from_residual-in_err-mixed.result c.from_residual-in_err-mixed.ensures.1 in
+    rw p.1 tt
 
 pub loop-layer-init : goal.loop-layer-init
 loop-layer-init g c =

@@ -4,9 +4,20 @@ use Rattle.std.specs.List.{range_with_len}
 use Rattle.std.proofs.lemmas.List.{length-map, take_at}
 use Rattle.std.proofs.lemmas.List.FromFn.{length-map-range_with_len}
 use Rattle.std.proofs.lemmas.Simd.{map-map}
+use Rattle.std.proofs.lemmas.Result.{err_from_is_err_and}
 use Rattle.p3_merkle_verifier.specs.Inner.NodeDigests.{child_group, group_digest}
 use Rattle.p3_merkle_verifier.proofs.GroupFacts.{whole_digests}
 use Rattle.p3_merkle_verifier.proofs.nodes.Checker+P+PW+H+C+array+N+array+D+PW+Value.group_digests.Goals as goal
+
+pub returns-in_err-digests : goal.returns-in_err-digests
+returns-in_err-digests g c =
+    let p = err_from_is_err_and c.from_residual.result c.from_residual.ensures.1 in
+    record { count = rw p.1 tt; digests = rw p.1 tt }
+
+pub returns-in_err-groups : goal.returns-in_err-groups
+returns-in_err-groups g c =
+    let p = err_from_is_err_and c.from_residual-in_err-groups.result c.from_residual-in_err-groups.ensures.1 in
+    record { count = rw p.1 tt; digests = rw p.1 tt }
 
 pub returns-then-step : goal.returns-then-step
 returns-then-step g c =

@@ -1,7 +1,7 @@
 -- The leaves have the digests of their rows, and other nodes those of their groups, with their rows.
 use Rattle.std.proofs.Common.{◌≡◌, ◌∙◌, ◌<◌, [], ap, arith, drop, length, map, replicate, take, zip, ◌++◌}
 use Rattle.std.proofs.lemmas.List.{take_at}
-use Rattle.std.proofs.lemmas.Result.{IfOk-weaker}
+use Rattle.std.proofs.lemmas.Result.{err_from_is_err_and, IfOk-weaker}
 use Rattle.p3_support.specs.Shown.{row_sets}
 use Rattle.p3_merkle_verifier.specs.Inner.Checks.{functions_by}
 use Rattle.p3_merkle_verifier.specs.Inner.NodeDigests.{pair_digest}
@@ -9,6 +9,26 @@ use Rattle.p3_merkle_verifier.specs.Inner.RestoredLevels.{opened_by, tree_of}
 use Rattle.p3_merkle_verifier.proofs.GroupFacts.{pairs_injected}
 use Rattle.p3_merkle_verifier.proofs.LayerFacts.{agreed_with, digests_long, leaves_restored, restored_at}
 use Rattle.p3_merkle_verifier.proofs.nodes.Checker+P+PW+H+C+array+N+array+D+PW+Value.node_digests.Goals as goal
+
+pub returns-in_err-digests : goal.returns-in_err-digests
+returns-in_err-digests g c =
+    let p = err_from_is_err_and c.from_residual.result c.from_residual.ensures.1 in
+    record { count = rw p.1 tt; restored = rw p.1 tt }
+
+pub returns-in_err-rows : goal.returns-in_err-rows
+returns-in_err-rows g c =
+    let p = err_from_is_err_and c.from_residual-in_err-rows.result c.from_residual-in_err-rows.ensures.1 in
+    record { count = rw p.1 tt; restored = rw p.1 tt }
+
+pub returns-in_err-pairs : goal.returns-in_err-pairs
+returns-in_err-pairs g c =
+    let p = err_from_is_err_and c.from_residual-in_err-pairs.result c.from_residual-in_err-pairs.ensures.1 in
+    record { count = rw p.1 tt; restored = rw p.1 tt }
+
+pub returns-in_err-inject_row_digests : goal.returns-in_err-inject_row_digests
+returns-in_err-inject_row_digests g c =
+    let p = err_from_is_err_and c.from_residual-in_err-inject_row_digests.result c.from_residual-in_err-inject_row_digests.ensures.1 in
+    record { count = rw p.1 tt; restored = rw p.1 tt }
 
 pub returns-then-layer-eq0-clause-restored : goal.returns-then-layer-eq0-clause-restored
 returns-then-layer-eq0-clause-restored g c =

@@ -4,6 +4,7 @@ use Rattle.std.specs.List.{range_with_len}
 use Rattle.std.proofs.lemmas.Bool.{lt-ltb}
 use Rattle.std.proofs.lemmas.List.{length-map, take_at}
 use Rattle.std.proofs.lemmas.List.FromFn.{fill_by_all}
+use Rattle.std.proofs.lemmas.Result.{err_from_is_err_and}
 use Rattle.p3_support.specs.Batches.{heights_of}
 use Rattle.p3_support.specs.Shown.{row_sets}
 use Rattle.p3_merkle_digests.specs.Inner.Slots.{rows_over}
@@ -12,6 +13,31 @@ use Rattle.p3_merkle_verifier.specs.Inner.OpenedMatrices.{row_in}
 use Rattle.p3_merkle_verifier.proofs.GroupFacts.{one_more}
 use Rattle.p3_merkle_verifier.proofs.OpenedFacts.{by_places}
 use Rattle.p3_merkle_verifier.proofs.nodes.Checker+P+PW+H+C+array+N+array+D+PW+Value.row_digests.Goals as goal
+
+pub returns-in_err-matrices : goal.returns-in_err-matrices
+returns-in_err-matrices g c =
+    let p = err_from_is_err_and c.from_residual.result c.from_residual.ensures.1 in
+    record { count = rw p.1 tt; digests = rw p.1 tt }
+
+pub returns-in_err-digests : goal.returns-in_err-digests
+returns-in_err-digests g c =
+    let p = err_from_is_err_and c.from_residual-in_err-digests.result c.from_residual-in_err-digests.ensures.1 in
+    record { count = rw p.1 tt; digests = rw p.1 tt }
+
+pub returns-in_err-write_batched : goal.returns-in_err-write_batched
+returns-in_err-write_batched g c =
+    let p = err_from_is_err_and c.from_residual-in_err-write_batched.result c.from_residual-in_err-write_batched.ensures.1 in
+    record { count = rw p.1 tt; digests = rw p.1 tt }
+
+pub returns-in_err-digests-2 : goal.returns-in_err-digests-2
+returns-in_err-digests-2 g c =
+    let p = err_from_is_err_and c.from_residual-in_err-digests-2.result c.from_residual-in_err-digests-2.ensures.1 in
+    record { count = rw p.1 tt; digests = rw p.1 tt }
+
+pub returns-in_err-push : goal.returns-in_err-push
+returns-in_err-push g c =
+    let p = err_from_is_err_and c.from_residual-in_err-push.result c.from_residual-in_err-push.ensures.1 in
+    record { count = rw p.1 tt; digests = rw p.1 tt }
 
 -- the digests of n rows, one for each query, are those of the queries
 record OfQueries {W : Type 0} (digest : ℕ → List W) (queries : List ℕ) (digests : List (List W)) : Type 0 where

@@ -2,6 +2,7 @@
 use Rattle.std.proofs.Common.{◌≡◌, ◌∙◌, ◌-◌, ◌+◌, ◌<◌, [], add-one, ap, arith, length, refl, replicate, subst, sym}
 use Rattle.std.specs.declared.vec.Vec.{Vec}
 use Rattle.std.proofs.lemmas.Bool.{true≢false}
+use Rattle.std.proofs.lemmas.Result.{err_from_is_err_and}
 use Rattle.p3_merkle_core.proofs.Covered.KeptFacts.{covered_up_list}
 use Rattle.p3_merkle_verifier.specs.Inner.Checks.{functions_by}
 use Rattle.p3_merkle_verifier.specs.Inner.RestoredLevels.{opened_by, tree_of, AreKept, IsLayer}
@@ -10,6 +11,46 @@ use Rattle.p3_merkle_verifier.proofs.PathFacts.{kept_at, kept_none}
 use Rattle.p3_merkle_verifier.proofs.pruned.Checker+P+PW+H+C+array+N+array+D+PW+Value.restored_levels.Goals as goal
 use Rattle.p3_merkle_verifier.proofs.pruned.Checker+P+PW+H+C+array+N+array+D+PW+Value.restored_levels.Goals.{then-not-keeps, else-not-keeps, else-keeps-2}
 use Rattle.p3_merkle_verifier.proofs.pruned.Checker+P+PW+H+C+array+N+array+D+PW+Value.restored_levels.Goals.{then-keeps-2+in_ok-push, then-keeps-3+in_ok-push-2, else-keeps-3}
+
+pub returns-in_err-check_roots-clause-kept : goal.returns-in_err-check_roots-clause-kept
+returns-in_err-check_roots-clause-kept g c =
+    let p = err_from_is_err_and c.from_residual.result c.from_residual.ensures.1 in
+    rw p.1 (λ keeps. tt)
+
+pub returns-in_err-levels-clause-kept : goal.returns-in_err-levels-clause-kept
+returns-in_err-levels-clause-kept g c =
+    let p = err_from_is_err_and c.from_residual-in_err-levels.result c.from_residual-in_err-levels.ensures.1 in
+    rw p.1 (λ keeps. tt)
+
+pub returns-in_err-covered-clause-kept : goal.returns-in_err-covered-clause-kept
+returns-in_err-covered-clause-kept g c =
+    let p = err_from_is_err_and c.from_residual-in_err-covered.result c.from_residual-in_err-covered.ensures.1 in
+    rw p.1 (λ keeps. tt)
+
+pub returns-in_err-digests-clause-kept : goal.returns-in_err-digests-clause-kept
+returns-in_err-digests-clause-kept g c =
+    let p = err_from_is_err_and c.from_residual-in_err-digests.result c.from_residual-in_err-digests.ensures.1 in
+    rw p.1 (λ keeps. tt)
+
+pub returns-in_err-above-clause-kept : goal.returns-in_err-above-clause-kept
+returns-in_err-above-clause-kept g c =
+    let p = err_from_is_err_and c.from_residual-in_err-above.result c.from_residual-in_err-above.ensures.1 in
+    rw p.1 (λ keeps. tt)
+
+pub returns-in_err-push-clause-kept : goal.returns-in_err-push-clause-kept
+returns-in_err-push-clause-kept g c =
+    let p = err_from_is_err_and c.from_residual-in_err-push.result c.from_residual-in_err-push.ensures.1 in
+    rw p.1 (λ keeps. tt)
+
+pub returns-in_err-check_roots-2-clause-kept : goal.returns-in_err-check_roots-2-clause-kept
+returns-in_err-check_roots-2-clause-kept g c =
+    let p = err_from_is_err_and c.from_residual-in_err-check_roots-2.result c.from_residual-in_err-check_roots-2.ensures.1 in
+    rw p.1 (λ keeps. tt)
+
+pub returns-in_err-push-2-clause-kept : goal.returns-in_err-push-2-clause-kept
+returns-in_err-push-2-clause-kept g c =
+    let p = err_from_is_err_and c.from_residual-in_err-push-2.result c.from_residual-in_err-push-2.ensures.1 in
+    rw p.1 (λ keeps. tt)
 
 pub returns-then-restorable-eq0-clause-kept : goal.returns-then-restorable-eq0-clause-kept
 returns-then-restorable-eq0-clause-kept g c =

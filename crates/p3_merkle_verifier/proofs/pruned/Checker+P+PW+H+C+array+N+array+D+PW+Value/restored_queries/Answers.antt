@@ -1,6 +1,7 @@
 -- The paths out of the kept levels are the restored ones, and the refusal is that of the form, else of the cap.
 use Rattle.std.proofs.Common.{◌∙◌, ap, refl, replicate, sym}
 use Rattle.std.specs.Option.{option_copied}
+use Rattle.std.proofs.lemmas.Result.{err_from_is_err_and}
 use Rattle.p3_merkle_core.specs.Geometry.{shape_of}
 use Rattle.p3_merkle_core.specs.declared.steps.Steps.{Steps}
 use Rattle.p3_merkle_verifier.specs.Inner.Checks.{functions_by}
@@ -8,6 +9,36 @@ use Rattle.p3_merkle_verifier.proofs.PathFacts.{leaves_alike, paths_by_levels}
 use Rattle.p3_merkle_verifier.proofs.RefusalFacts.{cap_refusal_alike, out_of_memory, refusal_of_cap, refused_by_cap}
 use Rattle.p3_merkle_verifier.proofs.RefusalFacts.{refused_by_form}
 use Rattle.p3_merkle_verifier.proofs.pruned.Checker+P+PW+H+C+array+N+array+D+PW+Value.restored_queries.Goals as goal
+
+pub returns-in_err-restorable-clause-paths : goal.returns-in_err-restorable-clause-paths
+returns-in_err-restorable-clause-paths g c =
+    let p = err_from_is_err_and c.from_residual.result c.from_residual.ensures.1 in
+    rw p.1 tt
+
+pub returns-in_err-restorable-clause-leaves : goal.returns-in_err-restorable-clause-leaves
+returns-in_err-restorable-clause-leaves g c =
+    let p = err_from_is_err_and c.from_residual.result c.from_residual.ensures.1 in
+    rw p.1 tt
+
+pub returns-in_err-levels-clause-paths : goal.returns-in_err-levels-clause-paths
+returns-in_err-levels-clause-paths g c =
+    let p = err_from_is_err_and c.from_residual-in_err-levels.result c.from_residual-in_err-levels.ensures.1 in
+    rw p.1 tt
+
+pub returns-in_err-levels-clause-leaves : goal.returns-in_err-levels-clause-leaves
+returns-in_err-levels-clause-leaves g c =
+    let p = err_from_is_err_and c.from_residual-in_err-levels.result c.from_residual-in_err-levels.ensures.1 in
+    rw p.1 tt
+
+pub returns-in_err-paths-clause-paths : goal.returns-in_err-paths-clause-paths
+returns-in_err-paths-clause-paths g c =
+    let p = err_from_is_err_and c.from_residual-in_err-paths.result c.from_residual-in_err-paths.ensures.1 in
+    rw p.1 tt
+
+pub returns-in_err-paths-clause-leaves : goal.returns-in_err-paths-clause-leaves
+returns-in_err-paths-clause-leaves g c =
+    let p = err_from_is_err_and c.from_residual-in_err-paths.result c.from_residual-in_err-paths.ensures.1 in
+    rw p.1 tt
 
 pub returns-in_err-restorable-clause-answer : goal.returns-in_err-restorable-clause-answer
 returns-in_err-restorable-clause-answer g c =
