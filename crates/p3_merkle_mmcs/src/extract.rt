@@ -13,12 +13,13 @@ ghost use Rattle.p3_merkle_mmcs.specs.Schemes.{cap_layer_of, cap_rule_of, params
 ghost use Rattle.p3_support.specs.Shown.{roots_of};
 
 use crate::mmcs::{MerkleTreeMmcs, Scheme};
+use crate::pruned::lent_pruned;
 use p3_merkle_core::collision::Collision;
 use p3_merkle_core::error::MerkleTreeError;
 use p3_merkle_core::geometry::exponent_of;
 use p3_merkle_core::pruning::PrunedMerklePaths;
 use p3_merkle_core::steps::steps_of;
-use p3_merkle_verifier::openings::{OpeningRef, PrunedOpeningRef};
+use p3_merkle_verifier::openings::OpeningRef;
 use p3_support::compress::PseudoCompressionFunction;
 use p3_support::hasher::CryptographicHasher;
 use p3_support::matrix::Dimensions;
@@ -141,16 +142,8 @@ impl<
     {
         let steps = steps_of(dimensions, N);
         let cap_layer = steps.cap_layer(self.cap_rule, self.cap_height);
-        let first = PrunedOpeningRef {
-            indices: indices1,
-            sets: rows1,
-            sent: proof1.sibling_hashes.as_slice(),
-        };
-        let second = PrunedOpeningRef {
-            indices: indices2,
-            sets: rows2,
-            sent: proof2.sibling_hashes.as_slice(),
-        };
+        let first = lent_pruned(indices1, rows1, proof1);
+        let second = lent_pruned(indices2, rows2, proof2);
         self.checker()
             .pruned_extraction(alloc, commit.roots(), &steps, cap_layer, first, second)
     }

@@ -33,6 +33,23 @@ use p3_support::opening::MerkleCap;
 use p3_support::packed::PackedValue;
 use std::alloc::Global;
 
+/// A pruned opening as the checker takes it.
+pub(crate) fn lent_pruned<'a, T, W: Copy, const D: usize>(
+    indices: &'a [usize],
+    rows: &'a [Vec<Vec<T>>],
+    proof: &'a PrunedMerklePaths<W, D>,
+) -> PrunedOpeningRef<'a, T, [W; D]>
+    ensures indices { result.indices.now ≡ indices.now }
+    ensures rows { result.sets.now ≡ rows.now }
+    ensures digests { result.sent.now ≡ proof.now.sibling_hashes.items }
+{
+    PrunedOpeningRef {
+        indices,
+        sets: rows,
+        sent: proof.sibling_hashes.as_slice(),
+    }
+}
+
 impl<P: PackedValue, PW: PackedValue, H, C, X, G, const N: usize> Scheme<P, PW, H, C, X, G, N> {
     /// The number of digests in a pruned proof of these indices, over matrices of these dimensions. The proof has a
     /// digest for each node below the cap whose parent is above a queried leaf, unless the node is such a leaf or above
@@ -211,11 +228,7 @@ impl<
     {
         let steps = steps_of(dimensions, N);
         let cap_layer = steps.cap_layer(self.cap_rule, self.cap_height);
-        let opening = PrunedOpeningRef {
-            indices,
-            sets: rows,
-            sent: proof.sibling_hashes.as_slice(),
-        };
+        let opening = lent_pruned(indices, rows, proof);
         self.checker()
             .check_pruned_opening(alloc, commit.roots(), &steps, cap_layer, opening)
     }
@@ -288,11 +301,7 @@ impl<
     {
         let steps = steps_of(dimensions, N);
         let cap_layer = steps.cap_layer(self.cap_rule, self.cap_height);
-        let opening = PrunedOpeningRef {
-            indices,
-            sets: rows,
-            sent: proof.sibling_hashes.as_slice(),
-        };
+        let opening = lent_pruned(indices, rows, proof);
         // `None` alone has no lifetime, and a proof needs one.
         let no_roots = false.then_some(opening.sent);
         self.checker()

@@ -1,5 +1,5 @@
 -- The paths are those of the checker's walk.
-use Rattle.std.proofs.Common.{◌∙◌, ap, replicate, subst}
+use Rattle.std.proofs.Common.{◌∙◌, replicate, subst}
 use Rattle.std.specs.Prelude.{◌≡◌, IfOk}
 use Rattle.std.specs.Option.{option_copied}
 use Rattle.p3_support.specs.Shown.{row_sets}
@@ -28,7 +28,10 @@ returns g c =
     c.checker.result.hash.now (hash_of scheme) c.checker.result.compress.now (compression_of scheme)
     c.cap_layer-cap_layer.result t steps.tree
     c.checker.ensures.hash c.checker.ensures.compress steps.at_cap in
-    let sent = ap (pruned_of c.args.indices.now (row_sets c.args.rows.now)) c.as_slice.ensures.value in
+    let lent = c.lent_pruned-opening in
+    let sent : pruned_of lent.result.indices.now (row_sets lent.result.sets.now) lent.result.sent.now
+    ≡ pruned_lent c.args.indices.now c.args.rows.now c.args.proof.now =
+    λ i. pruned_of (lent.ensures.indices i) (row_sets (lent.ensures.rows i)) (lent.ensures.digests i) in
     let restored = c.restored_paths.result in
     let answer = subst (AnswersUnlessMemory restored)
     ((λ i. pruned_refusal_by eq g.PW.Value.PartialEq.eq (alike i) (option_copied (c.then_some-no_roots.ensures i))

@@ -1,5 +1,5 @@
 -- The answer is that of the checker's walk.
-use Rattle.std.proofs.Common.{ap, replicate, subst}
+use Rattle.std.proofs.Common.{◌≡◌, replicate, subst}
 use Rattle.p3_support.specs.Shown.{roots_of, row_sets}
 use Rattle.p3_merkle_core.specs.Geometry.{shape_of}
 use Rattle.p3_merkle_core.specs.Pruning.{pruned_of}
@@ -24,7 +24,10 @@ returns g c =
     c.checker.result.hash.now (hash_of scheme) c.checker.result.compress.now (compression_of scheme)
     c.cap_layer-cap_layer.result (cap_layer_over scheme s) steps.tree
     c.checker.ensures.hash c.checker.ensures.compress steps.at_cap in
-    let sent = ap (pruned_of c.args.indices.now (row_sets c.args.rows.now)) c.as_slice.ensures.value in
+    let lent = c.lent_pruned-opening in
+    let sent : pruned_of lent.result.indices.now (row_sets lent.result.sets.now) lent.result.sent.now
+    ≡ pruned_lent c.args.indices.now c.args.rows.now c.args.proof.now =
+    λ i. pruned_of (lent.ensures.indices i) (row_sets (lent.ensures.rows i)) (lent.ensures.digests i) in
     let answer = subst (AnswersUnlessMemory c.check_pruned_opening.result)
     (λ i. pruned_refusal_under eq same (alike i) (c.roots.ensures i) (sent i)) c.check_pruned_opening.ensures in
     let verdict =
