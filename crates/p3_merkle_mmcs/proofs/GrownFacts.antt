@@ -1,5 +1,5 @@
 -- Openings under both caps of a list that grows, as the scheme hands them to its checker.
-use Rattle.std.proofs.Common.{◌≡◌, ◌∙◌, ℕ, List, [], ◌∷◌, ap, arith, length, sym, refl, Option, Some, None}
+use Rattle.std.proofs.Common.{◌≡◌, ◌∙◌, ℕ, List, [], ◌∷◌, ap, arith, length, sym, refl, Some, None}
 use Rattle.std.specs.Prelude.{All, Bool}
 use Rattle.std.proofs.lemmas.List.{length-map}
 use Rattle.std.specs.Option.{option_map}

@@ -1,15 +1,13 @@
 -- Heights and widths are refused first; the checker's answer means what the definition says of it.
-use Rattle.std.proofs.Common.{◌≡◌, ◌∙◌, Some, None, ap, inr, refl, replicate, subst, sym}
+use Rattle.std.proofs.Common.{◌≡◌, ◌∙◌, Some, ap, inr, refl, replicate, subst, sym}
 use Rattle.std.specs.Prelude.{Err, IfOk}
 use Rattle.std.specs.Option.{option_map}
 use Rattle.std.proofs.lemmas.Result.{err_from_is_err_and}
 use Rattle.p3_support.specs.Shown.{roots_of, row_lists}
 use Rattle.p3_merkle_core.specs.Caps.{cap_layer}
-use Rattle.p3_merkle_core.specs.Consistency.{evidence}
 use Rattle.p3_merkle_core.specs.ConsistencyRefusals.{ConsistencyAnswers}
 use Rattle.p3_merkle_core.specs.Geometry.{shape_of}
 use Rattle.p3_merkle_core.specs.Inconsistency.{inconsistency, inconsistency_in}
-use Rattle.p3_merkle_core.specs.Nodes.{functions_of}
 use Rattle.p3_merkle_core.specs.Views.{opening_lent}
 use Rattle.p3_merkle_core.proofs.Growths.InconsistencyFacts.{inconsistency_answer}
 use Rattle.p3_merkle_verifier.specs.Inner.Inconsistency.{checked_refusal}
