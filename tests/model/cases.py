@@ -2,6 +2,7 @@
 
 import consistency
 import geometry
+import inconsistency
 import notation
 import sha256
 import texts
@@ -474,7 +475,7 @@ def consistency_len(fields):
 def prove_consistency(fields):
     scheme, old, matrices = fields.scheme(), fields.number(), notation.matrices(fields.take())
     new = len(matrices[0])
-    refused = consistency.differing(matrices) or consistency.height_refusal(old, new)
+    refused = consistency.differing(list(map(len, matrices))) or consistency.height_refusal(old, new)
     growth = refused or consistency.Growth(scheme.arity, scheme.cap_height, old, new)
     return refused or notation.print_numbers(consistency.proof(growth, matrices))
 
@@ -486,6 +487,16 @@ def verify_consistency(fields):
     refused = consistency.height_refusal(old, new)
     growth = refused or consistency.Growth(scheme.arity, scheme.cap_height, old, new)
     return verdict(refused or growth.refusal(old_cap, new_cap, digests))
+
+
+def extract_inconsistency(fields):
+    scheme = fields.scheme()
+    statements = [(fields.numbers(), notation.dimensions(fields.take())) for _ in range(2)]
+    digests, index = fields.numbers(), fields.number()
+    claims = [Claim(scheme, cap, dimensions, index, notation.rows(fields.take()), fields.numbers())
+              for cap, dimensions in statements]
+    text, found = inconsistency.extract(*claims, digests)
+    return text or (f"{found[0]} | {notation.print_collision(found[1])}" if found else "none")
 
 
 def consistency_sweep(fields):
@@ -509,7 +520,7 @@ KINDS = {
     "salted_extract_pruned": salted_extract_pruned, "known": known, "sweep": sweep,
     "salted_sweep": salted_sweep, "sha256_sweep": sha256_sweep, "consistency_len": consistency_len,
     "prove_consistency": prove_consistency, "verify_consistency": verify_consistency,
-    "consistency_sweep": consistency_sweep,
+    "extract_inconsistency": extract_inconsistency, "consistency_sweep": consistency_sweep,
 }
 
 

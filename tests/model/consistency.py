@@ -56,16 +56,33 @@ class Growth:
         return len(cap) >= places and all(
             cap[place] == self.value(known, height, level, place) for place in range(places))
 
+    def told(self):
+        """How many old nodes the layer of the old cap has."""
+        return self.old // self.arity**self.old_layer
+
+    def known(self, old_cap, digests):
+        """The nodes that are sent and the old ones of the old cap, with their digests."""
+        known = dict(zip(self.sent(), digests))
+        known.update({(self.old_layer, place): digest for place, digest in enumerate(old_cap[:self.told()])})
+        return known
+
+    def groups(self, known, height, index, start, end):
+        """What is compressed above a leaf from one level up to another, in the tree over so many rows."""
+        found = []
+        for level in range(start, end):
+            first = index // self.arity ** (level + 1) * self.arity
+            found.append((f"group {level}",
+                          [self.value(known, height, level, child) for child in range(first, first + self.arity)]))
+        return found
+
     def refusal(self, old_cap, new_cap, digests):
-        sent = self.sent()
-        if len(digests) != len(sent):
-            return f"wrong digest count: expected {len(sent)}, got {len(digests)}"
-        known = dict(zip(sent, digests))
-        told = self.old // self.arity**self.old_layer
-        known.update({(self.old_layer, place): digest for place, digest in enumerate(old_cap[:told])})
+        sent = len(self.sent())
+        if len(digests) != sent:
+            return f"wrong digest count: expected {sent}, got {len(digests)}"
+        known = self.known(old_cap, digests)
         for name, cap, level, height in (
                 ("old", old_cap, self.old_layer, self.old), ("new", new_cap, self.new_layer, self.new)):
-            if len(old_cap) < told or not self.has_entries(cap, level, known, height):
+            if len(old_cap) < self.told() or not self.has_entries(cap, level, known, height):
                 return f"{name} cap mismatch: an entry is missing or is another digest than the one computed"
         return None
 
@@ -95,10 +112,10 @@ def proof(growth, matrices):
     return [layers[level][place] for level, place in growth.sent()]
 
 
-def differing(matrices):
+def differing(heights):
     """Why matrices have not one height, if they have not."""
-    for place, matrix in enumerate(matrices):
-        if len(matrix) != len(matrices[0]):
+    for place, height in enumerate(heights):
+        if height != heights[0]:
             return f"heights differ: matrix {place} has another height than matrix 0"
     return None
 

@@ -95,18 +95,23 @@ class Grown:
         return " | ".join([f"verify_consistency | {self.head} | {heights[0]} | {caps[0]} | {heights[1]} | {caps[1]}",
                            notation.print_numbers(digests)])
 
-    def opening(self, cap, layers, level, rows, height, index):
-        """The case of an opening of a row in one of both lists, without the answer."""
+    def opened(self, layers, level, rows, index):
+        """The row and the siblings that open a row in one of both lists."""
         siblings = []
         for below in range(level):
             group, own = index // self.arity ** (below + 1), index // self.arity**below
             siblings += [layers[below][child] if child < len(layers[below]) else 0
                          for child in range(group * self.arity, (group + 1) * self.arity) if child != own]
-        return " | ".join([f"verify | {self.head} | {notation.print_numbers(cap)} | {COLUMNS}x{height} | {index}",
-                           notation.print_numbers(rows[index]), notation.print_numbers(siblings)])
+        return notation.print_numbers(rows[index]), notation.print_numbers(siblings)
 
-    def old_opening(self, index):
-        return self.opening(self.old_cap, self.old_layers, self.growth.old_layer, self.rows, self.growth.old, index)
+    def extraction(self, new_cap, digests, index, layers, rows):
+        """The case of both openings of a row, in the old list and in a new one, without the answer."""
+        statements = [f"{notation.print_numbers(cap)} | {COLUMNS}x{height}"
+                      for cap, height in ((self.old_cap, self.growth.old), (new_cap, self.growth.new))]
+        old = self.opened(self.old_layers, self.growth.old_layer, self.rows, index)
+        new = self.opened(layers, self.growth.new_layer, rows, index)
+        return " | ".join([f"extract_inconsistency | {self.head}", *statements, notation.print_numbers(digests),
+                           str(index), *old, *new])
 
     def forgery(self, random):
         """Forged layers and rows, and a proof with digests of either list."""
@@ -176,7 +181,7 @@ def add_damaged(random, grown, found):
 
 
 def add_forged(random, grown, found):
-    """A forged list with its proof, and openings of a row that differs."""
+    """A forged list with its proof, and openings of its rows in both lists."""
     layers, rows, digests = grown.forgery(random)
     cap = cap_of(grown.arity, layers, grown.growth.new_layer)
     line = grown.check(grown.old_cap, cap, digests)
@@ -186,12 +191,25 @@ def add_forged(random, grown, found):
         found.append(case(line, f"forged, {verdict_name(answer)}"))
         return
     found.append(case(line, "forged, accepted" if differing else "forged, accepted, with the old rows"))
-    for index in differing[:1]:
-        level, new = grown.growth.new_layer, grown.growth.new
-        for opened in (grown.old_opening(index), grown.opening(cap, layers, level, rows, new, index)):
-            found.append(case(opened, "of a row that a forged list answers in another way"))
-            if found[-1][1] != "accepted":
-                raise AssertionError(f"the model answers {found[-1][1]} to {opened}")
+    for index in differing[:1] + [random.randrange(grown.growth.old)]:
+        add_extraction(grown, (cap, digests, index, layers, rows), found)
+
+
+def add_extraction(grown, forgery, found):
+    """What openings of a row in both lists lead to: two inputs with one digest, where the rows differ."""
+    line, index, rows = grown.extraction(*forgery), forgery[2], forgery[4]
+    answer = cases.answers(line)[0][0]
+    if answer == "none" and rows[index] == grown.rows[index]:
+        found.append(case(line, "of a row that no list answers in another way"))
+        return
+    between, place, *inputs = answer.split(" | ")
+    if between not in ("old tree", "new tree", "openings"):
+        raise AssertionError(f"the model answers {answer} to {line}")
+    digest = grown.growth.functions.hash if place == "leaf" else grown.growth.functions.compress
+    first, second = map(notation.numbers, inputs)
+    if first == second or digest(first) != digest(second):
+        raise AssertionError(f"the model takes {answer} for a collision in {line}")
+    found.append(case(line, f"{between}, {place.split()[0]}"))
 
 
 def add_heights(random, head, found):
@@ -241,7 +259,9 @@ def cases_of(random, size=None):
     matrix = notation.print_matrices([grown.rows])
     found.append(case(f"prove_consistency | {grown.head} | {grown.growth.old} | {matrix}", "honest"))
     found.append(case(grown.check(grown.old_cap, grown.new_cap, grown.digests), "honest"))
-    if [one[1] for one in found] != [notation.print_numbers(grown.digests), "accepted"]:
+    found.append(case(grown.extraction(grown.new_cap, grown.digests, random.randrange(grown.growth.old), grown.layers,
+                                       grown.rows), "honest"))
+    if [one[1] for one in found] != [notation.print_numbers(grown.digests), "accepted", "none"]:
         raise AssertionError(f"the model answers otherwise to the honest {found}")
     for _ in range(4):
         add_damaged(random, grown, found)

@@ -4,9 +4,15 @@ ghost use Rattle.std.specs.Prelude.{◌≤◌, IsTrue};
 ghost use Rattle.p3_merkle_core.specs.Geometry.{is_arity};
 
 use crate::case::Case;
-use crate::fields::Fault;
+use crate::extract::write_collision;
+use crate::fields::{Fault, Fields};
+use crate::openings::Statement;
 use crate::scheme::{FoldCap, FoldScheme, fold_scheme, fold_tree};
-use p3_merkle_tree::{ConsistencyError, ConsistencyProof, MerkleCap};
+use crate::text::Answer;
+use p3_merkle_tree::{
+    BatchOpening, BatchOpeningRef, Between, ConsistencyError, ConsistencyProof, Inconsistency,
+    MerkleCap,
+};
 use p3_support::matrix::RowMajorMatrix;
 use std::alloc::{AllocError, Global};
 use test_fixtures::matrices::numbered;
@@ -85,6 +91,55 @@ pub fn verify<const N: usize>(case: &mut Case<'_>) -> Result<(), Fault>
     let digests = case.fields.digests();
     grown.verdict::<N>(case.alloc, &scheme, digests)?;
     case.answer.push("accepted");
+    Ok(())
+}
+
+/// The opening that the next fields are: rows and siblings.
+fn opening_in(fields: &mut Fields<'_>) -> BatchOpening<u32, Vec<[u32; 1]>> {
+    BatchOpening::new(fields.rows(), fields.digests())
+}
+
+/// Writes which checks an inconsistency is between, and its inputs.
+fn write_inconsistency(found: &Inconsistency<u32, [u32; 1]>, answer: &mut Answer) {
+    answer.push(match found.between {
+        Between::OldTree => "old tree | ",
+        Between::NewTree => "new tree | ",
+        Between::Openings => "openings | ",
+    });
+    write_collision(&found.inputs, answer);
+}
+
+/// `extract_inconsistency | ARITY | CAP | OLD CAP | OLD DIMENSIONS | NEW CAP | NEW DIMENSIONS | DIGESTS | INDEX | OLD
+/// ROWS | OLD SIBLINGS | NEW ROWS | NEW SIBLINGS | ANSWER`: what two openings of one index lead to, which is `none`, or
+/// the checks that differ, and a place with both inputs.
+pub fn extract<const N: usize>(case: &mut Case<'_>) -> Result<(), Fault>
+    requires arity { IsTrue (is_arity N) }
+    requires few { N ≤ 16 }
+{
+    let scheme = fold_scheme::<N>(case.fields.cap());
+    let old = Statement::of(&mut case.fields);
+    let new = Statement::of(&mut case.fields);
+    let proof = ConsistencyProof {
+        digests: case.fields.digests(),
+    };
+    let index = case.fields.number();
+    let old_opening = opening_in(&mut case.fields);
+    let new_opening = opening_in(&mut case.fields);
+    let found = scheme.extract_inconsistency(
+        case.alloc,
+        &old.cap,
+        &old.dimensions,
+        &new.cap,
+        &new.dimensions,
+        &proof,
+        index,
+        BatchOpeningRef::from(&old_opening),
+        BatchOpeningRef::from(&new_opening),
+    )?;
+    match &found {
+        Some(found) => write_inconsistency(found, &mut case.answer),
+        None => case.answer.push("none"),
+    }
     Ok(())
 }
 

@@ -21,7 +21,7 @@ fn write_place(place: &Place, answer: &mut Answer) {
 }
 
 /// Writes the place of a collision with both inputs.
-fn write_collision(collision: &FoldCollision, answer: &mut Answer) {
+pub fn write_collision(collision: &FoldCollision, answer: &mut Answer) {
     match collision {
         Collision::Words {
             place,

@@ -97,6 +97,7 @@ fn answer_of_tree<const N: usize>(case: &mut Case<'_>, keyword: &str) -> Result<
         "consistency_len" => consistency::len::<N>(case),
         "prove_consistency" => consistency::prove::<N>(case),
         "verify_consistency" => consistency::verify::<N>(case),
+        "extract_inconsistency" => consistency::extract::<N>(case),
         "consistency_sweep" => consistency::sweep::<N>(case),
         _ => answer_of_scheme::<N>(case, keyword),
     }

@@ -1,5 +1,5 @@
 -- Openings under both caps of a list that grows, as the scheme hands them to its checker.
-use Rattle.std.proofs.Common.{◌≡◌, ◌∙◌, ℕ, List, [], ◌∷◌, ap, length, sym, refl, subst, Option, Some, None}
+use Rattle.std.proofs.Common.{◌≡◌, ◌∙◌, ℕ, List, [], ◌∷◌, ap, arith, length, sym, refl, Some, None}
 use Rattle.std.specs.Prelude.{All, Bool}
 use Rattle.std.proofs.lemmas.List.{length-map}
 use Rattle.std.specs.Option.{option_map}
@@ -16,6 +16,7 @@ use Rattle.p3_merkle_core.specs.declared.cap.CapRule.{CapRule}
 use Rattle.p3_merkle_core.specs.declared.consistency.Growth.{Growth}
 use Rattle.p3_merkle_core.specs.declared.error.ConsistencyError.{ConsistencyError}
 use Rattle.p3_merkle_core.specs.declared.error.ConsistencyError.TheVariants.{WidthsDiffer}
+use Rattle.p3_merkle_core.proofs.Growths.DimensionFacts.{each_is_first, top_is_first}
 use Rattle.p3_merkle_core.proofs.Growths.InconsistencyFacts.{unlike_none}
 use Rattle.p3_merkle_core.proofs.Shapes.OneHeight.{cap_layer_is}
 use Rattle.p3_merkle_verifier.specs.Inner.Inconsistency.{checked_refusal}
@@ -36,16 +37,16 @@ of_parts f growth n old_ds new_ds old_at new_at old_cap new_cap digests o u =
     }
 
 -- the same parts
-pub parts_alike : {T W H C : Type 0} (hash : H → List T → List W) (compression : C → List (List W) → List W) (d : List W)
-    (n : ℕ) (h k : H) (c e : C) (g l : Growth) (s t y z : List Dimensions) (a b m r : ℕ)
+pub parts_alike : {T W H C : Type 0} (hash : H → List T → List W) (compression : C → List (List W) → List W)
+    (d : List W) (n : ℕ) (h k : H) (c e : C) (g l : Growth) (s t y z : List Dimensions) (a b m r : ℕ)
     (old_cap old_roots new_cap new_roots digests sent : List (List W)) (o p u q : Opening T W) → h ≡ k → c ≡ e →
     g ≡ l → s ≡ t → y ≡ z → a ≡ b → m ≡ r → old_cap ≡ old_roots → new_cap ≡ new_roots → digests ≡ sent → o ≡ p → u ≡ q →
     of_parts (functions_of (hash h) (compression c) d) g n s y a m old_cap new_cap digests o u
     ≡ of_parts (functions_of (hash k) (compression e) d) l n t z b r old_roots new_roots sent p q
 parts_alike hash compression d n h k c e g l s t y z a b m r old_cap old_roots new_cap new_roots digests sent o p u q
     same_h same_c same_g same_s same_y same_a same_m same_old same_new same_digests same_o same_u =
-    λ i. of_parts (functions_of (hash (same_h i)) (compression (same_c i)) d) (same_g i) n (same_s i) (same_y i) (same_a i)
-    (same_m i) (same_old i) (same_new i) (same_digests i) (same_o i) (same_u i)
+    λ i. of_parts (functions_of (hash (same_h i)) (compression (same_c i)) d) (same_g i) n (same_s i) (same_y i)
+    (same_a i) (same_m i) (same_old i) (same_new i) (same_digests i) (same_o i) (same_u i)
 
 -- openings under both caps, by these dimensions, a rule and a cap height
 abbrev pub grown : {T W : Type 0} → Functions T W → ℕ → CapRule → ℕ → List Dimensions → List Dimensions →
@@ -56,12 +57,13 @@ grown f n rule c old_ds new_ds old_cap new_cap digests o u =
       cap_height = c;
       old_height = greatest (heights_of old_ds);
       new_height = greatest (heights_of new_ds);
-    }) n old_ds new_ds (cap_layer (shape_of n old_ds) rule c) (cap_layer (shape_of n new_ds) rule c) old_cap new_cap digests
-    o u
+    }) n old_ds new_ds (cap_layer (shape_of n old_ds) rule c) (cap_layer (shape_of n new_ds) rule c) old_cap new_cap
+    digests o u
 
 -- they belong together
-pub grown_setting : {T W : Type 0} (f : Functions T W) (n : ℕ) (rule : CapRule) (c : ℕ) (old_ds new_ds : List Dimensions)
-    (old_cap new_cap digests : List (List W)) (o u : Opening T W) → IsArity n → o.index ≡ u.index →
+pub grown_setting : {T W : Type 0} (f : Functions T W) (n : ℕ) (rule : CapRule) (c : ℕ)
+    (old_ds new_ds : List Dimensions) (old_cap new_cap digests : List (List W)) (o u : Opening T W) → IsArity n →
+    o.index ≡ u.index →
     IsSetting (grown f n rule c old_ds new_ds old_cap new_cap digests o u)
 grown_setting f n rule c old_ds new_ds old_cap new_cap digests o u a index =
     record {
@@ -98,10 +100,14 @@ module _ {T W : Type 0} (digest_eq : W → W → Bool) (x : GrownOpenings T W) w
       inconsistency_refusal digest_eq x ≡ checked_refusal digest_eq x
   refused_later none none_new same = rw (none, none_new, same) refl
 
--- where all heights are one, which is the greatest
-pub one_height_each : (ds : List Dimensions) (h : ℕ) → h ≡ greatest (heights_of ds) → All (λ d. d.height ≡ h) ds →
-    All (λ d. d.height ≡ greatest (heights_of ds)) ds
-one_height_each ds h is each = subst (λ h. All (λ d. d.height ≡ h) ds) is each
+-- heights that are not refused are each the greatest
+pub one_height_each : (ds : List Dimensions) (h : ℕ) → h ≡ greatest (heights_of ds) →
+    one_height_refusal (heights_of ds) ≡ None → All (λ d. d.height ≡ h) ds
+one_height_each [] h is none = λ k d inside. absurd (omega arith)
+one_height_each (x ∷ ds) h is none =
+    let all = each_is_first (x ∷ ds) none in
+    let top = top_is_first (x ∷ ds) (omega arith) none in
+    rw (is ∙ top) all
 
 -- lists of the same widths are as long
 pub as_many : (old_ds new_ds : List Dimensions) → first_unlike (widths_of old_ds) (widths_of new_ds) ≡ None →

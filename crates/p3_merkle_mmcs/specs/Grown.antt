@@ -14,8 +14,8 @@ use Rattle.p3_merkle_mmcs.specs.declared.mmcs.Scheme.{Scheme}
 
 module _ {P PW H C X G V W : Type 0} {N : ℕ} {p : packed.Ghosts P V} {pd : default.Ghosts V} {pe : equality.Ghosts V}
     {q : packed.Ghosts PW W} {qd : default.Ghosts W} {qe : equality.Ghosts W} where
-  -- openings under both caps of a list that grows: the heights are the tallest ones of the dimensions, and all else is the
-  -- scheme's
+  -- openings under both caps of a list that grows: the heights are the tallest ones of the dimensions, and all else is
+  -- the scheme's
   abbrev pub grown_openings : (H → List V → List W) → (C → List (List W) → List W) → ℕ →
       Scheme P PW H C X G N V W p pd pe q qd qe → List Dimensions → List Dimensions → List (List W) → List (List W) →
       List (List W) → Opening V W → Opening V W → GrownOpenings V W

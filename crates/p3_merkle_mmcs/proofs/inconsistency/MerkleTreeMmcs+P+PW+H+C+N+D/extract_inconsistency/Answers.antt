@@ -1,21 +1,20 @@
 -- Heights and widths are refused first; the checker's answer means what the definition says of it.
-use Rattle.std.proofs.Common.{◌≡◌, ◌∙◌, Some, None, ap, inr, refl, replicate, subst, sym}
+use Rattle.std.proofs.Common.{◌≡◌, ◌∙◌, Some, ap, inr, refl, replicate, subst, sym}
 use Rattle.std.specs.Prelude.{Err, IfOk}
 use Rattle.std.specs.Option.{option_map}
 use Rattle.std.proofs.lemmas.Result.{err_from_is_err_and}
 use Rattle.p3_support.specs.Shown.{roots_of, row_lists}
 use Rattle.p3_merkle_core.specs.Caps.{cap_layer}
-use Rattle.p3_merkle_core.specs.Consistency.{evidence}
 use Rattle.p3_merkle_core.specs.ConsistencyRefusals.{ConsistencyAnswers}
 use Rattle.p3_merkle_core.specs.Geometry.{shape_of}
 use Rattle.p3_merkle_core.specs.Inconsistency.{inconsistency, inconsistency_in}
-use Rattle.p3_merkle_core.specs.Nodes.{functions_of}
 use Rattle.p3_merkle_core.specs.Views.{opening_lent}
 use Rattle.p3_merkle_core.proofs.Growths.InconsistencyFacts.{inconsistency_answer}
 use Rattle.p3_merkle_verifier.specs.Inner.Inconsistency.{checked_refusal}
 use Rattle.p3_merkle_mmcs.specs.Schemes.{growth_of, scheme_functions}
 use Rattle.p3_merkle_mmcs.proofs.CheckFacts.{opening_is}
-use Rattle.p3_merkle_mmcs.proofs.GrownFacts.{grown, grown_setting, parts_alike, refused_later, refused_new, refused_old, refused_widths}
+use Rattle.p3_merkle_mmcs.proofs.GrownFacts.{grown, grown_setting, parts_alike}
+use Rattle.p3_merkle_mmcs.proofs.GrownFacts.{refused_later, refused_new, refused_old, refused_widths}
 use Rattle.p3_merkle_mmcs.proofs.inconsistency.MerkleTreeMmcs+P+PW+H+C+N+D.extract_inconsistency.Goals as goal
 
 pub returns-in_err-old_height : goal.returns-in_err-old_height
@@ -53,10 +52,12 @@ returns-in_err-new_height g c =
     let x = grown f g.row.N scheme.cap_rule scheme.cap_height old_ds new_ds old_cap new_cap digests o u in
     let set = grown_setting f g.row.N scheme.cap_rule scheme.cap_height old_ds new_ds old_cap new_cap digests o u
     scheme.arity refl in
-    let left = err_from_is_err_and c.from_residual-in_err-new_height.result c.from_residual-in_err-new_height.ensures.1 in
+    let call = c.from_residual-in_err-new_height in
+    let left = err_from_is_err_and call.result call.ensures.1 in
     rw left.1 (inconsistency_answer same g.met.PW.PackedValue.eq_is_equality x set g.P.Value.PartialEq.eq
     g.met.P.PackedValue.eq_is_equality (Err _)
-    (inr (refused_new same x _ c.in_ok-old_height.ensures.answer (c.in_err-new_height.ensures.answer ∙ ap (λ e. Some e) (sym left.2)))) tt)
+    (inr (refused_new same x _ c.in_ok-old_height.ensures.answer
+    (c.in_err-new_height.ensures.answer ∙ ap (λ e. Some e) (sym left.2)))) tt)
 
 pub returns-in_err-check_same_widths : goal.returns-in_err-check_same_widths
 returns-in_err-check_same_widths g c =
@@ -73,7 +74,8 @@ returns-in_err-check_same_widths g c =
     let x = grown f g.row.N scheme.cap_rule scheme.cap_height old_ds new_ds old_cap new_cap digests o u in
     let set = grown_setting f g.row.N scheme.cap_rule scheme.cap_height old_ds new_ds old_cap new_cap digests o u
     scheme.arity refl in
-    let left = err_from_is_err_and c.from_residual-in_err-check_same_widths.result c.from_residual-in_err-check_same_widths.ensures.1 in
+    let call = c.from_residual-in_err-check_same_widths in
+    let left = err_from_is_err_and call.result call.ensures.1 in
     rw left.1 (inconsistency_answer same g.met.PW.PackedValue.eq_is_equality x set g.P.Value.PartialEq.eq
     g.met.P.PackedValue.eq_is_equality (Err _)
     (inr (refused_widths same x _ c.in_ok-old_height.ensures.answer c.in_ok-new_height.ensures.answer
@@ -113,14 +115,14 @@ returns g c =
     c.args.new_opening.opening_proof.now.items c.new-2.ensures.index (ap row_lists c.new-2.ensures.rows)
     c.new-2.ensures.siblings in
     let alike = parts_alike hash compression none n _ _ _ _ _ _ _ _ _ _ _ _ _ _ _ _ _ _ _ _ _ _ _ _
-    c.checker.ensures.hash c.checker.ensures.compress growth c.steps_of-old_steps.ensures.dimensions
-    c.steps_of-new_steps.ensures.dimensions old_at new_at c.roots.ensures c.roots-2.ensures c.deref.ensures.value first
+    refl refl growth c.steps_of-old_steps.ensures.dimensions
+    c.steps_of-new_steps.ensures.dimensions old_at new_at c.roots.ensures c.roots-new_roots.ensures c.deref.ensures.value first
     second in
     let later = refused_later same x c.in_ok-old_height.ensures.answer c.in_ok-new_height.ensures.answer
     c.in_ok-check_same_widths.ensures in
-    let answer = subst (ConsistencyAnswers c.inconsistency.result) (ap (checked_refusal same) alike ∙ sym later)
-    c.inconsistency.ensures.answer in
-    let found = subst (λ d. IfOk c.inconsistency.result (λ found. option_map inconsistency_in found ≡ d))
-    (ap (inconsistency row same) alike) c.inconsistency.ensures.found in
+    let answer = subst (ConsistencyAnswers c.checked_inconsistency.result) (ap (checked_refusal same) alike ∙ sym later)
+    c.checked_inconsistency.ensures.answer in
+    let found = subst (λ d. IfOk c.checked_inconsistency.result (λ found. option_map inconsistency_in found ≡ d))
+    (ap (inconsistency row same) alike) c.checked_inconsistency.ensures.found in
     inconsistency_answer same g.met.PW.PackedValue.eq_is_equality x set row g.met.P.PackedValue.eq_is_equality
-    c.inconsistency.result answer found
+    c.checked_inconsistency.result answer found
