@@ -1,6 +1,6 @@
 //! Digests computed one by one: of rows, and of whole groups of a layer.
 
-ghost use Rattle.std.specs.Prelude.{◌≡◌, ℕ, ◌*◌, ◌<◌, ◌≤◌, [], length, map, slice_index_or, take, All, IfSome};
+ghost use Rattle.std.specs.Prelude.{◌≡◌, ℕ, ◌*◌, ◌<◌, ◌≤◌, ◌++◌, [], length, map, slice_index_or, take, All, IfSome};
 ghost use Rattle.std.specs.List.{flat_map};
 ghost use Rattle.p3_support.specs.Lists.{messages as messages_of};
 ghost use Rattle.p3_merkle_digests.specs.Inner.Slots.{rows_over};
@@ -21,6 +21,13 @@ pub(crate) const MIN_SLICE_WIDTH: usize = 4;
 /// An array of empty slices, to be filled with rows. A function of its own gives them the lifetime of these rows.
 pub(crate) fn no_slices<'a, T>() -> [&'a [T]; MAX_SLICES] {
     [&[]; MAX_SLICES]
+}
+
+/// Two slices in an array. A function of its own gives it their lifetime.
+pub(crate) fn both<'a, T>(first: &'a [T], second: &'a [T]) -> [&'a [T]; 2]
+    ensures { flat_map (λ words. words.now) result ≡ first.now ++ second.now }
+{
+    [first, second]
 }
 
 /// Fills `slices` from its start with row `row` of each matrix, and returns how many there are, if `slices` is long

@@ -10,7 +10,7 @@ ghost use Rattle.p3_merkle_digests.specs.Inner.Slots.{leaf_over, rows_over, IsFi
 
 use crate::batched::{contiguous_rows, messages_per_call, row_len, words_of_rows};
 use crate::packed::packed_blocks;
-use crate::plain::{MIN_SLICE_WIDTH, hash_each, no_slices, row_slices};
+use crate::plain::{MIN_SLICE_WIDTH, both, hash_each, no_slices, row_slices};
 use p3_support::hasher::CryptographicHasher;
 use p3_support::matrix::Matrix;
 use p3_support::packed::{PackedValue, unpack_at};
@@ -56,6 +56,23 @@ impl<
         Some(self.hash.hash_iter_slices(slices[..count].iter().copied()))
     }
 
+    /// The digest of a row of a matrix. The row must be below its height.
+    fn matrix_digest(&self, matrix: &M, row: usize) -> [PW::Value; D]
+        requires { row < M.height_of matrix.now }
+        ensures { result ≡ H.hash self.now.hash.now (M.row_of matrix.now row) }
+    {
+        if let Some(words) = matrix.row_slice(row) {
+            return self.hash.hash_slice(words);
+        }
+        match matrix.row_halves(row) {
+            Some((left, right)) => {
+                let halves = both(left, right);
+                self.hash.hash_iter_slices(halves.iter().copied())
+            },
+            None => self.hash.hash_iter(matrix.row(row)),
+        }
+    }
+
     /// The digest of a row; the default digest past the height.
     pub fn digest(&self, row: usize) -> [PW::Value; D]
         ensures { result ≡ leaf_over (H.hash self.now.hash.now) (replicate D PW.default_value)
@@ -66,10 +83,7 @@ impl<
         }
         // One matrix: no test after each word for the end of its row.
         if let [matrix] = self.matrices {
-            return match matrix.row_slice(row) {
-                Some(words) => self.hash.hash_slice(words),
-                None => self.hash.hash_iter(matrix.row(row)),
-            };
+            return self.matrix_digest(matrix, row);
         }
         match self.slices_digest(row) {
             Some(digest) => digest,
@@ -172,6 +186,29 @@ impl<
         }
     }
 
+    /// Writes the digest of row `j` into slot `j`, from slot `first` on, if the layer has one matrix. The slots before
+    /// `first` have their digests. Returns how many of the first slots have theirs then: `first` if nothing is written.
+    fn write_alone(&self, first: usize, slots: &mut [[PW::Value; D]]) -> usize
+        requires { let leaf = leaf_over (H.hash self.now.hash.now) (replicate D PW.default_value)
+            (rows_over M.row_of self.now.matrices.now) self.now.height in
+            IsFilled leaf first (length slots.old) slots.old }
+        ensures { let leaf = leaf_over (H.hash self.now.hash.now) (replicate D PW.default_value)
+            (rows_over M.row_of self.now.matrices.now) self.now.height in
+            IsFilled leaf result (length slots.old) slots.new }
+    {
+        let end = self.height.min(slots.len());
+        if first >= end {
+            return first;
+        }
+        let [matrix] = self.matrices else {
+            return first;
+        };
+        for j in first..end {
+            slots[j] = self.matrix_digest(matrix, j);
+        }
+        end
+    }
+
     /// Writes into each slot from the first `done` on the digest of the row of its number.
     fn write_remaining(&self, done: usize, slots: &mut [[PW::Value; D]])
         requires { let leaf = leaf_over (H.hash self.now.hash.now) (replicate D PW.default_value)
@@ -181,8 +218,9 @@ impl<
             (rows_over M.row_of self.now.matrices.now) self.now.height in
             slots.new ≡ map leaf (range_with_len 0 (length slots.old)) }
     {
-        // Rows that one matrix has in one piece have a loop of their own, without a test for each row.
+        // Rows of one matrix have loops of their own: those in one piece, without a test for each, and others.
         let done = self.write_contiguous(done, slots);
+        let done = self.write_alone(done, slots);
         for j in done..slots.len() {
             slots[j] = self.digest(j);
         }

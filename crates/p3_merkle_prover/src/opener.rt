@@ -127,6 +127,11 @@ fn words_of_row<F: Copy, M: Matrix<F>>(
         return Vec::from_slice(alloc, words);
     }
     let mut words = Vec::with_capacity(alloc, matrix.width())?;
+    if let Some((left, right)) = matrix.row_halves(row) {
+        words.extend_from_slice(left)?;
+        words.extend_from_slice(right)?;
+        return Ok(words);
+    }
     words.extend(matrix.row(row))?;
     Ok(words)
 }

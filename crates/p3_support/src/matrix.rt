@@ -1,5 +1,6 @@
 //! Matrices: a height, a width, and rows.
-ghost use Rattle.std.specs.Prelude.{◌≡◌, ℕ, ◌+◌, ◌*◌, ◌<◌, ◌≤◌, ◌^◌, List, length, map, slice_get, slice_index_or};
+ghost use Rattle.std.specs.Prelude.{◌≡◌, ℕ, ◌+◌, ◌*◌, ◌<◌, ◌≤◌, ◌^◌, ◌++◌, List, length, map, slice_get};
+ghost use Rattle.std.specs.Prelude.{slice_index_or};
 ghost use Rattle.std.specs.Prelude.{◌↔◌, IfErr, IfOk, IfSome, IsOk, Some};
 ghost use Rattle.std.specs.List.{flat_map, range_with_len};
 ghost use Rattle.std.specs.Iterator.{YieldsFirst, YieldsFirstBy, item_count};
@@ -55,6 +56,17 @@ pub trait Matrix<T> {
         ensures { IfSome result (λ words. words.now ≡ row_of self.now row) }
     {
         None
+    }
+
+    /// The elements of a row as two slices, those of the first before those of the second, by ascending columns. A
+    /// matrix that stores its rows in one piece returns this piece and an empty slice; one that stores them in more
+    /// than two returns `None`. The row must be below the height.
+    fn row_halves(&self, row: usize) -> Option<(&[T], &[T])>
+        requires { row < height_of self.now }
+        ensures { IfSome result (λ (left, right). left.now ++ right.now ≡ row_of self.now row) }
+    {
+        let words = self.row_slice(row)?;
+        Some((words, &[]))
     }
 
     /// The elements of `count` rows from `first` on as one slice, row after row. A matrix that does not store them in
@@ -139,6 +151,10 @@ impl<T, M: Matrix<T>> Matrix<T> for &M {
 
     fn row_slice(&self, row: usize) -> Option<&[T]> {
         (**self).row_slice(row)
+    }
+
+    fn row_halves(&self, row: usize) -> Option<(&[T], &[T])> {
+        (**self).row_halves(row)
     }
 
     fn row_chunk(&self, first: usize, count: usize) -> Option<&[T]> {

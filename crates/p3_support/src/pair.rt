@@ -75,6 +75,10 @@ impl<T, A: Matrix<T>, B: Matrix<T>> Matrix<T> for HorizontalPair<T, A, B> {
         }
     }
 
+    fn row_halves(&self, row: usize) -> Option<(&[T], &[T])> {
+        Some((self.left.row_slice(row)?, self.right.row_slice(row)?))
+    }
+
     ghost length_row_of = { λ p r h. length-pair_row A.row_of B.row_of p.left p.right r
         (A.width_of p.left) (B.width_of p.right) (A.length_row_of p.left r h)
         (B.length_row_of p.right r (subst (λ n. r < n) p.one_height h)) };

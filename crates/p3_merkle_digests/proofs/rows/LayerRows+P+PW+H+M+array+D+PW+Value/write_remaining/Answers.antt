@@ -11,7 +11,7 @@ returns g c =
     (replicate g.row.D g.PW.PackedValue.default_value) (rows_over g.M.Matrix.row_of c.args.self.now.matrices.now)
     c.args.self.now.height in
     fill_by_all f c.loop-j.slots (length c.args.slots.now) [] (c.loop-j.invariant.long
-    ∙ c.write_contiguous-done.ensures.long) (λ k h. c.loop-j.invariant.filled k (omega arith))
+    ∙ c.write_alone-done.ensures.long ∙ c.write_contiguous-done.ensures.long) (λ k h. c.loop-j.invariant.filled k (omega arith))
 
 pub loop-j-preserved : goal.loop-j-preserved
 loop-j-preserved g c =
