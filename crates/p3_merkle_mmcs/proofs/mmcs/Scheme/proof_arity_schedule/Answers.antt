@@ -1,5 +1,5 @@
 -- The steps below the cap are the first of all steps.
-use Rattle.std.proofs.Common.{◌≡◌, ◌∙◌, ap, arith, length, sym}
+use Rattle.std.proofs.Common.{◌≡◌, ◌∙◌, ap, arith, inl, length, sym}
 use Rattle.std.proofs.lemmas.Result.{err_from_is_err_and}
 use Rattle.std.proofs.lemmas.List.FromFn.{length-map-range_with_len, take-map-range_with_len}
 use Rattle.p3_merkle_core.specs.Geometry.{levels, schedule_below, shape_of, step}
@@ -37,6 +37,11 @@ pub returns-in_err-schedule_below-clause-few : goal.returns-in_err-schedule_belo
 returns-in_err-schedule_below-clause-few g c =
     let p = err_from_is_err_and c.from_residual-in_err-schedule_below.result c.from_residual-in_err-schedule_below.ensures.1 in
     rw p.1 tt
+
+pub returns-in_err-schedule_below-clause-answer : goal.returns-in_err-schedule_below-clause-answer
+returns-in_err-schedule_below-clause-answer g c =
+    let p = err_from_is_err_and c.from_residual-in_err-schedule_below.result c.from_residual-in_err-schedule_below.ensures.1 in
+    rw p.1 (inl p.2)
 
 pub returns-clause-steps : goal.returns-clause-steps
 returns-clause-steps g c =

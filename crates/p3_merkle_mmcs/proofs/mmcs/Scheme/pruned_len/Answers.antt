@@ -1,5 +1,5 @@
 -- The boundary of the covered leaves is counted, which is least.
-use Rattle.std.proofs.Common.{◌≡◌, ◌∙◌, arith, refl}
+use Rattle.std.proofs.Common.{◌≡◌, ◌∙◌, arith, inl, refl}
 use Rattle.std.proofs.lemmas.Result.{err_from_is_err_and}
 use Rattle.p3_support.specs.Batches.{heights_of}
 use Rattle.p3_merkle_core.specs.Geometry.{shape_of, IsArity}
@@ -25,6 +25,11 @@ pub returns-in_err-leaves-clause-least : goal.returns-in_err-leaves-clause-least
 returns-in_err-leaves-clause-least g c =
     let p = err_from_is_err_and c.from_residual-in_err-leaves.result c.from_residual-in_err-leaves.ensures.1 in
     rw p.1 tt
+
+pub returns-in_err-leaves-clause-answer : goal.returns-in_err-leaves-clause-answer
+returns-in_err-leaves-clause-answer g c =
+    let p = err_from_is_err_and c.from_residual-in_err-leaves.result c.from_residual-in_err-leaves.ensures.1 in
+    rw p.1 (inl p.2)
 
 pub boundary_len-requires-clause-low : goal.boundary_len-requires-clause-low
 boundary_len-requires-clause-low g c =

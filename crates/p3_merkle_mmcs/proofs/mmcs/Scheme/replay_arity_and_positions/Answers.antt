@@ -27,6 +27,16 @@ returns-in_err-schedule_below-clause-positions g c =
     let p = err_from_is_err_and c.from_residual-in_err-schedule_below.result c.from_residual-in_err-schedule_below.ensures.1 in
     rw p.1 tt
 
+pub returns-in_err-positions_below-clause-schedule : goal.returns-in_err-positions_below-clause-schedule
+returns-in_err-positions_below-clause-schedule g c =
+    let p = err_from_is_err_and c.from_residual-in_err-positions_below.result c.from_residual-in_err-positions_below.ensures.1 in
+    rw p.1 tt
+
+pub returns-in_err-positions_below-clause-positions : goal.returns-in_err-positions_below-clause-positions
+returns-in_err-positions_below-clause-positions g c =
+    let p = err_from_is_err_and c.from_residual-in_err-positions_below.result c.from_residual-in_err-positions_below.ensures.1 in
+    rw p.1 tt
+
 pub siblings_below-expected_proof_len-requires-clause-low : goal.siblings_below-expected_proof_len-requires-clause-low
 siblings_below-expected_proof_len-requires-clause-low g c =
     let heights = heights_of c.steps_of-steps.result.dimensions.now in

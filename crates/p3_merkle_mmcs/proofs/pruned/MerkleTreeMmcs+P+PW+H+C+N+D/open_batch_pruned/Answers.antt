@@ -1,6 +1,7 @@
 -- What is opened is the tree's own; of an own tree it is honest, accepted, and restores.
 use Rattle.std.proofs.Common.{◌∙◌, [], ℕ, ap, arith, length, refl}
 use Rattle.std.proofs.lemmas.List.{length-map}
+use Rattle.std.proofs.lemmas.Result.{err_from_is_err_and}
 use Rattle.p3_merkle_core.specs.Nodes.{shape}
 use Rattle.p3_merkle_core.specs.Pruning.{IsHonestQuery, boundary, boundary_by, pruned_of}
 use Rattle.p3_merkle_core.specs.Openings.{node_in}
@@ -10,6 +11,56 @@ use Rattle.p3_merkle_prover.proofs.RowFacts.{full_rows}
 use Rattle.p3_merkle_mmcs.specs.Schemes.{cap_layer_over, params_over}
 use Rattle.p3_merkle_mmcs.proofs.PrunedFacts.{own_query_accepted, own_query_honest, own_query_restores}
 use Rattle.p3_merkle_mmcs.proofs.pruned.MerkleTreeMmcs+P+PW+H+C+N+D.open_batch_pruned.Goals as goal
+
+pub returns-in_err-opened_values-clause-opened : goal.returns-in_err-opened_values-clause-opened
+returns-in_err-opened_values-clause-opened g c =
+    let p = err_from_is_err_and c.from_residual.result c.from_residual.ensures.1 in
+    rw p.1 tt
+
+pub returns-in_err-opened_values-clause-least : goal.returns-in_err-opened_values-clause-least
+returns-in_err-opened_values-clause-least g c =
+    let p = err_from_is_err_and c.from_residual.result c.from_residual.ensures.1 in
+    rw p.1 tt
+
+pub returns-in_err-opened_values-clause-honest : goal.returns-in_err-opened_values-clause-honest
+returns-in_err-opened_values-clause-honest g c =
+    let p = err_from_is_err_and c.from_residual.result c.from_residual.ensures.1 in
+    rw p.1 (λ own. tt)
+
+pub returns-in_err-opened_values-clause-accepted : goal.returns-in_err-opened_values-clause-accepted
+returns-in_err-opened_values-clause-accepted g c =
+    let p = err_from_is_err_and c.from_residual.result c.from_residual.ensures.1 in
+    rw p.1 (λ own. tt)
+
+pub returns-in_err-opened_values-clause-restored : goal.returns-in_err-opened_values-clause-restored
+returns-in_err-opened_values-clause-restored g c =
+    let p = err_from_is_err_and c.from_residual.result c.from_residual.ensures.1 in
+    rw p.1 (λ own. tt)
+
+pub returns-in_err-sibling_hashes-clause-opened : goal.returns-in_err-sibling_hashes-clause-opened
+returns-in_err-sibling_hashes-clause-opened g c =
+    let p = err_from_is_err_and c.from_residual-in_err-sibling_hashes.result c.from_residual-in_err-sibling_hashes.ensures.1 in
+    rw p.1 tt
+
+pub returns-in_err-sibling_hashes-clause-least : goal.returns-in_err-sibling_hashes-clause-least
+returns-in_err-sibling_hashes-clause-least g c =
+    let p = err_from_is_err_and c.from_residual-in_err-sibling_hashes.result c.from_residual-in_err-sibling_hashes.ensures.1 in
+    rw p.1 tt
+
+pub returns-in_err-sibling_hashes-clause-honest : goal.returns-in_err-sibling_hashes-clause-honest
+returns-in_err-sibling_hashes-clause-honest g c =
+    let p = err_from_is_err_and c.from_residual-in_err-sibling_hashes.result c.from_residual-in_err-sibling_hashes.ensures.1 in
+    rw p.1 (λ own. tt)
+
+pub returns-in_err-sibling_hashes-clause-accepted : goal.returns-in_err-sibling_hashes-clause-accepted
+returns-in_err-sibling_hashes-clause-accepted g c =
+    let p = err_from_is_err_and c.from_residual-in_err-sibling_hashes.result c.from_residual-in_err-sibling_hashes.ensures.1 in
+    rw p.1 (λ own. tt)
+
+pub returns-in_err-sibling_hashes-clause-restored : goal.returns-in_err-sibling_hashes-clause-restored
+returns-in_err-sibling_hashes-clause-restored g c =
+    let p = err_from_is_err_and c.from_residual-in_err-sibling_hashes.result c.from_residual-in_err-sibling_hashes.ensures.1 in
+    rw p.1 (λ own. tt)
 
 pub cap_layer-cap_layer-requires : goal.cap_layer-cap_layer-requires
 cap_layer-cap_layer-requires g c = rw (ap (λ s. s.arity) c.steps_in.ensures) c.args.tree.now.arity
