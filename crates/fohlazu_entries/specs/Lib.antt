@@ -1,0 +1,3 @@
+pub mod Entries
+pub mod Laws
+pub mod Examples

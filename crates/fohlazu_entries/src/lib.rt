@@ -1,0 +1,8 @@
+//! The entries of a file, lines or blocks, and their digests, made in one pass over a reader. No tree is known of here.
+#![tactic(auto)]
+
+pub mod entry;
+pub mod fault;
+pub mod laws;
+pub mod reading;
+
