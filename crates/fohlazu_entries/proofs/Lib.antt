@@ -1,0 +1,4 @@
+pub mod EntryFacts
+pub mod VerdictFacts
+pub mod AskedFacts
+pub mod SplitterFacts
