@@ -2,3 +2,4 @@ pub mod EntryFacts
 pub mod VerdictFacts
 pub mod AskedFacts
 pub mod SplitterFacts
+pub mod ReaderFacts

@@ -6,7 +6,7 @@ ghost use Rattle.p3_merkle_core.specs.Inner.Agreement.{distinct};
 ghost use Rattle.fohlazu_text.specs.Fields.{IsKind};
 ghost use Rattle.fohlazu_text.specs.declared.seal.Kind.{Kind};
 ghost use Rattle.fohlazu_entries.specs.Entries.{digests_of, entries_in, entry_at, AreRead, HoldsOfFile};
-ghost use Rattle.fohlazu_entries.specs.Inner.Splitting.{IsBehind, IsRising};
+ghost use Rattle.fohlazu_entries.specs.Inner.Splitting.{IsBehind, IsRising, StandsSomewhere};
 
 use crate::fault::ReadFault;
 use crate::splitter::Splitter;
@@ -145,18 +145,20 @@ fn take_in<Src: Read>(
     splitter: &mut Splitter<'_>,
     file: &mut Src,
 ) -> Result<(), ReadFault>
+    requires { StandsSomewhere splitter.old }
     ensures { (kind : Kind) (limit : ℕ) (numbers : List ℕ) → IsKind kind →
         IsBehind kind limit numbers splitter.old [] →
         OnOk result ((front : List ℕ) × Consumes (Src.remaining file.old) (Src.remaining file.new) front
         × IsBehind kind limit numbers splitter.new front
         × (IsAtEnd (Src.remaining file.new) ⊎ (limit ≤ length splitter.new.digests.items))) }
 {
-    let mut window = vec![in alloc; 0; WINDOW]?;
+    let mut buffer = vec![in alloc; 0; WINDOW]?;
+    let window = buffer.as_mut_slice();
     for _turn in 0..u64::MAX {
         if splitter.is_full() {
             return Ok(());
         }
-        match file.read(&mut window) {
+        match file.read(window) {
             Ok(0) => return Ok(()),
             Ok(count) => splitter.push(alloc, &window[..count])?,
             Err(error) if error.kind() == ErrorKind::Interrupted => {}
