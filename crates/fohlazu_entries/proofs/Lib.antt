@@ -3,3 +3,4 @@ pub mod VerdictFacts
 pub mod AskedFacts
 pub mod SplitterFacts
 pub mod ReaderFacts
+pub mod NumberFacts

@@ -1,6 +1,6 @@
 -- What a reader gives, piece after piece.
 use Rattle.std.proofs.Common.{◌≡◌, ℕ, List, [], ◌∷◌, ◌++◌, Option, None, Some, refl, sym, ap, ◌∙◌, append_assoc}
-use Rattle.std.proofs.Common.{◌<◌, length, take, arith, subst, append-nil, inl, inr, length-take, take_all}
+use Rattle.std.proofs.Common.{◌<◌, ◌≤◌, length, take, arith, subst, append-nil, inl, inr, length-take, take_all}
 use Rattle.std.proofs.lemmas.List.{length-map}
 use Rattle.sha2.specs.Sha256.{sha256}
 use Rattle.std.specs.Prelude.{◌⊎◌}
@@ -49,3 +49,10 @@ pub all_digests : (limit : ℕ) (entries digests : List (List ℕ)) → digests 
 all_digests limit entries digests are fewer =
     let count = ap length are ∙ digests_count (take limit entries) ∙ length-take limit entries in
     are ∙ ap digests_of (take_all limit entries (omega (arith, count, fewer)))
+
+-- as many digests as were asked for are those of as many entries
+pub enough : (limit : ℕ) (entries digests : List (List ℕ)) → digests ≡ digests_of (take limit entries) →
+    limit ≤ length digests → length (take limit entries) ≡ limit
+enough limit entries digests are many =
+    let count = ap length are ∙ digests_count (take limit entries) in
+    omega (arith, count, length-take limit entries, many)

@@ -98,9 +98,12 @@ block_can_be size bytes count number some few from low =
     (omega (arith, enough, few, from, low)) in
     elim (cases_eq number count) [
       | inl last ↦
-          rw (eq-eqb number count last) (rw (le-leb 1 (length (entry_at (blocks_in size bytes) number))
-          (omega (arith, len, inside, some)), le-leb (length (entry_at (blocks_in size bytes) number)) size
-          (omega (arith, len))) refl)
+          rw (eq-eqb number count last) (rw (
+            le-leb 1 (length (entry_at (blocks_in size bytes) number))
+                (omega (arith, len, inside, some)),
+            le-leb (length (entry_at (blocks_in size bytes) number)) size
+                (omega (arith, len)),
+          ) refl)
       | inr early ↦
           let further : number < div_ceil (length bytes) size = omega (arith, enough, few, low, early) in
           let full = block_within size (length bytes) number (omega (arith, some)) further in

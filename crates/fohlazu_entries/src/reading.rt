@@ -1,7 +1,8 @@
 //! Digests of the entries of a file, and single entries of it, in one pass over a reader.
 
-ghost use Rattle.std.specs.Prelude.{◌≡◌, ◌⊎◌, ◌≤◌, ◌^◌, ℕ, List, [], All, IfOk, OnOk, length, map, take};
+ghost use Rattle.std.specs.Prelude.{◌≡◌, ◌⊎◌, ◌<◌, ◌≤◌, ◌^◌, ℕ, true, List, [], All, IfOk, OnOk, length, map, slice_index, take};
 ghost use Rattle.std.specs.Io.KnownBytes.{Consumes, IsAtEnd};
+ghost use Rattle.p3_support.specs.Lists.{is_among};
 ghost use Rattle.p3_merkle_core.specs.Inner.Agreement.{distinct};
 ghost use Rattle.fohlazu_text.specs.Fields.{IsKind};
 ghost use Rattle.fohlazu_text.specs.declared.seal.Kind.{Kind};
@@ -82,7 +83,18 @@ pub fn entries_of_file<Src: Read>(
     Ok(Entries { digests, asked })
 }
 
-/// The entries with these numbers, of those that were kept, whose numbers are the same, ascending and without repeats.
+/// The place of a number among these, ascending and without repeats, which has it.
+fn slot_of(once: &[usize], number: usize) -> usize
+    ensures { (numbers : List ℕ) → once.now ≡ distinct numbers → is_among numbers number ≡ true →
+        (result < length once.now) × (slice_index once.now result ≡ number) }
+{
+    match once.binary_search(&number) {
+        Ok(slot) => slot,
+        Err(slot) => slot,
+    }
+}
+
+/// The entries with these numbers, of those that were kept, each once and ascending.
 ///
 /// # Errors
 ///
@@ -101,10 +113,7 @@ fn in_order(
 {
     let mut asked = Vec::new(alloc);
     for number in numbers {
-        let slot = match once.binary_search(number) {
-            Ok(slot) => slot,
-            Err(slot) => slot,
-        };
+        let slot = slot_of(once, *number);
         asked.push(Vec::from_slice(alloc, &kept[slot])?)?;
     }
     Ok(asked)

@@ -30,12 +30,7 @@ pub(crate) struct Splitter<'a> {
 impl<'a> Splitter<'a> {
     /// Nothing of the file has come. At most `limit` entries of it are taken in, and `numbers`, which ascend, are asked
     /// for.
-    pub(crate) fn new(
-        alloc: Global,
-        kind: Kind,
-        limit: usize,
-        numbers: &'a [usize],
-    ) -> Splitter<'a>
+    pub(crate) fn new(alloc: Global, kind: Kind, limit: usize, numbers: &'a [usize]) -> Splitter<'a>
         requires kind { IsKind kind }
         requires rising { IsRising 1 numbers.now }
         ensures { IsBehind kind limit numbers.now result [] }

@@ -30,8 +30,7 @@ returns-in-Ok-eq0 g c =
     let none = subst (λ n. Consumes before behind (take n c.read.new.buf)) c.in-Ok-eq0.field-0-test read.0 in
     let at_end = read.1 c.in-Ok-eq0.field-0-test (omega (arith, c.loop-turn.invariant.wide, c.read.auto.buf)) in
     λ kind limit numbers is b.
-    let so_far = c.loop-turn.invariant.behind kind limit numbers is b in
-    (
+    let so_far = c.loop-turn.invariant.behind kind limit numbers is b in (
       so_far.0,
       subst (Consumes (g.Src.Read.remaining c.args.file.now) behind) (append-nil so_far.0)
           (consumes_more (g.Src.Read.remaining c.args.file.now) before behind so_far.0 [] so_far.1 none),
@@ -51,8 +50,7 @@ loop-turn-preserved g c =
             stands = subst StandsSomewhere (sym w.splitter-is) w.in_ok-push-in-Ok.ensures.stands;
             behind = λ kind limit numbers is b.
                 let so_far = c.loop-turn.invariant.behind kind limit numbers is b in
-                let more = take w.in-Ok.count c.read.new.buf in
-                (
+                let more = take w.in-Ok.count c.read.new.buf in (
                   so_far.0 ++ more,
                   consumes_more begun before behind so_far.0 more so_far.1 w.in-Ok.ensures.bytes.0,
                   subst (λ s. IsBehind kind limit numbers s (so_far.0 ++ more)) (sym w.splitter-is)
@@ -64,8 +62,7 @@ loop-turn-preserved g c =
             wide = omega (arith, c.read.auto.buf, c.loop-turn.invariant.wide);
             stands = subst StandsSomewhere (sym w.splitter-is) c.loop-turn.invariant.stands;
             behind = λ kind limit numbers is b.
-                let so_far = c.loop-turn.invariant.behind kind limit numbers is b in
-                (
+                let so_far = c.loop-turn.invariant.behind kind limit numbers is b in (
                   so_far.0,
                   consumes_kept begun before behind so_far.0 so_far.1 w.in-Err.ensures.bytes,
                   subst (λ s. IsBehind kind limit numbers s so_far.0) (sym w.splitter-is) so_far.2,

@@ -11,9 +11,9 @@ returns c =
     let count = ended_count kind limit numbers old ended bytes taken in
     let holds = subst (λ o. HoldsOpen o bytes) (sym c.replace-entry.ensures.value) taken.open_holds in
     let digest = c.digest.ensures bytes holds in
+    let one_more = c.in_ok-push.ensures.items ∙ ap (λ d. old.digests.items ++ d ∷ []) digest in
+    let none = subst (λ o. HoldsOpen o []) (sym c.replace-entry.ensures.after) c.new.ensures in
+    let next = ap (λ n. n + 1) (c.len-number.ensures ∙ old.digests.ok.0 ∙ count) in
     on_ok_weaker c.end.result
-    (ends_taken kind limit numbers old _ ended bytes taken c.requires.room (λ _. old.kind) (λ _. old.limit)
-    (c.in_ok-push.ensures.items ∙ ap (λ d. old.digests.items ++ d ∷ []) digest)
-    (subst (λ o. HoldsOpen o []) (sym c.replace-entry.ensures.after) c.new.ensures))
-    (c.end.ensures numbers ended bytes
-    (ap (λ n. n + 1) (c.len-number.ensures ∙ old.digests.ok.0 ∙ count)) taken.asked)
+    (ends_taken kind limit numbers old _ ended bytes taken c.requires.room (λ _. old.kind) (λ _. old.limit) one_more none)
+    (c.end.ensures numbers ended bytes next taken.asked)

@@ -14,8 +14,7 @@ pub loop-self-preserved : goal.loop-self-preserved
 loop-self-preserved c =
     λ kind limit numbers front is b.
     let now = c.loop-self.invariant kind limit numbers front is b in
-    let next = c.in_ok-left.ensures.behind kind limit numbers (front ++ now.0) is now.2 in
-    (
+    let next = c.in_ok-left.ensures.behind kind limit numbers (front ++ now.0) is now.2 in (
       now.0 ++ next.0,
       now.1 ∙ ap (λ xs. now.0 ++ xs) next.1 ∙ sym (append_assoc now.0 next.0 c.in_ok-left.left.now),
       subst (IsBehind kind limit numbers c.step.new.self) (append_assoc front now.0 next.0) next.2,
@@ -34,8 +33,7 @@ returns-else-not-is_full-clause-behind c =
 
 pub returns-else-not-is_full-clause-stands : goal.returns-else-not-is_full-clause-stands
 returns-else-not-is_full-clause-stands c =
-    let (kind, limit, numbers, front, is, b) = c.requires in
-    (
+    let (kind, limit, numbers, front, is, b) = c.requires in (
       kind,
       limit,
       numbers,
@@ -54,8 +52,7 @@ returns-after-loop-self-clause-behind c =
 
 pub returns-after-loop-self-clause-stands : goal.returns-after-loop-self-clause-stands
 returns-after-loop-self-clause-stands c =
-    let (kind, limit, numbers, front, is, b) = c.requires in
-    (
+    let (kind, limit, numbers, front, is, b) = c.requires in (
       kind,
       limit,
       numbers,

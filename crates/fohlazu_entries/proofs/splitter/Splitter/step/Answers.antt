@@ -16,8 +16,7 @@ returns-in_ok-end-in-Some-clause-behind c =
     let parts = subst (λ k. c.args.left.now ≡ more ++ (ending k ++ rest)) same cut.0 in
     let whole = subst (λ k. IsWhole k (b.open_bytes ++ more)) same cut.1 in
     let with_more = c.in_ok-take_in-in-Some.ensures.taken kind limit numbers b.ended b.open_bytes b.taken in
-    let with_end = c.in_ok-end-in-Some.ensures kind limit numbers b.ended (b.open_bytes ++ more) with_more in
-    (
+    let with_end = c.in_ok-end-in-Some.ensures kind limit numbers b.ended (b.open_bytes ++ more) with_more in (
       more ++ ending kind,
       parts ∙ sym (append_assoc more (ending kind) rest),
       behind_end kind limit numbers front more c.args.self.now _ is b
@@ -49,8 +48,7 @@ returns-in_ok-take_in-in-None-clause-behind c =
     let same = b.taken.kind_is in
     let opens = c.in-None.ensures b.open_bytes b.taken.open_holds
     (subst (λ k. IsOpen k b.open_bytes) (sym same) b.opens) in
-    let with_more = c.in_ok-take_in-in-None.ensures.taken kind limit numbers b.ended b.open_bytes b.taken in
-    (
+    let with_more = c.in_ok-take_in-in-None.ensures.taken kind limit numbers b.ended b.open_bytes b.taken in (
       left,
       sym (ap (λ xs. left ++ xs) (nothing_left left) ∙ append-nil left),
       behind_more kind limit numbers front left c.args.self.now _ b
