@@ -1,5 +1,5 @@
 -- Where a splitter stands when more of a file has come, when an entry ends, and when the file does.
-use Rattle.std.proofs.Common.{◌≡◌, ℕ, ◌+◌, ◌-◌, ◌<◌, ◌≤◌, ◌==◌, min, Bool, true, false, cond, List, [], ◌∷◌, ◌++◌}
+use Rattle.std.proofs.Common.{◌≡◌, ℕ, ◌+◌, ◌<◌, ◌≤◌, ◌==◌, Bool, true, false, cond, List, [], ◌∷◌, ◌++◌}
 use Rattle.std.proofs.Common.{length, map, take, refl, sym, ap, ◌∙◌, arith, All, append_assoc, append-nil, length-append}
 use Rattle.std.proofs.Common.{take_all, inl, inr, subst, leb-true, leb-false, eqb-true, nat_le}
 use Rattle.std.specs.Prelude.{◌⊎◌}

@@ -1,9 +1,9 @@
 -- What can be an entry.
-use Rattle.std.proofs.Common.{◌≡◌, ℕ, zero, suc, ◌+◌, ◌-◌, ◌*◌, ◌<◌, ◌≤◌, ◌==◌, ◌&&◌, min, Bool, true, false, not, leb, eqb}
-use Rattle.std.proofs.Common.{List, [], ◌∷◌, ◌++◌, length, map, take, drop, refl, sym, ap, ◌∙◌, arith, All, get_or, cond}
+use Rattle.std.proofs.Common.{◌≡◌, ℕ, ◌+◌, ◌-◌, ◌*◌, ◌<◌, ◌≤◌, ◌==◌, min, Bool, true, false, not}
+use Rattle.std.proofs.Common.{List, [], ◌∷◌, length, drop, refl, ap, ◌∙◌, arith, All, cond}
 use Rattle.std.proofs.Common.{length-drop, length-take, inl, inr, eq-eqb, ne_eqb, le-leb}
 use Rattle.std.specs.Int.{div_ceil}
-use Rattle.std.specs.List.{range_with_len, slice_split, onto_first}
+use Rattle.std.specs.List.{slice_split, onto_first}
 use Rattle.std.proofs.lemmas.Bool.{cases_Bool, cases_eq}
 use Rattle.std.proofs.lemmas.Grind.{div_ceil_times}
 use Rattle.std.proofs.lemmas.List.Elements.{All-cons, All-head, All-nil, All-tail}
@@ -12,10 +12,8 @@ use Rattle.std.proofs.lemmas.List.Splits.{slice_split-cons_no, slice_split-cons_
 use Rattle.std.proofs.lemmas.List.Sums.{list_all-from_AllPass}
 use Rattle.std.proofs.Math.Nat.{mul-le-mul_right, add-mul}
 use Rattle.p3_support.specs.Lists.{message}
-use Rattle.fohlazu_text.specs.Fields.{IsKind}
-use Rattle.fohlazu_text.specs.declared.seal.Kind.{Kind}
 use Rattle.fohlazu_text.specs.declared.seal.Kind.TheVariants.{Lines, Blocks}
-use Rattle.fohlazu_entries.specs.Entries.{blocks_in, can_be_entry, entries_in, entry_at, lines_in, without_empty_last}
+use Rattle.fohlazu_entries.specs.Entries.{blocks_in, can_be_entry, entry_at, lines_in, without_empty_last}
 use Rattle.fohlazu_entries.specs.Inner.Splitting.{LacksFeed}
 use Rattle.fohlazu_entries.specs.Laws.{EntriesCanBe}
 use Rattle.fohlazu_entries.proofs.EntryFacts.{block_is}

@@ -1,5 +1,5 @@
 -- Files and their entries, which the checker computes.
-use Rattle.std.specs.Prelude.{◌≡◌, true, false, [], ◌∷◌, codes, refl}
+use Rattle.std.specs.Prelude.{◌≡◌, true, false, [], ◌∷◌, refl}
 use Rattle.fohlazu_text.specs.declared.seal.Kind.TheVariants.{Lines, Blocks}
 use Rattle.fohlazu_entries.specs.Entries.{can_be_entry, entries_in}
 

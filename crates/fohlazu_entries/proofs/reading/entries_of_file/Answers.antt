@@ -1,6 +1,5 @@
 use Rattle.std.proofs.Common.{◌≡◌, ◌≤◌, All, length, map, take, ap, sym, subst, ◌∙◌, arith}
 use Rattle.std.proofs.lemmas.List.{length-map}
-use Rattle.p3_merkle_core.specs.Inner.Agreement.{distinct}
 use Rattle.fohlazu_entries.specs.Entries.{entries_in, entry_at, AreRead}
 use Rattle.fohlazu_entries.specs.Inner.Splitting.{IsRising}
 use Rattle.fohlazu_entries.proofs.NumberFacts.{holds_once, of_any_file, once_rising}

@@ -1,5 +1,5 @@
 -- One more number, and the entry that is kept in its slot.
-use Rattle.std.proofs.Common.{◌≡◌, ◌++◌, [], ◌∷◌, length, map, take, get_or, ap, sym, ◌∙◌, arith}
+use Rattle.std.proofs.Common.{◌++◌, [], ◌∷◌, map, take, get_or, ap, sym, ◌∙◌, arith}
 use Rattle.std.proofs.lemmas.List.{get_or-map, map-append, take_more}
 use Rattle.p3_merkle_core.proofs.Pruned.SlotFacts.{queried_at}
 use Rattle.fohlazu_entries.specs.Entries.{entry_at}

@@ -1,4 +1,4 @@
-use Rattle.std.proofs.Common.{◌≡◌, ℕ, List, length, map, take}
+use Rattle.std.proofs.Common.{◌≡◌, ℕ, List, map, take}
 use Rattle.fohlazu_entries.specs.Entries.{entry_at}
 use Rattle.fohlazu_entries.proofs.reading.in_order.Given as goal
 

@@ -1,4 +1,3 @@
-use Rattle.std.proofs.Common.{◌<◌, length, sym, subst}
 use Rattle.p3_merkle_core.proofs.Pruned.SlotFacts.{search_hits, search_misses}
 use Rattle.fohlazu_entries.proofs.reading.slot_of.Goals as goal
 

@@ -1,5 +1,5 @@
 -- What was read so far is what a splitter stands behind.
-use Rattle.std.proofs.Common.{◌≡◌, ◌<◌, ◌++◌, [], List, ℕ, length, take, arith, ap, sym, subst, ◌∙◌, append-nil, inl, inr}
+use Rattle.std.proofs.Common.{◌++◌, [], length, take, arith, sym, subst, ◌∙◌, append-nil, inl, inr}
 use Rattle.std.proofs.Common.{leb-true}
 use Rattle.std.specs.Io.KnownBytes.{Consumes, ReadConsumes}
 use Rattle.fohlazu_entries.specs.Inner.Splitting.{IsBehind, StandsSomewhere}

@@ -1,5 +1,5 @@
 -- The last entry ends with the file, unless enough have ended before it or nothing of it has come.
-use Rattle.std.proofs.Common.{◌++◌, length, map, take, sym, subst, ◌∙◌}
+use Rattle.std.proofs.Common.{◌++◌, map, take, sym, subst, ◌∙◌}
 use Rattle.fohlazu_entries.specs.Entries.{entries_in, AreRead}
 use Rattle.fohlazu_entries.proofs.SplitterFacts.{all_read, HasAll, has_all_when_closed, has_all_when_full}
 use Rattle.fohlazu_entries.proofs.SplitterFacts.{has_all_when_open}
