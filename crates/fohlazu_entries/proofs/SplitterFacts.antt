@@ -1,6 +1,7 @@
 -- Where a splitter stands when more of a file has come, when an entry ends, and when the file does.
 use Rattle.std.proofs.Common.{◌≡◌, ℕ, ◌+◌, ◌<◌, ◌≤◌, ◌==◌, Bool, true, false, cond, List, [], ◌∷◌, ◌++◌}
-use Rattle.std.proofs.Common.{length, map, take, refl, sym, ap, ◌∙◌, arith, All, append_assoc, append-nil, length-append}
+use Rattle.std.proofs.Common.{length, map, take, refl, sym, ap, ◌∙◌, arith, All, append_assoc, append-nil}
+use Rattle.std.proofs.Common.{length-append}
 use Rattle.std.proofs.Common.{take_all, inl, inr, subst, leb-true, leb-false, eqb-true, nat_le}
 use Rattle.std.specs.Prelude.{◌⊎◌}
 use Rattle.std.proofs.lemmas.List.{length-map, map-append, take-append-le}
@@ -10,7 +11,8 @@ use Rattle.fohlazu_text.specs.Fields.{IsKind}
 use Rattle.fohlazu_text.specs.declared.seal.Kind.{Kind}
 use Rattle.fohlazu_text.specs.declared.seal.Kind.TheVariants.{Lines, Blocks}
 use Rattle.fohlazu_entries.specs.Entries.{digests_of, entries_in, entry_at, AreRead}
-use Rattle.fohlazu_entries.specs.Inner.Splitting.{ending, HasTaken, HoldsOpen, IsBehind, IsOpen, IsRising, IsWhole, KeepsAsked}
+use Rattle.fohlazu_entries.specs.Inner.Splitting.{ending, HasTaken, HoldsOpen, IsBehind, IsOpen, IsRising, IsWhole}
+use Rattle.fohlazu_entries.specs.Inner.Splitting.{KeepsAsked}
 use Rattle.fohlazu_entries.specs.declared.asked.Asked.{Asked}
 use Rattle.fohlazu_entries.specs.declared.splitter.Splitter.{Splitter}
 use Rattle.fohlazu_entries.proofs.EntryFacts.{first_entry, only, only_entry}

@@ -42,8 +42,8 @@ can_be_entry Lines count number bytes = list_all (λ b. not (b == 10)) bytes
 can_be_entry (Blocks size) count number bytes =
     if number == count then nat_le 1 (length bytes) && nat_le (length bytes) size else length bytes == size
 
--- what is read of a file whose first entries are these, as many as `count` or as there are: their digests, and where they
--- are so many, the entries with these numbers
+-- what is read of a file whose first entries are these, as many as `count` or as there are: their digests, and where
+-- they are so many, the entries with these numbers
 pub record AreRead (first : List (List ℕ)) (count : ℕ) (numbers : List ℕ) (digests asked : List (List ℕ)) : Type 0 where
   pub digests_are : digests ≡ digests_of first
   pub asked_are : length first ≡ count → asked ≡ map (entry_at first) numbers

@@ -1,6 +1,7 @@
 //! Digests of the entries of a file, and single entries of it, in one pass over a reader.
 
-ghost use Rattle.std.specs.Prelude.{◌≡◌, ◌⊎◌, ◌<◌, ◌≤◌, ◌^◌, ℕ, true, List, [], All, IfOk, OnOk, length, map, slice_index, take};
+ghost use Rattle.std.specs.Prelude.{◌≡◌, ◌⊎◌, ◌<◌, ◌≤◌, ◌^◌, ℕ, true, List, [], All, IfOk, OnOk, length, map};
+ghost use Rattle.std.specs.Prelude.{slice_index, take};
 ghost use Rattle.std.specs.Io.KnownBytes.{Consumes, IsAtEnd};
 ghost use Rattle.p3_support.specs.Lists.{is_among};
 ghost use Rattle.p3_merkle_core.specs.Inner.Agreement.{distinct};

@@ -1,6 +1,7 @@
 //! The entries of a file whose bytes come piece by piece.
 
-ghost use Rattle.std.specs.Prelude.{◌≡◌, ◌⊎◌, ◌≤◌, ◌<◌, ◌∷◌, ◌++◌, ℕ, List, [], All, IfOk, OnOk, length, map, nat_le, take};
+ghost use Rattle.std.specs.Prelude.{◌≡◌, ◌⊎◌, ◌≤◌, ◌<◌, ◌∷◌, ◌++◌, ℕ, List, [], All, IfOk, OnOk, length, map, nat_le};
+ghost use Rattle.std.specs.Prelude.{take};
 ghost use Rattle.fohlazu_text.specs.Fields.{IsKind};
 ghost use Rattle.fohlazu_text.specs.declared.seal.Kind.{Kind};
 ghost use Rattle.fohlazu_entries.specs.Entries.{entries_in, AreRead};

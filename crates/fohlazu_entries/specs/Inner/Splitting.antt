@@ -1,5 +1,6 @@
 -- A file whose bytes come piece by piece: entries that have ended, and one that is open.
-use Rattle.std.specs.Prelude.{◌≡◌, ℕ, ◌+◌, ◌-◌, ◌^◌, ◌<◌, ◌≤◌, ◌==◌, min, Bool, false, if◌then◌else◌, List, [], ◌∷◌, ◌++◌}
+use Rattle.std.specs.Prelude.{◌≡◌, ℕ, ◌+◌, ◌-◌, ◌^◌, ◌<◌, ◌≤◌, ◌==◌, min, Bool, false, if◌then◌else◌, List, [], ◌∷◌}
+use Rattle.std.specs.Prelude.{◌++◌}
 use Rattle.std.specs.Prelude.{length, map, All}
 use Rattle.sha2.specs.Hashers.{Holds256}
 use Rattle.fohlazu_text.specs.Fields.{IsKind}
@@ -63,8 +64,8 @@ pub record HasTaken (kind : Kind) (limit : ℕ) (numbers : List ℕ) (s : Splitt
   pub open_holds : HoldsOpen s.open_entry open_bytes
   pub asked : KeepsAsked s.asked numbers ended open_bytes
 
--- where a splitter stands behind these bytes of a file: the entries that have ended are its first, and what follows them
--- is in the open one and in what was left out, if there are enough
+-- where a splitter stands behind these bytes of a file: the entries that have ended are its first, and what follows
+-- them is in the open one and in what was left out, if there are enough
 pub record IsBehind (kind : Kind) (limit : ℕ) (numbers : List ℕ) (s : Splitter) (front : List ℕ) : Type 0 where
   pub ended : List (List ℕ)
   pub open_bytes : List ℕ

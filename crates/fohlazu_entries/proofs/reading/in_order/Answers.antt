@@ -21,6 +21,7 @@ loop-number-preserved c =
     ap (map (λ e. e.items)) c.in_ok-push.ensures.items
     ∙ map-append (λ e. e.items) c.loop-number.asked.items (c.in_ok-from_slice.field-0 ∷ [])
     ∙ ap (λ xs. xs ++ c.in_ok-from_slice.field-0.items ∷ []) (c.loop-number.invariant entries are)
-    ∙ ap (λ x. map (entry_at entries) (take at numbers) ++ x ∷ []) (copy ∙ ap (λ v. v.items) c.index-kept-slot.is ∙ entry)
+    ∙ ap (λ x. map (entry_at entries) (take at numbers) ++ x ∷ [])
+    (copy ∙ ap (λ v. v.items) c.index-kept-slot.is ∙ entry)
     ∙ sym (map-append (entry_at entries) (take at numbers) (get_or numbers at 0 ∷ []))
     ∙ ap (map (entry_at entries)) (sym (take_more numbers at 0 c.loop-number-test.true))

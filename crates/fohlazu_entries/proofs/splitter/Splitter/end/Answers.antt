@@ -15,5 +15,6 @@ returns c =
     let none = subst (λ o. HoldsOpen o []) (sym c.replace-entry.ensures.after) c.new.ensures in
     let next = ap (λ n. n + 1) (c.len-number.ensures ∙ old.digests.ok.0 ∙ count) in
     on_ok_weaker c.end.result
-    (ends_taken kind limit numbers old _ ended bytes taken c.requires.room (λ _. old.kind) (λ _. old.limit) one_more none)
+    (ends_taken kind limit numbers old _ ended bytes taken c.requires.room (λ _. old.kind) (λ _. old.limit) one_more
+    none)
     (c.end.ensures numbers ended bytes next taken.asked)

@@ -4,7 +4,10 @@ use Rattle.fohlazu_entries.specs.Entries.{entries_in, AreRead}
 use Rattle.fohlazu_entries.proofs.SplitterFacts.{all_read, HasAll, has_all_when_closed, has_all_when_full}
 use Rattle.fohlazu_entries.proofs.SplitterFacts.{has_all_when_open}
 use Rattle.fohlazu_entries.proofs.splitter.Splitter.finish.Goals as goal
-use Rattle.fohlazu_entries.proofs.splitter.Splitter.finish.Goals.{then-not-is_full+then-not-is_empty+in_ok-end, else-not-is_full, else-not-is_full-via-then-not-is_full+else-not-is_empty, else-not-is_full-via-else-not-is_full}
+use Rattle.fohlazu_entries.proofs.splitter.Splitter.finish.Goals.{then-not-is_full+then-not-is_empty+in_ok-end}
+use Rattle.fohlazu_entries.proofs.splitter.Splitter.finish.Goals.{else-not-is_full}
+use Rattle.fohlazu_entries.proofs.splitter.Splitter.finish.Goals.{else-not-is_full-via-then-not-is_full+else-not-is_empty}
+use Rattle.fohlazu_entries.proofs.splitter.Splitter.finish.Goals.{else-not-is_full-via-else-not-is_full}
 
 pub returns : goal.returns
 returns c =
