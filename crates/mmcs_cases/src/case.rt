@@ -1,5 +1,6 @@
 //! One case.
 
+use crate::entries::entries_told;
 use crate::failing::{FailingInput, FailingOutput};
 use anyhow::Error;
 use fohlazu_text::proof::Proof;
@@ -134,6 +135,9 @@ fn answer_to(alloc: Global, words: &str, input: &[u8]) -> Result<String, Error> 
     }
     if let Some(kind) = words.strip_prefix("fohlazu ") {
         return read_again(alloc, kind.trim(), input);
+    }
+    if let Some(words) = words.strip_prefix("entries ") {
+        return entries_told(alloc, &words_of(alloc, words)?, input);
     }
     let mut output = Vec::new(alloc);
     let outcome = run(alloc, &words_of(alloc, words)?, &mut &*input, &mut output);

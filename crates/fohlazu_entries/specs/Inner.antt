@@ -1,0 +1,2 @@
+-- Definitions that only proofs and internal calls use.
+pub mod Splitting
