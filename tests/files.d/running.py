@@ -1,0 +1,81 @@
+"""Runs of `fohlazu` in a folder of its own."""
+
+import os
+import subprocess
+from pathlib import Path
+from typing import NamedTuple
+
+SECONDS = 600
+
+
+class Ran(NamedTuple):
+    """The exit status of a run, what it printed and said, the seconds of the processor and the bytes it held."""
+
+    status: int
+    printed: bytes
+    said: bytes
+    seconds: float = 0.0
+    held: int = 0
+
+
+class Program:
+    """A program, and the folder that it runs in."""
+
+    def __init__(self, path, folder):
+        self.path = path
+        self.folder = Path(folder)
+        self.written = {}
+
+    def write(self, name, data):
+        """Has a file say this, or be none."""
+        if self.written.get(name, b"") == data and name in self.written:
+            return
+        if data is None:
+            (self.folder / name).unlink(missing_ok=True)
+        else:
+            (self.folder / name).write_bytes(data)
+        self.written[name] = data
+
+    def run(self, words, contents=None, **settings):
+        """A run on these files; the one that is called `-` is its standard input."""
+        for name, data in (contents or {}).items():
+            if name != "-":
+                self.write(name, data)
+        data = (contents or {}).get("-", b"")
+        if not {"stdin", "input"} & settings.keys():
+            settings["input"] = data
+        settings = {"stdout": subprocess.PIPE, "stderr": subprocess.PIPE, "timeout": SECONDS, **settings}
+        ran = subprocess.run([self.path, *words], cwd=self.folder, **settings)
+        return Ran(ran.returncode, ran.stdout or b"", ran.stderr or b"")
+
+    def measured(self, words, **settings):
+        """The same, with its time and memory; what it prints and says goes through files."""
+        out, err = (self.folder / name for name in (".out", ".err"))
+        with out.open("wb") as printed, err.open("wb") as said:
+            child = subprocess.Popen([self.path, *words], cwd=self.folder, stdin=subprocess.DEVNULL,
+                                     **{"stdout": printed, "stderr": said, **settings})
+            _, ended, usage = os.wait4(child.pid, 0)
+            child.returncode = os.waitstatus_to_exitcode(ended)
+        seconds = usage.ru_utime + usage.ru_stime
+        return Ran(child.returncode, out.read_bytes(), err.read_bytes(), seconds, usage.ru_maxrss * 1024)
+
+    @staticmethod
+    def said_wrongly(said, answer):
+        """What is wrong about standard error, in lines."""
+        refused = answer.refused
+        if refused is None:
+            if said:
+                yield f"says {said!r}, expected nothing"
+        elif refused.name is None:
+            if not said:
+                yield "says nothing of wrong words"
+        elif refused.is_settled:
+            if said != refused.line.encode() + b"\n":
+                yield f"says {said!r}, expected {refused.line!r}"
+        elif not is_line(said) or not said.startswith(f"fohlazu: {refused.name}: ".encode()):
+            yield f"says {said!r}, expected one line as {refused.line!r}"
+
+
+def is_line(said):
+    """Whether this is one line with its end."""
+    return said.count(b"\n") == 1 and said.endswith(b"\n") and len(said) > 1
