@@ -1,11 +1,12 @@
 """Runs of `fohlazu` in a folder of its own."""
 
-import os
 import subprocess
+import sys
 from pathlib import Path
 from typing import NamedTuple
 
 SECONDS = 600
+MEASURE = Path(__file__).resolve().parent / "measure.py"
 
 
 class Ran(NamedTuple):
@@ -48,16 +49,15 @@ class Program:
         ran = subprocess.run([self.path, *words], cwd=self.folder, **settings)
         return Ran(ran.returncode, ran.stdout or b"", ran.stderr or b"")
 
-    def measured(self, words, **settings):
+    def measured(self, words):
         """The same, with its time and memory; what it prints and says goes through files."""
-        out, err = (self.folder / name for name in (".out", ".err"))
+        out, err, report = (self.folder / name for name in (".out", ".err", ".report"))
+        helper = [sys.executable, "-I", "-S", MEASURE, report, self.path, *words]
         with out.open("wb") as printed, err.open("wb") as said:
-            child = subprocess.Popen([self.path, *words], cwd=self.folder, stdin=subprocess.DEVNULL,
-                                     **{"stdout": printed, "stderr": said, **settings})
-            _, ended, usage = os.wait4(child.pid, 0)
-            child.returncode = os.waitstatus_to_exitcode(ended)
-        seconds = usage.ru_utime + usage.ru_stime
-        return Ran(child.returncode, out.read_bytes(), err.read_bytes(), seconds, usage.ru_maxrss * 1024)
+            settings = {"stdin": subprocess.DEVNULL, "stdout": printed, "stderr": said, "timeout": SECONDS}
+            subprocess.run(helper, cwd=self.folder, check=True, **settings)
+        seconds, held, status = report.read_text().split()
+        return Ran(int(status), out.read_bytes(), err.read_bytes(), float(seconds), int(held))
 
     @staticmethod
     def said_wrongly(said, answer):
