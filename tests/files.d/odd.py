@@ -18,6 +18,8 @@ COMMANDS = {
     "verify": ["verify", "seal", "proof", "2", "4"],
     "conflict": ["conflict", "seal", "proof", "other"],
 }
+UNREAD = "it cannot be read"
+UNWRITTEN = "the output cannot be written"
 CONTENTS = {"file": DATA, "seal": SEAL.text(), "proof": PROOF, "other": PROOF}
 # bytes of a file that changes while it is read
 CHANGING = 300_000
@@ -25,14 +27,14 @@ CHANGING = 300_000
 LONG = 100_000_000
 
 
-def refused(ran, status, name=None):
-    """What is wrong, where a run has to end with a status, with one line about a file, and with nothing printed."""
+def refused(ran, status, why):
+    """What is wrong, where a run has to end with a status, to say why, and to print nothing."""
     if ran.status != status:
         yield f"status {ran.status}, expected {status}"
     if ran.printed:
         yield f"prints {ran.printed[:200]!r}"
-    if not is_line(ran.said) or not ran.said.startswith(f"fohlazu: {name}: ".encode() if name else b"fohlazu: "):
-        yield f"says {ran.said[:400]!r}, expected one line about {(name or 'what is wrong')[:20]}"
+    if ran.said != f"fohlazu: {why}\n".encode():
+        yield f"says {ran.said[:400]!r}, expected {why[-40:]}"
 
 
 def answered(ran, printed):
@@ -51,31 +53,31 @@ def unread(program):
         for place, word in enumerate(words[1:], 1):
             for name in names if word in CONTENTS else []:
                 changed = words[:place] + [name] + words[place + 1 :]
-                yield f"{command}, {word} is {name[:20]}", refused(program.run(changed, CONTENTS), 2, name)
+                yield f"{command}, {word} is {name[:20]}", refused(program.run(changed, CONTENTS), 2, f"{name}: {UNREAD}")
 
 
 def unread_input(program):
     """Standard input is a folder, or closed."""
     words = ["seal", "-"]
     folder = os.open(program.folder, os.O_RDONLY)
-    yield "standard input is a folder", refused(program.run(words, stdin=folder), 2, "-")
+    yield "standard input is a folder", refused(program.run(words, stdin=folder), 2, f"-: {UNREAD}")
     os.close(folder)
     closed = program.run(words, stdin=subprocess.DEVNULL, preexec_fn=lambda: os.close(0))
-    yield "standard input is closed", refused(closed, 2, "-")
+    yield "standard input is closed", refused(closed, 2, f"-: {UNREAD}")
 
 
 def unwritten(program):
     """Standard output is full, is closed, or is a pipe that nobody reads."""
     for command, words in COMMANDS.items():
         with open("/dev/full", "wb") as full:
-            yield f"{command}, a full disk", refused(program.run(words, CONTENTS, stdout=full), 2)
-        yield f"{command}, a closed output", refused(program.run(words, preexec_fn=lambda: os.close(1)), 2)
+            yield f"{command}, a full disk", refused(program.run(words, CONTENTS, stdout=full), 2, UNWRITTEN)
+        yield f"{command}, a closed output", refused(program.run(words, preexec_fn=lambda: os.close(1)), 2, UNWRITTEN)
         reader, writer = os.pipe()
         os.close(reader)
         ran = program.run(words, stdout=writer, preexec_fn=lambda: signal.signal(signal.SIGPIPE, signal.SIG_IGN),
                           restore_signals=False)
         os.close(writer)
-        yield f"{command}, a pipe that nobody reads", refused(ran, 2)
+        yield f"{command}, a pipe that nobody reads", refused(ran, 2, UNWRITTEN)
         ran = program.run(words, {**CONTENTS, "seal": b"x", "file": b""}, stderr=subprocess.PIPE,
                           preexec_fn=lambda: os.close(2))
         status = 1 if command == "seal" else 2
@@ -145,7 +147,8 @@ def changing(program):
     words = ["prove", "seal", "file", *map(str, numbers)]
     program.write("seal", seal.text())
     for name, other in [("cut", data[:-300]), ("emptied", b""), ("changed", data[:1000] + b"x" + data[1001:])]:
-        yield f"a file that was {name}", refused(program.run(words, {"file": other}), 1, "file")
+        why = sealing.answer(words, {"seal": seal.text(), "file": other}.get).refused.line.removeprefix("fohlazu: ")
+        yield f"a file that was {name}", refused(program.run(words, {"file": other}), 1, why)
     for how, change in CHANGES.items():
         program.written.pop("file", None)
         program.write("file", data)

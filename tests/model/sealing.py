@@ -35,15 +35,14 @@ class Seal(NamedTuple):
 
 
 class Refused(Exception):
-    """Why a command ends otherwise than well: about which file, and with which status. A reason is settled where its
-    words are."""
+    """Why a command ends otherwise than well: with which status, about which file, and why. Words that are wrong are of
+    no file."""
 
-    def __init__(self, status, name, why, is_settled=False):
+    def __init__(self, status, name, why):
         super().__init__(status, name, why)
         self.status = status
-        self.line = f"fohlazu: {name}: {why}" if name else f"fohlazu: {why}"
         self.name = name
-        self.is_settled = is_settled
+        self.line = f"fohlazu: {name}: {why}" if name else f"fohlazu: {why}"
 
 
 class Answer(NamedTuple):
@@ -111,19 +110,17 @@ def prove(seal, data, numbers, name):
 def refuse(status, name, seal, proof):
     """Refuses a proof that is not accepted by itself."""
     for number, data in proof[0]:
-        if not can_be(seal, number, data):
-            raise Refused(status, name, f"entry {number}: no file of this kind has it")
-    claim = claim_of(seal, proof)
-    text = refusal(PRUNED, claim)
+        if number > seal.count or not can_be(seal, number, data):
+            raise Refused(status, name, f"entry {number}: the file that was sealed can have no such entry")
+    text = refusal(PRUNED, claim_of(seal, proof))
     if text:
-        raise Refused(status, name, text, is_settled=not text.startswith("index out of bounds"))
+        raise Refused(status, name, text)
 
 
 def verify(seal, proof, numbers, name):
     """The entries that a proof shows, as the file has them."""
-    found = [number for number, _ in proof[0]]
-    if found != numbers:
-        raise Refused(1, name, f"it is of the entries {found}, and not of {numbers}")
+    if [number for number, _ in proof[0]] != numbers:
+        raise Refused(1, name, "its entries are not those that are asked for, in their order")
     refuse(1, name, seal, proof)
     return b"".join(data if seal.size is not None else data + b"\n" for _, data in proof[0])
 
@@ -140,9 +137,9 @@ def conflict(seal, proofs, names):
         return Answer(1, collision_text("sha256", claims[0].scheme.functions, indices, places).encode())
     entries = [*proofs[0][0], *proofs[1][0]]
     for place, (number, data) in enumerate(entries):
-        for other, against in entries[:place]:
+        for other, against in entries[place + 1 :]:
             if number == other and data != against:
-                lines = [f"collision at entry {number}", against.hex(), data.hex(), hashlib.sha256(data).hexdigest()]
+                lines = [f"collision at entry {number}", data.hex(), against.hex(), hashlib.sha256(data).hexdigest()]
                 return Answer(1, "".join(line + "\n" for line in lines).encode())
     return Answer(0, b"no conflict\n")
 
@@ -208,14 +205,14 @@ def read(status, name, data, reading):
         return reading(data)
     except files.Malformed as fault:
         line = data[: fault.place].count(b"\n") + 1
-        raise Refused(status, name, f"line {line}: expected {fault.expected}", is_settled=True) from None
+        raise Refused(status, name, f"line {line}: expected {fault.expected}") from None
 
 
 def bytes_of(name, contents):
     """The bytes of a file; `contents` has none where it can't be read."""
     data = contents(name)
     if data is None:
-        raise Refused(2, name, "it can't be read")
+        raise Refused(2, name, "it cannot be read")
     return data
 
 
@@ -229,8 +226,9 @@ def outcome(words, contents):
         return Answer(0, seal.text())
     seal = Seal(*read(2, names[0], bytes_of(names[0], contents), files.read_seal))
     if command == "prove":
-        if max(numbers) > seal.count:
-            raise Refused(1, names[0], f"it has {seal.count} entries, and no entry {max(numbers)}")
+        above = [number for number in numbers if number > seal.count]
+        if above:
+            raise Refused(1, names[0], f"it has {seal.count} entries, and no entry {above[0]}")
         return Answer(0, prove(seal, bytes_of(names[1], contents), numbers, names[1]))
     status = 1 if command == "verify" else 2
     proofs = [read(status, name, bytes_of(name, contents), files.read_proof) for name in names[1:]]
