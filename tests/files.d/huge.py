@@ -15,14 +15,13 @@ LITTLE = 16 * MIB
 LAST = (1 << 64) - 1
 
 
-def wrongs(ran, status, printed, held=LITTLE):
-    """What is wrong about a measured run; standard output is compared by its sum where it is long."""
+def wrongs(program, ran, status, printed, held=LITTLE):
+    """What is wrong about a measured run."""
     if ran.status != status or ran.printed != printed:
-        found = hashlib.sha256(ran.printed).hexdigest()
-        yield f"status {ran.status}, prints {len(ran.printed)} bytes of the sum {found}, says {ran.said[:200]!r}"
+        yield f"status {ran.status}, prints {len(ran.printed)} bytes, says {ran.said[:200]!r}"
     if bool(ran.said) != bool(status):
         yield f"says {ran.said[:200]!r}"
-    if ran.held > held:
+    if ran.held > held and not program.has_checks:
         yield f"holds {ran.held / MIB:.1f} MiB, expected at most {held / MIB:.1f}"
 
 
@@ -36,7 +35,7 @@ def tried(program, name, words, contents, status, printed, held=LITTLE):
         program.write(own, data)
     ran = program.measured(words)
     told(name, ran)
-    return name, list(wrongs(ran, status, printed, held))
+    return name, list(wrongs(program, ran, status, printed, held))
 
 
 def claims(program):
@@ -71,7 +70,7 @@ def compared(program, name, words, contents):
         program.write(own, data)
     answer = sealing.answer(words, contents.get)
     ran = program.measured(words)
-    return name, [*wrongs(ran, answer.status, answer.printed), *program.said_wrongly(ran.said, answer)]
+    return name, [*wrongs(program, ran, answer.status, answer.printed), *program.said_wrongly(ran.said, answer)]
 
 
 def known_trees(program):

@@ -20,11 +20,12 @@ class Ran(NamedTuple):
 
 
 class Program:
-    """A program, and the folder that it runs in."""
+    """A program, and the folder that it runs in. What it holds says nothing where it is built with checks."""
 
-    def __init__(self, path, folder):
+    def __init__(self, path, folder, has_checks):
         self.path = path
         self.folder = Path(folder)
+        self.has_checks = has_checks
         self.written = {}
 
     def write(self, name, data):

@@ -27,6 +27,7 @@ WRONG += [["--arity", "2", "--arity", "2"]]
 # a file has at most so many entries, and is changed at so many places
 MOST = 600
 FEW = 12
+SWEPT = 700
 
 
 class Case(NamedTuple):
@@ -57,9 +58,11 @@ DAMAGES = [dropped, replaced, inserted]
 
 
 def damaged(random, data, few):
-    """A text with each byte dropped, changed, and put in front of; a few of these, or all where no number is told."""
+    """A text with each byte dropped, changed, and put in front of; a few of these, or all of a short text where no
+    number is told."""
     places = [(damage, place) for place in range(len(data)) for damage in DAMAGES] + [(inserted, len(data))]
-    chosen = places if few is None else random.sample(places, min(few, len(places)))
+    is_whole = few is None and len(data) <= SWEPT
+    chosen = places if is_whole else random.sample(places, min(few or SWEPT, len(places)))
     return [damage(random, data, place) for damage, place in chosen]
 
 
