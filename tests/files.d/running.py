@@ -1,11 +1,14 @@
 """Runs of `fohlazu` in a folder of its own."""
 
+import os
+import signal
 import subprocess
 import sys
 from pathlib import Path
 from typing import NamedTuple
 
-SECONDS = 600
+# how long a run may take
+SECONDS = 120
 MEASURE = Path(__file__).resolve().parent / "measure.py"
 
 
@@ -55,8 +58,14 @@ class Program:
         out, err, report = (self.folder / name for name in (".out", ".err", ".report"))
         helper = [sys.executable, "-I", "-S", MEASURE, report, self.path, *words]
         with out.open("wb") as printed, err.open("wb") as said:
-            settings = {"stdin": subprocess.DEVNULL, "stdout": printed, "stderr": said, "timeout": SECONDS}
-            subprocess.run(helper, cwd=self.folder, check=True, **settings)
+            settings = {"stdin": subprocess.DEVNULL, "stdout": printed, "stderr": said, "start_new_session": True}
+            child = subprocess.Popen(helper, cwd=self.folder, **settings)
+            try:
+                child.wait(SECONDS)
+            except subprocess.TimeoutExpired:
+                os.killpg(child.pid, signal.SIGKILL)
+                child.wait()
+                return Ran(-signal.SIGKILL, b"", b"takes too long")
         seconds, held, status = report.read_text().split()
         return Ran(int(status), out.read_bytes(), err.read_bytes(), float(seconds), int(held))
 
