@@ -128,15 +128,14 @@ def long_proofs(program, part):
     contents = {"seal": seal.text(), "file": data, "proof": whole}
     room = LITTLE + 1000 * count
     yield tried(program, f"seal, {count} entries", ["seal", "file"], contents, 0, seal.text(), LITTLE + 110 * count)
-    yield tried(program, f"verify 1, a proof of {count} entries", ["verify", "seal", "proof", "1"], contents, 1, b"", room)
-    yield tried(program, f"conflict, a proof of {count} entries twice", ["conflict", "seal", "proof", "proof"], contents,
-                0, b"no conflict\n", 2 * room)
+    one, twice = ["verify", "seal", "proof", "1"], ["conflict", "seal", "proof", "proof"]
+    yield tried(program, f"verify 1, a proof of {count} entries", one, contents, 1, b"", room)
+    yield tried(program, f"conflict, a proof of {count} entries twice", twice, contents, 0, b"no conflict\n", 2 * room)
     small = sealing.seal_of(b"a\nb\n", None, 2, 0, None)
     once = files.read_proof(sealing.prove(small, b"a\nb\n", [2], "file"))
     often = files.proof_text(once[0] * count, once[1])
     contents = {"seal": small.text(), "proof": often}
-    yield tried(program, f"conflict, an entry {count} times", ["conflict", "seal", "proof", "proof"], contents, 0,
-                b"no conflict\n", 2 * room)
+    yield tried(program, f"conflict, an entry {count} times", twice, contents, 0, b"no conflict\n", 2 * room)
     numbers = [min(count, 1 + 37 * at) for at in range(5000 // min(part, 10))]
     rows = ["verify", "seal", "own", *map(str, numbers)]
     program.write("seal", seal.text())

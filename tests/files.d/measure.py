@@ -1,6 +1,6 @@
-"""Runs a program and reports its time and memory: python3 measure.py REPORT PROGRAM WORD.. writes a line with seconds of
-the processor, bytes held at most, and the exit status. It is small itself, since a process counts as held what its
-parent held when it was started."""
+"""Runs a program and reports its time and memory: python3 measure.py REPORT PROGRAM WORD.. writes a line with the
+seconds of the processor, the bytes held at most, and the exit status. It is small itself, since a process counts as
+held what its parent held when it was started."""
 
 import os
 import sys

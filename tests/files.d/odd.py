@@ -7,7 +7,7 @@ import subprocess
 import threading
 
 import sealing
-from running import is_line
+from running import Ran, is_line
 
 DATA = b"one\ntwo\n\nfour\nfive"
 SEAL = sealing.seal_of(DATA, None, 2, 1, b"odd")
@@ -53,7 +53,8 @@ def unread(program):
         for place, word in enumerate(words[1:], 1):
             for name in names if word in CONTENTS else []:
                 changed = words[:place] + [name] + words[place + 1 :]
-                yield f"{command}, {word} is {name[:20]}", refused(program.run(changed, CONTENTS), 2, f"{name}: {UNREAD}")
+                ran = program.run(changed, CONTENTS)
+                yield f"{command}, {word} is {name[:20]}", refused(ran, 2, f"{name}: {UNREAD}")
 
 
 def unread_input(program):
@@ -158,16 +159,17 @@ def changing(program):
             change(program.folder / "file", number)
         printed, said = child.communicate()
         program.written.pop("file", None)
-        yield f"a file that {how} while it is read", right_or_refused(seal, data, numbers, child.returncode, printed, said)
+        ran = Ran(child.returncode, printed, said)
+        yield f"a file that {how} while it is read", right_or_refused(seal, data, numbers, ran)
 
 
-def right_or_refused(seal, data, numbers, status, printed, said):
+def right_or_refused(seal, data, numbers, ran):
     """What is wrong about an answer that may be the proof of the file as it was, or a refusal."""
-    if status == 0:
-        if printed != sealing.prove(seal, data, numbers, "file"):
-            yield f"it is answered, and wrongly: {printed[:200]!r}"
-    elif status not in (1, 2) or printed or not is_line(said):
-        yield f"status {status}, prints {printed[:200]!r}, says {said[:200]!r}"
+    if ran.status == 0:
+        if ran.printed != sealing.prove(seal, data, numbers, "file"):
+            yield f"it is answered, and wrongly: {ran.printed[:200]!r}"
+    elif ran.status not in (1, 2) or ran.printed or not is_line(ran.said):
+        yield f"status {ran.status}, prints {ran.printed[:200]!r}, says {ran.said[:200]!r}"
 
 
 def shrink(path, number):

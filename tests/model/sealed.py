@@ -233,8 +233,8 @@ def other_proof(random, proof, count):
 def claimed(random, text):
     """A text with one of its numbers made huge."""
     lines = text.split(b"\n")
-    places = [place for place, line in enumerate(lines) if line[:5] in (b"entry", b"entri", b"diges", b"lines", b"block")]
-    place = random.choice(places)
+    labels = (b"entry ", b"entries ", b"digests ", b"lines ", b"blocks ")
+    place = random.choice([place for place, line in enumerate(lines) if line.startswith(labels)])
     words = lines[place].split(b" ")
     number = random.choice([(1 << 64) - 1, 1 << 64, 1 << 63, MAX_HEIGHT, MAX_HEIGHT + 1, 10**6, 0])
     words[random.randrange(1, len(words)) if len(words) > 1 else 0] = b"%d" % number
