@@ -146,7 +146,7 @@ impl Content {
 }
 
 /// Whether some bytes are a label.
-fn is_label(bytes: &[u8]) -> bool
+pub fn is_label(bytes: &[u8]) -> bool
     ensures { result ≡ is_label bytes.now }
 {
     let len = bytes.len();

@@ -24,7 +24,7 @@ use std::alloc::{AllocError, Global};
 /// # Errors
 ///
 /// `AllocError` if memory runs out.
-pub(crate) fn collision_text<
+pub fn collision_text<
     W: Word + PackedValue<Value = W>,
     H: CryptographicHasher<W, W, D>,
     C: PseudoCompressionFunction<W, N, D>,

@@ -2,7 +2,7 @@
 //! to a fault.
 #![tactic(auto)]
 
-mod collision;
+pub mod collision;
 pub mod engine;
 pub mod laws;
 
