@@ -8,7 +8,7 @@ use Rattle.std.proofs.lemmas.List.Splits.{length-slice_split, slice_split_at, sl
 use Rattle.std.proofs.Math.Seq.{take-append_seam, drop-append-add}
 use Rattle.std.proofs.Math.Nat.{add-div_left, add-mod_left, add-mul, zero-div, zero-mod, zero-mul}
 use Rattle.std.proofs.lemmas.Nat.{div-add-mod', div-mul-add}
-use Rattle.p3_support.specs.Lists.{message}
+use Rattle.p3_support.specs.Lists.{message, messages}
 use Rattle.fohlazu_text.specs.Fields.{IsKind}
 use Rattle.fohlazu_text.specs.declared.seal.Kind.{Kind}
 use Rattle.fohlazu_text.specs.declared.seal.Kind.TheVariants.{Lines, Blocks}
@@ -72,14 +72,19 @@ first_of_blocks size block rest long =
     ∙ ap (λ n. take n (block ++ rest)) (sym long)
     ∙ take-append_seam block rest
 
+-- messages of one length whose first is known
+pub first_message : (size n : ℕ) (block rest : List ℕ) → length block ≡ size →
+    messages size (suc n) (block ++ rest) ≡ block ∷ messages size n rest
+first_message size n block rest long =
+    rw (first_of_blocks size block rest long) (ap (λ xs. block ∷ xs) (blocks_behind size block rest 0 n long))
+
 first_block : (size : ℕ) (block rest : List ℕ) → 0 < size → length block ≡ size →
     blocks_in size (block ++ rest) ≡ block ∷ blocks_in size rest
 first_block size block rest some long =
     let all : length (block ++ rest) ≡ size + length rest = omega (arith, length-append block rest, long) in
     let count : div_ceil (length (block ++ rest)) size ≡ suc (div_ceil (length rest) size) =
     ap (λ n. div_ceil n size) all ∙ one_more size (length rest) some in
-    rw (count, first_of_blocks size block rest long)
-    (ap (λ xs. block ∷ xs) (blocks_behind size block rest 0 (div_ceil (length rest) size) long))
+    ap (λ n. messages size n (block ++ rest)) count ∙ first_message size (div_ceil (length rest) size) block rest long
 
 one_block : (size : ℕ) (bytes : List ℕ) → length bytes < size → 0 < length bytes → blocks_in size bytes ≡ bytes ∷ []
 one_block size bytes short some =

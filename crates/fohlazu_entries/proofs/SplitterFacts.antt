@@ -20,7 +20,7 @@ use Rattle.fohlazu_entries.proofs.EntryFacts.{first_entry, only, only_entry}
 -- ---- more of a file
 
 -- with room for an entry nothing was left out
-none_left_out : {kind : Kind} {limit : ℕ} {numbers : List ℕ} {s : Splitter} {front : List ℕ} →
+pub none_left_out : {kind : Kind} {limit : ℕ} {numbers : List ℕ} {s : Splitter} {front : List ℕ} →
     (b : IsBehind kind limit numbers s front) → length b.ended < limit → (rest : List ℕ) →
     entries_in kind (front ++ rest) ≡ b.ended ++ entries_in kind (b.open_bytes ++ rest)
 none_left_out {kind} b room rest =

@@ -1,2 +1,3 @@
 -- Definitions that only proofs and internal calls use.
 pub mod Splitting
+pub mod Whole

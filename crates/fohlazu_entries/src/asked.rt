@@ -1,6 +1,6 @@
 //! The entries of a file that are asked for.
 
-ghost use Rattle.std.specs.Prelude.{◌≡◌, ℕ, ◌+◌, List, [], ◌∷◌, ◌++◌, OnOk, length};
+ghost use Rattle.std.specs.Prelude.{◌≡◌, ◌≤◌, ℕ, ◌+◌, List, [], ◌∷◌, ◌++◌, OnOk, length};
 ghost use Rattle.fohlazu_entries.specs.Inner.Splitting.{is_first, IsRising, KeepsAsked};
 
 use std::alloc::{AllocError, Global};
@@ -37,6 +37,18 @@ impl<'a> Asked<'a> {
         match self.left.first() {
             Some(next) => *next == number,
             None => false,
+        }
+    }
+
+    /// How many entries from this number on, of which nothing has come, are not asked for before one that is.
+    pub(crate) fn unasked(&self, number: usize) -> usize
+        ensures { (numbers : List ℕ) (ended more : List (List ℕ)) → number ≡ length ended + 1 →
+            KeepsAsked self.now numbers ended [] → length more ≤ result →
+            KeepsAsked self.now numbers (ended ++ more) [] }
+    {
+        match self.left.first() {
+            Some(next) => next.saturating_sub(number),
+            None => usize::MAX,
         }
     }
 

@@ -8,3 +8,4 @@ pub mod laws;
 mod open;
 pub mod reading;
 mod splitter;
+mod whole;

@@ -18,7 +18,7 @@ use std::alloc::{AllocError, Global};
 use std::io::{ErrorKind, Read};
 
 /// How many bytes are read at a time.
-const WINDOW: usize = 65_536;
+const WINDOW: usize = 1_048_576;
 
 /// How many entries a file may have: 2^62, as in a seal.
 const MOST: usize = 4_611_686_018_427_387_904;

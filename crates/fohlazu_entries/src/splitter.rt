@@ -5,10 +5,11 @@ ghost use Rattle.std.specs.Prelude.{take};
 ghost use Rattle.fohlazu_text.specs.Fields.{IsKind};
 ghost use Rattle.fohlazu_text.specs.declared.seal.Kind.{Kind};
 ghost use Rattle.fohlazu_entries.specs.Entries.{entries_in, AreRead};
-ghost use Rattle.fohlazu_entries.specs.Inner.Splitting.{HasTaken, IsBehind, IsRising, StandsSomewhere};
+ghost use Rattle.fohlazu_entries.specs.Inner.Splitting.{HasTaken, IsBehind, IsRising, KeepsAsked, StandsSomewhere};
 
 use crate::asked::Asked;
 use crate::open::Open;
+use crate::whole::digests_at_head;
 use fohlazu_text::seal::Kind;
 use std::alloc::{AllocError, Global};
 use std::mem;
@@ -64,11 +65,45 @@ impl<'a> Splitter<'a> {
             IsBehind kind limit numbers self.old front →
             OnOk result (IsBehind kind limit numbers self.new (front ++ bytes.now)) }
     {
-        let mut left = bytes;
+        let mut left = self.take_whole(alloc, bytes)?;
         while !left.is_empty() && !self.is_full() {
-            left = self.step(alloc, left)?;
+            let rest = self.step(alloc, left)?;
+            left = self.take_whole(alloc, rest)?;
         }
         Ok(())
+    }
+
+    /// Takes in the whole entries at the head of these bytes, up to the next that is asked for, and gives what is left
+    /// behind them. Where an entry is open, it takes in none.
+    ///
+    /// # Errors
+    ///
+    /// `AllocError` if memory runs out.
+    fn take_whole<'b>(&mut self, alloc: Global, left: &'b [u8]) -> Result<&'b [u8], AllocError>
+        requires { StandsSomewhere self.old }
+        ensures stands { OnOk result (StandsSomewhere self.new) }
+        ensures no_more { IfOk result (λ rest. length rest.now ≤ length left.now) }
+        ensures behind { (kind : Kind) (limit : ℕ) (numbers front : List ℕ) → IsKind kind →
+            IsBehind kind limit numbers self.old front →
+            IfOk result (λ rest. (taken : List ℕ) × (left.now ≡ taken ++ rest.now) ×
+            IsBehind kind limit numbers self.new (front ++ taken)) }
+    {
+        if !self.open_entry.is_empty() {
+            return Ok(left);
+        }
+        let (digests, rest) = digests_at_head(alloc, self.kind, self.unasked(), left)?;
+        self.digests.extend_from_slice(&digests)?;
+        Ok(rest)
+    }
+
+    /// How many of the next entries are taken in and not asked for, before one that is, where none is open.
+    fn unasked(&self) -> usize
+        ensures { (kind : Kind) (limit : ℕ) (numbers : List ℕ) (ended more : List (List ℕ)) →
+            HasTaken kind limit numbers self.now ended [] → length more ≤ result →
+            (length (ended ++ more) ≤ limit) × KeepsAsked self.now.asked numbers (ended ++ more) [] }
+    {
+        let room = self.limit.saturating_sub(self.digests.len());
+        room.min(self.asked.unasked(self.digests.len() + 1))
     }
 
     /// Takes in the bytes of the open entry, and gives what is left behind its end.

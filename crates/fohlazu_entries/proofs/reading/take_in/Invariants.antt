@@ -7,7 +7,7 @@ use Rattle.fohlazu_entries.proofs.reading.take_in.Given as goal
 
 abbrev pub invariant-loop-turn : goal.invariant-loop-turn
 invariant-loop-turn g l = record {
-  wide : length l.window ≡ 65536;
+  wide : length l.window ≡ 1048576;
   stands : StandsSomewhere l.splitter;
   behind : (kind : Kind) (limit : ℕ) (numbers : List ℕ) → IsKind kind →
       IsBehind kind limit numbers l.fn.splitter [] → (front : List ℕ) ×

@@ -10,14 +10,22 @@ step-requires-clause-stands c =
     let now = c.loop-self.invariant kind limit numbers front is b in
     (kind, limit, numbers, front ++ now.0, is, now.2)
 
+pub loop-self-init : goal.loop-self-init
+loop-self-init c = c.in_ok-left.ensures.behind
+
 pub loop-self-preserved : goal.loop-self-preserved
 loop-self-preserved c =
+    let left = c.in_ok-left-2.left.now in
     λ kind limit numbers front is b.
     let now = c.loop-self.invariant kind limit numbers front is b in
-    let next = c.in_ok-left.ensures.behind kind limit numbers (front ++ now.0) is now.2 in (
-      now.0 ++ next.0,
-      now.1 ∙ ap (λ xs. now.0 ++ xs) next.1 ∙ sym (append_assoc now.0 next.0 c.in_ok-left.left.now),
-      subst (IsBehind kind limit numbers c.step.new.self) (append_assoc front now.0 next.0) next.2,
+    let next = c.in_ok-rest.ensures.behind kind limit numbers (front ++ now.0) is now.2 in
+    let whole = c.in_ok-left-2.ensures.behind kind limit numbers ((front ++ now.0) ++ next.0) is next.2 in (
+      now.0 ++ (next.0 ++ whole.0),
+      now.1
+          ∙ ap (λ xs. now.0 ++ xs) (next.1 ∙ ap (λ xs. next.0 ++ xs) whole.1 ∙ sym (append_assoc next.0 whole.0 left))
+          ∙ sym (append_assoc now.0 (next.0 ++ whole.0) left),
+      subst (IsBehind kind limit numbers c.take_whole-in-loop-self.new.self)
+          (append_assoc (front ++ now.0) next.0 whole.0 ∙ append_assoc front now.0 (next.0 ++ whole.0)) whole.2,
     )
 
 pub returns-else-not-is_full-clause-behind : goal.returns-else-not-is_full-clause-behind
