@@ -1,0 +1,86 @@
+-- Proofs that were read, matrices, faults and answers, as the definitions have them.
+use Rattle.std.specs.Prelude.{◌≡◌, ◌⊎◌, ℕ, List, cond, map, nat_eq, MatchResult, Option, None, Some, option_map}
+use Rattle.std.specs.Prelude.{Result, Ok, Err}
+use Rattle.std.specs.Cmp.Lexicographic.{pointwise}
+use Rattle.p3_merkle_core.specs.Pruning.{pruned_of, PrunedOpening}
+use Rattle.p3_support.specs.Shown.{row_sets}
+use Rattle.p3_merkle_core.specs.Refusals.{ok_unless, unless}
+use Rattle.mmcs_text.specs.declared.command.HashName.TheVariants.{Sha256}
+use Rattle.mmcs_verify_engine.specs.Collisions.{collision_text}
+use Rattle.fohlazu_entries.specs.Entries.{AreRead}
+use Rattle.fohlazu_entries.specs.declared.fault.ReadFault.{ReadFault}
+use Rattle.fohlazu_entries.specs.declared.fault.ReadFault.TheVariants.{OutOfMemory as NoReadMemory, Read as FailedRead}
+use Rattle.fohlazu_entries.specs.declared.reading.Entries.{Entries}
+use Rattle.fohlazu_text.specs.Fields.{entry_fields, EntryFields, ProofFields, SealFields}
+use Rattle.fohlazu_text.specs.Printing.{proof_text}
+use Rattle.fohlazu_engine.specs.Commands.{Printed}
+use Rattle.fohlazu_engine.specs.Outcomes.{file_refusal, proof_over, seal_over}
+use Rattle.fohlazu_engine.specs.Trees.{difference_under, opening_shown}
+use Rattle.fohlazu_engine.specs.declared.conflict.Nearest.{Nearest}
+use Rattle.fohlazu_engine.specs.declared.fault.Fault.{Fault}
+use Rattle.fohlazu_engine.specs.declared.fault.Fault.TheVariants.{OutOfMemory, Read, Refused}
+use Rattle.fohlazu_engine.specs.declared.fault.Refusal.TheVariants.{Others}
+use Rattle.fohlazu_engine.specs.declared.fault.Source.{Source}
+use Rattle.fohlazu_engine.specs.declared.fault.Source.TheVariants.{File}
+use Rattle.fohlazu_engine.specs.declared.run.Answer.{Answer}
+use Rattle.fohlazu_engine.specs.declared.tree.DigestRows.{DigestRows}
+use Rattle.fohlazu_engine.specs.declared.shown.Shown.{Shown}
+
+-- what it says
+abbrev pub proof_of : Shown → ProofFields
+proof_of o = record { entries = map entry_fields o.entries.items; digests = o.paths.sibling_hashes.items }
+
+-- its opening
+abbrev pub opening_of : Shown → PrunedOpening ℕ ℕ
+opening_of o = pruned_of o.indices.items (row_sets o.rows.items) o.paths.sibling_hashes.items
+
+-- the rows of a matrix
+abbrev pub rows_of : DigestRows → List (List ℕ)
+rows_of m = m.digests.items
+
+-- what `prove` answers under a seal to a file that begins with these entries, for numbers that the seal has
+abbrev pub file_text : SealFields → List (List ℕ) → List ℕ → Result (List ℕ) Fault
+file_text s first numbers = ok_unless (file_refusal s first) (proof_text (proof_over s first numbers))
+
+-- what is read of a file that begins with these entries, as many as were sealed or as there are
+abbrev pub IsReadOf : List (List ℕ) → ℕ → List ℕ → Entries → Type 0
+IsReadOf first count numbers read =
+    AreRead first count numbers read.digests.items (map (λ bytes. bytes.items) read.asked.items)
+
+-- the refusal of entries with these digests, as many as were sealed: they have another cap
+abbrev pub cap_refusal : SealFields → List (List ℕ) → Option Fault
+cap_refusal s digests =
+    unless (pointwise (pointwise nat_eq) (seal_over s.scheme s.label s.content.kind digests).cap s.cap)
+    (Refused File Others)
+
+-- an entry of a number and its bytes
+abbrev pub entry_of : ℕ × List ℕ → EntryFields
+entry_of (number, bytes) = record { number = number; bytes = bytes }
+
+-- what is found in the tree of two proofs under a seal
+abbrev pub tree_found : SealFields → ProofFields → ProofFields → Option (List ℕ)
+tree_found s p r =
+    option_map (λ found. collision_text Sha256 (opening_shown p).indices (opening_shown r).indices (Some found))
+    (difference_under s p r)
+
+-- the fault of an input that is not read to its end
+abbrev pub read_fault : Source → ReadFault → Fault
+read_fault source FailedRead = Read source
+read_fault source NoReadMemory = OutOfMemory
+
+-- what is written
+abbrev pub printed_of : Answer → Printed
+printed_of a = record { text = a.text.items; ending = a.ending }
+
+-- a result has this outcome, looked at so, unless memory ran out or an input could not be read
+abbrev pub Shows : {V W : Type 0} → (V → W) → Result V Fault → Result W Fault → Type 0
+Shows view result outcome =
+    MatchResult result (λ v. outcome ≡ Ok (view v))
+    (λ fault. (fault ≡ OutOfMemory) ⊎ (((source : Source) × (fault ≡ Read source)) ⊎ (outcome ≡ Err fault)))
+
+-- the first of some entries that differs from e, where the nearest of its number is known
+abbrev pub other_by : Option Nearest → EntryFields → Option EntryFields
+other_by None e = None
+other_by (Some n) e =
+    cond (pointwise nat_eq e.bytes n.entry.now.bytes.items) (option_map (λ d. entry_fields d.now) n.other)
+    (Some (entry_fields n.entry.now))

@@ -1,0 +1,10 @@
+pub use Rattle.fohlazu_text.specs.Fields
+pub use Rattle.fohlazu_text.specs.Printing
+pub use Rattle.fohlazu_text.specs.Reading
+pub mod Faults
+pub mod Trees
+pub mod Outcomes
+pub mod Commands
+pub mod Inner
+pub mod Laws
+pub mod Binding
