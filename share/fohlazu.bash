@@ -1,0 +1,17 @@
+# Completion of the words of fohlazu for bash.
+_fohlazu() {
+  local known='' word="${COMP_WORDS[COMP_CWORD]}" at=1
+  [ "${COMP_WORDS[1]}" != quick ] || at=2
+  if [ "$COMP_CWORD" -eq "$at" ]; then
+    known='seal prove verify conflict --help --version'
+  elif [ "${COMP_WORDS[at]}" = seal ]; then
+    case "$3" in
+      --arity) known='2 4 8' ;;
+      --blocks) known='512 4096 65536' ;;
+      --cap-height) known='0 1 2 3' ;;
+      *) if [ "${word#-}" != "$word" ]; then known='--blocks --arity --cap-height --label'; fi ;;
+    esac
+  fi
+  mapfile -t COMPREPLY < <(compgen -W "$known" -- "$word")
+}
+complete -o default -F _fohlazu fohlazu
