@@ -1,7 +1,9 @@
 """Huge claims, which take no memory, and large inputs."""
 
 import hashlib
+import os
 import random
+import select
 
 import files
 import sealed
@@ -118,6 +120,22 @@ def long_lines(program, part):
                 2 * room)
 
 
+def on_a_terminal(program, part):
+    """A long file: where standard error is a terminal it shows how much was read, and in the end nothing."""
+    size = 129 * MIB // part
+    program.write("long", bytes(size))
+    screen, terminal = os.openpty()
+    ran = program.run(["seal", "--blocks", "4096", "long"], stderr=terminal)
+    shown = os.read(screen, 1000) if select.select([screen], [], [], 0)[0] else b""
+    os.close(terminal)
+    os.close(screen)
+    faults = list(wrongs(program, ran, 0, sealing.seal_of(bytes(size), 4096, 2, 0, None).text()))
+    steps = b"".join(b"\rfohlazu: %d MiB read" % step for step in range(64, size // MIB + 1, 64))
+    if shown != (steps and steps + b"\r\x1b[K"):
+        faults.append(f"a terminal shows {shown!r}")
+    yield f"{size // MIB} MiB, on a terminal", faults
+
+
 def long_proofs(program, part):
     """A proof of all 2^20 entries, and one of an entry as often."""
     count = (1 << 20) // (1 << 7 if part > 1 else 1)
@@ -151,4 +169,5 @@ def tests(program, part):
     yield from claims(program)
     yield from known_trees(program)
     yield from long_lines(program, part)
+    yield from on_a_terminal(program, part)
     yield from long_proofs(program, part)

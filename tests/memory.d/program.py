@@ -1,6 +1,7 @@
-"""Runs the program mmcs with each of its requests for memory refused in turn, alone and with all later ones:
-python3 program.py MMCS LIBRARY. It prints a line for each command and one for all. The status is 1 where a run did
-anything else than answer as with ample memory, or print `out of memory` alone with status 1."""
+"""Runs a program with each of its requests for memory refused in turn, alone and with all later ones:
+python3 program.py mmcs|fohlazu PROGRAM LIBRARY. It prints a line for each command and one for all. The status is 1
+where a run did anything else than answer as with ample memory, or say that memory ran out, alone and as the program
+does."""
 
 import os
 import subprocess
@@ -9,66 +10,111 @@ import tempfile
 
 # Three matrices, of four, two and one rows.
 ROWS = b"1 2\n3 4\n5 6\n7 8\n\n9\n10\n\n11 12 13\n"
-COMMANDS = [
+TABLES = [
     [name, arity, "0", *action]
     for name in ("fold", "sha256")
     for arity in ("2", "4", "8")
     for action in (["commit"], ["open", "3", "0", "3"], ["check", "3", "0", "3"])
 ]
+# Short lines, an empty one, one of two blocks of SHA-256, and one that ends with the file; of seventeen blocks.
+FILES = {"lines": b"one\ntwo\n\n" + 100 * b"x" + b"\nlast", "blocks": bytes(range(133))}
+SEALED = {"lines": ["--label", "a"], "blocks": ["--blocks", "8", "--cap-height", "1"]}
+# What a run says that has no memory, and its status.
+OUT_OF_MEMORY = {"mmcs": (1, b"", b"out of memory\n"), "fohlazu": (2, b"", b"fohlazu: out of memory\n")}
 MOST = 10_000
 
 
-def run(mmcs, library, words, mode, number):
-    """Status, output and error of a run, and how many requests it made and how many were refused."""
-    with tempfile.TemporaryFile() as report:
-        settings = {"LD_PRELOAD": library, mode: str(number), "REFUSE_REPORT": str(report.fileno())}
-        done = subprocess.run(
-            [mmcs, *words],
-            input=ROWS,
-            capture_output=True,
-            env={**os.environ, **settings},
-            pass_fds=[report.fileno()],
-            timeout=60,
-        )
-        report.seek(0)
-        requests, refused = map(int, report.read().split())
-    return (done.returncode, done.stdout, done.stderr), requests, refused
+class Trials:
+    """A program, the library that refuses, and the folder with the files that are read."""
+
+    def __init__(self, name, program, library, folder):
+        self.name = name
+        self.program = os.path.abspath(program)
+        self.library = os.path.abspath(library)
+        self.folder = folder
+
+    def write(self, name, data):
+        with open(os.path.join(self.folder, name), "wb") as file:
+            file.write(data)
+
+    def answer(self, words):
+        """What a run prints that nothing is refused."""
+        return subprocess.run([self.program, *words], cwd=self.folder, capture_output=True, check=True).stdout
+
+    def run(self, words, mode, number):
+        """Status, output and error of a run, and how many requests it made and how many were refused."""
+        with tempfile.TemporaryFile() as report:
+            settings = {"LD_PRELOAD": self.library, mode: str(number), "REFUSE_REPORT": str(report.fileno())}
+            done = subprocess.run(
+                [self.program, *words],
+                cwd=self.folder,
+                input=ROWS,
+                capture_output=True,
+                env={**os.environ, **settings},
+                pass_fds=[report.fileno()],
+                timeout=60,
+            )
+            report.seek(0)
+            requests, refused = map(int, report.read().split())
+        return (done.returncode, done.stdout, done.stderr), requests, refused
+
+    def attempt(self, words, mode):
+        """How many runs were made and how many of them answered, and what is wrong, if anything is."""
+        ample = self.run(words, mode, MOST)
+        if ample[0][0] != 0 or not ample[0][1] or ample[0][2]:
+            return 0, 0, f"with ample memory it ends with {ample[0]}"
+        answered = 0
+        for number in range(1, MOST):
+            outcome, _, refused = self.run(words, mode, number)
+            if outcome == ample[0]:
+                answered += 1
+            elif not refused or outcome != OUT_OF_MEMORY[self.name]:
+                return number, answered, f"{mode}={number}: {outcome}"
+            if not refused:
+                return number, answered, None
+        return MOST, answered, f"{mode}: it makes too many requests"
 
 
-def attempt(mmcs, library, words, mode):
-    """How many runs were made and how many of them answered, and what is wrong, if anything is."""
-    ample = run(mmcs, library, words, mode, MOST)
-    if ample[0][0] != 0 or not ample[0][1] or ample[2]:
-        return 0, 0, f"with ample memory it ends with {ample[0]}"
-    answered = 0
-    for number in range(1, MOST):
-        outcome, _, refused = run(mmcs, library, words, mode, number)
-        if outcome == ample[0]:
-            answered += 1
-        elif not refused or outcome != (1, b"", b"out of memory\n"):
-            return number, answered, f"{mode}={number}: {outcome}"
-        if not refused:
-            return number, answered, None
-    return MOST, answered, f"{mode}: it makes too many requests"
+def files_of(trials):
+    """The commands of files, once these are written."""
+    for kind, options in SEALED.items():
+        for arity in ("2", "4", "8"):
+            file, seal, proof = (f"{name}-{kind}-{arity}" for name in ("file", "seal", "proof"))
+            trials.write(file, FILES[kind])
+            sealing = ["seal", "--arity", arity, *options, file]
+            trials.write(seal, trials.answer(sealing))
+            trials.write(proof, trials.answer(["prove", seal, file, "4", "1", "4"]))
+            yield sealing
+            yield ["prove", seal, file, "4", "1", "4"]
+            yield ["verify", seal, proof, "4", "1", "4"]
+            yield ["conflict", seal, proof, proof]
 
 
-def main():
-    mmcs, library = sys.argv[1:]
-    library = os.path.abspath(library)
+def try_all(trials, commands):
+    """How many runs were made, and how many of them went wrong."""
     total = wrong = 0
-    for words in COMMANDS:
+    for words in commands:
         counts = []
         for mode in ("REFUSE_ONCE", "REFUSE_FROM"):
-            runs, answered, fault = attempt(mmcs, library, words, mode)
+            runs, answered, fault = trials.attempt(words, mode)
             total += runs
             wrong += fault is not None
             # The last run met no refusal.
             counts.append((runs - 1, answered - 1))
             if fault:
-                print(f"mmcs {' '.join(words)}: wrong: {fault}")
+                print(f"{trials.name} {' '.join(words)}: wrong: {fault}")
         (requests, once), (_, since) = counts
-        print(f"mmcs {' '.join(words):<24} {requests:5} requests, answered all the same {once} and {since} times")
-    print(f"{total} runs of mmcs, {wrong} wrong")
+        told = f"{requests:5} requests, answered all the same {once} and {since} times"
+        print(f"{trials.name} {' '.join(words):<24} {told}")
+    return total, wrong
+
+
+def main():
+    name, program, library = sys.argv[1:]
+    with tempfile.TemporaryDirectory() as folder:
+        trials = Trials(name, program, library, folder)
+        total, wrong = try_all(trials, TABLES if name == "mmcs" else files_of(trials))
+    print(f"{total} runs of {name}, {wrong} wrong")
     return 1 if wrong else 0
 
 
