@@ -6,6 +6,5 @@ pub mod Steps
 pub mod Levels
 pub mod Shapes
 pub mod Covered
-pub mod Raised
 pub mod Growths
 pub mod Settings

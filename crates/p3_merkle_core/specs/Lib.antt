@@ -7,6 +7,7 @@ pub mod Openings
 pub mod Checks
 pub mod Pruning
 pub mod Refusals
+pub mod Raised
 pub mod Parts
 pub mod Consistency
 pub mod ConsistencyRefusals

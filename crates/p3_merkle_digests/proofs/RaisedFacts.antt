@@ -7,9 +7,9 @@ use Rattle.std.proofs.lemmas.List.{drop_at, get_or-map, take_all, take_at}
 use Rattle.std.proofs.lemmas.List.FromFn.{map-range_with_len_more}
 use Rattle.p3_support.specs.Shown.{roots_of}
 use Rattle.p3_support.specs.declared.opening.MerkleCap.{MerkleCap}
-use Rattle.p3_merkle_core.specs.Inner.Raised.{parents, raised}
 use Rattle.p3_merkle_core.specs.OneHeight.{cap_layer_of_height, nodes_of_height}
 use Rattle.p3_merkle_core.specs.Parts.{cap_fault}
+use Rattle.p3_merkle_core.specs.Raised.{parents, raised}
 use Rattle.p3_merkle_core.specs.Refusals.{first_of}
 use Rattle.p3_merkle_core.proofs.Lists.ListFacts.{joined_more}
 use Rattle.p3_merkle_core.proofs.Pruned.NoneFacts.{range_none, unless_none}

@@ -7,10 +7,10 @@ ghost use Rattle.std.specs.List.{flat_map, range_with_len};
 ghost use Rattle.p3_support.specs.Answers.{AnswersUnless};
 ghost use Rattle.p3_support.specs.Shown.{roots_of};
 ghost use Rattle.p3_merkle_core.specs.Geometry.{IsArity};
-ghost use Rattle.p3_merkle_core.specs.Inner.Raised.{cap_of_parts as cap_made, given_nodes, parents as parents_of};
-ghost use Rattle.p3_merkle_core.specs.Inner.Raised.{compress_up_to, raised};
 ghost use Rattle.p3_merkle_core.specs.OneHeight.{cap_layer_of_height as cap_layer_over_height};
 ghost use Rattle.p3_merkle_core.specs.Parts.{cap_fault, parts_refusal, AreHeights};
+ghost use Rattle.p3_merkle_core.specs.Raised.{cap_of_parts as cap_made, given_nodes, parents as parents_of};
+ghost use Rattle.p3_merkle_core.specs.Raised.{compress_up_to, raised};
 ghost use Rattle.p3_merkle_core.specs.Refusals.{first_of};
 ghost use Rattle.p3_merkle_core.specs.declared.error.PartsError.TheVariants.{OutOfMemory};
 

@@ -2,9 +2,9 @@
 use Rattle.std.proofs.Common.{◌≡◌, ℕ, ◌<◌, List, [], get_or, length, subst}
 use Rattle.p3_merkle_core.specs.Caps.{cap_layer}
 use Rattle.p3_merkle_core.specs.Geometry.{IsArity}
-use Rattle.p3_merkle_core.specs.Inner.Raised.{cap_of_parts}
 use Rattle.p3_merkle_core.specs.Nodes.{Batch, Functions, compress_padded, layer, shape}
 use Rattle.p3_merkle_core.specs.Parts.{AreHeights, AreParts, HasNodes}
+use Rattle.p3_merkle_core.specs.Raised.{cap_of_parts}
 use Rattle.p3_merkle_core.specs.declared.cap.CapRule.{CapRule}
 use Rattle.p3_merkle_core.proofs.InParts.PartNodes.{cap_is}
 

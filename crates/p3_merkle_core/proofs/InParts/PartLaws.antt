@@ -13,7 +13,7 @@ use Rattle.p3_merkle_core.specs.Geometry.{IsArity, layer_len, levels, padded_len
 use Rattle.p3_merkle_core.specs.Nodes.{Batch, Functions, compress_padded, layer, node, padded, shape}
 use Rattle.p3_merkle_core.specs.OneHeight.{levels_of_height, nodes_of_height}
 use Rattle.p3_merkle_core.specs.Parts.{AreHeights, AreParts, HasNodes, lifted, part_nodes, root}
-use Rattle.p3_merkle_core.specs.Inner.Raised.{parents, raised}
+use Rattle.p3_merkle_core.specs.Raised.{parents, raised}
 use Rattle.p3_merkle_core.proofs.Checks.PathFacts.{joined_same}
 use Rattle.p3_merkle_core.proofs.Lists.ListFacts.{joined}
 use Rattle.p3_merkle_core.proofs.Lists.RunFacts.{run, length-run}

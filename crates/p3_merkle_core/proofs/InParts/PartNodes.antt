@@ -13,7 +13,7 @@ use Rattle.p3_merkle_core.specs.Nodes.{Batch, Functions, Matrix, compress_padded
 use Rattle.p3_merkle_core.specs.Nodes.{shape}
 use Rattle.p3_merkle_core.specs.OneHeight.{HasHeight, cap_layer_of_height, levels_of_height, nodes_of_height}
 use Rattle.p3_merkle_core.specs.Parts.{AreHeights, AreParts, HasNodes, first_row}
-use Rattle.p3_merkle_core.specs.Inner.Raised.{cap_of_parts, given_nodes, parents, raised}
+use Rattle.p3_merkle_core.specs.Raised.{cap_of_parts, given_nodes, parents, raised}
 use Rattle.p3_merkle_core.specs.declared.cap.CapRule.{CapRule}
 use Rattle.p3_merkle_core.proofs.Lists.ListFacts.{joined, joined_more}
 use Rattle.p3_merkle_core.proofs.Lists.RunFacts.{run, run_same, run_split, length-run, padded-run, taken-run}

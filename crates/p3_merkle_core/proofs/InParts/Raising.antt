@@ -9,7 +9,7 @@ use Rattle.std.proofs.Math.Nat.{mul_assoc, mul_comm, mul-add, mul-suc, mul-le-mu
 use Rattle.p3_merkle_core.specs.Geometry.{IsArity, levels}
 use Rattle.p3_merkle_core.specs.Nodes.{Batch, Functions, compress_padded, node, padded, shape}
 use Rattle.p3_merkle_core.specs.OneHeight.{HasHeight, nodes_of_height}
-use Rattle.p3_merkle_core.specs.Inner.Raised.{parents, raised}
+use Rattle.p3_merkle_core.specs.Raised.{parents, raised}
 use Rattle.p3_merkle_core.proofs.Lists.RunFacts.{run, run_same, length-run, padded-run, piece-run}
 use Rattle.p3_merkle_core.proofs.Shapes.OneHeight.{arity_power_pos, node_is, padding_is}
 use Rattle.p3_merkle_core.proofs.Shapes.QuotientFacts.{ceil_below, ceil_ceil, ceil_covers, ceil_is, ceil_le, ceil-one}

@@ -3,8 +3,8 @@ use Rattle.std.proofs.Common.{◌∙◌, ◌-◌, [], ap, arith, get_or, length,
 use Rattle.std.proofs.lemmas.Result.{err_from_is_err_and}
 use Rattle.std.specs.Prelude.{replicate}
 use Rattle.p3_support.specs.Shown.{roots_of}
-use Rattle.p3_merkle_core.specs.Inner.Raised.{compress_up_to, given_nodes}
 use Rattle.p3_merkle_core.specs.OneHeight.{cap_layer_of_height, nodes_of_height}
+use Rattle.p3_merkle_core.specs.Raised.{compress_up_to, given_nodes}
 use Rattle.p3_merkle_core.proofs.InParts.CallFacts.{cap_length}
 use Rattle.p3_merkle_core.proofs.InParts.PartHeights.{none_higher}
 use Rattle.p3_merkle_core.proofs.Shapes.OneHeight.{levels_mono}

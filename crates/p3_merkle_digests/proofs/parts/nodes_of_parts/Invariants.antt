@@ -2,8 +2,8 @@ use Rattle.std.proofs.Common.{◌≡◌, get_or, map}
 use Rattle.std.specs.Prelude.{replicate}
 use Rattle.std.specs.List.{flat_map, range_with_len}
 use Rattle.p3_support.specs.Shown.{roots_of}
-use Rattle.p3_merkle_core.specs.Inner.Raised.{compress_up_to, given_nodes}
 use Rattle.p3_merkle_core.specs.OneHeight.{cap_layer_of_height}
+use Rattle.p3_merkle_core.specs.Raised.{compress_up_to, given_nodes}
 use Rattle.p3_merkle_digests.proofs.parts.nodes_of_parts.Given as goal
 
 -- the nodes of the parts so far

@@ -2,8 +2,8 @@
 use Rattle.std.proofs.Common.{◌∙◌, ◌*◌, ap, arith, drop, take}
 use Rattle.std.proofs.lemmas.Result.{err_from_is_err_and}
 use Rattle.std.specs.Prelude.{replicate}
-use Rattle.p3_merkle_core.specs.Inner.Raised.{compress_up_to}
 use Rattle.p3_merkle_core.specs.Nodes.{padded}
+use Rattle.p3_merkle_core.specs.Raised.{compress_up_to}
 use Rattle.p3_merkle_digests.proofs.RaisedFacts.{children_are, one_more_parent}
 use Rattle.p3_merkle_digests.proofs.parts.parents.Goals as goal
 

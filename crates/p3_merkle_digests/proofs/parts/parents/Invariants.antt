@@ -1,7 +1,7 @@
 use Rattle.std.proofs.Common.{◌≡◌, ◌*◌, drop, map, take}
 use Rattle.std.specs.Prelude.{replicate}
 use Rattle.std.specs.List.{range_with_len}
-use Rattle.p3_merkle_core.specs.Inner.Raised.{compress_up_to}
+use Rattle.p3_merkle_core.specs.Raised.{compress_up_to}
 use Rattle.p3_merkle_digests.proofs.parts.parents.Given as goal
 
 -- the parents so far, and the capacity for the others

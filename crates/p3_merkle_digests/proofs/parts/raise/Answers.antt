@@ -3,7 +3,7 @@ use Rattle.std.proofs.Common.{◌++◌, ◌∙◌, ap, sym}
 use Rattle.std.proofs.lemmas.Result.{err_from_is_err_and}
 use Rattle.std.specs.Prelude.{replicate}
 use Rattle.std.proofs.lemmas.List.{take-append-drop}
-use Rattle.p3_merkle_core.specs.Inner.Raised.{compress_up_to, raised}
+use Rattle.p3_merkle_core.specs.Raised.{compress_up_to, raised}
 use Rattle.p3_merkle_digests.proofs.RaisedFacts.{one_more_level}
 use Rattle.p3_merkle_digests.proofs.parts.raise.Goals as goal
 

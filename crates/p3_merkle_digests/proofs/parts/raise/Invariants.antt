@@ -1,6 +1,6 @@
 use Rattle.std.proofs.Common.{◌≡◌, ◌++◌, drop, take}
 use Rattle.std.specs.Prelude.{replicate}
-use Rattle.p3_merkle_core.specs.Inner.Raised.{compress_up_to, raised}
+use Rattle.p3_merkle_core.specs.Raised.{compress_up_to, raised}
 use Rattle.p3_merkle_digests.proofs.parts.raise.Given as goal
 
 -- the nodes so many levels up, behind those that stay
