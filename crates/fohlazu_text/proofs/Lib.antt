@@ -4,6 +4,8 @@ pub mod NumberFacts
 pub mod DigestFacts
 pub mod PartFacts
 pub mod LineFacts
+pub mod DigestListFacts
 pub mod TextFacts
 pub mod SealFacts
 pub mod ProofFacts
+pub mod ConsistencyFacts

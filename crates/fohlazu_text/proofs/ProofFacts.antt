@@ -7,21 +7,19 @@ use Rattle.std.specs.Result.{result_map_both}
 use Rattle.std.proofs.Math.Seq.{drop-append-add, get_or-append_seam, take-append_seam}
 use Rattle.std.proofs.lemmas.Bool.Decides.{Decides-and, Decides-eqb, Decides-ltb}
 use Rattle.std.proofs.lemmas.List.{take-append-drop}
-use Rattle.mmcs_text.specs.Printing.{IsDigestOf}
-use Rattle.mmcs_text.specs.Text.{digest_lines, hex_line, hex_lines, labelled}
-use Rattle.mmcs_text.specs.declared.command.HashName.TheVariants.{Sha256}
-use Rattle.fohlazu_text.specs.Fields.{EntryFields, IsEntry, IsProof, ProofFields}
+use Rattle.mmcs_text.specs.Text.{digest_lines, labelled}
+use Rattle.fohlazu_text.specs.Fields.{AreDigests, EntryFields, IsEntry, IsProof, ProofFields}
 use Rattle.fohlazu_text.specs.Pieces.{head_of}
 use Rattle.fohlazu_text.specs.Printing.{entry_lines, labelled_pair, line, proof_text, proof_version}
-use Rattle.fohlazu_text.specs.Reading.{bytes_by, digest_by, digest_count_by, digests_by, ended, entry_by}
-use Rattle.fohlazu_text.specs.Reading.{entry_count_by}
+use Rattle.fohlazu_text.specs.Reading.{bytes_by, counted_digests_by, ended, entry_by, entry_count_by}
 use Rattle.fohlazu_text.specs.Reading.{fault_of, line_by, missing, proof_by, proof_in, proof_version_by, repeated}
 use Rattle.fohlazu_text.specs.Reading.{then_read, Reads}
 use Rattle.fohlazu_text.specs.Spelling.{ProofsAreSpelled}
-use Rattle.fohlazu_text.specs.declared.fault.Expected.TheVariants.{DigestCount, EntryBytes, EntryCount, EntryHead}
+use Rattle.fohlazu_text.specs.declared.fault.Expected.TheVariants.{EntryBytes, EntryCount, EntryHead}
 use Rattle.fohlazu_text.specs.declared.fault.Expected.TheVariants.{ProofVersion}
 use Rattle.fohlazu_text.specs.declared.fault.Stop.{Stop}
-use Rattle.fohlazu_text.proofs.LineFacts.{digest_spelled, head_spelled, number_spelled, version_spelled}
+use Rattle.fohlazu_text.proofs.DigestListFacts.{digests_spelled}
+use Rattle.fohlazu_text.proofs.LineFacts.{head_spelled, number_spelled, version_spelled}
 use Rattle.fohlazu_text.proofs.PartFacts.{before, list_back, list_only, next_is, ok_same, IsSpelled}
 use Rattle.fohlazu_text.proofs.SealFacts.{ended_only, shown_whole}
 use Rattle.fohlazu_text.proofs.TextFacts.{four_inside}
@@ -118,11 +116,8 @@ entry_spelled =
 abbrev after_digests : List EntryFields → List (List ℕ) → List ℕ → Result ProofFields Stop
 after_digests entries digests left = ended (record { entries = entries; digests = digests }) left
 
-abbrev after_digest_count : List EntryFields → ℕ → List ℕ → Result ProofFields Stop
-after_digest_count entries count left = then_read (digests_by count left) (after_digests entries)
-
 abbrev after_entries : List EntryFields → List ℕ → Result ProofFields Stop
-after_entries entries left = then_read (digest_count_by left) (after_digest_count entries)
+after_entries entries left = then_read (counted_digests_by left) (after_digests entries)
 
 abbrev after_count : ℕ → List ℕ → Result ProofFields Stop
 after_count count left = then_read (repeated entry_by count left) after_entries
@@ -132,70 +127,59 @@ after_version u left = then_read (entry_count_by left) after_count
 
 proof_back : (p : ProofFields) → IsProof p → proof_by (proof_text p) ≡ Ok p
 proof_back p is =
-    let digests = hex_lines 2 p.digests in
-    let digest_count = digest_lines 2 p.digests in
-    let entries = flat_map entry_lines p.entries ++ digest_count in
+    let digests = digest_lines 2 p.digests in
+    let are : AreDigests p.digests = record { each = is.digests; fit = is.digests_fit } in
+    let entries = flat_map entry_lines p.entries ++ digests in
     let count = labelled (codes "entries") (length p.entries) ++ entries in
-    let read : digests_by (length p.digests) digests ≡ Ok (p.digests, []) =
-    ap (repeated digest_by (length p.digests)) (sym (append-nil digests))
-    ∙ list_back digest_by (IsDigestOf Sha256) (hex_line 2) digest_spelled p.digests [] is.digests in
+    let read : counted_digests_by digests ≡ Ok (p.digests, []) =
+    ap counted_digests_by (sym (append-nil digests)) ∙ digests_spelled.back p.digests [] are in
     ap proof_by (four_inside (line proof_version) (labelled (codes "entries") (length p.entries))
-    (flat_map entry_lines p.entries) digest_count)
+    (flat_map entry_lines p.entries) digests)
     ∙ next_is (proof_version_by (line proof_version ++ count)) after_version tt count
     ((version_spelled ProofVersion proof_version refl).back tt count tt)
     ∙ next_is (entry_count_by count) after_count (length p.entries) entries
     ((number_spelled EntryCount (codes "entries ") refl).back (length p.entries) entries is.entries_fit)
-    ∙ next_is (repeated entry_by (length p.entries) entries) after_entries p.entries digest_count
-    (list_back entry_by IsEntry entry_lines entry_spelled p.entries digest_count is.entries)
-    ∙ next_is (digest_count_by digest_count) (after_digest_count p.entries) (length p.digests) digests
-    ((number_spelled DigestCount (codes "digests ") refl).back (length p.digests) digests is.digests_fit)
-    ∙ next_is (digests_by (length p.digests) digests) (after_digests p.entries) p.digests [] read
+    ∙ next_is (repeated entry_by (length p.entries) entries) after_entries p.entries digests
+    (list_back entry_by IsEntry entry_lines entry_spelled p.entries digests is.entries)
+    ∙ next_is (counted_digests_by digests) (after_digests p.entries) p.digests [] read
 
 -- part after part, up to the end
-pub proof_walk : (text left1 left2 left3 left4 left5 : List ℕ) (count digest_count : ℕ) (entries : List EntryFields)
+pub proof_walk : (text left1 left2 left3 left4 : List ℕ) (count : ℕ) (entries : List EntryFields)
     (digests : List (List ℕ)) → Ok (tt, left1) ≡ proof_version_by text → Ok (count, left2) ≡ entry_count_by left1 →
-    repeated entry_by count left2 ≡ Ok (entries, left3) → Ok (digest_count, left4) ≡ digest_count_by left3 →
-    digests_by digest_count left4 ≡ Ok (digests, left5) →
-    proof_by text ≡ ended (record { entries = entries; digests = digests }) left5
-proof_walk text left1 left2 left3 left4 left5 count digest_count entries digests e1 e2 e3 e4 e5 =
+    repeated entry_by count left2 ≡ Ok (entries, left3) → counted_digests_by left3 ≡ Ok (digests, left4) →
+    proof_by text ≡ ended (record { entries = entries; digests = digests }) left4
+proof_walk text left1 left2 left3 left4 count entries digests e1 e2 e3 e4 =
     next_is (proof_version_by text) after_version tt left1 (sym e1)
     ∙ next_is (entry_count_by left1) after_count count left2 (sym e2)
     ∙ next_is (repeated entry_by count left2) after_entries entries left3 e3
-    ∙ next_is (digest_count_by left3) (after_digest_count entries) digest_count left4 (sym e4)
-    ∙ next_is (digests_by digest_count left4) (after_digests entries) digests left5 e5
+    ∙ next_is (counted_digests_by left3) (after_digests entries) digests left4 e4
 
 proof_only : (text : List ℕ) (p : ProofFields) → proof_by text ≡ Ok p → IsProof p × (text ≡ proof_text p)
 proof_only text p is =
     let version = before (proof_version_by text) after_version p is in
     let count = before (entry_count_by version.1) after_count p version.3 in
     let entries = before (repeated entry_by count.0 count.1) after_entries p count.3 in
-    let digest_count = before (digest_count_by entries.1) (after_digest_count entries.0) p entries.3 in
-    let digests = before (digests_by digest_count.0 digest_count.1) (after_digests entries.0) p digest_count.3 in
+    let digests = before (counted_digests_by entries.1) (after_digests entries.0) p entries.3 in
     let found : ProofFields = record { entries = entries.0; digests = digests.0 } in
     let end = ended_only found p digests.1 digests.3 in
     let version_is = (version_spelled ProofVersion proof_version refl).only version.0 text version.1 version.2 in
     let count_is = (number_spelled EntryCount (codes "entries ") refl).only count.0 version.1 count.1 count.2 in
     let entries_are = list_only entry_by IsEntry entry_lines entry_spelled count.0 entries.0 count.1 entries.1
     entries.2 in
-    let digest_count_is = (number_spelled DigestCount (codes "digests ") refl).only digest_count.0 entries.1
-    digest_count.1
-    digest_count.2 in
-    let digests_are = list_only digest_by (IsDigestOf Sha256) (hex_line 2) digest_spelled digest_count.0 digests.0
-    digest_count.1 digests.1 digests.2 in
+    let digests_are = digests_spelled.only digests.0 entries.1 digests.1 digests.2 in
     let proof : IsProof found = record {
       entries = entries_are.1;
       entries_fit = omega (arith, entries_are.0, count_is.0);
-      digests = digests_are.1;
-      digests_fit = omega (arith, digests_are.0, digest_count_is.0);
+      digests = digests_are.0.each;
+      digests_fit = digests_are.0.fit;
     } in
-    let last : digest_count.1 ≡ hex_lines 2 digests.0 =
-    digests_are.2 ∙ ap (λ t. hex_lines 2 digests.0 ++ t) end.1 ∙ append-nil (hex_lines 2 digests.0) in
+    let last : entries.1 ≡ digest_lines 2 digests.0 =
+    digests_are.1 ∙ ap (λ t. digest_lines 2 digests.0 ++ t) end.1 ∙ append-nil (digest_lines 2 digests.0) in
     let text_is : text ≡ proof_text found =
     version_is.1
     ∙ ap (λ t. line proof_version ++ t) (count_is.1
     ∙ (λ i. labelled (codes "entries") (sym entries_are.0 i) ++ (entries_are.2
-    ∙ ap (λ t. flat_map entry_lines entries.0 ++ t) (digest_count_is.1
-    ∙ (λ j. labelled (codes "digests") (sym digests_are.0 j) ++ last j))) i))
+    ∙ ap (λ t. flat_map entry_lines entries.0 ++ t) last) i))
     ∙ sym (four_inside (line proof_version) (labelled (codes "entries") (length entries.0))
     (flat_map entry_lines entries.0) (digest_lines 2 digests.0)) in
     (subst IsProof end.0 proof, text_is ∙ ap proof_text end.0)

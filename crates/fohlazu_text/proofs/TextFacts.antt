@@ -2,7 +2,17 @@
 use Rattle.std.proofs.Common.{◌≡◌, ℕ, List, [], ◌∷◌, ◌++◌, map, refl, ap, ◌∙◌, append_assoc}
 use Rattle.mmcs_text.specs.Text.{hex_lines}
 
--- five parts, each behind those before it
+-- parts, each behind those before it: two, and four, and five
+pub two_parts : (none first all a b : List ℕ) → none ≡ [] → first ≡ none ++ a → all ≡ first ++ b → all ≡ a ++ b
+two_parts none first all a b none_is first_is all_is =
+    all_is ∙ ap (λ t. t ++ b) (first_is ∙ ap (λ t. t ++ a) none_is)
+
+pub four_parts : (none first second third all a b c d : List ℕ) → none ≡ [] → first ≡ none ++ a →
+    second ≡ first ++ b → third ≡ second ++ c → all ≡ third ++ d → all ≡ a ++ b ++ c ++ d
+four_parts none first second third all a b c d none_is first_is second_is third_is all_is =
+    all_is
+    ∙ ap (λ t. t ++ d) (third_is ∙ ap (λ t. t ++ c) (two_parts none first second a b none_is first_is second_is))
+
 pub five_parts : (none first second third fourth all a b c d e : List ℕ) → none ≡ [] → first ≡ none ++ a →
     second ≡ first ++ b → third ≡ second ++ c → fourth ≡ third ++ d → all ≡ fourth ++ e →
     all ≡ a ++ b ++ c ++ d ++ e

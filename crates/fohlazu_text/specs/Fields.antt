@@ -1,4 +1,4 @@
--- What a seal and a proof say.
+-- What a seal, a proof and a consistency proof say.
 use Rattle.std.specs.Prelude.{◌≡◌, ◌≢◌, ℕ, ◌-◌, ◌^◌, ◌<◌, ◌≤◌, List, length, map, slice_index, All, Option, IfSome}
 use Rattle.std.specs.Prelude.{option_map, string_bytes}
 use Rattle.p3_merkle_core.specs.Geometry.{padded_len}
@@ -94,3 +94,10 @@ pub record IsProof (p : ProofFields) : Type 0 where
   pub entries_fit : length p.entries < 2 ^ 64
   pub digests : All (IsDigestOf Sha256) p.digests
   pub digests_fit : length p.digests < 2 ^ 64
+
+-- ---- consistency proofs
+
+-- what a consistency proof may say: digests, whose count fits usize; whether they prove anything is not asked
+pub record AreDigests (digests : List (List ℕ)) : Type 0 where
+  pub each : All (IsDigestOf Sha256) digests
+  pub fit : length digests < 2 ^ 64

@@ -1,4 +1,4 @@
--- The texts of seals and proofs.
+-- The texts of seals, proofs and consistency proofs.
 use Rattle.std.specs.Prelude.{ℕ, List, [], ◌∷◌, ◌++◌, length, flat_map, codes, decimal, Option, None, Some}
 use Rattle.mmcs_text.specs.Text.{digest_lines, hex_lines, labelled}
 use Rattle.mmcs_text.specs.Words.{arity_number}
@@ -56,3 +56,13 @@ abbrev pub proof_text : ProofFields → List ℕ
 proof_text p =
     line proof_version ++ labelled (codes "entries") (length p.entries) ++ flat_map entry_lines p.entries
     ++ digest_lines 2 p.digests
+
+-- ---- consistency proofs
+
+-- the first line of a consistency proof
+abbrev pub consistency_version : List ℕ
+consistency_version = codes "fohlazu consistency 1"
+
+-- a consistency proof: how many digests there are, and the digests
+abbrev pub consistency_text : List (List ℕ) → List ℕ
+consistency_text digests = line consistency_version ++ digest_lines 2 digests

@@ -7,9 +7,10 @@ use Rattle.std.specs.Result.{result_map_both}
 use Rattle.std.specs.Cmp.Lexicographic.{pointwise}
 use Rattle.fohlazu_text.specs.Fields.{cap_len, EntryFields, ProofFields, SealFields}
 use Rattle.fohlazu_text.specs.Pieces.{content_of, cut_at, head_of, label_of, number_behind, scheme_of, strict_digest_of}
-use Rattle.fohlazu_text.specs.Printing.{proof_version, seal_version}
+use Rattle.fohlazu_text.specs.Printing.{consistency_version, proof_version, seal_version}
 use Rattle.fohlazu_text.specs.declared.fault.Expected.{Expected}
 use Rattle.fohlazu_text.specs.declared.fault.Expected.TheVariants.{SealVersion, ProofVersion, SchemeLine}
+use Rattle.fohlazu_text.specs.declared.fault.Expected.TheVariants.{ConsistencyVersion}
 use Rattle.fohlazu_text.specs.declared.fault.Expected.TheVariants.{LabelOrContent}
 use Rattle.fohlazu_text.specs.declared.fault.Expected.TheVariants.{ContentLine, EntryCount, EntryHead, EntryBytes}
 use Rattle.fohlazu_text.specs.declared.fault.Expected.TheVariants.{DigestCount, Digest, End}
@@ -60,6 +61,13 @@ digest_by left = line_by Digest strict_digest_of left
 
 abbrev pub digests_by : ℕ → List ℕ → Reads (List (List ℕ))
 digests_by count left = repeated digest_by count left
+
+-- digests, behind a line that tells how many there are
+abbrev pub digest_count_by : List ℕ → Reads ℕ
+digest_count_by left = line_by DigestCount (number_behind (codes "digests ")) left
+
+abbrev pub counted_digests_by : List ℕ → Reads (List (List ℕ))
+counted_digests_by left = then_read (digest_count_by left) digests_by
 
 -- ---- seals
 
@@ -113,20 +121,27 @@ entry_by left =
     then_read (line_by EntryHead head_of left) (λ head left. then_read (bytes_by head.1 left) (λ bytes left.
     Ok (record { number = head.0; bytes = bytes }, left)))
 
--- how many entries follow, and how many digests
+-- how many entries follow
 abbrev pub entry_count_by : List ℕ → Reads ℕ
 entry_count_by left = line_by EntryCount (number_behind (codes "entries ")) left
-
-abbrev pub digest_count_by : List ℕ → Reads ℕ
-digest_count_by left = line_by DigestCount (number_behind (codes "digests ")) left
 
 -- a proof
 abbrev pub proof_by : List ℕ → Result ProofFields Stop
 proof_by text =
     then_read (proof_version_by text) (λ _ left. then_read (entry_count_by left) (λ count left.
-    then_read (repeated entry_by count left) (λ entries left. then_read (digest_count_by left) (λ digest_count left.
-    then_read (digests_by digest_count left) (λ digests left.
-    ended (record { entries = entries; digests = digests }) left)))))
+    then_read (repeated entry_by count left) (λ entries left. then_read (counted_digests_by left) (λ digests left.
+    ended (record { entries = entries; digests = digests }) left))))
+
+-- ---- consistency proofs
+
+-- the first line
+abbrev pub consistency_version_by : List ℕ → Reads (Unit {0})
+consistency_version_by left = line_by ConsistencyVersion (is_spelled consistency_version) left
+
+-- a consistency proof
+abbrev pub consistency_by : List ℕ → Result (List (List ℕ)) Stop
+consistency_by text =
+    then_read (consistency_version_by text) (λ _ left. then_read (counted_digests_by left) ended)
 
 -- ---- faults
 
@@ -139,9 +154,12 @@ abbrev pub fault_of : List ℕ → Stop → TextFault
 fault_of text (Missing left expected) = Line (line_at text left) expected
 fault_of text Memory = OutOfMemory
 
--- what a text shows of a seal, or of a proof; or its first faulty line
+-- what a text shows of a seal, of a proof, or of a consistency proof; or its first faulty line
 abbrev pub seal_in : List ℕ → Result SealFields TextFault
 seal_in text = result_map_both (λ seal. seal) (fault_of text) (seal_by text)
 
 abbrev pub proof_in : List ℕ → Result ProofFields TextFault
 proof_in text = result_map_both (λ proof. proof) (fault_of text) (proof_by text)
+
+abbrev pub consistency_in : List ℕ → Result (List (List ℕ)) TextFault
+consistency_in text = result_map_both (λ digests. digests) (fault_of text) (consistency_by text)

@@ -32,6 +32,9 @@ pub enum Expected {
     /// The first line of a proof.
     #[error("`fohlazu proof 1`")]
     ProofVersion,
+    /// The first line of a consistency proof.
+    #[error("`fohlazu consistency 1`")]
+    ConsistencyVersion,
     /// The hash, the arity and the cap height.
     #[error("`sha256 ARITY LEVELS`, with an arity of 2, 4 or 8 and up to 62 levels")]
     SchemeLine,
@@ -50,7 +53,7 @@ pub enum Expected {
     /// The bytes of an entry.
     #[error("{0} bytes and a line feed")]
     EntryBytes(usize),
-    /// How many digests a proof has.
+    /// How many digests follow.
     #[error("`digests COUNT`")]
     DigestCount,
     /// A digest.

@@ -1,6 +1,6 @@
 //! What follows from the definitions, as the contracts of calls that do nothing.
 
-ghost use Rattle.fohlazu_text.specs.Spelling.{ProofsAreSpelled, SealsAreSpelled};
+ghost use Rattle.fohlazu_text.specs.Spelling.{ConsistencyProofsAreSpelled, ProofsAreSpelled, SealsAreSpelled};
 
 /// A seal has one text, and a text shows one seal at most: a text shows a seal exactly where it is the text of that
 /// seal.
@@ -11,4 +11,9 @@ pub fn seals_are_spelled()
 /// And so it is with proofs.
 pub fn proofs_are_spelled()
     ensures { ProofsAreSpelled }
+{}
+
+/// And with consistency proofs.
+pub fn consistency_proofs_are_spelled()
+    ensures { ConsistencyProofsAreSpelled }
 {}

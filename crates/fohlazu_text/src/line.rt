@@ -4,7 +4,7 @@ ghost use Rattle.std.specs.Prelude.{◌≡◌, ◌⊎◌, IfErr, IfOk, Ok, Err, 
 ghost use Rattle.std.specs.Result.{result_map_both};
 ghost use Rattle.fohlazu_text.specs.Pieces.{cut_at, number_behind, number_of, pair_behind, pair_of};
 ghost use Rattle.fohlazu_text.specs.Pieces.{strict_digest_of};
-ghost use Rattle.fohlazu_text.specs.Reading.{digest_by, digests_by, ended, is_spelled, line_by};
+ghost use Rattle.fohlazu_text.specs.Reading.{counted_digests_by, digest_by, digests_by, ended, is_spelled, line_by};
 ghost use Rattle.fohlazu_text.specs.declared.fault.Stop.TheVariants.{Memory};
 
 use crate::fault::{Expected, Stop, missing};
@@ -136,6 +136,20 @@ pub(crate) fn digests_by(
         rest = below;
     }
     Ok((digests, rest))
+}
+
+/// Digests, behind a line that says how many there are.
+///
+/// # Errors
+///
+/// What is expected, where a line shows something else, or has no line feed; `Memory` if memory runs out.
+pub(crate) fn counted_digests_by(alloc: Global, left: &[u8]) -> Result<(Vec<[u8; 32]>, &[u8]), Stop>
+    ensures read { IfOk result
+        (λ (digests, rest). counted_digests_by left.now ≡ Ok (digests.items, rest.now)) }
+    ensures fault { IfErr result (λ stop. (stop ≡ Memory) ⊎ (counted_digests_by left.now ≡ Err stop)) }
+{
+    let (count, left) = number_by(left, b"digests ", Expected::DigestCount)?;
+    digests_by(alloc, count, left)
 }
 
 /// Nothing.

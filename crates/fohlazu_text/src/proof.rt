@@ -11,9 +11,9 @@ ghost use Rattle.fohlazu_text.specs.declared.fault.Stop.TheVariants.{Memory};
 ghost use Rattle.fohlazu_text.specs.declared.fault.TextFault.TheVariants.{OutOfMemory};
 
 use crate::fault::{Expected, Stop, TextFault, fault_of, missing};
-use crate::line::{cut_at, digests_by, ended, number_by, pair_behind, spelled_by};
-use crate::text::{push_line, push_pair};
-use mmcs_text::text::{push_digests, push_labelled};
+use crate::line::{counted_digests_by, cut_at, ended, number_by, pair_behind, spelled_by};
+use crate::text::{push_counted_digests, push_line, push_pair};
+use mmcs_text::text::push_labelled;
 use std::alloc::{AllocError, Global};
 
 /// The first line of a proof.
@@ -126,8 +126,7 @@ fn proof_by(alloc: Global, text: &[u8]) -> Result<Proof, Stop>
     let left = spelled_by(text, VERSION, Expected::ProofVersion)?;
     let (count, left) = number_by(left, b"entries ", Expected::EntryCount)?;
     let (entries, left) = entries_by(alloc, count, left)?;
-    let (digest_count, left) = number_by(left, b"digests ", Expected::DigestCount)?;
-    let (digests, left) = digests_by(alloc, digest_count, left)?;
+    let (digests, left) = counted_digests_by(alloc, left)?;
     ended(left)?;
     Ok(Proof { entries, digests })
 }
@@ -160,8 +159,7 @@ impl Proof {
         push_line(&mut text, VERSION)?;
         push_labelled(alloc, &mut text, "entries", self.entries.len())?;
         push_entries(alloc, &mut text, &self.entries)?;
-        push_labelled(alloc, &mut text, "digests", self.digests.len())?;
-        push_digests(&mut text, &self.digests)?;
+        push_counted_digests(alloc, &mut text, &self.digests)?;
         Ok(text)
     }
 }

@@ -89,7 +89,7 @@ impl Scheme {
 }
 
 /// How many children a node may have.
-fn arity_number(arity: Arity) -> usize
+pub fn arity_number(arity: Arity) -> usize
     ensures { result ≡ arity_number arity }
 {
     match arity {

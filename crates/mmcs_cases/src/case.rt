@@ -3,6 +3,7 @@
 use crate::entries::entries_told;
 use crate::failing::{FailingInput, FailingOutput};
 use anyhow::Error;
+use fohlazu_text::consistency::Consistency;
 use fohlazu_text::proof::Proof;
 use fohlazu_text::seal::Seal;
 use mmcs_engine::engine::run;
@@ -166,10 +167,11 @@ fn unwritten(alloc: Global, words: &str, mut input: &[u8]) -> Result<String, Err
     told(alloc, &output.taken, outcome)
 }
 
-/// Whether a text is a seal, or a proof, and the same when it is printed again; or why it is none.
+/// Whether a text is a seal, a proof or a consistency proof, and the same when it is printed again; or why it is none.
 fn read_again(alloc: Global, kind: &str, text: &[u8]) -> Result<String, Error> {
     let read = match kind {
         "seal" => Seal::from_text(alloc, text).map(|seal| seal.to_text(alloc)),
+        "consistency" => Consistency::from_text(alloc, text).map(|proof| proof.to_text(alloc)),
         _ => Proof::from_text(alloc, text).map(|proof| proof.to_text(alloc)),
     };
     match read {

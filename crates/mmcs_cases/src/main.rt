@@ -4,9 +4,10 @@
 //! A case is `WORDS | "INPUT" | ANSWER`: the words after the program's name, where `""` is an empty word; the input;
 //! and what is printed, with the line and the status of a fault. In front of the words stands `verify` where they are
 //! those of `mmcs_verify`, `unread` where the input fails at its end, and `unwritten N` where the output takes a byte
-//! at each call and fails after `N` calls. Behind `fohlazu` the input is a text of a seal or of a proof, and behind
-//! `entries` it is a file whose entries are read. In the input and the answer `\n`, `\r`, `\t`, `\0` and `\xHH` are the
-//! bytes that they are in Rust's byte strings. Blank lines, and lines that begin with `#`, are no cases.
+//! at each call and fails after `N` calls. Behind `fohlazu` the input is a text of a seal, of a proof or of a
+//! consistency proof, and behind `entries` it is a file whose entries are read. In the input and the answer `\n`, `\r`,
+//! `\t`, `\0` and `\xHH` are the bytes that they are in Rust's byte strings. Blank lines, and lines that begin with
+//! `#`, are no cases.
 #![tactic(auto)]
 
 mod case;

@@ -14,9 +14,9 @@ returns-in_err-ended-clause-fault c =
     } in
     rw (left.1, left.2)
     (inr (proof_walk c.args.text.now c.in_ok-left.left.now c.in_ok-count.left.now c.in_ok-entries.left.now
-    c.in_ok-digest_count.left.now c.in_ok-digests.left.now c.in_ok-count.count c.in_ok-digest_count.digest_count
+    c.in_ok-digests.left.now c.in_ok-count.count
     (map entry_fields c.in_ok-entries.entries.items) c.in_ok-digests.digests.items c.in_ok-left.ensures
-    c.in_ok-count.ensures c.in_ok-entries.ensures.read c.in_ok-digest_count.ensures c.in_ok-digests.ensures.read
+    c.in_ok-count.ensures c.in_ok-entries.ensures.read c.in_ok-digests.ensures.read
     ∙ not_ended found c.in_ok-digests.left.now c.in_err-ended.field-0.0 c.in_err-ended.ensures))
 
 pub returns-clause-read : goal.returns-clause-read
@@ -26,7 +26,7 @@ returns-clause-read c =
       digests = c.in_ok-digests.digests.items;
     } in
     proof_walk c.args.text.now c.in_ok-left.left.now c.in_ok-count.left.now c.in_ok-entries.left.now
-    c.in_ok-digest_count.left.now c.in_ok-digests.left.now c.in_ok-count.count c.in_ok-digest_count.digest_count
+    c.in_ok-digests.left.now c.in_ok-count.count
     (map entry_fields c.in_ok-entries.entries.items) c.in_ok-digests.digests.items c.in_ok-left.ensures
-    c.in_ok-count.ensures c.in_ok-entries.ensures.read c.in_ok-digest_count.ensures c.in_ok-digests.ensures.read
+    c.in_ok-count.ensures c.in_ok-entries.ensures.read c.in_ok-digests.ensures.read
     ∙ ended_as found c.in_ok-digests.left.now c.in_ok-ended.field-0 c.in_ok-ended.ensures

@@ -1,32 +1,24 @@
-use Rattle.std.proofs.Common.{◌++◌, ap, ◌∙◌, append_assoc, length, map, sym}
+use Rattle.std.proofs.Common.{◌++◌, ap, ◌∙◌, length, map, sym}
 use Rattle.std.specs.Prelude.{codes, flat_map}
 use Rattle.std.proofs.lemmas.List.{length-map}
-use Rattle.mmcs_text.specs.Text.{hex_lines, labelled}
+use Rattle.mmcs_text.specs.Text.{digest_lines, labelled}
 use Rattle.fohlazu_text.specs.Fields.{entry_fields}
 use Rattle.fohlazu_text.specs.Printing.{entry_lines, line, proof_version}
-use Rattle.fohlazu_text.proofs.TextFacts.{five_parts, same_digests}
+use Rattle.fohlazu_text.proofs.TextFacts.{four_parts}
 use Rattle.fohlazu_text.proofs.proof.Proof.to_text.Goals as goal
 
 pub returns : goal.returns
 returns c =
     let entries = c.args.self.now.entries.items in
     let digests = c.args.self.now.digests.items in
-    five_parts c.new-text.result.items c.push_line.new.text.items c.push_labelled.new.text.items
-    c.push_entries.new.text.items c.push_labelled-2.new.text.items c.push_digests.new.text.items (line proof_version)
+    four_parts c.new-text.result.items c.push_line.new.text.items c.push_labelled.new.text.items
+    c.push_entries.new.text.items c.push_counted_digests.new.text.items (line proof_version)
     (labelled (codes "entries") (length (map entry_fields entries))) (flat_map entry_lines (map entry_fields entries))
-    (labelled (codes "digests") (length digests)) (hex_lines 2 digests) c.new-text.ensures.items
-    c.in_ok-push_line.ensures
+    (digest_lines 2 digests) c.new-text.ensures.items c.in_ok-push_line.ensures
     (c.in_ok-push_labelled.ensures
     ∙ ap (λ n. c.push_line.new.text.items ++ labelled (codes "entries") n)
     (c.len.ensures ∙ c.args.self.now.entries.ok.0 ∙ sym (length-map entries entry_fields)))
     (c.in_ok-push_entries.ensures
     ∙ ap (λ es. c.push_labelled.new.text.items ++ flat_map entry_lines (map entry_fields es)) c.deref.ensures.value)
-    (c.in_ok-push_labelled-2.ensures
-    ∙ ap (λ n. c.push_entries.new.text.items ++ labelled (codes "digests") n)
-    (c.len-2.ensures ∙ c.args.self.now.digests.ok.0))
-    (c.in_ok-push_digests.ensures
-    ∙ ap (λ t. c.push_labelled-2.new.text.items ++ t)
-    (same_digests c.deref-2.result.now ∙ ap (hex_lines 2) c.deref-2.ensures.value))
-    ∙ append_assoc ((line proof_version ++ labelled (codes "entries") (length (map entry_fields entries)))
-    ++ flat_map entry_lines (map entry_fields entries)) (labelled (codes "digests") (length digests))
-    (hex_lines 2 digests)
+    (c.in_ok-push_counted_digests.ensures
+    ∙ ap (λ ds. c.push_entries.new.text.items ++ digest_lines 2 ds) c.deref-2.ensures.value)
