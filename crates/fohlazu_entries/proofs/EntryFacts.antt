@@ -21,7 +21,7 @@ only bytes = if length bytes == 0 then [] else bytes ∷ []
 
 -- ---- lines
 
-more_behind : (x : List ℕ) (xs : List (List ℕ)) → 0 < length xs →
+pub more_behind : (x : List ℕ) (xs : List (List ℕ)) → 0 < length xs →
     without_empty_last (x ∷ xs) ≡ x ∷ without_empty_last xs
 more_behind x [] some = absurd (omega (arith, some))
 more_behind x (y ∷ ys) some = refl

@@ -1,5 +1,6 @@
 pub mod EntryFacts
 pub mod VerdictFacts
+pub mod PieceFacts
 pub mod AskedFacts
 pub mod SplitterFacts
 pub mod WholeFacts

@@ -1,6 +1,6 @@
 -- The entries of a file.
-use Rattle.std.specs.Prelude.{◌≡◌, ℕ, ◌-◌, ◌==◌, ◌&&◌, nat_le, not, Bool, if◌then◌else◌, List, [], ◌∷◌, length, map}
-use Rattle.std.specs.Prelude.{slice_index_or, Option, None, Some}
+use Rattle.std.specs.Prelude.{◌≡◌, ℕ, ◌-◌, ◌%◌, ◌==◌, ◌&&◌, nat_le, not, Bool, if◌then◌else◌, List, [], ◌∷◌, length}
+use Rattle.std.specs.Prelude.{map, slice_index, slice_index_or, Option, None, Some}
 use Rattle.std.specs.Int.{div_ceil}
 use Rattle.std.specs.List.{list_all, slice_split}
 use Rattle.sha2.specs.Sha256.{sha256}
@@ -26,6 +26,11 @@ blocks_in size bytes = messages size (div_ceil (length bytes) size) bytes
 abbrev pub entries_in : Kind → List ℕ → List (List ℕ)
 entries_in Lines bytes = lines_in bytes
 entries_in (Blocks size) bytes = blocks_in size bytes
+
+-- bytes end where an entry does: with a line feed, or with a whole block
+abbrev pub EndsAnEntry : Kind → List ℕ → Type 0
+EndsAnEntry Lines bytes = slice_index bytes (length bytes - 1) ≡ 10
+EndsAnEntry (Blocks size) bytes = length bytes % size ≡ 0
 
 -- the entry of this number, counted from 1
 abbrev pub entry_at : List (List ℕ) → ℕ → List ℕ

@@ -21,7 +21,7 @@ use std::alloc::{AllocError, Global};
 const LONG: usize = 4_096;
 
 /// How many lines are hashed together at most.
-const TOGETHER: usize = 2_048;
+const TOGETHER: usize = 1_024;
 
 /// The digests of the whole entries at the head of some bytes, at most `most` of them and no long lines, and what is
 /// left behind these.
