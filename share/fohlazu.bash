@@ -3,7 +3,7 @@ _fohlazu() {
   local known='' word="${COMP_WORDS[COMP_CWORD]}" at=1
   [ "${COMP_WORDS[1]}" != quick ] || at=2
   if [ "$COMP_CWORD" -eq "$at" ]; then
-    known='seal prove verify conflict --help --version'
+    known='seal prove verify conflict prove-consistency verify-consistency join --help --version'
   elif [ "${COMP_WORDS[at]}" = seal ]; then
     case "$3" in
       --arity) known='2 4 8' ;;

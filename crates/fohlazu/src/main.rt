@@ -4,7 +4,7 @@
 mod input;
 mod words;
 
-use fohlazu_engine::ending::ended;
+use fohlazu_engine::ending::{Names, ended};
 use fohlazu_engine::run::run;
 use std::env;
 use std::io::ErrorKind;
@@ -24,7 +24,17 @@ fn main(rt: HostRuntime) -> ExitCode {
         Err(_) => return failed(&rt, "a word is no text in UTF-8"),
     };
     match asked_of(&rt, words.as_slice()) {
-        Ok(Asked { command, names }) => {
+        Ok(
+            Asked {
+                command,
+                names,
+                parts,
+            },
+        ) => {
+            let names = Names {
+                parts: &parts,
+                ..names
+            };
             let answer = run(alloc, command, &mut rt.stdout());
             ended(&rt, &names, answer)
         }

@@ -17,6 +17,10 @@ const VERSION: &str = "0.1.0";
 /// Why a command is refused whose numbers are not such as its help says.
 const NUMBERS: &str = "a block has 1 to 1073741824 bytes, and entries are numbered from 1";
 
+/// What `--help` says of the words of `conflict`.
+const CONFLICT_USAGE: &str = "fohlazu conflict SEAL PROOF PROOF
+       fohlazu conflict OLD-SEAL NEW-SEAL CONSISTENCY OLD-PROOF NEW-PROOF";
+
 /// What the words ask for.
 #[derive(Drop)]
 pub(crate) struct Asked<'a> {
@@ -24,6 +28,19 @@ pub(crate) struct Asked<'a> {
     pub(crate) command: Command<Input<'a>>,
     /// The names of the inputs.
     pub(crate) names: Names<'a>,
+    /// The names of the seals of parts.
+    pub(crate) parts: Vec<&'a str>,
+}
+
+impl<'a> Asked<'a> {
+    /// A command whose inputs have these names, and no parts.
+    fn new(rt: &'a HostRuntime, command: Command<Input<'a>>, names: Names<'a>) -> Asked<'a> {
+        Asked {
+            command,
+            names,
+            parts: Vec::new(rt.alloc()),
+        }
+    }
 }
 
 /// Why nothing is done.
@@ -70,10 +87,13 @@ pub(crate) fn asked_of<'a>(rt: &'a HostRuntime, words: &'a [String]) -> Result<A
         Some(("seal", found)) => seal_asked(rt, alloc, found)?,
         Some(("prove", found)) => prove_asked(rt, alloc, found)?,
         Some(("verify", found)) => verify_asked(rt, alloc, found)?,
-        Some(("conflict", found)) => conflict_asked(rt, found),
+        Some(("conflict", found)) => conflict_asked(rt, alloc, found)?,
+        Some(("prove-consistency", found)) => prove_consistency_asked(rt, found),
+        Some(("verify-consistency", found)) => verify_consistency_asked(rt, found),
+        Some(("join", found)) => join_asked(rt, alloc, found)?,
         _ => return Err(Unread::Refused("no command")),
     };
-    if stdin_count(&asked.names) > 1 {
+    if stdin_count(&asked) > 1 {
         return Err(Unread::Refused("`-` is standard input, once at most"));
     }
     if !asked.command.is_lawful() {
@@ -83,15 +103,23 @@ pub(crate) fn asked_of<'a>(rt: &'a HostRuntime, words: &'a [String]) -> Result<A
 }
 
 /// How many inputs are standard input.
-fn stdin_count(names: &Names<'_>) -> usize {
+fn stdin_count(asked: &Asked<'_>) -> usize {
+    let names = &asked.names;
     let all = [
         names.seal,
+        names.new_seal,
         names.file,
         names.proof,
+        names.consistency,
         names.first,
         names.second,
     ];
-    all.iter().filter(|name| **name == "-").count()
+    stdin_among(&all).saturating_add(stdin_among(&asked.parts))
+}
+
+/// How many of some names are standard input.
+fn stdin_among(names: &[&str]) -> usize {
+    names.iter().filter(|name| **name == "-").count()
 }
 
 /// The program's words.
@@ -103,13 +131,18 @@ fn program<'a>(alloc: Global) -> Result<Words<'a>, AllocError> {
     Words::new(alloc, "fohlazu")
         .bin_name("fohlazu")?
         .version(VERSION)
-        .about("Seals files, proves single entries of them, and verifies the proofs")
+        .about(
+            "Seals files, proves single entries of them and that they grow, and verifies the proofs",
+        )
         .subcommand_required(true)
         .arg_required_else_help(true)
         .subcommand(seal_words(alloc)?)?
         .subcommand(prove_words(alloc)?)?
         .subcommand(verify_words(alloc)?)?
-        .subcommand(conflict_words(alloc)?)
+        .subcommand(conflict_words(alloc)?)?
+        .subcommand(prove_consistency_words(alloc)?)?
+        .subcommand(verify_consistency_words(alloc)?)?
+        .subcommand(join_words(alloc)?)
 }
 
 /// The words of `seal`.
@@ -179,11 +212,65 @@ fn verify_words<'a>(alloc: Global) -> Result<Words<'a>, AllocError> {
 ///
 /// `AllocError` if memory runs out.
 fn conflict_words<'a>(alloc: Global) -> Result<Words<'a>, AllocError> {
+    let inputs = Arg::new(alloc, "INPUT")
+        .required(true)
+        .action(ArgAction::Append)
+        .num_args(3..=5)
+        .help("A seal and two proofs; or two seals, a consistency proof and two proofs");
     Words::new(alloc, "conflict")
-        .about("Compares two proofs under one seal, and shows what collides")
-        .arg(input(alloc, "SEAL", "The seal"))?
-        .arg(input(alloc, "FIRST", "A proof").value_name("PROOF"))?
-        .arg(input(alloc, "SECOND", "Another proof").value_name("PROOF"))
+        .about(
+            "Compares two proofs under one seal, or under an old and a new one, and shows what collides",
+        )
+        .override_usage(CONFLICT_USAGE)
+        .arg(inputs)
+}
+
+/// The words of `prove-consistency`.
+///
+/// # Errors
+///
+/// `AllocError` if memory runs out.
+fn prove_consistency_words<'a>(alloc: Global) -> Result<Words<'a>, AllocError> {
+    Words::new(alloc, "prove-consistency")
+        .about("Prints a proof that the file of a new seal begins with the entries of an old one")
+        .arg(input(alloc, "OLD-SEAL", "The old seal"))?
+        .arg(input(alloc, "NEW-SEAL", "The new seal"))?
+        .arg(input(
+            alloc,
+            "FILE",
+            "The file of the new seal, or one that it has grown to",
+        ))
+}
+
+/// The words of `verify-consistency`.
+///
+/// # Errors
+///
+/// `AllocError` if memory runs out.
+fn verify_consistency_words<'a>(alloc: Global) -> Result<Words<'a>, AllocError> {
+    Words::new(alloc, "verify-consistency")
+        .about("Verifies such a proof, and prints how many entries both seals have")
+        .arg(input(alloc, "OLD-SEAL", "The old seal"))?
+        .arg(input(alloc, "NEW-SEAL", "The new seal"))?
+        .arg(input(alloc, "PROOF", "The consistency proof"))
+}
+
+/// The words of `join`.
+///
+/// # Errors
+///
+/// `AllocError` if memory runs out.
+fn join_words<'a>(alloc: Global) -> Result<Words<'a>, AllocError> {
+    let seals = Arg::new(alloc, "SEAL")
+        .required(true)
+        .action(ArgAction::Append)
+        .num_args(1..)
+        .help(
+            "The seals of the parts, in order; all but the last have one count, a power of the arity",
+        );
+    Words::new(alloc, "join")
+        .about("Prints the seal of a file from the seals of its parts")
+        .arg(seals)
 }
 
 /// The word of an input.
@@ -260,7 +347,7 @@ fn seal_asked<'a>(
         file,
         ..Names::default()
     };
-    Ok(Asked { command, names })
+    Ok(Asked::new(rt, command, names))
 }
 
 /// What the words of `prove` ask for.
@@ -284,7 +371,7 @@ fn prove_asked<'a>(
         file,
         ..Names::default()
     };
-    Ok(Asked { command, names })
+    Ok(Asked::new(rt, command, names))
 }
 
 /// What the words of `verify` ask for.
@@ -308,13 +395,65 @@ fn verify_asked<'a>(
         proof,
         ..Names::default()
     };
-    Ok(Asked { command, names })
+    Ok(Asked::new(rt, command, names))
+}
+
+/// Words that are required, as many as there are.
+///
+/// # Errors
+///
+/// `AllocError` if memory runs out.
+fn words_of<'a>(
+    alloc: Global,
+    found: &ArgMatches<'a>,
+    id: &str,
+) -> Result<Vec<&'a str>, AllocError> {
+    let mut words = Vec::new(alloc);
+    if let Some(values) = found.get_strs(id) {
+        for value in values {
+            words.push(*value)?;
+        }
+    }
+    Ok(words)
 }
 
 /// What the words of `conflict` ask for.
-fn conflict_asked<'a>(rt: &'a HostRuntime, found: &ArgMatches<'a>) -> Asked<'a> {
-    let seal = word_of(found, "SEAL");
-    let (first, second) = (word_of(found, "FIRST"), word_of(found, "SECOND"));
+///
+/// # Errors
+///
+/// `Refused` if there are neither 3 nor 5 words.
+fn conflict_asked<'a>(
+    rt: &'a HostRuntime,
+    alloc: Global,
+    found: &ArgMatches<'a>,
+) -> Result<Asked<'a>, Unread> {
+    let words = words_of(alloc, found, "INPUT")?;
+    match words.as_slice() {
+        [seal, first, second] => Ok(conflict_of_one(rt, seal, first, second)),
+        [old, new, consistency, first, second] => {
+            let names = Names {
+                seal: old,
+                new_seal: new,
+                consistency,
+                first,
+                second,
+                ..Names::default()
+            };
+            Ok(conflict_of_two(rt, names))
+        }
+        _ => Err(Unread::Refused(
+            "`conflict` takes a seal and two proofs, or two seals, a consistency proof and two proofs",
+        )),
+    }
+}
+
+/// What is asked of two proofs under one seal.
+fn conflict_of_one<'a>(
+    rt: &'a HostRuntime,
+    seal: &'a str,
+    first: &'a str,
+    second: &'a str,
+) -> Asked<'a> {
     let command = Command::Conflict {
         seal: Input::new(rt, seal),
         first: Input::new(rt, first),
@@ -326,5 +465,71 @@ fn conflict_asked<'a>(rt: &'a HostRuntime, found: &ArgMatches<'a>) -> Asked<'a> 
         second,
         ..Names::default()
     };
-    Asked { command, names }
+    Asked::new(rt, command, names)
+}
+
+/// What is asked of proofs under an old seal and a new one.
+fn conflict_of_two<'a>(rt: &'a HostRuntime, names: Names<'a>) -> Asked<'a> {
+    let command = Command::ConflictGrown {
+        old: Input::new(rt, names.seal),
+        new: Input::new(rt, names.new_seal),
+        consistency: Input::new(rt, names.consistency),
+        first: Input::new(rt, names.first),
+        second: Input::new(rt, names.second),
+    };
+    Asked::new(rt, command, names)
+}
+
+/// What the words of `prove-consistency` ask for.
+fn prove_consistency_asked<'a>(rt: &'a HostRuntime, found: &ArgMatches<'a>) -> Asked<'a> {
+    let names = Names {
+        seal: word_of(found, "OLD-SEAL"),
+        new_seal: word_of(found, "NEW-SEAL"),
+        file: word_of(found, "FILE"),
+        ..Names::default()
+    };
+    let command = Command::ProveConsistency {
+        old: Input::new(rt, names.seal),
+        new: Input::new(rt, names.new_seal),
+        file: Input::new(rt, names.file),
+    };
+    Asked::new(rt, command, names)
+}
+
+/// What the words of `verify-consistency` ask for.
+fn verify_consistency_asked<'a>(rt: &'a HostRuntime, found: &ArgMatches<'a>) -> Asked<'a> {
+    let names = Names {
+        seal: word_of(found, "OLD-SEAL"),
+        new_seal: word_of(found, "NEW-SEAL"),
+        proof: word_of(found, "PROOF"),
+        ..Names::default()
+    };
+    let command = Command::VerifyConsistency {
+        old: Input::new(rt, names.seal),
+        new: Input::new(rt, names.new_seal),
+        proof: Input::new(rt, names.proof),
+    };
+    Asked::new(rt, command, names)
+}
+
+/// What the words of `join` ask for.
+///
+/// # Errors
+///
+/// `Refused` if memory runs out.
+fn join_asked<'a>(
+    rt: &'a HostRuntime,
+    alloc: Global,
+    found: &ArgMatches<'a>,
+) -> Result<Asked<'a>, Unread> {
+    let parts = words_of(alloc, found, "SEAL")?;
+    let mut seals = Vec::new(alloc);
+    for part in &parts {
+        seals.push(Input::new(rt, part))?;
+    }
+    Ok(Asked {
+        command: Command::Join { seals },
+        names: Names::default(),
+        parts,
+    })
 }

@@ -32,11 +32,11 @@ use Rattle.fohlazu_engine.proofs.SharedFacts.{is_collision, none_or_some, one_di
 -- ---- what is accepted
 
 -- what is answered by a value is not refused
-unrefused : {V E : Type 0} (refusal : Option E) (v : V) → IsOk (ok_unless refusal v) → refusal ≡ None
+pub unrefused : {V E : Type 0} (refusal : Option E) (v : V) → IsOk (ok_unless refusal v) → refusal ≡ None
 unrefused None v ok = refl
 unrefused (Some e) v ok = absurd cc
 
-unmapped : {V W : Type 0} (f : V → W) (o : Option V) → option_map f o ≡ None → o ≡ None
+pub unmapped : {V W : Type 0} (f : V → W) (o : Option V) → option_map f o ≡ None → o ≡ None
 unmapped f None is = refl
 unmapped f (Some v) is = absurd cc
 
@@ -51,14 +51,14 @@ entries_pass source other content (e ∷ es) none =
 
 -- a proof that is not refused shows entries that can be, and an opening that the tree accepts
 module _ (s : SealFields) (p : ProofFields) where
-  tree_accepts : (source : Source) → proof_refusal source s p ≡ None → (presented_under s p).refusal ≡ None
+  pub tree_accepts : (source : Source) → proof_refusal source s p ≡ None → (presented_under s p).refusal ≡ None
   tree_accepts source none =
       unmapped (tree_fault source) (presented_under s p).refusal
       (none_parts (first_of (entry_refusal source s.content) p.entries)
       (option_map (tree_fault source) (presented_under s p).refusal) none).1
 
   -- it is refused from no source
-  passes : (source other : Source) → proof_refusal source s p ≡ None → proof_refusal other s p ≡ None
+  pub passes : (source other : Source) → proof_refusal source s p ≡ None → proof_refusal other s p ≡ None
   passes source other none =
       none_of_both (first_of (entry_refusal other s.content) p.entries)
       (option_map (tree_fault other) (presented_under s p).refusal)
@@ -67,7 +67,7 @@ module _ (s : SealFields) (p : ProofFields) where
       (option_map (tree_fault source) (presented_under s p).refusal) none).0)
       (ap (option_map (tree_fault other)) (tree_accepts source none))
 
-  verified : (seal proof numbers : List ℕ) → seal_in seal ≡ Ok s → proof_in proof ≡ Ok p →
+  pub verified : (seal proof numbers : List ℕ) → seal_in seal ≡ Ok s → proof_in proof ≡ Ok p →
       IsOk (verify_outcome seal proof numbers) → proof_refusal Proof s p ≡ None
   verified seal proof numbers seal_is proof_is ok =
       (none_parts (numbers_refusal numbers p.entries) (proof_refusal Proof s p)

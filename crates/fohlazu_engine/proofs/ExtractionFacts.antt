@@ -48,7 +48,7 @@ module _ (c : Params ℕ ℕ) (first second : Presented ℕ ℕ) where
   inputs_full (Some (a, b, pair)) is = is.collision.first_full
 
 -- bytes are printed as their numbers
-bytes_plain : (first second : List ℕ) (found : Option (ℕ × ℕ × (Input ℕ ℕ × Input ℕ ℕ))) →
+pub bytes_plain : (first second : List ℕ) (found : Option (ℕ × ℕ × (Input ℕ ℕ × Input ℕ ℕ))) →
     typed_text (λ n. n) 2 sha_functions first second found ≡ collision_text Sha256 first second found
 bytes_plain first second None = refl
 bytes_plain first second (Some (a, b, (x, y))) =

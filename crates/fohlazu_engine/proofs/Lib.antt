@@ -9,6 +9,7 @@ pub mod NearestFacts
 pub mod ConflictFacts
 pub mod ExtractionFacts
 pub mod RunFacts
+pub mod InputFacts
 pub mod ZipFacts
 pub mod LengthFacts
 pub mod SealedTree
@@ -17,3 +18,14 @@ pub mod RoundTripFacts
 pub mod PairFacts
 pub mod SharedFacts
 pub mod BindingFacts
+pub mod GrowingFacts
+pub mod CrossingFacts
+pub mod CrossingInputs
+pub mod GrownFileFacts
+pub mod LaterSealFacts
+pub mod JoinFacts
+pub mod WholeFacts
+pub mod JoinLawFacts
+pub mod GrowthFacts
+pub mod GrowthLawFacts
+pub mod PieceLawFacts

@@ -1,7 +1,7 @@
 -- Entries from behind: the first that differs from one, by the nearest of its number.
 use Rattle.std.proofs.Common.{◌≡◌, ◌∙◌, ◌<◌, ◌+◌, ◌∷◌, ⊎_elim, add-one, ap, arith, cond, drop, eq-eqb, find, get_or}
 use Rattle.std.proofs.Common.{length, map, not, refl, sym, Bool, true, false, List, ℕ, Option, Some, None, Equal, Bor}
-use Rattle.std.proofs.Common.{◌++◌}
+use Rattle.std.proofs.Common.{◌++◌, is_some}
 use Rattle.std.proofs.Math.Seq.{drop-cons}
 use Rattle.std.proofs.lemmas.List.{map-append}
 use Rattle.std.proofs.lemmas.Simd.{map-map}
@@ -10,9 +10,10 @@ use Rattle.std.specs.Cmp.{nat_cmp_is}
 use Rattle.std.specs.Cmp.Lexicographic.{bytes_decides, pointwise}
 use Rattle.std.specs.Option.{option_or}
 use Rattle.std.specs.Ordering.{is_eq, nat_cmp}
-use Rattle.std.specs.Prelude.{◌&&◌, nat_eq, option_map}
+use Rattle.std.specs.List.{list_any}
+use Rattle.std.specs.Prelude.{◌&&◌, ◌||◌, ◌==◌, nat_eq, option_map}
 use Rattle.fohlazu_text.specs.Fields.{entry_fields, EntryFields}
-use Rattle.fohlazu_engine.specs.Inner.{other_by}
+use Rattle.fohlazu_engine.specs.Inner.{other_by, KnowsNumbers}
 use Rattle.fohlazu_engine.specs.Outcomes.{differ, first_pair}
 use Rattle.fohlazu_text.specs.declared.proof.Entry.{Entry}
 use Rattle.fohlazu_engine.specs.declared.conflict.Nearest.{Nearest}
@@ -69,8 +70,27 @@ module _ (x : EntryFields) (rest : List EntryFields) (before after : ℕ → Opt
   pub nearest_more : (e : EntryFields) → find (differ e) (x ∷ rest) ≡ other_by (after e.number) e
   nearest_more e = ⊎_elim (of_its_number e) (of_another e) (cases_eq x.number e.number)
 
+-- its number is one more of those that are known
+module _ (x : EntryFields) (rest : List EntryFields) (before after : ℕ → Option Nearest) (nearest : Nearest)
+    (so_far : KnowsNumbers before rest)
+    (updated : (q : ℕ) → after q ≡ cond (is_eq (nat_cmp x.number q)) (Some nearest) (before q)) where
+  at_its_number : (k : ℕ) → x.number ≡ k → is_some (after k) ≡ list_any (λ d. d.number == k) (x ∷ rest)
+  at_its_number k same =
+      ap is_some (updated k ∙ ap (λ b. cond b (Some nearest) (before k)) (same_key x.number k same))
+      ∙ ap (λ b. b || list_any (λ d. d.number == k) rest) (sym (eq-eqb x.number k same))
+
+  at_another : (k : ℕ) → (x.number ≡ k → ⊥) → is_some (after k) ≡ list_any (λ d. d.number == k) (x ∷ rest)
+  at_another k apart =
+      let other : (x.number == k) ≡ false = grind arith in
+      ap is_some (updated k ∙ ap (λ b. cond b (Some nearest) (before k)) (other_key x.number k apart))
+      ∙ so_far k
+      ∙ ap (λ b. b || list_any (λ d. d.number == k) rest) (sym other)
+
+  pub numbers_more : KnowsNumbers after (x ∷ rest)
+  numbers_more k = ⊎_elim (at_its_number k) (at_another k) (cases_eq x.number k)
+
 -- entries of a list, from one on
-pub from_here : {R : Type 0} (value : R → EntryFields) (xs : List R) (n at : ℕ) (x : R) → at ≡ n + 1 → n < length xs →
+pub from_here : {R V : Type 0} (value : R → V) (xs : List R) (n at : ℕ) (x : R) → at ≡ n + 1 → n < length xs →
     x ≡ get_or xs n x → map value (drop n xs) ≡ value x ∷ map value (drop at xs)
 from_here value xs n at x next within x_is =
     ap (map value) (drop-cons xs n x within)

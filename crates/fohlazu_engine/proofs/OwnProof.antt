@@ -43,7 +43,7 @@ use Rattle.fohlazu_engine.proofs.StepFacts.{told_ok}
 -- ---- lists
 
 -- what equals itself by a test does so place by place
-same_as_itself : {V : Type 0} (test : V → V → Bool) → ((v : V) → test v v ≡ true) → (vs : List V) →
+pub same_as_itself : {V : Type 0} (test : V → V → Bool) → ((v : V) → test v v ≡ true) → (vs : List V) →
     pointwise test vs vs ≡ true
 same_as_itself test same [] = refl
 same_as_itself test same (v ∷ vs) = rw (same v, same_as_itself test same vs) refl

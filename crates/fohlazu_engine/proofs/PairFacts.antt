@@ -37,26 +37,26 @@ two_ways e d is same =
 
 -- ---- what is found in a list
 
-never_both : {V : Type 0} (o : Option V) (v : V) → o ≡ Some v → o ≡ None → ⊥
+pub never_both : {V : Type 0} (o : Option V) (v : V) → o ≡ Some v → o ≡ None → ⊥
 never_both None v is none = cc
 never_both (Some w) v is none = cc
 
 module _ {V : Type 0} where
   -- the first of a list, or one of the rest
-  in_rest : (y : V) (ys : List V) (x : V) → Contains (y ∷ ys) x → (y ≡ x) ⊎ Contains ys x
+  pub in_rest : (y : V) (ys : List V) (x : V) → Contains (y ∷ ys) x → (y ≡ x) ⊎ Contains ys x
   in_rest y ys x at =
       ⊎_elim
       (λ here. ⊎_elim (λ (empty : Contains [] x). absurd (omega (arith, empty.1))) inl
       (Contains-push_cases [] y x here)) inr (Contains-append_cases (y ∷ []) ys x at)
 
-  at_first : (y : V) (ys : List V) → Contains (y ∷ ys) y
+  pub at_first : (y : V) (ys : List V) → Contains (y ∷ ys) y
   at_first y ys = (0, omega arith, refl)
 
-  behind : (y : V) (ys : List V) (x : V) → Contains ys x → Contains (y ∷ ys) x
+  pub behind : (y : V) (ys : List V) (x : V) → Contains ys x → Contains (y ∷ ys) x
   behind y ys x at = Contains-append_right (y ∷ []) ys x at
 
   -- what is found passes, and stands there
-  find_sound : (test : V → Bool) (xs : List V) (x : V) → find test xs ≡ Some x → Contains xs x × (test x ≡ true)
+  pub find_sound : (test : V → Bool) (xs : List V) (x : V) → find test xs ≡ Some x → Contains xs x × (test x ≡ true)
   find_sound test [] x is = absurd cc
   find_sound test (y ∷ ys) x is = by_test (test y) refl (find_sound test ys x)
     where
@@ -71,7 +71,7 @@ module _ {V : Type 0} where
           (behind y ys x found.0, found.1)
 
   -- where nothing is found, none passes
-  find_complete : (test : V → Bool) (xs : List V) (x : V) → find test xs ≡ None → Contains xs x → test x ≡ true → ⊥
+  pub find_complete : (test : V → Bool) (xs : List V) (x : V) → find test xs ≡ None → Contains xs x → test x ≡ true → ⊥
   find_complete test [] x none at passes = absurd (omega (arith, at.1))
   find_complete test (y ∷ ys) x none at passes = by_test (test y) refl (find_complete test ys x)
     where

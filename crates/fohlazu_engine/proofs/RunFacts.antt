@@ -1,12 +1,12 @@
 -- What is told of the bytes of inputs, step by step.
 use Rattle.std.proofs.Common.{◌≡◌, ◌∙◌, ◌⊎◌, ⊎_elim, inl, inr, ap, List, [], ℕ, Option, Some, None, Result, Ok, Err}
-use Rattle.std.proofs.Common.{subst, sym}
+use Rattle.std.proofs.Common.{subst, sym, ◌∷◌, map, Global, Vec}
 use Rattle.std.specs.Io.KnownBytes.{Appends}
 use Rattle.std.specs.Prelude.{codes, IfErr, IfOk, IfSome, option_map}
 use Rattle.fohlazu_entries.specs.Entries.{HoldsOfFile}
 use Rattle.fohlazu_text.specs.Fields.{ProofFields, SealFields}
 use Rattle.fohlazu_text.specs.Reading.{proof_in, seal_in}
-use Rattle.fohlazu_engine.specs.Commands.{answered, compared, EndsIn, HoldsOfInputs, Printed}
+use Rattle.fohlazu_engine.specs.Commands.{answered, compared, EndsIn, HoldsOfFiles, HoldsOfInputs, Printed}
 use Rattle.fohlazu_engine.specs.Inner.{printed_of, Shows}
 use Rattle.fohlazu_engine.specs.Outcomes.{and_then, conflict_outcome, conflict_text, prove_outcome, shown_at}
 use Rattle.fohlazu_engine.specs.Outcomes.{verify_outcome, verify_text}
@@ -17,7 +17,8 @@ use Rattle.fohlazu_engine.specs.declared.fault.Source.TheVariants.{First as OfFi
 use Rattle.fohlazu_engine.specs.declared.fault.Source.TheVariants.{Second as OfSecond}
 use Rattle.fohlazu_engine.specs.declared.run.Answer.{Answer}
 use Rattle.fohlazu_engine.specs.declared.run.Command.{Command}
-use Rattle.fohlazu_engine.specs.declared.run.Command.TheVariants.{Conflict, Prove, Seal, Verify}
+use Rattle.fohlazu_engine.specs.declared.run.Command.TheVariants.{Conflict, ConflictGrown, Join, Prove}
+use Rattle.fohlazu_engine.specs.declared.run.Command.TheVariants.{ProveConsistency, Seal, Verify, VerifyConsistency}
 use Rattle.fohlazu_engine.specs.declared.run.Ending.{Ending}
 use Rattle.fohlazu_engine.specs.declared.run.Ending.TheVariants.{Answered, InConflict}
 use Rattle.fohlazu_engine.proofs.FileFacts.{told_of_file}
@@ -62,6 +63,28 @@ three_more file other last P Q each told =
     two_more file other (λ bytes more. HoldsOfFile last (P bytes more)) (λ bytes more. HoldsOfFile last (Q bytes more))
     (λ bytes more. told_of_file last (P bytes more) (Q bytes more) (each bytes more)) told
 
+pub five_more : (one two three four five : Option (List ℕ))
+    (P Q : List ℕ → List ℕ → List ℕ → List ℕ → List ℕ → Type 0) →
+    ((a b c d e : List ℕ) → P a b c d e → Q a b c d e) →
+    HoldsOfFile one (λ a. HoldsOfFile two (λ b. HoldsOfFile three (λ c. HoldsOfFile four (λ d.
+    HoldsOfFile five (P a b c d))))) →
+    HoldsOfFile one (λ a. HoldsOfFile two (λ b. HoldsOfFile three (λ c. HoldsOfFile four (λ d.
+    HoldsOfFile five (Q a b c d)))))
+five_more one two three four five P Q each told =
+    two_more one two (λ a b. HoldsOfFile three (λ c. HoldsOfFile four (λ d. HoldsOfFile five (P a b c d))))
+    (λ a b. HoldsOfFile three (λ c. HoldsOfFile four (λ d. HoldsOfFile five (Q a b c d))))
+    (λ a b. three_more three four five (P a b) (Q a b) (each a b)) told
+
+-- what holds of the bytes of files
+pub told_of_files : (files : List (Option (List ℕ))) (P Q : List (List ℕ) → Type 0) →
+    ((texts : List (List ℕ)) → P texts → Q texts) → HoldsOfFiles files P → HoldsOfFiles files Q
+told_of_files [] P Q each told = each [] told
+told_of_files (file ∷ files) P Q each told =
+    told_of_file file (λ bytes. HoldsOfFiles files (λ texts. P (bytes ∷ texts)))
+    (λ bytes. HoldsOfFiles files (λ texts. Q (bytes ∷ texts)))
+    (λ bytes. told_of_files files (λ texts. P (bytes ∷ texts)) (λ texts. Q (bytes ∷ texts))
+    (λ texts. each (bytes ∷ texts))) told
+
 -- ---- the inputs of a command
 
 pub told_of_inputs : {Src : Type 0} (remaining : Src → Option (List ℕ)) (command : Command Src)
@@ -89,6 +112,24 @@ told_of_inputs remaining (Conflict seal first second) P Q each told =
     (λ one. HoldsOfFile (remaining second) (λ other. Q (Conflict text one other)))
     (λ one. told_of_file (remaining second) (λ other. P (Conflict text one other))
     (λ other. Q (Conflict text one other)) (λ other. each (Conflict text one other)))) told
+told_of_inputs remaining (ProveConsistency old new file) P Q each told =
+    three_more (remaining old) (remaining new) (remaining file)
+    (λ one other bytes. P (ProveConsistency one other bytes)) (λ one other bytes. Q (ProveConsistency one other bytes))
+    (λ one other bytes. each (ProveConsistency one other bytes)) told
+told_of_inputs remaining (VerifyConsistency old new proof) P Q each told =
+    three_more (remaining old) (remaining new) (remaining proof)
+    (λ one other shown. P (VerifyConsistency one other shown))
+    (λ one other shown. Q (VerifyConsistency one other shown)) (λ one other shown. each (VerifyConsistency one other shown)) told
+told_of_inputs remaining (ConflictGrown old new consistency first second) P Q each told =
+    five_more (remaining old) (remaining new) (remaining consistency) (remaining first) (remaining second)
+    (λ s t between one other. P (ConflictGrown s t between one other))
+    (λ s t between one other. Q (ConflictGrown s t between one other))
+    (λ s t between one other. each (ConflictGrown s t between one other)) told
+told_of_inputs remaining (Join seals) P Q each told =
+    told_of_files (map remaining seals.items)
+    (λ texts. (read : Vec (List ℕ) Global) → read.items ≡ texts → P (Join read))
+    (λ texts. (read : Vec (List ℕ) Global) → read.items ≡ texts → Q (Join read))
+    (λ texts all read is. each (Join read) (all read is)) told
 
 -- ---- results and outcomes
 

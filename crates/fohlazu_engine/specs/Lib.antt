@@ -4,6 +4,9 @@ pub use Rattle.fohlazu_text.specs.Reading
 pub mod Faults
 pub mod Trees
 pub mod Outcomes
+pub mod Growing
+pub mod Crossing
+pub mod GrowingLaws
 pub mod Commands
 pub mod Inner
 pub mod Laws

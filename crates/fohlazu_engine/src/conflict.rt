@@ -47,7 +47,7 @@ pub fn conflict(
     ensures fault { IfErr result (λ fault. (fault ≡ OutOfMemory) ⊎
         (conflict_outcome seal.now first.now second.now ≡ Err fault)) }
 {
-    let seal = read_seal(alloc, seal)?;
+    let seal = read_seal(alloc, Source::Seal, seal)?;
     let first = read_proof(alloc, Source::First, first)?;
     let second = read_proof(alloc, Source::Second, second)?;
     conflict_under(alloc, &seal, &first, &second)
@@ -192,7 +192,11 @@ fn all_of<'a>(
 /// # Errors
 ///
 /// `AllocError` if memory runs out.
-fn text_of_pair(alloc: Global, entry: &Entry, other: &Entry) -> Result<Vec<u8>, AllocError>
+pub(crate) fn text_of_pair(
+    alloc: Global,
+    entry: &Entry,
+    other: &Entry,
+) -> Result<Vec<u8>, AllocError>
     ensures { IfOk result (λ text. text.items ≡ pair_text (entry_fields entry.now, entry_fields other.now)) }
 {
     let mut text = Vec::new(alloc);
@@ -205,9 +209,11 @@ fn text_of_pair(alloc: Global, entry: &Entry, other: &Entry) -> Result<Vec<u8>, 
 
 /// The nearest of the entries of one number, and the first behind it that differs from it.
 #[derive(Clone, Copy)]
-struct Nearest<'a> {
-    entry: &'a Entry,
-    other: Option<&'a Entry>,
+pub(crate) struct Nearest<'a> {
+    /// The nearest.
+    pub(crate) entry: &'a Entry,
+    /// The first behind it that differs from it.
+    pub(crate) other: Option<&'a Entry>,
 }
 
 /// The first entry that differs from one behind it, and the first of those. It compares each entry with one other.
@@ -237,7 +243,10 @@ fn first_pair<'a>(
 }
 
 /// The first of the entries behind that differs from this one, where for each number the nearest of them is known.
-fn first_other<'a>(nearest: &BTreeMap<usize, Nearest<'a>>, entry: &Entry) -> Option<&'a Entry>
+pub(crate) fn first_other<'a>(
+    nearest: &BTreeMap<usize, Nearest<'a>>,
+    entry: &Entry,
+) -> Option<&'a Entry>
     ensures { option_map (λ d. entry_fields d.now) result
         ≡ other_by (get nat_cmp nearest.now entry.now.number) (entry_fields entry.now) }
 {

@@ -13,8 +13,12 @@ use std::process::ExitCode;
 /// What the inputs of a command are called. Those that it has not are empty.
 #[derive(Clone, Copy, Debug, Default)]
 pub struct Names<'a> {
-    /// The seal.
+    /// The seal; where there are two, the old one.
     pub seal: &'a str,
+    /// The new seal.
+    pub new_seal: &'a str,
+    /// The seals of parts.
+    pub parts: &'a [&'a str],
     /// The file.
     pub file: &'a str,
     /// The proof that is verified.
@@ -23,6 +27,8 @@ pub struct Names<'a> {
     pub first: &'a str,
     /// The second of them.
     pub second: &'a str,
+    /// The consistency proof between the seals of two proofs that are compared.
+    pub consistency: &'a str,
 }
 
 impl<'a> Names<'a> {
@@ -30,10 +36,21 @@ impl<'a> Names<'a> {
     fn name_of(&self, source: Source) -> &'a str {
         match source {
             Source::Seal => self.seal,
+            Source::NewSeal => self.new_seal,
+            Source::Part(part) => self.name_of_part(part),
             Source::File => self.file,
             Source::Proof => self.proof,
             Source::First => self.first,
             Source::Second => self.second,
+            Source::Consistency => self.consistency,
+        }
+    }
+
+    /// What the seal of a part is called.
+    fn name_of_part(&self, part: usize) -> &'a str {
+        match self.parts.get(part) {
+            Some(name) => name,
+            None => "",
         }
     }
 }

@@ -2,14 +2,14 @@
 
 ghost use Rattle.std.specs.Prelude.{◌≡◌};
 ghost use Rattle.p3_merkle_core.specs.declared.error.MerkleTreeError.{MerkleTreeError};
-ghost use Rattle.fohlazu_engine.specs.Faults.{status_of, text_fault, tree_fault};
+ghost use Rattle.fohlazu_engine.specs.Faults.{consistency_fault, parts_fault, status_of, text_fault, tree_fault};
 ghost use Rattle.fohlazu_engine.specs.Inner.{read_fault};
 ghost use Rattle.fohlazu_engine.specs.declared.fault.Fault.TheVariants.{OutOfMemory};
 
 use fohlazu_entries::fault::ReadFault;
 use fohlazu_text::fault::{Expected, TextFault};
 use mmcs_text::process::ProgramFault;
-use p3_merkle_core::error::MerkleTreeError;
+use p3_merkle_core::error::{ConsistencyError, MerkleTreeError, PartsError};
 use std::alloc::{AllocError, AllocFailed};
 use thiserror::Error;
 
@@ -33,8 +33,12 @@ pub enum Fault {
 /// An input, by what it is to a command.
 #[derive(Clone, Copy, Debug)]
 pub enum Source {
-    /// The seal.
+    /// The seal; where there are two, the old one.
     Seal,
+    /// The new seal.
+    NewSeal,
+    /// The seal of a part of a file: which part, from 0.
+    Part(usize),
     /// The file.
     File,
     /// The proof that is verified.
@@ -43,6 +47,28 @@ pub enum Source {
     First,
     /// The second of them.
     Second,
+    /// The consistency proof between the seals of two proofs that are compared.
+    Consistency,
+}
+
+/// What two seals may differ in.
+#[derive(Clone, Copy, Debug, Error)]
+pub enum Feature {
+    /// What their entries are: lines or blocks.
+    #[error("what their entries are")]
+    Entries,
+    /// How many bytes a block has.
+    #[error("the bytes of a block")]
+    Bytes,
+    /// How many children a node may have.
+    #[error("the arity")]
+    Arity,
+    /// The cap height.
+    #[error("the cap height")]
+    CapHeight,
+    /// The label.
+    #[error("the label")]
+    Label,
 }
 
 /// Why an input is refused.
@@ -90,6 +116,32 @@ pub enum Refusal {
     /// A file has other entries than were sealed.
     #[error("its entries are not those that were sealed")]
     Others,
+    /// A file begins with other entries than those of the old seal.
+    #[error("its first entries are not those of the old seal")]
+    OthersBefore,
+    /// Two seals differ, so they cannot be compared or joined.
+    #[error("the seals differ in {0}")]
+    Unlike(Feature),
+    /// A new seal has fewer entries than an old one.
+    #[error("the new seal has {new} entries, and the old one {old}")]
+    Shrunk {
+        /// How many entries the old seal has.
+        old: usize,
+        /// How many the new one has.
+        new: usize,
+    },
+    /// The tree refuses a consistency proof.
+    #[error("{0}")]
+    Inconsistent(ConsistencyError),
+    /// A part of a file has not as many entries as it may have there.
+    #[error("a part of so many entries does not fit the others")]
+    PartCount,
+    /// A file has more than 2^62 entries in all its parts.
+    #[error("all parts have more than 2^62 entries")]
+    TooMany,
+    /// Two proofs have no number in common.
+    #[error("no number in common")]
+    NothingInCommon,
 }
 
 impl Fault {
@@ -108,8 +160,11 @@ impl ProgramFault for Fault {
     fn status(&self) -> u8 {
         match self {
             Fault::Refused(Source::Seal, Refusal::Line { .. }) => 2,
+            Fault::Refused(Source::NewSeal, Refusal::Line { .. }) => 2,
+            Fault::Refused(Source::Part(_), Refusal::Line { .. }) => 2,
             Fault::Refused(Source::First, _) => 2,
             Fault::Refused(Source::Second, _) => 2,
+            Fault::Refused(Source::Consistency, _) => 2,
             Fault::Refused(_, _) => 1,
             _ => 2,
         }
@@ -161,5 +216,30 @@ pub(crate) fn read_fault(source: Source, fault: ReadFault) -> Fault
     match fault {
         ReadFault::Read => Fault::Read(source),
         ReadFault::OutOfMemory => Fault::OutOfMemory,
+    }
+}
+
+/// The fault of a consistency proof that the tree refuses.
+pub(crate) fn consistency_fault(source: Source, error: ConsistencyError) -> Fault
+    ensures { result ≡ consistency_fault source error }
+{
+    match error {
+        ConsistencyError::OutOfMemory => Fault::OutOfMemory,
+        error => Fault::Refused(source, Refusal::Inconsistent(error)),
+    }
+}
+
+/// The fault of parts that make no file.
+pub(crate) fn parts_fault(error: PartsError) -> Fault
+    ensures { result ≡ parts_fault error }
+{
+    match error {
+        PartsError::OutOfMemory => Fault::OutOfMemory,
+        PartsError::PartHeight { part } => {
+            Fault::Refused(Source::Part(part), Refusal::PartCount)
+        }
+        PartsError::TooLarge => Fault::Refused(Source::Part(0), Refusal::TooMany),
+        // No parts; the caps of seals are neither too few nor too short.
+        _ => Fault::Refused(Source::Part(0), Refusal::NoEntries),
     }
 }

@@ -191,7 +191,7 @@ fn proof_at<const N: usize>(
 /// # Errors
 ///
 /// `Others` if its cap is not the seal's; `OutOfMemory` if memory runs out.
-fn sealed_tree<const N: usize>(
+pub(crate) fn sealed_tree<const N: usize>(
     alloc: Global,
     seal: &Seal,
     digests: Vec<[u8; 32]>,

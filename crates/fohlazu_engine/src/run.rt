@@ -1,11 +1,15 @@
 //! Runs commands.
 
-ghost use Rattle.std.specs.Prelude.{◌≡◌, ◌⊎◌, ◌≤◌, ℕ, All, Decides, Err, IfOk, List, OnErr, Option, Result, option_map};
+ghost use Rattle.std.specs.Prelude.{◌≡◌, ◌⊎◌, ◌≤◌, ℕ, All, Decides, Err, IfErr, IfOk, List, OnErr, Option, Result, map};
+ghost use Rattle.std.specs.Prelude.{option_map};
 ghost use Rattle.fohlazu_entries.specs.Entries.{HoldsOfFile};
 ghost use Rattle.fohlazu_text.specs.Fields.{seal_fields, IsKind, IsSeal};
-ghost use Rattle.fohlazu_text.specs.Reading.{proof_in, seal_in};
-ghost use Rattle.fohlazu_engine.specs.Commands.{answered, compared, outcome_of, EndsIn, HoldsOfInputs, IsLawful};
-ghost use Rattle.fohlazu_engine.specs.Inner.{opening_of, printed_of, proof_of, Shows};
+ghost use Rattle.fohlazu_text.specs.Reading.{consistency_in, proof_in, seal_in};
+ghost use Rattle.fohlazu_engine.specs.Commands.{answered, compared, outcome_of, under_both, EndsIn, HoldsOfFiles};
+ghost use Rattle.fohlazu_engine.specs.Commands.{HoldsOfInputs, IsLawful};
+ghost use Rattle.fohlazu_engine.specs.Crossing.{conflict_grown_outcome};
+ghost use Rattle.fohlazu_engine.specs.Growing.{join_outcome, prove_consistency_outcome, verify_consistency_outcome};
+ghost use Rattle.fohlazu_engine.specs.Inner.{opening_of, printed_of, proof_of, AreBytesOf, IsUnread, Shows};
 ghost use Rattle.fohlazu_engine.specs.Outcomes.{and_then, conflict_outcome, prove_outcome, shown_at, verify_outcome};
 ghost use Rattle.fohlazu_engine.specs.Trees.{opening_shown};
 ghost use Rattle.fohlazu_engine.specs.declared.fault.Fault.{Fault};
@@ -13,14 +17,20 @@ ghost use Rattle.fohlazu_engine.specs.declared.fault.Fault.TheVariants.{Write as
 ghost use Rattle.fohlazu_engine.specs.declared.fault.Source.TheVariants.{Seal as OfSeal};
 
 use crate::conflict::conflict_under;
+use crate::conflict_grown::{Crossing, conflict_grown};
 use crate::fault::{Fault, Source};
+use crate::grown::read_consistency;
 use crate::input::read_text;
+use crate::join::join;
 use crate::prove::prove;
+use crate::prove_consistency::prove_consistency;
 use crate::seal::seal;
 use crate::shown::{Shown, read_proof, read_seal};
 use crate::verify::verify_under;
+use crate::verify_consistency::verify_consistency_under;
 use fohlazu_text::seal::{Kind, Scheme, Seal};
 use mmcs_text::streams::write_text;
+use p3_merkle_core::consistency::ConsistencyProof;
 use std::alloc::Global;
 use std::io::{Read, Write};
 
@@ -65,6 +75,42 @@ pub enum Command<Src> {
         /// The second.
         second: Src,
     },
+    /// Proves that the file of a new seal begins with the entries of an old one.
+    ProveConsistency {
+        /// The old seal.
+        old: Src,
+        /// The new seal.
+        new: Src,
+        /// The file.
+        file: Src,
+    },
+    /// Verifies such a proof.
+    VerifyConsistency {
+        /// The old seal.
+        old: Src,
+        /// The new seal.
+        new: Src,
+        /// The consistency proof.
+        proof: Src,
+    },
+    /// Compares two proofs under an old seal and a new one.
+    ConflictGrown {
+        /// The old seal.
+        old: Src,
+        /// The new seal.
+        new: Src,
+        /// The consistency proof.
+        consistency: Src,
+        /// The proof under the old seal.
+        first: Src,
+        /// The proof under the new one.
+        second: Src,
+    },
+    /// Joins the seals of the parts of a file.
+    Join {
+        /// The seals, in the order of the parts.
+        seals: Vec<Src>,
+    },
 }
 
 /// How a command ends that nothing stops.
@@ -86,6 +132,10 @@ impl<Src> Command<Src> {
             Command::Prove { numbers, .. } => are_numbers(numbers),
             Command::Verify { numbers, .. } => are_numbers(numbers),
             Command::Conflict { .. } => true,
+            Command::ProveConsistency { .. } => true,
+            Command::VerifyConsistency { .. } => true,
+            Command::ConflictGrown { .. } => true,
+            Command::Join { .. } => true,
         }
     }
 }
@@ -166,6 +216,34 @@ fn answer_to<Src: Read + Drop>(alloc: Global, command: Command<Src>) -> Result<A
             mut first,
             mut second,
         } => found(alloc, compared(alloc, &mut seal, &mut first, &mut second)),
+        Command::ProveConsistency {
+            mut old,
+            mut new,
+            mut file,
+        } => answered(growth_proved(alloc, &mut old, &mut new, &mut file)),
+        Command::VerifyConsistency {
+            mut old,
+            mut new,
+            mut proof,
+        } => answered(growth_verified(alloc, &mut old, &mut new, &mut proof)),
+        Command::ConflictGrown {
+            mut old,
+            mut new,
+            mut consistency,
+            mut first,
+            mut second,
+        } => {
+            let answer = growth_compared(
+                alloc,
+                &mut old,
+                &mut new,
+                &mut consistency,
+                &mut first,
+                &mut second,
+            );
+            found(alloc, answer)
+        }
+        Command::Join { seals } => answered(joined(alloc, seals)),
     }
 }
 
@@ -221,7 +299,7 @@ fn proved<Src: Read>(
         Shows (λ t. t.items) result
         (and_then (shown_at OfSeal (seal_in text)) (λ s. prove_outcome s numbers.now bytes)))) }
 {
-    let sealed = seal_from(alloc, seal)?;
+    let sealed = seal_from(alloc, Source::Seal, seal)?;
     prove(alloc, &sealed, numbers, file)
 }
 
@@ -239,7 +317,7 @@ fn verified<Src: Read>(
     ensures { HoldsOfFile (Src.remaining seal.old) (λ text. HoldsOfFile (Src.remaining proof.old) (λ shown.
         Shows (λ t. t.items) result (verify_outcome text shown numbers.now))) }
 {
-    let sealed = seal_from(alloc, seal)?;
+    let sealed = seal_from(alloc, Source::Seal, seal)?;
     let shown = proof_from(alloc, Source::Proof, proof)?;
     verify_under(alloc, &sealed, &shown, numbers)
 }
@@ -259,10 +337,118 @@ fn compared<Src: Read>(
         HoldsOfFile (Src.remaining second.old) (λ other.
         Shows (λ found. option_map (λ t. t.items) found) result (conflict_outcome text one other)))) }
 {
-    let sealed = seal_from(alloc, seal)?;
+    let sealed = seal_from(alloc, Source::Seal, seal)?;
     let one = proof_from(alloc, Source::First, first)?;
     let other = proof_from(alloc, Source::Second, second)?;
     conflict_under(alloc, &sealed, &one, &other)
+}
+
+/// The proof that the file of a new seal begins with the entries of an old one, which two inputs are.
+///
+/// # Errors
+///
+/// Those of [`read_text`] and [`read_seal`], then those of [`prove_consistency`].
+fn growth_proved<Src: Read>(
+    alloc: Global,
+    old: &mut Src,
+    new: &mut Src,
+    file: &mut Src,
+) -> Result<Vec<u8>, Fault>
+    ensures { HoldsOfFile (Src.remaining old.old) (λ one. HoldsOfFile (Src.remaining new.old) (λ other.
+        HoldsOfFile (Src.remaining file.old) (λ bytes.
+        Shows (λ t. t.items) result (under_both one other (λ s t. prove_consistency_outcome s t bytes))))) }
+{
+    let old_seal = seal_from(alloc, Source::Seal, old)?;
+    let new_seal = seal_from(alloc, Source::NewSeal, new)?;
+    prove_consistency(alloc, &old_seal, &new_seal, file)
+}
+
+/// The counts of an old seal and of a new one, which two inputs are, if the consistency proof that a third is shows
+/// that the file grew.
+///
+/// # Errors
+///
+/// Those of [`read_text`] and of [`crate::verify_consistency::verify_consistency`].
+fn growth_verified<Src: Read>(
+    alloc: Global,
+    old: &mut Src,
+    new: &mut Src,
+    proof: &mut Src,
+) -> Result<Vec<u8>, Fault>
+    ensures { HoldsOfFile (Src.remaining old.old) (λ one. HoldsOfFile (Src.remaining new.old) (λ other.
+        HoldsOfFile (Src.remaining proof.old) (λ shown.
+        Shows (λ t. t.items) result (verify_consistency_outcome one other shown)))) }
+{
+    let old_seal = seal_from(alloc, Source::Seal, old)?;
+    let new_seal = seal_from(alloc, Source::NewSeal, new)?;
+    let shown = consistency_from(alloc, Source::Proof, proof)?;
+    verify_consistency_under(alloc, &old_seal, &new_seal, &shown)
+}
+
+/// What shows that proofs under an old seal and a new one are in conflict, where inputs are the seals, the consistency
+/// proof between them and the proofs.
+///
+/// # Errors
+///
+/// Those of [`read_text`], [`read_seal`], [`read_consistency`] and [`crate::shown::read_proof`], then those of
+/// [`conflict_grown`].
+fn growth_compared<Src: Read>(
+    alloc: Global,
+    old: &mut Src,
+    new: &mut Src,
+    consistency: &mut Src,
+    first: &mut Src,
+    second: &mut Src,
+) -> Result<Option<Vec<u8>>, Fault>
+    ensures { HoldsOfFile (Src.remaining old.old) (λ s. HoldsOfFile (Src.remaining new.old) (λ t.
+        HoldsOfFile (Src.remaining consistency.old) (λ between. HoldsOfFile (Src.remaining first.old) (λ one.
+        HoldsOfFile (Src.remaining second.old) (λ other. Shows (λ found. option_map (λ t. t.items) found) result
+        (conflict_grown_outcome s t between one other)))))) }
+{
+    let old_seal = seal_from(alloc, Source::Seal, old)?;
+    let new_seal = seal_from(alloc, Source::NewSeal, new)?;
+    let between = consistency_from(alloc, Source::Consistency, consistency)?;
+    let one = proof_from(alloc, Source::First, first)?;
+    let other = proof_from(alloc, Source::Second, second)?;
+    let crossing = Crossing {
+        old: &old_seal,
+        new: &new_seal,
+        consistency: &between,
+        first: &one,
+        second: &other,
+    };
+    conflict_grown(alloc, crossing)
+}
+
+/// The seal of the file whose parts have the seals that inputs are.
+///
+/// # Errors
+///
+/// Those of [`read_text`] and of [`join`].
+fn joined<Src: Read + Drop>(alloc: Global, inputs: Vec<Src>) -> Result<Vec<u8>, Fault>
+    ensures { HoldsOfFiles (map Src.remaining inputs.items)
+        (λ texts. Shows (λ t. t.items) result (join_outcome texts)) }
+{
+    let texts = texts_from(alloc, inputs)?;
+    join(alloc, &texts)
+}
+
+/// All bytes of inputs.
+///
+/// # Errors
+///
+/// `Read` for the first that cannot be read; `OutOfMemory` if memory runs out.
+fn texts_from<Src: Read + Drop>(alloc: Global, inputs: Vec<Src>) -> Result<Vec<Vec<u8>>, Fault>
+    ensures texts { IfOk result
+        (λ texts. AreBytesOf (map Src.remaining inputs.items) (map (λ text. text.items) texts.items)) }
+    ensures fault { IfErr result (λ fault. IsUnread fault) }
+{
+    let mut texts = Vec::new(alloc);
+    for mut input in inputs {
+        let part = Source::Part(texts.len());
+        texts.push(read_text(alloc, part, &mut input)?)?;
+    }
+    Ok(texts)
 }
 
 /// The seal that an input is.
@@ -270,13 +456,13 @@ fn compared<Src: Read>(
 /// # Errors
 ///
 /// Those of [`read_text`] and [`read_seal`].
-fn seal_from<Src: Read>(alloc: Global, input: &mut Src) -> Result<Seal, Fault>
+fn seal_from<Src: Read>(alloc: Global, source: Source, input: &mut Src) -> Result<Seal, Fault>
     ensures read { HoldsOfFile (Src.remaining input.old)
-        (λ text. Shows seal_fields result (shown_at OfSeal (seal_in text))) }
+        (λ text. Shows seal_fields result (shown_at source (seal_in text))) }
     ensures seal { IfOk result (λ seal. IsSeal (seal_fields seal)) }
 {
-    let text = read_text(alloc, Source::Seal, input)?;
-    read_seal(alloc, &text)
+    let text = read_text(alloc, source, input)?;
+    read_seal(alloc, source, &text)
 }
 
 /// The proof that an input is.
@@ -291,4 +477,21 @@ fn proof_from<Src: Read>(alloc: Global, source: Source, input: &mut Src) -> Resu
 {
     let text = read_text(alloc, source, input)?;
     read_proof(alloc, source, &text)
+}
+
+/// The consistency proof that an input is.
+///
+/// # Errors
+///
+/// Those of [`read_text`] and [`read_consistency`].
+fn consistency_from<Src: Read>(
+    alloc: Global,
+    source: Source,
+    input: &mut Src,
+) -> Result<ConsistencyProof<[u8; 32]>, Fault>
+    ensures { HoldsOfFile (Src.remaining input.old)
+        (λ text. Shows (λ proof. proof.digests.items) result (shown_at source (consistency_in text))) }
+{
+    let text = read_text(alloc, source, input)?;
+    read_consistency(alloc, source, &text)
 }

@@ -92,7 +92,7 @@ fn seal_of(
 /// # Errors
 ///
 /// Only `OutOfMemory`.
-fn cap_of<const N: usize>(
+pub(crate) fn cap_of<const N: usize>(
     alloc: Global,
     scheme: Scheme,
     digests: Vec<[u8; 32]>,

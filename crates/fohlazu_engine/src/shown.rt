@@ -9,7 +9,6 @@ ghost use Rattle.fohlazu_engine.specs.Outcomes.{shown_at};
 ghost use Rattle.fohlazu_engine.specs.Inner.{opening_of, proof_of};
 ghost use Rattle.fohlazu_engine.specs.Trees.{opening_shown};
 ghost use Rattle.fohlazu_engine.specs.declared.fault.Fault.TheVariants.{OutOfMemory};
-ghost use Rattle.fohlazu_engine.specs.declared.fault.Source.TheVariants.{Seal as OfSeal};
 
 use crate::fault::{Fault, Source, text_fault};
 use fohlazu_text::proof::{Entry, Proof};
@@ -36,15 +35,15 @@ pub(crate) struct Shown {
 ///
 /// # Errors
 ///
-/// The first faulty line of the seal; `OutOfMemory` if memory runs out.
-pub(crate) fn read_seal(alloc: Global, text: &[u8]) -> Result<Seal, Fault>
-    ensures read { IfOk result (λ seal. shown_at OfSeal (seal_in text.now) ≡ Ok (seal_fields seal)) }
+/// The first faulty line of this input; `OutOfMemory` if memory runs out.
+pub(crate) fn read_seal(alloc: Global, source: Source, text: &[u8]) -> Result<Seal, Fault>
+    ensures read { IfOk result (λ seal. shown_at source (seal_in text.now) ≡ Ok (seal_fields seal)) }
     ensures seal { IfOk result (λ seal. IsSeal (seal_fields seal)) }
-    ensures fault { IfErr result (λ fault. (fault ≡ OutOfMemory) ⊎ (shown_at OfSeal (seal_in text.now) ≡ Err fault)) }
+    ensures fault { IfErr result (λ fault. (fault ≡ OutOfMemory) ⊎ (shown_at source (seal_in text.now) ≡ Err fault)) }
 {
     match Seal::from_text(alloc, text) {
         Ok(seal) => Ok(seal),
-        Err(fault) => Err(text_fault(Source::Seal, fault)),
+        Err(fault) => Err(text_fault(source, fault)),
     }
 }
 
@@ -123,7 +122,7 @@ fn rows_of(alloc: Global, entries: &[Entry]) -> Result<Vec<Vec<Vec<u8>>>, AllocE
 /// # Errors
 ///
 /// `AllocError` if memory runs out.
-fn row_of(alloc: Global, bytes: &[u8]) -> Result<Vec<Vec<u8>>, AllocError>
+pub(crate) fn row_of(alloc: Global, bytes: &[u8]) -> Result<Vec<Vec<u8>>, AllocError>
     ensures { IfOk result (λ set. row_lists set.items ≡ sha256 bytes.now ∷ []) }
 {
     let digest = Sha256RowsInEights.hash_slice(bytes);

@@ -6,7 +6,7 @@ ghost use Rattle.p3_merkle_core.specs.Commitments.{IsCommitment};
 ghost use Rattle.p3_merkle_core.specs.Gate.{gate_refusal};
 ghost use Rattle.p3_merkle_core.specs.Refusals.{AnswersUnlessMemory};
 ghost use Rattle.p3_merkle_core.specs.declared.cap.CapRule.TheVariants.{Lowered};
-ghost use Rattle.p3_merkle_mmcs.specs.Schemes.{cap_rule_of, params_of};
+ghost use Rattle.p3_merkle_mmcs.specs.Schemes.{cap_height_of, cap_rule_of, params_of};
 ghost use Rattle.p3_merkle_prover.specs.Parts.{layers_of, tree_batch};
 ghost use Rattle.mmcs_engine.specs.Inner.Alike.{is_taken_arity};
 ghost use Rattle.mmcs_text.specs.Words.{arity_number};
@@ -96,6 +96,7 @@ pub(crate) fn scheme_of<const N: usize>(scheme: Scheme) -> Sha256Scheme<N>
         ⟦<Sha256NodesInEights<N> as PseudoCompressionFunction<u8, N, 32>>⟧.compression 32 result (dimensions_for count)
         ≡ params_for scheme count }
     ensures rule { cap_rule_of result ≡ Lowered }
+    ensures cap_height { cap_height_of result ≡ scheme.cap_height }
 {
     MerkleTreeMmcs::new(
         Sha256RowsInEights,

@@ -41,7 +41,7 @@ pub fn verify(alloc: Global, seal: &[u8], proof: &[u8], numbers: &[usize]) -> Re
     ensures fault { IfErr result
         (λ fault. (fault ≡ OutOfMemory) ⊎ (verify_outcome seal.now proof.now numbers.now ≡ Err fault)) }
 {
-    let seal = read_seal(alloc, seal)?;
+    let seal = read_seal(alloc, Source::Seal, seal)?;
     let shown = read_proof(alloc, Source::Proof, proof)?;
     verify_under(alloc, &seal, &shown, numbers)
 }

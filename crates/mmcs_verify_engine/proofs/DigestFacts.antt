@@ -80,7 +80,7 @@ module _ (P : List ℕ → Type 0) (f : Functions ℕ ℕ) (hashed : (words : Li
       of_both (nat_lt j (raw_len (shape b) (suc l))) _ f.default_digest
       (of_both (has_rows (shape b) (suc l)) _ _ (compressed _) (compressed _)) default_is
 
-node_digest : (hash : HashName) (b : Batch ℕ) (l j : ℕ) → IsDigestOf hash (node (functions_of_hash hash) b l j)
+pub node_digest : (hash : HashName) (b : Batch ℕ) (l j : ℕ) → IsDigestOf hash (node (functions_of_hash hash) b l j)
 node_digest Fold b l j =
     of_node (IsDigestOf Fold) fold_functions fold_hashed fold_compressed (one_word 0 (omega arith)) b l j
 node_digest Sha256 b l j =

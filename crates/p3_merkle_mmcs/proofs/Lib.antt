@@ -7,5 +7,5 @@ pub mod PrunedFacts
 pub mod CommitmentFacts
 pub mod PartFacts
 mod ConsistencyFacts
-mod OwnGrowth
+pub mod OwnGrowth
 mod GrownFacts

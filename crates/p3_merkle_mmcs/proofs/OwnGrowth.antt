@@ -81,7 +81,7 @@ module _ {T W : Type 0} (f : Functions T W) (g : Growth) (new : Batch T) (a : Is
       ∙ (λ i. old i ++ sent i)
       ∙ sym (read (λ (l, j). node f new l j) l)
 
-  own_digests : (k : ℕ) → k ≤ new_layer g → map (λ (l, j). node_in [] (layers f new) l j) (joined (sent_at g) k)
+  pub own_digests : (k : ℕ) → k ≤ new_layer g → map (λ (l, j). node_in [] (layers f new) l j) (joined (sent_at g) k)
       ≡ map (λ (l, j). node f new l j) (joined (sent_at g) k)
   own_digests zero le = refl
   own_digests (suc l) le =

@@ -1,14 +1,17 @@
 -- Each command is answered by its own call.
-use Rattle.std.proofs.Common.{All, List, ◌≤◌, ℕ, option_map, string_bytes, subst, sym}
+use Rattle.std.proofs.Common.{◌≡◌, All, List, ◌≤◌, ℕ, map, option_map, string_bytes, subst, sym, Global, Vec}
 use Rattle.fohlazu_entries.specs.Entries.{HoldsOfFile}
 use Rattle.fohlazu_text.specs.Reading.{seal_in}
-use Rattle.fohlazu_engine.specs.Commands.{answered, compared, outcome_of, HoldsOfInputs, IsLawful}
+use Rattle.fohlazu_engine.specs.Commands.{answered, compared, outcome_of, under_both, HoldsOfInputs, IsLawful}
+use Rattle.fohlazu_engine.specs.Crossing.{conflict_grown_outcome}
+use Rattle.fohlazu_engine.specs.Growing.{join_outcome, prove_consistency_outcome, verify_consistency_outcome}
 use Rattle.fohlazu_engine.specs.Inner.{printed_of, Shows}
 use Rattle.fohlazu_engine.specs.Outcomes.{and_then, conflict_outcome, prove_outcome, seal_outcome, shown_at}
 use Rattle.fohlazu_engine.specs.Outcomes.{verify_outcome}
 use Rattle.fohlazu_engine.specs.declared.fault.Source.TheVariants.{File, Seal as OfSeal}
+use Rattle.fohlazu_engine.specs.declared.run.Command.TheVariants.{Join}
 use Rattle.fohlazu_engine.proofs.FileFacts.{told_of_file}
-use Rattle.fohlazu_engine.proofs.RunFacts.{file_shows, three_more, two_more}
+use Rattle.fohlazu_engine.proofs.RunFacts.{file_shows, five_more, three_more, told_of_files, two_more}
 use Rattle.fohlazu_engine.proofs.run.answer_to.Goals as goal
 
 pub seal-requires : goal.seal-requires
@@ -69,3 +72,53 @@ returns-in-Conflict g c =
     (conflict_outcome text one other))
     (λ text one other. Shows printed_of c.found.result (compared (conflict_outcome text one other)))
     (λ text one other. c.found.ensures (conflict_outcome text one other)) c.compared.ensures)
+
+pub returns-in-ProveConsistency : goal.returns-in-ProveConsistency
+returns-in-ProveConsistency g c =
+    let due = λ (one other bytes : List ℕ). under_both one other (λ s t. prove_consistency_outcome s t bytes) in
+    subst (λ command. HoldsOfInputs g.Src.Read.remaining command
+    (λ read. Shows printed_of c.answered-in-ProveConsistency.result (outcome_of read))) (sym c.in-ProveConsistency.is)
+    (three_more (g.Src.Read.remaining c.in-ProveConsistency.old) (g.Src.Read.remaining c.in-ProveConsistency.new)
+    (g.Src.Read.remaining c.in-ProveConsistency.file)
+    (λ one other bytes. Shows (λ t. t.items) c.growth_proved.result (due one other bytes))
+    (λ one other bytes. Shows printed_of c.answered-in-ProveConsistency.result (answered (due one other bytes)))
+    (λ one other bytes. c.answered-in-ProveConsistency.ensures (due one other bytes)) c.growth_proved.ensures)
+
+pub returns-in-VerifyConsistency : goal.returns-in-VerifyConsistency
+returns-in-VerifyConsistency g c =
+    subst (λ command. HoldsOfInputs g.Src.Read.remaining command
+    (λ read. Shows printed_of c.answered-in-VerifyConsistency.result (outcome_of read)))
+    (sym c.in-VerifyConsistency.is)
+    (three_more (g.Src.Read.remaining c.in-VerifyConsistency.old) (g.Src.Read.remaining c.in-VerifyConsistency.new)
+    (g.Src.Read.remaining c.in-VerifyConsistency.proof)
+    (λ one other shown. Shows (λ t. t.items) c.growth_verified.result (verify_consistency_outcome one other shown))
+    (λ one other shown. Shows printed_of c.answered-in-VerifyConsistency.result
+    (answered (verify_consistency_outcome one other shown)))
+    (λ one other shown. c.answered-in-VerifyConsistency.ensures (verify_consistency_outcome one other shown))
+    c.growth_verified.ensures)
+
+pub returns-in-ConflictGrown : goal.returns-in-ConflictGrown
+returns-in-ConflictGrown g c =
+    subst (λ command. HoldsOfInputs g.Src.Read.remaining command
+    (λ read. Shows printed_of c.found-in-ConflictGrown.result (outcome_of read))) (sym c.in-ConflictGrown.is)
+    (five_more (g.Src.Read.remaining c.in-ConflictGrown.old) (g.Src.Read.remaining c.in-ConflictGrown.new)
+    (g.Src.Read.remaining c.in-ConflictGrown.consistency) (g.Src.Read.remaining c.in-ConflictGrown.first)
+    (g.Src.Read.remaining c.in-ConflictGrown.second)
+    (λ s t between one other. Shows (λ found. option_map (λ t. t.items) found) c.growth_compared-answer.result
+    (conflict_grown_outcome s t between one other))
+    (λ s t between one other. Shows printed_of c.found-in-ConflictGrown.result
+    (compared (conflict_grown_outcome s t between one other)))
+    (λ s t between one other. c.found-in-ConflictGrown.ensures (conflict_grown_outcome s t between one other))
+    c.growth_compared-answer.ensures)
+
+pub returns-in-Join : goal.returns-in-Join
+returns-in-Join g c =
+    subst (λ command. HoldsOfInputs g.Src.Read.remaining command
+    (λ read. Shows printed_of c.answered-in-Join.result (outcome_of read))) (sym c.in-Join.is)
+    (told_of_files (map g.Src.Read.remaining c.in-Join.seals.items)
+    (λ texts. Shows (λ t. t.items) c.joined.result (join_outcome texts))
+    (λ texts. (read : Vec (List ℕ) Global) → read.items ≡ texts →
+    Shows printed_of c.answered-in-Join.result (outcome_of (Join read)))
+    (λ texts shows read is. c.answered-in-Join.ensures (join_outcome read.items)
+    (subst (λ (own : List (List ℕ)). Shows (λ t. t.items) c.joined.result (join_outcome own)) (sym is) shows))
+    c.joined.ensures)
