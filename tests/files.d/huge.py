@@ -5,6 +5,7 @@ import os
 import random
 import select
 
+import commands
 import files
 import sealed
 import sealing
@@ -70,7 +71,7 @@ def compared(program, name, words, contents):
     """A measured run beside the model."""
     for own, data in contents.items():
         program.write(own, data)
-    answer = sealing.answer(words, contents.get)
+    answer = commands.answer(words, contents.get)
     ran = program.measured(words)
     return name, [*wrongs(program, ran, answer.status, answer.printed), *program.said_wrongly(ran.said, answer)]
 
@@ -149,6 +150,10 @@ def long_proofs(program, part):
     one, twice = ["verify", "seal", "proof", "1"], ["conflict", "seal", "proof", "proof"]
     yield tried(program, f"verify 1, a proof of {count} entries", one, contents, 1, b"", room)
     yield tried(program, f"conflict, a proof of {count} entries twice", twice, contents, 0, b"no conflict\n", 2 * room)
+    seals = ["conflict", "seal", "seal", "between", "proof", "proof"]
+    between = {**contents, "between": files.consistency_text([])}
+    yield tried(program, f"conflict of two seals, a proof of {count} entries twice", seals, between, 0,
+                b"no conflict\n", 2 * room)
     small = sealing.seal_of(b"a\nb\n", None, 2, 0, None)
     once = files.read_proof(sealing.prove(small, b"a\nb\n", [2], "file"))
     often = files.proof_text(once[0] * count, once[1])

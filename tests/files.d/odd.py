@@ -6,21 +6,31 @@ import signal
 import subprocess
 import threading
 
+import commands
+import growing
 import sealing
 from running import Ran, is_line
 
 DATA = b"one\ntwo\n\nfour\nfive"
 SEAL = sealing.seal_of(DATA, None, 2, 1, b"odd")
 PROOF = sealing.prove(SEAL, DATA, [2, 4], "file")
+OLD, REST = (sealing.seal_of(data, None, 2, 1, b"odd") for data in (b"one\ntwo\n", b"\nfour\n"))
+BEFORE = sealing.prove(OLD, b"one\ntwo\n", [2], "file")
+CONSISTENCY = growing.prove(OLD, SEAL, DATA, "file")
 COMMANDS = {
     "seal": ["seal", "file"],
     "prove": ["prove", "seal", "file", "2", "4"],
     "verify": ["verify", "seal", "proof", "2", "4"],
     "conflict": ["conflict", "seal", "proof", "other"],
+    "prove-consistency": ["prove-consistency", "old", "seal", "file"],
+    "verify-consistency": ["verify-consistency", "old", "seal", "consistency"],
+    "conflict of two seals": ["conflict", "old", "seal", "consistency", "before", "proof"],
+    "join": ["join", "old", "rest"],
 }
 UNREAD = "it cannot be read"
 UNWRITTEN = "the output cannot be written"
-CONTENTS = {"file": DATA, "seal": SEAL.text(), "proof": PROOF, "other": PROOF}
+CONTENTS = {"file": DATA, "seal": SEAL.text(), "proof": PROOF, "other": PROOF, "old": OLD.text(), "rest": REST.text()}
+CONTENTS |= {"consistency": CONSISTENCY, "before": BEFORE}
 # bytes of a file that changes while it is read
 CHANGING = 300_000
 # bytes of a file of which no more than its beginning is to be read
@@ -79,7 +89,7 @@ def unwritten(program):
                           restore_signals=False)
         os.close(writer)
         yield f"{command}, a pipe that nobody reads", refused(ran, 2, UNWRITTEN)
-        ran = program.run(words, {**CONTENTS, "seal": b"x", "file": b""}, stderr=subprocess.PIPE,
+        ran = program.run(words, {**CONTENTS, "seal": b"x", "old": b"x", "file": b""}, stderr=subprocess.PIPE,
                           preexec_fn=lambda: os.close(2))
         status = 1 if command == "seal" else 2
         yield f"{command}, a refusal that can't be said", [] if ran.status == status else [f"status {ran.status}"]
@@ -91,7 +101,7 @@ def words_of_all_kinds(program):
         ran = program.run([*words[:-1], b"\xff\xfe"], CONTENTS)
         told = [] if ran.status == 2 and not ran.printed and ran.said else [f"{ran}"]
         yield f"{command}, a word that isn't UTF-8", told
-        yield f"{command} --help", helped(program.run([command, "--help"]), command.encode())
+        yield f"{command} --help", helped(program.run([words[0], "--help"]), words[0].encode())
     yield "--help", helped(program.run(["--help"]), b"conflict")
     yield "--version", helped(program.run(["--version"]), b"fohlazu ")
 
@@ -148,7 +158,7 @@ def changing(program):
     words = ["prove", "seal", "file", *map(str, numbers)]
     program.write("seal", seal.text())
     for name, other in [("cut", data[:-300]), ("emptied", b""), ("changed", data[:1000] + b"x" + data[1001:])]:
-        why = sealing.answer(words, {"seal": seal.text(), "file": other}.get).refused.line.removeprefix("fohlazu: ")
+        why = commands.answer(words, {"seal": seal.text(), "file": other}.get).refused.line.removeprefix("fohlazu: ")
         yield f"a file that was {name}", refused(program.run(words, {"file": other}), 1, why)
     for how, change in CHANGES.items():
         program.written.pop("file", None)

@@ -18,6 +18,8 @@ TABLES = [
 ]
 # Short lines, an empty one, one of two blocks of SHA-256, and one that ends with the file; of seventeen blocks.
 FILES = {"lines": b"one\ntwo\n\n" + 100 * b"x" + b"\nlast", "blocks": bytes(range(133))}
+# Their first three entries, each as a part of a file.
+PARTS = {"lines": [b"one\n", b"two\n", b"\n"], "blocks": [bytes(range(i, i + 8)) for i in (0, 8, 16)]}
 SEALED = {"lines": ["--label", "a"], "blocks": ["--blocks", "8", "--cap-height", "1"]}
 # What a run says that has no memory, and its status.
 OUT_OF_MEMORY = {"mmcs": (1, b"", b"out of memory\n"), "fohlazu": (2, b"", b"fohlazu: out of memory\n")}
@@ -88,6 +90,23 @@ def files_of(trials):
             yield ["prove", seal, file, "4", "1", "4"]
             yield ["verify", seal, proof, "4", "1", "4"]
             yield ["conflict", seal, proof, proof]
+            yield from grown_of(trials, kind, arity, [file, seal, proof])
+
+
+def grown_of(trials, kind, arity, later):
+    """The commands of a file that has grown from its first entries, and of the seals of these entries."""
+    file, seal, proof = later
+    parts = [(f"part-{kind}-{arity}-{number}", part) for number, part in enumerate(PARTS[kind])]
+    for name, part in [*parts, (f"old-{file}", b"".join(PARTS[kind]))]:
+        trials.write(name, part)
+        trials.write(f"{name}.seal", trials.answer(["seal", "--arity", arity, *SEALED[kind], name]))
+    old, before, consistency = f"old-{file}.seal", f"old-{proof}", f"consistency-{kind}-{arity}"
+    trials.write(before, trials.answer(["prove", old, f"old-{file}", "3", "1"]))
+    trials.write(consistency, trials.answer(["prove-consistency", old, seal, file]))
+    yield ["prove-consistency", old, seal, file]
+    yield ["verify-consistency", old, seal, consistency]
+    yield ["conflict", old, seal, consistency, before, proof]
+    yield ["join", *(f"{name}.seal" for name, _ in parts)]
 
 
 def try_all(trials, commands):

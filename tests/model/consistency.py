@@ -14,9 +14,9 @@ def layer_of_cap(arity, cap_height, height):
 
 
 class Growth:
-    def __init__(self, arity, cap_height, old, new):
+    def __init__(self, arity, cap_height, old, new, functions=Fold):
         self.arity, self.old, self.new = arity, old, new
-        self.functions = Fold(arity)
+        self.functions = functions(arity)
         self.old_layer = layer_of_cap(arity, cap_height, old)
         self.new_layer = layer_of_cap(arity, cap_height, new)
 

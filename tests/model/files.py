@@ -1,4 +1,4 @@
-"""The texts of `fohlazu`: seals of files and proofs of entries, printed and read strictly."""
+"""The texts of `fohlazu`: seals of files, proofs of entries and consistency proofs, printed and read strictly."""
 
 import re
 
@@ -12,6 +12,7 @@ LABEL = re.compile(b"[!-~](?:[ -~]{0,98}[!-~])?")
 
 SEAL = "`fohlazu seal 1`"
 PROOF = "`fohlazu proof 1`"
+CONSISTENCY = "`fohlazu consistency 1`"
 SCHEME = "`sha256 ARITY LEVELS`, with an arity of 2, 4 or 8 and up to 62 levels"
 LABEL_OR_CONTENT = "`label TEXT`, `lines COUNT` or `blocks BYTES COUNT`"
 CONTENT = "`lines COUNT` or `blocks BYTES COUNT`"
@@ -144,6 +145,20 @@ def seal_text(arity, levels, label, size, count, cap):
     return b"".join(line + b"\n" for line in lines + [digest.hex().encode() for digest in cap])
 
 
+def read_digests(text):
+    """Digests behind a line that says how many there are."""
+    (count,) = text.line(DIGEST_COUNT, numbers(b"digests", 1))
+    digests = []
+    while len(digests) < count:
+        digests.append(text.line(DIGITS, digest_of))
+    return digests
+
+
+def digest_lines(digests):
+    """How many digests there are, and a line for each."""
+    return b"digests %d\n" % len(digests) + b"".join(digest.hex().encode() + b"\n" for digest in digests)
+
+
 def read_proof(data):
     """The entries and the digests of a proof."""
     text = Text(data)
@@ -153,10 +168,7 @@ def read_proof(data):
     while len(entries) < count:
         number, length = text.line(ENTRY, head_of)
         entries.append((number, text.bytes(length)))
-    (count,) = text.line(DIGEST_COUNT, numbers(b"digests", 1))
-    digests = []
-    while len(digests) < count:
-        digests.append(text.line(DIGITS, digest_of))
+    digests = read_digests(text)
     text.end()
     return entries, digests
 
@@ -165,16 +177,32 @@ def proof_text(entries, digests):
     """The text of a proof."""
     parts = [b"fohlazu proof 1\nentries %d\n" % len(entries)]
     parts += [b"entry %d %d\n%s\n" % (number, len(data), data) for number, data in entries]
-    parts += [b"digests %d\n" % len(digests)] + [digest.hex().encode() + b"\n" for digest in digests]
-    return b"".join(parts)
+    return b"".join(parts) + digest_lines(digests)
+
+
+def read_consistency(data):
+    """The digests of a consistency proof."""
+    text = Text(data)
+    text.line(CONSISTENCY, spelled(b"fohlazu consistency 1"))
+    digests = read_digests(text)
+    text.end()
+    return digests
+
+
+def consistency_text(digests):
+    """The text of a consistency proof."""
+    return b"fohlazu consistency 1\n" + digest_lines(digests)
+
+
+READERS = {"seal": lambda data: seal_text(*read_seal(data)), "proof": lambda data: proof_text(*read_proof(data))}
+READERS["consistency"] = lambda data: consistency_text(read_consistency(data))
 
 
 def read_again(kind, data):
-    """Whether a text is a seal, or a proof, and printed again it is the same; or why it is none."""
-    read, text = {"seal": (read_seal, seal_text), "proof": (read_proof, proof_text)}[kind]
+    """Whether a text is a seal, a proof or a consistency proof, and printed again it is the same; or why it is none."""
     try:
-        found = read(data)
+        found = READERS[kind](data)
     except Malformed as fault:
         above = data[: fault.place].count(b"\n")
         return f"line {above + 1}: expected {fault.expected}"
-    return "same" if text(*found) == data else "another text"
+    return "same" if found == data else "another text"

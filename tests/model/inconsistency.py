@@ -46,7 +46,8 @@ def last_difference(first, second):
 def extract(old, new, digests):
     """A refusal and nothing, or no refusal and which checks differ first, with their last difference."""
     text = form_refusal(old, new)
-    growth = text or Growth(old.scheme.arity, old.scheme.cap_height, old.shape.tallest, new.shape.tallest)
+    functions = type(old.scheme.functions)
+    growth = text or Growth(old.scheme.arity, old.scheme.cap_height, old.shape.tallest, new.shape.tallest, functions)
     text = text or growth.refusal(old.roots, new.roots, digests)
     if text:
         return text, None

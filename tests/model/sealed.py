@@ -6,6 +6,7 @@ be read has none.
 
 from typing import NamedTuple
 
+import commands
 import files
 import sealing
 from geometry import MAX_HEIGHT
@@ -24,6 +25,8 @@ BAD_LABELS = ["", " a", "a ", "x" * 101, "a\tb", "\u00fc", "a\nb"]
 WRONG = [["--arity", "3"], ["--arity=0"], ["--arity", "16"], ["--cap-height", "63"], ["--cap-height", "x"]]
 WRONG += [["--blocks", "0"], ["--blocks", str((1 << 30) + 1)], ["--blocks", ""], ["--blocks=4k"], ["--lines"]]
 WRONG += [["--arity", "2", "--arity", "2"]]
+# what cases call their files
+NAMES = ["file", "seal", "proof", "other", "old", "new", "consistency", *(f"part{number}" for number in range(6))]
 # a file has at most so many entries, and is changed at so many places
 MOST = 600
 FEW = 12
@@ -38,7 +41,7 @@ class Case(NamedTuple):
     kind: str
 
     def answer(self):
-        return sealing.answer(self.words, self.contents.get)
+        return commands.answer(self.words, self.contents.get)
 
 
 def dropped(random, data, place):
@@ -258,7 +261,7 @@ def wrong_words(random, words):
     """Words that are no command: one left out, one too many, a number that is none, standard input twice."""
     place = random.randrange(len(words))
     extra = random.choice(["0", "-1", "1x", "x", "--blocks=1", "--arity=2", str(1 << 64), "", "1.0", "\u0663"])
-    files_at = [at for at, word in enumerate(words) if word in ("file", "seal", "proof", "other")]
+    files_at = [at for at, word in enumerate(words) if word in NAMES]
     found = [words[:place], [*words, extra], ["sea", *words[1:]], [*words, "-", "-"]]
     if words[0] == "seal":
         found += [[words[0], *options, *words[1:]] for options in random.sample(WRONG, 3)]

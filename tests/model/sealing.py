@@ -1,4 +1,4 @@
-"""Files as lists of entries, and what the commands of `fohlazu` make of them: seals, proofs, verdicts, conflicts."""
+"""Files as lists of entries, and what is made of them: seals, proofs, verdicts, conflicts under one seal."""
 
 import hashlib
 from typing import NamedTuple
@@ -10,11 +10,6 @@ from nodes import Sha256
 from refusals import PRUNED, Claim, refusal
 from schemes import Scheme
 from verifier import collision_text
-
-MAX_LEVELS = 62
-OPTIONS = {"--blocks": "blocks", "--arity": "arity", "--cap-height": "levels", "--label": "label"}
-WORDS = {"seal": ["FILE"], "prove": ["SEAL", "FILE", "NUMBER.."], "verify": ["SEAL", "PROOF", "NUMBER.."]}
-WORDS["conflict"] = ["SEAL", "PROOF", "PROOF"]
 
 
 class Seal(NamedTuple):
@@ -42,7 +37,7 @@ class Refused(Exception):
         super().__init__(status, name, why)
         self.status = status
         self.name = name
-        self.line = f"fohlazu: {name}: {why}" if name else f"fohlazu: {why}"
+        self.line = f"fohlazu: {why}" if name is None else f"fohlazu: {name}: {why}"
 
 
 class Answer(NamedTuple):
@@ -125,6 +120,12 @@ def verify(seal, proof, numbers, name):
     return b"".join(data if seal.size is not None else data + b"\n" for _, data in proof[0])
 
 
+def entry_collision(number, data, against):
+    """What is printed of two entries of one number with one digest."""
+    lines = [f"collision at entry {number}", data.hex(), against.hex(), hashlib.sha256(data).hexdigest()]
+    return "".join(line + "\n" for line in lines).encode()
+
+
 def conflict(seal, proofs, names):
     """Whether two proofs under one seal conflict, and what is printed of it."""
     for proof, name in zip(proofs, names):
@@ -139,107 +140,5 @@ def conflict(seal, proofs, names):
     for place, (number, data) in enumerate(entries):
         for other, against in entries[place + 1 :]:
             if number == other and data != against:
-                lines = [f"collision at entry {number}", data.hex(), against.hex(), hashlib.sha256(data).hexdigest()]
-                return Answer(1, "".join(line + "\n" for line in lines).encode())
+                return Answer(1, entry_collision(number, data, against))
     return Answer(0, b"no conflict\n")
-
-
-def usage(why):
-    return Refused(2, None, why)
-
-
-def number_of(word, least, most):
-    """The number that a word is, between two bounds."""
-    if not (word.isascii() and word.isdecimal()) or not least <= int(word) <= most:
-        raise usage(f"{word} is no number from {least} to {most}")
-    return int(word)
-
-
-def split(words):
-    """The options of a command, each once at most, and its other words."""
-    options, rest, words = {}, [], list(words)
-    while words:
-        word = words.pop(0)
-        name, mark, value = word.partition("=")
-        if word == "--":
-            return options, rest + words
-        if word == "-" or not word.startswith("-"):
-            rest.append(word)
-            continue
-        if name not in OPTIONS or OPTIONS[name] in options or not (mark or words):
-            raise usage(f"{word} can't stand here")
-        options[OPTIONS[name]] = value if mark else words.pop(0)
-    return options, rest
-
-
-def setting_of(options):
-    """What `seal` is told: size, arity, levels and label."""
-    size = number_of(options["blocks"], 1, files.MAX_BYTES) if "blocks" in options else None
-    arity = number_of(options.get("arity", "2"), 2, 8)
-    levels = number_of(options.get("levels", "0"), 0, MAX_LEVELS)
-    label = options["label"].encode() if "label" in options else None
-    if arity not in (2, 4, 8) or (label is not None and not files.LABEL.fullmatch(label)):
-        raise usage("an arity or a label that is none")
-    return size, arity, levels, label
-
-
-def command_of(words):
-    """The command, its options, the names of its files, and its numbers."""
-    if not words or words[0] not in WORDS:
-        raise usage("no command")
-    options, rest = split(words[1:])
-    due = WORDS[words[0]]
-    has_numbers = due[-1] == "NUMBER.."
-    names = rest[: len(due) - has_numbers]
-    numbers = [number_of(word, 1, (1 << 64) - 1) for word in rest[len(names) :]] if has_numbers else []
-    if len(rest) < len(due) or (not has_numbers and len(rest) > len(due)):
-        raise usage("too few words, or too many")
-    if (options and words[0] != "seal") or names.count("-") > 1:
-        raise usage("an option of another command, or standard input twice")
-    return words[0], setting_of(options), names, numbers
-
-
-def read(status, name, data, reading):
-    """What a text shows; refused where it shows nothing."""
-    try:
-        return reading(data)
-    except files.Malformed as fault:
-        line = data[: fault.place].count(b"\n") + 1
-        raise Refused(status, name, f"line {line}: expected {fault.expected}") from None
-
-
-def bytes_of(name, contents):
-    """The bytes of a file; `contents` has none where it can't be read."""
-    data = contents(name)
-    if data is None:
-        raise Refused(2, name, "it cannot be read")
-    return data
-
-
-def outcome(words, contents):
-    """What a command answers; `contents` tells the bytes of a file by its name."""
-    command, setting, names, numbers = command_of(words)
-    if command == "seal":
-        seal = seal_of(bytes_of(names[0], contents), *setting)
-        if seal is None:
-            raise Refused(1, names[0], "it has no entries")
-        return Answer(0, seal.text())
-    seal = Seal(*read(2, names[0], bytes_of(names[0], contents), files.read_seal))
-    if command == "prove":
-        above = [number for number in numbers if number > seal.count]
-        if above:
-            raise Refused(1, names[0], f"it has {seal.count} entries, and no entry {above[0]}")
-        return Answer(0, prove(seal, bytes_of(names[1], contents), numbers, names[1]))
-    status = 1 if command == "verify" else 2
-    proofs = [read(status, name, bytes_of(name, contents), files.read_proof) for name in names[1:]]
-    if command == "verify":
-        return Answer(0, verify(seal, proofs[0], numbers, names[1]))
-    return conflict(seal, proofs, names[1:])
-
-
-def answer(words, contents):
-    """The same, with refusals."""
-    try:
-        return outcome(words, contents)
-    except Refused as refused:
-        return Answer(refused.status, b"", refused)
