@@ -1,5 +1,5 @@
-/* Verifies an answer about the log of examples/log: a day has 8 entries of 4 numbers and 2 summaries of 3, and the entries
- * 0, 2 and 7 are asked for. The cap, a blank line and the opening come on standard input. */
+/* Verifies an answer about a table of examples/summaries: a day has 8 entries of 4 numbers and 2 summaries of 3, and the
+ * entries 0, 2 and 7 are asked for. The cap, a blank line and the opening come on standard input. */
 #include "mmcs_verify.h"
 
 #include <stdio.h>

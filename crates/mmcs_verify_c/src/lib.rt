@@ -1,6 +1,8 @@
-//! The verifier of `mmcs_verify` as a static library for C: `examples/c/mmcs_verify.h` declares it.
+//! The verifiers of `mmcs_verify` and `fohlazu` as a static library for C: `examples/c/mmcs_verify.h` and
+//! `examples/c/fohlazu.h` declare its calls.
 #![tactic(auto)]
 
 mod buffer;
 pub mod call;
+pub mod files;
 pub mod setting;
