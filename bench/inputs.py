@@ -1,0 +1,50 @@
+"""What the scripts that measure seals of files share: the program, and the files in bench/out."""
+
+import os
+import random
+import subprocess
+import sys
+from pathlib import Path
+
+TOP = Path(__file__).resolve().parent.parent
+OUT = TOP / "bench" / "out"
+PIECE = 16 << 20
+
+
+def fail(text, status):
+    print(f"bench/{Path(sys.argv[0]).name}: {text}", file=sys.stderr)
+    sys.exit(status)
+
+
+def built(is_quick):
+    """The program, built where it is not built."""
+    if os.environ.get("FOHLAZU"):
+        return str(Path(os.environ["FOHLAZU"]).resolve())
+    words = ["quick", "--program"] if is_quick else ["--program"]
+    ran = subprocess.run([TOP / "fohlazu", *words], stdin=subprocess.DEVNULL, stdout=subprocess.PIPE, text=True)
+    if ran.returncode != 0:
+        fail("fohlazu can't be built", 3)
+    return ran.stdout.rstrip("\n")
+
+
+def make(name, size, piece_of):
+    """A file of so many bytes, made where there is none."""
+    path = OUT / name
+    if not path.exists() or path.stat().st_size != size:
+        source, left = random.Random(name), size
+        with path.open("wb") as file:
+            while left:
+                piece = piece_of(source)[:left]
+                file.write(piece)
+                left -= len(piece)
+    return path
+
+
+def bytes_of(source):
+    return source.randbytes(PIECE)
+
+
+def lines_of(source):
+    """Lines of 63 printable bytes each, and their ends."""
+    digits = source.randbytes(PIECE // 2).hex().encode()
+    return b"\n".join(digits[at : at + 63] for at in range(0, len(digits) - 63, 63)) + b"\n"
