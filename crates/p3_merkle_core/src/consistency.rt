@@ -1,7 +1,8 @@
 //! Consistency of a list of rows that grows: which nodes are old, mixed and new, and how many digests a proof has.
 //! Nothing here calls a hash or allocates.
 
-ghost use Rattle.std.specs.Prelude.{◌≡◌, ◌-◌, ◌/◌, ◌^◌, ◌<◌, ◌≤◌, All, IfOk, MatchResult, None, Some, option_map, slice_get};
+ghost use Rattle.std.specs.Int.{div_ceil};
+ghost use Rattle.std.specs.Prelude.{◌≡◌, ◌+◌, ◌-◌, ◌/◌, ◌^◌, ◌<◌, ◌≤◌, All, IfOk, MatchResult, None, Some, option_map, slice_get};
 ghost use Rattle.p3_support.specs.Batches.{greatest, heights_of, widths_of};
 ghost use Rattle.p3_merkle_core.specs.Geometry.{height_limit, IsArity};
 ghost use Rattle.p3_merkle_core.specs.Consistency.{consistency_len, new_layer, old_layer, IsGrowth};
@@ -13,6 +14,7 @@ ghost use Rattle.p3_merkle_core.specs.Inner.Growths.{mixed_children, parts_above
 use crate::error::ConsistencyError;
 use crate::geometry::MAX_HEIGHT;
 use crate::parts::cap_layer_of_height;
+use crate::pruning::parent_of;
 use p3_support::matrix::Dimensions;
 
 /// The digests that show that a list of rows begins with the rows of an older list. `X` is a digest.
@@ -110,9 +112,20 @@ pub fn check_same_widths(old: &[Dimensions], new: &[Dimensions]) -> Result<(), C
     Ok(())
 }
 
+/// How many parents so many nodes have. The arity must be at least 1, and the sum of both must be at most 2^63.
+fn num_parents(nodes: usize, arity: usize) -> usize
+    requires some { 1 ≤ arity }
+    requires fits { nodes + arity ≤ 2 ^ 63 }
+    ensures { result ≡ div_ceil nodes arity }
+{
+    parent_of(nodes + (arity - 1), arity)
+}
+
 impl LayerParts {
     /// The children of the mixed node of the layer above, and the parts of that layer. The arity must be from 1 to
     /// 2^62, and there must be at most 2^62 nodes.
+    // A caller that knows the arity at compile time then shifts by a constant.
+    #[inline(always)]
     pub fn up(self, arity: usize) -> (MixedChildren, LayerParts)
         requires some { 1 ≤ arity }
         requires narrow { arity ≤ height_limit }
@@ -121,9 +134,9 @@ impl LayerParts {
         ensures above { result.1 ≡ parts_above arity self }
     {
         let above = LayerParts {
-            old_end: self.old_end / arity,
-            new_start: self.new_start.div_ceil(arity),
-            end: self.end.div_ceil(arity),
+            old_end: parent_of(self.old_end, arity),
+            new_start: num_parents(self.new_start, arity),
+            end: num_parents(self.end, arity),
         };
         let children = MixedChildren {
             start: arity * above.old_end,
@@ -243,6 +256,8 @@ impl Growth {
 
     /// How many digests a proof has. The arity must be a power of two from 2 to 2^62, and
     /// [`check_heights`](Self::check_heights) must accept the heights. It takes one step a layer.
+    // As above, a caller may know the arity.
+    #[inline(always)]
     pub fn num_digests(&self) -> usize
         requires arity { IsArity self.now.arity }
         requires heights { IsGrowth self.now }

@@ -1,6 +1,6 @@
 //! Groups of digests, as a compression takes them.
 
-ghost use Rattle.std.specs.Prelude.{◌≡◌, ◌+◌, ◌<◌, ◌≤◌, ◌∷◌, ◌++◌, [], length, insert};
+ghost use Rattle.std.specs.Prelude.{◌≡◌, ◌+◌, ◌<◌, ◌≤◌, ◌∷◌, ◌++◌, [], length, insert, slice_index_or};
 ghost use Rattle.std.specs.Option.{option_to_list};
 ghost use Rattle.p3_merkle_core.specs.Nodes.{padded};
 
@@ -42,6 +42,35 @@ pub fn padded_group<W: Copy, const N: usize, const D: usize>(
     group_with(default_digest, children[0], 0, &children[1..])
 }
 
+/// The child of a mixed node of a list that grows at a place, counted from the first one, where its old children come
+/// first, the mixed one behind them if there is one, then its new ones; the default digest behind the last one.
+#[inline(always)]
+fn mixed_child<W: Copy, const D: usize>(
+    default_digest: [W; D],
+    old: &[[W; D]],
+    mixed: Option<[W; D]>,
+    new: &[[W; D]],
+    place: usize,
+) -> [W; D]
+    ensures { result ≡ slice_index_or (old.now ++ option_to_list mixed ++ new.now) place default_digest }
+{
+    if place < old.len() {
+        return old[place];
+    }
+    let mut behind = place - old.len();
+    if let Some(digest) = mixed {
+        if behind == 0 {
+            return digest;
+        }
+        behind -= 1;
+    }
+    if behind < new.len() {
+        new[behind]
+    } else {
+        default_digest
+    }
+}
+
 /// The children of a mixed node of a list that grows, then default digests: its old children, the mixed one if there is
 /// one, its new ones. There must be at most `N`.
 pub fn mixed_group<W: Copy, const N: usize, const D: usize>(
@@ -53,16 +82,13 @@ pub fn mixed_group<W: Copy, const N: usize, const D: usize>(
     requires { length old.now + length (option_to_list mixed) + length new.now ≤ N }
     ensures { result ≡ padded N default_digest (old.now ++ option_to_list mixed ++ new.now) }
 {
-    let mut group = [default_digest; N];
-    let slots = &mut group[..];
-    let mut end = old.len();
-    slots[..end].copy_from_slice(old);
-    if let Some(digest) = mixed {
-        slots[end] = digest;
-        end += 1;
-    }
-    slots[end..end + new.len()].copy_from_slice(new);
-    group
+    // Slot by slot: copies of slices as short as these are calls that take longer.
+    std::array::from_fn(
+        |place| -> [W; D]
+            ensures { let children = old.entry.now ++ option_to_list mixed ++ new.entry.now in
+                result ≡ slice_index_or children place default_digest }
+        { mixed_child(default_digest, old, mixed, new, place) },
+    )
 }
 
 /// Two digests, then default digests: the digest of a node's children beside that of its rows. `N` must be at least 2.

@@ -130,6 +130,8 @@ impl<
     {}
 
     /// The mixed node of the layer above, below the old cap: its old children and its new ones were sent.
+    // A call passes the nodes of both layers through memory.
+    #[inline(always)]
     pub(crate) fn mixed_below_old_cap(
         &self,
         proof: ConsistencyRef<'_, [PW::Value; D]>,
