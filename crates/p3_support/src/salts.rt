@@ -1,5 +1,6 @@
 //! Random matrices, from which salts are taken.
-ghost use Rattle.std.specs.Prelude.{◌≡◌, ℕ, ◌*◌, ◌%◌, ◌^◌, ◌≤◌, IfOk, IsErr, OnErr, OnOk};
+ghost use Rattle.std.specs.Prelude.{◌≡◌, ℕ, ◌*◌, ◌%◌, ◌^◌, ◌≤◌, ◌+◌, ◌++◌, vec_len, vec_capacity, map, IfOk, IsErr};
+ghost use Rattle.std.specs.Prelude.{OnErr, OnOk};
 ghost use Rattle.p3_support.specs.Salts.{after_words, salts};
 
 use crate::matrix::RowMajorMatrix;
@@ -34,6 +35,64 @@ impl SaltWord for u8 {
     }
 }
 
+/// The next eight words of a generator.
+// Drawn side by side, they keep the generator's state in registers. Where each is stored before the next one is drawn,
+// the state goes through memory.
+fn next_eight<R: Rng>(rng: &mut R) -> [u64; 8]
+    ensures words { result ≡ salts (λ w. w) 8 (R.stream rng.old) }
+    ensures rest { R.stream rng.new ≡ after_words 8 (R.stream rng.old) }
+{
+    [
+        rng.next_u64(),
+        rng.next_u64(),
+        rng.next_u64(),
+        rng.next_u64(),
+        rng.next_u64(),
+        rng.next_u64(),
+        rng.next_u64(),
+        rng.next_u64(),
+    ]
+}
+
+/// Adds the values of eight words to the end of a vector that has room for them.
+fn push_eight<T: SaltWord>(values: &mut Vec<T>, words: [u64; 8])
+    requires { vec_len values.old + 8 ≤ vec_capacity values.old }
+    ensures items { values.new.items ≡ values.old.items ++ map T.of_salt_word words }
+    ensures len { vec_len values.new ≡ vec_len values.old + 8 }
+    ensures capacity { vec_capacity values.new ≡ vec_capacity values.old }
+{
+    for word in &words {
+        values.push_reserved(T::from_salt_word(*word));
+    }
+}
+
+/// Draws `8 * eights` values and adds them to the end of a vector that has room for them.
+fn draw_eights<T: SaltWord, R: Rng>(values: &mut Vec<T>, rng: &mut R, eights: usize)
+    requires { vec_len values.old + 8 * eights ≤ vec_capacity values.old }
+    ensures items { values.new.items ≡ values.old.items ++ salts T.of_salt_word (8 * eights) (R.stream rng.old) }
+    ensures len { vec_len values.new ≡ vec_len values.old + 8 * eights }
+    ensures capacity { vec_capacity values.new ≡ vec_capacity values.old }
+    ensures rest { R.stream rng.new ≡ after_words (8 * eights) (R.stream rng.old) }
+{
+    for _ in 0..eights {
+        let words = next_eight(rng);
+        push_eight(values, words);
+    }
+}
+
+/// Draws `count` values and adds them to the end of a vector that has room for them.
+fn draw_each<T: SaltWord, R: Rng>(values: &mut Vec<T>, rng: &mut R, count: usize)
+    requires { vec_len values.old + count ≤ vec_capacity values.old }
+    ensures items { values.new.items ≡ values.old.items ++ salts T.of_salt_word count (R.stream rng.old) }
+    ensures len { vec_len values.new ≡ vec_len values.old + count }
+    ensures capacity { vec_capacity values.new ≡ vec_capacity values.old }
+    ensures rest { R.stream rng.new ≡ after_words count (R.stream rng.old) }
+{
+    for _ in 0..count {
+        values.push_reserved(T::from_salt_word(rng.next_u64()));
+    }
+}
+
 impl<T: SaltWord> RowMajorMatrix<T> {
     ghost use Rattle.p3_support.specs.RowMajor.{row_count, row_width, values_of};
 
@@ -60,9 +119,8 @@ impl<T: SaltWord> RowMajorMatrix<T> {
     {
         let count = rows.checked_mul(cols).ok_or(AllocError)?;
         let mut values = Vec::with_capacity(alloc, count)?;
-        for _ in 0..count {
-            values.push(T::from_salt_word(rng.next_u64()))?;
-        }
+        draw_eights(&mut values, rng, count / 8);
+        draw_each(&mut values, rng, count % 8);
         Ok(RowMajorMatrix::new(values, cols))
     }
 }
