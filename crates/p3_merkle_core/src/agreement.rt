@@ -4,6 +4,7 @@
 
 ghost use Rattle.std.specs.Prelude.{◌≡◌, ℕ, ◌<◌, ◌≤◌, ◌⊎◌, Some, None, List, [], All, false, length, slice_index_or};
 ghost use Rattle.std.specs.Prelude.{IfOk, IsTrue, MatchResult};
+ghost use Rattle.std.specs.Cmp.Lexicographic.{pointwise};
 ghost use Rattle.std.specs.List.Sorted.{IsStrictlyIncreasing};
 ghost use Rattle.p3_support.specs.Batches.{heights_of, greatest};
 ghost use Rattle.p3_support.specs.Lists.{is_among};
@@ -22,6 +23,9 @@ use crate::pruning::{check_indices, distinct_indices, to_parents};
 use crate::steps::Steps;
 use p3_support::matrix::Dimensions;
 use std::alloc::{AllocError, Global};
+
+/// So many words of two rows, or fewer, are compared one by one.
+const FEW_WORDS: usize = 4;
 
 /// The distinct indices of some queries, ascending, and the first query of each. The slot of an index is its place
 /// here.
@@ -113,6 +117,25 @@ fn check_first_widths<T>(
     Ok(())
 }
 
+/// Whether two rows are equal.
+fn are_equal<T: Eq>(row: &[T], other: &[T]) -> bool
+    ensures { result ≡ pointwise T.eq row.now other.now }
+{
+    // A call that compares so few words takes longer.
+    if row.len() > FEW_WORDS {
+        return row == other;
+    }
+    if row.len() != other.len() {
+        return false;
+    }
+    for place in 0..row.len() {
+        if row[place] != other[place] {
+            return false;
+        }
+    }
+    true
+}
+
 /// Checks that a slot has the same rows of some matrices, given by their places, as the first slot under its node.
 ///
 /// # Errors
@@ -131,7 +154,7 @@ fn check_same_rows<T: Eq>(
 {
     for matrix in matrices {
         let matrix = *matrix;
-        if rows[matrix] != first_rows[matrix] {
+        if !are_equal(&rows[matrix], &first_rows[matrix]) {
             return Err(PrunedProofError::InconsistentGroupOpening { slot, matrix }.into());
         }
     }

@@ -55,6 +55,21 @@ pub(crate) fn contiguous_rows<T: Copy, M: Matrix<T>>(
     matrix.row_chunk(first, count)
 }
 
+/// Adds few words to the end, one by one: a call that copies them takes longer.
+///
+/// # Errors
+///
+/// `AllocError` if memory runs out.
+fn extend_with_few<T: Copy>(staged: &mut Vec<T>, words: &[T]) -> Result<(), AllocError>
+    ensures { IfOk result (λ done. staged.new.items ≡ staged.old.items ++ words.now) }
+{
+    staged.reserve(words.len())?;
+    for word in words {
+        staged.push_reserved(*word);
+    }
+    Ok(())
+}
+
 /// Adds a row of the matrices, which all have this height, to the rows that are staged.
 ///
 /// # Errors
@@ -73,8 +88,8 @@ fn stage_row<T: Copy, M: Matrix<T>>(
     for matrix in matrices {
         match matrix.row_slice(row) {
             Some(words) if words.len() >= MIN_SLICE_WIDTH => staged.extend_from_slice(words)?,
-            // Few words: a call that copies them takes longer.
-            _ => staged.extend(matrix.row(row))?,
+            Some(words) => extend_with_few(staged, words)?,
+            None => staged.extend(matrix.row(row))?,
         }
     }
     Ok(())

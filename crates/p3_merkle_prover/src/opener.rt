@@ -18,6 +18,9 @@ use p3_merkle_core::steps::Steps;
 use p3_support::matrix::Matrix;
 use std::alloc::{AllocError, Global};
 
+/// So many words of a row, or fewer, are copied one by one.
+const FEW_WORDS: usize = 4;
+
 /// The steps of a tree, from the leaves to the root, as it keeps them.
 pub fn steps_in<F, X, G, M: Matrix<F>, const N: usize>(tree: &Tree<F, X, G, M, N>) -> Steps<'_>
     ensures { shape_of result.arity result.dimensions.now ≡ shape (tree_batch tree.now) }
@@ -51,7 +54,7 @@ pub fn rows_of_index<F: Copy, X, G, M: Matrix<F>, const N: usize>(
     let mut rows = Vec::with_capacity(alloc, tree.matrices.len())?;
     for matrix in &tree.matrices {
         let row = index >> bits_reduced_of(max_height, matrix.height());
-        rows.push(words_of_row(alloc, matrix, row)?)?;
+        rows.push_reserved(words_of_row(alloc, matrix, row)?);
     }
     Ok(rows)
 }
@@ -124,7 +127,7 @@ fn words_of_row<F: Copy, M: Matrix<F>>(
     ensures { IfOk result (λ words. words.items ≡ M.row_of matrix.now row) }
 {
     if let Some(words) = matrix.row_slice(row) {
-        return Vec::from_slice(alloc, words);
+        return copy_of(alloc, words);
     }
     let mut words = Vec::with_capacity(alloc, matrix.width())?;
     if let Some((left, right)) = matrix.row_halves(row) {
@@ -134,6 +137,25 @@ fn words_of_row<F: Copy, M: Matrix<F>>(
     }
     words.extend(matrix.row(row))?;
     Ok(words)
+}
+
+/// A copy of some words.
+///
+/// # Errors
+///
+/// `AllocError` if memory runs out.
+fn copy_of<F: Copy>(alloc: Global, words: &[F]) -> Result<Vec<F>, AllocError>
+    ensures { IfOk result (λ copy. copy.items ≡ words.now) }
+{
+    // A call that copies so few words takes longer.
+    if words.len() > FEW_WORDS {
+        return Vec::from_slice(alloc, words);
+    }
+    let mut copy = Vec::with_capacity(alloc, words.len())?;
+    for word in words {
+        copy.push_reserved(*word);
+    }
+    Ok(copy)
 }
 
 /// Adds the digests of some nodes of a layer to the end.

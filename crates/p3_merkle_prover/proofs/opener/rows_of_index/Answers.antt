@@ -1,5 +1,5 @@
 -- Each turn reads one more row.
-use Rattle.std.proofs.Common.{◌∙◌, refl, inl}
+use Rattle.std.proofs.Common.{◌∙◌, arith, refl, inl}
 use Rattle.std.proofs.lemmas.Result.{err_from_is_err_and}
 use Rattle.std.proofs.lemmas.List.{take_all}
 use Rattle.p3_merkle_core.specs.Openings.{honest_rows}
@@ -22,19 +22,33 @@ words_of_row-requires g c =
     c.args.tree.now.lawful c.requires (rw c.deref-matrix-items.ensures.value at c.loop-matrix-test.true)
     (rw c.deref-matrix-items.ensures.value at c.matrix-item.is))
 
+pub push_reserved-requires : goal.push_reserved-requires
+push_reserved-requires g c =
+    omega (
+      arith,
+      c.loop-matrix.invariant.count,
+      c.loop-matrix.invariant.capacity,
+      c.loop-matrix-test.true,
+      c.deref-matrix-items.ensures.len,
+    )
+
 pub loop-matrix-preserved : goal.loop-matrix-preserved
 loop-matrix-preserved g c =
     let inside = rw c.deref-matrix-items.ensures.value at c.loop-matrix-test.true in
     let read = rw c.deref-matrix-items.ensures.value at c.matrix-item.is in
-    row_next g.M.Matrix.height_of g.M.Matrix.width_of g.M.Matrix.row_of g.row.N (λ row. row.items)
-    c.args.tree.now.matrices.items c.loop-matrix.matrix-index c.args.index c.matrix-item.result
-    c.loop-matrix.rows.items c.push.new.self.items c.in_ok-words_of_row.field-0 inside read
-    (row_inside g.M.Matrix.height_of g.M.Matrix.width_of g.M.Matrix.row_of g.row.N c.args.tree.now.matrices.items
-    c.loop-matrix.matrix-index c.args.index c.matrix-item.result
-    c.args.tree.now.lawful c.requires inside read)
-    c.loop-matrix.invariant c.in_ok-push.ensures.items
-    (c.in_ok-words_of_row.ensures ∙ rw (c.bits_reduced_of.ensures, c.max_height-max_height.ensures, c.height.ensures)
-    refl)
+    record {
+      read = row_next g.M.Matrix.height_of g.M.Matrix.width_of g.M.Matrix.row_of g.row.N (λ row. row.items)
+          c.args.tree.now.matrices.items c.loop-matrix.matrix-index c.args.index c.matrix-item.result
+          c.loop-matrix.rows.items c.push_reserved.new.self.items c.in_ok-words_of_row.field-0 inside read
+          (row_inside g.M.Matrix.height_of g.M.Matrix.width_of g.M.Matrix.row_of g.row.N c.args.tree.now.matrices.items
+          c.loop-matrix.matrix-index c.args.index c.matrix-item.result
+          c.args.tree.now.lawful c.requires inside read)
+          c.loop-matrix.invariant.read c.push_reserved.ensures.items
+          (c.in_ok-words_of_row.ensures
+          ∙ rw (c.bits_reduced_of.ensures, c.max_height-max_height.ensures, c.height.ensures) refl);
+      count = omega (arith, c.push_reserved.ensures.len, c.loop-matrix.invariant.count);
+      capacity = omega (arith, c.push_reserved.ensures.capacity, c.loop-matrix.invariant.capacity);
+    }
 
 pub returns-in_err-rows : goal.returns-in_err-rows
 returns-in_err-rows g c =
@@ -47,18 +61,17 @@ returns-in_err-words_of_row g c =
     c.from_residual-in_err-words_of_row.ensures.1 in
     rw (gone.1, gone.2) (record { rows = tt; memory = inl refl })
 
-pub returns-in_err-push : goal.returns-in_err-push
-returns-in_err-push g c =
-    let gone = err_from_is_err_and c.from_residual-in_err-push.result c.from_residual-in_err-push.ensures.1 in
-    rw (gone.1, gone.2) (record { rows = tt; memory = inl refl })
-
 pub loop-matrix-init : goal.loop-matrix-init
-loop-matrix-init g c = rw c.in_ok-rows.ensures.items refl
+loop-matrix-init g c = record {
+  read = rw c.in_ok-rows.ensures.items refl;
+  count = c.in_ok-rows.ensures.len;
+  capacity = c.in_ok-rows.ensures.exact ∙ c.len.ensures;
+}
 
 pub returns-clause-rows : goal.returns-clause-rows
 returns-clause-rows g c =
     let passed = rw c.deref-matrix-items.ensures.value at c.loop-matrix-test.false in
     let count = rows_count g.M.Matrix.height_of g.M.Matrix.width_of g.M.Matrix.row_of g.row.N
     c.args.tree.now.matrices.items c.args.index in
-    c.loop-matrix.invariant
+    c.loop-matrix.invariant.read
     ∙ take_all c.loop-matrix.matrix-index (honest_rows (tree_batch c.args.tree.now) c.args.index) (rw count passed)
