@@ -67,6 +67,38 @@ chunk_of_rows xs w h a (suc n) full fits =
     ∙ ap (take (length one + left)) (drop_split xs (a * w) ((a + 1) * w) (omega (arith, step)))
     ∙ take-append-add one later left ∙ ap (λ l. one ++ l) (chunk_of_rows xs w h (a + 1) n full (omega (arith, fits)))
 
+module _ {A : Type 0} (row : ℕ → List A) (w : ℕ) where
+  -- the elements of n rows of one width
+  pub length_of_rows : (r n : ℕ) → ((j : ℕ) → j < r + n → length (row j) ≡ w)
+      → length (flat_map row (range_with_len r n)) ≡ n * w
+  length_of_rows r zero long = omega arith
+  length_of_rows r (suc n) long =
+      length-append (row r) (flat_map row (range_with_len (r + 1) n))
+      ∙ omega (
+        arith,
+        long r (omega arith),
+        length_of_rows (r + 1) n (λ j h. long j (omega (arith, h))),
+        next_start n w,
+      )
+
+  -- an element of one of them
+  pub at_row : (r n k c : ℕ) (d : A) → ((j : ℕ) → j < r + n → length (row j) ≡ w) → k < n → c < w
+      → slice_index_or (flat_map row (range_with_len r n)) (k * w + c) d ≡ slice_index_or (row (r + k)) c d
+  at_row r zero k c d long few inside = absurd (omega (arith, few))
+  at_row r (suc n) zero c d long few inside =
+      let here : r + 0 ≡ r = omega arith in
+      let start : 0 * w + c ≡ c = omega arith in
+      rw (here, start) (get_or-append (row r) (flat_map row (range_with_len (r + 1) n)) d c
+      (omega (arith, inside, long r (omega arith))))
+  at_row r (suc n) (suc k) c d long few inside =
+      let rest = flat_map row (range_with_len (r + 1) n) in
+      let past : suc k * w + c - w ≡ k * w + c = omega (arith, next_start k w) in
+      let there : r + 1 + k ≡ r + suc k = omega arith in
+      get_or-append_right (row r) rest w (suc k * w + c) d (long r (omega arith)) (omega (arith, next_start k w))
+      ∙ ap (λ i. slice_index_or rest i d) past
+      ∙ at_row (r + 1) n k c d (λ j h. long j (omega (arith, h))) (omega (arith, few)) inside
+      ∙ ap (λ j. slice_index_or (row j) c d) there
+
 module _ {A M : Type 0} (height : M → ℕ) (row : M → ℕ → List A) (h r : ℕ) where
   -- one more element of the first matrix
   pub rows_more : (m : M) (ms xs : List M) (c : ℕ) (x : A) → xs ≡ m ∷ ms → (height m == h) ≡ true →

@@ -241,9 +241,31 @@ impl<'a, T, P: PackedValue<Value = T>, M: Matrix<T>> Iterator for PackedRow<'a, 
     }
 }
 
+/// One column of rows that lie in one piece, row after row, `width` elements each: lane `k` is the element of row `k`.
+/// There are `P::WIDTH` rows, and the column is below the width.
+#[inline(always)]
+fn column_in_piece<P: PackedValue>(words: &[P::Value], width: usize, column: usize) -> P
+    requires rows { length words.now ≡ P.WIDTH * width }
+    requires column { column < width }
+    ensures { (k : ℕ) → k < P.WIDTH →
+        slice_index_or (P.lanes result) k P.default_value
+        ≡ slice_index_or words.now (k * width + column) P.default_value }
+{
+    // The length is a usize, and so is the index of each element.
+    let _len = words.len();
+    P::from_fn(
+        |k| -> P::Value
+            requires inside { k * width + column < length words.now }
+            requires fits { k * width + column < 2 ^ 64 }
+            ensures { (d : _) → result ≡ slice_index_or words.entry.now (k * width + column) d }
+        { words[k * width + column] },
+    )
+}
+
 /// One column of `P::WIDTH` rows from `row` on: lane `k` is the element of row `row + k`. `row + P::WIDTH` must be at
 /// most the height, and the column below the width.
-pub(crate) fn packed_column<T, P: PackedValue<Value = T>, M: Matrix<T>>(
+// The rows of a piece take one multiplication for their place, and others one for each lane.
+pub(crate) fn packed_column<P: PackedValue, M: Matrix<P::Value>>(
     matrix: &M,
     row: usize,
     column: usize,
@@ -253,10 +275,13 @@ pub(crate) fn packed_column<T, P: PackedValue<Value = T>, M: Matrix<T>>(
     ensures { P.lanes result
         ≡ column_of_rows (M.row_of matrix.now) P.default_value row P.WIDTH column }
 {
+    if let Some(words) = matrix.row_chunk(row, P::WIDTH) {
+        return column_in_piece(words, matrix.width(), column);
+    }
     // The height is a usize, and so is the index of each row.
     let _height = matrix.height();
     P::from_fn(
-        |k| -> T
+        |k| -> P::Value
             requires rows { row + k < M.height_of matrix.now }
             requires column { column < M.width_of matrix.now }
             requires fits { row + k < 2 ^ 64 }
