@@ -86,26 +86,36 @@ word_zero m at low high =
     (byte_zero m (at + 1) (omega arith) (omega arith)) (byte_zero m (at + 2) (omega arith) (omega arith))
     (byte_zero m (at + 3) (omega arith) (omega arith))
 
+-- the word that begins with the mark
+pub word_mark : (m : List ℕ) (n : ℕ) → 4 * n ≡ length m → word_at (padded_message m) (4 * n) ≡ 0x80000000
+word_mark m n e =
+    let at = 4 * n in
+    let fill = zeros_fill (length m) in
+    word_by (padded_message m) at 128 0 0 0 (byte_mark m at e) (byte_zero m (at + 1) (omega arith) (omega arith))
+    (byte_zero m (at + 2) (omega arith) (omega arith)) (byte_zero m (at + 3) (omega arith) (omega arith))
+
 -- the two words of the length in bits
 length_words : (n : ℕ) → n < 2 ^ 64 → (word_at (to_be_bytes w64 n) 0 ≡ n / 2 ^ 32) ×
     (word_at (to_be_bytes w64 n) 4 ≡ n % 2 ^ 32)
 length_words n fits = (omega arith, omega arith)
 
-pub word_high : (m : List ℕ) (at bits : ℕ) → bits ≡ length m * 8 → bits < 2 ^ 64 → at + 8 ≡ 64 * ((length m + 72) / 64)
+pub word_high : (m : List ℕ) (at bits : ℕ) → bits ≡ length m * 8 % 2 ^ 64 → at + 8 ≡ 64 * ((length m + 72) / 64)
     → word_at (padded_message m) at ≡ bits / 2 ^ 32
-word_high m at bits e fits end =
+word_high m at bits e end =
     let fill = zeros_fill (length m) in
-    let count : length m * 8 % 2 ^ 64 ≡ bits = omega arith in
+    let count : length m * 8 % 2 ^ 64 ≡ bits = sym e in
+    let fits : bits < 2 ^ 64 = omega arith in
     word_same (padded_message m) (to_be_bytes w64 bits) at 0
     (λ i h. byte_length m (at + i) (0 + i) (omega arith)
     ∙ ap (λ (n : ℕ). slice_index (to_be_bytes w64 n) (0 + i)) count)
     ∙ (length_words bits fits).0
 
-pub word_low : (m : List ℕ) (at bits : ℕ) → bits ≡ length m * 8 → bits < 2 ^ 64 → at + 4 ≡ 64 * ((length m + 72) / 64)
+pub word_low : (m : List ℕ) (at bits : ℕ) → bits ≡ length m * 8 % 2 ^ 64 → at + 4 ≡ 64 * ((length m + 72) / 64)
     → word_at (padded_message m) at ≡ bits % 2 ^ 32
-word_low m at bits e fits end =
+word_low m at bits e end =
     let fill = zeros_fill (length m) in
-    let count : length m * 8 % 2 ^ 64 ≡ bits = omega arith in
+    let count : length m * 8 % 2 ^ 64 ≡ bits = sym e in
+    let fits : bits < 2 ^ 64 = omega arith in
     word_same (padded_message m) (to_be_bytes w64 bits) at 4
     (λ i h. byte_length m (at + i) (4 + i) (omega arith)
     ∙ ap (λ (n : ℕ). slice_index (to_be_bytes w64 n) (4 + i)) count)

@@ -2,3 +2,4 @@
 pub mod Eights
 pub mod Turned
 pub mod Lanes
+pub mod Inputs

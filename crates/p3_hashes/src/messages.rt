@@ -4,9 +4,10 @@ ghost use Rattle.std.specs.Prelude.{◌≡◌, List, ℕ, [], ◌+◌, ◌*◌, 
 ghost use Rattle.std.specs.Prelude.{slice_index_or};
 ghost use Rattle.sha2.specs.Sha256.{digest_bytes, final_hash, initial_hash_256, padded_message, sha256, word_at};
 ghost use Rattle.p3_support.specs.Lists.{message};
+ghost use Rattle.p3_hashes.specs.Inner.Inputs.{IsPadding};
 ghost use Rattle.p3_hashes.specs.Inner.Lanes.{lane};
 
-use crate::block::compress_eight;
+use crate::block::{compress_again, compress_eight, round_inputs};
 use crate::consts::INITIAL;
 use crate::digest_size::DigestSize;
 use sha2::{Digest, Sha256};
@@ -104,6 +105,29 @@ fn block_count(width: usize) -> usize
     (width + 72) / 64
 }
 
+/// Word `n` of a message of `width` bytes and its padding, where it is padding alone.
+fn padding_word(width: usize, n: usize) -> u32
+    requires fits { width + 72 < 2 ^ 64 }
+    requires behind { width ≤ 4 * n }
+    requires inside { n < 16 * ((width + 72) / 64) }
+    ensures { (m : List ℕ) → length m ≡ width → result ≡ word_at (padded_message m) (4 * n) }
+{
+    let at = 4 * n;
+    let end = 64 * block_count(width);
+    if at == width {
+        return 0x8000_0000;
+    }
+    if at + 8 < end {
+        return 0;
+    }
+    // The padding ends with the message's length in bits.
+    let bits = width.wrapping_mul(8);
+    if at + 4 < end {
+        return (bits / 4_294_967_296) as u32;
+    }
+    (bits % 4_294_967_296) as u32
+}
+
 /// Word `n` of the eight messages and their padding.
 #[inline(always)]
 fn padded_words(messages: &[u8], width: usize, n: usize) -> u32x8
@@ -113,21 +137,13 @@ fn padded_words(messages: &[u8], width: usize, n: usize) -> u32x8
         slice_index result j ≡ word_at (padded_message (message width messages.now j)) (4 * n) }
 {
     let at = 4 * n;
-    let end = 64 * block_count(width);
     if at + 4 <= width {
         return words(messages, width, at);
     }
-    if at <= width {
+    if at < width {
         return mixed_words(messages, width, at);
     }
-    if at + 8 < end {
-        return u32x8::splat(0);
-    }
-    // The padding ends with a message's length in bits, which is the number of bytes of all eight messages.
-    if at + 4 < end {
-        return u32x8::splat((messages.len() / 4_294_967_296) as u32);
-    }
-    u32x8::splat((messages.len() % 4_294_967_296) as u32)
+    u32x8::splat(padding_word(width, n))
 }
 
 /// Block `t` of the eight messages and their padding.
@@ -145,9 +161,48 @@ fn padded_block(messages: &[u8], width: usize, t: usize) -> [u32x8; 16]
     block
 }
 
-/// The hash values of the eight messages.
-fn hash_states(messages: &[u8], width: usize) -> [u32x8; 8]
-    requires { length messages.now ≡ 8 * width }
+/// Block `t` of a message of `width` bytes and its padding, where it is padding alone, in each lane.
+fn padding_block(width: usize, t: usize) -> [u32x8; 16]
+    requires fits { width + 72 < 2 ^ 64 }
+    requires behind { width ≤ 64 * t }
+    requires inside { t < (width + 72) / 64 }
+    ensures { (m : List ℕ) → length m ≡ width → (j i : ℕ) → j < 8 → i < 16 →
+        slice_index (lane j result) i ≡ word_at (padded_message m) (4 * (16 * t + i)) }
+{
+    let mut block = [u32x8::splat(0); 16];
+    for i in 0..16 {
+        block[i] = u32x8::splat(padding_word(width, 16 * t + i));
+    }
+    block
+}
+
+/// How many blocks have bytes of a message of `width` bytes.
+#[inline(always)]
+fn filled_count(width: usize) -> usize
+    requires { width + 72 < 2 ^ 64 }
+    ensures { result ≡ (width + 63) / 64 }
+{
+    (width + 63) / 64
+}
+
+/// The inputs of the rounds over the last block of messages of `width` bytes, if it is padding alone: it is the same
+/// for all of them, so that its schedule is made once. Zeros where it has bytes of the messages.
+fn padding_inputs(width: usize) -> [u32x8; 64]
+    requires { width + 72 < 2 ^ 64 }
+    ensures { IsPadding width result }
+{
+    let last = filled_count(width);
+    if last == block_count(width) {
+        return [u32x8::splat(0); 64];
+    }
+    round_inputs(&padding_block(width, last))
+}
+
+/// The hash values of the eight messages, where `padding` are the inputs of the rounds over a last block that is padding
+/// alone.
+fn hash_states(messages: &[u8], width: usize, padding: &[u32x8; 64]) -> [u32x8; 8]
+    requires full { length messages.now ≡ 8 * width }
+    requires padding { IsPadding width padding.now }
     ensures { (j : ℕ) → j < 8 →
         lane j result ≡ final_hash initial_hash_256 (message width messages.now j) }
 {
@@ -161,8 +216,11 @@ fn hash_states(messages: &[u8], width: usize) -> [u32x8; 8]
         u32x8::splat(INITIAL[6]),
         u32x8::splat(INITIAL[7]),
     ];
-    for t in 0..block_count(width) {
+    for t in 0..filled_count(width) {
         compress_eight(&mut state, &padded_block(messages, width, t));
+    }
+    if filled_count(width) < block_count(width) {
+        compress_again(&mut state, padding);
     }
     state
 }
@@ -197,9 +255,16 @@ fn lane_words(state: &[u32x8; 8], j: usize) -> [u32; 8]
 }
 
 /// Writes the digests of eight messages of `width` bytes each, from message `first` on.
-fn hash_eight<const D: usize>(messages: &[u8], width: usize, first: usize, out: &mut [[u8; D]])
+fn hash_eight<const D: usize>(
+    messages: &[u8],
+    width: usize,
+    padding: &[u32x8; 64],
+    first: usize,
+    out: &mut [[u8; D]],
+)
 where
     Sha256: DigestSize<D>,
+    requires padding { IsPadding width padding.now }
     requires full { length messages.now ≡ length out.old * width }
     requires inside { first + 8 ≤ length out.old }
     ensures long { length out.new ≡ length out.old }
@@ -208,7 +273,8 @@ where
     ensures before { (i : ℕ) → i < first →
         slice_index_or out.new i [] ≡ slice_index_or out.old i [] }
 {
-    let state = hash_states(&messages[first * width..(first + 8) * width], width);
+    let eight = &messages[first * width..(first + 8) * width];
+    let state = hash_states(eight, width, padding);
     for j in 0..8 {
         out[first + j] = Sha256::array(digest_of(lane_words(&state, j)));
     }
@@ -223,8 +289,12 @@ where
     ensures filled { (i : ℕ) → i < 8 * (length out.old / 8) →
         slice_index_or out.new i [] ≡ sha256 (message width messages.now i) }
 {
+    if out.len() < 8 {
+        return;
+    }
+    let padding = padding_inputs(width);
     for group in 0..out.len() / 8 {
-        hash_eight(messages, width, 8 * group, out);
+        hash_eight(messages, width, &padding, 8 * group, out);
     }
 }
 

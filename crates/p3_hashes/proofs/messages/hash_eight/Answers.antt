@@ -6,35 +6,35 @@ use Rattle.p3_support.specs.Lists.{message}
 use Rattle.p3_hashes.proofs.Padding.{length-eight, message_of_part, messages_inside}
 use Rattle.p3_hashes.proofs.messages.hash_eight.Goals as goal
 
-pub overflow_mul-first : goal.overflow_mul-first
-overflow_mul-first g c =
+pub overflow_mul-eight : goal.overflow_mul-eight
+overflow_mul-eight g c =
     omega (
       arith,
       messages_inside c.args.width (c.args.first + 8) (length c.args.out.now) (length c.args.messages.now)
           c.requires.inside c.requires.full,
     )
 
-pub overflow_mul-first-2 : goal.overflow_mul-first-2
-overflow_mul-first-2 g c =
+pub overflow_mul-eight-2 : goal.overflow_mul-eight-2
+overflow_mul-eight-2 g c =
     omega (
       arith,
       messages_inside c.args.width (c.args.first + 8) (length c.args.out.now) (length c.args.messages.now)
           c.requires.inside c.requires.full,
     )
 
-pub slice_bounds-hash_states-count : goal.slice_bounds-hash_states-count
-slice_bounds-hash_states-count g c = omega arith
+pub slice_bounds-eight-count : goal.slice_bounds-eight-count
+slice_bounds-eight-count g c = omega arith
 
-pub slice_bounds-hash_states-start : goal.slice_bounds-hash_states-start
-slice_bounds-hash_states-start g c = omega arith
+pub slice_bounds-eight-start : goal.slice_bounds-eight-start
+slice_bounds-eight-start g c = omega arith
 
-pub slice_bounds-hash_states-end : goal.slice_bounds-hash_states-end
-slice_bounds-hash_states-end g c =
+pub slice_bounds-eight-end : goal.slice_bounds-eight-end
+slice_bounds-eight-end g c =
     messages_inside c.args.width (c.args.first + 8) (length c.args.out.now) (length c.args.messages.now)
     c.requires.inside c.requires.full
 
-pub hash_states-state-requires : goal.hash_states-state-requires
-hash_states-state-requires g c =
+pub hash_states-state-requires-clause-full : goal.hash_states-state-requires-clause-full
+hash_states-state-requires-clause-full g c =
     length-eight c.args.width c.args.first c.args.messages.now
     (messages_inside c.args.width (c.args.first + 8) (length c.args.out.now) (length c.args.messages.now)
     c.requires.inside c.requires.full)

@@ -1,4 +1,4 @@
-use Rattle.std.proofs.Common.{◌≡◌, ℕ, List, ◌+◌, ◌*◌, ◌/◌, ◌∙◌, refl, sym, ap, add-one, length, take, drop, arith}
+use Rattle.std.proofs.Common.{◌≡◌, ℕ, List, ◌+◌, ◌*◌, ◌/◌, ◌<◌, ◌∙◌, refl, sym, ap, add-one, length, take, drop, arith}
 use Rattle.sha2.specs.Sha256.{compress, hash_after, initial_hash_256, padded_message}
 use Rattle.p3_support.specs.Lists.{message}
 use Rattle.p3_hashes.proofs.Lanewise.{each_lane}
@@ -23,11 +23,33 @@ loop-t-preserved c = λ j below.
     ∙ sym (word_of_block p t i inside))
     ∙ ap (λ (s : List ℕ). compress s block) (c.loop-t.invariant j below) ∙ sym (hash_next initial_hash_256 p t)
 
-pub returns : goal.returns
-returns c = λ j below.
+-- how many blocks the padded message has
+count_of : (m : List ℕ) (width n : ℕ) → length m ≡ width → n ≡ (width + 72) / 64 → n ≡ length (padded_message m) / 64
+count_of m width n long is =
+    let whole : length (padded_message m) ≡ 64 * ((width + 72) / 64) = length-padded_message m
+    ∙ ap (λ (k : ℕ). 64 * ((k + 72) / 64)) long in
+    rw whole (omega (arith, is))
+
+-- the blocks with bytes of the message, and one of padding alone
+pub returns-then-filled_count-block_count : goal.returns-then-filled_count-block_count
+returns-then-filled_count-block_count c = λ j below.
     let m = message c.args.width c.args.messages.now j in
-    let long : length m ≡ c.args.width = length-message c.args.width c.args.messages.now j below c.requires in
-    let whole : length (padded_message m) ≡ 64 * ((c.args.width + 72) / 64) = length-padded_message m
-    ∙ ap (λ (n : ℕ). 64 * ((n + 72) / 64)) long in
-    let count : c.loop-t.t ≡ length (padded_message m) / 64 = rw whole (omega (arith, c.loop-t.auto.t-end)) in
-    c.loop-t.invariant j below ∙ ap (hash_after initial_hash_256 (padded_message m)) count
+    let p = padded_message m in
+    let t = (c.args.width + 63) / 64 in
+    let block = take 64 (drop (t * 64) p) in
+    let long : length m ≡ c.args.width = length-message c.args.width c.args.messages.now j below c.requires.full in
+    let alone : t < (c.args.width + 72) / 64 = omega arith in
+    let done : c.loop-t.t ≡ t = omega (arith, c.loop-t.auto.t-end) in
+    let all : t + 1 ≡ (c.args.width + 72) / 64 = omega arith in
+    c.compress_again.ensures j below block (c.requires.padding alone m long j below)
+    ∙ ap (λ (s : List ℕ). compress s block)
+    (c.loop-t.invariant j below ∙ ap (hash_after initial_hash_256 p) done)
+    ∙ sym (hash_next initial_hash_256 p t)
+    ∙ ap (hash_after initial_hash_256 p) (count_of m c.args.width (t + 1) long all)
+
+pub returns-else-filled_count-block_count : goal.returns-else-filled_count-block_count
+returns-else-filled_count-block_count c = λ j below.
+    let m = message c.args.width c.args.messages.now j in
+    let long : length m ≡ c.args.width = length-message c.args.width c.args.messages.now j below c.requires.full in
+    c.loop-t.invariant j below ∙ ap (hash_after initial_hash_256 (padded_message m))
+    (count_of m c.args.width c.loop-t.t long (omega (arith, c.loop-t.auto.t-end)))

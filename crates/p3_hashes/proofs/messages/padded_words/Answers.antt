@@ -1,9 +1,8 @@
-use Rattle.std.proofs.Common.{◌≡◌, ◌+◌, ◌*◌, ◌/◌, ◌^◌, ◌%◌, ◌<◌, ◌≤◌, ◌∙◌, ap, sym, length, slice_index, arith}
+use Rattle.std.proofs.Common.{◌≡◌, ◌+◌, ◌*◌, ◌<◌, ◌∙◌, ap, sym, length, slice_index, arith}
 use Rattle.sha2.specs.Sha256.{padded_message}
 use Rattle.p3_support.specs.Lists.{message}
 use Rattle.p3_hashes.proofs.Lanewise.{splatted}
-use Rattle.p3_hashes.proofs.Padding.{byte_at, byte_of_message, length-message, word_high, word_low, word_same}
-use Rattle.p3_hashes.proofs.Padding.{word_zero}
+use Rattle.p3_hashes.proofs.Padding.{byte_at, byte_of_message, length-message, word_same}
 use Rattle.p3_hashes.proofs.messages.padded_words.Goals as goal
 
 pub returns-then-at-width : goal.returns-then-at-width
@@ -20,33 +19,8 @@ returns-then-at-width c = λ j below.
     let place : j * w + at + i ≡ j * w + (at + i) = omega arith in
     ap (slice_index bytes) place ∙ sym (byte_at w bytes j (at + i) inside) ∙ sym (byte_of_message m (at + i) within))
 
-pub returns-then-at-end : goal.returns-then-at-end
-returns-then-at-end c = λ j below.
-    let at = 4 * c.args.n in
-    let m = message c.args.width c.args.messages.now j in
-    let long : length m ≡ c.args.width = length-message c.args.width c.args.messages.now j below c.requires.full in
-    let low : length m < at = rw long (omega arith) in
-    let high : at + 12 ≤ 64 * ((length m + 72) / 64) = rw long (omega arith) in
-    (splatted 0).each j below ∙ sym (word_zero m at low high)
-
-pub returns-then-at-end-2 : goal.returns-then-at-end-2
-returns-then-at-end-2 c = λ j below.
-    let at = 4 * c.args.n in
-    let bits = length c.args.messages.now in
-    let m = message c.args.width c.args.messages.now j in
-    let long : length m ≡ c.args.width = length-message c.args.width c.args.messages.now j below c.requires.full in
-    let count : bits ≡ length m * 8 = rw long (omega arith) in
-    let fits : bits < 2 ^ 64 = omega arith in
-    let end : at + 8 ≡ 64 * ((length m + 72) / 64) = rw long (omega arith) in
-    (splatted (bits / 2 ^ 32)).each j below ∙ sym (word_high m at bits count fits end)
-
 pub returns : goal.returns
 returns c = λ j below.
-    let at = 4 * c.args.n in
-    let bits = length c.args.messages.now in
     let m = message c.args.width c.args.messages.now j in
-    let long : length m ≡ c.args.width = length-message c.args.width c.args.messages.now j below c.requires.full in
-    let count : bits ≡ length m * 8 = rw long (omega arith) in
-    let fits : bits < 2 ^ 64 = omega arith in
-    let end : at + 4 ≡ 64 * ((length m + 72) / 64) = rw long (omega arith) in
-    (splatted (bits % 2 ^ 32)).each j below ∙ sym (word_low m at bits count fits end)
+    (splatted c.padding_word.result).each j below
+    ∙ c.padding_word.ensures m (length-message c.args.width c.args.messages.now j below c.requires.full)

@@ -1,0 +1,15 @@
+-- What the rounds over a block take in.
+use Rattle.std.specs.Prelude.{◌≡◌, ℕ, ◌+◌, ◌*◌, ◌/◌, ◌<◌, List, length, slice_index, take, drop}
+use Rattle.sha2.specs.Sha256.{add32, padded_message, round_constants, schedule}
+use Rattle.p3_hashes.specs.Inner.Lanes.{lane}
+
+-- the inputs of the 64 rounds over block b: each constant with the word of the schedule added to it
+abbrev pub AreInputs : List ℕ → List ℕ → Type 0
+AreInputs inputs b = (t : ℕ) → t < 64 →
+    slice_index inputs t ≡ add32 (slice_index round_constants t) (slice_index (schedule b 48) t)
+
+-- if the last block of messages of so many bytes is padding alone, these are the inputs of the rounds over it, in each
+-- lane
+abbrev pub IsPadding : ℕ → List (List ℕ) → Type 0
+IsPadding width inputs = (width + 63) / 64 < (width + 72) / 64 → (m : List ℕ) → length m ≡ width → (j : ℕ) → j < 8 →
+    AreInputs (lane j inputs) (take 64 (drop ((width + 63) / 64 * 64) (padded_message m)))
