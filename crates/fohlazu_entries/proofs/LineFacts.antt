@@ -27,7 +27,7 @@ alike_long lines len (p ∷ places) alike =
     All-cons (λ line. length line ≡ len) (line_at lines p) (lines_at lines places) (All-head P p places alike).1
     (alike_long lines len places (All-tail P p places alike))
 
-all_long : (len : ℕ) (lines : List (List ℕ)) → All (λ line. length line ≡ len) lines →
+pub all_long : (len : ℕ) (lines : List (List ℕ)) → All (λ line. length line ≡ len) lines →
     length (concat lines) ≡ len * length lines
 all_long len [] long = omega arith
 all_long len (line ∷ lines) long =
@@ -88,7 +88,7 @@ gathered_more lines d places bytes i within inside are =
     ap (λ xs. xs ++ (get_or lines (get_or places i 0) d).now) are
     ∙ ap (λ xs. concat (lines_at all (take i places)) ++ xs)
     (line_read lines d (get_or places i 0) (within i 0 inside))
-    ∙ concat_more (line_at all) places i inside
+    ∙ concat_more (line_at all) places 0 i inside
 
 -- ---- a digest that is written
 

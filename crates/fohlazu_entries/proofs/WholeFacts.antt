@@ -153,12 +153,12 @@ one_more_line bytes left rest line lines at_head cut lacks =
       whole = All-append P lines (line ∷ []) at_head.whole (All-cons P line [] lacks (All-nil P));
     }
 
--- the lines at some places, one more of them
+-- some lines one after another, one more of them
 concat_push : (xs : List (List ℕ)) (y : List ℕ) → concat (xs ++ y ∷ []) ≡ concat xs ++ y
 concat_push [] y = append-nil y
 concat_push (x ∷ xs) y = ap (λ zs. x ++ zs) (concat_push xs y) ∙ sym (append_assoc x (concat xs) y)
 
-pub concat_more : (f : ℕ → List ℕ) (places : List ℕ) (i : ℕ) → i < length places →
-    concat (map f (take i places)) ++ f (get_or places i 0) ≡ concat (map f (take (i + 1) places))
-concat_more f places i inside =
-    sym (ap concat (map_more f places i 0 inside) ∙ concat_push (map f (take i places)) (f (get_or places i 0)))
+pub concat_more : {A : Type 0} (f : A → List ℕ) (xs : List A) (d : A) (i : ℕ) → i < length xs →
+    concat (map f (take i xs)) ++ f (get_or xs i d) ≡ concat (map f (take (i + 1) xs))
+concat_more f xs d i inside =
+    sym (ap concat (map_more f xs i d inside) ∙ concat_push (map f (take i xs)) (f (get_or xs i d)))

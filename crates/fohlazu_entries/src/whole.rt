@@ -1,6 +1,6 @@
 //! The digests of whole entries that stand at the head of some bytes, eight of one length at a time.
 
-ghost use Rattle.std.specs.Prelude.{◌≡◌, ◌<◌, ◌≤◌, ◌*◌, ◌∷◌, ◌++◌, [], ℕ, List, All, IfOk, OnOk, length, map};
+ghost use Rattle.std.specs.Prelude.{◌≡◌, ◌<◌, ◌≤◌, ◌*◌, ◌∷◌, ◌++◌, [], ℕ, true, List, All, IfOk, OnOk, length, map};
 ghost use Rattle.std.specs.Prelude.{slice_index, slice_index_or};
 ghost use Rattle.std.specs.Option.{IfSome};
 ghost use Rattle.std.specs.List.{concat};
@@ -111,6 +111,64 @@ fn line_at_head(bytes: &[u8]) -> Option<(&[u8], &[u8])>
 ///
 /// `AllocError` if memory runs out.
 fn digests_of_lines(alloc: Global, lines: &[&[u8]]) -> Result<Vec<[u8; 32]>, AllocError>
+    ensures { IfOk result (λ digests. digests.items ≡ digests_of (map (λ line. line.now) lines.now)) }
+{
+    if are_alike(lines) {
+        digests_of_alike(alloc, lines)
+    } else {
+        digests_by_len(alloc, lines)
+    }
+}
+
+/// Whether all lines have one length.
+fn are_alike(lines: &[&[u8]]) -> bool
+    ensures { result ≡ true → (len : ℕ) × All (λ line. length line.now ≡ len) lines.now }
+{
+    let Some(first) = lines.first() else {
+        return true;
+    };
+    for line in lines {
+        if line.len() != first.len() {
+            return false;
+        }
+    }
+    true
+}
+
+/// The digests of lines of one length.
+///
+/// # Errors
+///
+/// `AllocError` if memory runs out.
+fn digests_of_alike(alloc: Global, lines: &[&[u8]]) -> Result<Vec<[u8; 32]>, AllocError>
+    requires { (len : ℕ) × All (λ line. length line.now ≡ len) lines.now }
+    ensures { IfOk result (λ digests. digests.items ≡ digests_of (map (λ line. line.now) lines.now)) }
+{
+    let messages = one_after_another(alloc, lines)?;
+    Ok(digests_of_blocks(alloc, &messages, lines.len())?)
+}
+
+/// The bytes of the lines, one line after another.
+///
+/// # Errors
+///
+/// `AllocError` if memory runs out.
+fn one_after_another(alloc: Global, lines: &[&[u8]]) -> Result<Vec<u8>, AllocError>
+    ensures { IfOk result (λ bytes. bytes.items ≡ concat (map (λ line. line.now) lines.now)) }
+{
+    let mut bytes = Vec::new(alloc);
+    for line in lines {
+        bytes.extend_from_slice(line)?;
+    }
+    Ok(bytes)
+}
+
+/// The digests of lines, those of each length after those of another.
+///
+/// # Errors
+///
+/// `AllocError` if memory runs out.
+fn digests_by_len(alloc: Global, lines: &[&[u8]]) -> Result<Vec<[u8; 32]>, AllocError>
     ensures { IfOk result (λ digests. digests.items ≡ digests_of (map (λ line. line.now) lines.now)) }
 {
     let mut digests = vec![in alloc; [0; 32]; lines.len()]?;

@@ -1,6 +1,6 @@
 use Rattle.std.proofs.Common.{◌≡◌, ℕ, ◌<◌, length, map}
 use Rattle.fohlazu_entries.specs.Inner.Whole.{line_at, IsHashed}
-use Rattle.fohlazu_entries.proofs.whole.digests_of_lines.Given as goal
+use Rattle.fohlazu_entries.proofs.whole.digests_by_len.Given as goal
 
 abbrev pub invariant-loop-places : goal.invariant-loop-places
 invariant-loop-places l = record {

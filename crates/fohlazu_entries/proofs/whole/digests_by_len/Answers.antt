@@ -3,7 +3,7 @@ use Rattle.std.proofs.Common.{◌∙◌, [], List, ℕ, Bor, Global, Vec, ap, ar
 use Rattle.std.proofs.lemmas.List.{length-map, take_at}
 use Rattle.fohlazu_entries.specs.Inner.Whole.{AreAlike, IsHashed, StayHashed}
 use Rattle.fohlazu_entries.proofs.LineFacts.{all_hashed, list_read, one_more_length}
-use Rattle.fohlazu_entries.proofs.whole.digests_of_lines.Goals as goal
+use Rattle.fohlazu_entries.proofs.whole.digests_by_len.Goals as goal
 
 abbrev bytes_of : Bor (List ℕ) → List ℕ
 bytes_of line = line.now
