@@ -57,6 +57,8 @@ impl<
     }
 
     /// The digest of a row of a matrix. The row must be below its height.
+    // Inlined into loops over rows, it lets the processor begin the next rows while one is hashed.
+    #[inline(always)]
     fn matrix_digest(&self, matrix: &M, row: usize) -> [PW::Value; D]
         requires { row < M.height_of matrix.now }
         ensures { result ≡ H.hash self.now.hash.now (M.row_of matrix.now row) }
@@ -73,7 +75,21 @@ impl<
         }
     }
 
+    /// The digest of a row, of any number of matrices. The row is below the height.
+    fn joined_digest(&self, row: usize) -> [PW::Value; D]
+        requires { row < self.now.height }
+        ensures { result ≡ H.hash self.now.hash.now (rows_over M.row_of self.now.matrices.now row) }
+    {
+        match self.slices_digest(row) {
+            Some(digest) => digest,
+            None => self
+                .hash
+                .hash_iter(rows_of(self.matrices, self.height, row)),
+        }
+    }
+
     /// The digest of a row; the default digest past the height.
+    #[inline(always)]
     pub fn digest(&self, row: usize) -> [PW::Value; D]
         ensures { result ≡ leaf_over (H.hash self.now.hash.now) (replicate D PW.default_value)
             (rows_over M.row_of self.now.matrices.now) self.now.height row }
@@ -85,12 +101,7 @@ impl<
         if let [matrix] = self.matrices {
             return self.matrix_digest(matrix, row);
         }
-        match self.slices_digest(row) {
-            Some(digest) => digest,
-            None => self
-                .hash
-                .hash_iter(rows_of(self.matrices, self.height, row)),
-        }
+        self.joined_digest(row)
     }
 
     /// The digests of the rows from `row` on: lane `k` is that of row `row + k`, for each lane that both packings have.
