@@ -1,7 +1,6 @@
 -- Loops over a slice that make a value of each item.
 use Rattle.std.proofs.Common.{◌≡◌, ◌∙◌, ℕ, ◌+◌, ◌<◌, ◌≤◌, List, [], ◌∷◌, ◌++◌, ap, sym, get_or, length, map, take}
 use Rattle.std.proofs.lemmas.List.{map-append, map_more, take_all}
-use Rattle.std.proofs.lemmas.Simd.{map-map}
 
 -- what is made of one more item joins what is made of those before it
 pub made_more : {X Y : Type 0} (f : X → Y) (xs : List X) (i : ℕ) (x : X) (y : Y) (done more : List Y) → i < length xs →
@@ -27,16 +26,3 @@ pub made_next : {X Y : Type 0} (f : X → Y) (xs : List X) (i : ℕ) (d : X) (do
     ≡ done ++ f (get_or xs i d) ∷ [] → done ≡ map f (take i xs) → more ≡ map f (take (i + 1) xs)
 made_next f xs i d done more inside pushed before = pushed ∙ ap (λ (z : List _). z ++ f (get_or xs i d) ∷ []) before
     ∙ sym (map_more f xs i d inside)
-
--- what is shown of one more, out of what is shown of the item
-pub parted_more : {X Y Z V : Type 0} (g : Y → Z) (f : V → Z) (h : X → V) (xs : List X) (i : ℕ) (x : X) (y : Y)
-    (done more : List Y) → i < length xs → x ≡ get_or xs i x → g y ≡ f (h x) → more ≡ done ++ y ∷ [] → map g done
-    ≡ map f (map h (take i xs)) → map g more ≡ map f (map h (take (i + 1) xs))
-parted_more g f h xs i x y done more inside is made pushed before =
-    shown_more g (λ (z : _). f (h z)) xs i x y done more inside is made pushed (before ∙ map-map f h (take i xs))
-    ∙ sym (map-map f h (take (i + 1) xs))
-
--- at the end of all
-pub parted_all : {X Z V : Type 0} (f : V → Z) (h : X → V) (xs : List X) (i : ℕ) (done : List Z) → length xs ≤ i → done
-    ≡ map f (map h (take i xs)) → done ≡ map f (map h xs)
-parted_all f h xs i done end before = before ∙ ap (λ (z : List _). map f (map h z)) (take_all i xs end)

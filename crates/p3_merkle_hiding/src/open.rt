@@ -51,7 +51,7 @@ fn left_matrices<'a, F, X, G, A: Matrix<F>, B: Matrix<F>, const N: usize>(
 }
 
 /// Splits the rows of one index into the matrices' own words and their salts. `pairs` has a matrix beside its salts for
-/// each row.
+/// each row. A row keeps its own words, and gives its salts away.
 ///
 /// # Errors
 ///
@@ -59,19 +59,19 @@ fn left_matrices<'a, F, X, G, A: Matrix<F>, B: Matrix<F>, const N: usize>(
 fn split_rows<F: Copy, A: Matrix<F>, B: Matrix<F>>(
     alloc: Global,
     pairs: &[&HorizontalPair<F, A, B>],
-    rows: &[Vec<F>],
+    rows: Vec<Vec<F>>,
 ) -> Result<(Vec<Vec<F>>, Vec<Vec<F>>), AllocError>
     ensures rows { let widths = left_widths (map (λ p. p.now) pairs.now) in
-        IfOk result (λ v. row_lists v.0.items ≡ unsalted_parts widths (row_lists rows.now)) }
+        IfOk result (λ v. row_lists v.0.items ≡ unsalted_parts widths (row_lists rows.items)) }
     ensures salts { let widths = left_widths (map (λ p. p.now) pairs.now) in
-        IfOk result (λ v. row_lists v.1.items ≡ salt_parts widths (row_lists rows.now)) }
+        IfOk result (λ v. row_lists v.1.items ≡ salt_parts widths (row_lists rows.items)) }
 {
     let mut unsalted = Vec::with_capacity(alloc, rows.len())?;
     let mut salts = Vec::with_capacity(alloc, rows.len())?;
-    for (row, pair) in rows.iter().zip(pairs) {
-        let (front, back) = row.split_at(row.len().min(pair.left().width()));
-        unsalted.push(Vec::from_slice(alloc, front)?)?;
-        salts.push(Vec::from_slice(alloc, back)?)?;
+    for (mut row, pair) in rows.into_iter().zip(pairs) {
+        let width = pair.left().width().min(row.len());
+        salts.push(row.split_off(width)?)?;
+        unsalted.push(row)?;
     }
     Ok((unsalted, salts))
 }
@@ -84,12 +84,12 @@ fn split_rows<F: Copy, A: Matrix<F>, B: Matrix<F>>(
 fn split_row_sets<F: Copy, X, G, A: Matrix<F>, B: Matrix<F>, const N: usize>(
     alloc: Global,
     tree: &Tree<F, X, G, HorizontalPair<F, A, B>, N>,
-    sets: &[Vec<Vec<F>>],
+    sets: Vec<Vec<Vec<F>>>,
 ) -> Result<(Vec<Vec<Vec<F>>>, Vec<Vec<Vec<F>>>), MerkleTreeError>
     ensures rows { let widths = left_widths (matrices_of tree.now) in
-        IfOk result (λ v. row_sets v.0.items ≡ map (unsalted_parts widths) (row_sets sets.now)) }
+        IfOk result (λ v. row_sets v.0.items ≡ map (unsalted_parts widths) (row_sets sets.items)) }
     ensures salts { let widths = left_widths (matrices_of tree.now) in
-        IfOk result (λ v. row_sets v.1.items ≡ map (salt_parts widths) (row_sets sets.now)) }
+        IfOk result (λ v. row_sets v.1.items ≡ map (salt_parts widths) (row_sets sets.items)) }
     ensures memory { AnswersUnlessMemory result None }
 {
     let pairs = matrix_refs(alloc, tree)?;
@@ -148,7 +148,7 @@ impl<
     {
         let opening = self.plain.open_batch(alloc, index, tree)?;
         let pairs = matrix_refs(alloc, tree)?;
-        let (rows, salts) = split_rows(alloc, &pairs, &opening.opened_values)?;
+        let (rows, salts) = split_rows(alloc, &pairs, opening.opened_values)?;
         Ok(BatchOpening::new(rows, (salts, opening.opening_proof)))
     }
 
@@ -193,7 +193,7 @@ impl<
         ensures memory { AnswersUnlessMemory result None }
     {
         let opening = self.plain.open_batch_pruned(alloc, indices, tree)?;
-        let (rows, salts) = split_row_sets(alloc, tree, &opening.opened_values)?;
+        let (rows, salts) = split_row_sets(alloc, tree, opening.opened_values)?;
         Ok((rows, (salts, opening.pruned_proof)))
     }
 

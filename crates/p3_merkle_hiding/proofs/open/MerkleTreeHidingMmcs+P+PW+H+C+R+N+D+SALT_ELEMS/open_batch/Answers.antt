@@ -19,8 +19,7 @@ pub returns-clause-rows : goal.returns-clause-rows
 returns-clause-rows g c =
     let tree = c.args.tree.now in
     let pairs = ap (map (λ p. p.now)) c.deref.ensures.value ∙ c.in_ok-pairs.ensures.matrices in
-    let joined = ap row_lists c.deref-2.ensures.value ∙ ap (λ (z : Opening _ _). z.rows) c.in_ok-opening.ensures.opened
-    in
+    let joined = ap (λ (z : Opening _ _). z.rows) c.in_ok-opening.ensures.opened in
     ap (λ v. row_lists v.items) c.new.ensures.values ∙ c.in_ok-rows.ensures.rows
     ∙ (λ i. unsalted_parts (left_widths (pairs i)) (joined i))
     ∙ left_is g.row.N (matrices_of tree) g.met.M.Matrix.length_row_of tree.lawful c.args.index c.requires
@@ -29,8 +28,7 @@ pub returns-clause-salts : goal.returns-clause-salts
 returns-clause-salts g c =
     let tree = c.args.tree.now in
     let pairs = ap (map (λ p. p.now)) c.deref.ensures.value ∙ c.in_ok-pairs.ensures.matrices in
-    let joined = ap row_lists c.deref-2.ensures.value ∙ ap (λ (z : Opening _ _). z.rows) c.in_ok-opening.ensures.opened
-    in
+    let joined = ap (λ (z : Opening _ _). z.rows) c.in_ok-opening.ensures.opened in
     ap (λ z. row_lists z.0.items) c.new.ensures.proof ∙ c.in_ok-rows.ensures.salts
     ∙ (λ i. salt_parts (left_widths (pairs i)) (joined i))
     ∙ right_is g.row.N (matrices_of tree) g.met.M.Matrix.length_row_of tree.lawful c.args.index c.requires

@@ -5,7 +5,6 @@ use Rattle.p3_merkle_core.specs.Commitments.{cap_over}
 use Rattle.p3_merkle_core.specs.Pruning.{IsPrunedAccepted, PrunedOpening, pruned_of}
 use Rattle.p3_merkle_prover.specs.Parts.{matrices_of, tree_batch}
 use Rattle.p3_merkle_mmcs.specs.Schemes.{params_of}
-use Rattle.p3_support.specs.Shown.{row_sets}
 use Rattle.p3_merkle_hiding.proofs.SplitFacts.{left_sets_are, right_sets_are, salted_pruned_from}
 use Rattle.p3_merkle_hiding.specs.HidingSchemes.{plain_of}
 use Rattle.p3_merkle_hiding.specs.SaltedOpenings.{IsSaltedPrunedAccepted, SaltedPruned, salted_pruned_of}
@@ -18,8 +17,7 @@ pub returns-clause-rows : goal.returns-clause-rows
 returns-clause-rows g c =
     let tree = c.args.tree.now in
     let widths = left_widths (matrices_of tree) in
-    let joined = ap row_sets c.deref.ensures.value
-    ∙ ap (λ (z : PrunedOpening _ _). z.rows) c.in_ok-opening.ensures.opened in
+    let joined = ap (λ (z : PrunedOpening _ _). z.rows) c.in_ok-opening.ensures.opened in
     c.in_ok-rows.ensures.rows ∙ ap (map (unsalted_parts widths)) joined
     ∙ left_sets_are g.row.N (matrices_of tree) g.met.M.Matrix.length_row_of tree.lawful c.args.indices.now c.requires
 
@@ -27,8 +25,7 @@ pub returns-clause-salts : goal.returns-clause-salts
 returns-clause-salts g c =
     let tree = c.args.tree.now in
     let widths = left_widths (matrices_of tree) in
-    let joined = ap row_sets c.deref.ensures.value
-    ∙ ap (λ (z : PrunedOpening _ _). z.rows) c.in_ok-opening.ensures.opened in
+    let joined = ap (λ (z : PrunedOpening _ _). z.rows) c.in_ok-opening.ensures.opened in
     c.in_ok-rows.ensures.salts ∙ ap (map (salt_parts widths)) joined
     ∙ right_sets_are g.row.N (matrices_of tree) g.met.M.Matrix.length_row_of tree.lawful c.args.indices.now c.requires
 
