@@ -104,8 +104,21 @@ impl<
         self.joined_digest(row)
     }
 
+    /// The digests of rows of any number of matrices, from `row` on: lane `k` is that of row `row + k`, for each lane that
+    /// both packings have. `row + P::WIDTH` is at most the height.
+    fn joined_packed_digest(&self, row: usize) -> [PW; D]
+        requires { row + P.WIDTH ≤ self.now.height }
+        ensures { (k : ℕ) → k < P.WIDTH → k < PW.WIDTH →
+            lane_of PW.lanes PW.default_value k result
+            ≡ H.hash self.now.hash.now (rows_over M.row_of self.now.matrices.now (row + k)) }
+    {
+        self.hash
+            .hash_packed(packed_rows_of::<_, P, _>(self.matrices, row))
+    }
+
     /// The digests of the rows from `row` on: lane `k` is that of row `row + k`, for each lane that both packings have.
     /// `row + P::WIDTH` must be at most the height.
+    #[inline(always)]
     pub fn packed_digest(&self, row: usize) -> [PW; D]
         requires { row + P.WIDTH ≤ self.now.height }
         ensures { (k : ℕ) → k < P.WIDTH → k < PW.WIDTH →
@@ -118,8 +131,7 @@ impl<
                 .hash
                 .hash_packed(matrix.vertically_packed_row::<P>(row));
         }
-        self.hash
-            .hash_packed(packed_rows_of::<_, P, _>(self.matrices, row))
+        self.joined_packed_digest(row)
     }
 
     /// Writes the digests of the rows into the first slots: `blocks` blocks, each of as many slots as there are lanes.
