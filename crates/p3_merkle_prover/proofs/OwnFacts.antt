@@ -1,10 +1,12 @@
 -- What a tree opens of one index: the bounds of each group, and the siblings level by level.
 use Rattle.std.proofs.Common.{◌≡◌, ℕ, suc, ◌+◌, ◌-◌, ◌*◌, ◌/◌, ◌%◌, ◌<◌, ◌≤◌, List, ◌++◌, [], map, refl, ap, sym, ◌∙◌}
-use Rattle.std.proofs.Common.{arith, length, get_or, take, drop, add-one, append_assoc, length-drop}
+use Rattle.std.proofs.Common.{arith, inl, inr, length, get_or, take, drop, ◌∷◌, add-one, append_assoc, length-drop}
 use Rattle.std.specs.List.{range_with_len, remove}
 use Rattle.std.specs.Prelude.{slice_index_or}
-use Rattle.std.proofs.lemmas.List.{drop-drop, drop-take, ext_get_or, get_or-drop, get_or-map, get_or-take}
-use Rattle.std.proofs.lemmas.List.{length-take-le, take-take}
+use Rattle.std.proofs.lemmas.List.{ext_get_or, get_or-drop, get_or-map, get_or-take}
+use Rattle.std.proofs.lemmas.Bool.{cases_lt}
+use Rattle.std.proofs.lemmas.List.{length-take-le, take_more}
+use Rattle.std.proofs.lemmas.List.Edits.{get_or-remove_above, get_or-remove_below, length-remove}
 use Rattle.std.proofs.lemmas.List.FromFn.{get_or-map-range_with_len, length-map-range_with_len}
 use Rattle.std.proofs.Math.Nat.{mul-le-mul_left}
 use Rattle.p3_merkle_core.specs.Geometry.{Shape, step, ancestor, levels, heights, raw_len, layer_len, IsArity, IsLawful}
@@ -63,41 +65,42 @@ part_read d xs a n fits =
     (λ k inside. get_or-take n (drop a xs) k d (omega (arith, long)) ∙ get_or-drop a xs k d
     ∙ sym (get_or-map-range_with_len (λ k. get_or xs (a + k) d) 0 n k k d (omega (arith, long)) (omega arith)))
 
--- a part of a list without the place p: what is before it there, and what is behind it
-part_without : {X : Type 0} (xs : List X) (a p n : ℕ) → p < n →
-    take p (drop a xs) ++ take (n - suc p) (drop (a + suc p) xs) ≡ remove (take n (drop a xs)) p
-part_without xs a p n h =
-    let whole : n ≡ suc p + (n - suc p) = omega arith in
-    let front = take-take p n (drop a xs) (omega arith) in
-    let back = ap (λ m. drop (suc p) (take m (drop a xs))) whole ∙ drop-take (suc p) (n - suc p) (drop a xs)
-    ∙ ap (take (n - suc p)) (drop-drop (suc p) a xs) in
-    sym (ap (λ ys. ys ++ drop (suc p) (take n (drop a xs))) front ∙ ap (λ ys. take p (drop a xs) ++ ys) back)
+-- one digest more of a group without the place p: the one at `place`, or up to p the one before it
+pub other_more : {X : Type 0} (group : List X) (p place back : ℕ) (old before after : List X) (x : X) →
+    p < length group → 1 ≤ place → place < length group → (place ≤ p → back ≡ 1) → (p < place → back ≡ 0) →
+    x ≡ get_or group (place - back) x → before ≡ old ++ take (place - 1) (remove group p) → after ≡ before ++ x ∷ [] →
+    after ≡ old ++ take (place + 1 - 1) (remove group p)
+other_more group p place back old before after x inside begun more low high read is_before is_after =
+    let others = remove group p in
+    let long = length-remove group p inside in
+    let next : place + 1 - 1 ≡ (place - 1) + 1 = omega arith in
+    let other : x ≡ get_or others (place - 1) x = elim (cases_lt p place) [
+      | inl above ↦ let at : place - back ≡ (place - 1) + 1 = omega (arith, high above) in
+          read ∙ ap (λ k. get_or group k x) at ∙ sym (get_or-remove_above group p x (place - 1) (omega arith) inside)
+      | inr below ↦ let at : place - back ≡ place - 1 = omega (arith, low below) in
+          read ∙ ap (λ k. get_or group k x) at ∙ sym (get_or-remove_below group p x (place - 1) (omega arith) inside)
+    ] in
+    is_after ∙ ap (λ ys. ys ++ x ∷ []) is_before ∙ append_assoc old (take (place - 1) others) (x ∷ [])
+    ∙ ap (λ y. old ++ (take (place - 1) others ++ y ∷ [])) other
+    ∙ ap (λ ys. old ++ ys) (sym (take_more others (place - 1) x (omega (arith, long))))
+    ∙ ap (λ k. old ++ take k others) (sym next)
 
--- one level more of the siblings: the group's digests before the node, and those behind it
+-- one level more of the siblings: the group's digests without the node's
 pub group_next : {V X : Type 0} (d : X) (items : V → List X) (layers : List V) (s : Shape) (i l n node : ℕ) (layer : V)
-    (row old middle new : List X) →
+    (row old new : List X) →
     IsGroup s i l n node (length (items layer)) → l < length layers → layer ≡ get_or layers l layer →
     row ≡ items layer → old ≡ joined (level_siblings (node_in d (map items layers)) s i) l →
-    middle ≡ old ++ take (node - (node - node % n)) (drop (node - node % n) row) →
-    new ≡ middle ++ take (node - node % n + n - (node + 1)) (drop (node + 1) row) →
+    new ≡ old ++ remove (take (node - node % n + n - (node - node % n)) (drop (node - node % n) row)) (node % n) →
     new ≡ joined (level_siblings (node_in d (map items layers)) s i) (l + 1)
-group_next d items layers s i l n node layer row old middle new w h is shown is_old is_middle is_new =
-    let two = w.wide in
-    let small : node % n < n = omega arith in
-    let before : node - (node - node % n) ≡ node % n = omega arith in
-    let behind : node - node % n + n - (node + 1) ≡ n - suc (node % n) = omega arith in
-    let from : node + 1 ≡ node - node % n + suc (node % n) = omega arith in
-    let group = part_without (items layer) (node - node % n) (node % n) n small in
-    let pieces : new ≡ old ++ remove (take n (drop (node - node % n) (items layer))) (node % n) =
-    is_new ∙ rw (is_middle, shown, before, behind, from)
-    (append_assoc old (take (node % n) (drop (node - node % n) (items layer)))
-    (take (n - suc (node % n)) (drop (node - node % n + suc (node % n)) (items layer)))
-    ∙ ap (λ ys. old ++ ys) group) in
+group_next d items layers s i l n node layer row old new w h is shown is_old is_new =
+    let size : node - node % n + n - (node - node % n) ≡ n = omega arith in
     let read : slice_index_or (map items layers) l [] ≡ items layer = get_or-map items layers l layer [] h
     ∙ ap items (sym is) in
     let part = part_read d (items layer) (node - node % n) n w.fits in
-    pieces ∙ rw (
+    is_new ∙ rw (
       is_old,
+      shown,
+      size,
       add-one,
       joined_more (level_siblings (node_in d (map items layers)) s i) l,
       part,

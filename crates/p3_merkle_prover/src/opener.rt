@@ -1,6 +1,7 @@
 //! What a tree opens of one leaf: a row of each matrix, and the siblings on the leaf's path.
 
-ghost use Rattle.std.specs.Prelude.{◌≡◌, ◌<◌, ◌≤◌, ◌++◌, map, IfOk, None};
+ghost use Rattle.std.specs.Prelude.{◌≡◌, ◌<◌, ◌≤◌, ◌++◌, length, map, IfOk, None};
+ghost use Rattle.std.specs.List.{remove};
 ghost use Rattle.p3_support.specs.Batches.{greatest};
 ghost use Rattle.p3_merkle_core.specs.Geometry.{heights, levels, shape_of};
 ghost use Rattle.p3_merkle_core.specs.Nodes.{shape};
@@ -104,10 +105,10 @@ pub fn siblings_of_index<F, X: Copy, G, M: Matrix<F>, const N: usize>(
     let mut node = index;
     for level in 0..layer {
         let step = steps.step(level);
-        let first = node - position_of(node, step);
-        let nodes = &tree.layers[level];
-        extend_with_nodes(&mut siblings, &nodes[first..node])?;
-        extend_with_nodes(&mut siblings, &nodes[node + 1..first + step])?;
+        let position = position_of(node, step);
+        let first = node - position;
+        let group = &tree.layers[level][first..first + step];
+        extend_with_others(&mut siblings, group, position)?;
         node = parent_of(node, step);
     }
     Ok(siblings)
@@ -173,6 +174,28 @@ pub(crate) fn extend_with_nodes<X: Copy>(
     // There is mostly one digest or none: a call that copies them would take longer.
     for digest in nodes {
         digests.push(*digest)?;
+    }
+    Ok(())
+}
+
+/// Adds the digests of a group to the end, all except the one at `position`, which is in the group.
+///
+/// # Errors
+///
+/// Only `OutOfMemory`.
+pub(crate) fn extend_with_others<X: Copy>(
+    digests: &mut Vec<X>,
+    group: &[X],
+    position: usize,
+) -> Result<(), MerkleTreeError>
+    requires { position < length group.now }
+    ensures digests { let others = remove group.now position in
+        IfOk result (λ done. digests.new.items ≡ digests.old.items ++ others) }
+    ensures memory { AnswersUnlessMemory result None }
+{
+    // No branch asks for the position: it would be guessed wrong half of the time.
+    for place in 1..group.len() {
+        digests.push(group[place - usize::from(place <= position)])?;
     }
     Ok(())
 }

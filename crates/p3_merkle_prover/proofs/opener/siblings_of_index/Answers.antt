@@ -31,14 +31,14 @@ siblings_below-requires-clause-layer g c = omega (arith, c.args.steps.now.walked
 pub step-step-requires : goal.step-step-requires
 step-step-requires g c = omega (arith, c.args.steps.now.walked.whole, ap levels c.requires.own)
 
-pub position_of-requires : goal.position_of-requires
-position_of-requires g c =
+pub position_of-position-requires : goal.position_of-position-requires
+position_of-position-requires g c =
     let s = shape (tree_batch c.args.tree.now) in
     let is = c.step-step.ensures ∙ ap (λ (z : Shape). step z c.loop-level.level) c.requires.own in
     omega (arith, is, step_above_1 s c.loop-level.level c.args.tree.now.arity.above_1)
 
-pub index-nodes-requires : goal.index-nodes-requires
-index-nodes-requires g c =
+pub index-requires : goal.index-requires
+index-requires g c =
     let count = layers_count (λ nodes. length nodes.items) c.args.tree.now.layers.items
     (shape (tree_batch c.args.tree.now)) c.args.tree.now.layer_lengths in
     omega arith
@@ -46,43 +46,25 @@ index-nodes-requires g c =
 pub offset_bounds-deref-first : goal.offset_bounds-deref-first
 offset_bounds-deref-first g c =
     let w = group_of c.args.tree.now c.args.index c.loop-level.level c.args.layer c.requires.own c.requires.index
-    c.requires.layer c.loop-level-test.true c.loop-level.invariant.1 c.step-step.ensures c.index-nodes.ensures in
-    rw c.deref.ensures.value (omega (arith, w.wide, w.fits, c.position_of.ensures))
+    c.requires.layer c.loop-level-test.true c.loop-level.invariant.1 c.step-step.ensures c.index.ensures in
+    rw c.deref.ensures.value (omega (arith, w.wide, w.fits, c.position_of-position.ensures))
 
-pub slice_bounds-extend_with_nodes-end : goal.slice_bounds-extend_with_nodes-end
-slice_bounds-extend_with_nodes-end g c =
+pub slice_bounds-group-end : goal.slice_bounds-group-end
+slice_bounds-group-end g c =
     let w = group_of c.args.tree.now c.args.index c.loop-level.level c.args.layer c.requires.own c.requires.index
-    c.requires.layer c.loop-level-test.true c.loop-level.invariant.1 c.step-step.ensures c.index-nodes.ensures in
-    rw c.deref.ensures.value (omega (arith, w.wide, w.fits, c.position_of.ensures))
+    c.requires.layer c.loop-level-test.true c.loop-level.invariant.1 c.step-step.ensures c.index.ensures in
+    rw c.deref.ensures.value (omega (arith, w.wide, w.fits, c.position_of-position.ensures))
 
-pub overflow_add-node : goal.overflow_add-node
-overflow_add-node g c =
+pub overflow_add-group : goal.overflow_add-group
+overflow_add-group g c =
     let w = group_of c.args.tree.now c.args.index c.loop-level.level c.args.layer c.requires.own c.requires.index
-    c.requires.layer c.loop-level-test.true c.loop-level.invariant.1 c.step-step.ensures c.index-nodes.ensures in
-    omega (arith, w.wide, w.fits, c.position_of.ensures)
-
-pub overflow_add-first : goal.overflow_add-first
-overflow_add-first g c =
-    let w = group_of c.args.tree.now c.args.index c.loop-level.level c.args.layer c.requires.own c.requires.index
-    c.requires.layer c.loop-level-test.true c.loop-level.invariant.1 c.step-step.ensures c.index-nodes.ensures in
-    omega (arith, w.wide, w.fits, c.position_of.ensures)
-
-pub offset_bounds-deref-node : goal.offset_bounds-deref-node
-offset_bounds-deref-node g c =
-    let w = group_of c.args.tree.now c.args.index c.loop-level.level c.args.layer c.requires.own c.requires.index
-    c.requires.layer c.loop-level-test.true c.loop-level.invariant.1 c.step-step.ensures c.index-nodes.ensures in
-    rw c.deref-in-loop-level.ensures.value (omega (arith, w.wide, w.fits, c.position_of.ensures))
-
-pub slice_bounds-extend_with_nodes-end-in-loop-level : goal.slice_bounds-extend_with_nodes-end-in-loop-level
-slice_bounds-extend_with_nodes-end-in-loop-level g c =
-    let w = group_of c.args.tree.now c.args.index c.loop-level.level c.args.layer c.requires.own c.requires.index
-    c.requires.layer c.loop-level-test.true c.loop-level.invariant.1 c.step-step.ensures c.index-nodes.ensures in
-    rw c.deref-in-loop-level.ensures.value (omega (arith, w.wide, w.fits, c.position_of.ensures))
+    c.requires.layer c.loop-level-test.true c.loop-level.invariant.1 c.step-step.ensures c.index.ensures in
+    omega (arith, w.wide, w.fits, c.position_of-position.ensures)
 
 pub parent_of-node-requires : goal.parent_of-node-requires
 parent_of-node-requires g c =
     let w = group_of c.args.tree.now c.args.index c.loop-level.level c.args.layer c.requires.own c.requires.index
-    c.requires.layer c.loop-level-test.true c.loop-level.invariant.1 c.step-step.ensures c.index-nodes.ensures in
+    c.requires.layer c.loop-level-test.true c.loop-level.invariant.1 c.step-step.ensures c.index.ensures in
     omega (arith, w.wide)
 
 pub loop-level-preserved : goal.loop-level-preserved
@@ -90,17 +72,14 @@ loop-level-preserved g c =
     let tree = c.args.tree.now in
     let s = shape (tree_batch tree) in
     let w = group_of c.args.tree.now c.args.index c.loop-level.level c.args.layer c.requires.own c.requires.index
-    c.requires.layer c.loop-level-test.true c.loop-level.invariant.1 c.step-step.ensures c.index-nodes.ensures in
+    c.requires.layer c.loop-level-test.true c.loop-level.invariant.1 c.step-step.ensures c.index.ensures in
     let count = layers_count (λ nodes. length nodes.items) tree.layers.items s tree.layer_lengths in (
       λ d. group_next d (λ nodes. nodes.items) tree.layers.items s c.args.index c.loop-level.level c.step-step.result
-          c.loop-level.node c.index-nodes.result.now c.index-nodes.result.now.items c.loop-level.siblings.items
-          c.extend_with_nodes.new.digests.items c.extend_with_nodes-in-loop-level.new.digests.items
-          w (omega arith) c.index-nodes.ensures refl (c.loop-level.invariant.0 d)
-          (rw (c.position_of.ensures, c.deref.ensures.value) at c.in_ok-extend_with_nodes.ensures.digests)
-          (rw (c.position_of.ensures, c.deref-in-loop-level.ensures.value) at
-          c.in_ok-extend_with_nodes-2.ensures.digests),
+          c.loop-level.node c.index.result.now c.index.result.now.items c.loop-level.siblings.items
+          c.extend_with_others.new.digests.items w (omega arith) c.index.ensures refl (c.loop-level.invariant.0 d)
+          (rw (c.position_of-position.ensures, c.deref.ensures.value) at c.in_ok-extend_with_others.ensures.digests),
       c.parent_of-node.ensures ∙ node_next s c.args.index c.loop-level.level c.step-step.result c.loop-level.node
-          (length c.index-nodes.result.now.items) w,
+          (length c.index.result.now.items) w,
     )
 
 pub returns-clause-siblings : goal.returns-clause-siblings
@@ -115,14 +94,8 @@ returns-in_err-siblings g c =
     let gone = err_from_is_err_and c.from_residual.result c.from_residual.ensures.1 in
     rw (gone.1, gone.2) (record { siblings = λ d. tt; memory = inl refl })
 
-pub returns-in_err-extend_with_nodes : goal.returns-in_err-extend_with_nodes
-returns-in_err-extend_with_nodes g c =
-    let gone = err_from_is_err_and c.from_residual-in_err-extend_with_nodes.result
-    c.from_residual-in_err-extend_with_nodes.ensures.1 in
-    rw (gone.1, gone.2) (record { siblings = λ d. tt; memory = c.in_err-extend_with_nodes.ensures.memory })
-
-pub returns-in_err-extend_with_nodes-2 : goal.returns-in_err-extend_with_nodes-2
-returns-in_err-extend_with_nodes-2 g c =
-    let gone = err_from_is_err_and c.from_residual-in_err-extend_with_nodes-2.result
-    c.from_residual-in_err-extend_with_nodes-2.ensures.1 in
-    rw (gone.1, gone.2) (record { siblings = λ d. tt; memory = c.in_err-extend_with_nodes-2.ensures.memory })
+pub returns-in_err-extend_with_others : goal.returns-in_err-extend_with_others
+returns-in_err-extend_with_others g c =
+    let gone = err_from_is_err_and c.from_residual-in_err-extend_with_others.result
+    c.from_residual-in_err-extend_with_others.ensures.1 in
+    rw (gone.1, gone.2) (record { siblings = λ d. tt; memory = c.in_err-extend_with_others.ensures.memory })
