@@ -2,13 +2,14 @@
 use Rattle.std.proofs.Common.{◌≡◌, ℕ, zero, suc, ◌+◌, ◌-◌, ◌*◌, ◌/◌, ◌%◌, ◌<◌, ◌≤◌, Bool, true, false, not, eqb, List}
 use Rattle.std.proofs.Common.{[], ◌∷◌, ◌++◌, map, refl, ap, sym, ◌∙◌, arith, add-one, inl, inr, length, filter, get_or}
 use Rattle.std.proofs.Common.{take, drop, drop-cons, All, Vec, append_assoc, eq-eqb, min, max}
-use Rattle.std.specs.List.{list_any, range_with_len}
+use Rattle.std.specs.List.{list_any, range_with_len, remove}
 use Rattle.std.specs.Cmp.{both_ways}
 use Rattle.std.specs.Prelude.{slice_index_or}
 use Rattle.std.specs.List.Sorted.{IsStrictlyIncreasing}
 use Rattle.std.proofs.lemmas.Bool.{cases_eq, cases_lt, and_from, and_parts, eqb-true, false_from_ne_true, not-true}
 use Rattle.std.proofs.lemmas.Bool.{not_from_false, true≢false}
 use Rattle.std.proofs.lemmas.List.{map-append, append-nil, get_or_default, map_more, get_or-map}
+use Rattle.std.proofs.lemmas.List.{drop-drop, drop-take, take-take}
 use Rattle.std.proofs.lemmas.List.Elements.{filter-append, filter_agree}
 use Rattle.std.proofs.lemmas.List.Folds.{Any-from_list_any, list_any_at}
 use Rattle.std.proofs.lemmas.List.Kept.{AllPairs-from_increasing}
@@ -269,6 +270,32 @@ others_more layer covered n place next from node end old so_far middle new d w f
     (append_assoc old before (take (node - from) (drop from layer)))
     ∙ append_assoc old (before ++ take (node - from) (drop from layer))
     (take (end - (node + 1)) (drop (node + 1) layer)))
+
+-- a part of a list without the place p: what is before it there, and what is behind it
+part_without : {X : Type 0} (xs : List X) (a p n : ℕ) → p < n →
+    take p (drop a xs) ++ take (n - suc p) (drop (a + suc p) xs) ≡ remove (take n (drop a xs)) p
+part_without xs a p n h =
+    let whole : n ≡ suc p + (n - suc p) = omega arith in
+    let front = take-take p n (drop a xs) (omega arith) in
+    let back = ap (λ m. drop (suc p) (take m (drop a xs))) whole ∙ drop-take (suc p) (n - suc p) (drop a xs)
+    ∙ ap (take (n - suc p)) (drop-drop (suc p) a xs) in
+    sym (ap (λ ys. ys ++ drop (suc p) (take n (drop a xs))) front ∙ ap (λ ys. take p (drop a xs) ++ ys) back)
+
+-- the same of a node's part of a layer, up to the end of its group or the next covered node
+pub others_without : {X : Type 0} (layer : List X) (covered : List ℕ) (n place next from node end : ℕ)
+    (old so_far new : List X) (d : X) → HasTurned covered n place next from node end → end ≤ length layer →
+    so_far ≡ old ++ others_below layer covered n next d →
+    new ≡ so_far ++ remove (take (end - from) (drop from layer)) (node - from) →
+    new ≡ old ++ others_below layer covered n end d
+others_without layer covered n place next from node end old so_far new d w fits is_so_far is_new =
+    let front = take (node - from) (drop from layer) in
+    let size : end - from - suc (node - from) ≡ end - (node + 1) = omega (arith, w.low, w.high) in
+    let behind : from + suc (node - from) ≡ node + 1 = omega (arith, w.low) in
+    let parts = rw (size, behind) at
+    (part_without layer from (node - from) (end - from) (omega (arith, w.low, w.high))) in
+    others_more layer covered n place next from node end old so_far (so_far ++ front) new d w fits is_so_far refl
+    (is_new ∙ ap (λ ys. so_far ++ ys) (sym parts)
+    ∙ sym (append_assoc so_far front (take (end - (node + 1)) (drop (node + 1) layer))))
 
 -- behind the last covered node nothing is left
 pub others_end : {X : Type 0} (layer : List X) (covered : List ℕ) (n place next : ℕ) (d : X) → length covered ≤ place →

@@ -159,26 +159,7 @@ fn copy_of<F: Copy>(alloc: Global, words: &[F]) -> Result<Vec<F>, AllocError>
     Ok(copy)
 }
 
-/// Adds the digests of some nodes of a layer to the end.
-///
-/// # Errors
-///
-/// Only `OutOfMemory`.
-pub(crate) fn extend_with_nodes<X: Copy>(
-    digests: &mut Vec<X>,
-    nodes: &[X],
-) -> Result<(), MerkleTreeError>
-    ensures digests { IfOk result (λ done. digests.new.items ≡ digests.old.items ++ nodes.now) }
-    ensures memory { AnswersUnlessMemory result None }
-{
-    // There is mostly one digest or none: a call that copies them would take longer.
-    for digest in nodes {
-        digests.push(*digest)?;
-    }
-    Ok(())
-}
-
-/// Adds the digests of a group to the end, all except the one at `position`, which is in the group.
+/// Adds the digests of a group, or of a part of one, to the end, all except the one at `position`, which is in it.
 ///
 /// # Errors
 ///

@@ -13,7 +13,7 @@ ghost use Rattle.p3_merkle_prover.specs.Parts.{layers_of, tree_batch};
 ghost use Rattle.p3_merkle_core.specs.Pruning.{boundary_by};
 ghost use Rattle.p3_merkle_core.specs.Refusals.{AnswersUnlessMemory};
 
-use crate::opener::{extend_with_nodes, rows_of_index, steps_in};
+use crate::opener::{extend_with_others, rows_of_index, steps_in};
 use crate::tree::Tree;
 use p3_merkle_core::error::MerkleTreeError;
 use p3_merkle_core::pruning::{climb, distinct_indices, position_of};
@@ -105,8 +105,8 @@ fn extend_with_boundary<X: Copy>(
         if place + 1 < covered.len() {
             end = end.min(covered[place + 1]);
         }
-        extend_with_nodes(digests, &layer[first.max(next)..node])?;
-        extend_with_nodes(digests, &layer[node + 1..end])?;
+        let start = first.max(next);
+        extend_with_others(digests, &layer[start..end], node - start)?;
         next = end;
     }
     Ok(())

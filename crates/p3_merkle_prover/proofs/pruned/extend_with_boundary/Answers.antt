@@ -1,7 +1,6 @@
 -- Each turn adds what lies beside one covered node.
 use Rattle.std.proofs.Common.{◌+◌, ◌-◌, ◌%◌, ◌≤◌, ◌++◌, ◌∙◌, ap, arith, sym, append-nil, get_or, length, refl}
-use Rattle.std.proofs.lemmas.Result.{err_from_is_err_and}
-use Rattle.p3_merkle_prover.proofs.BoundaryFacts.{EndsAt, gone_start, others_end, others_more, turned}
+use Rattle.p3_merkle_prover.proofs.BoundaryFacts.{EndsAt, gone_start, others_end, others_without, turned}
 use Rattle.p3_merkle_prover.proofs.pruned.extend_with_boundary.Goals as goal
 use Rattle.p3_merkle_prover.proofs.pruned.extend_with_boundary.Goals.{then-place-covered, else-place-covered}
 
@@ -31,19 +30,17 @@ loop-place-preserved g c =
         last = λ h. rw c.position_of.ensures at w.end-is;
       }
     ] in
-    let w = turned covered n place next c.max.result node end c.requires.some c.requires.ascending (omega arith)
-    c.loop-place.invariant.gone refl (rw c.position_of.ensures at c.max.ensures)
+    let w = turned covered n place next c.max-start.result node end c.requires.some c.requires.ascending (omega arith)
+    c.loop-place.invariant.gone refl (rw c.position_of.ensures at c.max-start.ensures)
     ends in
     let inside : end ≤ length layer = omega (arith, w.fits, c.requires.groups place 0 (omega arith)) in
     record {
       gone = w.gone;
       inside = inside;
       so_far = λ d.
-          others_more layer covered n place next c.max.result node end c.args.digests.now.items
-          c.loop-place.digests.items c.extend_with_nodes.new.digests.items
-          c.extend_with_nodes-in-loop-place.new.digests.items d w inside
-          (c.loop-place.invariant.so_far d) c.in_ok-extend_with_nodes.ensures.digests
-          c.in_ok-extend_with_nodes-2.ensures.digests;
+          others_without layer covered n place next c.max-start.result node end c.args.digests.now.items
+          c.loop-place.digests.items c.extend_with_others.new.digests.items d w inside
+          (c.loop-place.invariant.so_far d) c.in_ok-extend_with_others.ensures.digests;
     }
 
 pub returns-clause-digests : goal.returns-clause-digests
@@ -51,14 +48,3 @@ returns-clause-digests g c d =
     c.loop-place.invariant.so_far d ∙ ap (λ ys. c.args.digests.now.items ++ ys)
     (sym (others_end c.args.layer.now c.args.covered.now c.args.step c.loop-place.place c.loop-place.next d
     (omega arith) c.loop-place.invariant.inside c.loop-place.invariant.gone))
-
-pub returns-in_err-extend_with_nodes : goal.returns-in_err-extend_with_nodes
-returns-in_err-extend_with_nodes g c =
-    let gone = err_from_is_err_and c.from_residual.result c.from_residual.ensures.1 in
-    rw (gone.1, gone.2) (record { digests = λ d. tt; memory = c.in_err-extend_with_nodes.ensures.memory })
-
-pub returns-in_err-extend_with_nodes-2 : goal.returns-in_err-extend_with_nodes-2
-returns-in_err-extend_with_nodes-2 g c =
-    let gone = err_from_is_err_and c.from_residual-in_err-extend_with_nodes-2.result
-    c.from_residual-in_err-extend_with_nodes-2.ensures.1 in
-    rw (gone.1, gone.2) (record { digests = λ d. tt; memory = c.in_err-extend_with_nodes-2.ensures.memory })
