@@ -111,8 +111,8 @@ pub fn compress_children_packed<
         ≡ C.compression compress.now (take step (drop (step * (first + k)) below.now)
         ++ replicate (N - step) (replicate D PW.default_value)) }
 {
-    // Whole groups, whose number of children is a constant, need no place in memory.
-    if step == N {
+    // Whole groups, whose number of children is a constant, need no place in memory if their digests are short.
+    if step == N && D == 1 {
         return compress.compress_packed(packed_children(below, first));
     }
     let mut group = [[PW::broadcast(PW::Value::default()); D]; N];

@@ -1,21 +1,11 @@
 -- Whole groups are packed as they lie; else each turn puts one child into its place, and the places behind the children
 -- keep their default digests.
 use Rattle.std.proofs.Common.{arith, ◌≡◌, ◌+◌, ◌-◌, ◌*◌, ◌<◌, ◌++◌, ◌∙◌, [], ap, length, take, drop, map, set, sym}
-use Rattle.std.proofs.Common.{List, append-nil, length-set, replicate}
+use Rattle.std.proofs.Common.{List, length-set, replicate}
 use Rattle.std.proofs.lemmas.List.{map-set, length-map, length-replicate, take_all, drop-replicate}
 use Rattle.p3_support.specs.Lists.{lane_of}
 use Rattle.p3_merkle_digests.proofs.LaneFacts.{put_next, child_at, children_long, default_lanes}
 use Rattle.p3_merkle_digests.proofs.packed.compress_children_packed.Goals as goal
-
-pub returns-then-step : goal.returns-then-step
-returns-then-step g c = λ k small.
-    let n = g.row.N in
-    let none : n - n ≡ 0 = omega arith in
-    rw (c.if-step.true, none)
-    (c.compress_packed.ensures k small
-    ∙ ap (g.C.PseudoCompressionFunction.compression c.args.compress.now)
-    (c.packed_children.ensures k small
-    ∙ sym (append-nil (take n (drop (n * (c.args.first + k)) c.args.below.now)))))
 
 pub loop-n-preserved : goal.loop-n-preserved
 loop-n-preserved g c = (
