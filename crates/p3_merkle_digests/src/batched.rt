@@ -1,5 +1,7 @@
 //! Many messages a call: how many, and the words of rows and the groups of digests that one call takes.
 
+ghost use Rattle.std.specs.Mem.{FitsInMemory};
+ghost use denote.Param.{ArrayAt};
 ghost use Rattle.std.specs.Prelude.{◌≡◌, ℕ, ◌+◌, ◌-◌, ◌*◌, ◌%◌, ◌^◌, ◌<◌, ◌≤◌, ◌++◌, [], ◌∷◌, length, map, max, min};
 ghost use Rattle.std.specs.Prelude.{drop, replicate, slice_index_or, sum_by, take, All, IfOk, IfSome};
 ghost use Rattle.std.specs.List.{range_with_len};
@@ -11,6 +13,10 @@ use p3_support::compress::PseudoCompressionFunction;
 use p3_support::matrix::Matrix;
 use p3_support::packed::PackedValue;
 use std::alloc::AllocError;
+
+/// The least size of a digest, in bytes, at which groups are laid in a buffer for calls that take many. Shorter digests
+/// are compressed faster one by one.
+const LONG_DIGEST: usize = 32;
 
 /// How many messages of `bytes` bytes one call takes: the greatest multiple of `lanes` with at most 16384 bytes in all,
 /// but at least `lanes`. A number of 0 counts as 1.
@@ -158,9 +164,33 @@ fn stage_children<W: Copy, const N: usize, const D: usize>(
     Ok(())
 }
 
+/// Writes into each slot `j` the compression of the children of node `j` over a layer, followed by default digests, one
+/// by one. Each node has `step` children, at least one and at most `N`; those of all slots must be in the layer.
+fn compress_children_singly<
+    PW: PackedValue,
+    C: PseudoCompressionFunction<PW, N, D>,
+    const N: usize,
+    const D: usize,
+>(compress: &C, below: &[[PW::Value; D]], step: usize, slots: &mut [[PW::Value; D]])
+    requires group { FitsInMemory (ArrayAt (ArrayAt PW.Value.row D.row) N.row) }
+    requires step { 0 < step }
+    requires few { step ≤ N }
+    requires inside { step * length slots.old ≤ length below.now }
+    ensures { let folded = λ (j : ℕ). C.compression compress.now (take step (drop (step * j) below.now)
+        ++ replicate (N - step) (replicate D PW.default_value)) in
+        IsFilled folded (length slots.old) (length slots.old) slots.new }
+{
+    let default_digest = [PW::Value::default(); D];
+    for j in 0..slots.len() {
+        let start = step * j;
+        let group = padded_group::<PW::Value, N, D>(default_digest, &below[start..start + step]);
+        slots[j] = compress.compress(group);
+    }
+}
+
 /// Writes into each slot `j` the compression of the children of node `j` over a layer, followed by default digests, as
-/// many per call as [`messages_per_call`] says. Each node has `step` children, at least one and at most `N`; those of
-/// all slots must be in the layer. `groups` is a buffer for them.
+/// many per call as [`messages_per_call`] says, but short digests one by one. Each node has `step` children, at least
+/// one and at most `N`; those of all slots must be in the layer. `groups` is a buffer for them.
 ///
 /// # Errors
 ///
@@ -185,6 +215,10 @@ pub fn compress_children_batched<
         IfOk result (λ done. IsFilled folded (length slots.old) (length slots.old) slots.new) }
 {
     let default_digest = [PW::Value::default(); D];
+    if std::mem::size_of_val(&default_digest) < LONG_DIGEST {
+        compress_children_singly::<PW, C, N, D>(compress, below, step, slots);
+        return Ok(());
+    }
     let per_call = messages_per_call(std::mem::size_of_val(&[default_digest; N]), C::LANES);
     let mut first = 0;
     while first < slots.len() {
@@ -224,8 +258,32 @@ fn stage_pairs<W: Copy, const N: usize, const D: usize>(
 }
 
 /// Compresses the digest in each slot `j` with `rows[j]`, the digest of its rows, followed by default digests, and
-/// writes the result into the slot, as many per call as [`messages_per_call`] says. There must be at most as many rows
-/// as slots, and `N` must be at least 2. `pairs` is a buffer for the groups.
+/// writes the result into the slot, one by one. There must be at most as many rows as slots, and `N` must be at least 2.
+fn inject_row_digests_singly<
+    PW: PackedValue,
+    C: PseudoCompressionFunction<PW, N, D>,
+    const N: usize,
+    const D: usize,
+>(compress: &C, rows: &[[PW::Value; D]], slots: &mut [[PW::Value; D]])
+    requires group { FitsInMemory (ArrayAt (ArrayAt PW.Value.row D.row) N.row) }
+    requires pair { 2 ≤ N }
+    requires rows { length rows.now ≤ length slots.old }
+    ensures { let joined = λ (j : ℕ). C.compression compress.now
+        (slice_index_or slots.old j [] ∷ slice_index_or rows.now j []
+        ∷ replicate (N - 2) (replicate D PW.default_value)) in
+        IsFilled joined (length rows.now) (length slots.old) slots.new }
+{
+    let default_digest = [PW::Value::default(); D];
+    for j in 0..rows.len() {
+        let pair = pair_group::<PW::Value, N, D>(default_digest, slots[j], rows[j]);
+        slots[j] = compress.compress(pair);
+    }
+}
+
+/// Compresses the digest in each slot `j` with `rows[j]`, the digest of its rows, followed by default digests, and
+/// writes the result into the slot, as many per call as [`messages_per_call`] says, but short digests one by one at a
+/// bridge step, where `step` is less than `N`. There must be at most as many rows as slots, and `N` must be at least 2.
+/// `pairs` is a buffer for the groups.
 ///
 /// # Errors
 ///
@@ -237,6 +295,7 @@ pub fn inject_row_digests<
     const D: usize,
 >(
     compress: &C,
+    step: usize,
     pairs: &mut Vec<[[PW::Value; D]; N]>,
     rows: &[[PW::Value; D]],
     slots: &mut [[PW::Value; D]],
@@ -249,6 +308,10 @@ pub fn inject_row_digests<
         IfOk result (λ done. IsFilled joined (length rows.now) (length slots.old) slots.new) }
 {
     let default_digest = [PW::Value::default(); D];
+    if step < N && std::mem::size_of_val(&default_digest) < LONG_DIGEST {
+        inject_row_digests_singly::<PW, C, N, D>(compress, rows, slots);
+        return Ok(());
+    }
     let per_call = messages_per_call(std::mem::size_of_val(&[default_digest; N]), C::LANES);
     let mut first = 0;
     while first < rows.len() {

@@ -66,9 +66,6 @@ pub(crate) type LayerBuilder<
     const D: usize,
 > = LayerOver<'a, 'b, P, PW, H, C, M, [PW::Value; D], [[PW::Value; D]; N], N>;
 
-/// The least size of a digest, in bytes, at which the groups of bridge steps are compressed in batches.
-const LONG_DIGEST: usize = 32;
-
 /// Tells that the children of the first nodes are in the layer below. It does nothing at run time.
 fn lemma_front<X>(arity: usize, level: &Level, below: &[X], count: usize)
     requires children { HasChildren arity level.now (length below.now) }
@@ -201,7 +198,8 @@ impl<
             return Ok(count);
         }
         let rows = self.rows.digests(alloc, count)?;
-        inject_row_digests::<PW, C, N, D>(self.compress, &mut groups, &rows, slots)?;
+        let step = self.level.step;
+        inject_row_digests::<PW, C, N, D>(self.compress, step, &mut groups, &rows, slots)?;
         Ok(count)
     }
 
@@ -246,11 +244,8 @@ impl<
         ensures { IfOk result (λ done. slots.new
             ≡ map (slot_of H.hash C.compression D self.now) (range_with_len 0 (length slots.old))) }
     {
-        let Level { step, has_rows, .. } = self.level;
-        // The groups of a bridge step are laid in a buffer, which short digests are compressed sooner without.
-        let is_long = std::mem::size_of_val(&[PW::Value::default(); D]) >= LONG_DIGEST;
         // In batches where each function takes several messages at a time, else lane by lane.
-        let done = if C::LANES > 1 && (!has_rows || H::LANES > 1) && (step == N || is_long) {
+        let done = if C::LANES > 1 && (!self.level.has_rows || H::LANES > 1) {
             self.write_batched(alloc, slots)?
         } else {
             self.write_packed(slots)

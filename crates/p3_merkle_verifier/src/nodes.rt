@@ -200,7 +200,8 @@ impl<
         }
         let rows = self.row_digests(alloc, restorable, covered)?;
         let mut pairs = Vec::with_capacity(alloc, rows.len())?;
-        inject_row_digests::<PW, C, N, D>(self.compress, &mut pairs, &rows, &mut digests)?;
+        let step = covered.step;
+        inject_row_digests::<PW, C, N, D>(self.compress, step, &mut pairs, &rows, &mut digests)?;
         Ok(digests)
     }
 }
