@@ -18,6 +18,10 @@ use std::alloc::AllocError;
 /// are compressed faster one by one.
 const LONG_DIGEST: usize = 32;
 
+/// The least length of a row, in words, at which rows of several matrices are staged one after another. Shorter rows
+/// are staged matrix by matrix.
+const LONG_ROW: usize = 1024;
+
 /// How many messages of `bytes` bytes one call takes: the greatest multiple of `lanes` with at most 16384 bytes in all,
 /// but at least `lanes`. A number of 0 counts as 1.
 pub(crate) fn messages_per_call(bytes: usize, lanes: usize) -> usize
@@ -61,19 +65,90 @@ pub(crate) fn contiguous_rows<T: Copy, M: Matrix<T>>(
     matrix.row_chunk(first, count)
 }
 
-/// Adds few words to the end, one by one: a call that copies them takes longer.
-///
-/// # Errors
-///
-/// `AllocError` if memory runs out.
-fn extend_with_few<T: Copy>(staged: &mut Vec<T>, words: &[T]) -> Result<(), AllocError>
-    ensures { IfOk result (λ done. staged.new.items ≡ staged.old.items ++ words.now) }
+/// Copies few words into their place, which has as many, one by one: a call that copies them takes longer.
+fn put_few<T: Copy>(place: &mut [T], words: &[T])
+    requires { length place.old ≡ length words.now }
+    ensures { place.new ≡ words.now }
 {
-    staged.reserve(words.len())?;
-    for word in words {
-        staged.push_reserved(*word);
+    for k in 0..words.len() {
+        place[k] = words[k];
     }
-    Ok(())
+}
+
+/// Copies a row of a matrix that does not lend it into its place, which has as many words.
+fn put_read_row<T: Copy, M: Matrix<T>>(place: &mut [T], matrix: &M, row: usize)
+    requires row { row < M.height_of matrix.now }
+    requires place { length place.old ≡ M.width_of matrix.now }
+    ensures { place.new ≡ M.row_of matrix.now row }
+{
+    for column in 0..place.len() {
+        place[column] = matrix.get(row, column);
+    }
+}
+
+/// Copies a row of a matrix into its place, which has as many words.
+fn put_row<T: Copy, M: Matrix<T>>(place: &mut [T], matrix: &M, row: usize)
+    requires row { row < M.height_of matrix.now }
+    requires place { length place.old ≡ M.width_of matrix.now }
+    ensures { place.new ≡ M.row_of matrix.now row }
+{
+    match matrix.row_slice(row) {
+        Some(words) if words.len() >= MIN_SLICE_WIDTH => place.copy_from_slice(words),
+        Some(words) => put_few(place, words),
+        None => put_read_row(place, matrix, row),
+    }
+}
+
+/// Copies row `first + j` of a matrix into row `j` of the staged ones, from word `offset` on, for each `j` below
+/// `count`. There are `count` staged rows, of `len` words each. The words of a row before `offset` stay.
+fn put_rows<T: Copy, M: Matrix<T>>(
+    staged: &mut [T],
+    len: usize,
+    offset: usize,
+    matrix: &M,
+    first: usize,
+    count: usize,
+)
+    requires rows { first + count ≤ M.height_of matrix.now }
+    requires staged { length staged.old ≡ count * len }
+    requires fits { offset + M.width_of matrix.now ≤ len }
+    ensures long { length staged.new ≡ length staged.old }
+    ensures put { (d : T) → (j c : ℕ) → j < count → c < M.width_of matrix.now →
+        slice_index_or staged.new (j * len + (offset + c)) d ≡ slice_index_or (M.row_of matrix.now (first + j)) c d }
+    ensures kept { (d : T) → (j c : ℕ) → j < count → c < offset →
+        slice_index_or staged.new (j * len + c) d ≡ slice_index_or staged.old (j * len + c) d }
+{
+    // The height is a usize, and so is the index of each row.
+    let _height = matrix.height();
+    let width = matrix.width();
+    for j in 0..count {
+        let start = j * len + offset;
+        put_row(&mut staged[start..start + width], matrix, first + j);
+    }
+}
+
+/// Copies `count` rows of the matrices from `first` on into the staged ones, matrix by matrix. The matrices all have
+/// this height, `first + count` is at most that, and a row has `len` words.
+fn put_matrices<T: Copy, M: Matrix<T>>(
+    staged: &mut [T],
+    len: usize,
+    matrices: &[M],
+    height: usize,
+    first: usize,
+    count: usize,
+)
+    requires heights { All (λ m. M.height_of m ≡ height) matrices.now }
+    requires inside { first + count ≤ height }
+    requires len { len ≡ sum_by M.width_of matrices.now }
+    requires staged { length staged.old ≡ count * len }
+    ensures { let rows = λ (j : ℕ). rows_over M.row_of matrices.now (first + j) in
+        IsStaged rows count staged.new }
+{
+    let mut offset = 0;
+    for matrix in matrices {
+        put_rows(staged, len, offset, matrix, first, count);
+        offset += matrix.width();
+    }
 }
 
 /// Adds a row of the matrices, which all have this height, to the rows that are staged.
@@ -93,10 +168,34 @@ fn stage_row<T: Copy, M: Matrix<T>>(
 {
     for matrix in matrices {
         match matrix.row_slice(row) {
-            Some(words) if words.len() >= MIN_SLICE_WIDTH => staged.extend_from_slice(words)?,
-            Some(words) => extend_with_few(staged, words)?,
+            Some(words) => staged.extend_from_slice(words)?,
             None => staged.extend(matrix.row(row))?,
         }
+    }
+    Ok(())
+}
+
+/// Adds `count` rows of the matrices from `first` on, one row after another. The matrices all have this height, and
+/// `first + count` is at most that. Nothing is staged before.
+///
+/// # Errors
+///
+/// `AllocError` if memory runs out.
+fn stage_rows<T: Copy, M: Matrix<T>>(
+    staged: &mut Vec<T>,
+    matrices: &[M],
+    height: usize,
+    first: usize,
+    count: usize,
+) -> Result<(), AllocError>
+    requires heights { All (λ m. M.height_of m ≡ height) matrices.now }
+    requires inside { first + count ≤ height }
+    requires none { staged.old.items ≡ [] }
+    ensures { let rows = λ (j : ℕ). rows_over M.row_of matrices.now (first + j) in
+        IfOk result (λ done. IsStaged rows count staged.new.items) }
+{
+    for j in 0..count {
+        stage_row(staged, matrices, height, first + j)?;
     }
     Ok(())
 }
@@ -108,7 +207,7 @@ fn stage_row<T: Copy, M: Matrix<T>>(
 /// # Errors
 ///
 /// `AllocError` if memory runs out.
-pub(crate) fn words_of_rows<'b, T: Copy, M: Matrix<T>>(
+pub(crate) fn words_of_rows<'b, T: Copy + Default, M: Matrix<T>>(
     staged: &'b mut Vec<T>,
     matrices: &'b [M],
     height: usize,
@@ -124,8 +223,14 @@ pub(crate) fn words_of_rows<'b, T: Copy, M: Matrix<T>>(
         return Ok(words);
     }
     staged.clear();
-    for j in 0..count {
-        stage_row(staged, matrices, height, first + j)?;
+    let len = row_len(matrices);
+    match len.checked_mul(count) {
+        // Few words of a row cost less than to ask for its matrix again.
+        Some(words) if len < LONG_ROW => {
+            staged.resize(words, T::default())?;
+            put_matrices(staged, len, matrices, height, first, count);
+        },
+        _ => stage_rows(staged, matrices, height, first, count)?,
     }
     Ok(staged.as_slice())
 }

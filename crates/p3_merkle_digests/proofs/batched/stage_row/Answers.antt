@@ -8,7 +8,6 @@ use Rattle.p3_merkle_digests.specs.Inner.Slots.{rows_over}
 use Rattle.p3_merkle_digests.proofs.LaneFacts.{height_at, rows_more}
 use Rattle.p3_merkle_digests.proofs.batched.stage_row.Goals as goal
 use Rattle.p3_merkle_digests.proofs.batched.stage_row.Goals.{in-Some+in_ok-extend_from_slice-in-Some}
-use Rattle.p3_merkle_digests.proofs.batched.stage_row.Goals.{in-Some-2+in_ok-extend_with_few-in-Some-2}
 use Rattle.p3_merkle_digests.proofs.batched.stage_row.Goals.{in-None+in_ok-extend-in-None}
 
 pub row_slice-requires : goal.row_slice-requires
@@ -30,8 +29,6 @@ loop-matrix-preserved g c =
       | in-Some+in_ok-extend_from_slice-in-Some w ↦ rw w.staged-is
           (w.in_ok-extend_from_slice-in-Some.ensures.items
           ∙ ap (λ l. c.loop-matrix.staged.items ++ l) w.in-Some.ensures)
-      | in-Some-2+in_ok-extend_with_few-in-Some-2 w ↦ rw w.staged-is
-          (w.in_ok-extend_with_few-in-Some-2.ensures ∙ ap (λ l. c.loop-matrix.staged.items ++ l) w.in-Some.ensures)
       | in-None+in_ok-extend-in-None w ↦ rw w.staged-is
           (items_from_extend {E = AllocError} (Ok tt) w.in_ok-extend-in-None.ensures.ran
           (YieldsList-from_first (λ x. x) (λ rest. rest) row w.row.ensures)).0

@@ -1,7 +1,7 @@
 use Rattle.std.proofs.Common.{ℕ, ◌+◌}
 use Rattle.p3_merkle_digests.specs.Inner.Slots.{rows_over}
 use Rattle.p3_merkle_digests.proofs.StageFacts.{all_widths, IsStagedTo}
-use Rattle.p3_merkle_digests.proofs.batched.words_of_rows.Given as goal
+use Rattle.p3_merkle_digests.proofs.batched.stage_rows.Given as goal
 
 -- the rows so far are staged
 abbrev pub invariant-loop-j : goal.invariant-loop-j

@@ -2,10 +2,10 @@
 use Rattle.std.proofs.Common.{arith, ℕ, ◌+◌, ◌<◌, ap, refl, length}
 use Rattle.p3_merkle_digests.specs.Inner.Slots.{rows_over}
 use Rattle.p3_merkle_digests.proofs.StageFacts.{all_widths, length-rows, staged_more, staged_all}
-use Rattle.p3_merkle_digests.proofs.batched.words_of_rows.Goals as goal
+use Rattle.p3_merkle_digests.proofs.batched.stage_rows.Goals as goal
 
 pub loop-j-init : goal.loop-j-init
-loop-j-init g c = let none = ap length c.clear.ensures.items in
+loop-j-init g c = let none = ap length c.requires.none in
     record { long = omega (arith, none); each = λ j none. absurd (omega (arith, none)) }
 
 pub loop-j-preserved : goal.loop-j-preserved
@@ -24,6 +24,5 @@ loop-j-preserved g c =
 pub returns : goal.returns
 returns g c =
     let ms = c.args.matrices.now in
-    rw c.as_slice.ensures.value
-    (staged_all (λ (j : ℕ). rows_over g.M.Matrix.row_of ms (c.args.first + j)) c.loop-j.staged.items
-    (all_widths g.M.Matrix.width_of ms) c.loop-j.j c.args.count c.loop-j.invariant (omega arith))
+    staged_all (λ (j : ℕ). rows_over g.M.Matrix.row_of ms (c.args.first + j)) c.loop-j.staged.items
+    (all_widths g.M.Matrix.width_of ms) c.loop-j.j c.args.count c.loop-j.invariant (omega arith)
