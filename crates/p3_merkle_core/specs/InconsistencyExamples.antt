@@ -12,7 +12,6 @@ use Rattle.p3_merkle_core.specs.declared.collision.Between.{Between}
 use Rattle.p3_merkle_core.specs.declared.collision.Between.TheVariants.{OldTree, NewTree, Openings}
 use Rattle.p3_merkle_core.specs.declared.collision.Place.TheVariants.{Group, Leaf}
 use Rattle.p3_merkle_core.specs.declared.consistency.Growth.{Growth}
-use Rattle.p3_merkle_core.specs.declared.error.ConsistencyError.{ConsistencyError}
 use Rattle.p3_merkle_core.specs.declared.error.ConsistencyError.TheVariants.{NewOpening, OldOpening}
 use Rattle.p3_merkle_core.specs.declared.error.MerkleTreeError.TheVariants.{CapMismatch}
 

@@ -1,17 +1,17 @@
 -- The digests of a proof of consistency, read from a tree's layers.
-use Rattle.std.proofs.Common.{◌≡◌, ℕ, zero, suc, ◌+◌, ◌-◌, ◌*◌, ◌^◌, ◌<◌, ◌≤◌, Bool, true, false, List, [], ◌∷◌, ◌++◌, map}
-use Rattle.std.proofs.Common.{filter, take, drop, length, get_or, refl, ap, sym, ◌∙◌, arith, inl, inr, append_assoc, length-drop}
+use Rattle.std.proofs.Common.{◌≡◌, ℕ, zero, suc, ◌+◌, ◌-◌, ◌^◌, ◌<◌, ◌≤◌, List, [], ◌++◌, map}
+use Rattle.std.proofs.Common.{filter, take, drop, length, get_or, ap, sym, ◌∙◌, arith, append_assoc, length-drop}
 use Rattle.std.specs.Int.{div_ceil}
 use Rattle.std.specs.List.{range_with_len}
-use Rattle.std.proofs.lemmas.Bool.{le-ltb, lt-ltb}
-use Rattle.std.proofs.lemmas.List.{get_or-drop, get_or-map, get_or-take, length-take-le, map-append}
+use Rattle.std.proofs.lemmas.Bool.{lt-ltb}
+use Rattle.std.proofs.lemmas.List.{get_or-drop, get_or-take, length-take-le, map-append}
 use Rattle.std.proofs.lemmas.List.FromFn.{fill_by_all}
 use Rattle.std.proofs.Math.Nat.{pow-suc, pow-zero}
 use Rattle.p3_merkle_core.specs.Consistency.{IsGrowth, is_sent, new_layer, old_layer, sent_at}
 use Rattle.p3_merkle_core.specs.Geometry.{IsArity, Shape, layer_len, levels, raw_len}
 use Rattle.p3_merkle_core.specs.OneHeight.{HasHeight, levels_of_height, nodes_of_height}
 use Rattle.p3_merkle_core.specs.Openings.{node_in}
-use Rattle.p3_merkle_core.specs.Inner.Growths.{AreFew, mixed_children, parts_above, parts_at}
+use Rattle.p3_merkle_core.specs.Inner.Growths.{mixed_children, parts_at}
 use Rattle.p3_merkle_core.specs.declared.consistency.Growth.{Growth}
 use Rattle.p3_merkle_core.specs.declared.consistency.LayerParts.{LayerParts}
 use Rattle.p3_merkle_core.specs.declared.consistency.MixedChildren.{MixedChildren}

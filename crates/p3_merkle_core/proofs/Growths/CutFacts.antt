@@ -1,6 +1,6 @@
 -- An opening without its siblings above a layer, in the tree of another height: its check is the same up to that layer.
-use Rattle.std.proofs.Common.{◌≡◌, ℕ, zero, suc, ◌+◌, ◌-◌, ◌*◌, ◌/◌, ◌%◌, ◌^◌, ◌<◌, ◌≤◌, Bool, List, [], ◌∷◌, ◌++◌, map, length}
-use Rattle.std.proofs.Common.{take, drop, insert, refl, ap, sym, ◌∙◌, arith, inl, inr, eq-eqb, Option}
+use Rattle.std.proofs.Common.{◌≡◌, ℕ, zero, suc, ◌+◌, ◌-◌, ◌*◌, ◌/◌, ◌%◌, ◌^◌, ◌<◌, ◌≤◌, Bool, List, ◌∷◌, length}
+use Rattle.std.proofs.Common.{take, drop, insert, ap, sym, ◌∙◌, arith, eq-eqb}
 use Rattle.std.specs.List.{flat_map, range_with_len}
 use Rattle.std.proofs.Math.Nat.{mul-le-mul_right, suc-mul}
 use Rattle.std.proofs.lemmas.List.{drop-take, take-take}
@@ -8,7 +8,7 @@ use Rattle.p3_merkle_core.specs.Geometry.{IsArity, Shape, ancestor, levels, posi
 use Rattle.p3_merkle_core.specs.Nodes.{Functions, padded}
 use Rattle.p3_merkle_core.specs.OneHeight.{HasHeight}
 use Rattle.p3_merkle_core.specs.Openings.{Opening, opening_of}
-use Rattle.p3_merkle_core.specs.Checks.{Input, digests_at, group_at, input_digest, inputs, inputs_at, layer_words, leaf_input}
+use Rattle.p3_merkle_core.specs.Checks.{Input, digests_at, inputs, inputs_at, layer_words, leaf_input}
 use Rattle.p3_merkle_core.specs.Checks.{params, path_digest, siblings_at, siblings_below, words_at}
 use Rattle.p3_merkle_core.specs.Extraction.{difference_of, input_eq, last_difference}
 use Rattle.p3_merkle_core.specs.Inconsistency.{inputs_up_to}

@@ -1,13 +1,11 @@
 -- The given node above an old leaf: nodes below it are old, and those above it are computed.
-use Rattle.std.proofs.Common.{◌≡◌, ℕ, zero, suc, ◌+◌, ◌-◌, ◌*◌, ◌/◌, ◌^◌, ◌<◌, ◌≤◌, Bool, true, false, not, nat_lt, nat_le}
-use Rattle.std.proofs.Common.{refl, ap, sym, ◌∙◌, arith, inl, inr, ◌&&◌, ◌||◌, List, [], ◌∷◌, length, slice_get, Some, None, eq-eqb}
-use Rattle.std.proofs.lemmas.Bool.{and_from, and_right, cases_Bool, cases_eq, cases_lt, le-leb, le-ltb, leb-false, lt-leb, lt-ltb, ltb-true, ne_eqb, not-true, not_from_false}
-use Rattle.std.proofs.lemmas.Bool.{or_left, or_right}
+use Rattle.std.proofs.Common.{◌≡◌, ℕ, zero, suc, ◌+◌, ◌-◌, ◌*◌, ◌/◌, ◌^◌, ◌<◌, ◌≤◌, Bool, true, false, not, nat_lt}
+use Rattle.std.proofs.Common.{refl, ap, sym, ◌∙◌, arith, inl, inr}
+use Rattle.std.proofs.lemmas.Bool.{cases_Bool, cases_eq, cases_lt, le-leb, le-ltb, leb-false, lt-leb, lt-ltb, not-true}
 use Rattle.std.proofs.Math.Nat.{div-div-eq-div-mul, div-mul-le_self, mul-one, pow-suc, pow-zero}
-use Rattle.p3_merkle_core.specs.Geometry.{IsArity, least}
-use Rattle.p3_merkle_core.specs.Consistency.{Evidence, IsGrowth, is_beyond, is_computed, is_mixed, is_new, is_old, new_value, old_layer}
+use Rattle.p3_merkle_core.specs.Consistency.{Evidence, IsGrowth, is_beyond, is_computed, is_new, is_old, new_value, old_layer}
 use Rattle.p3_merkle_core.specs.Consistency.{old_value}
-use Rattle.p3_merkle_core.specs.Inconsistency.{first_unlike, given_layer}
+use Rattle.p3_merkle_core.specs.Inconsistency.{given_layer}
 use Rattle.p3_merkle_core.specs.Inner.Growths.{parts_at}
 use Rattle.p3_merkle_core.specs.declared.consistency.Growth.{Growth}
 use Rattle.p3_merkle_core.specs.declared.consistency.LayerParts.{LayerParts}

@@ -1,16 +1,9 @@
 -- How many levels a tree over some rows has.
 use Rattle.std.proofs.Common.{◌≡◌, ℕ, zero, suc, ◌+◌, ◌-◌, ◌*◌, ◌^◌, ◌<◌, ◌≤◌, nat_le, arith}
-use Rattle.std.proofs.Common.{inl, inr}
-use Rattle.std.specs.Int.{div_ceil}
-use Rattle.std.proofs.lemmas.Bool.{cases_lt, le-leb, leb-false, lt-leb}
-use Rattle.std.proofs.Math.Nat.{mul-le-mul_left, mul-le-mul_right, mul-suc, pow-suc, pow-zero}
-use Rattle.std.proofs.Math.Pow.{pow_mono}
-use Rattle.p3_merkle_core.specs.Geometry.{IsArity, exponent}
+use Rattle.std.proofs.lemmas.Bool.{leb-false}
+use Rattle.std.proofs.Math.Nat.{mul-le-mul_right, mul-suc, pow-suc, pow-zero}
 use Rattle.p3_merkle_core.specs.OneHeight.{levels_of_height}
-use Rattle.p3_merkle_core.proofs.Shapes.OneHeight.{arity_power}
-use Rattle.p3_merkle_core.proofs.Shapes.QuotientFacts.{ceil_below, ceil_covers}
-use Rattle.p3_merkle_core.proofs.Shapes.LeastFacts.{below_exponent, below_least, exponent_covers, least_is, n_below_pow}
-use Rattle.p3_merkle_core.proofs.Shapes.StepFacts.{whole_step_falls}
+use Rattle.p3_merkle_core.proofs.Shapes.LeastFacts.{below_least}
 
 -- below its root a tree has layers whose nodes have fewer leaves under them than it has rows
 pub power_below : (n h l : ℕ) → l < levels_of_height n h → n ^ l < h

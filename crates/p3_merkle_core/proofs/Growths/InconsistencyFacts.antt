@@ -1,13 +1,12 @@
 -- Openings of one index under both caps of a list that grows: what is found is a collision, and where nothing is found,
 -- their rows are the same.
-use Rattle.std.proofs.Common.{◌≡◌, ◌≢◌, ◌↔◌, ◌⊎◌, ℕ, zero, suc, ◌+◌, ◌-◌, ◌/◌, ◌^◌, ◌<◌, ◌≤◌, Bool, true, false, not, nat_lt, eqb, List, [], ◌∷◌}
+use Rattle.std.proofs.Common.{◌≡◌, ◌↔◌, ◌⊎◌, ℕ, suc, ◌-◌, ◌/◌, ◌^◌, ◌<◌, ◌≤◌, Bool, true, false, not, nat_lt, eqb, List, [], ◌∷◌}
 use Rattle.std.proofs.Common.{map, length, get_or, slice_get, refl, ap, sym, ◌∙◌, arith, inl, inr, subst, Option, Some, None, eq-eqb}
-use Rattle.std.specs.Prelude.{Err, IfOk, IfSome, IsNone, IsSome, Ok, Result, position, All}
+use Rattle.std.specs.Prelude.{Err, IfOk, Ok, Result, position}
 use Rattle.std.specs.List.{position_or_len, range_with_len}
-use Rattle.std.proofs.lemmas.List.Sums.{fails_before_first, position_or_len_is}
+use Rattle.std.proofs.lemmas.List.Sums.{position_or_len_is}
 use Rattle.std.specs.Option.{option_map, option_or}
-use Rattle.std.specs.Result.{result_map_both}
-use Rattle.std.proofs.lemmas.Bool.{cases_Bool, cases_lt, cond-false, cond-true, eqb-true, le-ltb, lt-ltb}
+use Rattle.std.proofs.lemmas.Bool.{cases_Bool, cond-false, eqb-true, le-ltb}
 use Rattle.std.proofs.lemmas.List.{length-map}
 use Rattle.std.proofs.lemmas.List.FromFn.{length-map-range_with_len}
 use Rattle.p3_support.specs.Batches.{greatest, heights_of}
@@ -15,14 +14,14 @@ use Rattle.p3_support.specs.declared.matrix.Dimensions.{Dimensions}
 use Rattle.p3_merkle_core.specs.Geometry.{IsArity, Shape, ancestor, heights, levels, widths}
 use Rattle.p3_merkle_core.specs.OneHeight.{HasHeight, levels_of_height}
 use Rattle.p3_merkle_core.specs.Openings.{Opening}
-use Rattle.p3_merkle_core.specs.Checks.{Input, IsAccepted, IsLastDifference, inputs_at, leaf_input, path_digest}
+use Rattle.p3_merkle_core.specs.Checks.{Input, IsLastDifference, leaf_input, path_digest}
 use Rattle.p3_merkle_core.specs.Refusals.{IsEquality, first_some, refusal_under}
-use Rattle.p3_merkle_core.specs.Consistency.{Evidence, is_beyond, is_computed, new_layer, new_value, old_layer, old_value, value_over}
+use Rattle.p3_merkle_core.specs.Consistency.{Evidence, is_beyond, is_computed, new_layer, new_value, old_layer, old_value}
 use Rattle.p3_merkle_core.specs.ConsistencyRefusals.{ConsistencyAnswers, consistency_refusal, one_height_refusal}
 use Rattle.p3_merkle_core.specs.Extraction.{input_eq, last_difference}
 use Rattle.p3_merkle_core.specs.Inconsistency.{AgreeThroughout, AreAccepted, GrownOpenings, IsInconsistency, IsInconsistencyAnswer, IsSetting}
-use Rattle.p3_merkle_core.specs.Inconsistency.{compared, computed_input, computed_inputs, first_unlike, given_layer, inconsistency}
-use Rattle.p3_merkle_core.specs.Inconsistency.{inconsistency_found, inconsistency_in, inconsistency_refusal, inputs_from, inputs_up_to}
+use Rattle.p3_merkle_core.specs.Inconsistency.{compared, computed_input, first_unlike, given_layer, inconsistency}
+use Rattle.p3_merkle_core.specs.Inconsistency.{inconsistency_found, inconsistency_in, inconsistency_refusal}
 use Rattle.p3_merkle_core.specs.Inconsistency.{new_params, old_params}
 use Rattle.p3_merkle_core.specs.declared.collision.Between.{Between}
 use Rattle.p3_merkle_core.specs.declared.collision.Between.TheVariants.{OldTree, NewTree, Openings}
@@ -37,11 +36,11 @@ use Rattle.p3_merkle_core.proofs.Collisions.ExtractionFacts.{single_presented}
 use Rattle.p3_merkle_core.proofs.Growths.DimensionFacts.{each_is_first, map_none, some_is_not_none, top_is_first}
 use Rattle.p3_merkle_core.proofs.Growths.GivenFacts.{computed_above, given_low, given_same, not_beyond}
 use Rattle.p3_merkle_core.proofs.Growths.LevelFacts.{alone_from, ancestor_is, group_input, leaf_words}
-use Rattle.p3_merkle_core.proofs.Growths.MeetingFacts.{AreColliding, IsSide, ReachOne, ReachesValue, collide_above, collide_below}
+use Rattle.p3_merkle_core.proofs.Growths.MeetingFacts.{AreColliding, IsSide, collide_above, collide_below}
 use Rattle.p3_merkle_core.proofs.Growths.MeetingFacts.{reaches_below, rows_apart, same_leaf}
 use Rattle.p3_merkle_core.proofs.Growths.VerdictFacts.{unrefused_consistent}
 use Rattle.p3_merkle_core.proofs.Pruned.NoneFacts.{none_of_both, none_parts}
-use Rattle.p3_merkle_core.proofs.Shapes.OneHeight.{greatest_is, greatest_same, heights_same, levels_are, levels_mono}
+use Rattle.p3_merkle_core.proofs.Shapes.OneHeight.{greatest_is, heights_same, levels_are, levels_mono}
 use Rattle.p3_merkle_core.proofs.Shapes.ShapeFacts.{length-widths}
 
 -- ---- options

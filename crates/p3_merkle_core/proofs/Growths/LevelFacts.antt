@@ -1,15 +1,15 @@
 -- Checks of openings of trees over matrices of one height: where their paths go, and their inputs, level by level.
-use Rattle.std.proofs.Common.{◌≡◌, ◌≢◌, ℕ, zero, suc, ◌+◌, ◌-◌, ◌*◌, ◌/◌, ◌%◌, ◌^◌, ◌<◌, ◌≤◌, List, [], ◌∷◌, ◌++◌, map, length}
-use Rattle.std.proofs.Common.{take, drop, zip, insert, get_or, replicate, refl, ap, sym, ◌∙◌, arith, inl, inr, eq-eqb, true}
+use Rattle.std.proofs.Common.{◌≡◌, ℕ, zero, suc, ◌+◌, ◌-◌, ◌*◌, ◌/◌, ◌^◌, ◌<◌, ◌≤◌, List, [], ◌∷◌, ◌++◌, map, length}
+use Rattle.std.proofs.Common.{zip, insert, get_or, replicate, refl, ap, sym, ◌∙◌, arith, inl, inr, eq-eqb, true}
 use Rattle.std.specs.Prelude.{All, ◌==◌}
 use Rattle.std.specs.List.{flat_map, range_with_len}
 use Rattle.std.proofs.Math.Nat.{pow-suc, pow-zero, suc-mul}
 use Rattle.std.proofs.lemmas.List.Edits.{length-insert}
 use Rattle.p3_support.specs.Batches.{heights_of}
 use Rattle.p3_support.specs.declared.matrix.Dimensions.{Dimensions}
-use Rattle.p3_merkle_core.specs.Geometry.{IsArity, Shape, ancestor, exponent, has_rows, layer_exponent, leaves_under, levels}
-use Rattle.p3_merkle_core.specs.Geometry.{position_in_group, step}
-use Rattle.p3_merkle_core.specs.Nodes.{Functions, padded}
+use Rattle.p3_merkle_core.specs.Geometry.{IsArity, Shape, ancestor, exponent, layer_exponent, leaves_under, levels}
+use Rattle.p3_merkle_core.specs.Geometry.{position_in_group}
+use Rattle.p3_merkle_core.specs.Nodes.{Functions}
 use Rattle.p3_merkle_core.specs.OneHeight.{HasHeight}
 use Rattle.p3_merkle_core.specs.Openings.{Opening}
 use Rattle.p3_merkle_core.specs.Checks.{Input, IsLastDifference, digests_at, group_at, input_digest, inputs_at, layer_words}

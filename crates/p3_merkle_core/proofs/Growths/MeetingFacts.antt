@@ -1,17 +1,16 @@
 -- Where the check of an opening meets that of a proof of consistency, or that of the other opening: if both lead to one
 -- digest, their last difference is a collision, and where they agree, they agree on the node below.
-use Rattle.std.proofs.Common.{◌≡◌, ◌≢◌, ℕ, zero, suc, ◌+◌, ◌-◌, ◌*◌, ◌/◌, ◌%◌, ◌^◌, ◌<◌, ◌≤◌, true, false, List, [], ◌∷◌, ◌++◌, map, length}
+use Rattle.std.proofs.Common.{◌≡◌, ◌≢◌, ℕ, suc, ◌+◌, ◌-◌, ◌*◌, ◌/◌, ◌%◌, ◌^◌, ◌<◌, ◌≤◌, true, false, List, [], ◌∷◌, map, length}
 use Rattle.std.proofs.Common.{get_or, refl, ap, sym, ◌∙◌, arith, inl, inr}
 use Rattle.std.specs.List.{flat_map, range_with_len}
-use Rattle.std.proofs.lemmas.Bool.{cond-false, cond-true}
 use Rattle.std.proofs.lemmas.List.FromFn.{get_or-map-range_with_len, length-map-range_with_len}
 use Rattle.std.proofs.Math.Nat.{mod-lt}
 use Rattle.p3_merkle_core.specs.Geometry.{IsArity, Shape, ancestor, levels, position_in_group, step}
 use Rattle.p3_merkle_core.specs.Nodes.{Functions}
 use Rattle.p3_merkle_core.specs.OneHeight.{HasHeight}
 use Rattle.p3_merkle_core.specs.Openings.{Opening}
-use Rattle.p3_merkle_core.specs.Checks.{HasDigests, Input, IsAtOnePlace, IsLastDifference, input_digest, inputs_at, leaf_input}
-use Rattle.p3_merkle_core.specs.Checks.{layer_words, path_digest, siblings_at, siblings_below}
+use Rattle.p3_merkle_core.specs.Checks.{HasDigests, Input, IsAtOnePlace, IsLastDifference, input_digest, leaf_input}
+use Rattle.p3_merkle_core.specs.Checks.{layer_words, path_digest, siblings_below}
 use Rattle.p3_merkle_core.specs.Consistency.{Evidence, is_beyond, is_computed, value_over}
 use Rattle.p3_merkle_core.specs.Inconsistency.{computed_input}
 use Rattle.p3_merkle_core.specs.declared.collision.Place.TheVariants.{Group, Leaf}
@@ -20,8 +19,8 @@ use Rattle.p3_merkle_core.proofs.Checks.Completeness.{reached_leaf}
 use Rattle.p3_merkle_core.proofs.Collisions.Extraction.{same_ends}
 use Rattle.p3_merkle_core.proofs.Collisions.Extracted.{differs}
 use Rattle.p3_merkle_core.proofs.Growths.GivenFacts.{up_one}
-use Rattle.p3_merkle_core.proofs.Growths.LevelFacts.{IsLevelWhere, agree_down, alone_from, ancestor_is, full, group_input}
-use Rattle.p3_merkle_core.proofs.Growths.LevelFacts.{leaf_words, level_where, own_digest, placed, reached}
+use Rattle.p3_merkle_core.proofs.Growths.LevelFacts.{agree_down, ancestor_is, full, group_input}
+use Rattle.p3_merkle_core.proofs.Growths.LevelFacts.{level_where, own_digest, reached}
 use Rattle.p3_merkle_core.proofs.Growths.ValueFacts.{value_next}
 use Rattle.p3_merkle_core.proofs.Shapes.OneHeight.{step_is_arity}
 

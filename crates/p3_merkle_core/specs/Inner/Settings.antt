@@ -1,5 +1,5 @@
 -- What a call that compares openings under two caps knows of them.
-use Rattle.std.specs.Prelude.{◌≡◌, ◌<◌, ◌≤◌, ℕ, length}
+use Rattle.std.specs.Prelude.{◌≡◌, ◌<◌, ◌≤◌, length}
 use Rattle.p3_merkle_core.specs.Checks.{siblings_below}
 use Rattle.p3_merkle_core.specs.Consistency.{IsGrowth, consistency_len, old_layer}
 use Rattle.p3_merkle_core.specs.Inconsistency.{GrownOpenings, IsSetting}

@@ -1,5 +1,5 @@
 -- Either the matrix is the first that differs, or all are alike.
-use Rattle.std.proofs.Common.{◌≡◌, ◌≤◌, ◌∙◌, ℕ, Bool, true, false, not, eqb, ap, arith, eq-eqb, length, List, refl, sym, Option, None, Some}
+use Rattle.std.proofs.Common.{◌≡◌, ◌≤◌, ◌∙◌, ℕ, true, not, eqb, ap, arith, eq-eqb, length, List, refl, sym, Option, None, Some}
 use Rattle.std.specs.Option.{option_eq, option_map}
 use Rattle.std.proofs.lemmas.Bool.{true≢false}
 use Rattle.std.proofs.lemmas.List.{length-map}

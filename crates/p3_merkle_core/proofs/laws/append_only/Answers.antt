@@ -1,7 +1,7 @@
 -- What is found collides, and where nothing is found, all agrees.
 use Rattle.std.proofs.Common.{◌≡◌, refl, Option, None, Some}
-use Rattle.std.specs.Prelude.{Bool, IfSome}
-use Rattle.p3_merkle_core.specs.Inconsistency.{GrownOpenings, IsInconsistency, inconsistency}
+use Rattle.std.specs.Prelude.{IfSome}
+use Rattle.p3_merkle_core.specs.Inconsistency.{IsInconsistency, inconsistency}
 use Rattle.p3_merkle_core.proofs.Growths.InconsistencyFacts.{found_collides, none_found, same_rows}
 use Rattle.p3_merkle_core.proofs.laws.append_only.Goals as goal
 

@@ -1,6 +1,6 @@
 -- Each turn adds the digests of one layer.
 use Rattle.std.proofs.Common.{◌≡◌, ◌≤◌, ◌<◌, ◌-◌, ◌++◌, ◌∙◌, [], add-one, ap, append-nil, arith, drop, get_or, length, map}
-use Rattle.std.proofs.Common.{refl, sym, take}
+use Rattle.std.proofs.Common.{sym, take}
 use Rattle.std.specs.List.{range_with_len}
 use Rattle.std.specs.declared.vec.Vec.{Vec}
 use Rattle.std.proofs.lemmas.List.{get_or-map}

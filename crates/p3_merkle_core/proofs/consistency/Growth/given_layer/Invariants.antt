@@ -1,5 +1,3 @@
-use Rattle.std.proofs.Common.{◌≡◌, ◌/◌, ◌^◌}
-use Rattle.p3_merkle_core.specs.Inner.Growths.{parts_at}
 use Rattle.p3_merkle_core.proofs.Growths.GivenFacts.{IsClimbing}
 use Rattle.p3_merkle_core.proofs.consistency.Growth.given_layer.Given as goal
 
