@@ -1,8 +1,8 @@
 //! Which nodes a pruned opening covers, and the paths that its levels hold: what needs no hash.
 
 ghost use Rattle.std.specs.Prelude.{◌≡◌, ◌+◌, ◌-◌, ◌*◌, ◌/◌, ◌%◌, ◌<◌, ◌≤◌, ◌++◌, Some, None, false, All, IfOk};
-ghost use Rattle.std.specs.Prelude.{MatchOption, MatchResult, length, map, slice_index};
-ghost use Rattle.std.specs.List.{sum_by};
+ghost use Rattle.std.specs.Prelude.{MatchOption, MatchResult, length, map, nat_eq, slice_index, take};
+ghost use Rattle.std.specs.List.{dedup, sum_by};
 ghost use Rattle.std.specs.List.Sorted.{IsStrictlyIncreasing};
 ghost use Rattle.std.specs.Vec.{vec_capacity, vec_len};
 ghost use Rattle.p3_support.specs.Lists.{is_among};
@@ -143,14 +143,37 @@ pub(crate) fn to_parents(nodes: &mut [usize], step: usize)
     }
 }
 
+/// Moves the parents of the nodes to the front, in order, each once where nodes side by side have it, and returns how
+/// many those are. What stands behind them then is of no use. `step` is the number of a parent's children, at least 1.
+fn parents_to_front(nodes: &mut [usize], step: usize) -> usize
+    requires { 0 < step }
+    ensures count { result ≤ length nodes.new }
+    ensures front { take result nodes.new ≡ dedup nat_eq (map (λ j. j / step) nodes.old) }
+{
+    let Some(first) = nodes.first() else {
+        return 0;
+    };
+    let mut last = parent_of(*first, step);
+    nodes[0] = last;
+    let mut kept = 0;
+    for place in 1..nodes.len() {
+        let node = parent_of(nodes[place], step);
+        // Added without a branch: where a new parent begins can't be predicted.
+        kept += usize::from(node != last);
+        nodes[kept] = node;
+        last = node;
+    }
+    kept + 1
+}
+
 /// Turns the covered nodes of a layer into those of the layer above, in place: each node's parent once, ascending. The
 /// nodes must ascend. `step` is the number of a parent's children, and must be at least 1.
 pub fn climb(covered: &mut Vec<usize>, step: usize)
     requires { 0 < step }
     ensures { IsAscending covered.old.items → covered.new.items ≡ distinct (map (λ j. j / step) covered.old.items) }
 {
-    to_parents(covered, step);
-    covered.dedup();
+    let count = parents_to_front(covered, step);
+    covered.truncate(count);
 }
 
 /// The digests of the children of some parents, `step` of each, parent by parent: a covered child has its digest, and

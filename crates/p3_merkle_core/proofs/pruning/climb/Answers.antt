@@ -1,23 +1,17 @@
 -- The parents ascend, and repeats are dropped.
-use Rattle.std.proofs.Common.{ℕ, ◌/◌, ◌∙◌, List, ap, arith, map, eqb, length}
+use Rattle.std.proofs.Common.{ℕ, ◌/◌, ◌∙◌, List, ap, arith, map, eqb, take}
 use Rattle.std.specs.List.{dedup}
-use Rattle.std.proofs.lemmas.List.{length-map, with_items_is}
-use Rattle.std.proofs.lemmas.List.Filters.{dedup_is}
+use Rattle.std.proofs.lemmas.List.{with_items_is}
 use Rattle.p3_merkle_core.proofs.Pruned.SlotFacts.{parents_once}
 use Rattle.p3_merkle_core.proofs.pruning.climb.Goals as goal
 
 pub returns : goal.returns
 returns c up =
     let n = c.args.step in
-    let old = c.deref_mut.ensures.value in
-    let back = with_items_is c.args.covered.now c.to_parents.new.nodes
-    (omega (
-      arith,
-      ap length c.to_parents.ensures,
-      length-map c.deref_mut.result.now (λ j. j / n),
-      c.deref_mut.ensures.len,
-    )) in
-    dedup_is _ _ _ c.dedup.ensures.filtered
-    ∙ ap (λ (xs : List ℕ). dedup eqb xs)
-    (back ∙ c.to_parents.ensures ∙ ap (λ (xs : List ℕ). map (λ j. j / n) xs) old)
+    let moved = with_items_is c.args.covered.now c.parents_to_front-count.new.nodes
+    (omega (arith, c.parents_to_front-count.auto.nodes, c.deref_mut.ensures.len)) in
+    c.truncate.ensures.items
+    ∙ ap (λ (xs : List ℕ). take c.parents_to_front-count.result xs) moved
+    ∙ c.parents_to_front-count.ensures.front
+    ∙ ap (λ (xs : List ℕ). dedup eqb (map (λ j. j / n) xs)) c.deref_mut.ensures.value
     ∙ parents_once c.args.covered.now.items n c.requires up
