@@ -3,7 +3,8 @@
 //! the node's layer.
 
 ghost use Rattle.std.specs.Prelude.{◌≡◌, ℕ, ◌<◌, ◌≤◌, ◌⊎◌, Some, None, List, [], All, false, length, slice_index_or};
-ghost use Rattle.std.specs.Prelude.{IfOk, IsTrue, MatchResult};
+ghost use Rattle.std.specs.Prelude.{map, nat_eq, IfOk, IsTrue, MatchResult};
+ghost use Rattle.std.specs.List.{dedup};
 ghost use Rattle.std.specs.Cmp.Lexicographic.{pointwise};
 ghost use Rattle.std.specs.List.Sorted.{IsStrictlyIncreasing};
 ghost use Rattle.p3_support.specs.Batches.{heights_of, greatest};
@@ -19,7 +20,7 @@ ghost use Rattle.p3_merkle_core.specs.declared.error.MerkleTreeError.TheVariants
 
 use crate::error::{MerkleTreeError, PrunedProofError};
 use crate::geometry::{check_widths, exponent_of};
-use crate::pruning::{check_indices, distinct_indices, to_parents};
+use crate::pruning::{check_indices, to_parents};
 use crate::steps::Steps;
 use p3_support::matrix::Dimensions;
 use std::alloc::{AllocError, Global};
@@ -37,40 +38,108 @@ pub struct DistinctQueries {
     pub first_queries: Vec<usize>,
 }
 
-/// The distinct indices of some queries, each with its first query. It sorts them once, and allocates two numbers for
-/// each index.
+/// The queries by ascending index: the index of each, and its place among the queries.
 ///
 /// # Errors
 ///
 /// `AllocError` if memory runs out.
-fn distinct_queries_of(alloc: Global, indices: &[usize]) -> Result<DistinctQueries, AllocError>
-    ensures { IfOk result (λ queried. AreDistinctOf queried indices.now) }
+fn sorted_queries(alloc: Global, indices: &[usize]) -> Result<Vec<(usize, usize)>, AllocError>
+    ensures { IfOk result (λ sorted. dedup nat_eq (map (λ query. query.0) sorted.items) ≡ distinct indices.now) }
 {
-    let distinct = distinct_indices(alloc, indices)?;
+    let count = indices.len();
+    let mut queries = Vec::with_capacity(alloc, count)?;
+    for query in 0..count {
+        queries.push_reserved((indices[query], query));
+    }
+    queries.sort_unstable();
+    Ok(queries)
+}
+
+/// The indices of some queries, each once where equal ones lie side by side.
+///
+/// # Errors
+///
+/// `AllocError` if memory runs out.
+fn indices_once(alloc: Global, sorted: &[(usize, usize)]) -> Result<Vec<usize>, AllocError>
+    ensures { IfOk result (λ indices. indices.items ≡ dedup nat_eq (map (λ query. query.0) sorted.now)) }
+{
+    let mut indices: Vec<usize> = sorted.iter().map(|query| query.0).collect(alloc)?;
+    indices.dedup();
+    Ok(indices)
+}
+
+/// For each query, the slot at which a search for that of its index begins. That is the slot itself where the queries
+/// are sorted by index, and `distinct` has their indices. No answer depends on these slots: a search goes on where it
+/// does not find the index.
+///
+/// # Errors
+///
+/// `AllocError` if memory runs out.
+fn likely_slots(
+    alloc: Global,
+    sorted: &[(usize, usize)],
+    distinct: &[usize],
+) -> Result<Vec<usize>, AllocError> {
+    let mut slots = vec![in alloc; 0; sorted.len()]?;
+    let mut slot = 0;
+    for (index, query) in sorted {
+        if slot < distinct.len() && distinct[slot] < *index {
+            slot += 1;
+        }
+        if *query < slots.len() {
+            slots[*query] = slot;
+        }
+    }
+    Ok(slots)
+}
+
+/// The distinct indices of some queries, each with its first query, and the slots of [`likely_slots`]. It sorts the
+/// queries once, and allocates five numbers for each index.
+///
+/// # Errors
+///
+/// `AllocError` if memory runs out.
+fn distinct_queries_of(
+    alloc: Global,
+    indices: &[usize],
+) -> Result<(DistinctQueries, Vec<usize>), AllocError>
+    ensures { IfOk result (λ found. AreDistinctOf found.0 indices.now) }
+{
+    let sorted = sorted_queries(alloc, indices)?;
+    let distinct = indices_once(alloc, &sorted)?;
+    let slots = likely_slots(alloc, &sorted, &distinct)?;
     let mut first_queries = vec![in alloc; indices.len(); distinct.len()]?;
     // From the last query on, so that the first one of an index is written last.
     for query in (0..indices.len()).rev() {
-        let slot = slot_of_index(&distinct, indices[query]);
+        let slot = slot_of_index(&distinct, slots.get(query), indices[query]);
         first_queries[slot] = query;
     }
-    Ok(DistinctQueries {
+    let queried = DistinctQueries {
         indices: distinct,
         first_queries,
-    })
+    };
+    Ok((queried, slots))
 }
 
-/// The slot of an index that is queried: its place among the distinct indices, which ascend.
-fn slot_of_index(sorted: &[usize], index: usize) -> usize
+/// The slot of an index that is queried: its place among the distinct indices, which ascend. It is looked for at
+/// `likely` first.
+fn slot_of_index(sorted: &[usize], likely: Option<&usize>, index: usize) -> usize
     ensures { (indices : List ℕ) → sorted.now ≡ distinct indices → IsTrue (is_among indices index) →
         IsSlot indices index result }
 {
+    if let Some(slot) = likely {
+        let slot = *slot;
+        if slot < sorted.len() && sorted[slot] == index {
+            return slot;
+        }
+    }
     match sorted.binary_search(&index) {
         Ok(slot) => slot,
         Err(slot) => slot,
     }
 }
 
-/// Checks that each query has the row set of the first query of its index.
+/// Checks that each query has the row set of the first query of its index. `slots` are those of [`likely_slots`].
 ///
 /// # Errors
 ///
@@ -79,6 +148,7 @@ fn check_repeats<T: Eq>(
     indices: &[usize],
     rows: &[Vec<Vec<T>>],
     queried: &DistinctQueries,
+    slots: &[usize],
 ) -> Result<(), MerkleTreeError>
     requires queried { AreDistinctOf queried.now indices.now }
     requires pairs { length indices.now ≡ length rows.now }
@@ -86,7 +156,7 @@ fn check_repeats<T: Eq>(
         MatchResult result (λ ok. duplicate_refusal T.eq p ≡ None) (λ e. duplicate_refusal T.eq p ≡ Some e) }
 {
     for query in 0..indices.len() {
-        let slot = slot_of_index(&queried.indices, indices[query]);
+        let slot = slot_of_index(&queried.indices, slots.get(query), indices[query]);
         let first = queried.first_queries[slot];
         // Nothing is compared where both are the same query.
         if query != first && rows[query] != rows[first] {
@@ -240,7 +310,8 @@ fn last_with_rows(steps: &Steps<'_>, cap_layer: usize) -> usize
 ///
 /// It goes once through the levels, up to the last layer that has matrices. Each level takes the time of one division
 /// for each slot; one whose upper layer has matrices also that of a look at each matrix, and of the comparison of the
-/// rows of that layer. It allocates a number for each slot, and one for each matrix of a layer above the leaves.
+/// rows of that layer. `nodes` is a buffer for a number for each slot; it allocates one for each matrix of a layer above
+/// the leaves.
 ///
 /// # Errors
 ///
@@ -251,6 +322,7 @@ fn check_shared_rows<T: Eq>(
     steps: &Steps<'_>,
     cap_layer: usize,
     queried: &DistinctQueries,
+    nodes: &mut Vec<usize>,
     rows: &[Vec<Vec<T>>],
 ) -> Result<(), MerkleTreeError>
     requires layer { cap_layer ≤ steps.now.num_levels }
@@ -264,18 +336,19 @@ fn check_shared_rows<T: Eq>(
         (row_sets rows.now) in
         AnswersUnlessMemory result refusal }
 {
-    let mut nodes = Vec::from_slice(alloc, &queried.indices)?;
+    nodes.clear();
+    nodes.extend_from_slice(&queried.indices)?;
     let mut matrices = Vec::new(alloc);
     let mut exponent = steps.exponent;
     let last = last_with_rows(steps, cap_layer);
     // No two slots are under one leaf, so the first layer to look at is the one above the leaves.
     for level in 0..last {
         let up = steps.up(steps.arity, level, exponent);
-        to_parents(&mut nodes, up.step);
+        to_parents(nodes, up.step);
         exponent = up.exponent;
         if up.has_rows {
             list_matrices(&mut matrices, steps.dimensions, exponent)?;
-            check_layer(&matrices, &nodes, &queried.first_queries, rows)?;
+            check_layer(&matrices, nodes, &queried.first_queries, rows)?;
         }
     }
     Ok(())
@@ -285,7 +358,7 @@ fn check_shared_rows<T: Eq>(
 /// restored from it. Returns its distinct indices. `cap_layer` must be at most the number of levels, and the arity
 /// a power of two from 2 to 2^62.
 ///
-/// It sorts the indices once, and allocates four numbers for each index, and one for each matrix of a layer above
+/// It sorts the indices once, and allocates five numbers for each index, and one for each matrix of a layer above
 /// the leaves. The number of allocations doesn't depend on the indices.
 ///
 /// # Errors
@@ -318,13 +391,14 @@ pub fn check_pruned<T: Eq>(
         (λ e. (e ≡ OutOfMemory) ⊎ (refusal ≡ Some e)) }
 {
     check_queries(steps, indices, rows.len(), num_digests)?;
-    let queried = distinct_queries_of(alloc, indices)?;
-    check_repeats(indices, rows, &queried)?;
+    let (queried, mut nodes) = distinct_queries_of(alloc, indices)?;
+    check_repeats(indices, rows, &queried, &nodes)?;
     // A copy, so that the indices are not sorted again.
-    let leaves = Vec::from_slice(alloc, &queried.indices)?;
-    check_digest_count(steps.boundary_len(cap_layer, leaves), num_digests)?;
+    nodes.clear();
+    nodes.extend_from_slice(&queried.indices)?;
+    check_digest_count(steps.boundary_len(cap_layer, &mut nodes), num_digests)?;
     check_first_widths(steps.dimensions, rows, &queried.first_queries)?;
-    check_shared_rows(alloc, steps, cap_layer, &queried, rows)?;
+    check_shared_rows(alloc, steps, cap_layer, &queried, &mut nodes, rows)?;
     Ok(queried)
 }
 

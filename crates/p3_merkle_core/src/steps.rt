@@ -460,21 +460,22 @@ impl<'a> Steps<'a> {
     /// of covered nodes that are not covered. The leaves must ascend, each once, as
     /// [`distinct_indices`](crate::pruning::distinct_indices) lists them, below the tallest height. The layer must be at
     /// most the number of levels, the arity a power of two from 2 to 2^62, and no height above [`MAX_HEIGHT`]. It does
-    /// not allocate, and takes one step for each leaf and level.
-    pub fn boundary_len(&self, layer: usize, leaves: Vec<usize>) -> usize
+    /// not allocate, and takes one step for each leaf and level. In place of the leaves it leaves the covered nodes of
+    /// the layer.
+    pub fn boundary_len(&self, layer: usize, leaves: &mut Vec<usize>) -> usize
         requires arity { IsArity self.now.arity }
         requires low { greatest (heights_of self.now.dimensions.now) ≤ height_limit }
         requires layer { layer ≤ self.now.num_levels }
-        requires below { All (λ q. q < greatest (heights_of self.now.dimensions.now)) leaves.items }
-        requires ascending { IsStrictlyIncreasing leaves.items }
-        ensures { result ≡ pruned_len (shape_of self.now.arity self.now.dimensions.now) leaves.items layer }
+        requires below { All (λ q. q < greatest (heights_of self.now.dimensions.now)) leaves.old.items }
+        requires ascending { IsStrictlyIncreasing leaves.old.items }
+        ensures { result ≡ pruned_len (shape_of self.now.arity self.now.dimensions.now) leaves.old.items layer }
     {
-        let mut covered = leaves;
+        let covered = leaves;
         let mut count = 0;
         for level in 0..layer {
             let step = self.step(level);
             let below = covered.len();
-            climb(&mut covered, step);
+            climb(covered, step);
             let children = step * covered.len();
             count += children - below;
         }

@@ -76,8 +76,8 @@ impl<P: PackedValue, PW: PackedValue, H, C, X, G, const N: usize> Scheme<P, PW, 
         steps.check_heights()?;
         check_indices(steps.max_height, indices)?;
         let cap_layer = steps.cap_layer(self.cap_rule, self.cap_height);
-        let leaves = distinct_indices(alloc, indices)?;
-        Ok(steps.boundary_len(cap_layer, leaves))
+        let mut leaves = distinct_indices(alloc, indices)?;
+        Ok(steps.boundary_len(cap_layer, &mut leaves))
     }
 }
 

@@ -66,8 +66,8 @@ pub fn digests_of_boundary<F, X: Copy, G, M: Matrix<F>, const N: usize>(
 {
     let mut covered = distinct_indices(alloc, indices)?;
     let steps = steps_in(tree);
-    let leaves = Vec::from_slice(alloc, &covered)?;
-    let mut digests = Vec::with_capacity(alloc, steps.boundary_len(cap_layer, leaves))?;
+    let mut leaves = Vec::from_slice(alloc, &covered)?;
+    let mut digests = Vec::with_capacity(alloc, steps.boundary_len(cap_layer, &mut leaves))?;
     for level in 0..cap_layer {
         let step = steps.step(level);
         extend_with_boundary(&mut digests, &tree.layers[level], &covered, step)?;

@@ -3,10 +3,13 @@ use Rattle.std.proofs.Common.{◌≡◌, ℕ, zero, suc, ◌+◌, ◌/◌, ◌<�
 use Rattle.std.proofs.Common.{ap, sym, ◌∙◌, arith, inl, inr, length, filter, get_or, set, drop, eq-eqb, All, zip}
 use Rattle.std.proofs.Common.{replicate, ◌≢◌, drop-cons, add-one, Option, Some, not, Vec}
 use Rattle.std.specs.Prelude.{Ok, Err}
-use Rattle.std.specs.Ordering.{nat_cmp}
+use Rattle.std.specs.Ordering.{is_lt, nat_cmp, ordering_then}
+use Rattle.std.specs.declared.cmp.Ordering.{Ordering}
+use Rattle.std.specs.declared.cmp.Ordering.TheVariants.{Less, Equal, Greater}
 use Rattle.std.specs.Cmp.{both_ways, IsEquivalence}
 use Rattle.std.proofs.lemmas.Cmp.{lists_equiv}
-use Rattle.std.proofs.lemmas.List.Sorted.{IsNonDecreasingBy-from_sort, list_any-IsPermutation, searched}
+use Rattle.std.proofs.lemmas.List.Sorted.{IsNonDecreasingBy-from_sort, IsPermutation-map}
+use Rattle.std.proofs.lemmas.List.Sorted.{list_any-IsPermutation, searched}
 use Rattle.std.specs.List.Sorted.{IsBinarySearchResult, IsPermutation, IsSorted}
 use Rattle.std.specs.List.{dedup, range_with_len}
 use Rattle.std.specs.Option.{option_or}
@@ -118,6 +121,30 @@ pub sorted_leaves : (indices sorted : List ℕ) → IsPermutation indices sorted
 sorted_leaves indices sorted moved up =
     distinct_once sorted (λ i j h k. IsNonDecreasingBy-from_sort (λ x. x) sorted up i j 0 h k)
     ∙ distinct_moved indices sorted moved
+
+-- no sort by a first key and a second puts a lower first key behind a higher one
+first_key : (o p : Ordering) → is_lt (ordering_then o p) ≡ false → is_lt o ≡ false
+first_key Less p h = h
+first_key Equal p h = refl
+first_key Greater p h = refl
+
+-- what a sort of indices with their places leaves of the indices
+pub sorted_by_index : (indices : List ℕ) (queries sorted : List (ℕ × ℕ)) → map (λ q. q.0) queries ≡ indices →
+    IsPermutation queries sorted → IsSorted (λ x y. ordering_then (nat_cmp x.0 y.0) (nat_cmp x.1 y.1)) sorted →
+    dedup eqb (map (λ q. q.0) sorted) ≡ distinct indices
+sorted_by_index indices queries sorted is moved up =
+    let own = map (λ (q : ℕ × ℕ). q.0) sorted in
+    let by_key = IsNonDecreasingBy-from_sort (λ (q : ℕ × ℕ). q.0) sorted
+    (λ k d low high. first_key (nat_cmp (get_or sorted (k + 1) d).0 (get_or sorted k d).0)
+    (nat_cmp (get_or sorted (k + 1) d).1 (get_or sorted k d).1) (up k d low high)) in
+    let ascending : IsAscending own =
+    λ i j h k. let low : j < length sorted = omega (arith, length-map sorted (λ (q : ℕ × ℕ). q.0)) in
+    rw (
+      get_or-map (λ (q : ℕ × ℕ). q.0) sorted i (0, 0) 0 (omega arith),
+      get_or-map (λ (q : ℕ × ℕ). q.0) sorted j (0, 0) 0 low,
+    ) (by_key i j (0, 0) h low) in
+    distinct_once own ascending
+    ∙ distinct_moved indices own (rw (← is) (IsPermutation-map (λ (q : ℕ × ℕ). q.0) queries sorted moved))
 
 pub rising_order : (a : ℕ) (xs : List ℕ) → IsRising a xs → (i j : ℕ) → i < j → j < length xs →
     get_or xs i 0 < get_or xs j 0

@@ -12,7 +12,7 @@ pub loop-level-init : goal.loop-level-init
 loop-level-init c =
     let s = shape_of c.args.self.now.arity c.args.self.now.dimensions.now in
     record {
-      covered = leaves_alone s c.args.leaves.items c.requires.ascending c.requires.below;
+      covered = leaves_alone s c.args.leaves.now.items c.requires.ascending c.requires.below;
       so_far = refl;
     }
 
@@ -25,7 +25,7 @@ pub overflow_mul-children : goal.overflow_mul-children
 overflow_mul-children c =
     let s = shape_of c.args.self.now.arity c.args.self.now.dimensions.now in
     let l = c.loop-level.level in
-    let w : CanQuery s c.args.leaves.items c.args.layer =
+    let w : CanQuery s c.args.leaves.now.items c.args.layer =
     record {
       well_shaped = c.requires.arity;
       below = c.requires.below;
@@ -33,11 +33,11 @@ overflow_mul-children c =
     } in
     let many : c.len-below.result ≡ length c.loop-level.covered.items = omega arith in
     let fewer : c.len.result ≡ length c.climb.new.covered.items = omega arith in
-    let k = turned s c.args.leaves.items c.args.layer w c.requires.low l (layer_exponent s l)
+    let k = turned s c.args.leaves.now.items c.args.layer w c.requires.low l (layer_exponent s l)
     c.step-step.result c.loop-level.count c.len-below.result c.len.result c.loop-level.covered.items
     c.climb.new.covered.items c.loop-level-test.true
     refl c.step-step.ensures c.loop-level.invariant.so_far c.loop-level.invariant.covered
-    (climbed s c.args.leaves.items c.args.layer w l c.step-step.result c.loop-level.covered.items
+    (climbed s c.args.leaves.now.items c.args.layer w l c.step-step.result c.loop-level.covered.items
     c.climb.new.covered.items c.loop-level-test.true c.climb.ensures) many fewer in
     omega (arith, k.1.mul_fits)
 
@@ -45,7 +45,7 @@ pub overflow_sub-count : goal.overflow_sub-count
 overflow_sub-count c =
     let s = shape_of c.args.self.now.arity c.args.self.now.dimensions.now in
     let l = c.loop-level.level in
-    let w : CanQuery s c.args.leaves.items c.args.layer =
+    let w : CanQuery s c.args.leaves.now.items c.args.layer =
     record {
       well_shaped = c.requires.arity;
       below = c.requires.below;
@@ -53,11 +53,11 @@ overflow_sub-count c =
     } in
     let many : c.len-below.result ≡ length c.loop-level.covered.items = omega arith in
     let fewer : c.len.result ≡ length c.climb.new.covered.items = omega arith in
-    let k = turned s c.args.leaves.items c.args.layer w c.requires.low l (layer_exponent s l)
+    let k = turned s c.args.leaves.now.items c.args.layer w c.requires.low l (layer_exponent s l)
     c.step-step.result c.loop-level.count c.len-below.result c.len.result c.loop-level.covered.items
     c.climb.new.covered.items c.loop-level-test.true
     refl c.step-step.ensures c.loop-level.invariant.so_far c.loop-level.invariant.covered
-    (climbed s c.args.leaves.items c.args.layer w l c.step-step.result c.loop-level.covered.items
+    (climbed s c.args.leaves.now.items c.args.layer w l c.step-step.result c.loop-level.covered.items
     c.climb.new.covered.items c.loop-level-test.true c.climb.ensures) many fewer in
     k.1.sub_fits
 
@@ -65,7 +65,7 @@ pub overflow_add-count : goal.overflow_add-count
 overflow_add-count c =
     let s = shape_of c.args.self.now.arity c.args.self.now.dimensions.now in
     let l = c.loop-level.level in
-    let w : CanQuery s c.args.leaves.items c.args.layer =
+    let w : CanQuery s c.args.leaves.now.items c.args.layer =
     record {
       well_shaped = c.requires.arity;
       below = c.requires.below;
@@ -73,11 +73,11 @@ overflow_add-count c =
     } in
     let many : c.len-below.result ≡ length c.loop-level.covered.items = omega arith in
     let fewer : c.len.result ≡ length c.climb.new.covered.items = omega arith in
-    let k = turned s c.args.leaves.items c.args.layer w c.requires.low l (layer_exponent s l)
+    let k = turned s c.args.leaves.now.items c.args.layer w c.requires.low l (layer_exponent s l)
     c.step-step.result c.loop-level.count c.len-below.result c.len.result c.loop-level.covered.items
     c.climb.new.covered.items c.loop-level-test.true
     refl c.step-step.ensures c.loop-level.invariant.so_far c.loop-level.invariant.covered
-    (climbed s c.args.leaves.items c.args.layer w l c.step-step.result c.loop-level.covered.items
+    (climbed s c.args.leaves.now.items c.args.layer w l c.step-step.result c.loop-level.covered.items
     c.climb.new.covered.items c.loop-level-test.true c.climb.ensures) many fewer in
     omega (arith, k.1.add_fits)
 
@@ -85,7 +85,7 @@ pub loop-level-preserved : goal.loop-level-preserved
 loop-level-preserved c =
     let s = shape_of c.args.self.now.arity c.args.self.now.dimensions.now in
     let l = c.loop-level.level in
-    let w : CanQuery s c.args.leaves.items c.args.layer =
+    let w : CanQuery s c.args.leaves.now.items c.args.layer =
     record {
       well_shaped = c.requires.arity;
       below = c.requires.below;
@@ -93,11 +93,11 @@ loop-level-preserved c =
     } in
     let many : c.len-below.result ≡ length c.loop-level.covered.items = omega arith in
     let fewer : c.len.result ≡ length c.climb.new.covered.items = omega arith in
-    let k = turned s c.args.leaves.items c.args.layer w c.requires.low l (layer_exponent s l)
+    let k = turned s c.args.leaves.now.items c.args.layer w c.requires.low l (layer_exponent s l)
     c.step-step.result c.loop-level.count c.len-below.result c.len.result c.loop-level.covered.items
     c.climb.new.covered.items c.loop-level-test.true
     refl c.step-step.ensures c.loop-level.invariant.so_far c.loop-level.invariant.covered
-    (climbed s c.args.leaves.items c.args.layer w l c.step-step.result c.loop-level.covered.items
+    (climbed s c.args.leaves.now.items c.args.layer w l c.step-step.result c.loop-level.covered.items
     c.climb.new.covered.items c.loop-level-test.true c.climb.ensures) many fewer in
     record { covered = k.0; so_far = k.1.next }
 
@@ -105,4 +105,4 @@ pub returns : goal.returns
 returns c =
     let h : c.loop-level.level ≡ c.args.layer = omega arith in
     let s = shape_of c.args.self.now.arity c.args.self.now.dimensions.now in
-    c.loop-level.invariant.so_far ∙ ap (pruned_len s c.args.leaves.items) h
+    c.loop-level.invariant.so_far ∙ ap (pruned_len s c.args.leaves.now.items) h
