@@ -103,9 +103,10 @@ class Functions:
             return found
         own = [f for f in found if text.endswith("self") and f.owner == caller.owner]
         plain = [f for f in found if text.rstrip().endswith("self.plain") and f.owner == "Scheme"]
+        rows = [f for f in found if re.search(r"\brows\s*$", text) and f.owner == "LayerRows"]
         of_traits = [f for f in found if f.trait and f.owner != "Mmcs"]
         beside = [f for f in found if f.crate == caller.crate][:1]
-        return own or plain or of_traits or beside or found[:1]
+        return own or plain or rows or of_traits or beside or found[:1]
 
     def _read(self, crate, path):
         """Notes the functions, imports and aliases of a source."""

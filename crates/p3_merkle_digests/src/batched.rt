@@ -225,12 +225,15 @@ pub(crate) fn words_of_rows<'b, T: Copy + Default, M: Matrix<T>>(
     staged.clear();
     let len = row_len(matrices);
     match len.checked_mul(count) {
-        // Few words of a row cost less than to ask for its matrix again.
+        // Row by row each matrix would be asked anew, which takes longer than to copy few words.
         Some(words) if len < LONG_ROW => {
             staged.resize(words, T::default())?;
             put_matrices(staged, len, matrices, height, first, count);
         },
-        _ => stage_rows(staged, matrices, height, first, count)?,
+        _ => {
+            staged.reserve(len.saturating_mul(count))?;
+            stage_rows(staged, matrices, height, first, count)?;
+        },
     }
     Ok(staged.as_slice())
 }
@@ -270,7 +273,8 @@ fn stage_children<W: Copy, const N: usize, const D: usize>(
 }
 
 /// Writes into each slot `j` the compression of the children of node `j` over a layer, followed by default digests, one
-/// by one. Each node has `step` children, at least one and at most `N`; those of all slots must be in the layer.
+/// by one. Each node has `step` children, at least one and at most `N`; those of all slots are in the layer. A group has
+/// fewer than 2^63 bytes.
 fn compress_children_singly<
     PW: PackedValue,
     C: PseudoCompressionFunction<PW, N, D>,
@@ -363,7 +367,8 @@ fn stage_pairs<W: Copy, const N: usize, const D: usize>(
 }
 
 /// Compresses the digest in each slot `j` with `rows[j]`, the digest of its rows, followed by default digests, and
-/// writes the result into the slot, one by one. There must be at most as many rows as slots, and `N` must be at least 2.
+/// writes the result into the slot, one by one. There are at most as many rows as slots, and `N` is at least 2. A group
+/// has fewer than 2^63 bytes.
 fn inject_row_digests_singly<
     PW: PackedValue,
     C: PseudoCompressionFunction<PW, N, D>,

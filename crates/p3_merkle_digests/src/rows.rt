@@ -15,7 +15,7 @@ use p3_support::hasher::CryptographicHasher;
 use p3_support::matrix::Matrix;
 use p3_support::packed::{PackedValue, unpack_at};
 use p3_support::rows::{packed_rows_of, rows_of};
-use std::alloc::{AllocError, Global};
+use std::alloc::AllocError;
 use std::marker::PhantomData;
 
 /// The rows of one layer, and the hasher that digests them. Row `j` of the layer is row `j` of each of its matrices,
@@ -104,8 +104,8 @@ impl<
         self.joined_digest(row)
     }
 
-    /// The digests of rows of any number of matrices, from `row` on: lane `k` is that of row `row + k`, for each lane that
-    /// both packings have. `row + P::WIDTH` is at most the height.
+    /// The digests of rows of any number of matrices, from `row` on: lane `k` is that of row `row + k`, for each lane
+    /// that both packings have. `row + P::WIDTH` is at most the height.
     fn joined_packed_digest(&self, row: usize) -> [PW; D]
         requires { row + P.WIDTH ≤ self.now.height }
         ensures { (k : ℕ) → k < P.WIDTH → k < PW.WIDTH →
@@ -154,14 +154,14 @@ impl<
     }
 
     /// Writes the digests of the rows into the first `count` slots, as many rows per call as [`messages_per_call`]
-    /// says. `count` must be at most the number of slots, and at most the height.
+    /// says. `count` must be at most the number of slots, and at most the height. `staged` is a buffer for rows.
     ///
     /// # Errors
     ///
     /// `AllocError` if memory runs out.
     pub fn write_batched(
         &self,
-        alloc: Global,
+        staged: &mut Vec<P::Value>,
         count: usize,
         slots: &mut [[PW::Value; D]],
     ) -> Result<(), AllocError>
@@ -171,14 +171,14 @@ impl<
             (rows_over M.row_of self.now.matrices.now) self.now.height in
             IfOk result (λ done. IsFilled leaf count (length slots.old) slots.new) }
     {
-        let len = row_len(self.matrices);
-        let bytes = len.saturating_mul(std::mem::size_of_val(&P::Value::default()));
+        let bytes = row_len(self.matrices).saturating_mul(std::mem::size_of_val(
+            &P::Value::default(),
+        ));
         let rows = messages_per_call(bytes, H::LANES);
-        let mut staged = Vec::with_capacity(alloc, rows.min(count).saturating_mul(len))?;
         let mut first = 0;
         while first < count {
             let end = first + rows.min(count - first);
-            let words = words_of_rows(&mut staged, self.matrices, self.height, first, end - first)?;
+            let words = words_of_rows(staged, self.matrices, self.height, first, end - first)?;
             self.hash.hash_many(words, &mut slots[first..end]);
             first = end;
         }
@@ -249,30 +249,34 @@ impl<
         }
     }
 
-    /// The digests of the rows, in `len` slots. Past the height there are default digests. Both packings must have
-    /// equally many lanes.
+    /// Writes into each slot the digest of the row of its number. Past the height there are default digests. Both
+    /// packings must have equally many lanes. `staged` is a buffer for rows, in place of what it has: a caller that
+    /// keeps it from layer to layer seldom allocates.
     ///
     /// # Errors
     ///
     /// `AllocError` if memory runs out.
-    pub fn digests(&self, alloc: Global, len: usize) -> Result<Vec<[PW::Value; D]>, AllocError>
+    pub fn write(
+        &self,
+        staged: &mut Vec<P::Value>,
+        slots: &mut [[PW::Value; D]],
+    ) -> Result<(), AllocError>
         requires { P.WIDTH ≡ PW.WIDTH }
         ensures { let leaf = leaf_over (H.hash self.now.hash.now) (replicate D PW.default_value)
             (rows_over M.row_of self.now.matrices.now) self.now.height in
-            IfOk result (λ v. v.items ≡ map leaf (range_with_len 0 len)) }
+            IfOk result (λ done. slots.new ≡ map leaf (range_with_len 0 (length slots.old))) }
     {
-        let mut slots = vec![in alloc; [PW::Value::default(); D]; len]?;
-        let count = self.height.min(len);
+        let count = self.height.min(slots.len());
         // In batches where the hasher takes several messages at a time, else lane by lane.
         let done = if H::LANES > 1 {
-            self.write_batched(alloc, count, &mut slots)?;
+            self.write_batched(staged, count, slots)?;
             count
         } else {
             let blocks = packed_blocks::<PW, 1, D>(count);
-            self.write_packed(blocks, &mut slots);
+            self.write_packed(blocks, slots);
             blocks * PW::WIDTH
         };
-        self.write_remaining(done, &mut slots);
-        Ok(slots)
+        self.write_remaining(done, slots);
+        Ok(())
     }
 }

@@ -66,6 +66,28 @@ pub(crate) type LayerBuilder<
     const D: usize,
 > = LayerOver<'a, 'b, P, PW, H, C, M, [PW::Value; D], [[PW::Value; D]; N], N>;
 
+/// Memory that the layers of a tree use in turn, from the leaves up. What it holds between two layers does not matter.
+#[derive(Drop)]
+pub(crate) struct Buffers<T, X, G> {
+    /// Rows, for calls that hash many.
+    pub staged: Vec<T>,
+    /// The digests of a layer's rows.
+    pub digests: Vec<X>,
+    /// Groups of digests, for calls that compress many.
+    pub groups: Vec<G>,
+}
+
+impl<T, X, G> Buffers<T, X, G> {
+    /// Empty buffers. This does not allocate.
+    pub(crate) fn new(alloc: Global) -> Buffers<T, X, G> {
+        Buffers {
+            staged: Vec::new(alloc),
+            digests: Vec::new(alloc),
+            groups: Vec::new(alloc),
+        }
+    }
+}
+
 /// Tells that the children of the first nodes are in the layer below. It does nothing at run time.
 fn lemma_front<X>(arity: usize, level: &Level, below: &[X], count: usize)
     requires children { HasChildren arity level.now (length below.now) }
@@ -182,24 +204,29 @@ impl<
     /// # Errors
     ///
     /// `AllocError` if memory runs out.
-    #[tactic(auto, using(p3_merkle_digests::proofs::StageFacts::made_long))]
     fn write_batched(
         &self,
-        alloc: Global,
+        buffers: &mut Buffers<P::Value, [PW::Value; D], [[PW::Value; D]; N]>,
         slots: &mut [[PW::Value; D]],
     ) -> Result<usize, AllocError>
         ensures { let slot = slot_of H.hash C.compression D self.now in
             IfOk result (λ done. IsFilled slot done (length slots.old) slots.new) }
     {
         let count = self.level.raw_len.min(slots.len());
-        let mut groups = Vec::new(alloc);
-        self.write_folded(&mut groups, &mut slots[..count])?;
+        let Buffers {
+            staged,
+            digests,
+            groups,
+        } = buffers;
+        self.write_folded(groups, &mut slots[..count])?;
         if !self.level.has_rows {
             return Ok(count);
         }
-        let rows = self.rows.digests(alloc, count)?;
+        digests.clear();
+        digests.resize(count, [PW::Value::default(); D])?;
+        self.rows.write(staged, digests)?;
         let step = self.level.step;
-        inject_row_digests::<PW, C, N, D>(self.compress, step, &mut groups, &rows, slots)?;
+        inject_row_digests::<PW, C, N, D>(self.compress, step, groups, digests, slots)?;
         Ok(count)
     }
 
@@ -238,7 +265,7 @@ impl<
     /// `AllocError` if memory runs out.
     pub(crate) fn write(
         &self,
-        alloc: Global,
+        buffers: &mut Buffers<P::Value, [PW::Value; D], [[PW::Value; D]; N]>,
         slots: &mut [[PW::Value; D]],
     ) -> Result<(), AllocError>
         ensures { IfOk result (λ done. slots.new
@@ -246,7 +273,7 @@ impl<
     {
         // In batches where each function takes several messages at a time, else lane by lane.
         let done = if C::LANES > 1 && (!self.level.has_rows || H::LANES > 1) {
-            self.write_batched(alloc, slots)?
+            self.write_batched(buffers, slots)?
         } else {
             self.write_packed(slots)
         };

@@ -9,7 +9,7 @@ ghost use Rattle.p3_merkle_core.specs.Views.{batch_of};
 ghost use Rattle.p3_merkle_core.specs.Nodes.{layer, layers as layers_over};
 ghost use Rattle.p3_merkle_prover.specs.Inner.Levels.{CanBuild, HasChildren};
 
-use crate::layer::LayerBuilder;
+use crate::layer::{Buffers, LayerBuilder};
 use p3_merkle_core::geometry::padded_len;
 use p3_merkle_core::levels::Level;
 use p3_merkle_core::steps::Steps;
@@ -64,22 +64,21 @@ pub(crate) type TreeBuilder<
     const D: usize,
 > = TreeOver<'a, P, PW, H, C, M, [[PW::Value; D]; N], N>;
 
-/// The matrices of a height, in input order.
+/// Fills a list with the matrices of a height, in input order, in place of what it has.
 ///
 /// # Errors
 ///
 /// `AllocError` if memory runs out.
-fn of_height<'a, T, M: Matrix<T>>(
-    alloc: Global,
+fn pick_matrices<'a, T, M: Matrix<T>>(
+    picked: &mut Vec<&'a M>,
     matrices: &'a [M],
     height: usize,
-) -> Result<Vec<&'a M>, AllocError>
-    ensures { IfOk result (λ v. map (λ m. m.now) v.items ≡ filter (λ m. M.height_of m == height) matrices.now) }
+) -> Result<(), AllocError>
+    ensures { IfOk result
+        (λ done. map (λ m. m.now) picked.new.items ≡ filter (λ m. M.height_of m == height) matrices.now) }
 {
-    matrices
-        .iter()
-        .filter(|matrix| matrix.height() == height)
-        .collect(alloc)
+    picked.clear();
+    picked.extend(matrices.iter().filter(|matrix| matrix.height() == height))
 }
 
 /// Tells that a layer of its whole length has the children of the nodes of the level above it. It does nothing at run
@@ -102,28 +101,35 @@ impl<
 > TreeBuilder<'a, P, PW, H, C, M, N, D> {
     ghost use Rattle.p3_merkle_prover.specs.Inner.Slots.{batch_for, functions_for, layer_above};
 
-    /// The leaves: the digests of the rows of the tallest matrices, and default digests behind them.
+    /// The leaves: the digests of the rows of the tallest matrices, and default digests behind them. `picked` and
+    /// `buffers` are memory that all layers use.
     ///
     /// # Errors
     ///
     /// `AllocError` if memory runs out.
-    fn leaf_layer(&self, alloc: Global) -> Result<Vec<[PW::Value; D]>, AllocError>
+    fn leaf_layer(
+        &self,
+        alloc: Global,
+        picked: &mut Vec<&'a M>,
+        buffers: &mut Buffers<P::Value, [PW::Value; D], [[PW::Value; D]; N]>,
+    ) -> Result<Vec<[PW::Value; D]>, AllocError>
         ensures { let f = functions_for H.hash C.compression D self.now in
             IfOk result (λ v. v.items ≡ layer f (batch_for self.now) 0) }
     {
         let height = self.steps.max_height;
-        let picked = of_height(alloc, self.matrices, height)?;
+        pick_matrices(picked, self.matrices, height)?;
         let rows = LayerRows {
             hash: self.hash,
-            matrices: &picked,
+            matrices: picked.as_slice(),
             height,
             item: PhantomData,
         };
-        let leaves = rows.digests(alloc, padded_len(height, N))?;
+        let mut leaves = vec![in alloc; [PW::Value::default(); D]; padded_len(height, N)]?;
+        rows.write(&mut buffers.staged, &mut leaves)?;
         Ok(leaves)
     }
 
-    /// The layer above the layer `below`, at this level.
+    /// The layer above the layer `below`, at this level. `picked` and `buffers` are memory that all layers use.
     ///
     /// # Errors
     ///
@@ -131,16 +137,18 @@ impl<
     fn next_layer(
         &self,
         alloc: Global,
+        picked: &mut Vec<&'a M>,
+        buffers: &mut Buffers<P::Value, [PW::Value; D], [[PW::Value; D]; N]>,
         level: Level,
         below: &[[PW::Value; D]],
     ) -> Result<Vec<[PW::Value; D]>, AllocError>
         requires { HasChildren self.now.steps.now.arity level (length below.now) }
         ensures { IfOk result (λ v. v.items ≡ layer_above H.hash C.compression D self.now level below.now) }
     {
-        let picked = of_height(alloc, self.matrices, level.height)?;
+        pick_matrices(picked, self.matrices, level.height)?;
         let rows = LayerRows {
             hash: self.hash,
-            matrices: &picked,
+            matrices: picked.as_slice(),
             height: level.height,
             item: PhantomData,
         };
@@ -152,7 +160,7 @@ impl<
             item: PhantomData,
         };
         let mut slots = vec![in alloc; [PW::Value::default(); D]; level.layer_len]?;
-        builder.write(alloc, &mut slots)?;
+        builder.write(buffers, &mut slots)?;
         Ok(slots)
     }
 
@@ -167,14 +175,16 @@ impl<
     {
         let mut exponent = self.steps.exponent;
         let mut len = self.steps.max_height;
-        let leaves = self.leaf_layer(alloc)?;
+        let mut picked = Vec::new(alloc);
+        let mut buffers = Buffers::new(alloc);
+        let leaves = self.leaf_layer(alloc, &mut picked, &mut buffers)?;
         let mut layers = Vec::with_capacity(alloc, self.steps.num_levels + 1)?;
         layers.push(leaves)?;
         for below in 0..self.steps.num_levels {
             let level = self.steps.level_from(below, exponent, len);
             let nodes = layers[below].as_slice();
             lemma_children(self.steps, &level, nodes);
-            let layer = self.next_layer(alloc, level, nodes)?;
+            let layer = self.next_layer(alloc, &mut picked, &mut buffers, level, nodes)?;
             layers.push(layer)?;
             exponent = level.exponent;
             len = level.raw_len;

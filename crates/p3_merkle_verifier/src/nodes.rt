@@ -125,7 +125,7 @@ impl<
         };
         if H::LANES > 1 {
             let mut digests = vec![in alloc; [PW::Value::default(); D]; height]?;
-            rows.write_batched(alloc, height, &mut digests)?;
+            rows.write_batched(&mut Vec::new(alloc), height, &mut digests)?;
             return Ok(digests);
         }
         let mut digests = Vec::with_capacity(alloc, height)?;

@@ -7,7 +7,7 @@ use Rattle.p3_merkle_digests.proofs.rows.LayerRows+P+PW+H+M+array+D+PW+Value.wri
 pub loop-first-preserved : goal.loop-first-preserved
 loop-first-preserved g c =
     let first = c.loop-first.first in
-    let n = c.min-in-loop-first.result in
+    let n = c.min.result in
     let k : ℕ = first + n - first in
     let xs = c.loop-first.slots in
     let h = c.args.self.now.height in

@@ -1,6 +1,7 @@
 -- Each slot is a node.
-use Rattle.std.proofs.Common.{arith, ◌≡◌, ◌<◌, ◌∙◌, ◌++◌, [], ap, drop, length, slice_index_or, take}
-use Rattle.std.proofs.lemmas.List.{length-take-le}
+use Rattle.std.proofs.Common.{arith, ◌≡◌, ◌∙◌, ◌++◌, [], ap, drop, length, map, slice_index_or, take}
+use Rattle.std.specs.List.{range_with_len}
+use Rattle.std.proofs.lemmas.List.{length-take-le, take_at}
 use Rattle.std.proofs.lemmas.List.FromFn.{get_or-map-range_with_len, length-map-range_with_len}
 use Rattle.p3_merkle_digests.proofs.StageFacts.{filled_front}
 use Rattle.p3_merkle_prover.specs.Inner.Slots.{folded_of, functions_in, leaf_in}
@@ -38,7 +39,13 @@ returns g c =
     let size : length (take count c.args.slots.now) ≡ count = length-take-le count c.args.slots.now (omega arith) in
     let front = filled_front (folded_of compression g.row.D builder) c.args.slots.now c.write_folded.new.slots count
     (omega arith) (rw size at c.in_ok-write_folded.ensures) in
-    let made = c.deref.ensures.value ∙ c.in_ok-rows.ensures in
+    let digests = c.write.new.slots in
+    let long : length c.deref_mut.result.now ≡ count = c.deref_mut.ensures.len ∙ c.in_ok-resize.ensures.len in
+    let full : length digests ≡ c.resize.new.self.len = ap length c.in_ok-write.ensures
+    ∙ length-map-range_with_len leaf 0 (length c.deref_mut.result.now) ∙ c.deref_mut.ensures.len in
+    let made : c.deref.result.now ≡ map leaf (range_with_len 0 count) = c.deref.ensures.value
+    ∙ take_at digests (drop (length digests) c.resize.new.self.items) c.resize.new.self.len full
+    ∙ c.in_ok-write.ensures ∙ ap (λ n. map leaf (range_with_len 0 n)) long in
     let rows : length c.deref.result.now ≡ count = ap length made ∙ length-map-range_with_len leaf 0 count in
     record {
       long = c.in_ok-inject_row_digests.ensures.long ∙ front.long;

@@ -13,8 +13,8 @@ use Rattle.p3_merkle_prover.proofs.layers.TreeBuilder+P+PW+H+C+M+N+D.next_layer.
 pub invariant_of-rows : goal.invariant_of-rows
 invariant_of-rows g c = record {
   of_height = picked_high g.M.Matrix.height_of g.M.Matrix.row_of (λ m. m.now) c.args.level.height
-      c.deref.result.now c.args.self.now.matrices.now
-      (ap (map (λ m. m.now)) c.deref.ensures.value ∙ c.in_ok-picked.ensures);
+      c.as_slice.result.now c.args.self.now.matrices.now
+      (ap (map (λ m. m.now)) c.as_slice.ensures.value ∙ c.in_ok-pick_matrices.ensures);
 }
 
 pub invariant_of-builder-clause-children : goal.invariant_of-builder-clause-children
@@ -27,14 +27,14 @@ returns g c =
     let below = c.args.below.now in
     let f = functions_for g.H.CryptographicHasher.hash g.C.PseudoCompressionFunction.compression g.row.D
     c.args.self.now in
-    let picked = c.deref.result.now in
+    let picked = c.as_slice.result.now in
     let made = slot_above f g.row.N
     (leaf_over f.hash f.default_digest (rows_over (λ m. g.M.Matrix.row_of m.now) picked) level.height) level below in
     let wanted = slot_above f g.row.N
     (leaf_over f.hash f.default_digest
     (λ j. rows_of_height g.M.Matrix.height_of g.M.Matrix.row_of level.height j all) level.height) level below in
     let rows = λ (j : ℕ). rows_picked g.M.Matrix.height_of g.M.Matrix.row_of (λ m. m.now) level.height j picked all
-    (ap (map (λ m. m.now)) c.deref.ensures.value ∙ c.in_ok-picked.ensures) in
+    (ap (map (λ m. m.now)) c.as_slice.ensures.value ∙ c.in_ok-pick_matrices.ensures) in
     let slots = c.write.new.slots in
     let long : length c.deref_mut.result.now
     ≡ level.layer_len = omega (arith, c.deref_mut.ensures.len, c.in_ok-slots.ensures.len) in
