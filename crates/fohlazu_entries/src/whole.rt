@@ -71,8 +71,8 @@ fn digests_of_blocks(
     Ok(digests)
 }
 
-/// The lines at the head of some bytes that have ended and are not long, at most `most` of them, and what is left behind
-/// these.
+/// The lines at the head of some bytes that have ended and are not long, at most `most` of them, and what is left
+/// behind these.
 ///
 /// # Errors
 ///

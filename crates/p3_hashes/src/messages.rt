@@ -198,8 +198,8 @@ fn padding_inputs(width: usize) -> [u32x8; 64]
     round_inputs(&padding_block(width, last))
 }
 
-/// The hash values of the eight messages, where `padding` are the inputs of the rounds over a last block that is padding
-/// alone.
+/// The hash values of the eight messages, where `padding` are the inputs of the rounds over a last block that is
+/// padding alone.
 fn hash_states(messages: &[u8], width: usize, padding: &[u32x8; 64]) -> [u32x8; 8]
     requires full { length messages.now ≡ 8 * width }
     requires padding { IsPadding width padding.now }

@@ -310,8 +310,8 @@ fn last_with_rows(steps: &Steps<'_>, cap_layer: usize) -> usize
 ///
 /// It goes once through the levels, up to the last layer that has matrices. Each level takes the time of one division
 /// for each slot; one whose upper layer has matrices also that of a look at each matrix, and of the comparison of the
-/// rows of that layer. `nodes` is a buffer for a number for each slot; it allocates one for each matrix of a layer above
-/// the leaves.
+/// rows of that layer. `nodes` is a buffer for a number for each slot; it allocates one for each matrix of a layer
+/// above the leaves.
 ///
 /// # Errors
 ///

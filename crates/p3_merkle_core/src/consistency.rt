@@ -209,8 +209,8 @@ impl Growth {
     }
 
     /// The layer of the highest old node above a leaf, up to the old cap: a check of openings of this leaf under both
-    /// caps has the node's digest from the old cap or from the proof. The arity must be a power of two from 2 to 2^62. It
-    /// takes one step a layer.
+    /// caps has the node's digest from the old cap or from the proof. The arity must be a power of two from 2 to 2^62.
+    /// It takes one step a layer.
     pub fn given_layer(&self, index: usize) -> usize
         requires { IsArity self.now.arity }
         ensures { result ≡ given_layer self.now index }
@@ -227,8 +227,8 @@ impl Growth {
         self.old_cap_layer()
     }
 
-    /// The node of a layer above a leaf. [`check_heights`](Self::check_heights) must accept the heights, the arity must be
-    /// a power of two from 2 to 2^62, and the leaf must be below the old height: so the node is old or mixed.
+    /// The node of a layer above a leaf. [`check_heights`](Self::check_heights) must accept the heights, the arity must
+    /// be a power of two from 2 to 2^62, and the leaf must be below the old height: so the node is old or mixed.
     pub fn ancestor(&self, index: usize, layer: usize) -> usize
         requires arity { IsArity self.now.arity }
         requires heights { IsGrowth self.now }

@@ -458,10 +458,9 @@ impl<'a> Steps<'a> {
 
     /// How many digests a pruned proof of some leaves sends under the cap of this layer: on each level, the children
     /// of covered nodes that are not covered. The leaves must ascend, each once, as
-    /// [`distinct_indices`](crate::pruning::distinct_indices) lists them, below the tallest height. The layer must be at
-    /// most the number of levels, the arity a power of two from 2 to 2^62, and no height above [`MAX_HEIGHT`]. It does
-    /// not allocate, and takes one step for each leaf and level. In place of the leaves it leaves the covered nodes of
-    /// the layer.
+    /// [`distinct_indices`](crate::pruning::distinct_indices) lists them, below the tallest height. The layer must be
+    /// at most the number of levels, the arity a power of two from 2 to 2^62, and no height above [`MAX_HEIGHT`]. It
+    /// does not allocate, and takes one step for each leaf and level. It uses the list of leaves as a buffer.
     pub fn boundary_len(&self, layer: usize, leaves: &mut Vec<usize>) -> usize
         requires arity { IsArity self.now.arity }
         requires low { greatest (heights_of self.now.dimensions.now) ≤ height_limit }

@@ -273,8 +273,8 @@ fn stage_children<W: Copy, const N: usize, const D: usize>(
 }
 
 /// Writes into each slot `j` the compression of the children of node `j` over a layer, followed by default digests, one
-/// by one. Each node has `step` children, at least one and at most `N`; those of all slots are in the layer. A group has
-/// fewer than 2^63 bytes.
+/// by one. Each node has `step` children, at least one and at most `N`; those of all slots are in the layer. A group
+/// has fewer than 2^63 bytes.
 fn compress_children_singly<
     PW: PackedValue,
     C: PseudoCompressionFunction<PW, N, D>,

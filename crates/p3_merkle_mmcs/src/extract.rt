@@ -114,9 +114,9 @@ impl<
     /// verified so, and the path of each query is restored. Then each query of the first opening is compared with each
     /// of the second as [`extract_collision`](Self::extract_collision) compares two openings. Returns the first pair
     /// that gives a collision, in the order of the first list, then of the second: the place of each query in its list,
-    /// from 0, and the collision. Beside both verifications the call takes the time of four checks for each query of the
-    /// first opening and of two for each query of the second, and memory for the restored paths and for what two checks
-    /// share.
+    /// from 0, and the collision. Beside both verifications the call takes the time of four checks for each query of
+    /// the first opening and of two for each query of the second, and memory for the restored paths and for what two
+    /// checks share.
     ///
     /// # Errors
     ///

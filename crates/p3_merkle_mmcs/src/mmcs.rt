@@ -245,9 +245,9 @@ impl<
     ///
     /// An accepted opening has one row for each of `dimensions`, of that width. For each level below the cap it has the
     /// digests of the path's group but the path's own. `dimensions` are those of the matrices, in input order. They
-    /// must come from the verifier, never from the proof: a cap does not bind them. Under the rule `Fixed` the rows of a
-    /// matrix above the cap's layer are never hashed, and only their width is checked; under `Lowered` there is no such
-    /// matrix.
+    /// must come from the verifier, never from the proof: a cap does not bind them. Under the rule `Fixed` the rows of
+    /// a matrix above the cap's layer are never hashed, and only their width is checked; under `Lowered` there is no
+    /// such matrix.
     ///
     /// # Errors
     ///

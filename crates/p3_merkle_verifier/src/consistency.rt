@@ -322,8 +322,8 @@ impl<
     ///
     /// The first of these that holds, where `OutOfMemory` may come at any time: those of [`Growth::check_heights`];
     /// `WrongDigestCount` if the number of digests is not [`Growth::num_digests`]; `OldCapMismatch` if a root of the
-    /// old cap that is read is missing or is another digest than the one computed; `NewCapMismatch`, the same of the new
-    /// cap.
+    /// old cap that is read is missing or is another digest than the one computed; `NewCapMismatch`, the same of the
+    /// new cap.
     pub fn check_consistency(
         &self,
         alloc: Global,

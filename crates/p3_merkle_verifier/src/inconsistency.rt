@@ -47,8 +47,8 @@ pub struct TreeOpening<'a, T, X> {
     pub opening: OpeningRef<'a, T, X>,
 }
 
-/// What the check of a proof of consistency compresses on the path of a leaf below the old cap, from the given layer up,
-/// level by level.
+/// What the check of a proof of consistency compresses on the path of a leaf below the old cap, from the given layer
+/// up, level by level.
 #[derive(Drop)]
 struct PathGroups<X> {
     /// The groups in the old tree.
@@ -167,8 +167,8 @@ impl<
         )
     }
 
-    /// The group of a node of the layer above that is old or mixed, in the new tree, from the old cap on. `known` has the
-    /// values of this layer's old nodes.
+    /// The group of a node of the layer above that is old or mixed, in the new tree, from the old cap on. `known` has
+    /// the values of this layer's old nodes.
     fn group_above_old_cap(
         &self,
         proof: ConsistencyRef<'_, [PW::Value; D]>,
@@ -203,8 +203,8 @@ impl<
         mixed_group::<PW::Value, N, D>(default_digest, old, mixed.new_value, new)
     }
 
-    /// The groups on the path of a leaf below the old cap, from the given layer up, in both trees; and the mixed node of
-    /// the old cap's layer. The given layer must be that of the index.
+    /// The groups on the path of a leaf below the old cap, from the given layer up, in both trees; and the mixed node
+    /// of the old cap's layer. The given layer must be that of the index.
     ///
     /// # Errors
     ///
@@ -247,9 +247,9 @@ impl<
         Ok((PathGroups { old, new }, mixed))
     }
 
-    /// The groups on the path of a leaf in the new tree, from the given layer up to the new cap. `below` has those up to
-    /// the old cap, and `mixed` is the mixed node of the old cap's layer. The old cap must have an entry for each old node
-    /// of its layer.
+    /// The groups on the path of a leaf in the new tree, from the given layer up to the new cap. `below` has those up
+    /// to the old cap, and `mixed` is the mixed node of the old cap's layer. The old cap must have an entry for each
+    /// old node of its layer.
     ///
     /// # Errors
     ///
@@ -313,8 +313,8 @@ impl<
         progress
     }
 
-    /// The last group that differs of an opening's check and of a list of groups, which begins at a layer and ends at the
-    /// cap.
+    /// The last group that differs of an opening's check and of a list of groups, which begins at a layer and ends at
+    /// the cap.
     ///
     /// # Errors
     ///
@@ -409,8 +409,8 @@ impl<
         ensures compare { CanCompare N from old.entry new.entry }
     {}
 
-    /// The first of these differences: the last one of the old opening's check and of the proof's, the last one of the new
-    /// opening's check and of the proof's, the last one of both openings below the given node.
+    /// The first of these differences: the last one of the old opening's check and of the proof's, the last one of the
+    /// new opening's check and of the proof's, the last one of both openings below the given node.
     ///
     /// # Errors
     ///
@@ -484,11 +484,11 @@ impl<
             IsComparable (grown_in f N proof.entry [] old.entry new.entry) }
     {}
 
-    /// Extracts a collision from two openings of one index, under the old cap and under the roots of a new one, and a proof
-    /// of consistency between both caps; `None` if they agree.
+    /// Extracts a collision from two openings of one index, under the old cap and under the roots of a new one, and a
+    /// proof of consistency between both caps; `None` if they agree.
     ///
-    /// `N` must be a power of two from 2 to 2^62, and the arity of the growth and of both openings' steps. Both trees must
-    /// have as many matrices, those of each tree the growth's height, and the caps must be in the growth's layers.
+    /// `N` must be a power of two from 2 to 2^62, and the arity of the growth and of both openings' steps. Both trees
+    /// must have as many matrices, those of each tree the growth's height, and the caps must be in the growth's layers.
     ///
     /// # Errors
     ///
