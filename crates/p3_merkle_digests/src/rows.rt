@@ -137,6 +137,8 @@ impl<
     /// Writes the digests of the rows into the first slots: `blocks` blocks, each of as many slots as there are lanes.
     /// Both packings have equally many lanes, and `blocks * PW::WIDTH` is at most the number of slots, and at most the
     /// height. If `blocks` is above 0, a packed digest has fewer than 2^63 bytes.
+    // Not inlined, so that its loop over columns has the registers to itself.
+    #[inline(never)]
     fn write_packed(&self, blocks: usize, slots: &mut [[PW::Value; D]])
         requires lanes { P.WIDTH ≡ PW.WIDTH }
         requires digest { 0 < blocks → FitsInMemory (ArrayAt PW.row D.row) }
