@@ -6,6 +6,7 @@ pub mod ArityFacts
 pub mod StepFacts
 pub mod KeptSteps
 pub mod ExponentFacts
+pub mod MarkFacts
 pub mod BridgeFacts
 pub mod FallFacts
 pub mod LadderFacts

@@ -11,7 +11,7 @@ ghost use Rattle.p3_merkle_core.specs.Checks.{siblings_below};
 ghost use Rattle.p3_merkle_core.specs.Gate.{gate_refusal};
 ghost use Rattle.p3_merkle_core.specs.Geometry.{exponent, has_rows, is_bridge, layer_exponent, levels, height_limit};
 ghost use Rattle.p3_merkle_core.specs.Geometry.{positions_below, schedule_below, shape_of, step, IsArity, IsLawful};
-ghost use Rattle.p3_merkle_core.specs.Inner.Exponents.{AreExponents};
+ghost use Rattle.p3_merkle_core.specs.Inner.Exponents.{AreExponents, AreMarked};
 ghost use Rattle.p3_merkle_core.specs.Inner.Levels.{IsBelowTop, IsLevel};
 ghost use Rattle.p3_merkle_core.specs.Inner.Shapes.{shortest};
 ghost use Rattle.p3_merkle_core.specs.Inner.Steps.{IsWalk};
@@ -40,25 +40,47 @@ struct Exponents {
     pub lower_end: usize,
 }
 
-/// The exponents at a layer of this exponent. Each matrix is looked at once; at exponent 0 none is.
-fn exponents_at(dimensions: &[Dimensions], layer: usize) -> Exponents
-    ensures layer { result.layer ≡ layer }
-    ensures next { AreExponents (heights_of dimensions.now) result }
+/// The exponents that matrices have, as the bits of a number, so that no layer looks at the matrices again.
+#[derive(Clone, Copy)]
+struct MatrixExponents<'a> {
+    /// The dimensions of the matrices.
+    pub dimensions: &'a [Dimensions],
+    /// Bit `e` is set where a matrix has the exponent `e`. The exponent 64 has no bit: it is below no layer's.
+    pub bits: usize,
+    ghost marked: { AreMarked (heights_of dimensions.now) bits },
+}
+
+/// The bits of the exponents that these matrices have. Each matrix is looked at once.
+fn exponent_bits(dimensions: &[Dimensions]) -> usize
+    ensures { AreMarked (heights_of dimensions.now) result }
 {
-    if layer == 0 {
-        return Exponents {
-            layer: 0,
-            lower_end: 0,
-        };
-    }
-    let mut lower_end = 0;
+    let mut bits = 0;
     for matrix in dimensions {
-        let exponent = exponent_of(matrix.height);
-        if exponent < layer {
-            lower_end = lower_end.max(exponent + 1);
+        let bit = exponent_of(matrix.height);
+        if bit < usize::BITS as usize {
+            bits |= 1 << bit;
         }
     }
-    Exponents { layer, lower_end }
+    bits
+}
+
+impl<'a> MatrixExponents<'a> {
+    /// The exponents at a layer of this exponent, which is at most 64.
+    fn at(&self, layer: usize) -> Exponents
+        requires { layer ≤ 64 }
+        ensures layer { result.layer ≡ layer }
+        ensures next { AreExponents (heights_of self.now.dimensions.now) result }
+    {
+        let below = if layer < usize::BITS as usize {
+            self.bits % (1 << layer)
+        } else {
+            self.bits
+        };
+        Exponents {
+            layer,
+            lower_end: (usize::BITS - below.leading_zeros()) as usize,
+        }
+    }
 }
 
 /// The step of a level, and whether matrices belong to the layer above it.
@@ -71,21 +93,23 @@ struct LevelStep {
 }
 
 /// The step from a layer below the root, whether matrices belong to the next layer, and the exponents there. The arity
-/// must be at least 2. The matrices are looked at only if one belongs to the next layer.
+/// must be at least 2, and the layer's exponent at most 64.
 fn next_step(
-    dimensions: &[Dimensions],
+    matrices: &MatrixExponents<'_>,
     arity: usize,
     exponents: Exponents,
 ) -> (LevelStep, Exponents)
     requires arity { 2 ≤ arity }
     requires below { 0 < exponents.layer }
-    requires next { AreExponents (heights_of dimensions.now) exponents }
-    ensures bridge { result.0.is_bridge ≡ is_bridge (shape_of arity dimensions.now) exponents.layer }
+    requires layer { exponents.layer ≤ 64 }
+    requires next { AreExponents (heights_of matrices.now.dimensions.now) exponents }
+    ensures bridge { result.0.is_bridge ≡ is_bridge (shape_of arity matrices.now.dimensions.now) exponents.layer }
     ensures layer { result.1.layer
-        ≡ (if is_bridge (shape_of arity dimensions.now) exponents.layer then exponents.layer - 1
+        ≡ (if is_bridge (shape_of arity matrices.now.dimensions.now) exponents.layer then exponents.layer - 1
         else exponents.layer - exponent arity) }
-    ensures rows { result.0.has_rows ≡ list_any (λ h. exponent h == result.1.layer) (heights_of dimensions.now) }
-    ensures next { AreExponents (heights_of dimensions.now) result.1 }
+    ensures rows { result.0.has_rows
+        ≡ list_any (λ h. exponent h == result.1.layer) (heights_of matrices.now.dimensions.now) }
+    ensures next { AreExponents (heights_of matrices.now.dimensions.now) result.1 }
 {
     let target = exponents.layer.saturating_sub(exponent_of(arity));
     // A matrix's exponent lies strictly between the layer's and what a step of the whole arity leaves of it.
@@ -98,7 +122,7 @@ fn next_step(
     // No matrix's exponent lies between those of the two layers, so all lower ones are at most the upper layer's.
     let has_rows = exponents.lower_end > layer;
     let above = if has_rows {
-        exponents_at(dimensions, layer)
+        matrices.at(layer)
     } else {
         Exponents {
             layer,
@@ -143,8 +167,7 @@ pub struct Steps<'a> {
 }
 
 /// The steps of the tree over matrices of these dimensions, where a node has at most `arity` children. They end for all
-/// dimensions. The arity must be at least 2. Each matrix is looked at once for its height, and once for each layer to
-/// which one belongs.
+/// dimensions. The arity must be at least 2. Each matrix is looked at twice: for its height, and for its exponent.
 pub fn steps_of(dimensions: &[Dimensions], arity: usize) -> Steps<'_>
     requires { 2 ≤ arity }
     ensures dimensions { result.dimensions.now ≡ dimensions.now }
@@ -152,7 +175,9 @@ pub fn steps_of(dimensions: &[Dimensions], arity: usize) -> Steps<'_>
 {
     let (max_height, min_height) = extremes_of(dimensions);
     let exponent = exponent_of(max_height);
-    let mut exponents = exponents_at(dimensions, exponent);
+    let bits = exponent_bits(dimensions);
+    let matrices = MatrixExponents { dimensions, bits };
+    let mut exponents = matrices.at(exponent);
     let none = LevelStep {
         is_bridge: false,
         has_rows: false,
@@ -160,7 +185,7 @@ pub fn steps_of(dimensions: &[Dimensions], arity: usize) -> Steps<'_>
     let mut of_level = [none; MAX_LEVELS];
     let mut num_levels = 0;
     while exponents.layer > 0 {
-        let (step, above) = next_step(dimensions, arity, exponents);
+        let (step, above) = next_step(&matrices, arity, exponents);
         of_level[num_levels] = step;
         num_levels += 1;
         exponents = above;

@@ -1,5 +1,6 @@
 -- Exponents of layers, each with the end of the lower ones that matrices have.
-use Rattle.std.specs.Prelude.{◌≡◌, ◌+◌, ℕ, List, [], ◌∷◌, max, nat_lt, if◌then◌else◌}
+use Rattle.std.specs.Prelude.{◌≡◌, ◌+◌, ◌-◌, ◌%◌, ◌^◌, ◌≤◌, ℕ, List, [], ◌∷◌, max, nat_lt, if◌then◌else◌}
+use Rattle.std.specs.Int.{leading_zeros, w64}
 use Rattle.p3_merkle_core.specs.Geometry.{exponent}
 use Rattle.p3_merkle_core.specs.declared.steps.Exponents.{Exponents}
 
@@ -11,3 +12,12 @@ next_below x (h ∷ hs) = max (if nat_lt (exponent h) x then exponent h + 1 else
 -- they are a layer's, and the end of the lower ones that these heights have
 pub record AreExponents (hs : List ℕ) (exponents : Exponents) : Type 0 where
   pub next_is : exponents.lower_end ≡ next_below exponents.layer hs
+
+-- how many binary digits a number below 2 ^ 64 has, and 0 of 0
+abbrev pub digits : ℕ → ℕ
+digits n = 64 - leading_zeros w64 n
+
+-- bits tell the exponents that these heights have: of the bits below any x, the highest is that of the greatest exponent
+-- below x
+pub record AreMarked (hs : List ℕ) (bits : ℕ) : Type 0 where
+  pub next_is : (x : ℕ) → x ≤ 64 → digits (bits % 2 ^ x) ≡ next_below x hs

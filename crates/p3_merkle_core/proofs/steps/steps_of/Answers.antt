@@ -6,15 +6,28 @@ use Rattle.p3_merkle_core.proofs.Shapes.StepFacts.{at_start, at_more, at_end, la
 use Rattle.p3_merkle_core.proofs.Shapes.LeastFacts.{exponent_le}
 use Rattle.p3_merkle_core.proofs.steps.steps_of.Goals as goal
 
+pub at-exponents-requires : goal.at-exponents-requires
+at-exponents-requires c =
+    omega (arith, c.exponent_of-exponent.ensures, exponent_le c.extremes_of-max_height.result.0 64 (omega arith))
+
 pub loop-exponents-init : goal.loop-exponents-init
 loop-exponents-init c = (
-  at_start (shape_of c.args.arity c.args.dimensions.now) c.exponents_at-exponents.result.layer
-      (c.exponents_at-exponents.ensures.layer ∙ c.exponent_of-exponent.ensures
+  at_start (shape_of c.args.arity c.args.dimensions.now) c.at-exponents.result.layer
+      (c.at-exponents.ensures.layer ∙ c.exponent_of-exponent.ensures
       ∙ ap exponent c.extremes_of-max_height.ensures.greatest),
-  c.exponents_at-exponents.ensures.next,
+  c.at-exponents.ensures.next,
   refl,
   refl,
 )
+
+pub next_step-requires-clause-layer : goal.next_step-requires-clause-layer
+next_step-requires-clause-layer c =
+    omega (
+      arith,
+      c.loop-exponents.invariant.0.room,
+      ap exponent c.extremes_of-max_height.ensures.greatest,
+      exponent_le c.extremes_of-max_height.result.0 64 (omega arith),
+    )
 
 pub bounds-of_level-num_levels : goal.bounds-of_level-num_levels
 bounds-of_level-num_levels c =
