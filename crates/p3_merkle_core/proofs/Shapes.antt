@@ -7,6 +7,7 @@ pub mod StepFacts
 pub mod KeptSteps
 pub mod ExponentFacts
 pub mod MarkFacts
+pub mod WholeSteps
 pub mod BridgeFacts
 pub mod FallFacts
 pub mod LadderFacts

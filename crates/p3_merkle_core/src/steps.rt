@@ -184,12 +184,14 @@ pub fn steps_of(dimensions: &[Dimensions], arity: usize) -> Steps<'_>
     };
     let mut of_level = [none; MAX_LEVELS];
     let mut num_levels = 0;
-    while exponents.layer > 0 {
+    while exponents.lower_end > 0 {
         let (step, above) = next_step(&matrices, arity, exponents);
         of_level[num_levels] = step;
         num_levels += 1;
         exponents = above;
     }
+    // No matrix belongs to a layer above: whole steps without rows lead to the root, and all of them are `none`.
+    num_levels += exponents.layer.div_ceil(exponent_of(arity));
     Steps {
         dimensions,
         arity,

@@ -9,7 +9,7 @@ use Rattle.p3_merkle_core.specs.Consistency.{IsGrowth, is_beyond, is_new, is_old
 use Rattle.p3_merkle_core.specs.Inner.Growths.{AreFew, mixed_children, parts_above, parts_at}
 use Rattle.p3_merkle_core.specs.declared.consistency.Growth.{Growth}
 use Rattle.p3_merkle_core.specs.declared.consistency.LayerParts.{LayerParts}
-use Rattle.p3_merkle_core.proofs.Shapes.QuotientFacts.{ceil_below, ceil_covers, ceil_le}
+use Rattle.p3_merkle_core.proofs.Shapes.QuotientFacts.{ceil_below, ceil_covers, ceil_le_self}
 
 -- two tests of orders that hold together
 pub same_order : (a b c d : ℕ) → (a ≤ b → c ≤ d) → (c ≤ d → a ≤ b) → nat_le a b ≡ nat_le c d
@@ -97,9 +97,6 @@ ceil_mono a b n some le =
       | inl less ↦ absurd (omega (arith, ceil_below a n (div_ceil b n) some less, ceil_covers b n some))
       | inr more ↦ more
     ]
-
-ceil_le_self : (a n : ℕ) → 0 < n → div_ceil a n ≤ a
-ceil_le_self a n some = ceil_le a n a some (let more : a * 1 ≤ a * n = mul-le-mul_left a some in omega arith)
 
 pub few_above : (n : ℕ) (parts : LayerParts) → 0 < n → AreFew parts → AreFew (parts_above n parts)
 few_above n parts some w =

@@ -24,8 +24,12 @@ next_low x (h ∷ hs) =
       | inr above ↦ omega (arith, passed x h above, next_low x hs)
     ]
 
+-- so x is above 0 where there is one
+pub some_below : (x n : ℕ) (hs : List ℕ) → n ≡ next_below x hs → 0 < n → 0 < x
+some_below x n hs is some = omega (arith, next_low x hs, is, some)
+
 -- no exponent lies between a and x, where the next one is a or less
-none_over : (a x : ℕ) (hs : List ℕ) → next_below x hs ≤ a + 1 →
+pub none_over : (a x : ℕ) (hs : List ℕ) → next_below x hs ≤ a + 1 →
     list_any (λ h. nat_lt a (exponent h) && nat_lt (exponent h) x) hs ≡ false
 none_over a x [] low = refl
 none_over a x (h ∷ hs) low =

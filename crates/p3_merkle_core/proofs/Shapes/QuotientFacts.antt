@@ -40,6 +40,10 @@ ceil_le x a k some enough =
       | inr le ↦ le
     ]
 
+-- it is not above the number
+pub ceil_le_self : (x a : ℕ) → 0 < a → div_ceil x a ≤ x
+ceil_le_self x a some = ceil_le x a x some (let more : x * 1 ≤ x * a = mul-le-mul_left x some in omega arith)
+
 -- and it is what covers, if nothing below does
 pub ceil_is : (x a k : ℕ) → 0 < a → x ≤ k * a → ((j : ℕ) → j < k → j * a < x) → div_ceil x a ≡ k
 ceil_is x a k some enough least =

@@ -1,8 +1,14 @@
 -- Each turn keeps one step of the walk.
-use Rattle.std.proofs.Common.{◌<◌, ap, arith, length, length-set, refl, sym, ◌∙◌}
+use Rattle.std.proofs.Common.{◌≡◌, ◌<◌, ◌≤◌, ◌+◌, ap, arith, length, length-set, refl, sym, ◌∙◌}
+use Rattle.std.specs.Int.{div_ceil}
+use Rattle.std.proofs.lemmas.List.{get_or-replicate, get_or-set_other}
+use Rattle.p3_support.specs.Batches.{heights_of}
+use Rattle.p3_merkle_core.proofs.Shapes.ExponentFacts.{some_below}
+use Rattle.p3_merkle_core.proofs.Shapes.QuotientFacts.{ceil_below, ceil_covers, ceil_le_self}
+use Rattle.p3_merkle_core.proofs.Shapes.WholeSteps.{none, whole_steps, IsWalked}
 use Rattle.p3_merkle_core.specs.Geometry.{exponent, shape_of}
 use Rattle.p3_merkle_core.proofs.Shapes.KeptSteps.{kept_more, level_is}
-use Rattle.p3_merkle_core.proofs.Shapes.StepFacts.{at_start, at_more, at_end, layer_start, next_falls}
+use Rattle.p3_merkle_core.proofs.Shapes.StepFacts.{at_start, at_more, at_end, layer_start, next_falls, whole_step_falls}
 use Rattle.p3_merkle_core.proofs.Shapes.LeastFacts.{exponent_le}
 use Rattle.p3_merkle_core.proofs.steps.steps_of.Goals as goal
 
@@ -18,7 +24,13 @@ loop-exponents-init c = (
   c.at-exponents.ensures.next,
   refl,
   refl,
+  λ n above below. get_or-replicate 64 n none none (omega (arith, below)),
 )
+
+pub next_step-requires-clause-below : goal.next_step-requires-clause-below
+next_step-requires-clause-below c =
+    some_below c.loop-exponents.exponents.layer c.loop-exponents.exponents.lower_end
+    (heights_of c.args.dimensions.now) c.loop-exponents.invariant.1.next_is c.loop-exponents-test.true
 
 pub next_step-requires-clause-layer : goal.next_step-requires-clause-layer
 next_step-requires-clause-layer c =
@@ -34,6 +46,8 @@ bounds-of_level-num_levels c =
     omega (
       arith,
       c.loop-exponents.invariant.0.room,
+      some_below c.loop-exponents.exponents.layer c.loop-exponents.exponents.lower_end
+          (heights_of c.args.dimensions.now) c.loop-exponents.invariant.1.next_is c.loop-exponents-test.true,
       ap exponent c.extremes_of-max_height.ensures.greatest,
       exponent_le c.extremes_of-max_height.result.0 64 (omega arith),
     )
@@ -43,13 +57,20 @@ offset_bounds-of_level-num_levels c =
     omega (
       arith,
       c.loop-exponents.invariant.0.room,
+      some_below c.loop-exponents.exponents.layer c.loop-exponents.exponents.lower_end
+          (heights_of c.args.dimensions.now) c.loop-exponents.invariant.1.next_is c.loop-exponents-test.true,
+      some_below c.loop-exponents.exponents.layer c.loop-exponents.exponents.lower_end
+          (heights_of c.args.dimensions.now) c.loop-exponents.invariant.1.next_is c.loop-exponents-test.true,
       ap exponent c.extremes_of-max_height.ensures.greatest,
       exponent_le c.extremes_of-max_height.result.0 64 (omega arith),
     )
 
 pub loop-exponents-smaller : goal.loop-exponents-smaller
 loop-exponents-smaller c = next_falls (shape_of c.args.arity c.args.dimensions.now) c.loop-exponents.exponents.layer
-    c.next_step.result.1.layer c.requires c.loop-exponents-test.true c.next_step.ensures.layer
+    c.next_step.result.1.layer c.requires
+    (some_below c.loop-exponents.exponents.layer c.loop-exponents.exponents.lower_end
+    (heights_of c.args.dimensions.now) c.loop-exponents.invariant.1.next_is c.loop-exponents-test.true)
+    c.next_step.ensures.layer
 
 pub loop-exponents-preserved : goal.loop-exponents-preserved
 loop-exponents-preserved c =
@@ -60,25 +81,79 @@ loop-exponents-preserved c =
     let kept = c.loop-exponents.of_level in
     let n = c.loop-exponents.num_levels in
     let at = c.loop-exponents.invariant.0 in
+    let some = some_below x c.loop-exponents.exponents.lower_end (heights_of c.args.dimensions.now)
+    c.loop-exponents.invariant.1.next_is c.loop-exponents-test.true in
     let room : n < length kept = omega (
       arith,
       at.room,
+      some,
       ap exponent c.extremes_of-max_height.ensures.greatest,
       exponent_le c.extremes_of-max_height.result.0 64 (omega arith),
       c.loop-exponents.invariant.2,
     ) in
     let step = level_is s n x y c.next_step.result.0 at.at_x found.bridge found.layer found.rows in (
-      at_more s n x y c.requires at c.loop-exponents-test.true found.layer,
+      at_more s n x y c.requires at some found.layer,
       found.next,
       length-set kept n c.next_step.result.0
           ∙ c.loop-exponents.invariant.2,
       kept_more s kept n c.next_step.result.0 c.loop-exponents.invariant.3 room step,
+      λ l above below. get_or-set_other kept n l c.next_step.result.0 none (λ same. omega (arith, same, above))
+          ∙ c.loop-exponents.invariant.4 l (omega (arith, above))
+          (omega (arith, below, length-set kept n c.next_step.result.0)),
+    )
+
+pub div_ceil-num_levels-requires : goal.div_ceil-num_levels-requires
+div_ceil-num_levels-requires c = omega (arith, c.exponent_of.ensures, whole_step_falls c.args.arity c.requires)
+
+-- the walk with the whole steps that are left
+walked : (c : goal.After-div_ceil-num_levels) → IsWalked (shape_of c.args.arity c.args.dimensions.now)
+    c.loop-exponents.of_level (c.loop-exponents.num_levels + c.div_ceil-num_levels.result)
+walked c =
+    let s = shape_of c.args.arity c.args.dimensions.now in
+    let x = c.loop-exponents.exponents.layer in
+    let n = c.loop-exponents.num_levels in
+    let k = c.div_ceil-num_levels.result in
+    let e = exponent c.args.arity in
+    let at = c.loop-exponents.invariant.0 in
+    let some : 0 < e = whole_step_falls c.args.arity c.requires in
+    let is : k ≡ div_ceil x e = c.div_ceil-num_levels.ensures ∙ ap (div_ceil x) c.exponent_of.ensures in
+    let room : n + k ≤ length c.loop-exponents.of_level = omega (
+      arith,
+      is,
+      ceil_le_self x e some,
+      at.room,
+      ap exponent c.extremes_of-max_height.ensures.greatest,
+      exponent_le c.extremes_of-max_height.result.0 64 (omega arith),
+      c.loop-exponents.invariant.2,
+    ) in
+    whole_steps s k n x (n + k) c.loop-exponents.of_level refl c.requires room at
+    (omega (arith, c.loop-exponents.invariant.1.next_is, c.loop-exponents-test.false))
+    (rw is (ceil_covers x e some)) (λ j below. ceil_below x e j some (omega (arith, is, below)))
+    c.loop-exponents.invariant.4 c.loop-exponents.invariant.3
+
+pub overflow_add-num_levels : goal.overflow_add-num_levels
+overflow_add-num_levels c =
+    omega (
+      arith,
+      c.loop-exponents.invariant.0.room,
+      ap exponent c.extremes_of-max_height.ensures.greatest,
+      exponent_le c.extremes_of-max_height.result.0 64 (omega arith),
+    )
+
+pub overflow_add-num_levels-2 : goal.overflow_add-num_levels-2
+overflow_add-num_levels-2 c =
+    let w = walked c in
+    omega (
+      arith,
+      w.at_root.room,
+      ap exponent c.extremes_of-max_height.ensures.greatest,
+      exponent_le c.extremes_of-max_height.result.0 64 (omega arith),
     )
 
 pub invariant_of-result : goal.invariant_of-result
 invariant_of-result c =
     let s = shape_of c.args.arity c.args.dimensions.now in
-    let at = c.loop-exponents.invariant.0 in
+    let w = walked c in
     record {
       walked = record {
         wide = c.requires;
@@ -86,14 +161,14 @@ invariant_of-result c =
         shortest = c.extremes_of-max_height.ensures.least;
         leaves = c.exponent_of-exponent.ensures ∙ ap exponent c.extremes_of-max_height.ensures.greatest
             ∙ sym (layer_start s);
-        whole = at_end s c.loop-exponents.num_levels c.loop-exponents.exponents.layer at (omega arith);
+        whole = at_end s (c.loop-exponents.num_levels + c.div_ceil-num_levels.result) 0 w.at_root refl;
         few = omega (
           arith,
-          at.room,
+          w.at_root.room,
           ap exponent c.extremes_of-max_height.ensures.greatest,
           exponent_le c.extremes_of-max_height.result.0 64 (omega arith),
         );
         long = c.loop-exponents.invariant.2;
-        kept = c.loop-exponents.invariant.3;
+        kept = w.all;
       };
     }

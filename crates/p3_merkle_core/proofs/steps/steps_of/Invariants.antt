@@ -1,20 +1,22 @@
-use Rattle.std.proofs.Common.{◌≡◌, length, map, take}
+use Rattle.std.proofs.Common.{◌≡◌, ◌<◌, ◌≤◌, ℕ, get_or, length, map, take}
 use Rattle.std.specs.List.{range_with_len}
 use Rattle.p3_merkle_core.specs.Geometry.{shape_of}
 use Rattle.p3_support.specs.Batches.{heights_of}
 use Rattle.p3_merkle_core.specs.Inner.Exponents.{AreExponents}
 use Rattle.p3_merkle_core.specs.Inner.Steps.{level_step}
 use Rattle.p3_merkle_core.proofs.Shapes.StepFacts.{IsAt}
+use Rattle.p3_merkle_core.proofs.Shapes.WholeSteps.{none}
 use Rattle.p3_merkle_core.proofs.steps.steps_of.Given as goal
 
--- the walk is at a layer, and the steps below it are kept
+-- the walk is at a layer, the steps below it are kept, and no other is yet
 abbrev pub invariant-loop-exponents : goal.invariant-loop-exponents
 invariant-loop-exponents l =
     IsAt (shape_of l.arity l.dimensions) l.num_levels l.exponents.layer ×
     AreExponents (heights_of l.dimensions) l.exponents ×
     (length l.of_level ≡ 64) ×
     (take l.num_levels l.of_level
-    ≡ map (level_step (shape_of l.arity l.dimensions)) (range_with_len 0 l.num_levels))
+    ≡ map (level_step (shape_of l.arity l.dimensions)) (range_with_len 0 l.num_levels)) ×
+    ((n : ℕ) → l.num_levels ≤ n → n < length l.of_level → get_or l.of_level n none ≡ none)
 
 abbrev pub decreases-loop-exponents : goal.decreases-loop-exponents
 decreases-loop-exponents l = l.exponents.layer
