@@ -308,16 +308,21 @@ impl<'a> Steps<'a> {
                 size: self.dimensions[matrix].height,
             });
         }
+        // A height that equals the last lawful one is not computed again: short matrices often have one height.
+        let mut lawful_height = max_height;
         for matrix in self.dimensions {
             let height = matrix.height;
-            let expected_height = height_at_of(max_height, exponent_of(height));
-            if height != expected_height {
-                return Err(MerkleTreeError::IncompatibleHeights {
-                    height,
-                    max_height,
-                    expected_height,
-                    bits_reduced: bits_reduced_of(max_height, height),
-                });
+            if height != lawful_height {
+                let expected_height = height_at_of(max_height, exponent_of(height));
+                if height != expected_height {
+                    return Err(MerkleTreeError::IncompatibleHeights {
+                        height,
+                        max_height,
+                        expected_height,
+                        bits_reduced: bits_reduced_of(max_height, height),
+                    });
+                }
+                lawful_height = height;
             }
         }
         Ok(())

@@ -17,7 +17,7 @@ pub record AreExponents (hs : List ℕ) (exponents : Exponents) : Type 0 where
 abbrev pub digits : ℕ → ℕ
 digits n = 64 - leading_zeros w64 n
 
--- bits tell the exponents that these heights have: of the bits below any x, the highest is that of the greatest exponent
--- below x
+-- bits tell the exponents that these heights have: of the bits below any x, the highest is that of the greatest
+-- exponent below x
 pub record AreMarked (hs : List ℕ) (bits : ℕ) : Type 0 where
   pub next_is : (x : ℕ) → x ≤ 64 → digits (bits % 2 ^ x) ≡ next_below x hs

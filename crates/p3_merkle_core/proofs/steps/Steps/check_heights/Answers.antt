@@ -36,7 +36,7 @@ pub returns-clause-lawful : goal.returns-clause-lawful
 returns-clause-lawful c =
     let e = c.args.self.now.walked.tallest in
     let all = drop_all c.loop-matrix.matrix-index c.args.self.now.dimensions.now (omega arith) in
-    let o = rw (all, e) at c.loop-matrix.invariant in (
+    let o = rw (all, e) at c.loop-matrix.invariant.rest in (
       λ t. lawful_from_none (heights_of c.args.self.now.dimensions.now) (λ z. c.if-max_height-eq0.false (e ∙ z))
           (sym c.in_default.ensures) (sym o),
       λ w. refl,
