@@ -118,7 +118,8 @@ impl<
 
     /// The digests of the rows from `row` on: lane `k` is that of row `row + k`, for each lane that both packings have.
     /// `row + P::WIDTH` must be at most the height.
-    #[inline(always)]
+    // Not inlined, so that its loop over columns has the registers to itself.
+    #[inline(never)]
     pub fn packed_digest(&self, row: usize) -> [PW; D]
         requires { row + P.WIDTH ≤ self.now.height }
         ensures { (k : ℕ) → k < P.WIDTH → k < PW.WIDTH →
@@ -137,8 +138,6 @@ impl<
     /// Writes the digests of the rows into the first slots: `blocks` blocks, each of as many slots as there are lanes.
     /// Both packings have equally many lanes, and `blocks * PW::WIDTH` is at most the number of slots, and at most the
     /// height. If `blocks` is above 0, a packed digest has fewer than 2^63 bytes.
-    // Not inlined, so that its loop over columns has the registers to itself.
-    #[inline(never)]
     fn write_packed(&self, blocks: usize, slots: &mut [[PW::Value; D]])
         requires lanes { P.WIDTH ≡ PW.WIDTH }
         requires digest { 0 < blocks → FitsInMemory (ArrayAt PW.row D.row) }
@@ -190,6 +189,8 @@ impl<
     /// Writes the digest of row `j` into slot `j`, from slot `first` on, if the layer has one matrix and it returns its
     /// rows as one slice. The slots before `first` have their digests. Returns how many of the first slots have theirs
     /// then: `first` if nothing is written.
+    // Not inlined, so that its loop over rows is laid out apart from the others.
+    #[inline(never)]
     fn write_contiguous(&self, first: usize, slots: &mut [[PW::Value; D]]) -> usize
         requires { let leaf = leaf_over (H.hash self.now.hash.now) (replicate D PW.default_value)
             (rows_over M.row_of self.now.matrices.now) self.now.height in
