@@ -308,7 +308,7 @@ impl<'a> Steps<'a> {
                 size: self.dimensions[matrix].height,
             });
         }
-        // A height that equals the last lawful one is not computed again: short matrices often have one height.
+        // A height that equals the last lawful one is not checked again: short matrices often have one height.
         let mut lawful_height = max_height;
         for matrix in self.dimensions {
             let height = matrix.height;
