@@ -18,6 +18,10 @@ use p3_support::rows::{packed_rows_of, rows_of};
 use std::alloc::AllocError;
 use std::marker::PhantomData;
 
+/// The least width of a lone matrix whose packed rows are digested by a call, if a digest is one word. Of narrower ones
+/// the call would take longer than it spares.
+const MIN_CALLED_WIDTH: usize = 32;
+
 /// The rows of one layer, and the hasher that digests them. Row `j` of the layer is row `j` of each of its matrices,
 /// one matrix after another. `X` is the type of a digest.
 #[derive(Drop)]
@@ -135,6 +139,25 @@ impl<
         self.joined_packed_digest(row)
     }
 
+    /// What [`packed_digest`](Self::packed_digest) returns, with no call if there is one matrix, and its rows are narrow
+    /// or a digest is more than one word. The row and the lanes are as there.
+    // In a function of its own the loop over columns is shorter for digests of one word, but spills more registers for
+    // digests of eight.
+    #[inline(always)]
+    fn block_digest(&self, row: usize) -> [PW; D]
+        requires { row + P.WIDTH ≤ self.now.height }
+        ensures { (k : ℕ) → k < P.WIDTH → k < PW.WIDTH →
+            lane_of PW.lanes PW.default_value k result
+            ≡ H.hash self.now.hash.now (rows_over M.row_of self.now.matrices.now (row + k)) }
+    {
+        match self.matrices {
+            [matrix] if D > 1 || matrix.width() < MIN_CALLED_WIDTH => self
+                .hash
+                .hash_packed(matrix.vertically_packed_row::<P>(row)),
+            _ => self.packed_digest(row),
+        }
+    }
+
     /// Writes the digests of the rows into the first slots: `blocks` blocks, each of as many slots as there are lanes.
     /// Both packings have equally many lanes, and `blocks * PW::WIDTH` is at most the number of slots, and at most the
     /// height. If `blocks` is above 0, a packed digest has fewer than 2^63 bytes.
@@ -149,7 +172,7 @@ impl<
     {
         for block in 0..blocks {
             let first = block * PW::WIDTH;
-            let digests = self.packed_digest(first);
+            let digests = self.block_digest(first);
             unpack_at(&digests, slots, first);
         }
     }

@@ -16,7 +16,7 @@ loop-block-preserved g c =
     let f = leaf_over (g.H.CryptographicHasher.hash c.args.self.now.hash.now)
     (replicate g.row.D g.PW.PackedValue.default_value) (rows_over g.M.Matrix.row_of c.args.self.now.matrices.now)
     c.args.self.now.height in
-    let digests = c.packed_digest-digests.result in
+    let digests = c.block_digest-digests.result in
     let seen = λ (k : ℕ). lane_of g.PW.PackedValue.lanes g.PW.PackedValue.default_value k digests in
     let end = group_end block w c.args.blocks c.args.self.now.height c.loop-block-test.true c.requires.rows in
     let written : (k : ℕ) → k < w → slice_index_or c.unpack_at.new.rows (block * w + k) []
@@ -27,7 +27,7 @@ loop-block-preserved g c =
     λ k small.
     let row : block * w + k < c.args.self.now.height = omega (arith, end, small) in
     rw (lt-ltb (block * w + k) c.args.self.now.height row)
-    ((rw (c.WIDTH.ensures, c.requires.lanes) at c.packed_digest-digests.ensures) k small small) in
+    ((rw (c.WIDTH.ensures, c.requires.lanes) at c.block_digest-digests.ensures) k small small) in
     record {
       long = c.unpack_at.ensures.long ∙ c.loop-block.invariant.long;
       filled = group_more f seen c.loop-block.slots c.unpack_at.new.rows block w [] written hashed kept
