@@ -18,8 +18,8 @@ use p3_support::rows::{packed_rows_of, rows_of};
 use std::alloc::AllocError;
 use std::marker::PhantomData;
 
-/// The least width of a lone matrix whose packed rows are digested by a call, if a digest is one word. Of narrower ones
-/// the call would take longer than it spares.
+/// The least width of a lone matrix whose packed rows are digested by a call, if a digest is one word. For narrower
+/// rows the call costs more than it saves.
 const MIN_CALLED_WIDTH: usize = 32;
 
 /// The rows of one layer, and the hasher that digests them. Row `j` of the layer is row `j` of each of its matrices,
@@ -139,8 +139,8 @@ impl<
         self.joined_packed_digest(row)
     }
 
-    /// What [`packed_digest`](Self::packed_digest) returns, with no call if there is one matrix, and its rows are narrow
-    /// or a digest is more than one word. The row and the lanes are as there.
+    /// What [`packed_digest`](Self::packed_digest) returns, with no call if there is one matrix, and its rows are
+    /// narrow or a digest is more than one word. The row and the lanes are as there.
     // In a function of its own the loop over columns is shorter for digests of one word, but spills more registers for
     // digests of eight.
     #[inline(always)]
