@@ -5,3 +5,4 @@ pub mod Lanewise
 pub mod Majority
 pub mod Padding
 pub mod Pieces
+pub mod Groups

@@ -1,2 +1,3 @@
 pub mod Sha
+pub mod Laws
 pub mod Inner

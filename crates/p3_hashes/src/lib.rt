@@ -13,6 +13,7 @@ pub mod digest_size;
 mod eights;
 pub mod fold;
 pub mod lanes;
+pub mod laws;
 mod many;
 mod messages;
 pub mod sha;

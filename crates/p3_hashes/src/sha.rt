@@ -1,15 +1,18 @@
 //! SHA-256 (FIPS 180-4, by the crate `sha2`) of rows of bytes, and of digests one after another.
 //! Words are bytes, each packed alone, and a digest has 32 of them.
-ghost use Rattle.std.specs.Prelude.{◌≡◌, ℕ, ◌<◌, ◌∷◌, [], map};
+ghost use Rattle.std.specs.Prelude.{◌≡◌, ℕ, ◌<◌, ◌∷◌, [], IfOk, map};
+ghost use Rattle.std.specs.List.{concat};
 ghost use Rattle.std.specs.Iterator.{IsFinite};
 ghost use Rattle.std.specs.Iterator.Runs.{WholeRun};
 ghost use Rattle.p3_support.specs.Lists.{lane_of};
+ghost use Rattle.p3_hashes.specs.Laws.{AreDigests};
 ghost use Rattle.p3_hashes.specs.Sha.{sha256_rows, sha256_nodes};
 
 pub use crate::digest_size::DigestSize;
 use p3_support::compress::PseudoCompressionFunction;
 use p3_support::hasher::CryptographicHasher;
 use sha2::{Digest, Sha256};
+use std::alloc::{AllocError, Global};
 use std::convert::AsSlice;
 
 /// How many bytes SHA-256 takes in at a time.
@@ -88,6 +91,23 @@ fn hash_group<const N: usize, const D: usize>(digests: &[[u8; D]; N]) -> [u8; 32
         hasher.update(digest);
     }
     hasher.finalize()
+}
+
+/// The message of SHA-256 that a group of digests is: their bytes, one digest after another. Two different groups of
+/// equally many digests have different messages, by [`groups_are_messages`](crate::laws::groups_are_messages).
+///
+/// # Errors
+///
+/// `AllocError` if memory runs out.
+pub fn group_message(alloc: Global, digests: &[[u8; 32]]) -> Result<Vec<u8>, AllocError>
+    ensures message { IfOk result (λ message. message.items ≡ concat digests.now) }
+    ensures digests { IfOk result (λ message. AreDigests digests.now) }
+{
+    let mut message = Vec::new(alloc);
+    for digest in digests {
+        message.extend_from_slice(digest)?;
+    }
+    Ok(message)
 }
 
 /// SHA-256 of `N` digests of 32 bytes, one after another, one group at a time.
