@@ -4,6 +4,7 @@
 mod conflict;
 mod growing;
 mod in_parts;
+mod messages;
 mod readme;
 mod rules;
 mod salted;
@@ -14,6 +15,7 @@ use anyhow::Result;
 fn main(rt: HostRuntime) -> Result<()> {
     readme::run(&rt)?;
     conflict::run(&rt)?;
+    messages::run(&rt)?;
     several_rows::run(&rt)?;
     rules::run(&rt)?;
     salted::run(&rt)?;
