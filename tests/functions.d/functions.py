@@ -102,11 +102,21 @@ class Functions:
         if len(found) < 2:
             return found
         own = [f for f in found if text.endswith("self") and f.owner == caller.owner]
-        plain = [f for f in found if text.rstrip().endswith("self.plain") and f.owner == "Scheme"]
-        rows = [f for f in found if re.search(r"\brows\s*$", text) and f.owner == "LayerRows"]
+        plain = [f for f in found if re.search(r"\bself\s*\.\s*plain\s*$", text) and f.owner == "Scheme"]
+        typed = [f for f in found if self._has_type(caller, text, f.owner)]
+        name = (re.search(r"\b(\w+)\s*$", text) or [None, "-"])[1].lower()
+        named = [f for f in found if f.owner.lower().endswith(name)]
         of_traits = [f for f in found if f.trait and f.owner != "Mmcs"]
         beside = [f for f in found if f.crate == caller.crate][:1]
-        return own or plain or rows or of_traits or beside or found[:1]
+        return own or plain or typed or named or of_traits or beside or found[:1]
+
+    def _has_type(self, caller, text, owner):
+        """Whether the receiver at the end of a text is declared to be of a type, or is the result of such a call."""
+        if made := re.search(r"\b(\w+)\([^()]*\)\s*$", text):
+            return any(re.search(rf"->.*\b{owner}\b", f.signature, re.S) for f in self.named(made[1]))
+        name = (re.search(r"\b(\w+)\s*$", text) or [None, "-"])[1]
+        declared = rf"\b{name}: [^,)]*\b{owner}\b|let (?:mut )?{name} = &?{owner}\b"
+        return bool(re.search(declared, caller.signature + text))
 
     def _read(self, crate, path):
         """Notes the functions, imports and aliases of a source."""
