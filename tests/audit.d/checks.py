@@ -26,6 +26,7 @@ class Checks:
             self._check_source(path, needed)
         self._check_words(needed)
         self._check_types(needed)
+        self._check_traits()
         for name in self.listed.modules:
             if name in self.modules:
                 self._check_module(self.modules[name], needed)
@@ -122,9 +123,16 @@ class Checks:
         """The clauses of a call of the headline."""
         contracts = self.sources.read(call.source).contracts if call.source in self.sources.paths else []
         clauses = [contract for contract in contracts if call.has(contract)]
-        if not call.is_whole({contract.clause for contract in clauses}):
+        if not call.is_whole(clauses):
             self._say(f"{LIST}:{call.line}", f"{call.source} has no such clauses of {call.name}")
         return clauses
+
+    def _check_traits(self):
+        """Sees that each trait that the headline needs is one of its rows."""
+        rows = {(call.source, call.name) for call in self.listed.calls}
+        for (source, name), place in self.headline.types.items():
+            if (source, name) not in rows and name in self.sources.read(source).traits:
+                self.wrong.append(f"{place} cites the trait {name}, which the headline of {LIST} does not have")
 
     def _lines(self, module):
         """How many lines of a module the headline needs, if any, and how many lines it has."""

@@ -72,6 +72,7 @@ class Source:
         self.pieces = pieces_of(path.read_text(encoding="utf-8"))
         self.texts = [text for text, _ in self.pieces] + [""] * 4
         self.contracts, self.handed_on, self.laws, self.names, self.aliases = [], [], set(), set(), {}
+        self.traits = set()
         self.given = []  # what impls give for the ghost members of a trait: (trait, name, contract)
         self._block = Block(None, "file", None, None, True)
         self._items()
@@ -153,6 +154,8 @@ class Source:
             title, owner = self._parties(at, end)
         if is_public and kind != "mod":
             self.names.add(owner)
+        if kind == "trait":
+            self.traits.add(owner)
         if self.texts[end] == "{":
             promises = "trait" if kind == "impl" and title else kind
             self._block = Block(self._block, promises, title, owner, is_public or kind == "impl")

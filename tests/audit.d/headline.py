@@ -6,27 +6,46 @@ import re
 def headline_of(checks):
     """The lines of the text."""
     for call, clauses in zip(checks.listed.calls, checks.clauses):
-        yield from contract_of(call, checks.sources.read(call.source), clauses)
+        source = checks.sources.read(call.source)
+        yield f"// ==== {call.source}"
+        yield from trait_of(call.name, source, clauses) if call.is_trait else contract_of(source, clauses)
+        renamed = sorted({name for clause in clauses for name in clause.renamed()})
+        yield from (f"    // {name} is {word} of {module}." for name, module, word in renamed)
+        yield ""
     for name in checks.listed.modules:
         module = checks.modules.get(name)
         words = checks.headline.of(module) if module else []
         if words:
             yield from definitions_of(module, words)
+    traits = {call.name for call in checks.listed.calls if call.is_trait}
     for source, name in sorted(checks.headline.types):
-        yield from type_of(name, checks.sources.read(source).path)
+        if name not in traits:
+            yield from type_of(name, checks.sources.read(source).path)
 
 
-def contract_of(call, source, clauses):
-    """The head of a call and its clauses, and what the names stand for that it has of others."""
+def contract_of(source, clauses):
+    """The head of a call and its clauses."""
     lines = source.path.read_text(encoding="utf-8").splitlines()
     first, last = clauses[0].head
-    yield f"// ==== {call.source}"
     yield from lines[first - 1 : last]
     for clause in clauses:
         yield from lines[clause.line - 1 : clause.end]
-    renamed = sorted({name for clause in clauses for name in clause.renamed()})
-    yield from (f"    // {name} is {word} of {module}." for name, module, word in renamed)
-    yield ""
+
+
+def trait_of(name, source, clauses):
+    """The head of a trait, its types and constants, and those of its members that are named."""
+    lines = source.path.read_text(encoding="utf-8").splitlines()
+    first = next(at for at, line in enumerate(lines) if re.match(rf"pub trait {name}\b", line))
+    yield from lines[docs_of(lines, first) : first + 1]
+    shown = {at for at in range(first, lines.index("}", first)) if re.match(" {4}(type|const) ", lines[at])}
+    for clause in clauses:
+        start, end = clause.head or (docs_of(lines, clause.line - 1) + 1, clause.end)
+        shown.update(range(start - 1, end), range(clause.line - 1, clause.end))
+    for number, at in enumerate(sorted(shown)):
+        if number > 0 and at - 1 not in shown:
+            yield ""
+        yield lines[at]
+    yield "}"
 
 
 def definitions_of(module, words):
@@ -43,15 +62,22 @@ def definitions_of(module, words):
 
 
 def type_of(name, path):
-    """A type of the code, with its docstring; its name and where it stands, if it is no struct or enum."""
+    """A type of the code with its docstring, but without those of fields in variants; its name and where it stands, if
+    it is no struct or enum."""
     lines = path.read_text(encoding="utf-8").splitlines()
     yield f"// ==== {name}: {path.relative_to(path.parents[3])}"
     heads = [at for at, line in enumerate(lines) if re.match(rf"pub (struct|enum) {name}\b", line)]
     for at in heads[:1]:
-        first = last = at
-        while re.match(r"///|#\[", lines[first - 1]):
-            first -= 1
+        last = at
         while not re.match(r"}|.*;$", lines[last]):
             last += 1
-        yield from lines[first : last + 1]
+        shown = lines[docs_of(lines, at) : last + 1]
+        yield from (line for line in shown if not re.match(r" {8}///| *#\[", line))
     yield ""
+
+
+def docs_of(lines, at):
+    """Where the comments begin that stand above a line."""
+    while re.match(r" *(///?|#\[)", lines[at - 1]):
+        at -= 1
+    return at

@@ -6,21 +6,25 @@ MODULE = re.compile(r"\w+\.specs(\.\w+)+")
 
 
 class Call:
-    """A call of the headline, with the clauses that belong to it: what it requires, and those that are named."""
+    """A call of the headline, with the clauses that belong to it: what it requires, and those that are named. Or a
+    trait, with those of its members that are named."""
 
-    def __init__(self, line, cells):
-        self.line, self.name, self.source = line, cells[0].strip("`"), cells[1]
-        self.clauses = set(re.findall(r"\w+", cells[2]))
+    def __init__(self, line, cells, is_trait):
+        self.line, self.name, self.source, self.is_trait = line, cells[0].strip("`"), cells[1], is_trait
+        self.named = set(re.findall(r"\w+", cells[2]))
 
     def has(self, contract):
         """Whether a contract of its source is one of its clauses."""
+        if self.is_trait:
+            return contract.owner == self.name and contract.block.kind == "trait" and contract.item in self.named
         if self.name not in (f"{contract.owner}::{contract.item}", contract.item):
             return False
-        return contract.kind == "requires" or self.clauses == {"all"} or contract.clause in self.clauses
+        return contract.kind == "requires" or self.named == {"all"} or contract.clause in self.named
 
-    def is_whole(self, clauses):
-        """Whether none of its clauses is missing among some."""
-        return bool(clauses) and self.clauses - {"all"} <= clauses
+    def is_whole(self, contracts):
+        """Whether none of what is named is missing among some contracts."""
+        found = {contract.item if self.is_trait else contract.clause for contract in contracts}
+        return bool(contracts) and self.named - {"all"} <= found
 
 
 class Listed:
@@ -47,8 +51,8 @@ class Listed:
                 self._row(table, line, cells)
 
     def _row(self, table, line, cells):
-        if table == "Call":
-            self.calls.append(Call(line, cells))
+        if table in ("Call", "Trait"):
+            self.calls.append(Call(line, cells, table == "Trait"))
         elif table == "Module" and MODULE.fullmatch(cells[0]):
             self._note(line, self.modules, "Rattle." + cells[0], len(self.modules))
             needed, _, whole = cells[1].rpartition(" of ")
