@@ -1,5 +1,6 @@
 """What is checked of docs/AUDIT.md."""
 
+from definitions import module_of
 from needed import Needed
 
 LIST = "docs/AUDIT.md"
@@ -111,7 +112,8 @@ class Checks:
                 self._say(f"{module.path}:{word.start}", f"{word.name} is needed by no public contract")
         for line, name in module.proofs:
             self._say(f"{module.path}:{line}", f"{name} is proved, and is no definition")
-        for line, target in module.used:
+        for line, path in module.used:
+            target = module_of(self.modules, path)
             if self.listed.modules.get(target, at if target in self.modules else -1) >= at:
                 self._say(f"{module.path}:{line}", f"uses {target}, which {LIST} lists behind it, or not")
             elif ".proofs." in target:

@@ -112,6 +112,16 @@ def words_of_use(target, many):
     return names
 
 
+def module_of(modules, target):
+    """The module that a path means: one of its own crate, or one that this crate hands on by `pub use` in its Lib."""
+    crate, _, rest = target.partition(".specs.")
+    name, _, below = rest.partition(".")
+    lib = modules.get(f"{crate}.specs.Lib")
+    if lib is None or name not in lib.uses:
+        return target
+    return ".".join(filter(None, [lib.uses[name][0], below]))
+
+
 def names_in(code):
     """The names that a line cites: no fields, but all paths in full."""
     paths = PATH.findall(code)

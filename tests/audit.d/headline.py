@@ -1,6 +1,7 @@
 """The contracts of the headline, the definitions that they need, and the types of these, as one text."""
 
 import re
+import textwrap
 
 
 def headline_of(checks):
@@ -27,9 +28,17 @@ def contract_of(source, clauses):
     """The head of a call and its clauses."""
     lines = source.path.read_text(encoding="utf-8").splitlines()
     first, last = clauses[0].head
-    yield from lines[first - 1 : last]
+    yield from wrapped(lines[first - 1 : last])
     for clause in clauses:
-        yield from lines[clause.line - 1 : clause.end]
+        yield from lines[docs_of(lines, clause.line - 1) : clause.end]
+
+
+def wrapped(head):
+    """The head of a function in as few lines as it takes."""
+    text = " ".join(line.strip() for line in head)
+    text = re.sub(r"(?<=[<(]) | (?=>)(?<!-)|,? (?=[)])|, (?=>)", "", text)
+    indent = head[0][: -len(head[0].lstrip())]
+    return textwrap.wrap(text, 120, initial_indent=indent, subsequent_indent=indent + "    ")
 
 
 def trait_of(name, source, clauses):

@@ -1,5 +1,7 @@
 """Which words some contracts need."""
 
+from definitions import module_of
+
 
 class Needed:
     """What contracts need: the words and types that they cite, and those on which these stand. Each has the place that
@@ -24,6 +26,7 @@ class Needed:
 
     def _note(self, place, target, word):
         """Notes a word or a type that is cited at a place, and gives what it cites."""
+        target = module_of(self._modules, target)
         parts = target.split(".")
         if parts[0] != "Rattle" or parts[1] not in self._crates:
             return []
