@@ -38,7 +38,9 @@ def wrapped(head):
     text = " ".join(line.strip() for line in head)
     text = re.sub(r"(?<=[<(]) | (?=>)(?<!-)|,? (?=[)])|, (?=>)", "", text)
     indent = head[0][: -len(head[0].lstrip())]
-    return textwrap.wrap(text, 120, initial_indent=indent, subsequent_indent=indent + "    ")
+    # A bound stays on the line of its name.
+    lines = textwrap.wrap(text.replace(": ", ":\xa0"), 120, initial_indent=indent, subsequent_indent=indent + "    ")
+    return [line.replace("\xa0", " ") for line in lines]
 
 
 def trait_of(name, source, clauses):
