@@ -2,6 +2,7 @@
 
 import re
 import textwrap
+from itertools import takewhile
 
 
 def headline_of(checks):
@@ -25,9 +26,10 @@ def headline_of(checks):
 
 
 def contract_of(source, clauses):
-    """The head of a call and its clauses."""
+    """What a call is for, its head and its clauses."""
     lines = source.path.read_text(encoding="utf-8").splitlines()
     first, last = clauses[0].head
+    yield from takewhile(lambda line: line.strip() != "///", lines[docs_of(lines, first - 1) : first - 1])
     yield from wrapped(lines[first - 1 : last])
     for clause in clauses:
         yield from lines[docs_of(lines, clause.line - 1) : clause.end]
