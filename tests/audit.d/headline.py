@@ -7,6 +7,8 @@ from itertools import takewhile
 
 def headline_of(checks):
     """The lines of the text."""
+    yield "// docs/AUDIT.md says how this is read."
+    yield ""
     for call, clauses in zip(checks.listed.calls, checks.clauses):
         source = checks.sources.read(call.source)
         yield f"// ==== {call.source}"
