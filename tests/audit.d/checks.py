@@ -18,6 +18,10 @@ class Checks:
         for call, clauses in zip(listed.calls, self.clauses):
             for clause in clauses:
                 self.headline.add(call.source, clause)
+        for source, name in list(self.headline.types):
+            for contract in sources.read(source).contracts:
+                if contract.block.kind == "struct" and contract.owner == name:
+                    self.headline.add(source, contract)
 
     def run(self):
         """Runs all checks, and gives what is wrong, each once and in order."""
