@@ -4,6 +4,7 @@ ghost use Rattle.std.specs.Prelude.{◌≡◌, ◌≢◌, IfOk, IfSome};
 ghost use Rattle.p3_hashes.specs.Sha.{sha256_rows};
 
 use anyhow::Result;
+use p3_hashes::laws::groups_are_messages;
 use p3_hashes::sha::{Sha256Nodes, Sha256Rows, group_message};
 use p3_merkle_tree::{
     BatchOpening, BatchOpeningRef, Collision, MerkleCap, MerkleTreeError, MerkleTreeMmcs,
@@ -33,15 +34,15 @@ fn colliding_messages<const N: usize>(
     ensures { IfOk result (λ found. IfSome found (λ (first, second).
         (first.items ≢ second.items) × (sha256_rows first.items ≡ sha256_rows second.items))) }
 {
-    let found = scheme.extract_collision(alloc, cap, &DIMENSIONS, index, first, index, second)?;
-    Ok(match found {
-        None => None,
-        Some(Collision::Words { first, second, .. }) => Some((first, second)),
-        Some(Collision::Digests { first, second, .. }) => Some((
-            group_message(alloc, &first)?,
-            group_message(alloc, &second)?,
-        )),
-    })
+    match scheme.extract_collision(alloc, cap, &DIMENSIONS, index, first, index, second)? {
+        None => Ok(None),
+        Some(Collision::Words { first, second, .. }) => Ok(Some((first, second))),
+        Some(Collision::Digests { first, second, .. }) => {
+            groups_are_messages();
+            let message = group_message(alloc, &first)?;
+            Ok(Some((message, group_message(alloc, &second)?)))
+        }
+    }
 }
 
 /// Compares an opening with itself, since no collision of SHA-256 is known.
