@@ -155,6 +155,13 @@ class Checks:
             self._say(LIST, f"modules and lines of the headline, then of all, are {totals}, not {self.listed.totals}")
         if totals[0][1] > MOST_LINES:
             self._say(LIST, f"the headline needs more than {MOST_LINES} lines of definitions")
-        places = [self.listed.modules[name] for name, said in self.listed.counts.items() if said[0]]
-        if places != list(range(len(places))):
-            self._say(LIST, "a module of the headline comes after other modules")
+        self._check_order()
+
+    def _check_order(self):
+        """Sees that the modules of the headline come first, with others among them only where they use these."""
+        names = [name for name in self.listed.modules if name in self.modules]
+        ours = [name for name in names if self.listed.counts[name][0]]
+        used = {module_of(self.modules, path) for name in ours for _, path in self.modules[name].used}
+        for name in names[: names.index(ours[-1])] if ours else []:
+            if name not in ours and name not in used:
+                self._say_listed(name, "comes before a module of the headline")

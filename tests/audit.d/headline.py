@@ -11,7 +11,7 @@ def headline_of(checks):
     yield ""
     for call, clauses in zip(checks.listed.calls, checks.clauses):
         source = checks.sources.read(call.source)
-        yield f"// ==== {call.source}"
+        yield f"// ==== {call.name}: {call.source}"
         yield from trait_of(call.name, source, clauses) if call.is_trait else contract_of(source, clauses)
         renamed = sorted({name for clause in clauses for name in clause.renamed()})
         yield from (f"    // {name} is {word} of {module}." for name, module, word in renamed)
