@@ -1,35 +1,23 @@
-//! Two openings of one cap that answer one row in two ways, and the two inputs behind them.
+//! An opening that answers a committed row in another way, and the two inputs behind both answers.
 
 use anyhow::Result;
+use end_to_end::plain_compared::commit_compare;
 use p3_hashes::fold::{FoldCompress, FoldHash};
-use p3_merkle_tree::{BatchOpening, BatchOpeningRef, MerkleCap, MerkleTreeMmcs};
-use p3_support::matrix::Dimensions;
+use p3_merkle_tree::{BatchOpeningRef, MerkleTreeMmcs};
+use p3_support::matrix::RowMajorMatrix;
 
 type Fold = MerkleTreeMmcs<u32, u32, FoldHash<4>, FoldCompress<2, 4>, 2, 1>;
 
-const DIMENSIONS: [Dimensions; 1] = [Dimensions {
-    width: 2,
-    height: 2,
-}];
-
-/// Prints the collision: the rows [1, 31] and [2, 0] both have the fold digest 1023.
+/// Prints the collision: the row [2, 0] is claimed for [1, 31], and both have the fold digest 1023.
 pub fn run(rt: &HostRuntime) -> Result<()> {
     let alloc = rt.alloc();
     let scheme = Fold::new(FoldHash::<4>, FoldCompress::<2, 4>, 0);
-    let cap = MerkleCap::new(vec![in alloc; [32772]]?);
-    let honest = BatchOpening::new(
-        vec![in alloc; vec![in alloc; 1u32, 31]?]?,
-        vec![in alloc; [1058]]?,
-    );
-    let forged = BatchOpening::new(
-        vec![in alloc; vec![in alloc; 2u32, 0]?]?,
-        vec![in alloc; [1058]]?,
-    );
-    let (first, second) = (
-        BatchOpeningRef::from(&honest),
-        BatchOpeningRef::from(&forged),
-    );
-    let found = scheme.extract_collision(alloc, &cap, &DIMENSIONS, 0, first, 0, second)?;
+    let table = RowMajorMatrix::try_new(vec![in alloc; 1u32, 31, 3, 4]?, 2)?;
+    let row = vec![in alloc; vec![in alloc; 2u32, 0]?]?;
+    let siblings = vec![in alloc; [1058]]?;
+    let claimed = BatchOpeningRef::new(&row, &siblings);
+    let compared = commit_compare(alloc, &scheme, vec![in alloc; table]?, 0, claimed)?;
+    let found = compared.found?;
     println!(rt; "{found:?}")?;
     Ok(())
 }

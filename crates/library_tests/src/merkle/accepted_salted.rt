@@ -1,176 +1,20 @@
-//! Callers of the salted scheme that are generic in the hash, the compression, the generator, the matrices and the
-//! arity: what a scheme opens of its own commitment is accepted, under the dimensions that the matrices show. They need
-//! no proof file.
-ghost use Rattle.std.specs.Prelude.{◌≡◌, IfErr, IfOk, map};
-ghost use Rattle.p3_merkle_tree.specs.Commitments.{IsCommitment};
-ghost use Rattle.p3_merkle_tree.specs.MerkleTreeError.TheVariants.{OutOfMemory};
-ghost use Rattle.p3_merkle_tree.specs.HidingSchemes.{salted_params_of};
-ghost use Rattle.p3_merkle_tree.specs.SaltedTrees.{HaveSaltColumns};
-ghost use Rattle.p3_merkle_tree.specs.Parts.{layers_of, matrices_of, tree_batch};
-ghost use Rattle.p3_support.specs.Batches.{dimensions_in};
-ghost use Rattle.p3_support.specs.Pairs.{left_of};
-ghost use Rattle.p3_support.specs.Shown.{roots_of};
+//! What the salted scheme commits to, opens and accepts from commit to verdict, at worked values; and a claimed opening
+//! of other rows with the digest of the honest ones.
 
-use crate::merkle::accepted::Judged;
+use end_to_end::salted::{salted_commit_open_verify, salted_commit_open_verify_pruned};
+use end_to_end::salted_compared::{salted_commit_compare, salted_commit_compare_pruned};
 use p3_hashes::fold::{FoldCompress, FoldHash};
-use p3_merkle_tree::{
-    BatchOpening, BatchOpeningRef, MerkleCap, MerkleTreeError, MerkleTreeHidingMmcs,
-    SaltedMultiProof, SaltedProof, SaltedTree, check_indices, laws,
-};
-use p3_support::compress::PseudoCompressionFunction;
-use p3_support::hasher::CryptographicHasher;
-use p3_support::matrix::{Dimensions, Matrix, dimensions_of};
-use rand_core::CryptoRng;
-use std::alloc::Global;
+use p3_merkle_tree::{BatchOpeningRef, MerkleTreeHidingMmcs, PrunedMerklePaths};
 use std::test::Fail;
 use test_fixtures::counting::Counting;
-use test_fixtures::matrices::numbered;
+use test_fixtures::matrices::{numbered, two_rows};
 
-/// The salted scheme of a hash and a compression over words, with one salt for each row.
-type Salted<H, C, R, const N: usize> = MerkleTreeHidingMmcs<u32, u32, H, C, R, N, 1, 1>;
-
-/// A cap.
-type Cap = MerkleCap<u32, [u32; 1]>;
-
-/// A tree over salted matrices.
-type Tree<M, const N: usize> = SaltedTree<u32, u32, M, N, 1>;
-
-/// The opening of one index.
-type Opening = BatchOpening<u32, SaltedProof<u32, u32, 1>>;
-
-/// The rows of several indices, and the proof of them.
-type MultiOpening = (Vec<Vec<Vec<u32>>>, SaltedMultiProof<u32, u32, 1>);
-
-/// An opening of one index and one of several, with what their verification answers.
-type BothJudged = (Judged<Opening>, Judged<MultiOpening>);
-
-/// Commits to matrices, and makes their dimensions.
-///
-/// # Errors
-///
-/// Why the matrices are not committed to, or that there is no memory.
-fn committed<
-    H: CryptographicHasher<u32, u32, 1>,
-    C: PseudoCompressionFunction<u32, N, 1>,
-    R: CryptoRng,
-    M: Matrix<u32> + Drop,
-    const N: usize,
->(
-    alloc: Global,
-    scheme: &mut Salted<H, C, R, N>,
-    matrices: Vec<M>,
-) -> Result<(Cap, Tree<M, N>, Vec<Dimensions>), MerkleTreeError>
-    ensures commitment { IfOk result (λ (cap, tree, dimensions).
-        IsCommitment (salted_params_of H.hash C.compression 1 scheme.new dimensions.items) (roots_of cap)
-        (tree_batch tree) (layers_of tree)) }
-    ensures columns { IfOk result (λ (cap, tree, dimensions). HaveSaltColumns 1 (matrices_of tree)) }
-    ensures dimensions { IfOk result (λ (cap, tree, dimensions).
-        dimensions.items ≡ dimensions_in M.height_of M.width_of (map left_of (matrices_of tree))) }
-{
-    laws::dimensions::<u32, M, N>();
-    let dimensions = dimensions_of(alloc, &matrices)?;
-    let (cap, tree) = scheme.commit(alloc, matrices)?;
-    Ok((cap, tree, dimensions))
-}
-
-/// Opens an index of what is committed to, and verifies the opening.
-///
-/// # Errors
-///
-/// That the tree has no such index, or that there is no memory.
-fn judged_index<
-    H: CryptographicHasher<u32, u32, 1>,
-    C: PseudoCompressionFunction<u32, N, 1>,
-    R,
-    M: Matrix<u32>,
-    const N: usize,
->(
-    alloc: Global,
-    scheme: &Salted<H, C, R, N>,
-    cap: &Cap,
-    tree: &Tree<M, N>,
-    dimensions: &[Dimensions],
-    index: usize,
-) -> Result<Judged<Opening>, MerkleTreeError>
-    requires commitment { let c = salted_params_of H.hash C.compression 1 scheme.now dimensions.now in
-        IsCommitment c (roots_of cap.now) (tree_batch tree.now) (layers_of tree.now) }
-    requires columns { HaveSaltColumns 1 (matrices_of tree.now) }
-    requires dimensions { dimensions.now ≡ dimensions_in M.height_of M.width_of (map left_of (matrices_of tree.now)) }
-    ensures accepted { IfOk result (λ (opening, verdict). IfErr verdict (λ e. e ≡ OutOfMemory)) }
-{
-    laws::dimensions::<u32, M, N>();
-    let max_height = scheme.get_max_height(tree);
-    if index >= max_height {
-        return Err(MerkleTreeError::IndexOutOfBounds { max_height, index });
-    }
-    let opening = scheme.open_batch(alloc, index, tree)?;
-    let lent = BatchOpeningRef::from(&opening);
-    let verdict = scheme.verify_batch(alloc, cap, dimensions, index, lent);
-    Ok((opening, verdict))
-}
-
-/// Opens several indices of what is committed to by one proof, and verifies the opening.
-///
-/// # Errors
-///
-/// That the tree has not all the indices, or that there is no memory.
-fn judged_indices<
-    H: CryptographicHasher<u32, u32, 1>,
-    C: PseudoCompressionFunction<u32, N, 1>,
-    R,
-    M: Matrix<u32>,
-    const N: usize,
->(
-    alloc: Global,
-    scheme: &Salted<H, C, R, N>,
-    cap: &Cap,
-    tree: &Tree<M, N>,
-    dimensions: &[Dimensions],
-    indices: &[usize],
-) -> Result<Judged<MultiOpening>, MerkleTreeError>
-    requires commitment { let c = salted_params_of H.hash C.compression 1 scheme.now dimensions.now in
-        IsCommitment c (roots_of cap.now) (tree_batch tree.now) (layers_of tree.now) }
-    requires columns { HaveSaltColumns 1 (matrices_of tree.now) }
-    requires dimensions { dimensions.now ≡ dimensions_in M.height_of M.width_of (map left_of (matrices_of tree.now)) }
-    ensures accepted { IfOk result (λ (opening, verdict). IfErr verdict (λ e. e ≡ OutOfMemory)) }
-{
-    laws::dimensions::<u32, M, N>();
-    check_indices(scheme.get_max_height(tree), indices)?;
-    let (rows, proof) = scheme.open_multi_batch(alloc, indices, tree)?;
-    let verdict = scheme.verify_multi_batch(alloc, cap, dimensions, indices, &rows, &proof);
-    Ok(((rows, proof), verdict))
-}
-
-/// Commits to matrices, opens an index alone and several indices by one proof, and verifies both openings.
-///
-/// # Errors
-///
-/// Why the matrices are not committed to; that they have not all the indices; that there is no memory.
-fn judged_openings<
-    H: CryptographicHasher<u32, u32, 1>,
-    C: PseudoCompressionFunction<u32, N, 1>,
-    R: CryptoRng,
-    M: Matrix<u32> + Drop,
-    const N: usize,
->(
-    alloc: Global,
-    scheme: &mut Salted<H, C, R, N>,
-    matrices: Vec<M>,
-    index: usize,
-    indices: &[usize],
-) -> Result<BothJudged, MerkleTreeError>
-    ensures one { IfOk result (λ (one, several). IfErr one.1 (λ e. e ≡ OutOfMemory)) }
-    ensures several { IfOk result (λ (one, several). IfErr several.1 (λ e. e ≡ OutOfMemory)) }
-{
-    let (cap, tree, dimensions) = committed(alloc, scheme, matrices)?;
-    let one = judged_index(alloc, scheme, &cap, &tree, &dimensions, index)?;
-    let several = judged_indices(alloc, scheme, &cap, &tree, &dimensions, indices)?;
-    Ok((one, several))
-}
+/// The salted scheme of two children over the fold functions, with one salt for each row.
+type Salted = MerkleTreeHidingMmcs<u32, u32, FoldHash<1>, FoldCompress<2, 1>, Counting, 2, 1, 1>;
 
 /// The scheme of two children over the fold functions, whose cap is the root, with one salt for each row. The salts
 /// are 1, 2, 3 and so on.
-fn scheme() -> Salted<FoldHash<1>, FoldCompress<2, 1>, Counting, 2> {
+fn scheme() -> Salted {
     let rng = Counting { step: 1, last: 0 };
     MerkleTreeHidingMmcs::new(FoldHash, FoldCompress, 0, rng)
 }
@@ -182,30 +26,92 @@ const SIZES: [(usize, usize); 2] = [(2, 4), (3, 2)];
 // the salt j + 5, and the digest 923526 + 30784 * j.
 
 #[test]
-fn openings_are_accepted(rt: HostRuntime) -> Result<(), Fail> {
+fn a_salted_index_is_opened_and_accepted(rt: HostRuntime) -> Result<(), Fail> {
     let alloc = rt.alloc();
     let matrices = numbered(alloc, &SIZES)?;
-    let (one, several) = judged_openings(alloc, &mut scheme(), matrices, 3, &[3, 0, 3])?;
-    let (opening, verdict) = &one;
+    let verified = salted_commit_open_verify(alloc, &mut scheme(), matrices, 3)?;
+    let opening = &verified.opening;
     let (rows, (salts, siblings)) = (&opening.opened_values, &opening.opening_proof);
     // 31778 is the digest of the row 2. That of the rows 0 and 1 is 954338 = 31 * 29792 + 30785 + 1, and with the row 0
     // of the other matrix 31 * 954338 + 923526 + 1.
-    let shown = format!(in alloc; "{rows:?}, {salts:?}, {siblings:?}, {verdict:?}")?;
+    let shown = format!(in alloc; "{rows:?}, {salts:?}, {siblings:?}")?;
     assert_eq!(rt;
         shown.as_str(),
-        "[[3, 3], [1, 1, 1]], [[4], [6]], [[31778], [30508005]], Ok(())"
+        "[[3, 3], [1, 1, 1]], [[4], [6]], [[31778], [30508005]]"
     );
-    let ((rows, (salts, proof)), verdict) = &several;
-    let shown = format!(in alloc; "{rows:?}, {verdict:?}")?;
+    assert_eq!(rt; verified.verdict, Ok(()));
+    Ok(())
+}
+
+#[test]
+fn repeated_salted_indices_are_opened_and_accepted(rt: HostRuntime) -> Result<(), Fail> {
+    let alloc = rt.alloc();
+    let matrices = numbered(alloc, &SIZES)?;
+    let verified = salted_commit_open_verify_pruned(alloc, &mut scheme(), matrices, &[3, 0, 3])?;
+    let (rows, (salts, proof)) = &verified.opening;
+    let shown = format!(in alloc; "{rows:?}")?;
     assert_eq!(rt;
         shown.as_str(),
-        "[[[3, 3], [1, 1, 1]], [[0, 0], [0, 0, 0]], [[3, 3], [1, 1, 1]]], Ok(())"
+        "[[[3, 3], [1, 1, 1]], [[0, 0], [0, 0, 0]], [[3, 3], [1, 1, 1]]]"
     );
     let digests = &proof.sibling_hashes;
     let shown = format!(in alloc; "{salts:?}, {digests:?}")?;
     assert_eq!(rt;
         shown.as_str(),
         "[[[4], [6]], [[1], [5]], [[4], [6]]], [[30785], [31778]]"
+    );
+    assert_eq!(rt; verified.verdict, Ok(()));
+    Ok(())
+}
+
+// Below, the rows [1, 31] and [3, 4] have the salts 1 and 2, and with these the digests 31714 and 32800. The row [2, 0]
+// with the salt 1 has the digest 31714, too.
+
+#[test]
+fn another_salted_row_of_the_same_digest_is_a_collision(rt: HostRuntime) -> Result<(), Fail> {
+    let alloc = rt.alloc();
+    let rows = vec![in alloc; vec![in alloc; 2u32, 0]?]?;
+    let salts = vec![in alloc; vec![in alloc; 1u32]?]?;
+    let proof = (salts, vec![in alloc; [32800]]?);
+    let claimed = BatchOpeningRef::new(&rows, &proof);
+    let matrices = vec![in alloc; two_rows(alloc, &[1, 31, 3, 4])?]?;
+    let compared = salted_commit_compare(alloc, &mut scheme(), matrices, 0, claimed)?;
+    let found = &compared.found;
+    let shown = format!(in alloc; "{found:?}")?;
+    assert_eq!(rt;
+        shown.as_str(),
+        "Ok(Some(Words { place: Leaf, first: [2, 0, 1], second: [1, 31, 1] }))"
+    );
+    Ok(())
+}
+
+#[test]
+fn another_salted_row_among_several_is_a_collision(rt: HostRuntime) -> Result<(), Fail> {
+    let alloc = rt.alloc();
+    let last = vec![in alloc; vec![in alloc; 3u32, 4]?]?;
+    let first = vec![in alloc; vec![in alloc; 2u32, 0]?]?;
+    let rows = vec![in alloc; last, first]?;
+    let last = vec![in alloc; vec![in alloc; 2u32]?]?;
+    let first = vec![in alloc; vec![in alloc; 1u32]?]?;
+    let pruned = PrunedMerklePaths::<u32, 1> {
+        sibling_hashes: Vec::new(alloc),
+    };
+    let proof = (vec![in alloc; last, first]?, pruned);
+    let matrices = vec![in alloc; two_rows(alloc, &[1, 31, 3, 4])?]?;
+    let indices = [1, 0];
+    let compared = salted_commit_compare_pruned(
+        alloc,
+        &mut scheme(),
+        matrices,
+        &indices,
+        &rows,
+        &proof,
+    )?;
+    let found = &compared.found;
+    let shown = format!(in alloc; "{found:?}")?;
+    assert_eq!(rt;
+        shown.as_str(),
+        "Ok(Some((1, 1, Words { place: Leaf, first: [2, 0, 1], second: [1, 31, 1] })))"
     );
     Ok(())
 }

@@ -1,0 +1,3 @@
+mod RefusalFacts
+mod SaltedFacts
+mod ComparisonFacts

@@ -1,0 +1,58 @@
+-- The claimed pruned opening is compared with the honest one, under the cap of the matrices.
+use Rattle.std.proofs.Common.{◌≡◌, ◌∙◌, List, refl, subst, sym}
+use Rattle.p3_support.specs.Shown.{roots_of, row_sets}
+use Rattle.p3_support.specs.declared.matrix.Dimensions.{Dimensions}
+use Rattle.p3_merkle_tree.specs.Commitments.{IsOwn, cap_over}
+use Rattle.p3_merkle_tree.specs.Extraction.{IsExtraction}
+use Rattle.p3_merkle_tree.specs.Nodes.{shape}
+use Rattle.p3_merkle_tree.specs.Parts.{layers_of}
+use Rattle.p3_merkle_tree.specs.Presented.{presented_pruned}
+use Rattle.p3_merkle_tree.specs.Pruning.{IsPrunedAccepted, PrunedOpening, honest_query, pruned_of}
+use Rattle.p3_merkle_tree.specs.Schemes.{cap_rule_of, params_of}
+use Rattle.p3_merkle_tree.specs.Views.{batch_of, found_pair, pruned_lent, pruned_made}
+use Rattle.end_to_end.proofs.ComparisonFacts.{compared_pruned}
+use Rattle.end_to_end.proofs.RefusalFacts.{pruned_unrefused}
+use Rattle.end_to_end.proofs.plain_compared.commit_compare_pruned.Goals as goal
+
+pub returns-clause-opened : goal.returns-clause-opened
+returns-clause-opened g c =
+    let batch = batch_of g.M.Matrix.height_of g.M.Matrix.width_of g.M.Matrix.row_of g.row.N in
+    let at = params_of g.H.CryptographicHasher.hash g.C.PseudoCompressionFunction.compression g.row.D
+    c.args.scheme.now in
+    let indices = c.args.indices.now in
+    subst (λ (ms : List _). let p = at (shape (batch ms)).dimensions in
+    IsOwn p (batch ms) (layers_of c.in_ok-cap.tree) →
+    pruned_made indices c.in_ok-opening.opening ≡ honest_query p.functions (batch ms) p.layer indices)
+    c.in_ok-cap.ensures.matrices c.in_ok-opening.ensures.honest c.in_ok-cap.ensures.committed.own_layers
+
+pub returns-clause-compared : goal.returns-clause-compared
+returns-clause-compared g c =
+    let row_eq = g.P.Value.PartialEq.eq in
+    let digest_eq = g.PW.Value.PartialEq.eq in
+    let scheme = c.args.scheme.now in
+    let rule = cap_rule_of scheme in
+    let at = params_of g.H.CryptographicHasher.hash g.C.PseudoCompressionFunction.compression g.row.D scheme in
+    let batch = batch_of g.M.Matrix.height_of g.M.Matrix.width_of g.M.Matrix.row_of g.row.N in
+    let b = batch c.args.matrices.items in
+    let k = at (shape b).dimensions in
+    let cap = roots_of c.in_ok-cap.cap in
+    let indices = c.args.indices.now in
+    let p = pruned_lent indices c.args.rows.now c.args.proof.now in
+    let q = pruned_made indices c.in_ok-opening.opening in
+    let r = c.extract_collision_multi-found.result in
+    let committed = c.in_ok-cap.ensures.committed in
+    let under_own_cap = subst (λ (ms : List _). let k = at (shape (batch ms)).dimensions in
+    IsOwn k (batch ms) (layers_of c.in_ok-cap.tree) → IsPrunedAccepted k (cap_over k (batch ms)) q)
+    c.in_ok-cap.ensures.matrices c.in_ok-opening.ensures.accepted committed.own_layers in
+    let accepted = subst (λ (z : List (List _)). IsPrunedAccepted k z q) (sym committed.own_cap) under_own_cap in
+    let same = c.deref.ensures.value ∙ c.in_ok-cap.ensures.dimensions in
+    let lent = c.deref-2.ensures.value in
+    let is = subst (λ (z : List Dimensions × PrunedOpening _ _). IsExtraction row_eq digest_eq rule (at z.0)
+    (presented_pruned row_eq digest_eq (at z.0) cap p) (presented_pruned row_eq digest_eq (at z.0) cap z.1)
+    (found_pair r))
+    (λ i. (same i, pruned_of indices (row_sets (lent i)) c.in_ok-opening.opening.pruned_proof.sibling_hashes.items))
+    c.extract_collision_multi-found.ensures in
+    let unrefused = pruned_unrefused row_eq digest_eq k cap g.met.P.PackedValue.eq_is_equality
+    g.met.PW.PackedValue.eq_is_equality c.answers.ensures.each_path scheme.arity q accepted in
+    compared_pruned row_eq digest_eq rule k cap p q refl c.extraction.ensures.one_index scheme.arity unrefused accepted
+    r is

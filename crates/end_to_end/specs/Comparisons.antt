@@ -1,0 +1,102 @@
+-- What the comparison of an opening that anybody claims with the honest one answers.
+use Rattle.std.specs.Prelude.{◌≡◌, ◌≢◌, ◌↔◌, ◌<◌, ℕ, Bool, IfOk, IfSome, IsNone, IsSome, IsTrue, List, [], MatchResult}
+use Rattle.std.specs.Prelude.{Option, Result, length, slice_index_or}
+use Rattle.p3_support.specs.declared.matrix.Dimensions.{Dimensions}
+use Rattle.p3_merkle_tree.specs.Checks.{AgreeWhereShared, IsAccepted, Params, is_authenticated}
+use Rattle.p3_merkle_tree.specs.Extraction.{IsCollision, RowsAgreeWhereAuthenticated}
+use Rattle.p3_merkle_tree.specs.Geometry.{heights}
+use Rattle.p3_merkle_tree.specs.InputPair.{InputPair}
+use Rattle.p3_merkle_tree.specs.MerkleTreeError.{MerkleTreeError}
+use Rattle.p3_merkle_tree.specs.MerkleTreeError.TheVariants.{OutOfMemory}
+use Rattle.p3_merkle_tree.specs.Openings.{Opening}
+use Rattle.p3_merkle_tree.specs.Pruning.{IsPrunedAccepted, PrunedOpening, opening_at}
+use Rattle.p3_merkle_tree.specs.Refusals.{AnswersUnlessMemory, pruned_refusal_under, refusal_under}
+use Rattle.p3_merkle_tree.specs.SaltedExtraction.{AgreeWhereAuthenticated}
+use Rattle.p3_merkle_tree.specs.SaltedOpenings.{IsSaltedAccepted, IsSaltedPrunedAccepted, SaltedOpening, SaltedPruned}
+use Rattle.p3_merkle_tree.specs.SaltedOpenings.{joined, joined_sets}
+use Rattle.p3_merkle_tree.specs.SaltRefusals.{salted_pruned_refusal_under, salted_refusal_under}
+use Rattle.p3_merkle_tree.specs.Views.{inputs_in}
+
+-- ---- openings of one index
+
+-- a claimed row of some authenticated matrix is not the honest one
+abbrev pub ClaimsAnotherRow : {T W : Type 0} → Params T W → (claimed honest : List (List T)) → Type 0
+ClaimsAnotherRow c claimed honest =
+    (k : ℕ) × (k < length (heights c.shape)) × IsTrue (is_authenticated c.shape c.layer k) ×
+    (slice_index_or claimed k [] ≢ slice_index_or honest k [])
+
+-- what is found in a claimed opening beside the honest one, under a cap
+pub record IsComparison {T W : Type 0} (digest_eq : W → W → Bool) (c : Params T W) (cap : List (List W))
+    (claimed honest : Opening T W) (found : Result (Option (InputPair T (List W))) MerkleTreeError) : Type 0 where
+  -- the claimed opening is refused for the first reason that holds, and Ok means that it is accepted
+  pub answer : AnswersUnlessMemory found (refusal_under digest_eq c cap claimed)
+  pub accepted : IfOk found (λ pair. IsAccepted c cap claimed)
+  -- what is found is a collision of both openings
+  pub collision : IfOk found (λ pair. IfSome pair (λ inputs. IsCollision c claimed honest (inputs_in inputs)))
+  -- nothing is found exactly where siblings and authenticated rows are the honest ones
+  pub none : IfOk found (λ pair. IsNone pair ↔ RowsAgreeWhereAuthenticated c claimed honest)
+  -- an accepted opening that claims another row gives a collision, unless memory runs out
+  pub bound : IsAccepted c cap claimed → ClaimsAnotherRow c claimed.rows honest.rows →
+      MatchResult found (λ pair. IsSome pair) (λ e. e ≡ OutOfMemory)
+
+-- the same of openings with e salts a row, of matrices of these dimensions without salts
+pub record IsSaltedComparison {T W : Type 0} (digest_eq : W → W → Bool) (e : ℕ) (dimensions : List Dimensions)
+    (c : Params T W) (cap : List (List W)) (claimed honest : SaltedOpening T W)
+    (found : Result (Option (InputPair T (List W))) MerkleTreeError) : Type 0 where
+  pub answer : AnswersUnlessMemory found (salted_refusal_under digest_eq e dimensions c cap claimed)
+  pub accepted : IfOk found (λ pair. IsSaltedAccepted e dimensions c cap claimed)
+  pub collision : IfOk found (λ pair.
+      IfSome pair (λ inputs. IsCollision c (joined claimed) (joined honest) (inputs_in inputs)))
+  -- nothing is found exactly where siblings, and the rows and salts of authenticated matrices, are the honest ones
+  pub none : IfOk found (λ pair. IsNone pair ↔ AgreeWhereAuthenticated c claimed honest)
+  pub bound : IsSaltedAccepted e dimensions c cap claimed → ClaimsAnotherRow c claimed.rows honest.rows →
+      MatchResult found (λ pair. IsSome pair) (λ e. e ≡ OutOfMemory)
+
+-- ---- openings of several indices
+
+-- a row that is claimed for some of n queries, of an authenticated matrix, is not the honest one
+abbrev pub ClaimsAnotherRowSet : {T W : Type 0} → Params T W → ℕ → (claimed honest : List (List (List T))) → Type 0
+ClaimsAnotherRowSet c n claimed honest =
+    (i : ℕ) × (i < n) × ClaimsAnotherRow c (slice_index_or claimed i []) (slice_index_or honest i [])
+
+-- each claimed query and each honest one agree at all places that both check
+abbrev pub AgreeWhereBothCheck : {T W : Type 0} → Params T W → (claimed honest : PrunedOpening T W) → Type 0
+AgreeWhereBothCheck c claimed honest =
+    (i j : ℕ) → i < length claimed.indices → j < length honest.indices →
+    AgreeWhereShared c (opening_at c claimed i) (opening_at c honest j)
+
+-- what is found in a claimed pruned opening beside the honest one, under a cap: the place of a claimed query, that of
+-- an honest one, and their inputs
+pub record IsPrunedComparison {T W : Type 0} (row_eq : T → T → Bool) (digest_eq : W → W → Bool) (c : Params T W)
+    (cap : List (List W)) (claimed honest : PrunedOpening T W)
+    (found : Result (Option (ℕ × ℕ × InputPair T (List W))) MerkleTreeError) : Type 0 where
+  -- the claimed opening is refused for the first reason that holds, and Ok means that it is accepted
+  pub answer : AnswersUnlessMemory found (pruned_refusal_under row_eq digest_eq c cap claimed)
+  pub accepted : IfOk found (λ pair. IsPrunedAccepted c cap claimed)
+  -- what is found is a collision of two queries, each with its restored path
+  pub collision : IfOk found (λ pair. IfSome pair (λ (i, j, inputs).
+      IsCollision c (opening_at c claimed i) (opening_at c honest j) (inputs_in inputs)))
+  -- nothing is found exactly where all checks agree; then each query has the honest siblings and authenticated rows
+  pub none : IfOk found (λ pair. IsNone pair ↔ AgreeWhereBothCheck c claimed honest)
+  pub agree : IfOk found (λ pair. IsNone pair → (i : ℕ) → i < length claimed.indices →
+      RowsAgreeWhereAuthenticated c (opening_at c claimed i) (opening_at c honest i))
+  -- an accepted opening that claims another row gives a collision, unless memory runs out
+  pub bound : IsPrunedAccepted c cap claimed →
+      ClaimsAnotherRowSet c (length claimed.indices) claimed.rows honest.rows →
+      MatchResult found (λ pair. IsSome pair) (λ e. e ≡ OutOfMemory)
+
+-- the same of openings with e salts a row, of matrices of these dimensions without salts
+pub record IsSaltedPrunedComparison {T W : Type 0} (row_eq : T → T → Bool) (digest_eq : W → W → Bool) (e : ℕ)
+    (dimensions : List Dimensions) (c : Params T W) (cap : List (List W)) (claimed honest : SaltedPruned T W)
+    (found : Result (Option (ℕ × ℕ × InputPair T (List W))) MerkleTreeError) : Type 0 where
+  pub answer : AnswersUnlessMemory found (salted_pruned_refusal_under row_eq digest_eq e dimensions c cap claimed)
+  pub accepted : IfOk found (λ pair. IsSaltedPrunedAccepted e dimensions c cap claimed)
+  pub collision : IfOk found (λ pair. IfSome pair (λ (i, j, inputs).
+      IsCollision c (opening_at c (joined_sets claimed) i) (opening_at c (joined_sets honest) j) (inputs_in inputs)))
+  pub none : IfOk found (λ pair. IsNone pair ↔ AgreeWhereBothCheck c (joined_sets claimed) (joined_sets honest))
+  -- then each query has the honest siblings, and the honest rows and salts of authenticated matrices
+  pub agree : IfOk found (λ pair. IsNone pair → (i : ℕ) → i < length claimed.indices →
+      RowsAgreeWhereAuthenticated c (opening_at c (joined_sets claimed) i) (opening_at c (joined_sets honest) i))
+  pub bound : IsSaltedPrunedAccepted e dimensions c cap claimed →
+      ClaimsAnotherRowSet c (length claimed.indices) claimed.rows honest.rows →
+      MatchResult found (λ pair. IsSome pair) (λ e. e ≡ OutOfMemory)

@@ -1,0 +1,3 @@
+-- What the contracts of this crate cite beside the definitions of p3_merkle_tree.
+pub mod Refusals
+pub mod Comparisons

@@ -1,0 +1,166 @@
+//! The plain scheme: what it opens of its own commitment is accepted.
+
+ghost use Rattle.std.specs.Prelude.{◌≡◌, ◌<◌, [], ◌∷◌, All, IfErr, IfOk, IsOk};
+ghost use Rattle.end_to_end.specs.Refusals.{open_refusal};
+ghost use Rattle.p3_merkle_tree.specs.Commitments.{IsCommitment};
+ghost use Rattle.p3_merkle_tree.specs.MerkleTreeError.TheVariants.{OutOfMemory};
+ghost use Rattle.p3_merkle_tree.specs.Nodes.{shape};
+ghost use Rattle.p3_merkle_tree.specs.Openings.{honest};
+ghost use Rattle.p3_merkle_tree.specs.Parts.{layers_of, matrices_of};
+ghost use Rattle.p3_merkle_tree.specs.Pruning.{honest_query};
+ghost use Rattle.p3_merkle_tree.specs.Refusals.{AnswersUnlessMemory};
+ghost use Rattle.p3_merkle_tree.specs.Schemes.{params_over};
+ghost use Rattle.p3_merkle_tree.specs.Views.{batch_of, heights_in, opening_made, pruned_made};
+ghost use Rattle.p3_support.specs.Batches.{greatest};
+ghost use Rattle.p3_support.specs.Shown.{roots_of};
+
+use crate::Verified;
+use p3_merkle_tree::{
+    BatchOpening, BatchOpeningRef, MerkleCap, MerkleTree, MerkleTreeError, MerkleTreeMmcs,
+    PrunedBatchOpening, check_indices, laws,
+};
+use p3_support::compress::PseudoCompressionFunction;
+use p3_support::hasher::CryptographicHasher;
+use p3_support::matrix::{Dimensions, Matrix, dimensions_of};
+use p3_support::packed::PackedValue;
+use std::alloc::Global;
+
+/// Commits to matrices that have all the indices. Returns the cap, the tree, and the dimensions of the matrices.
+pub(crate) fn committed<
+    P: PackedValue,
+    PW: PackedValue,
+    H: CryptographicHasher<P, PW, D>,
+    C: PseudoCompressionFunction<PW, N, D>,
+    M: Matrix<P::Value> + Drop,
+    const N: usize,
+    const D: usize,
+>(
+    alloc: Global,
+    scheme: &MerkleTreeMmcs<P, PW, H, C, N, D>,
+    matrices: Vec<M>,
+    indices: &[usize],
+) -> Result<
+    (
+        MerkleCap<P::Value, [PW::Value; D]>,
+        MerkleTree<P::Value, PW::Value, M, N, D>,
+        Vec<Dimensions>,
+    ),
+    MerkleTreeError,
+>
+    ensures answer { let heights = heights_in M.height_of M.width_of M.row_of matrices.items in
+        AnswersUnlessMemory result (open_refusal heights indices.now) }
+    ensures matrices { IfOk result (λ (cap, tree, dimensions). matrices_of tree ≡ matrices.items) }
+    ensures committed { let b = batch_of M.height_of M.width_of M.row_of N matrices.items in
+        let c = params_over H.hash C.compression D scheme.now (shape b) in
+        IfOk result (λ (cap, tree, dimensions). IsCommitment c (roots_of cap) b (layers_of tree)) }
+    ensures dimensions { let b = batch_of M.height_of M.width_of M.row_of N matrices.items in
+        IfOk result (λ (cap, tree, dimensions). dimensions.items ≡ (shape b).dimensions) }
+    ensures below { let heights = heights_in M.height_of M.width_of M.row_of matrices.items in
+        IfOk result (λ (cap, tree, dimensions). All (λ index. index < greatest heights) indices.now) }
+{
+    laws::dimensions::<P::Value, M, N>();
+    let dimensions = dimensions_of(alloc, &matrices)?;
+    let (cap, tree) = scheme.commit(alloc, matrices)?;
+    check_indices(scheme.get_max_height(&tree), indices)?;
+    Ok((cap, tree, dimensions))
+}
+
+/// Commits to matrices, opens the row of each that belongs to an index, and verifies the opening under the cap.
+///
+/// # Errors
+///
+/// `EmptyBatch`, `TooLarge` or `IncompatibleHeights` if the matrices have such heights; else `IndexOutOfBounds` if the
+/// index is not below the tallest height. `OutOfMemory` may come at any time.
+pub fn commit_open_verify<
+    P: PackedValue,
+    PW: PackedValue,
+    H: CryptographicHasher<P, PW, D>,
+    C: PseudoCompressionFunction<PW, N, D>,
+    M: Matrix<P::Value> + Drop,
+    const N: usize,
+    const D: usize,
+>(
+    alloc: Global,
+    scheme: &MerkleTreeMmcs<P, PW, H, C, N, D>,
+    matrices: Vec<M>,
+    index: usize,
+) -> Result<
+    Verified<
+        MerkleCap<P::Value, [PW::Value; D]>,
+        MerkleTree<P::Value, PW::Value, M, N, D>,
+        BatchOpening<P::Value, Vec<[PW::Value; D]>>,
+    >,
+    MerkleTreeError,
+>
+    ensures answer { let heights = heights_in M.height_of M.width_of M.row_of matrices.items in
+        AnswersUnlessMemory result (open_refusal heights (index ∷ [])) }
+    ensures matrices { IfOk result (λ v. matrices_of v.tree ≡ matrices.items) }
+    ensures committed { let b = batch_of M.height_of M.width_of M.row_of N matrices.items in
+        let c = params_over H.hash C.compression D scheme.now (shape b) in
+        IfOk result (λ v. IsCommitment c (roots_of v.cap) b (layers_of v.tree)) }
+    ensures opened { let b = batch_of M.height_of M.width_of M.row_of N matrices.items in
+        let c = params_over H.hash C.compression D scheme.now (shape b) in
+        IfOk result (λ v. opening_made index v.opening ≡ honest c.functions b c.layer index) }
+    ensures accepted { IfOk result (λ v. IsOk v.verdict) }
+{
+    let (cap, tree, dimensions) = committed(alloc, scheme, matrices, &[index])?;
+    let opening = scheme.open_batch(alloc, index, &tree)?;
+    let verdict = scheme.verify_batch(&cap, &dimensions, index, BatchOpeningRef::from(&opening));
+    Ok(Verified {
+        cap,
+        tree,
+        opening,
+        verdict,
+    })
+}
+
+/// Commits to matrices, opens the rows that belong to several indices by one proof, and verifies the opening under the
+/// cap. The indices may come in any order, with repeats.
+///
+/// # Errors
+///
+/// `EmptyBatch`, `TooLarge` or `IncompatibleHeights` if the matrices have such heights; else `IndexOutOfBounds` for the
+/// highest index, if it is not below the tallest height. `OutOfMemory` may come at any time, also as the verdict.
+pub fn commit_open_verify_pruned<
+    P: PackedValue,
+    PW: PackedValue,
+    H: CryptographicHasher<P, PW, D>,
+    C: PseudoCompressionFunction<PW, N, D>,
+    M: Matrix<P::Value> + Drop,
+    const N: usize,
+    const D: usize,
+>(
+    alloc: Global,
+    scheme: &MerkleTreeMmcs<P, PW, H, C, N, D>,
+    matrices: Vec<M>,
+    indices: &[usize],
+) -> Result<
+    Verified<
+        MerkleCap<P::Value, [PW::Value; D]>,
+        MerkleTree<P::Value, PW::Value, M, N, D>,
+        PrunedBatchOpening<P::Value, PW::Value, D>,
+    >,
+    MerkleTreeError,
+>
+    ensures answer { let heights = heights_in M.height_of M.width_of M.row_of matrices.items in
+        AnswersUnlessMemory result (open_refusal heights indices.now) }
+    ensures matrices { IfOk result (λ v. matrices_of v.tree ≡ matrices.items) }
+    ensures committed { let b = batch_of M.height_of M.width_of M.row_of N matrices.items in
+        let c = params_over H.hash C.compression D scheme.now (shape b) in
+        IfOk result (λ v. IsCommitment c (roots_of v.cap) b (layers_of v.tree)) }
+    ensures opened { let b = batch_of M.height_of M.width_of M.row_of N matrices.items in
+        let c = params_over H.hash C.compression D scheme.now (shape b) in
+        IfOk result (λ v. pruned_made indices.now v.opening ≡ honest_query c.functions b c.layer indices.now) }
+    ensures accepted { IfOk result (λ v. IfErr v.verdict (λ e. e ≡ OutOfMemory)) }
+{
+    let (cap, tree, dimensions) = committed(alloc, scheme, matrices, indices)?;
+    let opening = scheme.open_batch_pruned(alloc, indices, &tree)?;
+    let (rows, proof) = (&opening.opened_values, &opening.pruned_proof);
+    let verdict = scheme.verify_batch_pruned(alloc, &cap, &dimensions, indices, rows, proof);
+    Ok(Verified {
+        cap,
+        tree,
+        opening,
+        verdict,
+    })
+}

@@ -1,0 +1,221 @@
+//! The salted scheme: what it opens of its own commitment is accepted.
+
+ghost use Rattle.std.specs.Prelude.{◌≡◌, ◌<◌, [], ◌∷◌, All, IfErr, IfOk, map, slice_index};
+ghost use Rattle.end_to_end.specs.Refusals.{salted_open_refusal};
+ghost use Rattle.p3_merkle_tree.specs.Commitments.{IsCommitment};
+ghost use Rattle.p3_merkle_tree.specs.Geometry.{heights};
+ghost use Rattle.p3_merkle_tree.specs.HidingSchemes.{generator_of, plain_of, salted_params_of};
+ghost use Rattle.p3_merkle_tree.specs.MerkleTreeError.TheVariants.{OutOfMemory};
+ghost use Rattle.p3_merkle_tree.specs.Nodes.{shape};
+ghost use Rattle.p3_merkle_tree.specs.Openings.{honest, honest_rows};
+ghost use Rattle.p3_merkle_tree.specs.Parts.{layers_of, matrices_of, tree_batch};
+ghost use Rattle.p3_merkle_tree.specs.Pruning.{honest_query};
+ghost use Rattle.p3_merkle_tree.specs.Refusals.{AnswersUnlessMemory};
+ghost use Rattle.p3_merkle_tree.specs.Salted.{salted_batch};
+ghost use Rattle.p3_merkle_tree.specs.SaltedTrees.{right_batch, HaveSaltColumns};
+ghost use Rattle.p3_merkle_tree.specs.Views.{batch_of};
+ghost use Rattle.p3_support.specs.Batches.{greatest};
+ghost use Rattle.p3_support.specs.Pairs.{left_of};
+ghost use Rattle.p3_support.specs.Shown.{roots_of, row_lists, row_sets};
+
+use crate::Verified;
+use p3_merkle_tree::{
+    BatchOpening, BatchOpeningRef, MerkleCap, MerkleTreeError, MerkleTreeHidingMmcs,
+    SaltedMultiProof, SaltedProof, SaltedTree, check_indices, laws,
+};
+use p3_support::compress::PseudoCompressionFunction;
+use p3_support::hasher::CryptographicHasher;
+use p3_support::matrix::{Dimensions, Matrix, dimensions_of};
+use p3_support::packed::PackedValue;
+use p3_support::salts::SaltWord;
+use rand_core::CryptoRng;
+use std::alloc::Global;
+
+/// The rows of several indices, and their proof.
+pub type SaltedRows<T, W, const D: usize> = (Vec<Vec<Vec<T>>>, SaltedMultiProof<T, W, D>);
+
+/// Commits to matrices that have all the indices, with salts for each row. Returns the cap, the tree, and the
+/// dimensions of the matrices without salts.
+pub(crate) fn salted_committed<
+    P: PackedValue,
+    PW: PackedValue,
+    H: CryptographicHasher<P, PW, D>,
+    C: PseudoCompressionFunction<PW, N, D>,
+    R: CryptoRng,
+    M: Matrix<P::Value> + Drop,
+    const N: usize,
+    const D: usize,
+    const SALT_ELEMS: usize,
+>(
+    alloc: Global,
+    scheme: &mut MerkleTreeHidingMmcs<P, PW, H, C, R, N, D, SALT_ELEMS>,
+    matrices: Vec<M>,
+    indices: &[usize],
+) -> Result<
+    (
+        MerkleCap<P::Value, [PW::Value; D]>,
+        SaltedTree<P::Value, PW::Value, M, N, D>,
+        Vec<Dimensions>,
+    ),
+    MerkleTreeError,
+>
+where
+    P::Value: SaltWord,
+    ensures answer { let b = batch_of M.height_of M.width_of M.row_of N matrices.items in
+        AnswersUnlessMemory result (salted_open_refusal SALT_ELEMS (shape b).dimensions indices.now) }
+    ensures matrices { IfOk result (λ (cap, tree, dimensions). map left_of (matrices_of tree) ≡ matrices.items) }
+    ensures salted { let b = batch_of M.height_of M.width_of M.row_of N matrices.items in
+        let salted = salted_batch P.Value.of_salt_word SALT_ELEMS b (R.stream (generator_of scheme.old)) in
+        IfOk result (λ (cap, tree, dimensions). tree_batch tree ≡ salted) }
+    ensures committed { let b = batch_of M.height_of M.width_of M.row_of N matrices.items in
+        let c = salted_params_of H.hash C.compression D scheme.old (shape b).dimensions in
+        IfOk result (λ (cap, tree, dimensions). IsCommitment c (roots_of cap) (tree_batch tree) (layers_of tree)) }
+    ensures columns { IfOk result (λ (cap, tree, dimensions). HaveSaltColumns SALT_ELEMS (matrices_of tree)) }
+    ensures dimensions { let b = batch_of M.height_of M.width_of M.row_of N matrices.items in
+        IfOk result (λ (cap, tree, dimensions). dimensions.items ≡ (shape b).dimensions) }
+    ensures below { IfOk result (λ (cap, tree, dimensions).
+        All (λ index. index < greatest (heights (shape (tree_batch tree)))) indices.now) }
+
+    // The same of an index that is alone in its list, for calls that need it so.
+    ensures first { IfOk result (λ (cap, tree, dimensions).
+        slice_index indices.now 0 < greatest (heights (shape (tree_batch tree)))) }
+    ensures scheme { plain_of scheme.new ≡ plain_of scheme.old }
+{
+    laws::dimensions::<P::Value, M, N>();
+    let dimensions = dimensions_of(alloc, &matrices)?;
+    let (cap, tree) = scheme.commit(alloc, matrices)?;
+    check_indices(scheme.get_max_height(&tree), indices)?;
+    Ok((cap, tree, dimensions))
+}
+
+/// Commits to matrices with `SALT_ELEMS` salts for each row, opens the row of each that belongs to an index, with its
+/// salts, and verifies the opening under the cap.
+///
+/// # Errors
+///
+/// `EmptyBatch`, `TooLarge` or `IncompatibleHeights` if the matrices have such heights; else `TooLarge` for the first
+/// matrix whose width with its salts does not fit `usize`; else `IndexOutOfBounds` if the index is not below the
+/// tallest height. `OutOfMemory` may come at any time, also as the verdict.
+pub fn salted_commit_open_verify<
+    P: PackedValue,
+    PW: PackedValue,
+    H: CryptographicHasher<P, PW, D>,
+    C: PseudoCompressionFunction<PW, N, D>,
+    R: CryptoRng,
+    M: Matrix<P::Value> + Drop,
+    const N: usize,
+    const D: usize,
+    const SALT_ELEMS: usize,
+>(
+    alloc: Global,
+    scheme: &mut MerkleTreeHidingMmcs<P, PW, H, C, R, N, D, SALT_ELEMS>,
+    matrices: Vec<M>,
+    index: usize,
+) -> Result<
+    Verified<
+        MerkleCap<P::Value, [PW::Value; D]>,
+        SaltedTree<P::Value, PW::Value, M, N, D>,
+        BatchOpening<P::Value, SaltedProof<P::Value, PW::Value, D>>,
+    >,
+    MerkleTreeError,
+>
+where
+    P::Value: SaltWord,
+    ensures answer { let b = batch_of M.height_of M.width_of M.row_of N matrices.items in
+        AnswersUnlessMemory result (salted_open_refusal SALT_ELEMS (shape b).dimensions (index ∷ [])) }
+    ensures matrices { IfOk result (λ v. map left_of (matrices_of v.tree) ≡ matrices.items) }
+    ensures salted { let b = batch_of M.height_of M.width_of M.row_of N matrices.items in
+        let drawn = R.stream (generator_of scheme.old) in
+        IfOk result (λ v. tree_batch v.tree ≡ salted_batch P.Value.of_salt_word SALT_ELEMS b drawn) }
+    ensures committed { let b = batch_of M.height_of M.width_of M.row_of N matrices.items in
+        let c = salted_params_of H.hash C.compression D scheme.old (shape b).dimensions in
+        IfOk result (λ v. IsCommitment c (roots_of v.cap) (tree_batch v.tree) (layers_of v.tree)) }
+    ensures rows { let b = batch_of M.height_of M.width_of M.row_of N matrices.items in
+        IfOk result (λ v. row_lists v.opening.opened_values.items ≡ honest_rows b index) }
+    ensures salts { IfOk result (λ v. let salts = right_batch N (matrices_of v.tree) in
+        row_lists v.opening.opening_proof.0.items ≡ honest_rows salts index) }
+    ensures siblings { let b = batch_of M.height_of M.width_of M.row_of N matrices.items in
+        let c = salted_params_of H.hash C.compression D scheme.old (shape b).dimensions in
+        IfOk result (λ v. let opened = honest c.functions (tree_batch v.tree) c.layer index in
+        v.opening.opening_proof.1.items ≡ opened.siblings) }
+    ensures accepted { IfOk result (λ v. IfErr v.verdict (λ e. e ≡ OutOfMemory)) }
+    ensures scheme { plain_of scheme.new ≡ plain_of scheme.old }
+{
+    laws::restoration::<P::Value, PW::Value>();
+    let (cap, tree, dimensions) = salted_committed(alloc, scheme, matrices, &[index])?;
+    let opening = scheme.open_batch(alloc, index, &tree)?;
+    let honest = BatchOpeningRef::from(&opening);
+    let verdict = scheme.verify_batch(alloc, &cap, &dimensions, index, honest);
+    Ok(Verified {
+        cap,
+        tree,
+        opening,
+        verdict,
+    })
+}
+
+/// Commits to matrices with `SALT_ELEMS` salts for each row, opens the rows that belong to several indices by one
+/// proof, with their salts, and verifies the opening under the cap. The indices may come in any order, with repeats.
+///
+/// # Errors
+///
+/// `EmptyBatch`, `TooLarge` or `IncompatibleHeights` if the matrices have such heights; else `TooLarge` for the first
+/// matrix whose width with its salts does not fit `usize`; else `IndexOutOfBounds` for the highest index, if it is not
+/// below the tallest height. `OutOfMemory` may come at any time, also as the verdict.
+pub fn salted_commit_open_verify_pruned<
+    P: PackedValue,
+    PW: PackedValue,
+    H: CryptographicHasher<P, PW, D>,
+    C: PseudoCompressionFunction<PW, N, D>,
+    R: CryptoRng,
+    M: Matrix<P::Value> + Drop,
+    const N: usize,
+    const D: usize,
+    const SALT_ELEMS: usize,
+>(
+    alloc: Global,
+    scheme: &mut MerkleTreeHidingMmcs<P, PW, H, C, R, N, D, SALT_ELEMS>,
+    matrices: Vec<M>,
+    indices: &[usize],
+) -> Result<
+    Verified<
+        MerkleCap<P::Value, [PW::Value; D]>,
+        SaltedTree<P::Value, PW::Value, M, N, D>,
+        SaltedRows<P::Value, PW::Value, D>,
+    >,
+    MerkleTreeError,
+>
+where
+    P::Value: SaltWord,
+    ensures answer { let b = batch_of M.height_of M.width_of M.row_of N matrices.items in
+        AnswersUnlessMemory result (salted_open_refusal SALT_ELEMS (shape b).dimensions indices.now) }
+    ensures matrices { IfOk result (λ v. map left_of (matrices_of v.tree) ≡ matrices.items) }
+    ensures salted { let b = batch_of M.height_of M.width_of M.row_of N matrices.items in
+        let drawn = R.stream (generator_of scheme.old) in
+        IfOk result (λ v. tree_batch v.tree ≡ salted_batch P.Value.of_salt_word SALT_ELEMS b drawn) }
+    ensures committed { let b = batch_of M.height_of M.width_of M.row_of N matrices.items in
+        let c = salted_params_of H.hash C.compression D scheme.old (shape b).dimensions in
+        IfOk result (λ v. IsCommitment c (roots_of v.cap) (tree_batch v.tree) (layers_of v.tree)) }
+    ensures rows { let b = batch_of M.height_of M.width_of M.row_of N matrices.items in
+        IfOk result (λ v. row_sets v.opening.0.items ≡ map (honest_rows b) indices.now) }
+    ensures salts { IfOk result (λ v. let salts = right_batch N (matrices_of v.tree) in
+        row_sets v.opening.1.0.items ≡ map (honest_rows salts) indices.now) }
+    ensures digests { let b = batch_of M.height_of M.width_of M.row_of N matrices.items in
+        let c = salted_params_of H.hash C.compression D scheme.old (shape b).dimensions in
+        IfOk result (λ v. let opened = honest_query c.functions (tree_batch v.tree) c.layer indices.now in
+        v.opening.1.1.sibling_hashes.items ≡ opened.digests) }
+    ensures accepted { IfOk result (λ v. IfErr v.verdict (λ e. e ≡ OutOfMemory)) }
+    ensures scheme { plain_of scheme.new ≡ plain_of scheme.old }
+{
+    laws::restoration::<P::Value, PW::Value>();
+    let (cap, tree, dimensions) = salted_committed(alloc, scheme, matrices, indices)?;
+    let opening = scheme.open_multi_batch(alloc, indices, &tree)?;
+    let (rows, proof) = &opening;
+    let verdict = scheme.verify_multi_batch(alloc, &cap, &dimensions, indices, rows, proof);
+    Ok(Verified {
+        cap,
+        tree,
+        opening,
+        verdict,
+    })
+}

@@ -1,0 +1,196 @@
+//! The salted scheme: an opening that anybody presents has the rows that were committed to, or a collision is returned.
+
+ghost use Rattle.std.specs.Prelude.{◌≡◌, [], ◌∷◌, IfOk, map};
+ghost use Rattle.end_to_end.specs.Comparisons.{IsSaltedComparison, IsSaltedPrunedComparison};
+ghost use Rattle.end_to_end.specs.Refusals.{salted_open_refusal};
+ghost use Rattle.p3_merkle_tree.specs.Commitments.{IsCommitment};
+ghost use Rattle.p3_merkle_tree.specs.HidingSchemes.{generator_of, plain_of, salted_lent, salted_made};
+ghost use Rattle.p3_merkle_tree.specs.HidingSchemes.{salted_params_of, salted_pruned_lent, salted_pruned_made};
+ghost use Rattle.p3_merkle_tree.specs.Nodes.{shape};
+ghost use Rattle.p3_merkle_tree.specs.Openings.{honest, honest_rows};
+ghost use Rattle.p3_merkle_tree.specs.Parts.{layers_of, matrices_of, tree_batch};
+ghost use Rattle.p3_merkle_tree.specs.Pruning.{honest_query};
+ghost use Rattle.p3_merkle_tree.specs.Refusals.{AnswersUnlessMemory};
+ghost use Rattle.p3_merkle_tree.specs.Salted.{salted_batch};
+ghost use Rattle.p3_merkle_tree.specs.SaltedTrees.{right_batch};
+ghost use Rattle.p3_merkle_tree.specs.Views.{batch_of};
+ghost use Rattle.p3_support.specs.Pairs.{left_of};
+ghost use Rattle.p3_support.specs.Shown.{roots_of, row_lists, row_sets};
+
+use crate::Compared;
+use crate::salted::{SaltedRows, salted_committed};
+use p3_merkle_tree::{
+    BatchOpening, BatchOpeningRef, Collision, MerkleCap, MerkleTreeError, MerkleTreeHidingMmcs,
+    SaltedMultiProof, SaltedProof, SaltedTree, laws,
+};
+use p3_support::compress::PseudoCompressionFunction;
+use p3_support::hasher::CryptographicHasher;
+use p3_support::matrix::Matrix;
+use p3_support::packed::PackedValue;
+use p3_support::salts::SaltWord;
+use rand_core::CryptoRng;
+use std::alloc::Global;
+
+/// Commits to matrices with `SALT_ELEMS` salts for each row, opens the row of each that belongs to an index, with its
+/// salts, and compares an opening that anybody claims for this index with it: what is found is a collision of both, or
+/// why the salted `verify_batch` refuses the claimed one.
+///
+/// # Errors
+///
+/// `EmptyBatch`, `TooLarge` or `IncompatibleHeights` if the matrices have such heights; else `TooLarge` for the first
+/// matrix whose width with its salts does not fit `usize`; else `IndexOutOfBounds` if the index is not below the
+/// tallest height. `OutOfMemory` may come at any time, also as what is found.
+pub fn salted_commit_compare<
+    P: PackedValue,
+    PW: PackedValue,
+    H: CryptographicHasher<P, PW, D>,
+    C: PseudoCompressionFunction<PW, N, D>,
+    R: CryptoRng,
+    M: Matrix<P::Value> + Drop,
+    const N: usize,
+    const D: usize,
+    const SALT_ELEMS: usize,
+>(
+    alloc: Global,
+    scheme: &mut MerkleTreeHidingMmcs<P, PW, H, C, R, N, D, SALT_ELEMS>,
+    matrices: Vec<M>,
+    index: usize,
+    claimed: BatchOpeningRef<'_, P::Value, SaltedProof<P::Value, PW::Value, D>>,
+) -> Result<
+    Compared<
+        MerkleCap<P::Value, [PW::Value; D]>,
+        SaltedTree<P::Value, PW::Value, M, N, D>,
+        BatchOpening<P::Value, SaltedProof<P::Value, PW::Value, D>>,
+        Collision<P::Value, PW::Value, D>,
+    >,
+    MerkleTreeError,
+>
+where
+    P::Value: SaltWord,
+    ensures answer { let b = batch_of M.height_of M.width_of M.row_of N matrices.items in
+        AnswersUnlessMemory result (salted_open_refusal SALT_ELEMS (shape b).dimensions (index ∷ [])) }
+    ensures matrices { IfOk result (λ v. map left_of (matrices_of v.tree) ≡ matrices.items) }
+    ensures salted { let b = batch_of M.height_of M.width_of M.row_of N matrices.items in
+        let drawn = R.stream (generator_of scheme.old) in
+        IfOk result (λ v. tree_batch v.tree ≡ salted_batch P.Value.of_salt_word SALT_ELEMS b drawn) }
+    ensures committed { let b = batch_of M.height_of M.width_of M.row_of N matrices.items in
+        let c = salted_params_of H.hash C.compression D scheme.old (shape b).dimensions in
+        IfOk result (λ v. IsCommitment c (roots_of v.cap) (tree_batch v.tree) (layers_of v.tree)) }
+    ensures rows { let b = batch_of M.height_of M.width_of M.row_of N matrices.items in
+        IfOk result (λ v. row_lists v.opening.opened_values.items ≡ honest_rows b index) }
+    ensures salts { IfOk result (λ v. let salts = right_batch N (matrices_of v.tree) in
+        row_lists v.opening.opening_proof.0.items ≡ honest_rows salts index) }
+    ensures siblings { let b = batch_of M.height_of M.width_of M.row_of N matrices.items in
+        let c = salted_params_of H.hash C.compression D scheme.old (shape b).dimensions in
+        IfOk result (λ v. let opened = honest c.functions (tree_batch v.tree) c.layer index in
+        v.opening.opening_proof.1.items ≡ opened.siblings) }
+    ensures compared { let b = batch_of M.height_of M.width_of M.row_of N matrices.items in
+        let c = salted_params_of H.hash C.compression D scheme.old (shape b).dimensions in
+        let compares = IsSaltedComparison PW.Value.eq SALT_ELEMS (shape b).dimensions c in
+        let o = salted_lent index claimed.entry in
+        IfOk result (λ v. compares (roots_of v.cap) o (salted_made index v.opening) v.found) }
+    ensures scheme { plain_of scheme.new ≡ plain_of scheme.old }
+{
+    laws::answers::<P::Value, PW::Value>();
+    laws::restoration::<P::Value, PW::Value>();
+    let (cap, tree, dimensions) = salted_committed(alloc, scheme, matrices, &[index])?;
+    let opening = scheme.open_batch(alloc, index, &tree)?;
+    let honest = BatchOpeningRef::from(&opening);
+    let found = scheme.extract_collision(alloc, &cap, &dimensions, index, claimed, index, honest);
+    Ok(Compared {
+        cap,
+        tree,
+        opening,
+        found,
+    })
+}
+
+/// Commits to matrices with `SALT_ELEMS` salts for each row, opens the rows that belong to several indices by one
+/// proof, with their salts, and compares an opening that anybody claims for these indices with it: a row set and a salt
+/// set for each index, and a pruned proof. The indices may come in any order, with repeats.
+///
+/// What is found is the place of a claimed query in the list of indices, the place of an honest one, and the collision
+/// of both; or why the salted `verify_multi_batch` refuses the claimed opening.
+///
+/// # Errors
+///
+/// `EmptyBatch`, `TooLarge` or `IncompatibleHeights` if the matrices have such heights; else `TooLarge` for the first
+/// matrix whose width with its salts does not fit `usize`; else `IndexOutOfBounds` for the highest index, if it is not
+/// below the tallest height. `OutOfMemory` may come at any time, also as what is found.
+pub fn salted_commit_compare_pruned<
+    P: PackedValue,
+    PW: PackedValue,
+    H: CryptographicHasher<P, PW, D>,
+    C: PseudoCompressionFunction<PW, N, D>,
+    R: CryptoRng,
+    M: Matrix<P::Value> + Drop,
+    const N: usize,
+    const D: usize,
+    const SALT_ELEMS: usize,
+>(
+    alloc: Global,
+    scheme: &mut MerkleTreeHidingMmcs<P, PW, H, C, R, N, D, SALT_ELEMS>,
+    matrices: Vec<M>,
+    indices: &[usize],
+    rows: &[Vec<Vec<P::Value>>],
+    proof: &SaltedMultiProof<P::Value, PW::Value, D>,
+) -> Result<
+    Compared<
+        MerkleCap<P::Value, [PW::Value; D]>,
+        SaltedTree<P::Value, PW::Value, M, N, D>,
+        SaltedRows<P::Value, PW::Value, D>,
+        (usize, usize, Collision<P::Value, PW::Value, D>),
+    >,
+    MerkleTreeError,
+>
+where
+    P::Value: SaltWord,
+    ensures answer { let b = batch_of M.height_of M.width_of M.row_of N matrices.items in
+        AnswersUnlessMemory result (salted_open_refusal SALT_ELEMS (shape b).dimensions indices.now) }
+    ensures matrices { IfOk result (λ v. map left_of (matrices_of v.tree) ≡ matrices.items) }
+    ensures salted { let b = batch_of M.height_of M.width_of M.row_of N matrices.items in
+        let drawn = R.stream (generator_of scheme.old) in
+        IfOk result (λ v. tree_batch v.tree ≡ salted_batch P.Value.of_salt_word SALT_ELEMS b drawn) }
+    ensures committed { let b = batch_of M.height_of M.width_of M.row_of N matrices.items in
+        let c = salted_params_of H.hash C.compression D scheme.old (shape b).dimensions in
+        IfOk result (λ v. IsCommitment c (roots_of v.cap) (tree_batch v.tree) (layers_of v.tree)) }
+    ensures rows { let b = batch_of M.height_of M.width_of M.row_of N matrices.items in
+        IfOk result (λ v. row_sets v.opening.0.items ≡ map (honest_rows b) indices.now) }
+    ensures salts { IfOk result (λ v. let salts = right_batch N (matrices_of v.tree) in
+        row_sets v.opening.1.0.items ≡ map (honest_rows salts) indices.now) }
+    ensures digests { let b = batch_of M.height_of M.width_of M.row_of N matrices.items in
+        let c = salted_params_of H.hash C.compression D scheme.old (shape b).dimensions in
+        IfOk result (λ v. let opened = honest_query c.functions (tree_batch v.tree) c.layer indices.now in
+        v.opening.1.1.sibling_hashes.items ≡ opened.digests) }
+    ensures compared { let b = batch_of M.height_of M.width_of M.row_of N matrices.items in
+        let c = salted_params_of H.hash C.compression D scheme.old (shape b).dimensions in
+        let compares = IsSaltedPrunedComparison P.Value.eq PW.Value.eq SALT_ELEMS (shape b).dimensions c in
+        let p = salted_pruned_lent indices.now rows.now proof.now in
+        IfOk result (λ v. let honest = salted_pruned_made indices.now v.opening.0 v.opening.1 in
+        compares (roots_of v.cap) p honest v.found) }
+    ensures scheme { plain_of scheme.new ≡ plain_of scheme.old }
+{
+    laws::answers::<P::Value, PW::Value>();
+    laws::extraction::<P::Value, PW::Value>();
+    laws::restoration::<P::Value, PW::Value>();
+    let (cap, tree, dimensions) = salted_committed(alloc, scheme, matrices, indices)?;
+    let opening = scheme.open_multi_batch(alloc, indices, &tree)?;
+    let (honest_rows, honest_proof) = &opening;
+    let found = scheme.extract_collision_multi(
+        alloc,
+        &cap,
+        &dimensions,
+        indices,
+        rows,
+        proof,
+        indices,
+        honest_rows,
+        honest_proof,
+    );
+    Ok(Compared {
+        cap,
+        tree,
+        opening,
+        found,
+    })
+}
