@@ -162,49 +162,47 @@ def flat(value):
     return own + [number for item in value for number in flat(item)]
 
 
-def built(line):
-    """The answer of a call that builds a tree: an error, or a value."""
-    generator = line.generator() if line.is_salted else None
-    indices = {"open": lambda: [line.number()], "prune": line.row}.get(line.call, list)()
-    matrices = line.drawn_matrices() if line.call == "large" else line.matrices()
-    scheme, heights = line.scheme, list(map(len, matrices))
-    claim = Claim(scheme, [], [(1, height) for height in heights], indices, [], [])
-    text = refusal(HEIGHTS + [highest_index], claim)
-    if text:
-        return text, None
-    tree = scheme.salted_tree(matrices, generator) if generator else scheme.tree(matrices)
-    if line.call in ("commit", "large"):
-        return None, digests(tree.cap())
-    if line.call == "layers":
-        return None, list(map(digests, tree.layers))
-    sets, siblings = [tree.rows(index) for index in indices], None
-    siblings = tree.siblings(indices[0]) if line.call == "open" else scheme.pruned_opening(tree, indices)[1]
-    split = [scheme.split(rows) if generator else (rows,) for rows in sets]
-    parts = list(zip(*split)) if split else [()] * (2 if generator else 1)
-    parts = [part[0] if line.call == "open" else list(part) for part in parts]
-    return None, (*parts, digests(siblings))
-
-
 def digests(found):
+    """Digests as tuples."""
     return list(map(tuple, found))
 
 
-def told(line):
-    """The answer of a call that reads shapes or openings."""
-    scheme = line.scheme
+def answer_over_matrices(line):
+    """The answer of a call that builds a tree: the text of an error, or a value."""
+    generator = line.generator() if line.is_salted else None
+    indices = {"open": lambda: [line.number()], "prune": line.row}.get(line.call, list)()
+    matrices = line.drawn_matrices() if line.call == "large" else line.matrices()
+    columns = [(1, len(rows)) for rows in matrices]
+    text = refusal([*HEIGHTS, highest_index], Claim(line.scheme, [], columns, indices, [], []))
+    if text:
+        return text, None
+    tree = line.scheme.salted_tree(matrices, generator) if generator else line.scheme.tree(matrices)
+    if line.call == "layers":
+        return None, list(map(digests, tree.layers))
+    if line.call not in ("open", "prune"):
+        return None, digests(tree.cap())
+    split = line.scheme.split if generator else lambda rows: (rows,)
+    if line.call == "open":
+        return None, (*split(tree.rows(indices[0])), digests(tree.siblings(indices[0])))
+    sets, proof = line.scheme.pruned_opening(tree, indices)
+    parts = list(zip(*map(split, sets))) or [()] * len(split([]))
+    return None, (*map(list, parts), digests(proof))
+
+
+def answer_over_dimensions(line):
+    """The answer of a call that takes dimensions: the text of an error, or a value."""
     if line.call == "schedule":
-        claim = Claim(scheme, [], line.dimensions(), 0, [], [])
+        claim = Claim(line.scheme, [], line.dimensions(), 0, [], [])
         return refusal(HEIGHTS, claim), claim.shape.proof_steps
     if line.call == "replay":
-        dimensions, index, siblings = line.dimensions(), line.number(), line.number()
-        claim = Claim(scheme, [], dimensions, index, [], [])
-        shape = claim.shape
+        claim = Claim(line.scheme, [], line.dimensions(), line.number(), [], [])
+        shape, siblings = claim.shape, line.number()
         # No list has as many siblings as there may be, so their number is compared here.
         text = refusal([*HEIGHTS, index_bound], claim)
         if not text and siblings != shape.siblings:
             text = texts.siblings(shape.siblings, siblings)
-        positions = [shape.ancestor(level, index) % step for level, step in enumerate(shape.proof_steps)]
-        return text, (shape.proof_steps, positions)
+        steps = shape.proof_steps
+        return text, (steps, [shape.ancestor(level, claim.index) % step for level, step in enumerate(steps)])
     claim = line.claim()
     tables = {"verify": (SINGLE, SALTED), "vprune": (PRUNED, SALTED_PRUNED), "restore": (RESTORED,)}
     text = refusal(tables[line.call][line.is_salted], claim)
@@ -216,6 +214,6 @@ def told(line):
 def answer(case):
     """The answer to a case."""
     line = Line(case)
-    is_built = line.call in ("commit", "large", "layers", "open", "prune")
-    text, value = (built if is_built else told)(line)
+    has_matrices = line.call in ("commit", "large", "layers", "open", "prune")
+    text, value = (answer_over_matrices if has_matrices else answer_over_dimensions)(line)
     return error(text) if text else " ".join(map(str, ["ok", *flat(value)]))
