@@ -18,8 +18,8 @@ width_in (Blank height) = 0
 
 -- the words of a row
 abbrev pub row_in : {A : Type 0} → Table A → ℕ → List A
-row_in (Rows rows) r = message (row_width rows) (values_of rows) r
-row_in (Blank height) r = []
+row_in (Rows rows) = message (row_width rows) (values_of rows)
+row_in (Blank height) = λ r. []
 
 -- each row is as wide as the matrix
 pub length-row_in : {A : Type 0} (m : Table A) (r : ℕ) → r < height_in m → length (row_in m r) ≡ width_in m

@@ -62,7 +62,7 @@ fn numbers_in(alloc: Global, words: &[&str]) -> Answer {
     for word in words {
         match word.parse::<u64>() {
             Ok(number) => numbers.push(number)?,
-            Err(_) => return Err(Fault::Unreadable("a word is no number")),
+            Err(_) => return Err(Fault::Number),
         }
     }
     Ok(numbers)
@@ -72,15 +72,15 @@ fn numbers_in(alloc: Global, words: &[&str]) -> Answer {
 pub fn answer_to(alloc: Global, line: &str) -> Answer {
     let words: Vec<&str> = line.split_ascii_whitespace().collect(alloc)?;
     let [call, hash, digest_len, arity, cap_height, rule, words @ ..] = words.as_slice() else {
-        return Err(Fault::Unreadable("the line is too short"));
+        return Err(Fault::TooShort);
     };
     let Ok(cap_height) = cap_height.parse::<usize>() else {
-        return Err(Fault::Unreadable("a cap height is no number"));
+        return Err(Fault::Number);
     };
     let rule = match *rule {
         "x" => CapRule::Fixed,
         "l" => CapRule::Lowered,
-        _ => return Err(Fault::Unreadable("there is no such rule")),
+        _ => return Err(Fault::Rule),
     };
     let mut numbers = numbers_in(alloc, words)?;
     let (call, is_salted) = match *call {
@@ -112,6 +112,6 @@ pub fn answer_to(alloc: Global, line: &str) -> Answer {
         ("sha", "32", "2") => sha::<2>(&case),
         ("sha", "32", "4") => sha::<4>(&case),
         ("sha", "32", "8") => sha::<8>(&case),
-        _ => Err(Fault::Unreadable("there is no such scheme")),
+        _ => Err(Fault::Scheme),
     }
 }

@@ -9,10 +9,22 @@ use std::alloc::{AllocError, AllocFailed, Global};
 pub enum Fault {
     /// A call refuses its arguments, which is an answer, too.
     Refused(MerkleTreeError),
-    /// The line is no case, for this reason.
-    Unreadable(&'static str),
     /// Another scheme of the same functions answers otherwise.
     Disputed,
+    /// The line has too few words.
+    TooShort,
+    /// The line has too many words.
+    TooLong,
+    /// A word is no number.
+    Number,
+    /// A number is too large for a word of rows or digests.
+    WordTooLarge,
+    /// There is no such call.
+    Call,
+    /// There is no scheme of this hash, number of words, arity or number of salts.
+    Scheme,
+    /// There is no such rule.
+    Rule,
 }
 
 impl From<MerkleTreeError> for Fault {
@@ -55,7 +67,7 @@ impl<'a> Numbers<'a> {
     /// The next number.
     pub fn number(&mut self) -> Result<u64, Fault> {
         let Some(number) = self.numbers.get(self.next) else {
-            return Err(Fault::Unreadable("the line is too short"));
+            return Err(Fault::TooShort);
         };
         self.next = self.next.saturating_add(1);
         Ok(*number)
@@ -64,7 +76,7 @@ impl<'a> Numbers<'a> {
     /// Fails if there are more numbers.
     pub fn end(&self) -> Result<(), Fault> {
         if self.next < self.numbers.len() {
-            return Err(Fault::Unreadable("the line is too long"));
+            return Err(Fault::TooLong);
         }
         Ok(())
     }
@@ -86,7 +98,7 @@ impl FromNumbers for u32 {
     fn read(numbers: &mut Numbers<'_>) -> Result<u32, Fault> {
         match u32::try_from(numbers.number()?) {
             Ok(word) => Ok(word),
-            Err(_) => Err(Fault::Unreadable("a number is no word of 32 bits")),
+            Err(_) => Err(Fault::WordTooLarge),
         }
     }
 }
@@ -95,7 +107,7 @@ impl FromNumbers for u8 {
     fn read(numbers: &mut Numbers<'_>) -> Result<u8, Fault> {
         match u8::try_from(numbers.number()?) {
             Ok(byte) => Ok(byte),
-            Err(_) => Err(Fault::Unreadable("a number is no byte")),
+            Err(_) => Err(Fault::WordTooLarge),
         }
     }
 }

@@ -1,6 +1,7 @@
 //! The answers of a scheme.
 
-ghost use Rattle.std.specs.Prelude.{◌≤◌, IsTrue};
+ghost use Rattle.std.specs.Prelude.{◌*◌, ◌<◌, ◌≤◌, ◌^◌, IsTrue};
+ghost use Rattle.std.specs.Mem.{type_size};
 ghost use Rattle.p3_merkle_tree.specs.Geometry.{is_arity};
 
 use crate::numbers::{Fault, FromNumbers, Numbers, ToNumbers};
@@ -52,8 +53,8 @@ fn answer_of<V: ToNumbers>(numbers: &Numbers<'_>, value: &V) -> Answer {
 /// The answer of a scheme to a call that schemes have with salts and without.
 fn answer_to_shared<
     T: Word,
-    S: Mmcs<T, Table<T>, Commitment = MerkleCap<T, [T; D]>, Error = MerkleTreeError>,
-    const D: usize,
+    X: FromNumbers + ToNumbers + Copy,
+    S: Mmcs<T, Table<T>, Commitment = MerkleCap<T, X>, Error = MerkleTreeError>,
 >(scheme: &mut S, call: &str, numbers: &mut Numbers<'_>) -> Answer
 where
     S::Proof: FromNumbers + ToNumbers,
@@ -65,15 +66,15 @@ where
         "prune" => prune(scheme, numbers),
         "verify" => verify(&*scheme, numbers),
         "vprune" => verify_pruned(&*scheme, numbers),
-        _ => Err(Fault::Unreadable("there is no such call")),
+        _ => Err(Fault::Call),
     }
 }
 
 /// `MATRICES`: the cap.
 fn commit<
     T: Word,
-    S: Mmcs<T, Table<T>, Commitment = MerkleCap<T, [T; D]>, Error = MerkleTreeError>,
-    const D: usize,
+    X: FromNumbers + ToNumbers + Copy,
+    S: Mmcs<T, Table<T>, Commitment = MerkleCap<T, X>, Error = MerkleTreeError>,
 >(scheme: &mut S, numbers: &mut Numbers<'_>) -> Answer {
     let matrices = Vec::read(numbers)?;
     numbers.end()?;
@@ -118,8 +119,8 @@ where
 /// `CAP DIMENSIONS INDEX ROWS PROOF`: nothing, if the opening is accepted.
 fn verify<
     T: Word,
-    S: Mmcs<T, Table<T>, Commitment = MerkleCap<T, [T; D]>, Error = MerkleTreeError>,
-    const D: usize,
+    X: FromNumbers + ToNumbers + Copy,
+    S: Mmcs<T, Table<T>, Commitment = MerkleCap<T, X>, Error = MerkleTreeError>,
 >(scheme: &S, numbers: &mut Numbers<'_>) -> Answer
 where
     S::Proof: FromNumbers + ToNumbers,
@@ -138,8 +139,8 @@ where
 /// `CAP DIMENSIONS INDICES ROW SETS PROOF`: nothing, if the opening is accepted.
 fn verify_pruned<
     T: Word,
-    S: Mmcs<T, Table<T>, Commitment = MerkleCap<T, [T; D]>, Error = MerkleTreeError>,
-    const D: usize,
+    X: FromNumbers + ToNumbers + Copy,
+    S: Mmcs<T, Table<T>, Commitment = MerkleCap<T, X>, Error = MerkleTreeError>,
 >(scheme: &S, numbers: &mut Numbers<'_>) -> Answer
 where
     S::MultiProof: FromNumbers + ToNumbers,
@@ -162,7 +163,9 @@ fn layers<
     C: PseudoCompressionFunction<P, N, D>,
     const N: usize,
     const D: usize,
->(scheme: &MerkleTreeMmcs<P, P, H, C, N, D>, numbers: &mut Numbers<'_>) -> Answer {
+>(scheme: &MerkleTreeMmcs<P, P, H, C, N, D>, numbers: &mut Numbers<'_>) -> Answer
+    requires { D * type_size T.row < 2 ^ 63 }
+{
     let matrices: Vec<Table<T>> = Vec::read(numbers)?;
     numbers.end()?;
     let (_, tree) = scheme.commit(numbers.alloc, matrices)?;
@@ -182,7 +185,9 @@ fn restore<
     C: PseudoCompressionFunction<P, N, D>,
     const N: usize,
     const D: usize,
->(scheme: &MerkleTreeMmcs<P, P, H, C, N, D>, numbers: &mut Numbers<'_>) -> Answer {
+>(scheme: &MerkleTreeMmcs<P, P, H, C, N, D>, numbers: &mut Numbers<'_>) -> Answer
+    requires { D * type_size T.row < 2 ^ 63 }
+{
     let dimensions: Vec<Dimensions> = Vec::read(numbers)?;
     let indices: Vec<usize> = Vec::read(numbers)?;
     let rows: Vec<Vec<Vec<T>>> = Vec::read(numbers)?;
@@ -235,6 +240,7 @@ fn plain<
 >(hash: H, compress: C, case: &Case<'_>) -> Answer
     requires arity { IsTrue (is_arity N) }
     requires some_lane { 1 ≤ P.WIDTH }
+    requires room { D * type_size T.row < 2 ^ 63 }
 {
     let mut scheme = MerkleTreeMmcs::<P, P, H, C, N, D>::new_with_rule(
         hash,
@@ -265,6 +271,7 @@ fn salted<
 >(hash: H, compress: C, case: &Case<'_>, mut numbers: Numbers<'_>) -> Answer
     requires arity { IsTrue (is_arity N) }
     requires some_lane { 1 ≤ P.WIDTH }
+    requires room { D * type_size T.row < 2 ^ 63 }
     requires some_salt { 1 ≤ SALT_ELEMS }
 {
     let rng = match case.call {
@@ -298,6 +305,7 @@ pub fn answer<
 >(hash: H, compress: C, case: &Case<'_>) -> Answer
     requires arity { IsTrue (is_arity N) }
     requires some_lane { 1 ≤ P.WIDTH }
+    requires room { D * type_size T.row < 2 ^ 63 }
 {
     if !case.is_salted {
         return plain(hash, compress, case);
@@ -307,6 +315,6 @@ pub fn answer<
         1 => salted::<T, P, H, C, N, D, 1>(hash, compress, case, numbers),
         2 => salted::<T, P, H, C, N, D, 2>(hash, compress, case, numbers),
         3 => salted::<T, P, H, C, N, D, 3>(hash, compress, case, numbers),
-        _ => Err(Fault::Unreadable("there is no scheme of so many salts")),
+        _ => Err(Fault::Scheme),
     }
 }

@@ -66,7 +66,7 @@ fn table_of<T: Drop>(words: Vec<T>, height: usize, width: usize) -> Result<Table
     }
     match RowMajorMatrix::try_new(words, width) {
         Ok(rows) => Ok(Table::Rows(rows)),
-        Err(_) => Err(Fault::Unreadable("a matrix has a row that is cut off")),
+        Err(_) => Err(Fault::TooShort),
     }
 }
 

@@ -6,7 +6,7 @@ use p3_merkle_tree::{MerkleTreeError, PrunedProofError};
 use std::fmt;
 use std::fmt::{Formatter, Write};
 
-/// `ok` and the numbers, or `err`, the name of the error and its fields.
+/// `ok` and the numbers; `err`, the name of the error and its fields; or `bad` and why there is no answer.
 #[derive(Clone, Copy)]
 pub struct Shown<'a>(pub &'a Answer);
 
@@ -21,8 +21,7 @@ impl fmt::Display for Shown<'_> {
                 Ok(())
             }
             Err(Fault::Refused(error)) => refusal(error, f),
-            Err(Fault::Unreadable(why)) => write!(f, "bad: {why}"),
-            Err(Fault::Disputed) => f.write_str("schemes disagree"),
+            Err(fault) => write!(f, "bad {fault:?}"),
         }
     }
 }
