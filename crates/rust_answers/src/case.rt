@@ -16,7 +16,7 @@ use std::alloc::Global;
 
 /// The answer of each builder by the fold functions: one by one, packed by two and by eight, in batches of eight, and
 /// by three.
-fn fold<const N: usize, const D: usize>(case: &Case<'_>) -> Answer
+fn fold<const N: usize, const D: usize>(case: &Case<'_, '_>) -> Answer
     requires arity { IsTrue (is_arity N) }
     requires few_children { N ≤ 16 }
     requires few_words { D ≤ 32 }
@@ -33,7 +33,7 @@ fn fold<const N: usize, const D: usize>(case: &Case<'_>) -> Answer
 }
 
 /// The answer by SHA-256, one message at a time, in eights, and by three.
-fn sha<const N: usize>(case: &Case<'_>) -> Answer
+fn sha<const N: usize>(case: &Case<'_, '_>) -> Answer
     requires arity { IsTrue (is_arity N) }
     requires few_children { N ≤ 16 }
 {
@@ -68,6 +68,55 @@ fn numbers_in(alloc: Global, words: &[&str]) -> Answer {
     Ok(numbers)
 }
 
+/// The answer of each builder by the fold functions with digests of `D` words, at the arity that a word is.
+fn fold_at<const D: usize>(arity: &str, case: &Case<'_, '_>) -> Answer
+    requires { D ≤ 32 }
+{
+    match arity {
+        "2" => fold::<2, D>(case),
+        "4" => fold::<4, D>(case),
+        "8" => fold::<8, D>(case),
+        _ => Err(Fault::Scheme),
+    }
+}
+
+/// The answer by SHA-256 at the arity that a word is.
+fn sha_at(arity: &str, case: &Case<'_, '_>) -> Answer {
+    match arity {
+        "2" => sha::<2>(case),
+        "4" => sha::<4>(case),
+        "8" => sha::<8>(case),
+        _ => Err(Fault::Scheme),
+    }
+}
+
+/// The answer by a hash, with digests of so many words.
+fn answer_at(hash: &str, digest_len: &str, arity: &str, case: &Case<'_, '_>) -> Answer {
+    match digest_len {
+        "1" if hash == "fold" => fold_at::<1>(arity, case),
+        "2" if hash == "fold" => fold_at::<2>(arity, case),
+        "32" if hash == "sha" => sha_at(arity, case),
+        _ => Err(Fault::Scheme),
+    }
+}
+
+/// The rule that a word is.
+fn rule_of(word: &str) -> Result<CapRule, Fault> {
+    match word {
+        "x" => Ok(CapRule::Fixed),
+        "l" => Ok(CapRule::Lowered),
+        _ => Err(Fault::Rule),
+    }
+}
+
+/// A call without the `s` of a salted one, and whether it is salted.
+fn call_of(word: &str) -> (&str, bool) {
+    match word.strip_prefix('s') {
+        Some("chedule") | None => (word, false),
+        Some(call) => (call, true),
+    }
+}
+
 /// The answer to the case in a line: `CALL HASH D N CAP RULE` and the arguments of the call.
 pub fn answer_to(alloc: Global, line: &str) -> Answer {
     let words: Vec<&str> = line.split_ascii_whitespace().collect(alloc)?;
@@ -77,23 +126,13 @@ pub fn answer_to(alloc: Global, line: &str) -> Answer {
     let Ok(cap_height) = cap_height.parse::<usize>() else {
         return Err(Fault::Number);
     };
-    let rule = match *rule {
-        "x" => CapRule::Fixed,
-        "l" => CapRule::Lowered,
-        _ => return Err(Fault::Rule),
-    };
+    let rule = rule_of(rule)?;
+    let (mut call, is_salted) = call_of(call);
     let mut numbers = numbers_in(alloc, words)?;
-    let (call, is_salted) = match *call {
-        "schedule" => ("schedule", false),
-        "large" => {
-            numbers = matrices_of(alloc, &numbers, *hash == "sha")?;
-            ("commit", false)
-        }
-        call => match call.strip_prefix('s') {
-            Some(call) => (call, true),
-            None => (call, false),
-        },
-    };
+    if call == "large" {
+        numbers = matrices_of(alloc, &numbers, *hash == "sha")?;
+        call = "commit";
+    }
     let arguments = Numbers::new(alloc, &numbers);
     let case = Case {
         call,
@@ -102,16 +141,5 @@ pub fn answer_to(alloc: Global, line: &str) -> Answer {
         rule,
         arguments,
     };
-    match (*hash, *digest_len, *arity) {
-        ("fold", "1", "2") => fold::<2, 1>(&case),
-        ("fold", "1", "4") => fold::<4, 1>(&case),
-        ("fold", "1", "8") => fold::<8, 1>(&case),
-        ("fold", "2", "2") => fold::<2, 2>(&case),
-        ("fold", "2", "4") => fold::<4, 2>(&case),
-        ("fold", "2", "8") => fold::<8, 2>(&case),
-        ("sha", "32", "2") => sha::<2>(&case),
-        ("sha", "32", "4") => sha::<4>(&case),
-        ("sha", "32", "8") => sha::<8>(&case),
-        _ => Err(Fault::Scheme),
-    }
+    answer_at(hash, digest_len, arity, &case)
 }

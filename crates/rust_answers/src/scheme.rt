@@ -27,9 +27,9 @@ impl Word for u8 {}
 
 /// A case without its hash.
 #[derive(Clone, Copy)]
-pub struct Case<'a> {
+pub struct Case<'c, 'n> {
     /// The name of the call, without the `s` of a salted one.
-    pub call: &'a str,
+    pub call: &'c str,
     /// Whether the scheme is salted.
     pub is_salted: bool,
     /// The cap height of the scheme.
@@ -37,7 +37,7 @@ pub struct Case<'a> {
     /// The rule of the cap.
     pub rule: CapRule,
     /// The arguments of the call.
-    pub arguments: Numbers<'a>,
+    pub arguments: Numbers<'n>,
 }
 
 /// An answer: numbers, or why there are none.
@@ -237,7 +237,7 @@ fn plain<
     C: PseudoCompressionFunction<P, N, D> + Copy,
     const N: usize,
     const D: usize,
->(hash: H, compress: C, case: &Case<'_>) -> Answer
+>(hash: H, compress: C, case: &Case<'_, '_>) -> Answer
     requires arity { IsTrue (is_arity N) }
     requires some_lane { 1 ≤ P.WIDTH }
     requires room { D * type_size T.row < 2 ^ 63 }
@@ -268,7 +268,7 @@ fn salted<
     const N: usize,
     const D: usize,
     const SALT_ELEMS: usize,
->(hash: H, compress: C, case: &Case<'_>, mut numbers: Numbers<'_>) -> Answer
+>(hash: H, compress: C, case: &Case<'_, '_>, mut numbers: Numbers<'_>) -> Answer
     requires arity { IsTrue (is_arity N) }
     requires some_lane { 1 ≤ P.WIDTH }
     requires room { D * type_size T.row < 2 ^ 63 }
@@ -302,7 +302,7 @@ pub fn answer<
     C: PseudoCompressionFunction<P, N, D> + Copy,
     const N: usize,
     const D: usize,
->(hash: H, compress: C, case: &Case<'_>) -> Answer
+>(hash: H, compress: C, case: &Case<'_, '_>) -> Answer
     requires arity { IsTrue (is_arity N) }
     requires some_lane { 1 ≤ P.WIDTH }
     requires room { D * type_size T.row < 2 ^ 63 }
