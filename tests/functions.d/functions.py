@@ -185,6 +185,8 @@ def owner_of(kind, text):
         return "Array" + joined(owner), trait, arguments
     if owner.lstrip().startswith("&"):
         return "Ref", trait, arguments
+    if owner.lstrip().startswith("("):
+        return f"Tuple{owner.count(',') + 1}", trait, arguments
     return re.match(r"[\w:]+", owner.strip())[0].split("::")[-1], trait, arguments
 
 

@@ -1,0 +1,145 @@
+//! A case: its line, and the answer of each scheme that takes it.
+
+ghost use Rattle.std.specs.Prelude.{◌≤◌, IsTrue};
+ghost use Rattle.p3_merkle_tree.specs.Geometry.{is_arity};
+
+use crate::large::matrices_of;
+use crate::numbers::{Fault, Numbers};
+use crate::scheme::{Answer, Case, answer};
+use p3_hashes::batched::Batched3;
+use p3_hashes::fold::{FoldCompress, FoldHash};
+use p3_hashes::lanes::{Lanes, U32x8};
+use p3_hashes::sha::{Sha256Nodes, Sha256Rows};
+use p3_hashes::sha_eights::{Sha256NodesInEights, Sha256RowsInEights};
+use p3_merkle_tree::CapRule;
+use std::alloc::Global;
+
+/// The answer of each builder by the fold functions: one by one, packed by two and by eight, in batches of eight, and
+/// by three.
+fn fold<const N: usize, const D: usize>(case: &Case<'_, '_>) -> Answer
+    requires arity { IsTrue (is_arity N) }
+    requires few_children { N ≤ 16 }
+    requires few_words { D ≤ 32 }
+{
+    let (hash, compress) = (FoldHash::<1>, FoldCompress::<N, 1>);
+    let found = answer::<u32, u32, _, _, N, D>(hash, compress, case);
+    let others = [
+        answer::<u32, Lanes<u32>, _, _, N, D>(hash, compress, case),
+        answer::<u32, U32x8, _, _, N, D>(hash, compress, case),
+        answer::<u32, u32, _, _, N, D>(FoldHash::<8>, FoldCompress::<N, 8>, case),
+        answer::<u32, u32, _, _, N, D>(Batched3(hash), Batched3(compress), case),
+    ];
+    agreed(found, &others)
+}
+
+/// The answer by SHA-256, one message at a time, in eights, and by three.
+fn sha<const N: usize>(case: &Case<'_, '_>) -> Answer
+    requires arity { IsTrue (is_arity N) }
+    requires few_children { N ≤ 16 }
+{
+    let (hash, compress) = (Sha256Rows, Sha256Nodes::<N>);
+    let found = answer::<u8, u8, _, _, N, 32>(hash, compress, case);
+    let others = [
+        answer::<u8, u8, _, _, N, 32>(Sha256RowsInEights, Sha256NodesInEights::<N>, case),
+        answer::<u8, u8, _, _, N, 32>(Batched3(hash), Batched3(compress), case),
+    ];
+    agreed(found, &others)
+}
+
+/// The answer if the others are the same.
+fn agreed(answer: Answer, others: &[Answer]) -> Answer {
+    for other in others {
+        if *other != answer {
+            return Err(Fault::Disputed);
+        }
+    }
+    answer
+}
+
+/// The numbers that words are.
+fn numbers_in(alloc: Global, words: &[&str]) -> Answer {
+    let mut numbers = Vec::new(alloc);
+    for word in words {
+        match word.parse::<u64>() {
+            Ok(number) => numbers.push(number)?,
+            Err(_) => return Err(Fault::Number),
+        }
+    }
+    Ok(numbers)
+}
+
+/// The answer of each builder by the fold functions with digests of `D` words, at the arity that a word is.
+fn fold_at<const D: usize>(arity: &str, case: &Case<'_, '_>) -> Answer
+    requires { D ≤ 32 }
+{
+    match arity {
+        "2" => fold::<2, D>(case),
+        "4" => fold::<4, D>(case),
+        "8" => fold::<8, D>(case),
+        _ => Err(Fault::Scheme),
+    }
+}
+
+/// The answer by SHA-256 at the arity that a word is.
+fn sha_at(arity: &str, case: &Case<'_, '_>) -> Answer {
+    match arity {
+        "2" => sha::<2>(case),
+        "4" => sha::<4>(case),
+        "8" => sha::<8>(case),
+        _ => Err(Fault::Scheme),
+    }
+}
+
+/// The answer by a hash, with digests of so many words.
+fn answer_at(hash: &str, digest_len: &str, arity: &str, case: &Case<'_, '_>) -> Answer {
+    match digest_len {
+        "1" if hash == "fold" => fold_at::<1>(arity, case),
+        "2" if hash == "fold" => fold_at::<2>(arity, case),
+        "32" if hash == "sha" => sha_at(arity, case),
+        _ => Err(Fault::Scheme),
+    }
+}
+
+/// The rule that a word is.
+fn rule_of(word: &str) -> Result<CapRule, Fault> {
+    match word {
+        "x" => Ok(CapRule::Fixed),
+        "l" => Ok(CapRule::Lowered),
+        _ => Err(Fault::Rule),
+    }
+}
+
+/// A call without the `s` of a salted one, and whether it is salted.
+fn call_of(word: &str) -> (&str, bool) {
+    match word.strip_prefix('s') {
+        Some("chedule") | None => (word, false),
+        Some(call) => (call, true),
+    }
+}
+
+/// The answer to the case in a line: `CALL HASH D N CAP RULE` and the arguments of the call.
+pub fn answer_to(alloc: Global, line: &str) -> Answer {
+    let words: Vec<&str> = line.split_ascii_whitespace().collect(alloc)?;
+    let [call, hash, digest_len, arity, cap_height, rule, words @ ..] = words.as_slice() else {
+        return Err(Fault::TooShort);
+    };
+    let Ok(cap_height) = cap_height.parse::<usize>() else {
+        return Err(Fault::Number);
+    };
+    let rule = rule_of(rule)?;
+    let (mut call, is_salted) = call_of(call);
+    let mut numbers = numbers_in(alloc, words)?;
+    if call == "large" {
+        numbers = matrices_of(alloc, &numbers, *hash == "sha")?;
+        call = "commit";
+    }
+    let arguments = Numbers::new(alloc, &numbers);
+    let case = Case {
+        call,
+        is_salted,
+        cap_height,
+        rule,
+        arguments,
+    };
+    answer_at(hash, digest_len, arity, &case)
+}

@@ -1,0 +1,83 @@
+//! The matrices of cases. Unlike a `RowMajorMatrix` they can have rows of no words.
+
+ghost use Rattle.rust_answers.specs.Tables.{height_in, row_in, width_in, length-row_in};
+
+use crate::numbers::{Fault, FromNumbers, Numbers};
+use p3_support::matrix::{Matrix, RowMajorMatrix};
+
+/// A matrix.
+#[derive(Drop)]
+pub enum Table<T> {
+    /// Rows of at least one word, or no rows.
+    Rows(RowMajorMatrix<T>),
+    /// So many rows of no words.
+    Blank(usize),
+}
+
+impl<T: Copy + Default> Matrix<T> for Table<T> {
+    ghost height_of = { height_in };
+
+    ghost width_of = { width_in };
+
+    ghost row_of = { row_in };
+
+    fn height(&self) -> usize {
+        match self {
+            Table::Rows(rows) => rows.height(),
+            Table::Blank(height) => *height,
+        }
+    }
+
+    fn width(&self) -> usize {
+        match self {
+            Table::Rows(rows) => rows.width(),
+            Table::Blank(_) => 0,
+        }
+    }
+
+    fn get(&self, row: usize, column: usize) -> T {
+        match self {
+            Table::Rows(rows) => rows.get(row, column),
+            Table::Blank(_) => T::default(),
+        }
+    }
+
+    fn row_slice(&self, row: usize) -> Option<&[T]> {
+        match self {
+            Table::Rows(rows) => rows.row_slice(row),
+            Table::Blank(_) => Some(&[]),
+        }
+    }
+
+    fn row_chunk(&self, first: usize, count: usize) -> Option<&[T]> {
+        match self {
+            Table::Rows(rows) => rows.row_chunk(first, count),
+            Table::Blank(_) => None,
+        }
+    }
+
+    ghost length_row_of = { length-row_in };
+}
+
+/// The matrix of these words, `width` of them in each of `height` rows.
+fn table_of<T: Drop>(words: Vec<T>, height: usize, width: usize) -> Result<Table<T>, Fault> {
+    if width == 0 {
+        return Ok(Table::Blank(height));
+    }
+    match RowMajorMatrix::try_new(words, width) {
+        Ok(rows) => Ok(Table::Rows(rows)),
+        Err(_) => Err(Fault::TooShort),
+    }
+}
+
+impl<T: FromNumbers + Copy> FromNumbers for Table<T> {
+    fn read(numbers: &mut Numbers<'_>) -> Result<Table<T>, Fault> {
+        let height = usize::read(numbers)?;
+        let width = usize::read(numbers)?;
+        let mut words = Vec::new(numbers.alloc);
+        for _ in 0..height.saturating_mul(width) {
+            words.push(T::read(numbers)?)?;
+        }
+        table_of(words, height, width)
+    }
+}
