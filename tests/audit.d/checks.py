@@ -1,6 +1,7 @@
 """What is checked of docs/AUDIT.md."""
 
 from definitions import module_of
+from headline import headline_of
 from needed import Needed
 
 LIST = "docs/AUDIT.md"
@@ -155,6 +156,8 @@ class Checks:
             self._say(LIST, f"modules and lines of the headline, then of all, are {totals}, not {self.listed.totals}")
         if totals[0][1] > MOST_LINES:
             self._say(LIST, f"the headline needs more than {MOST_LINES} lines of definitions")
+        if not self.wrong and self.listed.printed != round(printed := len(list(headline_of(self))), -2):
+            self._say(LIST, f"the headline prints {printed} lines, not about {self.listed.printed}")
         self._check_order()
 
     def _check_order(self):

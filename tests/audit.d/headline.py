@@ -4,6 +4,8 @@ import re
 import textwrap
 from itertools import takewhile
 
+TYPE = r"^pub (?:struct|enum|type) (\w+)"
+
 
 def headline_of(checks):
     """The lines of the text."""
@@ -22,9 +24,23 @@ def headline_of(checks):
         if words:
             yield from definitions_of(module, words)
     traits = {call.name for call in checks.listed.calls if call.is_trait}
-    for source, name in sorted(checks.headline.types):
+    for source, name in sorted(types_in(checks)):
         if name not in traits:
             yield from type_of(name, checks.sources.read(source).path)
+
+
+def types_in(checks):
+    """The types that the contracts and the definitions cite, and those that the heads of the calls name."""
+    types, named = set(checks.headline.types), set()
+    for call, clauses in zip(checks.listed.calls, checks.clauses):
+        if not call.is_trait:
+            first, last = clauses[0].head
+            lines = checks.sources.read(call.source).path.read_text(encoding="utf-8").splitlines()
+            named.update(re.findall(r"\w+", " ".join(lines[first - 1 : last])))
+    for source in checks.sources.paths:
+        text = checks.sources.read(source).path.read_text(encoding="utf-8")
+        types.update((source, name) for name in re.findall(TYPE, text, re.MULTILINE) if name in named)
+    return types
 
 
 def contract_of(source, clauses):
@@ -78,10 +94,10 @@ def definitions_of(module, words):
 
 def type_of(name, path):
     """A type of the code with its docstring, but without those of fields in variants; its name and where it stands, if
-    it is no struct or enum."""
+    it is none."""
     lines = path.read_text(encoding="utf-8").splitlines()
     yield f"// ==== {name}: {path.relative_to(path.parents[3])}"
-    heads = [at for at, line in enumerate(lines) if re.match(rf"pub (struct|enum) {name}\b", line)]
+    heads = [at for at, line in enumerate(lines) if re.findall(TYPE, line) == [name]]
     for at in heads[:1]:
         last = at
         while not re.match(r"}|.*;$", lines[last]):

@@ -38,6 +38,7 @@ class Listed:
         self.sources = {}  # a source -> the items of it that are public; none where all are
         self.types = {}  # a source -> the types of it that definitions cite
         self.left_out = {}  # a folder or source -> why
+        self.printed = None  # about how many lines the headline prints
         self.lines = {}  # what is listed -> its line
         self.twice = []
         table = None
@@ -45,6 +46,8 @@ class Listed:
             cells = [cell.strip() for cell in text.strip("|").split("|")] if text.startswith("|") else []
             if not cells:
                 table = None
+                if said := re.match(r"about ([\d,]+) lines", text):
+                    self.printed = int(said[1].replace(",", ""))
             elif table is None:
                 table = cells[0]
             elif not cells[0].startswith("---"):
