@@ -17,14 +17,13 @@ def fail(text, status):
 
 
 def built(is_quick):
-    """The program, built where it is not built."""
+    """The path of the program, which is built where it is not."""
     if os.environ.get("FOHLAZU"):
         return str(Path(os.environ["FOHLAZU"]).resolve())
-    words = ["quick", "--program"] if is_quick else ["--program"]
-    ran = subprocess.run([TOP / "fohlazu", *words], stdin=subprocess.DEVNULL, stdout=subprocess.PIPE, text=True)
-    if ran.returncode != 0:
-        fail("fohlazu can't be built", 3)
-    return ran.stdout.rstrip("\n")
+    path = "build/quick/fohlazu" if is_quick else "build/fohlazu"
+    if subprocess.run(["make", "-s", path], cwd=TOP, stdin=subprocess.DEVNULL).returncode != 0:
+        fail(f"{path} can't be built", 3)
+    return str(TOP / path)
 
 
 def make(name, size, piece_of):

@@ -1,10 +1,9 @@
 # Completion of the words of fohlazu for bash.
 _fohlazu() {
-  local known='' word="${COMP_WORDS[COMP_CWORD]}" at=1
-  [ "${COMP_WORDS[1]}" != quick ] || at=2
-  if [ "$COMP_CWORD" -eq "$at" ]; then
+  local known='' word="${COMP_WORDS[COMP_CWORD]}"
+  if [ "$COMP_CWORD" -eq 1 ]; then
     known='seal prove verify conflict prove-consistency verify-consistency join --help --version'
-  elif [ "${COMP_WORDS[at]}" = seal ]; then
+  elif [ "${COMP_WORDS[1]}" = seal ]; then
     case "$3" in
       --arity) known='2 4 8' ;;
       --blocks) known='512 4096 65536' ;;

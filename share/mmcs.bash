@@ -1,8 +1,7 @@
 # Completion of the words of mmcs and mmcs-verify for bash.
 _mmcs() {
-  local at="$COMP_CWORD" known=''
-  [ "${COMP_WORDS[1]}" != quick ] || at=$((at - 1))
-  case "$at" in
+  local known=''
+  case "$COMP_CWORD" in
     1) known='fold sha256' ;;
     2) known='2 4 8' ;;
     3) known='0 0f 1 1f' ;;

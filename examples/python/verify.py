@@ -1,5 +1,5 @@
 #!/usr/bin/env python3
-"""Verifies what fohlazu proves of files by the library for C, without a program. `./install PREFIX` makes the library.
+"""Verifies what fohlazu proves of files by the library for C, without a program. `make` builds the library.
 
     cc -shared -o libfohlazu.so -Wl,--whole-archive PREFIX/lib/libmmcs_verify.a -Wl,--no-whole-archive
     examples/python/verify.py ./libfohlazu.so verify SEAL PROOF NUMBER..

@@ -9,10 +9,8 @@ use clap::{Arg, ArgAction, ArgMatches, Command as Words, Error, value_parser};
 use fohlazu_engine::ending::Names;
 use fohlazu_engine::run::Command;
 use fohlazu_engine::{Arity, Kind, Scheme, is_label};
+use mmcs_text::VERSION;
 use std::alloc::{AllocError, AllocFailed, Global};
-
-/// What `--version` prints behind the program's name. CHANGELOG.md has it, too.
-const VERSION: &str = "0.1.0";
 
 /// Why a command is refused whose numbers are not such as its help says.
 const NUMBERS: &str = "a block has 1 to 1073741824 bytes, and entries are numbered from 1";

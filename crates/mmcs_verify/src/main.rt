@@ -3,13 +3,11 @@
 //! `mmcs-verify fold|sha256 2|4|8 CAP[f] collide HEIGHTxWIDTH..`. It also answers `--help` and `--version`.
 #![tactic(auto)]
 
+use mmcs_text::VERSION;
 use mmcs_verify_engine::engine::run;
 use mmcs_verify_engine::opening_fault::Fault;
 use mmcs_verify_engine::process::{ended, words_of};
 use std::process::ExitCode;
-
-/// What `--version` prints. CHANGELOG.md has it, too.
-const VERSION: &str = "mmcs-verify 0.1.0";
 
 /// What `--help` prints behind the usage.
 const HELP: &str = "
@@ -36,7 +34,7 @@ fn main(rt: HostRuntime) -> ExitCode {
 fn answer(rt: &HostRuntime, words: &[String]) -> Result<(), Fault> {
     let told = match words {
         [word] if word.as_str() == "--help" => println!(rt; "{}\n{HELP}", Fault::Usage),
-        [word] if word.as_str() == "--version" => println!(rt; "{VERSION}"),
+        [word] if word.as_str() == "--version" => println!(rt; "mmcs-verify {VERSION}"),
         _ => return run(rt.alloc(), words, &mut rt.stdin(), &mut rt.stdout()),
     };
     told.map_err(|_| Fault::Write)

@@ -1,0 +1,127 @@
+# `make help` prints the targets. Paths here are relative, and scripts are called by their interpreters: the folder's
+# name may have spaces, and no file needs an execute bit.
+SHELL := bash
+.SHELLFLAGS := -eu -o pipefail -c
+.DELETE_ON_ERROR:
+.SUFFIXES:
+MAKEFLAGS += --no-builtin-rules --no-print-directory
+
+# The toolchain that everything here was proved with. Another kit of the same logic is as good.
+KIT := rattle-kit-13f
+LOGIC := dac8208d650f15bf
+KIT_CHECK := yes
+
+VERSION := $(shell sed -n 's/^pub const VERSION.*"\(.*\)";/\1/p' crates/mmcs_text/src/lib.rt)
+PROGRAMS := fohlazu mmcs mmcs-verify
+PROVED := $(PROGRAMS:%=build/%)
+QUICK := $(PROGRAMS:%=build/quick/%)
+LIBRARY := build/libmmcs_verify.a
+
+# This processor: x86-64-v3 where each has what that adds to x86-64-v2. Linux calls lzcnt by the name abm.
+CPU := $(shell cat /proc/cpuinfo 2>/dev/null | awk ' \
+  BEGIN { n = split("avx avx2 bmi1 bmi2 f16c fma abm movbe", flags) } \
+  /^flags/ { seen = 1; for (i = 1; i <= n; i++) if (!index($$0 " ", " " flags[i] " ")) lacks = 1 } \
+  END { print seen && !lacks ? "x86-64-v3" : "x86-64-v2" }')
+
+PREFIX := /usr/local
+TO = $(DESTDIR)$(PREFIX)
+# Where the programs come from that are installed: build, or build/quick.
+FROM := build
+INSTALLED := $(PROGRAMS:%=bin/%) $(PROGRAMS:%=share/man/man1/%.1)
+INSTALLED += $(PROGRAMS:%=share/bash-completion/completions/%) $(addprefix share/zsh/site-functions/_,fohlazu mmcs)
+INSTALLED_LIBRARY := lib/libmmcs_verify.a include/mmcs_verify.h include/fohlazu.h
+
+# What crates are built from, with those that they stand on: a folder is newer where a file went.
+crates_of = $(shell sh tests/crates $(1))
+sources_of = crates.txt $(shell find $(patsubst %,crates/%,$(call crates_of,$(1))) -name out -prune -o $(2) -print)
+CODE := -regex 'crates/[^/]*/src.*'
+ALL := -regex 'crates/[^/]*/\(src\|specs\|proofs\).*'
+
+# Says in one line what is wrong with the toolchain.
+define kit
+@if ! kit="$$(rt version 2> /dev/null)"; then \
+  echo 'the Rattle toolchain is needed, $(KIT): its command rt is not on the PATH' >&2; exit 3; \
+elif [ '$(KIT_CHECK)' != no ] && [ "$${kit##*logic }" != $(LOGIC) ]; then \
+  echo "the logic of $(KIT) is needed, $(LOGIC), and this is $$kit: KIT_CHECK=no builds all the same" >&2; exit 3; \
+fi
+endef
+
+.PHONY: all quick check check-quick documents install uninstall bench clean help FORCE
+all: $(PROVED) $(LIBRARY)
+	@:
+quick: $(QUICK)
+	@:
+
+$(QUICK) &: tools/quick $(call sources_of,fohlazu mmcs mmcs_verify,$(CODE))
+	$(kit)
+	@bash tools/quick build/quick $(PROGRAMS)
+
+$(PROVED) $(LIBRARY) &: tools/prove build/cpu $(call sources_of,fohlazu mmcs mmcs_verify mmcs_verify_c,$(ALL))
+	$(kit)
+	@bash tools/prove $(CPU)
+
+# It changes where the processor is another.
+build/cpu: FORCE
+	$(if $(filter x86-64-v2 x86-64-v3,$(CPU)),,$(error CPU may be x86-64-v2 or x86-64-v3))
+	@mkdir -p build
+	@[ "$$(cat $@ 2> /dev/null)" = $(CPU) ] || echo $(CPU) > $@
+
+documents:
+	@python3 tests/audit
+	@python3 tests/audit-trials
+	@bash tests/documents
+	@python3 tests/calls --check
+	@python3 tests/where --check
+
+check-quick: documents quick
+	$(kit)
+	@env -u MAKEFLAGS -u MFLAGS python3 tests/quick
+
+check: documents
+	$(kit)
+	@env -u MAKEFLAGS -u MFLAGS rt ci
+
+install: $(PROGRAMS:%=$(FROM)/%) $(if $(filter build,$(FROM)),$(LIBRARY))
+	@install -d $(patsubst %,"$(TO)/%",bin share/man/man1 share/bash-completion/completions share/zsh/site-functions)
+	@install $(PROGRAMS:%=$(FROM)/%) "$(TO)/bin"
+	@for name in $(PROGRAMS); do \
+	  sed 's/@VERSION@/$(VERSION)/' "share/$$name.1" > "$(TO)/share/man/man1/$$name.1"; \
+	  install -m 644 "share/$${name%-verify}.bash" "$(TO)/share/bash-completion/completions/$$name"; \
+	done
+	@for name in fohlazu mmcs; do \
+	  install -m 644 "share/$$name.zsh" "$(TO)/share/zsh/site-functions/_$$name"; \
+	done
+ifeq ($(FROM),build)
+	@install -d "$(TO)/lib" "$(TO)/include"
+	@install -m 644 $(LIBRARY) "$(TO)/lib"
+	@install -m 644 examples/c/mmcs_verify.h examples/c/fohlazu.h "$(TO)/include"
+endif
+	@printf '%s\n' $(patsubst %,"$(TO)/%",$(INSTALLED) $(if $(filter build,$(FROM)),$(INSTALLED_LIBRARY)))
+
+uninstall:
+	@cd "$(TO)" && rm -f $(INSTALLED) $(INSTALLED_LIBRARY)
+
+# `make bench PARTS='quick raw'` measures these parts alone.
+bench:
+	$(kit)
+	@bash bench/run $(PARTS)
+
+clean:
+	@rm -rf build bench/out tests/memory.d/out
+
+help:
+	@sed -n 's/^#: \{0,1\}//p' Makefile
+
+#: make              the programs and the library for C, proved, for this processor, in build/: about an hour of
+#:                   processor time the first time. CPU=x86-64-v2 or CPU=x86-64-v3 names another processor
+#: make quick        the programs with no proof, in build/quick/: two minutes
+#: make check-quick  what can be tried with no proof: documents, tests, stored runs, exchanges; 15 minutes
+#: make check        the gate: documents, then every proof, test and refused edit; 80 to 170 processor minutes
+#: make documents    compares docs/ with the sources: seconds
+#: make install      the programs, manual pages, completions and the library for C, below $DESTDIR$PREFIX; PREFIX is
+#:                   /usr/local if it is not given. FROM=build/quick installs what has no proof
+#: make uninstall    removes what was installed there
+#: make bench        the benchmark; PARTS names parts of it (docs/PERFORMANCE.md)
+#: make clean        removes build/. What was proved stays in crates/*/out, and is not proved again
+#:
+#: KIT_CHECK=no builds with a toolchain of another logic than the one that the Makefile names.
