@@ -16,6 +16,7 @@ PROGRAMS := fohlazu mmcs mmcs-verify
 PROVED := $(PROGRAMS:%=build/%)
 QUICK := $(PROGRAMS:%=build/quick/%)
 LIBRARY := build/libmmcs_verify.a
+LIBRARIES := build/libraries.tar.zst
 
 # This processor: x86-64-v3 where each has what that adds to x86-64-v2. Linux calls lzcnt by the name abm.
 CPU := $(shell cat /proc/cpuinfo 2>/dev/null | awk ' \
@@ -46,10 +47,12 @@ elif [ '$(KIT_CHECK)' != no ] && [ "$${kit##*logic }" != $(LOGIC) ]; then \
 fi
 endef
 
-.PHONY: all quick check check-quick documents install uninstall bench clean help FORCE
+.PHONY: all quick libraries check check-quick toolchain documents install uninstall bench clean help FORCE
 all: $(PROVED) $(LIBRARY)
 	@:
 quick: $(QUICK)
+	@:
+libraries: $(LIBRARIES)
 	@:
 
 $(QUICK) &: tools/quick $(call sources_of,fohlazu mmcs mmcs_verify,$(CODE))
@@ -58,13 +61,20 @@ $(QUICK) &: tools/quick $(call sources_of,fohlazu mmcs mmcs_verify,$(CODE))
 
 $(PROVED) $(LIBRARY) &: tools/prove build/cpu $(call sources_of,fohlazu mmcs mmcs_verify mmcs_verify_c,$(ALL))
 	$(kit)
-	@bash tools/prove $(CPU)
+	@bash tools/prove programs $(CPU)
+
+$(LIBRARIES): tools/prove $(call sources_of,table,$(ALL))
+	$(kit)
+	@bash tools/prove libraries
 
 # It changes where the processor is another.
 build/cpu: FORCE
 	$(if $(filter x86-64-v2 x86-64-v3,$(CPU)),,$(error CPU may be x86-64-v2 or x86-64-v3))
 	@mkdir -p build
 	@[ "$$(cat $@ 2> /dev/null)" = $(CPU) ] || echo $(CPU) > $@
+
+toolchain:
+	$(kit)
 
 documents:
 	@python3 tests/audit
@@ -73,12 +83,10 @@ documents:
 	@python3 tests/calls --check
 	@python3 tests/where --check
 
-check-quick: documents quick
-	$(kit)
+check-quick: toolchain documents quick
 	@env -u MAKEFLAGS -u MFLAGS python3 tests/quick
 
-check: documents
-	$(kit)
+check: toolchain documents
 	@env -u MAKEFLAGS -u MFLAGS rt ci
 
 install: $(PROGRAMS:%=$(FROM)/%) $(if $(filter build,$(FROM)),$(LIBRARY))
@@ -102,8 +110,7 @@ uninstall:
 	@cd "$(TO)" && rm -f $(INSTALLED) $(INSTALLED_LIBRARY)
 
 # `make bench PARTS='quick raw'` measures these parts alone.
-bench:
-	$(kit)
+bench: toolchain
 	@bash bench/run $(PARTS)
 
 clean:
@@ -117,6 +124,7 @@ help:
 #: make quick        the programs with no proof, in build/quick/: two minutes
 #: make check-quick  what can be tried with no proof: documents, tests, stored runs, exchanges; 15 minutes
 #: make check        the gate: documents, then every proof, test and refused edit; 80 to 170 processor minutes
+#: make libraries    the proved libraries, for share/rattle-with: a crate over them is checked in a minute
 #: make documents    compares docs/ with the sources: seconds
 #: make install      the programs, manual pages, completions and the library for C, below $DESTDIR$PREFIX; PREFIX is
 #:                   /usr/local if it is not given. FROM=build/quick installs what has no proof
