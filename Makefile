@@ -47,6 +47,9 @@ elif [ '$(KIT_CHECK)' != no ] && [ "$${kit##*logic }" != $(LOGIC) ]; then \
 fi
 endef
 
+# What is run as if no make ran it: else a make in it would say where it is.
+ALONE := env -u MAKEFLAGS -u MFLAGS -u MAKELEVEL
+
 .PHONY: all quick libraries check check-quick toolchain documents install uninstall bench clean help FORCE
 all: $(PROVED) $(LIBRARY)
 	@:
@@ -84,10 +87,10 @@ documents:
 	@python3 tests/where --check
 
 check-quick: toolchain documents quick
-	@env -u MAKEFLAGS -u MFLAGS python3 tests/quick
+	@$(ALONE) python3 tests/quick
 
 check: toolchain documents
-	@env -u MAKEFLAGS -u MFLAGS rt ci
+	@$(ALONE) rt ci
 
 install: $(PROGRAMS:%=$(FROM)/%) $(if $(filter build,$(FROM)),$(LIBRARY))
 	@install -d $(patsubst %,"$(TO)/%",bin share/man/man1 share/bash-completion/completions share/zsh/site-functions)
