@@ -2,7 +2,6 @@
 # name may have spaces, and no file needs an execute bit.
 SHELL := bash
 .SHELLFLAGS := -eu -o pipefail -c
-.DELETE_ON_ERROR:
 .SUFFIXES:
 MAKEFLAGS += --no-builtin-rules --no-print-directory
 
@@ -46,6 +45,9 @@ elif [ '$(KIT_CHECK)' != no ] && [ "$${kit##*logic }" != $(LOGIC) ]; then \
   echo "the logic of $(KIT) is needed, $(LOGIC), and this is $$kit: KIT_CHECK=no builds all the same" >&2; exit 3; \
 fi
 endef
+
+# Each is put in its place whole, so that none is deleted where make stops.
+.PRECIOUS: $(QUICK) $(PROVED) $(LIBRARY) $(LIBRARIES)
 
 # What is run as if no make ran it: else a make in it would say where it is.
 ALONE := env -u MAKEFLAGS -u MFLAGS -u MAKELEVEL
