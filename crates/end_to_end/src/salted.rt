@@ -4,7 +4,8 @@ ghost use Rattle.std.specs.Prelude.{◌≡◌, ◌<◌, [], ◌∷◌, All, IfEr
 ghost use Rattle.end_to_end.specs.Refusals.{salted_open_refusal};
 ghost use Rattle.p3_merkle_tree.specs.Commitments.{IsCommitment};
 ghost use Rattle.p3_merkle_tree.specs.Geometry.{heights};
-ghost use Rattle.p3_merkle_tree.specs.HidingSchemes.{generator_of, plain_of, salted_params_of};
+ghost use Rattle.p3_merkle_tree.specs.HidingSchemes.{generator_of, plain_of, salted_made, salted_params_of};
+ghost use Rattle.p3_merkle_tree.specs.HidingSchemes.{salted_pruned_made};
 ghost use Rattle.p3_merkle_tree.specs.MerkleTreeError.TheVariants.{OutOfMemory};
 ghost use Rattle.p3_merkle_tree.specs.Nodes.{shape};
 ghost use Rattle.p3_merkle_tree.specs.Openings.{honest, honest_rows};
@@ -12,6 +13,7 @@ ghost use Rattle.p3_merkle_tree.specs.Parts.{layers_of, matrices_of, tree_batch}
 ghost use Rattle.p3_merkle_tree.specs.Pruning.{honest_query};
 ghost use Rattle.p3_merkle_tree.specs.Refusals.{AnswersUnlessMemory};
 ghost use Rattle.p3_merkle_tree.specs.Salted.{salted_batch};
+ghost use Rattle.p3_merkle_tree.specs.SaltedOpenings.{IsSaltedAccepted, IsSaltedPrunedAccepted};
 ghost use Rattle.p3_merkle_tree.specs.SaltedTrees.{right_batch, HaveSaltColumns};
 ghost use Rattle.p3_merkle_tree.specs.Views.{batch_of};
 ghost use Rattle.p3_support.specs.Batches.{greatest};
@@ -138,7 +140,11 @@ where
         let c = salted_params_of H.hash C.compression D scheme.old (shape b).dimensions in
         IfOk result (λ v. let opened = honest c.functions (tree_batch v.tree) c.layer index in
         v.opening.opening_proof.1.items ≡ opened.siblings) }
-    ensures accepted { IfOk result (λ v. IfErr v.verdict (λ e. e ≡ OutOfMemory)) }
+    ensures accepted { let b = batch_of M.height_of M.width_of M.row_of N matrices.items in
+        let c = salted_params_of H.hash C.compression D scheme.old (shape b).dimensions in
+        let accepts = IsSaltedAccepted SALT_ELEMS (shape b).dimensions c in
+        IfOk result (λ v. accepts (roots_of v.cap) (salted_made index v.opening)) }
+    ensures verdict { IfOk result (λ v. IfErr v.verdict (λ e. e ≡ OutOfMemory)) }
     ensures scheme { plain_of scheme.new ≡ plain_of scheme.old }
 {
     laws::restoration::<P::Value, PW::Value>();
@@ -204,7 +210,11 @@ where
         let c = salted_params_of H.hash C.compression D scheme.old (shape b).dimensions in
         IfOk result (λ v. let opened = honest_query c.functions (tree_batch v.tree) c.layer indices.now in
         v.opening.1.1.sibling_hashes.items ≡ opened.digests) }
-    ensures accepted { IfOk result (λ v. IfErr v.verdict (λ e. e ≡ OutOfMemory)) }
+    ensures accepted { let b = batch_of M.height_of M.width_of M.row_of N matrices.items in
+        let c = salted_params_of H.hash C.compression D scheme.old (shape b).dimensions in
+        let accepts = IsSaltedPrunedAccepted SALT_ELEMS (shape b).dimensions c in
+        IfOk result (λ v. accepts (roots_of v.cap) (salted_pruned_made indices.now v.opening.0 v.opening.1)) }
+    ensures verdict { IfOk result (λ v. IfErr v.verdict (λ e. e ≡ OutOfMemory)) }
     ensures scheme { plain_of scheme.new ≡ plain_of scheme.old }
 {
     laws::restoration::<P::Value, PW::Value>();
