@@ -5,8 +5,8 @@ use Rattle.p3_support.specs.Batches.{greatest}
 use Rattle.p3_support.specs.declared.matrix.Dimensions.{Dimensions}
 use Rattle.p3_merkle_tree.specs.CapRule.{CapRule}
 use Rattle.p3_merkle_tree.specs.Checks.{AgreeWhereShared, IsAccepted, Params}
-use Rattle.p3_merkle_tree.specs.Extraction.{EachPair, IsCollision, IsExtraction, RowsAgreeWhereAuthenticated}
-use Rattle.p3_merkle_tree.specs.Extraction.{RowsConflictWhereAuthenticated, SomePair}
+use Rattle.p3_merkle_tree.specs.Extraction.{EachPair, IsCollision, IsExtraction, IsFirstCollision}
+use Rattle.p3_merkle_tree.specs.Extraction.{RowsAgreeWhereAuthenticated, RowsConflictWhereAuthenticated, SomePair}
 use Rattle.p3_merkle_tree.specs.Geometry.{halved_index, heights, IsArity}
 use Rattle.p3_merkle_tree.specs.InputPair.{InputPair}
 use Rattle.p3_merkle_tree.specs.Laws.{OneIndexIsBound}
@@ -53,12 +53,12 @@ module _ {T W : Type 0} (row_eq : T → T → Bool) (digest_eq : W → W → Boo
   collision_alone None is = tt
   collision_alone (Some pair) is = is.collision.collision
 
-  -- the same of several queries
+  -- the same of several queries, of which it is the first
   pub collision_pair : (found : Option (ℕ × ℕ × InputPair T (List W))) →
       IsExtraction row_eq digest_eq rule c first second (found_pair (Ok found)) →
-      IfSome found (λ (i, j, pair). IsCollision c (first.query i) (second.query j) (inputs_in pair))
+      IfSome found (λ (i, j, pair). IsFirstCollision c first second (i, j, inputs_in pair))
   collision_pair None is = tt
-  collision_pair (Some (i, j, pair)) is = is.collision.collision
+  collision_pair (Some (i, j, pair)) is = is.collision
 
   -- nothing is found exactly where all queries agree
   pub none_pair : (found : Option (ℕ × ℕ × InputPair T (List W))) →
@@ -119,6 +119,7 @@ module _ {T W : Type 0} (row_eq : T → T → Bool) (digest_eq : W → W → Boo
       record {
         answer = answer_alone row_eq digest_eq rule c first second unrefused (Ok found) is;
         accepted = is.both_accepted.0;
+        answered = λ accepted. is.answered accepted honest;
         collision = collision_alone row_eq digest_eq rule c first second unrefused found is;
         none = found_none found is;
         bound = λ accepted another. found_some found is another;
@@ -129,6 +130,7 @@ module _ {T W : Type 0} (row_eq : T → T → Bool) (digest_eq : W → W → Boo
       record {
         answer = answer_alone row_eq digest_eq rule c first second unrefused (Err e) is;
         accepted = tt;
+        answered = λ accepted. is.answered accepted honest;
         collision = tt;
         none = tt;
         bound = λ accepted another. memory_alone e None refl (is.answered accepted honest);
@@ -176,6 +178,7 @@ module _ {T W : Type 0} (row_eq : T → T → Bool) (digest_eq : W → W → Boo
       record {
         answer = answer_pair row_eq digest_eq rule c first second unrefused (Ok found) is;
         accepted = is.both_accepted.0;
+        answered = λ accepted. is.answered accepted honest;
         collision = collision_pair row_eq digest_eq rule c first second unrefused found is;
         none = both;
         agree = λ none i below. (bound c cap (opening_at c p i) (opening_at c q i) arity
@@ -190,6 +193,7 @@ module _ {T W : Type 0} (row_eq : T → T → Bool) (digest_eq : W → W → Boo
       record {
         answer = answer_pair row_eq digest_eq rule c first second unrefused (Err e) is;
         accepted = tt;
+        answered = λ accepted. is.answered accepted honest;
         collision = tt;
         none = tt;
         agree = tt;
@@ -221,6 +225,7 @@ module _ {T W : Type 0} (row_eq : T → T → Bool) (digest_eq : W → W → Boo
         record {
           answer = answer_alone row_eq digest_eq rule c first second unrefused (Ok found) is;
           accepted = is.both_accepted.0;
+          answered = λ accepted. is.answered accepted honest;
           collision = collision_alone row_eq digest_eq rule c first second unrefused found is;
           none = none;
           bound = λ accepted another. two_ways (salted_conflict another);
@@ -231,6 +236,7 @@ module _ {T W : Type 0} (row_eq : T → T → Bool) (digest_eq : W → W → Boo
         record {
           answer = answer_alone row_eq digest_eq rule c first second unrefused (Err x) is;
           accepted = tt;
+          answered = λ accepted. is.answered accepted honest;
           collision = tt;
           none = tt;
           bound = λ accepted another. memory_alone x None refl (is.answered accepted honest);
@@ -272,6 +278,7 @@ module _ {T W : Type 0} (row_eq : T → T → Bool) (digest_eq : W → W → Boo
         record {
           answer = answer_pair row_eq digest_eq rule c first second unrefused (Ok found) is;
           accepted = is.both_accepted.0;
+          answered = λ accepted. is.answered accepted honest;
           collision = collision_pair row_eq digest_eq rule c first second unrefused found is;
           none = both;
           agree = λ none i below. (bound c cap (opening_at c (joined_sets p) i) (opening_at c (joined_sets q) i) arity
@@ -286,6 +293,7 @@ module _ {T W : Type 0} (row_eq : T → T → Bool) (digest_eq : W → W → Boo
         record {
           answer = answer_pair row_eq digest_eq rule c first second unrefused (Err x) is;
           accepted = tt;
+          answered = λ accepted. is.answered accepted honest;
           collision = tt;
           none = tt;
           agree = tt;
