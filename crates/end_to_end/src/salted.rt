@@ -1,6 +1,6 @@
 //! The salted scheme: what it opens of its own commitment is accepted.
 
-ghost use Rattle.std.specs.Prelude.{◌≡◌, ◌<◌, [], ◌∷◌, All, IfErr, IfOk, map, slice_index};
+ghost use Rattle.std.specs.Prelude.{◌≡◌, ◌<◌, [], ◌∷◌, All, IfErr, IfOk, OnOk, map, slice_index};
 ghost use Rattle.end_to_end.specs.Refusals.{salted_open_refusal};
 ghost use Rattle.p3_merkle_tree.specs.Commitments.{IsCommitment};
 ghost use Rattle.p3_merkle_tree.specs.Geometry.{heights};
@@ -12,7 +12,7 @@ ghost use Rattle.p3_merkle_tree.specs.Openings.{honest, honest_rows};
 ghost use Rattle.p3_merkle_tree.specs.Parts.{layers_of, matrices_of, tree_batch};
 ghost use Rattle.p3_merkle_tree.specs.Pruning.{honest_query};
 ghost use Rattle.p3_merkle_tree.specs.Refusals.{AnswersUnlessMemory};
-ghost use Rattle.p3_merkle_tree.specs.Salted.{salted_batch};
+ghost use Rattle.p3_merkle_tree.specs.Salted.{after_salts, salted_batch, IsAfterSome};
 ghost use Rattle.p3_merkle_tree.specs.SaltedOpenings.{IsSaltedAccepted, IsSaltedPrunedAccepted};
 ghost use Rattle.p3_merkle_tree.specs.SaltedTrees.{right_batch, HaveSaltColumns};
 ghost use Rattle.p3_merkle_tree.specs.Views.{batch_of};
@@ -81,6 +81,12 @@ where
     // The same of an index that is alone in its list, for calls that need it so.
     ensures first { IfOk result (λ (cap, tree, dimensions).
         slice_index indices.now 0 < greatest (heights (shape (tree_batch tree)))) }
+    ensures rest { let b = batch_of M.height_of M.width_of M.row_of N matrices.items in
+        let drawn = R.stream (generator_of scheme.old) in
+        OnOk result (R.stream (generator_of scheme.new) ≡ after_salts SALT_ELEMS b.matrices drawn) }
+    ensures further { let b = batch_of M.height_of M.width_of M.row_of N matrices.items in
+        let drawn = R.stream (generator_of scheme.old) in
+        IsAfterSome SALT_ELEMS b.matrices drawn (R.stream (generator_of scheme.new)) }
     ensures scheme { plain_of scheme.new ≡ plain_of scheme.old }
 {
     laws::dimensions::<P::Value, M, N>();
@@ -145,6 +151,12 @@ where
         let accepts = IsSaltedAccepted SALT_ELEMS (shape b).dimensions c in
         IfOk result (λ v. accepts (roots_of v.cap) (salted_made index v.opening)) }
     ensures verdict { IfOk result (λ v. IfErr v.verdict (λ e. e ≡ OutOfMemory)) }
+    ensures rest { let b = batch_of M.height_of M.width_of M.row_of N matrices.items in
+        let drawn = R.stream (generator_of scheme.old) in
+        OnOk result (R.stream (generator_of scheme.new) ≡ after_salts SALT_ELEMS b.matrices drawn) }
+    ensures further { let b = batch_of M.height_of M.width_of M.row_of N matrices.items in
+        let drawn = R.stream (generator_of scheme.old) in
+        IsAfterSome SALT_ELEMS b.matrices drawn (R.stream (generator_of scheme.new)) }
     ensures scheme { plain_of scheme.new ≡ plain_of scheme.old }
 {
     laws::restoration::<P::Value, PW::Value>();
@@ -215,6 +227,12 @@ where
         let accepts = IsSaltedPrunedAccepted SALT_ELEMS (shape b).dimensions c in
         IfOk result (λ v. accepts (roots_of v.cap) (salted_pruned_made indices.now v.opening.0 v.opening.1)) }
     ensures verdict { IfOk result (λ v. IfErr v.verdict (λ e. e ≡ OutOfMemory)) }
+    ensures rest { let b = batch_of M.height_of M.width_of M.row_of N matrices.items in
+        let drawn = R.stream (generator_of scheme.old) in
+        OnOk result (R.stream (generator_of scheme.new) ≡ after_salts SALT_ELEMS b.matrices drawn) }
+    ensures further { let b = batch_of M.height_of M.width_of M.row_of N matrices.items in
+        let drawn = R.stream (generator_of scheme.old) in
+        IsAfterSome SALT_ELEMS b.matrices drawn (R.stream (generator_of scheme.new)) }
     ensures scheme { plain_of scheme.new ≡ plain_of scheme.old }
 {
     laws::restoration::<P::Value, PW::Value>();

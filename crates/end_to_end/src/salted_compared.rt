@@ -1,6 +1,6 @@
 //! The salted scheme: an opening that anybody presents has the rows that were committed to, or a collision is returned.
 
-ghost use Rattle.std.specs.Prelude.{◌≡◌, [], ◌∷◌, IfOk, map};
+ghost use Rattle.std.specs.Prelude.{◌≡◌, [], ◌∷◌, IfOk, OnOk, map};
 ghost use Rattle.end_to_end.specs.Comparisons.{IsSaltedComparison, IsSaltedPrunedComparison};
 ghost use Rattle.end_to_end.specs.Refusals.{salted_open_refusal};
 ghost use Rattle.p3_merkle_tree.specs.Commitments.{IsCommitment};
@@ -11,7 +11,7 @@ ghost use Rattle.p3_merkle_tree.specs.Openings.{honest, honest_rows};
 ghost use Rattle.p3_merkle_tree.specs.Parts.{layers_of, matrices_of, tree_batch};
 ghost use Rattle.p3_merkle_tree.specs.Pruning.{honest_query};
 ghost use Rattle.p3_merkle_tree.specs.Refusals.{AnswersUnlessMemory};
-ghost use Rattle.p3_merkle_tree.specs.Salted.{salted_batch};
+ghost use Rattle.p3_merkle_tree.specs.Salted.{after_salts, salted_batch, IsAfterSome};
 ghost use Rattle.p3_merkle_tree.specs.SaltedTrees.{right_batch};
 ghost use Rattle.p3_merkle_tree.specs.Views.{batch_of};
 ghost use Rattle.p3_support.specs.Pairs.{left_of};
@@ -89,6 +89,12 @@ where
         let compares = IsSaltedComparison PW.Value.eq SALT_ELEMS (shape b).dimensions c in
         let o = salted_lent index claimed.entry in
         IfOk result (λ v. compares (roots_of v.cap) o (salted_made index v.opening) v.found) }
+    ensures rest { let b = batch_of M.height_of M.width_of M.row_of N matrices.items in
+        let drawn = R.stream (generator_of scheme.old) in
+        OnOk result (R.stream (generator_of scheme.new) ≡ after_salts SALT_ELEMS b.matrices drawn) }
+    ensures further { let b = batch_of M.height_of M.width_of M.row_of N matrices.items in
+        let drawn = R.stream (generator_of scheme.old) in
+        IsAfterSome SALT_ELEMS b.matrices drawn (R.stream (generator_of scheme.new)) }
     ensures scheme { plain_of scheme.new ≡ plain_of scheme.old }
 {
     laws::answers::<P::Value, PW::Value>();
@@ -168,6 +174,12 @@ where
         let p = salted_pruned_lent indices.now rows.now proof.now in
         IfOk result (λ v. let honest = salted_pruned_made indices.now v.opening.0 v.opening.1 in
         compares (roots_of v.cap) p honest v.found) }
+    ensures rest { let b = batch_of M.height_of M.width_of M.row_of N matrices.items in
+        let drawn = R.stream (generator_of scheme.old) in
+        OnOk result (R.stream (generator_of scheme.new) ≡ after_salts SALT_ELEMS b.matrices drawn) }
+    ensures further { let b = batch_of M.height_of M.width_of M.row_of N matrices.items in
+        let drawn = R.stream (generator_of scheme.old) in
+        IsAfterSome SALT_ELEMS b.matrices drawn (R.stream (generator_of scheme.new)) }
     ensures scheme { plain_of scheme.new ≡ plain_of scheme.old }
 {
     laws::answers::<P::Value, PW::Value>();
