@@ -2,8 +2,11 @@
 use Rattle.std.specs.Prelude.{◌≡◌, ◌≢◌, ◌↔◌, ◌<◌, ℕ, Bool, IfOk, IfSome, IsNone, IsSome, IsTrue, List, [], MatchResult}
 use Rattle.std.specs.Prelude.{None, Option, Result, length, slice_index_or}
 use Rattle.p3_support.specs.declared.matrix.Dimensions.{Dimensions}
+use Rattle.p3_merkle_tree.specs.CapRule.{CapRule}
+use Rattle.p3_merkle_tree.specs.CapRule.TheVariants.{Lowered}
 use Rattle.p3_merkle_tree.specs.Checks.{AgreeWhereShared, IsAccepted, Params, is_authenticated}
 use Rattle.p3_merkle_tree.specs.Extraction.{IsCollision, IsFirstCollision, RowsAgreeWhereAuthenticated}
+use Rattle.p3_merkle_tree.specs.Extraction.{RowsConflictSomewhere, SomePair}
 use Rattle.p3_merkle_tree.specs.Geometry.{heights}
 use Rattle.p3_merkle_tree.specs.InputPair.{InputPair}
 use Rattle.p3_merkle_tree.specs.MerkleTreeError.{MerkleTreeError}
@@ -12,7 +15,7 @@ use Rattle.p3_merkle_tree.specs.Openings.{Opening}
 use Rattle.p3_merkle_tree.specs.Presented.{presented_pruned}
 use Rattle.p3_merkle_tree.specs.Pruning.{IsPrunedAccepted, PrunedOpening, opening_at}
 use Rattle.p3_merkle_tree.specs.Refusals.{AnswersUnlessMemory, pruned_refusal_under, refusal_under}
-use Rattle.p3_merkle_tree.specs.SaltedExtraction.{AgreeWhereAuthenticated}
+use Rattle.p3_merkle_tree.specs.SaltedExtraction.{AgreeWhereAuthenticated, ConflictSomewhere, SomeSaltedPair}
 use Rattle.p3_merkle_tree.specs.SaltedOpenings.{IsSaltedAccepted, IsSaltedPrunedAccepted, SaltedOpening, SaltedPruned}
 use Rattle.p3_merkle_tree.specs.SaltedOpenings.{joined, joined_sets}
 use Rattle.p3_merkle_tree.specs.SaltedPresented.{presented_salted_pruned}
@@ -28,8 +31,9 @@ ClaimsAnotherRow c claimed honest =
     (slice_index_or claimed k [] ≢ slice_index_or honest k [])
 
 -- what is found in a claimed opening beside the honest one, under a cap
-pub record IsComparison {T W : Type 0} (digest_eq : W → W → Bool) (c : Params T W) (cap : List (List W))
-    (claimed honest : Opening T W) (found : Result (Option (InputPair T (List W))) MerkleTreeError) : Type 0 where
+pub record IsComparison {T W : Type 0} (digest_eq : W → W → Bool) (rule : CapRule) (c : Params T W)
+    (cap : List (List W)) (claimed honest : Opening T W)
+    (found : Result (Option (InputPair T (List W))) MerkleTreeError) : Type 0 where
   -- the claimed opening is refused for the first reason that holds, and Ok means that it is accepted
   pub answer : AnswersUnlessMemory found (refusal_under digest_eq c cap claimed)
   pub accepted : IfOk found (λ pair. IsAccepted c cap claimed)
@@ -42,10 +46,13 @@ pub record IsComparison {T W : Type 0} (digest_eq : W → W → Bool) (c : Param
   -- an accepted opening that claims another row gives a collision, unless memory runs out
   pub bound : IsAccepted c cap claimed → ClaimsAnotherRow c claimed.rows honest.rows →
       MatchResult found (λ pair. IsSome pair) (λ e. e ≡ OutOfMemory)
+  -- under the lowered rule, so does one that conflicts with the honest one in any matrix
+  pub lowered : rule ≡ Lowered → IsAccepted c cap claimed → RowsConflictSomewhere c claimed honest →
+      MatchResult found (λ pair. IsSome pair) (λ e. e ≡ OutOfMemory)
 
 -- the same of openings with e salts a row, of matrices of these dimensions without salts
-pub record IsSaltedComparison {T W : Type 0} (digest_eq : W → W → Bool) (e : ℕ) (dimensions : List Dimensions)
-    (c : Params T W) (cap : List (List W)) (claimed honest : SaltedOpening T W)
+pub record IsSaltedComparison {T W : Type 0} (digest_eq : W → W → Bool) (rule : CapRule) (e : ℕ)
+    (dimensions : List Dimensions) (c : Params T W) (cap : List (List W)) (claimed honest : SaltedOpening T W)
     (found : Result (Option (InputPair T (List W))) MerkleTreeError) : Type 0 where
   pub answer : AnswersUnlessMemory found (salted_refusal_under digest_eq e dimensions c cap claimed)
   pub accepted : IfOk found (λ pair. IsSaltedAccepted e dimensions c cap claimed)
@@ -55,6 +62,9 @@ pub record IsSaltedComparison {T W : Type 0} (digest_eq : W → W → Bool) (e :
   -- nothing is found exactly where siblings, and the rows and salts of authenticated matrices, are the honest ones
   pub none : IfOk found (λ pair. IsNone pair ↔ AgreeWhereAuthenticated c claimed honest)
   pub bound : IsSaltedAccepted e dimensions c cap claimed → ClaimsAnotherRow c claimed.rows honest.rows →
+      MatchResult found (λ pair. IsSome pair) (λ e. e ≡ OutOfMemory)
+  -- under the lowered rule, so does one with another row or other salts of any matrix
+  pub lowered : rule ≡ Lowered → IsSaltedAccepted e dimensions c cap claimed → ConflictSomewhere c claimed honest →
       MatchResult found (λ pair. IsSome pair) (λ e. e ≡ OutOfMemory)
 
 -- ---- openings of several indices
@@ -72,8 +82,8 @@ AgreeWhereBothCheck c claimed honest =
 
 -- what is found in a claimed pruned opening beside the honest one, under a cap: the place of a claimed query, that of
 -- an honest one, and their inputs
-pub record IsPrunedComparison {T W : Type 0} (row_eq : T → T → Bool) (digest_eq : W → W → Bool) (c : Params T W)
-    (cap : List (List W)) (claimed honest : PrunedOpening T W)
+pub record IsPrunedComparison {T W : Type 0} (row_eq : T → T → Bool) (digest_eq : W → W → Bool) (rule : CapRule)
+    (c : Params T W) (cap : List (List W)) (claimed honest : PrunedOpening T W)
     (found : Result (Option (ℕ × ℕ × InputPair T (List W))) MerkleTreeError) : Type 0 where
   -- the claimed opening is refused for the first reason that holds, and Ok means that it is accepted
   pub answer : AnswersUnlessMemory found (pruned_refusal_under row_eq digest_eq c cap claimed)
@@ -91,10 +101,16 @@ pub record IsPrunedComparison {T W : Type 0} (row_eq : T → T → Bool) (digest
   pub bound : IsPrunedAccepted c cap claimed →
       ClaimsAnotherRowSet c (length claimed.indices) claimed.rows honest.rows →
       MatchResult found (λ pair. IsSome pair) (λ e. e ≡ OutOfMemory)
+  -- under the lowered rule, so does one with a query that conflicts with an honest one in any matrix
+  pub lowered : let shown = presented_pruned row_eq digest_eq c cap in
+      rule ≡ Lowered → IsPrunedAccepted c cap claimed →
+      SomePair (shown claimed) (shown honest) (RowsConflictSomewhere c) →
+      MatchResult found (λ pair. IsSome pair) (λ e. e ≡ OutOfMemory)
 
 -- the same of openings with e salts a row, of matrices of these dimensions without salts
-pub record IsSaltedPrunedComparison {T W : Type 0} (row_eq : T → T → Bool) (digest_eq : W → W → Bool) (e : ℕ)
-    (dimensions : List Dimensions) (c : Params T W) (cap : List (List W)) (claimed honest : SaltedPruned T W)
+pub record IsSaltedPrunedComparison {T W : Type 0} (row_eq : T → T → Bool) (digest_eq : W → W → Bool)
+    (rule : CapRule) (e : ℕ) (dimensions : List Dimensions) (c : Params T W) (cap : List (List W))
+    (claimed honest : SaltedPruned T W)
     (found : Result (Option (ℕ × ℕ × InputPair T (List W))) MerkleTreeError) : Type 0 where
   pub answer : AnswersUnlessMemory found (salted_pruned_refusal_under row_eq digest_eq e dimensions c cap claimed)
   pub accepted : IfOk found (λ pair. IsSaltedPrunedAccepted e dimensions c cap claimed)
@@ -107,4 +123,8 @@ pub record IsSaltedPrunedComparison {T W : Type 0} (row_eq : T → T → Bool) (
       RowsAgreeWhereAuthenticated c (opening_at c (joined_sets claimed) i) (opening_at c (joined_sets honest) i))
   pub bound : IsSaltedPrunedAccepted e dimensions c cap claimed →
       ClaimsAnotherRowSet c (length claimed.indices) claimed.rows honest.rows →
+      MatchResult found (λ pair. IsSome pair) (λ e. e ≡ OutOfMemory)
+  -- under the lowered rule, so does one with a query that conflicts with an honest one in any matrix
+  pub lowered : rule ≡ Lowered → IsSaltedPrunedAccepted e dimensions c cap claimed →
+      SomeSaltedPair c claimed honest (ConflictSomewhere c) →
       MatchResult found (λ pair. IsSome pair) (λ e. e ≡ OutOfMemory)

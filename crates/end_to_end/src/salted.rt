@@ -103,7 +103,7 @@ where
 ///
 /// `EmptyBatch`, `TooLarge` or `IncompatibleHeights` if the matrices have such heights; else `TooLarge` for the first
 /// matrix whose width with its salts does not fit `usize`; else `IndexOutOfBounds` if the index is not below the
-/// tallest height. `OutOfMemory` may come at any time, also as the verdict.
+/// tallest height, which is found after the salts are drawn. `OutOfMemory` may come at any time, also as the verdict.
 pub fn salted_commit_open_verify<
     P: PackedValue,
     PW: PackedValue,
@@ -179,7 +179,8 @@ where
 ///
 /// `EmptyBatch`, `TooLarge` or `IncompatibleHeights` if the matrices have such heights; else `TooLarge` for the first
 /// matrix whose width with its salts does not fit `usize`; else `IndexOutOfBounds` for the highest index, if it is not
-/// below the tallest height. `OutOfMemory` may come at any time, also as the verdict.
+/// below the tallest height, which is found after the salts are drawn. `OutOfMemory` may come at any time, also as the
+/// verdict.
 pub fn salted_commit_open_verify_pruned<
     P: PackedValue,
     PW: PackedValue,

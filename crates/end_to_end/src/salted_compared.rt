@@ -1,4 +1,5 @@
-//! The salted scheme: an opening that anybody presents has the rows that were committed to, or a collision is returned.
+//! The salted scheme: an opening that anybody presents has the committed row of each authenticated matrix, or a collision
+//! is returned.
 
 ghost use Rattle.std.specs.Prelude.{◌≡◌, [], ◌∷◌, IfOk, OnOk, map};
 ghost use Rattle.end_to_end.specs.Comparisons.{IsSaltedComparison, IsSaltedPrunedComparison};
@@ -13,6 +14,7 @@ ghost use Rattle.p3_merkle_tree.specs.Pruning.{honest_query};
 ghost use Rattle.p3_merkle_tree.specs.Refusals.{AnswersUnlessMemory};
 ghost use Rattle.p3_merkle_tree.specs.Salted.{after_salts, salted_batch, IsAfterSome};
 ghost use Rattle.p3_merkle_tree.specs.SaltedTrees.{right_batch};
+ghost use Rattle.p3_merkle_tree.specs.Schemes.{cap_rule_of};
 ghost use Rattle.p3_merkle_tree.specs.Views.{batch_of};
 ghost use Rattle.p3_support.specs.Pairs.{left_of};
 ghost use Rattle.p3_support.specs.Shown.{roots_of, row_lists, row_sets};
@@ -39,7 +41,7 @@ use std::alloc::Global;
 ///
 /// `EmptyBatch`, `TooLarge` or `IncompatibleHeights` if the matrices have such heights; else `TooLarge` for the first
 /// matrix whose width with its salts does not fit `usize`; else `IndexOutOfBounds` if the index is not below the
-/// tallest height. `OutOfMemory` may come at any time, also as what is found.
+/// tallest height, which is found after the salts are drawn. `OutOfMemory` may come at any time, also as what is found.
 pub fn salted_commit_compare<
     P: PackedValue,
     PW: PackedValue,
@@ -86,7 +88,8 @@ where
         v.opening.opening_proof.1.items ≡ opened.siblings) }
     ensures compared { let b = batch_of M.height_of M.width_of M.row_of N matrices.items in
         let c = salted_params_of H.hash C.compression D scheme.old (shape b).dimensions in
-        let compares = IsSaltedComparison PW.Value.eq SALT_ELEMS (shape b).dimensions c in
+        let rule = cap_rule_of (plain_of scheme.old) in
+        let compares = IsSaltedComparison PW.Value.eq rule SALT_ELEMS (shape b).dimensions c in
         let o = salted_lent index claimed.entry in
         IfOk result (λ v. compares (roots_of v.cap) o (salted_made index v.opening) v.found) }
     ensures rest { let b = batch_of M.height_of M.width_of M.row_of N matrices.items in
@@ -122,7 +125,8 @@ where
 ///
 /// `EmptyBatch`, `TooLarge` or `IncompatibleHeights` if the matrices have such heights; else `TooLarge` for the first
 /// matrix whose width with its salts does not fit `usize`; else `IndexOutOfBounds` for the highest index, if it is not
-/// below the tallest height. `OutOfMemory` may come at any time, also as what is found.
+/// below the tallest height, which is found after the salts are drawn. `OutOfMemory` may come at any time, also as what
+/// is found.
 pub fn salted_commit_compare_pruned<
     P: PackedValue,
     PW: PackedValue,
@@ -170,7 +174,8 @@ where
         v.opening.1.1.sibling_hashes.items ≡ opened.digests) }
     ensures compared { let b = batch_of M.height_of M.width_of M.row_of N matrices.items in
         let c = salted_params_of H.hash C.compression D scheme.old (shape b).dimensions in
-        let compares = IsSaltedPrunedComparison P.Value.eq PW.Value.eq SALT_ELEMS (shape b).dimensions c in
+        let rule = cap_rule_of (plain_of scheme.old) in
+        let compares = IsSaltedPrunedComparison P.Value.eq PW.Value.eq rule SALT_ELEMS (shape b).dimensions c in
         let p = salted_pruned_lent indices.now rows.now proof.now in
         IfOk result (λ v. let honest = salted_pruned_made indices.now v.opening.0 v.opening.1 in
         compares (roots_of v.cap) p honest v.found) }

@@ -57,8 +57,7 @@ returns-clause-accepted g c =
     IsSaltedPrunedAccepted e z.1 k (cap_over k salted) q)
     (λ i. (c.in_ok-cap.ensures.scheme i, lefts i)) c.in_ok-opening.ensures.accepted committed.own_layers
     c.in_ok-cap.ensures.columns in
-    subst (λ (z : List (List _)). IsSaltedPrunedAccepted e ds k z q) (sym committed.own_cap)
-    under_own_cap
+    subst (λ (z : List (List _)). IsSaltedPrunedAccepted e ds k z q) (sym committed.own_cap) under_own_cap
 
 pub returns-clause-verdict : goal.returns-clause-verdict
 returns-clause-verdict g c =
@@ -85,4 +84,5 @@ returns-clause-verdict g c =
       salted_pruned_of c.args.indices.now (row_sets (lent i)) (row_sets proof.0.items) proof.1.sibling_hashes.items,
     ))
     c.verify_multi_batch-verdict.ensures in
-    memory_left (presented_salted_pruned row_eq digest_eq e ds k cap q) c.verify_multi_batch-verdict.result is (returns-clause-accepted g c)
+    memory_left (presented_salted_pruned row_eq digest_eq e ds k cap q) c.verify_multi_batch-verdict.result is
+    (returns-clause-accepted g c)
