@@ -1,6 +1,7 @@
 //! The salted scheme: what it opens of its own commitment is accepted.
 
-ghost use Rattle.std.specs.Prelude.{◌≡◌, ◌<◌, [], ◌∷◌, All, IfErr, IfOk, OnOk, map, slice_index};
+ghost use Rattle.std.specs.Prelude.{◌≡◌, ◌<◌, ◌⊎◌, [], ◌∷◌, All, IfErr, IfOk, IsSome, OnOk, map};
+ghost use Rattle.std.specs.Prelude.{slice_index};
 ghost use Rattle.end_to_end.specs.Refusals.{salted_open_refusal};
 ghost use Rattle.p3_merkle_tree.specs.Commitments.{IsCommitment};
 ghost use Rattle.p3_merkle_tree.specs.Geometry.{heights};
@@ -13,6 +14,7 @@ ghost use Rattle.p3_merkle_tree.specs.Parts.{layers_of, matrices_of, tree_batch}
 ghost use Rattle.p3_merkle_tree.specs.Pruning.{honest_query};
 ghost use Rattle.p3_merkle_tree.specs.Refusals.{AnswersUnlessMemory};
 ghost use Rattle.p3_merkle_tree.specs.Salted.{after_salts, salted_batch, IsAfterSome};
+ghost use Rattle.p3_merkle_tree.specs.SaltRefusals.{salted_commit_refusal};
 ghost use Rattle.p3_merkle_tree.specs.SaltedOpenings.{IsSaltedAccepted, IsSaltedPrunedAccepted};
 ghost use Rattle.p3_merkle_tree.specs.SaltedTrees.{right_batch, HaveSaltColumns};
 ghost use Rattle.p3_merkle_tree.specs.Views.{batch_of};
@@ -87,6 +89,9 @@ where
     ensures further { let b = batch_of M.height_of M.width_of M.row_of N matrices.items in
         let drawn = R.stream (generator_of scheme.old) in
         IsAfterSome SALT_ELEMS b.matrices drawn (R.stream (generator_of scheme.new)) }
+    ensures untouched { let b = batch_of M.height_of M.width_of M.row_of N matrices.items in
+        IsSome (salted_commit_refusal SALT_ELEMS (shape b).dimensions) →
+        IfErr result (λ e. (e ≡ OutOfMemory) ⊎ (generator_of scheme.new ≡ generator_of scheme.old)) }
     ensures scheme { plain_of scheme.new ≡ plain_of scheme.old }
 {
     laws::dimensions::<P::Value, M, N>();
@@ -157,6 +162,9 @@ where
     ensures further { let b = batch_of M.height_of M.width_of M.row_of N matrices.items in
         let drawn = R.stream (generator_of scheme.old) in
         IsAfterSome SALT_ELEMS b.matrices drawn (R.stream (generator_of scheme.new)) }
+    ensures untouched { let b = batch_of M.height_of M.width_of M.row_of N matrices.items in
+        IsSome (salted_commit_refusal SALT_ELEMS (shape b).dimensions) →
+        IfErr result (λ e. (e ≡ OutOfMemory) ⊎ (generator_of scheme.new ≡ generator_of scheme.old)) }
     ensures scheme { plain_of scheme.new ≡ plain_of scheme.old }
 {
     laws::restoration::<P::Value, PW::Value>();
@@ -234,6 +242,9 @@ where
     ensures further { let b = batch_of M.height_of M.width_of M.row_of N matrices.items in
         let drawn = R.stream (generator_of scheme.old) in
         IsAfterSome SALT_ELEMS b.matrices drawn (R.stream (generator_of scheme.new)) }
+    ensures untouched { let b = batch_of M.height_of M.width_of M.row_of N matrices.items in
+        IsSome (salted_commit_refusal SALT_ELEMS (shape b).dimensions) →
+        IfErr result (λ e. (e ≡ OutOfMemory) ⊎ (generator_of scheme.new ≡ generator_of scheme.old)) }
     ensures scheme { plain_of scheme.new ≡ plain_of scheme.old }
 {
     laws::restoration::<P::Value, PW::Value>();

@@ -1,18 +1,20 @@
 //! The salted scheme: an opening that anybody presents has the committed row of each authenticated matrix, or a collision
 //! is returned.
 
-ghost use Rattle.std.specs.Prelude.{◌≡◌, [], ◌∷◌, IfOk, OnOk, map};
+ghost use Rattle.std.specs.Prelude.{◌≡◌, ◌⊎◌, [], ◌∷◌, IfErr, IfOk, IsSome, OnOk, map};
 ghost use Rattle.end_to_end.specs.Comparisons.{IsSaltedComparison, IsSaltedPrunedComparison};
 ghost use Rattle.end_to_end.specs.Refusals.{salted_open_refusal};
 ghost use Rattle.p3_merkle_tree.specs.Commitments.{IsCommitment};
 ghost use Rattle.p3_merkle_tree.specs.HidingSchemes.{generator_of, plain_of, salted_lent, salted_made};
 ghost use Rattle.p3_merkle_tree.specs.HidingSchemes.{salted_params_of, salted_pruned_lent, salted_pruned_made};
+ghost use Rattle.p3_merkle_tree.specs.MerkleTreeError.TheVariants.{OutOfMemory};
 ghost use Rattle.p3_merkle_tree.specs.Nodes.{shape};
 ghost use Rattle.p3_merkle_tree.specs.Openings.{honest, honest_rows};
 ghost use Rattle.p3_merkle_tree.specs.Parts.{layers_of, matrices_of, tree_batch};
 ghost use Rattle.p3_merkle_tree.specs.Pruning.{honest_query};
 ghost use Rattle.p3_merkle_tree.specs.Refusals.{AnswersUnlessMemory};
 ghost use Rattle.p3_merkle_tree.specs.Salted.{after_salts, salted_batch, IsAfterSome};
+ghost use Rattle.p3_merkle_tree.specs.SaltRefusals.{salted_commit_refusal};
 ghost use Rattle.p3_merkle_tree.specs.SaltedTrees.{right_batch};
 ghost use Rattle.p3_merkle_tree.specs.Schemes.{cap_rule_of};
 ghost use Rattle.p3_merkle_tree.specs.Views.{batch_of};
@@ -98,6 +100,9 @@ where
     ensures further { let b = batch_of M.height_of M.width_of M.row_of N matrices.items in
         let drawn = R.stream (generator_of scheme.old) in
         IsAfterSome SALT_ELEMS b.matrices drawn (R.stream (generator_of scheme.new)) }
+    ensures untouched { let b = batch_of M.height_of M.width_of M.row_of N matrices.items in
+        IsSome (salted_commit_refusal SALT_ELEMS (shape b).dimensions) →
+        IfErr result (λ e. (e ≡ OutOfMemory) ⊎ (generator_of scheme.new ≡ generator_of scheme.old)) }
     ensures scheme { plain_of scheme.new ≡ plain_of scheme.old }
 {
     laws::answers::<P::Value, PW::Value>();
@@ -185,6 +190,9 @@ where
     ensures further { let b = batch_of M.height_of M.width_of M.row_of N matrices.items in
         let drawn = R.stream (generator_of scheme.old) in
         IsAfterSome SALT_ELEMS b.matrices drawn (R.stream (generator_of scheme.new)) }
+    ensures untouched { let b = batch_of M.height_of M.width_of M.row_of N matrices.items in
+        IsSome (salted_commit_refusal SALT_ELEMS (shape b).dimensions) →
+        IfErr result (λ e. (e ≡ OutOfMemory) ⊎ (generator_of scheme.new ≡ generator_of scheme.old)) }
     ensures scheme { plain_of scheme.new ≡ plain_of scheme.old }
 {
     laws::answers::<P::Value, PW::Value>();
