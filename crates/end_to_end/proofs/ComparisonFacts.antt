@@ -4,8 +4,10 @@ use Rattle.std.specs.Prelude.{◌↔◌, ◌⊎◌, Err, Ok, IfOk, IfSome, IsNon
 use Rattle.p3_support.specs.Batches.{greatest}
 use Rattle.p3_support.specs.declared.matrix.Dimensions.{Dimensions}
 use Rattle.p3_merkle_tree.specs.CapRule.{CapRule}
+use Rattle.p3_merkle_tree.specs.CapRule.TheVariants.{Lowered}
 use Rattle.p3_merkle_tree.specs.Checks.{AgreeWhereShared, IsAccepted, Params}
-use Rattle.p3_merkle_tree.specs.Extraction.{EachPair, IsCollision, IsExtraction, RowsAgreeWhereAuthenticated}
+use Rattle.p3_merkle_tree.specs.Extraction.{EachPair, IsCollision, IsExtraction, IsFirstCollision}
+use Rattle.p3_merkle_tree.specs.Extraction.{RowsAgreeWhereAuthenticated, RowsConflictSomewhere}
 use Rattle.p3_merkle_tree.specs.Extraction.{RowsConflictWhereAuthenticated, SomePair}
 use Rattle.p3_merkle_tree.specs.Geometry.{halved_index, heights, IsArity}
 use Rattle.p3_merkle_tree.specs.InputPair.{InputPair}
@@ -16,8 +18,8 @@ use Rattle.p3_merkle_tree.specs.Openings.{Opening}
 use Rattle.p3_merkle_tree.specs.Presented.{Presented, presented, presented_pruned}
 use Rattle.p3_merkle_tree.specs.Pruning.{IsPrunedAccepted, PrunedOpening, opening_at}
 use Rattle.p3_merkle_tree.specs.Refusals.{AnswersUnlessMemory, pruned_refusal_under, refusal_under}
-use Rattle.p3_merkle_tree.specs.SaltedExtraction.{AgreeWhereAuthenticated, ConflictWhereAuthenticated, SomeSaltedPair}
-use Rattle.p3_merkle_tree.specs.SaltedExtraction.{salted_opening_at}
+use Rattle.p3_merkle_tree.specs.SaltedExtraction.{AgreeWhereAuthenticated, ConflictSomewhere}
+use Rattle.p3_merkle_tree.specs.SaltedExtraction.{ConflictWhereAuthenticated, SomeSaltedPair, salted_opening_at}
 use Rattle.p3_merkle_tree.specs.SaltedOpenings.{IsSaltedAccepted, IsSaltedPrunedAccepted, SaltedOpening, SaltedPruned}
 use Rattle.p3_merkle_tree.specs.SaltedOpenings.{joined_sets}
 use Rattle.p3_merkle_tree.specs.SaltedPresented.{presented_salted, presented_salted_pruned}
@@ -53,12 +55,12 @@ module _ {T W : Type 0} (row_eq : T → T → Bool) (digest_eq : W → W → Boo
   collision_alone None is = tt
   collision_alone (Some pair) is = is.collision.collision
 
-  -- the same of several queries
+  -- the same of several queries, of which it is the first
   pub collision_pair : (found : Option (ℕ × ℕ × InputPair T (List W))) →
       IsExtraction row_eq digest_eq rule c first second (found_pair (Ok found)) →
-      IfSome found (λ (i, j, pair). IsCollision c (first.query i) (second.query j) (inputs_in pair))
+      IfSome found (λ (i, j, pair). IsFirstCollision c first second (i, j, inputs_in pair))
   collision_pair None is = tt
-  collision_pair (Some (i, j, pair)) is = is.collision.collision
+  collision_pair (Some (i, j, pair)) is = is.collision
 
   -- nothing is found exactly where all queries agree
   pub none_pair : (found : Option (ℕ × ℕ × InputPair T (List W))) →
@@ -73,6 +75,13 @@ module _ {T W : Type 0} (row_eq : T → T → Bool) (digest_eq : W → W → Boo
       SomePair first second (RowsConflictWhereAuthenticated c) → IsSome found
   some_pair None is conflicting = let some = is.two_ways conflicting in absurd cc
   some_pair (Some found) is conflicting = refl
+
+  -- under the lowered rule, something is found where two queries conflict in any matrix
+  pub lowered_pair : (found : Option (ℕ × ℕ × InputPair T (List W))) →
+      IsExtraction row_eq digest_eq rule c first second (found_pair (Ok found)) → rule ≡ Lowered →
+      SomePair first second (RowsConflictSomewhere c) → IsSome found
+  lowered_pair None is lowered conflicting = let some = is.lowered_two_ways lowered conflicting in absurd cc
+  lowered_pair (Some found) is lowered conflicting = refl
 
 -- ---- openings of one index
 
@@ -110,18 +119,27 @@ module _ {T W : Type 0} (row_eq : T → T → Bool) (digest_eq : W → W → Boo
       absurd cc
   found_some (Some pair) is another = refl
 
+  -- under the lowered rule, something is found where both conflict in any matrix
+  found_lowered : (found : Option (InputPair T (List W))) → Is (Ok found) → rule ≡ Lowered →
+      RowsConflictSomewhere c o u → IsSome found
+  found_lowered None is lowered conflicting =
+      let some = is.lowered_two_ways lowered (0, 0, lit< tt, lit< tt, conflicting) in absurd cc
+  found_lowered (Some pair) is lowered conflicting = refl
+
   -- the answer to a claimed opening beside an accepted one is their comparison
   pub compared : refusal_under digest_eq c cap u ≡ None → IsAccepted c cap u →
-      (r : Result (Option (InputPair T (List W))) MerkleTreeError) → Is r → IsComparison digest_eq c cap o u r
+      (r : Result (Option (InputPair T (List W))) MerkleTreeError) → Is r → IsComparison digest_eq rule c cap o u r
   compared unrefused honest (Ok found) is =
       let first = presented digest_eq c cap o in
       let second = presented digest_eq c cap u in
       record {
         answer = answer_alone row_eq digest_eq rule c first second unrefused (Ok found) is;
         accepted = is.both_accepted.0;
+        answered = λ accepted. is.answered accepted honest;
         collision = collision_alone row_eq digest_eq rule c first second unrefused found is;
         none = found_none found is;
         bound = λ accepted another. found_some found is another;
+        lowered = λ lowered accepted conflicting. found_lowered found is lowered conflicting;
       }
   compared unrefused honest (Err e) is =
       let first = presented digest_eq c cap o in
@@ -129,9 +147,11 @@ module _ {T W : Type 0} (row_eq : T → T → Bool) (digest_eq : W → W → Boo
       record {
         answer = answer_alone row_eq digest_eq rule c first second unrefused (Err e) is;
         accepted = tt;
+        answered = λ accepted. is.answered accepted honest;
         collision = tt;
         none = tt;
         bound = λ accepted another. memory_alone e None refl (is.answered accepted honest);
+        lowered = λ lowered accepted conflicting. memory_alone e None refl (is.answered accepted honest);
       }
 
 -- ---- openings of several indices
@@ -168,7 +188,7 @@ module _ {T W : Type 0} (row_eq : T → T → Bool) (digest_eq : W → W → Boo
   pub compared_pruned : OneIndexIsBound T W → IsArity c.shape.arity →
       pruned_refusal_under row_eq digest_eq c cap q ≡ None → IsPrunedAccepted c cap q →
       (r : Result (Option (ℕ × ℕ × InputPair T (List W))) MerkleTreeError) → ArePruned r →
-      IsPrunedComparison row_eq digest_eq c cap p q r
+      IsPrunedComparison row_eq digest_eq rule c cap p q r
   compared_pruned bound arity unrefused honest (Ok found) is =
       let first = presented_pruned row_eq digest_eq c cap p in
       let second = presented_pruned row_eq digest_eq c cap q in
@@ -176,6 +196,7 @@ module _ {T W : Type 0} (row_eq : T → T → Bool) (digest_eq : W → W → Boo
       record {
         answer = answer_pair row_eq digest_eq rule c first second unrefused (Ok found) is;
         accepted = is.both_accepted.0;
+        answered = λ accepted. is.answered accepted honest;
         collision = collision_pair row_eq digest_eq rule c first second unrefused found is;
         none = both;
         agree = λ none i below. (bound c cap (opening_at c p i) (opening_at c q i) arity
@@ -183,6 +204,8 @@ module _ {T W : Type 0} (row_eq : T → T → Bool) (digest_eq : W → W → Boo
             (same_index i)).0 (both.0 none i i below (same_place i below));
         bound = λ accepted another.
             some_pair row_eq digest_eq rule c first second unrefused found is (conflict another);
+        lowered = λ lowered accepted conflicting.
+            lowered_pair row_eq digest_eq rule c first second unrefused found is lowered conflicting;
       }
   compared_pruned bound arity unrefused honest (Err e) is =
       let first = presented_pruned row_eq digest_eq c cap p in
@@ -190,10 +213,12 @@ module _ {T W : Type 0} (row_eq : T → T → Bool) (digest_eq : W → W → Boo
       record {
         answer = answer_pair row_eq digest_eq rule c first second unrefused (Err e) is;
         accepted = tt;
+        answered = λ accepted. is.answered accepted honest;
         collision = tt;
         none = tt;
         agree = tt;
         bound = λ accepted another. memory_alone e None refl (is.answered accepted honest);
+        lowered = λ lowered accepted conflicting. memory_alone e None refl (is.answered accepted honest);
       }
 
 -- ---- salted openings of one index
@@ -214,26 +239,31 @@ module _ {T W : Type 0} (row_eq : T → T → Bool) (digest_eq : W → W → Boo
         (presented_salted digest_eq e ds c cap u) (found_alone r) →
         IfOk r (λ found. IsNone found ↔ AgreeWhereAuthenticated c o u) →
         (ConflictWhereAuthenticated c o u → IfOk r (λ found. IsSome found)) →
-        IsSaltedComparison digest_eq e ds c cap o u r
-    compared_salted unrefused honest (Ok found) is none two_ways =
+        (rule ≡ Lowered → ConflictSomewhere c o u → IfOk r (λ found. IsSome found)) →
+        IsSaltedComparison digest_eq rule e ds c cap o u r
+    compared_salted unrefused honest (Ok found) is none two_ways somewhere =
         let first = presented_salted digest_eq e ds c cap o in
         let second = presented_salted digest_eq e ds c cap u in
         record {
           answer = answer_alone row_eq digest_eq rule c first second unrefused (Ok found) is;
           accepted = is.both_accepted.0;
+          answered = λ accepted. is.answered accepted honest;
           collision = collision_alone row_eq digest_eq rule c first second unrefused found is;
           none = none;
           bound = λ accepted another. two_ways (salted_conflict another);
+          lowered = λ lowered accepted conflicting. somewhere lowered conflicting;
         }
-    compared_salted unrefused honest (Err x) is none two_ways =
+    compared_salted unrefused honest (Err x) is none two_ways somewhere =
         let first = presented_salted digest_eq e ds c cap o in
         let second = presented_salted digest_eq e ds c cap u in
         record {
           answer = answer_alone row_eq digest_eq rule c first second unrefused (Err x) is;
           accepted = tt;
+          answered = λ accepted. is.answered accepted honest;
           collision = tt;
           none = tt;
           bound = λ accepted another. memory_alone x None refl (is.answered accepted honest);
+          lowered = λ lowered accepted conflicting. memory_alone x None refl (is.answered accepted honest);
         }
 
   module _ (p q : SaltedPruned T W) (one_list : p.indices ≡ q.indices) where
@@ -264,14 +294,16 @@ module _ {T W : Type 0} (row_eq : T → T → Bool) (digest_eq : W → W → Boo
         IsExtraction row_eq digest_eq rule c (presented_salted_pruned row_eq digest_eq e ds c cap p)
         (presented_salted_pruned row_eq digest_eq e ds c cap q) (found_pair r) →
         (SomeSaltedPair c p q (ConflictWhereAuthenticated c) → IfOk r (λ found. IsSome found)) →
-        IsSaltedPrunedComparison row_eq digest_eq e ds c cap p q r
-    compared_salted_pruned bound arity unrefused honest (Ok found) is two_ways =
+        (rule ≡ Lowered → SomeSaltedPair c p q (ConflictSomewhere c) → IfOk r (λ found. IsSome found)) →
+        IsSaltedPrunedComparison row_eq digest_eq rule e ds c cap p q r
+    compared_salted_pruned bound arity unrefused honest (Ok found) is two_ways somewhere =
         let first = presented_salted_pruned row_eq digest_eq e ds c cap p in
         let second = presented_salted_pruned row_eq digest_eq e ds c cap q in
         let both = none_pair row_eq digest_eq rule c first second unrefused found is in
         record {
           answer = answer_pair row_eq digest_eq rule c first second unrefused (Ok found) is;
           accepted = is.both_accepted.0;
+          answered = λ accepted. is.answered accepted honest;
           collision = collision_pair row_eq digest_eq rule c first second unrefused found is;
           none = both;
           agree = λ none i below. (bound c cap (opening_at c (joined_sets p) i) (opening_at c (joined_sets q) i) arity
@@ -279,15 +311,18 @@ module _ {T W : Type 0} (row_eq : T → T → Bool) (digest_eq : W → W → Boo
               (honest.accepted.each_accepted i (same_salted_place i below)) (same_salted_index i)).0
               (both.0 none i i below (same_salted_place i below));
           bound = λ accepted another. two_ways (salted_conflict_set another);
+          lowered = λ lowered accepted conflicting. somewhere lowered conflicting;
         }
-    compared_salted_pruned bound arity unrefused honest (Err x) is two_ways =
+    compared_salted_pruned bound arity unrefused honest (Err x) is two_ways somewhere =
         let first = presented_salted_pruned row_eq digest_eq e ds c cap p in
         let second = presented_salted_pruned row_eq digest_eq e ds c cap q in
         record {
           answer = answer_pair row_eq digest_eq rule c first second unrefused (Err x) is;
           accepted = tt;
+          answered = λ accepted. is.answered accepted honest;
           collision = tt;
           none = tt;
           agree = tt;
           bound = λ accepted another. memory_alone x None refl (is.answered accepted honest);
+          lowered = λ lowered accepted conflicting. memory_alone x None refl (is.answered accepted honest);
         }

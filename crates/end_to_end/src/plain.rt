@@ -2,12 +2,13 @@
 
 ghost use Rattle.std.specs.Prelude.{◌≡◌, ◌<◌, [], ◌∷◌, All, IfErr, IfOk, IsOk};
 ghost use Rattle.end_to_end.specs.Refusals.{open_refusal};
+ghost use Rattle.p3_merkle_tree.specs.Checks.{IsAccepted};
 ghost use Rattle.p3_merkle_tree.specs.Commitments.{IsCommitment};
 ghost use Rattle.p3_merkle_tree.specs.MerkleTreeError.TheVariants.{OutOfMemory};
 ghost use Rattle.p3_merkle_tree.specs.Nodes.{shape};
 ghost use Rattle.p3_merkle_tree.specs.Openings.{honest};
 ghost use Rattle.p3_merkle_tree.specs.Parts.{layers_of, matrices_of};
-ghost use Rattle.p3_merkle_tree.specs.Pruning.{honest_query};
+ghost use Rattle.p3_merkle_tree.specs.Pruning.{honest_query, IsPrunedAccepted};
 ghost use Rattle.p3_merkle_tree.specs.Refusals.{AnswersUnlessMemory};
 ghost use Rattle.p3_merkle_tree.specs.Schemes.{params_over};
 ghost use Rattle.p3_merkle_tree.specs.Views.{batch_of, heights_in, opening_made, pruned_made};
@@ -101,7 +102,10 @@ pub fn commit_open_verify<
     ensures opened { let b = batch_of M.height_of M.width_of M.row_of N matrices.items in
         let c = params_over H.hash C.compression D scheme.now (shape b) in
         IfOk result (λ v. opening_made index v.opening ≡ honest c.functions b c.layer index) }
-    ensures accepted { IfOk result (λ v. IsOk v.verdict) }
+    ensures accepted { let b = batch_of M.height_of M.width_of M.row_of N matrices.items in
+        let c = params_over H.hash C.compression D scheme.now (shape b) in
+        IfOk result (λ v. IsAccepted c (roots_of v.cap) (opening_made index v.opening)) }
+    ensures verdict { IfOk result (λ v. IsOk v.verdict) }
 {
     let (cap, tree, dimensions) = committed(alloc, scheme, matrices, &[index])?;
     let opening = scheme.open_batch(alloc, index, &tree)?;
@@ -151,7 +155,10 @@ pub fn commit_open_verify_pruned<
     ensures opened { let b = batch_of M.height_of M.width_of M.row_of N matrices.items in
         let c = params_over H.hash C.compression D scheme.now (shape b) in
         IfOk result (λ v. pruned_made indices.now v.opening ≡ honest_query c.functions b c.layer indices.now) }
-    ensures accepted { IfOk result (λ v. IfErr v.verdict (λ e. e ≡ OutOfMemory)) }
+    ensures accepted { let b = batch_of M.height_of M.width_of M.row_of N matrices.items in
+        let c = params_over H.hash C.compression D scheme.now (shape b) in
+        IfOk result (λ v. IsPrunedAccepted c (roots_of v.cap) (pruned_made indices.now v.opening)) }
+    ensures verdict { IfOk result (λ v. IfErr v.verdict (λ e. e ≡ OutOfMemory)) }
 {
     let (cap, tree, dimensions) = committed(alloc, scheme, matrices, indices)?;
     let opening = scheme.open_batch_pruned(alloc, indices, &tree)?;

@@ -1,4 +1,5 @@
-//! The plain scheme: an opening that anybody presents has the rows that were committed to, or a collision is returned.
+//! The plain scheme: an opening that anybody presents has the committed row of each authenticated matrix, or a collision
+//! is returned.
 
 ghost use Rattle.std.specs.Prelude.{◌≡◌, [], ◌∷◌, IfOk};
 ghost use Rattle.end_to_end.specs.Comparisons.{IsComparison, IsPrunedComparison};
@@ -9,7 +10,7 @@ ghost use Rattle.p3_merkle_tree.specs.Openings.{honest};
 ghost use Rattle.p3_merkle_tree.specs.Parts.{layers_of, matrices_of};
 ghost use Rattle.p3_merkle_tree.specs.Pruning.{honest_query};
 ghost use Rattle.p3_merkle_tree.specs.Refusals.{AnswersUnlessMemory};
-ghost use Rattle.p3_merkle_tree.specs.Schemes.{params_over};
+ghost use Rattle.p3_merkle_tree.specs.Schemes.{cap_rule_of, params_over};
 ghost use Rattle.p3_merkle_tree.specs.Views.{batch_of, heights_in, opening_lent, opening_made};
 ghost use Rattle.p3_merkle_tree.specs.Views.{pruned_lent, pruned_made};
 ghost use Rattle.p3_support.specs.Shown.{roots_of};
@@ -68,7 +69,8 @@ pub fn commit_compare<
     ensures compared { let b = batch_of M.height_of M.width_of M.row_of N matrices.items in
         let c = params_over H.hash C.compression D scheme.now (shape b) in
         let o = opening_lent index claimed.entry in
-        IfOk result (λ v. IsComparison PW.Value.eq c (roots_of v.cap) o (opening_made index v.opening) v.found) }
+        let compares = IsComparison PW.Value.eq (cap_rule_of scheme.now) c in
+        IfOk result (λ v. compares (roots_of v.cap) o (opening_made index v.opening) v.found) }
 {
     laws::answers::<P::Value, PW::Value>();
     let (cap, tree, dimensions) = committed(alloc, scheme, matrices, &[index])?;
@@ -138,7 +140,7 @@ pub fn commit_compare_pruned<
     ensures compared { let b = batch_of M.height_of M.width_of M.row_of N matrices.items in
         let c = params_over H.hash C.compression D scheme.now (shape b) in
         let p = pruned_lent indices.now rows.now proof.now in
-        let compares = IsPrunedComparison P.Value.eq PW.Value.eq c in
+        let compares = IsPrunedComparison P.Value.eq PW.Value.eq (cap_rule_of scheme.now) c in
         IfOk result (λ v. compares (roots_of v.cap) p (pruned_made indices.now v.opening) v.found) }
 {
     laws::answers::<P::Value, PW::Value>();

@@ -1,17 +1,21 @@
 //! The salted scheme: what it opens of its own commitment is accepted.
 
-ghost use Rattle.std.specs.Prelude.{◌≡◌, ◌<◌, [], ◌∷◌, All, IfErr, IfOk, map, slice_index};
+ghost use Rattle.std.specs.Prelude.{◌≡◌, ◌<◌, ◌⊎◌, [], ◌∷◌, All, IfErr, IfOk, IsSome, OnOk, map};
+ghost use Rattle.std.specs.Prelude.{slice_index};
 ghost use Rattle.end_to_end.specs.Refusals.{salted_open_refusal};
 ghost use Rattle.p3_merkle_tree.specs.Commitments.{IsCommitment};
 ghost use Rattle.p3_merkle_tree.specs.Geometry.{heights};
-ghost use Rattle.p3_merkle_tree.specs.HidingSchemes.{generator_of, plain_of, salted_params_of};
+ghost use Rattle.p3_merkle_tree.specs.HidingSchemes.{generator_of, plain_of, salted_made, salted_params_of};
+ghost use Rattle.p3_merkle_tree.specs.HidingSchemes.{salted_pruned_made};
 ghost use Rattle.p3_merkle_tree.specs.MerkleTreeError.TheVariants.{OutOfMemory};
 ghost use Rattle.p3_merkle_tree.specs.Nodes.{shape};
 ghost use Rattle.p3_merkle_tree.specs.Openings.{honest, honest_rows};
 ghost use Rattle.p3_merkle_tree.specs.Parts.{layers_of, matrices_of, tree_batch};
 ghost use Rattle.p3_merkle_tree.specs.Pruning.{honest_query};
 ghost use Rattle.p3_merkle_tree.specs.Refusals.{AnswersUnlessMemory};
-ghost use Rattle.p3_merkle_tree.specs.Salted.{salted_batch};
+ghost use Rattle.p3_merkle_tree.specs.Salted.{after_salts, salted_batch, IsAfterSome};
+ghost use Rattle.p3_merkle_tree.specs.SaltRefusals.{salted_commit_refusal};
+ghost use Rattle.p3_merkle_tree.specs.SaltedOpenings.{IsSaltedAccepted, IsSaltedPrunedAccepted};
 ghost use Rattle.p3_merkle_tree.specs.SaltedTrees.{right_batch, HaveSaltColumns};
 ghost use Rattle.p3_merkle_tree.specs.Views.{batch_of};
 ghost use Rattle.p3_support.specs.Batches.{greatest};
@@ -79,6 +83,15 @@ where
     // The same of an index that is alone in its list, for calls that need it so.
     ensures first { IfOk result (λ (cap, tree, dimensions).
         slice_index indices.now 0 < greatest (heights (shape (tree_batch tree)))) }
+    ensures rest { let b = batch_of M.height_of M.width_of M.row_of N matrices.items in
+        let drawn = R.stream (generator_of scheme.old) in
+        OnOk result (R.stream (generator_of scheme.new) ≡ after_salts SALT_ELEMS b.matrices drawn) }
+    ensures further { let b = batch_of M.height_of M.width_of M.row_of N matrices.items in
+        let drawn = R.stream (generator_of scheme.old) in
+        IsAfterSome SALT_ELEMS b.matrices drawn (R.stream (generator_of scheme.new)) }
+    ensures untouched { let b = batch_of M.height_of M.width_of M.row_of N matrices.items in
+        IsSome (salted_commit_refusal SALT_ELEMS (shape b).dimensions) →
+        IfErr result (λ e. (e ≡ OutOfMemory) ⊎ (generator_of scheme.new ≡ generator_of scheme.old)) }
     ensures scheme { plain_of scheme.new ≡ plain_of scheme.old }
 {
     laws::dimensions::<P::Value, M, N>();
@@ -95,7 +108,7 @@ where
 ///
 /// `EmptyBatch`, `TooLarge` or `IncompatibleHeights` if the matrices have such heights; else `TooLarge` for the first
 /// matrix whose width with its salts does not fit `usize`; else `IndexOutOfBounds` if the index is not below the
-/// tallest height. `OutOfMemory` may come at any time, also as the verdict.
+/// tallest height, which is found after the salts are drawn. `OutOfMemory` may come at any time, also as the verdict.
 pub fn salted_commit_open_verify<
     P: PackedValue,
     PW: PackedValue,
@@ -138,7 +151,20 @@ where
         let c = salted_params_of H.hash C.compression D scheme.old (shape b).dimensions in
         IfOk result (λ v. let opened = honest c.functions (tree_batch v.tree) c.layer index in
         v.opening.opening_proof.1.items ≡ opened.siblings) }
-    ensures accepted { IfOk result (λ v. IfErr v.verdict (λ e. e ≡ OutOfMemory)) }
+    ensures accepted { let b = batch_of M.height_of M.width_of M.row_of N matrices.items in
+        let c = salted_params_of H.hash C.compression D scheme.old (shape b).dimensions in
+        let accepts = IsSaltedAccepted SALT_ELEMS (shape b).dimensions c in
+        IfOk result (λ v. accepts (roots_of v.cap) (salted_made index v.opening)) }
+    ensures verdict { IfOk result (λ v. IfErr v.verdict (λ e. e ≡ OutOfMemory)) }
+    ensures rest { let b = batch_of M.height_of M.width_of M.row_of N matrices.items in
+        let drawn = R.stream (generator_of scheme.old) in
+        OnOk result (R.stream (generator_of scheme.new) ≡ after_salts SALT_ELEMS b.matrices drawn) }
+    ensures further { let b = batch_of M.height_of M.width_of M.row_of N matrices.items in
+        let drawn = R.stream (generator_of scheme.old) in
+        IsAfterSome SALT_ELEMS b.matrices drawn (R.stream (generator_of scheme.new)) }
+    ensures untouched { let b = batch_of M.height_of M.width_of M.row_of N matrices.items in
+        IsSome (salted_commit_refusal SALT_ELEMS (shape b).dimensions) →
+        IfErr result (λ e. (e ≡ OutOfMemory) ⊎ (generator_of scheme.new ≡ generator_of scheme.old)) }
     ensures scheme { plain_of scheme.new ≡ plain_of scheme.old }
 {
     laws::restoration::<P::Value, PW::Value>();
@@ -161,7 +187,8 @@ where
 ///
 /// `EmptyBatch`, `TooLarge` or `IncompatibleHeights` if the matrices have such heights; else `TooLarge` for the first
 /// matrix whose width with its salts does not fit `usize`; else `IndexOutOfBounds` for the highest index, if it is not
-/// below the tallest height. `OutOfMemory` may come at any time, also as the verdict.
+/// below the tallest height, which is found after the salts are drawn. `OutOfMemory` may come at any time, also as the
+/// verdict.
 pub fn salted_commit_open_verify_pruned<
     P: PackedValue,
     PW: PackedValue,
@@ -204,7 +231,20 @@ where
         let c = salted_params_of H.hash C.compression D scheme.old (shape b).dimensions in
         IfOk result (λ v. let opened = honest_query c.functions (tree_batch v.tree) c.layer indices.now in
         v.opening.1.1.sibling_hashes.items ≡ opened.digests) }
-    ensures accepted { IfOk result (λ v. IfErr v.verdict (λ e. e ≡ OutOfMemory)) }
+    ensures accepted { let b = batch_of M.height_of M.width_of M.row_of N matrices.items in
+        let c = salted_params_of H.hash C.compression D scheme.old (shape b).dimensions in
+        let accepts = IsSaltedPrunedAccepted SALT_ELEMS (shape b).dimensions c in
+        IfOk result (λ v. accepts (roots_of v.cap) (salted_pruned_made indices.now v.opening.0 v.opening.1)) }
+    ensures verdict { IfOk result (λ v. IfErr v.verdict (λ e. e ≡ OutOfMemory)) }
+    ensures rest { let b = batch_of M.height_of M.width_of M.row_of N matrices.items in
+        let drawn = R.stream (generator_of scheme.old) in
+        OnOk result (R.stream (generator_of scheme.new) ≡ after_salts SALT_ELEMS b.matrices drawn) }
+    ensures further { let b = batch_of M.height_of M.width_of M.row_of N matrices.items in
+        let drawn = R.stream (generator_of scheme.old) in
+        IsAfterSome SALT_ELEMS b.matrices drawn (R.stream (generator_of scheme.new)) }
+    ensures untouched { let b = batch_of M.height_of M.width_of M.row_of N matrices.items in
+        IsSome (salted_commit_refusal SALT_ELEMS (shape b).dimensions) →
+        IfErr result (λ e. (e ≡ OutOfMemory) ⊎ (generator_of scheme.new ≡ generator_of scheme.old)) }
     ensures scheme { plain_of scheme.new ≡ plain_of scheme.old }
 {
     laws::restoration::<P::Value, PW::Value>();

@@ -1,18 +1,22 @@
-//! The salted scheme: an opening that anybody presents has the rows that were committed to, or a collision is returned.
+//! The salted scheme: an opening that anybody presents has the committed row of each authenticated matrix, or a collision
+//! is returned.
 
-ghost use Rattle.std.specs.Prelude.{◌≡◌, [], ◌∷◌, IfOk, map};
+ghost use Rattle.std.specs.Prelude.{◌≡◌, ◌⊎◌, [], ◌∷◌, IfErr, IfOk, IsSome, OnOk, map};
 ghost use Rattle.end_to_end.specs.Comparisons.{IsSaltedComparison, IsSaltedPrunedComparison};
 ghost use Rattle.end_to_end.specs.Refusals.{salted_open_refusal};
 ghost use Rattle.p3_merkle_tree.specs.Commitments.{IsCommitment};
 ghost use Rattle.p3_merkle_tree.specs.HidingSchemes.{generator_of, plain_of, salted_lent, salted_made};
 ghost use Rattle.p3_merkle_tree.specs.HidingSchemes.{salted_params_of, salted_pruned_lent, salted_pruned_made};
+ghost use Rattle.p3_merkle_tree.specs.MerkleTreeError.TheVariants.{OutOfMemory};
 ghost use Rattle.p3_merkle_tree.specs.Nodes.{shape};
 ghost use Rattle.p3_merkle_tree.specs.Openings.{honest, honest_rows};
 ghost use Rattle.p3_merkle_tree.specs.Parts.{layers_of, matrices_of, tree_batch};
 ghost use Rattle.p3_merkle_tree.specs.Pruning.{honest_query};
 ghost use Rattle.p3_merkle_tree.specs.Refusals.{AnswersUnlessMemory};
-ghost use Rattle.p3_merkle_tree.specs.Salted.{salted_batch};
+ghost use Rattle.p3_merkle_tree.specs.Salted.{after_salts, salted_batch, IsAfterSome};
+ghost use Rattle.p3_merkle_tree.specs.SaltRefusals.{salted_commit_refusal};
 ghost use Rattle.p3_merkle_tree.specs.SaltedTrees.{right_batch};
+ghost use Rattle.p3_merkle_tree.specs.Schemes.{cap_rule_of};
 ghost use Rattle.p3_merkle_tree.specs.Views.{batch_of};
 ghost use Rattle.p3_support.specs.Pairs.{left_of};
 ghost use Rattle.p3_support.specs.Shown.{roots_of, row_lists, row_sets};
@@ -39,7 +43,7 @@ use std::alloc::Global;
 ///
 /// `EmptyBatch`, `TooLarge` or `IncompatibleHeights` if the matrices have such heights; else `TooLarge` for the first
 /// matrix whose width with its salts does not fit `usize`; else `IndexOutOfBounds` if the index is not below the
-/// tallest height. `OutOfMemory` may come at any time, also as what is found.
+/// tallest height, which is found after the salts are drawn. `OutOfMemory` may come at any time, also as what is found.
 pub fn salted_commit_compare<
     P: PackedValue,
     PW: PackedValue,
@@ -86,9 +90,19 @@ where
         v.opening.opening_proof.1.items ≡ opened.siblings) }
     ensures compared { let b = batch_of M.height_of M.width_of M.row_of N matrices.items in
         let c = salted_params_of H.hash C.compression D scheme.old (shape b).dimensions in
-        let compares = IsSaltedComparison PW.Value.eq SALT_ELEMS (shape b).dimensions c in
+        let rule = cap_rule_of (plain_of scheme.old) in
+        let compares = IsSaltedComparison PW.Value.eq rule SALT_ELEMS (shape b).dimensions c in
         let o = salted_lent index claimed.entry in
         IfOk result (λ v. compares (roots_of v.cap) o (salted_made index v.opening) v.found) }
+    ensures rest { let b = batch_of M.height_of M.width_of M.row_of N matrices.items in
+        let drawn = R.stream (generator_of scheme.old) in
+        OnOk result (R.stream (generator_of scheme.new) ≡ after_salts SALT_ELEMS b.matrices drawn) }
+    ensures further { let b = batch_of M.height_of M.width_of M.row_of N matrices.items in
+        let drawn = R.stream (generator_of scheme.old) in
+        IsAfterSome SALT_ELEMS b.matrices drawn (R.stream (generator_of scheme.new)) }
+    ensures untouched { let b = batch_of M.height_of M.width_of M.row_of N matrices.items in
+        IsSome (salted_commit_refusal SALT_ELEMS (shape b).dimensions) →
+        IfErr result (λ e. (e ≡ OutOfMemory) ⊎ (generator_of scheme.new ≡ generator_of scheme.old)) }
     ensures scheme { plain_of scheme.new ≡ plain_of scheme.old }
 {
     laws::answers::<P::Value, PW::Value>();
@@ -116,7 +130,8 @@ where
 ///
 /// `EmptyBatch`, `TooLarge` or `IncompatibleHeights` if the matrices have such heights; else `TooLarge` for the first
 /// matrix whose width with its salts does not fit `usize`; else `IndexOutOfBounds` for the highest index, if it is not
-/// below the tallest height. `OutOfMemory` may come at any time, also as what is found.
+/// below the tallest height, which is found after the salts are drawn. `OutOfMemory` may come at any time, also as what
+/// is found.
 pub fn salted_commit_compare_pruned<
     P: PackedValue,
     PW: PackedValue,
@@ -164,10 +179,20 @@ where
         v.opening.1.1.sibling_hashes.items ≡ opened.digests) }
     ensures compared { let b = batch_of M.height_of M.width_of M.row_of N matrices.items in
         let c = salted_params_of H.hash C.compression D scheme.old (shape b).dimensions in
-        let compares = IsSaltedPrunedComparison P.Value.eq PW.Value.eq SALT_ELEMS (shape b).dimensions c in
+        let rule = cap_rule_of (plain_of scheme.old) in
+        let compares = IsSaltedPrunedComparison P.Value.eq PW.Value.eq rule SALT_ELEMS (shape b).dimensions c in
         let p = salted_pruned_lent indices.now rows.now proof.now in
         IfOk result (λ v. let honest = salted_pruned_made indices.now v.opening.0 v.opening.1 in
         compares (roots_of v.cap) p honest v.found) }
+    ensures rest { let b = batch_of M.height_of M.width_of M.row_of N matrices.items in
+        let drawn = R.stream (generator_of scheme.old) in
+        OnOk result (R.stream (generator_of scheme.new) ≡ after_salts SALT_ELEMS b.matrices drawn) }
+    ensures further { let b = batch_of M.height_of M.width_of M.row_of N matrices.items in
+        let drawn = R.stream (generator_of scheme.old) in
+        IsAfterSome SALT_ELEMS b.matrices drawn (R.stream (generator_of scheme.new)) }
+    ensures untouched { let b = batch_of M.height_of M.width_of M.row_of N matrices.items in
+        IsSome (salted_commit_refusal SALT_ELEMS (shape b).dimensions) →
+        IfErr result (λ e. (e ≡ OutOfMemory) ⊎ (generator_of scheme.new ≡ generator_of scheme.old)) }
     ensures scheme { plain_of scheme.new ≡ plain_of scheme.old }
 {
     laws::answers::<P::Value, PW::Value>();

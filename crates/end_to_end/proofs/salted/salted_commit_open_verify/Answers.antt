@@ -40,7 +40,6 @@ returns-clause-siblings g c =
 
 pub returns-clause-accepted : goal.returns-clause-accepted
 returns-clause-accepted g c =
-    let digest_eq = g.PW.Value.PartialEq.eq in
     let plain = plain_of c.args.scheme.now in
     let e = g.row.SALT_ELEMS in
     let at = params_of g.H.CryptographicHasher.hash g.C.PseudoCompressionFunction.compression g.row.D in
@@ -50,7 +49,6 @@ returns-clause-accepted g c =
     let k = at plain (widened e ds) in
     let tree = c.in_ok-cap.tree in
     let salted = tree_batch tree in
-    let cap = roots_of c.in_ok-cap.cap in
     let committed = c.in_ok-cap.ensures.committed in
     let u = salted_made c.args.index c.in_ok-opening.opening in
     let lefts = ap (λ (ms : List _). (shape (batch ms)).dimensions) c.in_ok-cap.ensures.matrices in
@@ -59,7 +57,20 @@ returns-clause-accepted g c =
     IsSaltedAccepted e z.1 k (cap_over k salted) u)
     (λ i. (c.in_ok-cap.ensures.scheme i, lefts i)) c.in_ok-opening.ensures.accepted committed.own_layers
     c.in_ok-cap.ensures.columns in
-    let accepted = subst (λ (z : List (List _)). IsSaltedAccepted e ds k z u) (sym committed.own_cap) under_own_cap in
+    subst (λ (z : List (List _)). IsSaltedAccepted e ds k z u) (sym committed.own_cap) under_own_cap
+
+pub returns-clause-verdict : goal.returns-clause-verdict
+returns-clause-verdict g c =
+    let digest_eq = g.PW.Value.PartialEq.eq in
+    let plain = plain_of c.args.scheme.now in
+    let e = g.row.SALT_ELEMS in
+    let at = params_of g.H.CryptographicHasher.hash g.C.PseudoCompressionFunction.compression g.row.D in
+    let batch = batch_of g.M.Matrix.height_of g.M.Matrix.width_of g.M.Matrix.row_of g.row.N in
+    let b = batch c.args.matrices.items in
+    let ds = (shape b).dimensions in
+    let k = at plain (widened e ds) in
+    let cap = roots_of c.in_ok-cap.cap in
+    let u = salted_made c.args.index c.in_ok-opening.opening in
     let same = c.deref.ensures.value ∙ c.in_ok-cap.ensures.dimensions in
     let lent = c.from-honest.ensures in
     let is = subst (λ (z : _ × List Dimensions × SaltedOpening _ _).
@@ -70,4 +81,4 @@ returns-clause-accepted g c =
       salted_of c.args.index (row_lists (lent.0 i)) (row_lists (lent.1 i).0.items) (lent.1 i).1.items,
     ))
     c.verify_batch-verdict.ensures in
-    memory_left (presented_salted digest_eq e ds k cap u) c.verify_batch-verdict.result is accepted
+    memory_left (presented_salted digest_eq e ds k cap u) c.verify_batch-verdict.result is (returns-clause-accepted g c)

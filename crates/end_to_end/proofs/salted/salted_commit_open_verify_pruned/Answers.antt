@@ -40,8 +40,6 @@ returns-clause-digests g c =
 
 pub returns-clause-accepted : goal.returns-clause-accepted
 returns-clause-accepted g c =
-    let row_eq = g.P.Value.PartialEq.eq in
-    let digest_eq = g.PW.Value.PartialEq.eq in
     let plain = plain_of c.args.scheme.now in
     let e = g.row.SALT_ELEMS in
     let at = params_of g.H.CryptographicHasher.hash g.C.PseudoCompressionFunction.compression g.row.D in
@@ -51,7 +49,6 @@ returns-clause-accepted g c =
     let k = at plain (widened e ds) in
     let tree = c.in_ok-cap.tree in
     let salted = tree_batch tree in
-    let cap = roots_of c.in_ok-cap.cap in
     let committed = c.in_ok-cap.ensures.committed in
     let q = salted_pruned_made c.args.indices.now c.in_ok-opening.opening.0 c.in_ok-opening.opening.1 in
     let lefts = ap (λ (ms : List _). (shape (batch ms)).dimensions) c.in_ok-cap.ensures.matrices in
@@ -60,8 +57,21 @@ returns-clause-accepted g c =
     IsSaltedPrunedAccepted e z.1 k (cap_over k salted) q)
     (λ i. (c.in_ok-cap.ensures.scheme i, lefts i)) c.in_ok-opening.ensures.accepted committed.own_layers
     c.in_ok-cap.ensures.columns in
-    let accepted = subst (λ (z : List (List _)). IsSaltedPrunedAccepted e ds k z q) (sym committed.own_cap)
-    under_own_cap in
+    subst (λ (z : List (List _)). IsSaltedPrunedAccepted e ds k z q) (sym committed.own_cap) under_own_cap
+
+pub returns-clause-verdict : goal.returns-clause-verdict
+returns-clause-verdict g c =
+    let row_eq = g.P.Value.PartialEq.eq in
+    let digest_eq = g.PW.Value.PartialEq.eq in
+    let plain = plain_of c.args.scheme.now in
+    let e = g.row.SALT_ELEMS in
+    let at = params_of g.H.CryptographicHasher.hash g.C.PseudoCompressionFunction.compression g.row.D in
+    let batch = batch_of g.M.Matrix.height_of g.M.Matrix.width_of g.M.Matrix.row_of g.row.N in
+    let b = batch c.args.matrices.items in
+    let ds = (shape b).dimensions in
+    let k = at plain (widened e ds) in
+    let cap = roots_of c.in_ok-cap.cap in
+    let q = salted_pruned_made c.args.indices.now c.in_ok-opening.opening.0 c.in_ok-opening.opening.1 in
     let same = c.deref.ensures.value ∙ c.in_ok-cap.ensures.dimensions in
     let lent = c.deref-2.ensures.value in
     let proof = c.in_ok-opening.opening.1 in
@@ -74,4 +84,5 @@ returns-clause-accepted g c =
       salted_pruned_of c.args.indices.now (row_sets (lent i)) (row_sets proof.0.items) proof.1.sibling_hashes.items,
     ))
     c.verify_multi_batch-verdict.ensures in
-    memory_left (presented_salted_pruned row_eq digest_eq e ds k cap q) c.verify_multi_batch-verdict.result is accepted
+    memory_left (presented_salted_pruned row_eq digest_eq e ds k cap q) c.verify_multi_batch-verdict.result is
+    (returns-clause-accepted g c)

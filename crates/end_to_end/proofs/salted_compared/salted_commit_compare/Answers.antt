@@ -2,6 +2,7 @@
 use Rattle.std.proofs.Common.{lit<, ◌≡◌, ◌∙◌, List, ap, refl, subst, sym}
 use Rattle.p3_support.specs.Shown.{roots_of, row_lists}
 use Rattle.p3_support.specs.declared.matrix.Dimensions.{Dimensions}
+use Rattle.p3_merkle_tree.specs.CapRule.TheVariants.{Lowered}
 use Rattle.p3_merkle_tree.specs.Commitments.{IsOwn, cap_over}
 use Rattle.p3_merkle_tree.specs.Geometry.{shape_of}
 use Rattle.p3_merkle_tree.specs.HidingSchemes.{generator_of, plain_of, salted_made}
@@ -15,7 +16,8 @@ use Rattle.p3_merkle_tree.specs.SaltedTrees.{HaveSaltColumns}
 use Rattle.p3_merkle_tree.specs.Schemes.{cap_height_of, cap_layer_over, cap_rule_of, params_of}
 use Rattle.p3_merkle_tree.specs.Views.{batch_of}
 use Rattle.p3_merkle_tree.specs.Extraction.{IsExtraction}
-use Rattle.p3_merkle_tree.specs.SaltedExtraction.{AgreeWhereAuthenticated, ConflictWhereAuthenticated}
+use Rattle.p3_merkle_tree.specs.SaltedExtraction.{AgreeWhereAuthenticated, ConflictSomewhere}
+use Rattle.p3_merkle_tree.specs.SaltedExtraction.{ConflictWhereAuthenticated}
 use Rattle.p3_merkle_tree.specs.Views.{found_alone}
 use Rattle.std.specs.Prelude.{◌↔◌, IfOk, IsNone, IsSome}
 use Rattle.end_to_end.proofs.ComparisonFacts.{compared_salted}
@@ -85,6 +87,10 @@ returns-clause-compared g c =
     let two_ways = subst (λ (z : _ × List Dimensions × SaltedOpening _ _).
     ConflictWhereAuthenticated (at z.0 (widened e z.1)) o z.2 → IfOk r (λ found. IsSome found)) moved
     c.extract_collision-found.ensures.two_ways in
+    let somewhere = subst (λ (z : _ × List Dimensions × SaltedOpening _ _). cap_rule_of z.0 ≡ Lowered →
+    ConflictSomewhere (at z.0 (widened e z.1)) o z.2 → IfOk r (λ found. IsSome found)) moved
+    c.extract_collision-found.ensures.lowered_two_ways in
     let unrefused = salted_unrefused row_eq digest_eq e ds k cap g.met.P.PackedValue.eq_is_equality
     g.met.PW.PackedValue.eq_is_equality c.answers.ensures.single u accepted in
     compared_salted row_eq digest_eq (cap_rule_of plain) e ds k cap o u refl unrefused accepted r is none two_ways
+    somewhere

@@ -2,6 +2,7 @@
 use Rattle.std.proofs.Common.{◌≡◌, ◌∙◌, List, ap, refl, subst, sym}
 use Rattle.p3_support.specs.Shown.{roots_of, row_sets}
 use Rattle.p3_support.specs.declared.matrix.Dimensions.{Dimensions}
+use Rattle.p3_merkle_tree.specs.CapRule.TheVariants.{Lowered}
 use Rattle.p3_merkle_tree.specs.Commitments.{IsOwn, cap_over}
 use Rattle.p3_merkle_tree.specs.Geometry.{shape_of}
 use Rattle.p3_merkle_tree.specs.HidingSchemes.{generator_of, plain_of, salted_pruned_made}
@@ -15,7 +16,7 @@ use Rattle.p3_merkle_tree.specs.SaltedTrees.{HaveSaltColumns}
 use Rattle.p3_merkle_tree.specs.Schemes.{cap_height_of, cap_layer_over, cap_rule_of, params_of}
 use Rattle.p3_merkle_tree.specs.Views.{batch_of}
 use Rattle.p3_merkle_tree.specs.Extraction.{IsExtraction}
-use Rattle.p3_merkle_tree.specs.SaltedExtraction.{ConflictWhereAuthenticated, SomeSaltedPair}
+use Rattle.p3_merkle_tree.specs.SaltedExtraction.{ConflictSomewhere, ConflictWhereAuthenticated, SomeSaltedPair}
 use Rattle.p3_merkle_tree.specs.Views.{found_pair}
 use Rattle.std.specs.Prelude.{IfOk, IsSome}
 use Rattle.end_to_end.proofs.ComparisonFacts.{compared_salted_pruned}
@@ -85,7 +86,10 @@ returns-clause-compared g c =
     let two_ways = subst (λ (z : _ × List Dimensions × SaltedPruned _ _). let k = at z.0 (widened e z.1) in
     SomeSaltedPair k p z.2 (ConflictWhereAuthenticated k) → IfOk r (λ found. IsSome found)) moved
     c.extract_collision_multi-found.ensures.two_ways in
+    let somewhere = subst (λ (z : _ × List Dimensions × SaltedPruned _ _). let k = at z.0 (widened e z.1) in
+    cap_rule_of z.0 ≡ Lowered → SomeSaltedPair k p z.2 (ConflictSomewhere k) → IfOk r (λ found. IsSome found)) moved
+    c.extract_collision_multi-found.ensures.lowered_two_ways in
     let unrefused = salted_pruned_unrefused row_eq digest_eq e ds k cap g.met.P.PackedValue.eq_is_equality
     g.met.PW.PackedValue.eq_is_equality c.answers.ensures.each_path plain.arity q accepted in
     compared_salted_pruned row_eq digest_eq (cap_rule_of plain) e ds k cap p q refl c.extraction.ensures.one_index
-    plain.arity unrefused accepted r is two_ways
+    plain.arity unrefused accepted r is two_ways somewhere
