@@ -258,8 +258,19 @@ fn plain<
     }
 }
 
-/// The answer of the salted scheme of a hash and a compression, with so many salts a row. Salts are drawn by the calls
-/// that build a tree: `A`, `A + B`, `A + 2 B` and so on, where `A B` come first.
+/// The generator of salts that a call is handed: `A`, `A + B`, `A + 2 B` and so on, where `A B` come next. Calls that
+/// only verify draw none.
+fn generator_of(call: &str, numbers: &mut Numbers<'_>) -> Result<Counting, Fault> {
+    if call == "verify" || call == "vprune" {
+        return Ok(Counting { step: 0, last: 0 });
+    }
+    let first = numbers.number()?;
+    let step = numbers.number()?;
+    let last = first.wrapping_sub(step);
+    Ok(Counting { step, last })
+}
+
+/// The answer of the salted scheme of a hash and a compression, with so many salts a row.
 fn salted<
     T: Word,
     P: PackedValue<Value = T>,
@@ -268,21 +279,12 @@ fn salted<
     const N: usize,
     const D: usize,
     const SALT_ELEMS: usize,
->(hash: H, compress: C, case: &Case<'_, '_>, mut numbers: Numbers<'_>) -> Answer
+>(hash: H, compress: C, rng: Counting, case: &Case<'_, '_>, mut numbers: Numbers<'_>) -> Answer
     requires arity { IsTrue (is_arity N) }
     requires some_lane { 1 ≤ P.WIDTH }
     requires room { D * type_size T.row < 2 ^ 63 }
     requires some_salt { 1 ≤ SALT_ELEMS }
 {
-    let rng = match case.call {
-        "verify" | "vprune" => Counting { step: 0, last: 0 },
-        _ => {
-            let first = numbers.number()?;
-            let step = numbers.number()?;
-            let last = first.wrapping_sub(step);
-            Counting { step, last }
-        }
-    };
     let mut scheme = MerkleTreeHidingMmcs::<P, P, H, C, Counting, N, D, SALT_ELEMS>::new_with_rule(
         hash,
         compress,
@@ -311,10 +313,12 @@ pub fn answer<
         return plain(hash, compress, case);
     }
     let mut numbers = case.arguments;
-    match numbers.number()? {
-        1 => salted::<T, P, H, C, N, D, 1>(hash, compress, case, numbers),
-        2 => salted::<T, P, H, C, N, D, 2>(hash, compress, case, numbers),
-        3 => salted::<T, P, H, C, N, D, 3>(hash, compress, case, numbers),
+    let salt_elems = numbers.number()?;
+    let rng = generator_of(case.call, &mut numbers)?;
+    match salt_elems {
+        1 => salted::<T, P, H, C, N, D, 1>(hash, compress, rng, case, numbers),
+        2 => salted::<T, P, H, C, N, D, 2>(hash, compress, rng, case, numbers),
+        3 => salted::<T, P, H, C, N, D, 3>(hash, compress, rng, case, numbers),
         _ => Err(Fault::Scheme),
     }
 }
