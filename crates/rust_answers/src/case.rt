@@ -5,7 +5,8 @@ ghost use Rattle.p3_merkle_tree.specs.Geometry.{is_arity};
 
 use crate::large::matrices_of;
 use crate::numbers::{Fault, Numbers};
-use crate::scheme::{Answer, Case, answer};
+use crate::salted::{salted_fold, salted_sha};
+use crate::scheme::{Answer, Case, plain};
 use p3_hashes::batched::Batched3;
 use p3_hashes::fold::{FoldCompress, FoldHash};
 use p3_hashes::lanes::{Lanes, U32x8};
@@ -22,12 +23,12 @@ fn fold<const N: usize, const D: usize>(case: &Case<'_, '_>) -> Answer
     requires few_words { D ≤ 32 }
 {
     let (hash, compress) = (FoldHash::<1>, FoldCompress::<N, 1>);
-    let found = answer::<u32, u32, _, _, N, D>(hash, compress, case);
+    let found = plain::<u32, u32, _, _, N, D>(hash, compress, case);
     let others = [
-        answer::<u32, Lanes<u32>, _, _, N, D>(hash, compress, case),
-        answer::<u32, U32x8, _, _, N, D>(hash, compress, case),
-        answer::<u32, u32, _, _, N, D>(FoldHash::<8>, FoldCompress::<N, 8>, case),
-        answer::<u32, u32, _, _, N, D>(Batched3(hash), Batched3(compress), case),
+        plain::<u32, Lanes<u32>, _, _, N, D>(hash, compress, case),
+        plain::<u32, U32x8, _, _, N, D>(hash, compress, case),
+        plain::<u32, u32, _, _, N, D>(FoldHash::<8>, FoldCompress::<N, 8>, case),
+        plain::<u32, u32, _, _, N, D>(Batched3(hash), Batched3(compress), case),
     ];
     agreed(found, &others)
 }
@@ -38,16 +39,16 @@ fn sha<const N: usize>(case: &Case<'_, '_>) -> Answer
     requires few_children { N ≤ 16 }
 {
     let (hash, compress) = (Sha256Rows, Sha256Nodes::<N>);
-    let found = answer::<u8, u8, _, _, N, 32>(hash, compress, case);
+    let found = plain::<u8, u8, _, _, N, 32>(hash, compress, case);
     let others = [
-        answer::<u8, u8, _, _, N, 32>(Sha256RowsInEights, Sha256NodesInEights::<N>, case),
-        answer::<u8, u8, _, _, N, 32>(Batched3(hash), Batched3(compress), case),
+        plain::<u8, u8, _, _, N, 32>(Sha256RowsInEights, Sha256NodesInEights::<N>, case),
+        plain::<u8, u8, _, _, N, 32>(Batched3(hash), Batched3(compress), case),
     ];
     agreed(found, &others)
 }
 
 /// The answer if the others are the same.
-fn agreed(answer: Answer, others: &[Answer]) -> Answer {
+pub fn agreed(answer: Answer, others: &[Answer]) -> Answer {
     for other in others {
         if *other != answer {
             return Err(Fault::Disputed);
@@ -72,6 +73,14 @@ fn numbers_in(alloc: Global, words: &[&str]) -> Answer {
 fn fold_at<const D: usize>(arity: &str, case: &Case<'_, '_>) -> Answer
     requires { D ≤ 32 }
 {
+    if case.is_salted {
+        return match arity {
+            "2" => salted_fold::<2, D>(case),
+            "4" => salted_fold::<4, D>(case),
+            "8" => salted_fold::<8, D>(case),
+            _ => Err(Fault::Scheme),
+        };
+    }
     match arity {
         "2" => fold::<2, D>(case),
         "4" => fold::<4, D>(case),
@@ -82,6 +91,14 @@ fn fold_at<const D: usize>(arity: &str, case: &Case<'_, '_>) -> Answer
 
 /// The answer by SHA-256 at the arity that a word is.
 fn sha_at(arity: &str, case: &Case<'_, '_>) -> Answer {
+    if case.is_salted {
+        return match arity {
+            "2" => salted_sha::<2>(case),
+            "4" => salted_sha::<4>(case),
+            "8" => salted_sha::<8>(case),
+            _ => Err(Fault::Scheme),
+        };
+    }
     match arity {
         "2" => sha::<2>(case),
         "4" => sha::<4>(case),

@@ -7,8 +7,8 @@ ghost use Rattle.p3_merkle_tree.specs.Geometry.{is_arity};
 use crate::numbers::{Fault, FromNumbers, Numbers, ToNumbers};
 use crate::table::Table;
 use p3_merkle_tree::{
-    BatchOpeningRef, CapRule, MerkleCap, MerkleTreeError, MerkleTreeHidingMmcs, MerkleTreeMmcs,
-    PrunedProof, Scheme, check_indices,
+    BatchOpeningRef, CapRule, MerkleCap, MerkleTreeError, MerkleTreeMmcs, PrunedProof, Scheme,
+    check_indices,
 };
 use p3_support::compress::PseudoCompressionFunction;
 use p3_support::hasher::CryptographicHasher;
@@ -16,7 +16,6 @@ use p3_support::matrix::Dimensions;
 use p3_support::mmcs::Mmcs;
 use p3_support::packed::PackedValue;
 use p3_support::salts::SaltWord;
-use test_fixtures::counting::Counting;
 
 /// A word of rows and digests.
 pub trait Word: Copy + Default + FromNumbers + ToNumbers + SaltWord {}
@@ -51,7 +50,7 @@ fn answer_of<V: ToNumbers>(numbers: &Numbers<'_>, value: &V) -> Answer {
 }
 
 /// The answer of a scheme to a call that schemes have with salts and without.
-fn answer_to_shared<
+pub fn answer_to_shared<
     T: Word,
     X: FromNumbers + ToNumbers + Copy,
     S: Mmcs<T, Table<T>, Commitment = MerkleCap<T, X>, Error = MerkleTreeError>,
@@ -230,7 +229,7 @@ fn replay<P: PackedValue, H, C, X: Copy, G, const N: usize>(
 }
 
 /// The answer of the plain scheme of a hash and a compression.
-fn plain<
+pub fn plain<
     T: Word,
     P: PackedValue<Value = T>,
     H: CryptographicHasher<P, P, D> + Copy,
@@ -255,70 +254,5 @@ fn plain<
         "replay" => replay(&scheme, &mut numbers),
         "restore" => restore(&scheme, &mut numbers),
         call => answer_to_shared(&mut scheme, call, &mut numbers),
-    }
-}
-
-/// The generator of salts that a call is handed: `A`, `A + B`, `A + 2 B` and so on, where `A B` come next. Calls that
-/// only verify draw none.
-fn generator_of(call: &str, numbers: &mut Numbers<'_>) -> Result<Counting, Fault> {
-    if call == "verify" || call == "vprune" {
-        return Ok(Counting { step: 0, last: 0 });
-    }
-    let first = numbers.number()?;
-    let step = numbers.number()?;
-    let last = first.wrapping_sub(step);
-    Ok(Counting { step, last })
-}
-
-/// The answer of the salted scheme of a hash and a compression, with so many salts a row.
-fn salted<
-    T: Word,
-    P: PackedValue<Value = T>,
-    H: CryptographicHasher<P, P, D> + Copy,
-    C: PseudoCompressionFunction<P, N, D> + Copy,
-    const N: usize,
-    const D: usize,
-    const SALT_ELEMS: usize,
->(hash: H, compress: C, rng: Counting, case: &Case<'_, '_>, mut numbers: Numbers<'_>) -> Answer
-    requires arity { IsTrue (is_arity N) }
-    requires some_lane { 1 ≤ P.WIDTH }
-    requires room { D * type_size T.row < 2 ^ 63 }
-    requires some_salt { 1 ≤ SALT_ELEMS }
-{
-    let mut scheme = MerkleTreeHidingMmcs::<P, P, H, C, Counting, N, D, SALT_ELEMS>::new_with_rule(
-        hash,
-        compress,
-        case.cap_height,
-        rng,
-        case.rule,
-    );
-    answer_to_shared(&mut scheme, case.call, &mut numbers)
-}
-
-/// The answer of the schemes of a hash and a compression. The arguments of a salted call begin with the number of salts
-/// a row.
-pub fn answer<
-    T: Word,
-    P: PackedValue<Value = T>,
-    H: CryptographicHasher<P, P, D> + Copy,
-    C: PseudoCompressionFunction<P, N, D> + Copy,
-    const N: usize,
-    const D: usize,
->(hash: H, compress: C, case: &Case<'_, '_>) -> Answer
-    requires arity { IsTrue (is_arity N) }
-    requires some_lane { 1 ≤ P.WIDTH }
-    requires room { D * type_size T.row < 2 ^ 63 }
-{
-    if !case.is_salted {
-        return plain(hash, compress, case);
-    }
-    let mut numbers = case.arguments;
-    let salt_elems = numbers.number()?;
-    let rng = generator_of(case.call, &mut numbers)?;
-    match salt_elems {
-        1 => salted::<T, P, H, C, N, D, 1>(hash, compress, rng, case, numbers),
-        2 => salted::<T, P, H, C, N, D, 2>(hash, compress, rng, case, numbers),
-        3 => salted::<T, P, H, C, N, D, 3>(hash, compress, rng, case, numbers),
-        _ => Err(Fault::Scheme),
     }
 }
