@@ -9,6 +9,7 @@
 mod case;
 mod large;
 mod numbers;
+mod plain;
 mod salted;
 mod scheme;
 mod table;

@@ -1,8 +1,7 @@
 //! The answers of a scheme.
 
-ghost use Rattle.std.specs.Prelude.{◌*◌, ◌<◌, ◌≤◌, ◌^◌, IsTrue};
+ghost use Rattle.std.specs.Prelude.{◌*◌, ◌<◌, ◌^◌};
 ghost use Rattle.std.specs.Mem.{type_size};
-ghost use Rattle.p3_merkle_tree.specs.Geometry.{is_arity};
 
 use crate::numbers::{Fault, FromNumbers, Numbers, ToNumbers};
 use crate::table::Table;
@@ -228,31 +227,26 @@ fn replay<P: PackedValue, H, C, X: Copy, G, const N: usize>(
     answer_of(numbers, &path)
 }
 
-/// The answer of the plain scheme of a hash and a compression.
-pub fn plain<
+/// The answer of a scheme to a call that plain schemes alone have.
+pub fn answer_to_plain<
     T: Word,
     P: PackedValue<Value = T>,
-    H: CryptographicHasher<P, P, D> + Copy,
-    C: PseudoCompressionFunction<P, N, D> + Copy,
+    H: CryptographicHasher<P, P, D>,
+    C: PseudoCompressionFunction<P, N, D>,
     const N: usize,
     const D: usize,
->(hash: H, compress: C, case: &Case<'_, '_>) -> Answer
-    requires arity { IsTrue (is_arity N) }
-    requires some_lane { 1 ≤ P.WIDTH }
-    requires room { D * type_size T.row < 2 ^ 63 }
+>(scheme: &MerkleTreeMmcs<P, P, H, C, N, D>, call: &str, numbers: &mut Numbers<'_>) -> Answer
+    requires { D * type_size T.row < 2 ^ 63 }
 {
-    let mut scheme = MerkleTreeMmcs::<P, P, H, C, N, D>::new_with_rule(
-        hash,
-        compress,
-        case.cap_height,
-        case.rule,
-    );
-    let mut numbers = case.arguments;
-    match case.call {
-        "layers" => layers(&scheme, &mut numbers),
-        "schedule" => schedule(&scheme, &mut numbers),
-        "replay" => replay(&scheme, &mut numbers),
-        "restore" => restore(&scheme, &mut numbers),
-        call => answer_to_shared(&mut scheme, call, &mut numbers),
+    match call {
+        "layers" => layers(scheme, numbers),
+        "schedule" => schedule(scheme, numbers),
+        "replay" => replay(scheme, numbers),
+        _ => restore(scheme, numbers),
     }
+}
+
+/// Whether plain schemes alone have a call.
+pub fn is_plain(call: &str) -> bool {
+    matches!(call, "layers" | "schedule" | "replay" | "restore")
 }
