@@ -1,53 +1,17 @@
 //! A case: its line, and the answer of each scheme that takes it.
 
-ghost use Rattle.std.specs.Prelude.{◌≤◌, IsTrue};
-ghost use Rattle.p3_merkle_tree.specs.Geometry.{is_arity};
+ghost use Rattle.std.specs.Prelude.{◌≤◌};
 
 use crate::large::matrices_of;
 use crate::numbers::{Fault, Numbers};
-use crate::scheme::{Answer, Case, answer};
-use p3_hashes::batched::Batched3;
-use p3_hashes::fold::{FoldCompress, FoldHash};
-use p3_hashes::lanes::{Lanes, U32x8};
-use p3_hashes::sha::{Sha256Nodes, Sha256Rows};
-use p3_hashes::sha_eights::{Sha256NodesInEights, Sha256RowsInEights};
+use crate::plain::{plain_fold, plain_sha};
+use crate::salted::{salted_fold, salted_sha};
+use crate::scheme::{Answer, Case};
 use p3_merkle_tree::CapRule;
 use std::alloc::Global;
 
-/// The answer of each builder by the fold functions: one by one, packed by two and by eight, in batches of eight, and
-/// by three.
-fn fold<const N: usize, const D: usize>(case: &Case<'_, '_>) -> Answer
-    requires arity { IsTrue (is_arity N) }
-    requires few_children { N ≤ 16 }
-    requires few_words { D ≤ 32 }
-{
-    let (hash, compress) = (FoldHash::<1>, FoldCompress::<N, 1>);
-    let found = answer::<u32, u32, _, _, N, D>(hash, compress, case);
-    let others = [
-        answer::<u32, Lanes<u32>, _, _, N, D>(hash, compress, case),
-        answer::<u32, U32x8, _, _, N, D>(hash, compress, case),
-        answer::<u32, u32, _, _, N, D>(FoldHash::<8>, FoldCompress::<N, 8>, case),
-        answer::<u32, u32, _, _, N, D>(Batched3(hash), Batched3(compress), case),
-    ];
-    agreed(found, &others)
-}
-
-/// The answer by SHA-256, one message at a time, in eights, and by three.
-fn sha<const N: usize>(case: &Case<'_, '_>) -> Answer
-    requires arity { IsTrue (is_arity N) }
-    requires few_children { N ≤ 16 }
-{
-    let (hash, compress) = (Sha256Rows, Sha256Nodes::<N>);
-    let found = answer::<u8, u8, _, _, N, 32>(hash, compress, case);
-    let others = [
-        answer::<u8, u8, _, _, N, 32>(Sha256RowsInEights, Sha256NodesInEights::<N>, case),
-        answer::<u8, u8, _, _, N, 32>(Batched3(hash), Batched3(compress), case),
-    ];
-    agreed(found, &others)
-}
-
 /// The answer if the others are the same.
-fn agreed(answer: Answer, others: &[Answer]) -> Answer {
+pub fn agreed(answer: Answer, others: &[Answer]) -> Answer {
     for other in others {
         if *other != answer {
             return Err(Fault::Disputed);
@@ -72,20 +36,36 @@ fn numbers_in(alloc: Global, words: &[&str]) -> Answer {
 fn fold_at<const D: usize>(arity: &str, case: &Case<'_, '_>) -> Answer
     requires { D ≤ 32 }
 {
+    if case.is_salted {
+        return match arity {
+            "2" => salted_fold::<2, D>(case),
+            "4" => salted_fold::<4, D>(case),
+            "8" => salted_fold::<8, D>(case),
+            _ => Err(Fault::Scheme),
+        };
+    }
     match arity {
-        "2" => fold::<2, D>(case),
-        "4" => fold::<4, D>(case),
-        "8" => fold::<8, D>(case),
+        "2" => plain_fold::<2, D>(case),
+        "4" => plain_fold::<4, D>(case),
+        "8" => plain_fold::<8, D>(case),
         _ => Err(Fault::Scheme),
     }
 }
 
 /// The answer by SHA-256 at the arity that a word is.
 fn sha_at(arity: &str, case: &Case<'_, '_>) -> Answer {
+    if case.is_salted {
+        return match arity {
+            "2" => salted_sha::<2>(case),
+            "4" => salted_sha::<4>(case),
+            "8" => salted_sha::<8>(case),
+            _ => Err(Fault::Scheme),
+        };
+    }
     match arity {
-        "2" => sha::<2>(case),
-        "4" => sha::<4>(case),
-        "8" => sha::<8>(case),
+        "2" => plain_sha::<2>(case),
+        "4" => plain_sha::<4>(case),
+        "8" => plain_sha::<8>(case),
         _ => Err(Fault::Scheme),
     }
 }

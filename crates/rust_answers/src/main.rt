@@ -9,6 +9,8 @@
 mod case;
 mod large;
 mod numbers;
+mod plain;
+mod salted;
 mod scheme;
 mod table;
 mod text;

@@ -1,14 +1,13 @@
 //! The answers of a scheme.
 
-ghost use Rattle.std.specs.Prelude.{◌*◌, ◌<◌, ◌≤◌, ◌^◌, IsTrue};
+ghost use Rattle.std.specs.Prelude.{◌*◌, ◌<◌, ◌^◌};
 ghost use Rattle.std.specs.Mem.{type_size};
-ghost use Rattle.p3_merkle_tree.specs.Geometry.{is_arity};
 
 use crate::numbers::{Fault, FromNumbers, Numbers, ToNumbers};
 use crate::table::Table;
 use p3_merkle_tree::{
-    BatchOpeningRef, CapRule, MerkleCap, MerkleTreeError, MerkleTreeHidingMmcs, MerkleTreeMmcs,
-    PrunedProof, Scheme, check_indices,
+    BatchOpeningRef, CapRule, MerkleCap, MerkleTreeError, MerkleTreeMmcs, PrunedProof, Scheme,
+    check_indices,
 };
 use p3_support::compress::PseudoCompressionFunction;
 use p3_support::hasher::CryptographicHasher;
@@ -16,7 +15,6 @@ use p3_support::matrix::Dimensions;
 use p3_support::mmcs::Mmcs;
 use p3_support::packed::PackedValue;
 use p3_support::salts::SaltWord;
-use test_fixtures::counting::Counting;
 
 /// A word of rows and digests.
 pub trait Word: Copy + Default + FromNumbers + ToNumbers + SaltWord {}
@@ -51,7 +49,7 @@ fn answer_of<V: ToNumbers>(numbers: &Numbers<'_>, value: &V) -> Answer {
 }
 
 /// The answer of a scheme to a call that schemes have with salts and without.
-fn answer_to_shared<
+pub fn answer_to_shared<
     T: Word,
     X: FromNumbers + ToNumbers + Copy,
     S: Mmcs<T, Table<T>, Commitment = MerkleCap<T, X>, Error = MerkleTreeError>,
@@ -229,92 +227,26 @@ fn replay<P: PackedValue, H, C, X: Copy, G, const N: usize>(
     answer_of(numbers, &path)
 }
 
-/// The answer of the plain scheme of a hash and a compression.
-fn plain<
+/// The answer of a scheme to a call that plain schemes alone have.
+pub fn answer_to_plain<
     T: Word,
     P: PackedValue<Value = T>,
-    H: CryptographicHasher<P, P, D> + Copy,
-    C: PseudoCompressionFunction<P, N, D> + Copy,
+    H: CryptographicHasher<P, P, D>,
+    C: PseudoCompressionFunction<P, N, D>,
     const N: usize,
     const D: usize,
->(hash: H, compress: C, case: &Case<'_, '_>) -> Answer
-    requires arity { IsTrue (is_arity N) }
-    requires some_lane { 1 ≤ P.WIDTH }
-    requires room { D * type_size T.row < 2 ^ 63 }
+>(scheme: &MerkleTreeMmcs<P, P, H, C, N, D>, call: &str, numbers: &mut Numbers<'_>) -> Answer
+    requires { D * type_size T.row < 2 ^ 63 }
 {
-    let mut scheme = MerkleTreeMmcs::<P, P, H, C, N, D>::new_with_rule(
-        hash,
-        compress,
-        case.cap_height,
-        case.rule,
-    );
-    let mut numbers = case.arguments;
-    match case.call {
-        "layers" => layers(&scheme, &mut numbers),
-        "schedule" => schedule(&scheme, &mut numbers),
-        "replay" => replay(&scheme, &mut numbers),
-        "restore" => restore(&scheme, &mut numbers),
-        call => answer_to_shared(&mut scheme, call, &mut numbers),
+    match call {
+        "layers" => layers(scheme, numbers),
+        "schedule" => schedule(scheme, numbers),
+        "replay" => replay(scheme, numbers),
+        _ => restore(scheme, numbers),
     }
 }
 
-/// The answer of the salted scheme of a hash and a compression, with so many salts a row. Salts are drawn by the calls
-/// that build a tree: `A`, `A + B`, `A + 2 B` and so on, where `A B` come first.
-fn salted<
-    T: Word,
-    P: PackedValue<Value = T>,
-    H: CryptographicHasher<P, P, D> + Copy,
-    C: PseudoCompressionFunction<P, N, D> + Copy,
-    const N: usize,
-    const D: usize,
-    const SALT_ELEMS: usize,
->(hash: H, compress: C, case: &Case<'_, '_>, mut numbers: Numbers<'_>) -> Answer
-    requires arity { IsTrue (is_arity N) }
-    requires some_lane { 1 ≤ P.WIDTH }
-    requires room { D * type_size T.row < 2 ^ 63 }
-    requires some_salt { 1 ≤ SALT_ELEMS }
-{
-    let rng = match case.call {
-        "verify" | "vprune" => Counting { step: 0, last: 0 },
-        _ => {
-            let first = numbers.number()?;
-            let step = numbers.number()?;
-            let last = first.wrapping_sub(step);
-            Counting { step, last }
-        }
-    };
-    let mut scheme = MerkleTreeHidingMmcs::<P, P, H, C, Counting, N, D, SALT_ELEMS>::new_with_rule(
-        hash,
-        compress,
-        case.cap_height,
-        rng,
-        case.rule,
-    );
-    answer_to_shared(&mut scheme, case.call, &mut numbers)
-}
-
-/// The answer of the schemes of a hash and a compression. The arguments of a salted call begin with the number of salts
-/// a row.
-pub fn answer<
-    T: Word,
-    P: PackedValue<Value = T>,
-    H: CryptographicHasher<P, P, D> + Copy,
-    C: PseudoCompressionFunction<P, N, D> + Copy,
-    const N: usize,
-    const D: usize,
->(hash: H, compress: C, case: &Case<'_, '_>) -> Answer
-    requires arity { IsTrue (is_arity N) }
-    requires some_lane { 1 ≤ P.WIDTH }
-    requires room { D * type_size T.row < 2 ^ 63 }
-{
-    if !case.is_salted {
-        return plain(hash, compress, case);
-    }
-    let mut numbers = case.arguments;
-    match numbers.number()? {
-        1 => salted::<T, P, H, C, N, D, 1>(hash, compress, case, numbers),
-        2 => salted::<T, P, H, C, N, D, 2>(hash, compress, case, numbers),
-        3 => salted::<T, P, H, C, N, D, 3>(hash, compress, case, numbers),
-        _ => Err(Fault::Scheme),
-    }
+/// Whether plain schemes alone have a call.
+pub fn is_plain(call: &str) -> bool {
+    matches!(call, "layers" | "schedule" | "replay" | "restore")
 }
