@@ -1,5 +1,5 @@
-//! The plain scheme: an opening that anybody presents has the committed row of each authenticated matrix, or a collision
-//! is returned.
+//! The plain scheme: an opening that anybody presents has the committed row of each authenticated matrix, or a
+//! collision is returned.
 
 ghost use Rattle.std.specs.Prelude.{◌≡◌, [], ◌∷◌, IfOk};
 ghost use Rattle.end_to_end.specs.Comparisons.{IsComparison, IsPrunedComparison};

@@ -1,5 +1,5 @@
-//! The salted scheme: an opening that anybody presents has the committed row of each authenticated matrix, or a collision
-//! is returned.
+//! The salted scheme: an opening that anybody presents has the committed row of each authenticated matrix, or a
+//! collision is returned.
 
 ghost use Rattle.std.specs.Prelude.{◌≡◌, ◌⊎◌, [], ◌∷◌, IfErr, IfOk, IsSome, OnOk, map};
 ghost use Rattle.end_to_end.specs.Comparisons.{IsSaltedComparison, IsSaltedPrunedComparison};

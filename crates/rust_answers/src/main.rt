@@ -1,9 +1,9 @@
 //! Answers cases, one a line of the files that are its arguments, or of standard input if there are none. The head of
 //! data/cases.txt says what a case is.
 //!
-//! A line without an answer is answered by a line. `CASE | RUST` and `CASE | RUST | HERE` are checked: the answer has to
-//! be that of the Rust crate or, where the two differ, the last one. A line that is answered otherwise is printed with
-//! its answer, and the status is then 1. After the last line of a file that has such lines comes their number.
+//! A line without an answer is answered by a line. `CASE | RUST` and `CASE | RUST | HERE` are checked: the answer has
+//! to be that of the Rust crate or, where the two differ, the last one. A line that is answered otherwise is printed
+//! with its answer, and the status is then 1. After the last line of a file that has such lines comes their number.
 #![tactic(auto)]
 
 mod case;

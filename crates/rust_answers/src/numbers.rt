@@ -45,7 +45,7 @@ impl<T: Drop> From<AllocFailed<T>> for Fault {
     }
 }
 
-/// The numbers of a case, of which the first `next` have been read.
+/// The numbers of a case. The first `next` have been read.
 #[derive(Clone, Copy)]
 pub struct Numbers<'a> {
     /// Where memory comes from.

@@ -12,7 +12,7 @@ use p3_hashes::sha::{Sha256Nodes, Sha256Rows};
 use p3_hashes::sha_eights::{Sha256NodesInEights, Sha256RowsInEights};
 use p3_merkle_tree::MerkleTreeMmcs;
 
-/// The answer by the fold functions in lanes, of which the hash and the compression take `L` messages.
+/// The answer by the fold functions in lanes, whose hash and compression take `L` messages.
 fn fold_in_lanes<P: FoldLane, const L: usize, const N: usize, const D: usize>(
     case: &Case<'_, '_>,
 ) -> Answer

@@ -28,7 +28,7 @@ fn salts_of<'n>(case: &Case<'_, 'n>) -> Result<(Counting, Numbers<'n>), Fault> {
     Ok((Counting { step, last }, numbers))
 }
 
-/// The answer by the fold functions in lanes, of which the hash and the compression take `L` messages.
+/// The answer by the fold functions in lanes, whose hash and compression take `L` messages.
 fn fold_in_lanes<P: FoldLane, const L: usize, const N: usize, const D: usize, const E: usize>(
     case: &Case<'_, '_>,
 ) -> Answer
