@@ -4,6 +4,8 @@ SHELL := bash
 .SHELLFLAGS := -eu -o pipefail -c
 .SUFFIXES:
 MAKEFLAGS += --no-builtin-rules --no-print-directory
+# What a target calls takes all processors itself.
+.NOTPARALLEL:
 
 # The toolchain that everything here was proved with. Another kit of the same logic is as good.
 KIT := rattle-kit-13f
@@ -12,9 +14,9 @@ KIT_CHECK := yes
 
 VERSION := $(shell sed -n 's/^pub const VERSION.*"\(.*\)";/\1/p' crates/mmcs_text/src/lib.rt)
 PROGRAMS := fohlazu mmcs mmcs-verify
-PROVED := $(PROGRAMS:%=build/%)
+FILES := $(PROGRAMS) libmmcs_verify.a
+CPUS := x86-64-v2 x86-64-v3
 QUICK := $(PROGRAMS:%=build/quick/%)
-LIBRARY := build/libmmcs_verify.a
 LIBRARIES := build/libraries.tar.zst
 
 # This processor: x86-64-v3 where each has what that adds to x86-64-v2. Linux calls lzcnt by the name abm.
@@ -22,18 +24,19 @@ CPU := $(shell cat /proc/cpuinfo 2>/dev/null | awk ' \
   BEGIN { n = split("avx avx2 bmi1 bmi2 f16c fma abm movbe", flags) } \
   /^flags/ { seen = 1; for (i = 1; i <= n; i++) if (!index($$0 " ", " " flags[i] " ")) lacks = 1 } \
   END { print seen && !lacks ? "x86-64-v3" : "x86-64-v2" }')
+$(if $(filter $(CPU),$(CPUS)),,$(error CPU may be x86-64-v2 or x86-64-v3))
 
 PREFIX := /usr/local
 TO = $(DESTDIR)$(PREFIX)
-# Where the programs come from that are installed: build, or build/quick.
+# Where the programs come from that are installed: build, build/quick, or build/CPU.
 FROM := build
 INSTALLED := $(PROGRAMS:%=bin/%) $(PROGRAMS:%=share/man/man1/%.1)
 INSTALLED += $(PROGRAMS:%=share/bash-completion/completions/%) $(addprefix share/zsh/site-functions/_,fohlazu mmcs)
-INSTALLED_LIBRARY := lib/libmmcs_verify.a include/mmcs_verify.h include/fohlazu.h
+INSTALLED_LIBRARY := lib/libmmcs_verify.a lib/pkgconfig/mmcs_verify.pc include/mmcs_verify.h include/fohlazu.h
+LIBRARY := $(addsuffix /libmmcs_verify.a,$(filter-out build/quick,$(FROM)))
 
 # What crates are built from, with those that they stand on: a folder is newer where a file went.
-crates_of = $(shell sh tests/crates $(1))
-sources_of = crates.txt $(shell find $(patsubst %,crates/%,$(call crates_of,$(1))) -name out -prune -o $(2) -print)
+sources_of = crates.txt $(shell find $(patsubst %,crates/%,$(shell sh tests/crates $(1))) -name out -prune -o $(2) -print)
 CODE := -regex 'crates/[^/]*/src.*'
 ALL := -regex 'crates/[^/]*/\(src\|specs\|proofs\).*'
 
@@ -47,34 +50,38 @@ fi
 endef
 
 # Each is put in its place whole, so that none is deleted where make stops.
-.PRECIOUS: $(QUICK) $(PROVED) $(LIBRARY) $(LIBRARIES)
+.PRECIOUS: $(QUICK) $(FILES:%=build/%) $(addprefix build/x86-64-%/,$(FILES)) $(LIBRARIES)
 
 # What is run as if no make ran it: else a make in it would say where it is.
 ALONE := env -u MAKEFLAGS -u MFLAGS -u MAKELEVEL
 
-.PHONY: all quick libraries check check-quick toolchain documents install uninstall bench clean help FORCE
-all: $(PROVED) $(LIBRARY)
+.PHONY: all quick libraries dist check check-quick toolchain documents install uninstall bench clean help FORCE
+all: $(FILES:%=build/%)
 	@:
 quick: $(QUICK)
 	@:
 libraries: $(LIBRARIES)
 	@:
+dist: $(LIBRARIES) $(foreach cpu,$(CPUS),$(FILES:%=build/$(cpu)/%))
+	@$(ALONE) bash tools/build dist $(VERSION) $(LOGIC)
 
 $(QUICK) &: tools/quick $(call sources_of,fohlazu mmcs mmcs_verify,$(CODE))
 	$(kit)
 	@bash tools/quick build/quick $(PROGRAMS)
 
-$(PROVED) $(LIBRARY) &: tools/prove build/cpu $(call sources_of,fohlazu mmcs mmcs_verify mmcs_verify_c,$(ALL))
+$(addprefix build/x86-64-%/,$(FILES)): tools/build $(call sources_of,fohlazu mmcs mmcs_verify mmcs_verify_c,$(ALL))
 	$(kit)
-	@bash tools/prove programs $(CPU)
+	@bash tools/build programs x86-64-$*
 
-$(LIBRARIES): tools/prove $(call sources_of,table,$(ALL))
+$(FILES:%=build/%): build/%: build/$(CPU)/% build/cpu
+	@cp $< build/partial && mv -f build/partial $@
+
+$(LIBRARIES): tools/build $(call sources_of,callers,$(ALL))
 	$(kit)
-	@bash tools/prove libraries
+	@bash tools/build libraries
 
 # It changes where the processor is another.
 build/cpu: FORCE
-	$(if $(filter x86-64-v2 x86-64-v3,$(CPU)),,$(error CPU may be x86-64-v2 or x86-64-v3))
 	@mkdir -p build
 	@[ "$$(cat $@ 2> /dev/null)" = $(CPU) ] || echo $(CPU) > $@
 
@@ -94,22 +101,19 @@ check-quick: toolchain documents quick
 check: toolchain documents
 	@$(ALONE) rt ci
 
-install: $(PROGRAMS:%=$(FROM)/%) $(if $(filter build,$(FROM)),$(LIBRARY))
-	@install -d $(patsubst %,"$(TO)/%",bin share/man/man1 share/bash-completion/completions share/zsh/site-functions)
-	@install $(PROGRAMS:%=$(FROM)/%) "$(TO)/bin"
+install: $(PROGRAMS:%=$(FROM)/%) $(LIBRARY)
 	@for name in $(PROGRAMS); do \
-	  sed 's/@VERSION@/$(VERSION)/' "share/$$name.1" > "$(TO)/share/man/man1/$$name.1"; \
-	  install -m 644 "share/$${name%-verify}.bash" "$(TO)/share/bash-completion/completions/$$name"; \
+	  install -D "$(FROM)/$$name" "$(TO)/bin/$$name"; \
+	  install -Dm 644 "share/$${name%-verify}.bash" "$(TO)/share/bash-completion/completions/$$name"; \
+	  install -Dm 644 <(sed 's/@VERSION@/$(VERSION)/' "share/$$name.1") "$(TO)/share/man/man1/$$name.1"; \
 	done
-	@for name in fohlazu mmcs; do \
-	  install -m 644 "share/$$name.zsh" "$(TO)/share/zsh/site-functions/_$$name"; \
-	done
-ifeq ($(FROM),build)
-	@install -d "$(TO)/lib" "$(TO)/include"
-	@install -m 644 $(LIBRARY) "$(TO)/lib"
-	@install -m 644 examples/c/mmcs_verify.h examples/c/fohlazu.h "$(TO)/include"
+	@for name in fohlazu mmcs; do install -Dm 644 "share/$$name.zsh" "$(TO)/share/zsh/site-functions/_$$name"; done
+ifdef LIBRARY
+	@install -Dm 644 -t "$(TO)/lib" $(LIBRARY)
+	@install -Dm 644 -t "$(TO)/include" examples/c/mmcs_verify.h examples/c/fohlazu.h
+	@install -Dm 644 <(sed 's/@VERSION@/$(VERSION)/' share/mmcs_verify.pc) "$(TO)/lib/pkgconfig/mmcs_verify.pc"
 endif
-	@printf '%s\n' $(patsubst %,"$(TO)/%",$(INSTALLED) $(if $(filter build,$(FROM)),$(INSTALLED_LIBRARY)))
+	@printf '%s\n' $(patsubst %,"$(TO)/%",$(INSTALLED) $(if $(LIBRARY),$(INSTALLED_LIBRARY)))
 
 uninstall:
 	@cd "$(TO)" && rm -f $(INSTALLED) $(INSTALLED_LIBRARY)
@@ -130,6 +134,7 @@ help:
 #: make check-quick  what can be tried with no proof: documents, tests, stored runs, exchanges; 15 minutes
 #: make check        the gate: documents, then every proof, test and refused edit; 80 to 170 processor minutes
 #: make libraries    the proved libraries, for share/rattle-with: a crate over them is checked in a minute
+#: make dist         archives of the programs and of the libraries, with their checksums, in build/dist/
 #: make documents    compares docs/ with the sources: seconds
 #: make install      the programs, manual pages, completions and the library for C, below $DESTDIR$PREFIX; PREFIX is
 #:                   /usr/local if it is not given. FROM=build/quick installs what has no proof
