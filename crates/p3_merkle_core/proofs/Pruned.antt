@@ -1,5 +1,6 @@
 -- Why pruned openings are refused, and what is answered to them.
 pub mod SlotFacts
+pub mod SortedFacts
 pub mod LeadFacts
 pub mod AgreeFacts
 pub mod PrunedFacts

@@ -3,17 +3,15 @@
 //! the node's layer.
 
 ghost use Rattle.std.specs.Prelude.{◌≡◌, ℕ, ◌<◌, ◌≤◌, ◌⊎◌, Some, None, List, [], All, false, length, slice_index_or};
-ghost use Rattle.std.specs.Prelude.{map, nat_eq, IfOk, IsTrue, MatchResult};
-ghost use Rattle.std.specs.List.{dedup};
+ghost use Rattle.std.specs.Prelude.{IfOk, MatchResult};
 ghost use Rattle.std.specs.Cmp.Lexicographic.{pointwise};
 ghost use Rattle.std.specs.List.Sorted.{IsStrictlyIncreasing};
 ghost use Rattle.p3_support.specs.Batches.{heights_of, greatest};
-ghost use Rattle.p3_support.specs.Lists.{is_among};
 ghost use Rattle.p3_support.specs.Shown.{row_lists, row_sets};
 ghost use Rattle.p3_merkle_core.specs.Geometry.{has_rows, height_limit, shape_of, IsArity};
 ghost use Rattle.p3_merkle_core.specs.Inner.Agreement.{distinct, early_refusal, layers_refusal, matrices_with};
 ghost use Rattle.p3_merkle_core.specs.Inner.Agreement.{nodes_refusal, opened_of, opened_with, rows_refusal, slot_rows};
-ghost use Rattle.p3_merkle_core.specs.Inner.Agreement.{AreDistinctOf, IsAscending, IsSlot};
+ghost use Rattle.p3_merkle_core.specs.Inner.Agreement.{AreDistinctOf, AreSlots, AreSorted, IsAscending};
 ghost use Rattle.p3_merkle_core.specs.Refusals.{digest_count_refusal, first_of, pruned_refusal, duplicate_refusal};
 ghost use Rattle.p3_merkle_core.specs.Refusals.{width_refusal, AnswersUnlessMemory};
 ghost use Rattle.p3_merkle_core.specs.declared.error.MerkleTreeError.TheVariants.{OutOfMemory};
@@ -25,26 +23,20 @@ use crate::steps::Steps;
 use p3_support::matrix::Dimensions;
 use std::alloc::{AllocError, Global};
 
-/// So many words of two rows, or fewer, are compared one by one.
-const FEW_WORDS: usize = 4;
-
-/// The distinct indices of some queries, ascending, and the first query of each. The slot of an index is its place
-/// here.
+/// The distinct indices of some queries, ascending. The slot of an index is its position among them.
 #[derive(Debug, Drop)]
 pub struct DistinctQueries {
     /// The distinct indices, ascending.
     pub indices: Vec<usize>,
-    /// For each of them, the place of its first query among the queries.
+    /// For each of them, the position of its first query among the queries.
     pub first_queries: Vec<usize>,
+    /// For each query, the slot of its index.
+    pub slots: Vec<usize>,
 }
 
-/// The queries by ascending index: the index of each, and its place among the queries.
-///
-/// # Errors
-///
-/// `AllocError` if memory runs out.
+/// The queries by ascending index: the index of each, and its position among the queries.
 fn sorted_queries(alloc: Global, indices: &[usize]) -> Result<Vec<(usize, usize)>, AllocError>
-    ensures { IfOk result (λ sorted. dedup nat_eq (map (λ query. query.0) sorted.items) ≡ distinct indices.now) }
+    ensures { IfOk result (λ sorted. AreSorted sorted.items indices.now) }
 {
     let count = indices.len();
     let mut queries = Vec::with_capacity(alloc, count)?;
@@ -55,100 +47,53 @@ fn sorted_queries(alloc: Global, indices: &[usize]) -> Result<Vec<(usize, usize)
     Ok(queries)
 }
 
-/// The indices of some queries, each once where equal ones lie side by side.
-///
-/// # Errors
-///
-/// `AllocError` if memory runs out.
-fn indices_once(alloc: Global, sorted: &[(usize, usize)]) -> Result<Vec<usize>, AllocError>
-    ensures { IfOk result (λ indices. indices.items ≡ dedup nat_eq (map (λ query. query.0) sorted.now)) }
-{
-    let mut indices: Vec<usize> = sorted.iter().map(|query| query.0).collect(alloc)?;
-    indices.dedup();
-    Ok(indices)
-}
-
-/// For each query, the slot at which a search for that of its index begins. That is the slot itself where the queries
-/// are sorted by index, and `distinct` has their indices. No answer depends on these slots: a search goes on where it
-/// does not find the index.
-///
-/// # Errors
-///
-/// `AllocError` if memory runs out.
-fn likely_slots(
+/// The distinct indices of sorted queries, and the slot of each query's index, in query order.
+fn distinct_slots(
     alloc: Global,
     sorted: &[(usize, usize)],
-    distinct: &[usize],
-) -> Result<Vec<usize>, AllocError> {
-    let mut slots = vec![in alloc; 0; sorted.len()]?;
-    let mut slot = 0;
-    for (index, query) in sorted {
-        if slot < distinct.len() && distinct[slot] < *index {
-            slot += 1;
-        }
-        if *query < slots.len() {
-            slots[*query] = slot;
-        }
-    }
-    Ok(slots)
-}
-
-/// The distinct indices of some queries, each with its first query, and the slots of [`likely_slots`]. It sorts the
-/// queries once, and allocates five numbers for each index.
-///
-/// # Errors
-///
-/// `AllocError` if memory runs out.
-fn distinct_queries_of(
-    alloc: Global,
     indices: &[usize],
-) -> Result<(DistinctQueries, Vec<usize>), AllocError>
-    ensures { IfOk result (λ found. AreDistinctOf found.0 indices.now) }
+) -> Result<(Vec<usize>, Vec<usize>), AllocError>
+    requires { AreSorted sorted.now indices.now }
+    ensures distinct { IfOk result (λ found. found.0.items ≡ distinct indices.now) }
+    ensures slots { IfOk result (λ found. AreSlots found.1.items indices.now) }
 {
-    let sorted = sorted_queries(alloc, indices)?;
-    let distinct = indices_once(alloc, &sorted)?;
-    let slots = likely_slots(alloc, &sorted, &distinct)?;
-    let mut first_queries = vec![in alloc; indices.len(); distinct.len()]?;
-    // From the last query on, so that the first one of an index is written last.
-    for query in (0..indices.len()).rev() {
-        let slot = slot_of_index(&distinct, slots.get(query), indices[query]);
-        first_queries[slot] = query;
-    }
-    let queried = DistinctQueries {
-        indices: distinct,
-        first_queries,
-    };
-    Ok((queried, slots))
-}
-
-/// The slot of an index that is queried: its place among the distinct indices, which ascend. It is looked for at
-/// `likely` first.
-fn slot_of_index(sorted: &[usize], likely: Option<&usize>, index: usize) -> usize
-    ensures { (indices : List ℕ) → sorted.now ≡ distinct indices → IsTrue (is_among indices index) →
-        IsSlot indices index result }
-{
-    if let Some(slot) = likely {
-        let slot = *slot;
-        if slot < sorted.len() && sorted[slot] == index {
-            return slot;
+    let mut distinct = Vec::with_capacity(alloc, sorted.len())?;
+    let mut slots = vec![in alloc; 0; indices.len()]?;
+    let mut previous = 0;
+    for position in 0..sorted.len() {
+        let (index, query) = sorted[position];
+        if position == 0 || previous != index {
+            distinct.push_reserved(index);
         }
+        previous = index;
+        slots[query] = distinct.len() - 1;
     }
-    match sorted.binary_search(&index) {
-        Ok(slot) => slot,
-        Err(slot) => slot,
-    }
+    Ok((distinct, slots))
 }
 
-/// Checks that each query has the row set of the first query of its index. `slots` are those of [`likely_slots`].
-///
-/// # Errors
-///
-/// `InconsistentDuplicateOpenings` for the first query whose row set is another, with the slot of its index.
+/// The distinct indices of some queries, with the first query of each, and the slot of each query.
+fn distinct_queries_of(alloc: Global, queries: &[usize]) -> Result<DistinctQueries, AllocError>
+    ensures { IfOk result (λ queried. AreDistinctOf queried queries.now) }
+{
+    let sorted = sorted_queries(alloc, queries)?;
+    let (indices, slots) = distinct_slots(alloc, &sorted, queries)?;
+    let mut first_queries = vec![in alloc; queries.len(); indices.len()]?;
+    // From the last query on, so that the first one of an index is written last.
+    for query in (0..queries.len()).rev() {
+        first_queries[slots[query]] = query;
+    }
+    Ok(DistinctQueries {
+        indices,
+        first_queries,
+        slots,
+    })
+}
+
+/// Checks that each query has the row set of the first query of its index.
 fn check_repeats<T: Eq>(
     indices: &[usize],
     rows: &[Vec<Vec<T>>],
     queried: &DistinctQueries,
-    slots: &[usize],
 ) -> Result<(), MerkleTreeError>
     requires queried { AreDistinctOf queried.now indices.now }
     requires pairs { length indices.now ≡ length rows.now }
@@ -156,7 +101,7 @@ fn check_repeats<T: Eq>(
         MatchResult result (λ ok. duplicate_refusal T.eq p ≡ None) (λ e. duplicate_refusal T.eq p ≡ Some e) }
 {
     for query in 0..indices.len() {
-        let slot = slot_of_index(&queried.indices, slots.get(query), indices[query]);
+        let slot = queried.slots[query];
         let first = queried.first_queries[slot];
         // Nothing is compared where both are the same query.
         if query != first && rows[query] != rows[first] {
@@ -167,10 +112,6 @@ fn check_repeats<T: Eq>(
 }
 
 /// Checks that the row set of each of some queries has one row for each matrix, as wide as its matrix.
-///
-/// # Errors
-///
-/// The error of [`check_widths`], for the first query that it refuses.
 fn check_first_widths<T>(
     dimensions: &[Dimensions],
     rows: &[Vec<Vec<T>>],
@@ -187,30 +128,7 @@ fn check_first_widths<T>(
     Ok(())
 }
 
-/// Whether two rows are equal.
-fn are_equal<T: Eq>(row: &[T], other: &[T]) -> bool
-    ensures { result ≡ pointwise T.eq row.now other.now }
-{
-    // A call that compares so few words takes longer.
-    if row.len() > FEW_WORDS {
-        return row == other;
-    }
-    if row.len() != other.len() {
-        return false;
-    }
-    for place in 0..row.len() {
-        if row[place] != other[place] {
-            return false;
-        }
-    }
-    true
-}
-
-/// Checks that a slot has the same rows of some matrices, given by their places, as the first slot under its node.
-///
-/// # Errors
-///
-/// `InconsistentGroupOpening` for the first row that is another.
+/// Checks that a slot has the same rows of some matrices, given by their positions, as the first slot under its node.
 fn check_same_rows<T: Eq>(
     matrices: &[usize],
     slot: usize,
@@ -224,7 +142,7 @@ fn check_same_rows<T: Eq>(
 {
     for matrix in matrices {
         let matrix = *matrix;
-        if !are_equal(&rows[matrix], &first_rows[matrix]) {
+        if rows[matrix] != first_rows[matrix] {
             return Err(PrunedProofError::InconsistentGroupOpening { slot, matrix }.into());
         }
     }
@@ -233,10 +151,6 @@ fn check_same_rows<T: Eq>(
 
 /// Checks that slots under one node have the same rows of the matrices of its layer: each slot is compared with the
 /// first one under its node. The nodes of the slots ascend.
-///
-/// # Errors
-///
-/// `InconsistentGroupOpening` for the first slot, and its first row, that differs.
 fn check_layer<T: Eq>(
     matrices: &[usize],
     nodes: &[usize],
@@ -264,11 +178,7 @@ fn check_layer<T: Eq>(
     Ok(())
 }
 
-/// Fills a list with the places of the matrices of this exponent, in input order, in place of what it has.
-///
-/// # Errors
-///
-/// `AllocError` if memory runs out.
+/// Fills a list with the positions of the matrices of this exponent, in input order, in place of what it has.
 fn list_matrices(
     matrices: &mut Vec<usize>,
     dimensions: &[Dimensions],
@@ -305,24 +215,13 @@ fn last_with_rows(steps: &Steps<'_>, cap_layer: usize) -> usize
     last
 }
 
-/// Checks that slots under one node have the same rows of the matrices of its layer, up to the cap's layer. The row set
-/// of each slot has a row for each matrix, `cap_layer` is at most the number of levels, and the arity is at least 2.
-///
-/// It goes once through the levels, up to the last layer that has matrices. Each level takes the time of one division
-/// for each slot; one whose upper layer has matrices also that of a look at each matrix, and of the comparison of the
-/// rows of that layer. `nodes` is a buffer for a number for each slot; it allocates one for each matrix of a layer
-/// above the leaves.
-///
-/// # Errors
-///
-/// `InconsistentGroupOpening` for the first row that differs: layers from the leaves up, slots ascending, matrices in
-/// input order; `OutOfMemory` if memory runs out.
+/// Checks that slots under one node have the same rows of the matrices of its layer, layer by layer up to the cap's.
+/// The row set of each slot has a row for each matrix.
 fn check_shared_rows<T: Eq>(
     alloc: Global,
     steps: &Steps<'_>,
     cap_layer: usize,
     queried: &DistinctQueries,
-    nodes: &mut Vec<usize>,
     rows: &[Vec<Vec<T>>],
 ) -> Result<(), MerkleTreeError>
     requires layer { cap_layer ≤ steps.now.num_levels }
@@ -336,30 +235,29 @@ fn check_shared_rows<T: Eq>(
         (row_sets rows.now) in
         AnswersUnlessMemory result refusal }
 {
-    nodes.clear();
-    nodes.extend_from_slice(&queried.indices)?;
+    let mut nodes = Vec::from_slice(alloc, &queried.indices)?;
     let mut matrices = Vec::new(alloc);
     let mut exponent = steps.exponent;
     let last = last_with_rows(steps, cap_layer);
     // No two slots are under one leaf, so the first layer to look at is the one above the leaves.
     for level in 0..last {
         let up = steps.up(steps.arity, level, exponent);
-        to_parents(nodes, up.step);
+        to_parents(&mut nodes, up.step);
         exponent = up.exponent;
         if up.has_rows {
             list_matrices(&mut matrices, steps.dimensions, exponent)?;
-            check_layer(&matrices, nodes, &queried.first_queries, rows)?;
+            check_layer(&matrices, &nodes, &queried.first_queries, rows)?;
         }
     }
     Ok(())
 }
 
 /// Checks all of a pruned opening that doesn't depend on the cap, which is layer `cap_layer`: whether paths can be
-/// restored from it. Returns its distinct indices. `cap_layer` must be at most the number of levels, and the arity
+/// restored from it. Returns its distinct indices, with their queries. `cap_layer` must be at most the number of levels, and the arity
 /// a power of two from 2 to 2^62.
 ///
-/// It sorts the indices once, and allocates five numbers for each index, and one for each matrix of a layer above
-/// the leaves. The number of allocations doesn't depend on the indices.
+/// It sorts the indices once, and allocates at most five numbers for each index at a time, and one for each matrix of a
+/// layer above the leaves. The number of allocations doesn't depend on the indices.
 ///
 /// # Errors
 ///
@@ -391,23 +289,16 @@ pub fn check_pruned<T: Eq>(
         (λ e. (e ≡ OutOfMemory) ⊎ (refusal ≡ Some e)) }
 {
     check_queries(steps, indices, rows.len(), num_digests)?;
-    let (queried, mut nodes) = distinct_queries_of(alloc, indices)?;
-    check_repeats(indices, rows, &queried, &nodes)?;
-    // A copy, so that the indices are not sorted again.
-    nodes.clear();
-    nodes.extend_from_slice(&queried.indices)?;
-    check_digest_count(steps.boundary_len(cap_layer, &mut nodes), num_digests)?;
+    let queried = distinct_queries_of(alloc, indices)?;
+    check_repeats(indices, rows, &queried)?;
+    let mut leaves = Vec::from_slice(alloc, &queried.indices)?;
+    check_digest_count(steps.boundary_len(cap_layer, &mut leaves), num_digests)?;
     check_first_widths(steps.dimensions, rows, &queried.first_queries)?;
-    check_shared_rows(alloc, steps, cap_layer, &queried, &mut nodes, rows)?;
+    check_shared_rows(alloc, steps, cap_layer, &queried, rows)?;
     Ok(queried)
 }
 
 /// Checks whether some indices can be queried with so many row sets and digests. It does not allocate.
-///
-/// # Errors
-///
-/// In this order: the error of [`Steps::check_heights`]; `WrongBatchSize` if the number of row sets is not that of the
-/// indices; `SiblingCountMismatch` for a digest where there is no index; `IndexOutOfBounds` for the highest index.
 fn check_queries(
     steps: &Steps<'_>,
     indices: &[usize],
@@ -433,10 +324,6 @@ fn check_queries(
 }
 
 /// Checks that a proof has as many digests as it should have.
-///
-/// # Errors
-///
-/// `SiblingCountMismatch` if the numbers differ.
 fn check_digest_count(expected: usize, got: usize) -> Result<(), MerkleTreeError>
     ensures { MatchResult result (λ ok. digest_count_refusal expected got ≡ None)
         (λ e. digest_count_refusal expected got ≡ Some e) }

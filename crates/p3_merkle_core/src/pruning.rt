@@ -1,15 +1,12 @@
 //! Which nodes a pruned opening covers, and the paths that its levels hold: what needs no hash.
 
 ghost use Rattle.std.specs.Prelude.{◌≡◌, ◌+◌, ◌-◌, ◌*◌, ◌/◌, ◌%◌, ◌<◌, ◌≤◌, ◌++◌, Some, None, false, All, IfOk};
-ghost use Rattle.std.specs.Prelude.{MatchOption, MatchResult, length, map, nat_eq, slice_index, take};
-ghost use Rattle.std.specs.List.{dedup, sum_by};
-ghost use Rattle.std.specs.List.Sorted.{IsStrictlyIncreasing};
-ghost use Rattle.std.specs.Vec.{vec_capacity, vec_len};
-ghost use Rattle.p3_support.specs.Lists.{is_among};
+ghost use Rattle.std.specs.Prelude.{MatchResult, length, map, nat_eq, remove, slice_index, slice_index_or, take};
+ghost use Rattle.std.specs.List.{dedup};
 ghost use Rattle.p3_merkle_core.specs.Geometry.{levels};
 ghost use Rattle.p3_merkle_core.specs.Inner.Agreement.{distinct, IsAscending};
-ghost use Rattle.p3_merkle_core.specs.Inner.Children.{AreChildren, IsFamily, path_out_of, paths_out_of};
-ghost use Rattle.p3_merkle_core.specs.Inner.Children.{siblings_out_of};
+ghost use Rattle.p3_merkle_core.specs.Inner.Children.{levels_in, path_out_of, paths_out_of, AreChildren, AreLinked};
+ghost use Rattle.p3_merkle_core.specs.Inner.Children.{HaveLeaves, IsFamily};
 ghost use Rattle.p3_merkle_core.specs.Refusals.{queries_refusal};
 ghost use Rattle.p3_merkle_core.specs.Views.{shown_paths};
 
@@ -56,18 +53,26 @@ pub struct AuthPath<X> {
 /// A leaf and the siblings on its path, of `D` words each (`MerkleAuthPath` in the Rust crate).
 pub type MerkleAuthPath<W, const D: usize> = AuthPath<[W; D]>;
 
-/// A level of a walk over covered nodes, kept so that paths can be read out of it.
+/// A layer on the way up a pruned opening: its covered nodes, and the digests of their children.
 #[derive(Debug, Drop)]
-pub struct KeptLevel<X> {
-    /// The covered nodes of the layer above, ascending.
-    pub parents: Vec<usize>,
-    /// How many children each of them has.
+pub struct CoveredLayer<X> {
+    /// The covered nodes, ascending.
+    pub nodes: Vec<usize>,
+    /// For each node, the position of a query under it.
+    pub queries: Vec<usize>,
+    /// For each covered node of the layer below, the position of its parent in `nodes`. At the leaves: for each query,
+    /// the position of its leaf.
+    pub slots: Vec<usize>,
+    /// The layer's exponent.
+    pub exponent: usize,
+    /// How many of the proof's digests belong below the layer.
+    pub used: usize,
+    /// How many children a node has: 0 at the leaves.
     pub step: usize,
-    /// The digests of their children, parent by parent.
+    /// Whether matrices belong to the layer.
+    pub has_rows: bool,
+    /// The digests of the children, parent by parent: none at the leaves.
     pub children: Vec<X>,
-    ghost some: { 0 < step },
-    ghost full: { length children.items ≡ step * length parents.items },
-    ghost ascending: { IsStrictlyIncreasing parents.items },
 }
 
 /// Checks that each index is below `max_height`, the tallest height of some matrices.
@@ -211,176 +216,69 @@ pub fn children_of<X: Copy>(
     Ok(children)
 }
 
-/// How many siblings a path through these levels has at most.
-///
-/// # Errors
-///
-/// `AllocError` if they are 2^64 or more, which no memory holds.
-fn num_siblings<X>(levels: &[KeptLevel<X>]) -> Result<usize, AllocError>
-    ensures { IfOk result (λ count. count ≡ sum_by (λ level. level.step - 1) levels.now) }
-{
-    let mut count = 0usize;
-    for level in levels {
-        let Some(more) = count.checked_add(level.step - 1) else {
-            return Err(AllocError);
-        };
-        count = more;
-    }
-    Ok(count)
-}
-
-/// Adds, for each node in order, the place in `level` at which a search for its parent begins. That is the parent's own
-/// place where nodes and parents ascend, each node has its parent there, and each parent has a node. No path depends on
-/// these places: a search goes on where it does not find the parent.
-///
-/// # Errors
-///
-/// `AllocError` if memory runs out.
-fn extend_with_places<X>(
-    places: &mut Vec<usize>,
-    nodes: &[usize],
-    level: &KeptLevel<X>,
-) -> Result<(), AllocError> {
-    places.reserve(nodes.len())?;
-    let mut place = 0;
-    for node in nodes {
-        // The end of the parent's children, since a division takes longer.
-        if place < level.parents.len()
-            && level.parents[place]
-                .wrapping_add(1)
-                .wrapping_mul(level.step)
-                <= *node
-        {
-            place += 1;
-        }
-        places.push_reserved(place);
-    }
-    Ok(())
-}
-
-/// For each level except the last, and each of its `parents`, the place in the next level at which a search for that
-/// node's parent begins: one level after another.
-///
-/// # Errors
-///
-/// `AllocError` if memory runs out.
-fn all_places<X>(alloc: Global, levels: &[KeptLevel<X>]) -> Result<Vec<usize>, AllocError> {
-    let mut num_places = 0usize;
-    for level in 1..levels.len() {
-        num_places = num_places.saturating_add(levels[level - 1].parents.len());
-    }
-    let mut places = Vec::with_capacity(alloc, num_places)?;
-    for level in 1..levels.len() {
-        extend_with_places(&mut places, &levels[level - 1].parents, &levels[level])?;
-    }
-    Ok(places)
-}
-
-/// The siblings on the path of a leaf, out of the levels that a walk kept, from the leaves on: of each group on the
-/// path all digests except the path's own, ascending. The path of a leaf that the walk did not cover has no siblings on
-/// the levels where no covered node is above it. `places` are those of [`all_places`]. It allocates `capacity`
-/// siblings, the most that a path has.
-///
-/// # Errors
-///
-/// `AllocError` if memory runs out.
-fn path_out_of<X: Copy>(
-    alloc: Global,
-    levels: &[KeptLevel<X>],
-    places: &[usize],
-    capacity: usize,
-    index: usize,
-) -> Result<Vec<X>, AllocError>
-    requires { capacity ≡ sum_by (λ level. level.step - 1) levels.now }
-    ensures { IfOk result (λ path.
-        path.items ≡ path_out_of (map (λ level. (level.parents.items, level.step, level.children.items)) levels.now)
-        index) }
-{
-    let mut path = Vec::with_capacity(alloc, capacity)?;
-    let mut node = index;
-    let mut hint = 0;
-    let mut below = 0usize;
-    for level in 0..levels.len() {
-        let (parent, place) = extend_with_siblings(&mut path, &levels[level], hint, node);
-        node = parent;
-        hint = places.get(below.wrapping_add(place)).copied().unwrap_or(0);
-        below = below.wrapping_add(levels[level].parents.len());
-    }
-    Ok(path)
-}
-
-/// The path of each of some indices, in order, from the levels that a walk kept, from the leaves up. Its siblings are,
-/// on each level, all digests of the path's group except its own, ascending; there are none on a level where no
-/// covered node is above the leaf.
+/// The path of each of some queries, in order, out of the layers up to the cap's, from the leaves on: on each layer
+/// below it all digests of the path's group except its own, ascending. A path has room for `capacity` siblings at first.
 ///
 /// # Errors
 ///
 /// `AllocError` if memory runs out.
 pub fn paths_out_of<X: Copy>(
     alloc: Global,
-    levels: &[KeptLevel<X>],
+    layers: &[CoveredLayer<X>],
     indices: &[usize],
+    capacity: usize,
 ) -> Result<Vec<AuthPath<X>>, AllocError>
-    ensures { IfOk result (λ paths.
-        shown_paths paths.items
-        ≡ paths_out_of (map (λ level. (level.parents.items, level.step, level.children.items)) levels.now)
-        indices.now) }
+    requires some { 0 < length layers.now }
+    requires linked { AreLinked layers.now }
+    requires queried { (x : CoveredLayer X) →
+        HaveLeaves (slice_index_or layers.now 0 x).nodes.items (slice_index_or layers.now 0 x).slots.items indices.now }
+    ensures { IfOk result (λ paths. shown_paths paths.items ≡ paths_out_of (levels_in layers.now) indices.now) }
 {
-    let capacity = num_siblings(levels)?;
-    let places = all_places(alloc, levels)?;
     let mut paths = Vec::with_capacity(alloc, indices.len())?;
-    for index in indices {
-        let siblings = path_out_of(alloc, levels, &places, capacity, *index)?;
+    for query in 0..indices.len() {
+        let siblings = path_out_of(alloc, layers, layers[0].slots[query], capacity)?;
         paths.push_reserved(AuthPath {
-            leaf_index: *index,
+            leaf_index: indices[query],
             siblings,
         });
     }
     Ok(paths)
 }
 
-/// The place of a node among ascending ones, or none if it is not among them. It is looked for at `hint` first.
-fn place_of(nodes: &[usize], hint: usize, node: usize) -> Option<usize>
-    requires { IsStrictlyIncreasing nodes.now }
-    ensures { MatchOption result (is_among nodes.now node ≡ false)
-        (λ place. (place < length nodes.now) × (slice_index nodes.now place ≡ node)) }
+/// The siblings on the path of the leaf at this position, out of the layers from the leaves on.
+fn path_out_of<X: Copy>(
+    alloc: Global,
+    layers: &[CoveredLayer<X>],
+    leaf: usize,
+    capacity: usize,
+) -> Result<Vec<X>, AllocError>
+    requires some { 0 < length layers.now }
+    requires linked { AreLinked layers.now }
+    requires leaf { (x : CoveredLayer X) → leaf < length (slice_index_or layers.now 0 x).nodes.items }
+    ensures { (x : CoveredLayer X) → let index = slice_index (slice_index_or layers.now 0 x).nodes.items leaf in
+        IfOk result (λ path. path.items ≡ path_out_of (levels_in layers.now) index) }
 {
-    if hint < nodes.len() && nodes[hint] == node {
-        return Some(hint);
+    let mut path = Vec::with_capacity(alloc, capacity)?;
+    let mut slot = leaf;
+    for level in 1..layers.len() {
+        let above = &layers[level];
+        let own = position_of(layers[level - 1].nodes[slot], above.step);
+        slot = above.slots[slot];
+        let first = above.step * slot;
+        extend_with_others(&mut path, &above.children[first..first + above.step], own)?;
     }
-    match nodes.binary_search(&node) {
-        Ok(place) => Some(place),
-        Err(_) => None,
-    }
+    Ok(path)
 }
 
-/// Adds the digests of a node's siblings to the end, if its parent is covered. The parent is looked for at the place
-/// `hint` first. Returns the parent, and its place, or 0 if it is not covered.
-fn extend_with_siblings<X: Copy>(
-    path: &mut Vec<X>,
-    level: &KeptLevel<X>,
-    hint: usize,
-    node: usize,
-) -> (usize, usize)
-    requires capacity { vec_len path.old + (level.now.step - 1) ≤ vec_capacity path.old }
-    ensures siblings { path.new.items
-        ≡ path.old.items ++ siblings_out_of (level.now.parents.items, level.now.step, level.now.children.items) node }
-    ensures parent { result.0 ≡ node / level.now.step }
-    ensures count { vec_len path.new ≤ vec_len path.old + (level.now.step - 1) }
-    ensures capacity { vec_capacity path.new ≡ vec_capacity path.old }
+/// Adds the digests of a group except the one at `own`.
+fn extend_with_others<X: Copy>(path: &mut Vec<X>, group: &[X], own: usize) -> Result<(), AllocError>
+    ensures { IfOk result (λ done. path.new.items ≡ path.old.items ++ remove group.now own) }
 {
-    let parent = parent_of(node, level.step);
-    let Some(place) = place_of(&level.parents, hint, parent) else {
-        return (parent, 0);
-    };
-    let first = level.step * place;
-    let own = node - level.step * parent;
-    let siblings = level.step - 1;
     // One by one: a call that copies so few digests takes longer.
-    for sibling in 0..siblings {
-        // The siblings from the node's own place on are one place further.
-        let child = if sibling < own { sibling } else { sibling + 1 };
-        path.push_reserved(level.children[first + child]);
+    for child in 0..group.len() {
+        if child != own {
+            path.push(group[child])?;
+        }
     }
-    (parent, place)
+    Ok(())
 }

@@ -1,8 +1,7 @@
 -- What is opened of an own tree by a pruned proof is the honest pruned opening, which is accepted and restores; what an
 -- answer says.
-use Rattle.std.proofs.Common.{◌≡◌, ◌↔◌, ◌∙◌, ℕ, Bool, Option, None, Some, Result, refl, ap, List, map, subst, sym}
+use Rattle.std.proofs.Common.{◌≡◌, ◌↔◌, ◌∙◌, ℕ, Bool, Option, None, Result, ap, List, map, subst, sym}
 use Rattle.std.specs.Prelude.{Ok, Err, IsOk}
-use Rattle.std.specs.Option.{option_or}
 use Rattle.p3_merkle_core.specs.Checks.{Params, params}
 use Rattle.p3_merkle_core.specs.Commitments.{IsOwn, cap_over}
 use Rattle.p3_merkle_core.specs.Geometry.{IsArity, Shape}
@@ -55,11 +54,6 @@ module _ {T W : Type 0} (c : Params T W) (b : Batch T) (indices : List ℕ) (w :
       ∙ honest_restored_paths c.functions b c.layer indices w
 
 -- ---- what an answer says
-
--- no refusal adds nothing
-pub or_none : {X : Type 0} (o : Option X) → option_or o None ≡ o
-or_none None = refl
-or_none (Some x) = refl
 
 unrefused_when_ok : {V : Type 0} (r : Result V MerkleTreeError) (refusal : Option MerkleTreeError) →
     AnswersUnlessMemory r refusal → IsOk r → refusal ≡ None

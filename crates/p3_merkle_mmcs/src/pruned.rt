@@ -302,9 +302,7 @@ impl<
         let steps = steps_of(dimensions, N);
         let cap_layer = steps.cap_layer(self.cap_rule, self.cap_height);
         let opening = lent_pruned(indices, rows, proof);
-        // `None` alone has no lifetime, and a proof needs one.
-        let no_roots = false.then_some(opening.sent);
         self.checker()
-            .restored_paths(alloc, no_roots, &steps, cap_layer, opening)
+            .restored_paths(alloc, &steps, cap_layer, opening)
     }
 }

@@ -20,7 +20,7 @@ use Rattle.p3_merkle_verifier.proofs.ChildFacts.{same_map}
 use Rattle.p3_merkle_verifier.specs.Inner.NodeDigests.{group_digest, layer_digests, pair_digest, query_digest}
 use Rattle.p3_merkle_verifier.specs.Inner.RestoredLevels.{node_of_query, AreRestored, IsCoveredAt, IsLayer}
 use Rattle.p3_merkle_verifier.specs.Inner.RestoredLevels.{IsLayerAbove}
-use Rattle.p3_merkle_verifier.specs.declared.pruned.CoveredNodes.{CoveredNodes}
+use Rattle.p3_merkle_core.specs.declared.pruning.CoveredLayer.{CoveredLayer}
 use Rattle.p3_merkle_core.specs.Checks.{params}
 
 -- ---- lists
@@ -138,7 +138,7 @@ agreed_with s t indices rows digests others a =
     record { in_pairs = a.in_pairs; repeats = a.repeats; groups = a.groups }
 
 -- as many nodes as queries
-pub nodes_long : (s : Shape) (indices : List ℕ) (l : ℕ) (covered : CoveredNodes) → IsCoveredAt s indices l covered →
+pub nodes_long : {X : Type 0} (s : Shape) (indices : List ℕ) (l : ℕ) (covered : CoveredLayer X) → IsCoveredAt s indices l covered →
     length covered.queries.items ≡ length covered.nodes.items
 nodes_long s indices l covered at = sym (ap length at.queries_are
     ∙ length-map covered.queries.items (node_of_query s indices l))
@@ -147,7 +147,7 @@ nodes_long s indices l covered at = sym (ap length at.queries_are
 
 module _ {T W : Type 0} (f : Functions T W) (s : Shape) (t : ℕ) (p : PrunedOpening T W) where
   -- the digests of the leaves
-  pub leaves_restored : IsAgreed s t p → (covered : CoveredNodes) (digests : List (List W)) →
+  pub leaves_restored : IsAgreed s t p → (covered : CoveredLayer (List W)) (digests : List (List W)) →
       IsCoveredAt s p.indices 0 covered →
       digests ≡ map (query_digest f.hash covered.exponent (heights s) p.rows) covered.queries.items →
       AreRestored f s t p 0 digests
@@ -165,30 +165,30 @@ module _ {T W : Type 0} (f : Functions T W) (s : Shape) (t : ℕ) (p : PrunedOpe
 
   -- the digests of the nodes above layer l, by those of their children and of their rows
   pub above_restored : IsAgreed s t p → (l : ℕ) → suc l ≤ t → (n : ℕ) → s.arity ≡ n →
-      (covered : CoveredNodes) (children digests : List (List W)) → IsLayer f s t p (suc l) covered children →
+      (covered : CoveredLayer (List W)) (digests : List (List W)) → IsLayer f s t p (suc l) covered →
       digests ≡ layer_digests f n covered.step covered.has_rows (heights s) covered.exponent p.rows
-      covered.queries.items children → AreRestored f s t p (suc l) digests
-  above_restored agreed l h n is_n covered children digests layer e =
+      covered.queries.items covered.children.items → AreRestored f s t p (suc l) digests
+  above_restored agreed l h n is_n covered digests layer e =
       let at = layer.coverage in
       let family = layer.family in
       let are = sym at.nodes_are ∙ at.queries_are in
       let long = sym (layer.in_groups (omega arith)) ∙ nodes_long s p.indices (suc l) covered at
       ∙ ap length at.nodes_are in
       e ∙ ap (λ a. layer_digests f a covered.step covered.has_rows (heights s) covered.exponent p.rows
-      covered.queries.items children) (sym is_n)
-      ∙ layer_next f s t p l agreed h covered.step covered.has_rows covered.exponent covered.queries.items children
+      covered.queries.items covered.children.items) (sym is_n)
+      ∙ layer_next f s t p l agreed h covered.step covered.has_rows covered.exponent covered.queries.items covered.children.items
       family.step_is family.rows_are at.at_exponent are at.among long family.values_are
 
   pub restored_at : IsAgreed s t p → (l : ℕ) → 0 < l → l ≤ t → (n : ℕ) → s.arity ≡ n →
-      (covered : CoveredNodes) (children digests : List (List W)) → IsLayer f s t p l covered children →
+      (covered : CoveredLayer (List W)) (digests : List (List W)) → IsLayer f s t p l covered →
       digests ≡ layer_digests f n covered.step covered.has_rows (heights s) covered.exponent p.rows
-      covered.queries.items children → AreRestored f s t p l digests
-  restored_at agreed zero some h n is_n covered children digests layer e = absurd (omega arith)
-  restored_at agreed (suc l) some h n is_n covered children digests layer e =
-      above_restored agreed l h n is_n covered children digests layer e
+      covered.queries.items covered.children.items → AreRestored f s t p l digests
+  restored_at agreed zero some h n is_n covered digests layer e = absurd (omega arith)
+  restored_at agreed (suc l) some h n is_n covered digests layer e =
+      above_restored agreed l h n is_n covered digests layer e
 
   -- as many digests as nodes
-  pub digests_long : (l : ℕ) (covered : CoveredNodes) (digests : List (List W)) → IsCoveredAt s p.indices l covered →
+  pub digests_long : (l : ℕ) (covered : CoveredLayer (List W)) (digests : List (List W)) → IsCoveredAt s p.indices l covered →
       AreRestored f s t p l digests → length digests ≡ length covered.nodes.items
   digests_long l covered digests at e = ap length e
       ∙ length-map (covered_at s p.indices l) (restored_node (params f s t) p l) ∙ ap length (sym at.nodes_are)
@@ -196,9 +196,9 @@ module _ {T W : Type 0} (f : Functions T W) (s : Shape) (t : ℕ) (p : PrunedOpe
   -- ---- one level up
 
   -- the leaves have no children
-  pub leaves_are : (covered : CoveredNodes) (children : List (List W)) → IsCoveredAt s p.indices 0 covered →
-      covered.step ≡ 0 → IsLayer f s t p 0 covered children
-  leaves_are covered children at none = record {
+  pub leaves_are : (covered : CoveredLayer (List W)) → IsCoveredAt s p.indices 0 covered →
+      covered.step ≡ 0 → IsLayer f s t p 0 covered
+  leaves_are covered at none = record {
     coverage = at;
     wide = λ h. absurd (omega arith);
     narrow = omega arith;
@@ -208,10 +208,10 @@ module _ {T W : Type 0} (f : Functions T W) (s : Shape) (t : ℕ) (p : PrunedOpe
 
   -- above a layer with its digests, the children have their values
   pub layer_rises : CanQuery s p.indices t → length p.digests ≡ length (boundary s p.indices t) → (l : ℕ) → l < t →
-      (below above : CoveredNodes) (digests children : List (List W)) → IsCoveredAt s p.indices l below →
-      AreRestored f s t p l digests → IsLayerAbove s p.indices l below digests p.digests above children →
-      IsLayer f s t p (suc l) above children
-  layer_rises w count l h below above digests children here restored up =
+      (below above : CoveredLayer (List W)) (digests : List (List W)) → IsCoveredAt s p.indices l below →
+      AreRestored f s t p l digests → IsLayerAbove s p.indices l below digests p.digests above →
+      IsLayer f s t p (suc l) above
+  layer_rises w count l h below above digests here restored up =
       let same : IsWalkedLevel f s t p l (λ (d : List _). d) above.step above.nodes.items below.nodes.items digests
       (drop below.used p.digests) =
       record {
@@ -236,13 +236,13 @@ module _ {T W : Type 0} (f : Functions T W) (s : Shape) (t : ℕ) (p : PrunedOpe
           rows_are = up.rows_are;
           full = up.values.each;
           values_are =
-              sym (map-id children) ∙ children_are f s t p w count l h (λ (d : List _). d) above.step above.nodes.items
-              below.nodes.items digests (drop below.used p.digests) children same up.values;
+              sym (map-id above.children.items) ∙ children_are f s t p w count l h (λ (d : List _). d) above.step above.nodes.items
+              below.nodes.items digests (drop below.used p.digests) above.children.items same up.values;
         };
       }
 
   -- the children of a layer above the leaves
-  pub family_above : (l : ℕ) (covered : CoveredNodes) (children : List (List W)) → 0 < l →
-      IsLayer f s t p l covered children → length children ≡ covered.step * length covered.nodes.items
-  family_above zero covered children some layer = absurd (omega arith)
-  family_above (suc l) covered children some layer = layer.family.full
+  pub family_above : (l : ℕ) (covered : CoveredLayer (List W)) → 0 < l →
+      IsLayer f s t p l covered → length covered.children.items ≡ covered.step * length covered.nodes.items
+  family_above zero covered some layer = absurd (omega arith)
+  family_above (suc l) covered some layer = layer.family.full

@@ -1,75 +1,82 @@
--- The levels that a walk keeps.
-use Rattle.std.proofs.Common.{◌≡◌, ◌∙◌, ℕ, zero, suc, ◌+◌, ◌-◌, ◌<◌, List, [], ◌∷◌, ◌++◌, map, refl, ap, sym, arith, subst}
-use Rattle.std.proofs.Common.{add-one}
-use Rattle.std.proofs.lemmas.List.{map-append}
+-- The layers of a pruned opening, and the paths out of them.
+use Rattle.std.proofs.Common.{◌≡◌, ◌∙◌, ℕ, suc, ◌+◌, ◌<◌, List, [], ◌∷◌, ◌++◌, add-one, ap, arith, drop, get_or, inl}
+use Rattle.std.proofs.Common.{inr, length, length-append, map, refl, subst, sym}
+use Rattle.std.proofs.lemmas.Bool.{cases_lt}
+use Rattle.std.proofs.lemmas.List.{drop-append-le, get_or_append_left, get_or_default, map-append}
 use Rattle.std.proofs.lemmas.List.FromFn.{map-range_with_len_more}
+use Rattle.std.proofs.Math.Seq.{get_or-append_seam}
 use Rattle.p3_merkle_core.specs.Geometry.{Shape}
 use Rattle.p3_merkle_core.specs.Nodes.{Functions}
-use Rattle.p3_merkle_core.specs.Inner.Children.{paths_out_of}
-use Rattle.p3_merkle_core.specs.Pruning.{PrunedOpening, restored_paths, value_of}
-use Rattle.p3_merkle_core.specs.declared.pruning.KeptLevel.{KeptLevel}
-use Rattle.p3_merkle_core.proofs.Covered.KeptFacts.{level_of, paths_restored}
-use Rattle.p3_merkle_verifier.specs.Inner.RestoredLevels.{opened_by, pruned_in, tree_of, AreKept, IsCoveredAt}
-use Rattle.p3_merkle_verifier.specs.Inner.RestoredLevels.{IsLayer}
-use Rattle.p3_merkle_verifier.specs.declared.pruned.CoveredNodes.{CoveredNodes}
+use Rattle.p3_merkle_core.specs.Inner.Children.{AreParentSlots}
+use Rattle.p3_merkle_core.specs.Pruning.{PrunedOpening, value_of}
+use Rattle.p3_merkle_core.specs.declared.pruning.CoveredLayer.{CoveredLayer}
+use Rattle.p3_merkle_core.proofs.Covered.KeptFacts.{covered_up_list, level_of}
+use Rattle.p3_merkle_verifier.specs.Inner.RestoredLevels.{tree_of, AreLayers, AreLeaves, IsCoveredAt, IsLayer}
 use Rattle.p3_merkle_verifier.specs.declared.openings.PrunedOpeningRef.{PrunedOpeningRef}
 use Rattle.p3_merkle_verifier.specs.declared.openings.RestorableOpening.{RestorableOpening}
+use Rattle.p3_merkle_verifier.proofs.LayerFacts.{leaves_are}
 use Rattle.p3_merkle_core.specs.Checks.{params}
 
--- none at first
-pub kept_none : {T W : Type 0} (f : Functions T W) (s : Shape) (t : ℕ) (p : PrunedOpening T W)
-    (levels : List (KeptLevel (List W))) → levels ≡ [] → AreKept f s t p 0 levels
-kept_none f s t p levels is = record { levels_are = rw is refl }
+-- the leaves alone
+pub layers_start : {T W : Type 0} (f : Functions T W) (s : Shape) (t : ℕ) (p : PrunedOpening T W)
+    (layers : List (CoveredLayer (List W))) (leaves : CoveredLayer (List W)) → layers ≡ leaves ∷ [] →
+    AreLeaves s p.indices leaves → AreLayers f s t p 0 layers
+layers_start f s t p layers leaves is at = rw is (record {
+  climb = record { count = refl; leaves = λ x. at; linked = λ l h. absurd (omega arith) };
+  top = λ x. leaves_are f s t p leaves at.coverage at.childless;
+  levels_are = refl;
+})
 
--- what a level shows
-abbrev shown_level : {X : Type 0} → KeptLevel X → List ℕ × ℕ × List X
-shown_level level = (level.parents.items, level.step, level.children.items)
+-- what a layer has
+abbrev shown_layer : {X : Type 0} → CoveredLayer X → List ℕ × ℕ × List X
+shown_layer layer = (layer.nodes.items, layer.step, layer.children.items)
 
 -- one layer more
-kept_next : {T W : Type 0} (f : Functions T W) (s : Shape) (t : ℕ) (p : PrunedOpening T W) (l : ℕ)
-    (old new : List (KeptLevel (List W))) (level : KeptLevel (List W)) (covered : CoveredNodes)
-    (children : List (List W)) → AreKept f s t p l old → IsLayer f s t p (suc l) covered children →
-    new ≡ old ++ level ∷ [] → level.step ≡ covered.step → level.parents.items ≡ covered.nodes.items →
-    level.children.items ≡ children → AreKept f s t p (suc l) new
-kept_next f s t p l old new level covered children k layer is a b c =
+pub layers_more : {T W : Type 0} (f : Functions T W) (s : Shape) (t : ℕ) (p : PrunedOpening T W) (l : ℕ)
+    (old new : List (CoveredLayer (List W))) (below above : CoveredLayer (List W)) → AreLayers f s t p l old →
+    below ≡ get_or old l below → IsLayer f s t p (suc l) above →
+    AreParentSlots above.step below.nodes.items above.nodes.items above.slots.items → new ≡ old ++ above ∷ [] →
+    AreLayers f s t p (l + 1) new
+layers_more {T} {W} f s t p l old new below above w is_below layer slots is =
+    let X = List W in
+    let count = w.climb.count in
+    let grown : length (old ++ above ∷ []) ≡ l + 1 + 1 = length-append old (above ∷ []) ∙ ap (λ (n : ℕ). n + 1) count in
+    let kept = λ (k : ℕ) (x : CoveredLayer X) (h : k < l + 1). get_or_append_left old (above ∷ []) x k (omega arith) in
+    let last : (x : CoveredLayer X) → get_or (old ++ above ∷ []) (l + 1) x ≡ above =
+    λ x. ap (λ (k : ℕ). get_or (old ++ above ∷ []) k x) (sym count) ∙ get_or-append_seam old above [] x in
     let z : 0 + l ≡ l = omega arith in
     let here = level_of s p.indices (value_of (params f s t) p) in
-    let last : shown_level level ≡ here l = λ i. (
-      (b ∙ layer.coverage.nodes_are) i,
-      (a ∙ layer.family.step_is) i,
-      (c ∙ layer.family.values_are) i,
+    let shown : shown_layer above ≡ here l = λ i. (
+      layer.coverage.nodes_are i,
+      layer.family.step_is i,
+      layer.family.values_are i,
     ) in
-    record {
-      levels_are = ap (map shown_level) is ∙ map-append shown_level old (level ∷ [])
-          ∙ rw (k.levels_are, last) (rw add-one at (sym (map-range_with_len_more here 0 l l z)));
-    }
-
-pub kept_at : {T W : Type 0} (f : Functions T W) (s : Shape) (t : ℕ) (p : PrunedOpening T W) (l : ℕ)
-    (old new : List (KeptLevel (List W))) (level : KeptLevel (List W)) (covered : CoveredNodes)
-    (children : List (List W)) → 0 < l → AreKept f s t p (l - 1) old → IsLayer f s t p l covered children →
-    new ≡ old ++ level ∷ [] → level.step ≡ covered.step → level.parents.items ≡ covered.nodes.items →
-    level.children.items ≡ children → AreKept f s t p l new
-kept_at f s t p zero old new level covered children some k layer is a b c = absurd (omega arith)
-kept_at f s t p (suc l) old new level covered children some k layer is a b c =
-    let back : suc l - 1 ≡ l = omega arith in
-    kept_next f s t p l old new level covered children (rw back at k) layer is a b c
-
--- the paths out of the levels of an opening are its restored ones
-pub paths_by_levels : {T W : Type 0} (f : Functions T W) (s : Shape) (t : ℕ) (restorable : RestorableOpening T (List W))
-    (opening : PrunedOpeningRef T (List W)) (levels : List (KeptLevel (List W))) (paths : List (ℕ × List (List W))) →
-    tree_of restorable ≡ s → restorable.cap_layer ≡ t → restorable.opening ≡ opening →
-    AreKept f (tree_of restorable) restorable.cap_layer (opened_by restorable) restorable.cap_layer levels →
-    paths ≡ paths_out_of (map shown_level levels) opening.indices.now →
-    paths ≡ restored_paths (params f s t) (pruned_in opening)
-paths_by_levels f s t restorable opening levels paths tree layer is kept out =
-    out ∙ ap (λ (o : PrunedOpeningRef _ _). paths_out_of (map shown_level levels) o.indices.now) (sym is)
-    ∙ paths_restored f (tree_of restorable) restorable.cap_layer (opened_by restorable) restorable.queried
-    (map shown_level levels) kept.levels_are
-    ∙ (λ i. restored_paths (params f (tree i) (layer i)) (pruned_in (is i)))
+    rw is (record {
+      climb = record {
+        count = grown;
+        leaves = λ x. rw (kept 0 x (omega arith)) (w.climb.leaves x);
+        linked = λ k h x. elim (cases_lt k l) [
+          | inl less ↦ rw (kept k x (omega arith), kept (k + 1) x (omega arith)) (w.climb.linked k (omega arith) x)
+          | inr rest ↦
+              let top : k ≡ l = omega arith in
+              let there : get_or old l x ≡ below = get_or_default old l x below (omega arith) ∙ sym is_below in
+              rw (top, kept l x (omega arith), there, last x) (record {
+                some = layer.wide (omega arith);
+                full = layer.family.full;
+                ascending = rw layer.coverage.nodes_are (covered_up_list s p.indices (suc l));
+                slots = slots;
+              })
+        ];
+      };
+      top = λ x. rw (last x, add-one) layer;
+      levels_are = ap (map shown_layer) (drop-append-le 1 old (above ∷ []) (omega arith))
+          ∙ map-append shown_layer (drop 1 old) (above ∷ [])
+          ∙ rw (w.levels_are, shown) (sym (map-range_with_len_more here 0 l l z));
+    })
 
 -- the leaves of an opening that restores are those of what is lent
 pub leaves_alike : {T W : Type 0} (s : Shape) (opening : PrunedOpeningRef T (List W))
-    (restorable : RestorableOpening T (List W)) (leaves : CoveredNodes) → tree_of restorable ≡ s →
+    (restorable : RestorableOpening T (List W)) (leaves : CoveredLayer (List W)) → tree_of restorable ≡ s →
     restorable.opening ≡ opening →
     IsCoveredAt (tree_of restorable) restorable.opening.indices.now 0 leaves → IsCoveredAt s opening.indices.now 0 leaves
 leaves_alike s opening restorable leaves tree is at =

@@ -9,10 +9,10 @@ use Rattle.p3_merkle_core.specs.Geometry.{Shape}
 use Rattle.p3_merkle_core.specs.Inner.Agreement.{opened_with}
 use Rattle.p3_merkle_core.specs.Nodes.{Functions}
 use Rattle.p3_merkle_core.specs.Pruning.{PrunedOpening}
-use Rattle.p3_merkle_core.specs.Refusals.{AnswersUnlessMemory, pruned_refusal}
+use Rattle.p3_merkle_core.specs.Refusals.{AnswersUnlessMemory, cap_refusal, pruned_refusal}
 use Rattle.p3_merkle_core.specs.declared.error.MerkleTreeError.{MerkleTreeError}
 use Rattle.p3_merkle_core.specs.declared.error.MerkleTreeError.TheVariants.{OutOfMemory}
-use Rattle.p3_merkle_verifier.specs.Inner.RestoredLevels.{cap_refusal_by, opened_by, pruned_in, tree_of}
+use Rattle.p3_merkle_verifier.specs.Inner.RestoredLevels.{opened_by, pruned_in, tree_of}
 use Rattle.p3_merkle_verifier.specs.declared.openings.PrunedOpeningRef.{PrunedOpeningRef}
 use Rattle.p3_merkle_verifier.specs.declared.openings.RestorableOpening.{RestorableOpening}
 
@@ -33,8 +33,15 @@ counted opening = opened_with opening.indices.now (row_sets opening.sets.now) (l
 
 module _ {T W : Type 0} (row_eq : T → T → Bool) (s : Shape) (t : ℕ) (opening : PrunedOpeningRef T (List W)) where
   -- what the digests are is no matter of form
-  form_counts : pruned_refusal row_eq s t (counted opening) ≡ pruned_refusal row_eq s t (pruned_in opening)
+  pub form_counts : pruned_refusal row_eq s t (counted opening) ≡ pruned_refusal row_eq s t (pruned_in opening)
   form_counts = rw (length-replicate {A = List ℕ} (length opening.sent.now) []) refl
+
+  pub refused_alike : {V : Type 0} (r : Result V MerkleTreeError) (e : MerkleTreeError) → IsErrAnd r (λ x. x ≡ e) →
+      (e ≡ OutOfMemory) ⊎ (pruned_refusal row_eq s t (counted opening) ≡ Some e) →
+      AnswersUnlessMemory r (pruned_refusal row_eq s t (pruned_in opening))
+  refused_alike r e is a =
+      handed_on r e _ is
+      (subst (λ (z : Option MerkleTreeError). (e ≡ OutOfMemory) ⊎ (z ≡ Some e)) form_counts a)
 
   -- what is refused for its form is refused whatever its digests are, and by each cap
   pub refused_by_form : {V : Type 0} (cap : Option MerkleTreeError) (r : Result V MerkleTreeError)
@@ -61,9 +68,9 @@ module _ {T W : Type 0} (row_eq : T → T → Bool) (s : Shape) (t : ℕ) (openi
 
 -- the cap refuses an opening as it refuses the one that restores
 pub cap_refusal_alike : {T W : Type 0} (digest_eq : W → W → Bool) (f : Functions T W) (s : Shape) (t : ℕ)
-    (roots : Option (List (List W))) (opening : PrunedOpeningRef T (List W)) (restorable : RestorableOpening T (List W)) →
+    (roots : List (List W)) (opening : PrunedOpeningRef T (List W)) (restorable : RestorableOpening T (List W)) →
     tree_of restorable ≡ s → restorable.cap_layer ≡ t → restorable.opening ≡ opening →
-    cap_refusal_by digest_eq (params f (tree_of restorable) restorable.cap_layer) roots (opened_by restorable)
-    ≡ cap_refusal_by digest_eq (params f s t) roots (pruned_in opening)
+    cap_refusal digest_eq (params f (tree_of restorable) restorable.cap_layer) roots (opened_by restorable)
+    ≡ cap_refusal digest_eq (params f s t) roots (pruned_in opening)
 cap_refusal_alike digest_eq f s t roots opening restorable tree layer is =
-    λ i. cap_refusal_by digest_eq (params f (tree i) (layer i)) roots (pruned_in (is i))
+    λ i. cap_refusal digest_eq (params f (tree i) (layer i)) roots (pruned_in (is i))

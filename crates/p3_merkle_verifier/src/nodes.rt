@@ -15,9 +15,9 @@ ghost use Rattle.p3_merkle_verifier.specs.Inner.RestoredLevels.{opened_by, tree_
 
 use crate::openings::{OpenedMatrix, RestorableOpening};
 use crate::path::Checker;
-use crate::pruned::CoveredNodes;
 use p3_merkle_core::geometry::exponent_of;
 use p3_merkle_core::group::padded_group;
+use p3_merkle_core::pruning::CoveredLayer;
 use p3_merkle_digests::batched::inject_row_digests;
 use p3_merkle_digests::rows::LayerRows;
 use p3_support::compress::PseudoCompressionFunction;
@@ -35,7 +35,7 @@ use std::marker::PhantomData;
 fn opened_matrices<'a, T, X>(
     alloc: Global,
     restorable: &'a RestorableOpening<'_, T, X>,
-    covered: &'a CoveredNodes,
+    covered: &'a CoveredLayer<X>,
 ) -> Result<Vec<OpenedMatrix<'a, T>>, AllocError>
     requires { All (λ k. k < length restorable.now.opening.indices.now) covered.now.queries.items }
     ensures heights { let queries = covered.now.queries.items in
@@ -107,7 +107,7 @@ impl<
         &self,
         alloc: Global,
         restorable: &RestorableOpening<'_, P::Value, [PW::Value; D]>,
-        covered: &CoveredNodes,
+        covered: &CoveredLayer<[PW::Value; D]>,
     ) -> Result<Vec<[PW::Value; D]>, AllocError>
         requires { All (λ k. k < length restorable.now.opening.indices.now) covered.now.queries.items }
         ensures count { IfOk result (λ digests. length digests.items ≡ length covered.now.queries.items) }
@@ -178,14 +178,12 @@ impl<
         alloc: Global,
         restorable: &RestorableOpening<'_, P::Value, [PW::Value; D]>,
         layer: usize,
-        covered: &CoveredNodes,
-        children: &[[PW::Value; D]],
+        covered: &CoveredLayer<[PW::Value; D]>,
     ) -> Result<Vec<[PW::Value; D]>, AllocError>
         requires arity { restorable.now.steps.now.arity ≡ N }
         requires in_tree { layer ≤ restorable.now.cap_layer }
         requires covered { let f = functions_by H.hash C.compression (replicate D PW.default_value) self.now in
-            IsLayer f (tree_of restorable.now) restorable.now.cap_layer (opened_by restorable.now) layer covered.now
-            children.now }
+            IsLayer f (tree_of restorable.now) restorable.now.cap_layer (opened_by restorable.now) layer covered.now }
         ensures count { IfOk result (λ digests. length digests.items ≡ length covered.now.nodes.items) }
         ensures restored { let f = functions_by H.hash C.compression (replicate D PW.default_value) self.now in
             IfOk result (λ digests. AreRestored f (tree_of restorable.now) restorable.now.cap_layer
@@ -194,7 +192,7 @@ impl<
         if layer == 0 {
             return self.row_digests(alloc, restorable, covered);
         }
-        let mut digests = self.group_digests(alloc, children, covered.step)?;
+        let mut digests = self.group_digests(alloc, &covered.children, covered.step)?;
         if !covered.has_rows {
             return Ok(digests);
         }

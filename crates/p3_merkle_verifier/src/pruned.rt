@@ -1,86 +1,52 @@
 //! Pruned openings: their check, and the path of each query, restored. Both walk up the covered nodes layer by layer.
 
-ghost use Rattle.std.specs.Prelude.{◌≡◌, suc, ◌/◌, ◌<◌, ◌≤◌, ◌==◌, ◌⊎◌, ℕ, List, All, IfOk, IsTrue, MatchResult, None};
-ghost use Rattle.std.specs.Prelude.{Some, length, map, replicate, zip};
+ghost use Rattle.std.specs.Prelude.{◌≡◌, ◌/◌, ◌<◌, ◌==◌, ℕ, All, IfOk, length, map, replicate, zip};
 ghost use Rattle.std.specs.List.{dedup, list_all};
-ghost use Rattle.std.specs.Option.{option_copied};
 ghost use Rattle.p3_support.specs.Shown.{row_sets};
 ghost use Rattle.p3_merkle_core.specs.Checks.{params};
 ghost use Rattle.p3_merkle_core.specs.Geometry.{shape_of};
 ghost use Rattle.p3_merkle_core.specs.Inner.Agreement.{opened_with};
+ghost use Rattle.p3_merkle_core.specs.Inner.Children.{AreParentSlots};
 ghost use Rattle.p3_merkle_core.specs.Nodes.{functions_of, Functions};
 ghost use Rattle.p3_merkle_core.specs.Pruning.{restored_paths};
-ghost use Rattle.p3_merkle_core.specs.Refusals.{is_entry as is_entry_of, pruned_refusal};
+ghost use Rattle.p3_merkle_core.specs.Refusals.{cap_refusal, is_entry as is_entry_of, pruned_refusal};
 ghost use Rattle.p3_merkle_core.specs.Refusals.{pruned_refusal_under, AnswersUnlessMemory};
 ghost use Rattle.p3_merkle_core.specs.Views.{shown_paths};
-ghost use Rattle.p3_merkle_core.specs.declared.error.MerkleTreeError.TheVariants.{OutOfMemory};
 ghost use Rattle.p3_merkle_verifier.specs.Inner.Checks.{functions_by};
 ghost use Rattle.p3_merkle_verifier.specs.Inner.Paths.{CanCheck};
-ghost use Rattle.p3_merkle_verifier.specs.Inner.RestoredLevels.{cap_refusal_by, opened_by, pruned_in};
-ghost use Rattle.p3_merkle_verifier.specs.Inner.RestoredLevels.{pruned_refusal_by, tree_of, AreKept};
-ghost use Rattle.p3_merkle_verifier.specs.Inner.RestoredLevels.{IsCoveredAt, IsLayer, IsLayerAbove};
+ghost use Rattle.p3_merkle_verifier.specs.Inner.RestoredLevels.{opened_by, pruned_in, tree_of, AreLayers, AreLeaves};
+ghost use Rattle.p3_merkle_verifier.specs.Inner.RestoredLevels.{IsClimb, IsCoveredAt, IsLayer, IsLayerAbove};
 
 use crate::openings::{PrunedOpeningRef, RestorableOpening};
 use crate::path::{Checker, is_entry};
 use p3_merkle_core::agreement::check_pruned;
 use p3_merkle_core::error::MerkleTreeError;
-use p3_merkle_core::pruning::{AuthPath, KeptLevel, children_of, parent_of, paths_out_of};
+use p3_merkle_core::pruning::{AuthPath, CoveredLayer, children_of, parent_of, paths_out_of};
 use p3_merkle_core::steps::{StepUp, Steps};
 use p3_support::compress::PseudoCompressionFunction;
 use p3_support::hasher::CryptographicHasher;
 use p3_support::packed::PackedValue;
 use std::alloc::{AllocError, Global};
 
-/// The covered nodes of a layer.
-#[derive(Debug, Drop)]
-pub struct CoveredNodes {
-    /// The nodes, ascending.
-    pub nodes: Vec<usize>,
-    /// For each node, the place of a query under it.
-    pub queries: Vec<usize>,
-    /// The layer's exponent.
-    pub exponent: usize,
-    /// How many of the digests that were sent belong to the layers below.
-    pub used: usize,
-    /// How many children a node has: 0 at the leaves.
-    pub step: usize,
-    /// Whether matrices belong to the layer.
-    pub has_rows: bool,
-}
-
-/// Tells that covered leaves are layer 0, whatever their children are, since leaves have none. It does nothing at run
-/// time.
-fn lemma_leaves<T, W, const D: usize>(
-    restorable: &RestorableOpening<'_, T, [W; D]>,
-    leaves: &CoveredNodes,
-)
-    requires leaves { IsCoveredAt (tree_of restorable.now) restorable.now.opening.indices.now 0 leaves.now }
-    requires childless { leaves.now.step ≡ 0 }
-    ensures { (f : Functions T W) (l : ℕ) (children : List (List W)) → l ≡ 0 →
-        IsLayer f (tree_of restorable.now) restorable.now.cap_layer (opened_by restorable.now) l leaves.now children }
-{}
-
-/// The parents of some nodes, each once, and a query under each: that of its first child. The nodes ascend, and
-/// `queries` has that of each. A parent has `step` children, at least one.
-///
-/// # Errors
-///
-/// `AllocError` if memory runs out.
+/// The parents of some nodes, each once, a query under each, and for each node the position of its parent. The nodes
+/// ascend, and `queries` has a query under each; a parent has that of its first child.
 fn parents_of(
     alloc: Global,
     nodes: &[usize],
     queries: &[usize],
     step: usize,
-) -> Result<(Vec<usize>, Vec<usize>), AllocError>
+) -> Result<(Vec<usize>, Vec<usize>, Vec<usize>), AllocError>
     requires step { 0 < step }
     requires pairs { length queries.now ≡ length nodes.now }
     ensures parents { IfOk result (λ above. above.0.items ≡ dedup ◌==◌ (map (λ j. j / step) nodes.now)) }
     ensures queries { (node : ℕ → ℕ) → nodes.now ≡ map node queries.now →
         IfOk result (λ above. map (λ k. node k / step) above.1.items ≡ dedup ◌==◌ (map (λ j. j / step) nodes.now)) }
     ensures among { (n : ℕ) → All (λ k. k < n) queries.now → IfOk result (λ above. All (λ k. k < n) above.1.items) }
+    ensures slots { IfOk result (λ above. AreParentSlots step nodes.now above.0.items above.2.items) }
 {
     let mut parents = Vec::with_capacity(alloc, nodes.len())?;
     let mut above = Vec::with_capacity(alloc, nodes.len())?;
+    let mut slots = Vec::with_capacity(alloc, nodes.len())?;
     let mut previous = 0;
     for slot in 0..nodes.len() {
         let parent = parent_of(nodes[slot], step);
@@ -88,22 +54,19 @@ fn parents_of(
             parents.push_reserved(parent);
             above.push_reserved(queries[slot]);
         }
+        slots.push_reserved(parents.len() - 1);
         previous = parent;
     }
-    Ok((parents, above))
+    Ok((parents, above, slots))
 }
 
 /// A pruned opening that restores, under a cap that is a layer of the tree, and its covered leaves.
-///
-/// # Errors
-///
-/// The error of [`check_pruned`].
 fn restorable_of<'a, P: PackedValue, X>(
     alloc: Global,
     steps: &'a Steps<'a>,
     cap_layer: usize,
     opening: PrunedOpeningRef<'a, P::Value, X>,
-) -> Result<(RestorableOpening<'a, P::Value, X>, CoveredNodes), MerkleTreeError>
+) -> Result<(RestorableOpening<'a, P::Value, X>, CoveredLayer<X>), MerkleTreeError>
     requires { CanCheck (shape_of steps.now.arity steps.now.dimensions.now) cap_layer }
     ensures answer { let s = shape_of steps.now.arity steps.now.dimensions.now in
         let p = opened_with opening.entry.indices.now (row_sets opening.entry.sets.now)
@@ -112,8 +75,7 @@ fn restorable_of<'a, P: PackedValue, X>(
     ensures steps { IfOk result (λ made. made.0.steps.now ≡ steps.now) }
     ensures layer { IfOk result (λ made. made.0.cap_layer ≡ cap_layer) }
     ensures opening { IfOk result (λ made. made.0.opening ≡ opening.entry) }
-    ensures leaves { IfOk result (λ made. IsCoveredAt (tree_of made.0) made.0.opening.indices.now 0 made.1) }
-    ensures childless { IfOk result (λ made. made.1.step ≡ 0) }
+    ensures leaves { IfOk result (λ made. AreLeaves (tree_of made.0) made.0.opening.indices.now made.1) }
 {
     let PrunedOpeningRef {
         indices,
@@ -126,35 +88,33 @@ fn restorable_of<'a, P: PackedValue, X>(
         cap_layer,
         opening,
     };
-    let leaves = CoveredNodes {
+    let leaves = CoveredLayer {
         nodes: queried.indices,
         queries: queried.first_queries,
+        slots: queried.slots,
         exponent: steps.exponent,
         used: 0,
         step: 0,
         has_rows: true,
+        children: Vec::new(alloc),
     };
     Ok((restorable, leaves))
 }
 
-/// The covered nodes of the layer above `level`, which is below the cap's layer, and the digests of their children,
-/// parent by parent. A covered child has its digest in `digests`; each other child has the next digest that was sent.
-///
-/// # Errors
-///
-/// `AllocError` if memory runs out.
+/// The layer above `level`, which is below the cap's layer. A covered child has its digest in `digests`; each other
+/// child has the next digest of the proof.
 fn layer_above<T, X: Copy>(
     alloc: Global,
     restorable: &RestorableOpening<'_, T, X>,
     level: usize,
-    below: &CoveredNodes,
+    below: &CoveredLayer<X>,
     digests: &[X],
-) -> Result<(CoveredNodes, Vec<X>), AllocError>
+) -> Result<CoveredLayer<X>, AllocError>
     requires level { level < restorable.now.cap_layer }
     requires coverage { IsCoveredAt (tree_of restorable.now) restorable.now.opening.indices.now level below.now }
     requires digests { length digests.now ≡ length below.now.nodes.items }
-    ensures { IfOk result (λ made. IsLayerAbove (tree_of restorable.now) restorable.now.opening.indices.now level
-        below.now digests.now restorable.now.opening.sent.now made.0 made.1.items) }
+    ensures { IfOk result (λ above. IsLayerAbove (tree_of restorable.now) restorable.now.opening.indices.now level
+        below.now digests.now restorable.now.opening.sent.now above) }
 {
     let steps = restorable.steps;
     let StepUp {
@@ -162,19 +122,35 @@ fn layer_above<T, X: Copy>(
         has_rows,
         exponent,
     } = steps.up(steps.arity, level, below.exponent);
-    let (nodes, queries) = parents_of(alloc, &below.nodes, &below.queries, step)?;
+    let (nodes, queries, slots) = parents_of(alloc, &below.nodes, &below.queries, step)?;
     let left = &restorable.opening.sent[below.used..];
     let children = children_of(alloc, &below.nodes, digests, &nodes, step, left)?;
     let used = below.used + (children.len() - below.nodes.len());
-    let above = CoveredNodes {
+    Ok(CoveredLayer {
         nodes,
         queries,
+        slots,
         exponent,
         used,
         step,
         has_rows,
-    };
-    Ok((above, children))
+        children,
+    })
+}
+
+/// The path of each query of an opening, out of its layers.
+fn paths_of<T, W: Copy, const D: usize>(
+    alloc: Global,
+    restorable: &RestorableOpening<'_, T, [W; D]>,
+    layers: &[CoveredLayer<[W; D]>],
+) -> Result<Vec<AuthPath<[W; D]>>, AllocError>
+    requires { IsClimb (tree_of restorable.now) restorable.now.opening.indices.now restorable.now.cap_layer layers.now }
+    ensures { (f : Functions T W) → let c = params f (tree_of restorable.now) restorable.now.cap_layer in
+        AreLayers f c.shape c.layer (opened_by restorable.now) c.layer layers.now →
+        IfOk result (λ paths. shown_paths paths.items ≡ restored_paths c (opened_by restorable.now)) }
+{
+    let siblings = restorable.steps.siblings_below(restorable.cap_layer);
+    paths_out_of(alloc, layers, restorable.opening.indices, siblings)
 }
 
 /// Whether the roots have each node's digest at its place. `digests[k]` is the digest of `nodes[k]`.
@@ -196,126 +172,76 @@ impl<
     const N: usize,
     const D: usize,
 > Checker<'a, P, PW, H, C, [[PW::Value; D]; N]> {
-    /// Compares the digests of the covered nodes of the cap's layer with the roots, if there are any. They are not
-    /// computed otherwise.
-    ///
-    /// # Errors
-    ///
-    /// `CapMismatch` where some root is another or is not there; `OutOfMemory` if memory runs out.
+    /// Compares the digests of the covered nodes of the cap's layer with the roots.
     fn check_roots(
         &self,
         alloc: Global,
         restorable: &RestorableOpening<'_, P::Value, [PW::Value; D]>,
-        covered: &CoveredNodes,
-        children: &[[PW::Value; D]],
-        roots: Option<&[[PW::Value; D]]>,
+        covered: &CoveredLayer<[PW::Value; D]>,
+        roots: &[[PW::Value; D]],
     ) -> Result<(), MerkleTreeError>
         requires arity { restorable.now.steps.now.arity ≡ N }
         requires covered { let f = functions_by H.hash C.compression (replicate D PW.default_value) self.now in
             IsLayer f (tree_of restorable.now) restorable.now.cap_layer (opened_by restorable.now)
-            restorable.now.cap_layer covered.now children.now }
+            restorable.now.cap_layer covered.now }
         ensures { let f = functions_by H.hash C.compression (replicate D PW.default_value) self.now in
             let c = params f (tree_of restorable.now) restorable.now.cap_layer in
-            AnswersUnlessMemory result
-            (cap_refusal_by PW.Value.eq c (option_copied roots.entry) (opened_by restorable.now)) }
+            AnswersUnlessMemory result (cap_refusal PW.Value.eq c roots.now (opened_by restorable.now)) }
     {
-        let Some(roots) = roots else {
-            return Ok(());
-        };
-        let layer = restorable.cap_layer;
-        let digests = self.node_digests(alloc, restorable, layer, covered, children)?;
+        let digests = self.node_digests(alloc, restorable, restorable.cap_layer, covered)?;
         if !are_entries(roots, &covered.nodes, &digests) {
             return Err(MerkleTreeError::CapMismatch);
         }
         Ok(())
     }
 
-    /// The covered nodes of the layer above the leaves, which is at most the cap's, and the digests of their children.
-    ///
-    /// # Errors
-    ///
-    /// `AllocError` if memory runs out.
-    fn above_leaves(
+    /// The cap's layer of a pruned opening, reached from the covered leaves. No other layer is kept.
+    fn top_layer(
         &self,
         alloc: Global,
         restorable: &RestorableOpening<'_, P::Value, [PW::Value; D]>,
-        leaves: &CoveredNodes,
-    ) -> Result<(CoveredNodes, Vec<[PW::Value; D]>), AllocError>
+        leaves: CoveredLayer<[PW::Value; D]>,
+    ) -> Result<CoveredLayer<[PW::Value; D]>, AllocError>
         requires arity { restorable.now.steps.now.arity ≡ N }
-        requires levels { 0 < restorable.now.cap_layer }
-        requires leaves { IsCoveredAt (tree_of restorable.now) restorable.now.opening.indices.now 0 leaves.now }
-        requires childless { leaves.now.step ≡ 0 }
+        requires leaves { AreLeaves (tree_of restorable.now) restorable.now.opening.indices.now leaves }
         ensures { let f = functions_by H.hash C.compression (replicate D PW.default_value) self.now in
-            IfOk result (λ above. IsLayer f (tree_of restorable.now) restorable.now.cap_layer
-            (opened_by restorable.now) 1 above.0 above.1.items) }
+            let cap_layer = restorable.now.cap_layer in
+            IfOk result (λ top. IsLayer f (tree_of restorable.now) cap_layer (opened_by restorable.now) cap_layer top) }
     {
-        lemma_leaves::<P::Value, PW::Value, D>(restorable, leaves);
-        let digests = self.node_digests(alloc, restorable, 0, leaves, &[])?;
-        layer_above(alloc, restorable, 0, leaves, &digests)
+        let mut layer = leaves;
+        for level in 0..restorable.cap_layer {
+            let digests = self.node_digests(alloc, restorable, level, &layer)?;
+            // The children are freed before those of the next layer are listed.
+            layer.children = Vec::new(alloc);
+            layer = layer_above(alloc, restorable, level, &layer, &digests)?;
+        }
+        Ok(layer)
     }
 
-    /// Restores the digests of the covered nodes layer by layer, from the covered leaves up to the cap, out of the rows
-    /// and the digests that were sent. If there are roots, they are compared with the digests of the cap's layer, which
-    /// are not computed otherwise. Returns the levels below the cap if they are kept, else no levels.
-    ///
-    /// # Errors
-    ///
-    /// `CapMismatch` where some root is another or is not there; `OutOfMemory` if memory runs out.
-    fn restored_levels(
+    /// The layers of a pruned opening, from the covered leaves up to the cap's layer, with the digests of the covered
+    /// nodes' children: each is computed from the rows and the digests of the proof, or is one of the latter.
+    fn restored_layers(
         &self,
         alloc: Global,
         restorable: &RestorableOpening<'_, P::Value, [PW::Value; D]>,
-        leaves: &CoveredNodes,
-        roots: Option<&[[PW::Value; D]]>,
-        keeps: bool,
-    ) -> Result<Vec<KeptLevel<[PW::Value; D]>>, MerkleTreeError>
+        leaves: CoveredLayer<[PW::Value; D]>,
+    ) -> Result<Vec<CoveredLayer<[PW::Value; D]>>, AllocError>
         requires arity { restorable.now.steps.now.arity ≡ N }
-        requires leaves { IsCoveredAt (tree_of restorable.now) restorable.now.opening.indices.now 0 leaves.now }
-        requires childless { leaves.now.step ≡ 0 }
-        ensures answer { let f = functions_by H.hash C.compression (replicate D PW.default_value) self.now in
-            let c = params f (tree_of restorable.now) restorable.now.cap_layer in
-            AnswersUnlessMemory result
-            (cap_refusal_by PW.Value.eq c (option_copied roots.entry) (opened_by restorable.now)) }
-        ensures kept { let f = functions_by H.hash C.compression (replicate D PW.default_value) self.now in
+        requires leaves { AreLeaves (tree_of restorable.now) restorable.now.opening.indices.now leaves }
+        ensures { let f = functions_by H.hash C.compression (replicate D PW.default_value) self.now in
             let cap_layer = restorable.now.cap_layer in
-            IsTrue keeps → IfOk result (λ levels. AreKept f (tree_of restorable.now) cap_layer
-            (opened_by restorable.now) cap_layer levels.items) }
+            IfOk result (λ layers. AreLayers f (tree_of restorable.now) cap_layer (opened_by restorable.now) cap_layer
+            layers.items) }
     {
-        if restorable.cap_layer == 0 {
-            lemma_leaves::<P::Value, PW::Value, D>(restorable, leaves);
-            self.check_roots(alloc, restorable, leaves, &[], roots)?;
-            return Ok(Vec::new(alloc));
+        let mut layers = Vec::with_capacity(alloc, restorable.cap_layer)?;
+        layers.push(leaves)?;
+        for level in 0..restorable.cap_layer {
+            let below = &layers[level];
+            let digests = self.node_digests(alloc, restorable, level, below)?;
+            let above = layer_above(alloc, restorable, level, below, &digests)?;
+            layers.push(above)?;
         }
-        let num_kept = if keeps { restorable.cap_layer } else { 0 };
-        let mut levels = Vec::with_capacity(alloc, num_kept)?;
-        let (mut covered, mut children) = self.above_leaves(alloc, restorable, leaves)?;
-        let mut layer = 1;
-        while layer < restorable.cap_layer {
-            let digests = self.node_digests(alloc, restorable, layer, &covered, &children)?;
-            // Children that are not kept are let go before those of the next layer are listed.
-            if !keeps {
-                children = Vec::new(alloc);
-            }
-            let above = layer_above(alloc, restorable, layer, &covered, &digests)?;
-            if keeps {
-                levels.push(KeptLevel {
-                    parents: covered.nodes,
-                    step: covered.step,
-                    children,
-                })?;
-            }
-            (covered, children) = above;
-            layer += 1;
-        }
-        self.check_roots(alloc, restorable, &covered, &children, roots)?;
-        if keeps {
-            levels.push(KeptLevel {
-                parents: covered.nodes,
-                step: covered.step,
-                children,
-            })?;
-        }
-        Ok(levels)
+        Ok(layers)
     }
 
     /// Checks a pruned opening against the roots of a cap: checks its form, computes the digest of each covered node of
@@ -345,77 +271,68 @@ impl<
         let (restorable, leaves) = restorable_of::<P, [PW::Value; D]>(
             alloc, steps, cap_layer, opening,
         )?;
-        self.restored_levels(alloc, &restorable, &leaves, Some(roots), false)?;
-        Ok(())
+        let top = self.top_layer(alloc, &restorable, leaves)?;
+        self.check_roots(alloc, &restorable, &top, roots)
     }
 
-    /// The covered leaves of a pruned opening, and the path of each query up to the cap's layer, in query order, as
-    /// [`restored_paths`](Self::restored_paths) restores it.
-    ///
-    /// `N` is a power of two from 2 to 2^62 and the arity of `steps`; the cap's layer is at most the number of levels.
-    ///
-    /// # Errors
-    ///
-    /// The error of `check_pruned`; else `CapMismatch` where a root is another, or is not there. `OutOfMemory` may come
-    /// at any time.
-    pub(crate) fn restored_queries(
+    /// The covered leaves of a pruned opening that is checked as [`check_pruned_opening`](Self::check_pruned_opening)
+    /// does, and the path of each query, as [`restored_paths`](Self::restored_paths) restores it.
+    pub(crate) fn checked_paths(
         &self,
         alloc: Global,
-        roots: Option<&[[PW::Value; D]]>,
+        roots: &[[PW::Value; D]],
         steps: &Steps<'_>,
         cap_layer: usize,
         opening: PrunedOpeningRef<'_, P::Value, [PW::Value; D]>,
-    ) -> Result<(CoveredNodes, Vec<AuthPath<[PW::Value; D]>>), MerkleTreeError>
+    ) -> Result<(CoveredLayer<[PW::Value; D]>, Vec<AuthPath<[PW::Value; D]>>), MerkleTreeError>
         requires arity { steps.now.arity ≡ N }
         requires check { CanCheck (shape_of steps.now.arity steps.now.dimensions.now) cap_layer }
         ensures answer { let f = functions_by H.hash C.compression (replicate D PW.default_value) self.now in
             let c = params f (shape_of steps.now.arity steps.now.dimensions.now) cap_layer in
             AnswersUnlessMemory result
-            (pruned_refusal_by P.Value.eq PW.Value.eq c (option_copied roots.entry) (pruned_in opening.entry)) }
+            (pruned_refusal_under P.Value.eq PW.Value.eq c roots.now (pruned_in opening.entry)) }
         ensures paths { let f = functions_by H.hash C.compression (replicate D PW.default_value) self.now in
             let c = params f (shape_of steps.now.arity steps.now.dimensions.now) cap_layer in
             IfOk result (λ made. shown_paths made.1.items ≡ restored_paths c (pruned_in opening.entry)) }
         ensures leaves { let s = shape_of steps.now.arity steps.now.dimensions.now in
             IfOk result (λ made. IsCoveredAt s opening.entry.indices.now 0 made.0) }
     {
-        let indices = opening.indices;
         let (restorable, leaves) = restorable_of::<P, [PW::Value; D]>(
             alloc, steps, cap_layer, opening,
         )?;
-        let levels = self.restored_levels(alloc, &restorable, &leaves, roots, true)?;
-        let paths = paths_out_of(alloc, &levels, indices)?;
-        Ok((leaves, paths))
+        let mut layers = self.restored_layers(alloc, &restorable, leaves)?;
+        self.check_roots(alloc, &restorable, &layers[restorable.cap_layer], roots)?;
+        let paths = paths_of(alloc, &restorable, &layers)?;
+        Ok((layers.swap_remove(0), paths))
     }
 
     /// Restores the path of each query up to the cap's layer, in query order, from a pruned opening: each sibling is a
-    /// digest that was sent, or is computed from the rows and these digests. If there are roots, the opening is checked
-    /// against them; else no cap is compared.
+    /// digest of the proof, or is computed from the rows and these digests. No cap is compared.
     ///
     /// `N` is a power of two from 2 to 2^62 and the arity of `steps`; the cap's layer is at most the number of levels.
     ///
     /// # Errors
     ///
-    /// The error of `check_pruned`; else `CapMismatch` where a root is another, or is not there. `OutOfMemory` may come
-    /// at any time.
+    /// The error of `check_pruned`. `OutOfMemory` may come at any time.
     pub fn restored_paths(
         &self,
         alloc: Global,
-        roots: Option<&[[PW::Value; D]]>,
         steps: &Steps<'_>,
         cap_layer: usize,
         opening: PrunedOpeningRef<'_, P::Value, [PW::Value; D]>,
     ) -> Result<Vec<AuthPath<[PW::Value; D]>>, MerkleTreeError>
         requires arity { steps.now.arity ≡ N }
         requires check { CanCheck (shape_of steps.now.arity steps.now.dimensions.now) cap_layer }
-        ensures answer { let f = functions_by H.hash C.compression (replicate D PW.default_value) self.now in
-            let c = params f (shape_of steps.now.arity steps.now.dimensions.now) cap_layer in
-            AnswersUnlessMemory result
-            (pruned_refusal_by P.Value.eq PW.Value.eq c (option_copied roots.entry) (pruned_in opening.entry)) }
+        ensures answer { AnswersUnlessMemory result (pruned_refusal P.Value.eq
+            (shape_of steps.now.arity steps.now.dimensions.now) cap_layer (pruned_in opening.entry)) }
         ensures paths { let f = functions_by H.hash C.compression (replicate D PW.default_value) self.now in
             let c = params f (shape_of steps.now.arity steps.now.dimensions.now) cap_layer in
             IfOk result (λ paths. shown_paths paths.items ≡ restored_paths c (pruned_in opening.entry)) }
     {
-        let (_, paths) = self.restored_queries(alloc, roots, steps, cap_layer, opening)?;
-        Ok(paths)
+        let (restorable, leaves) = restorable_of::<P, [PW::Value; D]>(
+            alloc, steps, cap_layer, opening,
+        )?;
+        let layers = self.restored_layers(alloc, &restorable, leaves)?;
+        Ok(paths_of(alloc, &restorable, &layers)?)
     }
 }

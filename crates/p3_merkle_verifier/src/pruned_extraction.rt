@@ -17,10 +17,9 @@ ghost use Rattle.p3_merkle_verifier.specs.Inner.RestoredLevels.{pruned_in};
 
 use crate::openings::{OpeningRef, PrunedOpeningRef};
 use crate::path::Checker;
-use crate::pruned::CoveredNodes;
 use p3_merkle_core::collision::Collision;
 use p3_merkle_core::error::MerkleTreeError;
-use p3_merkle_core::pruning::AuthPath;
+use p3_merkle_core::pruning::{AuthPath, CoveredLayer};
 use p3_merkle_core::steps::Steps;
 use p3_support::compress::PseudoCompressionFunction;
 use p3_support::hasher::CryptographicHasher;
@@ -35,7 +34,7 @@ struct RestoredQueries<'a, T, X> {
     /// The path of each, with its index.
     pub paths: Vec<AuthPath<X>>,
     /// The leaves of all queries, and a query of each.
-    pub leaves: CoveredNodes,
+    pub leaves: CoveredLayer<X>,
 }
 
 impl<'a, T, W, const D: usize> RestoredQueries<'a, T, [W; D]> {
@@ -114,7 +113,7 @@ impl<
             IfOk result (λ queries. AreQueriesOf f s cap_layer (pruned_in opening.entry) queries) }
     {
         let sets = opening.sets;
-        let (leaves, paths) = self.restored_queries(alloc, Some(roots), steps, cap_layer, opening)?;
+        let (leaves, paths) = self.checked_paths(alloc, roots, steps, cap_layer, opening)?;
         Ok(RestoredQueries {
             sets,
             paths,

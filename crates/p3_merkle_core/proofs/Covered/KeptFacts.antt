@@ -1,30 +1,27 @@
 -- The paths that are read out of a walk's kept levels.
-use Rattle.std.proofs.Common.{◌≡◌, ℕ, zero, suc, ◌+◌, ◌-◌, ◌*◌, ◌/◌, ◌%◌, ◌<◌, ◌≤◌, true, false, eqb, nat_lt, List, []}
-use Rattle.std.proofs.Common.{◌∷◌, ◌⊎◌}
+use Rattle.std.proofs.Common.{◌≡◌, ℕ, zero, suc, ◌+◌, ◌-◌, ◌*◌, ◌/◌, ◌%◌, ◌<◌, ◌≤◌, true, eqb, nat_lt, List, []}
+use Rattle.std.proofs.Common.{◌∷◌}
 use Rattle.std.proofs.Common.{◌++◌, map, refl, ap, sym, ◌∙◌, arith, add-one, inl, inr, length, filter, get_or, take}
-use Rattle.std.proofs.Common.{drop, remove, length-drop, eq-eqb, Err, append_assoc, append-nil, drop-cons, fold}
-use Rattle.std.specs.List.{enumerate_from, flat_map, range_with_len, take-map, drop-map, sum_by}
-use Rattle.std.specs.List.Sorted.{IsStrictlyIncreasing, IsBinarySearchResult}
-use Rattle.std.specs.Ordering.{nat_cmp}
-use Rattle.std.proofs.lemmas.Bool.{cases_eq, cases_lt, eqb-true, or_cases, or_left, or_right, true≢false}
-use Rattle.std.proofs.lemmas.Bool.{false_from_ne_true, lt-ltb, le-ltb}
+use Rattle.std.proofs.Common.{drop, remove, subst, length-drop, eq-eqb, append_assoc, append-nil, drop-cons, fold}
+use Rattle.std.specs.List.{enumerate_from, flat_map, range_with_len, take-map, drop-map}
+use Rattle.std.specs.List.Sorted.{IsStrictlyIncreasing}
+use Rattle.std.proofs.lemmas.Bool.{eqb-true, or_cases, or_left, or_right, true≢false}
+use Rattle.std.proofs.lemmas.Bool.{lt-ltb, le-ltb}
 use Rattle.std.proofs.lemmas.List.{map-append, drop_all, take-append-le, take_all}
 use Rattle.std.proofs.lemmas.List.{take_more, get_or-map, get_or_default, length-map}
-use Rattle.std.proofs.lemmas.List.{map_more, get_or-take, get_or-drop, length-take-le}
-use Rattle.std.proofs.lemmas.List.Edits.{get_or-remove_above, get_or-remove_below, length-remove}
+use Rattle.std.proofs.lemmas.List.{map_more, get_or-drop, length-take-le}
 use Rattle.std.proofs.lemmas.List.Folds.{Any-from_list_any}
 use Rattle.std.proofs.lemmas.List.FromFn.{length-range_with_len, map-range_with_len_more, take-map-range_with_len}
-use Rattle.std.proofs.lemmas.List.Sums.{fold-append, sum_by-append}
+use Rattle.std.proofs.lemmas.List.Sums.{fold-append}
 use Rattle.std.proofs.lemmas.Simd.{map-map}
 use Rattle.std.proofs.Math.Nat.{div-div-eq-div-mul, mul-le-mul_left, mul-suc}
-use Rattle.std.proofs.lemmas.List.Kept.{AllPairs-from_increasing}
-use Rattle.std.proofs.lemmas.List.Sorted.{searched}
 use Rattle.std.proofs.Math.Seq.{drop-append-add}
 use Rattle.p3_merkle_core.specs.Inner.Children.{children_at, children_under, node_over, path_out_of, paths_out_of}
-use Rattle.p3_merkle_core.specs.Inner.Children.{place_among, siblings_out_of}
+use Rattle.p3_merkle_core.specs.Inner.Children.{levels_in, place_among, siblings_out_of, AreLinked, IsLinked}
 use Rattle.p3_support.specs.Lists.{is_among}
 use Rattle.p3_merkle_core.specs.Views.{shown_path, shown_paths}
 use Rattle.p3_merkle_core.specs.declared.pruning.AuthPath.{AuthPath}
+use Rattle.p3_merkle_core.specs.declared.pruning.CoveredLayer.{CoveredLayer}
 use Rattle.p3_merkle_core.specs.Geometry.{Shape, step, ancestor, layer_len, leaves_under, schedule_below}
 use Rattle.p3_merkle_core.specs.Nodes.{Functions}
 use Rattle.p3_merkle_core.specs.Pruning.{CanQuery, PrunedOpening, is_covered, value_of, restored_path}
@@ -68,112 +65,63 @@ found_at xs x h =
     let q = Any-from_list_any (λ y. eqb y x) xs h in
     (q.0, q.2, get_or_default xs q.0 0 q.1 q.2 ∙ q.3 ∙ eqb-true q.1 x q.4)
 
--- a binary search does not miss what is listed
-not_missed : (xs : List ℕ) (x i : ℕ) → IsStrictlyIncreasing xs → IsBinarySearchResult (λ y. nat_cmp y x) xs (Err i) →
-    is_among xs x ≡ true → ⊥
-not_missed xs x i up miss h =
-    let order = AllPairs-from_increasing xs up in
-    let said = searched xs x (Err i) miss
-    (λ i j le k. elim (cases_eq i j) [
-      | inl e ↦ rw e (omega arith)
-      | inr ne ↦ let q = order i j 0 (omega arith) k in
-          omega arith
-    ]) in
-    let at = found_at xs x h in
-    let is = at.2 in
-    elim (cases_lt at.0 i) [
-      | inl l ↦ absurd (omega (arith, said.1 at.0 l))
-      | inr g ↦ absurd (omega (arith, said.2 at.0 g at.1))
-    ]
-
 -- ---- one group
-
--- the values so far are the old ones and the first k siblings, of place p, of a group
-pub record HasSiblings {X : Type 0} (old values : List X) (n first p k : ℕ) (path : List X) : Type 0 where
-  pub so_far : path ≡ old ++ take k (remove (take n (drop first values)) p)
 
 none_removed : {X : Type 0} (p : ℕ) → remove {X = X} [] p ≡ []
 none_removed zero = refl
 none_removed (suc p) = refl
 
-pub siblings_start : {X : Type 0} (old values : List X) (n first p k : ℕ) (path : List X) → k ≡ 0 → path ≡ old →
-    HasSiblings old values n first p k path
-siblings_start old values n first p k path none is = record {
-  so_far = rw (none, is) (sym (append-nil old));
-}
+-- the element that is left out, or another one more
+removed_own : {X : Type 0} (xs : List X) (k : ℕ) → k < length xs → remove (take (k + 1) xs) k ≡ remove (take k xs) k
+removed_own [] k h = absurd (omega arith)
+removed_own (x ∷ xs) zero h = refl
+removed_own (x ∷ xs) (suc k) h = let e : suc k + 1 ≡ suc (k + 1) = omega arith in
+    rw e (ap (λ ys. x ∷ ys) (removed_own xs k (omega arith)))
 
-group_len : {X : Type 0} (values : List X) (n first : ℕ) → first + n ≤ length values →
-    length (take n (drop first values)) ≡ n
-group_len values n first h = length-take-le n (drop first values) (omega (arith, length-drop first values))
+removed_kept : {X : Type 0} (ys : List X) (y : X) (p : ℕ) → (length ys ≡ p → ⊥) →
+    remove (ys ++ y ∷ []) p ≡ remove ys p ++ y ∷ []
+removed_kept [] y zero ne = absurd (ne refl)
+removed_kept [] y (suc p) ne = ap (λ zs. y ∷ zs) (none_removed p)
+removed_kept (z ∷ ys) y zero ne = refl
+removed_kept (z ∷ ys) y (suc p) ne = ap (λ zs. z ∷ zs) (removed_kept ys y p (λ e. ne (ap suc e)))
 
-siblings_len : {X : Type 0} (values : List X) (n first p : ℕ) → first + n ≤ length values → p < n →
-    length (remove (take n (drop first values)) p) + 1 ≡ n
-siblings_len values n first p full inside =
-    let g = take n (drop first values) in
-    let long = group_len values n first full in
-    length-remove g p (omega (arith, long)) ∙ long
+-- the elements of a group so far, without the one at place p
+pub others_start : {X : Type 0} (old group : List X) (p : ℕ) → old ≡ old ++ remove (take 0 group) p
+others_start old group p = sym (append-nil old) ∙ ap (λ ys. old ++ ys) (sym (none_removed p))
 
--- the place of sibling k in its group
-pub record IsSibling (p k i : ℕ) : Type 0 where
-  pub before : k < p → i ≡ k
-  pub after : p ≤ k → i ≡ k + 1
+pub others_more : {X : Type 0} (old before after group : List X) (p k : ℕ) (x : X) → k < length group →
+    before ≡ old ++ remove (take k group) p → x ≡ get_or group k x → (k ≡ p → ⊥) → after ≡ before ++ x ∷ [] →
+    after ≡ old ++ remove (take (k + 1) group) p
+others_more old before after group p k x h so_far read other pushed =
+    let front = take k group in
+    let long : length front ≡ k = length-take-le k group (omega arith) in
+    let more : take (k + 1) group ≡ front ++ x ∷ [] = take_more group k x h
+    ∙ ap (λ y. front ++ y ∷ []) (sym read) in
+    pushed ∙ ap (λ ys. ys ++ x ∷ []) so_far ∙ append_assoc old (remove front p) (x ∷ [])
+    ∙ ap (λ ys. old ++ ys) (sym (ap (λ ys. remove ys p) more ∙ removed_kept front x p (λ e. other (sym long ∙ e))))
 
-pub sibling_more : {X : Type 0} (old values before after : List X) (n first p k next i child : ℕ) (x : X) →
-    first + n ≤ length values → p < n → k < n - 1 → IsSibling p k i → child ≡ first + i → next ≡ k + 1 →
-    x ≡ get_or values child x → after ≡ before ++ x ∷ [] → HasSiblings old values n first p k before →
-    HasSiblings old values n first p next after
-sibling_more old values before after n first p k next i child x full inside small is at is_next read pushed w =
-    let g = take n (drop first values) in
-    let rest = remove g p in
-    let long = siblings_len values n first p full inside in
-    let inside_group : p < length g = omega (arith, group_len values n first full) in
-    let here = λ (j : ℕ) (h : j < n) (e : i ≡ j). get_or-take n (drop first values) j x h ∙ get_or-drop first values j x
-    ∙ ap (λ m. get_or values (first + m) x) (sym e) ∙ ap (λ m. get_or values m x) (sym at) ∙ sym read in
-    let sibling : get_or rest k x ≡ x = elim (cases_lt k p) [
-      | inl l ↦ get_or-remove_below g p x k l inside_group ∙ here k (omega arith) (is.before l)
-      | inr m ↦ get_or-remove_above g p x k m inside_group ∙ here (k + 1) (omega arith) (is.after m)
-    ] in
-    record {
-      so_far = rw is_next (pushed ∙ ap (λ ys. ys ++ x ∷ []) w.so_far ∙ append_assoc old (take k rest) (x ∷ [])
-          ∙ ap (λ y. old ++ (take k rest ++ y ∷ [])) (sym sibling)
-          ∙ ap (λ ys. old ++ ys) (sym (take_more rest k x (omega (arith, long)))));
-    }
-
--- what a search misses is not listed
-pub missed_place : (xs : List ℕ) (x i : ℕ) → IsStrictlyIncreasing xs →
-    IsBinarySearchResult (λ y. nat_cmp y x) xs (Err i) → is_among xs x ≡ false
-missed_place xs x i up miss = false_from_ne_true (is_among xs x) (not_missed xs x i up miss)
+pub others_same : {X : Type 0} (old before after group : List X) (p k : ℕ) → k < length group →
+    before ≡ old ++ remove (take k group) p → k ≡ p → after ≡ before → after ≡ old ++ remove (take (k + 1) group) p
+others_same old before after group p k h so_far own same =
+    same ∙ so_far ∙ rw (← own) (ap (λ ys. old ++ ys) (sym (removed_own group k h)))
 
 -- the group of a parent at place k is whole
 pub group_fits : (n k count total : ℕ) → k < count → total ≡ n * count → n * k + n ≤ total
 group_fits n k count total h full = omega (arith, mul-le-mul_left n h, mul-suc n k)
 
--- and so is each of its children inside
-pub child_inside : (n at k child count total : ℕ) → at < count → total ≡ n * count → k < n - 1 →
-    (child ≡ k) ⊎ (child ≡ k + 1) → n * at + child < total
-child_inside n at k child count total inside full low which =
-    let whole = group_fits n at count total inside full in
-    elim which [ inl e ↦ omega (arith, whole) | inr e ↦ omega (arith, whole) ]
-
--- the next sibling, from how far the node is behind the first child
-pub sibling_before : (n j k child : ℕ) → k < j - n * (j / n) → child ≡ k → IsSibling (j % n) k child
-sibling_before n j k child less is = record { before = λ h. is; after = λ h. absurd (omega arith) }
-
-pub sibling_behind : (n j k child : ℕ) → j - n * (j / n) ≤ k → child ≡ k + 1 → IsSibling (j % n) k child
-sibling_behind n j k child less is = record { before = λ h. absurd (omega arith); after = λ h. is }
-
--- the siblings of a node whose parent is at a place
-pub found_siblings : {X : Type 0} (old values path : List X) (parents : List ℕ) (n at j first p k : ℕ) → 0 < n →
-    IsStrictlyIncreasing parents → at < length parents → get_or parents at 0 ≡ j / n → first ≡ n * at → p ≡ j % n →
-    first + n ≤ length values → n ≤ k + 1 → HasSiblings old values n first p k path →
-    path ≡ old ++ siblings_out_of (parents, n, values) j
-found_siblings old values path parents n at j first p k some up inside here is_first is_p full all w =
-    let there : is_among parents (j / n) ≡ true = rw here at (listed_at parents at 0 inside) in
-    let is = placed parents at (j / n) up inside here in
-    let g = take n (drop first values) in
-    let long = siblings_len values n first p full (omega arith) in
-    let whole : take k (remove g p) ≡ remove g p = take_all k (remove g p) (omega (arith, long)) in
-    rw (there, is, ← is_first, ← is_p) (w.so_far ∙ ap (λ ys. old ++ ys) whole)
+-- the siblings of a covered node, out of the group at its parent's slot
+linked_siblings : {X : Type 0} (below above : CoveredLayer X) (k : ℕ) → IsLinked below above →
+    k < length below.nodes.items → let j = get_or below.nodes.items k 0 in
+    siblings_out_of (above.nodes.items, above.step, above.children.items) j
+    ≡ remove (take above.step (drop (above.step * get_or above.slots.items k 0) above.children.items)) (j % above.step)
+linked_siblings below above k link h =
+    let nodes = above.nodes.items in
+    let slot = get_or above.slots.items k 0 in
+    let parent = get_or below.nodes.items k 0 / above.step in
+    let at = link.slots.parent k h in
+    let there : is_among nodes parent ≡ true = rw at.1 at (listed_at nodes slot 0 at.0) in
+    let is = placed nodes slot parent link.ascending at.0 at.1 in
+    rw (there, is) refl
 
 -- the group of the parent at place k
 group_of : (n : ℕ) (parents : List ℕ) (k : ℕ) → k < length parents → take n (drop (n * k) (children_under n parents))
@@ -286,15 +234,38 @@ pub path_end : {X : Type 0} (levels : List (List ℕ × ℕ × List X)) (i k : �
     length levels ≤ k → IsOnPath levels i k path node → path ≡ path_out_of levels i
 path_end levels i k path node h w = sym (append-nil path) ∙ rw (drop_all k levels h) at w.so_far
 
--- how many siblings the levels from level k on have at most: those of this one and those of the others
-pub siblings_left : {V : Type 0} (count : V → ℕ) (levels : List V) (k : ℕ) (level : V) → k < length levels → level
-    ≡ get_or levels k level → sum_by count (drop k levels) ≡ count level + sum_by count (drop (k + 1) levels)
-siblings_left count levels k level h is =
-    let rest = drop (suc k) levels in
-    let split : sum_by count (drop k levels) ≡ 0 + count level + sum_by count rest =
-    ap (λ vs. sum_by count vs) (drop-cons levels k level h ∙ ap (λ v. v ∷ rest) (sym is))
-    ∙ sum_by-append count (level ∷ []) rest in
-    rw add-one (omega (arith, split))
+-- a path that stands at a slot of one layer, and its turn to the next
+pub path_turn : {X : Type 0} (layers : List (CoveredLayer X)) (level slot next node index : ℕ) (below above : CoveredLayer X)
+    (old new : List X) → 0 < level → level < length layers → AreLinked layers →
+    below ≡ get_or layers (level - 1) below → above ≡ get_or layers level above →
+    IsOnPath (levels_in layers) index (level - 1) old (get_or below.nodes.items slot 0) →
+    slot < length below.nodes.items → next ≡ get_or above.slots.items slot next →
+    node ≡ get_or below.nodes.items slot node →
+    new ≡ old ++ remove (take above.step (drop (above.step * next) above.children.items)) (node % above.step) →
+    IsOnPath (levels_in layers) index level new (get_or above.nodes.items next 0) × (next < length above.nodes.items)
+path_turn {X} layers level slot next node index below above old new some h linked is_below is_above w inside reads
+    is_node more =
+    let l = level - 1 in
+    let up : l + 1 ≡ level = omega arith in
+    let from : 1 + l ≡ level = omega arith in
+    let view : CoveredLayer X → List ℕ × ℕ × List X = λ layer. (layer.nodes.items, layer.step, layer.children.items) in
+    let link : IsLinked below above =
+    subst (λ (z : CoveredLayer X). IsLinked z above) (get_or_default layers l above below (omega arith) ∙ sym is_below)
+    (subst (λ (z : CoveredLayer X). IsLinked (get_or layers l above) z)
+    (ap (λ (k : ℕ). get_or layers k above) up ∙ sym is_above) (linked l (omega arith) above)) in
+    let parent = link.slots.parent slot inside in
+    let is_next = reads ∙ get_or_default above.slots.items slot next 0 (omega (arith, link.slots.one_each)) in
+    let stands = is_node ∙ get_or_default below.nodes.items slot node 0 inside in
+    let there : above ≡ get_or (drop 1 layers) l above =
+    is_above ∙ ap (λ (k : ℕ). get_or layers k above) (sym from) ∙ sym (get_or-drop 1 layers l above) in
+    let walked = path_more view (drop 1 layers) index l (get_or below.nodes.items slot 0) above old new
+    (omega (arith, length-drop 1 layers)) there w
+    (more ∙ rw (is_next, stands) (ap (λ ys. old ++ ys) (sym (linked_siblings below above slot link inside)))) in
+    rw is_next (
+      subst (λ (k : ℕ). IsOnPath (levels_in layers) index k new
+          (get_or above.nodes.items (get_or above.slots.items slot 0) 0)) up (rw (← parent.1) at walked),
+      parent.0,
+    )
 
 -- one path more
 pub paths_more : {X : Type 0} (path : ℕ → List X) (queries : List ℕ) (k : ℕ) (old new : List (AuthPath X))

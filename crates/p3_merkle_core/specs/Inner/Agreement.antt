@@ -1,7 +1,7 @@
 -- How a check finds the rows that must agree: the first query of each index, and the lowest slot under each node.
 use Rattle.std.specs.Prelude.{◌≡◌, ℕ, suc, ◌<◌, ◌≤◌, ◌==◌, Bool, if◌then◌else◌, List, [], ◌∷◌, map, filter, length}
-use Rattle.std.specs.Prelude.{replicate, slice_index, slice_index_or, Option}
-use Rattle.std.specs.List.{range_with_len}
+use Rattle.std.specs.Prelude.{replicate, slice_index, slice_index_or, nat_eq, All, Option}
+use Rattle.std.specs.List.{dedup, range_with_len, Contains}
 use Rattle.std.specs.Cmp.Lexicographic.{pointwise}
 use Rattle.p3_merkle_core.specs.Geometry.{Shape, ancestor, exponent, heights, layer_exponent}
 use Rattle.p3_support.specs.Batches.{greatest}
@@ -31,16 +31,28 @@ opened_of indices sets = pruned_of indices sets []
 abbrev pub opened_with : {T : Type 0} → List ℕ → List (List (List T)) → ℕ → PrunedOpening T ℕ
 opened_with indices sets n = pruned_of indices sets (replicate n [])
 
--- what is queried of some indices: the distinct ones, ascending, and the first query of each
-pub record AreDistinctOf (queried : DistinctQueries) (queries : List ℕ) : Type 0 where
-  pub indices : queried.indices.items ≡ distinct queries
-  pub first_queries : queried.first_queries.items ≡ map (first_query queries) (distinct queries)
-
 -- k is the slot of index i: how many of the distinct indices are below it, and its place among them
 pub record IsSlot (indices : List ℕ) (i k : ℕ) : Type 0 where
   pub slot : k ≡ slot_of indices i
   pub place : k < length (distinct indices)
   pub there : slice_index (distinct indices) k ≡ i
+
+-- the slot of the index of each query
+pub record AreSlots (slots queries : List ℕ) : Type 0 where
+  pub one_each : length slots ≡ length queries
+  pub each : (k : ℕ) → k < length queries → IsSlot queries (slice_index queries k) (slice_index slots k)
+
+-- the queries by ascending index, each with its place
+pub record AreSorted (sorted : List (ℕ × ℕ)) (queries : List ℕ) : Type 0 where
+  pub once : dedup nat_eq (map (λ query. query.0) sorted) ≡ distinct queries
+  pub own : All (λ query. (query.1 < length queries) × (slice_index queries query.1 ≡ query.0)) sorted
+  pub each : (k : ℕ) → k < length queries → Contains sorted (slice_index queries k, k)
+
+-- what is queried of some indices: the distinct ones, ascending, the first query of each, and the slot of each query
+pub record AreDistinctOf (queried : DistinctQueries) (queries : List ℕ) : Type 0 where
+  pub indices : queried.indices.items ≡ distinct queries
+  pub first_queries : queried.first_queries.items ≡ map (first_query queries) (distinct queries)
+  pub slots : AreSlots queried.slots.items queries
 
 -- the row set of the first query of slot k
 abbrev pub slot_rows : {T : Type 0} → List ℕ → List (List (List T)) → ℕ → List (List T)

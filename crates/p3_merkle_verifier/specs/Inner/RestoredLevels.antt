@@ -1,20 +1,16 @@
--- The layers of a pruned opening: their covered nodes, what is restored of them, and what is kept.
-use Rattle.std.specs.Prelude.{◌≡◌, ◌*◌, ◌/◌, ◌<◌, ◌≤◌, ℕ, zero, suc, Bool, List, All, Option, None, Some, drop}
-use Rattle.std.specs.Prelude.{flat_map, length, map, slice_index}
+-- The layers of a pruned opening: their covered nodes, and what is restored of them.
+use Rattle.std.specs.Prelude.{◌≡◌, ◌*◌, ◌/◌, ◌<◌, ◌≤◌, ℕ, zero, suc, List, All, drop, ◌+◌}
+use Rattle.std.specs.Prelude.{flat_map, length, map, slice_index, slice_index_or}
 use Rattle.std.specs.List.{range_with_len}
-use Rattle.std.specs.Option.{option_or}
-use Rattle.p3_merkle_core.specs.Checks.{Params, params}
+use Rattle.p3_merkle_core.specs.Checks.{params}
 use Rattle.p3_merkle_core.specs.Geometry.{Shape, ancestor, has_rows, layer_exponent, shape_of, step}
-use Rattle.p3_merkle_core.specs.Inner.Children.{AreChildren}
+use Rattle.p3_merkle_core.specs.Inner.Children.{levels_in, AreChildren, AreLinked, AreParentSlots, HaveLeaves}
 use Rattle.p3_merkle_core.specs.Inner.Covered.{covered_at}
 use Rattle.p3_merkle_core.specs.Nodes.{Functions}
 use Rattle.p3_merkle_core.specs.Pruning.{PrunedOpening, boundary, pruned_of, restored_node, value_of}
-use Rattle.p3_merkle_core.specs.Refusals.{cap_refusal, pruned_refusal}
-use Rattle.p3_merkle_core.specs.declared.error.MerkleTreeError.{MerkleTreeError}
-use Rattle.p3_merkle_core.specs.declared.pruning.KeptLevel.{KeptLevel}
+use Rattle.p3_merkle_core.specs.declared.pruning.CoveredLayer.{CoveredLayer}
 use Rattle.p3_support.specs.Shown.{row_sets}
 use Rattle.p3_merkle_verifier.specs.declared.openings.PrunedOpeningRef.{PrunedOpeningRef}
-use Rattle.p3_merkle_verifier.specs.declared.pruned.CoveredNodes.{CoveredNodes}
 use Rattle.p3_merkle_verifier.specs.declared.openings.RestorableOpening.{RestorableOpening}
 
 -- the pruned opening that is lent
@@ -29,37 +25,33 @@ tree_of restorable = shape_of restorable.steps.now.arity restorable.steps.now.di
 abbrev pub opened_by : {T W : Type 0} → RestorableOpening T (List W) → PrunedOpening T W
 opened_by restorable = pruned_in restorable.opening
 
--- why a pruned opening of the right form is refused, if there are roots
-abbrev pub cap_refusal_by : {T W : Type 0} → (W → W → Bool) → Params T W → Option (List (List W)) →
-    PrunedOpening T W → Option MerkleTreeError
-cap_refusal_by digest_eq c None p = None
-cap_refusal_by digest_eq c (Some roots) p = cap_refusal digest_eq c roots p
-
--- why a pruned opening is refused: by its form, else by the roots, if there are any
-abbrev pub pruned_refusal_by : {T W : Type 0} → (T → T → Bool) → (W → W → Bool) → Params T W →
-    Option (List (List W)) → PrunedOpening T W → Option MerkleTreeError
-pruned_refusal_by row_eq digest_eq c roots p =
-    option_or (pruned_refusal row_eq c.shape c.layer p) (cap_refusal_by digest_eq c roots p)
-
 -- the node of layer l above the index of query k
 abbrev pub node_of_query : Shape → List ℕ → ℕ → ℕ → ℕ
 node_of_query s indices l k = ancestor s l (slice_index indices k)
 
 -- the covered nodes of layer l, with a query under each, and how many boundary nodes are below the layer
-pub record IsCoveredAt (s : Shape) (indices : List ℕ) (l : ℕ) (covered : CoveredNodes) : Type 0 where
+pub record IsCoveredAt {X : Type 0} (s : Shape) (indices : List ℕ) (l : ℕ) (covered : CoveredLayer X) : Type 0 where
   pub nodes_are : covered.nodes.items ≡ covered_at s indices l
   pub queries_are : covered.nodes.items ≡ map (node_of_query s indices l) covered.queries.items
   pub among : All (λ k. k < length indices) covered.queries.items
   pub at_exponent : covered.exponent ≡ layer_exponent s l
   pub sent_below : covered.used ≡ length (boundary s indices l)
 
+-- the covered leaves, with the slot of each query
+pub record AreLeaves {X : Type 0} (s : Shape) (indices : List ℕ) (leaves : CoveredLayer X) : Type 0 where
+  pub coverage : IsCoveredAt s indices 0 leaves
+  pub childless : leaves.step ≡ 0
+  pub slots : HaveLeaves leaves.nodes.items leaves.slots.items indices
+
 -- the layer above layer l, with its nodes' children, where some digests are left of those that were sent
-pub record IsLayerAbove {X : Type 0} (s : Shape) (indices : List ℕ) (l : ℕ) (below : CoveredNodes) (digests sent : List X)
-    (above : CoveredNodes) (children : List X) : Type 0 where
+pub record IsLayerAbove {X : Type 0} (s : Shape) (indices : List ℕ) (l : ℕ) (below : CoveredLayer X)
+    (digests sent : List X) (above : CoveredLayer X) : Type 0 where
   pub step_is : above.step ≡ step s l
   pub rows_are : above.has_rows ≡ has_rows s (suc l)
   pub coverage : IsCoveredAt s indices (suc l) above
-  pub values : AreChildren above.step above.nodes.items below.nodes.items digests (drop below.used sent) children
+  pub values : AreChildren above.step above.nodes.items below.nodes.items digests (drop below.used sent)
+      above.children.items
+  pub slots : AreParentSlots above.step below.nodes.items above.nodes.items above.slots.items
 
 -- the values of the children of the covered nodes above layer l, parent by parent
 abbrev pub child_values : {T W : Type 0} → Functions T W → Shape → ℕ → PrunedOpening T W → ℕ → List (List W)
@@ -69,35 +61,42 @@ child_values f s cap_layer p l =
 
 -- the covered nodes above layer l have their step, and their children have their values
 pub record HaveChildren {T W : Type 0} (f : Functions T W) (s : Shape) (cap_layer : ℕ) (p : PrunedOpening T W) (l : ℕ)
-    (above : CoveredNodes) (children : List (List W)) : Type 0 where
+    (above : CoveredLayer (List W)) : Type 0 where
   pub step_is : above.step ≡ step s l
   pub rows_are : above.has_rows ≡ has_rows s (suc l)
-  pub full : length children ≡ above.step * length above.nodes.items
-  pub values_are : children ≡ child_values f s cap_layer p l
+  pub full : length above.children.items ≡ above.step * length above.nodes.items
+  pub values_are : above.children.items ≡ child_values f s cap_layer p l
 
 -- the children of the covered nodes of layer l, of which leaves have none
-abbrev pub IsFamilyAt : {T W : Type 0} → Functions T W → Shape → ℕ → PrunedOpening T W → ℕ → CoveredNodes →
-    List (List W) → Type 0
-IsFamilyAt f s cap_layer p zero covered children = Unit {0}
-IsFamilyAt f s cap_layer p (suc l) covered children = HaveChildren f s cap_layer p l covered children
+abbrev pub IsFamilyAt : {T W : Type 0} → Functions T W → Shape → ℕ → PrunedOpening T W → ℕ → CoveredLayer (List W) →
+    Type 0
+IsFamilyAt f s cap_layer p zero covered = Unit {0}
+IsFamilyAt f s cap_layer p (suc l) covered = HaveChildren f s cap_layer p l covered
 
 -- the covered nodes of layer l, and the values of their children, which leaves do not have
 pub record IsLayer {T W : Type 0} (f : Functions T W) (s : Shape) (cap_layer : ℕ) (p : PrunedOpening T W) (l : ℕ)
-    (covered : CoveredNodes) (children : List (List W)) : Type 0 where
+    (covered : CoveredLayer (List W)) : Type 0 where
   pub coverage : IsCoveredAt s p.indices l covered
   pub wide : 0 < l → 0 < covered.step
   pub narrow : covered.step ≤ s.arity
-  pub in_groups : 0 < l → length covered.queries.items ≡ length children / covered.step
-  pub family : IsFamilyAt f s cap_layer p l covered children
+  pub in_groups : 0 < l → length covered.queries.items ≡ length covered.children.items / covered.step
+  pub family : IsFamilyAt f s cap_layer p l covered
 
 -- the digests that are restored of the covered nodes of layer l
 abbrev pub AreRestored : {T W : Type 0} → Functions T W → Shape → ℕ → PrunedOpening T W → ℕ → List (List W) → Type 0
 AreRestored f s cap_layer p l digests =
     digests ≡ map (restored_node (params f s cap_layer) p l) (covered_at s p.indices l)
 
--- the levels that a walk kept up to layer l: the covered nodes above each, its step, and the values of its children
-pub record AreKept {T W : Type 0} (f : Functions T W) (s : Shape) (cap_layer : ℕ) (p : PrunedOpening T W) (l : ℕ)
-    (levels : List (KeptLevel (List W))) : Type 0 where
-  pub levels_are : map (λ level. (level.parents.items, level.step, level.children.items)) levels
-      ≡ map {B = List ℕ × ℕ × List (List W)}
+-- the layers from the leaves up to layer l, each linked with the one below it
+pub record IsClimb {X : Type 0} (s : Shape) (indices : List ℕ) (l : ℕ) (layers : List (CoveredLayer X)) : Type 0 where
+  pub count : length layers ≡ l + 1
+  pub leaves : (x : CoveredLayer X) → AreLeaves s indices (slice_index_or layers 0 x)
+  pub linked : AreLinked layers
+
+-- the same, with what is restored of the nodes' children
+pub record AreLayers {T W : Type 0} (f : Functions T W) (s : Shape) (cap_layer : ℕ) (p : PrunedOpening T W) (l : ℕ)
+    (layers : List (CoveredLayer (List W))) : Type 0 where
+  pub climb : IsClimb s p.indices l layers
+  pub top : (x : CoveredLayer (List W)) → IsLayer f s cap_layer p l (slice_index_or layers l x)
+  pub levels_are : levels_in layers ≡ map {B = List ℕ × ℕ × List (List W)}
       (λ l. (covered_at s p.indices (suc l), step s l, child_values f s cap_layer p l)) (range_with_len 0 l)

@@ -1,5 +1,5 @@
 -- Each call answers one part of the definition, in its order.
-use Rattle.std.proofs.Common.{◌≡◌, ◌∙◌, ℕ, List, ◌++◌, ap, sym, inl, inr, length, refl, [], None, Some}
+use Rattle.std.proofs.Common.{◌≡◌, ◌∙◌, ap, sym, inl, inr, length, refl, [], None, Some}
 use Rattle.std.specs.Prelude.{slice_index_or}
 use Rattle.std.proofs.lemmas.List.{length-map}
 use Rattle.std.proofs.lemmas.Result.{err_from_is_err_and}
@@ -52,19 +52,18 @@ returns-in_err-check_repeats g c =
     c.args.num_digests c.in_err-check_repeats.field-0.0 early (rw c.in_err-check_repeats.ensures refl) in
     rw left.1 (inr (found ∙ ap (λ e. Some e) (sym left.2)))
 
-pub returns-in_err-extend_from_slice : goal.returns-in_err-extend_from_slice
-returns-in_err-extend_from_slice g c =
-    let left = err_from_is_err_and c.from_residual-in_err-extend_from_slice.result c.from_residual-in_err-extend_from_slice.ensures.1 in
+pub returns-in_err-leaves : goal.returns-in_err-leaves
+returns-in_err-leaves g c =
+    let left = err_from_is_err_and c.from_residual-in_err-leaves.result c.from_residual-in_err-leaves.ensures.1 in
     rw left.1 (inl left.2)
 
 pub boundary_len-requires : goal.boundary_len-requires
 boundary_len-requires g c =
     let s = shape_of c.args.steps.now.arity c.args.steps.now.dimensions.now in
-    let leaves = slot_leaves s c.args.indices.now c.extend_from_slice.new.self.items c.args.cap_layer c.requires.arity
+    let leaves = slot_leaves s c.args.indices.now c.in_ok-leaves.leaves.items c.args.cap_layer c.requires.arity
     (asked_from (heights_of c.args.steps.now.dimensions.now) c.args.indices.now (length c.args.rows.now)
     c.args.num_digests c.in_ok-check_queries.ensures.answer).highest
-    (c.in_ok-extend_from_slice.ensures.items ∙ ap (λ (xs : List ℕ). xs ++ c.deref-2.result.now) c.clear.ensures.items
-    ∙ c.deref-2.ensures.value ∙ c.in_ok-queried.ensures.indices) in
+    (c.in_ok-leaves.ensures.items ∙ c.deref.ensures.value ∙ c.in_ok-queried.ensures.indices) in
     record {
       arity = c.requires.arity;
       low = c.in_ok-check_queries.ensures.low;
@@ -78,11 +77,10 @@ returns-in_err-check_digest_count g c =
     let s = shape_of c.args.steps.now.arity c.args.steps.now.dimensions.now in
     let early = rw (← length-map c.args.rows.now (λ rows. row_lists rows.items)) at
     c.in_ok-check_queries.ensures.answer in
-    let leaves = slot_leaves s c.args.indices.now c.extend_from_slice.new.self.items c.args.cap_layer c.requires.arity
+    let leaves = slot_leaves s c.args.indices.now c.in_ok-leaves.leaves.items c.args.cap_layer c.requires.arity
     (asked_from (heights_of c.args.steps.now.dimensions.now) c.args.indices.now (length c.args.rows.now)
     c.args.num_digests c.in_ok-check_queries.ensures.answer).highest
-    (c.in_ok-extend_from_slice.ensures.items ∙ ap (λ (xs : List ℕ). xs ++ c.deref-2.result.now) c.clear.ensures.items
-    ∙ c.deref-2.ensures.value ∙ c.in_ok-queried.ensures.indices) in
+    (c.in_ok-leaves.ensures.items ∙ c.deref.ensures.value ∙ c.in_ok-queried.ensures.indices) in
     let left = err_from_is_err_and c.from_residual-in_err-check_digest_count.result
     c.from_residual-in_err-check_digest_count.ensures.1 in
     let some = rw (c.boundary_len.ensures ∙ leaves.count) at c.in_err-check_digest_count.ensures in
@@ -95,7 +93,7 @@ pub check_first_widths-requires : goal.check_first_widths-requires
 check_first_widths-requires g c =
     let asked = asked_from (heights_of c.args.steps.now.dimensions.now) c.args.indices.now (length c.args.rows.now)
     c.args.num_digests c.in_ok-check_queries.ensures.answer in
-    rw (c.deref-3.ensures.value, ← asked.pairs) (firsts_inside c.in_ok-queried.queried.first_queries.items
+    rw (c.deref-2.ensures.value, ← asked.pairs) (firsts_inside c.in_ok-queried.queried.first_queries.items
     c.args.indices.now c.in_ok-queried.ensures.first_queries)
 
 pub returns-in_err-check_first_widths : goal.returns-in_err-check_first_widths
@@ -103,11 +101,10 @@ returns-in_err-check_first_widths g c =
     let s = shape_of c.args.steps.now.arity c.args.steps.now.dimensions.now in
     let early = rw (← length-map c.args.rows.now (λ rows. row_lists rows.items)) at
     c.in_ok-check_queries.ensures.answer in
-    let leaves = slot_leaves s c.args.indices.now c.extend_from_slice.new.self.items c.args.cap_layer c.requires.arity
+    let leaves = slot_leaves s c.args.indices.now c.in_ok-leaves.leaves.items c.args.cap_layer c.requires.arity
     (asked_from (heights_of c.args.steps.now.dimensions.now) c.args.indices.now (length c.args.rows.now)
     c.args.num_digests c.in_ok-check_queries.ensures.answer).highest
-    (c.in_ok-extend_from_slice.ensures.items ∙ ap (λ (xs : List ℕ). xs ++ c.deref-2.result.now) c.clear.ensures.items
-    ∙ c.deref-2.ensures.value ∙ c.in_ok-queried.ensures.indices) in
+    (c.in_ok-leaves.ensures.items ∙ c.deref.ensures.value ∙ c.in_ok-queried.ensures.indices) in
     let queried = c.in_ok-queried.queried in
     let sets = row_sets c.args.rows.now in
     let widths = first_of (λ query. width_refusal c.args.steps.now.dimensions.now (slice_index_or sets query []))
@@ -118,7 +115,7 @@ returns-in_err-check_first_widths g c =
     let left = err_from_is_err_and c.from_residual-in_err-check_first_widths.result
     c.from_residual-in_err-check_first_widths.ensures.1 in
     let e = c.in_err-check_first_widths.field-0.0 in
-    let some : widths ≡ Some e = rw c.deref-3.ensures.value at c.in_err-check_first_widths.ensures in
+    let some : widths ≡ Some e = rw c.deref-2.ensures.value at c.in_err-check_first_widths.ensures in
     let found = pruned_late g.T.PartialEq.eq s c.args.cap_layer queried.indices.items queried.first_queries.items
     c.args.indices.now sets c.args.num_digests (Some e) c.in_ok-queried.ensures.indices
     c.in_ok-queried.ensures.first_queries early c.in_ok-check_repeats.ensures count
@@ -139,7 +136,7 @@ check_shared_rows-requires g c =
       ascending = rw c.in_ok-queried.ensures.indices (increasing_from 0 d (distinct_rising indices));
       queries = rw (← asked.pairs) (firsts_inside firsts indices c.in_ok-queried.ensures.first_queries);
       full = full_from c.args.steps.now.dimensions.now firsts (row_sets c.args.rows.now)
-          (rw c.deref-3.ensures.value at c.in_ok-check_first_widths.ensures);
+          (rw c.deref-2.ensures.value at c.in_ok-check_first_widths.ensures);
     }
 
 pub returns-in_err-check_shared_rows : goal.returns-in_err-check_shared_rows
@@ -147,11 +144,10 @@ returns-in_err-check_shared_rows g c =
     let s = shape_of c.args.steps.now.arity c.args.steps.now.dimensions.now in
     let early = rw (← length-map c.args.rows.now (λ rows. row_lists rows.items)) at
     c.in_ok-check_queries.ensures.answer in
-    let leaves = slot_leaves s c.args.indices.now c.extend_from_slice.new.self.items c.args.cap_layer c.requires.arity
+    let leaves = slot_leaves s c.args.indices.now c.in_ok-leaves.leaves.items c.args.cap_layer c.requires.arity
     (asked_from (heights_of c.args.steps.now.dimensions.now) c.args.indices.now (length c.args.rows.now)
     c.args.num_digests c.in_ok-check_queries.ensures.answer).highest
-    (c.in_ok-extend_from_slice.ensures.items ∙ ap (λ (xs : List ℕ). xs ++ c.deref-2.result.now) c.clear.ensures.items
-    ∙ c.deref-2.ensures.value ∙ c.in_ok-queried.ensures.indices) in
+    (c.in_ok-leaves.ensures.items ∙ c.deref.ensures.value ∙ c.in_ok-queried.ensures.indices) in
     let queried = c.in_ok-queried.queried in
     let sets = row_sets c.args.rows.now in
     let widths = first_of (λ query. width_refusal c.args.steps.now.dimensions.now (slice_index_or sets query []))
@@ -162,7 +158,7 @@ returns-in_err-check_shared_rows g c =
     let left = err_from_is_err_and c.from_residual-in_err-check_shared_rows.result
     c.from_residual-in_err-check_shared_rows.ensures.1 in
     let e = c.in_err-check_shared_rows.field-0.0 in
-    let none : widths ≡ None = rw c.deref-3.ensures.value at c.in_ok-check_first_widths.ensures in
+    let none : widths ≡ None = rw c.deref-2.ensures.value at c.in_ok-check_first_widths.ensures in
     elim c.in_err-check_shared_rows.ensures [
       | inl memory ↦ rw left.1 (inl (left.2 ∙ memory))
       | inr some ↦
@@ -178,11 +174,10 @@ returns g c =
     let s = shape_of c.args.steps.now.arity c.args.steps.now.dimensions.now in
     let early = rw (← length-map c.args.rows.now (λ rows. row_lists rows.items)) at
     c.in_ok-check_queries.ensures.answer in
-    let leaves = slot_leaves s c.args.indices.now c.extend_from_slice.new.self.items c.args.cap_layer c.requires.arity
+    let leaves = slot_leaves s c.args.indices.now c.in_ok-leaves.leaves.items c.args.cap_layer c.requires.arity
     (asked_from (heights_of c.args.steps.now.dimensions.now) c.args.indices.now (length c.args.rows.now)
     c.args.num_digests c.in_ok-check_queries.ensures.answer).highest
-    (c.in_ok-extend_from_slice.ensures.items ∙ ap (λ (xs : List ℕ). xs ++ c.deref-2.result.now) c.clear.ensures.items
-    ∙ c.deref-2.ensures.value ∙ c.in_ok-queried.ensures.indices) in
+    (c.in_ok-leaves.ensures.items ∙ c.deref.ensures.value ∙ c.in_ok-queried.ensures.indices) in
     let queried = c.in_ok-queried.queried in
     let sets = row_sets c.args.rows.now in
     let widths = first_of (λ query. width_refusal c.args.steps.now.dimensions.now (slice_index_or sets query []))
@@ -190,7 +185,7 @@ returns g c =
     let groups = layers_refusal g.T.PartialEq.eq s c.args.cap_layer queried.indices.items queried.first_queries.items
     sets in
     let count = rw (c.boundary_len.ensures ∙ leaves.count) at c.in_ok-check_digest_count.ensures in
-    let none : widths ≡ None = rw c.deref-3.ensures.value at c.in_ok-check_first_widths.ensures in (
+    let none : widths ≡ None = rw c.deref-2.ensures.value at c.in_ok-check_first_widths.ensures in (
       pruned_late g.T.PartialEq.eq s c.args.cap_layer queried.indices.items queried.first_queries.items
           c.args.indices.now sets c.args.num_digests None c.in_ok-queried.ensures.indices
           c.in_ok-queried.ensures.first_queries early c.in_ok-check_repeats.ensures count

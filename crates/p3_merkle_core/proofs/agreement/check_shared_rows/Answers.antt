@@ -1,5 +1,5 @@
 -- Each turn is one level. No two slots are under one leaf.
-use Rattle.std.proofs.Common.{ℕ, ◌++◌, List, ◌≡◌, ◌-◌, ◌+◌, ◌∙◌, suc, map, arith, refl, None, Some, add-one, ap, sym, inl, inr}
+use Rattle.std.proofs.Common.{◌≡◌, ◌-◌, ◌+◌, ◌∙◌, suc, map, arith, refl, None, Some, add-one, ap, sym, inl, inr}
 use Rattle.std.specs.List.{range_with_len}
 use Rattle.std.proofs.lemmas.Result.{err_from_is_err_and}
 use Rattle.p3_merkle_core.specs.Geometry.{ancestor, heights, layer_exponent, shape_of}
@@ -15,8 +15,8 @@ use Rattle.p3_merkle_core.proofs.Pruned.SlotFacts.{ascending_from}
 use Rattle.p3_merkle_core.proofs.agreement.check_shared_rows.Goals.{then-up+in_ok-list_matrices+in_ok-check_layer, else-up}
 use Rattle.p3_merkle_core.proofs.agreement.check_shared_rows.Goals as goal
 
-pub returns-in_err-extend_from_slice : goal.returns-in_err-extend_from_slice
-returns-in_err-extend_from_slice g c =
+pub returns-in_err-nodes : goal.returns-in_err-nodes
+returns-in_err-nodes g c =
     let left = err_from_is_err_and c.from_residual.result c.from_residual.ensures.1 in
     rw left.1 (inl left.2)
 
@@ -34,7 +34,7 @@ loop-level-init g c =
     let e : t - 0 ≡ t = omega arith in
     record {
       at = c.args.steps.now.walked.leaves;
-      above = c.in_ok-extend_from_slice.ensures.items ∙ ap (λ (xs : List ℕ). xs ++ c.deref.result.now) c.clear.ensures.items ∙ c.deref.ensures.value ∙ nodes_start s leaves;
+      above = c.in_ok-nodes.ensures.items ∙ c.deref.ensures.value ∙ nodes_start s leaves;
       so_far = kept_or (h 0) (first_of h (range_with_len 1 (t - 0)))
           (layers_refusal g.T.PartialEq.eq s t leaves firsts sets) (rw e refl)
           (leaves_agree g.T.PartialEq.eq g.met.T.Eq.laws s leaves firsts sets c.requires.ascending);

@@ -1,41 +1,27 @@
 -- Each turn reads one more path.
-use Rattle.std.proofs.Common.{arith, get_or, map, refl}
-use Rattle.std.proofs.lemmas.List.{take_all}
-use Rattle.p3_merkle_core.specs.Inner.Children.{path_out_of}
+use Rattle.std.proofs.Common.{◌≡◌, ◌∙◌, ap, arith, get_or, refl}
+use Rattle.std.proofs.lemmas.List.{get_or_default}
+use Rattle.p3_merkle_core.specs.Inner.Children.{levels_in, path_out_of}
 use Rattle.p3_merkle_core.proofs.Covered.KeptFacts.{paths_more}
 use Rattle.p3_merkle_core.proofs.pruning.paths_out_of.Goals as goal
 
-pub loop-index-init : goal.loop-index-init
-loop-index-init g c = record {
-  shown = rw c.in_ok-paths.ensures.items refl;
-  count = c.in_ok-paths.ensures.len;
-  capacity = c.in_ok-paths.ensures.exact;
-}
-
-pub push_reserved-requires : goal.push_reserved-requires
-push_reserved-requires g c =
-    omega (
-      arith,
-      c.loop-index.invariant.count,
-      c.loop-index.invariant.capacity,
-      c.loop-index-test.true,
-    )
-
-pub loop-index-preserved : goal.loop-index-preserved
-loop-index-preserved g c =
-    let k = c.loop-index.index-index in
+pub loop-query-preserved : goal.loop-query-preserved
+loop-query-preserved g c =
+    let k = c.loop-query.query in
+    let indices = c.args.indices.now in
+    let levels = levels_in c.args.layers.now in
+    let leaves = c.index-layers-0.result in
+    let have = rw (← c.index-layers-0.is) at (c.requires.queried leaves) in
+    let slot : c.index.result.now ≡ get_or leaves.slots.items k 0 = (rw (← c.index-layers-0.is) at c.index.ensures)
+    ∙ get_or_default leaves.slots.items k c.index.result.now 0 (omega (arith, have.one_each)) in
+    let path = rw (← c.index-layers-0.is) at (c.in_ok-siblings.ensures leaves) in
     record {
-      shown = paths_more
-          (path_out_of (map (λ level. (level.parents.items, level.step, level.children.items)) c.args.levels.now))
-          c.args.indices.now k c.loop-index.paths.items c.push_reserved.new.self.items
-          (record { leaf_index = get_or c.args.indices.now k 0; siblings = c.in_ok-siblings.siblings })
-          c.loop-index-test.true c.loop-index.invariant.shown c.push_reserved.ensures.items refl
-          c.in_ok-siblings.ensures;
-      count = omega (arith, c.push_reserved.ensures.len, c.loop-index.invariant.count);
-      capacity = omega (arith, c.push_reserved.ensures.capacity, c.loop-index.invariant.capacity);
+      shown = paths_more (path_out_of levels) indices k c.loop-query.paths.items
+          c.push_reserved.new.self.items
+          (record { leaf_index = get_or indices k 0; siblings = c.in_ok-siblings.siblings })
+          c.loop-query-test.true c.loop-query.invariant.shown c.push_reserved.ensures.items refl
+          (path ∙ ap (λ n. path_out_of levels (get_or leaves.nodes.items n 0)) slot
+          ∙ ap (path_out_of levels) (have.leaf k c.loop-query-test.true).1);
+      count = omega (arith, c.push_reserved.ensures.len, c.loop-query.invariant.count);
+      capacity = omega (arith, c.push_reserved.ensures.capacity, c.loop-query.invariant.capacity);
     }
-
-pub returns : goal.returns
-returns g c =
-    let all = take_all c.loop-index.index-index c.args.indices.now (omega arith) in
-    rw all at c.loop-index.invariant.shown

@@ -166,4 +166,5 @@ returns g c =
         sent_below = ap (λ m. below.used + (m - c.len-2.result)) long ∙ rw add-one at turn.next;
       };
       values = values;
+      slots = rw c.deref.ensures.value at c.in_ok-nodes.ensures.slots;
     }

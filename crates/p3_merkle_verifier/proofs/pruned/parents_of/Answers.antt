@@ -1,12 +1,12 @@
 -- Each turn is one more node: its parent and its query are kept if it is the first one under its parent.
 use Rattle.std.proofs.Common.{◌≡◌, ◌∙◌, ℕ, ◌+◌, ◌-◌, ◌/◌, ◌<◌, ◌++◌, ◌∷◌, [], List, arith, ap, eqb, sym, get_or, inl}
-use Rattle.std.proofs.Common.{inr, map}
+use Rattle.std.proofs.Common.{inr, length, map}
 use Rattle.std.specs.List.{dedup}
 use Rattle.std.proofs.lemmas.List.{length-map, take_all}
 use Rattle.std.proofs.lemmas.List.Elements.{All-push}
 use Rattle.std.specs.declared.vec.Vec.{Vec}
 use Rattle.std.proofs.lemmas.Result.{err_from_is_err_and}
-use Rattle.p3_merkle_verifier.proofs.ParentFacts.{queries_next, parents_next}
+use Rattle.p3_merkle_verifier.proofs.ParentFacts.{queries_next, parents_next, slots_next}
 use Rattle.p3_merkle_verifier.proofs.pruned.parents_of.Goals as goal
 use Rattle.p3_merkle_verifier.proofs.pruned.parents_of.Goals.{then-slot-eq0}
 use Rattle.p3_merkle_verifier.proofs.pruned.parents_of.Goals.{then-slot-eq0-via-then-slot-eq0}
@@ -51,6 +51,7 @@ loop-slot-preserved c =
     let step = c.args.step in
     let so_far = c.loop-slot.invariant in
     let parent = c.parent_of-parent.ensures in
+    let many : c.len.result ≡ length c.if-slot-eq0.parents.items = omega arith in
     record {
       parents =
           let next = λ (parents : List ℕ). parents_next nodes c.loop-slot.parents.items parents step i (omega arith)
@@ -105,6 +106,25 @@ loop-slot-preserved c =
                 (all i 0 (omega arith)))
             | else-slot-eq0+else-previous-parent w ↦ rw w.above-is (so_far.among n all)
           ];
+      slots =
+          let pushed : c.push_reserved-in-loop-slot.new.self.items
+          ≡ c.loop-slot.slots.items ++ (length c.if-slot-eq0.parents.items - 1) ∷ [] =
+          c.push_reserved-in-loop-slot.ensures.items
+          ∙ ap (λ (n : ℕ). c.loop-slot.slots.items ++ (n - 1) ∷ []) many in
+          let next = slots_next step nodes c.loop-slot.parents.items c.if-slot-eq0.parents.items c.loop-slot.slots.items i
+          so_far.slots in
+          rw pushed (elim c.if-slot-eq0.branch [
+            | then-slot-eq0 w ↦
+                next (inl (ap (λ (v : Vec _ _). v.items) w.parents-is ∙ w.push_reserved.ensures.items
+                ∙ ap (λ y. c.loop-slot.parents.items ++ y ∷ []) parent))
+            | else-slot-eq0+else-previous-parent w ↦
+                let some : 0 < i = omega arith in
+                next (inr (
+                  ap (λ (v : Vec _ _). v.items) w.parents-is,
+                  some,
+                  sym (so_far.before some) ∙ w.if-previous-parent.false ∙ parent,
+                ))
+          ]);
       before = λ p. let back : i + 1 - 1 ≡ i = omega arith in rw back parent;
       parents_capacity = elim c.if-slot-eq0.branch [
         | then-slot-eq0 w ↦ rw w.parents-is (
@@ -122,6 +142,10 @@ loop-slot-preserved c =
         | else-slot-eq0+else-previous-parent w ↦
             rw w.above-is (omega (arith, so_far.queries_capacity.0), so_far.queries_capacity.1)
       ];
+      slots_capacity = (
+        omega (arith, c.push_reserved-in-loop-slot.ensures.len, so_far.slots_capacity.0),
+        c.push_reserved-in-loop-slot.ensures.capacity ∙ so_far.slots_capacity.1,
+      );
     }
 
 -- all nodes are passed

@@ -1,5 +1,5 @@
 -- What is not refused restores, and its distinct indices are the covered leaves.
-use Rattle.std.proofs.Common.{◌≡◌, ◌∙◌, [], ap, length, map, refl, replicate, sym, None}
+use Rattle.std.proofs.Common.{◌∙◌, [], ap, length, map, refl, replicate, sym}
 use Rattle.std.proofs.lemmas.List.{length-map, length-replicate}
 use Rattle.std.proofs.lemmas.Result.{err_from_is_err_and}
 use Rattle.p3_support.specs.Batches.{greatest}
@@ -38,11 +38,6 @@ returns-in_err-queried-clause-leaves g c =
     let p = err_from_is_err_and c.from_residual.result c.from_residual.ensures.1 in
     rw p.1 tt
 
-pub returns-in_err-queried-clause-childless : goal.returns-in_err-queried-clause-childless
-returns-in_err-queried-clause-childless g c =
-    let p = err_from_is_err_and c.from_residual.result c.from_residual.ensures.1 in
-    rw p.1 tt
-
 pub returns-in_err-queried-clause-answer : goal.returns-in_err-queried-clause-answer
 returns-in_err-queried-clause-answer g c =
     handed_on c.from_residual.result c.in_err-queried.field-0.0 _ c.from_residual.ensures.1 c.in_err-queried.ensures
@@ -76,11 +71,18 @@ returns-clause-leaves g c =
     let asked = asked_of g.P.Value.PartialEq.eq s c.args.cap_layer p c.in_ok-queried.ensures.0 in
     let queried = c.in_ok-queried.ensures.1 in
     record {
-      nodes_are = queried.indices
-          ∙ sym (distinct_from s indices (all_below (greatest (heights s)) indices asked.highest));
-      queries_are = queried.indices ∙ queried_by_firsts s indices (distinct indices) (distinct_queried indices)
-          ∙ ap (map (node_of_query s indices 0)) (sym queried.first_queries);
-      among = firsts_inside c.in_ok-queried.queried.first_queries.items indices queried.first_queries;
-      at_exponent = c.args.steps.now.walked.leaves;
-      sent_below = refl;
+      coverage = record {
+        nodes_are = queried.indices
+            ∙ sym (distinct_from s indices (all_below (greatest (heights s)) indices asked.highest));
+        queries_are = queried.indices ∙ queried_by_firsts s indices (distinct indices) (distinct_queried indices)
+            ∙ ap (map (node_of_query s indices 0)) (sym queried.first_queries);
+        among = firsts_inside c.in_ok-queried.queried.first_queries.items indices queried.first_queries;
+        at_exponent = c.args.steps.now.walked.leaves;
+        sent_below = refl;
+      };
+      childless = refl;
+      slots = record {
+        one_each = queried.slots.one_each;
+        leaf = λ k h. let slot = queried.slots.each k h in rw queried.indices (slot.place, slot.there);
+      };
     }

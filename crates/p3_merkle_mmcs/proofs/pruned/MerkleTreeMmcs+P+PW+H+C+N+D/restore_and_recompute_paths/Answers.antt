@@ -1,16 +1,14 @@
 -- The paths are those of the checker's walk.
-use Rattle.std.proofs.Common.{◌∙◌, replicate, subst}
+use Rattle.std.proofs.Common.{replicate, subst}
 use Rattle.std.specs.Prelude.{◌≡◌, IfOk}
-use Rattle.std.specs.Option.{option_copied}
 use Rattle.p3_support.specs.Shown.{row_sets}
 use Rattle.p3_merkle_core.specs.Geometry.{shape_of}
 use Rattle.p3_merkle_core.specs.Pruning.{pruned_of, restored_paths}
 use Rattle.p3_merkle_core.specs.Refusals.{AnswersUnlessMemory, pruned_refusal}
 use Rattle.p3_merkle_core.specs.Views.{pruned_lent, shown_paths}
-use Rattle.p3_merkle_verifier.specs.Inner.RestoredLevels.{pruned_refusal_by}
 use Rattle.p3_merkle_mmcs.specs.Schemes.{cap_layer_over, compression_of, hash_of}
 use Rattle.p3_merkle_mmcs.proofs.CheckFacts.{are_steps, terms_alike}
-use Rattle.p3_merkle_mmcs.proofs.PrunedFacts.{or_none, restoring_verdict}
+use Rattle.p3_merkle_mmcs.proofs.PrunedFacts.{restoring_verdict}
 use Rattle.p3_merkle_mmcs.proofs.pruned.MerkleTreeMmcs+P+PW+H+C+N+D.restore_and_recompute_paths.Goals as goal
 
 pub returns : goal.returns
@@ -34,8 +32,7 @@ returns g c =
     λ i. pruned_of (lent.ensures.indices i) (row_sets (lent.ensures.rows i)) (lent.ensures.digests i) in
     let restored = c.restored_paths.result in
     let answer = subst (AnswersUnlessMemory restored)
-    ((λ i. pruned_refusal_by eq g.PW.Value.PartialEq.eq (alike i) (option_copied (c.then_some-no_roots.ensures i))
-    (sent i)) ∙ or_none (pruned_refusal eq s t p)) c.restored_paths.ensures.answer in
+    (λ i. pruned_refusal eq (alike i).shape (alike i).layer (sent i)) c.restored_paths.ensures.answer in
     record {
       verdict = restoring_verdict eq s t p g.met.P.PackedValue.eq_is_equality restored answer;
       paths = subst (λ (ps : _). IfOk restored (λ paths. shown_paths paths.items ≡ ps))

@@ -64,7 +64,7 @@ returns-then-not-covered g c =
     let some : 0 < c.args.layer = omega arith in
     let digests = c.in_ok-digests.digests.items in
     let restored = restored_at f s t p agreed c.args.layer some c.requires.in_tree g.row.N c.requires.arity covered
-    c.args.children.now digests layer (rw c.if-not-covered.true c.in_ok-digests.ensures.digests) in
+    digests layer (rw c.if-not-covered.true (rw c.deref.ensures.value at c.in_ok-digests.ensures.digests)) in
     record {
       count = digests_long f s t p c.args.layer covered digests layer.coverage restored;
       restored = restored;
@@ -88,15 +88,15 @@ returns g c =
     let slots = c.inject_row_digests.new.slots in
     let filled = c.in_ok-inject_row_digests.ensures in
     let nodes = c.deref_mut.result.now in
-    let rows = c.deref.result.now in
-    let nodes_are = c.deref_mut.ensures.value ∙ made.ensures.digests in
-    let rows_are = c.deref.ensures.value ∙ c.in_ok-rows.ensures.digests in
+    let rows = c.deref-2.result.now in
+    let nodes_are = c.deref_mut.ensures.value ∙ (rw c.deref.ensures.value at made.ensures.digests) in
+    let rows_are = c.deref-2.ensures.value ∙ c.in_ok-rows.ensures.digests in
     let same : length rows ≡ length nodes = omega (
       arith,
-      ap length c.deref.ensures.value,
+      ap length c.deref-2.ensures.value,
       c.in_ok-rows.ensures.count,
       ap length c.deref_mut.ensures.value,
-      made.ensures.count,
+      rw c.deref.ensures.value at made.ensures.count,
       layer.in_groups some,
     ) in
     let size : length slots ≡ made.digests.len = filled.long ∙ c.deref_mut.ensures.len in
@@ -105,7 +105,7 @@ returns g c =
     ∙ pairs_injected f.compression g.row.N f.default_digest nodes rows slots same filled
     ∙ (λ i. map (pair_digest f.compression g.row.N f.default_digest) (zip (nodes_are i) (rows_are i))) in
     let restored = restored_at f s t p agreed c.args.layer some c.requires.in_tree g.row.N c.requires.arity covered
-    c.args.children.now digests layer (rw c.if-not-covered.false are) in
+    digests layer (rw c.if-not-covered.false are) in
     record {
       count = digests_long f s t p c.args.layer covered digests layer.coverage restored;
       restored = restored;

@@ -1,5 +1,5 @@
 -- The digests of the cap's layer are compared with the roots.
-use Rattle.std.proofs.Common.{inr, refl, replicate}
+use Rattle.std.proofs.Common.{inr, replicate}
 use Rattle.p3_merkle_verifier.specs.Inner.Checks.{functions_by}
 use Rattle.p3_merkle_verifier.specs.Inner.RestoredLevels.{opened_by, tree_of}
 use Rattle.p3_merkle_verifier.proofs.RootFacts.{cap_settled}
@@ -13,11 +13,11 @@ returns-then-not-are_entries g c =
     let s = tree_of restorable in
     let t = restorable.cap_layer in
     let p = opened_by restorable in
-    let is = cap_settled g.PW.Value.PartialEq.eq f s t c.in-Some.roots.now p restorable.queried
+    let is = cap_settled g.PW.Value.PartialEq.eq f s t c.args.roots.now p restorable.queried
     c.args.covered.now.nodes.items c.in_ok-digests.digests.items c.are_entries.result
     c.requires.covered.coverage.nodes_are c.in_ok-digests.ensures.restored
     (rw (c.deref.ensures.value, c.deref-2.ensures.value) at c.are_entries.ensures) in
-    inr (rw c.in-Some.is (rw c.if-not-are_entries.true at is))
+    inr (rw c.if-not-are_entries.true at is)
 
 pub returns : goal.returns
 returns g c =
@@ -27,8 +27,8 @@ returns g c =
     let s = tree_of restorable in
     let t = restorable.cap_layer in
     let p = opened_by restorable in
-    let is = cap_settled g.PW.Value.PartialEq.eq f s t c.in-Some.roots.now p restorable.queried
+    let is = cap_settled g.PW.Value.PartialEq.eq f s t c.args.roots.now p restorable.queried
     c.args.covered.now.nodes.items c.in_ok-digests.digests.items c.are_entries.result
     c.requires.covered.coverage.nodes_are c.in_ok-digests.ensures.restored
     (rw (c.deref.ensures.value, c.deref-2.ensures.value) at c.are_entries.ensures) in
-    rw c.in-Some.is (rw c.if-not-are_entries.false at is)
+    rw c.if-not-are_entries.false at is
