@@ -1,7 +1,7 @@
 //! Batches of matrices by their dimensions: written out, or all that are lawful.
 
 use crate::reader::Reader;
-use p3_merkle_core::steps::steps_of;
+use p3_merkle_core::steps::check_heights;
 use p3_support::matrix::Dimensions;
 
 /// The batches in a text, with `;` between them.
@@ -32,7 +32,7 @@ fn lawful_batches(reader: &mut Reader, tallest: usize, width: usize) -> Vec<Vec<
     let mut batches = reader.none();
     for number in 0..choices.saturating_mul(choices) {
         let batch = batch_of(reader, width, number / choices, number % choices);
-        if steps_of(&batch, 2).check_heights().is_ok() {
+        if check_heights(&batch).is_ok() {
             reader.push(&mut batches, batch);
         }
     }

@@ -9,7 +9,7 @@ use crate::reader::Reader;
 use crate::replay::write_steps;
 use crate::scheme::{FoldOpening, FoldTree, ROOT, Rows, fold_scheme, fold_tree, tall_matrices};
 use crate::text::Answer;
-use p3_merkle_core::steps::steps_of;
+use p3_merkle_core::steps::check_heights;
 use p3_merkle_tree::{BatchOpening, BatchOpeningRef, MerkleCap, MerkleTreeError};
 use p3_support::matrix::Dimensions;
 use std::alloc::Global;
@@ -75,7 +75,7 @@ pub fn heights(case: &mut Case<'_>) -> Result<(), Fault> {
     let reader = &mut case.fields.reader;
     let dimensions = reader.columns(&heights);
     let answers = [
-        steps_of(&dimensions, 2).check_heights(),
+        check_heights(&dimensions),
         commit(case.alloc, tall_matrices(reader, &dimensions)),
         build(case.alloc, tall_matrices(reader, &dimensions)),
         scheduled(case.alloc, &dimensions),

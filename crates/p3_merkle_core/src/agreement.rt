@@ -19,7 +19,7 @@ ghost use Rattle.p3_merkle_core.specs.declared.error.MerkleTreeError.TheVariants
 use crate::error::{MerkleTreeError, PrunedProofError};
 use crate::geometry::{check_widths, exponent_of};
 use crate::pruning::{check_indices, to_parents};
-use crate::steps::Steps;
+use crate::steps::{Steps, check_heights};
 use p3_support::matrix::Dimensions;
 use std::alloc::{AllocError, Global};
 
@@ -263,7 +263,7 @@ fn check_shared_rows<T: Eq>(
 ///
 /// The first of these that holds, where `OutOfMemory` may come once the indices are known to be in range:
 ///
-/// - the error of [`Steps::check_heights`];
+/// - the error of [`check_heights`];
 /// - `WrongBatchSize`: the number of row sets is not that of the indices;
 /// - `SiblingCountMismatch`: there is a digest, and no index;
 /// - `IndexOutOfBounds`: the highest index is not below the tallest height;
@@ -310,7 +310,7 @@ fn check_queries(
         MatchResult result (λ ok. refusal ≡ None) (λ e. refusal ≡ Some e) }
     ensures low { IfOk result (λ ok. greatest (heights_of steps.now.dimensions.now) ≤ height_limit) }
 {
-    steps.check_heights()?;
+    check_heights(steps.dimensions)?;
     if num_row_sets != indices.len() {
         return Err(MerkleTreeError::WrongBatchSize {
             expected: indices.len(),

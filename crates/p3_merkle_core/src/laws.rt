@@ -119,7 +119,7 @@ pub fn collisions<P: PackedValue, PW: PackedValue, const D: usize>(
 /// For each arity and all heights: the steps from the leaves to the root end; the root is one node, unless no matrix
 /// has a row; the steps below a cap are the first of all steps; and each matrix has a layer of its exponent. For
 /// lawful heights the row of an index in a matrix is the index's ancestor in that layer.
-/// [`Steps::check_heights`](crate::steps::Steps::check_heights) accepts exactly the lawful heights.
+/// [`check_heights`](crate::steps::check_heights) accepts exactly the lawful heights.
 pub fn shape()
     ensures arities { TestedIsArity }
     ensures ends { WalkEnds }

@@ -203,6 +203,48 @@ pub fn steps_of(dimensions: &[Dimensions], arity: usize) -> Steps<'_>
     }
 }
 
+/// Checks that a tree can be built over matrices of these heights (`validate_commit_reachable_heights` in the Rust
+/// crate).
+///
+/// # Errors
+///
+/// `EmptyBatch` where no matrix has a row; else `TooLarge` for the first height above [`MAX_HEIGHT`]; else
+/// `IncompatibleHeights` for the first height that is not the tallest one halved and rounded up some number of times.
+pub fn check_heights(dimensions: &[Dimensions]) -> Result<(), MerkleTreeError>
+    ensures answer { MatchResult result (λ ok. gate_refusal (heights_of dimensions.now) ≡ None)
+        (λ e. gate_refusal (heights_of dimensions.now) ≡ Some e) }
+    ensures lawful { IsOk result ↔ IsLawful (heights_of dimensions.now) }
+{
+    let (max_height, _) = extremes_of(dimensions);
+    if max_height == 0 {
+        return Err(MerkleTreeError::EmptyBatch);
+    }
+    if let Some(matrix) = first_too_large_of(dimensions, max_height) {
+        return Err(MerkleTreeError::TooLarge {
+            matrix,
+            size: dimensions[matrix].height,
+        });
+    }
+    // A height that equals the last lawful one is not checked again: short matrices often have one height.
+    let mut lawful_height = max_height;
+    for matrix in dimensions {
+        let height = matrix.height;
+        if height != lawful_height {
+            let expected_height = height_at_of(max_height, exponent_of(height));
+            if height != expected_height {
+                return Err(MerkleTreeError::IncompatibleHeights {
+                    height,
+                    max_height,
+                    expected_height,
+                    bits_reduced: bits_reduced_of(max_height, height),
+                });
+            }
+            lawful_height = height;
+        }
+    }
+    Ok(())
+}
+
 /// The steps of a tree, which own the dimensions of its matrices. A tree keeps them, so that no opening walks them
 /// again.
 #[derive(Debug, Drop)]
@@ -285,49 +327,6 @@ impl KeptSteps {
 }
 
 impl<'a> Steps<'a> {
-    /// Checks that a tree can be built over matrices of these heights (`validate_commit_reachable_heights` in the Rust
-    /// crate). Each matrix is looked at once.
-    ///
-    /// # Errors
-    ///
-    /// `EmptyBatch` where no matrix has a row; else `TooLarge` for the first height above [`MAX_HEIGHT`]; else
-    /// `IncompatibleHeights` for the first height that is not the tallest one halved and rounded up some number of
-    /// times.
-    pub fn check_heights(&self) -> Result<(), MerkleTreeError>
-        ensures answer { MatchResult result (λ ok. gate_refusal (heights_of self.now.dimensions.now) ≡ None)
-            (λ e. gate_refusal (heights_of self.now.dimensions.now) ≡ Some e) }
-        ensures lawful { IsOk result ↔ IsLawful (heights_of self.now.dimensions.now) }
-    {
-        let max_height = self.max_height;
-        if max_height == 0 {
-            return Err(MerkleTreeError::EmptyBatch);
-        }
-        if let Some(matrix) = first_too_large_of(self.dimensions, max_height) {
-            return Err(MerkleTreeError::TooLarge {
-                matrix,
-                size: self.dimensions[matrix].height,
-            });
-        }
-        // A height that equals the last lawful one is not checked again: short matrices often have one height.
-        let mut lawful_height = max_height;
-        for matrix in self.dimensions {
-            let height = matrix.height;
-            if height != lawful_height {
-                let expected_height = height_at_of(max_height, exponent_of(height));
-                if height != expected_height {
-                    return Err(MerkleTreeError::IncompatibleHeights {
-                        height,
-                        max_height,
-                        expected_height,
-                        bits_reduced: bits_reduced_of(max_height, height),
-                    });
-                }
-                lawful_height = height;
-            }
-        }
-        Ok(())
-    }
-
     /// The layer, counted from the leaves, that is the cap of this height by this rule. The arity must be a power of
     /// two from 2 to 2^62. It does not allocate.
     pub fn cap_layer(&self, rule: CapRule, cap_height: usize) -> usize
@@ -386,7 +385,7 @@ impl<'a> Steps<'a> {
     }
 
     /// The layer above the layer `below`, which must be below the root and have `len` nodes and this exponent. The
-    /// arity must be a power of two from 2 to 2^62, and [`check_heights`](Self::check_heights) must accept the heights.
+    /// arity must be a power of two from 2 to 2^62, and [`check_heights`] must accept the heights.
     pub fn level_from(&self, below: usize, exponent: usize, len: usize) -> Level
         requires { IsBelowTop (shape_of self.now.arity self.now.dimensions.now) below exponent len }
         ensures level { IsLevel (shape_of self.now.arity self.now.dimensions.now) result }

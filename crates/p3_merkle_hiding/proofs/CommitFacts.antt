@@ -1,39 +1,29 @@
 -- What the plain commitment to pairs says of the salted matrices.
-use Rattle.std.proofs.Common.{◌≡◌, ◌∙◌, ◌⊎◌, ◌*◌, ◌+◌, ℕ, List, [], ◌∷◌, ap, refl, inl, inr, None, Option, Result}
+use Rattle.std.proofs.Common.{◌≡◌, ◌⊎◌, ◌*◌, ◌+◌, ℕ, List, [], ◌∷◌, ap, refl, inl, inr, None, Option, Result}
 use Rattle.std.specs.Prelude.{Ok, Err, IfErr, IfOk, IsErr, OnOk}
 use Rattle.rand_core.specs.Stream.{Stream}
 use Rattle.p3_support.specs.Salts.{after_words}
 use Rattle.p3_support.specs.Batches.{heights_of}
 use Rattle.p3_support.specs.declared.matrix.Dimensions.{Dimensions}
 use Rattle.p3_merkle_core.specs.Refusals.{AnswersUnlessMemory}
-use Rattle.p3_merkle_core.specs.Gate.{gate_refusal}
 use Rattle.p3_merkle_core.specs.Nodes.{Matrix, dimensions_of}
 use Rattle.p3_merkle_core.specs.declared.error.MerkleTreeError.{MerkleTreeError}
 use Rattle.p3_merkle_core.specs.declared.error.MerkleTreeError.TheVariants.{OutOfMemory}
 use Rattle.p3_merkle_hiding.specs.Salted.{salted_matrices}
 use Rattle.p3_merkle_hiding.specs.SaltedOpenings.{widened}
 
--- salted matrices have their heights
-heights_stay : {T : Type 0} (of_word : ℕ → T) (e : ℕ) (ms : List (Matrix T)) (s : Stream) →
-    heights_of (dimensions_of (salted_matrices of_word e ms s)) ≡ heights_of (dimensions_of ms)
-heights_stay of_word e [] s = refl
-heights_stay of_word e (m ∷ ms) s =
-    ap (λ (hs : List ℕ). m.height ∷ hs) (heights_stay of_word e ms (after_words (m.height * e) s))
+-- a matrix keeps its height beside its salts
+pub widened_heights : (e : ℕ) (ds : List Dimensions) → heights_of (widened e ds) ≡ heights_of ds
+widened_heights e [] = refl
+widened_heights e (d ∷ ds) = ap (λ (hs : List ℕ). d.height ∷ hs) (widened_heights e ds)
 
--- and are so much wider
+-- salted matrices are so much wider
 pub salted_widened : {T : Type 0} (of_word : ℕ → T) (e : ℕ) (ms : List (Matrix T)) (s : Stream) →
     dimensions_of (salted_matrices of_word e ms s) ≡ widened e (dimensions_of ms)
 salted_widened of_word e [] s = refl
 salted_widened of_word e (m ∷ ms) s =
     ap (λ (ds : List Dimensions). record { width = m.width + e; height = m.height } ∷ ds)
     (salted_widened of_word e ms (after_words (m.height * e) s))
-
--- so the gate takes them where it takes the matrices
-pub gate_stays : {T : Type 0} (of_word : ℕ → T) (e : ℕ) (ms pairs : List (Matrix T)) (s : Stream) → pairs
-    ≡ salted_matrices of_word e ms s → gate_refusal (heights_of (dimensions_of ms)) ≡ None →
-    gate_refusal (heights_of (dimensions_of pairs)) ≡ None
-gate_stays of_word e ms pairs s are none = ap (λ (z : List (Matrix _)). gate_refusal (heights_of (dimensions_of z))) are
-    ∙ ap gate_refusal (heights_stay of_word e ms s) ∙ none
 
 module _ {A : Type 0} where
   -- an error where nothing is refused is for want of memory

@@ -1,6 +1,8 @@
 //! Commitments to salted matrices: heights and widths are checked, salts are drawn, and the plain scheme commits.
 
 ghost use Rattle.std.specs.Prelude.{◌≡◌, ◌≤◌, ◌⊎◌, IfErr, IfOk, OnOk, map};
+ghost use Rattle.p3_support.specs.Batches.{dimensions_in, heights_of};
+ghost use Rattle.p3_merkle_core.specs.Geometry.{IsLawful};
 ghost use Rattle.p3_merkle_core.specs.Refusals.{AnswersUnlessMemory};
 ghost use Rattle.p3_merkle_core.specs.Commitments.{IsCommitment};
 ghost use Rattle.p3_merkle_core.specs.Views.{batch_of, matrix_of};
@@ -12,23 +14,25 @@ ghost use Rattle.p3_support.specs.Shown.{roots_of};
 ghost use Rattle.p3_merkle_hiding.specs.HidingSchemes.{generator_of, plain_of, salted_params_of};
 ghost use Rattle.p3_merkle_hiding.specs.Salted.{after_salts, salted_batch, salted_matrices, IsAfterSome};
 ghost use Rattle.p3_merkle_hiding.specs.SaltRefusals.{salted_commit_refusal};
+ghost use Rattle.p3_merkle_hiding.specs.SaltedOpenings.{widened, CanWiden};
 ghost use Rattle.p3_merkle_hiding.specs.SaltedTrees.{HaveSaltColumns};
 ghost use Rattle.p3_merkle_hiding.specs.Inner.SaltedParts.{pair_matrix};
 
 use crate::hiding_mmcs::{MerkleTreeHidingMmcs, SaltedTree};
-use crate::join::check_widening;
+use crate::join::widened_dimensions;
 use p3_merkle_core::error::MerkleTreeError;
-use p3_merkle_core::steps::steps_of;
-use p3_merkle_prover::tree::batch_dimensions;
+use p3_merkle_core::steps::check_heights;
+use p3_merkle_prover::checked::CheckedMatrices;
 use p3_support::compress::PseudoCompressionFunction;
 use p3_support::hasher::CryptographicHasher;
-use p3_support::matrix::{Matrix, RowMajorMatrix};
+use p3_support::matrix::{Dimensions, Matrix, RowMajorMatrix, dimensions_of};
 use p3_support::opening::MerkleCap;
 use p3_support::packed::PackedValue;
 use p3_support::pair::HorizontalPair;
 use p3_support::salts::SaltWord;
 use rand_core::{CryptoRng, Rng};
-use std::alloc::Global;
+use std::alloc::{AllocError, Global};
+use std::marker::PhantomData;
 
 impl<
     P: PackedValue,
@@ -87,51 +91,71 @@ where
         ensures untouched { IfErr result (λ e. (e ≡ OutOfMemory) ⊎ (generator_of self.new ≡ generator_of self.old)) }
         ensures scheme { plain_of self.new ≡ plain_of self.old }
     {
-        let pairs = salted_pairs(alloc, &mut self.generator, N, SALT_ELEMS, matrices)?;
-        self.plain.commit(alloc, pairs)
+        let dimensions = salted_dimensions(alloc, &matrices, SALT_ELEMS)?;
+        let pairs = salted_pairs(alloc, &mut self.generator, dimensions, SALT_ELEMS, matrices)?;
+        self.plain.commit_checked(alloc, pairs)
     }
 }
 
-/// Checks the heights and widths of matrices, draws `salt_elems` salts for each row, and returns each matrix beside its
-/// salts. Each salt takes one call of `next_u64`: matrix by matrix in input order, row by row.
-///
-/// `arity` must be at least 2 and `salt_elems` at least 1.
+/// The dimensions of matrices with `salt_elems` salts beside each row.
 ///
 /// # Errors
 ///
 /// `EmptyBatch`, `TooLarge` or `IncompatibleHeights` for the heights of the matrices, as a commitment refuses them;
-/// else `TooLarge` for the first matrix whose width with its salts does not fit `usize`. These draw nothing from the
-/// generator. `OutOfMemory` may come at any time; then the generator has drawn the salts of the first few matrices,
-/// perhaps of none or of all.
+/// else `TooLarge` for the first matrix whose width with its salts does not fit `usize`. `OutOfMemory` may come at any
+/// time.
+fn salted_dimensions<T, M: Matrix<T>>(
+    alloc: Global,
+    matrices: &[M],
+    salt_elems: usize,
+) -> Result<Vec<Dimensions>, MerkleTreeError>
+    ensures answer { let ds = dimensions_in M.height_of M.width_of matrices.now in
+        AnswersUnlessMemory result (salted_commit_refusal salt_elems ds) }
+    ensures lawful { IfOk result (λ v. IsLawful (heights_of v.items)) }
+    ensures fits { IfOk result (λ v. CanWiden salt_elems (dimensions_in M.height_of M.width_of matrices.now)) }
+    ensures wider { IfOk result (λ v. v.items ≡ widened salt_elems (dimensions_in M.height_of M.width_of matrices.now)) }
+{
+    let dimensions = dimensions_of(alloc, matrices)?;
+    check_heights(&dimensions)?;
+    widened_dimensions(alloc, &dimensions, salt_elems)
+}
+
+/// Draws `salt_elems` salts for each row of the matrices, and returns each matrix beside its salts. Each salt takes one
+/// call of `next_u64`: matrix by matrix in input order, row by row. `dimensions` are those of the pairs.
+///
+/// # Errors
+///
+/// `AllocError` if memory runs out; then the generator has drawn the salts of the first few matrices, perhaps of none
+/// or of all.
 fn salted_pairs<T: SaltWord, M: Matrix<T> + Drop, R: Rng>(
     alloc: Global,
     rng: &mut R,
-    arity: usize,
+    dimensions: Vec<Dimensions>,
     salt_elems: usize,
     matrices: Vec<M>,
-) -> Result<Vec<HorizontalPair<T, M, RowMajorMatrix<T>>>, MerkleTreeError>
-    requires arity { 2 ≤ arity }
+) -> Result<CheckedMatrices<T, HorizontalPair<T, M, RowMajorMatrix<T>>>, AllocError>
     requires some_salt { 1 ≤ salt_elems }
-    ensures answer { let ms = map (matrix_of M.height_of M.width_of M.row_of) matrices.items in
-        AnswersUnlessMemory result (salted_commit_refusal salt_elems (dimensions_of ms)) }
-    ensures matrices { IfOk result (λ pairs. map left_of pairs.items ≡ matrices.items) }
-    ensures columns { IfOk result (λ pairs. HaveSaltColumns salt_elems pairs.items) }
+    requires lawful { IsLawful (heights_of dimensions.items) }
+    requires fits { CanWiden salt_elems (dimensions_in M.height_of M.width_of matrices.items) }
+    requires wider { dimensions.items ≡ widened salt_elems (dimensions_in M.height_of M.width_of matrices.items) }
+    ensures matrices { IfOk result (λ pairs. map left_of pairs.matrices.items ≡ matrices.items) }
+    ensures columns { IfOk result (λ pairs. HaveSaltColumns salt_elems pairs.matrices.items) }
     ensures salted { let ms = map (matrix_of M.height_of M.width_of M.row_of) matrices.items in
-        IfOk result (λ pairs. map pair_matrix pairs.items ≡ salted_matrices T.of_salt_word salt_elems ms
+        IfOk result (λ pairs. map pair_matrix pairs.matrices.items ≡ salted_matrices T.of_salt_word salt_elems ms
         (R.stream rng.old)) }
     ensures rest { let ms = map (matrix_of M.height_of M.width_of M.row_of) matrices.items in
         OnOk result (R.stream rng.new ≡ after_salts salt_elems ms (R.stream rng.old)) }
     ensures further { let ms = map (matrix_of M.height_of M.width_of M.row_of) matrices.items in
         IsAfterSome salt_elems ms (R.stream rng.old) (R.stream rng.new) }
-    ensures untouched { IfErr result (λ e. (e ≡ OutOfMemory) ⊎ (rng.new ≡ rng.old)) }
 {
-    let dimensions = batch_dimensions(alloc, &matrices)?;
-    steps_of(&dimensions, arity).check_heights()?;
-    check_widening(&dimensions, salt_elems)?;
     let mut pairs = Vec::with_capacity(alloc, matrices.len())?;
     for matrix in matrices {
         let salts = RowMajorMatrix::rand(alloc, rng, matrix.height(), salt_elems)?;
         pairs.push(HorizontalPair::new(matrix, salts))?;
     }
-    Ok(pairs)
+    Ok(CheckedMatrices {
+        matrices: pairs,
+        dimensions,
+        item: PhantomData,
+    })
 }

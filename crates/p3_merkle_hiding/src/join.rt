@@ -113,7 +113,7 @@ fn check_salts<T>(
 /// # Errors
 ///
 /// `TooLarge` for the first matrix whose width plus `salt_elems` does not fit `usize`; its `size` is the width alone.
-pub fn check_widening(dimensions: &[Dimensions], salt_elems: usize) -> Result<(), MerkleTreeError>
+fn check_widening(dimensions: &[Dimensions], salt_elems: usize) -> Result<(), MerkleTreeError>
     ensures answer { let refusal = widening_refusal salt_elems dimensions.now in
         MatchResult result (λ ok. refusal ≡ None) (λ e. refusal ≡ Some e) }
     ensures fits { IfOk result (λ ok. CanWiden salt_elems dimensions.now) }
@@ -135,12 +135,13 @@ pub fn check_widening(dimensions: &[Dimensions], salt_elems: usize) -> Result<()
 /// # Errors
 ///
 /// That of [`check_widening`]; `OutOfMemory` may come at any time.
-fn widened_dimensions(
+pub fn widened_dimensions(
     alloc: Global,
     dimensions: &[Dimensions],
     salt_elems: usize,
 ) -> Result<Vec<Dimensions>, MerkleTreeError>
     ensures answer { AnswersUnlessMemory result (widening_refusal salt_elems dimensions.now) }
+    ensures fits { IfOk result (λ v. CanWiden salt_elems dimensions.now) }
     ensures wider { IfOk result (λ v. v.items ≡ widened salt_elems dimensions.now) }
 {
     check_widening(dimensions, salt_elems)?;

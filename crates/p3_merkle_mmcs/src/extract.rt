@@ -18,7 +18,7 @@ use p3_merkle_core::collision::Collision;
 use p3_merkle_core::error::MerkleTreeError;
 use p3_merkle_core::geometry::exponent_of;
 use p3_merkle_core::pruning::PrunedMerklePaths;
-use p3_merkle_core::steps::steps_of;
+use p3_merkle_core::steps::{check_heights, steps_of};
 use p3_merkle_verifier::openings::OpeningRef;
 use p3_support::compress::PseudoCompressionFunction;
 use p3_support::hasher::CryptographicHasher;
@@ -50,7 +50,7 @@ impl<P: PackedValue, PW: PackedValue, H, C, X, G, const N: usize> Scheme<P, PW, 
         ensures lowered { cap_rule_of self.now ≡ Lowered → IfOk result (λ answer. IsTrue answer) }
     {
         let steps = steps_of(dimensions, N);
-        steps.check_heights()?;
+        check_heights(steps.dimensions)?;
         let cap_layer = steps.cap_layer(self.cap_rule, self.cap_height);
         let height = dimensions[matrix].height;
         Ok(exponent_of(height) >= steps.layer_exponent(cap_layer))

@@ -8,7 +8,8 @@ ghost use Rattle.p3_support.specs.Batches.{greatest};
 use p3_merkle_core::cap::CapRule;
 use p3_merkle_core::error::MerkleTreeError;
 use p3_merkle_core::steps::steps_of;
-use p3_merkle_prover::opener::{rows_of_index, siblings_of_index, steps_in};
+use p3_merkle_prover::checked::{CheckedMatrices, checked_matrices, tree_over};
+use p3_merkle_prover::opener::{cap_at, rows_of_index, siblings_of_index, steps_in};
 use p3_merkle_prover::tree::MerkleTree;
 use p3_merkle_verifier::openings::OpeningRef;
 use p3_merkle_verifier::path::Checker;
@@ -186,15 +187,35 @@ impl<
             let c = params_over H.hash C.compression D self.now (shape b) in
             IfOk result (λ (cap, tree). IsCommitment c (roots_of cap) b (layers_of tree)) }
     {
+        self.commit_checked(alloc, checked_matrices(alloc, matrices)?)
+    }
+
+    /// Commits to matrices that are checked, as [`commit`](Self::commit) does.
+    ///
+    /// # Errors
+    ///
+    /// Only `OutOfMemory`.
+    pub fn commit_checked<M: Matrix<P::Value> + Drop>(
+        &self,
+        alloc: Global,
+        leaves: CheckedMatrices<P::Value, M>,
+    ) -> Result<
+        (
+            MerkleCap<P::Value, [PW::Value; D]>,
+            MerkleTree<P::Value, PW::Value, M, N, D>,
+        ),
+        MerkleTreeError,
+    >
+        ensures memory { AnswersUnlessMemory result None }
+        ensures matrices { IfOk result (λ (cap, tree). matrices_of tree ≡ leaves.matrices.items) }
+        ensures committed { let b = batch_of M.height_of M.width_of M.row_of N leaves.matrices.items in
+            let c = params_over H.hash C.compression D self.now (shape b) in
+            IfOk result (λ (cap, tree). IsCommitment c (roots_of cap) b (layers_of tree)) }
+    {
         lemma_arity::<N>();
-        let tree = MerkleTree::<P::Value, PW::Value, M, N, D>::new::<P, PW, H, C>(
-            alloc,
-            &self.hash,
-            &self.compress,
-            matrices,
-        )?;
+        let tree = tree_over::<P, PW, H, C, M, N, D>(alloc, &self.hash, &self.compress, leaves)?;
         let cap_layer = steps_in(&tree).cap_layer(self.cap_rule, self.cap_height);
-        let cap = tree.cap(alloc, tree.num_layers() - 1 - cap_layer)?;
+        let cap = cap_at(alloc, &tree, cap_layer)?;
         Ok((cap, tree))
     }
 

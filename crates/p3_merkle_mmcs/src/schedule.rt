@@ -9,7 +9,7 @@ ghost use Rattle.p3_merkle_core.specs.Refusals.{replay_refusal, AnswersUnlessMem
 use crate::mmcs::Scheme;
 use p3_merkle_core::error::MerkleTreeError;
 use p3_merkle_core::geometry::ArityAndPositions;
-use p3_merkle_core::steps::steps_of;
+use p3_merkle_core::steps::{check_heights, steps_of};
 use p3_merkle_prover::opener::{matrix_refs, max_height};
 use p3_merkle_prover::tree::Tree;
 use p3_support::matrix::{Dimensions, Matrix};
@@ -52,7 +52,7 @@ impl<P: PackedValue, PW: PackedValue, H, C, X: Copy, G, const N: usize> Scheme<
         ensures few { IfOk result (λ v. vec_len v ≤ exponent (greatest (heights_of dimensions.now))) }
     {
         let steps = steps_of(dimensions, N);
-        steps.check_heights()?;
+        check_heights(steps.dimensions)?;
         let cap_layer = steps.cap_layer(self.cap_rule, self.cap_height);
         Ok(steps.schedule_below(alloc, cap_layer)?)
     }
@@ -81,7 +81,7 @@ impl<P: PackedValue, PW: PackedValue, H, C, X: Copy, G, const N: usize> Scheme<
             IfOk result (λ r. r.query_positions.items ≡ positions_below s (cap_layer_over self.now s) index) }
     {
         let steps = steps_of(dimensions, N);
-        steps.check_heights()?;
+        check_heights(steps.dimensions)?;
         let max_height = steps.max_height;
         if index >= max_height {
             return Err(MerkleTreeError::IndexOutOfBounds { max_height, index });

@@ -24,8 +24,8 @@ use std::marker::PhantomData;
 /// Builds the layers of a tree, with a hasher for rows and a compression of `N` digests for nodes. `G` is the type of a
 /// group. [`TreeBuilder`] is this builder at digests of words.
 ///
-/// `N` is a power of two from 2 to 2^62, [`Steps::check_heights`] accepts the heights, and both packings have equally
-/// many lanes.
+/// `N` is a power of two from 2 to 2^62, [`check_heights`](p3_merkle_core::steps::check_heights) accepts the heights,
+/// and both packings have equally many lanes.
 #[derive(Drop)]
 pub(crate) struct TreeOver<
     'a,

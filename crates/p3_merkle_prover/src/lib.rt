@@ -2,6 +2,7 @@
 //! several.
 #![tactic(auto)]
 
+pub mod checked;
 pub mod consistency;
 mod layer;
 mod layers;

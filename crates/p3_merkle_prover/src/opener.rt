@@ -1,22 +1,23 @@
-//! What a tree opens of one leaf: a row of each matrix, and the siblings on the leaf's path.
+//! What a tree opens of one leaf: a row of each matrix, and the siblings on the leaf's path. And its cap.
 
-ghost use Rattle.std.specs.Prelude.{◌≡◌, ◌<◌, ◌≤◌, ◌++◌, length, map, IfOk, None};
+ghost use Rattle.std.specs.Prelude.{◌≡◌, ◌<◌, ◌≤◌, ◌++◌, length, map, slice_get, IfOk, None, Some};
 ghost use Rattle.std.specs.List.{remove};
 ghost use Rattle.p3_support.specs.Batches.{greatest};
 ghost use Rattle.p3_merkle_core.specs.Geometry.{heights, levels, shape_of};
 ghost use Rattle.p3_merkle_core.specs.Nodes.{shape};
 ghost use Rattle.p3_merkle_core.specs.Openings.{honest_rows, node_in, siblings_by};
 ghost use Rattle.p3_merkle_core.specs.declared.error.MerkleTreeError.TheVariants.{OutOfMemory};
-ghost use Rattle.p3_support.specs.Shown.{row_lists};
+ghost use Rattle.p3_support.specs.Shown.{roots_of, row_lists};
 ghost use Rattle.p3_merkle_prover.specs.Parts.{layers_of, matrices_of, tree_batch};
 ghost use Rattle.p3_merkle_core.specs.Refusals.{AnswersUnlessMemory};
 
-use crate::tree::Tree;
+use crate::tree::{MerkleTree, Tree};
 use p3_merkle_core::error::MerkleTreeError;
 use p3_merkle_core::geometry::bits_reduced_of;
 use p3_merkle_core::pruning::{parent_of, position_of};
 use p3_merkle_core::steps::Steps;
 use p3_support::matrix::Matrix;
+use p3_support::opening::MerkleCap;
 use std::alloc::{AllocError, Global};
 
 /// So many words of a row, or fewer, are copied one by one.
@@ -34,6 +35,22 @@ pub fn max_height<F, X, G, M: Matrix<F>, const N: usize>(tree: &Tree<F, X, G, M,
     ensures { result ≡ greatest (heights (shape (tree_batch tree.now))) }
 {
     tree.steps.max_height
+}
+
+/// The layer of a tree, counted from the leaves, as a cap. It must be at most the number of levels.
+///
+/// # Errors
+///
+/// `AllocError` if memory runs out.
+pub fn cap_at<F, W: Copy, M: Matrix<F>, const N: usize, const D: usize>(
+    alloc: Global,
+    tree: &MerkleTree<F, W, M, N, D>,
+    layer: usize,
+) -> Result<MerkleCap<F, [W; D]>, AllocError>
+    requires { layer ≤ levels (shape (tree_batch tree.now)) }
+    ensures { IfOk result (λ cap. slice_get (layers_of tree.now) layer ≡ Some (roots_of cap)) }
+{
+    Ok(MerkleCap::new(Vec::from_slice(alloc, &tree.layers[layer])?))
 }
 
 /// The row of each matrix that belongs to leaf `index`, in input order. The index must be below [`max_height`].

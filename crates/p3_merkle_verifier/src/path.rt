@@ -18,7 +18,7 @@ use p3_merkle_core::error::MerkleTreeError;
 use p3_merkle_core::geometry::check_widths;
 use p3_merkle_core::group::{group_with, pair_group};
 use p3_merkle_core::pruning::{parent_of, position_of};
-use p3_merkle_core::steps::{StepUp, Steps};
+use p3_merkle_core::steps::{StepUp, Steps, check_heights};
 use p3_support::compress::PseudoCompressionFunction;
 use p3_support::hasher::CryptographicHasher;
 use p3_support::matrix::Dimensions;
@@ -119,7 +119,7 @@ fn check_form<T>(
             got: rows.len(),
         });
     }
-    steps.check_heights()?;
+    check_heights(steps.dimensions)?;
     let expected_proof_len = steps.siblings_below(cap_layer);
     if num_siblings != expected_proof_len {
         return Err(MerkleTreeError::WrongHeight {

@@ -1,49 +1,25 @@
 -- Each turn draws the salts of one more matrix.
 use Rattle.std.proofs.Common.{◌≡◌, ◌∙◌, ◌+◌, ◌*◌, List, [], ◌∷◌, ◌++◌, ap, append-nil, arith, map, refl, subst}
-use Rattle.std.proofs.Common.{Option, rules, sym}
-use Rattle.std.specs.Option.{option_or}
+use Rattle.std.proofs.Common.{sym}
 use Rattle.std.proofs.lemmas.List.Elements.{All-push}
 use Rattle.std.specs.Vec.Iter.{into_iter_items}
 use Rattle.std.proofs.lemmas.List.{map-append, nil_from_length}
-use Rattle.p3_support.specs.Batches.{heights_of}
 use Rattle.p3_support.specs.declared.matrix.Dimensions.{Dimensions}
-use Rattle.p3_merkle_core.specs.Gate.{gate_refusal}
 use Rattle.p3_merkle_core.specs.Nodes.{dimensions_of}
-use Rattle.p3_merkle_core.specs.Refusals.{AnswersUnlessMemory}
 use Rattle.p3_merkle_core.specs.Views.{matrix_of}
-use Rattle.p3_support.specs.Pairs.{left_of, right_of}
+use Rattle.p3_support.specs.Lists.{message}
+use Rattle.p3_support.specs.Pairs.{left_of, pair_row, right_of}
 use Rattle.p3_support.specs.RowMajor.{row_width, values_of}
+use Rattle.p3_merkle_core.proofs.Lists.ViewFacts.{dimensions_are}
+use Rattle.p3_merkle_hiding.proofs.CommitFacts.{salted_widened}
 use Rattle.p3_support.specs.Salts.{after_words, salts}
 use Rattle.p3_merkle_hiding.proofs.DrawFacts.{after_next, after_some, drawn_more, first_fits, others_fit, pairs_more}
 use Rattle.p3_merkle_hiding.proofs.DrawFacts.{salted_row, same_more, stream_more}
 use Rattle.p3_merkle_hiding.specs.Salted.{after_salts, salted, salted_matrices}
-use Rattle.p3_merkle_hiding.specs.SaltRefusals.{salted_commit_refusal, widening_refusal}
-use Rattle.p3_merkle_hiding.specs.SaltedOpenings.{CanWiden}
+use Rattle.p3_merkle_hiding.specs.SaltedOpenings.{widened, CanWiden}
 use Rattle.p3_merkle_hiding.specs.SaltedTrees.{HaveSaltColumns}
 use Rattle.p3_merkle_hiding.specs.Inner.SaltedParts.{pair_matrix}
 use Rattle.p3_merkle_hiding.proofs.commit.salted_pairs.Goals as goal
-
--- heights are refused, else a width
-pub returns-in_err-check_heights-clause-answer : goal.returns-in_err-check_heights-clause-answer
-returns-in_err-check_heights-clause-answer g c =
-    let shown = map (matrix_of g.M.Matrix.height_of g.M.Matrix.width_of g.M.Matrix.row_of) in
-    let are = c.steps_of.ensures.dimensions ∙ c.deref-2.ensures.value ∙ c.in_ok-dimensions.ensures
-    ∙ ap (λ (ms : List _). dimensions_of (shown ms)) c.deref.ensures.value in
-    subst (λ (ds : List Dimensions). AnswersUnlessMemory c.from_residual-in_err-check_heights.result
-    (salted_commit_refusal c.args.salt_elems ds)) are (search rules)
-
-pub returns-in_err-check_widening-clause-answer : goal.returns-in_err-check_widening-clause-answer
-returns-in_err-check_widening-clause-answer g c =
-    let shown = map (matrix_of g.M.Matrix.height_of g.M.Matrix.width_of g.M.Matrix.row_of) in
-    let r = c.from_residual-in_err-check_widening.result in
-    let e = c.args.salt_elems in
-    let made = c.in_ok-dimensions.ensures ∙ ap (λ (ms : List _). dimensions_of (shown ms)) c.deref.ensures.value in
-    let none = sym (ap (λ (ds : List Dimensions). gate_refusal (heights_of ds))
-    (c.steps_of.ensures.dimensions ∙ c.deref-2.ensures.value ∙ made)) ∙ c.in_ok-check_heights.ensures.answer in
-    subst (λ (o : Option _). AnswersUnlessMemory r
-    (option_or o (widening_refusal e (dimensions_of (shown c.args.matrices.items))))) (sym none)
-    (subst (λ (ds : List Dimensions). AnswersUnlessMemory r (widening_refusal e ds)) (c.deref-3.ensures.value ∙ made)
-    (search rules))
 
 pub new-requires-clause-width_fits : goal.new-requires-clause-width_fits
 new-requires-clause-width_fits g c =
@@ -62,10 +38,9 @@ loop-matrix-init g c =
     let s = g.R.Rng.stream c.args.rng.now in
     let all = c.into_iter-matrix-iterator.ensures.into_iter_gives.0 in
     let none = c.in_ok-pairs.ensures.items in
-    let are = c.deref-3.ensures.value ∙ c.in_ok-dimensions.ensures
-    ∙ ap (λ (ms : List _). dimensions_of (shown ms)) c.deref.ensures.value in
+    let are = sym (dimensions_are g.M.Matrix.height_of g.M.Matrix.width_of g.M.Matrix.row_of c.args.matrices.items) in
     record {
-      fits = rw all (subst (λ (ds : List Dimensions). CanWiden e ds) are c.in_ok-check_widening.ensures.fits);
+      fits = rw all (subst (λ (ds : List Dimensions). CanWiden e ds) are c.requires.fits);
       same = λ i. map left_of (none i) ++ all i;
       columns = rw none (λ k d past. absurd (omega (arith, past)));
       salted = λ i. map pair_matrix (none i) ++ salted_matrices of_word e (shown (all i)) s;
@@ -150,6 +125,27 @@ returns-in_err-push-clause-further g c =
 
 pub returns-in_err-pairs-clause-further : goal.returns-in_err-pairs-clause-further
 returns-in_err-pairs-clause-further g c = (0, refl)
+
+-- the pairs are so much wider than the matrices
+pub invariant_of-result-clause-own : goal.invariant_of-result-clause-own
+invariant_of-result-clause-own g c =
+    let it = c.loop-matrix.matrix-iterator in
+    let left = nil_from_length (into_iter_items it) (omega (arith, it.rest.ok.0, c.in-None.ensures.steps.0)) in
+    let of_word = g.T.SaltWord.of_salt_word in
+    let e = c.args.salt_elems in
+    let height = g.M.Matrix.height_of in
+    let width = g.M.Matrix.width_of in
+    let row = g.M.Matrix.row_of in
+    let ms = c.args.matrices.items in
+    let pairs = c.loop-matrix.pairs.items in
+    let salted : map pair_matrix pairs
+    ≡ salted_matrices of_word e (map (matrix_of height width row) ms) (g.R.Rng.stream c.args.rng.now) =
+    rw (left, append-nil) at c.loop-matrix.invariant.salted in
+    c.requires.wider ∙ ap (widened e) (sym (dimensions_are height width row ms))
+    ∙ sym (salted_widened of_word e (map (matrix_of height width row) ms) (g.R.Rng.stream c.args.rng.now))
+    ∙ ap dimensions_of (sym salted)
+    ∙ dimensions_are (λ p. height (left_of p)) (λ p. width (left_of p) + row_width (right_of p))
+    (λ p. pair_row row (λ m r. message (row_width m) (values_of m) r) (left_of p) (right_of p)) pairs
 
 -- none is left
 pub returns-clause-matrices : goal.returns-clause-matrices

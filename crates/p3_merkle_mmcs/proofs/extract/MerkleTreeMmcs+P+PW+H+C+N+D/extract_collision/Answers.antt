@@ -12,7 +12,6 @@ use Rattle.p3_merkle_verifier.specs.Inner.Collisions.{Shows}
 use Rattle.p3_merkle_mmcs.specs.Schemes.{cap_layer_over, compression_of, hash_of, params_of}
 use Rattle.p3_merkle_mmcs.proofs.CheckFacts.{are_steps, opening_is, terms_alike}
 use Rattle.p3_merkle_mmcs.proofs.extract.MerkleTreeMmcs+P+PW+H+C+N+D.extract_collision.Goals as goal
-use Rattle.p3_merkle_core.specs.Checks.{params}
 
 pub returns : goal.returns
 returns g c =

@@ -1,5 +1,5 @@
 -- The steps below the cap are the first of all steps.
-use Rattle.std.proofs.Common.{◌≡◌, ◌∙◌, ap, arith, inl, length, sym}
+use Rattle.std.proofs.Common.{◌∙◌, ap, arith, inl, length, sym}
 use Rattle.std.proofs.lemmas.Result.{err_from_is_err_and}
 use Rattle.std.proofs.lemmas.List.FromFn.{length-map-range_with_len, take-map-range_with_len}
 use Rattle.p3_merkle_core.specs.Geometry.{levels, schedule_below, shape_of, step}

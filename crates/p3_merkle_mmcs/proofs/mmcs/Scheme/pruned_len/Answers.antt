@@ -1,5 +1,5 @@
 -- The boundary of the covered leaves is counted, which is least.
-use Rattle.std.proofs.Common.{◌≡◌, ◌∙◌, arith, inl, refl}
+use Rattle.std.proofs.Common.{◌∙◌, arith, inl, refl}
 use Rattle.std.proofs.lemmas.Result.{err_from_is_err_and}
 use Rattle.p3_support.specs.Batches.{heights_of}
 use Rattle.p3_merkle_core.specs.Geometry.{shape_of, IsArity}

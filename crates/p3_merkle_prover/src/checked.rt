@@ -1,0 +1,107 @@
+//! Matrices that a tree can be built over, and the tree over them.
+
+ghost use Rattle.std.specs.Prelude.{◌≡◌, ◌≤◌, IfOk, IsTrue, replicate};
+ghost use Rattle.p3_support.specs.Batches.{dimensions_in, heights_of};
+ghost use Rattle.p3_merkle_core.specs.Gate.{gate_refusal};
+ghost use Rattle.p3_merkle_core.specs.Geometry.{is_arity, IsLawful};
+ghost use Rattle.p3_merkle_core.specs.Nodes.{functions_of, layers as layers_over};
+ghost use Rattle.p3_merkle_core.specs.Refusals.{AnswersUnlessMemory};
+ghost use Rattle.p3_merkle_core.specs.Views.{batch_of, heights_in};
+ghost use Rattle.p3_merkle_prover.specs.Parts.{layers_of, matrices_of};
+
+use crate::layers::TreeBuilder;
+use crate::tree::{MerkleTree, Tree};
+use p3_merkle_core::error::MerkleTreeError;
+use p3_merkle_core::steps::{KeptSteps, check_heights};
+use p3_support::compress::PseudoCompressionFunction;
+use p3_support::hasher::CryptographicHasher;
+use p3_support::matrix::{Dimensions, Matrix, dimensions_of};
+use p3_support::packed::PackedValue;
+use std::alloc::{AllocError, Global};
+use std::marker::PhantomData;
+
+/// Matrices of lawful heights, and their dimensions, in input order.
+#[derive(Drop)]
+pub struct CheckedMatrices<T, M: Matrix<T>> {
+    /// The matrices.
+    pub matrices: Vec<M>,
+    /// The dimensions of each.
+    pub dimensions: Vec<Dimensions>,
+    /// The values of the matrices.
+    pub item: PhantomData<T>,
+    ghost own: { dimensions.items ≡ dimensions_in M.height_of M.width_of matrices.items },
+    ghost lawful: { IsLawful (heights_of dimensions.items) },
+}
+
+/// Lists the dimensions of matrices and checks their heights.
+///
+/// # Errors
+///
+/// Those of [`check_heights`]; `OutOfMemory` may come at any time.
+pub fn checked_matrices<T, M: Matrix<T> + Drop>(
+    alloc: Global,
+    matrices: Vec<M>,
+) -> Result<CheckedMatrices<T, M>, MerkleTreeError>
+    ensures answer { AnswersUnlessMemory result
+        (gate_refusal (heights_in M.height_of M.width_of M.row_of matrices.items)) }
+    ensures matrices { IfOk result (λ checked. checked.matrices.items ≡ matrices.items) }
+{
+    let dimensions = dimensions_of(alloc, &matrices)?;
+    check_heights(&dimensions)?;
+    Ok(CheckedMatrices {
+        matrices,
+        dimensions,
+        item: PhantomData,
+    })
+}
+
+/// The tree over matrices. Its steps are walked here, and nowhere else in a commitment.
+///
+/// # Errors
+///
+/// `AllocError` if memory runs out.
+pub fn tree_over<
+    P: PackedValue,
+    PW: PackedValue,
+    H: CryptographicHasher<P, PW, D>,
+    C: PseudoCompressionFunction<PW, N, D>,
+    M: Matrix<P::Value> + Drop,
+    const N: usize,
+    const D: usize,
+>(
+    alloc: Global,
+    hash: &H,
+    compress: &C,
+    leaves: CheckedMatrices<P::Value, M>,
+) -> Result<MerkleTree<P::Value, PW::Value, M, N, D>, AllocError>
+    requires arity { IsTrue (is_arity N) }
+    requires lanes { P.WIDTH ≡ PW.WIDTH }
+    requires some_lane { 1 ≤ P.WIDTH }
+    ensures matrices { IfOk result (λ tree. matrices_of tree ≡ leaves.matrices.items) }
+    ensures layers { let f = functions_of (H.hash hash.now) (C.compression compress.now)
+        (replicate D PW.default_value) in
+        let b = batch_of M.height_of M.width_of M.row_of N leaves.matrices.items in
+        IfOk result (λ tree. layers_of tree ≡ layers_over f b) }
+{
+    let CheckedMatrices {
+        matrices,
+        dimensions,
+        ..
+    } = leaves;
+    let kept = KeptSteps::new(dimensions, N);
+    let steps = kept.steps();
+    let builder = TreeBuilder::<P, PW, H, C, M, N, D> {
+        hash,
+        compress,
+        matrices: &matrices,
+        steps: &steps,
+        item: PhantomData,
+    };
+    let layers = builder.layers(alloc)?;
+    Ok(Tree {
+        matrices,
+        steps: kept,
+        layers,
+        item: PhantomData,
+    })
+}
