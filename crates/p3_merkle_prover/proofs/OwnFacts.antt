@@ -1,12 +1,10 @@
 -- What a tree opens of one index: the bounds of each group, and the siblings level by level.
 use Rattle.std.proofs.Common.{◌≡◌, ℕ, suc, ◌+◌, ◌-◌, ◌*◌, ◌/◌, ◌%◌, ◌<◌, ◌≤◌, List, ◌++◌, [], map, refl, ap, sym, ◌∙◌}
-use Rattle.std.proofs.Common.{arith, inl, inr, length, get_or, take, drop, ◌∷◌, add-one, append_assoc, length-drop}
+use Rattle.std.proofs.Common.{arith, length, get_or, take, drop, add-one, length-drop}
 use Rattle.std.specs.List.{range_with_len, remove}
 use Rattle.std.specs.Prelude.{slice_index_or}
 use Rattle.std.proofs.lemmas.List.{ext_get_or, get_or-drop, get_or-map, get_or-take}
-use Rattle.std.proofs.lemmas.Bool.{cases_lt}
-use Rattle.std.proofs.lemmas.List.{length-take-le, take_more}
-use Rattle.std.proofs.lemmas.List.Edits.{get_or-remove_above, get_or-remove_below, length-remove}
+use Rattle.std.proofs.lemmas.List.{length-take-le}
 use Rattle.std.proofs.lemmas.List.FromFn.{get_or-map-range_with_len, length-map-range_with_len}
 use Rattle.std.proofs.Math.Nat.{mul-le-mul_left}
 use Rattle.p3_merkle_core.specs.Geometry.{Shape, step, ancestor, levels, heights, raw_len, layer_len, IsArity, IsLawful}
@@ -64,26 +62,6 @@ part_read d xs a n fits =
     ext_get_or d (take n (drop a xs)) (map (λ k. get_or xs (a + k) d) (range_with_len 0 n)) (long ∙ sym made)
     (λ k inside. get_or-take n (drop a xs) k d (omega (arith, long)) ∙ get_or-drop a xs k d
     ∙ sym (get_or-map-range_with_len (λ k. get_or xs (a + k) d) 0 n k k d (omega (arith, long)) (omega arith)))
-
--- one digest more of a group without the place p: the one at `place`, or up to p the one before it
-pub other_more : {X : Type 0} (group : List X) (p place back : ℕ) (old before after : List X) (x : X) →
-    p < length group → 1 ≤ place → place < length group → (place ≤ p → back ≡ 1) → (p < place → back ≡ 0) →
-    x ≡ get_or group (place - back) x → before ≡ old ++ take (place - 1) (remove group p) → after ≡ before ++ x ∷ [] →
-    after ≡ old ++ take (place + 1 - 1) (remove group p)
-other_more group p place back old before after x inside begun more low high read is_before is_after =
-    let others = remove group p in
-    let long = length-remove group p inside in
-    let next : place + 1 - 1 ≡ (place - 1) + 1 = omega arith in
-    let other : x ≡ get_or others (place - 1) x = elim (cases_lt p place) [
-      | inl above ↦ let at : place - back ≡ (place - 1) + 1 = omega (arith, high above) in
-          read ∙ ap (λ k. get_or group k x) at ∙ sym (get_or-remove_above group p x (place - 1) (omega arith) inside)
-      | inr below ↦ let at : place - back ≡ place - 1 = omega (arith, low below) in
-          read ∙ ap (λ k. get_or group k x) at ∙ sym (get_or-remove_below group p x (place - 1) (omega arith) inside)
-    ] in
-    is_after ∙ ap (λ ys. ys ++ x ∷ []) is_before ∙ append_assoc old (take (place - 1) others) (x ∷ [])
-    ∙ ap (λ y. old ++ (take (place - 1) others ++ y ∷ [])) other
-    ∙ ap (λ ys. old ++ ys) (sym (take_more others (place - 1) x (omega (arith, long))))
-    ∙ ap (λ k. old ++ take k others) (sym next)
 
 -- one level more of the siblings: the group's digests without the node's
 pub group_next : {V X : Type 0} (d : X) (items : V → List X) (layers : List V) (s : Shape) (i l n node : ℕ) (layer : V)

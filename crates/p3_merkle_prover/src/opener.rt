@@ -14,7 +14,7 @@ ghost use Rattle.p3_merkle_core.specs.Refusals.{AnswersUnlessMemory};
 use crate::tree::{MerkleTree, Tree};
 use p3_merkle_core::error::MerkleTreeError;
 use p3_merkle_core::geometry::bits_reduced_of;
-use p3_merkle_core::pruning::{parent_of, position_of};
+use p3_merkle_core::pruning::{extend_with_others, parent_of, position_of};
 use p3_merkle_core::steps::Steps;
 use p3_support::matrix::Matrix;
 use p3_support::opening::MerkleCap;
@@ -174,26 +174,4 @@ fn copy_of<F: Copy>(alloc: Global, words: &[F]) -> Result<Vec<F>, AllocError>
         copy.push_reserved(*word);
     }
     Ok(copy)
-}
-
-/// Adds the digests of a group, or of a part of one, to the end, all except the one at `position`, which is in it.
-///
-/// # Errors
-///
-/// Only `OutOfMemory`.
-pub(crate) fn extend_with_others<X: Copy>(
-    digests: &mut Vec<X>,
-    group: &[X],
-    position: usize,
-) -> Result<(), MerkleTreeError>
-    requires { position < length group.now }
-    ensures digests { let others = remove group.now position in
-        IfOk result (λ done. digests.new.items ≡ digests.old.items ++ others) }
-    ensures memory { AnswersUnlessMemory result None }
-{
-    // No branch asks for the position: it would be guessed wrong half of the time.
-    for place in 1..group.len() {
-        digests.push(group[place - usize::from(place <= position)])?;
-    }
-    Ok(())
 }

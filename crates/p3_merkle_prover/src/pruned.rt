@@ -13,10 +13,10 @@ ghost use Rattle.p3_merkle_prover.specs.Parts.{layers_of, tree_batch};
 ghost use Rattle.p3_merkle_core.specs.Pruning.{boundary_by};
 ghost use Rattle.p3_merkle_core.specs.Refusals.{AnswersUnlessMemory};
 
-use crate::opener::{extend_with_others, rows_of_index, steps_in};
+use crate::opener::{rows_of_index, steps_in};
 use crate::tree::Tree;
 use p3_merkle_core::error::MerkleTreeError;
-use p3_merkle_core::pruning::{climb, distinct_indices, position_of};
+use p3_merkle_core::pruning::{climb, distinct_indices, extend_with_others, position_of};
 use p3_support::matrix::Matrix;
 use std::alloc::Global;
 
@@ -79,10 +79,6 @@ pub fn digests_of_boundary<F, X: Copy, G, M: Matrix<F>, const N: usize>(
 /// Adds the boundary's digests of one layer to the end, ascending: those of the nodes that are not covered, but have a
 /// covered one in their group of `step`. The covered nodes ascend. Goes once through these, and copies what lies
 /// between them.
-///
-/// # Errors
-///
-/// Only `OutOfMemory`.
 fn extend_with_boundary<X: Copy>(
     digests: &mut Vec<X>,
     layer: &[X],

@@ -28,10 +28,6 @@ use std::marker::PhantomData;
 
 /// The rows that the queries of some covered nodes opened, of the matrices that have the layer's exponent, in input
 /// order.
-///
-/// # Errors
-///
-/// `AllocError` if memory runs out.
 fn opened_matrices<'a, T, X>(
     alloc: Global,
     restorable: &'a RestorableOpening<'_, T, X>,
@@ -62,10 +58,6 @@ fn opened_matrices<'a, T, X>(
 }
 
 /// The groups of `step` children, at least one and at most `N`, with default digests behind them.
-///
-/// # Errors
-///
-/// `AllocError` if memory runs out.
 fn padded_groups<W: Copy, const N: usize, const D: usize>(
     alloc: Global,
     default_digest: [W; D],
@@ -99,10 +91,6 @@ impl<
 > Checker<'a, P, PW, H, C, [[PW::Value; D]; N]> {
     /// For each of some covered nodes the digest of its query's rows, of the matrices that have the layer's exponent:
     /// in batches where the hasher takes several messages at a time, else one by one.
-    ///
-    /// # Errors
-    ///
-    /// `AllocError` if memory runs out.
     fn row_digests(
         &self,
         alloc: Global,
@@ -136,10 +124,6 @@ impl<
     }
 
     /// The digests of groups of `step` children, at least one and at most `N`, one group after another.
-    ///
-    /// # Errors
-    ///
-    /// `AllocError` if memory runs out.
     pub(crate) fn group_digests(
         &self,
         alloc: Global,
@@ -169,10 +153,6 @@ impl<
     /// The restored digests of the covered nodes of a layer, in order: those of the rows of a query under each at the
     /// leaves, and above them those of the nodes' children, each compressed with that of such rows where matrices
     /// belong to the layer.
-    ///
-    /// # Errors
-    ///
-    /// `AllocError` if memory runs out.
     pub(crate) fn node_digests(
         &self,
         alloc: Global,

@@ -84,10 +84,6 @@ impl<
     const D: usize,
 > Checker<'a, P, PW, H, C, [[PW::Value; D]; N]> {
     /// The queries of a pruned opening that is checked, each with its restored path.
-    ///
-    /// # Errors
-    ///
-    /// Those of [`check_pruned_opening`](Self::check_pruned_opening).
     fn checked_queries<'b>(
         &self,
         alloc: Global,
@@ -177,10 +173,6 @@ impl<
 
     /// The first of some queries whose check differs from that of an opening at a place that both share, by its place
     /// among them, with the last such place.
-    ///
-    /// # Errors
-    ///
-    /// `AllocError` if memory runs out.
     fn differing_query(
         &self,
         alloc: Global,
@@ -219,10 +211,6 @@ impl<
 
     /// The first pair of queries, by the first list, then by the second, whose checks differ at a place that both
     /// share: the place of each in its list, with the last such place.
-    ///
-    /// # Errors
-    ///
-    /// `AllocError` if memory runs out.
     fn differing_pair(
         &self,
         alloc: Global,

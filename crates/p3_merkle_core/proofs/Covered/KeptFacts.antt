@@ -5,12 +5,13 @@ use Rattle.std.proofs.Common.{◌++◌, map, refl, ap, sym, ◌∙◌, arith, ad
 use Rattle.std.proofs.Common.{drop, remove, subst, length-drop, eq-eqb, append_assoc, append-nil, drop-cons, fold}
 use Rattle.std.specs.List.{enumerate_from, flat_map, range_with_len, take-map, drop-map}
 use Rattle.std.specs.List.Sorted.{IsStrictlyIncreasing}
-use Rattle.std.proofs.lemmas.Bool.{eqb-true, or_cases, or_left, or_right, true≢false}
+use Rattle.std.proofs.lemmas.Bool.{cases_lt, eqb-true, or_cases, or_left, or_right, true≢false}
 use Rattle.std.proofs.lemmas.Bool.{lt-ltb, le-ltb}
 use Rattle.std.proofs.lemmas.List.{map-append, drop_all, take-append-le, take_all}
 use Rattle.std.proofs.lemmas.List.{take_more, get_or-map, get_or_default, length-map}
-use Rattle.std.proofs.lemmas.List.{map_more, get_or-drop, length-take-le}
+use Rattle.std.proofs.lemmas.List.{map_more, get_or-drop}
 use Rattle.std.proofs.lemmas.List.Folds.{Any-from_list_any}
+use Rattle.std.proofs.lemmas.List.Edits.{get_or-remove_above, get_or-remove_below, length-remove}
 use Rattle.std.proofs.lemmas.List.FromFn.{length-range_with_len, map-range_with_len_more, take-map-range_with_len}
 use Rattle.std.proofs.lemmas.List.Sums.{fold-append}
 use Rattle.std.proofs.lemmas.Simd.{map-map}
@@ -67,43 +68,25 @@ found_at xs x h =
 
 -- ---- one group
 
-none_removed : {X : Type 0} (p : ℕ) → remove {X = X} [] p ≡ []
-none_removed zero = refl
-none_removed (suc p) = refl
-
--- the element that is left out, or another one more
-removed_own : {X : Type 0} (xs : List X) (k : ℕ) → k < length xs → remove (take (k + 1) xs) k ≡ remove (take k xs) k
-removed_own [] k h = absurd (omega arith)
-removed_own (x ∷ xs) zero h = refl
-removed_own (x ∷ xs) (suc k) h = let e : suc k + 1 ≡ suc (k + 1) = omega arith in
-    rw e (ap (λ ys. x ∷ ys) (removed_own xs k (omega arith)))
-
-removed_kept : {X : Type 0} (ys : List X) (y : X) (p : ℕ) → (length ys ≡ p → ⊥) →
-    remove (ys ++ y ∷ []) p ≡ remove ys p ++ y ∷ []
-removed_kept [] y zero ne = absurd (ne refl)
-removed_kept [] y (suc p) ne = ap (λ zs. y ∷ zs) (none_removed p)
-removed_kept (z ∷ ys) y zero ne = refl
-removed_kept (z ∷ ys) y (suc p) ne = ap (λ zs. z ∷ zs) (removed_kept ys y p (λ e. ne (ap suc e)))
-
--- the elements of a group so far, without the one at place p
-pub others_start : {X : Type 0} (old group : List X) (p : ℕ) → old ≡ old ++ remove (take 0 group) p
-others_start old group p = sym (append-nil old) ∙ ap (λ ys. old ++ ys) (sym (none_removed p))
-
-pub others_more : {X : Type 0} (old before after group : List X) (p k : ℕ) (x : X) → k < length group →
-    before ≡ old ++ remove (take k group) p → x ≡ get_or group k x → (k ≡ p → ⊥) → after ≡ before ++ x ∷ [] →
-    after ≡ old ++ remove (take (k + 1) group) p
-others_more old before after group p k x h so_far read other pushed =
-    let front = take k group in
-    let long : length front ≡ k = length-take-le k group (omega arith) in
-    let more : take (k + 1) group ≡ front ++ x ∷ [] = take_more group k x h
-    ∙ ap (λ y. front ++ y ∷ []) (sym read) in
-    pushed ∙ ap (λ ys. ys ++ x ∷ []) so_far ∙ append_assoc old (remove front p) (x ∷ [])
-    ∙ ap (λ ys. old ++ ys) (sym (ap (λ ys. remove ys p) more ∙ removed_kept front x p (λ e. other (sym long ∙ e))))
-
-pub others_same : {X : Type 0} (old before after group : List X) (p k : ℕ) → k < length group →
-    before ≡ old ++ remove (take k group) p → k ≡ p → after ≡ before → after ≡ old ++ remove (take (k + 1) group) p
-others_same old before after group p k h so_far own same =
-    same ∙ so_far ∙ rw (← own) (ap (λ ys. old ++ ys) (sym (removed_own group k h)))
+-- one digest more of a group without the place p: the one at `place`, or up to p the one before it
+pub other_more : {X : Type 0} (group : List X) (p place back : ℕ) (old before after : List X) (x : X) →
+    p < length group → 1 ≤ place → place < length group → (place ≤ p → back ≡ 1) → (p < place → back ≡ 0) →
+    x ≡ get_or group (place - back) x → before ≡ old ++ take (place - 1) (remove group p) → after ≡ before ++ x ∷ [] →
+    after ≡ old ++ take (place + 1 - 1) (remove group p)
+other_more group p place back old before after x inside begun more low high read is_before is_after =
+    let others = remove group p in
+    let long = length-remove group p inside in
+    let next : place + 1 - 1 ≡ (place - 1) + 1 = omega arith in
+    let other : x ≡ get_or others (place - 1) x = elim (cases_lt p place) [
+      | inl above ↦ let at : place - back ≡ (place - 1) + 1 = omega (arith, high above) in
+          read ∙ ap (λ k. get_or group k x) at ∙ sym (get_or-remove_above group p x (place - 1) (omega arith) inside)
+      | inr below ↦ let at : place - back ≡ place - 1 = omega (arith, low below) in
+          read ∙ ap (λ k. get_or group k x) at ∙ sym (get_or-remove_below group p x (place - 1) (omega arith) inside)
+    ] in
+    is_after ∙ ap (λ ys. ys ++ x ∷ []) is_before ∙ append_assoc old (take (place - 1) others) (x ∷ [])
+    ∙ ap (λ y. old ++ (take (place - 1) others ++ y ∷ [])) other
+    ∙ ap (λ ys. old ++ ys) (sym (take_more others (place - 1) x (omega (arith, long))))
+    ∙ ap (λ k. old ++ take k others) (sym next)
 
 -- the group of a parent at place k is whole
 pub group_fits : (n k count total : ℕ) → k < count → total ≡ n * count → n * k + n ≤ total

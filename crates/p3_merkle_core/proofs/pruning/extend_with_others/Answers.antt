@@ -1,32 +1,18 @@
--- Each turn adds one more digest, or leaves out the path's own.
-use Rattle.std.proofs.Common.{◌∙◌, ◌++◌, ap, arith, remove}
-use Rattle.std.specs.declared.vec.Vec.{Vec}
-use Rattle.std.proofs.lemmas.List.{take_all}
-use Rattle.p3_merkle_core.proofs.Covered.KeptFacts.{others_more, others_same, others_start}
-use Rattle.p3_merkle_core.proofs.pruning.extend_with_others.Goals.{then-child-own+in_ok-push, else-child-own}
+-- Each turn adds one other digest.
+use Rattle.std.proofs.Common.{arith}
+use Rattle.std.proofs.lemmas.Bool.{le-leb, lt-leb}
+use Rattle.p3_merkle_core.proofs.Covered.KeptFacts.{other_more}
 use Rattle.p3_merkle_core.proofs.pruning.extend_with_others.Goals as goal
 
-pub loop-child-init : goal.loop-child-init
-loop-child-init g c = others_start c.args.path.now.items c.args.group.now c.args.own
-
-pub loop-child-preserved : goal.loop-child-preserved
-loop-child-preserved g c =
-    let path = c.args.path.now.items in
-    let group = c.args.group.now in
-    let k = c.loop-child.child in
-    elim c.if-child-own.branch [
-      | then-child-own+in_ok-push w ↦
-          others_more path c.loop-child.path.items c.if-child-own.path.items group c.args.own k w.index-group-child.result
-          c.loop-child-test.true c.loop-child.invariant w.index-group-child.is w.if-child-own.true
-          (ap (λ (v : Vec _ _). v.items) w.path-is ∙ w.in_ok-push.ensures.items)
-      | else-child-own w ↦
-          others_same path c.loop-child.path.items c.if-child-own.path.items group c.args.own k c.loop-child-test.true
-          c.loop-child.invariant w.if-child-own.false (ap (λ (v : Vec _ _). v.items) w.path-is)
-    ]
-
-pub returns : goal.returns
-returns g c =
-    let path = c.args.path.now.items in
-    let own = c.args.own in
-    c.loop-child.invariant
-    ∙ ap (λ ys. path ++ remove ys own) (take_all c.loop-child.child c.args.group.now (omega arith))
+pub loop-place-preserved : goal.loop-place-preserved
+loop-place-preserved g c =
+    let place = c.loop-place.place in
+    let p = c.args.position in
+    record {
+      begun = omega arith;
+      so_far = other_more c.args.group.now p place c.from.result c.args.digests.now.items c.loop-place.digests.items
+          c.push.new.self.items c.index-group-place.result (omega arith) (omega (arith, c.loop-place.invariant.begun))
+          (omega (arith, c.loop-place-test.true)) (λ h. let b = le-leb place p h in rw b at c.from.ensures)
+          (λ h. let b = lt-leb place p h in rw b at c.from.ensures)
+          c.index-group-place.is c.loop-place.invariant.so_far c.in_ok-push.ensures.items;
+    }

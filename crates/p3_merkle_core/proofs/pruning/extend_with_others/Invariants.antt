@@ -1,6 +1,10 @@
-use Rattle.std.proofs.Common.{◌≡◌, ◌++◌, remove, take}
+use Rattle.std.proofs.Common.{◌≡◌, ◌≤◌, ◌-◌, ◌++◌, take}
+use Rattle.std.specs.List.{remove}
 use Rattle.p3_merkle_core.proofs.pruning.extend_with_others.Given as goal
 
--- the digests of the group so far, without its own
-abbrev pub invariant-loop-child : goal.invariant-loop-child
-invariant-loop-child g l = l.path.items ≡ l.initial.path.items ++ remove (take l.child l.group) l.own
+-- the others so far: below `place`, one less than all
+abbrev pub invariant-loop-place : goal.invariant-loop-place
+invariant-loop-place g l = record {
+  begun : 1 ≤ l.place;
+  so_far : l.digests.items ≡ l.initial.digests.items ++ take (l.place - 1) (remove l.group l.position);
+}

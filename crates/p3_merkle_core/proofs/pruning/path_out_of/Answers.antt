@@ -24,7 +24,7 @@ loop-level-preserved g c =
     let turn = λ (x : CoveredLayer _).
     path_turn layers level c.loop-level.slot c.index-slot.result.now c.index.result.now
     (get_or (get_or layers 0 x).nodes.items c.args.leaf 0)
-    below above c.loop-level.path.items c.extend_with_others.new.path.items so_far.some c.loop-level-test.true
+    below above c.loop-level.path.items c.extend_with_others.new.digests.items so_far.some c.loop-level-test.true
     c.requires.linked c.index-layers-level-in-loop-level.is c.index-layers-level.is
     (rw (below_is x) at (so_far.walked x)) (rw (below_is x) at (so_far.inside x)) c.index-slot.ensures
     (rw (below_is below) at c.index.ensures)

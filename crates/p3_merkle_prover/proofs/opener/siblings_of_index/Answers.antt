@@ -77,7 +77,7 @@ loop-level-preserved g c =
       λ d. group_next d (λ nodes. nodes.items) tree.layers.items s c.args.index c.loop-level.level c.step-step.result
           c.loop-level.node c.index.result.now c.index.result.now.items c.loop-level.siblings.items
           c.extend_with_others.new.digests.items w (omega arith) c.index.ensures refl (c.loop-level.invariant.0 d)
-          (rw (c.position_of-position.ensures, c.deref.ensures.value) at c.in_ok-extend_with_others.ensures.digests),
+          (rw (c.position_of-position.ensures, c.deref.ensures.value) at c.in_ok-extend_with_others.ensures),
       c.parent_of-node.ensures ∙ node_next s c.args.index c.loop-level.level c.step-step.result c.loop-level.node
           (length c.index.result.now.items) w,
     )
@@ -98,4 +98,4 @@ pub returns-in_err-extend_with_others : goal.returns-in_err-extend_with_others
 returns-in_err-extend_with_others g c =
     let gone = err_from_is_err_and c.from_residual-in_err-extend_with_others.result
     c.from_residual-in_err-extend_with_others.ensures.1 in
-    rw (gone.1, gone.2) (record { siblings = λ d. tt; memory = c.in_err-extend_with_others.ensures.memory })
+    rw (gone.1, gone.2) (record { siblings = λ d. tt; memory = inl refl })
