@@ -1,5 +1,5 @@
 -- What is not refused restores, and its distinct indices are the covered leaves.
-use Rattle.std.proofs.Common.{◌≡◌, ◌∙◌, [], ap, length, map, refl, replicate, sym, None}
+use Rattle.std.proofs.Common.{◌∙◌, [], ap, length, map, refl, replicate, sym}
 use Rattle.std.proofs.lemmas.List.{length-map, length-replicate}
 use Rattle.std.proofs.lemmas.Result.{err_from_is_err_and}
 use Rattle.p3_support.specs.Batches.{greatest}

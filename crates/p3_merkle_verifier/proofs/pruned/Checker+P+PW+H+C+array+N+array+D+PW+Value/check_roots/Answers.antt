@@ -1,5 +1,5 @@
 -- The digests of the cap's layer are compared with the roots.
-use Rattle.std.proofs.Common.{inr, refl, replicate}
+use Rattle.std.proofs.Common.{inr, replicate}
 use Rattle.p3_merkle_verifier.specs.Inner.Checks.{functions_by}
 use Rattle.p3_merkle_verifier.specs.Inner.RestoredLevels.{opened_by, tree_of}
 use Rattle.p3_merkle_verifier.proofs.RootFacts.{cap_settled}
