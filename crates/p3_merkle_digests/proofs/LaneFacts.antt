@@ -1,15 +1,13 @@
 -- Slots that are filled in groups, and what each lane of packed digests shows.
-use Rattle.std.proofs.Common.{◌≡◌, ℕ, zero, suc, ◌+◌, ◌-◌, ◌*◌, ◌/◌, ◌<◌, ◌≤◌, List, [], ◌∷◌, ◌++◌, length, map, take}
+use Rattle.std.proofs.Common.{◌≡◌, ℕ, zero, suc, ◌+◌, ◌-◌, ◌*◌, ◌<◌, ◌≤◌, List, [], ◌∷◌, ◌++◌, length, map, take}
 use Rattle.std.proofs.Common.{drop, get_or, set, replicate, min, ◌^◌, All, refl, sym, ap, ◌∙◌, arith, inl, inr}
 use Rattle.std.proofs.Common.{append-nil, length-drop}
-use Rattle.std.specs.List.{flat_map}
-use Rattle.std.proofs.lemmas.Bool.{cases_lt, cases_eq, eq-eqb}
-use Rattle.std.proofs.lemmas.Grind.{flat_map-append}
-use Rattle.std.proofs.lemmas.List.{drop_more, flat_map_more, take_more, take_more_set, append_assoc, set_at}
+use Rattle.std.proofs.lemmas.Bool.{cases_lt, cases_eq}
+use Rattle.std.proofs.lemmas.List.{drop_more, flat_map_more, take_more, append_assoc, set_at}
 use Rattle.std.proofs.lemmas.List.{length-take-le, get_or_append_left, get_or-append_right, get_or-take, get_or-drop}
 use Rattle.std.proofs.lemmas.List.{get_or-replicate}
-use Rattle.std.proofs.Math.Nat.{div-mul-le_self, mul_comm, mul-le-mul_right, mul-le-mul_left, mul-suc, add-mul, one-mul}
-use Rattle.p3_support.specs.Lists.{lane_of, rows_of_height}
+use Rattle.std.proofs.Math.Nat.{mul-le-mul_right, mul-le-mul_left, mul-suc, add-mul, one-mul}
+use Rattle.p3_support.specs.Lists.{lane_of}
 use Rattle.p3_merkle_digests.specs.Inner.Slots.{rows_over}
 use borrow.Rule.Slice.PartMut.{put_mid}
 use prog.Memory.{capped}
@@ -23,12 +21,6 @@ group_next g w = add-mul g 1 w ∙ ap (λ v. g * w + v) (one-mul w)
 pub group_end : (g w n m : ℕ) → g < n → n * w ≤ m → g * w + w ≤ m
 group_end g w n m below fits = let more : (g + 1) * w ≤ n * w = mul-le-mul_right w (omega arith) in
     omega (arith, group_next g w, more)
-
--- a message ends within the words, which are parted among n messages
-pub message_end : (i n m : ℕ) → i < n → (i + 1) * (m / n) ≤ m
-message_end i n m below =
-    let whole : n * (m / n) ≤ m = omega (arith, div-mul-le_self m n, mul_comm n (m / n)) in
-    omega (arith, group_next i (m / n), group_end i (m / n) n m below whole)
 
 -- what stands in a part that was just written
 pub part_written : {X : Type 0} (xs ys : List X) (a k n j : ℕ) (d : X) → length ys ≡ n → a ≤ length xs → j < n →
@@ -134,27 +126,11 @@ pub height_at : {M : Type 0} (height : M → ℕ) (h : ℕ) (ms : List M) (i : �
     i < length ms → m ≡ get_or ms i m → height m ≡ h
 height_at height h ms i m all inside is = ap height is ∙ all i m inside
 
--- the words of one more piece, written in place i
-pub piece_more : {X A : Type 0} (words : X → List A) (pieces : List X) (i : ℕ) (piece : X) → i < length pieces →
-    flat_map words (take (i + 1) (set pieces i piece)) ≡ flat_map words (take i pieces) ++ words piece
-piece_more words pieces i piece inside =
-    ap (flat_map words) (take_more_set pieces i piece inside)
-    ∙ flat_map-append words (take i pieces) (piece ∷ [])
-    ∙ ap (λ l. flat_map words (take i pieces) ++ l) (append-nil (words piece))
-
 -- a list of one element
 pub one_element : {A : Type 0} (xs : List A) (x : A) → length xs ≡ 1 → x ≡ get_or xs 0 x → xs ≡ x ∷ []
 one_element [] x h is = absurd (omega arith)
 one_element (y ∷ []) x h is = ap (λ z. z ∷ []) (sym is)
 one_element (y ∷ z ∷ ys) x h is = absurd (omega arith)
-
--- where all matrices have a height, the rows of those that have it are the rows of all
-pub rows_of_all : {T M : Type 0} (height : M → ℕ) (row : M → ℕ → List T) (h r : ℕ) (ms : List M) →
-    All (λ m. height m ≡ h) ms → rows_of_height height row h r ms ≡ rows_over row ms r
-rows_of_all height row h r [] all = refl
-rows_of_all height row h r (m ∷ ms) all =
-    rw (eq-eqb (height m) h (all 0 m (omega arith)))
-    (ap (λ l. row m r ++ l) (rows_of_all height row h r ms (λ k d b. all (suc k) d (omega arith))))
 
 -- one matrix alone gives its own row
 pub rows_alone : {T M : Type 0} (row : M → ℕ → List T) (j : ℕ) (ms : List M) (m : M) → length ms ≡ 1 → m

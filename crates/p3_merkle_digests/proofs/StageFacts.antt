@@ -5,7 +5,7 @@ use Rattle.std.proofs.Common.{length-append, length-drop, length-take, append-ni
 use Rattle.std.specs.List.{flat_map, range_with_len}
 use Rattle.std.specs.Prelude.{sum_by}
 use Rattle.std.specs.Simd.{first_chunks}
-use Rattle.std.proofs.lemmas.Bool.{cases_lt, cases_eq, lt-ltb}
+use Rattle.std.proofs.lemmas.Bool.{cases_lt, cases_eq}
 use Rattle.std.proofs.lemmas.List.{drop_at, take_all, take-append-le, drop-append-le, get_or-append_right, get_or-drop}
 use Rattle.std.proofs.lemmas.List.{get_or-take, drop-drop, flat_map_more, length-take-le, length-map, get_or-map}
 use Rattle.std.proofs.lemmas.List.{get_or_append_left, same_lists}
@@ -15,7 +15,7 @@ use Rattle.std.proofs.lemmas.Simd.{map-map}
 use Rattle.std.proofs.Math.Nat.{mul-le-mul_left, mul-le-mul_right, mul_comm, mul-suc}
 use Rattle.p3_support.specs.Lists.{message, messages}
 use Rattle.p3_support.specs.Inner.RowLengths.{next_start}
-use Rattle.p3_merkle_digests.specs.Inner.Slots.{leaf_over, rows_over, IsFilled, IsStaged}
+use Rattle.p3_merkle_digests.specs.Inner.Slots.{rows_over, IsFilled, IsStaged}
 use Rattle.p3_merkle_digests.proofs.LaneFacts.{group_end, part_written, part_before, rows_alone}
 use borrow.Rule.Slice.PartMut.{put_mid, same_len_mid}
 
@@ -167,22 +167,67 @@ fill_part f made xs ys a k n len same inside is each before =
     }
 
 -- one more part is written, with the digests of the rows that are staged
-pub leaves_part : {T W : Type 0} (hash : List T → List W) (d : List W) (rows : ℕ → List T) (h : ℕ) (words : List T)
-    (xs ys : List (List W)) (a k n len : ℕ) → k ≡ n → a + n ≤ length xs → a + n ≤ h
-    → IsStaged (λ j. rows (a + j)) k words
+pub leaves_part : {T W : Type 0} (hash : List T → List W) (rows : ℕ → List T) (first : ℕ) (words : List T)
+    (xs ys : List (List W)) (a k n len : ℕ) → k ≡ n → a + n ≤ length xs → IsStaged (λ j. rows (first + a + j)) k words
     → ((w : ℕ) → length words ≡ w * length (take k (drop a xs))
     → ys ≡ map hash (messages w (length (take k (drop a xs))) words))
-    → IsFilled (leaf_over hash d rows h) a len xs → IsFilled (leaf_over hash d rows h) (a + n) len (put_mid a k xs ys)
-leaves_part hash d rows h words xs ys a k n len same inside below s hashed before =
-    let row = λ (j : ℕ). rows (a + j) in
+    → IsFilled (λ j. hash (rows (first + j))) a len xs →
+    IsFilled (λ j. hash (rows (first + j))) (a + n) len (put_mid a k xs ys)
+leaves_part hash rows first words xs ys a k n len same inside s hashed before =
+    let row = λ (j : ℕ). rows (first + a + j) in
     let made = λ (j : ℕ). hash (row j) in
     let long : length (take k (drop a xs)) ≡ k = length-take-le k (drop a xs) (omega (arith, length-drop a xs)) in
     let all : ys ≡ map made (range_with_len 0 (length (take k (drop a xs)))) =
     hashed s.width (s.long ∙ ap (λ m. s.width * m) (sym long)) ∙ ap (λ m. map hash (messages s.width m words)) long
     ∙ ap (map hash) s.are ∙ map-map hash row (range_with_len 0 k)
     ∙ ap (λ m. map made (range_with_len 0 m)) (sym long) in
-    fill_part (leaf_over hash d rows h) made xs ys a k n len same inside all
-    (λ j small. let there : a + j < h = omega (arith, small) in rw (lt-ltb (a + j) h there) refl) before
+    fill_part (λ j. hash (rows (first + j))) made xs ys a k n len same inside all
+    (λ j small. let at : first + a + j ≡ first + (a + j) = omega arith in ap (λ i. hash (rows i)) at) before
+
+-- the first slots are written, and those from the n-th on have a default digest
+pub record IsWritten {W : Type 0} (f : ℕ → List W) (d : List W) (a n len : ℕ) (slots : List (List W)) : Type 0 where
+  pub filled : IsFilled f a len slots
+  pub blank : (j : ℕ) → n ≤ j → j < len → get_or slots j [] ≡ d
+
+-- so it is before the first is written
+pub none_written : {W : Type 0} (f : ℕ → List W) (d : List W) (n : ℕ) (xs : List (List W)) →
+    All (λ x. x ≡ d) xs → IsWritten f d 0 n (length xs) xs
+none_written f d n xs all = record {
+  filled = record { long = refl; filled = λ j none. absurd (omega (arith, none)) };
+  blank = λ j past below. all j [] below;
+}
+
+-- and when some of the first n are
+pub some_written : {W : Type 0} (f : ℕ → List W) (d : List W) (a n : ℕ) (xs ys : List (List W)) →
+    All (λ x. x ≡ d) xs → n ≤ length xs → a ≤ n → IsFilled f a n ys →
+    IsWritten f d a n (length xs) (ys ++ drop n xs)
+some_written f d a n xs ys all room few s = record {
+  filled = record {
+    long = omega (arith, length-append ys (drop n xs), length-drop n xs, s.long);
+    filled = λ j below. get_or_append_left ys (drop n xs) [] j (omega (arith, s.long, below)) ∙ s.filled j below;
+  };
+  blank = λ j past below.
+      get_or-append_right ys (drop n xs) n j [] s.long past ∙ get_or-drop n xs (j - n) []
+      ∙ ap (λ i. get_or xs i []) (omega arith) ∙ all j [] below;
+}
+
+-- the others of them are written, too, and all slots have what they should
+pub all_written : {W : Type 0} (f made : ℕ → List W) (d : List W) (xs ys : List (List W)) (a k n len : ℕ) →
+    k ≡ n - a → a ≤ n → n ≤ len → ys ≡ map made (range_with_len 0 (length (take k (drop a xs)))) →
+    ((j : ℕ) → a + j < n → made j ≡ f (a + j)) → ((j : ℕ) → n ≤ j → j < len → f j ≡ d) → IsWritten f d a n len xs →
+    put_mid a k xs ys ≡ map f (range_with_len 0 len)
+all_written f made d xs ys a k n len same few room is each past s =
+    let inside : a + (n - a) ≤ length xs = omega (arith, s.filled.long) in
+    let part : length (take k (drop a xs)) ≡ k = length-take-le k (drop a xs)
+    (omega (arith, length-drop a xs, s.filled.long)) in
+    let long : length ys ≡ k = ap length is ∙ length-map-range_with_len made 0 (length (take k (drop a xs))) ∙ part in
+    let front = fill_part f made xs ys a k (n - a) len same inside is (λ j h. each j (omega (arith, h))) s.filled in
+    fill_by_all f (put_mid a k xs ys) len [] front.long
+    (λ j below. elim (cases_lt j n) [
+      | inl low ↦ front.filled j (omega (arith, low))
+      | inr high ↦ part_after xs ys a k j [] long (omega (arith, s.filled.long)) (omega arith)
+          ∙ s.blank j high below ∙ sym (past j high below)
+    ])
 
 -- all slots hold what was made of the first of a list
 pub filled_all : {G W : Type 0} (C : List G → List W) (groups : List (List G)) (ys : List (List W)) (n : ℕ) →
@@ -193,15 +238,6 @@ filled_all C groups ys n some is =
       filled = λ j below. ap (λ l. get_or l j []) is
           ∙ get_or-map C (take n groups) j [] [] (omega (arith, length-take-le n groups some, below))
           ∙ ap C (get_or-take n groups j [] below);
-    }
-
--- the first slots are written, and the others are as they were
-pub filled_front : {W : Type 0} (f : ℕ → List W) (xs ys : List (List W)) (n : ℕ) → n ≤ length xs → IsFilled f n n ys →
-    IsFilled f n (length xs) (ys ++ drop n xs)
-filled_front f xs ys n room s =
-    record {
-      long = omega (arith, length-append ys (drop n xs), length-drop n xs, s.long);
-      filled = λ j below. get_or_append_left ys (drop n xs) [] j (omega (arith, s.long, below)) ∙ s.filled j below;
     }
 
 -- one more part of digests is compressed once more with the digests of rows
@@ -235,17 +271,17 @@ module _ {W : Type 0} (C : List (List W) → List W) (pad rows old : List (List 
         λ j past. part_after xs ys a k j [] long (omega arith) (omega arith) ∙ behind j (omega arith),
       )
 
--- a group that ends within m elements is among the whole groups of n
-pub below_quotient : (n j m : ℕ) → 0 < n → n * suc j ≤ m → j < m / n
-below_quotient n j m some fits =
-    elim (cases_lt j (m / n)) [
-      | inl low ↦ low
-      | inr high ↦ let more : n * (m / n) ≤ n * j = mul-le-mul_left n high in
-          absurd (omega (arith, more, mul-suc n j, fits))
+-- m groups of n within len elements are among the whole groups
+quotient_enough : (n m len : ℕ) → 0 < n → n * m ≤ len → m ≤ len / n
+quotient_enough n m len some fits =
+    elim (cases_lt (len / n) m) [
+      | inl less ↦ let more : n * suc (len / n) ≤ n * m = mul-le-mul_left n less in
+          absurd (omega (arith, more, mul-suc n (len / n), fits))
+      | inr all ↦ all
     ]
 
 -- where a node has as many children as a group has places, the group is its children
-pub group_whole : {W : Type 0} (C : List (List W) → List W) (n k step j : ℕ) (below : List (List W))
+group_whole : {W : Type 0} (C : List (List W) → List W) (n k step j : ℕ) (below : List (List W))
     (groups : List (List (List W))) (d : List W) → step ≡ n → groups ≡ first_chunks n k below → j < k →
     C (get_or groups j []) ≡ C (take step (drop (step * j) below) ++ replicate (n - step) d)
 group_whole C n k step j below groups d same are inside =
@@ -253,6 +289,23 @@ group_whole C n k step j below groups d same are inside =
     rw (same, none)
     (ap C (ap (λ gs. get_or gs j []) are ∙ chunk_at n k below j inside
     ∙ sym (append-nil (take n (drop (n * j) below)))))
+
+-- so the compressions of whole groups are those of the children of nodes
+pub whole_groups : {W : Type 0} (C : List (List W) → List W) (n step m : ℕ) (below : List (List W))
+    (groups : List (List (List W))) (d : List W) (ys : List (List W)) → step ≡ n → 0 < step →
+    step * m ≤ length below → groups ≡ first_chunks n (length below / n) below →
+    length groups ≡ length below / n → ys ≡ map C (take m groups) →
+    IsFilled (λ j. C (take step (drop (step * j) below) ++ replicate (n - step) d)) m m ys
+whole_groups C n step m below groups d ys same some fits are many is =
+    let some_n : 0 < n = rw same at some in
+    let fits_n : n * m ≤ length below = rw same at fits in
+    let enough = quotient_enough n m (length below) some_n fits_n in
+    let all = filled_all C groups ys m (omega (arith, many, enough)) is in
+    record {
+      long = all.long;
+      filled = λ j h. all.filled j h
+          ∙ group_whole C n (length below / n) step j below groups d same are (omega (arith, enough, h));
+    }
 
 -- ---- rows that are put in their places
 

@@ -7,20 +7,11 @@ ghost use Rattle.std.specs.Prelude.{drop, replicate, slice_index_or, sum_by, tak
 ghost use Rattle.std.specs.List.{range_with_len};
 ghost use Rattle.p3_merkle_digests.specs.Inner.Slots.{rows_over, IsFilled, IsStaged};
 
-use crate::plain::MIN_SLICE_WIDTH;
 use p3_merkle_core::group::{padded_group, pair_group};
 use p3_support::compress::PseudoCompressionFunction;
 use p3_support::matrix::Matrix;
 use p3_support::packed::PackedValue;
 use std::alloc::AllocError;
-
-/// The least size of a digest, in bytes, at which groups are laid in a buffer for calls that take many. Shorter digests
-/// are compressed faster one by one.
-const LONG_DIGEST: usize = 32;
-
-/// The least length of a row, in words, at which rows of several matrices are staged one after another. Shorter rows
-/// are staged matrix by matrix.
-const LONG_ROW: usize = 1024;
 
 /// How many messages of `bytes` bytes one call takes: the greatest multiple of `lanes` with at most 16384 bytes in all,
 /// but at least `lanes`. A number of 0 counts as 1.
@@ -35,15 +26,15 @@ pub(crate) fn messages_per_call(bytes: usize, lanes: usize) -> usize
     (16384 / bytes / lanes).max(1) * lanes
 }
 
-/// How many elements a row of the matrices has, at most 2^64 - 1.
-pub(crate) fn row_len<T: Copy, M: Matrix<T>>(matrices: &[M]) -> usize
-    ensures { result ≡ min (sum_by M.width_of matrices.now) (2 ^ 64 - 1) }
+/// How many elements a row of the matrices has; `AllocError` if they are 2^64 or more.
+pub(crate) fn row_len<T: Copy, M: Matrix<T>>(matrices: &[M]) -> Result<usize, AllocError>
+    ensures { IfOk result (λ len. len ≡ sum_by M.width_of matrices.now) }
 {
     let mut len = 0usize;
     for matrix in matrices {
-        len = len.saturating_add(matrix.width());
+        len = len.checked_add(matrix.width()).ok_or(AllocError)?;
     }
-    len
+    Ok(len)
 }
 
 /// The `count` rows from `first` on as one slice, row after row, if there is only one matrix and it has them in one
@@ -65,37 +56,19 @@ pub(crate) fn contiguous_rows<T: Copy, M: Matrix<T>>(
     matrix.row_chunk(first, count)
 }
 
-/// Copies few words into their place, which has as many, one by one: a call that copies them takes longer.
-fn put_few<T: Copy>(place: &mut [T], words: &[T])
-    requires { length place.old ≡ length words.now }
-    ensures { place.new ≡ words.now }
-{
-    for k in 0..words.len() {
-        place[k] = words[k];
-    }
-}
-
-/// Copies a row of a matrix that does not lend it into its place, which has as many words.
-fn put_read_row<T: Copy, M: Matrix<T>>(place: &mut [T], matrix: &M, row: usize)
-    requires row { row < M.height_of matrix.now }
-    requires place { length place.old ≡ M.width_of matrix.now }
-    ensures { place.new ≡ M.row_of matrix.now row }
-{
-    for column in 0..place.len() {
-        place[column] = matrix.get(row, column);
-    }
-}
-
 /// Copies a row of a matrix into its place, which has as many words.
 fn put_row<T: Copy, M: Matrix<T>>(place: &mut [T], matrix: &M, row: usize)
     requires row { row < M.height_of matrix.now }
     requires place { length place.old ≡ M.width_of matrix.now }
     ensures { place.new ≡ M.row_of matrix.now row }
 {
-    match matrix.row_slice(row) {
-        Some(words) if words.len() >= MIN_SLICE_WIDTH => place.copy_from_slice(words),
-        Some(words) => put_few(place, words),
-        None => put_read_row(place, matrix, row),
+    if let Some((left, right)) = matrix.row_halves(row) {
+        place[..left.len()].copy_from_slice(left);
+        place[left.len()..].copy_from_slice(right);
+        return;
+    }
+    for column in 0..place.len() {
+        place[column] = matrix.get(row, column);
     }
 }
 
@@ -151,70 +124,19 @@ fn put_matrices<T: Copy, M: Matrix<T>>(
     }
 }
 
-/// Adds a row of the matrices, which all have this height, to the rows that are staged.
-///
-/// # Errors
-///
-/// `AllocError` if memory runs out.
-fn stage_row<T: Copy, M: Matrix<T>>(
-    staged: &mut Vec<T>,
-    matrices: &[M],
-    height: usize,
-    row: usize,
-) -> Result<(), AllocError>
-    requires heights { All (λ m. M.height_of m ≡ height) matrices.now }
-    requires inside { row < height }
-    ensures { IfOk result (λ done. staged.new.items ≡ staged.old.items ++ rows_over M.row_of matrices.now row) }
-{
-    for matrix in matrices {
-        match matrix.row_slice(row) {
-            Some(words) => staged.extend_from_slice(words)?,
-            None => staged.extend(matrix.row(row))?,
-        }
-    }
-    Ok(())
-}
-
-/// Adds `count` rows of the matrices from `first` on, one row after another. The matrices all have this height, and
-/// `first + count` is at most that. Nothing is staged before.
-///
-/// # Errors
-///
-/// `AllocError` if memory runs out.
-fn stage_rows<T: Copy, M: Matrix<T>>(
-    staged: &mut Vec<T>,
-    matrices: &[M],
-    height: usize,
-    first: usize,
-    count: usize,
-) -> Result<(), AllocError>
-    requires heights { All (λ m. M.height_of m ≡ height) matrices.now }
-    requires inside { first + count ≤ height }
-    requires none { staged.old.items ≡ [] }
-    ensures { let rows = λ (j : ℕ). rows_over M.row_of matrices.now (first + j) in
-        IfOk result (λ done. IsStaged rows count staged.new.items) }
-{
-    for j in 0..count {
-        stage_row(staged, matrices, height, first + j)?;
-    }
-    Ok(())
-}
-
 /// The words of `count` rows of the matrices from `first` on, one row after another: a slice of the matrix if there is
-/// only one and it has these rows in one piece, else a copy in `staged`. The matrices all have this height, and
-/// `first + count` is at most that.
-///
-/// # Errors
-///
-/// `AllocError` if memory runs out.
+/// only one and it has these rows in one piece, else a copy in `staged`. The matrices all have this height, a row has
+/// `len` words, and `first + count` is at most the height.
 pub(crate) fn words_of_rows<'b, T: Copy + Default, M: Matrix<T>>(
     staged: &'b mut Vec<T>,
     matrices: &'b [M],
     height: usize,
+    len: usize,
     first: usize,
     count: usize,
 ) -> Result<&'b [T], AllocError>
     requires heights { All (λ m. M.height_of m ≡ height) matrices.now }
+    requires len { len ≡ sum_by M.width_of matrices.now }
     requires inside { first + count ≤ height }
     ensures { let rows = λ (j : ℕ). rows_over M.row_of matrices.now (first + j) in
         IfOk result (λ words. IsStaged rows count words.now) }
@@ -222,29 +144,15 @@ pub(crate) fn words_of_rows<'b, T: Copy + Default, M: Matrix<T>>(
     if let Some(words) = contiguous_rows(matrices, height, first, count) {
         return Ok(words);
     }
-    staged.clear();
-    let len = row_len(matrices);
-    match len.checked_mul(count) {
-        // Row by row each matrix would be asked anew, which takes longer than to copy few words.
-        Some(words) if len < LONG_ROW => {
-            staged.resize(words, T::default())?;
-            put_matrices(staged, len, matrices, height, first, count);
-        },
-        _ => {
-            staged.reserve(len.saturating_mul(count))?;
-            stage_rows(staged, matrices, height, first, count)?;
-        },
-    }
+    let words = len.checked_mul(count).ok_or(AllocError)?;
+    staged.resize(words, T::default())?;
+    put_matrices(staged, len, matrices, height, first, count);
     Ok(staged.as_slice())
 }
 
 /// Fills `groups`, in place of what it has, with the children of the nodes `first..end` over a layer, each group
 /// followed by default digests. Each node has `step` children, at least one and at most `N`; those of the last one must
 /// be in the layer, and `first` must be at most `end`.
-///
-/// # Errors
-///
-/// `AllocError` if memory runs out.
 fn stage_children<W: Copy, const N: usize, const D: usize>(
     groups: &mut Vec<[[W; D]; N]>,
     default_digest: [W; D],
@@ -272,39 +180,14 @@ fn stage_children<W: Copy, const N: usize, const D: usize>(
     Ok(())
 }
 
-/// Writes into each slot `j` the compression of the children of node `j` over a layer, followed by default digests, one
-/// by one. Each node has `step` children, at least one and at most `N`; those of all slots are in the layer. A group
-/// has fewer than 2^63 bytes.
-fn compress_children_singly<
-    PW: PackedValue,
-    C: PseudoCompressionFunction<PW, N, D>,
-    const N: usize,
-    const D: usize,
->(compress: &C, below: &[[PW::Value; D]], step: usize, slots: &mut [[PW::Value; D]])
-    requires group { FitsInMemory (ArrayAt (ArrayAt PW.Value.row D.row) N.row) }
-    requires step { 0 < step }
-    requires few { step ≤ N }
-    requires inside { step * length slots.old ≤ length below.now }
-    ensures { let folded = λ (j : ℕ). C.compression compress.now (take step (drop (step * j) below.now)
-        ++ replicate (N - step) (replicate D PW.default_value)) in
-        IsFilled folded (length slots.old) (length slots.old) slots.new }
-{
-    let default_digest = [PW::Value::default(); D];
-    for j in 0..slots.len() {
-        let start = step * j;
-        let group = padded_group::<PW::Value, N, D>(default_digest, &below[start..start + step]);
-        slots[j] = compress.compress(group);
-    }
-}
-
 /// Writes into each slot `j` the compression of the children of node `j` over a layer, followed by default digests, as
-/// many per call as [`messages_per_call`] says, but short digests one by one. Each node has `step` children, at least
-/// one and at most `N`; those of all slots must be in the layer. `groups` is a buffer for them.
+/// many per call as [`messages_per_call`] says. Each node has `step` children, at least one and at most `N`; those of
+/// all slots must be in the layer. `groups` is a buffer for them.
 ///
 /// # Errors
 ///
 /// `AllocError` if memory runs out.
-pub fn compress_children_batched<
+pub fn compress_children<
     PW: PackedValue,
     C: PseudoCompressionFunction<PW, N, D>,
     const N: usize,
@@ -323,11 +206,13 @@ pub fn compress_children_batched<
         ++ replicate (N - step) (replicate D PW.default_value)) in
         IfOk result (λ done. IsFilled folded (length slots.old) (length slots.old) slots.new) }
 {
-    let default_digest = [PW::Value::default(); D];
-    if std::mem::size_of_val(&default_digest) < LONG_DIGEST {
-        compress_children_singly::<PW, C, N, D>(compress, below, step, slots);
+    // Whole groups lie as the compression takes them, so that none is copied.
+    if step == N {
+        let (groups, _) = below.as_chunks::<N>();
+        compress.compress_many(&groups[..slots.len()], slots);
         return Ok(());
     }
+    let default_digest = [PW::Value::default(); D];
     let per_call = messages_per_call(std::mem::size_of_val(&[default_digest; N]), C::LANES);
     let mut first = 0;
     while first < slots.len() {
@@ -341,10 +226,6 @@ pub fn compress_children_batched<
 
 /// Fills `pairs`, in place of what it has, with the group of each node: its digest in `folded`, the digest of its rows
 /// in `rows`, then default digests. Both lists must have one length, and `N` must be at least 2.
-///
-/// # Errors
-///
-/// `AllocError` if memory runs out.
 fn stage_pairs<W: Copy, const N: usize, const D: usize>(
     pairs: &mut Vec<[[W; D]; N]>,
     default_digest: [W; D],
@@ -367,33 +248,8 @@ fn stage_pairs<W: Copy, const N: usize, const D: usize>(
 }
 
 /// Compresses the digest in each slot `j` with `rows[j]`, the digest of its rows, followed by default digests, and
-/// writes the result into the slot, one by one. There are at most as many rows as slots, and `N` is at least 2. A group
-/// has fewer than 2^63 bytes.
-fn inject_row_digests_singly<
-    PW: PackedValue,
-    C: PseudoCompressionFunction<PW, N, D>,
-    const N: usize,
-    const D: usize,
->(compress: &C, rows: &[[PW::Value; D]], slots: &mut [[PW::Value; D]])
-    requires group { FitsInMemory (ArrayAt (ArrayAt PW.Value.row D.row) N.row) }
-    requires pair { 2 ≤ N }
-    requires rows { length rows.now ≤ length slots.old }
-    ensures { let joined = λ (j : ℕ). C.compression compress.now
-        (slice_index_or slots.old j [] ∷ slice_index_or rows.now j []
-        ∷ replicate (N - 2) (replicate D PW.default_value)) in
-        IsFilled joined (length rows.now) (length slots.old) slots.new }
-{
-    let default_digest = [PW::Value::default(); D];
-    for j in 0..rows.len() {
-        let pair = pair_group::<PW::Value, N, D>(default_digest, slots[j], rows[j]);
-        slots[j] = compress.compress(pair);
-    }
-}
-
-/// Compresses the digest in each slot `j` with `rows[j]`, the digest of its rows, followed by default digests, and
-/// writes the result into the slot, as many per call as [`messages_per_call`] says, but short digests one by one at a
-/// bridge step, where `step` is less than `N`. There must be at most as many rows as slots, and `N` must be at least 2.
-/// `pairs` is a buffer for the groups.
+/// writes the result into the slot, as many per call as [`messages_per_call`] says. There must be at most as many rows
+/// as slots, and `N` must be at least 2. `pairs` is a buffer for the groups.
 ///
 /// # Errors
 ///
@@ -405,7 +261,6 @@ pub fn inject_row_digests<
     const D: usize,
 >(
     compress: &C,
-    step: usize,
     pairs: &mut Vec<[[PW::Value; D]; N]>,
     rows: &[[PW::Value; D]],
     slots: &mut [[PW::Value; D]],
@@ -418,10 +273,6 @@ pub fn inject_row_digests<
         IfOk result (λ done. IsFilled joined (length rows.now) (length slots.old) slots.new) }
 {
     let default_digest = [PW::Value::default(); D];
-    if step < N && std::mem::size_of_val(&default_digest) < LONG_DIGEST {
-        inject_row_digests_singly::<PW, C, N, D>(compress, rows, slots);
-        return Ok(());
-    }
     let per_call = messages_per_call(std::mem::size_of_val(&[default_digest; N]), C::LANES);
     let mut first = 0;
     while first < rows.len() {

@@ -5,5 +5,4 @@
 pub mod batched;
 pub mod packed;
 pub mod parts;
-pub mod plain;
 pub mod rows;

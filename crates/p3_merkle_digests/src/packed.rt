@@ -17,6 +17,7 @@ pub fn packed_blocks<PW: PackedValue, const N: usize, const D: usize>(count: usi
     ensures count { result * PW.WIDTH ≤ count }
     ensures whole { 1 < PW.WIDTH → FitsInMemory (ArrayAt (ArrayAt PW.row D.row) N.row) →
         count < result * PW.WIDTH + PW.WIDTH }
+    ensures lanes { 0 < result → 1 < PW.WIDTH }
     ensures digest { 0 < result → FitsInMemory (ArrayAt PW.row D.row) }
     ensures group { 0 < result → FitsInMemory (ArrayAt (ArrayAt PW.row D.row) N.row) }
 {
@@ -70,30 +71,6 @@ fn packed_child<PW: PackedValue, const D: usize>(
     )
 }
 
-/// The children of `PW::WIDTH` nodes over a layer, from node `first` on, where each node has `N` children: lane `k` has
-/// those of node `first + k`. Those of the last one must be in the layer, and a packed group must have fewer than 2^63
-/// bytes.
-#[inline(always)]
-fn packed_children<PW: PackedValue, const N: usize, const D: usize>(
-    below: &[[PW::Value; D]],
-    first: usize,
-) -> [[PW; D]; N]
-    requires group { FitsInMemory (ArrayAt (ArrayAt PW.row D.row) N.row) }
-    requires inside { N * (first + PW.WIDTH) ≤ length below.now }
-    ensures { (k : ℕ) → k < PW.WIDTH →
-        map (lane_of PW.lanes PW.default_value k) result ≡ take N (drop (N * (first + k)) below.now) }
-{
-    std::array::from_fn(
-        |n| -> [PW; D]
-            requires child { n < N }
-            requires inside { N * (first + PW.WIDTH) ≤ length below.now }
-            ensures { (k : ℕ) → k < PW.WIDTH →
-                lane_of PW.lanes PW.default_value k result
-                ≡ slice_index_or below.entry.now (N * (first + k) + n) [] }
-        { packed_child(below, N, first, n) },
-    )
-}
-
 /// Compresses the children of `PW::WIDTH` nodes over a layer, from node `first` on, each group followed by default
 /// digests: lane `k` is the digest of the children of node `first + k`. Each node has `step` children, at most `N`;
 /// those of the last one must be in the layer. A packed group of `N` digests must have fewer than 2^63 bytes.
@@ -111,10 +88,6 @@ pub fn compress_children_packed<
         ≡ C.compression compress.now (take step (drop (step * (first + k)) below.now)
         ++ replicate (N - step) (replicate D PW.default_value)) }
 {
-    // Whole groups, whose number of children is a constant, need no place in memory if their digests are short.
-    if step == N && D == 1 {
-        return compress.compress_packed(packed_children(below, first));
-    }
     let mut group = [[PW::broadcast(PW::Value::default()); D]; N];
     for n in 0..step {
         group[n] = packed_child(below, step, first, n);

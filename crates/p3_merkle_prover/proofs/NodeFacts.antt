@@ -1,25 +1,25 @@
 -- A node out of the compression of its children and the digest of its rows.
-use Rattle.std.proofs.Common.{◌≡◌, ℕ, suc, ◌-◌, ◌*◌, ◌/◌, ◌<◌, ◌≤◌, List, [], ◌∷◌, ◌++◌, length, take, drop}
-use Rattle.std.proofs.Common.{replicate, get_or, true, false, sym, ap, ◌∙◌, arith, inl, inr, length-drop}
-use Rattle.std.specs.Simd.{first_chunks}
-use Rattle.std.proofs.Math.Nat.{mul-le-mul_left, mul-suc}
-use Rattle.std.proofs.lemmas.Bool.{cases_lt, lt-ltb}
-use Rattle.std.proofs.lemmas.List.{length-take-le}
+use Rattle.std.proofs.Common.{◌≡◌, ℕ, suc, ◌+◌, ◌-◌, ◌*◌, ◌<◌, ◌≤◌, List, ◌∷◌, ◌++◌, length, take, drop}
+use Rattle.std.proofs.Common.{replicate, true, false, sym, ap, ◌∙◌, arith, length-drop}
+use Rattle.std.proofs.Math.Nat.{mul-add, mul-le-mul_left, mul-suc}
+use Rattle.std.proofs.lemmas.Bool.{lt-ltb}
+use Rattle.std.proofs.lemmas.List.{drop-drop, length-take-le, take_all}
 use Rattle.p3_merkle_core.specs.Nodes.{Functions, compress_padded}
 use Rattle.p3_merkle_core.specs.declared.levels.Level.{Level}
-use Rattle.p3_merkle_digests.proofs.StageFacts.{below_quotient, group_whole}
 use Rattle.p3_merkle_prover.specs.Inner.Levels.{slot_above, HasChildren}
 
--- there are as many whole groups as nodes, or more
-pub groups_count : (n : ℕ) (v : Level) (slots : ℕ) → HasChildren n v slots → v.step ≡ n → v.raw_len ≤ slots / n
-groups_count n v slots w whole =
-    let some : 0 < n = omega (arith, w.wide, w.narrow) in
-    let fits : n * v.raw_len ≤ slots = rw whole at w.fits in
-    elim (cases_lt (slots / n) v.raw_len) [
-      | inl less ↦ let more : n * suc (slots / n) ≤ n * v.raw_len = mul-le-mul_left n less in
-          absurd (omega (arith, more, mul-suc n (slots / n), fits))
-      | inr all ↦ all
-    ]
+-- the children of node j in the layer from those of the first node on
+pub children_from : {T W : Type 0} (f : Functions T W) (n : ℕ) (v : Level) (below : List (List W)) (first j : ℕ) →
+    f.compression (take v.step (drop (v.step * j)
+    (take (length below - v.step * first) (drop (v.step * first) below))) ++ replicate (n - v.step) f.default_digest)
+    ≡ f.compression (take v.step (drop (v.step * (first + j)) below) ++ replicate (n - v.step) f.default_digest)
+children_from f n v below first j =
+    let from : ℕ = v.step * first in
+    let all : take (length below - from) (drop from below) ≡ drop from below =
+    take_all (length below - from) (drop from below) (omega (arith, length-drop from below)) in
+    ap (λ l. f.compression (take v.step l ++ replicate (n - v.step) f.default_digest))
+    (ap (drop (v.step * j)) all ∙ drop-drop (v.step * j) from below
+    ∙ ap (λ i. drop i below) (sym (mul-add v.step first j)))
 
 module _ {T W : Type 0} (f : Functions T W) (n : ℕ) (leaf : ℕ → List W) (v : Level) (below : List (List W))
     (w : HasChildren n v (length below)) (j : ℕ) (inside : j < v.raw_len)
@@ -37,14 +37,6 @@ module _ {T W : Type 0} (f : Functions T W) (n : ℕ) (leaf : ℕ → List W) (v
     children_count : length children ≡ v.step
     children_count = length-take-le v.step (drop (v.step * j) below)
         (omega (arith, length-drop (v.step * j) below, mul-suc v.step j, children_fit))
-
-    -- a whole group of the layer is the children of its node
-    pub whole_group : (groups : List (List (List W))) → v.step ≡ n → groups ≡ first_chunks n (length below / n) below →
-        f.compression (get_or groups j []) ≡ f.compression (children ++ replicate (n - v.step) f.default_digest)
-    whole_group groups whole are =
-        let some : 0 < n = omega (arith, w.wide, w.narrow) in
-        group_whole f.compression n (length below / n) v.step j below groups f.default_digest whole are
-        (below_quotient n j (length below) some (rw (← whole) children_fit))
 
     -- the compression of its children
     folded_is : (folded : List W) →

@@ -2,7 +2,7 @@
 //!
 //! The matrices that belong to a layer are picked once, and its rows are read from those alone.
 
-ghost use Rattle.std.specs.Prelude.{◌≡◌, IfOk, map, filter, length, ◌==◌};
+ghost use Rattle.std.specs.Prelude.{◌≡◌, All, IfOk, map, filter, length, replicate, ◌==◌};
 ghost use Rattle.p3_merkle_core.specs.Geometry.{layer_len, shape_of};
 ghost use Rattle.p3_merkle_core.specs.Inner.Levels.{IsLevel};
 ghost use Rattle.p3_merkle_core.specs.Views.{batch_of};
@@ -65,10 +65,6 @@ pub(crate) type TreeBuilder<
 > = TreeOver<'a, P, PW, H, C, M, [[PW::Value; D]; N], N>;
 
 /// Fills a list with the matrices of a height, in input order, in place of what it has.
-///
-/// # Errors
-///
-/// `AllocError` if memory runs out.
 fn pick_matrices<'a, T, M: Matrix<T>>(
     picked: &mut Vec<&'a M>,
     matrices: &'a [M],
@@ -79,6 +75,19 @@ fn pick_matrices<'a, T, M: Matrix<T>>(
 {
     picked.clear();
     picked.extend(matrices.iter().filter(|matrix| matrix.height() == height))
+}
+
+/// A list of `count` default digests.
+fn default_digests<PW: PackedValue, const D: usize>(
+    alloc: Global,
+    count: usize,
+) -> Result<Vec<[PW::Value; D]>, AllocError>
+    ensures len { IfOk result (λ digests. length digests.items ≡ count) }
+    ensures default { IfOk result (λ digests. All (λ x. x ≡ replicate D PW.default_value) digests.items) }
+{
+    let mut digests = Vec::new(alloc);
+    digests.resize(count, [PW::Value::default(); D])?;
+    Ok(digests)
 }
 
 /// Tells that a layer of its whole length has the children of the nodes of the level above it. It does nothing at run
@@ -103,10 +112,6 @@ impl<
 
     /// The leaves: the digests of the rows of the tallest matrices, and default digests behind them. `picked` and
     /// `buffers` are memory that all layers use.
-    ///
-    /// # Errors
-    ///
-    /// `AllocError` if memory runs out.
     fn leaf_layer(
         &self,
         alloc: Global,
@@ -124,16 +129,12 @@ impl<
             height,
             item: PhantomData,
         };
-        let mut leaves = vec![in alloc; [PW::Value::default(); D]; padded_len(height, N)]?;
-        rows.write(&mut buffers.staged, &mut leaves)?;
+        let mut leaves = default_digests::<PW, D>(alloc, padded_len(height, N))?;
+        rows.write(&mut buffers.staged, 0, &mut leaves)?;
         Ok(leaves)
     }
 
     /// The layer above the layer `below`, at this level. `picked` and `buffers` are memory that all layers use.
-    ///
-    /// # Errors
-    ///
-    /// `AllocError` if memory runs out.
     fn next_layer(
         &self,
         alloc: Global,
@@ -159,16 +160,12 @@ impl<
             below,
             item: PhantomData,
         };
-        let mut slots = vec![in alloc; [PW::Value::default(); D]; level.layer_len]?;
+        let mut slots = default_digests::<PW, D>(alloc, level.layer_len)?;
         builder.write(buffers, &mut slots)?;
         Ok(slots)
     }
 
     /// All layers, from the leaves to the root.
-    ///
-    /// # Errors
-    ///
-    /// `AllocError` if memory runs out.
     pub(crate) fn layers(&self, alloc: Global) -> Result<Vec<Vec<[PW::Value; D]>>, AllocError>
         ensures { let f = functions_for H.hash C.compression D self.now in
             IfOk result (λ layers. map (λ nodes. nodes.items) layers.items ≡ layers_over f (batch_for self.now)) }

@@ -12,20 +12,19 @@ use Rattle.std.proofs.lemmas.List.{map-id}
 use Rattle.p3_support.specs.Batches.{heights_of}
 use Rattle.p3_support.specs.Shown.{row_lists}
 use Rattle.p3_merkle_core.specs.Geometry.{Shape, IsArity, ancestor, has_rows, leaves_under}
-use Rattle.p3_merkle_core.specs.Nodes.{Functions, pair, padded}
+use Rattle.p3_merkle_core.specs.Nodes.{Functions, padded}
 use Rattle.p3_merkle_core.specs.Openings.{Opening}
-use Rattle.p3_merkle_core.specs.Checks.{AgreeWhereShared, group_at, inputs_at, layer_words, leaf_input, params, path_digest}
-use Rattle.p3_merkle_core.specs.Checks.{digests_at, words_at}
+use Rattle.p3_merkle_core.specs.Checks.{AgreeWhereShared, group_at, inputs_at, layer_words, leaf_input, params}
+use Rattle.p3_merkle_core.specs.Checks.{words_at}
 use Rattle.p3_merkle_core.specs.Pruning.{IsAgreed, PrunedOpening, is_covered, opening_at, restored_node, value_of}
 use Rattle.p3_merkle_core.specs.Refusals.{IsEquality}
-use Rattle.p3_merkle_core.specs.declared.collision.Place.TheVariants.{Leaf, Group, Rows, Pair}
+use Rattle.p3_merkle_core.specs.declared.collision.Place.TheVariants.{Leaf, Group}
 use Rattle.p3_merkle_core.proofs.Checks.CheckFacts.{full_group, inputs_with_rows, inputs_alone, same_digests}
 use Rattle.p3_merkle_core.proofs.Checks.PathFacts.{group_values, joined_same, path_group}
 use Rattle.p3_merkle_core.proofs.Covered.CoveredFacts.{leaves_above_0}
 use Rattle.p3_merkle_core.proofs.Covered.Equivalence.{path_reaches, query_covered, rows_agree}
 use Rattle.p3_merkle_core.proofs.Collisions.Extracted.{no_difference}
 use Rattle.p3_merkle_core.proofs.Lists.RisingFacts.{div_mono}
-use Rattle.p3_merkle_core.proofs.Shapes.StepFacts.{anc_start}
 use Rattle.p3_merkle_verifier.specs.Inner.Checks.{AgreeBelow, AgreeOnLevel, IsLevelOfCheck}
 use Rattle.p3_merkle_verifier.specs.Inner.Collisions.{first_rows, first_words, second_rows, second_words}
 use Rattle.p3_merkle_verifier.specs.Inner.QueryPairs.{query_difference, query_in, AgreesWithAll, AreConsistent}

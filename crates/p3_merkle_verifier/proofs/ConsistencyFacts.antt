@@ -1,15 +1,15 @@
 -- The check of a proof of consistency, layer by layer.
-use Rattle.std.proofs.Common.{◌≡◌, ℕ, zero, suc, ◌+◌, ◌-◌, ◌*◌, ◌/◌, ◌^◌, ◌<◌, ◌≤◌, nat_le, nat_lt, Bool, true, false, not, cond}
-use Rattle.std.proofs.Common.{List, [], ◌∷◌, ◌++◌, map, filter, take, drop, length, get_or, replicate, refl, ap, sym, ◌∙◌}
-use Rattle.std.proofs.Common.{arith, inl, inr, append-nil, length-append, length-drop, length-take, Option, Some, None, subst}
-use Rattle.std.specs.List.{flat_map, range_with_len}
+use Rattle.std.proofs.Common.{◌≡◌, ℕ, suc, ◌+◌, ◌-◌, ◌*◌, ◌/◌, ◌^◌, ◌<◌, ◌≤◌}
+use Rattle.std.proofs.Common.{List, [], ◌++◌, map, take, drop, length, refl, ap, sym, ◌∙◌}
+use Rattle.std.proofs.Common.{arith, inl, inr, append-nil, Some, None, subst}
+use Rattle.std.specs.List.{range_with_len}
 use Rattle.std.specs.Option.{option_to_list}
 use Rattle.std.proofs.lemmas.Bool.{cases_lt, lt-ltb, le-ltb}
 use Rattle.std.proofs.lemmas.List.{drop_at, map-append, take_at}
 use Rattle.std.proofs.Math.Nat.{div-mul-le_self, mul_comm, mul-le-mul_left, mul-sub, mul-suc}
 use Rattle.std.proofs.lemmas.List.FromFn.{length-map-range_with_len}
 use Rattle.p3_merkle_core.specs.Nodes.{padded}
-use Rattle.p3_merkle_core.specs.Consistency.{Evidence, IsGrowth, new_layer, new_value, old_layer, old_value, sent_at, value_over}
+use Rattle.p3_merkle_core.specs.Consistency.{Evidence, new_layer, new_value, old_layer, old_value, sent_at, value_over}
 use Rattle.p3_merkle_core.specs.Geometry.{IsArity}
 use Rattle.p3_merkle_core.specs.Inner.Growths.{AreFew, mixed_children, parts_above, parts_at}
 use Rattle.p3_merkle_core.specs.declared.consistency.Growth.{Growth}

@@ -1,16 +1,16 @@
 -- What the comparisons of a proof of consistency with both caps say.
-use Rattle.std.proofs.Common.{◌≡◌, ℕ, zero, suc, ◌+◌, ◌-◌, ◌<◌, ◌≤◌, ◌*◌, nat_le, nat_lt, Bool, true, false, not, eqb, ◌&&◌}
-use Rattle.std.proofs.Common.{List, [], ◌∷◌, ◌++◌, map, filter, length, get_or, refl, ap, sym, ◌∙◌, arith, inl, inr, Option}
-use Rattle.std.proofs.Common.{Some, None, append-nil, eq-eqb, slice_get, take}
+use Rattle.std.proofs.Common.{◌≡◌, ℕ, zero, suc, ◌+◌, ◌-◌, ◌<◌, ◌≤◌, ◌*◌, Bool, true, false, not, ◌&&◌}
+use Rattle.std.proofs.Common.{List, ◌++◌, map, filter, length, get_or, refl, ap, sym, ◌∙◌, arith, Option}
+use Rattle.std.proofs.Common.{Some, None, append-nil, eq-eqb, take}
 use Rattle.std.specs.Prelude.{Decides}
 use Rattle.std.specs.Cmp.Lexicographic.{pointwise}
 use Rattle.std.specs.List.{enumerate_from, list_all, range_with_len}
 use Rattle.std.specs.Option.{option_to_list}
-use Rattle.std.proofs.lemmas.Bool.{and_from, and_left, and_right, cases_lt, le-leb, lt-leb, ne_eqb}
+use Rattle.std.proofs.lemmas.Bool.{and_from, le-leb, lt-leb, ne_eqb}
 use Rattle.std.proofs.lemmas.Bool.{not_from_false, not_from_true}
 use Rattle.std.proofs.lemmas.List.Elements.{filter-append}
 use Rattle.std.proofs.lemmas.List.Folds.{list_all-append, list_all_at}
-use Rattle.std.proofs.lemmas.List.FromFn.{fill_by_all, get_or-range_with_len, length-map-range_with_len}
+use Rattle.std.proofs.lemmas.List.FromFn.{fill_by_all, get_or-range_with_len}
 use Rattle.std.proofs.lemmas.List.FromFn.{length-range_with_len}
 use Rattle.std.proofs.lemmas.List.{get_or-take, length-take-le}
 use Rattle.std.proofs.Math.Nat.{mul-le-mul_left}
@@ -19,7 +19,7 @@ use Rattle.p3_merkle_core.specs.Geometry.{IsArity, exponent}
 use Rattle.p3_merkle_core.specs.Consistency.{Evidence, IsGrowth, consistency_len, is_new, new_layer, new_value, old_layer}
 use Rattle.p3_merkle_core.specs.Consistency.{old_value}
 use Rattle.p3_merkle_core.specs.ConsistencyRefusals.{consistency_refusal, growth_refusal, has_entries}
-use Rattle.p3_merkle_core.specs.Refusals.{is_entry, unless}
+use Rattle.p3_merkle_core.specs.Refusals.{is_entry}
 use Rattle.p3_merkle_core.specs.Inner.Growths.{parts_at}
 use Rattle.p3_merkle_core.specs.declared.consistency.Growth.{Growth}
 use Rattle.p3_merkle_core.specs.declared.consistency.LayerParts.{LayerParts}

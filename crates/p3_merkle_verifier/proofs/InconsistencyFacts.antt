@@ -1,12 +1,12 @@
 -- What an extraction from openings under both caps of a list that grows has so far, level by level.
-use Rattle.std.proofs.Common.{◌≡◌, ◌↔◌, ℕ, zero, suc, ◌+◌, ◌-◌, ◌*◌, ◌/◌, ◌^◌, ◌<◌, ◌≤◌, Bool, true, false, eqb, List, [], ◌∷◌, ◌++◌}
-use Rattle.std.proofs.Common.{map, length, length-append, get_or, take, slice_get, refl, ap, sym, ◌∙◌, arith, inl, inr, subst, Option, Some, None, eq-eqb, add-one}
+use Rattle.std.proofs.Common.{◌≡◌, ℕ, zero, suc, ◌+◌, ◌-◌, ◌*◌, ◌/◌, ◌^◌, ◌<◌, ◌≤◌, Bool, false, List, [], ◌∷◌, ◌++◌}
+use Rattle.std.proofs.Common.{map, length, length-append, get_or, take, slice_get, refl, ap, sym, ◌∙◌, arith, inl, inr, subst, Option, Some, None, eq-eqb}
 use Rattle.std.specs.Prelude.{All, Err, Ok}
 use Rattle.std.specs.Cmp.Lexicographic.{pointwise}
 use Rattle.std.specs.List.{flat_map, range_with_len}
 use Rattle.std.specs.Option.{option_map, option_or}
 use Rattle.std.specs.declared.vec.Vec.{Vec}
-use Rattle.std.proofs.lemmas.Bool.{cases_Bool, cases_lt, ltb-false, leb-false, lt-leb}
+use Rattle.std.proofs.lemmas.Bool.{cases_Bool, cases_lt, ltb-false, lt-leb}
 use Rattle.std.proofs.lemmas.Option.{slice_get_past}
 use Rattle.std.proofs.lemmas.List.{length-map}
 use Rattle.std.proofs.Math.Nat.{mul-le-mul_right}
@@ -14,7 +14,7 @@ use Rattle.std.proofs.lemmas.List.FromFn.{get_or-map-range_with_len, length-map-
 use Rattle.p3_support.specs.Batches.{greatest, heights_of}
 use Rattle.p3_support.specs.Shown.{row_lists}
 use Rattle.p3_support.specs.declared.matrix.Dimensions.{Dimensions}
-use Rattle.p3_merkle_core.specs.Checks.{Input, IsAccepted, digests_at, inputs_at, layer_words, params, siblings_below}
+use Rattle.p3_merkle_core.specs.Checks.{Input, IsAccepted, digests_at, inputs_at, params, siblings_below}
 use Rattle.p3_merkle_core.specs.Consistency.{Evidence, IsConsistent, IsGrowth, is_new, new_layer, old_layer, old_value, value_over}
 use Rattle.p3_merkle_core.specs.Extraction.{difference_of, input_eq, last_difference}
 use Rattle.p3_merkle_core.specs.Geometry.{IsArity, IsLawful, Shape, has_rows, heights, levels}
@@ -45,8 +45,8 @@ use Rattle.p3_merkle_core.proofs.Shapes.OneHeight.{greatest_is, levels_are}
 use Rattle.p3_merkle_core.proofs.Shapes.ShapeFacts.{length-widths}
 use Rattle.p3_merkle_verifier.proofs.EntryFacts.{layers_rise}
 use Rattle.p3_merkle_verifier.specs.Inner.Checks.{IsLevelOfCheck, opening_in}
-use Rattle.p3_merkle_verifier.specs.Inner.Collisions.{IsDifference, Shows, inputs_above, level_inputs}
-use Rattle.p3_merkle_verifier.specs.Inner.Inconsistency.{CanCompare, HasMixed, IsPath, child_values, group_inputs, listed_inputs}
+use Rattle.p3_merkle_verifier.specs.Inner.Collisions.{IsDifference, Shows}
+use Rattle.p3_merkle_verifier.specs.Inner.Inconsistency.{CanCompare, IsPath, child_values, group_inputs, listed_inputs}
 use Rattle.p3_merkle_verifier.specs.Inner.Consistency.{IsCounted, evidence_in}
 use Rattle.p3_merkle_verifier.specs.declared.consistency.ConsistencyRef.{ConsistencyRef}
 use Rattle.p3_merkle_verifier.specs.Inner.Inconsistency.{checked_refusal, grown_in, params_in, path_groups, tree_in}

@@ -16,9 +16,8 @@ ghost use Rattle.p3_merkle_verifier.specs.Inner.RestoredLevels.{opened_by, tree_
 use crate::openings::{OpenedMatrix, RestorableOpening};
 use crate::path::Checker;
 use p3_merkle_core::geometry::exponent_of;
-use p3_merkle_core::group::padded_group;
 use p3_merkle_core::pruning::CoveredLayer;
-use p3_merkle_digests::batched::inject_row_digests;
+use p3_merkle_digests::batched::{compress_children, inject_row_digests};
 use p3_merkle_digests::rows::LayerRows;
 use p3_support::compress::PseudoCompressionFunction;
 use p3_support::hasher::CryptographicHasher;
@@ -57,29 +56,6 @@ fn opened_matrices<'a, T, X>(
     Ok(matrices)
 }
 
-/// The groups of `step` children, at least one and at most `N`, with default digests behind them.
-fn padded_groups<W: Copy, const N: usize, const D: usize>(
-    alloc: Global,
-    default_digest: [W; D],
-    children: &[[W; D]],
-    step: usize,
-) -> Result<Vec<[[W; D]; N]>, AllocError>
-    requires step { 0 < step }
-    requires few { step ≤ N }
-    ensures count { IfOk result (λ groups. length groups.items ≡ length children.now / step) }
-    ensures groups { let group = child_group N default_digest step children.now in
-        IfOk result (λ groups. groups.items ≡ map group (range_with_len 0 (length children.now / step))) }
-{
-    let parents = children.len() / step;
-    let mut groups = Vec::with_capacity(alloc, parents)?;
-    for parent in 0..parents {
-        let first = step * parent;
-        let group = &children[first..first + step];
-        groups.push(padded_group::<W, N, D>(default_digest, group))?;
-    }
-    Ok(groups)
-}
-
 impl<
     'a,
     P: PackedValue,
@@ -89,8 +65,7 @@ impl<
     const N: usize,
     const D: usize,
 > Checker<'a, P, PW, H, C, [[PW::Value; D]; N]> {
-    /// For each of some covered nodes the digest of its query's rows, of the matrices that have the layer's exponent:
-    /// in batches where the hasher takes several messages at a time, else one by one.
+    /// For each of some covered nodes the digest of its query's rows, of the matrices that have the layer's exponent.
     fn row_digests(
         &self,
         alloc: Global,
@@ -111,15 +86,8 @@ impl<
             height,
             item: PhantomData,
         };
-        if H::LANES > 1 {
-            let mut digests = vec![in alloc; [PW::Value::default(); D]; height]?;
-            rows.write_batched(&mut Vec::new(alloc), height, &mut digests)?;
-            return Ok(digests);
-        }
-        let mut digests = Vec::with_capacity(alloc, height)?;
-        for j in 0..height {
-            digests.push(rows.digest(j))?;
-        }
+        let mut digests = vec![in alloc; [PW::Value::default(); D]; height]?;
+        rows.write_batched(&mut Vec::new(alloc), 0, &mut digests)?;
         Ok(digests)
     }
 
@@ -137,16 +105,10 @@ impl<
             (replicate D PW.default_value) step children.now in
             IfOk result (λ digests. digests.items ≡ map digest (range_with_len 0 (length children.now / step))) }
     {
-        let default_digest = [PW::Value::default(); D];
-        let mut digests = vec![in alloc; default_digest; children.len() / step]?;
-        // Children of whole groups lie as the compression takes them, so that none is copied.
-        if step == N {
-            let (groups, _) = children.as_chunks::<N>();
-            self.compress.compress_many(groups, &mut digests);
-            return Ok(digests);
-        }
-        let groups = padded_groups::<PW::Value, N, D>(alloc, default_digest, children, step)?;
-        self.compress.compress_many(&groups, &mut digests);
+        let mut digests = vec![in alloc; [PW::Value::default(); D]; children.len() / step]?;
+        let mut groups = Vec::new(alloc);
+        let compress = self.compress;
+        compress_children::<PW, C, N, D>(compress, &mut groups, children, step, &mut digests)?;
         Ok(digests)
     }
 
@@ -178,8 +140,7 @@ impl<
         }
         let rows = self.row_digests(alloc, restorable, covered)?;
         let mut pairs = Vec::with_capacity(alloc, rows.len())?;
-        let step = covered.step;
-        inject_row_digests::<PW, C, N, D>(self.compress, step, &mut pairs, &rows, &mut digests)?;
+        inject_row_digests::<PW, C, N, D>(self.compress, &mut pairs, &rows, &mut digests)?;
         Ok(digests)
     }
 }

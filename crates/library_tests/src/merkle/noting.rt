@@ -190,20 +190,28 @@ fn assert_noted<P: FoldLane, const L: usize, const G: usize>(
 }
 
 /// 17 rows, and layers of 9, 5, 3, 2 nodes and 1, in eight lanes.
-static IN_LANES: [Run; 4] = [(RowLanes(8), 2), (Row, 1), (GroupLanes(8), 1), (Group, 12)];
+static IN_LANES: [Run; 8] = [
+    (RowLanes(8), 2),
+    (Rows(1), 1),
+    (GroupLanes(8), 1),
+    (Groups(1), 1),
+    (Groups(5), 1),
+    (Groups(3), 1),
+    (Groups(2), 1),
+    (Groups(1), 1),
+];
 
-/// Three rows, and two rows that are injected above them: children, row, pair.
-static WITH_ROWS: [Run; 6] = [
-    (Row, 3),
-    (Group, 1),
-    (Row, 1),
-    (Group, 2),
-    (Row, 1),
-    (Group, 2),
+/// Three rows, and two rows that are injected above them: the children of both nodes, then the rows, then the pairs.
+static WITH_ROWS: [Run; 5] = [
+    (Rows(3), 1),
+    (Groups(2), 1),
+    (Rows(2), 1),
+    (Groups(2), 1),
+    (Groups(1), 1),
 ];
 
 #[test]
-fn groups_of_lanes_come_first_and_the_rest_one_by_one(rt: HostRuntime) -> Result<(), Fail> {
+fn groups_of_lanes_come_first_and_the_rest_together(rt: HostRuntime) -> Result<(), Fail> {
     let alloc = rt.alloc();
     assert_noted::<U32x8, 1, 1>(&rt, alloc, &[(1, 17)], &IN_LANES)?;
     assert_noted::<u32, 1, 1>(&rt, alloc, &[(1, 3), (1, 2)], &WITH_ROWS)?;
@@ -234,40 +242,23 @@ static WITH_ALL_ROWS: [Run; 10] = [
     (Groups(1), 1),
 ];
 
-/// Five rows together and three that are injected above them, one by one, since the compression takes one at a time.
-/// Layers of 3 nodes with rows, of 2 and 1.
-static GROUP_BY_GROUP: [Run; 8] = [
+/// Five rows, and three that are injected above them.
+static FEW_ROWS: [Run; 6] = [
     (Rows(5), 1),
-    (Group, 1),
-    (Row, 1),
-    (Group, 2),
-    (Row, 1),
-    (Group, 2),
-    (Row, 1),
-    (Group, 4),
-];
-
-/// The same where the hasher takes one at a time.
-static ROW_BY_ROW: [Run; 10] = [
-    (Row, 5),
-    (Group, 1),
-    (Row, 1),
-    (Group, 2),
-    (Row, 1),
-    (Group, 2),
-    (Row, 1),
-    (Group, 1),
+    (Groups(3), 1),
+    (Rows(3), 1),
+    (Groups(3), 1),
     (Groups(2), 1),
     (Groups(1), 1),
 ];
 
 #[test]
-fn many_are_taken_together_where_both_functions_do(rt: HostRuntime) -> Result<(), Fail> {
+fn layers_are_taken_together_whatever_the_functions_take(rt: HostRuntime) -> Result<(), Fail> {
     let alloc = rt.alloc();
     assert_noted::<u32, 8, 8>(&rt, alloc, &[(1, 17)], &LAYER_BY_LAYER)?;
     assert_noted::<u32, 8, 8>(&rt, alloc, &[(1, 17), (1, 9), (1, 3)], &WITH_ALL_ROWS)?;
-    assert_noted::<u32, 8, 1>(&rt, alloc, &[(1, 5), (1, 3)], &GROUP_BY_GROUP)?;
-    assert_noted::<u32, 1, 8>(&rt, alloc, &[(1, 5), (1, 3)], &ROW_BY_ROW)?;
+    assert_noted::<u32, 8, 1>(&rt, alloc, &[(1, 5), (1, 3)], &FEW_ROWS)?;
+    assert_noted::<u32, 1, 8>(&rt, alloc, &[(1, 5), (1, 3)], &FEW_ROWS)?;
     Ok(())
 }
 
@@ -287,7 +278,14 @@ static SMALL_ROWS: [Run; 11] = [
 ];
 
 /// Rows of 16400 bytes go in the smallest group, of eight: ten rows take two calls. Layers of 5, 3, 2 nodes and 1.
-static LARGE_ROWS: [Run; 3] = [(Rows(8), 1), (Rows(2), 1), (Group, 11)];
+static LARGE_ROWS: [Run; 6] = [
+    (Rows(8), 1),
+    (Rows(2), 1),
+    (Groups(5), 1),
+    (Groups(3), 1),
+    (Groups(2), 1),
+    (Groups(1), 1),
+];
 
 #[test]
 fn rows_are_laid_side_by_side_in_whole_groups_of_lanes(rt: HostRuntime) -> Result<(), Fail> {

@@ -1,5 +1,5 @@
 -- What the builders of layers compute with and write.
-use Rattle.std.specs.Prelude.{ℕ, ◌-◌, ◌*◌, List, ◌++◌, drop, map, replicate, take}
+use Rattle.std.specs.Prelude.{ℕ, List, map, replicate}
 use Rattle.std.specs.List.{range_with_len}
 use Rattle.std.specs.declared.default.Default as default
 use Rattle.std.specs.declared.cmp.PartialEq as equality
@@ -46,14 +46,6 @@ module _ {P PW H C M G V W : Type 0} {N : ℕ} {p : packed.Ghosts P V} {pd : def
   leaf_in hash d builder =
       leaf_over (hash builder.rows.hash.now) (replicate d q.default_value)
       (rows_over m.row_of builder.rows.matrices.now) builder.rows.height
-
-  -- the compression of the children of node j, with default digests behind them
-  abbrev pub folded_of : (C → List (List W) → List W) → ℕ → LayerOver P PW H C M (List W) G N V W p pd pe q qd qe m →
-      ℕ → List W
-  folded_of compression d builder j =
-      let step = builder.level.step in
-      compression builder.compress.now (take step (drop (step * j) builder.below.now)
-      ++ replicate (N - step) (replicate d q.default_value))
 
   -- slot j of the layer
   abbrev pub slot_of : (H → List V → List W) → (C → List (List W) → List W) → ℕ →

@@ -8,7 +8,6 @@ use Rattle.p3_merkle_core.specs.Consistency.{new_value, old_layer, old_value, se
 use Rattle.p3_merkle_core.specs.Geometry.{IsArity}
 use Rattle.p3_merkle_core.specs.Inner.Growths.{parts_at}
 use Rattle.p3_merkle_core.specs.declared.consistency.Growth.{Growth}
-use Rattle.p3_merkle_core.specs.declared.consistency.LayerParts.{LayerParts}
 use Rattle.p3_merkle_verifier.specs.declared.consistency.ConsistencyRef.{ConsistencyRef}
 use Rattle.p3_merkle_verifier.specs.declared.consistency.MixedNode.{MixedNode}
 

@@ -1,5 +1,4 @@
--- Whole groups are packed as they lie; else each turn puts one child into its place, and the places behind the children
--- keep their default digests.
+-- Each turn puts one child into its place, and the places after the children keep their default digests.
 use Rattle.std.proofs.Common.{arith, ◌≡◌, ◌+◌, ◌-◌, ◌*◌, ◌<◌, ◌++◌, ◌∙◌, [], ap, length, take, drop, map, set, sym}
 use Rattle.std.proofs.Common.{List, length-set, replicate}
 use Rattle.std.proofs.lemmas.List.{map-set, length-map, length-replicate, take_all, drop-replicate}
@@ -49,4 +48,4 @@ returns g c = λ k small.
     c.loop-n.invariant.1 k small ∙ ap (λ n. take n whole ++ drop n first) end
     ∙ ap (λ l. l ++ drop step first) (take_all step whole (omega (arith, long)))
     ∙ ap (λ l. whole ++ l) (ap (drop step) lanes ∙ drop-replicate step g.row.N (replicate g.row.D default)) in
-    c.compress_packed-2.ensures k small ∙ ap (g.C.PseudoCompressionFunction.compression c.args.compress.now) made
+    c.compress_packed.ensures k small ∙ ap (g.C.PseudoCompressionFunction.compression c.args.compress.now) made

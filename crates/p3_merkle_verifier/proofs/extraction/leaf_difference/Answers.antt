@@ -2,7 +2,6 @@
 use Rattle.std.proofs.Common.{ap, zip}
 use Rattle.std.proofs.lemmas.Result.{IfOk-weaker}
 use Rattle.p3_support.specs.Batches.{heights_of}
-use Rattle.p3_support.specs.Shown.{row_lists}
 use Rattle.p3_merkle_core.specs.Checks.{words_of_exponent}
 use Rattle.p3_merkle_core.specs.Geometry.{shape_of}
 use Rattle.p3_merkle_verifier.specs.Inner.Checks.{opening_in}

@@ -1,4 +1,4 @@
-use Rattle.std.proofs.Common.{◌≡◌, ◌≤◌, ◌∙◌, ap, arith, length, sym}
+use Rattle.std.proofs.Common.{◌≡◌, ap, arith}
 use Rattle.p3_merkle_core.specs.Checks.{siblings_below}
 use Rattle.p3_merkle_core.specs.Geometry.{levels, shape_of}
 use Rattle.p3_merkle_core.proofs.Shapes.OneHeight.{greatest_is}

@@ -1,14 +1,13 @@
-use Rattle.std.proofs.Common.{◌≤◌, ◌-◌, length, replicate}
-use Rattle.p3_merkle_digests.specs.Inner.Slots.{leaf_over, rows_over, IsFilled}
+use Rattle.std.proofs.Common.{ℕ, ◌≤◌, ◌+◌, ◌-◌, length}
+use Rattle.p3_merkle_digests.specs.Inner.Slots.{rows_over, IsFilled}
 use Rattle.p3_merkle_digests.proofs.rows.LayerRows+P+PW+H+M+array+D+PW+Value.write_batched.Given as goal
 
 -- the slots so far are written
-abbrev pub invariant-loop-first : goal.invariant-loop-first
-invariant-loop-first g l =
-    (l.first ≤ l.count)
-    × IsFilled (leaf_over (g.H.CryptographicHasher.hash l.self.hash.now)
-    (replicate g.row.D g.PW.PackedValue.default_value)
-    (rows_over g.M.Matrix.row_of l.self.matrices.now) l.self.height) l.first (length l.initial.slots) l.slots
+abbrev pub invariant-loop-done : goal.invariant-loop-done
+invariant-loop-done g l =
+    (l.done ≤ length l.initial.slots)
+    × IsFilled (λ (j : ℕ). g.H.CryptographicHasher.hash l.self.hash.now
+    (rows_over g.M.Matrix.row_of l.self.matrices.now (l.first + j))) l.done (length l.initial.slots) l.slots
 
-abbrev pub decreases-loop-first : goal.decreases-loop-first
-decreases-loop-first g l = l.count - l.first
+abbrev pub decreases-loop-done : goal.decreases-loop-done
+decreases-loop-done g l = length l.initial.slots - l.done

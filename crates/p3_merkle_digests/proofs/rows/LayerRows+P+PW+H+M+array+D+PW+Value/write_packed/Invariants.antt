@@ -1,11 +1,10 @@
-use Rattle.std.proofs.Common.{◌*◌, length, replicate}
-use Rattle.p3_merkle_digests.specs.Inner.Slots.{leaf_over, rows_over, IsFilled}
+use Rattle.std.proofs.Common.{ℕ, ◌+◌, ◌*◌, length}
+use Rattle.p3_merkle_digests.specs.Inner.Slots.{rows_over, IsFilled}
 use Rattle.p3_merkle_digests.proofs.rows.LayerRows+P+PW+H+M+array+D+PW+Value.write_packed.Given as goal
 
 -- the blocks so far are written
 abbrev pub invariant-loop-block : goal.invariant-loop-block
 invariant-loop-block g l =
-    IsFilled (leaf_over (g.H.CryptographicHasher.hash l.self.hash.now)
-    (replicate g.row.D g.PW.PackedValue.default_value)
-    (rows_over g.M.Matrix.row_of l.self.matrices.now) l.self.height) (l.block * g.PW.PackedValue.WIDTH)
+    IsFilled (λ (j : ℕ). g.H.CryptographicHasher.hash l.self.hash.now
+    (rows_over g.M.Matrix.row_of l.self.matrices.now (l.first + j))) (l.block * g.PW.PackedValue.WIDTH)
     (length l.initial.slots) l.slots

@@ -1,5 +1,5 @@
 -- The leaves are over the tallest matrices alone.
-use Rattle.std.proofs.Common.{◌≡◌, ◌∙◌, ℕ, ap, arith, drop, length, map, refl}
+use Rattle.std.proofs.Common.{◌≡◌, ◌∙◌, ◌+◌, ℕ, ap, arith, drop, length, map, refl}
 use Rattle.std.specs.List.{range_with_len}
 use Rattle.std.proofs.lemmas.List.{take_at}
 use Rattle.std.proofs.lemmas.List.FromFn.{length-map-range_with_len}
@@ -34,7 +34,8 @@ returns g c =
     let f = functions_for g.H.CryptographicHasher.hash g.C.PseudoCompressionFunction.compression g.row.D
     c.args.self.now in
     let picked = c.as_slice.result.now in
-    let made = leaf_over f.hash f.default_digest (rows_over (λ m. g.M.Matrix.row_of m.now) picked) h in
+    let made = λ (j : ℕ).
+    leaf_over f.hash f.default_digest (rows_over (λ m. g.M.Matrix.row_of m.now) picked) h (0 + j) in
     let wanted = leaf_over f.hash f.default_digest
     (λ j. rows_of_height g.M.Matrix.height_of g.M.Matrix.row_of h j all) h in
     let rows = λ (j : ℕ). rows_picked g.M.Matrix.height_of g.M.Matrix.row_of (λ m. m.now) h j picked all
@@ -51,6 +52,7 @@ returns g c =
     take_at slots (drop (length slots) c.in_ok-leaves.leaves.items) c.in_ok-leaves.leaves.len size
     ∙ c.in_ok-write.ensures
     ∙ ap (λ n. map made (range_with_len 0 n)) long
-    ∙ same_made made wanted (padded_len h g.row.N) (λ j below. rw (rows j) refl)
+    ∙ same_made made wanted (padded_len h g.row.N)
+    (λ j below. let same : 0 + j ≡ j = omega arith in rw (same, rows j) refl)
     ∙ leaves_are f g.row.N g.M.Matrix.height_of g.M.Matrix.width_of g.M.Matrix.row_of all c.args.self.now.build h
     c.args.self.now.steps.now.walked.tallest

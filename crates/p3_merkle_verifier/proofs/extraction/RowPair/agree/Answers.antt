@@ -1,7 +1,6 @@
 -- The rows of both openings are read side by side.
 use Rattle.std.proofs.Common.{◌≡◌, ap, refl, zip}
 use Rattle.std.specs.Cmp.Lexicographic.{pointwise}
-use Rattle.std.specs.Iterator.{YieldsFirstBy}
 use Rattle.std.proofs.lemmas.Iterator.Consumers.{YieldsList-from_first}
 use Rattle.p3_support.specs.Batches.{heights_of}
 use Rattle.p3_support.specs.Shown.{row_lists}

@@ -1,5 +1,5 @@
 -- Both openings are cut to the siblings below the layer.
-use Rattle.std.proofs.Common.{◌≡◌, ◌∙◌, ap, replicate, subst, take}
+use Rattle.std.proofs.Common.{◌≡◌, ◌∙◌, ap, replicate, subst}
 use Rattle.std.specs.Prelude.{IfOk}
 use Rattle.std.proofs.lemmas.Result.{IfOk-weaker}
 use Rattle.p3_support.specs.Shown.{row_lists}

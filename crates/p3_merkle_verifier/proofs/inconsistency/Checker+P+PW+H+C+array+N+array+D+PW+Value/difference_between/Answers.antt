@@ -1,14 +1,13 @@
 -- The old tree, else the new one, else both openings below the given node.
-use Rattle.std.proofs.Common.{◌≡◌, ◌∙◌, [], ap, replicate, rules, subst, sym, refl}
+use Rattle.std.proofs.Common.{[], ap, replicate, subst, refl}
 use Rattle.std.specs.Prelude.{None, Some}
 use Rattle.p3_support.specs.Shown.{row_lists}
-use Rattle.p3_merkle_core.specs.Consistency.{new_layer, old_layer}
 use Rattle.p3_merkle_core.specs.Extraction.{input_eq, last_difference}
-use Rattle.p3_merkle_core.specs.Inconsistency.{given_layer, inputs_up_to}
+use Rattle.p3_merkle_core.specs.Inconsistency.{inputs_up_to}
 use Rattle.p3_merkle_verifier.specs.Inner.Checks.{functions_by, opening_in}
 use Rattle.p3_merkle_verifier.specs.Inner.Collisions.{Shows}
 use Rattle.p3_merkle_verifier.specs.Inner.Consistency.{evidence_in}
-use Rattle.p3_merkle_verifier.specs.Inner.Inconsistency.{group_inputs, grown_in, listed_inputs, params_in, path_groups, tree_in}
+use Rattle.p3_merkle_verifier.specs.Inner.Inconsistency.{grown_in, params_in}
 use Rattle.p3_merkle_verifier.proofs.InconsistencyFacts.{path, shown_new_at, shown_old_at, told_between, told_new, told_old}
 use Rattle.p3_merkle_verifier.proofs.inconsistency.Checker+P+PW+H+C+array+N+array+D+PW+Value.difference_between.Goals as goal
 

@@ -1,6 +1,6 @@
 -- The old opening's refusal, else the new one's, else the proof's, else what differs.
-use Rattle.std.proofs.Common.{◌≡◌, ◌∙◌, ap, inr, replicate, subst, sym}
-use Rattle.std.specs.Prelude.{Err, Ok}
+use Rattle.std.proofs.Common.{◌∙◌, inr, replicate, subst, sym}
+use Rattle.std.specs.Prelude.{Err}
 use Rattle.std.proofs.lemmas.Result.{err_from_is_err_and}
 use Rattle.p3_merkle_core.specs.ConsistencyRefusals.{ConsistencyAnswers}
 use Rattle.p3_merkle_verifier.specs.Inner.Checks.{functions_by}

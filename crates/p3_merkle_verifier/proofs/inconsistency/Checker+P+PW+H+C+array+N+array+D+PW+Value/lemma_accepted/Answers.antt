@@ -1,5 +1,5 @@
 -- Accepted openings have their heights, rows and siblings, and an accepted proof its digests.
-use Rattle.std.proofs.Common.{◌≡◌, replicate, sym}
+use Rattle.std.proofs.Common.{replicate}
 use Rattle.p3_merkle_core.proofs.Checks.Verdicts.{accepted_from}
 use Rattle.p3_merkle_core.proofs.Growths.VerdictFacts.{unrefused_consistent}
 use Rattle.p3_merkle_verifier.specs.Inner.Checks.{functions_by, opening_in}

@@ -1,8 +1,7 @@
 -- Openings that can be compared have all that the comparisons require.
-use Rattle.std.proofs.Common.{◌≡◌, ◌≤◌, [], ap, arith, replicate, sym}
-use Rattle.p3_merkle_core.specs.Inconsistency.{given_layer}
+use Rattle.std.proofs.Common.{[], replicate}
 use Rattle.p3_merkle_verifier.specs.Inner.Checks.{functions_by}
-use Rattle.p3_merkle_verifier.specs.Inner.Inconsistency.{CanCompare, grown_in}
+use Rattle.p3_merkle_verifier.specs.Inner.Inconsistency.{grown_in}
 use Rattle.p3_merkle_verifier.proofs.EntryFacts.{layers_rise}
 use Rattle.p3_merkle_verifier.proofs.InconsistencyFacts.{can_compare, counted_by, new_at_is, new_low, new_reaches}
 use Rattle.p3_merkle_verifier.proofs.InconsistencyFacts.{old_at_is, old_low, old_reaches, path_at}

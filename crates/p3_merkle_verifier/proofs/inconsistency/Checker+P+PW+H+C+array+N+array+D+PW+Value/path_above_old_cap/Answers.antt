@@ -1,11 +1,10 @@
 -- The old cap's entries first; then each turn is one layer.
-use Rattle.std.proofs.Common.{◌≡◌, ◌<◌, ◌≤◌, ◌/◌, ◌^◌, ◌∙◌, ℕ, suc, add-one, ap, arith, replicate, sym}
+use Rattle.std.proofs.Common.{◌≡◌, ◌≤◌, ◌/◌, ◌^◌, ◌∙◌, suc, add-one, ap, arith, replicate}
 use Rattle.std.proofs.lemmas.Result.{err_from_is_err_and}
-use Rattle.p3_support.specs.Shown.{row_lists}
 use Rattle.p3_merkle_core.specs.Consistency.{new_layer, new_value, old_layer}
 use Rattle.p3_merkle_verifier.specs.Inner.Checks.{functions_by}
 use Rattle.p3_merkle_verifier.specs.Inner.Consistency.{evidence_in}
-use Rattle.p3_merkle_verifier.specs.Inner.Inconsistency.{child_values, path_groups}
+use Rattle.p3_merkle_verifier.specs.Inner.Inconsistency.{child_values}
 use Rattle.p3_merkle_verifier.proofs.EntryFacts.{known_start, layers_rise}
 use Rattle.p3_merkle_verifier.proofs.InconsistencyFacts.{more_groups, push_count}
 use Rattle.p3_merkle_verifier.proofs.inconsistency.Checker+P+PW+H+C+array+N+array+D+PW+Value.path_above_old_cap.Goals as goal

@@ -1,7 +1,7 @@
 -- Each turn is one layer.
 use Rattle.std.proofs.Common.{◌≡◌, ◌-◌, ◌∙◌, ap, sym, add-one, arith, replicate, rules}
 use Rattle.std.proofs.lemmas.Result.{err_from_is_err_and}
-use Rattle.p3_merkle_core.specs.Consistency.{new_value, old_layer, old_value, value_over}
+use Rattle.p3_merkle_core.specs.Consistency.{new_value, old_layer, old_value}
 use Rattle.p3_merkle_verifier.specs.Inner.Checks.{functions_by}
 use Rattle.p3_merkle_verifier.specs.Inner.Consistency.{evidence_in}
 use Rattle.p3_merkle_verifier.specs.Inner.Inconsistency.{child_values}

@@ -1,12 +1,11 @@
--- Whole groups are compressed as they lie, others with default digests.
-use Rattle.std.proofs.Common.{◌≡◌, ◌∙◌, ◌/◌, ap, arith, drop, length, map, replicate}
-use Rattle.std.specs.List.{range_with_len}
-use Rattle.std.proofs.lemmas.List.{length-map, take_at}
+-- The groups that are compressed are the children with default digests.
+use Rattle.std.proofs.Common.{rules, ◌≡◌, ◌∙◌, ◌*◌, ◌/◌, ◌≤◌, ap, arith, drop, length, replicate}
+use Rattle.std.proofs.Math.Nat.{div-mul-le_self, mul_comm}
+use Rattle.std.proofs.lemmas.List.{take_at}
 use Rattle.std.proofs.lemmas.List.FromFn.{length-map-range_with_len}
-use Rattle.std.proofs.lemmas.Simd.{map-map}
 use Rattle.std.proofs.lemmas.Result.{err_from_is_err_and}
-use Rattle.p3_merkle_verifier.specs.Inner.NodeDigests.{child_group, group_digest}
-use Rattle.p3_merkle_verifier.proofs.GroupFacts.{whole_digests}
+use Rattle.p3_merkle_verifier.specs.Inner.NodeDigests.{group_digest}
+use Rattle.p3_merkle_verifier.proofs.GroupFacts.{groups_compressed}
 use Rattle.p3_merkle_verifier.proofs.nodes.Checker+P+PW+H+C+array+N+array+D+PW+Value.group_digests.Goals as goal
 
 pub returns-in_err-digests : goal.returns-in_err-digests
@@ -14,30 +13,21 @@ returns-in_err-digests g c =
     let p = err_from_is_err_and c.from_residual.result c.from_residual.ensures.1 in
     record { count = rw p.1 tt; digests = rw p.1 tt }
 
-pub returns-in_err-groups : goal.returns-in_err-groups
-returns-in_err-groups g c =
-    let p = err_from_is_err_and c.from_residual-in_err-groups.result c.from_residual-in_err-groups.ensures.1 in
-    record { count = rw p.1 tt; digests = rw p.1 tt }
+pub compress_children-requires : goal.compress_children-requires
+compress_children-requires g c =
+    let step = c.args.step in
+    let n = length c.args.children.now in
+    let long : length c.deref_mut.result.now ≡ n / step =
+    omega (arith, c.deref_mut.ensures.len, c.in_ok-digests.ensures.len) in
+    let most : step * (n / step) ≤ n = rw (mul_comm step (n / step)) (div-mul-le_self n step) in
+    let inside : step * length c.deref_mut.result.now ≤ n = rw long most in
+    search (rules, inside)
 
-pub returns-then-step : goal.returns-then-step
-returns-then-step g c =
-    let children = c.args.children.now in
-    let n = length children / c.args.step in
-    let compression = g.C.PseudoCompressionFunction.compression c.args.self.now.compress.now in
-    let default = replicate g.row.D g.PW.PackedValue.default_value in
-    let groups = c.as_chunks.result.0.now in
-    let made = c.in_ok-digests in
-    let out = c.compress_many.new.out in
-    let many : length groups ≡ n = rw c.if-step.true c.as_chunks.ensures.front_len in
-    let size : length out ≡ made.digests.len = ap length c.compress_many.ensures ∙ length-map groups compression
-    ∙ omega (arith, made.ensures.len, many) in
-    let are = take_at out (drop (length out) made.digests.items) made.digests.len size ∙ c.compress_many.ensures
-    ∙ whole_digests compression default g.row.N c.args.step children groups c.if-step.true c.as_chunks.ensures.front in
-    record {
-      count = ap length are
-          ∙ length-map-range_with_len (group_digest compression g.row.N default c.args.step children) 0 n;
-      digests = are;
-    }
+pub returns-in_err-compress_children : goal.returns-in_err-compress_children
+returns-in_err-compress_children g c =
+    let p = err_from_is_err_and c.from_residual-in_err-compress_children.result
+    c.from_residual-in_err-compress_children.ensures.1 in
+    record { count = rw p.1 tt; digests = rw p.1 tt }
 
 pub returns : goal.returns
 returns g c =
@@ -45,16 +35,13 @@ returns g c =
     let n = length children / c.args.step in
     let compression = g.C.PseudoCompressionFunction.compression c.args.self.now.compress.now in
     let default = replicate g.row.D g.PW.PackedValue.default_value in
-    let one = g.met.PW.PackedValue.default_is_unique c.default-default_digest.result c.default-default_digest.ensures in
-    let groups = c.deref.result.now in
     let made = c.in_ok-digests in
-    let out = c.compress_many-2.new.out in
-    let many = ap length c.deref.ensures.value ∙ c.in_ok-groups.ensures.count in
-    let size : length out ≡ made.digests.len = ap length c.compress_many-2.ensures ∙ length-map groups compression
-    ∙ omega (arith, made.ensures.len, many) in
-    let are = take_at out (drop (length out) made.digests.items) made.digests.len size ∙ c.compress_many-2.ensures
-    ∙ ap (map compression) (c.deref.ensures.value ∙ rw one at c.in_ok-groups.ensures.groups)
-    ∙ map-map compression (child_group g.row.N default c.args.step children) (range_with_len 0 n) in
+    let out = c.compress_children.new.slots in
+    let filled = c.in_ok-compress_children.ensures in
+    let long : length c.deref_mut.result.now ≡ n = omega (arith, c.deref_mut.ensures.len, made.ensures.len) in
+    let size : length out ≡ made.digests.len = filled.long ∙ c.deref_mut.ensures.len in
+    let are = take_at out (drop (length out) made.digests.items) made.digests.len size
+    ∙ groups_compressed compression default g.row.N c.args.step children out (rw long at filled) in
     record {
       count = ap length are
           ∙ length-map-range_with_len (group_digest compression g.row.N default c.args.step children) 0 n;

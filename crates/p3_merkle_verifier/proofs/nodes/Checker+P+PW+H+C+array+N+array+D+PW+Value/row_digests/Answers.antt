@@ -1,16 +1,14 @@
--- All rows are hashed together, or each turn hashes one more; they are those of the queries.
-use Rattle.std.proofs.Common.{◌≡◌, ◌∙◌, ℕ, ◌<◌, List, [], ap, arith, drop, get_or, length, map, refl, rules}
+-- The rows that are hashed are those of the queries.
+use Rattle.std.proofs.Common.{◌≡◌, ◌∙◌, ℕ, ◌+◌, ◌<◌, List, ap, arith, drop, get_or, length, map, rules}
 use Rattle.std.specs.List.{range_with_len}
-use Rattle.std.proofs.lemmas.Bool.{lt-ltb}
 use Rattle.std.proofs.lemmas.List.{length-map, take_at}
-use Rattle.std.proofs.lemmas.List.FromFn.{fill_by_all}
+use Rattle.std.proofs.lemmas.List.FromFn.{length-map-range_with_len}
 use Rattle.std.proofs.lemmas.Result.{err_from_is_err_and}
 use Rattle.p3_support.specs.Batches.{heights_of}
 use Rattle.p3_support.specs.Shown.{row_sets}
 use Rattle.p3_merkle_digests.specs.Inner.Slots.{rows_over}
 use Rattle.p3_merkle_verifier.specs.Inner.NodeDigests.{query_digest}
 use Rattle.p3_merkle_verifier.specs.Inner.OpenedMatrices.{row_in}
-use Rattle.p3_merkle_verifier.proofs.GroupFacts.{one_more}
 use Rattle.p3_merkle_verifier.proofs.OpenedFacts.{by_places}
 use Rattle.p3_merkle_verifier.proofs.nodes.Checker+P+PW+H+C+array+N+array+D+PW+Value.row_digests.Goals as goal
 
@@ -29,16 +27,6 @@ returns-in_err-write_batched g c =
     let p = err_from_is_err_and c.from_residual-in_err-write_batched.result c.from_residual-in_err-write_batched.ensures.1 in
     record { count = rw p.1 tt; digests = rw p.1 tt }
 
-pub returns-in_err-digests-2 : goal.returns-in_err-digests-2
-returns-in_err-digests-2 g c =
-    let p = err_from_is_err_and c.from_residual-in_err-digests-2.result c.from_residual-in_err-digests-2.ensures.1 in
-    record { count = rw p.1 tt; digests = rw p.1 tt }
-
-pub returns-in_err-push : goal.returns-in_err-push
-returns-in_err-push g c =
-    let p = err_from_is_err_and c.from_residual-in_err-push.result c.from_residual-in_err-push.ensures.1 in
-    record { count = rw p.1 tt; digests = rw p.1 tt }
-
 -- the digests of n rows, one for each query, are those of the queries
 record OfQueries {W : Type 0} (digest : ℕ → List W) (queries : List ℕ) (digests : List (List W)) : Type 0 where
   as_many : length digests ≡ length queries
@@ -51,20 +39,12 @@ of_queries row digest queries n digests same each are =
     let is = are ∙ ap (λ k. map row (range_with_len 0 k)) same ∙ by_places row digest queries each in
     record { as_many = ap length is ∙ length-map queries digest; are = is }
 
-pub loop-j-preserved : goal.loop-j-preserved
-loop-j-preserved g c =
-    let row = λ (j : ℕ). g.H.CryptographicHasher.hash c.args.self.now.hash.now (rows_over row_in c.deref.result.now j)
-    in
-    one_more row c.loop-j.j c.loop-j.digests.items c.push.new.self.items c.digest.result c.loop-j.invariant
-    c.in_ok-push.ensures.items
-    (c.digest.ensures ∙ rw (lt-ltb c.loop-j.j c.len-height.result c.loop-j-test.true) refl)
-
-pub returns-then-LANES-gt1 : goal.returns-then-LANES-gt1
-returns-then-LANES-gt1 g c =
+pub returns : goal.returns
+returns g c =
     let restorable = c.args.restorable.now in
     let covered = c.args.covered.now in
     let hash = g.H.CryptographicHasher.hash c.args.self.now.hash.now in
-    let row = λ (j : ℕ). hash (rows_over row_in c.deref.result.now j) in
+    let row = λ (j : ℕ). hash (rows_over row_in c.deref.result.now (0 + j)) in
     let digest = query_digest hash covered.exponent (heights_of restorable.steps.now.dimensions.now)
     (row_sets restorable.opening.sets.now) in
     let opened = rw (← c.deref.ensures.value) at c.in_ok-matrices.ensures.rows in
@@ -72,26 +52,11 @@ returns-then-LANES-gt1 g c =
     let same : n ≡ length covered.queries.items = search rules in
     let made = c.in_ok-digests in
     let slots = c.write_batched.new.slots in
-    let filled = c.in_ok-write_batched.ensures in
     let long : length c.deref_mut.result.now ≡ n = omega (arith, c.deref_mut.ensures.len, made.ensures.len) in
-    let size : length slots ≡ made.digests.len = filled.long ∙ c.deref_mut.ensures.len in
-    let is = of_queries row digest covered.queries.items n _ same (λ j h. ap hash (opened j h))
+    let size : length slots ≡ made.digests.len = ap length c.in_ok-write_batched.ensures
+    ∙ length-map-range_with_len row 0 (length c.deref_mut.result.now) ∙ c.deref_mut.ensures.len in
+    let is = of_queries row digest covered.queries.items n _ same
+    (λ j h. let at : 0 + j ≡ j = omega arith in rw at (ap hash (opened j h)))
     (take_at slots (drop (length slots) made.digests.items) made.digests.len size
-    ∙ fill_by_all row slots n [] (filled.long ∙ long) (λ j h. filled.filled j h ∙ rw (lt-ltb j n h) refl)) in
-    record { count = is.as_many; digests = is.are }
-
-pub returns : goal.returns
-returns g c =
-    let restorable = c.args.restorable.now in
-    let covered = c.args.covered.now in
-    let hash = g.H.CryptographicHasher.hash c.args.self.now.hash.now in
-    let row = λ (j : ℕ). hash (rows_over row_in c.deref.result.now j) in
-    let digest = query_digest hash covered.exponent (heights_of restorable.steps.now.dimensions.now)
-    (row_sets restorable.opening.sets.now) in
-    let opened = rw (← c.deref.ensures.value) at c.in_ok-matrices.ensures.rows in
-    let n = c.len-height.result in
-    let same : n ≡ length covered.queries.items = search rules in
-    let all : c.loop-j.j ≡ n = omega arith in
-    let is = of_queries row digest covered.queries.items n _ same (λ j h. ap hash (opened j h))
-    (rw all at c.loop-j.invariant) in
+    ∙ c.in_ok-write_batched.ensures ∙ ap (λ k. map row (range_with_len 0 k)) long) in
     record { count = is.as_many; digests = is.are }

@@ -1,7 +1,7 @@
 -- Words that are put one by one are those of the row.
 use Rattle.std.proofs.Common.{arith, ◌∙◌, sym}
 use Rattle.std.proofs.lemmas.List.{same_lists}
-use Rattle.p3_merkle_digests.proofs.batched.put_read_row.Goals as goal
+use Rattle.p3_merkle_digests.proofs.batched.put_row.Goals as goal
 
 pub returns : goal.returns
 returns g c =

@@ -1,5 +1,5 @@
 use Rattle.std.proofs.Common.{◌≡◌, ℕ, ◌<◌, length, slice_index_or}
-use Rattle.p3_merkle_digests.proofs.batched.put_read_row.Given as goal
+use Rattle.p3_merkle_digests.proofs.batched.put_row.Given as goal
 
 -- the words so far are in their places
 abbrev pub invariant-loop-column : goal.invariant-loop-column

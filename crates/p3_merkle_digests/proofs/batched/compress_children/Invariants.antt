@@ -1,6 +1,6 @@
 use Rattle.std.proofs.Common.{ℕ, ◌-◌, ◌*◌, ◌≤◌, ◌++◌, drop, length, replicate, take}
 use Rattle.p3_merkle_digests.specs.Inner.Slots.{IsFilled}
-use Rattle.p3_merkle_digests.proofs.batched.compress_children_batched.Given as goal
+use Rattle.p3_merkle_digests.proofs.batched.compress_children.Given as goal
 
 -- the slots so far are written, and the children of any are in the layer
 abbrev pub invariant-loop-first : goal.invariant-loop-first

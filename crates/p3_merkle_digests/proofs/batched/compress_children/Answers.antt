@@ -5,8 +5,15 @@ use Rattle.std.specs.List.{range_with_len}
 use Rattle.std.proofs.lemmas.List.{length-take-le}
 use Rattle.std.proofs.lemmas.Simd.{map-map}
 use Rattle.std.proofs.Math.Nat.{mul-le-mul_left}
-use Rattle.p3_merkle_digests.proofs.StageFacts.{fill_part}
-use Rattle.p3_merkle_digests.proofs.batched.compress_children_batched.Goals as goal
+use Rattle.p3_merkle_digests.proofs.StageFacts.{fill_part, whole_groups}
+use Rattle.p3_merkle_digests.proofs.batched.compress_children.Goals as goal
+
+pub returns-then-step : goal.returns-then-step
+returns-then-step g c =
+    whole_groups (g.C.PseudoCompressionFunction.compression c.args.compress.now) g.row.N c.args.step
+    (length c.args.slots.now) c.args.below.now c.as_chunks.result.0.now
+    (replicate g.row.D g.PW.PackedValue.default_value) c.compress_many.new.out c.if-step.true c.requires.step c.requires.inside c.as_chunks.ensures.front
+    c.as_chunks.ensures.front_len c.compress_many.ensures
 
 pub loop-first-init : goal.loop-first-init
 loop-first-init g c = (
@@ -38,12 +45,12 @@ loop-first-preserved g c =
     map (λ (j : ℕ). take step (drop (step * (first + j)) below) ++ ds) (range_with_len 0 k) in
     let default = ap (λ d. groups (replicate (g.row.N - step) (replicate g.row.D d)))
     (g.met.PW.PackedValue.default_is_unique c.default-default_digest.result c.default-default_digest.ensures) in
-    let is = c.compress_many.ensures
+    let is = c.compress_many-in-loop-first.ensures
     ∙ ap (map compression) (c.deref.ensures.value ∙ c.in_ok-stage_children.ensures.groups ∙ default)
     ∙ map-map compression group (range_with_len 0 k) ∙ ap (λ m. map made (range_with_len 0 m)) (sym part) in (
       omega (arith, few, c.loop-first.invariant.1.long),
-      fill_part folded made xs c.compress_many.new.out first k n (length c.args.slots.now) same few is (λ j h. refl)
-          c.loop-first.invariant.1,
+      fill_part folded made xs c.compress_many-in-loop-first.new.out first k n (length c.args.slots.now) same few is
+          (λ j h. refl) c.loop-first.invariant.1,
       c.loop-first.invariant.2,
     )
 
