@@ -19,10 +19,9 @@ use crate::hiding_mmcs::{MerkleTreeHidingMmcs, SaltedTree};
 use crate::join::check_widening;
 use p3_merkle_core::error::MerkleTreeError;
 use p3_merkle_core::steps::steps_of;
-use p3_merkle_prover::tree::batch_dimensions;
 use p3_support::compress::PseudoCompressionFunction;
 use p3_support::hasher::CryptographicHasher;
-use p3_support::matrix::{Matrix, RowMajorMatrix};
+use p3_support::matrix::{Matrix, RowMajorMatrix, dimensions_of};
 use p3_support::opening::MerkleCap;
 use p3_support::packed::PackedValue;
 use p3_support::pair::HorizontalPair;
@@ -125,7 +124,7 @@ fn salted_pairs<T: SaltWord, M: Matrix<T> + Drop, R: Rng>(
         IsAfterSome salt_elems ms (R.stream rng.old) (R.stream rng.new) }
     ensures untouched { IfErr result (λ e. (e ≡ OutOfMemory) ⊎ (rng.new ≡ rng.old)) }
 {
-    let dimensions = batch_dimensions(alloc, &matrices)?;
+    let dimensions = dimensions_of(alloc, &matrices)?;
     steps_of(&dimensions, arity).check_heights()?;
     check_widening(&dimensions, salt_elems)?;
     let mut pairs = Vec::with_capacity(alloc, matrices.len())?;

@@ -6,18 +6,17 @@ ghost use Rattle.std.specs.List.{AllZip, range_with_len};
 ghost use Rattle.p3_merkle_core.specs.Geometry.{heights, is_arity, layer_below_root, layer_len, levels, shape_of};
 ghost use Rattle.p3_merkle_core.specs.Geometry.{IsArity, IsLawful};
 ghost use Rattle.p3_merkle_core.specs.Gate.{gate_refusal};
-ghost use Rattle.p3_merkle_core.specs.Nodes.{dimensions_of as dimensions_in_batch};
 ghost use Rattle.p3_merkle_core.specs.Nodes.{functions_of, layers as layers_over, shape};
 ghost use Rattle.p3_merkle_core.specs.declared.error.MerkleTreeError.TheVariants.{OutOfMemory};
 ghost use Rattle.p3_merkle_core.specs.Refusals.{AnswersUnlessMemory};
-ghost use Rattle.p3_merkle_core.specs.Views.{batch_of, matrix_of, ClonesShowTheSame};
+ghost use Rattle.p3_merkle_core.specs.Views.{batch_of, ClonesShowTheSame};
 
 use crate::layers::TreeBuilder;
 use p3_merkle_core::error::MerkleTreeError;
 use p3_merkle_core::steps::KeptSteps;
 use p3_support::compress::PseudoCompressionFunction;
 use p3_support::hasher::CryptographicHasher;
-use p3_support::matrix::{Dimensions, Matrix, dimensions_of};
+use p3_support::matrix::{Matrix, dimensions_of};
 use p3_support::opening::{Hash, MerkleCap};
 use p3_support::packed::PackedValue;
 use std::alloc::{AllocError, Global};
@@ -96,7 +95,7 @@ impl<F: Copy, W: Copy, M: Matrix<F> + Drop, const N: usize, const D: usize> Merk
             let b = batch_of M.height_of M.width_of M.row_of N leaves.items in
             IfOk result (λ tree. layers_of tree ≡ layers_over f b) }
     {
-        let kept = KeptSteps::new(batch_dimensions(alloc, &leaves)?, N);
+        let kept = KeptSteps::new(dimensions_of(alloc, &leaves)?, N);
         let steps = kept.steps();
         steps.check_heights()?;
         let builder = TreeBuilder::<P, PW, H, C, M, N, D> {
@@ -197,19 +196,4 @@ fn copies_of<X: Copy>(alloc: Global, layers: &[Vec<X>]) -> Result<Vec<Vec<X>>, A
         copies.push(Vec::from_slice(alloc, nodes)?)?;
     }
     Ok(copies)
-}
-
-/// The dimensions of the matrices of a batch, in input order.
-///
-/// # Errors
-///
-/// `AllocError` if memory runs out.
-pub fn batch_dimensions<T, M: Matrix<T>>(
-    alloc: Global,
-    matrices: &[M],
-) -> Result<Vec<Dimensions>, AllocError>
-    ensures { IfOk result (λ v.
-        v.items ≡ dimensions_in_batch (map (matrix_of M.height_of M.width_of M.row_of) matrices.now)) }
-{
-    dimensions_of(alloc, matrices)
 }

@@ -1,16 +1,17 @@
 -- Each turn draws the salts of one more matrix.
-use Rattle.std.proofs.Common.{◌≡◌, ◌∙◌, ◌+◌, ◌*◌, List, [], ◌∷◌, ◌++◌, ap, append-nil, arith, map, refl, subst}
+use Rattle.std.proofs.Common.{◌≡◌, ℕ, ◌∙◌, ◌+◌, ◌*◌, List, [], ◌∷◌, ◌++◌, ap, append-nil, arith, map, refl, subst}
 use Rattle.std.proofs.Common.{Option, rules, sym}
 use Rattle.std.specs.Option.{option_or}
 use Rattle.std.proofs.lemmas.List.Elements.{All-push}
 use Rattle.std.specs.Vec.Iter.{into_iter_items}
 use Rattle.std.proofs.lemmas.List.{map-append, nil_from_length}
-use Rattle.p3_support.specs.Batches.{heights_of}
+use Rattle.p3_support.specs.Batches.{dimensions_in, heights_of}
 use Rattle.p3_support.specs.declared.matrix.Dimensions.{Dimensions}
 use Rattle.p3_merkle_core.specs.Gate.{gate_refusal}
 use Rattle.p3_merkle_core.specs.Nodes.{dimensions_of}
 use Rattle.p3_merkle_core.specs.Refusals.{AnswersUnlessMemory}
 use Rattle.p3_merkle_core.specs.Views.{matrix_of}
+use Rattle.p3_merkle_core.proofs.Lists.ViewFacts.{dimensions_are}
 use Rattle.p3_support.specs.Pairs.{left_of, right_of}
 use Rattle.p3_support.specs.RowMajor.{row_width, values_of}
 use Rattle.p3_support.specs.Salts.{after_words, salts}
@@ -23,12 +24,17 @@ use Rattle.p3_merkle_hiding.specs.SaltedTrees.{HaveSaltColumns}
 use Rattle.p3_merkle_hiding.specs.Inner.SaltedParts.{pair_matrix}
 use Rattle.p3_merkle_hiding.proofs.commit.salted_pairs.Goals as goal
 
+-- the dimensions that are listed are those of the batch
+listed : {T M : Type 0} (height width : M → ℕ) (row : M → ℕ → List T) {ms ns : List M} {ds : List Dimensions}
+    → ds ≡ dimensions_in height width ms → ms ≡ ns → ds ≡ dimensions_of (map (matrix_of height width row) ns)
+listed height width row {ms} are same = are ∙ sym (dimensions_are height width row ms)
+    ∙ ap (λ (ms : List _). dimensions_of (map (matrix_of height width row) ms)) same
+
 -- heights are refused, else a width
 pub returns-in_err-check_heights-clause-answer : goal.returns-in_err-check_heights-clause-answer
 returns-in_err-check_heights-clause-answer g c =
-    let shown = map (matrix_of g.M.Matrix.height_of g.M.Matrix.width_of g.M.Matrix.row_of) in
-    let are = c.steps_of.ensures.dimensions ∙ c.deref-2.ensures.value ∙ c.in_ok-dimensions.ensures
-    ∙ ap (λ (ms : List _). dimensions_of (shown ms)) c.deref.ensures.value in
+    let are = c.steps_of.ensures.dimensions ∙ c.deref-2.ensures.value
+    ∙ listed _ _ g.M.Matrix.row_of c.in_ok-dimensions.ensures c.deref.ensures.value in
     subst (λ (ds : List Dimensions). AnswersUnlessMemory c.from_residual-in_err-check_heights.result
     (salted_commit_refusal c.args.salt_elems ds)) are (search rules)
 
@@ -37,7 +43,7 @@ returns-in_err-check_widening-clause-answer g c =
     let shown = map (matrix_of g.M.Matrix.height_of g.M.Matrix.width_of g.M.Matrix.row_of) in
     let r = c.from_residual-in_err-check_widening.result in
     let e = c.args.salt_elems in
-    let made = c.in_ok-dimensions.ensures ∙ ap (λ (ms : List _). dimensions_of (shown ms)) c.deref.ensures.value in
+    let made = listed _ _ g.M.Matrix.row_of c.in_ok-dimensions.ensures c.deref.ensures.value in
     let none = sym (ap (λ (ds : List Dimensions). gate_refusal (heights_of ds))
     (c.steps_of.ensures.dimensions ∙ c.deref-2.ensures.value ∙ made)) ∙ c.in_ok-check_heights.ensures.answer in
     subst (λ (o : Option _). AnswersUnlessMemory r
@@ -62,8 +68,8 @@ loop-matrix-init g c =
     let s = g.R.Rng.stream c.args.rng.now in
     let all = c.into_iter-matrix-iterator.ensures.into_iter_gives.0 in
     let none = c.in_ok-pairs.ensures.items in
-    let are = c.deref-3.ensures.value ∙ c.in_ok-dimensions.ensures
-    ∙ ap (λ (ms : List _). dimensions_of (shown ms)) c.deref.ensures.value in
+    let are = c.deref-3.ensures.value
+    ∙ listed _ _ g.M.Matrix.row_of c.in_ok-dimensions.ensures c.deref.ensures.value in
     record {
       fits = rw all (subst (λ (ds : List Dimensions). CanWiden e ds) are c.in_ok-check_widening.ensures.fits);
       same = λ i. map left_of (none i) ++ all i;
@@ -150,6 +156,16 @@ returns-in_err-push-clause-further g c =
 
 pub returns-in_err-pairs-clause-further : goal.returns-in_err-pairs-clause-further
 returns-in_err-pairs-clause-further g c = (0, refl)
+
+pub returns-clause-answer : goal.returns-clause-answer
+returns-clause-answer g c =
+    let shown = map (matrix_of g.M.Matrix.height_of g.M.Matrix.width_of g.M.Matrix.row_of) in
+    let widens = widening_refusal c.args.salt_elems in
+    let made = listed _ _ g.M.Matrix.row_of c.in_ok-dimensions.ensures c.deref.ensures.value in
+    let gate = sym (ap (λ (ds : List Dimensions). gate_refusal (heights_of ds))
+    (c.steps_of.ensures.dimensions ∙ c.deref-2.ensures.value ∙ made)) ∙ c.in_ok-check_heights.ensures.answer in
+    ap (λ (o : Option _). option_or o (widens (dimensions_of (shown c.args.matrices.items)))) gate
+    ∙ sym (ap widens (c.deref-3.ensures.value ∙ made)) ∙ c.in_ok-check_widening.ensures.answer
 
 -- none is left
 pub returns-clause-matrices : goal.returns-clause-matrices

@@ -1,9 +1,10 @@
 -- The facts of the tree that is made.
-use Rattle.std.proofs.Common.{arith, replicate, refl, ap, ◌∙◌, inl, inr, map}
+use Rattle.std.proofs.Common.{arith, replicate, refl, ap, sym, ◌∙◌, inl, inr, map}
 use Rattle.std.proofs.lemmas.Result.{err_from_is_err_and}
 use Rattle.p3_merkle_core.specs.Geometry.{shape_of}
 use Rattle.p3_merkle_core.specs.Views.{batch_of, matrix_of}
 use Rattle.p3_merkle_core.specs.Nodes.{functions_of, dimensions_of, layers}
+use Rattle.p3_merkle_core.proofs.Lists.ViewFacts.{dimensions_are}
 use Rattle.p3_merkle_core.proofs.Shapes.ArityFacts.{arity_from}
 use Rattle.p3_merkle_prover.proofs.TreeFacts.{lengths_from}
 use Rattle.p3_merkle_prover.proofs.tree.MerkleTree+F+W+M+N+D.new.Goals as goal
@@ -19,15 +20,16 @@ invariant_of-builder-clause-build g c =
       lawful = rw (
         c.steps-steps.ensures.dimensions,
         c.new-kept.ensures.dimensions,
-        c.in_ok-batch_dimensions.ensures,
+        c.in_ok-dimensions_of.ensures,
+        ← dimensions_are _ _ g.M.Matrix.row_of _,
         c.deref.ensures.value,
       ) at (c.in_ok-check_heights.ensures.lawful.0 refl);
-      same = c.steps-steps.ensures.dimensions ∙ c.new-kept.ensures.dimensions ∙ c.in_ok-batch_dimensions.ensures
-          ∙ ap (λ ms. dimensions_of (shown ms)) c.deref.ensures.value;
+      same = c.steps-steps.ensures.dimensions ∙ c.new-kept.ensures.dimensions ∙ c.in_ok-dimensions_of.ensures
+          ∙ sym (dimensions_are _ _ g.M.Matrix.row_of _) ∙ ap (λ ms. dimensions_of (shown ms)) c.deref.ensures.value;
     })
 
-pub returns-in_err-batch_dimensions : goal.returns-in_err-batch_dimensions
-returns-in_err-batch_dimensions g c =
+pub returns-in_err-dimensions_of : goal.returns-in_err-dimensions_of
+returns-in_err-dimensions_of g c =
     let gone = err_from_is_err_and c.from_residual.result c.from_residual.ensures.1 in
     rw (gone.1, gone.2) (record { answer = inl refl; matrices = tt; layers = tt })
 
@@ -39,7 +41,8 @@ returns-in_err-check_heights g c =
       answer = inr (rw (
         c.steps-steps.ensures.dimensions,
         c.new-kept.ensures.dimensions,
-        c.in_ok-batch_dimensions.ensures,
+        c.in_ok-dimensions_of.ensures,
+        ← dimensions_are _ _ g.M.Matrix.row_of _,
         c.deref.ensures.value,
       ) at c.in_err-check_heights.ensures.answer);
       matrices = tt;
@@ -56,7 +59,8 @@ returns-clause-answer g c =
     rw (
       c.steps-steps.ensures.dimensions,
       c.new-kept.ensures.dimensions,
-      c.in_ok-batch_dimensions.ensures,
+      c.in_ok-dimensions_of.ensures,
+      ← dimensions_are _ _ g.M.Matrix.row_of _,
       c.deref.ensures.value,
     ) at c.in_ok-check_heights.ensures.answer
 
@@ -80,7 +84,8 @@ invariant_of-result-clause-lawful g c =
     rw (
       c.steps-steps.ensures.dimensions,
       c.new-kept.ensures.dimensions,
-      c.in_ok-batch_dimensions.ensures,
+      c.in_ok-dimensions_of.ensures,
+      ← dimensions_are _ _ g.M.Matrix.row_of _,
       c.deref.ensures.value,
     ) at (c.in_ok-check_heights.ensures.lawful.0 refl)
 
@@ -99,6 +104,6 @@ pub invariant_of-result-clause-own_shape : goal.invariant_of-result-clause-own_s
 invariant_of-result-clause-own_shape g c =
     rw c.new-kept.ensures.arity
     (ap (shape_of g.row.N)
-    (c.new-kept.ensures.dimensions ∙ c.in_ok-batch_dimensions.ensures
+    (c.new-kept.ensures.dimensions ∙ c.in_ok-dimensions_of.ensures ∙ sym (dimensions_are _ _ g.M.Matrix.row_of _)
     ∙ ap (λ ms. dimensions_of (map (matrix_of g.M.Matrix.height_of g.M.Matrix.width_of g.M.Matrix.row_of) ms))
     c.deref.ensures.value))
