@@ -68,7 +68,7 @@ $(PROVED) $(LIBRARY) &: tools/prove build/cpu $(call sources_of,fohlazu mmcs mmc
 	$(kit)
 	@bash tools/prove programs $(CPU)
 
-$(LIBRARIES): tools/prove $(call sources_of,table,$(ALL))
+$(LIBRARIES): tools/prove $(call sources_of,callers,$(ALL))
 	$(kit)
 	@bash tools/prove libraries
 
