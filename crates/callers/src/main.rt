@@ -3,6 +3,7 @@
 #![tactic(auto)]
 
 // The other callers of docs/CALLING.md, and that of README.md.
+mod coins;
 mod conflict;
 mod growing;
 mod in_parts;
@@ -69,6 +70,7 @@ fn main(rt: HostRuntime) -> Result<()> {
     salted::run(&rt)?;
     in_parts::run(&rt)?;
     growing::run(&rt)?;
+    coins::run(&rt)?;
     let alloc = rt.alloc();
     let scheme = Sha::new(Sha256RowsInEights, Sha256NodesInEights::<2>, 0);
     let table = RowMajorMatrix::try_new(numbers(&rt)?, 3)?;
