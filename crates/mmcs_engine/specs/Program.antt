@@ -2,7 +2,7 @@
 use Rattle.std.specs.Prelude.{◌≡◌, ◌⊎◌, ◌↔◌, ℕ, ◌+◌, ◌<◌, List, [], ◌∷◌, ◌++◌, length, map, replicate, flat_map, All}
 use Rattle.std.specs.Prelude.{Option, Some, IfSome, IfErr, OnOk, OnErr, Result, Ok, Err}
 use Rattle.std.specs.Io.KnownBytes.{Appends}
-use Rattle.p3_support.specs.Fold.{fold_hash, fold_compress}
+use Rattle.p3_hashes.specs.Fold.{fold_hash, fold_compress}
 use Rattle.p3_support.specs.Batches.{greatest}
 use Rattle.p3_merkle_core.specs.Refusals.{pruned_len_refusal}
 use Rattle.p3_merkle_core.specs.Pruning.{boundary_by, pruned_len}

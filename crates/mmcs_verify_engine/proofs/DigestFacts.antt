@@ -6,7 +6,7 @@ use Rattle.std.specs.Int.{byte_at, bytes_high_first, to_be_bytes, w32}
 use Rattle.std.specs.List.{concat, fold, range_with_len}
 use Rattle.std.proofs.lemmas.List.Elements.{All-nil, All-cons, All-append, All-map, All-replicate}
 use Rattle.sha2.specs.Sha256.{digest_bytes, final_hash, initial_hash_256, sha256}
-use Rattle.p3_support.specs.Fold.{fold_compress, fold_hash, mix_in, placed_elements, start, take_in}
+use Rattle.p3_hashes.specs.Fold.{fold_compress, fold_hash, mix_in, placed_elements, start, take_in}
 use Rattle.p3_merkle_core.specs.Geometry.{has_rows, layer_len, raw_len, Shape}
 use Rattle.p3_merkle_core.specs.Nodes.{layer, node, shape, Batch, Functions}
 use Rattle.p3_merkle_core.specs.Pruning.{boundary, boundary_by}

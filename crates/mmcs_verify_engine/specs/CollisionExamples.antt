@@ -1,7 +1,7 @@
 -- Two openings of one cap, worked out, which the checker computes.
 use Rattle.std.specs.Prelude.{◌≡◌, ℕ, List, [], ◌∷◌, ◌++◌, codes, Ok, refl}
 use Rattle.std.specs.Fmt.{digits}
-use Rattle.p3_support.specs.Fold.{fold_compress, fold_hash}
+use Rattle.p3_hashes.specs.Fold.{fold_compress, fold_hash}
 use Rattle.p3_merkle_core.specs.Checks.{path_digest, siblings_below}
 use Rattle.p3_merkle_core.specs.Geometry.{exponent, layer_exponent, leaves_under, raw_len}
 use Rattle.p3_merkle_core.specs.Pruning.{restored_node}

@@ -5,7 +5,7 @@ use Rattle.std.specs.List.{fold, enumerate_from}
 use Rattle.std.proofs.lemmas.List.{take_more, map-append, length-map, length-take-le}
 use Rattle.std.proofs.lemmas.List.Sums.{fold-append}
 use Rattle.std.proofs.lemmas.Simd.{map-map}
-use Rattle.p3_support.specs.Fold.{take_in, fold_hash, mix_in, placed_elements}
+use Rattle.p3_hashes.specs.Fold.{take_in, fold_hash, mix_in, placed_elements}
 
 -- a digest that takes in more words is that of all of them
 pub fold_hash-append : (n : ℕ) (xs ys : List ℕ) → map (λ s. fold take_in s ys) (fold_hash n xs) ≡ fold_hash n (xs ++ ys)

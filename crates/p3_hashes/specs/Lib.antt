@@ -1,3 +1,4 @@
+pub mod Fold
 pub mod Sha
 pub mod Laws
 pub mod Inner

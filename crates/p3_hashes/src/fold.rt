@@ -5,7 +5,7 @@ ghost use Rattle.std.specs.Iterator.{IsFinite};
 ghost use Rattle.std.specs.Iterator.Runs.{WholeRun};
 ghost use Rattle.std.specs.List.{fold as folded};
 ghost use Rattle.p3_support.specs.Lists.{lane_of};
-ghost use Rattle.p3_support.specs.Fold.{fold_hash, fold_compress, take_in, start as start_of, mix_in};
+ghost use Rattle.p3_hashes.specs.Fold.{fold_hash, fold_compress, take_in, start as start_of, mix_in};
 
 use crate::eights::{compress_all, hash_all};
 use p3_support::compress::PseudoCompressionFunction;

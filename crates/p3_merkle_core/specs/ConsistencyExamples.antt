@@ -1,13 +1,12 @@
--- Proofs of consistency, worked out at the fold functions, digests of one word and a matrix of the rows 1, 2, 3 and so
--- on; and how many digests they have.
+-- Proofs of consistency, worked out by the functions of `Examples` over a matrix of the rows 1, 2, 3 and so on; and how
+-- many digests they have.
 use Rattle.std.specs.Prelude.{◌≡◌, ℕ, List, [], ◌∷◌, map, refl, nat_eq, Option, Some, None}
 use Rattle.std.specs.List.{range_with_len}
-use Rattle.p3_support.specs.Fold.{fold_hash, fold_compress}
 use Rattle.p3_merkle_core.specs.Geometry.{exponent, layer_exponent, raw_len}
 use Rattle.p3_merkle_core.specs.Nodes.{Batch, node}
 use Rattle.p3_merkle_core.specs.Consistency.{consistency_len, digests_by, evidence, sent, value_over}
 use Rattle.p3_merkle_core.specs.ConsistencyRefusals.{consistency_refusal}
-use Rattle.p3_merkle_core.specs.Examples.{batch, column, fold_example}
+use Rattle.p3_merkle_core.specs.Examples.{batch, column, example}
 use Rattle.p3_merkle_core.specs.declared.consistency.Growth.{Growth}
 use Rattle.p3_merkle_core.specs.declared.error.ConsistencyError.{ConsistencyError}
 use Rattle.p3_merkle_core.specs.declared.error.ConsistencyError.TheVariants.{EmptyBatch, NewCapMismatch, OldCapMismatch}
@@ -24,13 +23,13 @@ numbered arity height = batch arity (column (range_with_len 1 height) ∷ [])
 
 -- the digests that the new tree sends
 abbrev proves : Growth → List (List ℕ)
-proves g = digests_by (node (fold_example 1) (numbered g.arity g.new_height)) g
+proves g = digests_by (node example (numbered g.arity g.new_height)) g
 
 -- why these caps and digests are refused
 abbrev refuses : Growth → List ℕ → List ℕ → List ℕ → Option ConsistencyError
 refuses g old_cap new_cap digests =
     let each = map (λ d. d ∷ []) in
-    consistency_refusal nat_eq (evidence (fold_example 1) g (each old_cap) (each digests)) (each new_cap)
+    consistency_refusal nat_eq (evidence example g (each old_cap) (each digests)) (each new_cap)
 
 -- ---- counts: at arity 2, under a root, those of the proofs of RFC 6962
 
@@ -70,64 +69,64 @@ sent_from_3_to_3_at_8 = refl
 -- ---- digests
 
 from_3_to_5 : proves (grows 2 0 3 5) ≡ (34 ∷ []) ∷ (35 ∷ []) ∷ (1026 ∷ []) ∷ (34628 ∷ []) ∷ []
-unfolding exponent layer_exponent raw_len node fold_hash fold_compress
+unfolding exponent layer_exponent raw_len node
 from_3_to_5 = refl
 
 from_4_to_8 : proves (grows 2 0 4 8) ≡ (36993 ∷ []) ∷ []
-unfolding exponent layer_exponent raw_len node fold_hash fold_compress
+unfolding exponent layer_exponent raw_len node
 from_4_to_8 = refl
 
 from_5_to_11 : proves (grows 2 1 5 11) ≡ (36 ∷ []) ∷ (37 ∷ []) ∷ (1218 ∷ []) ∷ []
-unfolding exponent layer_exponent raw_len node fold_hash fold_compress
+unfolding exponent layer_exponent raw_len node
 from_5_to_11 = refl
 
 from_5_to_9_at_4 : proves (grows 4 1 5 9) ≡ (36 ∷ []) ∷ (37 ∷ []) ∷ (38 ∷ []) ∷ (39 ∷ []) ∷ []
-unfolding exponent layer_exponent raw_len node fold_hash fold_compress
+unfolding exponent layer_exponent raw_len node
 from_5_to_9_at_4 = refl
 
 -- ---- answers
 
 one_to_one : refuses (grows 2 0 1 1) (32 ∷ []) (32 ∷ []) [] ≡ None
-unfolding value_over fold_compress
+unfolding value_over
 one_to_one = refl
 
 one_to_two : refuses (grows 2 0 1 2) (32 ∷ []) (1026 ∷ []) (33 ∷ []) ≡ None
-unfolding value_over fold_compress
+unfolding value_over
 one_to_two = refl
 
 three_to_five : refuses (grows 2 0 3 5) (32862 ∷ []) (1054436 ∷ []) (34 ∷ 35 ∷ 1026 ∷ 34628 ∷ []) ≡ None
-unfolding value_over fold_compress
+unfolding value_over
 three_to_five = refl
 
 four_to_five : refuses (grows 2 0 4 5) (32897 ∷ []) (1054436 ∷ []) (34628 ∷ []) ≡ None
-unfolding value_over fold_compress
+unfolding value_over
 four_to_five = refl
 
 six_to_seven : refuses (grows 2 0 6 7) (1055583 ∷ []) (1056762 ∷ []) (1154 ∷ 1179 ∷ 32897 ∷ []) ≡ None
-unfolding value_over fold_compress
+unfolding value_over
 six_to_seven = refl
 
 five_to_eleven : refuses (grows 2 1 5 11) (32897 ∷ 34628 ∷ []) (1056801 ∷ 1272427 ∷ []) (36 ∷ 37 ∷ 1218 ∷ []) ≡ None
-unfolding value_over fold_compress
+unfolding value_over
 five_to_eleven = refl
 
 seven_to_eight :
     refuses (grows 2 2 7 8) (1026 ∷ 1090 ∷ 1154 ∷ 1179 ∷ []) (1026 ∷ 1090 ∷ 1154 ∷ 1218 ∷ []) (38 ∷ 39 ∷ []) ≡ None
-unfolding value_over fold_compress
+unfolding value_over
 seven_to_eight = refl
 
-three_to_six_at_4 : refuses (grows 4 0 3 6) (987105 ∷ []) (408923393 ∷ []) (32 ∷ 33 ∷ 34 ∷ 35 ∷ 1109059 ∷ []) ≡ None
-unfolding value_over fold_compress
+three_to_six_at_4 : refuses (grows 4 0 3 6) (987105 ∷ []) (30473694465 ∷ []) (32 ∷ 33 ∷ 34 ∷ 35 ∷ 1109059 ∷ []) ≡ None
+unfolding value_over
 three_to_six_at_4 = refl
 
 -- entries with no old row under them may be anything, or missing
 five_to_nine_at_4 : refuses (grows 4 1 5 9) (987140 ∷ 1073502 ∷ 7 ∷ []) (987140 ∷ 1110276 ∷ []) (36 ∷ 37 ∷ 38 ∷ 39 ∷ [])
     ≡ None
-unfolding value_over fold_compress
+unfolding value_over
 five_to_nine_at_4 = refl
 
-three_to_three_at_8 : refuses (grows 8 0 3 3) (1079254115 ∷ []) (1079254115 ∷ []) (32 ∷ 33 ∷ 34 ∷ []) ≡ None
-unfolding value_over fold_compress
+three_to_three_at_8 : refuses (grows 8 0 3 3) (911612320867 ∷ []) (911612320867 ∷ []) (32 ∷ 33 ∷ 34 ∷ []) ≡ None
+unfolding value_over
 three_to_three_at_8 = refl
 
 -- ---- refusals, each before those that follow
@@ -142,14 +141,14 @@ too_few : refuses (grows 2 0 4 5) (0 ∷ []) (0 ∷ []) [] ≡ Some (WrongDigest
 too_few = refl
 
 old_entry_missing : refuses (grows 2 0 4 5) [] (0 ∷ []) (34628 ∷ []) ≡ Some OldCapMismatch
-unfolding value_over fold_compress
+unfolding value_over
 old_entry_missing = refl
 
 old_cap_of_others : refuses (grows 2 0 3 5) (32863 ∷ []) (0 ∷ []) (34 ∷ 35 ∷ 1026 ∷ 34628 ∷ []) ≡ Some OldCapMismatch
-unfolding value_over fold_compress
+unfolding value_over
 old_cap_of_others = refl
 
 new_cap_of_others :
     refuses (grows 2 0 3 5) (32862 ∷ []) (1054437 ∷ []) (34 ∷ 35 ∷ 1026 ∷ 34628 ∷ []) ≡ Some NewCapMismatch
-unfolding value_over fold_compress
+unfolding value_over
 new_cap_of_others = refl

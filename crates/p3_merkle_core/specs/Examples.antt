@@ -1,6 +1,6 @@
--- Words of the worked examples.
-use Rattle.std.specs.Prelude.{ℕ, List, [], ◌∷◌, map, length, replicate, slice_index, nat_eq, Option, Result}
-use Rattle.p3_support.specs.Fold.{fold_hash, fold_compress}
+-- Words of the worked examples, and the functions by which they are worked out.
+use Rattle.std.specs.Prelude.{ℕ, ◌+◌, ◌*◌, List, [], ◌∷◌, map, length, slice_index, nat_eq, Option, Result}
+use Rattle.std.specs.List.{concat, enumerate_from, fold}
 use Rattle.p3_merkle_core.specs.Geometry.{Shape, shape_of}
 use Rattle.p3_merkle_core.specs.Nodes.{Batch, Functions, Matrix, functions_of}
 use Rattle.p3_merkle_core.specs.Openings.{Opening}
@@ -10,9 +10,11 @@ use Rattle.p3_merkle_core.specs.Extraction.{extraction}
 use Rattle.p3_merkle_core.specs.Presented.{presented, presented_pruned}
 use Rattle.p3_merkle_core.specs.declared.error.MerkleTreeError.{MerkleTreeError}
 
--- the fold functions at digests of d words
-abbrev pub fold_example : ℕ → Functions ℕ ℕ
-fold_example d = functions_of (fold_hash d) (fold_compress d) (replicate d 0)
+-- A hash and a compression to digests of one word, for work by hand. A row's digest d starts at 1, and each word x makes
+-- it 31 * d + x. A compression's starts at 0, and each child x makes it 31 * d + x, and its place is added.
+abbrev pub example : Functions ℕ ℕ
+example = functions_of (λ row. fold (λ d x. 31 * d + x) 1 row ∷ [])
+    (λ children. fold (λ d (place, x). 31 * d + x + place) 0 (enumerate_from 0 (concat children)) ∷ []) (0 ∷ [])
 
 -- a shape of rows of one word
 abbrev pub narrow : ℕ → List ℕ → Shape

@@ -1,6 +1,5 @@
--- Pruned openings, their refusals and collisions, worked out at the fold functions and digests of one word.
+-- Pruned openings, their refusals and collisions, worked out by the functions of `Examples`.
 use Rattle.std.specs.Prelude.{◌≡◌, ℕ, [], ◌∷◌, map, length, refl, Some, None, Ok, nat_eq}
-use Rattle.p3_support.specs.Fold.{fold_hash, fold_compress}
 use Rattle.p3_support.specs.Lists.{is_among}
 use Rattle.p3_merkle_core.specs.Geometry.{exponent, layer_exponent, raw_len, leaves_under}
 use Rattle.p3_merkle_core.specs.Nodes.{node}
@@ -9,7 +8,7 @@ use Rattle.p3_merkle_core.specs.Inner.Covered.{covered_at}
 use Rattle.p3_merkle_core.specs.Inner.Children.{beside, children_under, path_out_of}
 use Rattle.p3_merkle_core.specs.Refusals.{pruned_refusal}
 use Rattle.p3_merkle_core.specs.Checks.{digests_at, params, siblings_below, path_digest}
-use Rattle.p3_merkle_core.specs.Examples.{batch, column, narrow, pruned, fold_example, extracts_pruned}
+use Rattle.p3_merkle_core.specs.Examples.{batch, column, narrow, pruned, example, extracts_pruned}
 use Rattle.p3_merkle_core.specs.declared.error.PrunedProofError.TheVariants.{SiblingCountMismatch}
 use Rattle.p3_merkle_core.specs.declared.error.PrunedProofError.TheVariants.{InconsistentDuplicateOpenings}
 use Rattle.p3_merkle_core.specs.declared.error.PrunedProofError.TheVariants.{InconsistentGroupOpening}
@@ -67,45 +66,45 @@ unfolding exponent layer_exponent raw_len leaves_under
 digests_for_both_of_2_at_4 = refl
 
 digests_of_four_queries :
-    (honest_query (fold_example 1) (batch 2 (column (1 ∷ 2 ∷ 3 ∷ 4 ∷ 5 ∷ 6 ∷ 7 ∷ 8 ∷ []) ∷ [])) 3
+    (honest_query example (batch 2 (column (1 ∷ 2 ∷ 3 ∷ 4 ∷ 5 ∷ 6 ∷ 7 ∷ 8 ∷ []) ∷ [])) 3
     (5 ∷ 1 ∷ 2 ∷ 1 ∷ [])).digests ≡ (32 ∷ []) ∷ (35 ∷ []) ∷ (36 ∷ []) ∷ (1218 ∷ []) ∷ []
-unfolding exponent layer_exponent raw_len node fold_hash fold_compress leaves_under
+unfolding exponent layer_exponent raw_len node leaves_under
 digests_of_four_queries = refl
 
 digests_under_a_cap_of_two :
-    (honest_query (fold_example 1) (batch 2 (column (1 ∷ 2 ∷ 3 ∷ 4 ∷ 5 ∷ 6 ∷ 7 ∷ 8 ∷ []) ∷ [])) 2
+    (honest_query example (batch 2 (column (1 ∷ 2 ∷ 3 ∷ 4 ∷ 5 ∷ 6 ∷ 7 ∷ 8 ∷ []) ∷ [])) 2
     (1 ∷ 2 ∷ 5 ∷ [])).digests ≡ (32 ∷ []) ∷ (35 ∷ []) ∷ (36 ∷ []) ∷ (1218 ∷ []) ∷ []
-unfolding exponent layer_exponent raw_len node fold_hash fold_compress leaves_under
+unfolding exponent layer_exponent raw_len node leaves_under
 digests_under_a_cap_of_two = refl
 
-digests_of_padding_slots : (honest_query (fold_example 1) (batch 4 (column (1 ∷ 2 ∷ []) ∷ [])) 1 (0 ∷ [])).digests
+digests_of_padding_slots : (honest_query example (batch 4 (column (1 ∷ 2 ∷ []) ∷ [])) 1 (0 ∷ [])).digests
     ≡ (33 ∷ []) ∷ (0 ∷ []) ∷ (0 ∷ []) ∷ []
-unfolding exponent layer_exponent raw_len node fold_hash fold_compress leaves_under
+unfolding exponent layer_exponent raw_len node leaves_under
 digests_of_padding_slots = refl
 
 root_restored_from_four_queries :
-    restored_node (params (fold_example 1) (narrow 2 (8 ∷ [])) 3)
+    restored_node (params example (narrow 2 (8 ∷ [])) 3)
     (pruned (5 ∷ 1 ∷ 2 ∷ 1 ∷ []) (((6 ∷ []) ∷ []) ∷ ((2 ∷ []) ∷ []) ∷ ((3 ∷ []) ∷ []) ∷ ((2 ∷ []) ∷ []) ∷ [])
     ((32 ∷ []) ∷ (35 ∷ []) ∷ (36 ∷ []) ∷ (1218 ∷ []) ∷ [])) 3 0 ≡ 1056801 ∷ []
-unfolding exponent layer_exponent raw_len leaves_under restored_node fold_hash fold_compress
+unfolding exponent layer_exponent raw_len leaves_under restored_node
 root_restored_from_four_queries = refl
 
 paths_restored_from_four_queries :
-    map (restored_path (params (fold_example 1) (narrow 2 (8 ∷ [])) 3)
+    map (restored_path (params example (narrow 2 (8 ∷ [])) 3)
     (pruned (5 ∷ 1 ∷ 2 ∷ 1 ∷ []) (((6 ∷ []) ∷ []) ∷ ((2 ∷ []) ∷ []) ∷ ((3 ∷ []) ∷ []) ∷ ((2 ∷ []) ∷ []) ∷ [])
     ((32 ∷ []) ∷ (35 ∷ []) ∷ (36 ∷ []) ∷ (1218 ∷ []) ∷ []))) (5 ∷ 1 ∷ 2 ∷ [])
     ≡ ((36 ∷ []) ∷ (1218 ∷ []) ∷ (32897 ∷ []) ∷ []) ∷ ((32 ∷ []) ∷ (1090 ∷ []) ∷ (36993 ∷ []) ∷ [])
     ∷ ((35 ∷ []) ∷ (1026 ∷ []) ∷ (36993 ∷ []) ∷ []) ∷ []
-unfolding exponent layer_exponent raw_len leaves_under restored_node fold_hash fold_compress
+unfolding exponent layer_exponent raw_len leaves_under restored_node
 paths_restored_from_four_queries = refl
 
 paths_restored_from_a_wrong_digest :
-    map (restored_path (params (fold_example 1) (narrow 2 (8 ∷ [])) 3)
+    map (restored_path (params example (narrow 2 (8 ∷ [])) 3)
     (pruned (5 ∷ 1 ∷ 2 ∷ 1 ∷ []) (((6 ∷ []) ∷ []) ∷ ((2 ∷ []) ∷ []) ∷ ((3 ∷ []) ∷ []) ∷ ((2 ∷ []) ∷ []) ∷ [])
     ((31 ∷ []) ∷ (35 ∷ []) ∷ (36 ∷ []) ∷ (1218 ∷ []) ∷ []))) (5 ∷ 1 ∷ 2 ∷ [])
     ≡ ((36 ∷ []) ∷ (1218 ∷ []) ∷ (31936 ∷ []) ∷ []) ∷ ((31 ∷ []) ∷ (1090 ∷ []) ∷ (36993 ∷ []) ∷ [])
     ∷ ((35 ∷ []) ∷ (995 ∷ []) ∷ (36993 ∷ []) ∷ []) ∷ []
-unfolding exponent layer_exponent raw_len leaves_under restored_node fold_hash fold_compress
+unfolding exponent layer_exponent raw_len leaves_under restored_node
 paths_restored_from_a_wrong_digest = refl
 
 children_of_two_parents : children_under 2 (0 ∷ 2 ∷ []) ≡ 0 ∷ 1 ∷ 4 ∷ 5 ∷ []
@@ -230,19 +229,19 @@ lower_layers_before_higher :
 unfolding exponent layer_exponent raw_len leaves_under
 lower_layers_before_higher = refl
 
-first_pair_of_queries_collides : extracts_pruned (params (fold_example 1) (narrow 2 (2 ∷ [])) 1) ((1026 ∷ []) ∷ [])
-    (pruned (1 ∷ 0 ∷ []) (((2 ∷ []) ∷ []) ∷ ((1 ∷ []) ∷ []) ∷ []) ([]))
-    (pruned (1 ∷ 0 ∷ []) (((4294967267 ∷ []) ∷ []) ∷ ((2 ∷ []) ∷ []) ∷ []) ([]))
+first_pair_of_queries_collides : extracts_pruned (params example (narrow 2 (2 ∷ [])) 1) ((1057 ∷ []) ∷ [])
+    (pruned (1 ∷ 0 ∷ []) (((33 ∷ []) ∷ []) ∷ ((1 ∷ []) ∷ []) ∷ []) ([]))
+    (pruned (1 ∷ 0 ∷ []) (((2 ∷ []) ∷ []) ∷ ((2 ∷ []) ∷ []) ∷ []) ([]))
     ≡ Ok (Some (
       0,
       0,
-      (digests_at (Group 0) ((32 ∷ []) ∷ (33 ∷ []) ∷ []), digests_at (Group 0) ((33 ∷ []) ∷ (2 ∷ []) ∷ [])),
+      (digests_at (Group 0) ((32 ∷ []) ∷ (64 ∷ []) ∷ []), digests_at (Group 0) ((33 ∷ []) ∷ (33 ∷ []) ∷ [])),
     ))
-unfolding exponent layer_exponent raw_len leaves_under restored_node fold_hash fold_compress siblings_below path_digest
+unfolding exponent layer_exponent raw_len leaves_under restored_node siblings_below path_digest
 first_pair_of_queries_collides = refl
 
 second_pair_of_queries_collides :
-    extracts_pruned (params (fold_example 1) (narrow 2 (4 ∷ [])) 1) ((1026 ∷ []) ∷ (1090 ∷ []) ∷ [])
+    extracts_pruned (params example (narrow 2 (4 ∷ [])) 1) ((1026 ∷ []) ∷ (1090 ∷ []) ∷ [])
     (pruned (2 ∷ 0 ∷ []) (((3 ∷ []) ∷ []) ∷ ((1 ∷ []) ∷ []) ∷ []) ((33 ∷ []) ∷ (35 ∷ []) ∷ []))
     (pruned (2 ∷ 0 ∷ []) (((3 ∷ []) ∷ []) ∷ ((2 ∷ []) ∷ []) ∷ []) ((2 ∷ []) ∷ (35 ∷ []) ∷ []))
     ≡ Ok (Some (
@@ -250,18 +249,18 @@ second_pair_of_queries_collides :
       1,
       (digests_at (Group 0) ((32 ∷ []) ∷ (33 ∷ []) ∷ []), digests_at (Group 0) ((33 ∷ []) ∷ (2 ∷ []) ∷ [])),
     ))
-unfolding exponent layer_exponent raw_len leaves_under restored_node fold_hash fold_compress siblings_below path_digest
+unfolding exponent layer_exponent raw_len leaves_under restored_node siblings_below path_digest
 second_pair_of_queries_collides = refl
 
 no_pair_of_queries_differs :
-    extracts_pruned (params (fold_example 1) (narrow 2 (4 ∷ [])) 1) ((1026 ∷ []) ∷ (1090 ∷ []) ∷ [])
+    extracts_pruned (params example (narrow 2 (4 ∷ [])) 1) ((1026 ∷ []) ∷ (1090 ∷ []) ∷ [])
     (pruned (2 ∷ 0 ∷ []) (((3 ∷ []) ∷ []) ∷ ((1 ∷ []) ∷ []) ∷ []) ((33 ∷ []) ∷ (35 ∷ []) ∷ []))
     (pruned (2 ∷ 0 ∷ []) (((3 ∷ []) ∷ []) ∷ ((1 ∷ []) ∷ []) ∷ []) ((33 ∷ []) ∷ (35 ∷ []) ∷ [])) ≡ Ok None
-unfolding exponent layer_exponent raw_len leaves_under restored_node fold_hash fold_compress siblings_below path_digest
+unfolding exponent layer_exponent raw_len leaves_under restored_node siblings_below path_digest
 no_pair_of_queries_differs = refl
 
 no_queries_on_either_side :
-    extracts_pruned (params (fold_example 1) (narrow 2 (4 ∷ [])) 1) ((1026 ∷ []) ∷ (1090 ∷ []) ∷ [])
+    extracts_pruned (params example (narrow 2 (4 ∷ [])) 1) ((1026 ∷ []) ∷ (1090 ∷ []) ∷ [])
     (pruned ([]) ([]) ([])) (pruned ([]) ([]) ([])) ≡ Ok None
-unfolding exponent layer_exponent raw_len leaves_under restored_node fold_hash fold_compress siblings_below path_digest
+unfolding exponent layer_exponent raw_len leaves_under restored_node siblings_below path_digest
 no_queries_on_either_side = refl

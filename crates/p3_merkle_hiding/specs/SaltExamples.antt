@@ -1,11 +1,10 @@
--- Salted matrices, worked out under the fold functions at digests of one word.
+-- Salted matrices, worked out by the functions of the core's `Examples`.
 use Rattle.std.specs.Prelude.{◌≡◌, ℕ, List, [], ◌∷◌, length, map, slice_index, refl}
 use Rattle.rand_core.specs.Stream.{Stream, next_u64}
-use Rattle.p3_support.specs.Fold.{fold_hash, fold_compress}
 use Rattle.p3_support.specs.Salts.{after_words, salts}
 use Rattle.p3_merkle_core.specs.Geometry.{exponent, layer_exponent, raw_len}
 use Rattle.p3_merkle_core.specs.Nodes.{layer, node}
-use Rattle.p3_merkle_core.specs.Examples.{batch, column, fold_example}
+use Rattle.p3_merkle_core.specs.Examples.{batch, column, example}
 use Rattle.p3_merkle_hiding.specs.Salted.{IsAfterSome, after_salts, salted_batch}
 
 -- a stream of these words
@@ -38,29 +37,29 @@ unfolding next_u64
 rows_of_two_matrices = refl
 
 leaves_of_salted_rows :
-    layer (fold_example 1) (salted_batch whole 1 (batch 2 (column (1 ∷ 2 ∷ []) ∷ [])) (words (10 ∷ 20 ∷ 30 ∷ 40 ∷ [])))
+    layer example (salted_batch whole 1 (batch 2 (column (1 ∷ 2 ∷ []) ∷ [])) (words (10 ∷ 20 ∷ 30 ∷ 40 ∷ [])))
     0 ≡ (1002 ∷ []) ∷ (1043 ∷ []) ∷ []
-unfolding next_u64 exponent layer_exponent raw_len node fold_hash fold_compress
+unfolding next_u64 exponent layer_exponent raw_len node
 leaves_of_salted_rows = refl
 
 root_of_salted_rows :
-    layer (fold_example 1) (salted_batch whole 1 (batch 2 (column (1 ∷ 2 ∷ []) ∷ [])) (words (10 ∷ 20 ∷ 30 ∷ 40 ∷ [])))
+    layer example (salted_batch whole 1 (batch 2 (column (1 ∷ 2 ∷ []) ∷ [])) (words (10 ∷ 20 ∷ 30 ∷ 40 ∷ [])))
     1 ≡ (32106 ∷ []) ∷ []
-unfolding next_u64 exponent layer_exponent raw_len node fold_hash fold_compress
+unfolding next_u64 exponent layer_exponent raw_len node
 root_of_salted_rows = refl
 
 -- the same rows, salted once more, take the next words
 root_of_rows_salted_again :
     let b = batch 2 (column (1 ∷ 2 ∷ []) ∷ []) in
-    layer (fold_example 1) (salted_batch whole 1 b (after_salts 1 b.matrices (words (10 ∷ 20 ∷ 30 ∷ 40 ∷ [])))) 1
+    layer example (salted_batch whole 1 b (after_salts 1 b.matrices (words (10 ∷ 20 ∷ 30 ∷ 40 ∷ [])))) 1
     ≡ (32746 ∷ []) ∷ []
-unfolding next_u64 exponent layer_exponent raw_len node fold_hash fold_compress
+unfolding next_u64 exponent layer_exponent raw_len node
 root_of_rows_salted_again = refl
 
 root_of_a_row_with_two_salts :
-    layer (fold_example 1) (salted_batch whole 2 (batch 2 (column (9 ∷ []) ∷ [])) (words (100 ∷ 101 ∷ []))) 0
+    layer example (salted_batch whole 2 (batch 2 (column (9 ∷ []) ∷ [])) (words (100 ∷ 101 ∷ []))) 0
     ≡ (41641 ∷ []) ∷ []
-unfolding next_u64 exponent layer_exponent raw_len node fold_hash fold_compress
+unfolding next_u64 exponent layer_exponent raw_len node
 root_of_a_row_with_two_salts = refl
 
 -- two rows with three salts each take six words, and the next matrix has taken none

@@ -1,6 +1,5 @@
 pub mod Answers
 pub mod Batches
-pub mod Fold
 pub mod Lists
 pub mod RowMajor
 pub mod Pairs

@@ -1,6 +1,6 @@
 use Rattle.std.proofs.Common.{◌≡◌, ℕ, ◌<◌, map, take}
 use Rattle.std.specs.List.{fold}
-use Rattle.p3_support.specs.Fold.{take_in}
+use Rattle.p3_hashes.specs.Fold.{take_in}
 use Rattle.p3_support.specs.Lists.{lane_of}
 use Rattle.p3_hashes.proofs.eights.absorb_words.Given as goal
 

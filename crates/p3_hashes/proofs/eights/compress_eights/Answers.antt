@@ -1,5 +1,5 @@
 use Rattle.std.proofs.Common.{arith, ◌*◌, ◌∙◌, ap, [], slice_index_or}
-use Rattle.p3_support.specs.Fold.{fold_compress}
+use Rattle.p3_hashes.specs.Fold.{fold_compress}
 use Rattle.p3_support.proofs.Fills.{filled_block}
 use Rattle.p3_hashes.proofs.eights.compress_eights.Goals as goal
 

@@ -1,5 +1,5 @@
 use Rattle.std.proofs.Common.{arith, ◌*◌, ◌∙◌, []}
-use Rattle.p3_support.specs.Fold.{fold_hash}
+use Rattle.p3_hashes.specs.Fold.{fold_hash}
 use Rattle.p3_support.specs.Lists.{message}
 use Rattle.p3_support.proofs.Fills.{filled_block}
 use Rattle.p3_hashes.proofs.eights.hash_eights.Goals as goal

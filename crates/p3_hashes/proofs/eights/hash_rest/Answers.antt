@@ -2,7 +2,7 @@
 use Rattle.std.proofs.Common.{arith, ℕ, ◌≡◌, ◌+◌, ◌*◌, ◌<◌, ◌≤◌, ◌≢◌, ◌∙◌, length, []}
 use Rattle.std.proofs.Math.Nat.{mul-le-mul_right}
 use Rattle.std.proofs.lemmas.List.{length-set, get_or-set_other}
-use Rattle.p3_support.specs.Fold.{fold_hash}
+use Rattle.p3_hashes.specs.Fold.{fold_hash}
 use Rattle.p3_support.specs.Lists.{message}
 use Rattle.p3_hashes.proofs.Lanewise.{filled_more}
 use Rattle.p3_hashes.proofs.eights.hash_rest.Given.{Over}

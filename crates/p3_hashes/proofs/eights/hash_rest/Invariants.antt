@@ -1,5 +1,5 @@
 use Rattle.std.proofs.Common.{◌≡◌, ℕ, ◌<◌, ◌≤◌, length, slice_index_or, []}
-use Rattle.p3_support.specs.Fold.{fold_hash}
+use Rattle.p3_hashes.specs.Fold.{fold_hash}
 use Rattle.p3_support.specs.Lists.{message}
 use Rattle.p3_hashes.proofs.eights.hash_rest.Given as goal
 

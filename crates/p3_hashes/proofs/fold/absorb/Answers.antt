@@ -1,5 +1,5 @@
 use Rattle.std.proofs.Common.{rules, ℕ, slice_index_or}
-use Rattle.p3_support.specs.Fold.{take_in}
+use Rattle.p3_hashes.specs.Fold.{take_in}
 use Rattle.p3_support.proofs.LaneReads.{map_seen_more}
 use Rattle.p3_hashes.proofs.fold.absorb.Goals as goal
 

@@ -1,5 +1,5 @@
 use Rattle.std.proofs.Common.{◌≡◌, ℕ, ◌<◌, length, slice_index_or, map, take, drop, ◌++◌}
-use Rattle.p3_support.specs.Fold.{take_in}
+use Rattle.p3_hashes.specs.Fold.{take_in}
 use Rattle.p3_support.specs.Lists.{lane_of}
 use Rattle.p3_hashes.proofs.fold.absorb.Given as goal
 

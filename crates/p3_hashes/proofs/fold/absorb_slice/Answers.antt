@@ -1,5 +1,5 @@
 use Rattle.std.proofs.Common.{rules, ◌<◌, ◌∙◌, ap, sym, arith, length, map, slice_index}
-use Rattle.p3_support.specs.Fold.{take_in}
+use Rattle.p3_hashes.specs.Fold.{take_in}
 use Rattle.p3_support.proofs.LaneReads.{single_lane}
 use Rattle.p3_hashes.proofs.FoldSteps.{absorbed_more}
 use Rattle.p3_hashes.proofs.fold.absorb_slice.Goals as goal

@@ -1,6 +1,6 @@
 use Rattle.std.proofs.Common.{◌≡◌, map, take}
 use Rattle.std.specs.List.{fold}
-use Rattle.p3_support.specs.Fold.{take_in}
+use Rattle.p3_hashes.specs.Fold.{take_in}
 use Rattle.p3_hashes.proofs.fold.absorb_slice.Given as goal
 
 abbrev pub invariant-loop-word : goal.invariant-loop-word

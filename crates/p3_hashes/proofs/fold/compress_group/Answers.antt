@@ -1,5 +1,5 @@
 use Rattle.std.proofs.Common.{◌∙◌, ap, sym, arith}
-use Rattle.p3_support.specs.Fold.{fold_compress}
+use Rattle.p3_hashes.specs.Fold.{fold_compress}
 use Rattle.p3_support.proofs.LaneReads.{single_lane, single_lanes}
 use Rattle.p3_hashes.proofs.fold.compress_group.Goals as goal
 

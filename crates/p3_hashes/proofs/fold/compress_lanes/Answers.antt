@@ -2,7 +2,7 @@ use Rattle.std.proofs.Common.{rules, ◌≡◌, ◌<◌, ◌∙◌, sym, ap, Lis
 use Rattle.std.specs.List.{fold}
 use Rattle.std.proofs.lemmas.List.{length-map, get_or-map, get_or-replicate, length-replicate, take_all}
 use Rattle.std.proofs.lemmas.List.FromFn.{fill_by_all}
-use Rattle.p3_support.specs.Fold.{fold_compress, mix_in, placed_elements}
+use Rattle.p3_hashes.specs.Fold.{fold_compress, mix_in, placed_elements}
 use Rattle.p3_support.specs.Lists.{lane_of}
 use Rattle.p3_hashes.proofs.FoldSteps.{placed_more}
 use Rattle.p3_support.proofs.LaneReads.{lane_of_same}

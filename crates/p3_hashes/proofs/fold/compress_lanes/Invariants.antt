@@ -1,6 +1,6 @@
 use Rattle.std.proofs.Common.{◌≡◌, ℕ, ◌<◌, length, map, take, slice_index_or}
 use Rattle.std.specs.List.{fold}
-use Rattle.p3_support.specs.Fold.{mix_in, placed_elements}
+use Rattle.p3_hashes.specs.Fold.{mix_in, placed_elements}
 use Rattle.p3_support.specs.Lists.{lane_of}
 use Rattle.p3_hashes.proofs.fold.compress_lanes.Given as goal
 

@@ -1,6 +1,6 @@
 use Rattle.std.proofs.Common.{◌≡◌, ℕ, ◌<◌, List, map, ap, sym, ◌∙◌, ◌∷◌, [], slice_index_or}
 use Rattle.std.proofs.lemmas.List.{map-append}
-use Rattle.p3_support.specs.Fold.{fold_hash, take_in}
+use Rattle.p3_hashes.specs.Fold.{fold_hash, take_in}
 use Rattle.p3_support.specs.Lists.{lane_of}
 use Rattle.p3_hashes.proofs.FoldSteps.{fold_hash-append}
 use Rattle.p3_support.proofs.Runs.{run_of_loop}

@@ -1,6 +1,6 @@
 use Rattle.std.proofs.Common.{◌∙◌, ap, [], map}
 use Rattle.std.specs.List.{fold}
-use Rattle.p3_support.specs.Fold.{fold_hash, take_in}
+use Rattle.p3_hashes.specs.Fold.{fold_hash, take_in}
 use Rattle.p3_support.proofs.LaneReads.{alone}
 use Rattle.p3_hashes.proofs.FoldSteps.{fold_hash-append}
 use Rattle.p3_hashes.proofs.fold.hash_words.Goals as goal

@@ -1,5 +1,5 @@
 use Rattle.std.proofs.Common.{◌≡◌, ℕ, ◌<◌, ◌≤◌, length, slice_index_or}
-use Rattle.p3_support.specs.Fold.{mix_in}
+use Rattle.p3_hashes.specs.Fold.{mix_in}
 use Rattle.p3_support.specs.Lists.{lane_of}
 use Rattle.p3_hashes.proofs.fold.mix.Given as goal
 

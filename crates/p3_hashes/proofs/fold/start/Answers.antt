@@ -1,6 +1,6 @@
 use Rattle.std.proofs.Common.{slice_index_or}
 use Rattle.p3_support.proofs.Made.{map_made}
-use Rattle.p3_support.specs.Fold.{fold_hash, start as start_of}
+use Rattle.p3_hashes.specs.Fold.{fold_hash, start as start_of}
 use Rattle.p3_hashes.proofs.fold.start.Goals as goal
 
 pub returns : goal.returns

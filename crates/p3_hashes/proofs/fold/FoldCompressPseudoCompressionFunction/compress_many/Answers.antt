@@ -1,6 +1,6 @@
 use Rattle.std.proofs.Common.{rules, ◌≡◌, ◌<◌, ◌∙◌, sym, length, [], map}
 use Rattle.std.proofs.lemmas.List.{ext_get_or, get_or-map, length-map}
-use Rattle.p3_support.specs.Fold.{fold_compress}
+use Rattle.p3_hashes.specs.Fold.{fold_compress}
 use Rattle.p3_hashes.proofs.fold.FoldCompressPseudoCompressionFunction.compress_many.Goals as goal
 
 pub returns : goal.returns

@@ -1,5 +1,5 @@
 use Rattle.std.proofs.Common.{◌∙◌, ap, sym, arith}
-use Rattle.p3_support.specs.Fold.{fold_hash}
+use Rattle.p3_hashes.specs.Fold.{fold_hash}
 use Rattle.p3_support.proofs.LaneReads.{single_lane}
 use Rattle.p3_hashes.proofs.fold.FoldHashCryptographicHasher.hash_iter.Goals as goal
 

@@ -1,7 +1,7 @@
 use Rattle.std.proofs.Common.{◌≡◌, ◌∙◌, ap, sym, ◌++◌, ◌∷◌, [], map, append-nil}
 use Rattle.std.specs.List.{fold, flat_map}
 use Rattle.std.proofs.lemmas.Grind.{flat_map-append}
-use Rattle.p3_support.specs.Fold.{fold_hash, take_in}
+use Rattle.p3_hashes.specs.Fold.{fold_hash, take_in}
 use Rattle.p3_support.proofs.LaneReads.{alone}
 use Rattle.p3_hashes.proofs.FoldSteps.{fold_hash-append}
 use Rattle.p3_support.proofs.Runs.{run_of_loop}

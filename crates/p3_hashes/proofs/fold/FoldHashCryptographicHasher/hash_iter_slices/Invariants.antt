@@ -1,6 +1,6 @@
 use Rattle.std.proofs.Common.{◌≡◌}
 use Rattle.std.specs.List.{flat_map}
-use Rattle.p3_support.specs.Fold.{fold_hash}
+use Rattle.p3_hashes.specs.Fold.{fold_hash}
 use Rattle.p3_hashes.proofs.fold.FoldHashCryptographicHasher.hash_iter_slices.Given as goal
 
 abbrev pub invariant-loop-words : goal.invariant-loop-words

@@ -2,8 +2,8 @@
 use Rattle.std.proofs.Common.{refl, subst, ◌<◌}
 use Rattle.std.specs.Vec.{vec_len}
 use Rattle.p3_support.proofs.VerifiedRows.{has_column}
-use Rattle.table.specs.declared.TheConstants.{DIMENSIONS}
-use Rattle.table.proofs.verified_word.Goals as goal
+use Rattle.callers.specs.declared.TheConstants.{DIMENSIONS}
+use Rattle.callers.proofs.verified_word.Goals as goal
 
 pub index-requires : goal.index-requires
 index-requires c =
