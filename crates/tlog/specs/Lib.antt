@@ -1,0 +1,4 @@
+pub mod Rfc9162
+pub mod Examples
+pub mod Verdicts
+pub mod Laws
