@@ -7,13 +7,14 @@ use Rattle.std.specs.Int.{w64, trailing_ones, is_power_of_two}
 use Rattle.std.proofs.lemmas.Bool.Decides.{eqb_tells, leb_tells, nat_tests}
 use Rattle.std.proofs.lemmas.List.{get_or-drop, get_or-take, length-take-le, length-drop}
 use Rattle.std.proofs.Math.Nat.{div-div-eq-div-mul, pow-succ'}
+use Rattle.tlog.specs.Rfc9162.{node_hash}
 use Rattle.tlog.specs.Rfc9162.{Hash, consistency_end, consistency_from, consistency_proof, consistency_walk}
 use Rattle.tlog.specs.Rfc9162.{inclusion_end}
 use Rattle.tlog.specs.Rfc9162.{mth, mth_within, path, path_within, split, subproof, subproof_within}
 use Rattle.tlog.proofs.Bits.{ones_of_double, ones_of_odd, power_of_double, power_of_odd, power_of_one}
 use Rattle.tlog.proofs.Splits.{split_is, split_parity}
 use Rattle.tlog.proofs.Layers.{above, above-drop, above-take, itself, length-above, mth-above, mth_above, parts_of}
-use Rattle.tlog.proofs.Layers.{path-above, path-more}
+use Rattle.tlog.proofs.Layers.{mth-more, path-above, path-more}
 use Rattle.tlog.proofs.Climbs.{as_inclusion, climb, parity, path_above}
 
 -- ---- inclusion
@@ -420,3 +421,22 @@ pub root_of_none : {X : Type 0} (hash : Hash) (leaf : X → List ℕ) (L : List 
 unfolding mth_within
 root_of_none hash leaf [] e = refl
 root_of_none hash leaf (x ∷ L) e = absurd (omega arith)
+
+pub root_more : {X : Type 0} (hash : Hash) (leaf : X → List ℕ) (L : List X) → 1 < length L →
+    mth hash leaf L
+    ≡ node_hash hash (mth hash leaf (take (split (length L)) L)) (mth hash leaf (drop (split (length L)) L))
+root_more hash leaf L more = by (length L) refl
+  where
+    by : (n : ℕ) → length L ≡ n → mth hash leaf L
+        ≡ node_hash hash (mth hash leaf (take (split (length L)) L)) (mth hash leaf (drop (split (length L)) L))
+    by zero e = absurd (omega arith)
+    by (suc depth) e =
+        let s = split_is (length L) more in
+        let some = s.some in let below = s.below in
+        let left = length-take-le (split (length L)) L (omega arith) in
+        let right = length-drop (split (length L)) L in
+        sym (root_depth (suc depth) hash leaf L (omega arith)) ∙ mth-more depth hash leaf L more
+        ∙ rw (
+          root_depth depth hash leaf (take (split (length L)) L) (omega arith),
+          root_depth depth hash leaf (drop (split (length L)) L) (omega arith),
+        )

@@ -5,3 +5,4 @@ pub mod Splits
 pub mod Layers
 pub mod Climbs
 pub mod Honest
+pub mod Entries

@@ -1,8 +1,8 @@
 -- The largest power of two below a number, and that of half the number.
-use Rattle.std.proofs.Common.{◌≡◌, ℕ, zero, suc, ◌+◌, ◌*◌, ◌/◌, ◌^◌, ◌<◌, ◌≤◌, refl, sym, ap, ◌∙◌, arith, inl, inr}
+use Rattle.std.proofs.Common.{◌≡◌, ℕ, zero, suc, ◌+◌, ◌-◌, ◌*◌, ◌/◌, ◌^◌, ◌<◌, ◌≤◌, refl, sym, ap, ◌∙◌, arith, inl, inr}
 use Rattle.std.specs.Prelude.{◌⊎◌, true, false, nat_lt}
 use Rattle.std.proofs.lemmas.Bool.Decides.{leb_tells, nat_tests}
-use Rattle.std.proofs.Math.Nat.{pow-succ'}
+use Rattle.std.proofs.Math.Nat.{pow-le-pow_right, pow-succ'}
 use Rattle.tlog.specs.Rfc9162.{doubled, split}
 
 pub record IsSplit (n k : ℕ) : Type 0 where
@@ -64,3 +64,22 @@ split_parity n two = elim (leb_tells 3 n) [
   | inl (t, three) ↦ inr (split ((n + 1) / 2), split_of_half n ((n + 1) / 2) three refl)
   | inr (f, h) ↦ let e : n ≡ 2 = omega arith in inl (ap split e ∙ split_of_two)
 ]
+
+-- it is the power of two with n - 1 between it and twice it
+pub split_by_power : (n j : ℕ) → 1 < n → 2 ^ j ≤ n - 1 → n - 1 < 2 * 2 ^ j → 2 ^ j ≡ split n
+split_by_power n j more low high =
+    let s = split_is n more in
+    let i = s.power.0 in
+    let e : split n ≡ 2 ^ i = s.power.1 in
+    let below = s.below in let half = s.half in
+    elim (leb_tells (suc i) j) [
+      | inl (t, h) ↦
+          let p : 2 ^ suc i ≤ 2 ^ j = pow-le-pow_right (omega arith) h in
+          let q : 2 ^ suc i ≡ 2 * 2 ^ i = pow-succ' 2 i in absurd (omega arith)
+      | inr (f, h) ↦ elim (leb_tells (suc j) i) [
+        | inl (t, l) ↦
+            let p : 2 ^ suc j ≤ 2 ^ i = pow-le-pow_right (omega arith) l in
+            let q : 2 ^ suc j ≡ 2 * 2 ^ j = pow-succ' 2 j in absurd (omega arith)
+        | inr (g, l) ↦ let same : i ≡ j = omega arith in ap (λ (x : ℕ). 2 ^ x) (sym same) ∙ sym e
+      ]
+    ]

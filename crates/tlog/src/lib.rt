@@ -2,6 +2,7 @@
 //! no memory. Indices are counted from 0, sizes go up to 2^62.
 #![tactic(auto)]
 
+pub mod collision;
 mod consistency;
 mod error;
 mod hash;
@@ -10,5 +11,5 @@ pub mod laws;
 
 pub use consistency::verify_consistency;
 pub use error::ProofError;
-pub use hash::{EMPTY_ROOT, leaf_hash, node_hash};
+pub use hash::{EMPTY_ROOT, LogHash, leaf_hash, node_hash};
 pub use inclusion::verify_inclusion;

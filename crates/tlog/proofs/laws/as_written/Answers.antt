@@ -6,8 +6,8 @@ use Rattle.std.proofs.lemmas.List.{length-drop, length-take-le}
 use Rattle.std.proofs.Math.Nat.{pow-succ'}
 use Rattle.tlog.specs.Rfc9162.{leaf_hash, mth_within, path_within, split}
 use Rattle.tlog.proofs.Splits.{split_is}
-use Rattle.tlog.proofs.Layers.{mth-more, path-more}
-use Rattle.tlog.proofs.Honest.{path_depth, root_depth, sub-more, sub_depth, sub_whole}
+use Rattle.tlog.proofs.Layers.{path-more}
+use Rattle.tlog.proofs.Honest.{path_depth, root_more, sub-more, sub_depth, sub_whole}
 use Rattle.tlog.proofs.laws.as_written.Goals as goal
 
 -- a length that is above 0 is one more than another
@@ -47,17 +47,7 @@ unfolding mth_within
 returns-clause-root c = record {
   none = λ hash. refl;
   one = λ hash d. refl;
-  more = λ hash D more.
-      let l = lengths D more in
-      let some = l.some in let below = l.below in let left = l.left in let right = l.right in
-      let d = one_more (length D) (omega arith) in
-      let e : length D ≡ suc d.0 = d.1 in
-      sym (root_depth (suc d.0) hash (leaf_hash hash) D (omega arith))
-      ∙ mth-more d.0 hash (leaf_hash hash) D more
-      ∙ rw (
-        root_depth d.0 hash (leaf_hash hash) (take (split (length D)) D) (omega arith),
-        root_depth d.0 hash (leaf_hash hash) (drop (split (length D)) D) (omega arith),
-      );
+  more = λ hash D more. root_more hash (leaf_hash hash) D more;
 }
 
 pub returns-clause-path : goal.returns-clause-path
