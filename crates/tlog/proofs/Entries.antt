@@ -1,5 +1,6 @@
 -- Lists of entries: `==`, and their roots.
-use Rattle.std.proofs.Common.{◌≡◌, ◌≢◌, ℕ, suc, ◌<◌, ◌++◌, List, [], ◌∷◌, length, get_or, take, drop, refl, sym}
+use Rattle.std.proofs.Common.{◌≡◌, ◌≢◌, ℕ, suc, ◌-◌, ◌<◌, ◌≤◌, ◌++◌, List, [], ◌∷◌, length, get_or, take, drop, refl}
+use Rattle.std.proofs.Common.{sym}
 use Rattle.std.proofs.Common.{ap, ◌∙◌, arith}
 use Rattle.std.proofs.Common.{Vec, Global}
 use Rattle.std.specs.Prelude.{nat_eq}
@@ -9,8 +10,9 @@ use Rattle.std.specs.Cmp.Derive.Mapped.{pointwise-map}
 use Rattle.std.proofs.lemmas.List.{drop-map, drop_at, take-append-drop, take-map, take_at}
 use Rattle.tlog.specs.Collisions.{entries_of}
 use Rattle.tlog.specs.Inner.Inputs.{root_input}
+use Rattle.tlog.specs.Rfc9162.{path_of, path_within}
 use Rattle.tlog.specs.Rfc9162.{Hash, leaf_hash, mth_within, node_hash, root_of, split}
-use Rattle.tlog.proofs.Honest.{root_more}
+use Rattle.tlog.proofs.Honest.{path_left, path_right, root_more}
 
 -- the test of entries decides that they are the same byte strings
 pub entries_decided : (d e : List (Vec ℕ Global)) →
@@ -112,3 +114,29 @@ pub same_list : (D E : List (List ℕ)) → take (split (length D)) D ≡ take (
     drop (split (length D)) D ≡ drop (split (length E)) E → D ≡ E
 same_list D E left right =
     sym (take-append-drop (split (length D)) D) ∙ rw (left, right) (take-append-drop (split (length E)) E)
+
+-- ---- paths, as the code computes them
+
+pub path_at_one : (hash : Hash) (m : ℕ) (v : List (Vec ℕ Global)) → length v ≡ 1 → path_of hash m (entries_of v) ≡ []
+unfolding path_within
+path_at_one hash m [] e = absurd (omega arith)
+path_at_one hash m (x ∷ []) e = refl
+path_at_one hash m (x ∷ (y ∷ v)) e = absurd (omega arith)
+
+pub path_at_left : (hash : Hash) (m : ℕ) (v a b : List (Vec ℕ Global)) (k : ℕ) → 1 < length v → k ≡ split (length v) →
+    a ≡ take k v → b ≡ drop k v → m < k →
+    path_of hash m (entries_of v) ≡ path_of hash m (entries_of a) ++ root_of hash (entries_of b) ∷ []
+path_at_left hash m v a b k more e left right h =
+    let len = length-entries v in
+    let at : split (length (entries_of v)) ≡ k = ap split len ∙ sym e in
+    path_left hash (leaf_hash hash) m (entries_of v) (omega arith) (omega arith)
+    ∙ rw (left_entries v a k e left, right_entries v b k e right)
+
+pub path_at_right : (hash : Hash) (m : ℕ) (v a b : List (Vec ℕ Global)) (k : ℕ) → 1 < length v → k ≡ split (length v) →
+    a ≡ take k v → b ≡ drop k v → k ≤ m → m < length v →
+    path_of hash m (entries_of v) ≡ path_of hash (m - k) (entries_of b) ++ root_of hash (entries_of a) ∷ []
+path_at_right hash m v a b k more e left right h within =
+    let len = length-entries v in
+    let at : split (length (entries_of v)) ≡ k = ap split len ∙ sym e in
+    path_right hash (leaf_hash hash) m (entries_of v) (omega arith) (omega arith) (omega arith)
+    ∙ rw (left_entries v a k e left, right_entries v b k e right, at)

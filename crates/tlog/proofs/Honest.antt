@@ -7,6 +7,7 @@ use Rattle.std.specs.Int.{w64, trailing_ones, is_power_of_two}
 use Rattle.std.proofs.lemmas.Bool.Decides.{eqb_tells, leb_tells, nat_tests}
 use Rattle.std.proofs.lemmas.List.{get_or-drop, get_or-take, length-take-le, length-drop}
 use Rattle.std.proofs.Math.Nat.{div-div-eq-div-mul, pow-succ'}
+use Rattle.std.specs.Prelude.{nat_lt}
 use Rattle.tlog.specs.Rfc9162.{node_hash}
 use Rattle.tlog.specs.Rfc9162.{Hash, consistency_end, consistency_from, consistency_proof, consistency_walk}
 use Rattle.tlog.specs.Rfc9162.{inclusion_end}
@@ -439,4 +440,44 @@ root_more hash leaf L more = by (length L) refl
         ∙ rw (
           root_depth depth hash leaf (take (split (length L)) L) (omega arith),
           root_depth depth hash leaf (drop (split (length L)) L) (omega arith),
+        )
+
+-- PATH, by its equations
+pub path_left : {X : Type 0} (hash : Hash) (leaf : X → List ℕ) (m : ℕ) (L : List X) → 1 < length L →
+    m < split (length L) →
+    path hash leaf m L ≡ path hash leaf m (take (split (length L)) L) ++ mth hash leaf (drop (split (length L)) L) ∷ []
+path_left hash leaf m L more h = by (length L) refl
+  where
+    by : (n : ℕ) → length L ≡ n → path hash leaf m L
+        ≡ path hash leaf m (take (split (length L)) L) ++ mth hash leaf (drop (split (length L)) L) ∷ []
+    by zero e = absurd (omega arith)
+    by (suc depth) e =
+        let s = split_is (length L) more in
+        let below = s.below in
+        let left = length-take-le (split (length L)) L (omega arith) in
+        let t : nat_lt m (split (length L)) ≡ true = grind (arith, nat_tests) in
+        sym (path_depth (suc depth) hash leaf m L (omega arith) (omega arith)) ∙ path-more depth hash leaf m L more
+        ∙ rw (t, path_depth depth hash leaf m (take (split (length L)) L) (omega arith) (omega arith))
+
+pub path_right : {X : Type 0} (hash : Hash) (leaf : X → List ℕ) (m : ℕ) (L : List X) → 1 < length L →
+    split (length L) ≤ m → m < length L →
+    path hash leaf m L
+    ≡ path hash leaf (m - split (length L)) (drop (split (length L)) L) ++ mth hash leaf (take (split
+    (length L)) L) ∷ []
+path_right hash leaf m L more h within = by (length L) refl
+  where
+    by : (n : ℕ) → length L ≡ n → path hash leaf m L
+        ≡ path hash leaf (m - split (length L)) (drop (split (length L)) L) ++ mth hash leaf (take (split
+        (length L)) L) ∷ []
+    by zero e = absurd (omega arith)
+    by (suc depth) e =
+        let s = split_is (length L) more in
+        let some = s.some in
+        let right = length-drop (split (length L)) L in
+        let f : nat_lt m (split (length L)) ≡ false = grind (arith, nat_tests) in
+        sym (path_depth (suc depth) hash leaf m L within (omega arith)) ∙ path-more depth hash leaf m L more
+        ∙ rw (
+          f,
+          path_depth depth hash leaf (m - split (length L)) (drop (split (length L)) L) (omega arith)
+              (omega arith),
         )

@@ -1,8 +1,8 @@
-//! The root of entries, and what two lists of entries with one root show of the hash function.
-ghost use Rattle.std.specs.Prelude.{◌≡◌, ◌<◌, ◌↔◌, IsTrue, IfOk, IfSome, IsNone};
+//! The root of entries and the paths of each, and what two lists of entries with one root show of the hash function.
+ghost use Rattle.std.specs.Prelude.{◌≡◌, ◌<◌, ◌↔◌, IsTrue, IfOk, IfSome, IsNone, length};
 ghost use Rattle.tlog.specs.Collisions.{IsCollision, RootsFixEntries, entries_of};
 ghost use Rattle.tlog.specs.Inner.Inputs.{root_input as root_input_of};
-ghost use Rattle.tlog.specs.Rfc9162.{root_of, split as split_of};
+ghost use Rattle.tlog.specs.Rfc9162.{path_of, root_of, split as split_of};
 
 use crate::hash::LogHash;
 use std::alloc::{AllocError, Global};
@@ -104,5 +104,34 @@ pub fn root_collision<H: LogHash<D>, const D: usize>(
             d = left;
             e = other_left;
         }
+    }
+}
+
+/// The proof of inclusion of entry `index`, counted from 0, under the root of the entries (RFC 9162, 2.1.3.1).
+///
+/// # Errors
+///
+/// `AllocError` if memory runs out.
+pub fn inclusion_proof<H: LogHash<D>, const D: usize>(
+    alloc: Global,
+    entries: &[Vec<u8>],
+    index: usize,
+) -> Result<Vec<[u8; D]>, AllocError>
+    requires { index < length entries.now }
+    ensures { IfOk result (λ proof. proof.items ≡ path_of H.hash index (entries_of entries.now)) }
+{
+    if entries.len() == 1 {
+        return Ok(Vec::new(alloc));
+    }
+    let middle = split(entries.len());
+    let (left, right) = entries.split_at(middle);
+    if index < middle {
+        let mut proof = inclusion_proof::<H, D>(alloc, left, index)?;
+        proof.push(root::<H, D>(right))?;
+        Ok(proof)
+    } else {
+        let mut proof = inclusion_proof::<H, D>(alloc, right, index - middle)?;
+        proof.push(root::<H, D>(left))?;
+        Ok(proof)
     }
 }

@@ -1,11 +1,11 @@
-//! Rows of a reference in Python. Entries are the decimal numbers 1, 2, 3 and so on; of each digest stand the first four
-//! bytes.
+//! Rows of a reference in Python, and an honest proof of each entry. Entries are the decimal numbers 1, 2, 3 and so on;
+//! of each digest stand the first four bytes.
 
 use sha2::Sha256;
 use std::alloc::{AllocError, Global};
 use std::process::Abort;
 use std::test::Fail;
-use tlog::collision::root;
+use tlog::collision::{inclusion_proof, root};
 use tlog::{EMPTY_ROOT, ProofError, leaf_hash, node_hash, verify_consistency, verify_inclusion};
 
 /// The first entries.
@@ -169,5 +169,19 @@ fn consistency(rt: HostRuntime) -> Result<(), Fail> {
         verify_consistency(0, 0, &[], &EMPTY_ROOT, &root),
         Err(ProofError::RootMismatch)
     );
+    Ok(())
+}
+
+#[test]
+fn each_entry(rt: HostRuntime) -> Result<(), Fail> {
+    for count in 1..20 {
+        let entries = entries(rt.alloc(), count)?;
+        let root = root::<Sha256, 32>(&entries);
+        for (index, entry) in entries.iter().enumerate() {
+            let proof = inclusion_proof::<Sha256, 32>(rt.alloc(), &entries, index)?;
+            let verdict = verify_inclusion(index, entries.len(), &leaf_hash(entry), &proof, &root);
+            assert_eq!(rt; verdict, Ok(()));
+        }
+    }
     Ok(())
 }

@@ -1,13 +1,12 @@
-use Rattle.std.proofs.Common.{◌≡◌, ℕ, zero, suc, ◌-◌, ◌*◌, ◌^◌, ◌<◌, refl, sym, ◌∙◌, arith}
+use Rattle.std.proofs.Common.{◌≡◌, ℕ, zero, suc, ◌-◌, ◌*◌, ◌^◌, ◌<◌, refl, ◌∙◌, arith}
 use Rattle.std.proofs.Common.{List, length, take, drop}
-use Rattle.std.specs.Prelude.{true, false, nat_lt, nat_le}
+use Rattle.std.specs.Prelude.{true, false, nat_le}
 use Rattle.std.proofs.lemmas.Bool.Decides.{nat_tests}
 use Rattle.std.proofs.lemmas.List.{length-drop, length-take-le}
 use Rattle.std.proofs.Math.Nat.{pow-succ'}
 use Rattle.tlog.specs.Rfc9162.{leaf_hash, mth_within, path_within, split}
 use Rattle.tlog.proofs.Splits.{split_is}
-use Rattle.tlog.proofs.Layers.{path-more}
-use Rattle.tlog.proofs.Honest.{path_depth, root_more, sub-more, sub_depth, sub_whole}
+use Rattle.tlog.proofs.Honest.{path_left, path_right, root_more, sub-more, sub_depth, sub_whole}
 use Rattle.tlog.proofs.laws.as_written.Goals as goal
 
 -- a length that is above 0 is one more than another
@@ -54,28 +53,8 @@ pub returns-clause-path : goal.returns-clause-path
 unfolding path_within
 returns-clause-path c = record {
   one = λ hash d. refl;
-  left = λ hash m D more h.
-      let l = lengths D more in
-      let some = l.some in let below = l.below in let left = l.left in let right = l.right in
-      let d = one_more (length D) (omega arith) in
-      let e : length D ≡ suc d.0 = d.1 in
-      let t : nat_lt m (split (length D)) ≡ true = grind (arith, nat_tests) in
-      sym (path_depth (suc d.0) hash (leaf_hash hash) m D (omega arith) (omega arith))
-      ∙ path-more d.0 hash (leaf_hash hash) m D more
-      ∙ rw (t, path_depth d.0 hash (leaf_hash hash) m (take (split (length D)) D) (omega arith) (omega arith));
-  right = λ hash m D more h within.
-      let l = lengths D more in
-      let some = l.some in let below = l.below in let left = l.left in let right = l.right in
-      let d = one_more (length D) (omega arith) in
-      let e : length D ≡ suc d.0 = d.1 in
-      let f : nat_lt m (split (length D)) ≡ false = grind (arith, nat_tests) in
-      sym (path_depth (suc d.0) hash (leaf_hash hash) m D within (omega arith))
-      ∙ path-more d.0 hash (leaf_hash hash) m D more
-      ∙ rw (
-        f,
-        path_depth d.0 hash (leaf_hash hash) (m - split (length D)) (drop (split (length D)) D) (omega arith)
-            (omega arith),
-      );
+  left = λ hash m D more h. path_left hash (leaf_hash hash) m D more h;
+  right = λ hash m D more h within. path_right hash (leaf_hash hash) m D more h within;
 }
 
 pub returns-clause-subproof : goal.returns-clause-subproof
