@@ -1,0 +1,65 @@
+-- The verifiers' walks over a slice of digests, a digest at a time.
+use Rattle.std.proofs.Common.{◌≡◌, ℕ, ◌+◌, ◌/◌, ◌^◌, ◌<◌, ◌≤◌, List, [], length, drop, get_or, Some, None, true, false}
+use Rattle.std.proofs.Common.{◌∙◌}
+use Rattle.std.specs.Prelude.{◌==◌}
+use Rattle.std.specs.Int.{w64, trailing_zeros}
+use Rattle.std.proofs.lemmas.List.{at_drop_more, at_drop_all}
+use Rattle.tlog.specs.Rfc9162.{Hash, consistency_walk, inclusion_walk, is_left, node_hash}
+
+pub inclusion_stops : (hash : Hash) (path : List (List ℕ)) (i fn sn : ℕ) (r : List ℕ) → i < length path → sn ≡ 0 →
+    inclusion_walk hash (drop i path) fn sn r ≡ None
+unfolding inclusion_walk
+inclusion_stops hash path i fn sn r h z =
+    at_drop_more (λ rest. inclusion_walk hash rest fn sn r) path i [] h ∙ rw z
+
+pub inclusion_ends : (hash : Hash) (path : List (List ℕ)) (i fn sn : ℕ) (r : List ℕ) → length path ≤ i →
+    inclusion_walk hash (drop i path) fn sn r ≡ Some (sn, r)
+unfolding inclusion_walk
+inclusion_ends hash path i fn sn r h = at_drop_all (λ rest. inclusion_walk hash rest fn sn r) path i h
+
+pub inclusion_left : (hash : Hash) (path : List (List ℕ)) (i fn sn : ℕ) (r : List ℕ) → i < length path →
+    (sn == 0) ≡ false → is_left fn sn ≡ true →
+    inclusion_walk hash (drop i path) fn sn r
+    ≡ inclusion_walk hash (drop (i + 1) path) (fn / 2 ^ trailing_zeros w64 fn / 2) (sn / 2 ^ trailing_zeros w64 fn / 2)
+    (node_hash hash (get_or path i []) r)
+unfolding inclusion_walk
+inclusion_left hash path i fn sn r h z l =
+    at_drop_more (λ rest. inclusion_walk hash rest fn sn r) path i [] h ∙ rw (z, inclusion_walk, l, inclusion_walk)
+
+pub inclusion_right : (hash : Hash) (path : List (List ℕ)) (i fn sn : ℕ) (r : List ℕ) → i < length path →
+    (sn == 0) ≡ false → is_left fn sn ≡ false →
+    inclusion_walk hash (drop i path) fn sn r
+    ≡ inclusion_walk hash (drop (i + 1) path) (fn / 2) (sn / 2) (node_hash hash r (get_or path i []))
+unfolding inclusion_walk
+inclusion_right hash path i fn sn r h z l =
+    at_drop_more (λ rest. inclusion_walk hash rest fn sn r) path i [] h ∙ rw (z, inclusion_walk, l, inclusion_walk)
+
+pub consistency_stops : (hash : Hash) (path : List (List ℕ)) (i fn sn : ℕ) (fr sr : List ℕ) → i < length path →
+    sn ≡ 0 → consistency_walk hash (drop i path) fn sn fr sr ≡ None
+unfolding consistency_walk
+consistency_stops hash path i fn sn fr sr h z =
+    at_drop_more (λ rest. consistency_walk hash rest fn sn fr sr) path i [] h ∙ rw z
+
+pub consistency_ends : (hash : Hash) (path : List (List ℕ)) (i fn sn : ℕ) (fr sr : List ℕ) → length path ≤ i →
+    consistency_walk hash (drop i path) fn sn fr sr ≡ Some (sn, fr, sr)
+unfolding consistency_walk
+consistency_ends hash path i fn sn fr sr h = at_drop_all (λ rest. consistency_walk hash rest fn sn fr sr) path i h
+
+pub consistency_left : (hash : Hash) (path : List (List ℕ)) (i fn sn : ℕ) (fr sr : List ℕ) → i < length path →
+    (sn == 0) ≡ false → is_left fn sn ≡ true →
+    consistency_walk hash (drop i path) fn sn fr sr
+    ≡ consistency_walk hash (drop (i + 1) path) (fn / 2 ^ trailing_zeros w64 fn / 2)
+    (sn / 2 ^ trailing_zeros w64 fn / 2) (node_hash hash (get_or path i []) fr) (node_hash hash (get_or path i []) sr)
+unfolding consistency_walk
+consistency_left hash path i fn sn fr sr h z l =
+    at_drop_more (λ rest. consistency_walk hash rest fn sn fr sr) path i [] h
+    ∙ rw (z, consistency_walk, l, consistency_walk)
+
+pub consistency_right : (hash : Hash) (path : List (List ℕ)) (i fn sn : ℕ) (fr sr : List ℕ) → i < length path →
+    (sn == 0) ≡ false → is_left fn sn ≡ false →
+    consistency_walk hash (drop i path) fn sn fr sr
+    ≡ consistency_walk hash (drop (i + 1) path) (fn / 2) (sn / 2) fr (node_hash hash sr (get_or path i []))
+unfolding consistency_walk
+consistency_right hash path i fn sn fr sr h z l =
+    at_drop_more (λ rest. consistency_walk hash rest fn sn fr sr) path i [] h
+    ∙ rw (z, consistency_walk, l, consistency_walk)

@@ -1,0 +1,138 @@
+//! The verifier of consistency (RFC 9162, 2.1.4.2).
+ghost use Rattle.std.specs.Prelude.{◌≡◌, ℕ, ◌<◌, ◌≤◌, ◌↔◌, List, IsOk, IfOk, IfErr, Some};
+ghost use Rattle.std.specs.Result.{result_err};
+ghost use Rattle.sha2.specs.Sha256.{sha256};
+ghost use Rattle.tlog.specs.Rfc9162.{consistency_end};
+ghost use Rattle.tlog.specs.Verdicts.{IsConsistent, consistency_end_refusal, consistency_refusal, growth_end};
+ghost use Rattle.tlog.specs.Verdicts.{size_limit};
+
+use crate::error::ProofError;
+use crate::hash::{EMPTY_ROOT, node_hash};
+use crate::inclusion::{SIZE_LIMIT, is_left};
+
+/// Whether a proof of consistency shows that a log of `new_size` entries under `new_root` begins with the `old_size`
+/// entries under `old_root` (RFC 9162, 2.1.4.2). It takes no memory. From size 0, whose root is [`EMPTY_ROOT`], and
+/// between equal sizes, whose roots are equal, there are no digests.
+///
+/// # Errors
+///
+/// The first of these that applies:
+///
+/// - `SizeTooLarge` if the new size is above 2^62;
+/// - `SmallerNewSize` if it is below the old size;
+/// - `TooManyDigests`, `TooFewDigests` if the proof has more digests than one between these sizes, or fewer;
+/// - `OldRootMismatch`, `RootMismatch` if the proof leads to another old root, or another new one.
+#[tactic(auto, unfolding(crate::specs::Verdicts::consistency_refusal))]
+pub fn verify_consistency(
+    old_size: usize,
+    new_size: usize,
+    proof: &[[u8; 32]],
+    old_root: &[u8; 32],
+    new_root: &[u8; 32],
+) -> Result<(), ProofError>
+    ensures accepted { IsOk result
+        ↔ ((new_size ≤ size_limit) × IsConsistent sha256 old_size new_size proof.now old_root.now new_root.now) }
+    ensures refused { result_err result
+        ≡ consistency_refusal sha256 old_size new_size proof.now old_root.now new_root.now }
+{
+    if new_size > SIZE_LIMIT {
+        return Err(ProofError::SizeTooLarge);
+    }
+    if new_size < old_size {
+        return Err(ProofError::SmallerNewSize);
+    }
+    let (old, new) = roots_by(old_size, new_size, proof, old_root, new_root)?;
+    if old != *old_root {
+        return Err(ProofError::OldRootMismatch);
+    }
+    if new != *new_root {
+        return Err(ProofError::RootMismatch);
+    }
+    Ok(())
+}
+
+/// The old and the new root that a proof leads to, where the new one may be any from size 0.
+#[tactic(auto, unfolding(crate::specs::Verdicts::growth_end))]
+fn roots_by(
+    old_size: usize,
+    new_size: usize,
+    proof: &[[u8; 32]],
+    old_root: &[u8; 32],
+    new_root: &[u8; 32],
+) -> Result<([u8; 32], [u8; 32]), ProofError>
+    requires ordered { old_size ≤ new_size }
+    requires limit { new_size ≤ size_limit }
+    ensures roots { IfOk result (λ roots.
+        growth_end sha256 old_size new_size proof.now old_root.now new_root.now ≡ Some (0, roots.0, roots.1)) }
+    ensures refused { IfErr result (λ e. (first second : List ℕ) →
+        consistency_end_refusal (growth_end sha256 old_size new_size proof.now old_root.now new_root.now) first second
+        ≡ Some e) }
+{
+    if old_size > 0 && old_size < new_size {
+        return grown_roots(old_size, new_size, proof, old_root);
+    }
+    if !proof.is_empty() {
+        return Err(ProofError::TooManyDigests);
+    }
+    if old_size > 0 {
+        return Ok((*old_root, *old_root));
+    }
+    Ok((
+        EMPTY_ROOT,
+        if new_size > 0 { *new_root } else { EMPTY_ROOT },
+    ))
+}
+
+/// The old and the new root that a proof between different sizes leads to.
+fn grown_roots(
+    old_size: usize,
+    new_size: usize,
+    proof: &[[u8; 32]],
+    old_root: &[u8; 32],
+) -> Result<([u8; 32], [u8; 32]), ProofError>
+    requires old { 0 < old_size }
+    requires new { old_size < new_size }
+    requires limit { new_size ≤ size_limit }
+    ensures roots { IfOk result (λ roots.
+        consistency_end sha256 old_size new_size old_root.now proof.now ≡ Some (0, roots.0, roots.1)) }
+    ensures refused { IfErr result (λ e. (first second : List ℕ) →
+        consistency_end_refusal (consistency_end sha256 old_size new_size old_root.now proof.now) first second
+        ≡ Some e) }
+{
+    let Some((first, rest)) = proof.split_first() else {
+        return Err(ProofError::TooFewDigests);
+    };
+    let mut start = old_root;
+    let mut path = proof;
+    if !old_size.is_power_of_two() {
+        start = first;
+        path = rest;
+    }
+    let mut node = old_size - 1;
+    let mut last = new_size - 1;
+    let ones = node.trailing_ones();
+    node >>= ones;
+    last >>= ones;
+    let mut old = *start;
+    let mut new = *start;
+    for digest in path {
+        if last == 0 {
+            return Err(ProofError::TooManyDigests);
+        }
+        if is_left(node, last) {
+            let zeros = node.trailing_zeros();
+            node >>= zeros;
+            last >>= zeros;
+            old = node_hash(digest, &old);
+            new = node_hash(digest, &new);
+        } else {
+            new = node_hash(&new, digest);
+        }
+        node >>= 1;
+        last >>= 1;
+    }
+    if last > 0 {
+        return Err(ProofError::TooFewDigests);
+    }
+    Ok((old, new))
+}

@@ -1,0 +1,75 @@
+//! The verifier of inclusion (RFC 9162, 2.1.3.2).
+ghost use Rattle.std.specs.Prelude.{◌≡◌, ◌≤◌, ◌↔◌, IsOk};
+ghost use Rattle.std.specs.Result.{result_err};
+ghost use Rattle.sha2.specs.Sha256.{sha256};
+ghost use Rattle.tlog.specs.Rfc9162.{is_left as is_left_by};
+ghost use Rattle.tlog.specs.Verdicts.{IsIncluded, inclusion_refusal, size_limit};
+
+use crate::error::ProofError;
+use crate::hash::node_hash;
+
+/// The greatest size that is taken.
+pub(crate) const SIZE_LIMIT: usize = 1 << 62;
+
+/// Whether a proof of inclusion shows that the log of `size` entries under `root` has `leaf` as the leaf hash of its
+/// entry `index`, counted from 0 (RFC 9162, 2.1.3.2). It takes no memory.
+///
+/// # Errors
+///
+/// The first of these that applies:
+///
+/// - `SizeTooLarge` if the size is above 2^62;
+/// - `IndexPastEnd` if the index is not below the size;
+/// - `TooManyDigests`, `TooFewDigests` if the proof has more digests than a path from this index, or fewer;
+/// - `RootMismatch` if the proof leads to another root.
+#[tactic(auto, unfolding(crate::specs::Verdicts::inclusion_refusal))]
+pub fn verify_inclusion(
+    index: usize,
+    size: usize,
+    leaf: &[u8; 32],
+    proof: &[[u8; 32]],
+    root: &[u8; 32],
+) -> Result<(), ProofError>
+    ensures accepted { IsOk result
+        ↔ ((size ≤ size_limit) × IsIncluded sha256 index size leaf.now proof.now root.now) }
+    ensures refused { result_err result ≡ inclusion_refusal sha256 index size leaf.now proof.now root.now }
+{
+    if size > SIZE_LIMIT {
+        return Err(ProofError::SizeTooLarge);
+    }
+    if index >= size {
+        return Err(ProofError::IndexPastEnd);
+    }
+    let mut node = index;
+    let mut last = size - 1;
+    let mut value = *leaf;
+    for digest in proof {
+        if last == 0 {
+            return Err(ProofError::TooManyDigests);
+        }
+        if is_left(node, last) {
+            let zeros = node.trailing_zeros();
+            node >>= zeros;
+            last >>= zeros;
+            value = node_hash(digest, &value);
+        } else {
+            value = node_hash(&value, digest);
+        }
+        node >>= 1;
+        last >>= 1;
+    }
+    if last > 0 {
+        return Err(ProofError::TooFewDigests);
+    }
+    if value != *root {
+        return Err(ProofError::RootMismatch);
+    }
+    Ok(())
+}
+
+/// Whether the next digest is the left sibling of node `node` of a layer whose last node is `last`.
+pub(crate) fn is_left(node: usize, last: usize) -> bool
+    ensures { result ≡ is_left_by node last }
+{
+    node % 2 == 1 || node == last
+}
