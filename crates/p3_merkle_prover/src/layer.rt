@@ -1,7 +1,7 @@
 //! One layer of a tree, above the layer below it.
 //!
-//! A layer is filled from the first slot to the last: several slots at a time while there are enough, by calls that
-//! take many messages or lane by lane, and the others one by one.
+//! A layer is filled from the first slot to the last: lane by lane while there are enough slots, and by calls that take
+//! many messages.
 
 ghost use Rattle.std.specs.Prelude.{◌≡◌, ℕ, ◌+◌, ◌*◌, ◌<◌, ◌≤◌, All, IfOk, map, length, replicate, true};
 ghost use Rattle.std.specs.List.{range_with_len};

@@ -69,10 +69,9 @@ impl<F: Copy, W: Copy, M: Matrix<F> + Drop, const N: usize, const D: usize> Merk
     /// - The leaves are hashed in batches (`hash_many`) if the hasher's `LANES` are above 1.
     /// - A layer above them is compressed in batches (`compress_many`) if the compression's `LANES` are above 1 and it
     ///   has no matrices. With matrices the hasher's `LANES` must be above 1, too, and their rows are hashed in
-    ///   batches. At a bridge step, where nodes have 2 children and `N` is more, digests of fewer than 32 bytes are
-    ///   compressed one by one.
-    /// - Every other layer is filled lane by lane (`hash_packed`, `compress_packed`), `WIDTH` digests a call. What is
-    ///   left over is hashed and compressed one by one, and so is the whole layer if `WIDTH` is 1.
+    ///   batches.
+    /// - Every other layer is filled lane by lane (`hash_packed`, `compress_packed`), `WIDTH` digests a call, as far as
+    ///   they fill all lanes, and then in batches; if `WIDTH` is 1 in batches alone.
     ///
     /// # Errors
     ///
