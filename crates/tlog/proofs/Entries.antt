@@ -62,7 +62,7 @@ root_is_hashed hash (d ∷ []) = refl
 root_is_hashed hash (d ∷ (e ∷ rest)) = sym (root_more hash (leaf_hash hash) (d ∷ (e ∷ rest)) (omega arith))
 
 -- both halves of two byte strings of equally long halves
-halves_equal : (n : ℕ) (a b c d : List ℕ) → length a ≡ n → length c ≡ n → a ++ b ≡ c ++ d → (a ≡ c) × (b ≡ d)
+pub halves_equal : (n : ℕ) (a b c d : List ℕ) → length a ≡ n → length c ≡ n → a ++ b ≡ c ++ d → (a ≡ c) × (b ≡ d)
 halves_equal n a b c d la lc e = (
   sym (take_at a b n la) ∙ ap (take n) e ∙ take_at c d n lc,
   sym (drop_at a b n la) ∙ ap (drop n) e ∙ drop_at c d n lc,

@@ -6,3 +6,4 @@ pub mod Layers
 pub mod Climbs
 pub mod Honest
 pub mod Entries
+pub mod TwoWalks
