@@ -1,8 +1,8 @@
-//! The root of entries and the paths of each, and what two lists of entries with one root show of the hash function.
-ghost use Rattle.std.specs.Prelude.{◌≡◌, ◌<◌, ◌↔◌, IsTrue, IfOk, IfSome, IsNone, length};
+//! The root of entries and honest proofs, and what two lists of entries with one root show of the hash function.
+ghost use Rattle.std.specs.Prelude.{◌≡◌, ◌<◌, ◌≤◌, ◌↔◌, true, IsTrue, IfOk, IfSome, IsNone, length};
 ghost use Rattle.tlog.specs.Collisions.{IsCollision, RootsFixEntries, entries_of};
 ghost use Rattle.tlog.specs.Inner.Inputs.{root_input as root_input_of};
-ghost use Rattle.tlog.specs.Rfc9162.{path_of, root_of, split as split_of};
+ghost use Rattle.tlog.specs.Rfc9162.{path_of, proof_of, root_of, subproof_of, split as split_of};
 
 use crate::hash::LogHash;
 use std::alloc::{AllocError, Global};
@@ -131,6 +131,54 @@ pub fn inclusion_proof<H: LogHash<D>, const D: usize>(
         Ok(proof)
     } else {
         let mut proof = inclusion_proof::<H, D>(alloc, right, index - middle)?;
+        proof.push(root::<H, D>(left))?;
+        Ok(proof)
+    }
+}
+
+/// The proof of consistency from the first `old_size` entries to all (RFC 9162, 2.1.4.1).
+///
+/// # Errors
+///
+/// `AllocError` if memory runs out.
+pub fn consistency_proof<H: LogHash<D>, const D: usize>(
+    alloc: Global,
+    entries: &[Vec<u8>],
+    old_size: usize,
+) -> Result<Vec<[u8; D]>, AllocError>
+    requires some { 0 < old_size }
+    requires within { old_size ≤ length entries.now }
+    ensures { IfOk result (λ proof. proof.items ≡ proof_of H.hash old_size (entries_of entries.now)) }
+{
+    subproof::<H, D>(alloc, entries, old_size, true)
+}
+
+/// SUBPROOF, where the verifier may know the root of the entries.
+fn subproof<H: LogHash<D>, const D: usize>(
+    alloc: Global,
+    entries: &[Vec<u8>],
+    old_size: usize,
+    is_known: bool,
+) -> Result<Vec<[u8; D]>, AllocError>
+    requires some { 0 < old_size }
+    requires within { old_size ≤ length entries.now }
+    ensures { IfOk result (λ proof. proof.items ≡ subproof_of H.hash old_size (entries_of entries.now) is_known) }
+{
+    if old_size == entries.len() {
+        let mut proof = Vec::new(alloc);
+        if !is_known {
+            proof.push(root::<H, D>(entries))?;
+        }
+        return Ok(proof);
+    }
+    let middle = split(entries.len());
+    let (left, right) = entries.split_at(middle);
+    if old_size <= middle {
+        let mut proof = subproof::<H, D>(alloc, left, old_size, is_known)?;
+        proof.push(root::<H, D>(right))?;
+        Ok(proof)
+    } else {
+        let mut proof = subproof::<H, D>(alloc, right, old_size - middle, false)?;
         proof.push(root::<H, D>(left))?;
         Ok(proof)
     }
