@@ -194,7 +194,7 @@ sub-even (suc depth) (suc other) hash leaf i L b some within enough upper =
 -- ---- consistency: the verifier's end
 
 -- the end by whether the old size is a power of two
-end-at : (hash : Hash) (m n : ℕ) (root c : List ℕ) (digests : List (List ℕ)) (b : Bool) → is_power_of_two m ≡ b →
+pub end-at : (hash : Hash) (m n : ℕ) (root c : List ℕ) (digests : List (List ℕ)) (b : Bool) → is_power_of_two m ≡ b →
     consistency_end hash m n root (c ∷ digests) ≡ elim b [
       | true ↦ consistency_from hash m n root (c ∷ digests)
       | false ↦ consistency_from hash m n c digests

@@ -7,3 +7,4 @@ pub mod Climbs
 pub mod Honest
 pub mod Entries
 pub mod TwoWalks
+pub mod Prefixes

@@ -16,7 +16,8 @@ use Rattle.tlog.proofs.Entries.{halves_equal, length-entries}
 use Rattle.tlog.proofs.Honest.{included}
 use Rattle.tlog.proofs.Walks.{inclusion_ends, inclusion_left, inclusion_right, inclusion_stops}
 
--- where both walks stand: they lead to the root, and both values and the digests that are left are equal exactly if both
+-- where both walks stand: they lead to the root, and both values and the digests that are left are equal exactly if
+-- both
 -- leaf hashes and all digests are
 pub record Stand (hash : Hash) (leaf other_leaf : List ℕ) (P Q : List (List ℕ)) (root : List ℕ) (i fn sn : ℕ)
     (r s : List ℕ) : Type 0 where
@@ -149,7 +150,8 @@ pub leaf_fixed : (hash : Hash) (v : List (Vec ℕ Global)) (index : ℕ) (leaf :
     (expected : List ℕ) (honest : List (List ℕ)) (root : List ℕ) → index < length v →
     expected ≡ leaf_hash hash (get_or (entries_of v) index []) → honest ≡ path_of hash index (entries_of v) →
     root ≡ root_of hash (entries_of v) → leaf ≢ expected →
-    RootFixesProof hash index (length v) leaf path expected honest root ↔ RootFixesLeaf hash (entries_of v) index leaf path
+    RootFixesProof hash index (length v) leaf path expected honest root ↔ RootFixesLeaf hash (entries_of v) index leaf
+    path
 leaf_fixed hash v index leaf path expected honest root within e p r other =
     let len = length-entries v in (
       λ fixed small is.

@@ -1,8 +1,8 @@
 -- Collisions of a log's hash function: two different byte strings with one hash.
-use Rattle.std.specs.Prelude.{◌≡◌, ◌≢◌, ◌≤◌, ℕ, List, [], length, map, slice_index_or, Vec}
+use Rattle.std.specs.Prelude.{◌≡◌, ◌≢◌, ◌≤◌, ℕ, List, [], length, map, slice_index_or, take, Vec}
 use Rattle.std.specs.Global.{Global}
 use Rattle.tlog.specs.Rfc9162.{Hash, leaf_hash, root_of}
-use Rattle.tlog.specs.Verdicts.{IsIncluded, size_limit}
+use Rattle.tlog.specs.Verdicts.{IsConsistent, IsIncluded, size_limit}
 use Rattle.tlog.specs.declared.collision.Collision.{Collision}
 
 -- entries, as byte strings
@@ -35,3 +35,9 @@ abbrev pub RootFixesEntry : Hash → List (List ℕ) → ℕ → List ℕ → Li
 RootFixesEntry hash D index entry path =
     length D ≤ size_limit → IsIncluded hash index (length D) (leaf_hash hash entry) path (root_of hash D) →
     entry ≡ slice_index_or D index []
+
+-- where a proof is accepted from MTH(D) to MTH(E), E begins with D
+abbrev pub RootsFixPrefix : Hash → List (List ℕ) → List (List ℕ) → List (List ℕ) → Type 0
+RootsFixPrefix hash D E path =
+    length E ≤ size_limit → IsConsistent hash (length D) (length E) path (root_of hash D) (root_of hash E) →
+    D ≡ take (length D) E

@@ -1,9 +1,11 @@
-//! What accepted proofs of inclusion show, or else a collision of the hash function.
+//! What accepted proofs show, or else a collision of the hash function.
 ghost use Rattle.std.specs.Prelude.{◌≡◌, ◌≤◌, ◌++◌, ◌∷◌, ◌↔◌, IfOk, IfSome, IsNone};
-ghost use Rattle.tlog.specs.Collisions.{IsCollision, RootFixesEntry, RootFixesLeaf, RootFixesProof, entries_of};
+ghost use Rattle.tlog.specs.Collisions.{IsCollision, RootFixesEntry, RootFixesLeaf, RootFixesProof, RootsFixPrefix};
+ghost use Rattle.tlog.specs.Collisions.{entries_of};
 ghost use Rattle.tlog.specs.Inner.Inputs.{HashFixesChildren};
 
-use crate::collision::{Collision, inclusion_proof, root};
+use crate::collision::{Collision, consistency_proof, inclusion_proof, root, root_collision};
+use crate::consistency;
 use crate::hash::LogHash;
 use crate::inclusion::{is_left, verify};
 use std::alloc::{AllocError, Global};
@@ -181,4 +183,65 @@ pub fn entry_collision<H: LogHash<D>, const D: usize>(
     let first = leaf_input(alloc, entry)?;
     let second = leaf_input(alloc, expected)?;
     Ok(Some(Collision { first, second }))
+}
+
+/// A collision, if a proof of consistency is accepted between the roots of two lists of entries, and the new list does
+/// not begin with the old one; else `None`.
+///
+/// # Errors
+///
+/// `AllocError` if memory runs out.
+pub fn prefix_collision<H: LogHash<D>, const D: usize>(
+    alloc: Global,
+    old: &[Vec<u8>],
+    new: &[Vec<u8>],
+    proof: &[[u8; D]],
+) -> Result<Option<Collision>, AllocError>
+    ensures none { IfOk result (λ found. IsNone found
+        ↔ RootsFixPrefix H.hash (entries_of old.now) (entries_of new.now) proof.now) }
+    ensures collision { IfOk result (λ found. IfSome found (IsCollision H.hash)) }
+{
+    let old_root = root::<H, D>(old);
+    let new_root = root::<H, D>(new);
+    if consistency::verify::<H, D>(old.len(), new.len(), proof, &old_root, &new_root).is_err() {
+        return Ok(None);
+    }
+    let (first, _) = new.split_at(old.len());
+    let first_root = root::<H, D>(first);
+    if old_root == first_root {
+        return root_collision::<H, D>(alloc, old, first);
+    }
+    let honest = consistency_proof::<H, D>(alloc, new, old.len())?;
+    // Both proofs lead from one node to the new root, as proofs of inclusion of it.
+    let ones = (old.len() - 1).trailing_ones();
+    let node = (old.len() - 1) >> ones;
+    let size = ((new.len() - 1) >> ones) + 1;
+    if old.len().is_power_of_two() {
+        return proof_collision::<H, D>(
+            alloc,
+            node,
+            size,
+            &old_root,
+            proof,
+            &first_root,
+            &honest,
+            &new_root,
+        );
+    }
+    let Some((start, path)) = proof.split_first() else {
+        return Ok(None);
+    };
+    let Some((honest_start, honest_path)) = honest.split_first() else {
+        return Ok(None);
+    };
+    proof_collision::<H, D>(
+        alloc,
+        node,
+        size,
+        start,
+        path,
+        honest_start,
+        honest_path,
+        &new_root,
+    )
 }

@@ -5,8 +5,8 @@ use crate::weak::Weak;
 use std::alloc::{AllocError, Global};
 use std::test::Fail;
 use tlog::LogHash;
-use tlog::collision::{inclusion_proof, root, root_collision};
-use tlog::soundness::{entry_collision, leaf_collision, proof_collision};
+use tlog::collision::{consistency_proof, inclusion_proof, root, root_collision};
+use tlog::soundness::{entry_collision, leaf_collision, prefix_collision, proof_collision};
 
 /// So many entries, each of two bytes and its place.
 fn entries(alloc: Global, count: u8, seed: u16) -> Result<Vec<Vec<u8>>, AllocError> {
@@ -131,6 +131,73 @@ fn entries_by_proofs(rt: HostRuntime) -> Result<(), Fail> {
             }
             assert!(rt; is_found);
         }
+    }
+    Ok(())
+}
+
+#[test]
+fn prefixes_of_one_root(rt: HostRuntime) -> Result<(), Fail> {
+    let new = entries(rt.alloc(), 4, 0)?;
+    for count in 1..5 {
+        let size = usize::from(count);
+        if size > new.len() {
+            break;
+        }
+        let honest = consistency_proof::<Weak, 1>(rt.alloc(), &new, size)?;
+        let none = prefix_collision::<Weak, 1>(rt.alloc(), &new[..size], &new, &honest)?;
+        assert!(rt; none.is_none());
+        let mut is_found = false;
+        for seed in 1..3000 {
+            if is_found {
+                break;
+            }
+            let old = entries(rt.alloc(), count, seed)?;
+            if let Some(found) = prefix_collision::<Weak, 1>(rt.alloc(), &old, &new, &honest)? {
+                assert_eq!(rt; found.first.first(), found.second.first());
+                assert!(rt; count > 1 || found.first.first() == Some(&0));
+                is_found = true;
+            }
+        }
+        assert!(rt; is_found);
+    }
+    Ok(())
+}
+
+#[test]
+fn prefixes_of_other_roots(rt: HostRuntime) -> Result<(), Fail> {
+    let new = entries(rt.alloc(), 4, 0)?;
+    let new_root = root::<Weak, 1>(&new);
+    // Digests are searched that lead from the root of other entries to the new one.
+    for count in [2, 3] {
+        let mut is_found = false;
+        for seed in 1..20 {
+            let old = entries(rt.alloc(), count, seed)?;
+            let old_root = root::<Weak, 1>(&old);
+            for first in 0..=255 {
+                if is_found {
+                    break;
+                }
+                let mut proof = Vec::from_slice(rt.alloc(), &[[first]])?;
+                if count == 3 {
+                    for left in 0..=255 {
+                        if Weak::node_hash(&[left], &[first]) != old_root {
+                            continue;
+                        }
+                        for second in 0..=255 {
+                            let lower = Weak::node_hash(&[first], &[second]);
+                            if Weak::node_hash(&[left], &lower) == new_root {
+                                proof = Vec::from_slice(rt.alloc(), &[[first], [second], [left]])?;
+                            }
+                        }
+                    }
+                }
+                if let Some(found) = prefix_collision::<Weak, 1>(rt.alloc(), &old, &new, &proof)? {
+                    is_found = found.first.first() == Some(&1);
+                    assert_eq!(rt; found.first.first(), found.second.first());
+                }
+            }
+        }
+        assert!(rt; is_found);
     }
     Ok(())
 }

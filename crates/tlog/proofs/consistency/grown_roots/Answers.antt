@@ -18,13 +18,23 @@ pub loop-digest-preserved : goal.loop-digest-preserved
 loop-digest-preserved g c =
     let z : (c.loop-digest.last == 0) ≡ false = grind (arith, nat_tests) in
     elim c.if-is_left.branch [
-      | then-is_left w ↦ let e = consistency_left g.H.LogHash.hash c.if-not-is_power_of_two.path.now c.loop-digest.digest-index
+      | then-is_left w ↦ let e = consistency_left g.H.LogHash.hash c.if-not-is_power_of_two.path.now
+          c.loop-digest.digest-index
           c.loop-digest.node
           c.loop-digest.last c.loop-digest.old c.loop-digest.new _ c.loop-digest-test.true z
           (sym c.is_left.ensures ∙ w.if-is_left.true) in
-          rw (w.node-is, w.last-is, w.old-is, w.new-is, w.node_hash-old.ensures, w.node_hash-new.ensures, c.digest-item.is)
+          rw (
+            w.node-is,
+            w.last-is,
+            w.old-is,
+            w.new-is,
+            w.node_hash-old.ensures,
+            w.node_hash-new.ensures,
+            c.digest-item.is,
+          )
           (sym e ∙ c.loop-digest.invariant)
-      | else-is_left w ↦ let e = consistency_right g.H.LogHash.hash c.if-not-is_power_of_two.path.now c.loop-digest.digest-index
+      | else-is_left w ↦ let e = consistency_right g.H.LogHash.hash c.if-not-is_power_of_two.path.now
+          c.loop-digest.digest-index
           c.loop-digest.node
           c.loop-digest.last c.loop-digest.old c.loop-digest.new _ c.loop-digest-test.true z
           (sym c.is_left.ensures ∙ w.if-is_left.false) in

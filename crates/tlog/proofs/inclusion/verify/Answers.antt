@@ -42,7 +42,8 @@ loop-digest-preserved g c =
     ]
 
 -- where all digests are used, the end is where the loop stands
-inclusion_refused_at : (hash : Hash) (index size : ℕ) (leaf : List ℕ) (path : List (List ℕ)) (root : List ℕ) (i fn sn : ℕ)
+inclusion_refused_at : (hash : Hash) (index size : ℕ) (leaf : List ℕ) (path : List (List ℕ)) (root : List ℕ) (i fn sn :
+    ℕ)
     (r : List ℕ) (refusal : Option ProofError) → size ≤ size_limit → index < size →
     inclusion_walk hash (drop i path) fn sn r ≡ inclusion_end hash index size leaf path → length path ≤ i →
     inclusion_end_refusal (Some (sn, r)) root ≡ refusal → refusal ≡ inclusion_refusal hash index size leaf path root

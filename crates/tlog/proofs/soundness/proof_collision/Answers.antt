@@ -27,15 +27,37 @@ loop-i-preserved g c =
     let fixed = c.in_ok-found.ensures.none.0 (rw c.in_default.is refl) in
     elim c.if-is_left.branch [
       | then-is_left w ↦
-          rw (w.node-is, w.last-is, c.node_hash-value.ensures, c.node_hash-other.ensures, w.left-is, w.right-is, w.other_left-is, w.other_right-is)
-          (step_left g.H.LogHash.hash c.args.leaf.now c.args.other_leaf.now c.args.proof.now c.args.other_proof.now c.args.root.now
-          c.loop-i.i c.loop-i.node c.loop-i.last c.loop-i.value c.loop-i.other _ _ c.loop-i.invariant c.loop-i-test.true (sym c.is_left.ensures
+          rw (
+            w.node-is,
+            w.last-is,
+            c.node_hash-value.ensures,
+            c.node_hash-other.ensures,
+            w.left-is,
+            w.right-is,
+            w.other_left-is,
+            w.other_right-is,
+          )
+          (step_left g.H.LogHash.hash c.args.leaf.now c.args.other_leaf.now c.args.proof.now c.args.other_proof.now
+          c.args.root.now
+          c.loop-i.i c.loop-i.node c.loop-i.last c.loop-i.value c.loop-i.other _ _ c.loop-i.invariant c.loop-i-test.true
+          (sym c.is_left.ensures
           ∙ w.if-is_left.true) c.index-proof-i.is c.index-other_proof-i.is
           (rw (w.left-is, w.right-is, w.other_left-is, w.other_right-is) at fixed))
       | else-is_left w ↦
-          rw (w.node-is, w.last-is, c.node_hash-value.ensures, c.node_hash-other.ensures, w.left-is, w.right-is, w.other_left-is, w.other_right-is)
-          (step_right g.H.LogHash.hash c.args.leaf.now c.args.other_leaf.now c.args.proof.now c.args.other_proof.now c.args.root.now
-          c.loop-i.i c.loop-i.node c.loop-i.last c.loop-i.value c.loop-i.other _ _ c.loop-i.invariant c.loop-i-test.true (sym c.is_left.ensures
+          rw (
+            w.node-is,
+            w.last-is,
+            c.node_hash-value.ensures,
+            c.node_hash-other.ensures,
+            w.left-is,
+            w.right-is,
+            w.other_left-is,
+            w.other_right-is,
+          )
+          (step_right g.H.LogHash.hash c.args.leaf.now c.args.other_leaf.now c.args.proof.now c.args.other_proof.now
+          c.args.root.now
+          c.loop-i.i c.loop-i.node c.loop-i.last c.loop-i.value c.loop-i.other _ _ c.loop-i.invariant c.loop-i-test.true
+          (sym c.is_left.ensures
           ∙ w.if-is_left.false) c.index-proof-i.is c.index-other_proof-i.is
           (rw (w.left-is, w.right-is, w.other_left-is, w.other_right-is) at fixed))
     ]
