@@ -1,29 +1,16 @@
 //! What accepted proofs show, or else a collision of the hash function.
-ghost use Rattle.std.specs.Prelude.{◌≡◌, ◌≤◌, ◌++◌, ◌∷◌, ◌↔◌, IfOk, IfSome, IsNone};
+ghost use Rattle.std.specs.Prelude.{◌↔◌, IfOk, IfSome, IsNone};
 ghost use Rattle.tlog.specs.Collisions.{IsCollision, RootFixesEntry, RootFixesLeaf, RootFixesProof, RootsFixPrefix};
 ghost use Rattle.tlog.specs.Collisions.{entries_of};
 ghost use Rattle.tlog.specs.Inner.Inputs.{HashFixesChildren};
 
-use crate::collision::{Collision, consistency_proof, inclusion_proof, root, root_collision};
+use crate::collision::{
+    Collision, consistency_proof, inclusion_proof, leaf_input, node_input, root, root_collision,
+};
 use crate::consistency;
 use crate::hash::LogHash;
 use crate::inclusion::{is_left, verify};
 use std::alloc::{AllocError, Global};
-
-/// The byte string whose hash is that of a node.
-fn node_input<const D: usize>(
-    alloc: Global,
-    left: &[u8; D],
-    right: &[u8; D],
-) -> Result<Vec<u8>, AllocError>
-    requires { D ≤ 64 }
-    ensures { IfOk result (λ input. input.items ≡ 1 ∷ (left.now ++ right.now)) }
-{
-    let mut input = Vec::from_slice(alloc, &[1])?;
-    input.extend_from_slice(left)?;
-    input.extend_from_slice(right)?;
-    Ok(input)
-}
 
 /// A collision, if two nodes with other children have one hash; else `None`.
 fn node_collision<H: LogHash<D>, const D: usize>(
@@ -46,15 +33,6 @@ fn node_collision<H: LogHash<D>, const D: usize>(
         return Ok(None);
     }
     Ok(Some(Collision { first, second }))
-}
-
-/// The byte string whose hash is that of a leaf.
-fn leaf_input(alloc: Global, entry: &[u8]) -> Result<Vec<u8>, AllocError>
-    ensures { IfOk result (λ input. input.items ≡ 0 ∷ entry.now) }
-{
-    let mut input = Vec::from_slice(alloc, &[0])?;
-    input.extend_from_slice(entry)?;
-    Ok(input)
 }
 
 /// A collision, if two proofs of inclusion of one index, size and root are accepted, and their leaf hashes or their
