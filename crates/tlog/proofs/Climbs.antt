@@ -41,8 +41,8 @@ skip hash (c ∷ digests) i fr sr a b some small h =
     let z2 : (i + i == 0) ≡ false = grind (arith, nat_tests) in
     let l : is_left i i ≡ true = grind (arith, nat_tests) in
     let l2 : is_left (i + i) (i + i) ≡ true = grind (arith, nat_tests) in
-    let below = consistency_left hash (c ∷ digests) 0 (i + i) (i + i) fr sr (omega arith) z2 l2 in
-    let here = consistency_left hash (c ∷ digests) 0 i i fr sr (omega arith) z l in
+    let below = consistency_left hash (c ∷ digests) 0 (i + i) (i + i) fr sr [] (omega arith) z2 l2 in
+    let here = consistency_left hash (c ∷ digests) 0 i i fr sr [] (omega arith) z l in
     let t = zeros_of_double i some small in
     below ∙ rw (t, shifted i (trailing_zeros w64 i)) (sym here ∙ h)
 
@@ -71,7 +71,7 @@ climb-left hash leaf O L i d len within small same up =
     let z : (length L - 1 == 0) ≡ false = grind (arith, nat_tests) in
     let l : is_left (suc (i + i)) (length L - 1) ≡ true = grind (arith, nat_tests) in
     let s = consistency_left hash (leaf (get_or L (i + i) d) ∷ path hash itself i (above hash leaf L)) 0 (suc (i + i))
-    (length L - 1) (leaf (get_or O (suc (i + i)) d)) (leaf (get_or L (suc (i + i)) d)) (omega arith) z l in
+    (length L - 1) (leaf (get_or O (suc (i + i)) d)) (leaf (get_or L (suc (i + i)) d)) [] (omega arith) z l in
     let t : trailing_zeros w64 (suc (i + i)) ≡ 0 =
     ap (λ (x : ℕ). trailing_zeros w64 x) (omega arith) ∙ zeros_of_odd i (omega arith) in
     let fn : suc (i + i) / 2 ^ 0 / 2 ≡ i = omega arith in
@@ -98,7 +98,7 @@ climb-right hash leaf O L i d len within small up =
     let even : ((i + i) % 2 == 1) ≡ false = grind (arith, nat_tests) in
     let unlike : (i + i == length L - 1) ≡ false = grind (arith, nat_tests) in rw (even, unlike) in
     let s = consistency_right hash (leaf (get_or L (suc (i + i)) d) ∷ path hash itself i (above hash leaf L)) 0 (i + i)
-    (length L - 1) (leaf (get_or O (i + i) d)) (leaf (get_or L (i + i) d)) (omega arith) z l in
+    (length L - 1) (leaf (get_or O (i + i) d)) (leaf (get_or L (i + i) d)) [] (omega arith) z l in
     let sn : (length L - 1) / 2 ≡ length (above hash leaf L) - 1 =
     let q = length-above hash leaf L in omega arith in
     let fr = above-only hash leaf i (i + i) O d (leaf d) refl (omega arith) in

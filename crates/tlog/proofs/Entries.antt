@@ -3,16 +3,16 @@ use Rattle.std.proofs.Common.{◌≡◌, ◌≢◌, ℕ, suc, ◌-◌, ◌<◌, 
 use Rattle.std.proofs.Common.{sym}
 use Rattle.std.proofs.Common.{ap, ◌∙◌, arith}
 use Rattle.std.proofs.Common.{Vec, Global}
-use Rattle.std.specs.Prelude.{nat_eq}
+use Rattle.std.specs.Prelude.{nat_eq, Bool, true, false}
 use Rattle.std.specs.Bool.{Decides}
 use Rattle.std.specs.Cmp.Lexicographic.{bytes_decides, pointwise, pointwise_decides}
 use Rattle.std.specs.Cmp.Derive.Mapped.{pointwise-map}
 use Rattle.std.proofs.lemmas.List.{drop-map, drop_at, take-append-drop, take-map, take_at}
 use Rattle.tlog.specs.Collisions.{entries_of}
 use Rattle.tlog.specs.Inner.Inputs.{root_input}
-use Rattle.tlog.specs.Rfc9162.{path_of, path_within}
+use Rattle.tlog.specs.Rfc9162.{path_of, path_within, subproof_of}
 use Rattle.tlog.specs.Rfc9162.{Hash, leaf_hash, mth_within, node_hash, root_of, split}
-use Rattle.tlog.proofs.Honest.{path_left, path_right, root_more}
+use Rattle.tlog.proofs.Honest.{path_left, path_right, root_more, sub_left, sub_right, sub_whole}
 
 -- the test of entries decides that they are the same byte strings
 pub entries_decided : (d e : List (Vec ℕ Global)) →
@@ -62,7 +62,7 @@ root_is_hashed hash (d ∷ []) = refl
 root_is_hashed hash (d ∷ (e ∷ rest)) = sym (root_more hash (leaf_hash hash) (d ∷ (e ∷ rest)) (omega arith))
 
 -- both halves of two byte strings of equally long halves
-halves_equal : (n : ℕ) (a b c d : List ℕ) → length a ≡ n → length c ≡ n → a ++ b ≡ c ++ d → (a ≡ c) × (b ≡ d)
+pub halves_equal : (n : ℕ) (a b c d : List ℕ) → length a ≡ n → length c ≡ n → a ++ b ≡ c ++ d → (a ≡ c) × (b ≡ d)
 halves_equal n a b c d la lc e = (
   sym (take_at a b n la) ∙ ap (take n) e ∙ take_at c d n lc,
   sym (drop_at a b n la) ∙ ap (drop n) e ∙ drop_at c d n lc,
@@ -140,3 +140,34 @@ path_at_right hash m v a b k more e left right h within =
     let at : split (length (entries_of v)) ≡ k = ap split len ∙ sym e in
     path_right hash (leaf_hash hash) m (entries_of v) (omega arith) (omega arith) (omega arith)
     ∙ rw (left_entries v a k e left, right_entries v b k e right, at)
+
+-- ---- proofs of consistency, as the code computes them
+
+pub sub_at_all : (hash : Hash) (m : ℕ) (v : List (Vec ℕ Global)) (b c : Bool) → m ≡ length v → 0 < m → b ≡ c →
+    subproof_of hash m (entries_of v) b ≡ elim c [ true ↦ [] | false ↦ root_of hash (entries_of v) ∷ [] ]
+sub_at_all hash m v b c all some is =
+    let len = length-entries v in
+    let e : m ≡ length (entries_of v) = all ∙ sym len in
+    ap (λ (x : ℕ). subproof_of hash x (entries_of v) b) e
+    ∙ ap (λ (x : Bool). subproof_of hash (length (entries_of v)) (entries_of v) x) is
+    ∙ sub_whole hash (leaf_hash hash) (entries_of v) c (omega arith)
+
+pub sub_at_left : (hash : Hash) (m : ℕ) (v l r : List (Vec ℕ Global)) (k : ℕ) (b : Bool) → 0 < m → m < length v →
+    k ≡ split (length v) → l ≡ take k v → r ≡ drop k v → m ≤ k →
+    subproof_of hash m (entries_of v) b
+    ≡ subproof_of hash m (entries_of l) b ++ root_of hash (entries_of r) ∷ []
+sub_at_left hash m v l r k b some within e left right h =
+    let len = length-entries v in
+    let at : split (length (entries_of v)) ≡ k = ap split len ∙ sym e in
+    sub_left hash (leaf_hash hash) m (entries_of v) b some (omega arith) (omega arith)
+    ∙ rw (left_entries v l k e left, right_entries v r k e right)
+
+pub sub_at_right : (hash : Hash) (m : ℕ) (v l r : List (Vec ℕ Global)) (k : ℕ) (b : Bool) → m < length v →
+    k ≡ split (length v) → l ≡ take k v → r ≡ drop k v → k < m →
+    subproof_of hash m (entries_of v) b
+    ≡ subproof_of hash (m - k) (entries_of r) false ++ root_of hash (entries_of l) ∷ []
+sub_at_right hash m v l r k b within e left right h =
+    let len = length-entries v in
+    let at : split (length (entries_of v)) ≡ k = ap split len ∙ sym e in
+    sub_right hash (leaf_hash hash) m (entries_of v) b (omega arith) (omega arith)
+    ∙ rw (left_entries v l k e left, right_entries v r k e right, at)

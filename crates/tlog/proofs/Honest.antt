@@ -194,7 +194,7 @@ sub-even (suc depth) (suc other) hash leaf i L b some within enough upper =
 -- ---- consistency: the verifier's end
 
 -- the end by whether the old size is a power of two
-end-at : (hash : Hash) (m n : ℕ) (root c : List ℕ) (digests : List (List ℕ)) (b : Bool) → is_power_of_two m ≡ b →
+pub end-at : (hash : Hash) (m n : ℕ) (root c : List ℕ) (digests : List (List ℕ)) (b : Bool) → is_power_of_two m ≡ b →
     consistency_end hash m n root (c ∷ digests) ≡ elim b [
       | true ↦ consistency_from hash m n root (c ∷ digests)
       | false ↦ consistency_from hash m n c digests
@@ -480,4 +480,51 @@ path_right hash leaf m L more h within = by (length L) refl
           f,
           path_depth depth hash leaf (m - split (length L)) (drop (split (length L)) L) (omega arith)
               (omega arith),
+        )
+
+-- SUBPROOF, by its equations
+pub sub_left : {X : Type 0} (hash : Hash) (leaf : X → List ℕ) (m : ℕ) (L : List X) (b : Bool) → 0 < m →
+    m < length L → m ≤ split (length L) →
+    subproof hash leaf m L b
+    ≡ subproof hash leaf m (take (split (length L)) L) b ++ mth hash leaf (drop (split (length L)) L) ∷ []
+sub_left hash leaf m L b some within h = by (length L) refl
+  where
+    by : (n : ℕ) → length L ≡ n → subproof hash leaf m L b
+        ≡ subproof hash leaf m (take (split (length L)) L) b ++ mth hash leaf (drop (split (length L)) L) ∷ []
+    by zero e = absurd (omega arith)
+    by (suc depth) e =
+        let s = split_is (length L) (omega arith) in
+        let below = s.below in
+        let left = length-take-le (split (length L)) L (omega arith) in
+        let t : nat_le m (split (length L)) ≡ true = grind (arith, nat_tests) in
+        sub_depth (length L) (suc depth) hash leaf m L b some (omega arith) (omega arith) (omega arith)
+        ∙ sub-more depth hash leaf m L b within
+        ∙ rw (
+          t,
+          sub_depth depth (length (take (split (length L)) L)) hash leaf m (take (split (length L)) L) b some
+              (omega arith) (omega arith) (omega arith),
+        )
+
+pub sub_right : {X : Type 0} (hash : Hash) (leaf : X → List ℕ) (m : ℕ) (L : List X) (b : Bool) → m < length L →
+    split (length L) < m →
+    subproof hash leaf m L b
+    ≡ subproof hash leaf (m - split (length L)) (drop (split (length L)) L) false
+    ++ mth hash leaf (take (split (length L)) L) ∷ []
+sub_right hash leaf m L b within h = by (length L) refl
+  where
+    by : (n : ℕ) → length L ≡ n → subproof hash leaf m L b
+        ≡ subproof hash leaf (m - split (length L)) (drop (split (length L)) L) false
+        ++ mth hash leaf (take (split (length L)) L) ∷ []
+    by zero e = absurd (omega arith)
+    by (suc depth) e =
+        let s = split_is (length L) (omega arith) in
+        let positive = s.some in
+        let right = length-drop (split (length L)) L in
+        let f : nat_le m (split (length L)) ≡ false = grind (arith, nat_tests) in
+        sub_depth (length L) (suc depth) hash leaf m L b (omega arith) (omega arith) (omega arith) (omega arith)
+        ∙ sub-more depth hash leaf m L b within
+        ∙ rw (
+          f,
+          sub_depth depth (length (drop (split (length L)) L)) hash leaf (m - split (length L))
+              (drop (split (length L)) L) false (omega arith) (omega arith) (omega arith) (omega arith),
         )

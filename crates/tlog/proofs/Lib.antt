@@ -6,3 +6,5 @@ pub mod Layers
 pub mod Climbs
 pub mod Honest
 pub mod Entries
+pub mod TwoWalks
+pub mod Prefixes

@@ -17,22 +17,22 @@ pub inclusion_ends : (hash : Hash) (path : List (List ℕ)) (i fn sn : ℕ) (r :
 unfolding inclusion_walk
 inclusion_ends hash path i fn sn r h = at_drop_all (λ rest. inclusion_walk hash rest fn sn r) path i h
 
-pub inclusion_left : (hash : Hash) (path : List (List ℕ)) (i fn sn : ℕ) (r : List ℕ) → i < length path →
+pub inclusion_left : (hash : Hash) (path : List (List ℕ)) (i fn sn : ℕ) (r d : List ℕ) → i < length path →
     (sn == 0) ≡ false → is_left fn sn ≡ true →
     inclusion_walk hash (drop i path) fn sn r
     ≡ inclusion_walk hash (drop (i + 1) path) (fn / 2 ^ trailing_zeros w64 fn / 2) (sn / 2 ^ trailing_zeros w64 fn / 2)
-    (node_hash hash (get_or path i []) r)
+    (node_hash hash (get_or path i d) r)
 unfolding inclusion_walk
-inclusion_left hash path i fn sn r h z l =
-    at_drop_more (λ rest. inclusion_walk hash rest fn sn r) path i [] h ∙ rw (z, inclusion_walk, l, inclusion_walk)
+inclusion_left hash path i fn sn r d h z l =
+    at_drop_more (λ rest. inclusion_walk hash rest fn sn r) path i d h ∙ rw (z, inclusion_walk, l, inclusion_walk)
 
-pub inclusion_right : (hash : Hash) (path : List (List ℕ)) (i fn sn : ℕ) (r : List ℕ) → i < length path →
+pub inclusion_right : (hash : Hash) (path : List (List ℕ)) (i fn sn : ℕ) (r d : List ℕ) → i < length path →
     (sn == 0) ≡ false → is_left fn sn ≡ false →
     inclusion_walk hash (drop i path) fn sn r
-    ≡ inclusion_walk hash (drop (i + 1) path) (fn / 2) (sn / 2) (node_hash hash r (get_or path i []))
+    ≡ inclusion_walk hash (drop (i + 1) path) (fn / 2) (sn / 2) (node_hash hash r (get_or path i d))
 unfolding inclusion_walk
-inclusion_right hash path i fn sn r h z l =
-    at_drop_more (λ rest. inclusion_walk hash rest fn sn r) path i [] h ∙ rw (z, inclusion_walk, l, inclusion_walk)
+inclusion_right hash path i fn sn r d h z l =
+    at_drop_more (λ rest. inclusion_walk hash rest fn sn r) path i d h ∙ rw (z, inclusion_walk, l, inclusion_walk)
 
 pub consistency_stops : (hash : Hash) (path : List (List ℕ)) (i fn sn : ℕ) (fr sr : List ℕ) → i < length path →
     sn ≡ 0 → consistency_walk hash (drop i path) fn sn fr sr ≡ None
@@ -45,21 +45,21 @@ pub consistency_ends : (hash : Hash) (path : List (List ℕ)) (i fn sn : ℕ) (f
 unfolding consistency_walk
 consistency_ends hash path i fn sn fr sr h = at_drop_all (λ rest. consistency_walk hash rest fn sn fr sr) path i h
 
-pub consistency_left : (hash : Hash) (path : List (List ℕ)) (i fn sn : ℕ) (fr sr : List ℕ) → i < length path →
+pub consistency_left : (hash : Hash) (path : List (List ℕ)) (i fn sn : ℕ) (fr sr d : List ℕ) → i < length path →
     (sn == 0) ≡ false → is_left fn sn ≡ true →
     consistency_walk hash (drop i path) fn sn fr sr
     ≡ consistency_walk hash (drop (i + 1) path) (fn / 2 ^ trailing_zeros w64 fn / 2)
-    (sn / 2 ^ trailing_zeros w64 fn / 2) (node_hash hash (get_or path i []) fr) (node_hash hash (get_or path i []) sr)
+    (sn / 2 ^ trailing_zeros w64 fn / 2) (node_hash hash (get_or path i d) fr) (node_hash hash (get_or path i d) sr)
 unfolding consistency_walk
-consistency_left hash path i fn sn fr sr h z l =
-    at_drop_more (λ rest. consistency_walk hash rest fn sn fr sr) path i [] h
+consistency_left hash path i fn sn fr sr d h z l =
+    at_drop_more (λ rest. consistency_walk hash rest fn sn fr sr) path i d h
     ∙ rw (z, consistency_walk, l, consistency_walk)
 
-pub consistency_right : (hash : Hash) (path : List (List ℕ)) (i fn sn : ℕ) (fr sr : List ℕ) → i < length path →
+pub consistency_right : (hash : Hash) (path : List (List ℕ)) (i fn sn : ℕ) (fr sr d : List ℕ) → i < length path →
     (sn == 0) ≡ false → is_left fn sn ≡ false →
     consistency_walk hash (drop i path) fn sn fr sr
-    ≡ consistency_walk hash (drop (i + 1) path) (fn / 2) (sn / 2) fr (node_hash hash sr (get_or path i []))
+    ≡ consistency_walk hash (drop (i + 1) path) (fn / 2) (sn / 2) fr (node_hash hash sr (get_or path i d))
 unfolding consistency_walk
-consistency_right hash path i fn sn fr sr h z l =
-    at_drop_more (λ rest. consistency_walk hash rest fn sn fr sr) path i [] h
+consistency_right hash path i fn sn fr sr d h z l =
+    at_drop_more (λ rest. consistency_walk hash rest fn sn fr sr) path i d h
     ∙ rw (z, consistency_walk, l, consistency_walk)

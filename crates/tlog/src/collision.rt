@@ -1,8 +1,8 @@
-//! The root of entries and the paths of each, and what two lists of entries with one root show of the hash function.
-ghost use Rattle.std.specs.Prelude.{◌≡◌, ◌<◌, ◌↔◌, IsTrue, IfOk, IfSome, IsNone, length};
+//! The root of entries and honest proofs, and what two lists of entries with one root show of the hash function.
+ghost use Rattle.std.specs.Prelude.{◌≡◌, ◌<◌, ◌≤◌, ◌++◌, ◌∷◌, ◌↔◌, true, IsTrue, IfOk, IfSome, IsNone, length};
 ghost use Rattle.tlog.specs.Collisions.{IsCollision, RootsFixEntries, entries_of};
 ghost use Rattle.tlog.specs.Inner.Inputs.{root_input as root_input_of};
-ghost use Rattle.tlog.specs.Rfc9162.{path_of, root_of, split as split_of};
+ghost use Rattle.tlog.specs.Rfc9162.{path_of, proof_of, root_of, subproof_of, split as split_of};
 
 use crate::hash::LogHash;
 use std::alloc::{AllocError, Global};
@@ -47,6 +47,30 @@ fn are_equal(d: &[Vec<u8>], e: &[Vec<u8>]) -> bool
     d == e
 }
 
+/// The byte string whose hash is that of a leaf.
+pub(crate) fn leaf_input(alloc: Global, entry: &[u8]) -> Result<Vec<u8>, AllocError>
+    ensures { IfOk result (λ input. input.items ≡ 0 ∷ entry.now) }
+{
+    let mut input = Vec::from_slice(alloc, &[0])?;
+    input.extend_from_slice(entry)?;
+    Ok(input)
+}
+
+/// The byte string whose hash is that of a node.
+pub(crate) fn node_input<const D: usize>(
+    alloc: Global,
+    left: &[u8; D],
+    right: &[u8; D],
+) -> Result<Vec<u8>, AllocError>
+    requires { D ≤ 64 }
+    ensures { IfOk result (λ input. input.items ≡ 1 ∷ (left.now ++ right.now)) }
+{
+    let mut input = Vec::from_slice(alloc, &[1])?;
+    input.extend_from_slice(left)?;
+    input.extend_from_slice(right)?;
+    Ok(input)
+}
+
 /// The byte string whose hash is the root of entries.
 fn root_input<H: LogHash<D>, const D: usize>(
     alloc: Global,
@@ -54,21 +78,14 @@ fn root_input<H: LogHash<D>, const D: usize>(
 ) -> Result<Vec<u8>, AllocError>
     ensures { IfOk result (λ input. input.items ≡ root_input_of H.hash (entries_of entries.now)) }
 {
-    let mut input = Vec::new(alloc);
     match entries {
-        [] => {}
-        [entry] => {
-            input.push(0)?;
-            input.extend_from_slice(entry)?;
-        }
+        [] => Ok(Vec::new(alloc)),
+        [entry] => leaf_input(alloc, entry),
         entries => {
             let (left, right) = entries.split_at(split(entries.len()));
-            input.push(1)?;
-            input.extend_from_slice(&root::<H, D>(left))?;
-            input.extend_from_slice(&root::<H, D>(right))?;
+            node_input(alloc, &root::<H, D>(left), &root::<H, D>(right))
         }
     }
-    Ok(input)
 }
 
 /// A collision, if two different lists of entries, of any lengths, have one root; else `None`.
@@ -131,6 +148,54 @@ pub fn inclusion_proof<H: LogHash<D>, const D: usize>(
         Ok(proof)
     } else {
         let mut proof = inclusion_proof::<H, D>(alloc, right, index - middle)?;
+        proof.push(root::<H, D>(left))?;
+        Ok(proof)
+    }
+}
+
+/// The proof of consistency from the first `old_size` entries to all (RFC 9162, 2.1.4.1).
+///
+/// # Errors
+///
+/// `AllocError` if memory runs out.
+pub fn consistency_proof<H: LogHash<D>, const D: usize>(
+    alloc: Global,
+    entries: &[Vec<u8>],
+    old_size: usize,
+) -> Result<Vec<[u8; D]>, AllocError>
+    requires some { 0 < old_size }
+    requires within { old_size ≤ length entries.now }
+    ensures { IfOk result (λ proof. proof.items ≡ proof_of H.hash old_size (entries_of entries.now)) }
+{
+    subproof::<H, D>(alloc, entries, old_size, true)
+}
+
+/// SUBPROOF, where the verifier may know the root of the entries.
+fn subproof<H: LogHash<D>, const D: usize>(
+    alloc: Global,
+    entries: &[Vec<u8>],
+    old_size: usize,
+    is_known: bool,
+) -> Result<Vec<[u8; D]>, AllocError>
+    requires some { 0 < old_size }
+    requires within { old_size ≤ length entries.now }
+    ensures { IfOk result (λ proof. proof.items ≡ subproof_of H.hash old_size (entries_of entries.now) is_known) }
+{
+    if old_size == entries.len() {
+        let mut proof = Vec::new(alloc);
+        if !is_known {
+            proof.push(root::<H, D>(entries))?;
+        }
+        return Ok(proof);
+    }
+    let middle = split(entries.len());
+    let (left, right) = entries.split_at(middle);
+    if old_size <= middle {
+        let mut proof = subproof::<H, D>(alloc, left, old_size, is_known)?;
+        proof.push(root::<H, D>(right))?;
+        Ok(proof)
+    } else {
+        let mut proof = subproof::<H, D>(alloc, right, old_size - middle, false)?;
         proof.push(root::<H, D>(left))?;
         Ok(proof)
     }

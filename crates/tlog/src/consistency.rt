@@ -7,12 +7,13 @@ ghost use Rattle.tlog.specs.Verdicts.{IsConsistent, consistency_end_refusal, con
 ghost use Rattle.tlog.specs.Verdicts.{size_limit};
 
 use crate::error::ProofError;
-use crate::hash::{EMPTY_ROOT, node_hash};
+use crate::hash::LogHash;
 use crate::inclusion::{SIZE_LIMIT, is_left};
+use sha2::Sha256;
 
 /// Whether a proof of consistency shows that a log of `new_size` entries under `new_root` begins with the `old_size`
-/// entries under `old_root` (RFC 9162, 2.1.4.2). It takes no memory. From size 0, whose root is [`EMPTY_ROOT`], and
-/// between equal sizes, whose roots are equal, there are no digests.
+/// entries under `old_root` (RFC 9162, 2.1.4.2). It takes no memory. From size 0, whose root is
+/// [`EMPTY_ROOT`](crate::EMPTY_ROOT), and between equal sizes, whose roots are equal, there are no digests.
 ///
 /// # Errors
 ///
@@ -22,7 +23,6 @@ use crate::inclusion::{SIZE_LIMIT, is_left};
 /// - `SmallerNewSize` if it is below the old size;
 /// - `TooManyDigests`, `TooFewDigests` if the proof has more digests than one between these sizes, or fewer;
 /// - `OldRootMismatch`, `RootMismatch` if the proof leads to another old root, or another new one.
-#[tactic(auto, unfolding(crate::specs::Verdicts::consistency_refusal))]
 pub fn verify_consistency(
     old_size: usize,
     new_size: usize,
@@ -35,13 +35,30 @@ pub fn verify_consistency(
     ensures refused { result_err result
         ≡ consistency_refusal sha256 old_size new_size proof.now old_root.now new_root.now }
 {
+    verify::<Sha256, 32>(old_size, new_size, proof, old_root, new_root)
+}
+
+/// The same under any hash function.
+#[tactic(auto, unfolding(crate::specs::Verdicts::consistency_refusal))]
+pub(crate) fn verify<H: LogHash<D>, const D: usize>(
+    old_size: usize,
+    new_size: usize,
+    proof: &[[u8; D]],
+    old_root: &[u8; D],
+    new_root: &[u8; D],
+) -> Result<(), ProofError>
+    ensures accepted { IsOk result
+        ↔ ((new_size ≤ size_limit) × IsConsistent H.hash old_size new_size proof.now old_root.now new_root.now) }
+    ensures refused { result_err result
+        ≡ consistency_refusal H.hash old_size new_size proof.now old_root.now new_root.now }
+{
     if new_size > SIZE_LIMIT {
         return Err(ProofError::SizeTooLarge);
     }
     if new_size < old_size {
         return Err(ProofError::SmallerNewSize);
     }
-    let (old, new) = roots_by(old_size, new_size, proof, old_root, new_root)?;
+    let (old, new) = roots_by::<H, D>(old_size, new_size, proof, old_root, new_root)?;
     if old != *old_root {
         return Err(ProofError::OldRootMismatch);
     }
@@ -53,23 +70,23 @@ pub fn verify_consistency(
 
 /// The old and the new root that a proof leads to, where the new one may be any from size 0.
 #[tactic(auto, unfolding(crate::specs::Verdicts::growth_end))]
-fn roots_by(
+fn roots_by<H: LogHash<D>, const D: usize>(
     old_size: usize,
     new_size: usize,
-    proof: &[[u8; 32]],
-    old_root: &[u8; 32],
-    new_root: &[u8; 32],
-) -> Result<([u8; 32], [u8; 32]), ProofError>
+    proof: &[[u8; D]],
+    old_root: &[u8; D],
+    new_root: &[u8; D],
+) -> Result<([u8; D], [u8; D]), ProofError>
     requires ordered { old_size ≤ new_size }
     requires limit { new_size ≤ size_limit }
     ensures roots { IfOk result (λ roots.
-        growth_end sha256 old_size new_size proof.now old_root.now new_root.now ≡ Some (0, roots.0, roots.1)) }
+        growth_end H.hash old_size new_size proof.now old_root.now new_root.now ≡ Some (0, roots.0, roots.1)) }
     ensures refused { IfErr result (λ e. (first second : List ℕ) →
-        consistency_end_refusal (growth_end sha256 old_size new_size proof.now old_root.now new_root.now) first second
+        consistency_end_refusal (growth_end H.hash old_size new_size proof.now old_root.now new_root.now) first second
         ≡ Some e) }
 {
     if old_size > 0 && old_size < new_size {
-        return grown_roots(old_size, new_size, proof, old_root);
+        return grown_roots::<H, D>(old_size, new_size, proof, old_root);
     }
     if !proof.is_empty() {
         return Err(ProofError::TooManyDigests);
@@ -77,26 +94,27 @@ fn roots_by(
     if old_size > 0 {
         return Ok((*old_root, *old_root));
     }
-    Ok((
-        EMPTY_ROOT,
-        if new_size > 0 { *new_root } else { EMPTY_ROOT },
-    ))
+    let empty = H::empty_root();
+    if new_size > 0 {
+        return Ok((empty, *new_root));
+    }
+    Ok((empty, empty))
 }
 
 /// The old and the new root that a proof between different sizes leads to.
-fn grown_roots(
+fn grown_roots<H: LogHash<D>, const D: usize>(
     old_size: usize,
     new_size: usize,
-    proof: &[[u8; 32]],
-    old_root: &[u8; 32],
-) -> Result<([u8; 32], [u8; 32]), ProofError>
+    proof: &[[u8; D]],
+    old_root: &[u8; D],
+) -> Result<([u8; D], [u8; D]), ProofError>
     requires old { 0 < old_size }
     requires new { old_size < new_size }
     requires limit { new_size ≤ size_limit }
     ensures roots { IfOk result (λ roots.
-        consistency_end sha256 old_size new_size old_root.now proof.now ≡ Some (0, roots.0, roots.1)) }
+        consistency_end H.hash old_size new_size old_root.now proof.now ≡ Some (0, roots.0, roots.1)) }
     ensures refused { IfErr result (λ e. (first second : List ℕ) →
-        consistency_end_refusal (consistency_end sha256 old_size new_size old_root.now proof.now) first second
+        consistency_end_refusal (consistency_end H.hash old_size new_size old_root.now proof.now) first second
         ≡ Some e) }
 {
     let Some((first, rest)) = proof.split_first() else {
@@ -123,10 +141,10 @@ fn grown_roots(
             let zeros = node.trailing_zeros();
             node >>= zeros;
             last >>= zeros;
-            old = node_hash(digest, &old);
-            new = node_hash(digest, &new);
+            old = H::node_hash(digest, &old);
+            new = H::node_hash(digest, &new);
         } else {
-            new = node_hash(&new, digest);
+            new = H::node_hash(&new, digest);
         }
         node >>= 1;
         last >>= 1;

@@ -6,7 +6,8 @@ ghost use Rattle.tlog.specs.Rfc9162.{is_left as is_left_by};
 ghost use Rattle.tlog.specs.Verdicts.{IsIncluded, inclusion_refusal, size_limit};
 
 use crate::error::ProofError;
-use crate::hash::node_hash;
+use crate::hash::LogHash;
+use sha2::Sha256;
 
 /// The greatest size that is taken.
 pub(crate) const SIZE_LIMIT: usize = 1 << 62;
@@ -22,7 +23,6 @@ pub(crate) const SIZE_LIMIT: usize = 1 << 62;
 /// - `IndexPastEnd` if the index is not below the size;
 /// - `TooManyDigests`, `TooFewDigests` if the proof has more digests than a path from this index, or fewer;
 /// - `RootMismatch` if the proof leads to another root.
-#[tactic(auto, unfolding(crate::specs::Verdicts::inclusion_refusal))]
 pub fn verify_inclusion(
     index: usize,
     size: usize,
@@ -33,6 +33,22 @@ pub fn verify_inclusion(
     ensures accepted { IsOk result
         ↔ ((size ≤ size_limit) × IsIncluded sha256 index size leaf.now proof.now root.now) }
     ensures refused { result_err result ≡ inclusion_refusal sha256 index size leaf.now proof.now root.now }
+{
+    verify::<Sha256, 32>(index, size, leaf, proof, root)
+}
+
+/// The same under any hash function.
+#[tactic(auto, unfolding(crate::specs::Verdicts::inclusion_refusal))]
+pub(crate) fn verify<H: LogHash<D>, const D: usize>(
+    index: usize,
+    size: usize,
+    leaf: &[u8; D],
+    proof: &[[u8; D]],
+    root: &[u8; D],
+) -> Result<(), ProofError>
+    ensures accepted { IsOk result
+        ↔ ((size ≤ size_limit) × IsIncluded H.hash index size leaf.now proof.now root.now) }
+    ensures refused { result_err result ≡ inclusion_refusal H.hash index size leaf.now proof.now root.now }
 {
     if size > SIZE_LIMIT {
         return Err(ProofError::SizeTooLarge);
@@ -51,9 +67,9 @@ pub fn verify_inclusion(
             let zeros = node.trailing_zeros();
             node >>= zeros;
             last >>= zeros;
-            value = node_hash(digest, &value);
+            value = H::node_hash(digest, &value);
         } else {
-            value = node_hash(&value, digest);
+            value = H::node_hash(&value, digest);
         }
         node >>= 1;
         last >>= 1;

@@ -8,6 +8,7 @@ mod error;
 mod hash;
 mod inclusion;
 pub mod laws;
+pub mod soundness;
 
 pub use consistency::verify_consistency;
 pub use error::ProofError;

@@ -1,11 +1,11 @@
-//! Rows of a reference in Python, and an honest proof of each entry. Entries are the decimal numbers 1, 2, 3 and so on;
-//! of each digest stand the first four bytes.
+//! Rows of a reference in Python, and honest proofs of each entry and between all sizes. Entries are the decimal
+//! numbers 1, 2, 3 and so on; of each digest stand the first four bytes.
 
 use sha2::Sha256;
 use std::alloc::{AllocError, Global};
 use std::process::Abort;
 use std::test::Fail;
-use tlog::collision::{inclusion_proof, root};
+use tlog::collision::{consistency_proof, inclusion_proof, root};
 use tlog::{EMPTY_ROOT, ProofError, leaf_hash, node_hash, verify_consistency, verify_inclusion};
 
 /// The first entries.
@@ -181,6 +181,24 @@ fn each_entry(rt: HostRuntime) -> Result<(), Fail> {
             let proof = inclusion_proof::<Sha256, 32>(rt.alloc(), &entries, index)?;
             let verdict = verify_inclusion(index, entries.len(), &leaf_hash(entry), &proof, &root);
             assert_eq!(rt; verdict, Ok(()));
+        }
+    }
+    Ok(())
+}
+
+#[test]
+fn each_size(rt: HostRuntime) -> Result<(), Fail> {
+    for count in 1..18 {
+        let new = entries(rt.alloc(), count)?;
+        for old_count in 1..count + 1 {
+            let old_size = usize::from(old_count);
+            if old_size <= new.len() {
+                let proof = consistency_proof::<Sha256, 32>(rt.alloc(), &new, old_size)?;
+                let old_root = root::<Sha256, 32>(&new[..old_size]);
+                let new_root = root::<Sha256, 32>(&new);
+                let verdict = verify_consistency(old_size, new.len(), &proof, &old_root, &new_root);
+                assert_eq!(rt; verdict, Ok(()));
+            }
         }
     }
     Ok(())
