@@ -10,8 +10,8 @@ use Rattle.p3_merkle_core.specs.Extraction.{extraction}
 use Rattle.p3_merkle_core.specs.Presented.{presented, presented_pruned}
 use Rattle.p3_merkle_core.specs.declared.error.MerkleTreeError.{MerkleTreeError}
 
--- A hash and a compression to digests of one word, for work by hand. A row's digest d starts at 1, and each word x makes
--- it 31 * d + x. A compression's starts at 0, and each child x makes it 31 * d + x, and its place is added.
+-- A hash and a compression to digests of one word, for work by hand. A row's digest d starts at 1, and each word x
+-- makes it 31 * d + x. A compression's starts at 0, and each child x makes it 31 * d + x, and its place is added.
 abbrev pub example : Functions ℕ ℕ
 example = functions_of (λ row. fold (λ d x. 31 * d + x) 1 row ∷ [])
     (λ children. fold (λ d (place, x). 31 * d + x + place) 0 (enumerate_from 0 (concat children)) ∷ []) (0 ∷ [])

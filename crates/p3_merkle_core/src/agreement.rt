@@ -253,8 +253,8 @@ fn check_shared_rows<T: Eq>(
 }
 
 /// Checks all of a pruned opening that doesn't depend on the cap, which is layer `cap_layer`: whether paths can be
-/// restored from it. Returns its distinct indices, with their queries. `cap_layer` must be at most the number of levels, and the arity
-/// a power of two from 2 to 2^62.
+/// restored from it. Returns its distinct indices, with their queries. `cap_layer` must be at most the number of
+/// levels, and the arity a power of two from 2 to 2^62.
 ///
 /// It sorts the indices once, and allocates at most five numbers for each index at a time, and one for each matrix of a
 /// layer above the leaves. The number of allocations doesn't depend on the indices.

@@ -217,7 +217,8 @@ pub fn children_of<X: Copy>(
 }
 
 /// The path of each of some queries, in order, out of the layers up to the cap's, from the leaves on: on each layer
-/// below it all digests of the path's group except its own, ascending. A path has room for `capacity` siblings at first.
+/// below it all digests of the path's group except its own, ascending. A path has room for `capacity` siblings at
+/// first.
 ///
 /// # Errors
 ///

@@ -113,7 +113,8 @@ fn salted_dimensions<T, M: Matrix<T>>(
         AnswersUnlessMemory result (salted_commit_refusal salt_elems ds) }
     ensures lawful { IfOk result (λ v. IsLawful (heights_of v.items)) }
     ensures fits { IfOk result (λ v. CanWiden salt_elems (dimensions_in M.height_of M.width_of matrices.now)) }
-    ensures wider { IfOk result (λ v. v.items ≡ widened salt_elems (dimensions_in M.height_of M.width_of matrices.now)) }
+    ensures wider { let ds = dimensions_in M.height_of M.width_of matrices.now in
+        IfOk result (λ v. v.items ≡ widened salt_elems ds) }
 {
     let dimensions = dimensions_of(alloc, matrices)?;
     check_heights(&dimensions)?;

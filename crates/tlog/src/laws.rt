@@ -20,8 +20,8 @@ pub fn as_written()
     ensures subproof { SubproofIsAsWritten }
 {}
 
-/// Honest proofs are accepted, for every hash function and sizes up to 2^62: the path of an entry under the root of all,
-/// and the proof of consistency between the root of the first entries and that of all.
+/// Honest proofs are accepted, for every hash function and sizes up to 2^62: the path of an entry under the root of
+/// all, and the proof of consistency between the root of the first entries and that of all.
 pub fn honest_proofs()
     ensures included { HonestIsIncluded }
     ensures consistent { HonestIsConsistent }
