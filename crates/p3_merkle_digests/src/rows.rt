@@ -91,7 +91,7 @@ impl<
             let digest = λ (j : ℕ). H.hash self.now.hash.now (rows (first + j)) in
             IfOk result (λ done. slots.new ≡ map digest (range_with_len 0 (length slots.old))) }
     {
-        // No row is read where none is asked for, however wide the matrices are.
+        // With no slots no row is read, however wide the matrices are.
         if slots.is_empty() {
             return Ok(());
         }
